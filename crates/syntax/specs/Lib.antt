@@ -1,0 +1,7 @@
+pub mod Quote
+pub mod Bytes
+pub mod Tokens
+pub mod Terms
+pub mod Reading
+pub mod Refusals
+pub mod Verdicts

@@ -1,0 +1,21 @@
+-- The numbers of the refusals (document 01, "The ten numbers").
+use Prim.Native.Nat.{ℕ}
+use Rattle.syntax.specs.declared.Five.{Five}
+use Rattle.syntax.specs.declared.Refusal.{Refusal}
+use Rattle.syntax.specs.declared.Refusal.the-variants.{Settings, TooLong, NoToken, Overlong, Misplaced, OverLimit, Repeated, Undeclared, OpenInput, OpenOutput}
+
+abbrev pub five : ℕ → ℕ → ℕ → ℕ → ℕ → Five
+five n b c l a = record { number = n; byte = b; clause = c; literal = l; argument = a }
+
+-- number, byte, clause, literal, argument; unused places are 0, literal 0 is the head
+abbrev pub numbersOf : Refusal → Five
+numbersOf Settings = five 1 0 0 0 0
+numbersOf TooLong = five 2 0 0 0 0
+numbersOf (NoToken byte) = five 3 byte 0 0 0
+numbersOf (Overlong byte) = five 4 byte 0 0 0
+numbersOf (Misplaced byte) = five 5 byte 0 0 0
+numbersOf (OverLimit byte) = five 6 byte 0 0 0
+numbersOf (Repeated byte) = five 7 byte 0 0 0
+numbersOf (Undeclared clause literal at len) = five 8 0 clause literal 0
+numbersOf (OpenInput clause literal argument at len) = five 9 0 clause literal argument
+numbersOf (OpenOutput clause argument at len) = five 10 0 clause 0 argument
