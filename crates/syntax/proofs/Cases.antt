@@ -1,18 +1,119 @@
--- Computed cases of the definitions: document 01's unstarred reading cases, and one or more for each number from 2 to 7.
+-- Computed cases of the definitions: each number from 2 to 7, ties at one byte, and every limit of document 01's table that a short text meets.
 use Prim.Native.Nat.{ℕ}
 use mathlib.Core.Path.{_≡_, refl}
-use mathlib.Core.List.{List, [], _∷_, _++_}
+use mathlib.Core.List.{List, [], _∷_, map}
 use lib.ListN.{replicate}
 use Rattle.syntax.specs.Quote.{bytes}
 use Rattle.syntax.specs.Bytes.{classOf, inWord, inNumeral}
 use Rattle.syntax.specs.Tokens.{skipped, run, word, dashFirst, tokenOf, tokenFrom, tokenPlace, tokenAt}
 use Rattle.syntax.specs.Terms.{sameBytes, literalOf}
-use Rattle.syntax.specs.Reading.{andThen, standing, next, wrongNumber, wrong, beyond, full, numberOf, isAnonymous, withNew, newVariable, oldVariable, readVariable, atomWith, readAtomWith, termWith, readTermWith, argumentsAfter, readArguments, readList, readTerm, readAtom, readRight, afterAtom, afterTerm, literalWith, readLiteral, bodyAfter, readBody, fresh, clauseAfter, readClause, marksAfter, marksWith, readMarks, marksOf, declarationEnd, declarationFrom, isMode, afterNeck, readDeclaration, itemWith, readItems, atStart, readSheet, goalEnd, readGoal, declares, repeats, firstRepeat}
+use Rattle.syntax.specs.Reading.{andThen, standing, next, wrongNumber, wrong, beyond, full, sameRun, numberOf, isAnonymous, withNew, newVariable, oldVariable, readVariable, atomWith, readAtomWith, termWith, readTermWith, argumentsAfter, readArguments, readList, readTerm, readAtom, readRight, afterAtom, afterTerm, literalWith, readLiteral, bodyAfter, readBody, fresh, clauseAfter, readClause, marksAfter, marksWith, readMarks, marksOf, declarationEnd, declarationFrom, isMode, afterNeck, readDeclaration, itemWith, readItems, atStart, readSheet, goalEnd, readGoal, declares, repeats, firstRepeat}
 use Rattle.syntax.specs.Verdicts.{withoutRepeats, sheetFrom, goalFrom, sheetOf, goalOutcome, sheetVerdict, goalVerdict, readVerdict, readGoalVerdict}
+use Rattle.syntax.specs.declared.Verdict.{Verdict}
 use Rattle.syntax.specs.declared.Verdict.the-variants.{Accepted, Refused}
 use Rattle.syntax.specs.declared.Text.the-variants.{Sheet, Goal}
 use Rattle.syntax.specs.declared.Refusal.the-variants.{TooLong, NoToken, Overlong, Misplaced, OverLimit, Repeated}
 
-plus : readVerdict (bytes ":- mode plus(+,+,-).\nplus(z,N,N).\nplus(s(M),N,s(P)) :- plus(M,N,P).\n") ≡ Accepted 1 2
-unfolding classOf inWord inNumeral skipped run word dashFirst tokenOf tokenFrom tokenPlace tokenAt sameBytes literalOf andThen standing next wrongNumber wrong beyond full numberOf isAnonymous withNew newVariable oldVariable readVariable atomWith readAtomWith termWith readTermWith argumentsAfter readArguments readList readTerm readAtom readRight afterAtom afterTerm literalWith readLiteral bodyAfter readBody fresh clauseAfter readClause marksAfter marksWith readMarks marksOf declarationEnd declarationFrom isMode afterNeck readDeclaration itemWith readItems atStart readSheet goalEnd readGoal declares repeats firstRepeat withoutRepeats sheetFrom goalFrom sheetOf goalOutcome sheetVerdict goalVerdict readVerdict readGoalVerdict
-plus = refl
+-- texts of sheets, and the answers to them
+sheets : List (List ℕ)
+sheets =
+    (bytes ":- mode plus(+,+,-).\nplus(z,N,N).\nplus(s(M),N,s(P)) :- plus(M,N,P).\n")
+    ∷ (bytes "")
+    ∷ (bytes "% no line feed")
+    ∷ (bytes "p(.")
+    ∷ (bytes ":- mode p(+). :- mode p(-).")
+    ∷ (bytes ":- mode p(+). :- mode p.")
+    ∷ (bytes ":- mode true.")
+    ∷ (bytes ":- mode true(*).")
+    ∷ (bytes ":- mode mode(+). mode(mode).")
+    ∷ (bytes "p(1a).")
+    ∷ (bytes ":--mode p.")
+    ∷ (bytes ": - mode p.")
+    ∷ (bytes "p :- X.")
+    ∷ (bytes "p = q.")
+    ∷ (bytes "p :- a = b = c.")
+    ∷ (bytes "p() .")
+    ∷ (bytes "p( % x\n")
+    ∷ (bytes "p(a,a,a,a,a,a,a,a).")
+    ∷ (bytes "p(a,a,a,a,a,a,a,a,)")
+    ∷ (bytes "p(a,a,a,a,a,a,a,a,a)")
+    ∷ (bytes "p(a,a,a,a,a,a,a,a,!)")
+    ∷ (bytes "p(a,a,a,a,a,a,a,a,aaaaaaaaaaaaaaaaaaaaaaaaaaaaaaaa)")
+    ∷ (bytes "aaaaaaaaaaaaaaaaaaaaaaaaaaaaaaa.")
+    ∷ (bytes "p :- aaaaaaaaaaaaaaaaaaaaaaaaaaaaaaaa.")
+    ∷ (bytes "p(f(f(f(f(f(f(f(f(f(f(f(f(f(f(f(a)))))))))))))))).")
+    ∷ (bytes "p(f(f(f(f(f(f(f(f(f(f(f(f(f(f(f(f(a")
+    ∷ (bytes "p :- a,a,a,a,a,a,a,a,a,a,a,a,a,a,a,a.")
+    ∷ (bytes "p :- a,a,a,a,a,a,a,a,a,a,a,a,a,a,a,a,X")
+    ∷ []
+
+sheet-answers : List Verdict
+sheet-answers =
+    Accepted 1 2
+    ∷ Accepted 0 0
+    ∷ Accepted 0 0
+    ∷ Refused Sheet (Misplaced 2)
+    ∷ Refused Sheet (Repeated 22)
+    ∷ Accepted 2 0
+    ∷ Refused Sheet (Repeated 8)
+    ∷ Accepted 1 0
+    ∷ Accepted 1 1
+    ∷ Refused Sheet (Misplaced 3)
+    ∷ Refused Sheet (Misplaced 2)
+    ∷ Refused Sheet (NoToken 0)
+    ∷ Refused Sheet (Misplaced 6)
+    ∷ Refused Sheet (Misplaced 2)
+    ∷ Refused Sheet (Misplaced 11)
+    ∷ Refused Sheet (Misplaced 2)
+    ∷ Refused Sheet (Misplaced 7)
+    ∷ Accepted 0 1
+    ∷ Refused Sheet (Misplaced 18)
+    ∷ Refused Sheet (OverLimit 18)
+    ∷ Refused Sheet (NoToken 18)
+    ∷ Refused Sheet (Overlong 18)
+    ∷ Accepted 0 1
+    ∷ Refused Sheet (Overlong 5)
+    ∷ Accepted 0 1
+    ∷ Refused Sheet (OverLimit 33)
+    ∷ Accepted 0 1
+    ∷ Refused Sheet (OverLimit 37)
+    ∷ []
+
+-- texts of goals, and the answers to them
+goals : List (List ℕ)
+goals =
+    (bytes "")
+    ∷ (bytes "true.")
+    ∷ (bytes "p(X), X = f(Y).")
+    ∷ (bytes "p. q.")
+    ∷ (bytes "p. !")
+    ∷ []
+
+goal-answers : List Verdict
+goal-answers =
+    Refused Goal (Misplaced 0)
+    ∷ Accepted 0 0
+    ∷ Accepted 0 0
+    ∷ Refused Goal (Misplaced 3)
+    ∷ Refused Goal (NoToken 3)
+    ∷ []
+
+-- a sheet of one byte too many, and one at the most
+long : ℕ → List ℕ
+long n = replicate n 32
+
+read-sheets : map readVerdict sheets ≡ sheet-answers
+unfolding sheets sheet-answers classOf inWord inNumeral skipped run word dashFirst tokenOf tokenFrom tokenPlace tokenAt sameBytes literalOf andThen standing next wrongNumber wrong beyond full sameRun numberOf isAnonymous withNew newVariable oldVariable readVariable atomWith readAtomWith termWith readTermWith argumentsAfter readArguments readList readTerm readAtom readRight afterAtom afterTerm literalWith readLiteral bodyAfter readBody fresh clauseAfter readClause marksAfter marksWith readMarks marksOf declarationEnd declarationFrom isMode afterNeck readDeclaration itemWith readItems atStart readSheet goalEnd readGoal declares repeats firstRepeat withoutRepeats sheetFrom goalFrom sheetOf goalOutcome sheetVerdict goalVerdict readVerdict readGoalVerdict
+read-sheets = refl
+
+read-goals : map readGoalVerdict goals ≡ goal-answers
+unfolding goals goal-answers classOf inWord inNumeral skipped run word dashFirst tokenOf tokenFrom tokenPlace tokenAt sameBytes literalOf andThen standing next wrongNumber wrong beyond full sameRun numberOf isAnonymous withNew newVariable oldVariable readVariable atomWith readAtomWith termWith readTermWith argumentsAfter readArguments readList readTerm readAtom readRight afterAtom afterTerm literalWith readLiteral bodyAfter readBody fresh clauseAfter readClause marksAfter marksWith readMarks marksOf declarationEnd declarationFrom isMode afterNeck readDeclaration itemWith readItems atStart readSheet goalEnd readGoal declares repeats firstRepeat withoutRepeats sheetFrom goalFrom sheetOf goalOutcome sheetVerdict goalVerdict readVerdict readGoalVerdict
+read-goals = refl
+
+too-long : readGoalVerdict (long 1025) ≡ Refused Goal TooLong
+unfolding long classOf inWord inNumeral skipped run word dashFirst tokenOf tokenFrom tokenPlace tokenAt sameBytes literalOf andThen standing next wrongNumber wrong beyond full sameRun numberOf isAnonymous withNew newVariable oldVariable readVariable atomWith readAtomWith termWith readTermWith argumentsAfter readArguments readList readTerm readAtom readRight afterAtom afterTerm literalWith readLiteral bodyAfter readBody fresh clauseAfter readClause marksAfter marksWith readMarks marksOf declarationEnd declarationFrom isMode afterNeck readDeclaration itemWith readItems atStart readSheet goalEnd readGoal declares repeats firstRepeat withoutRepeats sheetFrom goalFrom sheetOf goalOutcome sheetVerdict goalVerdict readVerdict readGoalVerdict
+too-long = refl
+
+not-too-long : readGoalVerdict (long 1024) ≡ Refused Goal (Misplaced 1024)
+unfolding long classOf inWord inNumeral skipped run word dashFirst tokenOf tokenFrom tokenPlace tokenAt sameBytes literalOf andThen standing next wrongNumber wrong beyond full sameRun numberOf isAnonymous withNew newVariable oldVariable readVariable atomWith readAtomWith termWith readTermWith argumentsAfter readArguments readList readTerm readAtom readRight afterAtom afterTerm literalWith readLiteral bodyAfter readBody fresh clauseAfter readClause marksAfter marksWith readMarks marksOf declarationEnd declarationFrom isMode afterNeck readDeclaration itemWith readItems atStart readSheet goalEnd readGoal declares repeats firstRepeat withoutRepeats sheetFrom goalFrom sheetOf goalOutcome sheetVerdict goalVerdict readVerdict readGoalVerdict
+not-too-long = refl

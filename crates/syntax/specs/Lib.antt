@@ -5,3 +5,4 @@ pub mod Terms
 pub mod Reading
 pub mod Refusals
 pub mod Verdicts
+pub mod Words

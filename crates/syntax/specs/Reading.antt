@@ -85,19 +85,28 @@ packed at len = at * 32 + len
 abbrev pub spanned : List ℕ → ℕ → List ℕ
 spanned s w = spelling s (w / 32) (w % 32)
 
--- the number of the first of the variables that is spelt so, counted from i
-unfoldable pub numberOf : List ℕ → List ℕ → ℕ → List ℕ → Option ℕ
-numberOf s name i [] = none
-numberOf s name i (w ∷ ws) = elim (sameName (spanned s w) name) [ true ↦ some i | false ↦ numberOf s name (suc i) ws ]
+-- the text reads the same for n bytes from a and from b on
+unfoldable pub sameRun : List ℕ → ℕ → ℕ → ℕ → Bool
+sameRun s a b zero = true
+sameRun s a b (suc n) = eqb (getD s a 0) (getD s b 0) && sameRun s (suc a) (suc b) n
 
--- the variable at hand is `_` alone
-unfoldable pub isAnonymous : List ℕ → State → Bool
-isAnonymous s st = sameName (spelling s (st .token .at) (st .token .len)) (95 ∷ [])
+-- the first occurrence w is spelt as the token at hand
+abbrev pub sameSpan : List ℕ → Token → ℕ → Bool
+sameSpan s t w = eqb (w % 32) (t .len) && sameRun s (w / 32) (t .at) (t .len)
+
+-- the number of the first of the variables that is spelt as the token at hand, counted from i
+unfoldable pub numberOf : List ℕ → Token → ℕ → List ℕ → Option ℕ
+numberOf s t i [] = none
+numberOf s t i (w ∷ ws) = elim (sameSpan s t w) [ true ↦ some i | false ↦ numberOf s t (suc i) ws ]
+
+-- the token at hand is `_` alone
+unfoldable pub isAnonymous : List ℕ → Token → Bool
+isAnonymous s t = eqb (t .len) 1 && eqb (getD s (t .at) 0) 95
 
 -- the reader with one variable more, first met here
 unfoldable pub withNew : State → State
 withNew st =
-    record { token = st .token; count = suc (st .count); first = set (st .first) (st .count) (packed (st .token .at) (st .token .len)) }
+    record { token = st .token; count = st .count + 1; first = set (st .first) (st .count) (packed (st .token .at) (st .token .len)) }
 
 unfoldable pub newVariable : List ℕ → State → Read Term
 newVariable s st =
@@ -110,7 +119,7 @@ oldVariable s st (some i) = ok (variable i (st .token .at)) (next s st)
 -- `_` alone is a new variable each time; any other is one throughout its clause
 unfoldable pub readVariable : List ℕ → State → Read Term
 readVariable s st =
-    elim (isAnonymous s st) [ true ↦ newVariable s st | false ↦ oldVariable s st (numberOf s (spelling s (st .token .at) (st .token .len)) 0 (take (st .count) (st .first))) ]
+    elim (isAnonymous s (st .token)) [ true ↦ newVariable s st | false ↦ oldVariable s st (numberOf s (st .token) 0 (take (st .count) (st .first))) ]
 
 -- ---- terms
 

@@ -1,0 +1,404 @@
+-- Laws of the definitions of tokens, over plain variables: a step of the scanner by the byte at a place, a step of a run and of a
+-- comparison, and by cases of a token's first byte where the token lies, how long it is and when it is the end.
+use Prim.Native.Nat.{ℕ, zero, suc, _+_, _-_, _≤_, _<_}
+use native.Mathlib.Nat.{add-zero, sub-zero}
+use native.Mathlib.Numerals.{add-one}
+use native.Mathlib.Omega.{arith}
+use mathlib.Core.Path.{_≡_, refl, sym, ap, _∙_}
+use mathlib.Core.Bool.{Bool, true, false, cond, _&&_}
+use mathlib.Core.List.{List, [], _∷_}
+use lib.Dec.{T, leb, eqb, leb→le}
+use lib.ListN.{length, getD, take, drop, length-drop, drop-of-length-le}
+use lib.Seq.{drop-cons}
+use borrow.Author.Tests.{leb-true, leb-false, eqb-true, eqb-false, le-leb, lt-leb, eq-eqb, ne-eqb}
+use Rattle.syntax.specs.Bytes.{isBlank, isLower, isUpper, isDigit, classOf, inWord, inNumeral}
+use Rattle.syntax.specs.Tokens.{Gap, outside, inComment, Move, on, atToken, moveOf, skipped, run, word, dashFirst}
+use Rattle.syntax.specs.Tokens.{tokenOf, tokenFrom, tokenPlace, tokenAt}
+use Rattle.syntax.specs.Terms.{sameBytes}
+use Rattle.syntax.specs.declared.Token.{Token}
+use Rattle.lexer.specs.Runs.{goesOn}
+
+-- what stands from a place on: the byte there and the rest
+drop-next : (s : List ℕ) (i : ℕ) → i < length s → drop i s ≡ getD s i 0 ∷ drop (i + 1) s
+drop-next s i h = rw add-one (drop-cons s i 0 h)
+
+-- Classes: the number of the first test that passes, counted from a number.
+firstOf : ℕ → List Bool → ℕ
+firstOf k [] = 0
+firstOf k (t ∷ ts) = cond t k (firstOf (suc k) ts)
+
+first-small : (k : ℕ) (ts : List Bool) → firstOf (suc k) ts ≤ k + length ts
+unfolding firstOf
+first-small k [] = omega arith
+first-small k (true ∷ ts) = omega arith
+first-small k (false ∷ ts) = omega (arith, first-small (suc k) ts)
+
+pub class-small : (b : ℕ) → classOf b ≤ 14
+unfolding classOf firstOf
+class-small b =
+    first-small 0
+    (isBlank b ∷ eqb b 37 ∷ isLower b ∷ isUpper b ∷ isDigit b ∷ eqb b 58 ∷ eqb b 40 ∷ eqb b 41 ∷ eqb b 44 ∷ eqb b 46 ∷ eqb b 61 ∷ eqb b 43
+    ∷ eqb b 45 ∷ eqb b 42 ∷ [])
+
+-- Blanks and comments.
+skipped-by : (g : Gap) (m : Move) (b : ℕ) (r : List ℕ) → moveOf g b ≡ m
+    → skipped g (b ∷ r) ≡ elim m [ on k ↦ suc (skipped k r) | atToken ↦ 0 ]
+unfolding skipped
+skipped-by g m b r e = ap (λ (m : Move). elim m [ on k ↦ suc (skipped k r) | atToken ↦ 0 ]) e
+
+skipped-none : (g : Gap) → skipped g [] ≡ 0
+unfolding skipped
+skipped-none g = refl
+
+by-move : (m : Move) (r : List ℕ) → ((k : Gap) → skipped k r ≤ length r)
+    → elim m [ on k ↦ suc (skipped k r) | atToken ↦ 0 ] ≤ suc (length r)
+by-move (on k) r h = omega (arith, h k)
+by-move atToken r h = omega arith
+
+skipped-inside : (g : Gap) (s : List ℕ) → skipped g s ≤ length s
+unfolding skipped
+skipped-inside g [] = omega arith
+skipped-inside g (b ∷ r) = by-move (moveOf g b) r (λ k. skipped-inside k r)
+
+-- the first token from `from` on is still before a scanner that stands at a place, outside or in a comment
+abbrev pub Ahead : Gap → List ℕ → ℕ → ℕ → Type 0
+Ahead g s from i = tokenPlace s from ≡ i + skipped g (drop i s)
+
+pub ahead-first : (s : List ℕ) (from : ℕ) → Ahead outside s from from
+unfolding tokenPlace
+ahead-first s from = refl
+
+ahead-on : (g h : Gap) (s : List ℕ) (from i : ℕ) → i < length s → moveOf g (getD s i 0) ≡ on h → Ahead g s from i → Ahead h s from (i + 1)
+ahead-on g h s from i lt e a =
+    let q : skipped g (drop i s) ≡ suc (skipped h (drop (i + 1) s)) =
+    ap (skipped g) (drop-next s i lt) ∙ skipped-by g (on h) (getD s i 0) (drop (i + 1) s) e in
+    omega arith
+
+pub ahead-blank : (s : List ℕ) (from i k : ℕ) → i < length s → k ≡ classOf (getD s i 0) → k ≡ 1 → Ahead outside s from i
+    → Ahead outside s from (i + 1)
+ahead-blank s from i k lt c e a = ahead-on outside outside s from i lt (let q : classOf (getD s i 0) ≡ 1 = cc in simp q) a
+
+pub ahead-percent : (s : List ℕ) (from i k : ℕ) → i < length s → k ≡ classOf (getD s i 0) → k ≡ 2 → Ahead outside s from i
+    → Ahead inComment s from (i + 1)
+ahead-percent s from i k lt c e a = ahead-on outside inComment s from i lt (let q : classOf (getD s i 0) ≡ 2 = cc in simp q) a
+
+pub ahead-feed : (s : List ℕ) (from i : ℕ) → i < length s → getD s i 0 ≡ 10 → Ahead inComment s from i → Ahead outside s from (i + 1)
+ahead-feed s from i lt e a = ahead-on inComment outside s from i lt (simp e) a
+
+pub ahead-comment : (s : List ℕ) (from i : ℕ) → i < length s → (getD s i 0 ≡ 10 → ⊥) → Ahead inComment s from i
+    → Ahead inComment s from (i + 1)
+ahead-comment s from i lt e a = ahead-on inComment inComment s from i lt (simp (ne-eqb _ _ e)) a
+
+pub ahead-end : (g : Gap) (s : List ℕ) (from i : ℕ) → length s ≤ i → Ahead g s from i → i ≡ tokenPlace s from
+ahead-end g s from i le a =
+    let q : skipped g (drop i s) ≡ 0 = ap (skipped g) (drop-of-length-le s le) ∙ skipped-none g in
+    omega arith
+
+pub ahead-token : (s : List ℕ) (from i k : ℕ) → i < length s → k ≡ classOf (getD s i 0) → (k ≡ 1 → ⊥) → (k ≡ 2 → ⊥)
+    → Ahead outside s from i → i ≡ tokenPlace s from
+ahead-token s from i k lt c n1 n2 a =
+    let m : moveOf outside (getD s i 0) ≡ atToken = simp (← c, ne-eqb _ _ n1, ne-eqb _ _ n2) in
+    let q : skipped outside (drop i s) ≡ 0 = ap (skipped outside) (drop-next s i lt) ∙ skipped-by outside atToken (getD s i 0) (drop (i + 1) s) m in
+    omega arith
+
+-- Runs.
+run-by : (f : ℕ → Bool) (t : Bool) (b : ℕ) (r : List ℕ) → f b ≡ t → run f (b ∷ r) ≡ elim t [ true ↦ suc (run f r) | false ↦ 0 ]
+unfolding run
+run-by f t b r e = ap (λ (t : Bool). elim t [ true ↦ suc (run f r) | false ↦ 0 ]) e
+
+run-none : (f : ℕ → Bool) → run f [] ≡ 0
+unfolding run
+run-none f = refl
+
+by-test : (t : Bool) (m n : ℕ) → m ≤ n → elim t [ true ↦ suc m | false ↦ 0 ] ≤ suc n
+by-test true m n h = omega arith
+by-test false m n h = omega arith
+
+run-inside : (f : ℕ → Bool) (s : List ℕ) → run f s ≤ length s
+unfolding run
+run-inside f [] = omega arith
+run-inside f (b ∷ r) = by-test (f b) (run f r) (length r) (run-inside f r)
+
+run-same : (f g : ℕ → Bool) → ((b : ℕ) → f b ≡ g b) → (s : List ℕ) → run f s ≡ run g s
+unfolding run
+run-same f g e [] = refl
+run-same f g e (b ∷ r) =
+    ap (λ (t : Bool). elim t [ true ↦ suc (run f r) | false ↦ 0 ]) (e b)
+    ∙ ap (λ (n : ℕ). elim (g b) [ true ↦ suc n | false ↦ 0 ]) (run-same f g e r)
+
+-- the run from `from` on goes at least to a place
+abbrev pub Runs : (ℕ → Bool) → List ℕ → ℕ → ℕ → Type 0
+Runs f s from i = from + run f (drop from s) ≡ i + run f (drop i s)
+
+runs-stop : (f : ℕ → Bool) (s : List ℕ) (from i : ℕ) → i < length s → f (getD s i 0) ≡ false → Runs f s from i
+    → i ≡ from + run f (drop from s)
+runs-stop f s from i lt e a =
+    let q : run f (drop i s) ≡ 0 = ap (run f) (drop-next s i lt) ∙ run-by f false (getD s i 0) (drop (i + 1) s) e in
+    omega arith
+
+pub runs-low : (s : List ℕ) (from i least k : ℕ) → i < length s → k ≡ classOf (getD s i 0) → k < least → Runs (goesOn least) s from i
+    → i ≡ from + run (goesOn least) (drop from s)
+unfolding goesOn
+runs-low s from i least k lt c h a = runs-stop (goesOn least) s from i lt (simp (← c, lt-leb _ _ h)) a
+
+pub runs-high : (s : List ℕ) (from i least k : ℕ) → i < length s → k ≡ classOf (getD s i 0) → least ≤ k → 5 < k
+    → Runs (goesOn least) s from i → i ≡ from + run (goesOn least) (drop from s)
+unfolding goesOn
+runs-high s from i least k lt c l h a = runs-stop (goesOn least) s from i lt (simp (← c, le-leb _ _ l, lt-leb _ _ h)) a
+
+pub runs-on : (s : List ℕ) (from i least k : ℕ) → i < length s → k ≡ classOf (getD s i 0) → least ≤ k → k ≤ 5
+    → Runs (goesOn least) s from i → Runs (goesOn least) s from (i + 1)
+unfolding goesOn
+runs-on s from i least k lt c l h a =
+    let e : goesOn least (getD s i 0) ≡ true = simp (← c, le-leb _ _ l, le-leb _ _ h) in
+    let q : run (goesOn least) (drop i s) ≡ suc (run (goesOn least) (drop (i + 1) s)) =
+    ap (run (goesOn least)) (drop-next s i lt) ∙ run-by (goesOn least) true (getD s i 0) (drop (i + 1) s) e in
+    omega arith
+
+pub runs-end : (f : ℕ → Bool) (s : List ℕ) (from i : ℕ) → length s ≤ i → Runs f s from i → i ≡ from + run f (drop from s)
+runs-end f s from i le a =
+    let q : run f (drop i s) ≡ 0 = ap (run f) (drop-of-length-le s le) ∙ run-none f in
+    omega arith
+
+numeral-tests : (c : ℕ) (t : Bool) → eqb c 5 ≡ t → (u : Bool) → leb 5 c ≡ u → (w : Bool) → leb c 5 ≡ w → t ≡ (u && w)
+numeral-tests c true e true p true q = refl
+numeral-tests c true e true p false q = absurd (omega (arith, eqb-true c 5 e, leb-false c 5 q))
+numeral-tests c true e false p w q = absurd (omega (arith, eqb-true c 5 e, leb-false 5 c p))
+numeral-tests c false e true p true q = absurd (eqb-false c 5 e (omega (arith, leb-true 5 c p, leb-true c 5 q)))
+numeral-tests c false e true p false q = refl
+numeral-tests c false e false p w q = refl
+
+numeral-goes : (b : ℕ) → inNumeral b ≡ goesOn 5 b
+unfolding inNumeral goesOn
+numeral-goes b = numeral-tests (classOf b) _ refl _ refl _ refl
+
+-- Comparisons.
+abbrev pub sameFrom : List ℕ → ℕ → List ℕ → ℕ → ℕ → ℕ → Bool
+sameFrom s a t b n i = sameBytes (take (n - i) (drop (a + i) s)) (take (n - i) (drop (b + i) t))
+
+-- the parts are the same where their rests from the i-th byte on are
+abbrev pub Alike : List ℕ → ℕ → List ℕ → ℕ → ℕ → ℕ → Type 0
+Alike s a t b n i = sameBytes (take n (drop a s)) (take n (drop b t)) ≡ sameFrom s a t b n i
+
+pub alike-first : (s : List ℕ) (a : ℕ) (t : List ℕ) (b n : ℕ) → Alike s a t b n 0
+alike-first s a t b n = simp (add-zero, sub-zero)
+
+same-step : (s : List ℕ) (a : ℕ) (t : List ℕ) (b n i : ℕ) → i < n → a + n ≤ length s → b + n ≤ length t
+    → sameFrom s a t b n i ≡ (eqb (getD s (a + i) 0) (getD t (b + i) 0) && sameFrom s a t b n (i + 1))
+unfolding sameBytes
+same-step s a t b n i h p q =
+    let m : n - i ≡ suc (n - (i + 1)) = omega arith in
+    let u : drop (a + i) s ≡ getD s (a + i) 0 ∷ drop (a + i + 1) s = drop-next s (a + i) (omega arith) in
+    let v : drop (b + i) t ≡ getD t (b + i) 0 ∷ drop (b + i + 1) t = drop-next t (b + i) (omega arith) in
+    let x : a + i + 1 ≡ a + (i + 1) = omega arith in
+    let y : b + i + 1 ≡ b + (i + 1) = omega arith in
+    rw (m, u, v, x, y)
+
+pub alike-on : (s : List ℕ) (a : ℕ) (t : List ℕ) (b n i : ℕ) → i < n → (a + n ≤ length s) × (b + n ≤ length t)
+    → getD s (a + i) 0 ≡ getD t (b + i) 0 → Alike s a t b n i → Alike s a t b n (i + 1)
+alike-on s a t b n i h p e w =
+    w ∙ same-step s a t b n i h (p .0) (p .1) ∙ ap (λ (v : Bool). v && sameFrom s a t b n (i + 1)) (eq-eqb _ _ e)
+
+pub alike-differ : (s : List ℕ) (a : ℕ) (t : List ℕ) (b n i : ℕ) → i < n → (a + n ≤ length s) × (b + n ≤ length t)
+    → (getD s (a + i) 0 ≡ getD t (b + i) 0 → ⊥) → Alike s a t b n i → false ≡ sameBytes (take n (drop a s)) (take n (drop b t))
+alike-differ s a t b n i h p e w =
+    sym (w ∙ same-step s a t b n i h (p .0) (p .1) ∙ ap (λ (v : Bool). v && sameFrom s a t b n (i + 1)) (ne-eqb _ _ e))
+
+pub alike-end : (s : List ℕ) (a : ℕ) (t : List ℕ) (b n i : ℕ) → n ≤ i → Alike s a t b n i
+    → true ≡ sameBytes (take n (drop a s)) (take n (drop b t))
+unfolding sameBytes
+alike-end s a t b n i h w = let z : n - i ≡ 0 = omega arith in sym (w ∙ simp z)
+
+-- Tokens.
+pub word-in : (kind i n e : ℕ) → e ≡ i + 1 + n → e - i ≤ 31 → record { kind = kind; at = i; len = e - i } ≡ word kind i (suc n)
+unfolding word
+word-in kind i n e p h =
+    let q : e - i ≡ suc n = omega arith in
+    let l : leb (suc n) 31 ≡ true = le-leb (suc n) 31 (omega arith) in
+    simp (q, l)
+
+pub word-over : (kind i n e : ℕ) → e ≡ i + 1 + n → 31 < e - i → record { kind = 15; at = i; len = e - i } ≡ word kind i (suc n)
+unfolding word
+word-over kind i n e p h =
+    let q : e - i ≡ suc n = omega arith in
+    let l : leb (suc n) 31 ≡ false = lt-leb (suc n) 31 (omega arith) in
+    simp (q, l)
+
+dash-first : (s : List ℕ) (i : ℕ) → dashFirst (drop i s) ≡ eqb (getD s i 0) 45
+unfolding dashFirst
+dash-first [] zero = refl
+dash-first [] (suc i) = refl
+dash-first (b ∷ s) zero = refl
+dash-first (b ∷ s) (suc i) = dash-first s i
+
+dash-inside : (r : List ℕ) → dashFirst r ≡ true → 1 ≤ length r
+unfolding dashFirst
+dash-inside [] e = let z : _≡_ {A = Bool} false true = e in let w : _≡_ {A = ℕ} 0 1 = cc in absurd (omega arith)
+dash-inside (b ∷ r) e = omega arith
+
+pub colon-neck : (s : List ℕ) (i b : ℕ) → b ≡ getD s (i + 1) 0 → b ≡ 45
+    → record { kind = 6; at = i; len = 2 } ≡ tokenOf 6 i (drop (i + 1) s)
+unfolding tokenOf
+colon-neck s i b p e = let q : getD s (i + 1) 0 ≡ 45 = cc in simp (dash-first, q)
+
+pub colon-alone : (s : List ℕ) (i b : ℕ) → b ≡ getD s (i + 1) 0 → (b ≡ 45 → ⊥)
+    → record { kind = 0; at = i; len = 1 } ≡ tokenOf 6 i (drop (i + 1) s)
+unfolding tokenOf
+colon-alone s i b p e = simp (dash-first, ← p, ne-eqb _ _ e)
+
+-- the tokens that more than one byte can make
+pub of-name : (i : ℕ) (r : List ℕ) → word 3 i (suc (run (goesOn 3) r)) ≡ tokenOf 3 i r
+unfolding tokenOf inWord goesOn
+of-name i r = refl
+
+pub of-variable : (i : ℕ) (r : List ℕ) → word 4 i (suc (run (goesOn 3) r)) ≡ tokenOf 4 i r
+unfolding tokenOf inWord goesOn
+of-variable i r = refl
+
+pub of-numeral : (i : ℕ) (r : List ℕ) → word 5 i (suc (run (goesOn 5) r)) ≡ tokenOf 5 i r
+unfolding tokenOf
+of-numeral i r = ap (λ (n : ℕ). word 5 i (suc n)) (sym (run-same inNumeral (goesOn 5) numeral-goes r))
+
+-- the token at a place, by the class of the byte there
+pub token-none : (s : List ℕ) (from i : ℕ) → i ≡ tokenPlace s from → length s ≤ i → record { kind = 16; at = i; len = 0 } ≡ tokenAt s from
+unfolding tokenAt tokenFrom
+token-none s from i p le = simp (← p, drop-of-length-le s le)
+
+token-of : (s : List ℕ) (from i k : ℕ) → i ≡ tokenPlace s from → i < length s → classOf (getD s i 0) ≡ k
+    → tokenAt s from ≡ tokenOf k i (drop (i + 1) s)
+unfolding tokenAt tokenFrom
+token-of s from i k p lt c =
+    ap (λ (j : ℕ). tokenFrom j (drop j s)) (sym p) ∙ ap (tokenFrom i) (drop-next s i lt) ∙ ap (λ (d : ℕ). tokenOf d i (drop (i + 1) s)) c
+
+pub token-by : (s : List ℕ) (from i k n : ℕ) (t u : Token) → i ≡ tokenPlace s from → i < length s → k ≡ classOf (getD s i 0) → k ≡ n
+    → t ≡ u → u ≡ tokenOf n i (drop (i + 1) s) → t ≡ tokenAt s from
+token-by s from i k n t u p lt c e q w = q ∙ w ∙ sym (token-of s from i n p lt (cc))
+
+pub token-byte : (s : List ℕ) (from i k : ℕ) → i ≡ tokenPlace s from → i < length s → k ≡ classOf (getD s i 0) → (k ≡ 3 → ⊥)
+    → (k ≡ 4 → ⊥) → (k ≡ 5 → ⊥) → (k ≡ 6 → ⊥) → record { kind = k; at = i; len = 1 } ≡ tokenAt s from
+unfolding tokenOf
+token-byte s from i k p lt c n3 n4 n5 n6 =
+    let o : record { kind = k; at = i; len = 1 } ≡ tokenOf k i (drop (i + 1) s) =
+    simp (ne-eqb _ _ n3, ne-eqb _ _ n4, ne-eqb _ _ n5, ne-eqb _ _ n6) in
+    o ∙ sym (token-of s from i k p lt (sym c))
+
+-- what holds of a token by cases of its first byte's class
+by-class : (P : Token → Type 0) (t3 t4 t5 t6 : Bool) (name variable numeral colon other : Token) → P name → P variable → P numeral
+    → P colon → (t3 ≡ false → t4 ≡ false → t5 ≡ false → P other)
+    → P (cond t3 name (cond t4 variable (cond t5 numeral (cond t6 colon other))))
+by-class P true t4 t5 t6 name variable numeral colon other a b c d e = a
+by-class P false true t5 t6 name variable numeral colon other a b c d e = b
+by-class P false false true t6 name variable numeral colon other a b c d e = c
+by-class P false false false true name variable numeral colon other a b c d e = d
+by-class P false false false false name variable numeral colon other a b c d e = e refl refl refl
+
+of-cases : (P : Token → Type 0) (c i : ℕ) (r : List ℕ) → ((k n : ℕ) → k ≤ 5 → n ≤ length r → P (word k i (suc n)))
+    → ((t : Bool) → dashFirst r ≡ t → P (record { kind = cond t 6 0; at = i; len = cond t 2 1 }))
+    → ((c ≡ 3 → ⊥) → (c ≡ 4 → ⊥) → (c ≡ 5 → ⊥) → P (record { kind = c; at = i; len = 1 })) → P (tokenOf c i r)
+unfolding tokenOf
+of-cases P c i r words colon other =
+    by-class P (eqb c 3) (eqb c 4) (eqb c 5) (eqb c 6)
+    (word 3 i (suc (run inWord r)))
+    (word 4 i (suc (run inWord r)))
+    (word 5 i (suc (run inNumeral r)))
+    (record { kind = cond (dashFirst r) 6 0; at = i; len = cond (dashFirst r) 2 1 })
+    (record { kind = c; at = i; len = 1 })
+    (words 3 (run inWord r) (omega arith) (run-inside inWord r))
+    (words 4 (run inWord r) (omega arith) (run-inside inWord r))
+    (words 5 (run inNumeral r) (omega arith) (run-inside inNumeral r))
+    (colon (dashFirst r) refl)
+    (λ n3 n4 n5. other (eqb-false c 3 n3) (eqb-false c 4 n4) (eqb-false c 5 n5))
+
+-- A token lies at its place and inside the text.
+from-at : (i : ℕ) (l : List ℕ) → (tokenFrom i l) .at ≡ i
+unfolding tokenFrom word
+from-at i [] = refl
+from-at i (b ∷ r) = of-cases (λ t. t .at ≡ i) (classOf b) i r (λ k n h m. refl) (λ t e. refl) (λ n3 n4 n5. refl)
+
+colon-inside : (i : ℕ) (r : List ℕ) (t : Bool) → dashFirst r ≡ t → i + cond t 2 1 ≤ i + suc (length r)
+colon-inside i r true e = omega (arith, dash-inside r e)
+colon-inside i r false e = omega arith
+
+from-inside : (i : ℕ) (l : List ℕ) → (tokenFrom i l) .at + (tokenFrom i l) .len ≤ i + length l
+unfolding tokenFrom word
+from-inside i [] = omega arith
+from-inside i (b ∷ r) =
+    of-cases (λ t. t .at + t .len ≤ i + suc (length r)) (classOf b) i r (λ k n h m. omega arith) (colon-inside i r) (λ n3 n4 n5. omega arith)
+
+pub place-from : (s : List ℕ) (p : ℕ) → p ≤ tokenPlace s p
+unfolding tokenPlace
+place-from s p = omega arith
+
+pub place-inside : (s : List ℕ) (p : ℕ) → p ≤ length s → tokenPlace s p ≤ length s
+unfolding tokenPlace
+place-inside s p h = omega (arith, skipped-inside outside (drop p s), length-drop p s)
+
+pub token-place : (s : List ℕ) (p : ℕ) → (tokenAt s p) .at ≡ tokenPlace s p
+unfolding tokenAt
+token-place s p = from-at (tokenPlace s p) (drop (tokenPlace s p) s)
+
+pub token-at-from : (s : List ℕ) (p : ℕ) → p ≤ (tokenAt s p) .at
+token-at-from s p = omega (arith, token-place s p, place-from s p)
+
+pub token-inside : (s : List ℕ) (p : ℕ) → p ≤ length s → (tokenAt s p) .at + (tokenAt s p) .len ≤ length s
+unfolding tokenAt
+token-inside s p h =
+    omega (arith, from-inside (tokenPlace s p) (drop (tokenPlace s p) s), length-drop (tokenPlace s p) s, place-inside s p h)
+
+pub past-is : (s : List ℕ) (p : ℕ) (t : Token) → t ≡ tokenAt s p → t .at + t .len ≡ (tokenAt s p) .at + (tokenAt s p) .len
+past-is s p t e = ap (λ (u : Token). u .at + u .len) e
+
+-- A name, variable or numeral has at most 31 bytes.
+word-short : (k n : ℕ) (t : Bool) → leb n 31 ≡ t → cond t k 15 ≤ 5 → n ≤ 31
+word-short k n true e h = leb-true n 31 e
+word-short k n false e h = absurd (omega arith)
+
+colon-len : (t : Bool) → (0 < cond t 2 1) × (cond t 2 1 ≤ 31)
+colon-len true = omega arith
+colon-len false = omega arith
+
+from-short : (i : ℕ) (l : List ℕ) → (tokenFrom i l) .kind ≤ 5 → (tokenFrom i l) .len ≤ 31
+unfolding tokenFrom word
+from-short i [] h = omega arith
+from-short i (b ∷ r) h =
+    of-cases (λ t. t .kind ≤ 5 → t .len ≤ 31) (classOf b) i r (λ k n h m. word-short k (suc n) (leb (suc n) 31) refl)
+    (λ t e h. colon-len t .1)
+    (λ n3 n4 n5 h. omega arith)
+    h
+
+pub token-word-short : (s : List ℕ) (p k : ℕ) → (tokenAt s p) .kind ≡ k → T (leb k 5) → (tokenAt s p) .len ≤ 31
+unfolding tokenAt
+token-word-short s p k e h = from-short (tokenPlace s p) (drop (tokenPlace s p) s) (omega (arith, e, leb→le k 5 h))
+
+-- Every token but the end has a byte.
+from-some : (i : ℕ) (l : List ℕ) → ((tokenFrom i l) .kind ≡ 16 → ⊥) → 0 < (tokenFrom i l) .len
+unfolding tokenFrom word
+from-some i [] h = absurd (h refl)
+from-some i (b ∷ r) h = of-cases (λ t. 0 < t .len) (classOf b) i r (λ k n h m. omega arith) (λ t e. colon-len t .0) (λ n3 n4 n5. omega arith)
+
+pub token-some : (s : List ℕ) (p : ℕ) → ((tokenAt s p) .kind ≡ 16 → ⊥) → 0 < (tokenAt s p) .len
+unfolding tokenAt
+token-some s p h = from-some (tokenPlace s p) (drop (tokenPlace s p) s) h
+
+-- The end stands at the text's length.
+word-no-end : (k : ℕ) (t : Bool) → k ≤ 5 → cond t k 15 ≡ 16 → ⊥
+word-no-end k true h e = omega arith
+word-no-end k false h e = omega arith
+
+colon-no-end : (t : Bool) → _≡_ {A = ℕ} (cond t 6 0) 16 → ⊥
+colon-no-end true e = omega arith
+colon-no-end false e = omega arith
+
+from-end : (i : ℕ) (l : List ℕ) → (tokenFrom i l) .kind ≡ 16 → length l ≡ 0
+unfolding tokenFrom word
+from-end i [] h = refl
+from-end i (b ∷ r) h =
+    absurd
+    (of-cases (λ t. t .kind ≡ 16 → ⊥) (classOf b) i r (λ k n h m. word-no-end k (leb (suc n) 31) h) (λ t e. colon-no-end t)
+    (λ n3 n4 n5 e. omega (arith, class-small b)) h)
+
+pub token-end : (s : List ℕ) (p : ℕ) → (tokenAt s p) .kind ≡ 16 → p ≤ length s → (tokenAt s p) .at ≡ length s
+unfolding tokenAt
+token-end s p e h =
+    let l : length (drop (tokenPlace s p) s) ≡ 0 = from-end (tokenPlace s p) (drop (tokenPlace s p) s) e in
+    omega (arith, from-at (tokenPlace s p) (drop (tokenPlace s p) s), length-drop (tokenPlace s p) s, place-inside s p h)

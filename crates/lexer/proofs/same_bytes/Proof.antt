@@ -1,0 +1,59 @@
+-- `lexer::same_bytes` meets its contract: while the bytes passed agree, the parts are the same where their rests are.
+use Prim.Native.Nat.{_≤_, _-_}
+use borrow.Author.Needs.{needs}
+use Rattle.lexer.proofs.Laws.{Alike, alike-first, alike-on, alike-differ, alike-end}
+use Rattle.lexer.proofs.same_bytes.Statement.{statement}
+use Rattle.lexer.proofs.same_bytes.Tie as tie
+
+abbrev Inv-loop : tie.InvT-loop
+Inv-loop s a t b n i₀ i = (i ≤ n) × Alike s a t b n i
+
+abbrev μ-loop : tie.MeasureT-loop
+μ-loop s a t b n i₀ i = n - i
+
+loop-holds : tie.Need-loop-holds Inv-loop μ-loop
+loop-holds c = search (alike-first, needs)
+
+add-p : tie.Need-add-p Inv-loop μ-loop
+add-p c = search needs
+
+add-q : tie.Need-add-q Inv-loop μ-loop
+add-q c = search needs
+
+shared-slice-read-if1 : tie.Need-shared-slice-read-if1 Inv-loop μ-loop
+shared-slice-read-if1 c = search needs
+
+shared-slice-read-if1-2 : tie.Need-shared-slice-read-if1-2 Inv-loop μ-loop
+shared-slice-read-if1-2 c = search needs
+
+returns : tie.Need-returns Inv-loop μ-loop
+returns c = search (alike-differ, needs)
+
+add-i : tie.Need-add-i Inv-loop μ-loop
+add-i c = search needs
+
+loop-less : tie.Need-loop-less Inv-loop μ-loop
+loop-less c = search needs
+
+loop-again : tie.Need-loop-again Inv-loop μ-loop
+loop-again c = search (alike-on, needs)
+
+returns-2 : tie.Need-returns-2 Inv-loop μ-loop
+returns-2 c = search (alike-end, needs)
+
+pub same-bytes-spec : {M : Type 1} → statement M
+same-bytes-spec =
+    tie.close
+    (tie.spec
+    Inv-loop
+    μ-loop
+    loop-holds
+    add-p
+    add-q
+    shared-slice-read-if1
+    shared-slice-read-if1-2
+    returns
+    add-i
+    loop-less
+    loop-again
+    returns-2)

@@ -1,0 +1,198 @@
+// The lexer: the class of a byte, and the token at a position of a text. Document 01 is the paper "Rule sheets".
+mod classes;
+
+use classes::CLASSES;
+use syntax::END;
+use syntax::NAME;
+use syntax::NECK;
+use syntax::NO_TOKEN;
+use syntax::NUMERAL;
+use syntax::OVERLONG;
+use syntax::Token;
+use syntax::VARIABLE;
+ghost use mathlib.Core.Path.{_≡_};
+ghost use Prim.Native.Nat.{suc, _+_, _≤_, _<_};
+ghost use lib.ListN.{length, getD, take, drop};
+ghost use Rattle.syntax.specs.Bytes.{classOf};
+ghost use Rattle.syntax.specs.Tokens.{run, word, tokenOf, tokenPlace, tokenAt};
+ghost use Rattle.syntax.specs.Terms.{sameBytes};
+ghost use Rattle.lexer.specs.Runs.{goesOn};
+
+// The classes of bytes that are no kind of token.
+const BLANK: usize = 1;
+
+const PERCENT: usize = 2;
+
+const COLON: usize = 6;
+
+const LINE_FEED: u8 = 10;
+
+const DASH: u8 = 45;
+
+// The most bytes of a name, variable or numeral.
+const LONGEST: usize = 31;
+
+// The class of a byte.
+pub fn class(b: u8) -> usize
+    ensures { λ r. ⌜ r ≡ classOf b ⌝ }
+{
+    CLASSES[b as usize] as usize
+}
+
+// The byte at a position, 0 past the end.
+pub fn byte_at(s: &[u8], i: usize) -> u8
+    ensures { λ r. ⌜ r ≡ getD (now (s .entry)) i 0 ⌝ }
+{
+    if i < s.len() {
+        return s[i];
+    }
+    0
+}
+
+// Where the first token from a position on begins, past blanks and comments; the length where only these are left.
+pub fn skip(s: &[u8], from: usize) -> usize
+    requires { ⌜ from ≤ length (now s) ⌝ }
+    ensures { λ r. ⌜ r ≡ tokenPlace (now (s .entry)) from ⌝ }
+{
+    let mut at = from;
+    // A turn passes one blank or one comment; both loops are left at the token's first byte, or at the end.
+    'token: loop {
+        if s.len() <= at {
+            break 'token;
+        }
+        let c = class(s[at]);
+        if c == BLANK {
+            at += 1;
+            continue 'token;
+        }
+        if c != PERCENT {
+            break 'token;
+        }
+        'comment: loop {
+            at += 1;
+            if s.len() <= at {
+                break 'token;
+            }
+            if s[at] == LINE_FEED {
+                break 'comment;
+            }
+        }
+        at += 1;
+    }
+    at
+}
+
+// Where the bytes whose classes are from `least` to that of a digit end: those of a word or of a numeral.
+fn run_end(s: &[u8], from: usize, least: usize) -> usize
+    requires { ⌜ from ≤ length (now s) ⌝ }
+    ensures { λ r. ⌜ r ≡ from + run (goesOn least) (drop from (now (s .entry))) ⌝ }
+{
+    let mut at = from;
+    while at < s.len() {
+        let c = class(s[at]);
+        if c < least {
+            return at;
+        }
+        if NUMERAL < c {
+            return at;
+        }
+        at += 1;
+    }
+    at
+}
+
+// The name, variable or numeral that begins at a position and goes on with classes from `least` to that of a digit.
+fn word_token(s: &[u8], at: usize, kind: usize, least: usize) -> Token
+    requires { ⌜ at < length (now s) ⌝ }
+    ensures { λ r. ⌜ r ≡ word kind at (suc (run (goesOn least) (drop (at + 1) (now (s .entry))))) ⌝ }
+{
+    let end = run_end(s, at + 1, least);
+    let len = end - at;
+    if len <= LONGEST {
+        return Token { kind, at, len };
+    }
+    Token {
+        kind: OVERLONG,
+        at,
+        len,
+    }
+}
+
+// What begins with a colon: the pair with its dash, or no token.
+fn colon_token(s: &[u8], at: usize) -> Token
+    requires { ⌜ at < length (now s) ⌝ }
+    ensures { λ r. ⌜ r ≡ tokenOf 6 at (drop (at + 1) (now (s .entry))) ⌝ }
+{
+    let next = at + 1;
+    if byte_at(s, next) == DASH {
+        return Token {
+            kind: NECK,
+            at,
+            len: 2,
+        };
+    }
+    Token {
+        kind: NO_TOKEN,
+        at,
+        len: 1,
+    }
+}
+
+// The first token from a position on.
+pub fn token_at(s: &[u8], from: usize) -> Token
+    requires { ⌜ from ≤ length (now s) ⌝ }
+    ensures { λ r. ⌜ r ≡ tokenAt (now (s .entry)) from ⌝ }
+{
+    let at = skip(s, from);
+    if s.len() <= at {
+        return Token {
+            kind: END,
+            at,
+            len: 0,
+        };
+    }
+    let c = class(s[at]);
+    if c == NAME {
+        return word_token(s, at, NAME, NAME);
+    }
+    if c == VARIABLE {
+        return word_token(s, at, VARIABLE, NAME);
+    }
+    if c == NUMERAL {
+        return word_token(s, at, NUMERAL, NUMERAL);
+    }
+    if c == COLON {
+        return colon_token(s, at);
+    }
+    Token {
+        kind: c,
+        at,
+        len: 1,
+    }
+}
+
+// The position just past the first token from a position on.
+pub fn past_at(s: &[u8], from: usize) -> usize
+    requires { ⌜ from ≤ length (now s) ⌝ }
+    ensures { λ r. ⌜ r ≡ (tokenAt (now (s .entry)) from) .at + (tokenAt (now (s .entry)) from) .len ⌝ }
+{
+    let token = token_at(s, from);
+    token.at + token.len
+}
+
+// Whether the `n` bytes of `s` from `a` on and those of `t` from `b` on are the same.
+pub fn same_bytes(s: &[u8], a: usize, t: &[u8], b: usize, n: usize) -> bool
+    requires { ⌜ (a + n ≤ length (now s)) × (b + n ≤ length (now t)) ⌝ }
+    ensures { λ r. ⌜ r ≡ sameBytes (take n (drop a (now (s .entry)))) (take n (drop b (now (t .entry)))) ⌝ }
+{
+    let mut i = 0;
+    while i < n {
+        let p = a + i;
+        let q = b + i;
+        if s[p] != t[q] {
+            return false;
+        }
+        i += 1;
+    }
+    true
+}

@@ -1,0 +1,33 @@
+-- The verdict's words, the name and the line feed, one after another.
+use native.Mathlib.Omega.{arith}
+use Rattle.lines.specs.Lines.{lineOf}
+use Rattle.lines.proofs.Laws.{then, name-length}
+use borrow.Author.Needs.{needs}
+use Rattle.lines.proofs.append_line.Statement.{statement}
+use Rattle.lines.proofs.append_line.Tie as tie
+
+append-verdict-requires : tie.Need-append-verdict-requires
+append-verdict-requires c κs = search needs
+
+append-name-requires : tie.Need-append-name-requires
+append-name-requires c κs = search needs
+
+append-byte-requires : tie.Need-append-byte-requires
+append-byte-requires c κs = omega (arith, name-length (c .before .before .before .before .before .before .before .before .before .before .before .args .name .now))
+
+same-length : tie.Need-same-length
+same-length c = search needs
+
+returns : tie.Need-returns
+unfolding lineOf
+returns c = then (then (c .before .before .before .before .before .before .before .before .before .before .append-verdict .ensures .0) (c .before .before .before .before .before .before .append-name .ensures)) (c .before .before .append-byte .ensures)
+
+pub append-line-spec : {M : Type 1} → statement M
+append-line-spec =
+    tie.close
+    (tie.spec
+    append-verdict-requires
+    append-name-requires
+    append-byte-requires
+    same-length
+    returns)

@@ -1,0 +1,24 @@
+-- Nothing for an empty name; otherwise a space and the name.
+use Rattle.lines.proofs.Laws.{nothing, then, spelt, no-name, some-name}
+use borrow.Author.Needs.{needs}
+use Rattle.lines.proofs.append_name.Statement.{statement}
+use Rattle.lines.proofs.append_name.Tie as tie
+
+returns : tie.Need-returns
+returns c = spelt (no-name (c .before .before .before .args .name .now) (c .if1 .taken)) (nothing _ _)
+
+append-byte-requires : tie.Need-append-byte-requires
+append-byte-requires c κs = search needs
+
+append-requires : tie.Need-append-requires
+append-requires c κs = search needs
+
+same-length : tie.Need-same-length
+same-length c = search needs
+
+returns-2 : tie.Need-returns-2
+returns-2 c = spelt (some-name (c .before .before .before .before .before .before .before .before .before .before .before .args .name .now) (c .before .before .before .before .before .before .before .before .if1 .left)) (then (c .before .before .before .before .before .before .append-byte .ensures) (c .before .before .append .ensures))
+
+pub append-name-spec : {M : Type 1} → statement M
+append-name-spec =
+    tie.close (tie.spec returns append-byte-requires append-requires same-length returns-2)

@@ -1,0 +1,44 @@
+-- The words of a run's last line, one after another.
+use Rattle.lines.specs.Lines.{reportLine}
+use Rattle.lines.proofs.Laws.{then}
+use borrow.Author.Needs.{needs}
+use Rattle.lines.proofs.append_report.Statement.{statement}
+use Rattle.lines.proofs.append_report.Tie as tie
+
+slice-aggregate-append : tie.Need-slice-aggregate-append
+slice-aggregate-append c = search needs
+
+append-requires : tie.Need-append-requires
+append-requires c κs = search needs
+
+append-kind-requires : tie.Need-append-kind-requires
+append-kind-requires c κs = search needs
+
+append-number-requires : tie.Need-append-number-requires
+append-number-requires c κs = search needs
+
+append-number-requires-2 : tie.Need-append-number-requires-2
+append-number-requires-2 c κs = search needs
+
+append-byte-requires : tie.Need-append-byte-requires
+append-byte-requires c κs = search needs
+
+same-length : tie.Need-same-length
+same-length c = search needs
+
+returns : tie.Need-returns
+unfolding reportLine
+returns c = then (then (then (then (c .before .before .before .before .before .before .before .before .before .before .before .before .before .before .before .before .before .before .append .ensures) (c .before .before .before .before .before .before .before .before .before .before .before .before .before .before .append-kind .ensures .0)) (c .before .before .before .before .before .before .before .before .before .before .append-number .ensures .0)) (c .before .before .before .before .before .before .append-number2 .ensures .0)) (c .before .before .append-byte .ensures)
+
+pub append-report-spec : {M : Type 1} → statement M
+append-report-spec =
+    tie.close
+    (tie.spec
+    slice-aggregate-append
+    append-requires
+    append-kind-requires
+    append-number-requires
+    append-number-requires-2
+    append-byte-requires
+    same-length
+    returns)

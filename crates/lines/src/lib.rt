@@ -1,0 +1,178 @@
+// The lines that the programs print, into a lent buffer. Document 01 is the paper "Rule sheets".
+use syntax::Five;
+use syntax::Text;
+use syntax::Verdict;
+ghost use mathlib.Core.Path.{_≡_};
+ghost use mathlib.Core.List.{[], _∷_};
+ghost use Prim.Native.Nat.{_+_, _^_, _≤_, _<_};
+ghost use Rattle.lines.specs.Lines.{Put, written, fitted, lineOf, reportLine, decimal, number, textWord, verdictWords, nameWord, kindWord};
+ghost use Rattle.lines.specs.Lines.{five as Lines·five};
+
+// Writes the line of a verdict, with the name handed back if there is one, to the start of out and returns its length;
+// where the whole line does not fit, writes nothing and returns 0.
+pub fn put_line(verdict: Verdict, name: &[u8], out: &mut [u8]) -> usize
+    ensures length { λ r. ⌜ r ≡ written (lineOf verdict (now (name .entry))) (now (out .entry)) ⌝ }
+    ensures text { λ _. ⌜ now (out .exit) ≡ fitted (lineOf verdict (now (name .entry))) (now (out .entry)) ⌝ }
+{
+    let mut nothing = [0u8; 0];
+    let line_length = append_line(verdict, name, &mut nothing);
+    if line_length <= out.len() {
+        append_line(verdict, name, out)
+    } else {
+        0
+    }
+}
+
+// Writes the line that ends a run to the start of out and returns its length; where the whole line does not fit, writes
+// nothing and returns 0. The kinds are 0 wanted, 1 done, 2 steps, 3 full, and from 4 on deep.
+pub fn put_report(kind: usize, answers: usize, steps: usize, out: &mut [u8]) -> usize
+    ensures length { λ r. ⌜ r ≡ written (reportLine kind answers steps) (now (out .entry)) ⌝ }
+    ensures text { λ _. ⌜ now (out .exit) ≡ fitted (reportLine kind answers steps) (now (out .entry)) ⌝ }
+{
+    let mut nothing = [0u8; 0];
+    let report_length = append_report(kind, answers, steps, &mut nothing);
+    if report_length <= out.len() {
+        append_report(kind, answers, steps, out)
+    } else {
+        0
+    }
+}
+
+// Each function below writes from a position on and returns the position past what it wrote. Bytes at or past the buffer's
+// end are left out but counted, so a buffer of no bytes measures. Positions do not overflow: `refused sheet` has 13 bytes
+// and a number with its space at most 21, so a verdict's words end at 118 at most, and then comes the name.
+
+fn append_line(verdict: Verdict, name: &[u8], out: &mut [u8]) -> usize
+    ensures { λ r. ⌜ Put (now (out .entry)) 0 (lineOf verdict (now (name .entry))) (now (out .exit)) r ⌝ }
+{
+    let past_verdict = append_verdict(verdict, out);
+    let past_name = append_name(name, out, past_verdict);
+    append_byte(b'\n', out, past_name)
+}
+
+fn append_verdict(verdict: Verdict, out: &mut [u8]) -> usize
+    ensures wrote { λ r. ⌜ Put (now (out .entry)) 0 (verdictWords verdict) (now (out .exit)) r ⌝ }
+    ensures within { λ r. ⌜ r ≤ 118 ⌝ }
+{
+    match verdict {
+        Verdict::Accepted {
+            declarations,
+            clauses,
+        } => {
+            let past_word = append(b"accepted", out, 0);
+            let past_declarations = append_number(declarations, out, past_word);
+            append_number(clauses, out, past_declarations)
+        }
+        Verdict::Refused { text, refusal } => {
+            let past_word = append(b"refused", out, 0);
+            let past_text = append_text(text, out, past_word);
+            let numbers = syntax::numbers(refusal);
+            append_five(numbers, out, past_text)
+        }
+    }
+}
+
+fn append_text(text: Text, out: &mut [u8], at: usize) -> usize
+    requires { ⌜ at ≤ 7 ⌝ }
+    ensures wrote { λ r. ⌜ Put (now (out .entry)) at (textWord text) (now (out .exit)) r ⌝ }
+    ensures within { λ r. ⌜ r ≤ at + 6 ⌝ }
+{
+    match text {
+        Text::Sheet => append(b" sheet", out, at),
+        Text::Goal => append(b" goal", out, at),
+        Text::Neither => at,
+    }
+}
+
+fn append_five(five: Five, out: &mut [u8], at: usize) -> usize
+    requires { ⌜ at ≤ 13 ⌝ }
+    ensures wrote { λ r. ⌜ Put (now (out .entry)) at (Lines·five five) (now (out .exit)) r ⌝ }
+    ensures within { λ r. ⌜ r ≤ at + 105 ⌝ }
+{
+    let past_number = append_number(five.number, out, at);
+    let past_byte = append_number(five.byte, out, past_number);
+    let past_clause = append_number(five.clause, out, past_byte);
+    let past_literal = append_number(five.literal, out, past_clause);
+    append_number(five.argument, out, past_literal)
+}
+
+fn append_name(name: &[u8], out: &mut [u8], at: usize) -> usize
+    requires { ⌜ at ≤ 118 ⌝ }
+    ensures { λ r. ⌜ Put (now (out .entry)) at (nameWord (now (name .entry))) (now (out .exit)) r ⌝ }
+{
+    if name.len() == 0 {
+        return at;
+    }
+    let past_space = append_byte(b' ', out, at);
+    append(name, out, past_space)
+}
+
+fn append_report(kind: usize, answers: usize, steps: usize, out: &mut [u8]) -> usize
+    ensures { λ r. ⌜ Put (now (out .entry)) 0 (reportLine kind answers steps) (now (out .exit)) r ⌝ }
+{
+    let past_word = append(b"end ", out, 0);
+    let past_kind = append_kind(kind, out, past_word);
+    let past_answers = append_number(answers, out, past_kind);
+    let past_steps = append_number(steps, out, past_answers);
+    append_byte(b'\n', out, past_steps)
+}
+
+fn append_kind(kind: usize, out: &mut [u8], at: usize) -> usize
+    requires { ⌜ at ≤ 4 ⌝ }
+    ensures wrote { λ r. ⌜ Put (now (out .entry)) at (kindWord kind) (now (out .exit)) r ⌝ }
+    ensures within { λ r. ⌜ r ≤ at + 6 ⌝ }
+{
+    match kind {
+        0 => append(b"wanted", out, at),
+        1 => append(b"done", out, at),
+        2 => append(b"steps", out, at),
+        3 => append(b"full", out, at),
+        _ => append(b"deep", out, at),
+    }
+}
+
+// A space and the number.
+fn append_number(n: usize, out: &mut [u8], at: usize) -> usize
+    requires { ⌜ at ≤ 118 ⌝ }
+    ensures wrote { λ r. ⌜ Put (now (out .entry)) at (number n) (now (out .exit)) r ⌝ }
+    ensures within { λ r. ⌜ r ≤ at + 21 ⌝ }
+{
+    let past_space = append_byte(b' ', out, at);
+    append_decimal(n, out, past_space)
+}
+
+// The digits of n / 10, then the last one.
+fn append_decimal(n: usize, out: &mut [u8], at: usize) -> usize
+    requires { ⌜ at ≤ 119 ⌝ }
+    ensures { λ r. ⌜ Put (now (out .entry)) at (decimal n) (now (out .exit)) r ⌝ }
+{
+    if n < 10 {
+        return append_byte((48 + n) as u8, out, at);
+    }
+    let past_others = append_decimal(n / 10, out, at);
+    append_byte((48 + n % 10) as u8, out, past_others)
+}
+
+fn append(text: &[u8], out: &mut [u8], at: usize) -> usize
+    requires { ⌜ at ≤ 119 ⌝ }
+    ensures { λ r. ⌜ Put (now (out .entry)) at (now (text .entry)) (now (out .exit)) r ⌝ }
+{
+    let mut past = at;
+    let mut i = 0;
+    while i < text.len() {
+        past = append_byte(text[i], out, past);
+        i += 1;
+    }
+    past
+}
+
+fn append_byte(byte: u8, out: &mut [u8], at: usize) -> usize
+    requires { ⌜ at + 1 < 2 ^ 64 ⌝ }
+    ensures { λ r. ⌜ Put (now (out .entry)) at (byte ∷ []) (now (out .exit)) r ⌝ }
+{
+    if at < out.len() {
+        out[at] = byte;
+        return at + 1;
+    }
+    at + 1
+}

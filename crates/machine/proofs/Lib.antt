@@ -1,0 +1,14 @@
+pub mod Compute
+pub mod Cases
+pub mod CountCases
+pub mod Tests
+pub mod Terms
+pub mod Unifier
+pub mod Piles
+pub mod Grounding
+pub mod Safety
+pub mod Demand3
+pub mod Reached
+pub mod Next
+pub mod EveryRun
+pub mod Witness

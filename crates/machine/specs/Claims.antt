@@ -1,0 +1,46 @@
+-- What the theorems about runs and counts say.
+use Prim.Native.Nat.{ℕ, _+_, _≤_, _<_}
+use mathlib.Core.Path.{_≡_}
+use mathlib.Core.List.{List}
+use mathlib.Core.Option.{none, some}
+use Rattle.syntax.specs.Terms.{Sheet, Goal}
+use Rattle.syntax.specs.Verdicts.{accepted}
+use Rattle.rules.specs.Checking.{checkedSheet, checkedGoal}
+use Rattle.machine.specs.Machine.{pileAfter}
+use Rattle.machine.specs.Runs.{Progress, endings, firstEnd, advanced, Ended, run, Report, ran, reported}
+use Rattle.machine.specs.Counts.{tally}
+
+-- After n steps from the goal alone the count of open inputs is zero, and so is the count of open outputs.
+pub record BothZero (sh : Sheet) (g : Goal) (n : ℕ) : Type 0 where
+  pub inputs : tally sh g n .inputs ≡ 0
+  pub outputs : tally sh g n .outputs ≡ 0
+
+-- A run is the step repeated, up to where an end applies: it takes k steps and has so many left, an end applies then, and before each of the
+-- k none applied.
+pub record EndsAfter (sh : Sheet) (g : Goal) (allowance wanted room : ℕ) (p : Progress) (e : Ended) : Type 0 where
+  pub taken : ℕ
+  pub left : ℕ
+  pub within : taken + left ≡ allowance
+  pub state : e .at ≡ advanced sh g taken p
+  pub applies : firstEnd (endings sh g wanted room left (e .at)) ≡ some (e .kind)
+  pub none-before : (k l : ℕ) → k + l ≡ allowance → k < taken → firstEnd (endings sh g wanted room l (advanced sh g k p)) ≡ none
+
+-- The steps of a run are the beginning of the list of steps from the goal alone: the pile where it ends is the one after so many steps, which are no
+-- more than the allowance.
+pub record Beginning (sh : Sheet) (g : Goal) (allowance : ℕ) (e : Ended) : Type 0 where
+  pub pile : e .at .pile ≡ pileAfter sh g (e .at .steps)
+  pub steps : e .at .steps ≤ allowance
+
+-- A sheet and a goal over it that are both accepted as texts, and both counts zero after any number of steps.
+pub record ZeroOver (sheet goal : List ℕ) : Type 0 where
+  pub sh : Sheet
+  pub g : Goal
+  pub sheet-accepted : checkedSheet sheet ≡ accepted sh
+  pub goal-accepted : checkedGoal sh goal ≡ accepted g
+  pub zero : (n : ℕ) → BothZero sh g n
+
+-- A run over two texts that is not refused: its report and text are those of the run, whose steps are the beginning of a list with both counts zero.
+pub record RunOver (sheet goal : List ℕ) (allowance wanted room : ℕ) (report : Report) (text : List ℕ) : Type 0 where
+  pub texts : ZeroOver sheet goal
+  pub reports : reported (run (texts .sh) (texts .g) allowance wanted room) ≡ ran report text
+  pub beginning : Beginning (texts .sh) (texts .g) allowance (run (texts .sh) (texts .g) allowance wanted room)

@@ -1,0 +1,9 @@
+pub mod Substitution
+pub mod Unification
+pub mod Unifiers
+pub mod Machine
+pub mod Answers
+pub mod Runs
+pub mod Counts
+pub mod Reached
+pub mod Claims

@@ -1,0 +1,5 @@
+pub mod LiteralLaws
+pub mod BodyLaws
+pub mod ClauseLaws
+pub mod MarkLaws
+pub mod SheetLaws

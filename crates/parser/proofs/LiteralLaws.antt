@@ -1,0 +1,339 @@
+-- Laws of reading literals: one for each way out of the functions that read them. Assumes nothing.
+use Prim.Native.Nat.{ℕ, zero, suc, _+_, _-_, _*_, _≤_, _<_, _^_}
+use native.Mathlib.Numerals.{add-one}
+use native.Mathlib.Omega.{arith}
+use mathlib.Core.Path.{_≡_, refl, sym, ap, ap₂, _∙_, subst, subst⁻¹}
+use mathlib.Core.Bool.{Bool, true, false, cond, _&&_}
+use mathlib.Core.List.{List, [], _∷_, _++_, append-assoc}
+use lib.ListN.{length, set, take, length-append, length-take, length-set}
+use lib.Seq.{take-set-lt, take-set-le, set-append-left, take-suc-set, take-take, take-all}
+use lib.Dec.{eqb, lit<}
+use borrow.Author.Tests.{eq-eqb, ne-eqb, eqb-true, eqb-false}
+use Rattle.syntax.specs.Terms.{Term, Terms, Atom, variable, compound, nil, cons, arity, termOf, Literal, call, equation, truth, falsity, literalOf, sameName, true-name, fail-name}
+use Rattle.syntax.specs.Tokens.{spelling}
+use Rattle.syntax.specs.Reading.{Read, fault, ok, andThen, next, wrongNumber, wrong, readTerm, readAtom, atomAt, readRight, afterAtom, afterTerm, literalWith, readLiteral, readAtomWith, atomWith, readList}
+use Rattle.syntax.specs.Words.{termWords, termsWords, atomWords, literalWords}
+use Rattle.syntax.specs.declared.State.{State}
+use Rattle.reading.specs.Gives.{Standing, Moved, Ready, Faulted, Given, Gives, GivenWith, GivesWith, Refused, one}
+use Rattle.reading.specs.Atoms.{readAtomAt}
+use Rattle.reading.specs.declared.Parsed.{Parsed}
+use Rattle.reading.proofs.Reading.{refused-wrong-with, moved-next}
+use Rattle.reading.proofs.TermLaws.{term-some}
+use Rattle.reading.proofs.Sequence.{seq-fault, seq-ok, shorter, kept-before, joined}
+use Rattle.parser.specs.Atoms.{atomNumber, aloneNumber, Alone}
+
+-- ---- one word stored in front of a run
+
+pub front : (entry mid exit w : List ℕ) (n a : ℕ) → n + 1 ≤ length entry → take ((n + 1) + length w) mid ≡ take (n + 1) entry ++ w → exit ≡ set mid n a → take (n + length (a ∷ w)) exit ≡ take n entry ++ (a ∷ w)
+front entry mid exit w n a h e f =
+    let k : n + length (a ∷ w) ≡ (n + 1) + length w = omega arith in
+    let l : length (take (n + 1) entry) ≡ n + 1 = simp length-take (omega arith) in
+    ap₂ (λ (i : ℕ) (x : List ℕ). take i x) k f
+    ∙ take-set-lt ((n + 1) + length w) mid n a (omega arith)
+    ∙ ap (λ (x : List ℕ). set x n a) e
+    ∙ set-append-left (take (n + 1) entry) w n a (omega arith)
+    ∙ ap (λ (x : List ℕ). x ++ w)
+    (sym (take-all (n + 1) (set (take (n + 1) entry) n a) (simp length-set (omega arith)))
+    ∙ ap (λ (j : ℕ). take j (set (take (n + 1) entry) n a)) (add-one n)
+    ∙ take-suc-set (take (n + 1) entry) n a (omega arith)
+    ∙ ap (λ (x : List ℕ). x ++ (a ∷ [])) (take-take n (n + 1) entry (omega arith)))
+    ∙ append-assoc (take n entry) (a ∷ []) w
+
+-- ---- the right side of an equation
+
+pub right-given : (s : List ℕ) (st past : State) (entry mid exit : List ℕ) (n used : ℕ) (r : Parsed) → Moved s st past → mid ≡ set entry n 3 → Gives termWords one s past mid exit used r (readTerm 16 s past) → Gives termWords one s (next s st) (set entry n 3) exit used r (readTerm 16 s (next s st))
+right-given s st past entry mid exit n used r m e g =
+    subst (λ (x : State). Gives termWords one s x (set entry n 3) exit used r (readTerm 16 s x)) (m .is)
+    (subst (λ (x : List ℕ). Gives termWords one s past x exit used r (readTerm 16 s past)) e g)
+
+-- ---- what an atom alone stands for
+
+pub number-long : (size : ℕ) (name : List ℕ) → (size ≡ 3 → ⊥) → 2 ≡ atomNumber (eqb size 3) name
+number-long size name n = simp (ne-eqb size 3 n)
+
+module _ (size : ℕ) (name : List ℕ) (e : size ≡ 3) (b : Bool) (eb : b ≡ sameName name true-name) where
+  pub number-true : b ≡ true → 0 ≡ atomNumber (eqb size 3) name
+  number-true f = simp (eq-eqb size 3 e, sym eb ∙ f)
+
+  module _ (nb : b ≡ false) (c : Bool) (ec : c ≡ sameName name fail-name) where
+    pub number-fail : c ≡ true → 1 ≡ atomNumber (eqb size 3) name
+    number-fail f = simp (eq-eqb size 3 e, sym eb ∙ nb, sym ec ∙ f)
+
+    pub number-call : c ≡ false → 2 ≡ atomNumber (eqb size 3) name
+    number-call f = simp (eq-eqb size 3 e, sym eb ∙ nb, sym ec ∙ f)
+
+-- ---- what an atom alone is
+
+numbered : Bool → Bool → ℕ
+numbered x y = cond x 0 (cond y 1 2)
+
+two-call : (a : Atom) (x y : Bool) → numbered x y ≡ 2 → cond x truth (cond y falsity (call a)) ≡ call a
+unfolding numbered
+two-call a true y e = absurd (omega (arith, e))
+two-call a false true e = absurd (omega (arith, e))
+two-call a false false e = refl
+
+other-words : (a : Atom) (x y : Bool) → (numbered x y ≡ 2 → ⊥) → literalWords (cond x truth (cond y falsity (call a))) ≡ numbered x y ∷ []
+unfolding literalWords numbered
+other-words a true y e = refl
+other-words a false true e = refl
+other-words a false false e = absurd (e refl)
+
+call-by : (a : Atom) → atomNumber (eqb (arity (a .args)) 0) (a .name) ≡ 2 → literalOf a ≡ call a
+unfolding numbered literalOf
+call-by a e = two-call a (eqb (arity (a .args)) 0 && sameName (a .name) true-name) (eqb (arity (a .args)) 0 && sameName (a .name) fail-name) e
+
+other-by : (a : Atom) (number : ℕ) → number ≡ atomNumber (eqb (arity (a .args)) 0) (a .name) → (number ≡ 2 → ⊥) → literalWords (literalOf a) ≡ number ∷ []
+unfolding numbered literalOf
+other-by a number e z = other-words a (eqb (arity (a .args)) 0 && sameName (a .name) true-name) (eqb (arity (a .args)) 0 && sameName (a .name) fail-name) (λ q. z (e ∙ q)) ∙ ap (λ (k : ℕ). k ∷ []) (sym e)
+
+-- an atom of three words has no arguments, and only such a one
+bare-test : (ts : Terms) → eqb (3 + length (termsWords ts)) 3 ≡ eqb (arity ts) 0
+unfolding termWords
+bare-test nil = refl
+bare-test (cons t ts) =
+    let some : 1 ≤ length (termWords t) = term-some t in
+    let sum : length (termWords t ++ termsWords ts) ≡ length (termWords t) + length (termsWords ts) = length-append (termWords t) (termsWords ts) in
+    ne-eqb (3 + length (termWords t ++ termsWords ts)) 3 (λ e. omega arith) ∙ sym (ne-eqb (suc (arity ts)) 0 (λ e. omega arith))
+
+atom-length : (a : Atom) → length (atomWords a) ≡ 3 + length (termsWords (a .args))
+unfolding termWords
+atom-length a = omega arith
+
+-- what holds of whatever is read
+AllOk : {A : Type 0} → (A → Type 0) → Read A → Type 0
+AllOk P (fault k b) = Unit {0}
+AllOk P (ok a st) = P a
+
+named-list : (s : List ℕ) (st : State) (d : Read Terms) → AllOk (λ (a : Atom). a .name ≡ spelling s (st .token .at) (st .token .len)) (andThen d (λ ts after. ok (atomAt s st ts) after))
+unfolding AllOk andThen
+named-list s st (fault k b) = tt
+named-list s st (ok ts after) = refl
+
+named-all : (left : ℕ) (s : List ℕ) (st : State) → AllOk (λ (a : Atom). a .name ≡ spelling s (st .token .at) (st .token .len)) (readAtomAt left s st)
+unfolding AllOk readAtomAt readAtomWith atomWith
+named-all left s st = by (eqb (next s st .token .kind) 7)
+  where
+    by : (b : Bool) → AllOk (λ (a : Atom). a .name ≡ spelling s (st .token .at) (st .token .len)) (atomWith (λ x. readList left s x) s st b)
+    by true = named-list s st (readList left s (next s st))
+    by false = refl
+
+atom-named : (left : ℕ) (s : List ℕ) (st end : State) (a : Atom) → readAtomAt left s st ≡ ok a end → a .name ≡ spelling s (st .token .at) (st .token .len)
+unfolding AllOk
+atom-named left s st end a e = subst (AllOk (λ (a : Atom). a .name ≡ spelling s (st .token .at) (st .token .len))) e (named-all left s st)
+
+-- ---- a literal that begins with a name
+
+module _ (s : List ℕ) (st : State) (entry : List ℕ) (n : ℕ) (ready : Ready s st entry n 1) where
+  n-in : n + 1 ≤ length entry
+  n-in = let room : n + 4 * (length s - st .token .at) + 1 ≤ length entry = ready .room in omega arith
+
+  -- what the term's function asks, one word further on
+  pub term-ready : Ready s st entry (n + 1) 0
+  term-ready = let room : n + 4 * (length s - st .token .at) + 1 ≤ length entry = ready .room in record { standing = ready .standing; room = omega arith; small = ready .small }
+
+  -- an equation of which the left side was read
+  module _ (mid : List ℕ) (r : Parsed) (t : Term) (g : Given s st entry mid (n + 1) r (termWords t) 1 (r .state)) (l : length mid ≡ length entry) where
+    pub right-ready : r .state .token .kind ≡ 11 → Ready s (r .state) mid (r .used) 0 × ((r .state .token .kind ≡ 11) × (n < r .used))
+    right-ready e =
+        let room : n + 4 * (length s - st .token .at) + 1 ≤ length entry = ready .room in
+        let small : length entry < 2 ^ 31 = ready .small in
+        let used : r .used ≡ (n + 1) + length (termWords t) = g .used-is in
+        let fits : length (termWords t) + 4 * (length s - r .state .token .at) + 1 ≤ 4 * (length s - st .token .at) = g .room in
+        (record { standing = g .standing; room = omega arith; small = omega arith }, (e, omega arith))
+
+    right-fault : (exit : List ℕ) (q : Parsed) (k b : ℕ) → Faulted (set mid n 3) exit (r .used) q k b → Faulted entry exit n q k b
+    right-fault exit q k b h =
+        let used : r .used ≡ (n + 1) + length (termWords t) = g .used-is in
+        let inn : n + 1 ≤ length entry = n-in in
+        record {
+          number-is = h .number-is;
+          some = h .some;
+          byte-is = h .byte-is;
+          kept = shorter n (r .used) (set mid n 3) exit (omega arith) (h .kept) ∙ take-set-le n mid n 3 (omega arith) ∙ kept-before n (n + 1) (length (termWords t)) entry mid (termWords t) (omega arith) inn (g .table-is);
+        }
+
+    right-words : (exit : List ℕ) (q : Parsed) (u : Term) (end : State) → r .state .token .kind ≡ 11 → Moved s (r .state) (next s (r .state)) → Given s (next s (r .state)) (set mid n 3) exit (r .used) q (termWords u) 1 end → GivenWith 0 s st entry exit n q (literalWords (equation t u)) 1 end
+    unfolding literalWords
+    right-words exit q u end e m h =
+        let tw : List ℕ = termWords t in
+        let uw : List ℕ = termWords u in
+        let used : r .used ≡ (n + 1) + length (termWords t) = g .used-is in
+        let used′ : q .used ≡ r .used + length (termWords u) = h .used-is in
+        let fits : length (termWords t) + 4 * (length s - r .state .token .at) + 1 ≤ 4 * (length s - st .token .at) = g .room in
+        let fits′ : length (termWords u) + 4 * (length s - end .token .at) + 1 ≤ 4 * (length s - next s (r .state) .token .at) = h .room in
+        let f : r .state .token .at + r .state .token .len ≤ next s (r .state) .token .at = m .forward in
+        let both : length (termWords t ++ termWords u) ≡ length (termWords t) + length (termWords u) = length-append (termWords t) (termWords u) in
+        let left : take (n + length (3 ∷ termWords t)) (set mid n 3) ≡ take n entry ++ (3 ∷ termWords t) = front entry mid (set mid n 3) (termWords t) n 3 n-in (g .table-is) refl in
+        let k : r .used ≡ n + length (3 ∷ termWords t) = omega arith in
+        let ends : take ((n + length (3 ∷ termWords t)) + length (termWords u)) exit ≡ take (n + length (3 ∷ termWords t)) (set mid n 3) ++ termWords u = subst (λ (x : ℕ). take (x + length (termWords u)) exit ≡ take x (set mid n 3) ++ termWords u) k (h .table-is) in
+        record {
+          number-is = h .number-is;
+          state-is = h .state-is;
+          items-is = h .items-is;
+          used-is = omega arith;
+          table-is = joined entry (set mid n 3) exit (3 ∷ termWords t) (termWords u) n left ends;
+          standing = h .standing;
+          room = omega arith;
+        }
+
+    right-by : (exit : List ℕ) (q : Parsed) (d : Read Term) → r .state .token .kind ≡ 11 → Moved s (r .state) (next s (r .state)) → Gives termWords one s (next s (r .state)) (set mid n 3) exit (r .used) q d → GivesWith 0 literalWords one s st entry exit n q (andThen d (λ u after. ok (equation t u) after))
+    unfolding andThen
+    right-by exit q (fault k b) e m h = right-fault exit q k b h
+    right-by exit q (ok u end) e m h = right-words exit q u end e m h
+
+    pub equation-given : (exit : List ℕ) (q : Parsed) → r .state .token .kind ≡ 11 → Gives termWords one s (next s (r .state)) (set mid n 3) exit (r .used) q (readTerm 16 s (next s (r .state))) → GivesWith 0 literalWords one s st entry exit n q (readRight s t (r .state))
+    unfolding readRight
+    equation-given exit q e h = right-by exit q (readTerm 16 s (next s (r .state))) e (moved-next s (r .state) (g .standing)) h
+
+    pub left-kept : take n mid ≡ take n entry
+    left-kept = kept-before n (n + 1) (length (termWords t)) entry mid (termWords t) (omega arith) n-in (g .table-is)
+
+  -- the literal by what stands behind its first term
+  module _ (mid : List ℕ) (r : Parsed) (l : length mid ≡ length entry) where
+    equation-test : (b : Bool) → eqb (r .state .token .kind) 11 ≡ b → (b′ : Bool) → b ≡ b′ → eqb (r .state .token .kind) 11 ≡ b′
+    equation-test b e b′ f = e ∙ f
+
+    module _ (g : Gives atomWords one s st entry mid (n + 1) r (readAtomAt 16 s st)) where
+      pub named-fault : (r .number ≡ 0 → ⊥) → GivesWith 0 literalWords one s st entry mid n r (literalWith s st true)
+      unfolding literalWith readAtom readAtomAt
+      named-fault z = seq-fault 1 0 atomWords one literalWords one s st st entry mid n (n + 1) r (readAtomAt 16 s st) (λ a after. afterAtom s a after (eqb (after .token .kind) 11)) (omega arith) g z
+
+      module _ (z : r .number ≡ 0) where
+        atom-read : (a : Atom) × (readAtomAt 16 s st ≡ ok a (r .state)) × Given s st entry mid (n + 1) r (atomWords a) 1 (r .state)
+        atom-read = seq-ok 1 atomWords one s st entry mid (n + 1) r (readAtomAt 16 s st) g z
+
+        named-by : (b : Bool) → eqb (r .state .token .kind) 11 ≡ b → literalWith s st true ≡ afterAtom s (atom-read .0) (r .state) b
+        unfolding literalWith readAtom readAtomAt andThen
+        named-by b e = ap (λ (d : Read Atom). andThen d (λ a after. afterAtom s a after (eqb (after .token .kind) 11))) (atom-read .1) ∙ ap (afterAtom s (atom-read .0) (r .state)) e
+
+        pub named-ready : r .state .token .kind ≡ 11 → Ready s (r .state) mid (r .used) 0 × ((r .state .token .kind ≡ 11) × (n < r .used))
+        named-ready e = right-ready mid r (termOf (atom-read .0)) (atom-read .2) l e
+
+        pub named-standing : Standing s (r .state)
+        named-standing = atom-read .2 .standing
+
+        pub named-equation : (exit : List ℕ) (q : Parsed) → r .state .token .kind ≡ 11 → Gives termWords one s (next s (r .state)) (set mid n 3) exit (r .used) q (readTerm 16 s (next s (r .state))) → GivesWith 0 literalWords one s st entry exit n q (literalWith s st true)
+        unfolding afterAtom
+        named-equation exit q e h = subst⁻¹ (GivesWith 0 literalWords one s st entry exit n q) (named-by true (eq-eqb (r .state .token .kind) 11 e)) (equation-given mid r (termOf (atom-read .0)) (atom-read .2) l exit q e h)
+
+        -- the number that was stored is the atom's
+        size-is : r .used - (n + 1) ≡ 3 + length (termsWords (atom-read .0 .args))
+        size-is = let used : r .used ≡ (n + 1) + length (atomWords (atom-read .0)) = atom-read .2 .used-is in let k : length (atomWords (atom-read .0)) ≡ 3 + length (termsWords (atom-read .0 .args)) = atom-length (atom-read .0) in omega arith
+
+        number-is : atomNumber (eqb (r .used - (n + 1)) 3) (spelling s (st .token .at) (st .token .len)) ≡ atomNumber (eqb (arity (atom-read .0 .args)) 0) (atom-read .0 .name)
+        number-is = ap₂ (λ (b : Bool) (x : List ℕ). atomNumber b x) (ap (λ (k : ℕ). eqb k 3) size-is ∙ bare-test (atom-read .0 .args)) (sym (atom-named 16 s st (r .state) (atom-read .0) (atom-read .1)))
+
+        module _ (number : ℕ) (en : number ≡ atomNumber (eqb (r .used - (n + 1)) 3) (spelling s (st .token .at) (st .token .len))) (exit : List ℕ) (ex : exit ≡ set mid n number) (ne : r .state .token .kind ≡ 11 → ⊥) where
+          pub named-call : number ≡ 2 → GivesWith 0 literalWords one s st entry exit n (record { number = 0; used = r .used; items = 1; state = r .state }) (literalWith s st true)
+          unfolding afterAtom literalOf literalWords
+          named-call two =
+              let a : Atom = atom-read .0 in
+              let is-call : literalOf (atom-read .0) ≡ call (atom-read .0) = call-by (atom-read .0) (sym number-is ∙ sym en ∙ two) in
+              let used : r .used ≡ (n + 1) + length (atomWords (atom-read .0)) = atom-read .2 .used-is in
+              let fits : length (atomWords (atom-read .0)) + 4 * (length s - r .state .token .at) + 1 ≤ 4 * (length s - st .token .at) = atom-read .2 .room in
+              let result : GivenWith 0 s st entry exit n (record { number = 0; used = r .used; items = 1; state = r .state }) (2 ∷ atomWords (atom-read .0)) 1 (r .state) = record {
+                number-is = refl;
+                state-is = refl;
+                items-is = refl;
+                used-is = omega arith;
+                table-is = front entry mid exit (atomWords (atom-read .0)) n 2 n-in (atom-read .2 .table-is) (ex ∙ ap (set mid n) two);
+                standing = atom-read .2 .standing;
+                room = omega arith;
+              } in
+              subst⁻¹ (GivesWith 0 literalWords one s st entry exit n (record { number = 0; used = r .used; items = 1; state = r .state })) (named-by false (ne-eqb (r .state .token .kind) 11 ne))
+              (subst⁻¹ (λ (x : Literal). GivenWith 0 s st entry exit n (record { number = 0; used = r .used; items = 1; state = r .state }) (literalWords x) 1 (r .state)) is-call result)
+
+          pub named-other : (number ≡ 2 → ⊥) → GivesWith 0 literalWords one s st entry exit n (record { number = 0; used = n + 1; items = 1; state = r .state }) (literalWith s st true)
+          unfolding afterAtom
+          named-other two =
+              let words : literalWords (literalOf (atom-read .0)) ≡ number ∷ [] = other-by (atom-read .0) number (en ∙ number-is) two in
+              let inn : n + 1 ≤ length entry = n-in in
+              let fits : length (atomWords (atom-read .0)) + 4 * (length s - r .state .token .at) + 1 ≤ 4 * (length s - st .token .at) = atom-read .2 .room in
+              let result : GivenWith 0 s st entry exit n (record { number = 0; used = n + 1; items = 1; state = r .state }) (number ∷ []) 1 (r .state) = record {
+                number-is = refl;
+                state-is = refl;
+                items-is = refl;
+                used-is = refl;
+                table-is = ap (take (n + 1)) ex ∙ ap (λ (j : ℕ). take j (set mid n number)) (add-one n) ∙ take-suc-set mid n number (omega arith) ∙ ap (λ (x : List ℕ). x ++ (number ∷ [])) (left-kept mid r (termOf (atom-read .0)) (atom-read .2) l);
+                standing = atom-read .2 .standing;
+                room = omega arith;
+              } in
+              subst⁻¹ (GivesWith 0 literalWords one s st entry exit n (record { number = 0; used = n + 1; items = 1; state = r .state })) (named-by false (ne-eqb (r .state .token .kind) 11 ne))
+              (subst⁻¹ (λ (w : List ℕ). GivenWith 0 s st entry exit n (record { number = 0; used = n + 1; items = 1; state = r .state }) w 1 (r .state)) words result)
+
+    -- ---- a literal that begins with something else
+    module _ (g : Gives termWords one s st entry mid (n + 1) r (readTerm 16 s st)) where
+      pub equation-fault : (r .number ≡ 0 → ⊥) → GivesWith 0 literalWords one s st entry mid n r (literalWith s st false)
+      unfolding literalWith
+      equation-fault z = seq-fault 1 0 termWords one literalWords one s st st entry mid n (n + 1) r (readTerm 16 s st) (λ t after. afterTerm s t after (eqb (after .token .kind) 11)) (omega arith) g z
+
+      module _ (z : r .number ≡ 0) where
+        term-read : (t : Term) × (readTerm 16 s st ≡ ok t (r .state)) × Given s st entry mid (n + 1) r (termWords t) 1 (r .state)
+        term-read = seq-ok 1 termWords one s st entry mid (n + 1) r (readTerm 16 s st) g z
+
+        unnamed-by : (b : Bool) → eqb (r .state .token .kind) 11 ≡ b → literalWith s st false ≡ afterTerm s (term-read .0) (r .state) b
+        unfolding literalWith andThen
+        unnamed-by b e = ap (λ (d : Read Term). andThen d (λ t after. afterTerm s t after (eqb (after .token .kind) 11))) (term-read .1) ∙ ap (afterTerm s (term-read .0) (r .state)) e
+
+        pub equation-ready : r .state .token .kind ≡ 11 → Ready s (r .state) mid (r .used) 0 × ((r .state .token .kind ≡ 11) × (n < r .used))
+        equation-ready e = right-ready mid r (term-read .0) (term-read .2) l e
+
+        pub equation-read : (exit : List ℕ) (q : Parsed) → r .state .token .kind ≡ 11 → Gives termWords one s (next s (r .state)) (set mid n 3) exit (r .used) q (readTerm 16 s (next s (r .state))) → GivesWith 0 literalWords one s st entry exit n q (literalWith s st false)
+        unfolding afterTerm
+        equation-read exit q e h = subst⁻¹ (GivesWith 0 literalWords one s st entry exit n q) (unnamed-by true (eq-eqb (r .state .token .kind) 11 e)) (equation-given mid r (term-read .0) (term-read .2) l exit q e h)
+
+        pub equation-wrong : (q : Parsed) → (r .state .token .kind ≡ 11 → ⊥) → Refused (r .state) (wrongNumber (r .state .token .kind)) q → GivesWith 0 literalWords one s st entry mid n q (literalWith s st false)
+        unfolding afterTerm
+        equation-wrong q ne f = subst⁻¹ (GivesWith 0 literalWords one s st entry mid n q) (unnamed-by false (ne-eqb (r .state .token .kind) 11 ne)) (refused-wrong-with 0 literalWords one s st (r .state) entry mid n q f (left-kept mid r (term-read .0) (term-read .2) l))
+
+-- ---- by what begins it
+
+pub literal-named : (s : List ℕ) (st : State) (entry exit : List ℕ) (n : ℕ) (r : Parsed) → st .token .kind ≡ 3 → GivesWith 0 literalWords one s st entry exit n r (literalWith s st true) → GivesWith 0 literalWords one s st entry exit n r (readLiteral s st)
+unfolding readLiteral
+literal-named s st entry exit n r e g = subst⁻¹ (λ (b : Bool). GivesWith 0 literalWords one s st entry exit n r (literalWith s st b)) (eq-eqb (st .token .kind) 3 e) g
+
+pub literal-other : (s : List ℕ) (st : State) (entry exit : List ℕ) (n : ℕ) (r : Parsed) → (st .token .kind ≡ 3 → ⊥) → GivesWith 0 literalWords one s st entry exit n r (literalWith s st false) → GivesWith 0 literalWords one s st entry exit n r (readLiteral s st)
+unfolding readLiteral
+literal-other s st entry exit n r e g = subst⁻¹ (λ (b : Bool). GivesWith 0 literalWords one s st entry exit n r (literalWith s st b)) (ne-eqb (st .token .kind) 3 e) g
+
+-- ---- an atom alone, stored
+
+pub number-small : (b : Bool) (name : List ℕ) → atomNumber b name < 2 ^ 32
+number-small b name = small (b && sameName name true-name) (b && sameName name fail-name)
+  where
+    small : (x y : Bool) → cond x 0 (cond y 1 2) < 2 ^ 32
+    small true y = lit< tt
+    small false true = lit< tt
+    small false false = lit< tt
+
+module _ (s : List ℕ) (st : State) (r : Parsed) (entry exit : List ℕ) (n number : ℕ) (en : number ≡ aloneNumber s st r n) (ex : exit ≡ set entry n number) where
+  pub alone-call : number ≡ 2 → Alone s st r entry exit n (record { number = 0; used = r .used; items = 1; state = r .state })
+  alone-call e = record {
+    is = ap (λ (b : Bool). record { number = 0; used = cond b (r .used) (n + 1); items = 1; state = r .state }) (sym (eq-eqb (aloneNumber s st r n) 2 (sym en ∙ e)));
+    stored = ex ∙ ap (set entry n) en;
+  }
+
+  pub alone-other : (number ≡ 2 → ⊥) → Alone s st r entry exit n (record { number = 0; used = n + 1; items = 1; state = r .state })
+  alone-other e = record {
+    is = ap (λ (b : Bool). record { number = 0; used = cond b (r .used) (n + 1); items = 1; state = r .state }) (sym (ne-eqb (aloneNumber s st r n) 2 (λ q. e (en ∙ q))));
+    stored = ex ∙ ap (set entry n) en;
+  }
+
+module _ (s : List ℕ) (st : State) (entry : List ℕ) (n : ℕ) (ready : Ready s st entry n 1) (mid : List ℕ) (r : Parsed) (l : length mid ≡ length entry) (g : Gives atomWords one s st entry mid (n + 1) r (readAtomAt 16 s st)) (z : r .number ≡ 0) where
+  pub alone-asked : (n + 1 ≤ r .used) × (n + 1 ≤ length mid)
+  alone-asked =
+      let o : (a : Atom) × (readAtomAt 16 s st ≡ ok a (r .state)) × Given s st entry mid (n + 1) r (atomWords a) 1 (r .state) = seq-ok 1 atomWords one s st entry mid (n + 1) r (readAtomAt 16 s st) g z in
+      let used : r .used ≡ (n + 1) + length (atomWords (o .0)) = o .2 .used-is in
+      let room : n + 4 * (length s - st .token .at) + 1 ≤ length entry = ready .room in
+      (omega arith, omega arith)
+
+  alone-by : (exit : List ℕ) (q : Parsed) (b : Bool) → eqb (aloneNumber s st r n) 2 ≡ b → (r .state .token .kind ≡ 11 → ⊥) → exit ≡ set mid n (aloneNumber s st r n) → GivesWith 0 literalWords one s st entry exit n (record { number = 0; used = cond b (r .used) (n + 1); items = 1; state = r .state }) (literalWith s st true)
+  alone-by exit q true e ne ex = named-call s st entry n ready mid r l g z (aloneNumber s st r n) refl exit ex ne (eqb-true (aloneNumber s st r n) 2 e)
+  alone-by exit q false e ne ex = named-other s st entry n ready mid r l g z (aloneNumber s st r n) refl exit ex ne (eqb-false (aloneNumber s st r n) 2 e)
+
+  pub named-alone : (exit : List ℕ) (q : Parsed) → (r .state .token .kind ≡ 11 → ⊥) → Alone s st r mid exit n q → GivesWith 0 literalWords one s st entry exit n q (literalWith s st true)
+  named-alone exit q ne a = subst⁻¹ (λ (x : Parsed). GivesWith 0 literalWords one s st entry exit n x (literalWith s st true)) (a .is) (alone-by exit q (eqb (aloneNumber s st r n) 2) refl ne (a .stored))
+
+pub number-asked : (b : Bool) (name : List ℕ) (k : ℕ) → k ≡ atomNumber b name → k < 2 ^ 32
+number-asked b name k e = subst⁻¹ (λ (x : ℕ). x < 2 ^ 32) e (number-small b name)

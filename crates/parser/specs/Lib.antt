@@ -1,0 +1,4 @@
+pub mod Atoms
+pub mod Rules
+pub mod Marks
+pub mod Sheets

@@ -1,0 +1,76 @@
+-- What reading a sheet promises of its answer and of the two tables.
+use Prim.Native.Nat.{ℕ, _+_, _-_, _*_, _≤_, _<_}
+use mathlib.Core.Path.{_≡_}
+use mathlib.Core.Bool.{Bool, true, false, cond}
+use mathlib.Core.List.{List, _++_}
+use lib.Dec.{eqb}
+use lib.ListN.{length, take}
+use Rattle.syntax.specs.Terms.{Declaration, Clause, Sheet, Goal}
+use Rattle.syntax.specs.Reading.{Read, fault, ok, beyond, readDeclaration, readClause, readItems, readSheet}
+use Rattle.syntax.specs.Words.{declarationsWords, clausesWords, bodyWords, bodyLength}
+use Rattle.syntax.specs.declared.State.{State}
+use Rattle.reading.specs.Gives.{Standing, left}
+use Rattle.reading.specs.declared.Parsed.{Parsed}
+use Rattle.parser.specs.Marks.{Stopped}
+use Rattle.parser.specs.declared.Loaded.{Loaded}
+
+-- one declaration or clause more, with so many left
+unfoldable pub declarationNext : List ℕ → ℕ → State → Read Declaration
+declarationNext s more st = elim (eqb more 0) [ true ↦ beyond st | false ↦ readDeclaration s st ]
+
+unfoldable pub clauseNext : List ℕ → ℕ → State → Read Clause
+clauseNext s more st = elim (eqb more 0) [ true ↦ beyond st | false ↦ readClause s st ]
+
+-- items that were read before others
+unfoldable pub before : List Declaration → List Clause → Read Sheet → Read Sheet
+before ds cs (fault k b) = fault k b
+before ds cs (ok sh end) = ok (record { declarations = ds ++ sh .declarations; clauses = cs ++ sh .clauses }) end
+
+-- The tables hold some declarations and clauses.
+pub record Holds (declared table : List ℕ) (ds cs used : ℕ) (dl : List Declaration) (cl : List Clause) : Type 0 where
+  pub ds-is : ds ≡ length dl
+  pub cs-is : cs ≡ length cl
+  pub used-is : used ≡ length (clausesWords cl)
+  pub declared-is : take (4 * ds) declared ≡ declarationsWords dl
+  pub table-is : take used table ≡ clausesWords cl
+
+-- Where the reading of a sheet stands: the tables hold what was read, and the whole is that and what is read from here on.
+pub record Loading (s declared table : List ℕ) (ds cs used : ℕ) (st : State) : Type 0 where
+  pub dl : List Declaration
+  pub cl : List Clause
+  pub holds : Holds declared table ds cs used dl cl
+  pub whole : readSheet s ≡ before dl cl (readItems s (321 - (ds + cs)) (64 - ds) (256 - cs) st)
+  pub ds-most : ds ≤ 64
+  pub cs-most : cs ≤ 256
+  pub standing : Standing s st
+  pub room : used + 4 * left s st + 4 ≤ length table
+
+-- On a fault: its number and byte, and the tables hold the items before it. Otherwise the tables hold the sheet.
+pub record LoadFault (declared table : List ℕ) (r : Loaded) (k b : ℕ) : Type 0 where
+  pub number-is : r .number ≡ k
+  pub some : 0 < k
+  pub byte-is : r .byte ≡ b
+  pub dl : List Declaration
+  pub cl : List Clause
+  pub holds : Holds declared table (r .declarations) (r .clauses) (r .used) dl cl
+
+pub record LoadGiven (declared table : List ℕ) (r : Loaded) (sh : Sheet) : Type 0 where
+  pub number-is : r .number ≡ 0
+  pub holds : Holds declared table (r .declarations) (r .clauses) (r .used) (sh .declarations) (sh .clauses)
+  pub few : r .declarations ≤ 64
+
+abbrev pub Loads : List ℕ → List ℕ → Loaded → Read Sheet → Type 0
+Loads declared table r (fault k b) = LoadFault declared table r k b
+Loads declared table r (ok sh end) = LoadGiven declared table r sh
+
+-- On a fault of a goal: its number and byte. Otherwise the table holds the goal's literals, and the reader has its variables.
+pub record GoalGiven (table : List ℕ) (r : Parsed) (g : Goal) (end : State) : Type 0 where
+  pub number-is : r .number ≡ 0
+  pub state-is : r .state ≡ end
+  pub items-is : r .items ≡ bodyLength (g .body)
+  pub used-is : r .used ≡ length (bodyWords (g .body))
+  pub table-is : take (r .used) table ≡ bodyWords (g .body)
+
+abbrev pub GoalLoads : List ℕ → Parsed → Read Goal → Type 0
+GoalLoads table r (fault k b) = Stopped r k b
+GoalLoads table r (ok g end) = GoalGiven table r g end

@@ -1,0 +1,251 @@
+// Literals, bodies and clauses into the node table.
+use reading::Parsed;
+use reading::cursor::is_fail;
+use reading::cursor::is_true;
+use reading::cursor::next;
+use reading::cursor::put;
+use reading::cursor::put_node;
+use reading::cursor::wrong;
+use reading::terms::counted;
+use reading::terms::full;
+use reading::terms::read_atom;
+use reading::terms::read_term;
+use syntax::COMMA;
+use syntax::EQUALS;
+use syntax::NAME;
+use syntax::NECK;
+use syntax::STOP;
+use syntax::State;
+ghost use mathlib.Core.Path.{_≡_};
+ghost use Prim.Native.Nat.{_+_, _*_, _-_, _≤_, _<_, _^_};
+ghost use lib.ListN.{length, set, take};
+ghost use lib.Dec.{eqb};
+ghost use mathlib.Core.Bool.{true, false};
+ghost use Rattle.syntax.specs.Tokens.{spelling};
+ghost use Rattle.syntax.specs.Reading.{readTerm, literalWith, readLiteral, readBody, readClause};
+ghost use Rattle.syntax.specs.Words.{termWords, literalWords, bodyWords, bodyLength, clauseWords};
+ghost use Rattle.reading.specs.Gives.{Standing, Ready, Given, Gives, GivesWith, one};
+ghost use Rattle.parser.specs.Atoms.{atomNumber, Alone};
+ghost use Rattle.parser.specs.Rules.{Ruled};
+
+// The most brackets open at once.
+const BRACKETS: usize = 16;
+
+// The most literals in a body or goal.
+pub const LITERALS: usize = 16;
+
+// An equation whose left side was read: its first word, at n, and its right side, behind the = at hand.
+fn read_right(s: &[u8], st: State, table: &mut [u32], n: usize, used: usize) -> Parsed
+    requires { ⌜ Ready (now s) st (now table) used 0 ⌝ }
+    requires { ⌜ (st .token .kind ≡ 11) × (n < used) ⌝ }
+    ensures { λ r. ⌜ Gives termWords one (now (s .entry)) (Rattle.syntax.specs.Reading.next (now (s .entry)) st) (set (now (table .entry)) n 3) (now (table .exit)) used r (readTerm 16 (now (s .entry)) (Rattle.syntax.specs.Reading.next (now (s .entry)) st)) ⌝ }
+{
+    put(table, n, 3);
+    let past = next(s, st);
+    read_term(s, BRACKETS, past, table, used)
+}
+
+// What an atom alone stands for: 0 truth, 1 falsehood, 2 a call.
+fn atom_number(s: &[u8], at: usize, len: usize, size: usize) -> usize
+    requires { ⌜ at + len ≤ length (now s) ⌝ }
+    ensures { λ r. ⌜ r ≡ atomNumber (eqb size 3) (spelling (now (s .entry)) at len) ⌝ }
+{
+    if size != 3 {
+        return 2;
+    }
+    if is_true(s, at, len) {
+        return 0;
+    }
+    if is_fail(s, at, len) {
+        return 1;
+    }
+    2
+}
+
+// A literal that begins with a name.
+fn read_named(s: &[u8], st: State, table: &mut [u32], n: usize) -> Parsed
+    requires { ⌜ Ready (now s) st (now table) n 1 ⌝ }
+    requires { ⌜ st .token .kind ≡ 3 ⌝ }
+    ensures { λ r. ⌜ GivesWith 0 literalWords one (now (s .entry)) st (now (table .entry)) (now (table .exit)) n r (literalWith (now (s .entry)) st true) ⌝ }
+{
+    let m = n + 1;
+    let r = read_atom(s, BRACKETS, st, table, m);
+    if r.number != 0 {
+        return r;
+    }
+    let after = r.state;
+    let u = after.token;
+    let kind = u.kind;
+    let used = r.used;
+    if kind == EQUALS {
+        return read_right(s, after, table, n, used);
+    }
+    alone(s, st, r, table, n)
+}
+
+// The atom at hand, which was read, as a literal of its own.
+fn alone(s: &[u8], st: State, r: Parsed, table: &mut [u32], n: usize) -> Parsed
+    requires { ⌜ Standing (now s) st ⌝ }
+    requires { ⌜ (n + 1 ≤ r .used) × (n + 1 ≤ length (now table)) ⌝ }
+    ensures { λ q. ⌜ Alone (now (s .entry)) st r (now (table .entry)) (now (table .exit)) n q ⌝ }
+{
+    let t = st.token;
+    let at = t.at;
+    let len = t.len;
+    let used = r.used;
+    let m = n + 1;
+    let size = used - m;
+    let number = atom_number(s, at, len, size);
+    put(table, n, number);
+    let after = r.state;
+    if number == 2 {
+        return Parsed {
+            number: 0,
+            used,
+            items: 1,
+            state: after,
+        };
+    }
+    Parsed {
+        number: 0,
+        used: m,
+        items: 1,
+        state: after,
+    }
+}
+
+// A literal that begins with a variable or a numeral is an equation.
+fn read_equation(s: &[u8], st: State, table: &mut [u32], n: usize) -> Parsed
+    requires { ⌜ Ready (now s) st (now table) n 1 ⌝ }
+    ensures { λ r. ⌜ GivesWith 0 literalWords one (now (s .entry)) st (now (table .entry)) (now (table .exit)) n r (literalWith (now (s .entry)) st false) ⌝ }
+{
+    let m = n + 1;
+    let r = read_term(s, BRACKETS, st, table, m);
+    if r.number != 0 {
+        return r;
+    }
+    let after = r.state;
+    let u = after.token;
+    let kind = u.kind;
+    let used = r.used;
+    if kind == EQUALS {
+        return read_right(s, after, table, n, used);
+    }
+    wrong(after)
+}
+
+pub fn read_literal(s: &[u8], st: State, table: &mut [u32], n: usize) -> Parsed
+    requires { ⌜ Ready (now s) st (now table) n 1 ⌝ }
+    ensures { λ r. ⌜ GivesWith 0 literalWords one (now (s .entry)) st (now (table .entry)) (now (table .exit)) n r (readLiteral (now (s .entry)) st) ⌝ }
+{
+    let t = st.token;
+    let kind = t.kind;
+    if kind == NAME {
+        return read_named(s, st, table, n);
+    }
+    read_equation(s, st, table, n)
+}
+
+// Literals up to the full stop, at most k.
+pub fn read_body(s: &[u8], k: usize, st: State, table: &mut [u32], n: usize) -> Parsed
+    requires { ⌜ Ready (now s) st (now table) n 1 ⌝ }
+    ensures { λ r. ⌜ Gives bodyWords bodyLength (now (s .entry)) st (now (table .entry)) (now (table .exit)) n r (readBody (now (s .entry)) k st) ⌝ }
+{
+    if k == 0 {
+        return full(st);
+    }
+    let r = read_literal(s, st, table, n);
+    if r.number != 0 {
+        return r;
+    }
+    let after = r.state;
+    let u = after.token;
+    let kind = u.kind;
+    let used = r.used;
+    if kind == COMMA {
+        let behind = next(s, after);
+        let fewer = k - 1;
+        let more = read_body(s, fewer, behind, table, used);
+        return counted(more);
+    }
+    if kind == STOP {
+        let past = next(s, after);
+        return Parsed {
+            number: 0,
+            used,
+            items: 1,
+            state: past,
+        };
+    }
+    wrong(after)
+}
+
+// The reader with no variable met.
+fn fresh(st: State) -> State
+    ensures { λ r. ⌜ r ≡ Rattle.syntax.specs.Reading.fresh st ⌝ }
+{
+    let mut new = st;
+    new.count = 0;
+    new
+}
+
+// The body of a clause whose head was read, and then the clause's first words, at n; the :- is at hand.
+fn read_rule(s: &[u8], st: State, table: &mut [u32], n: usize, used: usize) -> Parsed
+    requires { ⌜ Ready (now s) st (now table) used 1 ⌝ }
+    requires { ⌜ n + 3 ≤ used ⌝ }
+    ensures { λ r. ⌜ Ruled (now (s .entry)) st (now (table .entry)) (now (table .exit)) n used r ⌝ }
+{
+    let past = next(s, st);
+    let r = read_body(s, LITERALS, past, table, used);
+    if r.number != 0 {
+        return r;
+    }
+    let size = r.used - n;
+    let after = r.state;
+    let count = after.count;
+    put_node(table, n, size, count, r.items);
+    one_item(r)
+}
+
+// What was read, as one thing.
+fn one_item(r: Parsed) -> Parsed
+    ensures { λ q. ⌜ q ≡ record { number = r .number; used = r .used; items = 1; state = r .state } ⌝ }
+{
+    let mut q = r;
+    q.items = 1;
+    q
+}
+
+// A clause, of which the head's name is at hand.
+pub fn read_clause(s: &[u8], st: State, table: &mut [u32], n: usize) -> Parsed
+    requires { ⌜ Ready (now s) st (now table) n 4 ⌝ }
+    requires { ⌜ st .token .kind ≡ 3 ⌝ }
+    ensures { λ r. ⌜ Gives clauseWords one (now (s .entry)) st (now (table .entry)) (now (table .exit)) n r (readClause (now (s .entry)) st) ⌝ }
+{
+    let begin = fresh(st);
+    let m = n + 3;
+    let r = read_atom(s, BRACKETS, begin, table, m);
+    if r.number != 0 {
+        return r;
+    }
+    let after = r.state;
+    let u = after.token;
+    let kind = u.kind;
+    let used = r.used;
+    if kind == STOP {
+        let past = next(s, after);
+        let size = used - n;
+        let count = after.count;
+        put_node(table, n, size, count, 0);
+        return Parsed {
+            number: 0,
+            used,
+            items: 1,
+            state: past,
+        };
+    }
+    if kind == NECK {
+        return read_rule(s, after, table, n, used);
+    }
+    wrong(after)
+}

@@ -1,0 +1,15 @@
+-- The length is known by a law: to compute it would walk the whole array.
+use Prim.Native.Nat.{ℕ}
+use mathlib.Core.Path.{_≡_, sym}
+use lib.ListN.{length, replicate, length-replicate}
+use Rattle.read_cases.proofs.room.Statement.{statement}
+use Rattle.read_cases.proofs.room.Tie as tie
+
+zeros : (n byte : ℕ) → n ≡ length (replicate n byte)
+zeros n byte = sym (length-replicate n byte)
+
+returns : tie.Need-returns
+returns c = zeros 900000 0
+
+pub room-spec : {M : Type 1} → statement M
+room-spec = tie.close (tie.spec returns)

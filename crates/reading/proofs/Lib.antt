@@ -1,0 +1,5 @@
+pub mod Laws
+pub mod Reading
+pub mod Starts
+pub mod Sequence
+pub mod TermLaws

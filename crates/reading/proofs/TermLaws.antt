@@ -1,0 +1,338 @@
+-- Laws of reading atoms, terms and lists of terms: one for each way out of the functions that read them. Assumes nothing.
+use Prim.Native.Nat.{ℕ, zero, suc, _+_, _-_, _*_, _≤_, _<_, _^_}
+use native.Mathlib.Nat.{zero-mul, zero-add, add-zero, add-assoc}
+use native.Mathlib.Omega.{arith}
+use mathlib.Core.Path.{_≡_, refl, sym, ap, ap₂, _∙_, subst, subst⁻¹}
+use mathlib.Core.Bool.{Bool, true, false, cond}
+use mathlib.Core.List.{List, [], _∷_, _++_, append-nil}
+use lib.ListN.{length, set, take, length-append}
+use lib.Dec.{eqb}
+use borrow.Author.Tests.{eq-eqb, ne-eqb}
+use Rattle.syntax.specs.Terms.{Term, Terms, Atom, variable, compound, nil, cons, arity, termOf}
+use Rattle.syntax.specs.Tokens.{spelling}
+use Rattle.syntax.specs.Reading.{Read, fault, ok, andThen, next, wrongNumber, wrong, beyond, full, readVariable, readTerm, readTermWith, termWith, readAtomWith, atomWith, atomAt, readList, readArguments, argumentsAfter, startOf, begins, afterOf, After, more, last, neither, Start, aVariable, aNumeral, aName, nothing}
+use Rattle.syntax.specs.Words.{termWords, termsWords, atomWords, functor}
+use Rattle.syntax.specs.declared.State.{State}
+use Rattle.reading.specs.Atoms.{readAtomAt}
+use Rattle.reading.specs.Gives.{Standing, Moved, Ready, Faulted, Given, Gives, GivenWith, GivesWith, Refused, Counted, fullNumber, one}
+use Rattle.reading.specs.declared.Parsed.{Parsed}
+use Rattle.reading.proofs.Laws.{length-spelling}
+use Rattle.reading.proofs.Reading.{refused-beyond, refused-wrong}
+use Rattle.reading.proofs.Starts.{start-variable, start-numeral, start-name, start-nothing, after-more, after-last, after-neither}
+use Rattle.reading.proofs.Sequence.{seq-fault, seq-ok, shorter, kept-before, joined, header}
+
+-- the words of a name or numeral without arguments
+leaf-words : (s : List ℕ) (st : State) → st .token .at + st .token .len ≤ length s → (64 + st .token .len) ∷ 3 ∷ (st .token .at) ∷ [] ≡ termWords (termOf (atomAt s st nil))
+unfolding termWords
+leaf-words s st h = ap (λ (k : ℕ). k ∷ 3 ∷ (st .token .at) ∷ []) (sym (ap (λ (k : ℕ). 64 + 0 * 32 + k) (length-spelling s (st .token .at) (st .token .len) h)))
+
+-- the words of a name with arguments
+atom-words : (s : List ℕ) (st : State) (ts : Terms) → st .token .at + st .token .len ≤ length s → functor (arity ts) (st .token .len) ∷ (3 + length (termsWords ts)) ∷ (st .token .at) ∷ termsWords ts ≡ atomWords (atomAt s st ts)
+unfolding termWords
+atom-words s st ts h = ap (λ (k : ℕ). functor (arity ts) k ∷ (3 + length (termsWords ts)) ∷ (st .token .at) ∷ termsWords ts) (sym (length-spelling s (st .token .at) (st .token .len) h))
+
+-- a term takes a word at least
+mutual
+  unfolding termWords
+
+  pub term-some : (t : Term) → 1 ≤ length (termWords t)
+  term-some (variable v b) = omega arith
+  term-some (compound b name ts) = omega arith
+
+  pub arity-words : (ts : Terms) → arity ts ≤ length (termsWords ts)
+  arity-words nil = omega arith
+  arity-words (cons t ts) = let a : 1 ≤ length (termWords t) = term-some t in let b : arity ts ≤ length (termsWords ts) = arity-words ts in simp length-append (omega arith)
+
+-- what `leaf` asks for a name or a numeral
+pub leaf-asked : (s : List ℕ) (st : State) (table : List ℕ) (n k : ℕ) → Ready s st table n 0 → st .token .kind ≡ k → (k ≡ 16 → ⊥) → Ready s st table n 0 × ((64 + st .token .len < 2 ^ 32) × (st .token .kind ≡ 16 → ⊥))
+leaf-asked s st table n k ready e z =
+    let inside : st .token .at + st .token .len ≤ length s = ready .standing .inside in
+    let short : length s ≤ 16384 = ready .standing .short in
+    (ready, (omega arith, λ q. z (sym e ∙ q)))
+
+-- ---- atoms
+
+module _ (left : ℕ) (s : List ℕ) (st : State) where
+  -- the definition, by what stands behind the name
+  atom-open : (past : State) → past ≡ next s st → past .token .kind ≡ 7 → readAtomAt left s st ≡ andThen (readList left s past) (λ ts after. ok (atomAt s st ts) after)
+  unfolding readAtomAt readAtomWith atomWith
+  atom-open past e k = ap (λ (b : Bool). atomWith (λ x. readList left s x) s st b) (ap (λ (x : State). eqb (x .token .kind) 7) (sym e) ∙ eq-eqb (past .token .kind) 7 k) ∙ ap (λ (x : State). andThen (readList left s x) (λ ts after. ok (atomAt s st ts) after)) (sym e)
+
+  atom-alone : (past : State) → past ≡ next s st → (past .token .kind ≡ 7 → ⊥) → readAtomAt left s st ≡ ok (atomAt s st nil) (next s st)
+  unfolding readAtomAt readAtomWith atomWith
+  atom-alone past e k = ap (λ (b : Bool). atomWith (λ x. readList left s x) s st b) (ap (λ (x : State). eqb (x .token .kind) 7) (sym e) ∙ ne-eqb (past .token .kind) 7 k)
+
+  module _ (entry : List ℕ) (n : ℕ) (r : Parsed) (ready : Ready s st entry n 0) where
+    pub atom-bare : (exit : List ℕ) (past : State) → Moved s st past → (past .token .kind ≡ 7 → ⊥) → Given s st entry exit n r ((64 + st .token .len) ∷ 3 ∷ (st .token .at) ∷ []) 1 (next s st) → Gives atomWords one s st entry exit n r (readAtomAt left s st)
+    atom-bare exit past m k g =
+        subst⁻¹ (Gives atomWords one s st entry exit n r) (atom-alone past (m .is) k)
+        (subst (λ (w : List ℕ). Given s st entry exit n r w 1 (next s st)) (leaf-words s st (ready .standing .inside)) g)
+
+    pub atom-deep : (past : State) → Moved s st past → past .token .kind ≡ 7 → left ≡ 0 → Refused past 6 r → Gives atomWords one s st entry entry n r (readAtomAt left s st)
+    unfolding readList andThen beyond
+    atom-deep past m k z f =
+        subst⁻¹ (Gives atomWords one s st entry entry n r) (atom-open past (m .is) k ∙ ap (λ (l : ℕ). andThen (readList l s past) (λ ts after. ok (atomAt s st ts) after)) z)
+        (refused-beyond atomWords one s st past entry entry n r f refl)
+
+  list-down : (past inner : State) → (left ≡ 0 → ⊥) → inner ≡ next s past → readList left s past ≡ readArguments (λ x. readTerm (left - 1) s x) s 8 inner
+  unfolding readList readTerm
+  list-down past inner z e =
+      let d : left ≡ suc (left - 1) = omega (arith, z) in
+      ap (λ (l : ℕ). readList l s past) d ∙ ap (readArguments (λ x. readTerm (left - 1) s x) s 8) (sym e)
+
+  module _ (entry exit mid : List ℕ) (n : ℕ) (past inner : State) (ready : Ready s st entry n 0) (name : st .token .kind ≡ 3) (m : Moved s st past) (k : past .token .kind ≡ 7) (z : left ≡ 0 → ⊥) (m′ : Moved s past inner) where
+    whole : readAtomAt left s st ≡ andThen (readArguments (λ x. readTerm (left - 1) s x) s 8 inner) (λ ts after. ok (atomAt s st ts) after)
+    whole = atom-open past (m .is) k ∙ ap (λ (d : Read Terms). andThen d (λ ts after. ok (atomAt s st ts) after)) (list-down past inner z (m′ .is))
+
+    -- the name takes a byte and the bracket another
+    space : 8 + 4 * (length s - inner .token .at) ≤ 4 * (length s - st .token .at)
+    space =
+        let a : 0 < st .token .len = ready .standing .some (λ e. let q : st .token .kind ≡ 3 = name in omega arith) in
+        let b : 0 < past .token .len = m .standing .some (λ e. let q : past .token .kind ≡ 7 = k in omega arith) in
+        let i : past .token .at + past .token .len ≤ length s = m .standing .inside in
+        let f : st .token .at + st .token .len ≤ past .token .at = m .forward in
+        let g : past .token .at + past .token .len ≤ inner .token .at = m′ .forward in
+        let h : inner .token .at + inner .token .len ≤ length s = m′ .standing .inside in
+        omega arith
+
+    pub list-ready : Ready s inner entry (n + 3) 0
+    list-ready =
+        let room : n + 4 * (length s - st .token .at) + 0 ≤ length entry = ready .room in
+        let sp : 8 + 4 * (length s - inner .token .at) ≤ 4 * (length s - st .token .at) = space in
+        record { standing = m′ .standing; room = omega arith; small = ready .small }
+
+    pub atom-fault : (r : Parsed) → Gives termsWords arity s inner entry exit (n + 3) r (readArguments (λ x. readTerm (left - 1) s x) s 8 inner) → (r .number ≡ 0 → ⊥) → Gives atomWords one s st entry exit n r (readAtomAt left s st)
+    atom-fault r g q = subst⁻¹ (Gives atomWords one s st entry exit n r) whole (seq-fault 1 1 termsWords arity atomWords one s st inner entry exit n (n + 3) r (readArguments (λ x. readTerm (left - 1) s x) s 8 inner) (λ ts after. ok (atomAt s st ts) after) (omega arith) g q)
+
+    module _ (r : Parsed) (g : Gives termsWords arity s inner entry mid (n + 3) r (readArguments (λ x. readTerm (left - 1) s x) s 8 inner)) (e : r .number ≡ 0) where
+      -- what `close` asks
+      pub close-ready : length mid ≡ length entry → (n + 3 ≤ length mid) × ((st .token .at < 2 ^ 31) × ((st .token .len < 2 ^ 15) × ((r .items < 2 ^ 20) × ((n ≤ r .used) × (r .used < 2 ^ 31)))))
+      close-ready l =
+          let o : (ts : Terms) × (readArguments (λ x. readTerm (left - 1) s x) s 8 inner ≡ ok ts (r .state)) × Given s inner entry mid (n + 3) r (termsWords ts) (arity ts) (r .state) = seq-ok 1 termsWords arity s inner entry mid (n + 3) r (readArguments (λ x. readTerm (left - 1) s x) s 8 inner) g e in
+          let room : n + 4 * (length s - st .token .at) + 0 ≤ length entry = ready .room in
+          let inside : st .token .at + st .token .len ≤ length s = ready .standing .inside in
+          let short : length s ≤ 16384 = ready .standing .short in
+          let small : length entry < 2 ^ 31 = ready .small in
+          let used : r .used ≡ (n + 3) + length (termsWords (o .0)) = o .2 .used-is in
+          let items : r .items ≡ arity (o .0) = o .2 .items-is in
+          let fits : length (termsWords (o .0)) + 4 * (length s - r .state .token .at) + 1 ≤ 4 * (length s - inner .token .at) = o .2 .room in
+          let sp : 8 + 4 * (length s - inner .token .at) ≤ 4 * (length s - st .token .at) = space in
+          let few : arity (o .0) ≤ length (termsWords (o .0)) = arity-words (o .0) in
+          (omega arith, (omega arith, (omega arith, (omega arith, (omega arith, omega arith)))))
+
+      pub atom-list : (q : Parsed) → q ≡ record { number = 0; used = r .used; items = 1; state = r .state } → exit ≡ set (set (set mid n (functor (r .items) (st .token .len))) (n + 1) (r .used - n)) (n + 2) (st .token .at) → Gives atomWords one s st entry exit n q (readAtomAt left s st)
+      unfolding andThen
+      atom-list q eq ex =
+          let o : (ts : Terms) × (readArguments (λ x. readTerm (left - 1) s x) s 8 inner ≡ ok ts (r .state)) × Given s inner entry mid (n + 3) r (termsWords ts) (arity ts) (r .state) = seq-ok 1 termsWords arity s inner entry mid (n + 3) r (readArguments (λ x. readTerm (left - 1) s x) s 8 inner) g e in
+          let ts : Terms = o .0 in
+          let given : Given s inner entry mid (n + 3) r (termsWords ts) (arity ts) (r .state) = o .2 in
+          let room : n + 4 * (length s - st .token .at) + 0 ≤ length entry = ready .room in
+          let sp : 8 + 4 * (length s - inner .token .at) ≤ 4 * (length s - st .token .at) = space in
+          let used : r .used ≡ (n + 3) + length (termsWords ts) = given .used-is in
+          let fits : length (termsWords ts) + 4 * (length s - r .state .token .at) + 1 ≤ 4 * (length s - inner .token .at) = given .room in
+          let size : r .used - n ≡ 3 + length (termsWords ts) = omega arith in
+          let words : List ℕ = functor (arity ts) (st .token .len) ∷ (3 + length (termsWords ts)) ∷ (st .token .at) ∷ termsWords ts in
+          let stored : exit ≡ set (set (set mid n (functor (arity ts) (st .token .len))) (n + 1) (3 + length (termsWords ts))) (n + 2) (st .token .at) =
+          ex ∙ ap₂ (λ (i z : ℕ). set (set (set mid n (functor i (st .token .len))) (n + 1) z) (n + 2) (st .token .at)) (given .items-is) size in
+          let result : Given s st entry exit n (record { number = 0; used = r .used; items = 1; state = r .state }) words 1 (r .state) = record {
+            number-is = refl;
+            state-is = refl;
+            items-is = refl;
+            used-is = omega arith;
+            table-is = header entry mid exit (termsWords ts) n (functor (arity ts) (st .token .len)) (3 + length (termsWords ts)) (st .token .at) (omega arith) (given .table-is) stored;
+            standing = given .standing;
+            room = omega arith;
+          } in
+          subst⁻¹ (λ (d : Read Atom). Gives atomWords one s st entry exit n q d) (whole ∙ ap (λ (d : Read Terms). andThen d (λ ts after. ok (atomAt s st ts) after)) (o .1))
+          (subst⁻¹ (λ (x : Parsed). Given s st entry exit n x (atomWords (atomAt s st ts)) 1 (r .state)) eq
+          (subst (λ (w : List ℕ). Given s st entry exit n (record { number = 0; used = r .used; items = 1; state = r .state }) w 1 (r .state)) (atom-words s st ts (ready .standing .inside)) result))
+
+-- ---- terms
+
+module _ (left : ℕ) (s : List ℕ) (st : State) where
+  term-by : (x : Start) → startOf (st .token .kind) ≡ x → readTerm left s st ≡ termWith (λ st1. readList left s st1) s st x
+  unfolding readTerm readTermWith
+  term-by x e = ap (termWith (λ st1. readList left s st1) s st) e
+
+  module _ (entry exit : List ℕ) (n : ℕ) (r : Parsed) where
+    pub term-variable : st .token .kind ≡ 4 → Gives termWords one s st entry exit n r (readVariable s st) → Gives termWords one s st entry exit n r (readTerm left s st)
+    unfolding termWith
+    term-variable e g = subst⁻¹ (Gives termWords one s st entry exit n r) (term-by aVariable (start-variable (st .token .kind) e)) g
+
+    pub term-numeral : Ready s st entry n 0 → (st .token .kind ≡ 4 → ⊥) → st .token .kind ≡ 5 → Given s st entry exit n r ((64 + st .token .len) ∷ 3 ∷ (st .token .at) ∷ []) 1 (next s st) → Gives termWords one s st entry exit n r (readTerm left s st)
+    unfolding termWith
+    term-numeral ready f e g =
+        subst⁻¹ (Gives termWords one s st entry exit n r) (term-by aNumeral (start-numeral (st .token .kind) f e))
+        (subst (λ (w : List ℕ). Given s st entry exit n r w 1 (next s st)) (leaf-words s st (ready .standing .inside)) g)
+
+    atom-term : (d : Read Atom) → Gives atomWords one s st entry exit n r d → Gives termWords one s st entry exit n r (andThen d (λ a after. ok (termOf a) after))
+    unfolding andThen
+    atom-term (fault k b) g = g
+    atom-term (ok a after) g = g
+
+    pub term-name : (st .token .kind ≡ 4 → ⊥) → (st .token .kind ≡ 5 → ⊥) → st .token .kind ≡ 3 → Gives atomWords one s st entry exit n r (readAtomAt left s st) → Gives termWords one s st entry exit n r (readTerm left s st)
+    unfolding termWith readAtomAt
+    term-name f h e g = subst⁻¹ (Gives termWords one s st entry exit n r) (term-by aName (start-name (st .token .kind) f h e)) (atom-term (readAtomAt left s st) g)
+
+    pub term-other : (st .token .kind ≡ 4 → ⊥) → (st .token .kind ≡ 5 → ⊥) → (st .token .kind ≡ 3 → ⊥) → Refused st (wrongNumber (st .token .kind)) r → Gives termWords one s st entry entry n r (readTerm left s st)
+    unfolding termWith
+    term-other f h e g = subst⁻¹ (Gives termWords one s st entry entry n r) (term-by nothing (start-nothing (st .token .kind) f h e)) (refused-wrong termWords one s st st entry entry n r g refl)
+
+-- ---- lists
+
+full-by : {A : Type 0} (words : A → List ℕ) (items : A → ℕ) (s : List ℕ) (from st : State) (entry : List ℕ) (n : ℕ) (r : Parsed) (b : Bool) → Refused st (fullNumber b (st .token .kind)) r → Gives words items s from entry entry n r (full b st)
+unfolding full
+full-by words items s from st entry n r true g = refused-beyond words items s from st entry entry n r g refl
+full-by words items s from st entry n r false g = refused-wrong words items s from st entry entry n r g refl
+
+-- a list or body that is full
+pub list-full : {A : Type 0} (words : A → List ℕ) (items : A → ℕ) (s : List ℕ) (from st : State) (entry : List ℕ) (n : ℕ) (r : Parsed) → Refused st (fullNumber (begins (startOf (st .token .kind))) (st .token .kind)) r → Gives words items s from entry entry n r (full (begins (startOf (st .token .kind))) st)
+list-full words items s from st entry n r g = full-by words items s from st entry n r (begins (startOf (st .token .kind))) g
+
+-- One of a list was read; a list behind it is read by `rest`. The lists are `Terms` or a body, made by `put` from a thing and a list.
+module _ {A L : Type 0} (over : ℕ) (wa : A → List ℕ) (wl : L → List ℕ) (il : L → ℕ) (put : A → L → L) (empty : L) (words-put : (a : A) (l : L) → wl (put a l) ≡ wa a ++ wl l) (items-put : (a : A) (l : L) → il (put a l) ≡ suc (il l)) (words-empty : wl empty ≡ []) (items-empty : il empty ≡ 0) (s : List ℕ) (st : State) (entry mid : List ℕ) (n : ℕ) (r : Parsed) (a : A) (g : GivenWith over s st entry mid n r (wa a) 1 (r .state)) where
+  pub behind-ready : (spare : ℕ) → Ready s st entry n spare → (after : State) → Moved s (r .state) after → length mid ≡ length entry → Ready s after mid (r .used) spare
+  behind-ready spare ready after m l =
+      let room : n + 4 * (length s - st .token .at) + spare ≤ length entry = ready .room in
+      let small : length entry < 2 ^ 31 = ready .small in
+      let used : r .used ≡ n + length (wa a) = g .used-is in
+      let fits : length (wa a) + 4 * (length s - r .state .token .at) + over ≤ 4 * (length s - st .token .at) = g .room in
+      let f : r .state .token .at + r .state .token .len ≤ after .token .at = m .forward in
+      record { standing = m .standing; room = omega arith; small = omega arith }
+
+  pub one-more : (exit : List ℕ) (after : State) (q p : Parsed) (d : Read L) → Moved s (r .state) after → Gives wl il s after mid exit (r .used) q d → Counted q p → n ≤ length entry → Gives wl il s st entry exit n p (andThen d (λ l end. ok (put a l) end))
+  unfolding andThen
+  one-more exit after q p (fault f b) m h e k =
+      let used : r .used ≡ n + length (wa a) = g .used-is in
+      record {
+        number-is = e .number-is ∙ h .number-is;
+        some = h .some;
+        byte-is = ap (λ (x : State). x .token .at) (e .state-is) ∙ h .byte-is;
+        kept = shorter n (r .used) mid exit (omega arith) (h .kept) ∙ kept-before n n (length (wa a)) entry mid (wa a) (omega arith) k (g .table-is);
+      }
+  one-more exit after q p (ok l end) m h e k =
+      let used : r .used ≡ n + length (wa a) = g .used-is in
+      let used′ : q .used ≡ r .used + length (wl l) = h .used-is in
+      let used″ : p .used ≡ q .used = e .used-is in
+      let items : q .items ≡ il l = h .items-is in
+      let items′ : p .items ≡ q .items + 1 = e .items-is (h .number-is) in
+      let fits : length (wa a) + 4 * (length s - r .state .token .at) + over ≤ 4 * (length s - st .token .at) = g .room in
+      let fits′ : length (wl l) + 4 * (length s - end .token .at) + 1 ≤ 4 * (length s - after .token .at) = h .room in
+      let f : r .state .token .at + r .state .token .len ≤ after .token .at = m .forward in
+      let both : length (wa a ++ wl l) ≡ length (wa a) + length (wl l) = length-append (wa a) (wl l) in
+      let ends : take ((n + length (wa a)) + length (wl l)) exit ≡ take (n + length (wa a)) mid ++ wl l = subst (λ (u : ℕ). take (u + length (wl l)) exit ≡ take u mid ++ wl l) used (h .table-is) in
+      let result : Given s st entry exit n p (wa a ++ wl l) (suc (il l)) end = record {
+        number-is = e .number-is ∙ h .number-is;
+        state-is = e .state-is ∙ h .state-is;
+        items-is = omega arith;
+        used-is = omega arith;
+        table-is = joined entry mid exit (wa a) (wl l) n (g .table-is) ends;
+        standing = h .standing;
+        room = omega arith;
+      } in
+      subst⁻¹ (λ (w : List ℕ). Given s st entry exit n p w (il (put a l)) end) (words-put a l)
+      (subst⁻¹ (λ (i : ℕ). Given s st entry exit n p (wa a ++ wl l) i end) (items-put a l) result)
+
+  -- the things of a list that was read are few
+  pub few-items : ((l : L) → il l ≤ length (wl l)) → (exit : List ℕ) (after : State) (q : Parsed) (d : Read L) (m : ℕ) → Standing s after → Gives wl il s after mid exit m q d → q .number ≡ 0 → q .items < 2 ^ 31
+  few-items few exit after q d m stands h e =
+      let o : (l : L) × (d ≡ ok l (q .state)) × Given s after mid exit m q (wl l) (il l) (q .state) = seq-ok 1 wl il s after mid exit m q d h e in
+      let items : q .items ≡ il (o .0) = o .2 .items-is in
+      let fits : length (wl (o .0)) + 4 * (length s - q .state .token .at) + 1 ≤ 4 * (length s - after .token .at) = o .2 .room in
+      let short : length s ≤ 16384 = stands .short in
+      let b : il (o .0) ≤ length (wl (o .0)) = few (o .0) in
+      omega arith
+
+  pub one-last : (after : State) → (r .state .token .kind ≡ 16 → ⊥) → Moved s (r .state) after → Given s st entry mid n (record { number = 0; used = r .used; items = 1; state = after }) (wl (put a empty)) (il (put a empty)) (next s (r .state))
+  one-last after z m =
+      let some : 0 < r .state .token .len = g .standing .some z in
+      let inside : r .state .token .at + r .state .token .len ≤ length s = g .standing .inside in
+      let fits : length (wa a) + 4 * (length s - r .state .token .at) + over ≤ 4 * (length s - st .token .at) = g .room in
+      let f : r .state .token .at + r .state .token .len ≤ after .token .at = m .forward in
+      let result : Given s st entry mid n (record { number = 0; used = r .used; items = 1; state = after }) (wa a) 1 after = record {
+        number-is = refl;
+        state-is = refl;
+        items-is = refl;
+        used-is = g .used-is;
+        table-is = g .table-is;
+        standing = m .standing;
+        room = omega arith;
+      } in
+      subst (λ (x : State). Given s st entry mid n (record { number = 0; used = r .used; items = 1; state = after }) (wl (put a empty)) (il (put a empty)) x) (m .is)
+      (subst⁻¹ (λ (w : List ℕ). Given s st entry mid n (record { number = 0; used = r .used; items = 1; state = after }) w (il (put a empty)) after) (words-put a empty ∙ ap (λ (w : List ℕ). wa a ++ w) words-empty ∙ append-nil (wa a))
+      (subst⁻¹ (λ (i : ℕ). Given s st entry mid n (record { number = 0; used = r .used; items = 1; state = after }) (wa a) i after) (items-put a empty ∙ ap suc items-empty) result))
+
+  pub one-kept : n ≤ length entry → take n mid ≡ take n entry
+  one-kept k = kept-before n n (length (wa a)) entry mid (wa a) (omega arith) k (g .table-is)
+
+-- the lists are `Terms`
+module _ (left : ℕ) (s : List ℕ) (k : ℕ) (st : State) where
+  abbrev term : State → Read Term
+  term x = readTerm left s x
+
+  abbrev whole-list : Read Terms
+  whole-list = readArguments (λ x. readTerm left s x) s k st
+
+  pub arguments-full : (entry : List ℕ) (n : ℕ) (r : Parsed) → k ≡ 0 → Refused st (fullNumber (begins (startOf (st .token .kind))) (st .token .kind)) r → Gives termsWords arity s st entry entry n r (readArguments (λ x. readTerm left s x) s k st)
+  unfolding readArguments
+  arguments-full entry n r z g = subst⁻¹ (λ (j : ℕ). Gives termsWords arity s st entry entry n r (readArguments (λ x. readTerm left s x) s j st)) z (list-full termsWords arity s st st entry n r g)
+
+  abbrev go-on : Term → State → Read Terms
+  go-on t after = argumentsAfter (λ st1. readArguments (λ x. readTerm left s x) s (k - 1) st1) s t after (afterOf 8 (after .token .kind))
+
+  arguments-some : (k ≡ 0 → ⊥) → whole-list ≡ andThen (readTerm left s st) go-on
+  unfolding readArguments
+  arguments-some z =
+      let d : k ≡ suc (k - 1) = omega (arith, z) in
+      ap (λ (j : ℕ). readArguments (λ x. readTerm left s x) s j st) d
+
+  module _ (entry mid : List ℕ) (n : ℕ) (r : Parsed) (ready : Ready s st entry n 0) (z : k ≡ 0 → ⊥) (g : Gives termWords one s st entry mid n r (readTerm left s st)) where
+    pub arguments-fault : (r .number ≡ 0 → ⊥) → Gives termsWords arity s st entry mid n r (readArguments (λ x. readTerm left s x) s k st)
+    arguments-fault q = subst⁻¹ (Gives termsWords arity s st entry mid n r) (arguments-some z) (seq-fault 1 1 termWords one termsWords arity s st st entry mid n n r (readTerm left s st) go-on (omega arith) g q)
+
+    module _ (e : r .number ≡ 0) where
+      read : (t : Term) × (readTerm left s st ≡ ok t (r .state)) × Given s st entry mid n r (termWords t) 1 (r .state)
+      read = seq-ok 1 termWords one s st entry mid n r (readTerm left s st) g e
+
+      n-in : n ≤ length entry
+      n-in = let room : n + 4 * (length s - st .token .at) + 0 ≤ length entry = ready .room in omega arith
+
+      -- the whole, by what stands behind the term
+      behind : (x : After) → afterOf 8 (r .state .token .kind) ≡ x → whole-list ≡ argumentsAfter (λ st1. readArguments (λ y. readTerm left s y) s (k - 1) st1) s (read .0) (r .state) x
+      unfolding andThen
+      behind x a = arguments-some z ∙ ap (λ (d : Read Term). andThen d go-on) (read .1) ∙ ap (argumentsAfter (λ st1. readArguments (λ y. readTerm left s y) s (k - 1) st1) s (read .0) (r .state)) a
+
+      pub arguments-standing : Standing s (r .state)
+      arguments-standing = read .2 .standing
+
+      words-cons : (t : Term) (ts : Terms) → termsWords (cons t ts) ≡ termWords t ++ termsWords ts
+      unfolding termWords
+      words-cons t ts = refl
+
+      words-nil : termsWords nil ≡ []
+      unfolding termWords
+      words-nil = refl
+
+      pub arguments-ready : (after : State) → Moved s (r .state) after → length mid ≡ length entry → Ready s after mid (r .used) 0
+      arguments-ready after m l = behind-ready 1 termWords termsWords arity cons nil words-cons (λ t ts. refl) words-nil refl s st entry mid n r (read .0) (read .2) 0 ready after m l
+
+      pub arguments-more : (exit : List ℕ) (after : State) (q p : Parsed) → r .state .token .kind ≡ 9 → Moved s (r .state) after → Gives termsWords arity s after mid exit (r .used) q (readArguments (λ x. readTerm left s x) s (k - 1) after) → Counted q p → Gives termsWords arity s st entry exit n p (readArguments (λ x. readTerm left s x) s k st)
+      unfolding argumentsAfter
+      arguments-more exit after q p a m h ep =
+          subst⁻¹ (Gives termsWords arity s st entry exit n p) (behind more (after-more 8 (r .state .token .kind) a) ∙ ap (λ (x : State). andThen (readArguments (λ y. readTerm left s y) s (k - 1) x) (λ ts end. ok (cons (read .0) ts) end)) (sym (m .is)))
+          (one-more 1 termWords termsWords arity cons nil words-cons (λ t ts. refl) words-nil refl s st entry mid n r (read .0) (read .2) exit after q p (readArguments (λ x. readTerm left s x) s (k - 1) after) m h ep n-in)
+
+      pub arguments-few : (exit : List ℕ) (after : State) (q : Parsed) → Moved s (r .state) after → Gives termsWords arity s after mid exit (r .used) q (readArguments (λ x. readTerm left s x) s (k - 1) after) → q .number ≡ 0 → q .items < 2 ^ 31
+      arguments-few exit after q m h zero-is = few-items 1 termWords termsWords arity cons nil words-cons (λ t ts. refl) words-nil refl s st entry mid n r (read .0) (read .2) arity-words exit after q (readArguments (λ x. readTerm left s x) s (k - 1) after) (r .used) (m .standing) h zero-is
+
+      pub arguments-last : (after : State) → (r .state .token .kind ≡ 9 → ⊥) → r .state .token .kind ≡ 8 → Moved s (r .state) after → Gives termsWords arity s st entry mid n (record { number = 0; used = r .used; items = 1; state = after }) (readArguments (λ x. readTerm left s x) s k st)
+      unfolding argumentsAfter
+      arguments-last after f a m =
+          subst⁻¹ (Gives termsWords arity s st entry mid n (record { number = 0; used = r .used; items = 1; state = after })) (behind last (after-last 8 (r .state .token .kind) f a))
+          (one-last 1 termWords termsWords arity cons nil words-cons (λ t ts. refl) words-nil refl s st entry mid n r (read .0) (read .2) after (λ q. let e8 : r .state .token .kind ≡ 8 = a in omega arith) m)
+
+      pub arguments-wrong : (q : Parsed) → (r .state .token .kind ≡ 9 → ⊥) → (r .state .token .kind ≡ 8 → ⊥) → Refused (r .state) (wrongNumber (r .state .token .kind)) q → Gives termsWords arity s st entry mid n q (readArguments (λ x. readTerm left s x) s k st)
+      unfolding argumentsAfter
+      arguments-wrong q f a h =
+          subst⁻¹ (Gives termsWords arity s st entry mid n q) (behind neither (after-neither 8 (r .state .token .kind) f a))
+          (refused-wrong termsWords arity s st (r .state) entry mid n q h (one-kept 1 termWords termsWords arity cons nil words-cons (λ t ts. refl) words-nil refl s st entry mid n r (read .0) (read .2) n-in))

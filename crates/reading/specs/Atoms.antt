@@ -1,0 +1,9 @@
+-- An atom with so many brackets left, as the definitions read it.
+use Prim.Native.Nat.{ℕ}
+use mathlib.Core.List.{List}
+use Rattle.syntax.specs.Terms.{Atom}
+use Rattle.syntax.specs.Reading.{Read, readAtomWith, readList}
+use Rattle.syntax.specs.declared.State.{State}
+
+unfoldable pub readAtomAt : ℕ → List ℕ → State → Read Atom
+readAtomAt left s st = readAtomWith (λ x. readList left s x) s st

@@ -1,0 +1,87 @@
+-- What the functions of this crate promise: the answer is the definition's, and a lent table holds the words of what was read.
+use Prim.Native.Nat.{ℕ, _+_, _-_, _*_, _≤_, _<_, _^_}
+use mathlib.Core.Path.{_≡_}
+use mathlib.Core.Bool.{Bool, cond}
+use mathlib.Core.List.{List, _++_}
+use mathlib.Core.Option.{Option, none, some}
+use lib.ListN.{length, take}
+use Rattle.syntax.specs.Reading.{Read, fault, ok, next, wrongNumber}
+use Rattle.syntax.specs.declared.State.{State}
+use Rattle.reading.specs.declared.Parsed.{Parsed}
+
+-- A reader stands within its text: the token at hand is inside, and has a byte unless it is the end.
+pub record Standing (s : List ℕ) (st : State) : Type 0 where
+  pub inside : st .token .at + st .token .len ≤ length s
+  pub some : (st .token .kind ≡ 16 → ⊥) → 0 < st .token .len
+  pub few : st .count ≤ 32
+  pub short : length s ≤ 16384
+
+-- The reader past the token at hand stands within the text too, further on.
+pub record Moved (s : List ℕ) (st r : State) : Type 0 where
+  pub is : r ≡ next s st
+  pub standing : Standing s r
+  pub forward : st .token .at + st .token .len ≤ r .token .at
+
+-- The bytes from the token at hand on.
+abbrev pub left : List ℕ → State → ℕ
+left s st = length s - st .token .at
+
+-- The table has four words for each byte that is left, and its places fit a word.
+pub record Ready (s : List ℕ) (st : State) (table : List ℕ) (n spare : ℕ) : Type 0 where
+  pub standing : Standing s st
+  pub room : n + 4 * left s st + spare ≤ length table
+  pub small : length table < 2 ^ 31
+
+-- On a fault: its number and byte, and the words before n are as they were.
+pub record Faulted (entry exit : List ℕ) (n : ℕ) (r : Parsed) (k b : ℕ) : Type 0 where
+  pub number-is : r .number ≡ k
+  pub some : 0 < k
+  pub byte-is : r .state .token .at ≡ b
+  pub kept : take n exit ≡ take n entry
+
+-- Otherwise: the reader after what was read, how many things those are, and the words before n followed by the words of what was read. Of four
+-- words for each byte that was read at least `spare` are left over.
+pub record GivenWith (spare : ℕ) (s : List ℕ) (from : State) (entry exit : List ℕ) (n : ℕ) (r : Parsed) (words : List ℕ) (items : ℕ) (after : State) : Type 0 where
+  pub number-is : r .number ≡ 0
+  pub state-is : r .state ≡ after
+  pub items-is : r .items ≡ items
+  pub used-is : r .used ≡ n + length words
+  pub table-is : take (n + length words) exit ≡ take n entry ++ words
+  pub standing : Standing s after
+  pub room : length words + 4 * left s after + spare ≤ 4 * left s from
+
+-- What a search for a variable answers: the number of the one found, or one more than all of them.
+abbrev pub FoundAs : Option ℕ → ℕ → ℕ → Type 0
+FoundAs none count r = r ≡ count
+FoundAs (some i) count r = (r ≡ i) × (i < count)
+
+abbrev pub GivesWith : ℕ → {A : Type 0} → (A → List ℕ) → (A → ℕ) → List ℕ → State → List ℕ → List ℕ → ℕ → Parsed → Read A → Type 0
+GivesWith spare words items s from entry exit n r (fault k b) = Faulted entry exit n r k b
+GivesWith spare words items s from entry exit n r (ok a after) = GivenWith spare s from entry exit n r (words a) (items a) after
+
+-- with one word left over
+abbrev pub Given : List ℕ → State → List ℕ → List ℕ → ℕ → Parsed → List ℕ → ℕ → State → Type 0
+Given s from entry exit n r words items after = GivenWith 1 s from entry exit n r words items after
+
+abbrev pub Gives : {A : Type 0} → (A → List ℕ) → (A → ℕ) → List ℕ → State → List ℕ → List ℕ → ℕ → Parsed → Read A → Type 0
+Gives words items s from entry exit n r d = GivesWith 1 words items s from entry exit n r d
+
+-- one thing was read
+abbrev pub one : {A : Type 0} → A → ℕ
+one a = 1
+
+-- the fault at the token at hand
+pub record Refused (st : State) (number : ℕ) (r : Parsed) : Type 0 where
+  pub number-is : r .number ≡ number
+  pub state-is : r .state ≡ st
+
+-- 6 for a token that could begin one more of a list that is full, else the number of a token that cannot stand here
+abbrev pub fullNumber : Bool → ℕ → ℕ
+fullNumber more k = cond more 6 (wrongNumber k)
+
+-- what was read behind a comma, counted with the one thing before it
+pub record Counted (q p : Parsed) : Type 0 where
+  pub number-is : p .number ≡ q .number
+  pub used-is : p .used ≡ q .used
+  pub state-is : p .state ≡ q .state
+  pub items-is : q .number ≡ 0 → p .items ≡ q .items + 1

@@ -1,0 +1,2 @@
+pub mod Gives
+pub mod Atoms

@@ -1,0 +1,150 @@
+// Where a reader stands, and what it stores.
+use crate::Parsed;
+use syntax::NO_TOKEN;
+use syntax::OVERLONG;
+use syntax::State;
+use syntax::Token;
+ghost use mathlib.Core.Path.{_≡_};
+ghost use Prim.Native.Nat.{_+_, _*_, _-_, _≤_, _<_, _^_};
+ghost use lib.ListN.{length, set, getD};
+ghost use Rattle.syntax.specs.Reading.{wrongNumber, sameRun, sameSpan, isAnonymous, withNew};
+ghost use mathlib.Core.List.{[], _∷_};
+ghost use Rattle.syntax.specs.Tokens.{spelling};
+ghost use Rattle.syntax.specs.Terms.{sameName, true-name, fail-name, mode-name};
+ghost use Rattle.reading.specs.Gives.{Standing, Moved, Refused};
+
+// The reader past the token at hand.
+pub fn next(s: &[u8], st: State) -> State
+    requires { ⌜ Standing (now s) st ⌝ }
+    ensures { λ r. ⌜ Moved (now (s .entry)) st r ⌝ }
+{
+    let t = st.token;
+    let p = t.at + t.len;
+    let token = lexer::token_at(s, p);
+    let count = st.count;
+    let first = st.first;
+    State {
+        token,
+        count,
+        first,
+    }
+}
+
+// A fault of the given number at the token at hand.
+pub fn refuse(st: State, number: usize) -> Parsed
+    ensures { λ r. ⌜ Refused st number r ⌝ }
+{
+    Parsed {
+        number,
+        used: 0,
+        items: 0,
+        state: st,
+    }
+}
+
+// The fault of a token that cannot stand here.
+pub fn wrong(st: State) -> Parsed
+    ensures { λ r. ⌜ Refused st (wrongNumber (st .token .kind)) r ⌝ }
+{
+    let t = st.token;
+    let kind = t.kind;
+    if kind == NO_TOKEN {
+        return refuse(st, 3);
+    }
+    if kind == OVERLONG {
+        return refuse(st, 4);
+    }
+    refuse(st, 5)
+}
+
+// Three words from n on.
+pub fn put_node(table: &mut [u32], n: usize, what: usize, size: usize, at: usize)
+    requires { ⌜ (n + 3 ≤ length (now table)) × ((what < 2 ^ 32) × ((size < 2 ^ 32) × (at < 2 ^ 32))) ⌝ }
+    ensures { λ _. ⌜ now (table .exit) ≡ set (set (set (now (table .entry)) n what) (n + 1) size) (n + 2) at ⌝ }
+{
+    table[n] = what as u32;
+    table[n + 1] = size as u32;
+    table[n + 2] = at as u32;
+}
+
+// Whether the text reads the same for n bytes from a and from b on.
+pub fn same_run(s: &[u8], a: usize, b: usize, n: usize) -> bool
+    requires { ⌜ (a + n < 2 ^ 32) × (b + n < 2 ^ 32) ⌝ }
+    ensures { λ r. ⌜ r ≡ sameRun (now (s .entry)) a b n ⌝ }
+{
+    let mut i = 0;
+    while i < n {
+        let x = lexer::byte_at(s, a + i);
+        let y = lexer::byte_at(s, b + i);
+        if x != y {
+            return false;
+        }
+        i += 1;
+    }
+    true
+}
+
+// Whether a variable's first occurrence, packed, is spelt as a token.
+pub fn same_span(s: &[u8], t: Token, first: u32) -> bool
+    requires { ⌜ (t .at + t .len ≤ length (now s)) × (length (now s) ≤ 16384) ⌝ }
+    ensures { λ r. ⌜ r ≡ sameSpan (now (s .entry)) t first ⌝ }
+{
+    let w = first as usize;
+    let len = t.len;
+    let at = t.at;
+    let a = w / 32;
+    let m = w % 32;
+    if m == len {
+        return same_run(s, a, at, len);
+    }
+    false
+}
+
+// One word at n.
+pub fn put(table: &mut [u32], n: usize, word: usize)
+    requires { ⌜ (n < length (now table)) × (word < 2 ^ 32) ⌝ }
+    ensures { λ _. ⌜ now (table .exit) ≡ set (now (table .entry)) n word ⌝ }
+{
+    table[n] = word as u32;
+}
+
+// Whether a name is the one of these four bytes.
+fn is_four(s: &[u8], at: usize, len: usize, a: u8, b: u8, c: u8, d: u8) -> bool
+    requires { ⌜ at + len ≤ length (now s) ⌝ }
+    ensures { λ r. ⌜ r ≡ sameName (spelling (now (s .entry)) at len) (a ∷ b ∷ c ∷ d ∷ []) ⌝ }
+{
+    if len != 4 {
+        return false;
+    }
+    if lexer::byte_at(s, at) != a {
+        return false;
+    }
+    if lexer::byte_at(s, at + 1) != b {
+        return false;
+    }
+    if lexer::byte_at(s, at + 2) != c {
+        return false;
+    }
+    lexer::byte_at(s, at + 3) == d
+}
+
+pub fn is_true(s: &[u8], at: usize, len: usize) -> bool
+    requires { ⌜ at + len ≤ length (now s) ⌝ }
+    ensures { λ r. ⌜ r ≡ sameName (spelling (now (s .entry)) at len) true-name ⌝ }
+{
+    is_four(s, at, len, 116, 114, 117, 101)
+}
+
+pub fn is_fail(s: &[u8], at: usize, len: usize) -> bool
+    requires { ⌜ at + len ≤ length (now s) ⌝ }
+    ensures { λ r. ⌜ r ≡ sameName (spelling (now (s .entry)) at len) fail-name ⌝ }
+{
+    is_four(s, at, len, 102, 97, 105, 108)
+}
+
+pub fn is_mode(s: &[u8], at: usize, len: usize) -> bool
+    requires { ⌜ at + len ≤ length (now s) ⌝ }
+    ensures { λ r. ⌜ r ≡ sameName (spelling (now (s .entry)) at len) mode-name ⌝ }
+{
+    is_four(s, at, len, 109, 111, 100, 101)
+}

@@ -1,0 +1,277 @@
+// Terms into the node table. Reading one term and reading a list of terms call each other, with fewer brackets left.
+use crate::Parsed;
+use crate::cursor::next;
+use crate::cursor::put_node;
+use crate::cursor::refuse;
+use crate::cursor::same_span;
+use crate::cursor::wrong;
+use syntax::CLOSE;
+use syntax::COMMA;
+use syntax::NAME;
+use syntax::NUMERAL;
+use syntax::OPEN;
+use syntax::State;
+use syntax::Token;
+use syntax::VARIABLE;
+ghost use mathlib.Core.Path.{_≡_};
+ghost use mathlib.Core.List.{[], _∷_};
+ghost use Prim.Native.Nat.{_+_, _*_, _-_, _≤_, _<_, _^_};
+ghost use lib.ListN.{length, set, getD, take};
+ghost use Rattle.syntax.specs.Terms.{arity};
+ghost use Rattle.syntax.specs.Reading.{isAnonymous, numberOf, withNew, newVariable, readVariable, readTerm, readList, readAtomWith, readArguments, startOf};
+ghost use Rattle.reading.specs.Atoms.{readAtomAt};
+ghost use Rattle.syntax.specs.Words.{termWords, termsWords, atomWords, functor};
+ghost use Rattle.reading.specs.Gives.{Standing, Ready, Given, Gives, FoundAs, Refused, Counted, fullNumber, one};
+
+// The most arguments or marks in a list.
+pub const ARGUMENTS: usize = 8;
+
+// The most variables in a clause or goal.
+pub const VARIABLES: usize = 32;
+
+// What a node of a name with its number of arguments says.
+const NAMED: usize = 64;
+
+// The underscore.
+const UNDERSCORE: u8 = 95;
+
+// Whether a token is `_` alone.
+fn is_anonymous(s: &[u8], t: Token) -> bool
+    ensures { λ r. ⌜ r ≡ isAnonymous (now (s .entry)) t ⌝ }
+{
+    if t.len != 1 {
+        return false;
+    }
+    let at = t.at;
+    lexer::byte_at(s, at) == UNDERSCORE
+}
+
+// The number of the variable at hand: that of the same one met before, or one more than all of these.
+fn number_of(s: &[u8], st: State) -> usize
+    requires { ⌜ Standing (now s) st ⌝ }
+    ensures { λ r. ⌜ FoundAs (numberOf (now (s .entry)) (st .token) 0 (take (st .count) (st .first))) (st .count) r ⌝ }
+{
+    let t = st.token;
+    let count = st.count;
+    let first = st.first;
+    let mut i = 0;
+    while i < count {
+        let w = first[i];
+        if same_span(s, t, w) {
+            return i;
+        }
+        i += 1;
+    }
+    count
+}
+
+// The reader with one variable more, first met here.
+fn with_new(s: &[u8], st: State) -> State
+    requires { ⌜ Standing (now s) st ⌝ }
+    requires { ⌜ st .count < 32 ⌝ }
+    ensures { λ r. ⌜ r ≡ withNew st ⌝ }
+{
+    let t = st.token;
+    let count = st.count;
+    let w = t.at * 32 + t.len;
+    let mut new = st;
+    new.first[count] = w as u32;
+    new.count = count + 1;
+    new
+}
+
+// A node without arguments for the token at hand, and the reader past it.
+fn leaf(s: &[u8], st: State, table: &mut [u32], n: usize, what: usize) -> Parsed
+    requires { ⌜ Ready (now s) st (now table) n 0 ⌝ }
+    requires { ⌜ (what < 2 ^ 32) × (st .token .kind ≡ 16 → ⊥) ⌝ }
+    ensures { λ r. ⌜ Given (now (s .entry)) st (now (table .entry)) (now (table .exit)) n r (what ∷ 3 ∷ (st .token .at) ∷ []) 1 (Rattle.syntax.specs.Reading.next (now (s .entry)) st) ⌝ }
+{
+    let t = st.token;
+    let at = t.at;
+    put_node(table, n, what, 3, at);
+    let after = next(s, st);
+    let used = n + 3;
+    Parsed {
+        number: 0,
+        used,
+        items: 1,
+        state: after,
+    }
+}
+
+// A variable that is met here first.
+fn new_variable(s: &[u8], st: State, table: &mut [u32], n: usize) -> Parsed
+    requires { ⌜ Ready (now s) st (now table) n 0 ⌝ }
+    requires { ⌜ st .token .kind ≡ 4 ⌝ }
+    ensures { λ r. ⌜ Gives termWords one (now (s .entry)) st (now (table .entry)) (now (table .exit)) n r (newVariable (now (s .entry)) st) ⌝ }
+{
+    let count = st.count;
+    if count < VARIABLES {
+        let new = with_new(s, st);
+        return leaf(s, new, table, n, count);
+    }
+    refuse(st, 6)
+}
+
+fn read_variable(s: &[u8], st: State, table: &mut [u32], n: usize) -> Parsed
+    requires { ⌜ Ready (now s) st (now table) n 0 ⌝ }
+    requires { ⌜ st .token .kind ≡ 4 ⌝ }
+    ensures { λ r. ⌜ Gives termWords one (now (s .entry)) st (now (table .entry)) (now (table .exit)) n r (readVariable (now (s .entry)) st) ⌝ }
+{
+    let t = st.token;
+    if is_anonymous(s, t) {
+        return new_variable(s, st, table, n);
+    }
+    let count = st.count;
+    let v = number_of(s, st);
+    if v < count {
+        return leaf(s, st, table, n, v);
+    }
+    new_variable(s, st, table, n)
+}
+
+// Whether a token of this kind begins a term.
+fn begins(kind: usize) -> bool
+    ensures { λ r. ⌜ r ≡ Rattle.syntax.specs.Reading.begins (startOf kind) ⌝ }
+{
+    if kind == VARIABLE {
+        return true;
+    }
+    if kind == NUMERAL {
+        return true;
+    }
+    kind == NAME
+}
+
+// The fault of a list or body that is full: the token at hand begins one more, or cannot stand here.
+pub fn full(st: State) -> Parsed
+    ensures { λ r. ⌜ Refused st (fullNumber (Rattle.syntax.specs.Reading.begins (startOf (st .token .kind))) (st .token .kind)) r ⌝ }
+{
+    let t = st.token;
+    let kind = t.kind;
+    if begins(kind) {
+        return refuse(st, 6);
+    }
+    wrong(st)
+}
+
+// A name with an optional bracketed list; the name is at hand.
+pub fn read_atom(s: &[u8], left: usize, st: State, table: &mut [u32], n: usize) -> Parsed
+    requires { ⌜ Ready (now s) st (now table) n 0 ⌝ }
+    requires { ⌜ st .token .kind ≡ 3 ⌝ }
+    ensures { λ r. ⌜ Gives atomWords one (now (s .entry)) st (now (table .entry)) (now (table .exit)) n r (readAtomAt left (now (s .entry)) st) ⌝ }
+{
+    let t = st.token;
+    let len = t.len;
+    let past = next(s, st);
+    let u = past.token;
+    let kind = u.kind;
+    if kind != OPEN {
+        let what = NAMED + len;
+        return leaf(s, st, table, n, what);
+    }
+    if left == 0 {
+        return refuse(past, 6);
+    }
+    let inner = next(s, past);
+    let m = n + 3;
+    let fewer = left - 1;
+    let r = read_arguments(s, fewer, ARGUMENTS, inner, table, m);
+    if r.number != 0 {
+        return r;
+    }
+    close(st, r, table, n)
+}
+
+// The node of the name at hand, whose arguments were read.
+fn close(st: State, r: Parsed, table: &mut [u32], n: usize) -> Parsed
+    requires { ⌜ (n + 3 ≤ length (now table)) × ((st .token .at < 2 ^ 31) × ((st .token .len < 2 ^ 15) × ((r .items < 2 ^ 20) × ((n ≤ r .used) × (r .used < 2 ^ 31))))) ⌝ }
+    ensures { λ q. ⌜ (q ≡ record { number = 0; used = r .used; items = 1; state = r .state }) × (now (table .exit) ≡ set (set (set (now (table .entry)) n (functor (r .items) (st .token .len))) (n + 1) (r .used - n)) (n + 2) (st .token .at)) ⌝ }
+{
+    let t = st.token;
+    let at = t.at;
+    let used = r.used;
+    let what = NAMED + r.items * 32 + t.len;
+    let size = used - n;
+    put_node(table, n, what, size, at);
+    let state = r.state;
+    Parsed {
+        number: 0,
+        used,
+        items: 1,
+        state,
+    }
+}
+
+pub fn read_term(s: &[u8], left: usize, st: State, table: &mut [u32], n: usize) -> Parsed
+    requires { ⌜ Ready (now s) st (now table) n 0 ⌝ }
+    ensures { λ r. ⌜ Gives termWords one (now (s .entry)) st (now (table .entry)) (now (table .exit)) n r (readTerm left (now (s .entry)) st) ⌝ }
+{
+    let t = st.token;
+    let kind = t.kind;
+    if kind == VARIABLE {
+        return read_variable(s, st, table, n);
+    }
+    if kind == NUMERAL {
+        let len = t.len;
+        let what = NAMED + len;
+        return leaf(s, st, table, n, what);
+    }
+    if kind == NAME {
+        return read_atom(s, left, st, table, n);
+    }
+    wrong(st)
+}
+
+// A list of terms after its opening bracket, of at most k.
+fn read_arguments(s: &[u8], left: usize, k: usize, st: State, table: &mut [u32], n: usize) -> Parsed
+    requires { ⌜ Ready (now s) st (now table) n 0 ⌝ }
+    ensures { λ r. ⌜ Gives termsWords arity (now (s .entry)) st (now (table .entry)) (now (table .exit)) n r (readArguments (λ x. readTerm left (now (s .entry)) x) (now (s .entry)) k st) ⌝ }
+{
+    if k == 0 {
+        return full(st);
+    }
+    let r = read_term(s, left, st, table, n);
+    if r.number != 0 {
+        return r;
+    }
+    let after = r.state;
+    let u = after.token;
+    let kind = u.kind;
+    let used = r.used;
+    if kind == COMMA {
+        let behind = next(s, after);
+        let fewer = k - 1;
+        let more = read_arguments(s, left, fewer, behind, table, used);
+        return counted(more);
+    }
+    if kind == CLOSE {
+        let past = next(s, after);
+        return Parsed {
+            number: 0,
+            used,
+            items: 1,
+            state: past,
+        };
+    }
+    wrong(after)
+}
+
+// What was read behind a comma, counted with the one thing before it.
+pub fn counted(more: Parsed) -> Parsed
+    requires { ⌜ (more .number ≡ 0 → more .items < 2 ^ 31) ⌝ }
+    ensures { λ r. ⌜ Counted more r ⌝ }
+{
+    if more.number != 0 {
+        return more;
+    }
+    let used = more.used;
+    let items = more.items + 1;
+    let state = more.state;
+    Parsed {
+        number: 0,
+        used,
+        items,
+        state,
+    }
+}

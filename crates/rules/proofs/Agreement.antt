@@ -1,0 +1,145 @@
+-- The refusals 8 to 10 and Pfenning's judgment agree: a sheet, or a goal over it, is free of them exactly where it is well-moded.
+-- The judgment has no rule for an undeclared predicate, so this holds with refusal 8 among them and for every sheet; a sheet or goal free of
+-- 8 is refused by 9 or 10 exactly where the judgment has no derivation.
+use Prim.Native.Nat.{ℕ}
+use mathlib.Core.Path.{_≡_, refl}
+use mathlib.Core.Logic.{_↔_}
+use mathlib.Core.List.{List}
+use mathlib.Core.Option.{Option, none, some}
+use native.Mathlib.Omega.{arith}
+use lib.ListN.{length}
+use Rattle.syntax.specs.Terms.{Sheet, Goal}
+use Rattle.syntax.specs.Verdicts.{refused, accepted, sheetOf, goalOutcome, sheetVerdict}
+use Rattle.syntax.specs.declared.Refusal.{Refusal}
+use Rattle.syntax.specs.declared.Verdict.the-variants.{Accepted}
+use Rattle.rules.specs.Modes.{nothing, Walk, faulted, known, bodyFault, undeclaredInSheet, undeclaredInGoal, clausesFault, sheetFault, walkFault, goalFault}
+use Rattle.rules.specs.Checking.{faultless, checkedFrom, checkedSheet, checkVerdict, checkedGoalFrom, checkedGoal, goalAnswer, checkGoalFrom, checkGoalVerdict}
+use Rattle.rules.specs.Judgment.{WellModed, WellModedGoal}
+use Rattle.rules.proofs.Bodies.{first-none, second-none, both-none, body-declared, body-holds, body-derived, clauses-declared, clauses-hold, clauses-derived}
+
+-- ---- sheets
+
+sheet-accepted : (sh : Sheet) → WellModed sh → sheetFault sh ≡ none
+unfolding sheetFault undeclaredInSheet
+sheet-accepted sh m =
+    both-none (undeclaredInSheet sh) (clausesFault (sh .declarations) 1 (sh .clauses)) (clauses-declared m 1) (clauses-hold m 1)
+
+sheet-derived : (sh : Sheet) → sheetFault sh ≡ none → WellModed sh
+unfolding sheetFault undeclaredInSheet
+sheet-derived sh e =
+    clauses-derived (sh .declarations) (sh .clauses) 1 (first-none (undeclaredInSheet sh) (clausesFault (sh .declarations) 1 (sh .clauses)) e)
+    (second-none (undeclaredInSheet sh) (clausesFault (sh .declarations) 1 (sh .clauses)) e)
+
+-- A sheet has no fault, 8 to 10, if and only if the judgment has a derivation for it.
+pub sheet-agrees : (sh : Sheet) → (sheetFault sh ≡ none) ↔ WellModed sh
+sheet-agrees sh = (sheet-derived sh, sheet-accepted sh)
+
+never-both : {A : Type 0} (o : Option A) (r : A) → o ≡ some r → o ≡ none → ⊥
+never-both o r p q = let z : _≡_ {A = ℕ} 0 1 = cc in omega arith
+
+-- A sheet that is refused has no derivation.
+pub sheet-refused : (sh : Sheet) (r : Refusal) → sheetFault sh ≡ some r → ¬ WellModed sh
+sheet-refused sh r e m = never-both (sheetFault sh) r e (sheet-accepted sh m)
+
+-- ---- goals
+
+goal-accepted : (sh : Sheet) (g : Goal) → WellModedGoal sh g → goalFault sh g ≡ none
+unfolding goalFault undeclaredInGoal walkFault
+goal-accepted sh g m =
+    both-none (undeclaredInGoal sh g) (walkFault (bodyFault (sh .declarations) 0 1 nothing (g .body))) (body-declared (m .1) 0 1)
+    (rw (body-holds (m .1) 0 1))
+
+goal-derived : (sh : Sheet) (g : Goal) → goalFault sh g ≡ none → WellModedGoal sh g
+unfolding goalFault undeclaredInGoal walkFault
+goal-derived sh g e =
+    go (bodyFault (sh .declarations) 0 1 nothing (g .body)) refl
+    (second-none (undeclaredInGoal sh g) (walkFault (bodyFault (sh .declarations) 0 1 nothing (g .body))) e)
+  where
+    go : (w : Walk) → bodyFault (sh .declarations) 0 1 nothing (g .body) ≡ w → walkFault w ≡ none → WellModedGoal sh g
+    go (faulted r) p h = absurd (let z : _≡_ {A = ℕ} 0 1 = cc in omega arith)
+    go (known σ) p h =
+        (σ, body-derived (sh .declarations) 0 (g .body) 1 nothing σ (first-none (undeclaredInGoal sh g) (walkFault (bodyFault (sh .declarations) 0 1 nothing (g .body))) e) p)
+
+-- A goal over a sheet has no fault, 8 or 9, if and only if the judgment has a derivation for it.
+pub goal-agrees : (sh : Sheet) (g : Goal) → (goalFault sh g ≡ none) ↔ WellModedGoal sh g
+goal-agrees sh g = (goal-derived sh g, goal-accepted sh g)
+
+-- A goal that is refused has no derivation.
+pub goal-refused : (sh : Sheet) (g : Goal) (r : Refusal) → goalFault sh g ≡ some r → ¬ WellModedGoal sh g
+goal-refused sh g r e m = never-both (goalFault sh g) r e (goal-accepted sh g m)
+
+-- ---- texts
+
+module _ {A : Type 0} where
+  faultless-none : (x : A) (o : Option Refusal) (y : A) → faultless x o ≡ accepted y → o ≡ none
+  unfolding faultless
+  faultless-none x none y e = refl
+  faultless-none x (some r) y e = absurd (let z : _≡_ {A = ℕ} 0 1 = cc in omega arith)
+
+  faultless-same : (x : A) (o : Option Refusal) (y : A) → faultless x o ≡ accepted y → x ≡ y
+  unfolding faultless
+  faultless-same x none y e = cc
+  faultless-same x (some r) y e = absurd (let z : _≡_ {A = ℕ} 0 1 = cc in omega arith)
+
+-- Of a text that is read as a sheet: it is accepted if and only if the judgment has a derivation for the sheet.
+pub text-agrees : (s : List ℕ) (sh : Sheet) → sheetOf s ≡ accepted sh → (checkedSheet s ≡ accepted sh) ↔ WellModed sh
+unfolding checkedSheet checkedFrom faultless
+text-agrees s sh e =
+    ((λ h. sheet-derived sh (faultless-none sh (sheetFault sh) sh (rw e at h))), (λ m. rw (e, sheet-accepted sh m)))
+
+-- Such a text that is refused has no derivation.
+pub text-refused : (s : List ℕ) (sh : Sheet) (r : Refusal) → sheetOf s ≡ accepted sh → checkedSheet s ≡ refused r → ¬ WellModed sh
+text-refused s sh r e h m =
+    let a : checkedSheet s ≡ accepted sh = text-agrees s sh e .1 m in
+    let z : _≡_ {A = ℕ} 0 1 = cc in
+    omega arith
+
+-- The same of the answer, with its counts.
+pub verdict-agrees : (s : List ℕ) (sh : Sheet)
+    → sheetOf s ≡ accepted sh
+    → (checkVerdict s ≡ Accepted (length (sh .declarations)) (length (sh .clauses))) ↔ WellModed sh
+unfolding checkVerdict checkedSheet checkedFrom sheetVerdict faultless
+verdict-agrees s sh e = ((λ h. sheet-derived sh (go (sheetFault sh) (rw e at h))), (λ m. rw (e, sheet-accepted sh m)))
+  where
+    go : (o : Option Refusal) → sheetVerdict (faultless sh o) ≡ Accepted (length (sh .declarations)) (length (sh .clauses)) → o ≡ none
+    go none h = refl
+    go (some r) h = absurd (let z : _≡_ {A = ℕ} 0 1 = cc in omega arith)
+
+-- Of a text that is read as a goal, over a sheet.
+pub goal-text-agrees : (sh : Sheet) (t : List ℕ) (g : Goal) → goalOutcome t ≡ accepted g → (checkedGoal sh t ≡ accepted g) ↔ WellModedGoal sh g
+unfolding checkedGoal checkedGoalFrom faultless
+goal-text-agrees sh t g e =
+    ((λ h. goal-derived sh g (faultless-none g (goalFault sh g) g (rw e at h))), (λ m. rw (e, goal-accepted sh g m)))
+
+module _ (t : List ℕ) (sh : Sheet) (g : Goal) (n m : ℕ) where
+  sheet-first : (o : Option Refusal) → checkGoalFrom t (faultless sh o) ≡ Accepted n m → o ≡ none
+  unfolding checkGoalFrom faultless
+  sheet-first none h = refl
+  sheet-first (some r) h = absurd (let z : _≡_ {A = ℕ} 0 1 = cc in omega arith)
+
+  goal-then : (o : Option Refusal) → checkGoalFrom t (faultless sh o) ≡ Accepted n m → goalAnswer sh (checkedGoal sh t) ≡ Accepted n m
+  unfolding checkGoalFrom faultless
+  goal-then none h = h
+  goal-then (some r) h = absurd (let z : _≡_ {A = ℕ} 0 1 = cc in omega arith)
+
+  goal-faultless : (o : Option Refusal) → goalAnswer sh (faultless g o) ≡ Accepted n m → o ≡ none
+  unfolding goalAnswer faultless
+  goal-faultless none h = refl
+  goal-faultless (some r) h = absurd (let z : _≡_ {A = ℕ} 0 1 = cc in omega arith)
+
+-- Of two texts that are read as a sheet and a goal: both are accepted if and only if the judgment has a derivation for each.
+pub both-agree : (s t : List ℕ) (sh : Sheet) (g : Goal)
+    → sheetOf s ≡ accepted sh
+    → goalOutcome t ≡ accepted g
+    → (checkGoalVerdict s t ≡ Accepted (length (sh .declarations)) (length (sh .clauses))) ↔ (WellModed sh × WellModedGoal sh g)
+unfolding checkGoalVerdict checkGoalFrom goalAnswer checkedSheet checkedFrom checkedGoal checkedGoalFrom sheetVerdict faultless
+both-agree s t sh g e d = (
+  (λ h. (sheet-derived sh (sheet-first t sh g n m (sheetFault sh) (rw e at h)), goal-derived sh g (goal-faultless t sh g n m (goalFault sh g) (rw d at (goal-then t sh g n m (sheetFault sh) (rw e at h)))))),
+  (λ w. rw (e, sheet-accepted sh (w .0)) (rw (d, goal-accepted sh g (w .1)))),
+)
+  where
+    n : ℕ
+    n = length (sh .declarations)
+
+    m : ℕ
+    m = length (sh .clauses)

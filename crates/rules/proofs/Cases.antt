@@ -1,0 +1,99 @@
+-- Computed cases: document 01's starred cases of checking, its traps, and the order of the refusals.
+use Prim.Native.Nat.{ℕ}
+use Prim.Native.String.{String}
+use mathlib.Core.Path.{_≡_, refl}
+use mathlib.Core.List.{List, [], _∷_, map}
+use Rattle.syntax.specs.Quote.{bytes}
+use Rattle.syntax.specs.Bytes.{classOf, inWord, inNumeral}
+use Rattle.syntax.specs.Tokens.{skipped, run, word, dashFirst, tokenOf, tokenFrom, tokenPlace, tokenAt}
+use Rattle.syntax.specs.Terms.{sameBytes, literalOf}
+use Rattle.syntax.specs.Reading.{andThen, standing, next, wrongNumber, wrong, beyond, full, sameRun, numberOf, isAnonymous, withNew, newVariable, oldVariable, readVariable, atomWith, readAtomWith, termWith, readTermWith, argumentsAfter, readArguments, readList, readTerm, readAtom, readRight, afterAtom, afterTerm, literalWith, readLiteral, bodyAfter, readBody, fresh, clauseAfter, readClause, marksAfter, marksWith, readMarks, declarationEnd, declarationFrom, isMode, afterNeck, readDeclaration, itemWith, readItems, atStart, readSheet, goalEnd, readGoal, declares, repeats, firstRepeat}
+use Rattle.syntax.specs.Reading.{marksOf as marksBehind}
+use Rattle.syntax.specs.Refusals.{five, numbersOf}
+use Rattle.syntax.specs.Verdicts.{withoutRepeats, sheetFrom, goalFrom, sheetOf, goalOutcome, sheetVerdict}
+use Rattle.syntax.specs.declared.Five.{Five}
+use Rattle.syntax.specs.declared.Verdict.{Verdict}
+use Rattle.syntax.specs.declared.Verdict.the-variants.{Accepted, Refused}
+use Rattle.syntax.specs.declared.Text.{Text}
+use Rattle.syntax.specs.declared.Text.the-variants.{Sheet, Goal}
+use Rattle.rules.specs.Modes.{nothing, everything, isGround, groundTerm, groundBoth, equateVariable, equateSame, equate, marksOf, orNoMarks, marksFor, sameMark, faulty, firstFaulty, groundIf, groundMarked, undeclared, undeclaredAtom, undeclaredLiteral, undeclaredBody, undeclaredClause, undeclaredClauses, undeclaredInSheet, undeclaredInGoal, openInput, openOutput, literalFault, afterLiteral, walkOn, bodyFault, startKnown, headFault, clauseFault, clausesFault, sheetFault, walkFault, goalFault}
+use Rattle.rules.specs.Checking.{faultless, checkedFrom, checkedSheet, checkVerdict, checkedGoalFrom, checkedGoal, goalAnswer, checkGoalFrom, checkGoalVerdict, faultName}
+
+-- what the checker prints, before it is spelt
+data Answer : Type 0 where
+  accepted : ℕ → ℕ → Answer
+  refused : Text → Five → List ℕ → Answer
+
+abbrev answer : Verdict → List ℕ → Answer
+answer (Accepted declarations clauses) name = accepted declarations clauses
+answer (Refused text refusal) name = refused text (numbersOf refusal) name
+
+-- a sheet, or a sheet and a goal, with the answer
+data Case : Type 0 where
+  sheet : String → Answer → Case
+  goal : String → String → Answer → Case
+
+abbrev told : Case → Answer
+told (sheet s a) = a
+told (goal s g a) = a
+
+abbrev answered : Case → Answer
+answered (sheet s a) = answer (checkVerdict (bytes s)) (faultName (bytes s) [] (checkVerdict (bytes s)))
+answered (goal s g a) =
+    answer (checkGoalVerdict (bytes s) (bytes g)) (faultName (bytes s) (bytes g) (checkGoalVerdict (bytes s) (bytes g)))
+
+abbrev cases : List Case
+cases =
+    -- the starred cases of checking, in the order of the list
+    sheet ":- mode plus(+,+,-).\nplus(z,N,N).\nplus(s(M),N,s(P)) :- plus(M,N,P).\n" (accepted 1 2)
+    ∷ sheet ":- mode plus(+,-,+).\nplus(z,N,N).\nplus(s(M),N,s(P)) :- plus(M,N,P).\n" (accepted 1 2)
+    ∷ sheet ":- mode plus(-,+,+).\nplus(z,N,N).\nplus(s(M),N,s(P)) :- plus(M,N,P).\n" (accepted 1 2)
+    ∷ sheet ":- mode plus(+,-,-).\nplus(z,N,N).\nplus(s(M),N,s(P)) :- plus(M,N,P).\n" (refused Sheet (five 10 0 1 0 2) (bytes "plus"))
+    ∷ sheet "" (accepted 0 0)
+    ∷ sheet ":- mode p(-). p(X) :- fail." (accepted 1 1)
+    ∷ sheet ":- mode p(-). p(X) :- true." (refused Sheet (five 10 0 1 0 1) (bytes "p"))
+    ∷ sheet ":- mode p(-). p(X) :- a = b." (accepted 1 1)
+    ∷ sheet ":- mode p(-). p(X) :- f(X,Y) = f(Y,a)." (refused Sheet (five 10 0 1 0 1) (bytes "p"))
+    ∷ sheet ":- mode next(+,-). :- mode ends(+,-). next(off,rinse). ends(S,T) :- next(U,T)." (refused Sheet (five 9 0 2 1 1) (bytes "next"))
+    ∷ sheet ":- mode next(+,-). :- mode ends(+,-). next(off,rinse). ends(S,T) :- next(S,U)." (refused Sheet (five 10 0 2 0 2) (bytes "ends"))
+    -- the traps: outputs before inputs, * head arguments, reading on after `fail`
+    ∷ sheet ":- mode p(+,-). :- mode q(*). q(X) :- p(X,X)." (refused Sheet (five 9 0 1 1 1) (bytes "p"))
+    ∷ sheet ":- mode p(*,-). p(X,X)." (refused Sheet (five 10 0 1 0 2) (bytes "p"))
+    ∷ sheet ":- mode p(-). :- mode q(+). p(X) :- fail, q(Y)." (accepted 2 1)
+    ∷ sheet ":- mode p(-). :- mode q(+). p(X) :- true, q(Y)." (refused Sheet (five 9 0 1 2 1) (bytes "q"))
+    -- equations: pairs from the left, a variable inside the other side, clashes at the top and below
+    ∷ sheet ":- mode p(-). p(X) :- f(Y,X) = f(a,Y)." (accepted 1 1)
+    ∷ sheet ":- mode p(-). p(X) :- X = f(X)." (refused Sheet (five 10 0 1 0 1) (bytes "p"))
+    ∷ sheet ":- mode p(-). p(X) :- f(X) = Y, Y = f(a)." (refused Sheet (five 10 0 1 0 1) (bytes "p"))
+    ∷ sheet ":- mode p(-). p(X) :- Y = f(a), f(X) = Y." (accepted 1 1)
+    ∷ sheet ":- mode p(-). p(X) :- a = 1." (accepted 1 1)
+    ∷ sheet ":- mode p(-). p(X) :- f(Y) = f(Y,Z)." (accepted 1 1)
+    ∷ sheet ":- mode p(-). p(X) :- f(g(Y),a) = f(g(Y),b)." (accepted 1 1)
+    ∷ sheet ":- mode p(-). p(X) :- f(a) = f(a)." (refused Sheet (five 10 0 1 0 1) (bytes "p"))
+    -- * arguments give and ask nothing; `_` is a variable of its own; the lowest argument of the first fault
+    ∷ sheet ":- mode p(*). :- mode q(-). p(X). q(X) :- p(X)." (refused Sheet (five 10 0 2 0 1) (bytes "q"))
+    ∷ sheet ":- mode p(+). :- mode q(+). p(X). q(_) :- p(_)." (refused Sheet (five 9 0 2 1 1) (bytes "p"))
+    ∷ sheet ":- mode p(*,+,+). :- mode q(-). q(X) :- p(X,Y,X)." (refused Sheet (five 9 0 1 1 2) (bytes "p"))
+    ∷ sheet ":- mode p(-). :- mode q(+). p(X). p(X) :- q(X)." (refused Sheet (five 10 0 1 0 1) (bytes "p"))
+    -- 8 over the whole sheet before 9 and 10: head before body, left to right; a predicate has a number of arguments; declarations may follow
+    ∷ sheet "p :- q. r." (refused Sheet (five 8 0 1 0 0) (bytes "p"))
+    ∷ sheet ":- mode p. p :- true, a = b, qq, r. s." (refused Sheet (five 8 0 1 3 0) (bytes "qq"))
+    ∷ sheet ":- mode p(+). :- mode r. r :- p(X). s." (refused Sheet (five 8 0 2 0 0) (bytes "s"))
+    ∷ sheet "true." (refused Sheet (five 8 0 1 0 0) (bytes "true"))
+    ∷ sheet ":- mode p(+). p." (refused Sheet (five 8 0 1 0 0) (bytes "p"))
+    ∷ sheet "p(a). :- mode p(+)." (accepted 1 1)
+    -- 7 before 8; refusals up to 7 hand back no name
+    ∷ sheet "q. :- mode p(+). :- mode p(-)." (refused Sheet (five 7 25 0 0 0) [])
+    -- goals: the sheet first, then 2 to 6, 8 and 9
+    ∷ goal ":- mode plus(+,+,-).\nplus(z,N,N).\nplus(s(M),N,s(P)) :- plus(M,N,P).\n" "plus(s(z),z,X)." (accepted 1 2)
+    ∷ goal ":- mode plus(+,+,-)." "X = a, plus(X,Y,Z)." (refused Goal (five 9 0 0 2 2) (bytes "plus"))
+    ∷ goal ":- mode p(-). :- mode q(+)." "p(X), q(X), true, qqq(X), q(Y)." (refused Goal (five 8 0 0 4 0) (bytes "qqq"))
+    ∷ goal ":- mode q(+)." "fail, q(X)." (accepted 1 0)
+    ∷ goal ":- mode p(-). p(X)." "p(" (refused Sheet (five 10 0 1 0 1) (bytes "p"))
+    ∷ goal "" "" (refused Goal (five 5 0 0 0 0) [])
+    ∷ []
+
+-- each case gets the answer that it is told with
+as-told : map answered cases ≡ map told cases
+unfolding classOf inWord inNumeral skipped run word dashFirst tokenOf tokenFrom tokenPlace tokenAt sameBytes literalOf andThen standing next wrongNumber wrong beyond full sameRun numberOf isAnonymous withNew newVariable oldVariable readVariable atomWith readAtomWith termWith readTermWith argumentsAfter readArguments readList readTerm readAtom readRight afterAtom afterTerm literalWith readLiteral bodyAfter readBody fresh clauseAfter readClause marksAfter marksWith readMarks marksBehind declarationEnd declarationFrom isMode afterNeck readDeclaration itemWith readItems atStart readSheet goalEnd readGoal declares repeats firstRepeat withoutRepeats sheetFrom goalFrom sheetOf goalOutcome sheetVerdict nothing everything isGround groundTerm groundBoth equateVariable equateSame equate marksOf orNoMarks marksFor sameMark faulty firstFaulty groundIf groundMarked undeclared undeclaredAtom undeclaredLiteral undeclaredBody undeclaredClause undeclaredClauses undeclaredInSheet undeclaredInGoal openInput openOutput literalFault afterLiteral walkOn bodyFault startKnown headFault clauseFault clausesFault sheetFault walkFault goalFault faultless checkedFrom checkedSheet checkVerdict checkedGoalFrom checkedGoal goalAnswer checkGoalFrom checkGoalVerdict faultName
+as-told = refl

@@ -1,0 +1,187 @@
+-- The judgments about the arguments with a mark, and the declaration of a predicate, with the functions that decide them.
+use Prim.Native.Nat.{ℕ, suc}
+use mathlib.Core.Path.{_≡_, refl, sym, ap, subst, _∙_}
+use mathlib.Core.Logic.{_≢_}
+use mathlib.Core.Bool.{Bool, true, false, _&&_, true≢false, false≢true}
+use mathlib.Core.List.{List, [], _∷_}
+use mathlib.Core.Option.{Option, none, some}
+use native.Mathlib.Omega.{arith}
+use lib.ListN.{length}
+use Rattle.syntax.specs.Terms.{Terms, nil, cons, arity, Atom, Mark, input, output, free, Declaration, samePredicate}
+use Rattle.rules.specs.Modes.{Known, isGround, groundTerm, sameMark, listOf, faulty, firstFaulty, oneMore, countFaulty, groundIf, groundMarked, marksOf}
+use Rattle.rules.specs.Judgment.{MarkedGround, marked-none, marked-one, marked-other, MarkedGrounding, markedly-none, markedly-one, markedly-other, Declared, first, later}
+use Rattle.rules.proofs.Terms.{not-true, ground-holds, ground-derived, grounding-derived, grounding-unique}
+use Rattle.rules.proofs.Equations.{same-arity}
+
+-- ---- options
+
+none-some : {A : Type 0} {x : A} → _≡_ {A = Option A} (some x) none → ⊥
+none-some {x = x} e = let z : _≡_ {A = ℕ} 0 1 = cc in omega arith
+
+some-same : {A : Type 0} {x y : A} → some x ≡ some y → x ≡ y
+some-same e = cc
+
+-- ---- marks
+
+pub alike : (m k : Mark) → sameMark m k ≡ true → k ≡ m
+unfolding sameMark
+alike input input e = refl
+alike input output e = absurd (false≢true e)
+alike input free e = absurd (false≢true e)
+alike output input e = absurd (false≢true e)
+alike output output e = refl
+alike output free e = absurd (false≢true e)
+alike free input e = absurd (false≢true e)
+alike free output e = absurd (false≢true e)
+alike free free e = refl
+
+pub same-mark : (m : Mark) → sameMark m m ≡ true
+unfolding sameMark
+same-mark input = refl
+same-mark output = refl
+same-mark free = refl
+
+pub other-mark : (m k : Mark) → k ≢ m → sameMark m k ≡ false
+other-mark m k h = not-true (sameMark m k) (λ e. h (alike m k e))
+
+pub unlike : (m k : Mark) → sameMark m k ≡ false → k ≢ m
+unlike m k e p = true≢false (sym (same-mark m) ∙ ap (λ q. sameMark m q) (sym p) ∙ e)
+
+-- ---- one argument of a list
+
+pub faulty-not : {A : Type 0} (m k : Mark) (test : A → Bool) (x : A) → sameMark m k ≡ false → faulty m test k x ≡ false
+unfolding faulty
+faulty-not m k test x e = rw e
+
+pub faulty-passes : {A : Type 0} (m k : Mark) (test : A → Bool) (x : A) → test x ≡ true → faulty m test k x ≡ false
+unfolding faulty
+faulty-passes m k test x e = rw e (and-false (sameMark m k))
+  where
+    and-false : (b : Bool) → (b && false) ≡ false
+    and-false true = refl
+    and-false false = refl
+
+pub faulty-fails : {A : Type 0} (m k : Mark) (test : A → Bool) (x : A) → sameMark m k ≡ true → test x ≡ false → faulty m test k x ≡ true
+unfolding faulty
+faulty-fails m k test x e h = rw (e, h)
+
+module _ {A : Type 0} (m : Mark) (test : A → Bool) (k : Mark) (ks : List Mark) (x : A) (xs : List A) (n : ℕ) where
+  pub first-passes : faulty m test k x ≡ false → firstFaulty m test (k ∷ ks) (x ∷ xs) n ≡ firstFaulty m test ks xs (suc n)
+  unfolding firstFaulty
+  first-passes e = rw (e, firstFaulty)
+
+  pub first-fails : faulty m test k x ≡ true → firstFaulty m test (k ∷ ks) (x ∷ xs) n ≡ some n
+  unfolding firstFaulty
+  first-fails e = rw (e, firstFaulty)
+
+-- none is at fault exactly where the count is zero
+pub none-counted : {A : Type 0} (m : Mark) (test : A → Bool) (ks : List Mark) (xs : List A) (n : ℕ)
+    → firstFaulty m test ks xs n ≡ none
+    → countFaulty m test ks xs ≡ 0
+unfolding firstFaulty countFaulty oneMore
+none-counted m test [] xs n e = refl
+none-counted m test (k ∷ ks) [] n e = refl
+none-counted m test (k ∷ ks) (x ∷ xs) n e = go (faulty m test k x) refl (λ h. none-counted m test ks xs (suc n) h)
+  where
+    go : (b : Bool)
+        → faulty m test k x ≡ b
+        → (firstFaulty m test ks xs (suc n) ≡ none → countFaulty m test ks xs ≡ 0)
+        → oneMore b (countFaulty m test ks xs) ≡ 0
+    go true p h = absurd (none-some (sym (first-fails m test k ks x xs n p) ∙ e))
+    go false p h = h (sym (first-passes m test k ks x xs n p) ∙ e)
+
+pub counted-none : {A : Type 0} (m : Mark) (test : A → Bool) (ks : List Mark) (xs : List A) (n : ℕ)
+    → countFaulty m test ks xs ≡ 0
+    → firstFaulty m test ks xs n ≡ none
+unfolding firstFaulty countFaulty oneMore
+counted-none m test [] xs n e = refl
+counted-none m test (k ∷ ks) [] n e = refl
+counted-none m test (k ∷ ks) (x ∷ xs) n e = go (faulty m test k x) refl e (λ h. counted-none m test ks xs (suc n) h)
+  where
+    go : (b : Bool)
+        → faulty m test k x ≡ b
+        → oneMore b (countFaulty m test ks xs) ≡ 0
+        → (countFaulty m test ks xs ≡ 0 → firstFaulty m test ks xs (suc n) ≡ none)
+        → firstFaulty m test (k ∷ ks) (x ∷ xs) n ≡ none
+    go true p z h = absurd (omega arith)
+    go false p z h = first-passes m test k ks x xs n p ∙ h z
+
+-- ---- τ ⊢ t ground, for the arguments with a mark
+
+pub marked-holds : {m : Mark} {τ : Known} {ms : List Mark} {ts : Terms} → MarkedGround m τ ms ts → (n : ℕ) → firstFaulty m (isGround τ) ms (listOf ts) n ≡ none
+unfolding firstFaulty
+marked-holds marked-none n = refl
+marked-holds {m} {τ} (marked-one {t = t} {ms = ms} {ts = ts} g r) n =
+    first-passes m (isGround τ) m ms t (listOf ts) n (faulty-passes m m (isGround τ) t (ground-holds g)) ∙ marked-holds r (suc n)
+marked-holds {m} {τ} (marked-other {k = k} {t = t} {ms = ms} {ts = ts} h r) n =
+    first-passes m (isGround τ) k ms t (listOf ts) n (faulty-not m k (isGround τ) t (other-mark m k h)) ∙ marked-holds r (suc n)
+
+pub marked-derived : (m : Mark) (τ : Known) (ms : List Mark) (ts : Terms) (n : ℕ)
+    → length ms ≡ arity ts
+    → firstFaulty m (isGround τ) ms (listOf ts) n ≡ none
+    → MarkedGround m τ ms ts
+marked-derived m τ [] nil n l e = marked-none
+marked-derived m τ [] (cons t ts) n l e = absurd (omega arith)
+marked-derived m τ (k ∷ ks) nil n l e = absurd (omega arith)
+marked-derived m τ (k ∷ ks) (cons t ts) n l e =
+    go (sameMark m k) (isGround τ t) refl refl (λ p. marked-derived m τ ks ts (suc n) (omega arith) (sym (first-passes m (isGround τ) k ks t (listOf ts) n p) ∙ e))
+  where
+    go : (b c : Bool)
+        → sameMark m k ≡ b
+        → isGround τ t ≡ c
+        → (faulty m (isGround τ) k t ≡ false → MarkedGround m τ ks ts)
+        → MarkedGround m τ (k ∷ ks) (cons t ts)
+    go false c p q h = marked-other (unlike m k p) (h (faulty-not m k (isGround τ) t p))
+    go true true p q h =
+        subst (λ j. MarkedGround m τ (j ∷ ks) (cons t ts)) (sym (alike m k p)) (marked-one (ground-derived τ t q) (h (faulty-passes m k (isGround τ) t q)))
+    go true false p q h = absurd (none-some (sym (first-fails m (isGround τ) k ks t (listOf ts) n (faulty-fails m k (isGround τ) t p q)) ∙ e))
+
+-- ---- τ ⊢ s / σ, for the arguments with a mark
+
+pub markedly-unique : {m : Mark} {τ σ : Known} {ms : List Mark} {ts : Terms} → MarkedGrounding m τ ms ts σ → σ ≡ groundMarked m ms (listOf ts) τ
+unfolding groundMarked groundIf
+markedly-unique markedly-none = refl
+markedly-unique {m} (markedly-one {t = t} {ms = ms} {ts = ts} g r) =
+    rw (same-mark m) (markedly-unique r ∙ ap (λ ρ. groundMarked m ms (listOf ts) ρ) (grounding-unique t g))
+markedly-unique {m} (markedly-other {k = k} h r) = rw (other-mark m k h) (markedly-unique r)
+
+pub markedly-derived : (m : Mark) (τ : Known) (ms : List Mark) (ts : Terms)
+    → length ms ≡ arity ts
+    → MarkedGrounding m τ ms ts (groundMarked m ms (listOf ts) τ)
+unfolding groundMarked groundIf
+markedly-derived m τ [] nil l = markedly-none
+markedly-derived m τ [] (cons t ts) l = absurd (omega arith)
+markedly-derived m τ (k ∷ ks) nil l = absurd (omega arith)
+markedly-derived m τ (k ∷ ks) (cons t ts) l = go (sameMark m k) refl (λ ρ. markedly-derived m ρ ks ts (omega arith))
+  where
+    go : (b : Bool)
+        → sameMark m k ≡ b
+        → ((ρ : Known) → MarkedGrounding m ρ ks ts (groundMarked m ks (listOf ts) ρ))
+        → MarkedGrounding m τ (k ∷ ks) (cons t ts) (groundMarked m ks (listOf ts) (groundIf b t τ))
+    go false p h = markedly-other (unlike m k p) (h τ)
+    go true p h =
+        subst (λ j. MarkedGrounding m τ (j ∷ ks) (cons t ts) (groundMarked m ks (listOf ts) (groundTerm t τ))) (sym (alike m k p))
+        (markedly-one (grounding-derived τ t) (h (groundTerm t τ)))
+
+-- ---- the declaration of a predicate
+
+pub declared-holds : {ds : List Declaration} {a : Atom} {ms : List Mark} → Declared ds a ms → marksOf ds a ≡ some ms
+unfolding marksOf
+declared-holds (first e) = rw (e, marksOf)
+declared-holds (later e r) = rw (e, marksOf) (declared-holds r)
+
+pub declared-derived : (ds : List Declaration) (a : Atom) (ms : List Mark) → marksOf ds a ≡ some ms → Declared ds a ms
+unfolding marksOf
+declared-derived [] a ms e = absurd (none-some (sym e))
+declared-derived (d ∷ ds) a ms e = go (samePredicate (d .name) (length (d .marks)) (a .name) (arity (a .args))) refl (λ h. declared-derived ds a ms h)
+  where
+    go : (b : Bool)
+        → samePredicate (d .name) (length (d .marks)) (a .name) (arity (a .args)) ≡ b
+        → (marksOf ds a ≡ some ms → Declared ds a ms)
+        → Declared (d ∷ ds) a ms
+    go true p h = let q : d .marks ≡ ms = some-same (rw (p, marksOf) at e) in subst (λ ks. Declared (d ∷ ds) a ks) q (first p)
+    go false p h = later p (h (rw (p, marksOf) at e))
+
+pub declared-length : {ds : List Declaration} {a : Atom} {ms : List Mark} → Declared ds a ms → length ms ≡ arity (a .args)
+declared-length (first {d = d} {a = a} e) = same-arity (length (d .marks)) (arity (a .args)) (d .name) (a .name) e
+declared-length (later e r) = declared-length r

@@ -1,0 +1,79 @@
+-- The answers to a sheet and to a goal over it, refusals 2 to 10 in document 01's order, and the name handed back.
+use Prim.Native.Nat.{ℕ}
+use mathlib.Core.List.{List, []}
+use mathlib.Core.Option.{Option, none, some}
+use Rattle.syntax.specs.Terms.{Sheet, Goal}
+use Rattle.syntax.specs.Tokens.{spelling}
+use Rattle.syntax.specs.Verdicts.{Outcome, refused, accepted, sheetOf, goalOutcome, sheetVerdict}
+use Rattle.syntax.specs.declared.Text.{Text}
+use Rattle.syntax.specs.declared.Text.the-variants.{Sheet as inSheet, Goal as inGoal, Neither}
+use Rattle.syntax.specs.declared.Refusal.{Refusal}
+use Rattle.syntax.specs.declared.Refusal.the-variants.{Settings, TooLong, NoToken, Overlong, Misplaced, OverLimit, Repeated, Undeclared, OpenInput, OpenOutput}
+use Rattle.syntax.specs.declared.Verdict.{Verdict}
+use Rattle.syntax.specs.declared.Verdict.the-variants.{Accepted, Refused}
+use Rattle.rules.specs.Modes.{sheetFault, goalFault}
+
+-- what was read, or the fault found in it
+unfoldable pub faultless : {A : Type 0} → A → Option Refusal → Outcome A
+faultless x none = accepted x
+faultless x (some r) = refused r
+
+-- a refusal of reading stands
+unfoldable pub checkedFrom : Outcome Sheet → Outcome Sheet
+checkedFrom (refused r) = refused r
+checkedFrom (accepted sh) = faultless sh (sheetFault sh)
+
+-- "Reading alone stops after 7; checking goes on to 10."
+unfoldable pub checkedSheet : List ℕ → Outcome Sheet
+checkedSheet s = checkedFrom (sheetOf s)
+
+-- the answer to a sheet that is checked
+unfoldable pub checkVerdict : List ℕ → Verdict
+checkVerdict s = sheetVerdict (checkedSheet s)
+
+-- the same of a goal over a sheet
+unfoldable pub checkedGoalFrom : Sheet → Outcome Goal → Outcome Goal
+checkedGoalFrom sh (refused r) = refused r
+checkedGoalFrom sh (accepted g) = faultless g (goalFault sh g)
+
+-- "then the goal for 2 to 6, 8, 9"
+unfoldable pub checkedGoal : Sheet → List ℕ → Outcome Goal
+checkedGoal sh g = checkedGoalFrom sh (goalOutcome g)
+
+-- "it also says which of the two texts was at fault"; accepted counts the sheet's declarations and clauses
+unfoldable pub goalAnswer : Sheet → Outcome Goal → Verdict
+goalAnswer sh (refused r) = Refused inGoal r
+goalAnswer sh (accepted g) = sheetVerdict (accepted sh)
+
+-- a sheet that is refused is the answer, whatever the goal
+unfoldable pub checkGoalFrom : List ℕ → Outcome Sheet → Verdict
+checkGoalFrom g (refused r) = Refused inSheet r
+checkGoalFrom g (accepted sh) = goalAnswer sh (checkedGoal sh g)
+
+-- the answer to two texts: "then the sheet, then the goal"
+unfoldable pub checkGoalVerdict : List ℕ → List ℕ → Verdict
+checkGoalVerdict s g = checkGoalFrom g (checkedSheet s)
+
+-- "For 8 to 10 the predicate's name is handed back …; otherwise that part is empty": its place and length.
+abbrev pub nameSpan : Refusal → ℕ × ℕ
+nameSpan Settings = (0, 0)
+nameSpan TooLong = (0, 0)
+nameSpan (NoToken byte) = (0, 0)
+nameSpan (Overlong byte) = (0, 0)
+nameSpan (Misplaced byte) = (0, 0)
+nameSpan (OverLimit byte) = (0, 0)
+nameSpan (Repeated byte) = (0, 0)
+nameSpan (Undeclared clause literal at len) = (at, len)
+nameSpan (OpenInput clause literal argument at len) = (at, len)
+nameSpan (OpenOutput clause argument at len) = (at, len)
+
+-- the text that a refusal speaks of
+abbrev pub textAtFault : List ℕ → List ℕ → Text → List ℕ
+textAtFault sheet goal inSheet = sheet
+textAtFault sheet goal inGoal = goal
+textAtFault sheet goal Neither = []
+
+-- "as the part of the sheet or goal where it stands"
+unfoldable pub faultName : List ℕ → List ℕ → Verdict → List ℕ
+faultName sheet goal (Accepted declarations clauses) = []
+faultName sheet goal (Refused text refusal) = spelling (textAtFault sheet goal text) (nameSpan refusal .0) (nameSpan refusal .1)

@@ -1,0 +1,255 @@
+-- What is known ground, and the refusals 8 to 10 (document 01, "What is known ground" and "The ten numbers").
+use Prim.Native.Nat.{ℕ, suc}
+use mathlib.Core.Bool.{Bool, true, false, not, _&&_, _||_}
+use mathlib.Core.List.{List, [], _∷_}
+use mathlib.Core.Option.{Option, none, some}
+use lib.ListN.{length, getD, set, replicate}
+use Rattle.syntax.specs.Terms.{Term, Terms, variable, compound, nil, cons, arity, Atom, Literal, Body, call, equation, truth, falsity, done, also, Mark, input, output, free, Declaration, Clause, Sheet, Goal, samePredicate}
+use Rattle.syntax.specs.Reading.{variables}
+use Rattle.syntax.specs.declared.Refusal.{Refusal}
+use Rattle.syntax.specs.declared.Refusal.the-variants.{Undeclared, OpenInput, OpenOutput}
+
+-- "Within a clause each variable is known ground or unknown": a flag for each variable number, of which a clause has at most `variables`.
+abbrev pub Known : Type 0
+Known = List Bool
+
+-- the variable of that number is known ground
+abbrev pub knows : Known → ℕ → Bool
+knows τ i = getD τ i false
+
+-- "in a goal none is"
+unfoldable pub nothing : Known
+nothing = replicate variables false
+
+-- "every variable of the clause is ground"
+unfoldable pub everything : Known
+everything = replicate variables true
+
+-- "A term is ground when all its variables are."
+unfoldable mutual
+  pub isGround : Known → Term → Bool
+  isGround τ (variable i at) = knows τ i
+  isGround τ (compound at f ts) = areGround τ ts
+
+  pub areGround : Known → Terms → Bool
+  areGround τ nil = true
+  areGround τ (cons t ts) = isGround τ t && areGround τ ts
+
+-- all variables of a term "become ground"
+unfoldable mutual
+  pub groundTerm : Term → Known → Known
+  groundTerm (variable i at) τ = set τ i true
+  groundTerm (compound at f ts) τ = groundTerms ts τ
+
+  pub groundTerms : Terms → Known → Known
+  groundTerms nil τ = τ
+  groundTerms (cons t ts) τ = groundTerms ts (groundTerm t τ)
+
+-- ---- equations
+
+-- "if one side is ground, all variables of both become ground, else nothing changes"
+unfoldable pub groundBoth : Bool → Term → Term → Known → Known
+groundBoth true t u τ = groundTerm u (groundTerm t τ)
+groundBoth false t u τ = τ
+
+-- "Equation with a variable on either side"
+unfoldable pub equateVariable : Term → Term → Known → Known
+equateVariable t u τ = groundBoth (isGround τ t || isGround τ u) t u τ
+
+-- "Equation of two other terms: same name (or numeral) and number of arguments, then the argument pairs …; otherwise every variable of the
+-- clause becomes ground."
+unfoldable pub equateSame : Bool → (Known → Known) → Known → Known
+equateSame true pairs τ = pairs τ
+equateSame false pairs τ = everything
+
+-- The effect of an equation; "the argument pairs left to right, each beginning from what the last one left".
+unfoldable mutual
+  pub equate : Term → Term → Known → Known
+  equate (variable i at) u τ = equateVariable (variable i at) u τ
+  equate (compound at f ts) (variable j bt) τ = equateVariable (compound at f ts) (variable j bt) τ
+  equate (compound at f ts) (compound bt g us) τ = equateSame (samePredicate f (arity ts) g (arity us)) (λ σ. equateAll ts us σ) τ
+
+  pub equateAll : Terms → Terms → Known → Known
+  equateAll nil nil τ = τ
+  equateAll nil (cons u us) τ = everything
+  equateAll (cons t ts) nil τ = everything
+  equateAll (cons t ts) (cons u us) τ = equateAll ts us (equate t u τ)
+
+-- ---- marks
+
+-- the marks of an atom's predicate, "a name together with its number of arguments", from its first declaration
+unfoldable pub marksOf : List Declaration → Atom → Option (List Mark)
+marksOf [] a = none
+marksOf (d ∷ ds) a =
+    elim (samePredicate (d .name) (length (d .marks)) (a .name) (arity (a .args))) [ true ↦ some (d .marks) | false ↦ marksOf ds a ]
+
+-- no marks where there is no declaration
+unfoldable pub orNoMarks : Option (List Mark) → List Mark
+orNoMarks none = []
+orNoMarks (some ms) = ms
+
+-- the marks by which a call or head is judged, where refusal 8 is tested elsewhere
+unfoldable pub marksFor : List Declaration → Atom → List Mark
+marksFor ds a = orNoMarks (marksOf ds a)
+
+-- the marks + - *
+unfoldable pub sameMark : Mark → Mark → Bool
+sameMark input input = true
+sameMark input output = false
+sameMark input free = false
+sameMark output input = false
+sameMark output output = true
+sameMark output free = false
+sameMark free input = false
+sameMark free output = false
+sameMark free free = true
+
+-- arguments as a list
+abbrev pub listOf : Terms → List Term
+listOf nil = []
+listOf (cons t ts) = t ∷ listOf ts
+
+-- an argument x marked k: it has the mark m and fails the test
+unfoldable pub faulty : {A : Type 0} → Mark → (A → Bool) → Mark → A → Bool
+faulty m test k x = sameMark m k && not (test x)
+
+-- the number, counted from n, of the first argument that has the mark and fails the test
+unfoldable pub firstFaulty : {A : Type 0} → Mark → (A → Bool) → List Mark → List A → ℕ → Option ℕ
+firstFaulty m test [] xs n = none
+firstFaulty m test (k ∷ ks) [] n = none
+firstFaulty m test (k ∷ ks) (x ∷ xs) n = elim (faulty m test k x) [ true ↦ some n | false ↦ firstFaulty m test ks xs (suc n) ]
+
+-- one is added where the test says so
+unfoldable pub oneMore : Bool → ℕ → ℕ
+oneMore true n = suc n
+oneMore false n = n
+
+-- how many arguments have the mark and fail the test
+unfoldable pub countFaulty : {A : Type 0} → Mark → (A → Bool) → List Mark → List A → ℕ
+countFaulty m test [] xs = 0
+countFaulty m test (k ∷ ks) [] = 0
+countFaulty m test (k ∷ ks) (x ∷ xs) = oneMore (faulty m test k x) (countFaulty m test ks xs)
+
+-- one argument, which has the mark or not
+unfoldable pub groundIf : Bool → Term → Known → Known
+groundIf true t τ = groundTerm t τ
+groundIf false t τ = τ
+
+-- the variables of the arguments with the mark become ground
+unfoldable pub groundMarked : Mark → List Mark → List Term → Known → Known
+groundMarked m [] ts τ = τ
+groundMarked m (k ∷ ks) [] τ = τ
+groundMarked m (k ∷ ks) (t ∷ ts) τ = groundMarked m ks ts (groundIf (sameMark m k) t τ)
+
+-- ---- refusal 8
+
+-- atom a, literal l of clause c, by what `marksOf` finds
+unfoldable pub undeclared : ℕ → ℕ → Atom → Option (List Mark) → Option Refusal
+undeclared c l a none = some (Undeclared c l (a .at) (length (a .name)))
+undeclared c l a (some ms) = none
+
+-- "A head or call has a predicate with no declaration; clause and literal."
+unfoldable pub undeclaredAtom : List Declaration → ℕ → ℕ → Atom → Option Refusal
+undeclaredAtom ds c l a = undeclared c l a (marksOf ds a)
+
+-- an equation, `true` and `fail` have no predicate
+unfoldable pub undeclaredLiteral : List Declaration → ℕ → ℕ → Literal → Option Refusal
+undeclaredLiteral ds c l (call a) = undeclaredAtom ds c l a
+undeclaredLiteral ds c l (equation t u) = none
+undeclaredLiteral ds c l truth = none
+undeclaredLiteral ds c l falsity = none
+
+-- "left to right": the literals of clause c from number l on; all of them count
+unfoldable pub undeclaredBody : List Declaration → ℕ → ℕ → Body → Option Refusal
+undeclaredBody ds c l done = none
+undeclaredBody ds c l (also lit b) = elim (undeclaredLiteral ds c l lit) [ none ↦ undeclaredBody ds c (suc l) b | some r ↦ some r ]
+
+-- "head before body"; "literal 0 is the head"
+unfoldable pub undeclaredClause : List Declaration → ℕ → Clause → Option Refusal
+undeclaredClause ds c cl = elim (undeclaredAtom ds c 0 (cl .head)) [ none ↦ undeclaredBody ds c 1 (cl .body) | some r ↦ some r ]
+
+-- clauses from number c on
+unfoldable pub undeclaredClauses : List Declaration → ℕ → List Clause → Option Refusal
+undeclaredClauses ds c [] = none
+undeclaredClauses ds c (cl ∷ cls) = elim (undeclaredClause ds c cl) [ none ↦ undeclaredClauses ds (suc c) cls | some r ↦ some r ]
+
+-- "8 over the whole sheet"; "Clauses count from 1"
+unfoldable pub undeclaredInSheet : Sheet → Option Refusal
+undeclaredInSheet sh = undeclaredClauses (sh .declarations) 1 (sh .clauses)
+
+-- "a goal is clause 0"
+unfoldable pub undeclaredInGoal : Sheet → Goal → Option Refusal
+undeclaredInGoal sh g = undeclaredBody (sh .declarations) 0 1 (g .body)
+
+-- ---- refusals 9 and 10
+
+-- 9: "A call has a + argument not known ground; clause, literal, argument."
+unfoldable pub openInput : ℕ → ℕ → Atom → Option ℕ → Option Refusal
+openInput c l a none = none
+openInput c l a (some n) = some (OpenInput c l n (a .at) (length (a .name)))
+
+-- 10: "A head's - argument is not known ground after the body; clause, literal 0, argument."
+unfoldable pub openOutput : ℕ → Atom → Option ℕ → Option Refusal
+openOutput c a none = none
+openOutput c a (some n) = some (OpenOutput c n (a .at) (length (a .name)))
+
+-- "Call: each + argument must be ground"; literal l of clause c, before which τ is known ground
+unfoldable pub literalFault : List Declaration → ℕ → ℕ → Known → Literal → Option Refusal
+literalFault ds c l τ (call a) = openInput c l a (firstFaulty input (isGround τ) (marksFor ds a) (listOf (a .args)) 1)
+literalFault ds c l τ (equation t u) = none
+literalFault ds c l τ truth = none
+literalFault ds c l τ falsity = none
+
+-- What is known ground after a literal. A call: "then the variables of its - arguments become ground. * arguments give and ask nothing."
+-- "`true` changes nothing. After `fail` every variable of the clause is ground."
+unfoldable pub afterLiteral : List Declaration → Literal → Known → Known
+afterLiteral ds (call a) τ = groundMarked output (marksFor ds a) (listOf (a .args)) τ
+afterLiteral ds (equation t u) τ = equate t u τ
+afterLiteral ds truth τ = τ
+afterLiteral ds falsity τ = everything
+
+-- what a walk along a body gives: its first fault, or what is known ground after it
+pub data Walk : Type 0 where
+  faulted : Refusal → Walk
+  known : Known → Walk
+
+-- after one literal: its fault, or `rest` walks on from what it leaves
+unfoldable pub walkOn : Option Refusal → (Known → Walk) → Known → Walk
+walkOn none rest σ = rest σ
+walkOn (some r) rest σ = faulted r
+
+-- the literals of clause c from number l on, before which τ is known ground
+unfoldable pub bodyFault : List Declaration → ℕ → ℕ → Known → Body → Walk
+bodyFault ds c l τ done = known τ
+bodyFault ds c l τ (also lit b) = walkOn (literalFault ds c l τ lit) (λ σ. bodyFault ds c (suc l) σ b) (afterLiteral ds lit τ)
+
+-- "At the start exactly the variables in the head's + arguments are ground"
+unfoldable pub startKnown : List Declaration → Atom → Known
+startKnown ds h = groundMarked input (marksFor ds h) (listOf (h .args)) nothing
+
+-- "The head's outputs are looked at after the body."
+unfoldable pub headFault : List Declaration → ℕ → Atom → Walk → Option Refusal
+headFault ds c h (faulted r) = some r
+headFault ds c h (known σ) = openOutput c h (firstFaulty output (isGround σ) (marksFor ds h) (listOf (h .args)) 1)
+
+-- "each clause in turn is taken through 9 along its body and then 10"
+unfoldable pub clauseFault : List Declaration → ℕ → Clause → Option Refusal
+clauseFault ds c cl = headFault ds c (cl .head) (bodyFault ds c 1 (startKnown ds (cl .head)) (cl .body))
+
+-- "the first fault, and in it the lowest argument, is the answer"; clauses from number c on
+unfoldable pub clausesFault : List Declaration → ℕ → List Clause → Option Refusal
+clausesFault ds c [] = none
+clausesFault ds c (cl ∷ cls) = elim (clauseFault ds c cl) [ none ↦ clausesFault ds (suc c) cls | some r ↦ some r ]
+
+-- "then 8 over the whole sheet …. Then each clause in turn"
+unfoldable pub sheetFault : Sheet → Option Refusal
+sheetFault sh = elim (undeclaredInSheet sh) [ none ↦ clausesFault (sh .declarations) 1 (sh .clauses) | some r ↦ some r ]
+
+-- a goal has no 10
+unfoldable pub walkFault : Walk → Option Refusal
+walkFault (faulted r) = some r
+walkFault (known σ) = none
+
+-- "the goal for … 8, 9", from nothing ground, by the sheet's declarations
+unfoldable pub goalFault : Sheet → Goal → Option Refusal
+goalFault sh g = elim (undeclaredInGoal sh g) [ none ↦ walkFault (bodyFault (sh .declarations) 0 1 nothing (g .body)) | some r ↦ some r ]

@@ -1,0 +1,214 @@
+"""Cases for checking: sheets ("C") and goals over sheets ("K")."""
+
+from itertools import product
+
+import examples
+import random_sheets
+
+SEED = 1_705
+TERMS = [
+    "X", "Y", "_", "a", "b", "1", "f(X)", "f(Y)", "f(a)", "g(X)", "g(a)", "f(X,Y)",
+    "f(Y,X)", "f(a,Y)", "f(X,X)", "f(Y,a)", "f(f(X),Y)", "f(f(Y),a)",
+]
+LITERALS = [
+    "true", "fail", "X = Y", "Y = a", "a = b", "X = X", "f(X,Y) = f(Y,a)",
+    "f(Y,X) = f(a,Y)", "i(X)", "o(X)", "i(Y)", "o(Y)", "io(X,Y)", "io(Y,X)", "n(X)",
+]
+LITERAL_MODES = ":-mode p(-).:-mode i(+).:-mode o(-).:-mode io(+,-).:-mode n(*)."
+
+
+def variables(count):
+    return ["V%d" % n for n in range(count)]
+
+
+def marked(name, marks):
+    return ":-mode " + random_sheets.atom(name, list(marks)) + "."
+
+
+def worked_examples(add):
+    for sheet, _ in examples.CHECKS:
+        add("C", sheet)
+        add("K", sheet, b"true.")
+        add("K", sheet, b"p(")
+    for goal, _ in examples.GOALS:
+        add("K", b":-mode p.", goal)
+    for *_, sheet, goal, _ in examples.RUNS + examples.SETTINGS:
+        add("C", sheet)
+        add("K", sheet, goal)
+
+
+def equations(add):
+    """Every pair of small terms, with Y unknown and with Y known."""
+    for left, right in product(TERMS, repeat=2):
+        add("C", ":-mode p(-). p(X) :- %s = %s." % (left, right))
+        add("C", ":-mode p(+,-). p(Y,X) :- %s = %s." % (left, right))
+    for left, right in (
+        ("f(X,g(Y,Z),Y)", "f(Y,g(a,Y),a)"), ("f(Z,Y,X)", "f(a,Z,Y)"), ("f(X,Y,Z)", "f(Y,Z,a)"),
+        ("f(g(X),h(Y))", "f(Y,h(a))"), ("f(h(Y),g(X))", "f(h(a),Y)"), ("f(Y,g(Y))", "f(a,X)"),
+        ("f(X,1)", "f(X,2)"), ("f(X,f(a,b))", "f(Y,f(a))"), ("f(1,01)", "f(1,1)"),
+        ("f(g(g(X)),a)", "f(g(h(Y)),a)"), ("f(X,X)", "f(Y,g(a))"), ("f(X,X)", "f(g(Y),g(a))"),
+        ("f(g(X,Y),g(Y,Z))", "f(Z,g(a,a))"), ("s(s(s(s(X))))", "s(s(s(s(a))))"),
+        ("s(s(s(s(X))))", "s(s(s(z)))"), ("f(_,X)", "f(a,_)"), ("true", "X"), ("fail", "fail"),
+    ):
+        for order in ((left, right), (right, left)):
+            add("C", ":-mode p(-). p(X) :- %s = %s." % order)
+            add("C", ":-mode p(-,-,-). p(X,Y,Z) :- %s = %s." % order)
+            add("C", ":-mode p(+,-,-). p(X,Y,Z) :- %s = %s." % order)
+            add("C", ":-mode p(-). :-mode q(+,+). p(X) :- %s = %s, q(X,Y)." % order)
+            add("K", ":-mode q(+,+).", "%s = %s, q(X,Y)." % order)
+
+
+def literal_orders(add, rng):
+    for body in product(LITERALS, repeat=2):
+        add("C", LITERAL_MODES + "p(X) :- %s." % ", ".join(body))
+    for body in rng.sample(list(product(LITERALS, repeat=3)), 350):
+        add("C", LITERAL_MODES + "p(X) :- %s." % ", ".join(body))
+        add("K", LITERAL_MODES, ", ".join(body) + ".")
+
+
+def mark_pairs(add, rng):
+    """A head and a call over all pairs of marks: outputs give nothing to the
+    inputs of their own call, * variables of a head are not known."""
+    pairs = list(product(random_sheets.MARKS, repeat=2))
+    arguments = list(product(("X", "Y", "Z", "a", "f(Y)", "f(X,Y)", "_"), repeat=2))
+    for head_marks, call_marks in product(pairs, repeat=2):
+        for call in rng.sample(arguments, 4):
+            sheet = marked("q", head_marks) + marked("p", call_marks)
+            add("C", sheet + "q(X,Y) :- p(%s,%s)." % call)
+        head = rng.choice(arguments)
+        add("C", marked("q", head_marks) + "q(%s,%s)." % head)
+        add("K", marked("p", head_marks) + marked("q", call_marks), "p(%s,%s), q(X,Y)." % head)
+
+
+def wide_atoms(add):
+    """Eight arguments: each mark at each place, one argument open."""
+    for place in range(8):
+        terms = ["a"] * 8
+        terms[place] = "f(X)"
+        atom = "p(%s)" % ",".join(terms)
+        for mark in random_sheets.MARKS:
+            modes = marked("p", "*" * place + mark + "*" * (7 - place)) + ":-mode q."
+            add("C", modes + atom + ".")
+            add("C", modes + "q :- %s." % atom)
+            add("K", modes, atom + ".")
+            add("C", modes + "q :- X = a, %s. %s :- q." % (atom, atom))
+        for marks in ("+" * 8, "-" * 8, "+-" * 4, "-+" * 4, "++--**+-"):
+            modes = marked("p", marks) + ":-mode q."
+            add("C", modes + "q :- true, %s." % atom)
+            add("C", modes + atom + " :- q.")
+            add("C", modes + "p(%s) :- %s." % (",".join(variables(8)), atom))
+            add("C", modes + "p(%s) :- p(%s)." % ((",".join(variables(8)),) * 2))
+            add("K", modes, atom + ".")
+    for marks in ("+-*+-*+-", "-*+-*+-*", "*+-*+-*+"):
+        modes = marked("p", marks)
+        for names in (variables(8), ["X"] * 8, ["a", "X"] * 4, ["_"] * 8):
+            add("C", modes + "p(%s)." % ",".join(names))
+            add("K", modes, "p(%s), p(%s)." % ((",".join(names),) * 2))
+
+
+def fault_places(add):
+    """9 at each literal and argument, 10 at each argument, 8 at each literal."""
+    modes = marked("p", "+" * 8) + ":-mode q."
+    for place in range(1, 17):
+        body = ["true"] * 16
+        body[place - 1] = "p(a,a,a,a,a,a,a,X)" if place % 2 else "p(a,X,Y,_,a,a,a,X)"
+        add("C", modes + "q. q :- " + ", ".join(body) + ".")
+        add("K", modes, ", ".join(body) + ".")
+        body[place - 1] = ("r(X)", "p", "q(a)", "true(X)", "fail(a)")[place % 5]
+        add("C", modes + "q. q :- " + ", ".join(body) + ".")
+        add("K", modes, ", ".join(body) + ".")
+        body[place - 1] = "X = a"
+        add("C", modes + "q :- " + ", ".join(body[:15] + ["p(X,X,X,X,X,X,X,X)"]) + ".")
+    for place in range(8):
+        terms = ["a"] * 8
+        terms[place:] = ["X"] * (8 - place)
+        heads = "p(b,b,b,b,b,b,b,b). p(%s)." % ",".join(terms)
+        add("C", marked("p", "-" * 8) + heads)
+
+
+def undeclared(add):
+    for text in (
+        "p.", "p :- q.", ":-mode p. p :- q.", ":-mode q. p :- q.", ":-mode p(+). p.",
+        "true :- true.",
+        ":-mode p. p :- p(a).", ":-mode p. p :- true, fail, a = b, p(_), p.", "fail.", "fail(X).",
+        ":-mode p. p :- true = true, true, fail = X.", ":-mode p(+). p(X) :- fail(X).",
+        ":-mode fail(+). :-mode p(+). p(X) :- fail(X).", ":-mode true(-). true(X). true(a).",
+        ":-mode p(-). p(X). q.", ":-mode p(+). p(a) :- p(X). p(b) :- r.", "p. :-mode p. :-mode p.",
+        "q. p :- r. !", "q. p(a,b", "p :- q(X), r(X). :-mode p.", ":-mode p. p. p :- p, p2.",
+        "mode. :-mode p.", ":-mode p. p(X) :- p. p :- p(X).", ":-mode a_B9. a_B9. a_b9.",
+    ):
+        add("C", text)
+        add("K", text, "p.")
+        add("K", text, "p(X), q.")
+        add("K", text, "true, p(X,Y)")
+    goals = ("q.", "p.", "p(a).", "p(X).", "p(a), q(X).", "p(X), q.", "true(a).", "X = Y, p(Y).")
+    sheets = ("", ":-mode p(+).", ":-mode p(-).", ":-mode q. :-mode p(+).",
+              ":-mode p(+). p(X) :- q.")
+    for sheet, goal in product(sheets, goals):
+        add("K", sheet, goal)
+
+
+def many_variables(add):
+    """32 variables: chains of equations, whole and with one link missing."""
+    names = variables(32)
+    pairs = ("f({1},{2}) = f({0},{1})", "f({2},{1}) = f({1},{0})")
+    for first, marks in (("a", "-" * 8), ("V31", "-" * 8), ("a", "*" * 8), ("_", "-" * 8)):
+        for gap, pair in product((0, 1, 7, 8, 15, 16), pairs):
+            links = [pair.format(*names[n : n + 3]) for n in range(0, 30, 2)]
+            links.insert(0, "V0 = " + first)
+            if gap:
+                del links[gap - 1]
+            head = "p(%s)" % ",".join(names[gap : gap + 8])
+            add("C", marked("p", marks) + head + " :- " + ", ".join(links) + ".")
+            add("K", marked("p", marks.replace("-", "+")), ", ".join(links[:15] + [head]) + ".")
+    blanks = "f(%s)" % ",".join("_" * 8)
+    for body in ("fail", "a = b", "true", "X = " + blanks, blanks + " = f(a,b,c,d,e,f,g,h)"):
+        head = "p(%s,_,_,_,_,_,_,X)" % blanks
+        add("C", ":-mode p(%s). %s :- %s." % (",".join("-" * 8), head, body))
+        add("C", ":-mode p(%s). %s :- %s." % (",".join("-" + "*" * 7), head, body))
+
+
+def many_items(add):
+    modes = ["p%d" % n for n in range(64)]
+    declared = "".join(":-mode %s(+,-).\n" % name for name in modes)
+    for count in (255, 256):
+        facts = ["p%d(a,X) :- X = a.\n" % (n % 64) for n in range(count)]
+        for last in (facts[-1], "p63(a,X).", "p63(X,_).", "p63(X,Y) :- p62(Y,X).", "p64(a,b)."):
+            add("C", declared + "".join(facts[:-1]) + last)
+        add("C", "".join(facts) + declared)
+        add("K", declared + "".join(facts), "p63(a,X), p0(X,Y), p7(Y,_).")
+        add("K", declared + "".join(facts), "p63(a,X), p0(Y,X).")
+    add("C", "".join(marked("q", "+" * n) for n in range(9)))
+    for count in (1, 63, 64, 65):
+        add("C", "".join(":-mode p%d. p%d :- p0.\n" % (n, n) for n in range(count)))
+        add("C", "".join(":-mode p%d. p%d :- p%d.\n" % (n, n, n + 1) for n in range(count)))
+
+
+def by_chance(add, rng):
+    for _ in range(420):
+        lines, predicates = random_sheets.well_marked_sheet(rng)
+        goal = random_sheets.well_marked_goal(rng, predicates)
+        add("K", "\n".join(lines), goal)
+        for _ in range(rng.randint(1, 2)):
+            lines = random_sheets.damaged(rng, lines)
+            add("C", "\n".join(lines))
+        add("K", "\n".join(lines), random_sheets.chance_goal(rng, predicates))
+    for _ in range(700):
+        lines, predicates = random_sheets.chance_sheet(rng)
+        rng.shuffle(lines)
+        add("C", "\n".join(lines))
+        modes = "\n".join(random_sheets.declarations(predicates))
+        add("K", modes, random_sheets.chance_goal(rng, predicates))
+
+
+def make(add, rng):
+    worked_examples(add)
+    equations(add)
+    literal_orders(add, rng)
+    mark_pairs(add, rng)
+    wide_atoms(add)
+    fault_places(add)
+    undeclared(add)
+    many_variables(add)
+    many_items(add)
+    by_chance(add, rng)

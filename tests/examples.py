@@ -1,0 +1,174 @@
+"""Worked examples: the table of paper 01 and the rulings on its open points.
+
+CHECKS: sheet, what the checker prints.  GOALS: goal, how reading it answers.
+RUNS: sheet, goal, what the runner prints.  SETTINGS: allowance, wanted, room,
+sheet, goal, what the runner would print with these settings.
+The outputs are written by hand from the papers, never taken from the engine.
+"""
+
+PLUS = (
+    b":- mode plus(%s).\n"
+    b"plus(z,N,N).\n"
+    b"plus(s(M),N,s(P)) :- plus(M,N,P).\n"
+)
+P_OUT = b":- mode p(-). p(X) :- %s."
+NEXT = b":- mode next(+,-). :- mode ends(+,-). next(off,rinse). ends(S,T) :- %s."
+EIGHT = b"a,a,a,a,a,a,a,a,"
+EIGHT_MARKS = b"+,+,+,+,+,+,+,+,"
+LONG = b"a" * 32
+
+CHECKS = [
+    # paper 01, the table
+    (PLUS % b"+,+,-", "accepted 1 2"),
+    (PLUS % b"+,-,+", "accepted 1 2"),
+    (PLUS % b"-,+,+", "accepted 1 2"),
+    (PLUS % b"+,-,-", "refused sheet 10 0 1 0 2 plus"),
+    (b"", "accepted 0 0"),
+    (P_OUT % b"fail", "accepted 1 1"),
+    (P_OUT % b"true", "refused sheet 10 0 1 0 1 p"),
+    (P_OUT % b"a = b", "accepted 1 1"),
+    (P_OUT % b"f(X,Y) = f(Y,a)", "refused sheet 10 0 1 0 1 p"),
+    (NEXT % b"next(U,T)", "refused sheet 9 0 2 1 1 next"),
+    (NEXT % b"next(S,U)", "refused sheet 10 0 2 0 2 ends"),
+    (b"p(.", "refused sheet 5 2 0 0 0"),
+    (b":- mode p(+). :- mode p(-).", "refused sheet 7 22 0 0 0"),
+    # paper 01, the traps
+    (b":- mode p(+,-). :- mode q. q :- p(X,X).", "refused sheet 9 0 1 1 1 p"),
+    (b":- mode p(*,-). p(X,X).", "refused sheet 10 0 1 0 2 p"),
+    (b":- mode p(-). p(X) :- true, fail.", "accepted 1 1"),
+    # tokens
+    (b"p\xe9.", "refused sheet 3 1 0 0 0"),
+    (b"% \xe9\x00\xff", "accepted 0 0"),
+    (b"\x00", "refused sheet 3 0 0 0 0"),
+    (b" \t\n\r\x0b", "refused sheet 3 4 0 0 0"),
+    (b"\x0c", "refused sheet 3 0 0 0 0"),
+    (b"\x7f", "refused sheet 3 0 0 0 0"),
+    (b"% x\rp(\n", "accepted 0 0"),
+    (b"p(1a).", "refused sheet 5 3 0 0 0"),
+    (b":--mode p.", "refused sheet 5 2 0 0 0"),
+    (b": -mode p.", "refused sheet 3 0 0 0 0"),
+    (b"p:", "refused sheet 3 1 0 0 0"),
+    (b":-mode p(+).:-mode q.p(a).p % (\n(b):-q,q.", "accepted 2 2"),
+    (b"p(" + b"a" * 31 + b",X" + b"b" * 30 + b"," + b"1" * 32 + b")",
+     "refused sheet 4 66 0 0 0"),
+    # order among 2 to 6
+    (b"!" * 16_385, "refused sheet 2 0 0 0 0"),
+    (b" " * 16_384, "accepted 0 0"),
+    (b"p(a " + LONG, "refused sheet 4 4 0 0 0"),
+    (b"p(" + EIGHT + LONG + b")", "refused sheet 4 18 0 0 0"),
+    (b"p(" + EIGHT + b")", "refused sheet 5 18 0 0 0"),
+    (b"p(" + EIGHT + b"a)", "refused sheet 6 18 0 0 0"),
+    (b":-mode p(" + EIGHT_MARKS + b")", "refused sheet 5 25 0 0 0"),
+    (b":-mode p(" + EIGHT_MARKS + b"+", "refused sheet 6 25 0 0 0"),
+    (b":-mode p." * 64 + b":-!", "refused sheet 6 576 0 0 0"),
+    (b":-mode p." * 64 + b":!", "refused sheet 3 576 0 0 0"),
+    (b"p." * 256 + b"X", "refused sheet 5 512 0 0 0"),
+    (b"p." * 256 + b"p(", "refused sheet 6 512 0 0 0"),
+    (b"p( % x\n", "refused sheet 5 7 0 0 0"),
+    (b"p(" + b"f(" * 16 + b"a" + b")" * 16 + b").", "refused sheet 6 33 0 0 0"),
+    (b":-mode p. p:-" + b"f(" * 16 + b"a" + b")" * 16 + b"=a.", "accepted 1 1"),
+    (b"p(_,_,_,_,_,_,_,_):-q(_,_,_,_,_,_,_,_),q(_,_,_,_,_,_,_,_),"
+     b"q(_,_,_,_,_,_,_,_),_", "refused sheet 6 77 0 0 0"),
+    (b"p:-" + b"true,fail,X=Y,q," * 4 + b"true", "refused sheet 6 67 0 0 0"),
+    # grammar
+    (b"p :- X.", "refused sheet 5 6 0 0 0"),
+    (b"p(1(a)).", "refused sheet 5 3 0 0 0"),
+    (b"p = q.", "refused sheet 5 2 0 0 0"),
+    (b":-mode p(-). p(X) :- true = X.", "accepted 1 1"),
+    (b"p :- a = b = c.", "refused sheet 5 11 0 0 0"),
+    (b":- mode mode(+). mode(mode).", "accepted 1 1"),
+    (b":-modes p.", "refused sheet 5 2 0 0 0"),
+    (b":-Mode p.", "refused sheet 5 2 0 0 0"),
+    (b"p(f()).", "refused sheet 5 4 0 0 0"),
+    (b"p().", "refused sheet 5 2 0 0 0"),
+    (b":-mode p().", "refused sheet 5 9 0 0 0"),
+    # 7 and 8
+    (b"true.", "refused sheet 8 0 1 0 0 true"),
+    (b"fail :- p.", "refused sheet 8 0 1 0 0 fail"),
+    (b":-mode true(+). true(a).", "accepted 1 1"),
+    (b":-mode p. p :- true(X).", "refused sheet 8 0 1 1 0 true"),
+    (b":-mode true.", "refused sheet 7 7 0 0 0"),
+    (b":-mode fail(-).:-mode fail.", "refused sheet 7 22 0 0 0"),
+    (b":-mode p.:-mode q.:-mode true.:-mode q.", "refused sheet 7 25 0 0 0"),
+    (b":-mode p.:-mode p(+).:-mode p(-,-).", "accepted 3 0"),
+    (b"p :- q. :-mode p. :-mode p.", "refused sheet 7 25 0 0 0"),
+    (b":-mode p(-). p(X). p(a) :- r.", "refused sheet 8 0 2 1 0 r"),
+    (b"p(a). :-mode p(-).", "accepted 1 1"),
+    # modes
+    (b":-mode p(-,+). :-mode q. q :- p(X,X).", "refused sheet 9 0 1 1 2 p"),
+    (b":-mode p(-). :-mode q(+). p(X) :- fail, q(Y), q(_).", "accepted 2 1"),
+    (b":-mode p(-,-). p(X,_) :- a = f(a).", "accepted 1 1"),
+    (b":-mode p(-). p(X) :- a = 1.", "accepted 1 1"),
+    (b":-mode p(-). p(X) :- 1 = 01.", "accepted 1 1"),
+    (b":-mode p(-). p(X) :- X = f(X).", "refused sheet 10 0 1 0 1 p"),
+    (b":-mode p(-). p(X) :- f(Y,X) = f(a,Y).", "accepted 1 1"),
+    (b":-mode p(-). p(X) :- f(X,Y) = f(Y,a).", "refused sheet 10 0 1 0 1 p"),
+]
+
+GOALS = [
+    (b"", "refused goal 5 0 0 0 0"),
+    (b" % no goal\n", "refused goal 5 11 0 0 0"),
+    (b"true.", "accepted 0 0"),
+    (b"true. % the end", "accepted 0 0"),
+    (b"true. true.", "refused goal 5 6 0 0 0"),
+    (b"true. !", "refused goal 3 6 0 0 0"),
+    (b"true." + LONG, "refused goal 4 5 0 0 0"),
+    (b"p :- q.", "refused goal 5 2 0 0 0"),
+    (b":- mode p.", "refused goal 5 0 0 0 0"),
+    (b"!" * 1_025, "refused goal 2 0 0 0 0"),
+    (b"true." + b" " * 1_019, "accepted 0 0"),
+]
+
+RUNS = [
+    # paper 01
+    (PLUS % b"+,+,-", b"plus(s(z),z,X).", "X = s(z)\nend done 1 7"),
+    (b"", b"X = f(X).", "end done 0 1"),
+    (b"", b"true.", "yes\nend done 1 2"),
+    # which of the two texts is at fault
+    (b"", b"", "refused goal 5 0 0 0 0"),
+    (b"p(.", b"", "refused sheet 5 2 0 0 0"),
+    (b"", b"p.", "refused goal 8 0 0 1 0 p"),
+    (b":-mode p(-,+).", b"true, p(X,Y), q.", "refused goal 8 0 0 3 0 q"),
+    (b":-mode p(-,+).", b"true, p(X,f(Y)).", "refused goal 9 0 0 2 2 p"),
+    # the run
+    (b":-mode p(*). :-mode q(*). q(c). p(a). q(d). p(b).", b"p(b).",
+     "yes\nend done 1 4"),
+    (b":-mode l. l :- l.", b"l.", "end deep 0 255"),
+    (b":-mode p.", b"p.", "end done 0 1"),
+    (b"", b"A = f(B,C), C = D.",
+     "A = f(_1,_2), B = _1, C = _2, D = _2\nend done 1 3"),
+    (b"", b"__ = _1, _ = _X.", "__ = _1, _1 = _1, _X = _2\nend done 1 3"),
+    # bindings of an alternative that went are not kept
+    (b":-mode p(*,*). p(a,b). p(X,X).", b"p(X,Y), Y = X.",
+     "X = _1, Y = _1\nend done 1 6"),
+]
+
+SETTINGS = [
+    (1, 1, 0, b"", b"true.", "end steps 0 1"),
+    (2, 1, 3, b"", b"true.", "end full 0 1"),
+    (2, 1, 4, b"", b"true.", "yes\nend wanted 1 2"),
+    (0, 1, 4, b"", b"true.", "refused 1 0 0 0 0"),
+    (65_537, 1, 4, b"p(", b"", "refused 1 0 0 0 0"),
+    (65_536, 0, 4, b"", b"true.", "refused 1 0 0 0 0"),
+    (65_536, 65, 4, b"", b"true.", "refused 1 0 0 0 0"),
+    (65_536, 64, 4, b"", b"true.", "yes\nend done 1 2"),
+]
+
+# Sheet (free of faults 2 to 8), goal, most steps; open inputs, open outputs, steps.
+COUNTS = [
+    (PLUS % b"+,+,-", b"plus(s(z),z,X).", 100, (0, 0, 7)),
+    (P_OUT % b"true", b"p(X).", 100, (0, 1, 4)),
+    (P_OUT % b"fail", b"p(X).", 100, (0, 0, 3)),
+    # a call is taken up at each step that finds it first, the last one too
+    (b":-mode p(+). p(X).", b"p(X).", 100, (2, 0, 3)),
+    (b":-mode p(+). p(X).", b"p(X).", 1, (1, 0, 1)),
+    (b":-mode p(+,*,+).", b"p(X,Y,f(Z)).", 100, (2, 0, 1)),
+    # the state right after success counts, not what is bound later
+    (b":-mode p(-). p(X).", b"p(X), X = a.", 100, (0, 1, 4)),
+    # one step may show several successes, each once in a line of descent
+    (b":-mode p(-). :-mode q(-). p(X) :- q(X). q(X).", b"p(X).", 100, (0, 2, 5)),
+    (b":-mode p(-). :-mode q(-). p(X) :- q(X), true. q(X).", b"p(X), true.", 100, (0, 2, 7)),
+    # each alternative on its own, and past deep
+    (b":-mode p(-). p(X). p(X) :- true. p(a).", b"p(X).", 100, (0, 2, 8)),
+    (b":-mode l. l :- l.", b"l.", 1_000, (0, 0, 1_000)),
+]

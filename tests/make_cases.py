@@ -1,0 +1,124 @@
+"""Writes the case files that the crates' test programs read, and their outputs.
+
+python3 tests/make_cases.py read     crates/read_cases/data/cases and .../stdout
+python3 tests/make_cases.py check    crates/check_cases/data/cases and .../stdout
+python3 tests/make_cases.py run      crates/run_cases/data/cases and .../stdout
+
+A case is a letter and its fields; a text is its length in 3 bytes, lowest
+first, then its bytes.  The cases come from fixed seeds: each call writes the
+same files.
+"""
+
+import random
+import sys
+from collections import Counter
+from pathlib import Path
+
+import check_cases
+import engine
+import read_cases
+import run_cases
+
+ROOT = Path(__file__).resolve().parent.parent
+MOST_BYTES, MOST_TEXT = 900_000, 20_000
+COUNTED_STEPS = 1_000  # steps over which both counts of demand 3 are taken
+
+
+class CaseFile:
+    """Cases without repetition, with the engine's output for each."""
+
+    def __init__(self):
+        self.outputs = {}
+
+    def add(self, record, answer):
+        self.outputs.setdefault(record, engine.printed(answer))
+
+    def write(self, directory):
+        cases = b"".join(self.outputs)
+        assert len(cases) < MOST_BYTES, len(cases)
+        (directory / "data").mkdir(parents=True, exist_ok=True)
+        (directory / "data" / "cases").write_bytes(cases)
+        (directory / "stdout").write_bytes(b"".join(self.outputs.values()))
+
+
+def as_bytes(text):
+    return text if isinstance(text, bytes) else text.encode()
+
+
+def number_field(number, size):
+    return number.to_bytes(size, "little")
+
+
+def text_field(text):
+    assert len(text) < MOST_TEXT
+    return number_field(len(text), 3) + text
+
+
+def make_read(cases):
+    readers = {"S": engine.read_sheet, "G": engine.read_goal}
+
+    def add(letter, text):
+        cases.add(letter.encode() + text_field(text), readers[letter](text))
+
+    def add_entry(number, text):
+        cases.add(b"E" + bytes([number]) + text_field(text), engine.read_entry(text, number))
+
+    read_cases.make(add, random.Random(read_cases.SEED))
+    read_cases.make_entries(add_entry)
+
+
+def make_check(cases):
+    checkers = {"C": engine.check_sheet, "K": engine.check_goal}
+
+    def add(letter, *texts):
+        texts = list(map(as_bytes, texts))
+        record = letter.encode() + b"".join(map(text_field, texts))
+        cases.add(record, checkers[letter](*texts))
+
+    check_cases.make(add, random.Random(check_cases.SEED))
+
+
+def make_run(cases):
+    reports, counted = {}, set()
+
+    def add(
+        sheet, goal,
+        allowance=run_cases.ALLOWANCE, wanted=run_cases.WANTED, room=run_cases.ROOM,
+    ):
+        texts = as_bytes(sheet), as_bytes(goal)
+        fields = [number_field(allowance, 3), number_field(wanted, 2), number_field(room, 3)]
+        record = b"R" + b"".join([*fields, *map(text_field, texts)])
+        if record not in reports:
+            reports[record] = engine.run(*texts, allowance, wanted, room)
+            cases.add(record, reports[record])
+        if isinstance(reports[record], engine.Report) and texts not in counted:
+            counted.add(texts)
+            inputs, outputs, _ = engine.open_counts(*texts, COUNTED_STEPS)
+            assert inputs == outputs == 0, texts
+        return reports[record]
+
+    run_cases.make(add, random.Random(run_cases.SEED))
+
+
+STAGES = {"read": make_read, "check": make_check, "run": make_run}
+
+
+def kind_of(output):
+    """accepted, refused with text and number, or end with its kind."""
+    words = output.splitlines()[-1].decode().split()
+    return " ".join(words[: {"refused": 3, "end": 2}.get(words[0], 1)])
+
+
+def main(stage):
+    cases = CaseFile()
+    STAGES[stage](cases)
+    cases.write(ROOT / "crates" / (stage + "_cases"))
+    print("%d cases, %d bytes" % (len(cases.outputs), sum(map(len, cases.outputs))))
+    for kind, count in sorted(Counter(map(kind_of, cases.outputs.values())).items()):
+        print("%6d %s" % (count, kind))
+
+
+if __name__ == "__main__":
+    if len(sys.argv) != 2 or sys.argv[1] not in STAGES:
+        sys.exit("usage: make_cases.py " + "|".join(STAGES))
+    main(sys.argv[1])

@@ -1,0 +1,236 @@
+"""Cases for running: a sheet, a goal and the settings."""
+
+import engine
+import examples
+import random_sheets
+
+SEED = 1_717
+ALLOWANCE, WANTED, ROOM = 65_536, 16, 4_096  # the runner's own
+
+# Sheets with goals; the first group is small enough for every edge.
+SMALL = [
+    ("", ["true.", "fail.", "true, true.", "X = a.", "a = b.", "X = f(X).", "X = Y, Y = Z.",
+          "_ = _.", "f(X,Y) = f(Y,a).", "1 = 01.", "X = f(Y), Y = g(X).", "X = f(_,_), _ = X.",
+          "f(X,g(X)) = f(g(Y),Y).", "f(A,B,C) = f(g(B,B),g(C,C),a).", "true = X, X = fail.",
+          "X = f(Y,Y), Y = g(Z), Z = 0.", "f(f(X)) = f(f(f(Y))), X = X.", "_1 = _2, _2 = f(_3).",
+          "Low_1 = f(Xx,_y), _y = rinse_2."]),
+    (":-mode p. p.", ["p.", "p, p.", "p, fail.", "p, X = Y, p."]),
+    (":-mode p.", ["p.", "true, p.", "X = a, p, X = b."]),
+    (":-mode p. p. p. p :- fail. p :- true.", ["p.", "p, p."]),
+    (":-mode p(-). p(a). p(b). p(c).", ["p(X).", "p(b).", "p(X), p(Y).", "p(X), X = b.",
+                                       "p(X), p(X).", "p(_).", "p(X), p(Y), X = Y.", "p(f(X))."]),
+    (":-mode p(*). p(a). p(X). p(f(X)).", ["p(X).", "p(f(Y)).", "p(X), p(f(X)).", "p(_), p(b)."]),
+    (":-mode q(*,*). q(X,X).", ["q(A,B).", "q(A,f(A)).", "q(f(A,B),f(B,C)).", "q(A,B), A = a.",
+                               "q(A,B), q(B,C), q(f(C),D).", "q(g(_),X)."]),
+    (":-mode p(*,*). :-mode q(*). p(X,Y) :- q(X), q(Y). q(a). q(f(_)).",
+     ["p(X,Y).", "p(f(b),Y).", "p(X,X).", "p(Z,f(Z))."]),
+    (":-mode p(-). p(X) :- fail. p(X) :- a = b. p(X) :- X = a, X = b. p(X) :- f(X) = f(c).",
+     ["p(X).", "p(c)."]),
+    (":-mode n(-). n(z). n(s(X)) :- n(X).", ["n(X).", "n(s(s(Y)))."]),
+    # bindings made before a unification fails
+    (":-mode p(*,*). p(a,b). p(b,c). p(X,X). p(c,X).",
+     ["p(X,c).", "p(X,Y), X = Y.", "p(Z,Z).", "p(X,Y), p(Y,X).", "p(X,f(X))."]),
+    (":-mode p(*). p(X) :- f(X,a) = f(b,b). p(X) :- f(X,X) = f(Y,c). p(X) :- X = f(Y), Y = f(X).",
+     ["p(X).", "p(b).", "p(c).", "p(f(X)), X = Y."]),
+    # truth and falsehood with arguments are calls; one name, several predicates
+    (":-mode true(-). :-mode fail(*). true(a). true(b). fail(X) :- true(X), true.",
+     ["true(X), fail(X).", "fail(Y), true = Y."]),
+    (":-mode p. :-mode p(-). :-mode p(-,-). p. p(1). p(1,2). p :- p(X). p(01). p(X,X) :- p(X).",
+     ["p.", "p(X).", "p(X,Y)."]),
+    # unbound variables by first appearance
+    ("", ["X = f(A,B,C,D,E,F,G,H), Y = f(I,J,K,L,M,N,O,P).", "f(A,B,C) = f(C,A,D), E = g(B,F).",
+          "Z = f(_,A,_), Y = f(A,_,Z)."]),
+]
+LARGER = [
+    (":-mode plus(+,+,-). plus(z,N,N). plus(s(M),N,s(P)) :- plus(M,N,P).\n"
+     ":-mode times(+,+,-). times(z,_,z). times(s(M),N,Q) :- times(M,N,P), plus(N,P,Q).",
+     ["plus(s(s(z)),s(z),X).", "times(s(s(z)),s(s(s(z))),X).", "plus(a,z,X).",
+      "X = s(s(z)), times(X,X,Y), plus(Y,X,Z)."]),
+    (":-mode plus(-,-,+). plus(z,N,N). plus(s(M),N,s(P)) :- plus(M,N,P).",
+     ["plus(X,Y,s(s(s(z)))).", "plus(s(X),Y,s(s(z))).", "plus(X,X,s(s(z)))."]),
+    (":-mode app(-,-,+). app(nil,L,L). app(c(H,T),L,c(H,R)) :- app(T,L,R).",
+     ["app(X,Y,c(a,c(b,c(c,nil)))).", "app(X,c(b,Y),c(a,c(b,nil))).", "app(X,X,c(a,c(a,nil)))."]),
+    (":-mode del(-,+,-). del(H,c(H,T),T). del(X,c(H,T),c(H,R)) :- del(X,T,R).\n"
+     ":-mode perm(+,-). perm(nil,nil). perm(L,c(H,P)) :- del(H,L,R), perm(R,P).",
+     ["perm(c(1,c(2,c(3,nil))),X).", "del(X,c(a,c(b,nil)),Y).", "perm(c(1,c(1,nil)),X)."]),
+    (":-mode app(+,+,-). app(nil,L,L). app(c(H,T),L,c(H,R)) :- app(T,L,R).\n"
+     ":-mode rev(+,-). rev(nil,nil). rev(c(H,T),R) :- rev(T,S), app(S,c(H,nil),R).",
+     ["rev(c(a,c(b,c(c,nil))),X).", "rev(c(f(z),nil),X), rev(X,Y).", "rev(c(a,b),X)."]),
+    (":-mode e(-,-). e(a,b). e(b,c). e(a,c). e(c,d).\n"
+     ":-mode t(-,-). t(X,Y) :- e(X,Y). t(X,Z) :- e(X,Y), t(Y,Z).",
+     ["t(a,X).", "t(X,Y).", "t(X,d).", "t(X,X).", "e(X,Y), t(Y,Z)."]),
+    (":-mode e(-,-). e(a,b). e(b,a).\n:-mode t(-,-). t(X,Y) :- e(X,Y). t(X,Z) :- e(X,Y), t(Y,Z).",
+     ["t(a,X).", "t(X,c)."]),
+    (":-mode d(-,-). d(r,g). d(r,b). d(g,r). d(g,b). d(b,r). d(b,g).",
+     ["d(A,B), d(B,C), d(A,C).", "d(A,B), d(C,B), d(A,C), d(D,A)."]),
+    (":-mode ev(+). :-mode od(+). ev(z). ev(s(N)) :- od(N). od(s(N)) :- ev(N).",
+     ["ev(s(s(z))).", "od(s(s(z))).", "X = s(s(s(z))), od(X)."]),
+    (":-mode next(+,-). next(off,rinse). next(rinse,end). next(on,steady). next(steady,low).\n"
+     "next(low,off). :-mode ends(+,-). ends(S,T) :- next(S,T). ends(S,T) :- next(S,U), ends(U,T).",
+     ["ends(on,X).", "ends(off,X), X = end.", "next(low,X), ends(X,Y).", "ends(end,X)."]),
+    (":-mode l. l :- l.", ["l."]),
+    (":-mode l. l. l :- l.", ["l."]),
+    (":-mode l. l :- l. l.", ["l."]),
+    (":-mode l(*). l(X) :- l(f(X)). l(a).", ["l(X)."]),
+    (":-mode l(*). l(f(X)) :- l(X).", ["l(X).", "l(f(f(a)))."]),
+    (":-mode b(-). b(0). b(1).", ["b(A),b(B),b(C),b(D),b(E),b(F).", "b(A),b(B),b(A)."]),
+]
+
+
+def nested(depth, core):
+    return "s(" * depth + core + ")" * depth
+
+
+def tower(name, height):
+    """A clause whose argument is z under so many s, in steps of sixteen."""
+    links, last = [], "z"
+    while height:
+        depth = min(height, 16)
+        links.append("V%d = %s" % (len(links), nested(depth, last)))
+        last, height = "V%d" % (len(links) - 1), height - depth
+    return ":-mode %s(-). %s(%s) :- %s.\n" % (name, name, last, ", ".join(links))
+
+
+def around(number, least, most):
+    return [n for n in (number - 1, number, number + 1) if least <= n <= most]
+
+
+def edges(add, sheet, goal, every_step=False):
+    """The whole run, then each end of it one short, just reached and one beyond."""
+    whole = add(sheet, goal)
+    if isinstance(whole, engine.Refusal):
+        return
+    steps = range(1, min(whole.steps, 40) + 2) if every_step else [1]
+    for allowance in [*steps, *around(whole.steps, 1, ALLOWANCE)]:
+        add(sheet, goal, allowance=allowance)
+    for wanted in [1, *around(whole.answers, 1, 64)]:
+        add(sheet, goal, wanted=wanted)
+        add(sheet, goal, wanted=wanted, allowance=max(whole.steps, 1))
+    lines = whole.text.splitlines(keepends=True)
+    for count in sorted({0, 1, len(lines)}):
+        size = sum(map(len, lines[:count]))
+        for room in around(size, 0, ROOM):
+            add(sheet, goal, room=room)
+            add(sheet, goal, room=room, wanted=max(count, 1))
+
+
+def worked_examples(add):
+    for sheet, goal, _ in examples.RUNS:
+        edges(add, sheet, goal)
+    for allowance, wanted, room, sheet, goal, _ in examples.SETTINGS:
+        add(sheet, goal, allowance, wanted, room)
+    for sheet, _ in examples.CHECKS:
+        if len(sheet) < 500:
+            add(sheet, "true.")
+            add(sheet, "")
+    for goal, _ in examples.GOALS:
+        add(":-mode p. p.", goal)
+
+
+def settings(add):
+    """Number 1 comes before the sheet, the sheet before the goal."""
+    for allowance in (0, 1, 2, 65_535, 65_536, 65_537, 100_000, 2**24 - 1):
+        for wanted in (0, 1, 63, 64, 65, 65_535):
+            add(":-mode p(-). p(a). p(b).", "p(X).", allowance, wanted, 100)
+    for sheet, goal in (("p(", "q("), ("p.", "true."), ("", "p("), ("", "p."), ("", "")):
+        for allowance, wanted in ((0, 1), (65_537, 1), (1, 0), (1, 65), (1, 1), (65_536, 64)):
+            add(sheet, goal, allowance, wanted, 0)
+
+
+def steps_and_ends(add):
+    for sheet, goals in SMALL:
+        for goal in goals:
+            edges(add, sheet, goal, every_step=True)
+    for sheet, goals in LARGER:
+        for goal in goals:
+            edges(add, sheet, goal)
+
+
+def path_limit(add):
+    """What stands first at path 253 to 256: only trying a clause is refused there."""
+    tails = ["", " :- true", " :- fail", " :- a = a", " :- a = b", " :- X = f(X)", " :- none",
+             " :- one", " :- fact(X)", " :- fact(c)", " :- true, none", " :- true, one",
+             " :- one, none"]
+    modes = ":-mode d(+). :-mode none. :-mode one. :-mode fact(-). one. fact(a). fact(b).\n"
+    for height in (251, 252, 253, 254):
+        for tail in tails if height in (252, 253) else tails[:2]:
+            sheet = tower("c", height - 16) + modes + "d(z)%s. d(s(N)) :- d(N)." % tail
+            add(sheet, "c(_V), X = %s, d(X)." % nested(15, "s(_V)"))
+    for sheet, goals in (
+        (":-mode l. l :- l.", ["true, l.", "l, fail."]),
+        (":-mode l. l :- true, l.", ["l.", "X = a, l."]),
+        (":-mode l. l :- l, l. l.", ["l.", "l, l."]),
+        (":-mode l. :-mode k. l :- k, l. k.", ["l.", "k, l."]),
+        (":-mode l(*). l(a) :- fail. l(X) :- l(X).", ["l(_).", "l(b).", "l(X), l(Y)."]),
+        (":-mode l(*). l(a). l(f(X)) :- l(X).", ["l(_), fail.", "l(X), X = b."]),
+    ):
+        for goal in goals:
+            edges(add, sheet, goal)
+
+
+def large_terms(add):
+    links = ["V%d = %s" % (n, nested(16, "V%d" % (n + 1))) for n in range(15)]
+    down = "d(z,z). d(s(N),V0) :- %s, d(N,V15).\n" % ", ".join(links)
+    up = "d(z,z). d(s(N),V0) :- d(N,V15), %s.\n" % ", ".join(reversed(links))
+    ends = ":-mode t. t :- c(N), d(N,X). :-mode u. u :- c(N), d(N,X), d(N,Y), X = Y.\n"
+    for height, mark, rule in ((240, "*", down), (120, "*", down), (10, "-", up)):
+        sheet = tower("c", height) + ":-mode d(+,%s).\n" % mark + rule + ends
+        for goal in ("t.", "u.", "c(_N), d(_N,X).", "c(_N), d(_N,X), Y = f(X), X = Y."):
+            add(sheet, goal)
+    for height in (5, 10, 15):
+        links = ["V%d = f(V%d,V%d)" % (n + 1, n, n) for n in range(height)]
+        sheet = ":-mode t(*,*). t(V0,V%d) :- %s." % (height, ", ".join(links))
+        goals = ["t(a,X).", "t(A,X).", "t(A,X), t(B,X).", "t(A,X), t(B,Y), X = Y.",
+                 "t(a,X), t(b,X).", "t(A,A).", "t(A,X), t(X,A)."]
+        for goal in goals if height <= 10 else goals[:-1]:  # at most 2 ** 20 leaves
+            add(sheet, goal)
+            add(sheet, goal, room=100)
+
+
+def rooms(add):
+    """A line that does not fit ends the run, though later ones would."""
+    sheet = ":-mode p(*). p(a). p(f(f(f(b)))). p(c). p(X). p(d)."
+    for room in range(45):
+        add(sheet, "p(X).", room=room)
+        add(sheet, "p(X), p(Y).", room=2 * room, wanted=3)
+        add(sheet, "p(f(_)).", room=room, allowance=12)
+
+
+def long_runs(add):
+    bits = ":-mode b(-). b(0). b(1)."
+    names = "ABCDEFGHIJKLMNO"
+    for count in (6, 10, 14, 15):
+        goal = ", ".join("b(%s)" % name for name in names[:count])
+        add(bits, goal + ", fail.")
+        for wanted in (16, 63, 64):
+            add(bits, goal + ".", wanted=wanted)
+    add(":-mode n(-). n(z). n(s(X)) :- n(X).", "n(X), n(Y), X = s(Y), fail.")
+    add(":-mode n(-). n(z). n(s(X)) :- n(X).", "n(X).", wanted=64)
+    add(":-mode l. l :- fail. l :- l, l. l.", "l, l.")
+
+
+def by_chance(add, rng):
+    """Accepted sheets and goals; runs with several answers are kept the most."""
+    made = 0
+    while made < 1_100:
+        sheet, goal = random_sheets.runnable(rng)
+        if len(sheet) > 330:
+            continue
+        whole = engine.run(sheet.encode(), goal.encode(), 3_000, WANTED, ROOM)
+        kept = {0: 0.15, 1: 0.3}.get(whole.answers, 0.3 if whole.kind == "wanted" else 1)
+        if rng.random() < kept:
+            made += 1
+            add(sheet, goal, allowance=3_000)
+            add(sheet, goal, allowance=rng.randint(1, whole.steps + 1),
+                wanted=rng.randint(1, 8), room=rng.randint(0, len(whole.text) + 8))
+
+
+def make(add, rng):
+    worked_examples(add)
+    settings(add)
+    steps_and_ends(add)
+    path_limit(add)
+    large_terms(add)
+    rooms(add)
+    long_runs(add)
+    by_chance(add, rng)

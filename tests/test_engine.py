@@ -1,0 +1,87 @@
+"""Holds the engine to the worked examples; exit status 1 on any failure."""
+
+import random
+import sys
+
+import engine
+import examples
+import random_sheets
+import run_cases
+
+passed = failed = 0
+
+
+def expect(what, got, wanted):
+    global passed, failed
+    if got == wanted:
+        passed += 1
+    else:
+        failed += 1
+        print("%r: got %r, wanted %r" % (what, got, wanted))
+
+
+def lines(answer):
+    return engine.printed(answer).decode().removesuffix("\n")
+
+
+def reading_of(line, sheet):
+    """What reading alone answers where checking answers with the line."""
+    if line.startswith("refused") and line.split()[2] in ("8", "9", "10"):
+        modes = sheet.count(b":-mode") + sheet.count(b":- mode")
+        return "accepted %d %d" % (modes, sheet.count(b".") - modes)
+    return line
+
+
+def test_reading():
+    for sheet, line in examples.CHECKS:
+        expect(sheet, lines(engine.read_sheet(sheet)), reading_of(line, sheet))
+    for goal, line in examples.GOALS:
+        expect(goal, lines(engine.read_goal(goal)), line)
+
+
+def test_checking():
+    for sheet, line in examples.CHECKS:
+        expect(sheet, lines(engine.check_sheet(sheet)), line)
+        wanted = line if line.startswith("refused") else "refused goal 5 0 0 0 0"
+        expect(sheet, lines(engine.check_goal(sheet, b"")), wanted)
+    for sheet, goal, output in examples.RUNS:
+        wanted = output if output.startswith("refused") else lines(engine.read_sheet(sheet))
+        expect((sheet, goal), lines(engine.check_goal(sheet, goal)), wanted)
+
+
+def test_running():
+    for sheet, goal, output in examples.RUNS:
+        expect((sheet, goal), lines(engine.run(sheet, goal, 65_536, 16, 4_096)), output)
+    for allowance, wanted, room, sheet, goal, output in examples.SETTINGS:
+        report = engine.run(sheet, goal, allowance, wanted, room)
+        expect((allowance, wanted, room, sheet, goal), lines(report), output)
+
+
+def test_counts():
+    for sheet, goal, steps, counts in examples.COUNTS:
+        expect((sheet, goal), engine.open_counts(sheet, goal, steps), counts)
+    rng = random.Random(3)
+    for _ in range(300):
+        sheet, goal = (text.encode() for text in random_sheets.runnable(rng))
+        expect((sheet, goal), engine.open_counts(sheet, goal, 200)[:2], (0, 0))
+
+
+def test_large_terms():
+    """A term of 57,600 levels: t, c with 15 equations, 240 times d with a clause
+    that does not unify, one that does and 15 equations, the last d, the answer,
+    then 2 steps for the last d and 1 for each other call."""
+    links = ["V%d = %s" % (n, run_cases.nested(16, "V%d" % (n + 1))) for n in range(15)]
+    sheet = run_cases.tower("c", 240) + (
+        ":-mode t. t :- c(N), d(N,X). :-mode d(+,*). d(z,z). d(s(N),V0) :- %s, d(N,V15)."
+        % ", ".join(links)
+    )
+    first, rest = 1 + 16 + 240 * 17 + 1 + 1, 2 + 242
+    for wanted, end in ((1, "wanted 1 %d" % first), (2, "done 1 %d" % (first + rest))):
+        report = engine.run(sheet.encode(), b"t.", 65_536, wanted, 4)
+        expect("t", lines(report), "yes\nend " + end)
+
+
+for test in (test_reading, test_checking, test_running, test_counts, test_large_terms):
+    test()
+print("%d passed, %d failed" % (passed, failed))
+sys.exit(failed > 0)
