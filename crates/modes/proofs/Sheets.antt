@@ -1,0 +1,260 @@
+-- Laws of clauses, sheets and goals in a table, one for each way out of the functions. Assumes nothing.
+use Prim.Native.Nat.{ℕ, zero, suc, _+_, _-_, _*_, _≤_, _<_}
+use native.Mathlib.Numerals.{add-one}
+use native.Mathlib.Omega.{arith}
+use mathlib.Core.Path.{_≡_, refl, sym, ap, ap₂, _∙_, subst, subst⁻¹}
+use mathlib.Core.Bool.{Bool, true, false}
+use mathlib.Core.List.{List, [], _∷_, _++_}
+use mathlib.Core.Option.{Option, none, some}
+use lib.ListN.{length, getD, length-append}
+use Rattle.syntax.specs.Terms.{Term, Terms, compound, arity, Atom, termOf, Body, Mark, input, output, Declaration, Clause, Sheet, Goal}
+use Rattle.syntax.specs.Words.{termWords, termsWords, atomWords, bodyWords, bodyLength, clauseWords, clausesWords, declarationsWords, markNumber, marksNumber}
+use Rattle.syntax.specs.declared.Refusal.{Refusal}
+use Rattle.rules.specs.Modes.{Known, nothing, isGround, marksFor, listOf, firstFaulty, groundMarked, openOutput, undeclaredAtom, undeclaredBody, undeclaredClause, undeclaredClauses, undeclaredInSheet, undeclaredInGoal, startKnown, headFault, clauseFault, clausesFault, sheetFault, goalFault, walkFault, Walk, faulted, known, bodyFault}
+use Rattle.modes.specs.Standing.{Stands, BodyStands, ClauseStands, ClausesStand, no-clauses, clause-stands, DeclarationsStand}
+use Rattle.modes.specs.Tables.{Has, TermAt, MarkedAt, JudgedAt, DeclarationsAt, AtomAt, BodyAt, ClauseAt, ClausesAt, SheetAt, GoalAt}
+use Rattle.modes.specs.Answers.{checkedOf, isFault, walkBy, walkOf}
+use Rattle.modes.specs.declared.Checked.{Checked}
+use Rattle.modes.specs.declared.Checked.the-variants.{Fine, Fault}
+use Rattle.modes.specs.declared.Walked.{Walked}
+use Rattle.modes.proofs.Places.{Node, node, has-left, has-right, has-inside}
+use Rattle.modes.proofs.Equating.{numbered}
+use Rattle.modes.proofs.Judging.{judged-marked}
+use Rattle.modes.proofs.Walking.{judged-at, fault-stays, fine-goes}
+
+-- ---- one clause
+
+pub says : {s table : List ℕ} {p : ℕ} (w : ClauseAt s table p)
+    → Node table p (3 + length (atomWords (w .clause .head) ++ bodyWords (w .clause .body))) (w .clause .variables) (bodyLength (w .clause .body)) (atomWords (w .clause .head) ++ bodyWords (w .clause .body))
+unfolding clauseWords
+says {s} {table} {p} w = node table p _ _ _ _ (w .has)
+
+pub clause-room : {s table : List ℕ} {p : ℕ} → ClauseAt s table p → p + 2 < length table
+clause-room w = says w .inside
+
+size-is : {s table : List ℕ} {p : ℕ} (w : ClauseAt s table p) → getD table p 0 ≡ length (clauseWords (w .clause))
+unfolding clauseWords
+size-is w = omega (arith, says w .first)
+
+pub clause-inside : {s table : List ℕ} {p : ℕ} → ClauseAt s table p → p + getD table p 0 ≤ length table
+clause-inside {s} {table} {p} w =
+    let l : 0 < length (clauseWords (w .clause)) = omega (arith, size-is w, says w .first) in
+    omega (arith, size-is w, has-inside table p (clauseWords (w .clause)) (w .has) l)
+
+pub past-clause : {s table : List ℕ} {p : ℕ} (size : ℕ) → size ≡ getD table p 0 → (w : ClauseAt s table p) → p + size ≡ p + length (clauseWords (w .clause))
+past-clause {s} {table} {p} size e w = ap (λ (k : ℕ). p + k) (e ∙ size-is w)
+
+abbrev pub head-at : {s table : List ℕ} {p : ℕ} → ClauseAt s table p → AtomAt s table (p + 3)
+head-at {s} {table} {p} w = record {
+  atom = w .clause .head;
+  has = has-left table (p + 3) (atomWords (w .clause .head)) (bodyWords (w .clause .body)) (says w .rest);
+  stands = w .stands .head;
+}
+
+abbrev pub head-term : {s table : List ℕ} {p : ℕ} → ClauseAt s table p → TermAt table (p + 3)
+head-term w = record { term = termOf (w .clause .head); has = head-at w .has; numbered = numbered (w .stands .head) }
+
+pub head-room : {s table : List ℕ} {p : ℕ} → ClauseAt s table p → p + 6 ≤ length table
+head-room {s} {table} {p} w = omega (arith, Rattle.modes.proofs.Places.room-three table (p + 3) (head-term w))
+
+module _ (s table : List ℕ) (p literals : ℕ) (el : literals ≡ getD table (p + 2) 0) (first : ℕ) (ef : (u : TermAt table (p + 3)) → first ≡ p + 3 + length (termWords (u .term))) where
+  abbrev pub body-at : ClauseAt s table p → BodyAt s table first literals
+  body-at w = record {
+    body = w .clause .body;
+    has = subst⁻¹ (λ (k : ℕ). Has table k (bodyWords (w .clause .body))) (ef (head-term w)) (has-right table (p + 3) (atomWords (w .clause .head)) (bodyWords (w .clause .body)) (says w .rest));
+    count = el ∙ says w .third;
+    stands = w .stands .body;
+  }
+
+-- ---- refusal 8 of a clause
+
+module _ (ds : List Declaration) (s table : List ℕ) (p c : ℕ) (f : Checked) (ef : (a : AtomAt s table (p + 3)) → f ≡ checkedOf (undeclaredAtom ds c 0 (a .atom))) where
+  pub clause-undeclared : isFault f ≡ true → (w : ClauseAt s table p) → f ≡ checkedOf (undeclaredClause ds c (w .clause))
+  unfolding undeclaredClause
+  clause-undeclared t w = fault-stays (undeclaredAtom ds c 0 (w .clause .head)) (undeclaredBody ds c 1 (w .clause .body)) f (ef (head-at w)) t
+
+  pub clause-body : isFault f ≡ false → (literals : ℕ) → literals ≡ getD table (p + 2) 0 → (first : ℕ) → ((u : TermAt table (p + 3)) → first ≡ p + 3 + length (termWords (u .term)))
+      → (r : Checked) → ((b : BodyAt s table first literals) → r ≡ checkedOf (undeclaredBody ds c 1 (b .body))) → (w : ClauseAt s table p)
+      → r ≡ checkedOf (undeclaredClause ds c (w .clause))
+  unfolding undeclaredClause
+  clause-body t literals el first e1 r h w =
+      h (body-at s table p literals el first e1 w)
+      ∙ sym (ap checkedOf (fine-goes (undeclaredAtom ds c 0 (w .clause .head)) (undeclaredBody ds c 1 (w .clause .body)) f (ef (head-at w)) t))
+
+-- ---- refusals 9 and 10 of a clause
+
+stopped-by : (ds : List Declaration) (c : ℕ) (h : Atom) (f : Checked) (τ : Known) (x : Walk) → walkBy f τ ≡ x → isFault f ≡ true → f ≡ checkedOf (headFault ds c h x)
+unfolding headFault
+stopped-by ds c h Fine τ x e t = let y : _≡_ {A = ℕ} 0 1 = cc in absurd (omega arith)
+stopped-by ds c h (Fault r) τ x e t = ap (λ (z : Walk). checkedOf (headFault ds c h z)) e
+
+passed-by : (ds : List Declaration) (c : ℕ) (h : Atom) (f : Checked) (τ : Known) (x : Walk) → walkBy f τ ≡ x → isFault f ≡ false
+    → checkedOf (openOutput c h (firstFaulty output (isGround τ) (marksFor ds h) (listOf (h .args)) 1)) ≡ checkedOf (headFault ds c h x)
+unfolding headFault
+passed-by ds c h Fine τ x e t = ap (λ (z : Walk). checkedOf (headFault ds c h z)) e
+passed-by ds c h (Fault r) τ x e t = let y : _≡_ {A = ℕ} 0 1 = cc in absurd (omega arith)
+
+module _ (s declared : List ℕ) (n : ℕ) (table : List ℕ) (p c marks : ℕ)
+    (em : (d : DeclarationsAt s declared n) (w : AtomAt s table (p + 3)) → marks ≡ marksNumber (marksFor (d .list) (w .atom)))
+    (literals : ℕ) (el : literals ≡ getD table (p + 2) 0) (first : ℕ) (e1 : (u : TermAt table (p + 3)) → first ≡ p + 3 + length (termWords (u .term))) where
+  abbrev pub head-judged : DeclarationsAt s declared n → ClauseAt s table p → JudgedAt table (p + 3) marks
+  head-judged d w = judged-at s declared n s table (p + 3) marks em d (head-at w)
+
+  abbrev pub head-marked : (m : Mark) → DeclarationsAt s declared n → ClauseAt s table p → MarkedAt table (p + 3 + 3) first marks (markNumber m)
+  head-marked m d w = judged-marked table (p + 3) marks first e1 m (head-judged d w)
+
+  module _ (start : Known) (es : (u : MarkedAt table (p + 3 + 3) first marks 1) → start ≡ groundMarked (u .wanted) (u .listed) (listOf (u .terms)) nothing)
+      (w : Walked) (ew : (d : DeclarationsAt s declared n) (b : BodyAt s table first literals) → walkOf w ≡ bodyFault (d .list) c 1 start (b .body)) where
+    walked : (d : DeclarationsAt s declared n) (u : ClauseAt s table p) → walkOf w ≡ bodyFault (d .list) c 1 (startKnown (d .list) (u .clause .head)) (u .clause .body)
+    unfolding startKnown
+    walked d u =
+        ew d (body-at s table p literals el first e1 u)
+        ∙ ap (λ (τ : Known). bodyFault (d .list) c 1 τ (u .clause .body)) (es (head-marked input d u))
+
+    pub clause-stopped : isFault (w .fault) ≡ true → (d : DeclarationsAt s declared n) (u : ClauseAt s table p) → w .fault ≡ checkedOf (clauseFault (d .list) c (u .clause))
+    unfolding clauseFault
+    clause-stopped t d u = stopped-by (d .list) c (u .clause .head) (w .fault) (w .known) _ (walked d u) t
+
+    pub clause-passed : isFault (w .fault) ≡ false → (r : Checked)
+        → ((j : JudgedAt table (p + 3) marks) → r ≡ checkedOf (openOutput c (j .atom) (firstFaulty output (isGround (w .known)) (j .listed) (listOf (j .atom .args)) 1)))
+        → (d : DeclarationsAt s declared n) (u : ClauseAt s table p) → r ≡ checkedOf (clauseFault (d .list) c (u .clause))
+    unfolding clauseFault
+    clause-passed t r h d u = h (head-judged d u) ∙ passed-by (d .list) c (u .clause .head) (w .fault) (w .known) _ (walked d u) t
+
+-- ---- the clauses in turn
+
+-- what is left of the clauses from the i-th on, at a place
+pub record Ahead (s table : List ℕ) (at i clauses : ℕ) (whole : Option Refusal) (rest : ℕ → List Clause → Option Refusal) : Type 0 where
+  pub list : List Clause
+  pub has : Has table at (clausesWords list)
+  pub count : clauses ≡ i + length list
+  pub stand : ClausesStand s list
+  pub same : whole ≡ rest (suc i) list
+
+-- the first clause and the others
+pub record Turn (s table : List ℕ) (at i clauses : ℕ) (cs : List Clause) : Type 0 where
+  pub clause : ClauseAt s table at
+  pub left : List Clause
+  pub is : cs ≡ (clause .clause) ∷ left
+  pub has : Has table (at + length (clauseWords (clause .clause))) (clausesWords left)
+  pub count : clauses ≡ i + 1 + length left
+  pub stand : ClausesStand s left
+
+turn-by : (s table : List ℕ) (at i clauses : ℕ) (cs : List Clause) → i < clauses → Has table at (clausesWords cs) → clauses ≡ i + length cs → ClausesStand s cs → Turn s table at i clauses cs
+unfolding clausesWords
+turn-by s table at i clauses [] l h c k = absurd (omega arith)
+turn-by s table at i clauses (x ∷ cs) l h c (clause-stands k ks) = record {
+  clause = record { clause = x; has = has-left table at (clauseWords x) (clausesWords cs) h; stands = k };
+  left = cs;
+  is = refl;
+  has = has-right table at (clauseWords x) (clausesWords cs) h;
+  count = omega arith;
+  stand = ks;
+}
+
+over : (i clauses : ℕ) (cs : List Clause) → clauses ≤ i → clauses ≡ i + length cs → cs ≡ []
+over i clauses [] l c = refl
+over i clauses (x ∷ cs) l c = absurd (omega arith)
+
+pub begun : {s table : List ℕ} {clauses : ℕ} (rest : ℕ → List Clause → Option Refusal) (w : ClausesAt s table 0 clauses) → Ahead s table 0 0 clauses (rest 1 (w .list)) rest
+begun rest w = record { list = w .list; has = w .has; count = omega (arith, w .count); stand = w .stand; same = refl }
+
+module _ {s table : List ℕ} {at i clauses : ℕ} {whole : Option Refusal} {rest : ℕ → List Clause → Option Refusal} where
+  pub turn : i < clauses → (a : Ahead s table at i clauses whole rest) → Turn s table at i clauses (a .list)
+  turn l a = turn-by s table at i clauses (a .list) l (a .has) (a .count) (a .stand)
+
+  pub ended : clauses ≤ i → (a : Ahead s table at i clauses whole rest) → rest (suc i) [] ≡ none → Fine ≡ checkedOf whole
+  ended l a e = sym (ap checkedOf (a .same ∙ ap (rest (suc i)) (over i clauses (a .list) l (a .count)) ∙ e))
+
+  -- `one` is the fault of one clause
+  module _ (one : ℕ → Clause → Option Refusal)
+      (goes : (k : ℕ) (x : Clause) (xs : List Clause) → rest k (x ∷ xs) ≡ elim (one k x) as (λ _. Option Refusal) [ none ↦ rest (suc k) xs | some r ↦ some r ])
+      (l : i < clauses) (f : Checked) (ef : (w : ClauseAt s table at) → f ≡ checkedOf (one (i + 1) (w .clause))) where
+    here : (a : Ahead s table at i clauses whole rest) → f ≡ checkedOf (one (suc i) (turn l a .clause .clause))
+    here a = ef (turn l a .clause) ∙ ap (λ (k : ℕ). checkedOf (one k (turn l a .clause .clause))) (add-one i)
+
+    whole-is : (a : Ahead s table at i clauses whole rest)
+        → whole ≡ elim (one (suc i) (turn l a .clause .clause)) as (λ _. Option Refusal) [ none ↦ rest (suc (suc i)) (turn l a .left) | some r ↦ some r ]
+    whole-is a = a .same ∙ ap (rest (suc i)) (turn l a .is) ∙ goes (suc i) (turn l a .clause .clause) (turn l a .left)
+
+    pub clauses-stopped : isFault f ≡ true → (a : Ahead s table at i clauses whole rest) → f ≡ checkedOf whole
+    clauses-stopped t a =
+        fault-stays (one (suc i) (turn l a .clause .clause)) (rest (suc (suc i)) (turn l a .left)) f (here a) t ∙ sym (ap checkedOf (whole-is a))
+
+    pub clauses-on : isFault f ≡ false → (next : ℕ) → ((w : ClauseAt s table at) → next ≡ at + length (clauseWords (w .clause)))
+        → (a : Ahead s table at i clauses whole rest) → Ahead s table next (i + 1) clauses whole rest
+    clauses-on t next n a =
+        let z : Turn s table at i clauses (a .list) = turn l a in
+        record {
+          list = z .left;
+          has = subst⁻¹ (λ (k : ℕ). Has table k (clausesWords (z .left))) (n (z .clause)) (z .has);
+          count = omega (arith, z .count);
+          stand = z .stand;
+          same = whole-is a ∙ fine-goes (one (suc i) (z .clause .clause)) (rest (suc (suc i)) (z .left)) f (here a) t
+              ∙ ap (λ (k : ℕ). rest (suc k) (z .left)) (sym (add-one i));
+        }
+
+pub undeclared-none : (ds : List Declaration) (k : ℕ) → undeclaredClauses ds k [] ≡ none
+unfolding undeclaredClauses
+undeclared-none ds k = refl
+
+pub undeclared-goes : (ds : List Declaration) (k : ℕ) (x : Clause) (xs : List Clause)
+    → undeclaredClauses ds k (x ∷ xs) ≡ elim (undeclaredClause ds k x) as (λ _. Option Refusal) [ none ↦ undeclaredClauses ds (suc k) xs | some r ↦ some r ]
+unfolding undeclaredClauses
+undeclared-goes ds k x xs = refl
+
+pub faults-none : (ds : List Declaration) (k : ℕ) → clausesFault ds k [] ≡ none
+unfolding clausesFault
+faults-none ds k = refl
+
+pub faults-go : (ds : List Declaration) (k : ℕ) (x : Clause) (xs : List Clause)
+    → clausesFault ds k (x ∷ xs) ≡ elim (clauseFault ds k x) as (λ _. Option Refusal) [ none ↦ clausesFault ds (suc k) xs | some r ↦ some r ]
+unfolding clausesFault
+faults-go ds k x xs = refl
+
+-- ---- sheets and goals
+
+abbrev pub sheet-declarations : {s declared : List ℕ} {n : ℕ} {table : List ℕ} {cs : ℕ} → SheetAt s declared n table cs → DeclarationsAt s declared n
+sheet-declarations w = record { list = w .sheet .declarations; has = w .has-declarations; count = w .declarations-count; stand = w .stands .declarations }
+
+abbrev pub sheet-clauses : {s declared : List ℕ} {n : ℕ} {table : List ℕ} {cs : ℕ} → SheetAt s declared n table cs → ClausesAt s table 0 cs
+sheet-clauses w = record { list = w .sheet .clauses; has = w .has-clauses; count = w .clauses-count; stand = w .stands .clauses }
+
+module _ (s declared : List ℕ) (n : ℕ) (table : List ℕ) (cs : ℕ) (f : Checked)
+    (ef : (d : DeclarationsAt s declared n) (w : ClausesAt s table 0 cs) → f ≡ checkedOf (undeclaredClauses (d .list) 1 (w .list))) where
+  pub sheet-undeclared : isFault f ≡ true → (w : SheetAt s declared n table cs) → f ≡ checkedOf (sheetFault (w .sheet))
+  unfolding sheetFault undeclaredInSheet
+  sheet-undeclared t w =
+      fault-stays (undeclaredInSheet (w .sheet)) (clausesFault (w .sheet .declarations) 1 (w .sheet .clauses)) f (ef (sheet-declarations w) (sheet-clauses w)) t
+
+  pub sheet-faults : isFault f ≡ false → (r : Checked) → ((d : DeclarationsAt s declared n) (w : ClausesAt s table 0 cs) → r ≡ checkedOf (clausesFault (d .list) 1 (w .list)))
+      → (w : SheetAt s declared n table cs) → r ≡ checkedOf (sheetFault (w .sheet))
+  unfolding sheetFault undeclaredInSheet
+  sheet-faults t r h w =
+      h (sheet-declarations w) (sheet-clauses w)
+      ∙ sym (ap checkedOf (fine-goes (undeclaredInSheet (w .sheet)) (clausesFault (w .sheet .declarations) 1 (w .sheet .clauses)) f (ef (sheet-declarations w) (sheet-clauses w)) t))
+
+abbrev pub goal-declarations : {s declared : List ℕ} {n : ℕ} {g table : List ℕ} {literals : ℕ} → GoalAt s declared n g table literals → DeclarationsAt s declared n
+goal-declarations w = record { list = w .sheet .declarations; has = w .has-declarations; count = w .declarations-count; stand = w .declarations-stand }
+
+abbrev pub goal-body : {s declared : List ℕ} {n : ℕ} {g table : List ℕ} {literals : ℕ} → GoalAt s declared n g table literals → BodyAt g table 0 literals
+goal-body w = record { body = w .goal .body; has = w .has-body; count = w .literals-count; stands = w .stands }
+
+walked-fault : (f : Checked) (τ : Known) (x : Walk) → walkBy f τ ≡ x → f ≡ checkedOf (walkFault x)
+unfolding walkFault
+walked-fault Fine τ x e = ap (λ (z : Walk). checkedOf (walkFault z)) e
+walked-fault (Fault r) τ x e = ap (λ (z : Walk). checkedOf (walkFault z)) e
+
+module _ (s declared : List ℕ) (n : ℕ) (g table : List ℕ) (literals : ℕ) (f : Checked)
+    (ef : (d : DeclarationsAt s declared n) (w : BodyAt g table 0 literals) → f ≡ checkedOf (undeclaredBody (d .list) 0 1 (w .body))) where
+  pub goal-undeclared : isFault f ≡ true → (w : GoalAt s declared n g table literals) → f ≡ checkedOf (goalFault (w .sheet) (w .goal))
+  unfolding goalFault undeclaredInGoal
+  goal-undeclared t w =
+      fault-stays (undeclaredInGoal (w .sheet) (w .goal)) (walkFault (bodyFault (w .sheet .declarations) 0 1 nothing (w .goal .body))) f (ef (goal-declarations w) (goal-body w)) t
+
+  pub goal-walked : isFault f ≡ false → (r : Walked) → ((d : DeclarationsAt s declared n) (w : BodyAt g table 0 literals) → walkOf r ≡ bodyFault (d .list) 0 1 nothing (w .body))
+      → (w : GoalAt s declared n g table literals) → r .fault ≡ checkedOf (goalFault (w .sheet) (w .goal))
+  unfolding goalFault undeclaredInGoal
+  goal-walked t r h w =
+      walked-fault (r .fault) (r .known) _ (h (goal-declarations w) (goal-body w))
+      ∙ sym (ap checkedOf (fine-goes (undeclaredInGoal (w .sheet) (w .goal)) (walkFault (bodyFault (w .sheet .declarations) 0 1 nothing (w .goal .body))) f (ef (goal-declarations w) (goal-body w)) t))

@@ -1,0 +1,204 @@
+// Literals and bodies of a text `g`, by the declarations of a sheet `s`.
+use crate::Checked;
+use crate::VARIABLES;
+use crate::Walked;
+use crate::is_fault;
+use crate::marks::OUTPUT;
+use crate::marks::call_fault;
+use crate::marks::ground_marked;
+use crate::marks::marks_of;
+use crate::marks::undeclared_atom;
+use crate::table::past;
+use crate::table::word_at;
+use crate::terms::equate;
+ghost use mathlib.Core.Path.{_≡_};
+ghost use Prim.Native.Nat.{_+_, _≤_};
+ghost use lib.ListN.{length};
+ghost use Rattle.syntax.specs.Terms.{call};
+ghost use Rattle.syntax.specs.Words.{literalWords};
+ghost use Rattle.rules.specs.Modes.{undeclaredLiteral, undeclaredBody, bodyFault};
+ghost use Rattle.modes.specs.Tables.{DeclarationsAt, AtomAt, LiteralAt, BodyAt};
+ghost use Rattle.modes.specs.Answers.{checkedOf, walkOf, literalWalk};
+
+// The first words of literals.
+const TRUTH: usize = 0;
+
+const FALSITY: usize = 1;
+
+const CALL: usize = 2;
+
+// The place past a literal.
+fn past_literal(g: &[u8], table: &[u32], p: usize) -> usize
+    requires { ⌜ LiteralAt (now g) (now table) p ⌝ }
+    ensures { λ r. ⌜ ((w : LiteralAt (now (g .entry)) (now (table .entry)) p) → r ≡ p + length (literalWords (w .literal))) ⌝ }
+{
+    let kind = word_at(table, p);
+    let q = p + 1;
+    if kind < CALL {
+        return q;
+    }
+    let next = past(table, q);
+    if kind == CALL {
+        return next;
+    }
+    past(table, next)
+}
+
+// The fault of a literal that is a call without declaration.
+fn undeclared_literal(
+    s: &[u8],
+    declared: &[u32],
+    n: usize,
+    g: &[u8],
+    table: &[u32],
+    p: usize,
+    clause: usize,
+    literal: usize,
+) -> Checked
+    requires { ⌜ DeclarationsAt (now s) (now declared) n ⌝ }
+    requires { ⌜ LiteralAt (now g) (now table) p ⌝ }
+    ensures { λ r. ⌜ ((d : DeclarationsAt (now (s .entry)) (now (declared .entry)) n) (w : LiteralAt (now (g .entry)) (now (table .entry)) p) → r ≡ checkedOf (undeclaredLiteral (d .list) clause literal (w .literal))) ⌝ }
+{
+    if word_at(table, p) != CALL {
+        return Checked::Fine;
+    }
+    let q = p + 1;
+    undeclared_atom(s, declared, n, g, table, q, clause, literal)
+}
+
+// The first call of a body that has no declaration.
+pub fn undeclared_body(
+    s: &[u8],
+    declared: &[u32],
+    n: usize,
+    g: &[u8],
+    table: &[u32],
+    p: usize,
+    literals: usize,
+    clause: usize,
+) -> Checked
+    requires { ⌜ DeclarationsAt (now s) (now declared) n ⌝ }
+    requires { ⌜ BodyAt (now g) (now table) p literals ⌝ }
+    ensures { λ r. ⌜ ((d : DeclarationsAt (now (s .entry)) (now (declared .entry)) n) (w : BodyAt (now (g .entry)) (now (table .entry)) p literals) → r ≡ checkedOf (undeclaredBody (d .list) clause 1 (w .body))) ⌝ }
+{
+    let mut at = p;
+    let mut i = 0;
+    while i < literals {
+        let number = i + 1;
+        let fault = undeclared_literal(s, declared, n, g, table, at, clause, number);
+        if is_fault(fault) {
+            return fault;
+        }
+        at = past_literal(g, table, at);
+        i = number;
+    }
+    Checked::Fine
+}
+
+// A call: its fault, or what is known after it. The inputs are tested before the outputs give anything.
+fn call_walk(
+    s: &[u8],
+    declared: &[u32],
+    n: usize,
+    g: &[u8],
+    table: &[u32],
+    p: usize,
+    clause: usize,
+    literal: usize,
+    known: [bool; VARIABLES],
+) -> Walked
+    requires { ⌜ DeclarationsAt (now s) (now declared) n ⌝ }
+    requires { ⌜ AtomAt (now g) (now table) p ⌝ }
+    ensures { λ r. ⌜ ((d : DeclarationsAt (now (s .entry)) (now (declared .entry)) n) (w : AtomAt (now (g .entry)) (now (table .entry)) p) → walkOf r ≡ literalWalk (d .list) clause literal known (call (w .atom))) ⌝ }
+{
+    let marks = marks_of(s, declared, n, g, table, p);
+    let fault = call_fault(table, p, marks, known, clause, literal);
+    if is_fault(fault) {
+        return Walked { fault, known };
+    }
+    let from = p + 3;
+    let stop = past(table, p);
+    let after = ground_marked(table, from, stop, marks, OUTPUT, known);
+    Walked {
+        fault,
+        known: after,
+    }
+}
+
+// One literal: its fault, or what is known after it.
+fn literal_walk(
+    s: &[u8],
+    declared: &[u32],
+    n: usize,
+    g: &[u8],
+    table: &[u32],
+    p: usize,
+    clause: usize,
+    literal: usize,
+    known: [bool; VARIABLES],
+) -> Walked
+    requires { ⌜ DeclarationsAt (now s) (now declared) n ⌝ }
+    requires { ⌜ LiteralAt (now g) (now table) p ⌝ }
+    ensures { λ r. ⌜ ((d : DeclarationsAt (now (s .entry)) (now (declared .entry)) n) (w : LiteralAt (now (g .entry)) (now (table .entry)) p) → walkOf r ≡ literalWalk (d .list) clause literal known (w .literal)) ⌝ }
+{
+    let kind = word_at(table, p);
+    if kind == TRUTH {
+        return Walked {
+            fault: Checked::Fine,
+            known,
+        };
+    }
+    if kind == FALSITY {
+        return Walked {
+            fault: Checked::Fine,
+            known: [true; VARIABLES],
+        };
+    }
+    let q = p + 1;
+    if kind == CALL {
+        return call_walk(s, declared, n, g, table, q, clause, literal, known);
+    }
+    let right = past(table, q);
+    let after = equate(g, table, q, right, known);
+    Walked {
+        fault: Checked::Fine,
+        known: after,
+    }
+}
+
+// The literals of a body in turn: the first fault, or what is known after them.
+pub fn body_walk(
+    s: &[u8],
+    declared: &[u32],
+    n: usize,
+    g: &[u8],
+    table: &[u32],
+    p: usize,
+    literals: usize,
+    clause: usize,
+    known: [bool; VARIABLES],
+) -> Walked
+    requires { ⌜ DeclarationsAt (now s) (now declared) n ⌝ }
+    requires { ⌜ BodyAt (now g) (now table) p literals ⌝ }
+    ensures { λ r. ⌜ ((d : DeclarationsAt (now (s .entry)) (now (declared .entry)) n) (w : BodyAt (now (g .entry)) (now (table .entry)) p literals) → walkOf r ≡ bodyFault (d .list) clause 1 known (w .body)) ⌝ }
+{
+    let mut at = p;
+    let mut i = 0;
+    let mut flags = known;
+    while i < literals {
+        let number = i + 1;
+        let w = literal_walk(s, declared, n, g, table, at, clause, number, flags);
+        let fault = w.fault;
+        let after = w.known;
+        if is_fault(fault) {
+            return w;
+        }
+        flags = after;
+        at = past_literal(g, table, at);
+        i = number;
+    }
+    Walked {
+        fault: Checked::Fine,
+        known: flags,
+    }
+}

@@ -1,0 +1,126 @@
+// The clauses of a sheet `s`, by its declarations.
+use crate::Checked;
+use crate::VARIABLES;
+use crate::bodies::body_walk;
+use crate::bodies::undeclared_body;
+use crate::is_fault;
+use crate::marks::INPUT;
+use crate::marks::ground_marked;
+use crate::marks::head_fault;
+use crate::marks::marks_of;
+use crate::marks::undeclared_atom;
+use crate::table::past;
+use crate::table::word_at;
+ghost use mathlib.Core.Path.{_≡_};
+ghost use Prim.Native.Nat.{_+_};
+ghost use lib.ListN.{length};
+ghost use Rattle.syntax.specs.Words.{clauseWords};
+ghost use Rattle.rules.specs.Modes.{undeclaredClause, undeclaredClauses, clauseFault, clausesFault};
+ghost use Rattle.modes.specs.Tables.{DeclarationsAt, ClauseAt, ClausesAt};
+ghost use Rattle.modes.specs.Answers.{checkedOf};
+
+// The place past a clause.
+fn past_clause(s: &[u8], table: &[u32], p: usize) -> usize
+    requires { ⌜ ClauseAt (now s) (now table) p ⌝ }
+    ensures { λ r. ⌜ ((w : ClauseAt (now (s .entry)) (now (table .entry)) p) → r ≡ p + length (clauseWords (w .clause))) ⌝ }
+{
+    let size = word_at(table, p);
+    p + size
+}
+
+// The first of a clause's head and calls that has no declaration.
+fn undeclared_clause(
+    s: &[u8],
+    declared: &[u32],
+    n: usize,
+    table: &[u32],
+    p: usize,
+    clause: usize,
+) -> Checked
+    requires { ⌜ DeclarationsAt (now s) (now declared) n ⌝ }
+    requires { ⌜ ClauseAt (now s) (now table) p ⌝ }
+    ensures { λ r. ⌜ ((d : DeclarationsAt (now (s .entry)) (now (declared .entry)) n) (w : ClauseAt (now (s .entry)) (now (table .entry)) p) → r ≡ checkedOf (undeclaredClause (d .list) clause (w .clause))) ⌝ }
+{
+    let literals = word_at(table, p + 2);
+    let head = p + 3;
+    let fault = undeclared_atom(s, declared, n, s, table, head, clause, 0);
+    if is_fault(fault) {
+        return fault;
+    }
+    let first = past(table, head);
+    undeclared_body(s, declared, n, s, table, first, literals, clause)
+}
+
+// The first head or call of a sheet that has no declaration.
+pub fn undeclared_clauses(
+    s: &[u8],
+    declared: &[u32],
+    n: usize,
+    table: &[u32],
+    clauses: usize,
+) -> Checked
+    requires { ⌜ DeclarationsAt (now s) (now declared) n ⌝ }
+    requires { ⌜ ClausesAt (now s) (now table) 0 clauses ⌝ }
+    ensures { λ r. ⌜ ((d : DeclarationsAt (now (s .entry)) (now (declared .entry)) n) (w : ClausesAt (now (s .entry)) (now (table .entry)) 0 clauses) → r ≡ checkedOf (undeclaredClauses (d .list) 1 (w .list))) ⌝ }
+{
+    let mut at = 0;
+    let mut i = 0;
+    while i < clauses {
+        let number = i + 1;
+        let fault = undeclared_clause(s, declared, n, table, at, number);
+        if is_fault(fault) {
+            return fault;
+        }
+        at = past_clause(s, table, at);
+        i = number;
+    }
+    Checked::Fine
+}
+
+// One clause: the first fault along its body, then that of its head.
+fn clause_fault(
+    s: &[u8],
+    declared: &[u32],
+    n: usize,
+    table: &[u32],
+    p: usize,
+    clause: usize,
+) -> Checked
+    requires { ⌜ DeclarationsAt (now s) (now declared) n ⌝ }
+    requires { ⌜ ClauseAt (now s) (now table) p ⌝ }
+    ensures { λ r. ⌜ ((d : DeclarationsAt (now (s .entry)) (now (declared .entry)) n) (w : ClauseAt (now (s .entry)) (now (table .entry)) p) → r ≡ checkedOf (clauseFault (d .list) clause (w .clause))) ⌝ }
+{
+    let literals = word_at(table, p + 2);
+    let head = p + 3;
+    let marks = marks_of(s, declared, n, s, table, head);
+    let from = head + 3;
+    let first = past(table, head);
+    let start = ground_marked(table, from, first, marks, INPUT, [false; VARIABLES]);
+    let w = body_walk(s, declared, n, s, table, first, literals, clause, start);
+    let fault = w.fault;
+    if is_fault(fault) {
+        return fault;
+    }
+    let known = w.known;
+    head_fault(table, head, marks, known, clause)
+}
+
+// The first fault of the clauses in turn.
+pub fn clauses_fault(s: &[u8], declared: &[u32], n: usize, table: &[u32], clauses: usize) -> Checked
+    requires { ⌜ DeclarationsAt (now s) (now declared) n ⌝ }
+    requires { ⌜ ClausesAt (now s) (now table) 0 clauses ⌝ }
+    ensures { λ r. ⌜ ((d : DeclarationsAt (now (s .entry)) (now (declared .entry)) n) (w : ClausesAt (now (s .entry)) (now (table .entry)) 0 clauses) → r ≡ checkedOf (clausesFault (d .list) 1 (w .list))) ⌝ }
+{
+    let mut at = 0;
+    let mut i = 0;
+    while i < clauses {
+        let number = i + 1;
+        let fault = clause_fault(s, declared, n, table, at, number);
+        if is_fault(fault) {
+            return fault;
+        }
+        at = past_clause(s, table, at);
+        i = number;
+    }
+    Checked::Fine
+}

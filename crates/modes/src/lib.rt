@@ -1,0 +1,74 @@
+// The mode check: refusals 8 to 10 of document 01, over the tables of words that the parser fills. Document 01 is the paper "Rule sheets".
+mod bodies;
+mod clauses;
+pub mod marks;
+pub mod table;
+mod terms;
+
+use bodies::body_walk;
+use bodies::undeclared_body;
+use clauses::clauses_fault;
+use clauses::undeclared_clauses;
+use syntax::Refusal;
+ghost use mathlib.Core.Path.{_≡_};
+ghost use Rattle.rules.specs.Modes.{sheetFault, goalFault};
+ghost use Rattle.modes.specs.Tables.{SheetAt, GoalAt};
+ghost use Rattle.modes.specs.Answers.{checkedOf, isFault};
+
+// The most variables in a clause or goal.
+pub const VARIABLES: usize = 32;
+
+// No fault of those looked for, or the first one.
+pub enum Checked {
+    Fine,
+    Fault(Refusal),
+}
+
+// What a walk along a body gives: its first fault, or what is known ground after it, a flag for each variable number. An array by value is
+// the list of flags of the definitions, so that a store is their `set`.
+pub struct Walked {
+    pub fault: Checked,
+    pub known: [bool; VARIABLES],
+}
+
+// Whether there is a fault.
+pub fn is_fault(c: Checked) -> bool
+    ensures { λ r. ⌜ r ≡ isFault c ⌝ }
+{
+    match c {
+        Checked::Fine => false,
+        Checked::Fault(_) => true,
+    }
+}
+
+// Refusals 8 to 10 of a sheet whose `n` declarations and `cs` clauses stand in the tables.
+pub fn check_sheet(s: &[u8], declared: &[u32], n: usize, table: &[u32], cs: usize) -> Checked
+    requires { ⌜ SheetAt (now s) (now declared) n (now table) cs ⌝ }
+    ensures { λ r. ⌜ ((w : SheetAt (now (s .entry)) (now (declared .entry)) n (now (table .entry)) cs) → r ≡ checkedOf (sheetFault (w .sheet))) ⌝ }
+{
+    let fault = undeclared_clauses(s, declared, n, table, cs);
+    if is_fault(fault) {
+        return fault;
+    }
+    clauses_fault(s, declared, n, table, cs)
+}
+
+// Refusals 8 and 9 of a goal whose literals stand in the table, by the sheet's `n` declarations.
+pub fn check_goal(
+    s: &[u8],
+    declared: &[u32],
+    n: usize,
+    g: &[u8],
+    table: &[u32],
+    literals: usize,
+) -> Checked
+    requires { ⌜ GoalAt (now s) (now declared) n (now g) (now table) literals ⌝ }
+    ensures { λ r. ⌜ ((w : GoalAt (now (s .entry)) (now (declared .entry)) n (now (g .entry)) (now (table .entry)) literals) → r ≡ checkedOf (goalFault (w .sheet) (w .goal))) ⌝ }
+{
+    let fault = undeclared_body(s, declared, n, g, table, 0, literals, 0);
+    if is_fault(fault) {
+        return fault;
+    }
+    let w = body_walk(s, declared, n, g, table, 0, literals, 0, [false; VARIABLES]);
+    w.fault
+}

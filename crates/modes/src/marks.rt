@@ -1,0 +1,255 @@
+// The marks of a predicate, and the arguments that have one of them.
+use crate::Checked;
+use crate::VARIABLES;
+use crate::table::past;
+use crate::table::word_at;
+use crate::terms::NAMED;
+use crate::terms::ground_term;
+use crate::terms::is_ground;
+use syntax::Refusal;
+ghost use mathlib.Core.Path.{_≡_};
+ghost use mathlib.Core.Bool.{not, _&&_};
+ghost use Prim.Native.Nat.{_+_, _%_, _≤_};
+ghost use lib.Dec.{eqb};
+ghost use lib.ListN.{length};
+ghost use Rattle.syntax.specs.Tokens.{spelling};
+ghost use Rattle.syntax.specs.Terms.{arity, samePredicate, input, output};
+ghost use Rattle.syntax.specs.Words.{marksNumber};
+ghost use Rattle.rules.specs.Modes.{isGround, marksFor, listOf, firstFaulty, groundMarked, undeclaredAtom, openInput, openOutput};
+ghost use Rattle.modes.specs.Tables.{TermAt, DeclarationAt, DeclarationsAt, AtomAt, MarkedAt, JudgedAt};
+ghost use Rattle.modes.specs.Answers.{checkedOf, numberOr0, position};
+
+// The numbers of the marks + and -.
+pub const INPUT: usize = 1;
+
+pub const OUTPUT: usize = 2;
+
+// The words of a declaration: place and length of its name, number of marks, the marks.
+const ENTRY: usize = 4;
+
+// Whether the declaration at a place is of the predicate whose name is the part of `g` at `at`, `len` bytes long.
+fn declares(
+    s: &[u8],
+    declared: &[u32],
+    p: usize,
+    g: &[u8],
+    at: usize,
+    len: usize,
+    arguments: usize,
+) -> bool
+    requires { ⌜ DeclarationAt (now s) (now declared) p ⌝ }
+    requires { ⌜ at + len ≤ length (now g) ⌝ }
+    ensures { λ r. ⌜ ((w : DeclarationAt (now (s .entry)) (now (declared .entry)) p) → r ≡ samePredicate (w .declaration .name) (length (w .declaration .marks)) (spelling (now (g .entry)) at len) arguments) ⌝ }
+{
+    let count = word_at(declared, p + 2);
+    if count != arguments {
+        return false;
+    }
+    let bytes = word_at(declared, p + 1);
+    if bytes != len {
+        return false;
+    }
+    let place = word_at(declared, p);
+    lexer::same_bytes(s, place, g, at, len)
+}
+
+// The search for a predicate's declaration: which of the `n` it is, or `n` where there is none.
+pub fn find(
+    s: &[u8],
+    declared: &[u32],
+    n: usize,
+    g: &[u8],
+    at: usize,
+    len: usize,
+    arguments: usize,
+) -> usize
+    requires { ⌜ DeclarationsAt (now s) (now declared) n ⌝ }
+    requires { ⌜ at + len ≤ length (now g) ⌝ }
+    ensures { λ r. ⌜ ((w : DeclarationsAt (now (s .entry)) (now (declared .entry)) n) → r ≡ position (w .list) (spelling (now (g .entry)) at len) arguments) ⌝ }
+{
+    let mut i = 0;
+    while i < n {
+        let p = i * ENTRY;
+        if declares(s, declared, p, g, at, len, arguments) {
+            return i;
+        }
+        i += 1;
+    }
+    n
+}
+
+// The same for the predicate of the atom at a place.
+fn find_atom(s: &[u8], declared: &[u32], n: usize, g: &[u8], table: &[u32], p: usize) -> usize
+    requires { ⌜ DeclarationsAt (now s) (now declared) n ⌝ }
+    requires { ⌜ AtomAt (now g) (now table) p ⌝ }
+    ensures { λ r. ⌜ ((d : DeclarationsAt (now (s .entry)) (now (declared .entry)) n) (w : AtomAt (now (g .entry)) (now (table .entry)) p) → r ≡ position (d .list) (w .atom .name) (arity (w .atom .args))) ⌝ }
+{
+    let v = word_at(table, p);
+    let at = word_at(table, p + 2);
+    let len = (v - NAMED) % 32;
+    let arguments = (v - NAMED) / 32;
+    find(s, declared, n, g, at, len, arguments)
+}
+
+// The marks of the predicate of the atom at a place, in one number; 0 where it has no declaration.
+pub fn marks_of(s: &[u8], declared: &[u32], n: usize, g: &[u8], table: &[u32], p: usize) -> usize
+    requires { ⌜ DeclarationsAt (now s) (now declared) n ⌝ }
+    requires { ⌜ AtomAt (now g) (now table) p ⌝ }
+    ensures { λ r. ⌜ ((d : DeclarationsAt (now (s .entry)) (now (declared .entry)) n) (w : AtomAt (now (g .entry)) (now (table .entry)) p) → r ≡ marksNumber (marksFor (d .list) (w .atom))) ⌝ }
+{
+    let i = find_atom(s, declared, n, g, table, p);
+    if i < n {
+        let q = i * ENTRY + 3;
+        return word_at(declared, q);
+    }
+    0
+}
+
+// The fault of a head or call that has no declaration.
+pub fn undeclared_atom(
+    s: &[u8],
+    declared: &[u32],
+    n: usize,
+    g: &[u8],
+    table: &[u32],
+    p: usize,
+    clause: usize,
+    literal: usize,
+) -> Checked
+    requires { ⌜ DeclarationsAt (now s) (now declared) n ⌝ }
+    requires { ⌜ AtomAt (now g) (now table) p ⌝ }
+    ensures { λ r. ⌜ ((d : DeclarationsAt (now (s .entry)) (now (declared .entry)) n) (w : AtomAt (now (g .entry)) (now (table .entry)) p) → r ≡ checkedOf (undeclaredAtom (d .list) clause literal (w .atom))) ⌝ }
+{
+    let i = find_atom(s, declared, n, g, table, p);
+    if i < n {
+        return Checked::Fine;
+    }
+    let v = word_at(table, p);
+    let at = word_at(table, p + 2);
+    let len = (v - NAMED) % 32;
+    Checked::Fault(Refusal::Undeclared {
+        clause,
+        literal,
+        at,
+        len,
+    })
+}
+
+// Whether a term, whose mark is the lowest of `marks`, has the mark and is not ground.
+fn is_open(table: &[u32], p: usize, marks: usize, mark: usize, known: [bool; VARIABLES]) -> bool
+    requires { ⌜ TermAt (now table) p ⌝ }
+    ensures { λ r. ⌜ ((w : TermAt (now (table .entry)) p) → r ≡ (eqb (marks % 4) mark && not (isGround known (w .term)))) ⌝ }
+{
+    if marks % 4 != mark {
+        return false;
+    }
+    !is_ground(table, p, known)
+}
+
+// The number, counted from `number`, of the first of the terms up to a place that has the mark and is not ground; 0 where there is none.
+fn first_open(
+    table: &[u32],
+    p: usize,
+    stop: usize,
+    marks: usize,
+    mark: usize,
+    known: [bool; VARIABLES],
+    number: usize,
+) -> usize
+    requires { ⌜ MarkedAt (now table) p stop marks mark ⌝ }
+    requires { ⌜ number + stop ≤ length (now table) + p ⌝ }
+    ensures { λ r. ⌜ ((w : MarkedAt (now (table .entry)) p stop marks mark) → r ≡ numberOr0 (firstFaulty (w .wanted) (isGround known) (w .listed) (listOf (w .terms)) number)) ⌝ }
+{
+    if stop <= p {
+        return 0;
+    }
+    if is_open(table, p, marks, mark, known) {
+        return number;
+    }
+    let next = past(table, p);
+    let rest = marks / 4;
+    let more = number + 1;
+    first_open(table, next, stop, rest, mark, known, more)
+}
+
+// What is known once the variables of the terms up to a place that have the mark are ground.
+pub fn ground_marked(
+    table: &[u32],
+    p: usize,
+    stop: usize,
+    marks: usize,
+    mark: usize,
+    known: [bool; VARIABLES],
+) -> [bool; VARIABLES]
+    requires { ⌜ MarkedAt (now table) p stop marks mark ⌝ }
+    ensures { λ r. ⌜ ((w : MarkedAt (now (table .entry)) p stop marks mark) → r ≡ groundMarked (w .wanted) (w .listed) (listOf (w .terms)) known) ⌝ }
+{
+    if stop <= p {
+        return known;
+    }
+    let next = past(table, p);
+    let rest = marks / 4;
+    if marks % 4 == mark {
+        let after = ground_term(table, p, known);
+        return ground_marked(table, next, stop, rest, mark, after);
+    }
+    ground_marked(table, next, stop, rest, mark, known)
+}
+
+// The fault of a call, by its marks: the first + argument that is not ground.
+pub fn call_fault(
+    table: &[u32],
+    p: usize,
+    marks: usize,
+    known: [bool; VARIABLES],
+    clause: usize,
+    literal: usize,
+) -> Checked
+    requires { ⌜ JudgedAt (now table) p marks ⌝ }
+    ensures { λ r. ⌜ ((w : JudgedAt (now (table .entry)) p marks) → r ≡ checkedOf (openInput clause literal (w .atom) (firstFaulty input (isGround known) (w .listed) (listOf (w .atom .args)) 1))) ⌝ }
+{
+    let from = p + 3;
+    let stop = past(table, p);
+    let argument = first_open(table, from, stop, marks, INPUT, known, 1);
+    if argument == 0 {
+        return Checked::Fine;
+    }
+    let v = word_at(table, p);
+    let at = word_at(table, p + 2);
+    let len = (v - NAMED) % 32;
+    Checked::Fault(Refusal::OpenInput {
+        clause,
+        literal,
+        argument,
+        at,
+        len,
+    })
+}
+
+// The fault of a head after its body, by its marks: the first - argument that is not ground.
+pub fn head_fault(
+    table: &[u32],
+    p: usize,
+    marks: usize,
+    known: [bool; VARIABLES],
+    clause: usize,
+) -> Checked
+    requires { ⌜ JudgedAt (now table) p marks ⌝ }
+    ensures { λ r. ⌜ ((w : JudgedAt (now (table .entry)) p marks) → r ≡ checkedOf (openOutput clause (w .atom) (firstFaulty output (isGround known) (w .listed) (listOf (w .atom .args)) 1))) ⌝ }
+{
+    let from = p + 3;
+    let stop = past(table, p);
+    let argument = first_open(table, from, stop, marks, OUTPUT, known, 1);
+    if argument == 0 {
+        return Checked::Fine;
+    }
+    let v = word_at(table, p);
+    let at = word_at(table, p + 2);
+    let len = (v - NAMED) % 32;
+    Checked::Fault(Refusal::OpenOutput {
+        clause,
+        argument,
+        at,
+        len,
+    })
+}

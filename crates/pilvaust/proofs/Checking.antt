@@ -1,0 +1,175 @@
+-- Laws of checking a sheet and a goal: one for each way out of the functions. Assumes nothing.
+use Prim.Native.Nat.{ℕ}
+use native.Mathlib.Omega.{arith}
+use mathlib.Core.Path.{_≡_, refl, sym, ap, ap₂, _∙_, subst, subst⁻¹}
+use mathlib.Core.List.{List}
+use mathlib.Core.Option.{Option, none, some}
+use lib.ListN.{length}
+use Rattle.syntax.specs.Terms.{Sheet, Goal}
+use Rattle.syntax.specs.Words.{declarationsWords}
+use Rattle.syntax.specs.Verdicts.{Outcome, refused, accepted, sheetOf, sheetVerdict, readVerdict, goalOutcome, goalVerdict}
+use Rattle.syntax.specs.declared.Text.{Text}
+use Rattle.syntax.specs.declared.Text.the-variants.{Sheet as inSheet, Goal as inGoal}
+use Rattle.syntax.specs.declared.Refusal.{Refusal}
+use Rattle.syntax.specs.declared.Verdict.{Verdict}
+use Rattle.syntax.specs.declared.Verdict.the-variants.{Accepted, Refused}
+use Rattle.rules.specs.Modes.{sheetFault, goalFault}
+use Rattle.rules.specs.Checking.{faultless, checkedFrom, checkedSheet, checkVerdict, checkedGoalFrom, checkedGoal, goalAnswer, checkGoalFrom, checkGoalVerdict}
+use Rattle.modes.specs.Standing.{SheetStands, DeclarationsStand}
+use Rattle.modes.specs.Tables.{Has, SheetAt, GoalAt}
+use Rattle.modes.specs.Answers.{checkedOf}
+use Rattle.modes.specs.declared.Checked.{Checked}
+use Rattle.modes.specs.declared.Checked.the-variants.{Fine, Fault}
+use Rattle.pilvaust.specs.Tables.{Tabled, GoalStanding, GoalTabled, Over}
+use Rattle.pilvaust.specs.declared.GoalRead.{GoalRead}
+use Rattle.pilvaust.proofs.Laws.{never}
+use Rattle.pilvaust.proofs.Entries.{counted-sheet, refused-sheet}
+
+same : {A : Type 0} (a b : A) → _≡_ {A = Outcome A} (accepted a) (accepted b) → a ≡ b
+same a b e = cc
+
+-- no fault, or the fault, as the definition has it
+fine-none : (o : Option Refusal) → Fine ≡ checkedOf o → o ≡ none
+fine-none none e = refl
+fine-none (some r) e = absurd (let z : _≡_ {A = ℕ} 0 1 = cc in omega arith)
+
+fault-some : (o : Option Refusal) (q : Refusal) → Fault q ≡ checkedOf o → o ≡ some q
+fault-some none q e = absurd (let z : _≡_ {A = ℕ} 0 1 = cc in omega arith)
+fault-some (some r) q e = ap some (let z : r ≡ q = cc in z)
+
+-- ---- a sheet
+
+module _ (s declared table : List ℕ) (v : Verdict) (e : v ≡ readVerdict s) (holds : (sh : Sheet) → sheetOf s ≡ accepted sh → Tabled s declared table sh) where
+  pub checked-refused : (t : Text) (q : Refusal) → v ≡ Refused t q → (v ≡ checkVerdict s) × ((sh : Sheet) → checkedSheet s ≡ accepted sh → Tabled s declared table sh)
+  unfolding checkVerdict readVerdict checkedSheet checkedFrom
+  checked-refused t q f =
+      let o : (sheetOf s ≡ refused q) × (t ≡ inSheet) = refused-sheet s v t q e f in
+      let c : checkedFrom (sheetOf s) ≡ refused q = ap checkedFrom (o .0) in
+      (e ∙ ap sheetVerdict (o .0 ∙ sym c), λ sh a. absurd (never q sh (sym c ∙ a)))
+
+  module _ (n k : ℕ) (f : v ≡ Accepted n k) where
+    of : (sh : Sheet) × (sheetOf s ≡ accepted sh) × (n ≡ length (sh .declarations)) × (k ≡ length (sh .clauses))
+    of = counted-sheet s v n k e f
+
+    tabled : Tabled s declared table (of .0)
+    tabled = holds (of .0) (of .1)
+
+    pub sheet-stands-at : SheetAt s declared n table k
+    sheet-stands-at = record {
+      sheet = of .0;
+      has-declarations = subst (λ (x : Sheet). Has declared 0 (declarationsWords (x .declarations))) (tabled .is) (tabled .stands .has-declarations);
+      declarations-count = of .2;
+      has-clauses = subst (λ (x : Sheet). Has table 0 (Rattle.syntax.specs.Words.clausesWords (x .clauses))) (tabled .is) (tabled .stands .has-clauses);
+      clauses-count = of .3;
+      stands = subst (SheetStands s) (tabled .is) (tabled .stands .stands);
+    }
+
+    module _ (ck : Checked) (ec : (w : SheetAt s declared n table k) → ck ≡ checkedOf (sheetFault (w .sheet))) where
+      checked : ck ≡ checkedOf (sheetFault (of .0))
+      unfolding sheet-stands-at
+      checked = ec sheet-stands-at
+
+      pub checked-fine : ck ≡ Fine → (Accepted n k ≡ checkVerdict s) × ((sh : Sheet) → checkedSheet s ≡ accepted sh → Tabled s declared table sh)
+      unfolding checkVerdict readVerdict checkedSheet checkedFrom faultless
+      checked-fine g =
+          let c : checkedFrom (sheetOf s) ≡ accepted (of .0) = ap checkedFrom (of .1) ∙ ap (faultless (of .0)) (fine-none (sheetFault (of .0)) (sym g ∙ checked)) in
+          (sym f ∙ e ∙ ap sheetVerdict (of .1 ∙ sym c), λ sh a. subst (Tabled s declared table) (same (of .0) sh (sym c ∙ a)) tabled)
+
+      pub checked-fault : (q : Refusal) → ck ≡ Fault q → (u : Verdict) → u ≡ Refused inSheet q → (u ≡ checkVerdict s) × ((sh : Sheet) → checkedSheet s ≡ accepted sh → Tabled s declared table sh)
+      unfolding checkVerdict checkedSheet checkedFrom faultless sheetVerdict
+      checked-fault q g u h =
+          let c : checkedFrom (sheetOf s) ≡ refused q = ap checkedFrom (of .1) ∙ ap (faultless (of .0)) (fault-some (sheetFault (of .0)) q (sym g ∙ checked)) in
+          (h ∙ ap sheetVerdict (sym c), λ sh a. absurd (never q sh (sym c ∙ a)))
+
+-- ---- a goal over a sheet
+
+goal-refused-by : (o : Outcome Goal) (t : Text) (q : Refusal) → goalVerdict o ≡ Refused t q → (o ≡ refused q) × (t ≡ inGoal)
+unfolding goalVerdict
+goal-refused-by (refused r) t q e = (cc, cc)
+goal-refused-by (accepted g) t q e = absurd (let z : _≡_ {A = ℕ} 0 1 = cc in omega arith)
+
+goal-accepted-by : (o : Outcome Goal) (n k : ℕ) → goalVerdict o ≡ Accepted n k → (g : Goal) × (o ≡ accepted g)
+unfolding goalVerdict
+goal-accepted-by (refused r) n k e = absurd (let z : _≡_ {A = ℕ} 0 1 = cc in omega arith)
+goal-accepted-by (accepted g) n k e = (g, refl)
+
+module _ (s declared : List ℕ) (n k : ℕ) (g table : List ℕ) (r : GoalRead) (t : GoalTabled g table r) where
+  pub over-refused : (x : Text) (q : Refusal) → r .verdict ≡ Refused x q → (w : Over s declared n k) → r .verdict ≡ goalAnswer (w .sheet) (checkedGoal (w .sheet) g)
+  unfolding checkedGoal checkedGoalFrom goalAnswer
+  over-refused x q e w =
+      let o : (goalOutcome g ≡ refused q) × (x ≡ inGoal) = goal-refused-by (goalOutcome g) x q (sym (t .is) ∙ e) in
+      e ∙ ap (λ (y : Text). Refused y q) (o .1) ∙ sym (ap (λ (y : Outcome Goal). goalAnswer (w .sheet) (checkedGoalFrom (w .sheet) y)) (o .0))
+
+  module _ (a b : ℕ) (e : r .verdict ≡ Accepted a b) where
+    goal-of : (x : Goal) × (goalOutcome g ≡ accepted x)
+    goal-of = goal-accepted-by (goalOutcome g) a b (sym (t .is) ∙ e)
+
+    standing : GoalStanding g table (r .literals) (goal-of .0)
+    standing = t .holds (goal-of .0) (goal-of .1)
+
+    pub goal-stands-at : Over s declared n k → GoalAt s declared n g table (r .literals)
+    goal-stands-at w = record {
+      sheet = w .sheet;
+      goal = goal-of .0;
+      has-declarations = w .has;
+      declarations-count = w .count;
+      declarations-stand = w .stand;
+      has-body = standing .has;
+      literals-count = standing .count;
+      stands = standing .stands;
+    }
+
+    module _ (ck : Checked) (ec : (w : GoalAt s declared n g table (r .literals)) → ck ≡ checkedOf (goalFault (w .sheet) (w .goal))) where
+      checked-over : (w : Over s declared n k) → ck ≡ checkedOf (goalFault (w .sheet) (goal-of .0))
+      unfolding goal-stands-at
+      checked-over w = ec (goal-stands-at w)
+
+      pub over-fine : ck ≡ Fine → (w : Over s declared n k) → Accepted n k ≡ goalAnswer (w .sheet) (checkedGoal (w .sheet) g)
+      unfolding checkedGoal checkedGoalFrom goalAnswer faultless sheetVerdict
+      over-fine h w =
+          ap₂ Accepted (w .count) (w .clauses)
+          ∙ sym (ap (λ (y : Outcome Goal). goalAnswer (w .sheet) (checkedGoalFrom (w .sheet) y)) (goal-of .1) ∙ ap (λ (y : Option Refusal). goalAnswer (w .sheet) (faultless (goal-of .0) y)) (fine-none (goalFault (w .sheet) (goal-of .0)) (sym h ∙ checked-over w)))
+
+      pub over-fault : (q : Refusal) → ck ≡ Fault q → (w : Over s declared n k) → Refused inGoal q ≡ goalAnswer (w .sheet) (checkedGoal (w .sheet) g)
+      unfolding checkedGoal checkedGoalFrom goalAnswer faultless
+      over-fault q h w = sym (ap (λ (y : Outcome Goal). goalAnswer (w .sheet) (checkedGoalFrom (w .sheet) y)) (goal-of .1) ∙ ap (λ (y : Option Refusal). goalAnswer (w .sheet) (faultless (goal-of .0) y)) (fault-some (goalFault (w .sheet) (goal-of .0)) q (sym h ∙ checked-over w)))
+
+-- ---- both texts
+
+checked-refused-by : (o : Outcome Sheet) (t : Text) (q : Refusal) → sheetVerdict o ≡ Refused t q → (o ≡ refused q) × (t ≡ inSheet)
+unfolding sheetVerdict
+checked-refused-by (refused r) t q e = (cc, cc)
+checked-refused-by (accepted sh) t q e = absurd (let z : _≡_ {A = ℕ} 0 1 = cc in omega arith)
+
+checked-accepted-by : (o : Outcome Sheet) (n k : ℕ) → sheetVerdict o ≡ Accepted n k → (sh : Sheet) × (o ≡ accepted sh) × (n ≡ length (sh .declarations)) × (k ≡ length (sh .clauses))
+unfolding sheetVerdict
+checked-accepted-by (refused r) n k e = absurd (let z : _≡_ {A = ℕ} 0 1 = cc in omega arith)
+checked-accepted-by (accepted sh) n k e = (sh, refl, cc, cc)
+
+module _ (s declared table g : List ℕ) (v : Verdict) (e : v ≡ checkVerdict s) (holds : (sh : Sheet) → checkedSheet s ≡ accepted sh → Tabled s declared table sh) where
+  pub both-refused : (t : Text) (q : Refusal) → v ≡ Refused t q → v ≡ checkGoalVerdict s g
+  unfolding checkGoalVerdict checkVerdict checkGoalFrom
+  both-refused t q f =
+      let o : (checkedSheet s ≡ refused q) × (t ≡ inSheet) = checked-refused-by (checkedSheet s) t q (sym e ∙ f) in
+      f ∙ ap (λ (y : Text). Refused y q) (o .1) ∙ sym (ap (checkGoalFrom g) (o .0))
+
+  module _ (n k : ℕ) (f : v ≡ Accepted n k) where
+    checked-sheet : (sh : Sheet) × (checkedSheet s ≡ accepted sh) × (n ≡ length (sh .declarations)) × (k ≡ length (sh .clauses))
+    unfolding checkVerdict
+    checked-sheet = checked-accepted-by (checkedSheet s) n k (sym e ∙ f)
+
+    checked-tabled : Tabled s declared table (checked-sheet .0)
+    checked-tabled = holds (checked-sheet .0) (checked-sheet .1)
+
+    pub over-at : Over s declared n k
+    over-at = record {
+      sheet = checked-sheet .0;
+      has = subst (λ (x : Sheet). Has declared 0 (declarationsWords (x .declarations))) (checked-tabled .is) (checked-tabled .stands .has-declarations);
+      count = checked-sheet .2;
+      clauses = checked-sheet .3;
+      stand = subst (λ (x : Sheet). DeclarationsStand s (x .declarations)) (checked-tabled .is) (checked-tabled .stands .stands .declarations);
+    }
+
+    pub both-answered : (u : Verdict) → ((w : Over s declared n k) → u ≡ goalAnswer (w .sheet) (checkedGoal (w .sheet) g)) → u ≡ checkGoalVerdict s g
+    unfolding checkGoalVerdict checkGoalFrom over-at
+    both-answered u h = h over-at ∙ sym (ap (checkGoalFrom g) (checked-sheet .1))
