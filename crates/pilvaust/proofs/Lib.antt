@@ -1,3 +1,4 @@
 pub mod Laws
 pub mod Entries
 pub mod Checking
+pub mod Starred

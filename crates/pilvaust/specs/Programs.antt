@@ -1,0 +1,33 @@
+-- What the two programs print (document 01, "Two programs and what they print").
+use Prim.Native.Nat.{ℕ}
+use mathlib.Core.List.{List, [], _++_}
+use Rattle.syntax.specs.declared.Verdict.{Verdict}
+use Rattle.syntax.specs.declared.Verdict.the-variants.{Refused}
+use Rattle.lines.specs.Lines.{lineOf, reportLine}
+use Rattle.rules.specs.Checking.{checkVerdict, faultName}
+use Rattle.machine.specs.Runs.{Kind, Wanted, Done, Steps, Full, Deep, RunOutcome, stopped, ran, runOutcome}
+
+-- a verdict, with the name that it hands back of the two texts
+unfoldable pub verdictLine : List ℕ → List ℕ → Verdict → List ℕ
+verdictLine sheet goal v = lineOf v (faultName sheet goal v)
+
+-- the checker's output for a sheet
+unfoldable pub checker : List ℕ → List ℕ
+checker sheet = verdictLine sheet [] (checkVerdict sheet)
+
+-- the kinds in the order of the report's numbers
+unfoldable pub kindNumber : Kind → ℕ
+kindNumber Wanted = 0
+kindNumber Done = 1
+kindNumber Steps = 2
+kindNumber Full = 3
+kindNumber Deep = 4
+
+-- the answer lines and the report, or the refusal
+unfoldable pub runLines : List ℕ → List ℕ → RunOutcome → List ℕ
+runLines sheet goal (stopped text refusal) = verdictLine sheet goal (Refused text refusal)
+runLines sheet goal (ran report text) = text ++ reportLine (kindNumber (report .kind)) (report .answers) (report .steps)
+
+-- the runner's output for two files: 65,536 steps, 16 answers, 4,096 bytes
+unfoldable pub runner : List ℕ → List ℕ → List ℕ
+runner sheet goal = runLines sheet goal (runOutcome sheet goal 65536 16 4096)
