@@ -1,23 +1,18 @@
+-- `pilvaust::fault_of` meets its contract: each way out is a law of `Laws`. Assumes nothing.
 use borrow.Author.Needs.{needs}
 use Rattle.pilvaust.proofs.Laws.{fault-3, fault-4, fault-5, fault-6}
 use Rattle.pilvaust.proofs.fault_of.Statement.{statement}
 use Rattle.pilvaust.proofs.fault_of.Tie as tie
-use Rattle.pilvaust.proofs.fault_of.Reads as reads
-use Rattle.pilvaust.proofs.fault_of.Lts as lts
 
--- src/lib.rt:22:9
 returns : tie.Need-returns
 returns c = search (fault-3, needs)
 
--- src/lib.rt:25:9
 returns-2 : tie.Need-returns-2
 returns-2 c = search (fault-4, needs)
 
--- src/lib.rt:28:9
 returns-3 : tie.Need-returns-3
 returns-3 c = search (fault-5, needs)
 
--- src/lib.rt:18:1
 returns-4 : tie.Need-returns-4
 returns-4 c = search (fault-6, needs)
 

@@ -1,57 +1,42 @@
+-- `pilvaust::goal_over` meets its contract: each way out is a law of `Checking`. Assumes nothing.
 use Rattle.pilvaust.proofs.Checking.{over-refused, goal-stands-at, over-fine, over-fault}
 use borrow.Author.Needs.{needs}
 use Rattle.pilvaust.proofs.goal_over.Statement.{statement}
 use Rattle.pilvaust.proofs.goal_over.Tie as tie
-use Rattle.pilvaust.proofs.goal_over.Reads as reads
-use Rattle.pilvaust.proofs.goal_over.Lts as lts
-use Rattle.modes.proofs.check_goal.Reads as check-goal-reads
-use Rattle.pilvaust.proofs.load_goal.Reads as load-goal-reads
 
--- src/lib.rt:230:9
 load-goal-requires : tie.Need-load-goal-requires
 load-goal-requires c κs = search needs
 
--- src/lib.rt:237:14
 enum-told : tie.Need-enum-told
 enum-told c = search needs
 
--- src/lib.rt:242:69
 enum-told-2 : tie.Need-enum-told-2
 enum-told-2 c = search needs
 
--- src/lib.rt:242:17
 check-goal-requires : tie.Need-check-goal-requires
 check-goal-requires c κs = goal-stands-at (c .before .before .before .before .before .before .before .before .before .before .before .args .sheet .now) (c .before .before .before .before .before .before .before .before .before .before .before .args .declared .now) (c .before .before .before .before .before .before .before .before .before .before .before .args .n) (c .before .before .before .before .before .before .before .before .before .before .before .args .k) (c .before .before .before .before .before .before .before .before .before .before .before .args .goal .now) (c .before .before .before .before .before .load-goal .last .1 .0) (c .before .before .before .before .before .load-goal .result) (c .before .before .before .before .before .load-goal .ensures) (c .before .enum-told2 .given .0 .0) (c .before .enum-told2 .given .0 .1 .0) (c .before .enum-told2 .given .1) (c .before .before .before .before .before .before .before .before .before .before .before .pre .0)
 
--- src/lib.rt:244:34
 enum-told-3 : tie.Need-enum-told-3
 enum-told-3 c = search needs
 
--- src/lib.rt:248:32
 enum-known-fault : tie.Need-enum-known-fault
 enum-known-fault c = search needs
 
--- src/lib.rt:225:1
 same-length : tie.Need-same-length
 same-length c = search needs
 
--- src/lib.rt:225:1
 returns : tie.Need-returns
 returns c = λ w. over-refused (c .before .before .before .before .before .before .before .before .before .before .args .sheet .now) (c .before .before .before .before .before .before .before .before .before .before .args .declared .now) (c .before .before .before .before .before .before .before .before .before .before .args .n) (c .before .before .before .before .before .before .before .before .before .before .args .k) (c .before .before .before .before .before .before .before .before .before .before .args .goal .now) (c .before .before .before .before .load-goal .last .1 .0) (c .before .before .before .before .load-goal .result) (c .before .before .before .before .load-goal .ensures) (c .enum-told .given .0 .0) (c .enum-told .given .0 .1 .0) (c .enum-told .given .1) w
 
--- src/lib.rt:225:1
 same-length-2 : tie.Need-same-length-2
 same-length-2 c = search needs
 
--- src/lib.rt:225:1
 returns-2 : tie.Need-returns-2
 returns-2 c = λ w. over-fine (c .before .before .before .before .before .before .before .before .before .before .before .before .before .before .args .sheet .now) (c .before .before .before .before .before .before .before .before .before .before .before .before .before .before .args .declared .now) (c .before .before .before .before .before .before .before .before .before .before .before .before .before .before .args .n) (c .before .before .before .before .before .before .before .before .before .before .before .before .before .before .args .k) (c .before .before .before .before .before .before .before .before .before .before .before .before .before .before .args .goal .now) (c .before .before .before .before .before .before .before .before .load-goal .last .1 .0) (c .before .before .before .before .before .before .before .before .load-goal .result) (c .before .before .before .before .before .before .before .before .load-goal .ensures) (c .before .before .before .before .enum-told2 .given .0 .0) (c .before .before .before .before .enum-told2 .given .0 .1 .0) (c .before .before .before .before .enum-told2 .given .1) (c .before .before .check-goal .result) (c .before .before .check-goal .ensures) (c .enum-told3 .given .1) w
 
--- src/lib.rt:225:1
 same-length-3 : tie.Need-same-length-3
 same-length-3 c = search needs
 
--- src/lib.rt:225:1
 returns-3 : tie.Need-returns-3
 returns-3 c = λ w. over-fault (c .before .before .before .before .before .before .before .before .before .before .before .before .before .before .before .args .sheet .now) (c .before .before .before .before .before .before .before .before .before .before .before .before .before .before .before .args .declared .now) (c .before .before .before .before .before .before .before .before .before .before .before .before .before .before .before .args .n) (c .before .before .before .before .before .before .before .before .before .before .before .before .before .before .before .args .k) (c .before .before .before .before .before .before .before .before .before .before .before .before .before .before .before .args .goal .now) (c .before .before .before .before .before .before .before .before .before .load-goal .last .1 .0) (c .before .before .before .before .before .before .before .before .before .load-goal .result) (c .before .before .before .before .before .before .before .before .before .load-goal .ensures) (c .before .before .before .before .before .enum-told2 .given .0 .0) (c .before .before .before .before .before .enum-told2 .given .0 .1 .0) (c .before .before .before .before .before .enum-told2 .given .1) (c .before .before .before .check-goal .result) (c .before .before .before .check-goal .ensures) (c .before .fault .given .0 .0) (c .before .fault .given .1) w
 

@@ -1,74 +1,54 @@
+-- `pilvaust::load_checked` meets its contract: each way out is a law of `Checking`. Assumes nothing.
 use Rattle.pilvaust.proofs.Checking.{checked-refused, sheet-stands-at, checked-fine, checked-fault}
 use borrow.Author.Needs.{needs}
 use Rattle.pilvaust.proofs.load_checked.Statement.{statement}
 use Rattle.pilvaust.proofs.load_checked.Tie as tie
-use Rattle.pilvaust.proofs.load_checked.Reads as reads
-use Rattle.pilvaust.proofs.load_checked.Lts as lts
-use Rattle.modes.proofs.check_sheet.Reads as check-sheet-reads
-use Rattle.pilvaust.proofs.load.Reads as load-reads
-use Rattle.pilvaust.proofs.sheet_refused.Reads as sheet-refused-reads
 
--- src/lib.rt:196:9
 load-requires : tie.Need-load-requires
 load-requires c κs = search needs
 
--- src/lib.rt:201:14
 enum-told : tie.Need-enum-told
 enum-told c = search needs
 
--- src/lib.rt:203:13
 enum-known-v : tie.Need-enum-known-v
 enum-known-v c = search needs
 
--- src/lib.rt:206:17
 check-sheet-requires : tie.Need-check-sheet-requires
 check-sheet-requires c κs = sheet-stands-at (c .before .before .before .before .before .before .before .before .before .before .before .before .before .before .before .args .sheet .now) (c .before .before .before .before .before .before .before .before .before .load .last .1 .0) (c .before .before .before .before .before .before .before .before .before .load .last .1 .1 .0) (c .before .before .before .before .before .before .before .before .before .load .result) (c .before .before .before .before .before .before .before .before .before .load .ensures .0) (c .before .before .before .before .before .before .before .before .before .load .ensures .1) (c .before .before .before .v .given .0 .0) (c .before .before .before .v .given .0 .1 .0) (c .before .before .before .v .given .1)
 
--- src/lib.rt:208:34
 enum-told-2 : tie.Need-enum-told-2
 enum-told-2 c = search needs
 
--- src/lib.rt:209:32
 enum-known-fault : tie.Need-enum-known-fault
 enum-known-fault c = search needs
 
--- src/lib.rt:209:44
 sheet-refused-requires : tie.Need-sheet-refused-requires
 sheet-refused-requires c κs = search needs
 
--- src/lib.rt:191:1
 same-length : tie.Need-same-length
 same-length c = search needs
 
--- src/lib.rt:191:1
 same-length-2 : tie.Need-same-length-2
 same-length-2 c = search needs
 
--- src/lib.rt:191:1
 returns : tie.Need-returns
 returns c = checked-refused (c .before .before .before .before .before .before .before .before .before .before .before .before .args .sheet .now) (c .before .before .before .before .before .before .load .last .1 .0) (c .before .before .before .before .before .before .load .last .1 .1 .0) (c .before .before .before .before .before .before .load .result) (c .before .before .before .before .before .before .load .ensures .0) (c .before .before .before .before .before .before .load .ensures .1) (c .enum-told .given .0 .0) (c .enum-told .given .0 .1 .0) (c .enum-told .given .1)
 
--- src/lib.rt:191:1
 same-length-3 : tie.Need-same-length-3
 same-length-3 c = search needs
 
--- src/lib.rt:191:1
 same-length-4 : tie.Need-same-length-4
 same-length-4 c = search needs
 
--- src/lib.rt:191:1
 returns-2 : tie.Need-returns-2
 returns-2 c = checked-fine (c .before .before .before .before .before .before .before .before .before .before .before .before .before .before .before .before .before .before .args .sheet .now) (c .before .before .before .before .before .before .before .before .before .before .before .before .load .last .1 .0) (c .before .before .before .before .before .before .before .before .before .before .before .before .load .last .1 .1 .0) (c .before .before .before .before .before .before .before .before .before .before .before .before .load .result) (c .before .before .before .before .before .before .before .before .before .before .before .before .load .ensures .0) (c .before .before .before .before .before .before .before .before .before .before .before .before .load .ensures .1) (c .before .before .before .before .before .before .v .given .0 .0) (c .before .before .before .before .before .before .v .given .0 .1 .0) (c .before .before .before .before .before .before .v .given .1) (c .before .before .check-sheet .result) (c .before .before .check-sheet .ensures) (c .enum-told2 .given .1)
 
--- src/lib.rt:191:1
 same-length-5 : tie.Need-same-length-5
 same-length-5 c = search needs
 
--- src/lib.rt:191:1
 same-length-6 : tie.Need-same-length-6
 same-length-6 c = search needs
 
--- src/lib.rt:191:1
 returns-3 : tie.Need-returns-3
 returns-3 c = checked-fault (c .before .before .before .before .before .before .before .before .before .before .before .before .before .before .before .before .before .before .before .before .args .sheet .now) (c .before .before .before .before .before .before .before .before .before .before .before .before .before .before .load .last .1 .0) (c .before .before .before .before .before .before .before .before .before .before .before .before .before .before .load .last .1 .1 .0) (c .before .before .before .before .before .before .before .before .before .before .before .before .before .before .load .result) (c .before .before .before .before .before .before .before .before .before .before .before .before .before .before .load .ensures .0) (c .before .before .before .before .before .before .before .before .before .before .before .before .before .before .load .ensures .1) (c .before .before .before .before .before .before .before .before .v .given .0 .0) (c .before .before .before .before .before .before .before .before .v .given .0 .1 .0) (c .before .before .before .before .before .before .before .before .v .given .1) (c .before .before .before .before .check-sheet .result) (c .before .before .before .before .check-sheet .ensures) (c .before .before .fault .given .0 .0) (c .before .before .fault .given .1) (c .sheet-refused .result) (c .sheet-refused .ensures)
 

@@ -1,46 +1,33 @@
+-- `pilvaust::load_goal` meets its contract: each way out is a law of `Entries`. Assumes nothing.
 use Rattle.pilvaust.proofs.Entries.{goal-long, goal-faults, goal-accepted}
 use borrow.Author.Needs.{needs}
 use Rattle.pilvaust.proofs.load_goal.Statement.{statement}
 use Rattle.pilvaust.proofs.load_goal.Tie as tie
-use Rattle.pilvaust.proofs.load_goal.Reads as reads
-use Rattle.pilvaust.proofs.load_goal.Lts as lts
-use Rattle.parser.proofs.sheets.read_goal.Reads as read-goal-reads
-use Rattle.pilvaust.proofs.fault_of.Reads as fault-of-reads
-use Rattle.pilvaust.proofs.goal_refused.Reads as goal-refused-reads
 
--- src/lib.rt:109:9
 goal-refused-requires : tie.Need-goal-refused-requires
 goal-refused-requires c κs = search needs
 
--- src/lib.rt:109:9
 returns : tie.Need-returns
 returns c = goal-long (c .before .before .before .before .args .goal .now) (c .before .before .before .before .args .table .now) (c .goal-refused .result) (c .before .if1 .taken) (c .goal-refused .ensures)
 
--- src/lib.rt:111:9
 read-goal-requires : tie.Need-read-goal-requires
 read-goal-requires c κs = search needs
 
--- src/lib.rt:117:29
 fault-of-requires : tie.Need-fault-of-requires
 fault-of-requires c κs = search needs
 
--- src/lib.rt:117:9
 goal-refused-requires-2 : tie.Need-goal-refused-requires-2
 goal-refused-requires-2 c κs = search needs
 
--- src/lib.rt:117:9
 same-length : tie.Need-same-length
 same-length c = search needs
 
--- src/lib.rt:117:9
 returns-2 : tie.Need-returns-2
 returns-2 c = goal-faults (c .before .before .before .before .before .before .before .before .before .before .before .before .args .goal .now) (c .before .before .before .before .before .before .before .read-goal .last .1 .0) (c .before .before .before .before .before .before .before .read-goal .result) (c .before .before .before .before .before .before .before .before .before .if1 .left) (c .before .before .before .before .before .before .before .read-goal .ensures) (c .before .before .before .before .if2 .taken) (c .before .fault-of .result) (c .goal-refused2 .result) (c .before .fault-of .ensures) (c .goal-refused2 .ensures)
 
--- src/lib.rt:104:1
 same-length-2 : tie.Need-same-length-2
 same-length-2 c = search needs
 
--- src/lib.rt:104:1
 returns-3 : tie.Need-returns-3
 returns-3 c = goal-accepted (c .before .before .before .before .before .before .before .before .args .goal .now) (c .before .before .before .read-goal .last .1 .0) (c .before .before .before .read-goal .result) (c .before .before .before .before .before .if1 .left) (c .before .before .before .read-goal .ensures) (c .if2 .left)
 

@@ -1,7 +1,7 @@
+-- `repeats::first_repeat` meets its contract: each way out is a law of `Laws`. Assumes nothing.
 use Prim.Native.Nat.{_-_, _≤_}
 use mathlib.Core.Path.{_≡_, refl}
 use mathlib.Core.List.{[]}
-use borrow.Author.Needs.{needs}
 use native.Mathlib.Omega.{arith}
 use lib.ListN.{take, drop}
 use Rattle.syntax.specs.Reading.{firstRepeat}
@@ -9,10 +9,6 @@ use Rattle.modes.specs.Tables.{DeclarationsAt}
 use Rattle.repeats.proofs.Laws.{place-in, found-here, not-here, none-left}
 use Rattle.repeats.proofs.first_repeat.Statement.{statement}
 use Rattle.repeats.proofs.first_repeat.Tie as tie
-use Rattle.repeats.proofs.first_repeat.Reads as reads
-use Rattle.repeats.proofs.first_repeat.Lts as lts
-use Rattle.modes.proofs.table.word_at.Reads as word-at-reads
-use Rattle.repeats.proofs.is_repeat.Reads as is-repeat-reads
 
 abbrev Inv-loop : tie.InvT-loop
 Inv-loop s declared n i₀ i = (i ≤ n) × ((w : DeclarationsAt s declared n) → firstRepeat [] (w .list) ≡ firstRepeat (take i (w .list)) (drop i (w .list)))
@@ -20,39 +16,30 @@ Inv-loop s declared n i₀ i = (i ≤ n) × ((w : DeclarationsAt s declared n) �
 abbrev μ-loop : tie.MeasureT-loop
 μ-loop s declared n i₀ i = n - i
 
--- src/lib.rt:54:5
 loop-holds : tie.Need-loop-holds Inv-loop μ-loop
 loop-holds c = (omega arith, λ w. refl)
 
--- src/lib.rt:55:12
 is-repeat-requires : tie.Need-is-repeat-requires Inv-loop μ-loop
 is-repeat-requires c κs = (c .before .before .before .before .pre, c .loop-test .taken)
 
--- src/lib.rt:56:42
 mul-word-at : tie.Need-mul-word-at Inv-loop μ-loop
 mul-word-at c = omega (arith, place-in (c .before .before .before .before .before .before .args .s .now) (c .before .before .before .before .before .before .args .declared .now) (c .before .before .before .before .before .before .args .n) (c .before .before .before .before .before .before .pre) (c .before .before .before .loop .i) (c .before .before .loop-test .taken), c .before .before .before .before .before .before .good .1 .0)
 
--- src/lib.rt:56:17
 word-at-requires : tie.Need-word-at-requires Inv-loop μ-loop
 word-at-requires c κs = omega (arith, place-in (c .before .before .before .before .before .before .args .s .now) (c .before .before .before .before .before .before .args .declared .now) (c .before .before .before .before .before .before .args .n) (c .before .before .before .before .before .before .pre) (c .before .before .before .loop .i) (c .before .before .loop-test .taken))
 
--- src/lib.rt:57:13
 returns : tie.Need-returns Inv-loop μ-loop
 returns c = λ w. found-here (c .before .before .before .before .before .before .before .args .s .now) (c .before .before .before .before .before .before .before .args .declared .now) (c .before .before .before .before .before .before .before .args .n) w (c .before .before .before .before .loop .i) (c .before .before .before .loop-test .taken) (c .before .before .before .before .loop .inv .1 w) (c .before .before .is-repeat .result) (c .word-at .result) (c .before .before .is-repeat .ensures w) (c .before .if1 .taken) (c .word-at .ensures)
 
--- src/lib.rt:62:9
 add-i : tie.Need-add-i Inv-loop μ-loop
 add-i c = omega arith
 
--- src/lib.rt:54:5
 loop-less : tie.Need-loop-less Inv-loop μ-loop
 loop-less c = omega arith
 
--- src/lib.rt:54:5
 loop-again : tie.Need-loop-again Inv-loop μ-loop
 loop-again c = (omega arith, λ w. not-here (c .before .before .before .before .before .before .args .s .now) (c .before .before .before .before .before .before .args .declared .now) (c .before .before .before .before .before .before .args .n) w (c .before .before .before .loop .i) (c .before .before .loop-test .taken) (c .before .before .before .loop .inv .1 w) (c .before .is-repeat .result) (c .before .is-repeat .ensures w) (c .if1 .left))
 
--- src/lib.rt:49:1
 returns-2 : tie.Need-returns-2 Inv-loop μ-loop
 returns-2 c = λ w. none-left (c .before .before .before .before .args .s .now) (c .before .before .before .before .args .declared .now) (c .before .before .before .before .args .n) w (c .before .loop .i) (c .loop-test .left) (c .before .loop .inv .1 w)
 

@@ -1,88 +1,67 @@
+-- `syntax::numbers` meets its contract. Assumes nothing.
 use mathlib.Core.Path.{sym, ap}
 use borrow.Author.Needs.{needs}
 use Rattle.syntax.specs.Refusals.{numbersOf}
 use Rattle.syntax.proofs.numbers.Statement.{statement}
 use Rattle.syntax.proofs.numbers.Tie as tie
-use Rattle.syntax.proofs.numbers.Reads as reads
-use Rattle.syntax.proofs.numbers.Lts as lts
 
--- src/lib.rt:121:30
 enum-told : tie.Need-enum-told
 enum-told c = search needs
 
--- src/lib.rt:128:29
 enum-told-2 : tie.Need-enum-told-2
 enum-told-2 c = search needs
 
--- src/lib.rt:135:26
 enum-known-refusal : tie.Need-enum-known-refusal
 enum-known-refusal c = search needs
 
--- src/lib.rt:142:27
 enum-known-refusal-2 : tie.Need-enum-known-refusal-2
 enum-known-refusal-2 c = search needs
 
--- src/lib.rt:149:28
 enum-known-refusal-3 : tie.Need-enum-known-refusal-3
 enum-known-refusal-3 c = search needs
 
--- src/lib.rt:156:28
 enum-known-refusal-4 : tie.Need-enum-known-refusal-4
 enum-known-refusal-4 c = search needs
 
--- src/lib.rt:163:27
 enum-known-refusal-5 : tie.Need-enum-known-refusal-5
 enum-known-refusal-5 c = search needs
 
--- src/lib.rt:171:13
 enum-known-refusal-6 : tie.Need-enum-known-refusal-6
 enum-known-refusal-6 c = search needs
 
--- src/lib.rt:183:13
 enum-known-refusal-7 : tie.Need-enum-known-refusal-7
 enum-known-refusal-7 c = search needs
 
--- src/lib.rt:196:13
 enum-known-refusal-8 : tie.Need-enum-known-refusal-8
 enum-known-refusal-8 c = search needs
 
--- src/lib.rt:117:1
 returns : tie.Need-returns
 returns c = sym (ap numbersOf (c .enum-told .given .1))
 
--- src/lib.rt:117:1
 returns-2 : tie.Need-returns-2
 returns-2 c = sym (ap numbersOf (c .enum-told2 .given .1))
 
--- src/lib.rt:117:1
 returns-3 : tie.Need-returns-3
 returns-3 c = sym (ap numbersOf (c .before .refusal .given .1))
 
--- src/lib.rt:117:1
 returns-4 : tie.Need-returns-4
 returns-4 c = sym (ap numbersOf (c .before .refusal2 .given .1))
 
--- src/lib.rt:117:1
 returns-5 : tie.Need-returns-5
 returns-5 c = sym (ap numbersOf (c .before .refusal3 .given .1))
 
--- src/lib.rt:117:1
 returns-6 : tie.Need-returns-6
 returns-6 c = sym (ap numbersOf (c .before .refusal4 .given .1))
 
--- src/lib.rt:117:1
 returns-7 : tie.Need-returns-7
 returns-7 c = sym (ap numbersOf (c .before .refusal5 .given .1))
 
--- src/lib.rt:117:1
 returns-8 : tie.Need-returns-8
 returns-8 c = sym (ap numbersOf (c .before .refusal6 .given .1))
 
--- src/lib.rt:117:1
 returns-9 : tie.Need-returns-9
 returns-9 c = sym (ap numbersOf (c .before .refusal7 .given .1))
 
--- src/lib.rt:117:1
 returns-10 : tie.Need-returns-10
 returns-10 c = sym (ap numbersOf (c .before .refusal8 .given .1))
 

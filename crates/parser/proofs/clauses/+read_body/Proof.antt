@@ -1,3 +1,4 @@
+-- `parser::clauses::read_body` meet its contract: each way out is a law of `BodyLaws`. Assumes nothing.
 use borrow.Author.Needs.{needs}
 use native.Mathlib.Omega.{arith}
 use Rattle.parser.proofs.BodyLaws.{body-full, body-fault, body-standing, body-ready, body-few, body-more, body-last, body-wrong}
@@ -25,7 +26,6 @@ abbrev read-body-below : ℕ → In 2 read-body-kinds.ps
 read-body-below t =
     and 2 read-body-kinds.ps (falls 2 read-body-kinds.ps _<_ μ-read-body t) read-body.Pre
 
--- src/clauses.rt:142:9
 read-body-full-requires : (t : ℕ) → read-body-lts.Need-full-requires (
   full-reads.Asked,
   full-reads.Learnt,
@@ -42,7 +42,6 @@ read-body-full-requires : (t : ℕ) → read-body-lts.Need-full-requires (
 ) (read-body-at t) read-body.Post
 read-body-full-requires t c κs = search needs
 
--- src/clauses.rt:142:9
 read-body-returns : (t : ℕ) → read-body-lts.Need-returns (
   full-reads.Asked,
   full-reads.Learnt,
@@ -59,7 +58,6 @@ read-body-returns : (t : ℕ) → read-body-lts.Need-returns (
 ) (read-body-at t) read-body.Post
 read-body-returns t c = body-full (c .before .before .before .before .args .s .now) (c .before .before .before .before .args .k) (c .before .before .before .before .args .st) (c .before .before .before .before .args .table .now) (c .before .before .before .before .args .n) (c .full .result) (c .before .if1 .taken) (c .full .ensures)
 
--- src/clauses.rt:144:9
 read-body-read-literal-requires : (t : ℕ) → read-body-lts.Need-read-literal-requires (
   full-reads.Asked,
   full-reads.Learnt,
@@ -76,7 +74,6 @@ read-body-read-literal-requires : (t : ℕ) → read-body-lts.Need-read-literal-
 ) (read-body-at t) read-body.Post
 read-body-read-literal-requires t c κs = search needs
 
--- src/clauses.rt:146:9
 read-body-same-length : (t : ℕ) → read-body-lts.Need-same-length (
   full-reads.Asked,
   full-reads.Learnt,
@@ -93,7 +90,6 @@ read-body-same-length : (t : ℕ) → read-body-lts.Need-same-length (
 ) (read-body-at t) read-body.Post
 read-body-same-length t c = search needs
 
--- src/clauses.rt:146:9
 read-body-returns-2 : (t : ℕ) → read-body-lts.Need-returns-2 (
   full-reads.Asked,
   full-reads.Learnt,
@@ -110,7 +106,6 @@ read-body-returns-2 : (t : ℕ) → read-body-lts.Need-returns-2 (
 ) (read-body-at t) read-body.Post
 read-body-returns-2 t c = body-fault (c .before .before .before .before .before .before .before .before .before .args .s .now) (c .before .before .before .before .before .before .before .before .before .args .k) (c .before .before .before .before .before .before .before .before .before .args .st) (c .before .before .before .before .before .before .before .before .before .args .table .now) (c .before .before .before .before .read-literal .last .1 .1 .0) (c .before .before .before .before .before .before .before .before .before .args .n) (c .before .before .before .before .read-literal .result) (c .before .before .before .before .before .before .before .before .before .pre .1) (c .before .before .before .before .before .before .if1 .left) (c .before .before .before .before .read-literal .ensures) (c .if2 .taken)
 
--- src/clauses.rt:153:13
 read-body-next-requires : (t : ℕ) → read-body-lts.Need-next-requires (
   full-reads.Asked,
   full-reads.Learnt,
@@ -127,7 +122,6 @@ read-body-next-requires : (t : ℕ) → read-body-lts.Need-next-requires (
 ) (read-body-at t) read-body.Post
 read-body-next-requires t c κs = body-standing (c .before .before .before .before .before .before .before .before .before .before .before .before .args .s .now) (c .before .before .before .before .before .before .before .before .before .before .before .before .args .k) (c .before .before .before .before .before .before .before .before .before .before .before .before .args .st) (c .before .before .before .before .before .before .before .before .before .before .before .before .args .table .now) (c .before .before .before .before .before .before .before .read-literal .last .1 .1 .0) (c .before .before .before .before .before .before .before .before .before .before .before .before .args .n) (c .before .before .before .before .before .before .before .read-literal .result) (c .before .before .before .before .before .before .before .before .before .before .before .before .pre .1) (c .before .before .before .before .before .before .before .before .before .if1 .left) (c .before .before .before .before .before .before .before .read-literal .ensures) (c .before .before .before .if2 .left)
 
--- src/clauses.rt:154:21
 read-body-sub-fewer : (t : ℕ) → read-body-lts.Need-sub-fewer (
   full-reads.Asked,
   full-reads.Learnt,
@@ -144,7 +138,6 @@ read-body-sub-fewer : (t : ℕ) → read-body-lts.Need-sub-fewer (
 ) (read-body-at t) read-body.Post
 read-body-sub-fewer t c = omega arith
 
--- src/clauses.rt:155:13
 read-body-read-body-requires : (t : ℕ) → read-body-lts.Need-read-body-requires (
   full-reads.Asked,
   full-reads.Learnt,
@@ -161,7 +154,6 @@ read-body-read-body-requires : (t : ℕ) → read-body-lts.Need-read-body-requir
 ) (read-body-at t) read-body.Post
 read-body-read-body-requires t c κs = (omega arith, body-ready (c .before .before .before .before .before .before .before .before .before .before .before .before .before .before .args .s .now) (c .before .before .before .before .before .before .before .before .before .before .before .before .before .before .args .k) (c .before .before .before .before .before .before .before .before .before .before .before .before .before .before .args .st) (c .before .before .before .before .before .before .before .before .before .before .before .before .before .before .args .table .now) (c .before .before .before .before .before .before .before .before .before .read-literal .last .1 .1 .0) (c .before .before .before .before .before .before .before .before .before .before .before .before .before .before .args .n) (c .before .before .before .before .before .before .before .before .before .read-literal .result) (c .before .before .before .before .before .before .before .before .before .before .before .before .before .before .pre .1) (c .before .before .before .before .before .before .before .before .before .before .before .if1 .left) (c .before .before .before .before .before .before .before .before .before .read-literal .ensures) (c .before .before .before .before .before .if2 .left) (c .before .next .result) (c .before .next .ensures) (c .before .before .before .before .before .before .before .before .before .read-literal .kept .1 .1 .0))
 
--- src/clauses.rt:156:9
 read-body-counted-requires : (t : ℕ) → read-body-lts.Need-counted-requires (
   full-reads.Asked,
   full-reads.Learnt,
@@ -178,7 +170,6 @@ read-body-counted-requires : (t : ℕ) → read-body-lts.Need-counted-requires (
 ) (read-body-at t) read-body.Post
 read-body-counted-requires t c κs = body-few (c .before .before .before .before .before .before .before .before .before .before .before .before .before .before .before .before .before .args .s .now) (c .before .before .before .before .before .before .before .before .before .before .before .before .before .before .before .before .before .args .k) (c .before .before .before .before .before .before .before .before .before .before .before .before .before .before .before .before .before .args .st) (c .before .before .before .before .before .before .before .before .before .before .before .before .before .before .before .before .before .args .table .now) (c .before .before .before .before .before .before .before .before .before .before .before .before .read-literal .last .1 .1 .0) (c .before .before .before .before .before .before .before .before .before .before .before .before .before .before .before .before .before .args .n) (c .before .before .before .before .before .before .before .before .before .before .before .before .read-literal .result) (c .before .before .before .before .before .before .before .before .before .before .before .before .before .before .before .before .before .pre .1) (c .before .before .before .before .before .before .before .before .before .before .before .before .before .before .if1 .left) (c .before .before .before .before .before .before .before .before .before .before .before .before .read-literal .ensures) (c .before .before .before .before .before .before .before .before .if2 .left) (c .before .before .read-body .last .1 .1 .1 .0) (c .before .before .before .before .next .result) (c .before .before .read-body .result) (c .before .before .before .before .next .ensures) (c .before .before .read-body .ensures)
 
--- src/clauses.rt:156:9
 read-body-same-length-2 : (t : ℕ) → read-body-lts.Need-same-length-2 (
   full-reads.Asked,
   full-reads.Learnt,
@@ -195,7 +186,6 @@ read-body-same-length-2 : (t : ℕ) → read-body-lts.Need-same-length-2 (
 ) (read-body-at t) read-body.Post
 read-body-same-length-2 t c = search needs
 
--- src/clauses.rt:156:9
 read-body-returns-3 : (t : ℕ) → read-body-lts.Need-returns-3 (
   full-reads.Asked,
   full-reads.Learnt,
@@ -212,7 +202,6 @@ read-body-returns-3 : (t : ℕ) → read-body-lts.Need-returns-3 (
 ) (read-body-at t) read-body.Post
 read-body-returns-3 t c = body-more (c .before .before .before .before .before .before .before .before .before .before .before .before .before .before .before .before .before .before .args .s .now) (c .before .before .before .before .before .before .before .before .before .before .before .before .before .before .before .before .before .before .args .k) (c .before .before .before .before .before .before .before .before .before .before .before .before .before .before .before .before .before .before .args .st) (c .before .before .before .before .before .before .before .before .before .before .before .before .before .before .before .before .before .before .args .table .now) (c .before .before .before .before .before .before .before .before .before .before .before .before .before .read-literal .last .1 .1 .0) (c .before .before .before .before .before .before .before .before .before .before .before .before .before .before .before .before .before .before .args .n) (c .before .before .before .before .before .before .before .before .before .before .before .before .before .read-literal .result) (c .before .before .before .before .before .before .before .before .before .before .before .before .before .before .before .before .before .before .pre .1) (c .before .before .before .before .before .before .before .before .before .before .before .before .before .before .before .if1 .left) (c .before .before .before .before .before .before .before .before .before .before .before .before .before .read-literal .ensures) (c .before .before .before .before .before .before .before .before .before .if2 .left) (c .before .before .before .read-body .last .1 .1 .1 .0) (c .before .before .before .before .before .next .result) (c .before .before .before .read-body .result) (c .counted .result) (c .before .before .before .before .before .before .if3 .taken) (c .before .before .before .before .before .next .ensures) (c .before .before .before .read-body .ensures) (c .counted .ensures)
 
--- src/clauses.rt:159:13
 read-body-next-requires-2 : (t : ℕ) → read-body-lts.Need-next-requires-2 (
   full-reads.Asked,
   full-reads.Learnt,
@@ -229,7 +218,6 @@ read-body-next-requires-2 : (t : ℕ) → read-body-lts.Need-next-requires-2 (
 ) (read-body-at t) read-body.Post
 read-body-next-requires-2 t c κs = body-standing (c .before .before .before .before .before .before .before .before .before .before .before .before .before .args .s .now) (c .before .before .before .before .before .before .before .before .before .before .before .before .before .args .k) (c .before .before .before .before .before .before .before .before .before .before .before .before .before .args .st) (c .before .before .before .before .before .before .before .before .before .before .before .before .before .args .table .now) (c .before .before .before .before .before .before .before .before .read-literal .last .1 .1 .0) (c .before .before .before .before .before .before .before .before .before .before .before .before .before .args .n) (c .before .before .before .before .before .before .before .before .read-literal .result) (c .before .before .before .before .before .before .before .before .before .before .before .before .before .pre .1) (c .before .before .before .before .before .before .before .before .before .before .if1 .left) (c .before .before .before .before .before .before .before .before .read-literal .ensures) (c .before .before .before .before .if2 .left)
 
--- src/clauses.rt:160:9
 read-body-same-length-3 : (t : ℕ) → read-body-lts.Need-same-length-3 (
   full-reads.Asked,
   full-reads.Learnt,
@@ -246,7 +234,6 @@ read-body-same-length-3 : (t : ℕ) → read-body-lts.Need-same-length-3 (
 ) (read-body-at t) read-body.Post
 read-body-same-length-3 t c = search needs
 
--- src/clauses.rt:160:9
 read-body-returns-4 : (t : ℕ) → read-body-lts.Need-returns-4 (
   full-reads.Asked,
   full-reads.Learnt,
@@ -263,7 +250,6 @@ read-body-returns-4 : (t : ℕ) → read-body-lts.Need-returns-4 (
 ) (read-body-at t) read-body.Post
 read-body-returns-4 t c = body-last (c .before .before .before .before .before .before .before .before .before .before .before .before .before .before .args .s .now) (c .before .before .before .before .before .before .before .before .before .before .before .before .before .before .args .k) (c .before .before .before .before .before .before .before .before .before .before .before .before .before .before .args .st) (c .before .before .before .before .before .before .before .before .before .before .before .before .before .before .args .table .now) (c .before .before .before .before .before .before .before .before .before .read-literal .last .1 .1 .0) (c .before .before .before .before .before .before .before .before .before .before .before .before .before .before .args .n) (c .before .before .before .before .before .before .before .before .before .read-literal .result) (c .before .before .before .before .before .before .before .before .before .before .before .before .before .before .pre .1) (c .before .before .before .before .before .before .before .before .before .before .before .if1 .left) (c .before .before .before .before .before .before .before .before .before .read-literal .ensures) (c .before .before .before .before .before .if2 .left) (c .next2 .result) (c .before .before .if3 .left) (c .before .if4 .taken) (c .next2 .ensures)
 
--- src/clauses.rt:167:5
 read-body-wrong-requires : (t : ℕ) → read-body-lts.Need-wrong-requires (
   full-reads.Asked,
   full-reads.Learnt,
@@ -280,7 +266,6 @@ read-body-wrong-requires : (t : ℕ) → read-body-lts.Need-wrong-requires (
 ) (read-body-at t) read-body.Post
 read-body-wrong-requires t c κs = search needs
 
--- src/clauses.rt:137:1
 read-body-same-length-4 : (t : ℕ) → read-body-lts.Need-same-length-4 (
   full-reads.Asked,
   full-reads.Learnt,
@@ -297,7 +282,6 @@ read-body-same-length-4 : (t : ℕ) → read-body-lts.Need-same-length-4 (
 ) (read-body-at t) read-body.Post
 read-body-same-length-4 t c = search needs
 
--- src/clauses.rt:137:1
 read-body-returns-5 : (t : ℕ) → read-body-lts.Need-returns-5 (
   full-reads.Asked,
   full-reads.Learnt,

@@ -1,11 +1,9 @@
+-- `parser::clauses::fresh` meets its contract. Assumes nothing.
 use mathlib.Core.Path.{refl}
 use Rattle.syntax.specs.Reading
 use Rattle.parser.proofs.clauses.fresh.Statement.{statement}
 use Rattle.parser.proofs.clauses.fresh.Tie as tie
-use Rattle.parser.proofs.clauses.fresh.Reads as reads
-use Rattle.parser.proofs.clauses.fresh.Lts as lts
 
--- src/clauses.rt:172:1
 returns : tie.Need-returns
 unfolding Reading.fresh
 returns c = refl

@@ -1,3 +1,4 @@
+-- `parser::declarations::read_marks` meet its contract: each way out is a law of `MarkLaws`. Assumes nothing.
 use borrow.Author.Needs.{needs}
 use native.Mathlib.Omega.{arith}
 use Rattle.parser.proofs.MarkLaws.{marks-none, marks-full, mark-small, marks-wrong, marks-last, marks-small, marks-more}
@@ -26,7 +27,6 @@ abbrev read-marks-below : ℕ → In 1 read-marks-kinds.ps
 read-marks-below t =
     and 1 read-marks-kinds.ps (falls 1 read-marks-kinds.ps _<_ μ-read-marks t) read-marks.Pre
 
--- src/declarations.rt:39:9
 read-marks-mark-number-requires : (t : ℕ) → read-marks-lts.Need-mark-number-requires (
   mark-number-reads.Asked,
   mark-number-reads.Learnt,
@@ -43,7 +43,6 @@ read-marks-mark-number-requires : (t : ℕ) → read-marks-lts.Need-mark-number-
 ) (read-marks-at t) read-marks.Post
 read-marks-mark-number-requires t c κs = search needs
 
--- src/declarations.rt:41:9
 read-marks-wrong-requires : (t : ℕ) → read-marks-lts.Need-wrong-requires (
   mark-number-reads.Asked,
   mark-number-reads.Learnt,
@@ -60,7 +59,6 @@ read-marks-wrong-requires : (t : ℕ) → read-marks-lts.Need-wrong-requires (
 ) (read-marks-at t) read-marks.Post
 read-marks-wrong-requires t c κs = search needs
 
--- src/declarations.rt:41:9
 read-marks-returns : (t : ℕ) → read-marks-lts.Need-returns (
   mark-number-reads.Asked,
   mark-number-reads.Learnt,
@@ -77,7 +75,6 @@ read-marks-returns : (t : ℕ) → read-marks-lts.Need-returns (
 ) (read-marks-at t) read-marks.Post
 read-marks-returns t c = marks-none (c .before .before .before .before .before .args .s .now) (c .before .before .before .before .before .args .k) (c .before .before .before .before .before .args .st) (c .before .before .mark-number .result) (c .before .before .mark-number .ensures) (c .wrong .result) (c .before .if1 .taken) (c .wrong .ensures)
 
--- src/declarations.rt:44:9
 read-marks-refuse-requires : (t : ℕ) → read-marks-lts.Need-refuse-requires (
   mark-number-reads.Asked,
   mark-number-reads.Learnt,
@@ -94,7 +91,6 @@ read-marks-refuse-requires : (t : ℕ) → read-marks-lts.Need-refuse-requires (
 ) (read-marks-at t) read-marks.Post
 read-marks-refuse-requires t c κs = search needs
 
--- src/declarations.rt:44:9
 read-marks-returns-2 : (t : ℕ) → read-marks-lts.Need-returns-2 (
   mark-number-reads.Asked,
   mark-number-reads.Learnt,
@@ -111,7 +107,6 @@ read-marks-returns-2 : (t : ℕ) → read-marks-lts.Need-returns-2 (
 ) (read-marks-at t) read-marks.Post
 read-marks-returns-2 t c = marks-full (c .before .before .before .before .before .before .args .s .now) (c .before .before .before .before .before .before .args .k) (c .before .before .before .before .before .before .args .st) (c .before .before .before .mark-number .result) (c .before .before .before .mark-number .ensures) (c .before .before .if1 .left) (c .refuse .result) (c .before .if2 .taken) (c .refuse .ensures)
 
--- src/declarations.rt:46:9
 read-marks-next-requires : (t : ℕ) → read-marks-lts.Need-next-requires (
   mark-number-reads.Asked,
   mark-number-reads.Learnt,
@@ -128,7 +123,6 @@ read-marks-next-requires : (t : ℕ) → read-marks-lts.Need-next-requires (
 ) (read-marks-at t) read-marks.Post
 read-marks-next-requires t c κs = c .before .before .before .before .before .pre .1 .0
 
--- src/declarations.rt:50:13
 read-marks-next-requires-2 : (t : ℕ) → read-marks-lts.Need-next-requires-2 (
   mark-number-reads.Asked,
   mark-number-reads.Learnt,
@@ -145,7 +139,6 @@ read-marks-next-requires-2 : (t : ℕ) → read-marks-lts.Need-next-requires-2 (
 ) (read-marks-at t) read-marks.Post
 read-marks-next-requires-2 t c κs = c .before .before .next .ensures .standing
 
--- src/declarations.rt:51:21
 read-marks-sub-fewer : (t : ℕ) → read-marks-lts.Need-sub-fewer (
   mark-number-reads.Asked,
   mark-number-reads.Learnt,
@@ -162,7 +155,6 @@ read-marks-sub-fewer : (t : ℕ) → read-marks-lts.Need-sub-fewer (
 ) (read-marks-at t) read-marks.Post
 read-marks-sub-fewer t c = omega arith
 
--- src/declarations.rt:52:13
 read-marks-read-marks-requires : (t : ℕ) → read-marks-lts.Need-read-marks-requires (
   mark-number-reads.Asked,
   mark-number-reads.Learnt,
@@ -179,7 +171,6 @@ read-marks-read-marks-requires : (t : ℕ) → read-marks-lts.Need-read-marks-re
 ) (read-marks-at t) read-marks.Post
 read-marks-read-marks-requires t c κs = (omega arith, (c .next2 .ensures .standing, omega arith))
 
--- src/declarations.rt:53:9
 read-marks-marked-requires : (t : ℕ) → read-marks-lts.Need-marked-requires (
   mark-number-reads.Asked,
   mark-number-reads.Learnt,
@@ -196,7 +187,6 @@ read-marks-marked-requires : (t : ℕ) → read-marks-lts.Need-marked-requires (
 ) (read-marks-at t) read-marks.Post
 read-marks-marked-requires t c κs = (marks-small (c .before .before .before .before .before .before .before .before .before .before .args .s .now) (c .before .before .before .before .before .before .before .before .before .before .args .k) (c .before .before .before .before .before .before .before .before .before .before .args .st) (c .before .before .before .before .before .before .before .mark-number .result) (c .before .before .before .before .before .before .before .mark-number .ensures) (c .before .before .before .before .before .before .if1 .left) (c .before .before .before .before .before .if2 .left) (c .before .before .before .before .next .result) (c .before .before .before .before .before .before .before .before .before .before .pre .1 .0) (c .before .before .before .before .next .ensures) (c .before .next2 .result) (c .read-marks .result) (c .before .before .before .before .before .before .before .before .before .before .pre .1 .1) (c .before .before .if3 .taken) (c .before .next2 .ensures) (c .read-marks .ensures), mark-small (c .before .before .before .before .before .before .before .before .before .before .args .s .now) (c .before .before .before .before .before .before .before .before .before .before .args .k) (c .before .before .before .before .before .before .before .before .before .before .args .st) (c .before .before .before .before .before .before .before .mark-number .result) (c .before .before .before .before .before .before .before .mark-number .ensures) (c .before .before .before .before .before .before .if1 .left))
 
--- src/declarations.rt:53:9
 read-marks-returns-3 : (t : ℕ) → read-marks-lts.Need-returns-3 (
   mark-number-reads.Asked,
   mark-number-reads.Learnt,
@@ -213,7 +203,6 @@ read-marks-returns-3 : (t : ℕ) → read-marks-lts.Need-returns-3 (
 ) (read-marks-at t) read-marks.Post
 read-marks-returns-3 t c = marks-more (c .before .before .before .before .before .before .before .before .before .before .before .args .s .now) (c .before .before .before .before .before .before .before .before .before .before .before .args .k) (c .before .before .before .before .before .before .before .before .before .before .before .args .st) (c .before .before .before .before .before .before .before .before .mark-number .result) (c .before .before .before .before .before .before .before .before .mark-number .ensures) (c .before .before .before .before .before .before .before .if1 .left) (c .before .before .before .before .before .before .if2 .left) (c .before .before .before .before .before .next .result) (c .before .before .before .before .before .before .before .before .before .before .before .pre .1 .0) (c .before .before .before .before .before .next .ensures) (c .before .before .next2 .result) (c .before .read-marks .result) (c .before .before .before .before .before .before .before .before .before .before .before .pre .1 .1) (c .before .before .before .if3 .taken) (c .before .before .next2 .ensures) (c .before .read-marks .ensures) (c .marked .result) (c .marked .ensures)
 
--- src/declarations.rt:56:13
 read-marks-next-requires-3 : (t : ℕ) → read-marks-lts.Need-next-requires-3 (
   mark-number-reads.Asked,
   mark-number-reads.Learnt,
@@ -230,7 +219,6 @@ read-marks-next-requires-3 : (t : ℕ) → read-marks-lts.Need-next-requires-3 (
 ) (read-marks-at t) read-marks.Post
 read-marks-next-requires-3 t c κs = c .before .before .before .next .ensures .standing
 
--- src/declarations.rt:57:9
 read-marks-returns-4 : (t : ℕ) → read-marks-lts.Need-returns-4 (
   mark-number-reads.Asked,
   mark-number-reads.Learnt,
@@ -247,7 +235,6 @@ read-marks-returns-4 : (t : ℕ) → read-marks-lts.Need-returns-4 (
 ) (read-marks-at t) read-marks.Post
 read-marks-returns-4 t c = marks-last (c .before .before .before .before .before .before .before .before .before .before .args .s .now) (c .before .before .before .before .before .before .before .before .before .before .args .k) (c .before .before .before .before .before .before .before .before .before .before .args .st) (c .before .before .before .before .before .before .before .mark-number .result) (c .before .before .before .before .before .before .before .mark-number .ensures) (c .before .before .before .before .before .before .if1 .left) (c .before .before .before .before .before .if2 .left) (c .before .before .before .before .next .result) (c .before .before .before .before .before .before .before .before .before .before .pre .1 .0) (c .before .before .before .before .next .ensures) (c .next3 .result) (c .before .before .if3 .left) (c .before .if4 .taken) (c .next3 .ensures)
 
--- src/declarations.rt:64:5
 read-marks-wrong-requires-2 : (t : ℕ) → read-marks-lts.Need-wrong-requires-2 (
   mark-number-reads.Asked,
   mark-number-reads.Learnt,
@@ -264,7 +251,6 @@ read-marks-wrong-requires-2 : (t : ℕ) → read-marks-lts.Need-wrong-requires-2
 ) (read-marks-at t) read-marks.Post
 read-marks-wrong-requires-2 t c κs = search needs
 
--- src/declarations.rt:33:1
 read-marks-returns-5 : (t : ℕ) → read-marks-lts.Need-returns-5 (
   mark-number-reads.Asked,
   mark-number-reads.Learnt,

@@ -1,23 +1,18 @@
+-- `parser::declarations::mark_number` meets its contract: each way out is a law of `MarkLaws`. Assumes nothing.
 use borrow.Author.Needs.{needs}
 use Rattle.parser.proofs.MarkLaws.{sign-plus, sign-minus, sign-star, sign-none}
 use Rattle.parser.proofs.declarations.mark_number.Statement.{statement}
 use Rattle.parser.proofs.declarations.mark_number.Tie as tie
-use Rattle.parser.proofs.declarations.mark_number.Reads as reads
-use Rattle.parser.proofs.declarations.mark_number.Lts as lts
 
--- src/declarations.rt:21:9
 returns : tie.Need-returns
 returns c = search (sign-plus, needs)
 
--- src/declarations.rt:24:9
 returns-2 : tie.Need-returns-2
 returns-2 c = search (sign-minus, needs)
 
--- src/declarations.rt:27:9
 returns-3 : tie.Need-returns-3
 returns-3 c = search (sign-star, needs)
 
--- src/declarations.rt:17:1
 returns-4 : tie.Need-returns-4
 returns-4 c = search (sign-none, needs)
 

@@ -1,71 +1,49 @@
+-- `parser::declarations::read_declared` meets its contract: each way out is a law of `MarkLaws`. Assumes nothing.
 use Rattle.parser.proofs.MarkLaws.{declared-wrong, declared-fault, declared-standing, declared-stop, declared-asked, declared-end}
 use native.Mathlib.Omega.{arith}
-use lib.ListN.{length-set}
-use mathlib.Core.Path.{ap}
 use borrow.Author.Needs.{needs}
 use Rattle.parser.proofs.declarations.read_declared.Statement.{statement}
 use Rattle.parser.proofs.declarations.read_declared.Tie as tie
-use Rattle.parser.proofs.declarations.read_declared.Reads as reads
-use Rattle.parser.proofs.declarations.read_declared.Lts as lts
-use Rattle.parser.proofs.declarations.read_some_marks.Reads as read-some-marks-reads
-use Rattle.reading.proofs.cursor.next.Reads as next-reads
-use Rattle.reading.proofs.cursor.put.Reads as put-reads
-use Rattle.reading.proofs.cursor.put_node.Reads as put-node-reads
-use Rattle.reading.proofs.cursor.wrong.Reads as wrong-reads
 
--- src/declarations.rt:115:9
 wrong-requires : tie.Need-wrong-requires
 wrong-requires c κs = search needs
 
--- src/declarations.rt:115:9
 returns : tie.Need-returns
 returns c = declared-wrong (c .before .before .before .before .before .args .s .now) (c .before .before .before .before .before .args .st) (c .before .before .before .before .before .args .table .now) (c .before .before .before .before .before .args .n) (c .before .before .before .before .before .pre .0) (c .wrong .result) (c .before .if1 .taken) (c .wrong .ensures)
 
--- src/declarations.rt:117:9
 next-requires : tie.Need-next-requires
 next-requires c κs = search needs
 
--- src/declarations.rt:118:9
 read-some-marks-requires : tie.Need-read-some-marks-requires
 read-some-marks-requires c κs = search needs
 
--- src/declarations.rt:120:9
 returns-2 : tie.Need-returns-2
 returns-2 c = declared-fault (c .before .before .before .before .before .before .before .before .args .s .now) (c .before .before .before .before .before .before .before .before .args .st) (c .before .before .before .before .before .before .before .before .args .table .now) (c .before .before .before .before .before .before .before .before .args .n) (c .before .before .before .before .before .before .before .before .pre .0) (c .before .before .before .next .result) (c .before .before .read-some-marks .result) (c .before .before .before .before .if1 .left) (c .before .before .before .next .ensures) (c .before .before .read-some-marks .ensures) (c .if2 .taken)
 
--- src/declarations.rt:125:9
 wrong-requires-2 : tie.Need-wrong-requires-2
 wrong-requires-2 c κs = search needs
 
--- src/declarations.rt:125:9
 returns-3 : tie.Need-returns-3
 returns-3 c = declared-stop (c .before .before .before .before .before .before .before .before .before .before .before .before .before .args .s .now) (c .before .before .before .before .before .before .before .before .before .before .before .before .before .args .st) (c .before .before .before .before .before .before .before .before .before .before .before .before .before .args .table .now) (c .before .before .before .before .before .before .before .before .before .before .before .before .before .args .n) (c .before .before .before .before .before .before .before .before .before .before .before .before .before .pre .0) (c .before .before .before .before .before .before .before .before .next .result) (c .before .before .before .before .before .before .before .read-some-marks .result) (c .before .before .before .before .before .before .before .before .before .if1 .left) (c .before .before .before .before .before .before .before .before .next .ensures) (c .before .before .before .before .before .before .before .read-some-marks .ensures) (c .before .before .before .before .before .if2 .left) (c .wrong2 .result) (c .before .if3 .taken) (c .wrong2 .ensures)
 
--- src/declarations.rt:127:9
 next-requires-2 : tie.Need-next-requires-2
 next-requires-2 c κs = declared-standing (c .before .before .before .before .before .before .before .before .before .before .before .before .args .s .now) (c .before .before .before .before .before .before .before .before .before .before .before .before .args .st) (c .before .before .before .before .before .before .before .before .before .before .before .before .args .table .now) (c .before .before .before .before .before .before .before .before .before .before .before .before .args .n) (c .before .before .before .before .before .before .before .before .before .before .before .before .pre .0) (c .before .before .before .before .before .before .before .next .result) (c .before .before .before .before .before .before .read-some-marks .result) (c .before .before .before .before .before .before .before .before .if1 .left) (c .before .before .before .before .before .before .before .next .ensures) (c .before .before .before .before .before .before .read-some-marks .ensures) (c .before .before .before .before .if2 .left)
 
--- src/declarations.rt:128:5
 put-node-requires : tie.Need-put-node-requires
 put-node-requires c κs = declared-asked (c .before .before .before .before .before .before .before .before .before .before .before .before .before .before .args .s .now) (c .before .before .before .before .before .before .before .before .before .before .before .before .before .before .args .st) (c .before .before .before .before .before .before .before .before .before .before .before .before .before .before .args .table .now) (c .before .before .before .before .before .before .before .before .before .before .before .before .before .before .args .n) (c .before .before .before .before .before .before .before .before .before .before .before .before .before .before .pre .0) (c .before .before .before .before .before .before .before .before .before .next .result) (c .before .before .before .before .before .before .before .before .read-some-marks .result) (c .before .before .before .before .before .before .before .before .before .before .if1 .left) (c .before .before .before .before .before .before .before .before .before .next .ensures) (c .before .before .before .before .before .before .before .before .read-some-marks .ensures) (c .before .before .before .before .before .before .if2 .left) (c .before .before .before .before .before .before .before .before .before .before .before .before .before .before .pre .1) .0
 
--- src/declarations.rt:129:13
 add-m : tie.Need-add-m
 add-m c = omega (arith, c .before .before .before .before .before .before .before .before .before .before .before .before .before .before .before .before .before .pre .1, c .before .before .before .before .before .before .before .before .before .before .before .before .before .before .before .before .before .good .1 .1 .0)
 
--- src/declarations.rt:130:5
 put-requires : tie.Need-put-requires
 put-requires c κs = (omega (arith, c .before .before .before .put-node .kept .0, c .before .before .before .before .before .before .before .before .before .before .before .before .before .before .before .before .before .before .pre .1), declared-asked (c .before .before .before .before .before .before .before .before .before .before .before .before .before .before .before .before .before .before .args .s .now) (c .before .before .before .before .before .before .before .before .before .before .before .before .before .before .before .before .before .before .args .st) (c .before .before .before .before .before .before .before .before .before .before .before .before .before .before .before .before .before .before .args .table .now) (c .before .before .before .before .before .before .before .before .before .before .before .before .before .before .before .before .before .before .args .n) (c .before .before .before .before .before .before .before .before .before .before .before .before .before .before .before .before .before .before .pre .0) (c .before .before .before .before .before .before .before .before .before .before .before .before .before .next .result) (c .before .before .before .before .before .before .before .before .before .before .before .before .read-some-marks .result) (c .before .before .before .before .before .before .before .before .before .before .before .before .before .before .if1 .left) (c .before .before .before .before .before .before .before .before .before .before .before .before .before .next .ensures) (c .before .before .before .before .before .before .before .before .before .before .before .before .read-some-marks .ensures) (c .before .before .before .before .before .before .before .before .before .before .if2 .left) (c .before .before .before .before .before .before .before .before .before .before .before .before .before .before .before .before .before .before .pre .1) .1)
 
--- src/declarations.rt:131:16
 add-used : tie.Need-add-used
 add-used c = omega (arith, c .before .before .before .before .before .before .before .before .before .before .before .before .before .before .before .before .before .before .before .before .before .pre .1, c .before .before .before .before .before .before .before .before .before .before .before .before .before .before .before .before .before .before .before .before .before .good .1 .1 .0)
 
--- src/declarations.rt:107:1
 same-length : tie.Need-same-length
 same-length c = search needs
 
--- src/declarations.rt:107:1
 returns-4 : tie.Need-returns-4
 returns-4 c = declared-end (c .before .before .before .before .before .before .before .before .before .before .before .before .before .before .before .before .before .before .before .before .before .args .s .now) (c .before .before .before .before .before .before .before .before .before .before .before .before .before .before .before .before .before .before .before .before .before .args .st) (c .before .before .before .before .before .before .before .before .before .before .before .before .before .before .before .before .before .before .before .before .before .args .table .now) (c .before .before .before .before .before .before .before .before .before .before .before .before .before .before .before .before .before .before .before .before .before .args .n) (c .before .before .before .before .before .before .before .before .before .before .before .before .before .before .before .before .before .before .before .before .before .pre .0) (c .before .before .before .before .before .before .before .before .before .before .before .before .before .before .before .before .next .result) (c .before .before .before .before .before .before .before .before .before .before .before .before .before .before .before .read-some-marks .result) (c .before .before .before .before .before .before .before .before .before .before .before .before .before .before .before .before .before .if1 .left) (c .before .before .before .before .before .before .before .before .before .before .before .before .before .before .before .before .next .ensures) (c .before .before .before .before .before .before .before .before .before .before .before .before .before .before .before .read-some-marks .ensures) (c .before .before .before .before .before .before .before .before .before .before .before .before .before .if2 .left) (c .before .before .before .before .before .before .before .before .next2 .result) (c .before .before .before .before .before .before .put-node .last .0) (c .before .before .put .last .0) (c .before .before .before .before .before .before .before .before .before .before .before .before .before .before .before .before .before .before .before .before .before .pre .1) (c .before .before .before .before .before .before .before .before .before .if3 .left) (c .before .before .before .before .before .before .before .before .next2 .ensures) (c .before .before .before .before .before .before .put-node .ensures) (c .before .before .put .ensures)
 

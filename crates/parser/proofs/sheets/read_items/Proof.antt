@@ -1,3 +1,4 @@
+-- `parser::sheets::read_items` meets its contract: each way out is a law of `SheetLaws`. Assumes nothing.
 use Prim.Native.Nat.{_*_, _-_}
 use mathlib.Core.Path.{_≡_, refl, _∙_}
 use borrow.Author.Needs.{needs}
@@ -7,13 +8,6 @@ use Rattle.parser.specs.Sheets.{Loading}
 use Rattle.parser.proofs.SheetLaws.{loading-start, loading-end, loading-wrong, loading-declaration-fault, declaration-less, loading-declaration, clause-ready, loading-clause-fault, clause-less, loading-clause}
 use Rattle.parser.proofs.sheets.read_items.Statement.{statement}
 use Rattle.parser.proofs.sheets.read_items.Tie as tie
-use Rattle.parser.proofs.sheets.read_items.Reads as reads
-use Rattle.parser.proofs.sheets.read_items.Lts as lts
-use Rattle.parser.proofs.sheets.halted.Reads as halted-reads
-use Rattle.parser.proofs.sheets.next_clause.Reads as next-clause-reads
-use Rattle.parser.proofs.sheets.next_declaration.Reads as next-declaration-reads
-use Rattle.parser.proofs.sheets.start.Reads as start-reads
-use Rattle.reading.proofs.cursor.wrong.Reads as wrong-reads
 
 abbrev Inv-loop : tie.InvT-loop
 Inv-loop s declared₀ table₀ st₀ ds₀ cs₀ used₀ declared table st ds cs used = Loading s declared table ds cs used st × (length declared ≡ length declared₀) × (length table ≡ length table₀)
@@ -21,107 +15,81 @@ Inv-loop s declared₀ table₀ st₀ ds₀ cs₀ used₀ declared table st ds c
 abbrev μ-loop : tie.MeasureT-loop
 μ-loop s declared₀ table₀ st₀ ds₀ cs₀ used₀ declared table st ds cs used = 4 * (length s - st .token .at)
 
--- src/sheets.rt:83:9
 start-requires : tie.Need-start-requires Inv-loop μ-loop
 start-requires c κs = c .before .before .before .pre .0
 
--- src/sheets.rt:87:5
 loop-holds : tie.Need-loop-holds Inv-loop μ-loop
 loop-holds c = (loading-start (c .before .before .before .before .args .s .now) (c .before .before .before .before .args .declared .now) (c .before .before .before .before .args .table .now) (c .start .result) (c .before .before .before .before .pre .0) (c .before .before .before .before .pre .1 .1 .0) (c .start .ensures .0) (c .start .ensures .1), refl, refl)
 
--- src/sheets.rt:91:13
 same-length : tie.Need-same-length Inv-loop μ-loop
 same-length c = c .before .before .loop .inv .1
 
--- src/sheets.rt:91:13
 same-length-2 : tie.Need-same-length-2 Inv-loop μ-loop
 same-length-2 c = c .before .before .loop .inv .2
 
--- src/sheets.rt:91:13
 returns : tie.Need-returns Inv-loop μ-loop
 returns c = loading-end (c .before .before .before .before .before .before .before .args .s .now) (c .before .before .loop .declared) (c .before .before .loop .table) (c .before .before .loop .ds) (c .before .before .loop .cs) (c .before .before .loop .used) (c .before .before .loop .st) (c .before .before .loop .inv .0) (c .if1 .taken)
 
--- src/sheets.rt:100:17
 next-declaration-requires : tie.Need-next-declaration-requires Inv-loop μ-loop
 next-declaration-requires c κs = (c .before .before .before .before .loop .inv .0 .standing, (c .before .before .before .before .loop .inv .0 .ds-most, omega (arith, c .before .before .before .before .before .before .before .before .before .pre .1 .0, c .before .before .before .before .loop .inv .1)))
 
--- src/sheets.rt:102:17
 halted-requires : tie.Need-halted-requires Inv-loop μ-loop
 halted-requires c κs = search needs
 
--- src/sheets.rt:102:17
 same-length-3 : tie.Need-same-length-3 Inv-loop μ-loop
 same-length-3 c = c .before .before .before .before .before .next-declaration .kept .1 .1 .0 ∙ c .before .before .before .before .before .before .before .before .before .before .loop .inv .1
 
--- src/sheets.rt:102:17
 same-length-4 : tie.Need-same-length-4 Inv-loop μ-loop
 same-length-4 c = c .before .before .before .before .before .before .before .before .before .before .loop .inv .2
 
--- src/sheets.rt:102:17
 returns-2 : tie.Need-returns-2 Inv-loop μ-loop
 returns-2 c = loading-declaration-fault (c .before .before .before .before .before .before .before .before .before .before .before .before .before .before .before .args .s .now) (c .before .before .before .before .before .before .before .before .before .before .loop .declared) (c .before .before .before .before .before .before .before .before .before .before .loop .table) (c .before .before .before .before .before .before .before .before .before .before .loop .ds) (c .before .before .before .before .before .before .before .before .before .before .loop .cs) (c .before .before .before .before .before .before .before .before .before .before .loop .used) (c .before .before .before .before .before .before .before .before .before .before .loop .st) (c .before .before .before .before .before .before .before .before .before .before .loop .inv .0) (c .before .before .before .before .before .before .before .before .if1 .left) (c .before .before .before .before .before .before .before .if2 .taken) (c .before .before .before .before .before .next-declaration .last .1 .1 .0) (c .before .before .before .before .before .next-declaration .result) (c .before .before .before .before .before .next-declaration .ensures) (c .halted .result) (c .before .if3 .taken) (c .halted .ensures)
 
--- src/sheets.rt:104:13
 add-ds : tie.Need-add-ds Inv-loop μ-loop
 add-ds c = omega (arith, c .before .before .before .before .before .before .before .before .before .loop .inv .0 .ds-most)
 
--- src/sheets.rt:87:5
 loop-less : tie.Need-loop-less Inv-loop μ-loop
 loop-less c = declaration-less (c .before .before .before .before .before .before .before .before .before .before .before .before .before .before .before .args .s .now) (c .before .before .before .before .before .before .before .before .before .before .loop .declared) (c .before .before .before .before .before .before .before .before .before .before .loop .table) (c .before .before .before .before .before .before .before .before .before .before .loop .ds) (c .before .before .before .before .before .before .before .before .before .before .loop .cs) (c .before .before .before .before .before .before .before .before .before .before .loop .used) (c .before .before .before .before .before .before .before .before .before .before .loop .st) (c .before .before .before .before .before .before .before .before .before .before .loop .inv .0) (c .before .before .before .before .before .before .before .before .if1 .left) (c .before .before .before .before .before .before .before .if2 .taken) (c .before .before .before .before .before .next-declaration .last .1 .1 .0) (c .before .before .before .before .before .next-declaration .result) (c .before .before .before .before .before .next-declaration .ensures) (c .before .if3 .left)
 
--- src/sheets.rt:87:5
 loop-again : tie.Need-loop-again Inv-loop μ-loop
 loop-again c = (loading-declaration (c .before .before .before .before .before .before .before .before .before .before .before .before .before .before .before .args .s .now) (c .before .before .before .before .before .before .before .before .before .before .loop .declared) (c .before .before .before .before .before .before .before .before .before .before .loop .table) (c .before .before .before .before .before .before .before .before .before .before .loop .ds) (c .before .before .before .before .before .before .before .before .before .before .loop .cs) (c .before .before .before .before .before .before .before .before .before .before .loop .used) (c .before .before .before .before .before .before .before .before .before .before .loop .st) (c .before .before .before .before .before .before .before .before .before .before .loop .inv .0) (c .before .before .before .before .before .before .before .before .if1 .left) (c .before .before .before .before .before .before .before .if2 .taken) (c .before .before .before .before .before .next-declaration .last .1 .1 .0) (c .before .before .before .before .before .next-declaration .result) (c .before .before .before .before .before .next-declaration .ensures) (c .before .if3 .left), c .before .before .before .before .before .next-declaration .kept .1 .1 .0 ∙ c .before .before .before .before .before .before .before .before .before .before .loop .inv .1, c .before .before .before .before .before .before .before .before .before .before .loop .inv .2)
 
--- src/sheets.rt:109:17
 wrong-requires : tie.Need-wrong-requires Inv-loop μ-loop
 wrong-requires c κs = search needs
 
--- src/sheets.rt:110:13
 halted-requires-2 : tie.Need-halted-requires-2 Inv-loop μ-loop
 halted-requires-2 c κs = search needs
 
--- src/sheets.rt:110:13
 same-length-5 : tie.Need-same-length-5 Inv-loop μ-loop
 same-length-5 c = c .before .before .before .before .before .before .loop .inv .1
 
--- src/sheets.rt:110:13
 same-length-6 : tie.Need-same-length-6 Inv-loop μ-loop
 same-length-6 c = c .before .before .before .before .before .before .loop .inv .2
 
--- src/sheets.rt:110:13
 returns-3 : tie.Need-returns-3 Inv-loop μ-loop
 returns-3 c = loading-wrong (c .before .before .before .before .before .before .before .before .before .before .before .args .s .now) (c .before .before .before .before .before .before .loop .declared) (c .before .before .before .before .before .before .loop .table) (c .before .before .before .before .before .before .loop .ds) (c .before .before .before .before .before .before .loop .cs) (c .before .before .before .before .before .before .loop .used) (c .before .before .before .before .before .before .loop .st) (c .before .before .before .before .before .before .loop .inv .0) (c .before .wrong .result) (c .halted2 .result) (c .before .before .before .before .if1 .left) (c .before .before .before .if2 .left) (c .before .before .if4 .taken) (c .before .wrong .ensures) (c .halted2 .ensures)
 
--- src/sheets.rt:112:13
 next-clause-requires : tie.Need-next-clause-requires Inv-loop μ-loop
 next-clause-requires c κs = (clause-ready (c .before .before .before .before .before .before .before .before .before .before .args .s .now) (c .before .before .before .before .before .loop .declared) (c .before .before .before .before .before .loop .table) (c .before .before .before .before .before .loop .ds) (c .before .before .before .before .before .loop .cs) (c .before .before .before .before .before .loop .used) (c .before .before .before .before .before .loop .st) (c .before .before .before .before .before .loop .inv .0) (omega (arith, c .before .before .before .before .before .before .before .before .before .before .pre .1 .1 .1, c .before .before .before .before .before .loop .inv .2)) (c .before .before .before .if1 .left), (c .before .if4 .left, c .before .before .before .before .before .loop .inv .0 .cs-most))
 
--- src/sheets.rt:114:13
 halted-requires-3 : tie.Need-halted-requires-3 Inv-loop μ-loop
 halted-requires-3 c κs = search needs
 
--- src/sheets.rt:114:13
 same-length-7 : tie.Need-same-length-7 Inv-loop μ-loop
 same-length-7 c = c .before .before .before .before .before .before .before .before .before .before .before .loop .inv .1
 
--- src/sheets.rt:114:13
 same-length-8 : tie.Need-same-length-8 Inv-loop μ-loop
 same-length-8 c = c .before .before .before .before .before .next-clause .kept .1 .1 .0 ∙ c .before .before .before .before .before .before .before .before .before .before .before .loop .inv .2
 
--- src/sheets.rt:114:13
 returns-4 : tie.Need-returns-4 Inv-loop μ-loop
 returns-4 c = loading-clause-fault (c .before .before .before .before .before .before .before .before .before .before .before .before .before .before .before .before .args .s .now) (c .before .before .before .before .before .before .before .before .before .before .before .loop .declared) (c .before .before .before .before .before .before .before .before .before .before .before .loop .table) (c .before .before .before .before .before .before .before .before .before .before .before .loop .ds) (c .before .before .before .before .before .before .before .before .before .before .before .loop .cs) (c .before .before .before .before .before .before .before .before .before .before .before .loop .used) (c .before .before .before .before .before .before .before .before .before .before .before .loop .st) (c .before .before .before .before .before .before .before .before .before .before .before .loop .inv .0) (c .before .before .before .before .before .before .before .before .before .if1 .left) (c .before .before .before .before .before .before .before .before .if2 .left) (c .before .before .before .before .before .before .before .if4 .left) (c .before .before .before .before .before .next-clause .last .1 .1 .0) (c .before .before .before .before .before .next-clause .result) (c .before .before .before .before .before .next-clause .kept .1 .1 .0) (c .before .before .before .before .before .next-clause .ensures) (c .halted3 .result) (c .before .if5 .taken) (c .halted3 .ensures)
 
--- src/sheets.rt:116:9
 add-cs : tie.Need-add-cs Inv-loop μ-loop
 add-cs c = omega (arith, c .before .before .before .before .before .before .before .before .before .before .loop .inv .0 .cs-most)
 
--- src/sheets.rt:87:5
 loop-less-2 : tie.Need-loop-less-2 Inv-loop μ-loop
 loop-less-2 c = clause-less (c .before .before .before .before .before .before .before .before .before .before .before .before .before .before .before .before .args .s .now) (c .before .before .before .before .before .before .before .before .before .before .before .loop .declared) (c .before .before .before .before .before .before .before .before .before .before .before .loop .table) (c .before .before .before .before .before .before .before .before .before .before .before .loop .ds) (c .before .before .before .before .before .before .before .before .before .before .before .loop .cs) (c .before .before .before .before .before .before .before .before .before .before .before .loop .used) (c .before .before .before .before .before .before .before .before .before .before .before .loop .st) (c .before .before .before .before .before .before .before .before .before .before .before .loop .inv .0) (c .before .before .before .before .before .before .before .before .before .if1 .left) (c .before .before .before .before .before .before .before .before .if2 .left) (c .before .before .before .before .before .before .before .if4 .left) (c .before .before .before .before .before .next-clause .last .1 .1 .0) (c .before .before .before .before .before .next-clause .result) (c .before .before .before .before .before .next-clause .kept .1 .1 .0) (c .before .before .before .before .before .next-clause .ensures) (c .before .if5 .left)
 
--- src/sheets.rt:87:5
 loop-again-2 : tie.Need-loop-again-2 Inv-loop μ-loop
 loop-again-2 c = (loading-clause (c .before .before .before .before .before .before .before .before .before .before .before .before .before .before .before .before .args .s .now) (c .before .before .before .before .before .before .before .before .before .before .before .loop .declared) (c .before .before .before .before .before .before .before .before .before .before .before .loop .table) (c .before .before .before .before .before .before .before .before .before .before .before .loop .ds) (c .before .before .before .before .before .before .before .before .before .before .before .loop .cs) (c .before .before .before .before .before .before .before .before .before .before .before .loop .used) (c .before .before .before .before .before .before .before .before .before .before .before .loop .st) (c .before .before .before .before .before .before .before .before .before .before .before .loop .inv .0) (c .before .before .before .before .before .before .before .before .before .if1 .left) (c .before .before .before .before .before .before .before .before .if2 .left) (c .before .before .before .before .before .before .before .if4 .left) (c .before .before .before .before .before .next-clause .last .1 .1 .0) (c .before .before .before .before .before .next-clause .result) (c .before .before .before .before .before .next-clause .kept .1 .1 .0) (c .before .before .before .before .before .next-clause .ensures) (c .before .if5 .left), c .before .before .before .before .before .before .before .before .before .before .before .loop .inv .1, c .before .before .before .before .before .next-clause .kept .1 .1 .0 ∙ c .before .before .before .before .before .before .before .before .before .before .before .loop .inv .2)
 

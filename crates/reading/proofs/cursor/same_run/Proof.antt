@@ -1,14 +1,12 @@
+-- `reading::cursor::same_run` meets its contract: each way out is a law of `Laws`. Assumes nothing.
 use Prim.Native.Nat.{_+_, _-_, _≤_}
-use mathlib.Core.Path.{_≡_, _∙_}
+use mathlib.Core.Path.{_≡_}
 use borrow.Author.Needs.{needs}
 use native.Mathlib.Omega.{arith}
 use Rattle.syntax.specs.Reading.{sameRun}
 use Rattle.reading.proofs.Laws.{run-start, run-step, run-stop, run-end}
 use Rattle.reading.proofs.cursor.same_run.Statement.{statement}
 use Rattle.reading.proofs.cursor.same_run.Tie as tie
-use Rattle.reading.proofs.cursor.same_run.Reads as reads
-use Rattle.reading.proofs.cursor.same_run.Lts as lts
-use Rattle.lexer.proofs.byte_at.Reads as byte-at-reads
 
 abbrev Inv-loop : tie.InvT-loop
 Inv-loop s a b n i₀ i = (i ≤ n) × (sameRun s (a + i) (b + i) (n - i) ≡ sameRun s a b n)
@@ -16,43 +14,33 @@ Inv-loop s a b n i₀ i = (i ≤ n) × (sameRun s (a + i) (b + i) (n - i) ≡ sa
 abbrev μ-loop : tie.MeasureT-loop
 μ-loop s a b n i₀ i = n - i
 
--- src/cursor.rt:74:5
 loop-holds : tie.Need-loop-holds Inv-loop μ-loop
 loop-holds c = (omega arith, run-start _ _ _ _)
 
--- src/cursor.rt:75:42
 add-byte-at : tie.Need-add-byte-at Inv-loop μ-loop
 add-byte-at c = omega arith
 
--- src/cursor.rt:75:13
 byte-at-requires : tie.Need-byte-at-requires Inv-loop μ-loop
 byte-at-requires c κs = search needs
 
--- src/cursor.rt:76:42
 add-byte-at-2 : tie.Need-add-byte-at-2 Inv-loop μ-loop
 add-byte-at-2 c = omega arith
 
--- src/cursor.rt:76:13
 byte-at-requires-2 : tie.Need-byte-at-requires-2 Inv-loop μ-loop
 byte-at-requires-2 c κs = search needs
 
--- src/cursor.rt:78:13
 returns : tie.Need-returns Inv-loop μ-loop
 returns c = search (run-stop, needs)
 
--- src/cursor.rt:80:9
 add-i : tie.Need-add-i Inv-loop μ-loop
 add-i c = omega arith
 
--- src/cursor.rt:74:5
 loop-less : tie.Need-loop-less Inv-loop μ-loop
 loop-less c = omega arith
 
--- src/cursor.rt:74:5
 loop-again : tie.Need-loop-again Inv-loop μ-loop
 loop-again c = (omega arith, search (run-step, needs))
 
--- src/cursor.rt:69:1
 returns-2 : tie.Need-returns-2 Inv-loop μ-loop
 returns-2 c = search (run-end, needs)
 

@@ -1,3 +1,4 @@
+-- `reading::terms::read_arguments`, `reading::terms::read_atom`, `reading::terms::read_term` meet their contracts: each way out is a law of `TermLaws`. Assumes nothing.
 use Prim.Native.Nat.{ℕ, _<_, _+_, _*_}
 use borrow.Author.Needs.{needs}
 use native.Mathlib.Omega.{arith}
@@ -63,7 +64,6 @@ abbrev read-term-below : ℕ → In 2 read-term-kinds.ps
 read-term-below t =
     and 2 read-term-kinds.ps (falls 2 read-term-kinds.ps _<_ μ-read-term t) read-term.Pre
 
--- src/terms.rt:222:9
 read-arguments-full-requires : (t : ℕ) → read-arguments-lts.Need-full-requires (
   full-reads.Asked,
   full-reads.Learnt,
@@ -80,7 +80,6 @@ read-arguments-full-requires : (t : ℕ) → read-arguments-lts.Need-full-requir
 ) (read-arguments-at t) read-arguments.Post
 read-arguments-full-requires t c κs = search needs
 
--- src/terms.rt:222:9
 read-arguments-returns : (t : ℕ) → read-arguments-lts.Need-returns (
   full-reads.Asked,
   full-reads.Learnt,
@@ -97,7 +96,6 @@ read-arguments-returns : (t : ℕ) → read-arguments-lts.Need-returns (
 ) (read-arguments-at t) read-arguments.Post
 read-arguments-returns t c = arguments-full (c .before .before .before .before .args .left) (c .before .before .before .before .args .s .now) (c .before .before .before .before .args .k) (c .before .before .before .before .args .st) (c .before .before .before .before .args .table .now) (c .before .before .before .before .args .n) (c .full .result) (c .before .if1 .taken) (c .full .ensures)
 
--- src/terms.rt:224:9
 read-arguments-read-term-requires : (t : ℕ) → read-arguments-lts.Need-read-term-requires (
   full-reads.Asked,
   full-reads.Learnt,
@@ -114,7 +112,6 @@ read-arguments-read-term-requires : (t : ℕ) → read-arguments-lts.Need-read-t
 ) (read-arguments-at t) read-arguments.Post
 read-arguments-read-term-requires t c κs = (omega arith, search needs)
 
--- src/terms.rt:226:9
 read-arguments-same-length : (t : ℕ) → read-arguments-lts.Need-same-length (
   full-reads.Asked,
   full-reads.Learnt,
@@ -131,7 +128,6 @@ read-arguments-same-length : (t : ℕ) → read-arguments-lts.Need-same-length (
 ) (read-arguments-at t) read-arguments.Post
 read-arguments-same-length t c = search needs
 
--- src/terms.rt:226:9
 read-arguments-returns-2 : (t : ℕ) → read-arguments-lts.Need-returns-2 (
   full-reads.Asked,
   full-reads.Learnt,
@@ -148,7 +144,6 @@ read-arguments-returns-2 : (t : ℕ) → read-arguments-lts.Need-returns-2 (
 ) (read-arguments-at t) read-arguments.Post
 read-arguments-returns-2 t c = arguments-fault (c .before .before .before .before .before .before .before .before .before .args .left) (c .before .before .before .before .before .before .before .before .before .args .s .now) (c .before .before .before .before .before .before .before .before .before .args .k) (c .before .before .before .before .before .before .before .before .before .args .st) (c .before .before .before .before .before .before .before .before .before .args .table .now) (c .before .before .before .before .read-term .last .1 .1 .1 .0) (c .before .before .before .before .before .before .before .before .before .args .n) (c .before .before .before .before .read-term .result) (c .before .before .before .before .before .before .before .before .before .pre .1) (c .before .before .before .before .before .before .if1 .left) (c .before .before .before .before .read-term .ensures) (c .if2 .taken)
 
--- src/terms.rt:233:13
 read-arguments-next-requires : (t : ℕ) → read-arguments-lts.Need-next-requires (
   full-reads.Asked,
   full-reads.Learnt,
@@ -165,7 +160,6 @@ read-arguments-next-requires : (t : ℕ) → read-arguments-lts.Need-next-requir
 ) (read-arguments-at t) read-arguments.Post
 read-arguments-next-requires t c κs = arguments-standing (c .before .before .before .before .before .before .before .before .before .before .before .before .args .left) (c .before .before .before .before .before .before .before .before .before .before .before .before .args .s .now) (c .before .before .before .before .before .before .before .before .before .before .before .before .args .k) (c .before .before .before .before .before .before .before .before .before .before .before .before .args .st) (c .before .before .before .before .before .before .before .before .before .before .before .before .args .table .now) (c .before .before .before .before .before .before .before .read-term .last .1 .1 .1 .0) (c .before .before .before .before .before .before .before .before .before .before .before .before .args .n) (c .before .before .before .before .before .before .before .read-term .result) (c .before .before .before .before .before .before .before .before .before .before .before .before .pre .1) (c .before .before .before .before .before .before .before .before .before .if1 .left) (c .before .before .before .before .before .before .before .read-term .ensures) (c .before .before .before .if2 .left)
 
--- src/terms.rt:234:21
 read-arguments-sub-fewer : (t : ℕ) → read-arguments-lts.Need-sub-fewer (
   full-reads.Asked,
   full-reads.Learnt,
@@ -182,7 +176,6 @@ read-arguments-sub-fewer : (t : ℕ) → read-arguments-lts.Need-sub-fewer (
 ) (read-arguments-at t) read-arguments.Post
 read-arguments-sub-fewer t c = omega arith
 
--- src/terms.rt:235:13
 read-arguments-read-arguments-requires : (t : ℕ) → read-arguments-lts.Need-read-arguments-requires (
   full-reads.Asked,
   full-reads.Learnt,
@@ -199,7 +192,6 @@ read-arguments-read-arguments-requires : (t : ℕ) → read-arguments-lts.Need-r
 ) (read-arguments-at t) read-arguments.Post
 read-arguments-read-arguments-requires t c κs = (omega arith, arguments-ready (c .before .before .before .before .before .before .before .before .before .before .before .before .before .before .args .left) (c .before .before .before .before .before .before .before .before .before .before .before .before .before .before .args .s .now) (c .before .before .before .before .before .before .before .before .before .before .before .before .before .before .args .k) (c .before .before .before .before .before .before .before .before .before .before .before .before .before .before .args .st) (c .before .before .before .before .before .before .before .before .before .before .before .before .before .before .args .table .now) (c .before .before .before .before .before .before .before .before .before .read-term .last .1 .1 .1 .0) (c .before .before .before .before .before .before .before .before .before .before .before .before .before .before .args .n) (c .before .before .before .before .before .before .before .before .before .read-term .result) (c .before .before .before .before .before .before .before .before .before .before .before .before .before .before .pre .1) (c .before .before .before .before .before .before .before .before .before .before .before .if1 .left) (c .before .before .before .before .before .before .before .before .before .read-term .ensures) (c .before .before .before .before .before .if2 .left) (c .before .next .result) (c .before .next .ensures) (c .before .before .before .before .before .before .before .before .before .read-term .kept .1 .1 .1 .0))
 
--- src/terms.rt:236:9
 read-arguments-counted-requires : (t : ℕ) → read-arguments-lts.Need-counted-requires (
   full-reads.Asked,
   full-reads.Learnt,
@@ -216,7 +208,6 @@ read-arguments-counted-requires : (t : ℕ) → read-arguments-lts.Need-counted-
 ) (read-arguments-at t) read-arguments.Post
 read-arguments-counted-requires t c κs = arguments-few (c .before .before .before .before .before .before .before .before .before .before .before .before .before .before .before .before .before .args .left) (c .before .before .before .before .before .before .before .before .before .before .before .before .before .before .before .before .before .args .s .now) (c .before .before .before .before .before .before .before .before .before .before .before .before .before .before .before .before .before .args .k) (c .before .before .before .before .before .before .before .before .before .before .before .before .before .before .before .before .before .args .st) (c .before .before .before .before .before .before .before .before .before .before .before .before .before .before .before .before .before .args .table .now) (c .before .before .before .before .before .before .before .before .before .before .before .before .read-term .last .1 .1 .1 .0) (c .before .before .before .before .before .before .before .before .before .before .before .before .before .before .before .before .before .args .n) (c .before .before .before .before .before .before .before .before .before .before .before .before .read-term .result) (c .before .before .before .before .before .before .before .before .before .before .before .before .before .before .before .before .before .pre .1) (c .before .before .before .before .before .before .before .before .before .before .before .before .before .before .if1 .left) (c .before .before .before .before .before .before .before .before .before .before .before .before .read-term .ensures) (c .before .before .before .before .before .before .before .before .if2 .left) (c .before .before .read-arguments .last .1 .1 .1 .1 .0) (c .before .before .before .before .next .result) (c .before .before .read-arguments .result) (c .before .before .before .before .next .ensures) (c .before .before .read-arguments .ensures)
 
--- src/terms.rt:236:9
 read-arguments-same-length-2 : (t : ℕ) → read-arguments-lts.Need-same-length-2 (
   full-reads.Asked,
   full-reads.Learnt,
@@ -233,7 +224,6 @@ read-arguments-same-length-2 : (t : ℕ) → read-arguments-lts.Need-same-length
 ) (read-arguments-at t) read-arguments.Post
 read-arguments-same-length-2 t c = search needs
 
--- src/terms.rt:236:9
 read-arguments-returns-3 : (t : ℕ) → read-arguments-lts.Need-returns-3 (
   full-reads.Asked,
   full-reads.Learnt,
@@ -250,7 +240,6 @@ read-arguments-returns-3 : (t : ℕ) → read-arguments-lts.Need-returns-3 (
 ) (read-arguments-at t) read-arguments.Post
 read-arguments-returns-3 t c = arguments-more (c .before .before .before .before .before .before .before .before .before .before .before .before .before .before .before .before .before .before .args .left) (c .before .before .before .before .before .before .before .before .before .before .before .before .before .before .before .before .before .before .args .s .now) (c .before .before .before .before .before .before .before .before .before .before .before .before .before .before .before .before .before .before .args .k) (c .before .before .before .before .before .before .before .before .before .before .before .before .before .before .before .before .before .before .args .st) (c .before .before .before .before .before .before .before .before .before .before .before .before .before .before .before .before .before .before .args .table .now) (c .before .before .before .before .before .before .before .before .before .before .before .before .before .read-term .last .1 .1 .1 .0) (c .before .before .before .before .before .before .before .before .before .before .before .before .before .before .before .before .before .before .args .n) (c .before .before .before .before .before .before .before .before .before .before .before .before .before .read-term .result) (c .before .before .before .before .before .before .before .before .before .before .before .before .before .before .before .before .before .before .pre .1) (c .before .before .before .before .before .before .before .before .before .before .before .before .before .before .before .if1 .left) (c .before .before .before .before .before .before .before .before .before .before .before .before .before .read-term .ensures) (c .before .before .before .before .before .before .before .before .before .if2 .left) (c .before .before .before .read-arguments .last .1 .1 .1 .1 .0) (c .before .before .before .before .before .next .result) (c .before .before .before .read-arguments .result) (c .counted .result) (c .before .before .before .before .before .before .if3 .taken) (c .before .before .before .before .before .next .ensures) (c .before .before .before .read-arguments .ensures) (c .counted .ensures)
 
--- src/terms.rt:239:13
 read-arguments-next-requires-2 : (t : ℕ) → read-arguments-lts.Need-next-requires-2 (
   full-reads.Asked,
   full-reads.Learnt,
@@ -267,7 +256,6 @@ read-arguments-next-requires-2 : (t : ℕ) → read-arguments-lts.Need-next-requ
 ) (read-arguments-at t) read-arguments.Post
 read-arguments-next-requires-2 t c κs = arguments-standing (c .before .before .before .before .before .before .before .before .before .before .before .before .before .args .left) (c .before .before .before .before .before .before .before .before .before .before .before .before .before .args .s .now) (c .before .before .before .before .before .before .before .before .before .before .before .before .before .args .k) (c .before .before .before .before .before .before .before .before .before .before .before .before .before .args .st) (c .before .before .before .before .before .before .before .before .before .before .before .before .before .args .table .now) (c .before .before .before .before .before .before .before .before .read-term .last .1 .1 .1 .0) (c .before .before .before .before .before .before .before .before .before .before .before .before .before .args .n) (c .before .before .before .before .before .before .before .before .read-term .result) (c .before .before .before .before .before .before .before .before .before .before .before .before .before .pre .1) (c .before .before .before .before .before .before .before .before .before .before .if1 .left) (c .before .before .before .before .before .before .before .before .read-term .ensures) (c .before .before .before .before .if2 .left)
 
--- src/terms.rt:240:9
 read-arguments-same-length-3 : (t : ℕ) → read-arguments-lts.Need-same-length-3 (
   full-reads.Asked,
   full-reads.Learnt,
@@ -284,7 +272,6 @@ read-arguments-same-length-3 : (t : ℕ) → read-arguments-lts.Need-same-length
 ) (read-arguments-at t) read-arguments.Post
 read-arguments-same-length-3 t c = search needs
 
--- src/terms.rt:240:9
 read-arguments-returns-4 : (t : ℕ) → read-arguments-lts.Need-returns-4 (
   full-reads.Asked,
   full-reads.Learnt,
@@ -301,7 +288,6 @@ read-arguments-returns-4 : (t : ℕ) → read-arguments-lts.Need-returns-4 (
 ) (read-arguments-at t) read-arguments.Post
 read-arguments-returns-4 t c = arguments-last (c .before .before .before .before .before .before .before .before .before .before .before .before .before .before .args .left) (c .before .before .before .before .before .before .before .before .before .before .before .before .before .before .args .s .now) (c .before .before .before .before .before .before .before .before .before .before .before .before .before .before .args .k) (c .before .before .before .before .before .before .before .before .before .before .before .before .before .before .args .st) (c .before .before .before .before .before .before .before .before .before .before .before .before .before .before .args .table .now) (c .before .before .before .before .before .before .before .before .before .read-term .last .1 .1 .1 .0) (c .before .before .before .before .before .before .before .before .before .before .before .before .before .before .args .n) (c .before .before .before .before .before .before .before .before .before .read-term .result) (c .before .before .before .before .before .before .before .before .before .before .before .before .before .before .pre .1) (c .before .before .before .before .before .before .before .before .before .before .before .if1 .left) (c .before .before .before .before .before .before .before .before .before .read-term .ensures) (c .before .before .before .before .before .if2 .left) (c .next2 .result) (c .before .before .if3 .left) (c .before .if4 .taken) (c .next2 .ensures)
 
--- src/terms.rt:247:5
 read-arguments-wrong-requires : (t : ℕ) → read-arguments-lts.Need-wrong-requires (
   full-reads.Asked,
   full-reads.Learnt,
@@ -318,7 +304,6 @@ read-arguments-wrong-requires : (t : ℕ) → read-arguments-lts.Need-wrong-requ
 ) (read-arguments-at t) read-arguments.Post
 read-arguments-wrong-requires t c κs = search needs
 
--- src/terms.rt:217:1
 read-arguments-same-length-4 : (t : ℕ) → read-arguments-lts.Need-same-length-4 (
   full-reads.Asked,
   full-reads.Learnt,
@@ -335,7 +320,6 @@ read-arguments-same-length-4 : (t : ℕ) → read-arguments-lts.Need-same-length
 ) (read-arguments-at t) read-arguments.Post
 read-arguments-same-length-4 t c = search needs
 
--- src/terms.rt:217:1
 read-arguments-returns-5 : (t : ℕ) → read-arguments-lts.Need-returns-5 (
   full-reads.Asked,
   full-reads.Learnt,
@@ -352,7 +336,6 @@ read-arguments-returns-5 : (t : ℕ) → read-arguments-lts.Need-returns-5 (
 ) (read-arguments-at t) read-arguments.Post
 read-arguments-returns-5 t c = arguments-wrong (c .before .before .before .before .before .before .before .before .before .before .before .before .before .before .args .left) (c .before .before .before .before .before .before .before .before .before .before .before .before .before .before .args .s .now) (c .before .before .before .before .before .before .before .before .before .before .before .before .before .before .args .k) (c .before .before .before .before .before .before .before .before .before .before .before .before .before .before .args .st) (c .before .before .before .before .before .before .before .before .before .before .before .before .before .before .args .table .now) (c .before .before .before .before .before .before .before .before .before .read-term .last .1 .1 .1 .0) (c .before .before .before .before .before .before .before .before .before .before .before .before .before .before .args .n) (c .before .before .before .before .before .before .before .before .before .read-term .result) (c .before .before .before .before .before .before .before .before .before .before .before .before .before .before .pre .1) (c .before .before .before .before .before .before .before .before .before .before .before .if1 .left) (c .before .before .before .before .before .before .before .before .before .read-term .ensures) (c .before .before .before .before .before .if2 .left) (c .wrong .result) (c .before .before .if3 .left) (c .before .if4 .left) (c .wrong .ensures)
 
--- src/terms.rt:156:9
 read-atom-next-requires : (t : ℕ) → read-atom-lts.Need-next-requires (
   next-reads.Asked,
   next-reads.Learnt,
@@ -367,7 +350,6 @@ read-atom-next-requires : (t : ℕ) → read-atom-lts.Need-next-requires (
 ) (read-atom-at t) read-atom.Post
 read-atom-next-requires t c κs = search needs
 
--- src/terms.rt:160:20
 read-atom-add-what : (t : ℕ) → read-atom-lts.Need-add-what (
   next-reads.Asked,
   next-reads.Learnt,
@@ -382,7 +364,6 @@ read-atom-add-what : (t : ℕ) → read-atom-lts.Need-add-what (
 ) (read-atom-at t) read-atom.Post
 read-atom-add-what t c = omega arith
 
--- src/terms.rt:161:9
 read-atom-leaf-requires : (t : ℕ) → read-atom-lts.Need-leaf-requires (
   next-reads.Asked,
   next-reads.Learnt,
@@ -397,7 +378,6 @@ read-atom-leaf-requires : (t : ℕ) → read-atom-lts.Need-leaf-requires (
 ) (read-atom-at t) read-atom.Post
 read-atom-leaf-requires t c κs = search (leaf-asked, needs)
 
--- src/terms.rt:161:9
 read-atom-same-length : (t : ℕ) → read-atom-lts.Need-same-length (
   next-reads.Asked,
   next-reads.Learnt,
@@ -412,7 +392,6 @@ read-atom-same-length : (t : ℕ) → read-atom-lts.Need-same-length (
 ) (read-atom-at t) read-atom.Post
 read-atom-same-length t c = search needs
 
--- src/terms.rt:161:9
 read-atom-returns : (t : ℕ) → read-atom-lts.Need-returns (
   next-reads.Asked,
   next-reads.Learnt,
@@ -427,7 +406,6 @@ read-atom-returns : (t : ℕ) → read-atom-lts.Need-returns (
 ) (read-atom-at t) read-atom.Post
 read-atom-returns t c = search (atom-bare, needs)
 
--- src/terms.rt:164:9
 read-atom-refuse-requires : (t : ℕ) → read-atom-lts.Need-refuse-requires (
   next-reads.Asked,
   next-reads.Learnt,
@@ -442,7 +420,6 @@ read-atom-refuse-requires : (t : ℕ) → read-atom-lts.Need-refuse-requires (
 ) (read-atom-at t) read-atom.Post
 read-atom-refuse-requires t c κs = search needs
 
--- src/terms.rt:164:9
 read-atom-returns-2 : (t : ℕ) → read-atom-lts.Need-returns-2 (
   next-reads.Asked,
   next-reads.Learnt,
@@ -457,7 +434,6 @@ read-atom-returns-2 : (t : ℕ) → read-atom-lts.Need-returns-2 (
 ) (read-atom-at t) read-atom.Post
 read-atom-returns-2 t c = search (atom-deep, needs)
 
--- src/terms.rt:166:9
 read-atom-next-requires-2 : (t : ℕ) → read-atom-lts.Need-next-requires-2 (
   next-reads.Asked,
   next-reads.Learnt,
@@ -472,7 +448,6 @@ read-atom-next-requires-2 : (t : ℕ) → read-atom-lts.Need-next-requires-2 (
 ) (read-atom-at t) read-atom.Post
 read-atom-next-requires-2 t c κs = search needs
 
--- src/terms.rt:167:13
 read-atom-add-m : (t : ℕ) → read-atom-lts.Need-add-m (
   next-reads.Asked,
   next-reads.Learnt,
@@ -487,7 +462,6 @@ read-atom-add-m : (t : ℕ) → read-atom-lts.Need-add-m (
 ) (read-atom-at t) read-atom.Post
 read-atom-add-m t c = omega arith
 
--- src/terms.rt:168:17
 read-atom-sub-fewer : (t : ℕ) → read-atom-lts.Need-sub-fewer (
   next-reads.Asked,
   next-reads.Learnt,
@@ -502,7 +476,6 @@ read-atom-sub-fewer : (t : ℕ) → read-atom-lts.Need-sub-fewer (
 ) (read-atom-at t) read-atom.Post
 read-atom-sub-fewer t c = omega arith
 
--- src/terms.rt:169:9
 read-atom-read-arguments-requires : (t : ℕ) → read-atom-lts.Need-read-arguments-requires (
   next-reads.Asked,
   next-reads.Learnt,
@@ -517,7 +490,6 @@ read-atom-read-arguments-requires : (t : ℕ) → read-atom-lts.Need-read-argume
 ) (read-atom-at t) read-atom.Post
 read-atom-read-arguments-requires t c κs = (omega arith, list-ready (c .before .before .before .before .before .before .before .before .before .args .left) (c .before .before .before .before .before .before .before .before .before .args .s .now) (c .before .before .before .before .before .before .before .before .before .args .st) (c .before .before .before .before .before .before .before .before .before .args .table .now) (c .before .before .before .before .before .before .before .before .before .args .table .now) (c .before .before .before .before .before .before .before .before .before .args .table .now) (c .before .before .before .before .before .before .before .before .before .args .n) (c .before .before .before .before .before .next .result) (c .before .next2 .result) (c .before .before .before .before .before .before .before .before .before .pre .1 .0) (c .before .before .before .before .before .before .before .before .before .pre .1 .1) (c .before .before .before .before .before .next .ensures) (c .before .before .before .if1 .left) (c .before .before .if2 .left) (c .before .next2 .ensures))
 
--- src/terms.rt:171:9
 read-atom-same-length-2 : (t : ℕ) → read-atom-lts.Need-same-length-2 (
   next-reads.Asked,
   next-reads.Learnt,
@@ -532,7 +504,6 @@ read-atom-same-length-2 : (t : ℕ) → read-atom-lts.Need-same-length-2 (
 ) (read-atom-at t) read-atom.Post
 read-atom-same-length-2 t c = search needs
 
--- src/terms.rt:171:9
 read-atom-returns-3 : (t : ℕ) → read-atom-lts.Need-returns-3 (
   next-reads.Asked,
   next-reads.Learnt,
@@ -547,7 +518,6 @@ read-atom-returns-3 : (t : ℕ) → read-atom-lts.Need-returns-3 (
 ) (read-atom-at t) read-atom.Post
 read-atom-returns-3 t c = atom-fault (c .before .before .before .before .before .before .before .before .before .before .before .before .before .before .args .left) (c .before .before .before .before .before .before .before .before .before .before .before .before .before .before .args .s .now) (c .before .before .before .before .before .before .before .before .before .before .before .before .before .before .args .st) (c .before .before .before .before .before .before .before .before .before .before .before .before .before .before .args .table .now) (c .before .before .before .before .read-arguments .last .1 .1 .1 .1 .0) (c .before .before .before .before .read-arguments .last .1 .1 .1 .1 .0) (c .before .before .before .before .before .before .before .before .before .before .before .before .before .before .args .n) (c .before .before .before .before .before .before .before .before .before .before .next .result) (c .before .before .before .before .before .before .next2 .result) (c .before .before .before .before .before .before .before .before .before .before .before .before .before .before .pre .1 .0) (c .before .before .before .before .before .before .before .before .before .before .before .before .before .before .pre .1 .1) (c .before .before .before .before .before .before .before .before .before .before .next .ensures) (c .before .before .before .before .before .before .before .before .if1 .left) (c .before .before .before .before .before .before .before .if2 .left) (c .before .before .before .before .before .before .next2 .ensures) (c .before .before .before .before .read-arguments .result) (c .before .before .before .before .read-arguments .ensures) (c .if3 .taken)
 
--- src/terms.rt:173:5
 read-atom-close-requires : (t : ℕ) → read-atom-lts.Need-close-requires (
   next-reads.Asked,
   next-reads.Learnt,
@@ -562,7 +532,6 @@ read-atom-close-requires : (t : ℕ) → read-atom-lts.Need-close-requires (
 ) (read-atom-at t) read-atom.Post
 read-atom-close-requires t c κs = close-ready (c .before .before .before .before .before .before .before .before .before .before .before .before .before .before .before .args .left) (c .before .before .before .before .before .before .before .before .before .before .before .before .before .before .before .args .s .now) (c .before .before .before .before .before .before .before .before .before .before .before .before .before .before .before .args .st) (c .before .before .before .before .before .before .before .before .before .before .before .before .before .before .before .args .table .now) (c .before .before .before .before .before .read-arguments .last .1 .1 .1 .1 .0) (c .before .before .before .before .before .read-arguments .last .1 .1 .1 .1 .0) (c .before .before .before .before .before .before .before .before .before .before .before .before .before .before .before .args .n) (c .before .before .before .before .before .before .before .before .before .before .before .next .result) (c .before .before .before .before .before .before .before .next2 .result) (c .before .before .before .before .before .before .before .before .before .before .before .before .before .before .before .pre .1 .0) (c .before .before .before .before .before .before .before .before .before .before .before .before .before .before .before .pre .1 .1) (c .before .before .before .before .before .before .before .before .before .before .before .next .ensures) (c .before .before .before .before .before .before .before .before .before .if1 .left) (c .before .before .before .before .before .before .before .before .if2 .left) (c .before .before .before .before .before .before .before .next2 .ensures) (c .before .before .before .before .before .read-arguments .result) (c .before .before .before .before .before .read-arguments .ensures) (c .before .if3 .left) (c .before .before .before .before .before .read-arguments .kept .1 .1 .1 .1 .0)
 
--- src/terms.rt:149:1
 read-atom-same-length-3 : (t : ℕ) → read-atom-lts.Need-same-length-3 (
   next-reads.Asked,
   next-reads.Learnt,
@@ -577,7 +546,6 @@ read-atom-same-length-3 : (t : ℕ) → read-atom-lts.Need-same-length-3 (
 ) (read-atom-at t) read-atom.Post
 read-atom-same-length-3 t c = search needs
 
--- src/terms.rt:149:1
 read-atom-returns-4 : (t : ℕ) → read-atom-lts.Need-returns-4 (
   next-reads.Asked,
   next-reads.Learnt,
@@ -592,7 +560,6 @@ read-atom-returns-4 : (t : ℕ) → read-atom-lts.Need-returns-4 (
 ) (read-atom-at t) read-atom.Post
 read-atom-returns-4 t c = atom-list (c .before .before .before .before .before .before .before .before .before .before .before .before .before .before .before .before .before .before .args .left) (c .before .before .before .before .before .before .before .before .before .before .before .before .before .before .before .before .before .before .args .s .now) (c .before .before .before .before .before .before .before .before .before .before .before .before .before .before .before .before .before .before .args .st) (c .before .before .before .before .before .before .before .before .before .before .before .before .before .before .before .before .before .before .args .table .now) (c .before .before .close .last .1 .1 .0) (c .before .before .before .before .before .before .before .before .read-arguments .last .1 .1 .1 .1 .0) (c .before .before .before .before .before .before .before .before .before .before .before .before .before .before .before .before .before .before .args .n) (c .before .before .before .before .before .before .before .before .before .before .before .before .before .before .next .result) (c .before .before .before .before .before .before .before .before .before .before .next2 .result) (c .before .before .before .before .before .before .before .before .before .before .before .before .before .before .before .before .before .before .pre .1 .0) (c .before .before .before .before .before .before .before .before .before .before .before .before .before .before .before .before .before .before .pre .1 .1) (c .before .before .before .before .before .before .before .before .before .before .before .before .before .before .next .ensures) (c .before .before .before .before .before .before .before .before .before .before .before .before .if1 .left) (c .before .before .before .before .before .before .before .before .before .before .before .if2 .left) (c .before .before .before .before .before .before .before .before .before .before .next2 .ensures) (c .before .before .before .before .before .before .before .before .read-arguments .result) (c .before .before .before .before .before .before .before .before .read-arguments .ensures) (c .before .before .before .before .if3 .left) (c .before .before .close .result) (c .before .before .close .ensures .0) (c .before .before .close .ensures .1)
 
--- src/terms.rt:203:9
 read-term-read-variable-requires : (t : ℕ) → read-term-lts.Need-read-variable-requires (
   read-variable-reads.Asked,
   read-variable-reads.Learnt,
@@ -605,7 +572,6 @@ read-term-read-variable-requires : (t : ℕ) → read-term-lts.Need-read-variabl
 ) (read-term-at t) read-term.Post
 read-term-read-variable-requires t c κs = search needs
 
--- src/terms.rt:203:9
 read-term-same-length : (t : ℕ) → read-term-lts.Need-same-length (
   read-variable-reads.Asked,
   read-variable-reads.Learnt,
@@ -618,7 +584,6 @@ read-term-same-length : (t : ℕ) → read-term-lts.Need-same-length (
 ) (read-term-at t) read-term.Post
 read-term-same-length t c = search needs
 
--- src/terms.rt:203:9
 read-term-returns : (t : ℕ) → read-term-lts.Need-returns (
   read-variable-reads.Asked,
   read-variable-reads.Learnt,
@@ -631,7 +596,6 @@ read-term-returns : (t : ℕ) → read-term-lts.Need-returns (
 ) (read-term-at t) read-term.Post
 read-term-returns t c = search (term-variable, needs)
 
--- src/terms.rt:207:20
 read-term-add-what : (t : ℕ) → read-term-lts.Need-add-what (
   read-variable-reads.Asked,
   read-variable-reads.Learnt,
@@ -644,7 +608,6 @@ read-term-add-what : (t : ℕ) → read-term-lts.Need-add-what (
 ) (read-term-at t) read-term.Post
 read-term-add-what t c = omega arith
 
--- src/terms.rt:208:9
 read-term-leaf-requires : (t : ℕ) → read-term-lts.Need-leaf-requires (
   read-variable-reads.Asked,
   read-variable-reads.Learnt,
@@ -657,7 +620,6 @@ read-term-leaf-requires : (t : ℕ) → read-term-lts.Need-leaf-requires (
 ) (read-term-at t) read-term.Post
 read-term-leaf-requires t c κs = search (leaf-asked, needs)
 
--- src/terms.rt:208:9
 read-term-same-length-2 : (t : ℕ) → read-term-lts.Need-same-length-2 (
   read-variable-reads.Asked,
   read-variable-reads.Learnt,
@@ -670,7 +632,6 @@ read-term-same-length-2 : (t : ℕ) → read-term-lts.Need-same-length-2 (
 ) (read-term-at t) read-term.Post
 read-term-same-length-2 t c = search needs
 
--- src/terms.rt:208:9
 read-term-returns-2 : (t : ℕ) → read-term-lts.Need-returns-2 (
   read-variable-reads.Asked,
   read-variable-reads.Learnt,
@@ -683,7 +644,6 @@ read-term-returns-2 : (t : ℕ) → read-term-lts.Need-returns-2 (
 ) (read-term-at t) read-term.Post
 read-term-returns-2 t c = search (term-numeral, needs)
 
--- src/terms.rt:211:9
 read-term-read-atom-requires : (t : ℕ) → read-term-lts.Need-read-atom-requires (
   read-variable-reads.Asked,
   read-variable-reads.Learnt,
@@ -696,7 +656,6 @@ read-term-read-atom-requires : (t : ℕ) → read-term-lts.Need-read-atom-requir
 ) (read-term-at t) read-term.Post
 read-term-read-atom-requires t c κs = (omega arith, search needs)
 
--- src/terms.rt:211:9
 read-term-same-length-3 : (t : ℕ) → read-term-lts.Need-same-length-3 (
   read-variable-reads.Asked,
   read-variable-reads.Learnt,
@@ -709,7 +668,6 @@ read-term-same-length-3 : (t : ℕ) → read-term-lts.Need-same-length-3 (
 ) (read-term-at t) read-term.Post
 read-term-same-length-3 t c = search needs
 
--- src/terms.rt:211:9
 read-term-returns-3 : (t : ℕ) → read-term-lts.Need-returns-3 (
   read-variable-reads.Asked,
   read-variable-reads.Learnt,
@@ -722,7 +680,6 @@ read-term-returns-3 : (t : ℕ) → read-term-lts.Need-returns-3 (
 ) (read-term-at t) read-term.Post
 read-term-returns-3 t c = search (term-name, needs)
 
--- src/terms.rt:213:5
 read-term-wrong-requires : (t : ℕ) → read-term-lts.Need-wrong-requires (
   read-variable-reads.Asked,
   read-variable-reads.Learnt,
@@ -735,7 +692,6 @@ read-term-wrong-requires : (t : ℕ) → read-term-lts.Need-wrong-requires (
 ) (read-term-at t) read-term.Post
 read-term-wrong-requires t c κs = search needs
 
--- src/terms.rt:196:1
 read-term-returns-4 : (t : ℕ) → read-term-lts.Need-returns-4 (
   read-variable-reads.Asked,
   read-variable-reads.Learnt,

@@ -1,19 +1,15 @@
+-- `reading::terms::begins` meets its contract: each way out is a law of `Starts`. Assumes nothing.
 use borrow.Author.Needs.{needs}
 use Rattle.reading.proofs.Starts.{begins-variable, begins-numeral, begins-name}
 use Rattle.reading.proofs.terms.begins.Statement.{statement}
 use Rattle.reading.proofs.terms.begins.Tie as tie
-use Rattle.reading.proofs.terms.begins.Reads as reads
-use Rattle.reading.proofs.terms.begins.Lts as lts
 
--- src/terms.rt:128:9
 returns : tie.Need-returns
 returns c = search (begins-variable, needs)
 
--- src/terms.rt:131:9
 returns-2 : tie.Need-returns-2
 returns-2 c = search (begins-numeral, needs)
 
--- src/terms.rt:124:1
 returns-3 : tie.Need-returns-3
 returns-3 c = search (begins-name, needs)
 

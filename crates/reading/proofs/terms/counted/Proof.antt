@@ -1,19 +1,15 @@
+-- `reading::terms::counted` meets its contract. Assumes nothing.
 use native.Mathlib.Omega.{arith}
 use borrow.Author.Needs.{needs}
 use Rattle.reading.proofs.terms.counted.Statement.{statement}
 use Rattle.reading.proofs.terms.counted.Tie as tie
-use Rattle.reading.proofs.terms.counted.Reads as reads
-use Rattle.reading.proofs.terms.counted.Lts as lts
 
--- src/terms.rt:256:9
 returns : tie.Need-returns
 returns c = search needs
 
--- src/terms.rt:259:17
 add-items : tie.Need-add-items
 add-items c = omega (arith, c .before .before .before .pre (c .before .if1 .left))
 
--- src/terms.rt:251:1
 returns-2 : tie.Need-returns-2
 returns-2 c = search needs
 

@@ -1,4 +1,5 @@
-use Prim.Native.Nat.{_+_, _-_, _≤_}
+-- `reading::terms::number_of` meets its contract: each way out is a law of `Reading`. Assumes nothing.
+use Prim.Native.Nat.{_-_, _≤_}
 use mathlib.Core.Path.{_≡_, refl}
 use borrow.Author.Needs.{needs}
 use native.Mathlib.Omega.{arith}
@@ -7,9 +8,6 @@ use Rattle.syntax.specs.Reading.{numberOf}
 use Rattle.reading.proofs.Reading.{number-found, number-step, number-none}
 use Rattle.reading.proofs.terms.number_of.Statement.{statement}
 use Rattle.reading.proofs.terms.number_of.Tie as tie
-use Rattle.reading.proofs.terms.number_of.Reads as reads
-use Rattle.reading.proofs.terms.number_of.Lts as lts
-use Rattle.reading.proofs.cursor.same_span.Reads as same-span-reads
 
 abbrev Inv-loop : tie.InvT-loop
 Inv-loop s t count first i₀ i = (i ≤ count) × (numberOf s t 0 (take count first) ≡ numberOf s t i (drop i (take count first)))
@@ -17,39 +15,30 @@ Inv-loop s t count first i₀ i = (i ≤ count) × (numberOf s t 0 (take count f
 abbrev μ-loop : tie.MeasureT-loop
 μ-loop s t count first i₀ i = count - i
 
--- src/terms.rt:47:5
 loop-holds : tie.Need-loop-holds Inv-loop μ-loop
 loop-holds c = (omega arith, refl)
 
--- src/terms.rt:48:17
 mul-w : tie.Need-mul-w Inv-loop μ-loop
 mul-w c = omega arith
 
--- src/terms.rt:48:17
 array-read-w : tie.Need-array-read-w Inv-loop μ-loop
 array-read-w c = search needs
 
--- src/terms.rt:49:12
 same-span-requires : tie.Need-same-span-requires Inv-loop μ-loop
 same-span-requires c κs = search needs
 
--- src/terms.rt:50:13
 returns : tie.Need-returns Inv-loop μ-loop
 returns c = search (number-found, needs)
 
--- src/terms.rt:52:9
 add-i : tie.Need-add-i Inv-loop μ-loop
 add-i c = omega arith
 
--- src/terms.rt:47:5
 loop-less : tie.Need-loop-less Inv-loop μ-loop
 loop-less c = omega arith
 
--- src/terms.rt:47:5
 loop-again : tie.Need-loop-again Inv-loop μ-loop
 loop-again c = (omega arith, search (number-step, needs))
 
--- src/terms.rt:39:1
 returns-2 : tie.Need-returns-2 Inv-loop μ-loop
 returns-2 c = search (number-none, needs)
 
