@@ -1,8 +1,9 @@
-// Reading, for programs in other languages.
+// Reading and checking, for programs in other languages.
 use syntax::Verdict;
 ghost use mathlib.Core.Path.{_≡_};
 ghost use Prim.Native.Nat.{_≤_};
 ghost use Rattle.syntax.specs.Verdicts.{readVerdict};
+ghost use Rattle.rules.specs.Checking.{checkVerdict};
 ghost use Rattle.exports.specs.Packed.{packed, joined};
 
 // The answer to a sheet that is read, as one number: below 2^32 accepted, the declarations times 2^16 and the clauses;
@@ -12,6 +13,14 @@ pub extern "C" fn pilvaust_read(sheet: &[u8]) -> u64
     ensures { λ r. ⌜ r ≡ packed (readVerdict (now (sheet .entry))) ⌝ }
 {
     pack(pilvaust::read(sheet))
+}
+
+// The same of a sheet that is checked.
+#[no_mangle]
+pub extern "C" fn pilvaust_check(sheet: &[u8]) -> u64
+    ensures { λ r. ⌜ r ≡ packed (checkVerdict (now (sheet .entry))) ⌝ }
+{
+    pack(pilvaust::check(sheet))
 }
 
 fn pack(verdict: Verdict) -> u64

@@ -2,8 +2,8 @@
 use Prim.Native.Nat.{ℕ}
 use mathlib.Core.Path.{_≡_, sym}
 use lib.ListN.{length, replicate, length-replicate}
-use Rattle.read_cases.proofs.room.Statement.{statement}
-use Rattle.read_cases.proofs.room.Tie as tie
+use Rattle.cases.proofs.room.Statement.{statement}
+use Rattle.cases.proofs.room.Tie as tie
 
 zeros : (n byte : ℕ) → n ≡ length (replicate n byte)
 zeros n byte = sym (length-replicate n byte)

@@ -1,0 +1,50 @@
+// The records of a file of cases, which tests/make_cases.py writes. A text of it is its length in 3 bytes, lowest first,
+// and then its bytes.
+ghost use mathlib.Core.Path.{_≡_};
+ghost use Prim.Native.Nat.{_≤_, _<_};
+ghost use lib.ListN.{length};
+
+// A text of the file.
+pub struct Part {
+    pub start: usize,
+    pub end: usize,
+}
+
+// The text whose length stands at a place; where the file ends before the text does, the empty text at the file's end.
+pub fn text_at(cases: &[u8], at: usize) -> Part
+    requires { ⌜ at ≤ length (now cases) ⌝ }
+    ensures { λ r. ⌜ (at ≤ r .start) × ((r .start ≤ r .end) × (r .end ≤ length (now (cases .entry)))) ⌝ }
+{
+    let all = cases.len();
+    if all - at < 3 {
+        return Part {
+            start: all,
+            end: all,
+        };
+    }
+    let start = at + 3;
+    let len = wide(cases[at]) + 256 * wide(cases[at + 1]) + 65536 * wide(cases[at + 2]);
+    if all - start < len {
+        return Part {
+            start: all,
+            end: all,
+        };
+    }
+    Part {
+        start: start,
+        end: start + len,
+    }
+}
+
+pub fn wide(byte: u8) -> usize
+    ensures { λ r. ⌜ r < 256 ⌝ }
+{
+    byte as usize
+}
+
+// Room for a file. The contract gives the length alone, which is all that lending the array needs.
+pub fn room() -> [u8; 900000]
+    ensures { λ r. ⌜ 900000 ≡ length r ⌝ }
+{
+    [0; 900000]
+}

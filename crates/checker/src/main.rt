@@ -1,0 +1,11 @@
+// Reads a sheet on standard input, checks it and prints the answer. One byte more than the limit is read, so that a sheet
+// past it is known by its length.
+use libc::STDIN_FILENO;
+
+fn main() {
+    let mut sheet = [0u8; 16385];
+    let n = io::read_full(STDIN_FILENO, &mut sheet);
+    let text = &sheet[..n];
+    let verdict = pilvaust::check(text);
+    printing::print_line(verdict, pilvaust::fault_name(text, b"", verdict));
+}

@@ -1,0 +1,25 @@
+-- The first seven refusals hand back no name.
+use Prim.Native.Nat.{ℕ}
+use mathlib.Core.Path.{_≡_, refl}
+use mathlib.Core.List.{List, _∷_, []}
+use denote.Enum.Declared.{tagOf}
+use types.Run.{OneOf, miss}
+use Rattle.syntax.specs.declared.Refusal.{Refusal}
+use Rattle.syntax.specs.declared.Refusal.the-variants.{Settings, TooLong, NoToken, Overlong, Misplaced, OverLimit, Repeated, Undeclared, OpenInput, OpenOutput}
+use Rattle.syntax.proofs.Refusal.{the-type}
+use Rattle.rules.specs.Checking.{nameSpan}
+
+abbrev seven : List ℕ
+seven = 0 ∷ 1 ∷ 2 ∷ 3 ∷ 4 ∷ 5 ∷ 6 ∷ []
+
+pub unnamed : (r : Refusal) → OneOf seven (tagOf the-type r) → (0 ≡ nameSpan r .0) × (0 ≡ nameSpan r .1)
+unnamed Settings k = (refl, refl)
+unnamed TooLong k = (refl, refl)
+unnamed (NoToken b) k = (refl, refl)
+unnamed (Overlong b) k = (refl, refl)
+unnamed (Misplaced b) k = (refl, refl)
+unnamed (OverLimit b) k = (refl, refl)
+unnamed (Repeated b) k = (refl, refl)
+unnamed (Undeclared c l at len) k = absurd (miss seven 7 tt k)
+unnamed (OpenInput c l a at len) k = absurd (miss seven 8 tt k)
+unnamed (OpenOutput c a at len) k = absurd (miss seven 9 tt k)

@@ -1,0 +1,56 @@
+use Prim.Native.Nat.{ℕ}
+use mathlib.Core.Path.{_≡_, sym, ap, _∙_}
+use Rattle.syntax.specs.Tokens.{spelling}
+use Rattle.rules.specs.Checking.{faultName, textAtFault, nameSpan}
+use borrow.Author.Needs.{needs}
+use Rattle.names.proofs.fault_name.Statement.{statement}
+use Rattle.names.proofs.fault_name.Tie as tie
+use Rattle.names.proofs.fault_name.Reads as reads
+use Rattle.names.proofs.fault_name.Lts as lts
+use Rattle.names.proofs.name_span.Reads as name-span-reads
+use Rattle.names.proofs.part_at_fault.Reads as part-at-fault-reads
+
+-- src/lib.rt:86:20
+enum-told : tie.Need-enum-told
+enum-told c = search needs
+
+-- src/lib.rt:86:13
+slice-aggregate-result : tie.Need-slice-aggregate-result
+slice-aggregate-result c = search needs
+
+-- src/lib.rt:86:13
+returns : tie.Need-returns
+unfolding faultName
+returns c = sym (ap (faultName (c .before .before .before .before .before .args .sheet .now) (c .before .before .before .before .before .args .goal .now)) (c .before .enum-told .given .1))
+
+-- src/lib.rt:88:28
+enum-known-verdict : tie.Need-enum-known-verdict
+enum-known-verdict c = search needs
+
+-- src/lib.rt:89:17
+name-span-requires : tie.Need-name-span-requires
+name-span-requires c κs = search needs
+
+-- src/lib.rt:92:13
+part-at-fault-requires : tie.Need-part-at-fault-requires
+part-at-fault-requires c κs = search needs
+
+-- src/lib.rt:92:13
+returns-2 : tie.Need-returns-2
+unfolding faultName
+returns-2 c = c .part-at-fault .ensures
+    ∙ ap (λ (n : ℕ). spelling (textAtFault (c .before .before .before .before .before .before .before .args .sheet .now) (c .before .before .before .before .before .before .before .args .goal .now) (c .before .before .before .verdict .given .0 .0)) n (c .before .name-span .result .len)) (c .before .name-span .ensures .0)
+    ∙ ap (spelling (textAtFault (c .before .before .before .before .before .before .before .args .sheet .now) (c .before .before .before .before .before .before .before .args .goal .now) (c .before .before .before .verdict .given .0 .0)) (nameSpan (c .before .before .before .verdict .given .0 .1 .0) .0)) (c .before .name-span .ensures .1)
+    ∙ sym (ap (faultName (c .before .before .before .before .before .before .before .args .sheet .now) (c .before .before .before .before .before .before .before .args .goal .now)) (c .before .before .before .verdict .given .1))
+
+pub fault-name-spec : {M : Type 1} → statement M
+fault-name-spec =
+    tie.close
+    (tie.spec
+    enum-told
+    slice-aggregate-result
+    returns
+    enum-known-verdict
+    name-span-requires
+    part-at-fault-requires
+    returns-2)
