@@ -1,8 +1,8 @@
 -- What reading accepts stands in its text: along the definitions of reading, with where the reader stands. Assumes nothing.
-use Prim.Native.Nat.{ℕ, zero, suc, _+_, _-_, _*_, _≤_, _<_}
+use Prim.Native.Nat.{ℕ, zero, suc, _+_, _-_, _≤_, _<_}
 use native.Mathlib.Omega.{arith}
-use mathlib.Core.Path.{_≡_, refl, sym, ap, ap₂, _∙_, subst, subst⁻¹}
-use mathlib.Core.Bool.{Bool, true, false, cond, _&&_}
+use mathlib.Core.Path.{_≡_, refl, sym, ap, _∙_, subst, subst⁻¹}
+use mathlib.Core.Bool.{Bool, true, false, cond}
 use mathlib.Core.List.{List, [], _∷_}
 use mathlib.Core.Option.{Option, none, some}
 use lib.Dec.{eqb, ltb, le→leb}
@@ -10,12 +10,12 @@ use lib.ListN.{length, take, drop, length-take, length-drop}
 use lib.Seq.{length-take-le}
 use borrow.Author.Tests.{eqb-true, ltb-true}
 use Rattle.syntax.specs.Tokens.{tokenAt, spelling}
-use Rattle.syntax.specs.Terms.{Term, Terms, variable, compound, nil, cons, arity, Atom, termOf, Literal, Body, call, equation, truth, falsity, done, also, literalOf, Mark, Declaration, Clause, Sheet, Goal, samePredicate, true-name, fail-name}
-use Rattle.syntax.specs.Reading.{Read, fault, ok, andThen, kindAt, is, standing, next, wrong, beyond, full, sameSpan, numberOf, isAnonymous, withNew, newVariable, oldVariable, readVariable, Start, aVariable, aNumeral, aName, startOf, begins, After, more, last, neither, afterOf, atomAt, atomWith, readAtomWith, termWith, readTermWith, argumentsAfter, readArguments, readList, readTerm, readAtom, readRight, afterAtom, afterTerm, literalWith, readLiteral, bodyAfter, readBody, fresh, Tail, fact, rule, other, tailOf, clauseOf, clauseAfter, readClause, Sign, mark, noMark, signOf, isMark, marksAfter, marksWith, readMarks, marksOf, declarationOf, declarationEnd, declarationFrom, isMode, afterNeck, readDeclaration, Item, noItem, aDeclaration, aClause, pastLimit, misplaced, itemOf, withDeclaration, withClause, itemWith, readItems, atStart, readSheet, goalOf, goalEnd, readGoal, brackets, arguments, literals, declarations, clauses}
+use Rattle.syntax.specs.Terms.{Term, Terms, variable, compound, nil, cons, arity, Atom, termOf, Literal, Body, call, equation, truth, falsity, also, literalOf, Mark, Declaration, Sheet, Goal, samePredicate, true-name, fail-name}
+use Rattle.syntax.specs.Reading.{Read, fault, ok, andThen, kindAt, is, standing, next, wrong, beyond, full, sameSpan, numberOf, isAnonymous, withNew, newVariable, oldVariable, readVariable, aVariable, aNumeral, aName, startOf, begins, After, more, last, neither, afterOf, atomAt, atomWith, readAtomWith, termWith, readTermWith, argumentsAfter, readArguments, readList, readTerm, readAtom, readRight, afterAtom, afterTerm, literalWith, readLiteral, bodyAfter, readBody, fresh, Tail, fact, rule, other, tailOf, clauseOf, clauseAfter, readClause, Sign, mark, noMark, signOf, isMark, marksAfter, marksWith, readMarks, marksOf, declarationOf, declarationEnd, declarationFrom, isMode, afterNeck, readDeclaration, noItem, aDeclaration, aClause, pastLimit, misplaced, withDeclaration, withClause, itemWith, readItems, atStart, readSheet, goalEnd, readGoal, declarations, clauses}
 use Rattle.syntax.specs.declared.Token.{Token}
 use Rattle.syntax.specs.declared.State.{State}
 use Rattle.lexer.proofs.Laws.{token-inside, token-word-short}
-use Rattle.modes.specs.Standing.{NameAt, Stands, AllStand, stands-variable, stands-compound, stand-nil, stand-cons, LiteralStands, call-stands, equation-stands, truth-stands, falsity-stands, BodyStands, done-stands, also-stands, ClauseStands, ClausesStand, no-clauses, clause-stands, DeclarationStands, DeclarationsStand, no-declarations, declaration-stands, SheetStands, GoalStands}
+use Rattle.modes.specs.Standing.{NameAt, Stands, AllStand, stands-variable, stands-compound, stand-nil, stand-cons, LiteralStands, call-stands, equation-stands, truth-stands, falsity-stands, BodyStands, done-stands, also-stands, ClauseStands, no-clauses, clause-stands, DeclarationStands, no-declarations, declaration-stands, SheetStands, GoalStands}
 
 -- ---- where a reader stands
 

@@ -3,17 +3,17 @@ use Prim.Native.Nat.{ℕ, suc, _+_, _-_, _*_, _%_, _/_, _≤_, _<_}
 use native.Mathlib.Omega.{arith}
 use mathlib.Core.Path.{_≡_, refl, sym, ap, ap₂, _∙_, subst, subst⁻¹}
 use mathlib.Core.Bool.{Bool, true, false, _&&_}
-use mathlib.Core.List.{List, [], _∷_, _++_}
+use mathlib.Core.List.{List, [], _∷_}
 use lib.Dec.{eqb}
 use lib.ListN.{length, getD, take, drop, length-append}
-use borrow.Author.Tests.{eq-eqb, ne-eqb, eqb-true}
+use borrow.Author.Tests.{eq-eqb, eqb-true}
 use Rattle.syntax.specs.Terms.{Term, Terms, variable, compound, nil, cons, arity, sameBytes, samePredicate}
 use Rattle.syntax.specs.Words.{termWords, termsWords}
 use Rattle.rules.specs.Modes.{Known, everything, equateVariable, equateSame, equate, equateAll}
 use Rattle.modes.specs.Functors.{sameFunctor}
-use Rattle.modes.specs.Tables.{Has, TermAt, TermsAt, PairAt, PairsAt}
+use Rattle.modes.specs.Tables.{Has, TermAt, PairAt, PairsAt}
 use Rattle.modes.specs.Standing.{NameAt, Numbered, AllNumbered, numbered-variable, numbered-compound, numbered-nil, numbered-cons, Stands, AllStand, stands-variable, stands-compound, stand-nil, stand-cons}
-use Rattle.modes.proofs.Places.{Node, node, has-left, has-right, long-term, cons-long, size-is, sized}
+use Rattle.modes.proofs.Places.{Node, node, has-left, has-right, cons-long, sized}
 
 -- ---- what stands in a text has numbered variables
 

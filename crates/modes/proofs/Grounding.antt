@@ -2,14 +2,13 @@
 use Prim.Native.Nat.{ℕ, _+_, _≤_, _<_}
 use native.Mathlib.Omega.{arith}
 use mathlib.Core.Path.{_≡_, refl, sym, ap, ap₂, _∙_, subst, subst⁻¹}
-use mathlib.Core.Bool.{Bool, true, false, not, _&&_, _||_}
+use mathlib.Core.Bool.{Bool, true, false, _&&_, _||_}
 use mathlib.Core.List.{List}
 use lib.ListN.{length, getD, set}
-use Rattle.syntax.specs.Terms.{Term, Terms, variable, compound, nil, cons}
-use Rattle.syntax.specs.Words.{termWords, termsWords}
+use Rattle.syntax.specs.Terms.{Term, Terms, variable, compound}
+use Rattle.syntax.specs.Words.{termWords}
 use Rattle.rules.specs.Modes.{Known, isGround, areGround, groundTerm, groundTerms, groundBoth, equateVariable}
 use Rattle.modes.specs.Tables.{Has, TermAt, TermsAt}
-use Rattle.modes.specs.Standing.{Numbered}
 use Rattle.modes.proofs.Places.{node, Opened, opened, none-left, Parted, parted}
 
 -- ---- one term

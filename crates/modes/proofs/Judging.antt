@@ -1,22 +1,21 @@
 -- Laws of the faults of a call and of a head, one for each way out of the functions. Assumes nothing.
-use Prim.Native.Nat.{ℕ, zero, suc, _+_, _-_, _*_, _%_, _/_, _≤_, _<_}
+use Prim.Native.Nat.{ℕ, zero, suc, _+_, _≤_, _<_}
 use native.Mathlib.Omega.{arith}
-use mathlib.Core.Path.{_≡_, refl, sym, ap, ap₂, _∙_, subst, subst⁻¹}
+use mathlib.Core.Path.{_≡_, refl, sym, ap, ap₂, _∙_}
 use mathlib.Core.Bool.{Bool, true, false}
-use mathlib.Core.List.{List, [], _∷_, _++_}
+use mathlib.Core.List.{List, [], _∷_}
 use mathlib.Core.Option.{Option, none, some}
-use lib.ListN.{length, getD}
-use Rattle.syntax.specs.Terms.{Term, Terms, compound, arity, Atom, termOf, Mark, input, output}
-use Rattle.syntax.specs.Words.{termWords, termsWords, atomWords, markNumber, marksNumber}
-use Rattle.syntax.specs.declared.Refusal.{Refusal}
+use lib.ListN.{length}
+use Rattle.syntax.specs.Terms.{compound, termOf, Mark}
+use Rattle.syntax.specs.Words.{termWords, markNumber}
 use Rattle.syntax.specs.declared.Refusal.the-variants.{OpenInput, OpenOutput}
-use Rattle.rules.specs.Modes.{Known, isGround, listOf, faulty, firstFaulty, groundMarked, openInput, openOutput}
-use Rattle.modes.specs.Standing.{Numbered, AllNumbered, numbered-compound}
-use Rattle.modes.specs.Tables.{Has, TermAt, MarkedAt, JudgedAt}
-use Rattle.modes.specs.Answers.{checkedOf, numberOr0}
-use Rattle.modes.specs.declared.Checked.{Checked}
+use Rattle.rules.specs.Modes.{Known, isGround, listOf, faulty, firstFaulty, openInput, openOutput}
+use Rattle.modes.specs.Standing.{numbered-compound}
+use Rattle.modes.specs.Tables.{TermAt, NamedAt, MarkedAt, JudgedAt}
+use Rattle.modes.specs.Answers.{checkedOf, nameOf, numberOr0}
+use Rattle.modes.specs.declared.marks.Name.{Name}
 use Rattle.modes.specs.declared.Checked.the-variants.{Fine, Fault}
-use Rattle.modes.proofs.Places.{Node, node, sized}
+use Rattle.modes.proofs.Places.{Says, says, sized}
 
 -- ---- the number of an argument
 
@@ -43,27 +42,17 @@ some-if-not (some k) h = refl
 
 -- ---- an atom with its marks
 
-pub record Says (table : List ℕ) (p : ℕ) (a : Atom) : Type 0 where
-  pub inside : p + 2 < length table
-  pub what : getD table p 0 ≡ 64 + arity (a .args) * 32 + length (a .name)
-  pub place : getD table (p + 2) 0 ≡ a .at
-  pub has : Has table (p + 3) (termsWords (a .args))
-  pub size : length (atomWords a) ≡ 3 + length (termsWords (a .args))
-
 pub judged : {table : List ℕ} {p marks : ℕ} (w : JudgedAt table p marks) → Says table p (w .atom)
-unfolding termWords
-judged {table} {p} w =
-    let o : Node table p (64 + arity (w .atom .args) * 32 + length (w .atom .name)) (3 + length (termsWords (w .atom .args))) (w .atom .at) (termsWords (w .atom .args)) = node table p _ _ _ _ (w .has) in
-    record { inside = o .inside; what = o .first; place = o .third; has = o .rest; size = omega arith }
+judged {table} {p} w = says table p (w .atom) (w .has)
+
+abbrev pub judged-name : {table : List ℕ} {p marks : ℕ} → JudgedAt table p marks → NamedAt table p
+judged-name w = record { atom = w .atom; has = w .has; short = w .short }
 
 abbrev pub judged-term : {table : List ℕ} {p marks : ℕ} → JudgedAt table p marks → TermAt table p
 judged-term w = record { term = termOf (w .atom); has = w .has; numbered = numbered-compound (w .numbered) }
 
 pub judged-room : {table : List ℕ} {p marks : ℕ} → JudgedAt table p marks → p + 2 < length table
 judged-room w = judged w .inside
-
-pub judged-named : {table : List ℕ} {p marks : ℕ} (v : ℕ) → v ≡ getD table p 0 → JudgedAt table p marks → 64 ≤ v
-judged-named v e w = omega (arith, judged w .what)
 
 module _ (table : List ℕ) (p marks stop : ℕ) (s : (u : TermAt table p) → stop ≡ p + length (termWords (u .term))) where
   abbrev pub judged-marked : (m : Mark) → JudgedAt table p marks → MarkedAt table (p + 3) stop marks (markNumber m)
@@ -91,9 +80,6 @@ module _ (table : List ℕ) (p marks stop : ℕ) (s : (u : TermAt table p) → s
     one-open n w =
         some-if-not _ (λ e. n (ea (judged-marked m w) ∙ e)) ∙ ap some (sym (ea (judged-marked m w)))
 
-    len-is : (v : ℕ) → v ≡ getD table p 0 → (w : JudgedAt table p marks) → (v - 64) % 32 ≡ length (w .atom .name)
-    len-is v e w = omega (arith, judged w .what, w .short)
-
     pub call-fine : argument ≡ 0 → (c l : ℕ) (w : JudgedAt table p marks)
         → Fine ≡ checkedOf (openInput c l (w .atom) (firstFaulty m (isGround τ) (w .listed) (listOf (w .atom .args)) 1))
     unfolding openInput
@@ -104,17 +90,23 @@ module _ (table : List ℕ) (p marks stop : ℕ) (s : (u : TermAt table p) → s
     unfolding openOutput
     head-fine e c w = sym (ap (λ (o : Option ℕ). checkedOf (openOutput c (w .atom) o)) (none-open e w))
 
-    module _ (n : argument ≡ 0 → ⊥) (v : ℕ) (ev : v ≡ getD table p 0) (at : ℕ) (et : at ≡ getD table (p + 2) 0) where
+    module _ (n : argument ≡ 0 → ⊥) (name : Name) (en : (w : NamedAt table p) → name ≡ nameOf (w .atom)) where
+      at-is : (w : JudgedAt table p marks) → name .at ≡ w .atom .at
+      at-is w = ap (λ (x : Name). x .at) (en (judged-name w))
+
+      len-is : (w : JudgedAt table p marks) → name .len ≡ length (w .atom .name)
+      len-is w = ap (λ (x : Name). x .len) (en (judged-name w))
+
       pub call-faulty : (c l : ℕ) (w : JudgedAt table p marks)
-          → Fault (OpenInput c l argument at ((v - 64) % 32)) ≡ checkedOf (openInput c l (w .atom) (firstFaulty m (isGround τ) (w .listed) (listOf (w .atom .args)) 1))
+          → Fault (OpenInput c l argument (name .at) (name .len)) ≡ checkedOf (openInput c l (w .atom) (firstFaulty m (isGround τ) (w .listed) (listOf (w .atom .args)) 1))
       unfolding openInput
       call-faulty c l w =
-          ap₂ (λ (a k : ℕ). Fault (OpenInput c l argument a k)) (et ∙ judged w .place) (len-is v ev w)
+          ap₂ (λ (a k : ℕ). Fault (OpenInput c l argument a k)) (at-is w) (len-is w)
           ∙ sym (ap (λ (o : Option ℕ). checkedOf (openInput c l (w .atom) o)) (one-open n w))
 
       pub head-faulty : (c : ℕ) (w : JudgedAt table p marks)
-          → Fault (OpenOutput c argument at ((v - 64) % 32)) ≡ checkedOf (openOutput c (w .atom) (firstFaulty m (isGround τ) (w .listed) (listOf (w .atom .args)) 1))
+          → Fault (OpenOutput c argument (name .at) (name .len)) ≡ checkedOf (openOutput c (w .atom) (firstFaulty m (isGround τ) (w .listed) (listOf (w .atom .args)) 1))
       unfolding openOutput
       head-faulty c w =
-          ap₂ (λ (a k : ℕ). Fault (OpenOutput c argument a k)) (et ∙ judged w .place) (len-is v ev w)
+          ap₂ (λ (a k : ℕ). Fault (OpenOutput c argument a k)) (at-is w) (len-is w)
           ∙ sym (ap (λ (o : Option ℕ). checkedOf (openOutput c (w .atom) o)) (one-open n w))

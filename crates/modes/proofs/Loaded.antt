@@ -1,15 +1,14 @@
 -- From what the parser promises of its tables to what this crate's functions ask for. Assumes nothing.
-use Prim.Native.Nat.{ℕ, zero, suc, _+_, _*_, _≤_, _<_}
+use Prim.Native.Nat.{ℕ, suc, _*_, _<_}
 use native.Mathlib.Omega.{arith}
-use mathlib.Core.Path.{_≡_, refl, sym, ap, _∙_}
+use mathlib.Core.Path.{_≡_, sym, ap, _∙_}
 use mathlib.Core.List.{List, [], _∷_, _++_}
 use lib.ListN.{length, getD, take, drop, length-drop, take-append-drop}
 use lib.Seq.{drop-cons}
 use Rattle.syntax.specs.Terms.{Sheet, Goal}
 use Rattle.syntax.specs.Words.{declarationsWords, clausesWords, bodyWords, bodyLength}
-use Rattle.syntax.specs.Reading.{Read, ok, readSheet, readGoal}
+use Rattle.syntax.specs.Reading.{ok, readSheet, readGoal}
 use Rattle.syntax.specs.declared.State.{State}
-use Rattle.modes.specs.Standing.{SheetStands, GoalStands}
 use Rattle.modes.specs.Tables.{Has, SheetAt, GoalAt}
 use Rattle.modes.proofs.Accepted.{read-stands, goal-stands}
 

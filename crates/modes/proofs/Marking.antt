@@ -1,29 +1,27 @@
 -- Laws of declarations and of arguments with a mark, one for each way out of the functions. Assumes nothing.
-use Prim.Native.Nat.{ℕ, zero, suc, _+_, _-_, _*_, _%_, _/_, _≤_, _<_}
+use Prim.Native.Nat.{ℕ, suc, _+_, _-_, _*_, _%_, _/_, _≤_, _<_}
 use native.Mathlib.Numerals.{add-one}
-use native.Mathlib.Nat.{add-zero, add-suc}
 use native.Mathlib.Omega.{arith}
 use mathlib.Core.Path.{_≡_, refl, sym, ap, ap₂, _∙_, subst, subst⁻¹}
 use mathlib.Core.Bool.{Bool, true, false, not, _&&_}
-use mathlib.Core.List.{List, [], _∷_, _++_}
+use mathlib.Core.List.{List, [], _∷_}
 use mathlib.Core.Option.{Option, none, some}
 use lib.Dec.{eqb}
 use lib.ListN.{length, getD, take, drop, length-append, length-drop}
 use lib.Seq.{length-take-le}
-use borrow.Author.Tests.{eq-eqb, ne-eqb, eqb-true}
-use Rattle.syntax.specs.Terms.{Term, Terms, variable, compound, nil, cons, arity, Atom, termOf, Mark, input, output, free, Declaration, sameBytes, samePredicate}
+use borrow.Author.Tests.{eq-eqb, ne-eqb}
+use Rattle.syntax.specs.Terms.{Term, Terms, compound, nil, cons, arity, Atom, termOf, Mark, input, output, free, Declaration, sameBytes, samePredicate}
 use Rattle.syntax.specs.Tokens.{spelling}
 use Rattle.syntax.specs.Words.{termWords, termsWords, declarationWords, declarationsWords, markNumber, marksNumber}
-use Rattle.syntax.specs.declared.Refusal.{Refusal}
-use Rattle.syntax.specs.declared.Refusal.the-variants.{Undeclared, OpenInput, OpenOutput}
-use Rattle.rules.specs.Modes.{Known, isGround, marksOf, orNoMarks, marksFor, sameMark, listOf, faulty, firstFaulty, groundIf, groundMarked, groundTerm, undeclared, undeclaredAtom, openInput, openOutput}
-use Rattle.modes.specs.Standing.{NameAt, AllNumbered, numbered-nil, numbered-cons, Stands, AllStand, stands-compound, DeclarationStands, DeclarationsStand, no-declarations, declaration-stands}
-use Rattle.modes.specs.Tables.{Has, TermAt, TermsAt, DeclarationAt, DeclarationsAt, AtomAt, MarkedAt, JudgedAt}
-use Rattle.modes.specs.Answers.{checkedOf, numberOr0, position}
-use Rattle.modes.specs.declared.Checked.{Checked}
+use Rattle.syntax.specs.declared.Refusal.the-variants.{Undeclared}
+use Rattle.rules.specs.Modes.{Known, isGround, marksOf, orNoMarks, marksFor, sameMark, listOf, faulty, firstFaulty, groundIf, groundMarked, groundTerm, undeclared, undeclaredAtom}
+use Rattle.modes.specs.Standing.{NameAt, AllNumbered, numbered-cons, Stands, AllStand, stands-compound, DeclarationsStand, declaration-stands}
+use Rattle.modes.specs.Tables.{Has, TermAt, DeclarationAt, DeclarationsAt, AtomAt, NamedAt, MarkedAt}
+use Rattle.modes.specs.Answers.{checkedOf, nameOf, numberOr0, position}
+use Rattle.modes.specs.declared.marks.Name.{Name}
 use Rattle.modes.specs.declared.Checked.the-variants.{Fine, Fault}
-use Rattle.modes.proofs.Places.{Node, node, has-left, has-right, has-inside, sized, cons-long, long-term}
-use Rattle.modes.proofs.Equating.{lengths-differ, all-numbered}
+use Rattle.modes.proofs.Places.{Says, says as atom-words, Node, node, has-left, has-right, has-inside, sized, cons-long}
+use Rattle.modes.proofs.Equating.{lengths-differ}
 
 -- ---- one declaration
 
@@ -144,53 +142,56 @@ module _ (s declared : List ℕ) (n : ℕ) (name : List ℕ) (arguments i : ℕ)
 
 -- ---- atoms
 
-pub record AtomSays (g table : List ℕ) (p : ℕ) (a : Atom) : Type 0 where
-  pub inside : p + 2 < length table
-  pub what : getD table p 0 ≡ 64 + arity (a .args) * 32 + length (a .name)
-  pub place : getD table (p + 2) 0 ≡ a .at
+pub name-room : {table : List ℕ} {p : ℕ} → NamedAt table p → p + 2 < length table
+name-room {table} {p} w = atom-words table p (w .atom) (w .has) .inside
+
+pub name-least : {table : List ℕ} {p : ℕ} (v : ℕ) → v ≡ getD table p 0 → NamedAt table p → 64 ≤ v
+name-least {table} {p} v e w = omega (arith, atom-words table p (w .atom) (w .has) .what)
+
+pub name-is : {table : List ℕ} {p : ℕ} (v at : ℕ) → v ≡ getD table p 0 → at ≡ getD table (p + 2) 0 → (w : NamedAt table p)
+    → record { at = at; len = (v - 64) % 32; arguments = (v - 64) / 32 } ≡ nameOf (w .atom)
+name-is {table} {p} v at ev ea w =
+    let o : Says table p (w .atom) = atom-words table p (w .atom) (w .has) in
+    let place : at ≡ w .atom .at = ea ∙ o .place in
+    let long : (v - 64) % 32 ≡ length (w .atom .name) = omega (arith, o .what, w .short) in
+    let count : (v - 64) / 32 ≡ arity (w .atom .args) = omega (arith, o .what, w .short) in
+    cc
+
+-- an atom of a text has a short name, and arguments that stand in the text
+pub record InText (g : List ℕ) (a : Atom) : Type 0 where
   pub name-at : NameAt g (a .at) (a .name)
   pub stand : AllStand g (a .args)
 
-atom-by : (g table : List ℕ) (p : ℕ) (a : Atom) → Has table p (termWords (termOf a)) → Stands g (termOf a) → AtomSays g table p a
-unfolding termWords
-atom-by g table p a h (stands-compound n k ks) =
-    let o : Node table p (64 + arity (a .args) * 32 + length (a .name)) (3 + length (termsWords (a .args))) (a .at) (termsWords (a .args)) = node table p _ _ _ _ h in
-    record { inside = o .inside; what = o .first; place = o .third; name-at = n; stand = ks }
+in-by : (g : List ℕ) (a : Atom) → Stands g (termOf a) → InText g a
+in-by g a (stands-compound n k ks) = record { name-at = n; stand = ks }
 
-pub atom-says : {g table : List ℕ} {p : ℕ} (w : AtomAt g table p) → AtomSays g table p (w .atom)
-atom-says {g} {table} {p} w = atom-by g table p (w .atom) (w .has) (w .stands)
+pub in-text : {g table : List ℕ} {p : ℕ} (w : AtomAt g table p) → InText g (w .atom)
+in-text {g} w = in-by g (w .atom) (w .stands)
 
-pub atom-room : (g table : List ℕ) (p : ℕ) → AtomAt g table p → p + 2 < length table
-atom-room g table p w = atom-says w .inside
+abbrev pub atom-name : {g table : List ℕ} {p : ℕ} → AtomAt g table p → NamedAt table p
+atom-name w = record { atom = w .atom; has = w .has; short = in-text w .name-at .short }
 
-pub atom-named : (g table : List ℕ) (p v : ℕ) → v ≡ getD table p 0 → AtomAt g table p → 64 ≤ v
-atom-named g table p v e w = omega (arith, atom-says w .what)
+module _ (g table : List ℕ) (p : ℕ) (name : Name) (en : (w : NamedAt table p) → name ≡ nameOf (w .atom)) where
+  at-is : (w : AtomAt g table p) → name .at ≡ w .atom .at
+  at-is w = ap (λ (x : Name). x .at) (en (atom-name w))
 
-module _ (g table : List ℕ) (p v : ℕ) (ev : v ≡ getD table p 0) where
-  len-is : (w : AtomAt g table p) → (v - 64) % 32 ≡ length (w .atom .name)
-  len-is w = omega (arith, atom-says w .what, atom-says w .name-at .short)
+  len-is : (w : AtomAt g table p) → name .len ≡ length (w .atom .name)
+  len-is w = ap (λ (x : Name). x .len) (en (atom-name w))
 
-  arguments-is : (w : AtomAt g table p) → (v - 64) / 32 ≡ arity (w .atom .args)
-  arguments-is w = omega (arith, atom-says w .what, atom-says w .name-at .short)
+  pub atom-inside : AtomAt g table p → name .at + name .len ≤ length g
+  atom-inside w = omega (arith, at-is w, len-is w, in-text w .name-at .inside)
 
-  module _ (at : ℕ) (ea : at ≡ getD table (p + 2) 0) where
-    pub atom-inside : AtomAt g table p → at + (v - 64) % 32 ≤ length g
-    atom-inside w = omega (arith, len-is w, atom-says w .place, atom-says w .name-at .inside)
+  pub atom-found : (s declared : List ℕ) (n r : ℕ) → ((d : DeclarationsAt s declared n) → r ≡ position (d .list) (spelling g (name .at) (name .len)) (name .arguments))
+      → (d : DeclarationsAt s declared n) (w : AtomAt g table p) → r ≡ position (d .list) (w .atom .name) (arity (w .atom .args))
+  atom-found s declared n r h d w =
+      h d ∙ ap₂ (position (d .list)) (ap₂ (λ (a l : ℕ). spelling g a l) (at-is w) (len-is w) ∙ sym (in-text w .name-at .spelt)) (ap (λ (x : Name). x .arguments) (en (atom-name w)))
 
-    pub atom-found : (s declared : List ℕ) (n r : ℕ) → ((d : DeclarationsAt s declared n) → r ≡ position (d .list) (spelling g at ((v - 64) % 32)) ((v - 64) / 32))
-        → (d : DeclarationsAt s declared n) (w : AtomAt g table p) → r ≡ position (d .list) (w .atom .name) (arity (w .atom .args))
-    atom-found s declared n r h d w =
-        h d ∙ ap₂ (position (d .list))
-        (ap₂ (λ (a l : ℕ). spelling g a l) (ea ∙ atom-says w .place) (len-is w) ∙ sym (atom-says w .name-at .spelt))
-        (arguments-is w)
-
-    -- the fault of an atom without declaration
-    pub undeclared-is : (ds : List Declaration) (c l : ℕ) (w : AtomAt g table p) → marksOf ds (w .atom) ≡ none
-        → Fault (Undeclared c l at ((v - 64) % 32)) ≡ checkedOf (undeclaredAtom ds c l (w .atom))
-    unfolding undeclaredAtom undeclared
-    undeclared-is ds c l w e =
-        ap₂ (λ (a k : ℕ). Fault (Undeclared c l a k)) (ea ∙ atom-says w .place) (len-is w)
-        ∙ sym (ap (λ (o : Option (List Mark)). checkedOf (undeclared c l (w .atom) o)) e)
+  -- the fault of an atom without declaration
+  pub undeclared-is : (ds : List Declaration) (c l : ℕ) (w : AtomAt g table p) → marksOf ds (w .atom) ≡ none
+      → Fault (Undeclared c l (name .at) (name .len)) ≡ checkedOf (undeclaredAtom ds c l (w .atom))
+  unfolding undeclaredAtom undeclared
+  undeclared-is ds c l w e =
+      ap₂ (λ (a k : ℕ). Fault (Undeclared c l a k)) (at-is w) (len-is w) ∙ sym (ap (λ (o : Option (List Mark)). checkedOf (undeclared c l (w .atom) o)) e)
 
 -- ---- the marks of a predicate
 

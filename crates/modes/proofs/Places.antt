@@ -1,14 +1,14 @@
 -- Laws of words that stand in a table, and of the terms that they are. Assumes nothing.
-use Prim.Native.Nat.{ℕ, zero, suc, _+_, _-_, _*_, _≤_, _<_}
-use native.Mathlib.Nat.{add-zero, add-suc}
+use Prim.Native.Nat.{ℕ, zero, suc, _+_, _*_, _≤_, _<_}
+use native.Mathlib.Nat.{add-zero}
 use native.Mathlib.Numerals.{add-one}
 use native.Mathlib.Omega.{arith}
-use mathlib.Core.Path.{_≡_, refl, sym, ap, _∙_, subst, subst⁻¹}
+use mathlib.Core.Path.{_≡_, refl, _∙_, subst, subst⁻¹}
 use mathlib.Core.List.{List, [], _∷_, _++_}
 use lib.ListN.{length, getD, length-append}
-use Rattle.syntax.specs.Terms.{Term, Terms, variable, compound, nil, cons, arity}
-use Rattle.syntax.specs.Words.{termWords, termsWords}
-use Rattle.modes.specs.Standing.{Numbered, AllNumbered, numbered-variable, numbered-compound, numbered-nil, numbered-cons, Stands, AllStand, stands-variable, stands-compound, stand-nil, stand-cons}
+use Rattle.syntax.specs.Terms.{Term, Terms, variable, compound, nil, cons, arity, Atom}
+use Rattle.syntax.specs.Words.{termWords, termsWords, atomWords}
+use Rattle.modes.specs.Standing.{Numbered, AllNumbered, numbered-variable, numbered-compound, numbered-cons}
 use Rattle.modes.specs.Tables.{Has, TermAt, TermsAt}
 
 -- ---- words
@@ -120,6 +120,20 @@ opened-by table p stop (compound at f ts) h (numbered-compound k) l e = record {
 pub opened : {table : List ℕ} {p : ℕ} (v stop : ℕ) → v ≡ getD table p 0 → 64 ≤ v
     → (w : TermAt table p) → stop ≡ p + length (termWords (w .term)) → Opened table p stop (w .term)
 opened {table} {p} v stop e l w s = opened-by table p stop (w .term) (w .has) (w .numbered) (omega arith) s
+
+-- what the words of an atom say
+pub record Says (table : List ℕ) (p : ℕ) (a : Atom) : Type 0 where
+  pub inside : p + 2 < length table
+  pub what : getD table p 0 ≡ 64 + arity (a .args) * 32 + length (a .name)
+  pub place : getD table (p + 2) 0 ≡ a .at
+  pub has : Has table (p + 3) (termsWords (a .args))
+  pub size : length (atomWords a) ≡ 3 + length (termsWords (a .args))
+
+pub says : (table : List ℕ) (p : ℕ) (a : Atom) → Has table p (atomWords a) → Says table p a
+unfolding termWords
+says table p a h =
+    let o : Node table p (64 + arity (a .args) * 32 + length (a .name)) (3 + length (termsWords (a .args))) (a .at) (termsWords (a .args)) = node table p _ _ _ _ h in
+    record { inside = o .inside; what = o .first; place = o .third; has = o .rest; size = omega arith }
 
 -- ---- lists of terms
 

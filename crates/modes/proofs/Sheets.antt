@@ -1,17 +1,17 @@
 -- Laws of clauses, sheets and goals in a table, one for each way out of the functions. Assumes nothing.
-use Prim.Native.Nat.{ℕ, zero, suc, _+_, _-_, _*_, _≤_, _<_}
+use Prim.Native.Nat.{ℕ, suc, _+_, _≤_, _<_}
 use native.Mathlib.Numerals.{add-one}
 use native.Mathlib.Omega.{arith}
-use mathlib.Core.Path.{_≡_, refl, sym, ap, ap₂, _∙_, subst, subst⁻¹}
-use mathlib.Core.Bool.{Bool, true, false}
+use mathlib.Core.Path.{_≡_, refl, sym, ap, _∙_, subst, subst⁻¹}
+use mathlib.Core.Bool.{true, false}
 use mathlib.Core.List.{List, [], _∷_, _++_}
 use mathlib.Core.Option.{Option, none, some}
-use lib.ListN.{length, getD, length-append}
-use Rattle.syntax.specs.Terms.{Term, Terms, compound, arity, Atom, termOf, Body, Mark, input, output, Declaration, Clause, Sheet, Goal}
-use Rattle.syntax.specs.Words.{termWords, termsWords, atomWords, bodyWords, bodyLength, clauseWords, clausesWords, declarationsWords, markNumber, marksNumber}
+use lib.ListN.{length, getD}
+use Rattle.syntax.specs.Terms.{Atom, termOf, Mark, input, output, Declaration, Clause}
+use Rattle.syntax.specs.Words.{termWords, atomWords, bodyWords, bodyLength, clauseWords, clausesWords, markNumber, marksNumber}
 use Rattle.syntax.specs.declared.Refusal.{Refusal}
-use Rattle.rules.specs.Modes.{Known, nothing, isGround, marksFor, listOf, firstFaulty, groundMarked, openOutput, undeclaredAtom, undeclaredBody, undeclaredClause, undeclaredClauses, undeclaredInSheet, undeclaredInGoal, startKnown, headFault, clauseFault, clausesFault, sheetFault, goalFault, walkFault, Walk, faulted, known, bodyFault}
-use Rattle.modes.specs.Standing.{Stands, BodyStands, ClauseStands, ClausesStand, no-clauses, clause-stands, DeclarationsStand}
+use Rattle.rules.specs.Modes.{Known, nothing, isGround, marksFor, listOf, firstFaulty, groundMarked, openOutput, undeclaredAtom, undeclaredBody, undeclaredClause, undeclaredClauses, undeclaredInSheet, undeclaredInGoal, startKnown, headFault, clauseFault, clausesFault, sheetFault, goalFault, walkFault, Walk, bodyFault}
+use Rattle.modes.specs.Standing.{ClausesStand, clause-stands}
 use Rattle.modes.specs.Tables.{Has, TermAt, MarkedAt, JudgedAt, DeclarationsAt, AtomAt, BodyAt, ClauseAt, ClausesAt, SheetAt, GoalAt}
 use Rattle.modes.specs.Answers.{checkedOf, isFault, walkBy, walkOf}
 use Rattle.modes.specs.declared.Checked.{Checked}

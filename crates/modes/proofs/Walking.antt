@@ -1,5 +1,5 @@
 -- Laws of literals and bodies in a table, one for each way out of the functions. Assumes nothing.
-use Prim.Native.Nat.{ℕ, zero, suc, _+_, _-_, _*_, _≤_, _<_}
+use Prim.Native.Nat.{ℕ, zero, suc, _+_, _≤_, _<_}
 use native.Mathlib.Numerals.{add-one}
 use native.Mathlib.Omega.{arith}
 use mathlib.Core.Path.{_≡_, refl, sym, ap, ap₂, _∙_, subst, subst⁻¹}
@@ -7,20 +7,20 @@ use mathlib.Core.Bool.{Bool, true, false}
 use mathlib.Core.List.{List, [], _∷_, _++_}
 use mathlib.Core.Option.{Option, none, some}
 use lib.ListN.{length, getD, length-append}
-use Rattle.syntax.specs.Terms.{Term, Terms, compound, arity, Atom, termOf, Literal, Body, call, equation, truth, falsity, done, also, Mark, input, output, Declaration}
-use Rattle.syntax.specs.Words.{termWords, termsWords, atomWords, literalWords, bodyWords, bodyLength, markNumber, marksNumber}
+use Rattle.syntax.specs.Terms.{Term, Atom, termOf, Literal, Body, call, equation, truth, falsity, done, also, input, output, Declaration}
+use Rattle.syntax.specs.Words.{termWords, atomWords, literalWords, bodyWords, bodyLength, marksNumber}
 use Rattle.syntax.specs.declared.Refusal.{Refusal}
 use Rattle.rules.specs.Modes.{Known, everything, isGround, marksFor, listOf, firstFaulty, groundMarked, equate, openInput, undeclaredAtom, undeclaredLiteral, undeclaredBody, literalFault, afterLiteral, Walk, faulted, known, walkOn, bodyFault}
-use Rattle.modes.specs.Standing.{Stands, stands-compound, LiteralStands, call-stands, equation-stands, truth-stands, falsity-stands, BodyStands, done-stands, also-stands}
+use Rattle.modes.specs.Standing.{Stands, LiteralStands, call-stands, equation-stands, BodyStands, also-stands}
 use Rattle.modes.specs.Tables.{Has, TermAt, PairAt, MarkedAt, JudgedAt, DeclarationsAt, AtomAt, LiteralAt, BodyAt}
 use Rattle.modes.specs.Answers.{checkedOf, isFault, walkBy, walkOf, literalWalk}
 use Rattle.modes.specs.declared.Checked.{Checked}
 use Rattle.modes.specs.declared.Checked.the-variants.{Fine, Fault}
 use Rattle.modes.specs.declared.Walked.{Walked}
-use Rattle.modes.proofs.Places.{Node, node, has-left, has-right, has-inside, sized, long-term}
-use Rattle.modes.proofs.Equating.{numbered, all-numbered, left-at, right-at}
-use Rattle.modes.proofs.Marking.{AtomSays, atom-says}
-use Rattle.modes.proofs.Judging.{judged-term}
+use Rattle.modes.proofs.Places.{has-left, has-right}
+use Rattle.modes.proofs.Equating.{numbered, all-numbered, right-at}
+use Rattle.modes.proofs.Marking.{in-text}
+use Rattle.modes.proofs.Judging.{judged-marked}
 
 -- ---- answers
 
@@ -35,15 +35,10 @@ fine-goes none rest f e t = refl
 fine-goes (some r) rest f e t = let z : _≡_ {A = Bool} true false = sym (ap isFault e) ∙ t in let y : _≡_ {A = ℕ} 0 1 = cc in absurd (omega arith)
 
 -- a literal's fault and what is known after it, as the walk has them
-pub walk-faulty : (o : Option Refusal) (f : Checked) (τ σ : Known) (rest : Known → Walk) → f ≡ checkedOf o → isFault f ≡ true → walkBy f τ ≡ walkOn o rest σ
+pub walk-is : (o : Option Refusal) (f : Checked) (τ σ : Known) → f ≡ checkedOf o → τ ≡ σ → walkBy f τ ≡ walkOn o (λ ρ. known ρ) σ
 unfolding walkOn
-walk-faulty none f τ σ rest e t = let z : _≡_ {A = Bool} false true = sym (ap isFault e) ∙ t in let y : _≡_ {A = ℕ} 0 1 = cc in absurd (omega arith)
-walk-faulty (some r) f τ σ rest e t = ap (λ (x : Checked). walkBy x τ) e
-
-pub walk-fine : (o : Option Refusal) (f : Checked) (τ σ : Known) → f ≡ checkedOf o → isFault f ≡ false → τ ≡ σ → walkBy f τ ≡ walkOn o (λ ρ. known ρ) σ
-unfolding walkOn
-walk-fine none f τ σ e t es = ap₂ walkBy e es
-walk-fine (some r) f τ σ e t es = let z : _≡_ {A = Bool} true false = sym (ap isFault e) ∙ t in let y : _≡_ {A = ℕ} 0 1 = cc in absurd (omega arith)
+walk-is none f τ σ e es = ap₂ walkBy e es
+walk-is (some r) f τ σ e es = ap (λ (x : Checked). walkBy x τ) e
 
 stays-by : (f : Checked) (τ : Known) (o : Option Refusal) (σ : Known) (rest : Known → Walk) → walkBy f τ ≡ walkOn o (λ ρ. known ρ) σ → isFault f ≡ true → walkBy f τ ≡ walkOn o rest σ
 unfolding walkOn
@@ -253,26 +248,20 @@ module _ (s declared : List ℕ) (n : ℕ) (g table : List ℕ) (p marks : ℕ)
   judged-at d w = record {
     atom = w .atom;
     has = w .has;
-    numbered = all-numbered (atom-says w .stand);
-    short = atom-says w .name-at .short;
+    numbered = all-numbered (in-text w .stand);
+    short = in-text w .name-at .short;
     listed = marksFor (d .list) (w .atom);
     number = em d w;
   }
 
-  module _ (τ : Known) (c l : ℕ) (f : Checked)
-      (ef : (u : JudgedAt table p marks) → f ≡ checkedOf (openInput c l (u .atom) (firstFaulty input (isGround τ) (u .listed) (listOf (u .atom .args)) 1))) where
-    pub call-faulted : isFault f ≡ true → (d : DeclarationsAt s declared n) (w : AtomAt g table p) → walkBy f τ ≡ literalWalk (d .list) c l τ (call (w .atom))
-    unfolding literalFault
-    call-faulted t d w =
-        walk-faulty _ f τ (afterLiteral (d .list) (call (w .atom)) τ) (λ ρ. known ρ) (ef (judged-at d w)) t
-
-    pub call-passed : isFault f ≡ false → (stop : ℕ) → ((u : TermAt table p) → stop ≡ p + length (termWords (u .term))) → (after : Known)
-        → ((u : MarkedAt table (p + 3) stop marks 2) → after ≡ groundMarked (u .wanted) (u .listed) (listOf (u .terms)) τ)
-        → (d : DeclarationsAt s declared n) (w : AtomAt g table p) → walkBy f after ≡ literalWalk (d .list) c l τ (call (w .atom))
-    unfolding literalFault afterLiteral
-    call-passed t stop es after h d w =
-        walk-fine _ f after (groundMarked output (marksFor (d .list) (w .atom)) (listOf (w .atom .args)) τ) (ef (judged-at d w)) t
-        (h (Rattle.modes.proofs.Judging.judged-marked table p marks stop es output (judged-at d w)))
+  pub walked-fault : (τ : Known) (c l : ℕ) (f : Checked)
+      → ((u : JudgedAt table p marks) → f ≡ checkedOf (openInput c l (u .atom) (firstFaulty input (isGround τ) (u .listed) (listOf (u .atom .args)) 1)))
+      → (stop : ℕ) → ((u : TermAt table p) → stop ≡ p + length (termWords (u .term))) → (after : Known)
+      → ((u : MarkedAt table (p + 3) stop marks 2) → after ≡ groundMarked (u .wanted) (u .listed) (listOf (u .terms)) τ)
+      → (d : DeclarationsAt s declared n) (w : AtomAt g table p) → walkBy f after ≡ literalWalk (d .list) c l τ (call (w .atom))
+  unfolding literalFault afterLiteral
+  walked-fault τ c l f ef stop es after h d w =
+      walk-is _ f after (groundMarked output (marksFor (d .list) (w .atom)) (listOf (w .atom .args)) τ) (ef (judged-at d w)) (h (judged-marked table p marks stop es output (judged-at d w)))
 
 -- ---- bodies
 

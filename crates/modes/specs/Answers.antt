@@ -1,15 +1,16 @@
 -- The definitions' answers as the code gives them.
-use Prim.Native.Nat.{ℕ, zero, suc}
+use Prim.Native.Nat.{ℕ, suc}
 use mathlib.Core.Bool.{Bool, true, false}
 use mathlib.Core.List.{List, [], _∷_}
 use mathlib.Core.Option.{Option, none, some}
 use lib.ListN.{length}
-use Rattle.syntax.specs.Terms.{Declaration, Literal, samePredicate}
+use Rattle.syntax.specs.Terms.{Atom, Declaration, Literal, arity, samePredicate}
 use Rattle.syntax.specs.declared.Refusal.{Refusal}
-use Rattle.rules.specs.Modes.{Known, Walk, faulted, known, walkOn, marksFor, literalFault, afterLiteral}
+use Rattle.rules.specs.Modes.{Known, Walk, faulted, known, walkOn, literalFault, afterLiteral}
 use Rattle.modes.specs.declared.Checked.{Checked}
 use Rattle.modes.specs.declared.Checked.the-variants.{Fine, Fault}
 use Rattle.modes.specs.declared.Walked.{Walked}
+use Rattle.modes.specs.declared.marks.Name.{Name}
 
 -- no fault, or the first one
 abbrev pub checkedOf : Option Refusal → Checked
@@ -27,6 +28,10 @@ walkBy (Fault r) τ = faulted r
 
 abbrev pub walkOf : Walked → Walk
 walkOf w = walkBy (w .fault) (w .known)
+
+-- a name's byte, length and number of arguments
+abbrev pub nameOf : Atom → Name
+nameOf a = record { at = a .at; len = length (a .name); arguments = arity (a .args) }
 
 -- an argument's number, 0 for none
 abbrev pub numberOr0 : Option ℕ → ℕ

@@ -76,6 +76,12 @@ pub record AtomAt (g table : List ℕ) (p : ℕ) : Type 0 where
   pub has : Has table p (atomWords atom)
   pub stands : Stands g (termOf atom)
 
+-- an atom with a name of at most 31 bytes stands at p
+pub record NamedAt (table : List ℕ) (p : ℕ) : Type 0 where
+  pub atom : Atom
+  pub has : Has table p (atomWords atom)
+  pub short : length (atom .name) ≤ 31
+
 -- an atom stands at p, and the marks for its arguments in one number
 pub record JudgedAt (table : List ℕ) (p marks : ℕ) : Type 0 where
   pub atom : Atom

@@ -1,5 +1,6 @@
 // Literals and bodies of a text `g`, by the declarations of a sheet `s`.
 use crate::Checked;
+use crate::Known;
 use crate::VARIABLES;
 use crate::Walked;
 use crate::is_fault;
@@ -12,7 +13,8 @@ use crate::table::past;
 use crate::table::word_at;
 use crate::terms::equate;
 ghost use mathlib.Core.Path.{_≡_};
-ghost use Prim.Native.Nat.{_+_, _≤_};
+ghost use mathlib.Core.List.{List};
+ghost use Prim.Native.Nat.{ℕ, _+_};
 ghost use lib.ListN.{length};
 ghost use Rattle.syntax.specs.Terms.{call};
 ghost use Rattle.syntax.specs.Words.{literalWords};
@@ -28,9 +30,9 @@ const FALSITY: usize = 1;
 const CALL: usize = 2;
 
 // The place past a literal.
-fn past_literal(g: &[u8], table: &[u32], p: usize) -> usize
-    requires { ⌜ LiteralAt (now g) (now table) p ⌝ }
-    ensures { λ r. ⌜ ((w : LiteralAt (now (g .entry)) (now (table .entry)) p) → r ≡ p + length (literalWords (w .literal))) ⌝ }
+fn past_literal(table: &[u32], p: usize) -> usize
+    requires { ⌜ ((g : List ℕ) × LiteralAt g (now table) p) ⌝ }
+    ensures { λ r. ⌜ ((g : List ℕ) (w : LiteralAt g (now (table .entry)) p) → r ≡ p + length (literalWords (w .literal))) ⌝ }
 {
     let kind = word_at(table, p);
     let q = p + 1;
@@ -89,13 +91,13 @@ pub fn undeclared_body(
         if is_fault(fault) {
             return fault;
         }
-        at = past_literal(g, table, at);
+        at = past_literal(table, at);
         i = number;
     }
     Checked::Fine
 }
 
-// A call: its fault, or what is known after it. The inputs are tested before the outputs give anything.
+// A call: its fault, or what is known after it. The inputs are tested by what is known before it.
 fn call_walk(
     s: &[u8],
     declared: &[u32],
@@ -105,20 +107,17 @@ fn call_walk(
     p: usize,
     clause: usize,
     literal: usize,
-    known: [bool; VARIABLES],
+    known: Known,
 ) -> Walked
     requires { ⌜ DeclarationsAt (now s) (now declared) n ⌝ }
     requires { ⌜ AtomAt (now g) (now table) p ⌝ }
     ensures { λ r. ⌜ ((d : DeclarationsAt (now (s .entry)) (now (declared .entry)) n) (w : AtomAt (now (g .entry)) (now (table .entry)) p) → walkOf r ≡ literalWalk (d .list) clause literal known (call (w .atom))) ⌝ }
 {
     let marks = marks_of(s, declared, n, g, table, p);
-    let fault = call_fault(table, p, marks, known, clause, literal);
-    if is_fault(fault) {
-        return Walked { fault, known };
-    }
     let from = p + 3;
     let stop = past(table, p);
     let after = ground_marked(table, from, stop, marks, OUTPUT, known);
+    let fault = call_fault(table, p, marks, known, clause, literal);
     Walked {
         fault,
         known: after,
@@ -135,7 +134,7 @@ fn literal_walk(
     p: usize,
     clause: usize,
     literal: usize,
-    known: [bool; VARIABLES],
+    known: Known,
 ) -> Walked
     requires { ⌜ DeclarationsAt (now s) (now declared) n ⌝ }
     requires { ⌜ LiteralAt (now g) (now table) p ⌝ }
@@ -176,7 +175,7 @@ pub fn body_walk(
     p: usize,
     literals: usize,
     clause: usize,
-    known: [bool; VARIABLES],
+    known: Known,
 ) -> Walked
     requires { ⌜ DeclarationsAt (now s) (now declared) n ⌝ }
     requires { ⌜ BodyAt (now g) (now table) p literals ⌝ }
@@ -194,7 +193,7 @@ pub fn body_walk(
             return w;
         }
         flags = after;
-        at = past_literal(g, table, at);
+        at = past_literal(table, at);
         i = number;
     }
     Walked {

@@ -12,7 +12,8 @@ use crate::marks::undeclared_atom;
 use crate::table::past;
 use crate::table::word_at;
 ghost use mathlib.Core.Path.{_≡_};
-ghost use Prim.Native.Nat.{_+_};
+ghost use mathlib.Core.List.{List};
+ghost use Prim.Native.Nat.{ℕ, _+_};
 ghost use lib.ListN.{length};
 ghost use Rattle.syntax.specs.Words.{clauseWords};
 ghost use Rattle.rules.specs.Modes.{undeclaredClause, undeclaredClauses, clauseFault, clausesFault};
@@ -20,9 +21,9 @@ ghost use Rattle.modes.specs.Tables.{DeclarationsAt, ClauseAt, ClausesAt
 ghost use Rattle.modes.specs.Answers.{checkedOf};
 
 // The place past a clause.
-fn past_clause(s: &[u8], table: &[u32], p: usize) -> usize
-    requires { ⌜ ClauseAt (now s) (now table) p ⌝ }
-    ensures { λ r. ⌜ ((w : ClauseAt (now (s .entry)) (now (table .entry)) p) → r ≡ p + length (clauseWords (w .clause))) ⌝ }
+fn past_clause(table: &[u32], p: usize) -> usize
+    requires { ⌜ ((s : List ℕ) × ClauseAt s (now table) p) ⌝ }
+    ensures { λ r. ⌜ ((s : List ℕ) (w : ClauseAt s (now (table .entry)) p) → r ≡ p + length (clauseWords (w .clause))) ⌝ }
 {
     let size = word_at(table, p);
     p + size
@@ -71,7 +72,7 @@ pub fn undeclared_clauses(
         if is_fault(fault) {
             return fault;
         }
-        at = past_clause(s, table, at);
+        at = past_clause(table, at);
         i = number;
     }
     Checked::Fine
@@ -119,7 +120,7 @@ pub fn clauses_fault(s: &[u8], declared: &[u32], n: usize, table: &[u32], clause
         if is_fault(fault) {
             return fault;
         }
-        at = past_clause(s, table, at);
+        at = past_clause(table, at);
         i = number;
     }
     Checked::Fine

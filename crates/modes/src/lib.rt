@@ -18,17 +18,19 @@ ghost use Rattle.modes.specs.Answers.{checkedOf, isFault};
 // The most variables in a clause or goal.
 pub const VARIABLES: usize = 32;
 
+// What is known ground: a flag for each variable number. An array by value is the list of flags of the definitions, and a store is their `set`.
+pub type Known = [bool; VARIABLES];
+
 // No fault of those looked for, or the first one.
 pub enum Checked {
     Fine,
     Fault(Refusal),
 }
 
-// What a walk along a body gives: its first fault, or what is known ground after it, a flag for each variable number. An array by value is
-// the list of flags of the definitions, so that a store is their `set`.
+// What a walk along a body gives: its first fault, or what is known ground after it.
 pub struct Walked {
     pub fault: Checked,
-    pub known: [bool; VARIABLES],
+    pub known: Known,
 }
 
 // Whether there is a fault.

@@ -1,6 +1,6 @@
 // The marks of a predicate, and the arguments that have one of them.
 use crate::Checked;
-use crate::VARIABLES;
+use crate::Known;
 use crate::table::past;
 use crate::table::word_at;
 use crate::terms::NAMED;
@@ -16,8 +16,8 @@ ghost use Rattle.syntax.specs.Tokens.{spelling};
 ghost use Rattle.syntax.specs.Terms.{arity, samePredicate, input, output};
 ghost use Rattle.syntax.specs.Words.{marksNumber};
 ghost use Rattle.rules.specs.Modes.{isGround, marksFor, listOf, firstFaulty, groundMarked, undeclaredAtom, openInput, openOutput};
-ghost use Rattle.modes.specs.Tables.{TermAt, DeclarationAt, DeclarationsAt, AtomAt, MarkedAt, JudgedAt};
-ghost use Rattle.modes.specs.Answers.{checkedOf, numberOr0, position};
+ghost use Rattle.modes.specs.Tables.{TermAt, DeclarationAt, DeclarationsAt, AtomAt, NamedAt, MarkedAt, JudgedAt};
+ghost use Rattle.modes.specs.Answers.{checkedOf, nameOf, numberOr0, position};
 
 // The numbers of the marks + and -.
 pub const INPUT: usize = 1;
@@ -26,6 +26,27 @@ pub const OUTPUT: usize = 2;
 
 // The words of a declaration: place and length of its name, number of marks, the marks.
 const ENTRY: usize = 4;
+
+// The name of an atom: its byte, its length, and the number of arguments behind it.
+pub struct Name {
+    pub at: usize,
+    pub len: usize,
+    pub arguments: usize,
+}
+
+// The name of the atom at a place.
+fn name_at(table: &[u32], p: usize) -> Name
+    requires { ⌜ NamedAt (now table) p ⌝ }
+    ensures { λ r. ⌜ ((w : NamedAt (now (table .entry)) p) → r ≡ nameOf (w .atom)) ⌝ }
+{
+    let what = word_at(table, p) - NAMED;
+    let at = word_at(table, p + 2);
+    Name {
+        at,
+        len: what % 32,
+        arguments: what / 32,
+    }
+}
 
 // Whether the declaration at a place is of the predicate whose name is the part of `g` at `at`, `len` bytes long.
 fn declares(
@@ -84,10 +105,10 @@ fn find_atom(s: &[u8], declared: &[u32], n: usize, g: &[u8], table: &[u32], p: u
     requires { ⌜ AtomAt (now g) (now table) p ⌝ }
     ensures { λ r. ⌜ ((d : DeclarationsAt (now (s .entry)) (now (declared .entry)) n) (w : AtomAt (now (g .entry)) (now (table .entry)) p) → r ≡ position (d .list) (w .atom .name) (arity (w .atom .args))) ⌝ }
 {
-    let v = word_at(table, p);
-    let at = word_at(table, p + 2);
-    let len = (v - NAMED) % 32;
-    let arguments = (v - NAMED) / 32;
+    let name = name_at(table, p);
+    let at = name.at;
+    let len = name.len;
+    let arguments = name.arguments;
     find(s, declared, n, g, at, len, arguments)
 }
 
@@ -124,9 +145,9 @@ pub fn undeclared_atom(
     if i < n {
         return Checked::Fine;
     }
-    let v = word_at(table, p);
-    let at = word_at(table, p + 2);
-    let len = (v - NAMED) % 32;
+    let name = name_at(table, p);
+    let at = name.at;
+    let len = name.len;
     Checked::Fault(Refusal::Undeclared {
         clause,
         literal,
@@ -136,7 +157,7 @@ pub fn undeclared_atom(
 }
 
 // Whether a term, whose mark is the lowest of `marks`, has the mark and is not ground.
-fn is_open(table: &[u32], p: usize, marks: usize, mark: usize, known: [bool; VARIABLES]) -> bool
+fn is_open(table: &[u32], p: usize, marks: usize, mark: usize, known: Known) -> bool
     requires { ⌜ TermAt (now table) p ⌝ }
     ensures { λ r. ⌜ ((w : TermAt (now (table .entry)) p) → r ≡ (eqb (marks % 4) mark && not (isGround known (w .term)))) ⌝ }
 {
@@ -153,7 +174,7 @@ fn first_open(
     stop: usize,
     marks: usize,
     mark: usize,
-    known: [bool; VARIABLES],
+    known: Known,
     number: usize,
 ) -> usize
     requires { ⌜ MarkedAt (now table) p stop marks mark ⌝ }
@@ -179,8 +200,8 @@ pub fn ground_marked(
     stop: usize,
     marks: usize,
     mark: usize,
-    known: [bool; VARIABLES],
-) -> [bool; VARIABLES]
+    known: Known,
+) -> Known
     requires { ⌜ MarkedAt (now table) p stop marks mark ⌝ }
     ensures { λ r. ⌜ ((w : MarkedAt (now (table .entry)) p stop marks mark) → r ≡ groundMarked (w .wanted) (w .listed) (listOf (w .terms)) known) ⌝ }
 {
@@ -201,7 +222,7 @@ pub fn call_fault(
     table: &[u32],
     p: usize,
     marks: usize,
-    known: [bool; VARIABLES],
+    known: Known,
     clause: usize,
     literal: usize,
 ) -> Checked
@@ -214,9 +235,9 @@ pub fn call_fault(
     if argument == 0 {
         return Checked::Fine;
     }
-    let v = word_at(table, p);
-    let at = word_at(table, p + 2);
-    let len = (v - NAMED) % 32;
+    let name = name_at(table, p);
+    let at = name.at;
+    let len = name.len;
     Checked::Fault(Refusal::OpenInput {
         clause,
         literal,
@@ -227,13 +248,7 @@ pub fn call_fault(
 }
 
 // The fault of a head after its body, by its marks: the first - argument that is not ground.
-pub fn head_fault(
-    table: &[u32],
-    p: usize,
-    marks: usize,
-    known: [bool; VARIABLES],
-    clause: usize,
-) -> Checked
+pub fn head_fault(table: &[u32], p: usize, marks: usize, known: Known, clause: usize) -> Checked
     requires { ⌜ JudgedAt (now table) p marks ⌝ }
     ensures { λ r. ⌜ ((w : JudgedAt (now (table .entry)) p marks) → r ≡ checkedOf (openOutput clause (w .atom) (firstFaulty output (isGround known) (w .listed) (listOf (w .atom .args)) 1))) ⌝ }
 {
@@ -243,9 +258,9 @@ pub fn head_fault(
     if argument == 0 {
         return Checked::Fine;
     }
-    let v = word_at(table, p);
-    let at = word_at(table, p + 2);
-    let len = (v - NAMED) % 32;
+    let name = name_at(table, p);
+    let at = name.at;
+    let len = name.len;
     Checked::Fault(Refusal::OpenOutput {
         clause,
         argument,

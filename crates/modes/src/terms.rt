@@ -1,5 +1,6 @@
 // What is known ground of terms in a node table: each function on a term and the one on a list of terms call each other, as far as the
-// brackets go. What is known is an array by value of one flag a variable.
+// brackets go.
+use crate::Known;
 use crate::VARIABLES;
 use crate::table::past;
 use crate::table::word_at;
@@ -14,7 +15,7 @@ ghost use Rattle.modes.specs.Functors.{sameFunctor};
 pub const NAMED: usize = 64;
 
 // Whether a term is ground.
-pub fn is_ground(table: &[u32], p: usize, known: [bool; VARIABLES]) -> bool
+pub fn is_ground(table: &[u32], p: usize, known: Known) -> bool
     requires { ⌜ TermAt (now table) p ⌝ }
     ensures { λ r. ⌜ ((w : TermAt (now (table .entry)) p) → r ≡ isGround known (w .term)) ⌝ }
 {
@@ -28,7 +29,7 @@ pub fn is_ground(table: &[u32], p: usize, known: [bool; VARIABLES]) -> bool
 }
 
 // Whether all terms up to a place are ground.
-fn are_ground(table: &[u32], p: usize, stop: usize, known: [bool; VARIABLES]) -> bool
+fn are_ground(table: &[u32], p: usize, stop: usize, known: Known) -> bool
     requires { ⌜ TermsAt (now table) p stop ⌝ }
     ensures { λ r. ⌜ ((w : TermsAt (now (table .entry)) p stop) → r ≡ areGround known (w .terms)) ⌝ }
 {
@@ -43,7 +44,7 @@ fn are_ground(table: &[u32], p: usize, stop: usize, known: [bool; VARIABLES]) ->
 }
 
 // What is known once all variables of a term are ground.
-pub fn ground_term(table: &[u32], p: usize, known: [bool; VARIABLES]) -> [bool; VARIABLES]
+pub fn ground_term(table: &[u32], p: usize, known: Known) -> Known
     requires { ⌜ TermAt (now table) p ⌝ }
     ensures { λ r. ⌜ ((w : TermAt (now (table .entry)) p) → r ≡ groundTerm (w .term) known) ⌝ }
 {
@@ -59,7 +60,7 @@ pub fn ground_term(table: &[u32], p: usize, known: [bool; VARIABLES]) -> [bool; 
 }
 
 // The same of all terms up to a place.
-fn ground_terms(table: &[u32], p: usize, stop: usize, known: [bool; VARIABLES]) -> [bool; VARIABLES]
+fn ground_terms(table: &[u32], p: usize, stop: usize, known: Known) -> Known
     requires { ⌜ TermsAt (now table) p stop ⌝ }
     ensures { λ r. ⌜ ((w : TermsAt (now (table .entry)) p stop) → r ≡ groundTerms (w .terms) known) ⌝ }
 {
@@ -72,7 +73,7 @@ fn ground_terms(table: &[u32], p: usize, stop: usize, known: [bool; VARIABLES]) 
 }
 
 // The effect of an equation with a variable on either side.
-fn equate_variable(table: &[u32], p: usize, q: usize, known: [bool; VARIABLES]) -> [bool; VARIABLES]
+fn equate_variable(table: &[u32], p: usize, q: usize, known: Known) -> Known
     requires { ⌜ TermAt (now table) p ⌝ }
     requires { ⌜ TermAt (now table) q ⌝ }
     ensures { λ r. ⌜ ((t : TermAt (now (table .entry)) p) (u : TermAt (now (table .entry)) q) → r ≡ equateVariable (t .term) (u .term) known) ⌝ }
@@ -106,13 +107,7 @@ fn same_functor(s: &[u8], table: &[u32], p: usize, q: usize) -> bool
 }
 
 // The effect of an equation of two terms of the text.
-pub fn equate(
-    s: &[u8],
-    table: &[u32],
-    p: usize,
-    q: usize,
-    known: [bool; VARIABLES],
-) -> [bool; VARIABLES]
+pub fn equate(s: &[u8], table: &[u32], p: usize, q: usize, known: Known) -> Known
     requires { ⌜ PairAt (now s) (now table) p q ⌝ }
     ensures { λ r. ⌜ ((w : PairAt (now (s .entry)) (now (table .entry)) p q) → r ≡ equate (w .left) (w .right) known) ⌝ }
 {
@@ -132,14 +127,7 @@ pub fn equate(
 }
 
 // The effect of the equations of two lists of as many terms, from left to right.
-fn equate_all(
-    s: &[u8],
-    table: &[u32],
-    p: usize,
-    stop: usize,
-    q: usize,
-    known: [bool; VARIABLES],
-) -> [bool; VARIABLES]
+fn equate_all(s: &[u8], table: &[u32], p: usize, stop: usize, q: usize, known: Known) -> Known
     requires { ⌜ PairsAt (now s) (now table) p stop q ⌝ }
     ensures { λ r. ⌜ ((w : PairsAt (now (s .entry)) (now (table .entry)) p stop q) → r ≡ equateAll (w .left) (w .right) known) ⌝ }
 {

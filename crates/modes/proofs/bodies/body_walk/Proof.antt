@@ -1,3 +1,4 @@
+-- `modes::bodies::body_walk` meets its contract. The invariant: what is left of the body, from what is known now, gives the walk of the whole (`Ahead`). Assumes nothing.
 use Prim.Native.Nat.{_≤_, _-_}
 use native.Mathlib.Omega.{arith}
 use mathlib.Core.Path.{sym, _∙_}
@@ -6,11 +7,6 @@ use Rattle.modes.specs.Tables.{DeclarationsAt, BodyAt}
 use Rattle.modes.proofs.Walking.{Ahead, begun, turn, walk-ended, walk-faulted, walk-on}
 use Rattle.modes.proofs.bodies.body_walk.Statement.{statement}
 use Rattle.modes.proofs.bodies.body_walk.Tie as tie
-use Rattle.modes.proofs.bodies.body_walk.Reads as reads
-use Rattle.modes.proofs.bodies.body_walk.Lts as lts
-use Rattle.modes.proofs.bodies.literal_walk.Reads as literal-walk-reads
-use Rattle.modes.proofs.bodies.past_literal.Reads as past-literal-reads
-use Rattle.modes.proofs.is_fault.Reads as is-fault-reads
 
 abbrev Inv-loop : tie.InvT-loop
 Inv-loop s declared n g table p literals clause at₀ i₀ flags₀ at i flags = (i ≤ literals) × ((d : DeclarationsAt s declared n) (w : BodyAt g table at₀ literals) → Ahead g table at i literals (bodyFault (d .list) clause 1 flags₀ (w .body)) (λ k b. bodyFault (d .list) clause k flags b))
@@ -18,39 +14,30 @@ Inv-loop s declared n g table p literals clause at₀ i₀ flags₀ at i flags =
 abbrev μ-loop : tie.MeasureT-loop
 μ-loop s declared n g table p literals clause at₀ i₀ flags₀ at i flags = literals - i
 
--- src/bodies.rt:132:5
 loop-holds : tie.Need-loop-holds Inv-loop μ-loop
 loop-holds c = (omega arith, λ d w. begun (λ k b. bodyFault (d .list) (c .before .before .before .before .args .clause) k (c .before .before .before .before .args .known) b) w)
 
--- src/bodies.rt:133:22
 add-number : tie.Need-add-number Inv-loop μ-loop
 add-number c = omega arith
 
--- src/bodies.rt:134:13
 literal-walk-requires : tie.Need-literal-walk-requires Inv-loop μ-loop
 literal-walk-requires c κs = (c .before .before .before .before .before .before .pre .0, turn (c .loop-test .taken) ((c .before .loop .inv) .1 (c .before .before .before .before .before .before .pre .0) (c .before .before .before .before .before .before .pre .1)) .literal)
 
--- src/bodies.rt:137:12
 is-fault-requires : tie.Need-is-fault-requires Inv-loop μ-loop
 is-fault-requires c κs = tt
 
--- src/bodies.rt:138:13
 returns : tie.Need-returns Inv-loop μ-loop
 returns c = λ d w. walk-faulted (d .list) (c .before .before .before .before .before .before .before .before .before .before .args .clause) (c .before .before .before .before .before .before .before .before .before .before .args .g .now) (c .before .before .before .before .before .before .before .before .before .before .args .table .now) (c .before .before .before .before .before .loop .at) (c .before .before .before .before .before .loop .i) (c .before .before .before .before .before .before .before .before .before .before .args .literals) (c .before .before .before .before .before .loop .flags) (bodyFault (d .list) (c .before .before .before .before .before .before .before .before .before .before .args .clause) 1 (c .before .before .before .before .before .before .before .before .before .before .args .known) (w .body)) (c .before .before .before .before .loop-test .taken) (c .before .before .before .literal-walk .result) ((c .before .before .before .literal-walk .ensures) d) (sym (c .before .is-fault .ensures) ∙ (c .if1 .taken)) ((c .before .before .before .before .before .loop .inv) .1 d w)
 
--- src/bodies.rt:141:9
 past-literal-requires : tie.Need-past-literal-requires Inv-loop μ-loop
-past-literal-requires c κs = turn (c .before .before .before .before .loop-test .taken) ((c .before .before .before .before .before .loop .inv) .1 (c .before .before .before .before .before .before .before .before .before .before .pre .0) (c .before .before .before .before .before .before .before .before .before .before .pre .1)) .literal
+past-literal-requires c κs = ((c .before .before .before .before .before .before .before .before .before .before .args .g .now), turn (c .before .before .before .before .loop-test .taken) ((c .before .before .before .before .before .loop .inv) .1 (c .before .before .before .before .before .before .before .before .before .before .pre .0) (c .before .before .before .before .before .before .before .before .before .before .pre .1)) .literal)
 
--- src/bodies.rt:132:5
 loop-less : tie.Need-loop-less Inv-loop μ-loop
 loop-less c = omega arith
 
--- src/bodies.rt:132:5
 loop-again : tie.Need-loop-again Inv-loop μ-loop
-loop-again c = (omega arith, λ d w. walk-on (d .list) (c .before .before .before .before .before .before .before .before .before .before .before .args .clause) (c .before .before .before .before .before .before .before .before .before .before .before .args .g .now) (c .before .before .before .before .before .before .before .before .before .before .before .args .table .now) (c .before .before .before .before .before .before .loop .at) (c .before .before .before .before .before .before .loop .i) (c .before .before .before .before .before .before .before .before .before .before .before .args .literals) (c .before .before .before .before .before .before .loop .flags) (bodyFault (d .list) (c .before .before .before .before .before .before .before .before .before .before .before .args .clause) 1 (c .before .before .before .before .before .before .before .before .before .before .before .args .known) (w .body)) (c .before .before .before .before .before .loop-test .taken) (c .before .before .before .before .literal-walk .result) ((c .before .before .before .before .literal-walk .ensures) d) (sym (c .before .before .is-fault .ensures) ∙ (c .before .if1 .left)) (c .past-literal .result) (c .past-literal .ensures) ((c .before .before .before .before .before .before .loop .inv) .1 d w))
+loop-again c = (omega arith, λ d w. walk-on (d .list) (c .before .before .before .before .before .before .before .before .before .before .before .args .clause) (c .before .before .before .before .before .before .before .before .before .before .before .args .g .now) (c .before .before .before .before .before .before .before .before .before .before .before .args .table .now) (c .before .before .before .before .before .before .loop .at) (c .before .before .before .before .before .before .loop .i) (c .before .before .before .before .before .before .before .before .before .before .before .args .literals) (c .before .before .before .before .before .before .loop .flags) (bodyFault (d .list) (c .before .before .before .before .before .before .before .before .before .before .before .args .clause) 1 (c .before .before .before .before .before .before .before .before .before .before .before .args .known) (w .body)) (c .before .before .before .before .before .loop-test .taken) (c .before .before .before .before .literal-walk .result) ((c .before .before .before .before .literal-walk .ensures) d) (sym (c .before .before .is-fault .ensures) ∙ (c .before .if1 .left)) (c .past-literal .result) ((c .past-literal .ensures) (c .before .before .before .before .before .before .before .before .before .before .before .args .g .now)) ((c .before .before .before .before .before .before .loop .inv) .1 d w))
 
--- src/bodies.rt:124:1
 returns-2 : tie.Need-returns-2 Inv-loop μ-loop
 returns-2 c = λ d w. walk-ended (d .list) (c .before .before .before .before .before .before .args .clause) (c .before .before .before .before .before .before .args .g .now) (c .before .before .before .before .before .before .args .table .now) (c .before .loop .at) (c .before .loop .i) (c .before .before .before .before .before .before .args .literals) (c .before .loop .flags) (bodyFault (d .list) (c .before .before .before .before .before .before .args .clause) 1 (c .before .before .before .before .before .before .args .known) (w .body)) (c .loop-test .left) ((c .before .loop .inv) .1 d w)
 

@@ -1,3 +1,4 @@
+-- `modes::bodies::undeclared_body` meets its contract. The invariant: what is left of the body gives the answer of the whole (`Ahead`). Assumes nothing.
 use Prim.Native.Nat.{_≤_, _-_}
 use native.Mathlib.Omega.{arith}
 use mathlib.Core.Path.{sym, _∙_}
@@ -6,11 +7,6 @@ use Rattle.modes.specs.Tables.{DeclarationsAt, BodyAt}
 use Rattle.modes.proofs.Walking.{Ahead, begun, turn, body-fine, body-undeclared, body-on}
 use Rattle.modes.proofs.bodies.undeclared_body.Statement.{statement}
 use Rattle.modes.proofs.bodies.undeclared_body.Tie as tie
-use Rattle.modes.proofs.bodies.undeclared_body.Reads as reads
-use Rattle.modes.proofs.bodies.undeclared_body.Lts as lts
-use Rattle.modes.proofs.bodies.past_literal.Reads as past-literal-reads
-use Rattle.modes.proofs.bodies.undeclared_literal.Reads as undeclared-literal-reads
-use Rattle.modes.proofs.is_fault.Reads as is-fault-reads
 
 abbrev Inv-loop : tie.InvT-loop
 Inv-loop s declared n g table p literals clause at₀ i₀ at i = (i ≤ literals) × ((d : DeclarationsAt s declared n) (w : BodyAt g table at₀ literals) → Ahead g table at i literals (undeclaredBody (d .list) clause 1 (w .body)) (undeclaredBody (d .list) clause))
@@ -18,39 +14,30 @@ Inv-loop s declared n g table p literals clause at₀ i₀ at i = (i ≤ literal
 abbrev μ-loop : tie.MeasureT-loop
 μ-loop s declared n g table p literals clause at₀ i₀ at i = literals - i
 
--- src/bodies.rt:60:5
 loop-holds : tie.Need-loop-holds Inv-loop μ-loop
 loop-holds c = (omega arith, λ d w. begun (undeclaredBody (d .list) (c .before .before .before .before .args .clause)) w)
 
--- src/bodies.rt:61:22
 add-number : tie.Need-add-number Inv-loop μ-loop
 add-number c = omega arith
 
--- src/bodies.rt:62:13
 undeclared-literal-requires : tie.Need-undeclared-literal-requires Inv-loop μ-loop
 undeclared-literal-requires c κs = (c .before .before .before .before .before .before .pre .0, turn (c .loop-test .taken) ((c .before .loop .inv) .1 (c .before .before .before .before .before .before .pre .0) (c .before .before .before .before .before .before .pre .1)) .literal)
 
--- src/bodies.rt:63:12
 is-fault-requires : tie.Need-is-fault-requires Inv-loop μ-loop
 is-fault-requires c κs = tt
 
--- src/bodies.rt:64:13
 returns : tie.Need-returns Inv-loop μ-loop
 returns c = λ d w. body-undeclared (d .list) (c .before .before .before .before .before .before .before .before .before .args .clause) (c .before .before .before .before .before .before .before .before .before .args .g .now) (c .before .before .before .before .before .before .before .before .before .args .table .now) (c .before .before .before .before .loop .at) (c .before .before .before .before .loop .i) (c .before .before .before .before .before .before .before .before .before .args .literals) (undeclaredBody (d .list) (c .before .before .before .before .before .before .before .before .before .args .clause) 1 (w .body)) (c .before .before .before .loop-test .taken) (c .before .before .undeclared-literal .result) ((c .before .before .undeclared-literal .ensures) d) (sym (c .before .is-fault .ensures) ∙ (c .if1 .taken)) ((c .before .before .before .before .loop .inv) .1 d w)
 
--- src/bodies.rt:66:9
 past-literal-requires : tie.Need-past-literal-requires Inv-loop μ-loop
-past-literal-requires c κs = turn (c .before .before .before .loop-test .taken) ((c .before .before .before .before .loop .inv) .1 (c .before .before .before .before .before .before .before .before .before .pre .0) (c .before .before .before .before .before .before .before .before .before .pre .1)) .literal
+past-literal-requires c κs = ((c .before .before .before .before .before .before .before .before .before .args .g .now), turn (c .before .before .before .loop-test .taken) ((c .before .before .before .before .loop .inv) .1 (c .before .before .before .before .before .before .before .before .before .pre .0) (c .before .before .before .before .before .before .before .before .before .pre .1)) .literal)
 
--- src/bodies.rt:60:5
 loop-less : tie.Need-loop-less Inv-loop μ-loop
 loop-less c = omega arith
 
--- src/bodies.rt:60:5
 loop-again : tie.Need-loop-again Inv-loop μ-loop
-loop-again c = (omega arith, λ d w. body-on (d .list) (c .before .before .before .before .before .before .before .before .before .before .args .clause) (c .before .before .before .before .before .before .before .before .before .before .args .g .now) (c .before .before .before .before .before .before .before .before .before .before .args .table .now) (c .before .before .before .before .before .loop .at) (c .before .before .before .before .before .loop .i) (c .before .before .before .before .before .before .before .before .before .before .args .literals) (undeclaredBody (d .list) (c .before .before .before .before .before .before .before .before .before .before .args .clause) 1 (w .body)) (c .before .before .before .before .loop-test .taken) (c .before .before .before .undeclared-literal .result) ((c .before .before .before .undeclared-literal .ensures) d) (sym (c .before .before .is-fault .ensures) ∙ (c .before .if1 .left)) (c .past-literal .result) (c .past-literal .ensures) ((c .before .before .before .before .before .loop .inv) .1 d w))
+loop-again c = (omega arith, λ d w. body-on (d .list) (c .before .before .before .before .before .before .before .before .before .before .args .clause) (c .before .before .before .before .before .before .before .before .before .before .args .g .now) (c .before .before .before .before .before .before .before .before .before .before .args .table .now) (c .before .before .before .before .before .loop .at) (c .before .before .before .before .before .loop .i) (c .before .before .before .before .before .before .before .before .before .before .args .literals) (undeclaredBody (d .list) (c .before .before .before .before .before .before .before .before .before .before .args .clause) 1 (w .body)) (c .before .before .before .before .loop-test .taken) (c .before .before .before .undeclared-literal .result) ((c .before .before .before .undeclared-literal .ensures) d) (sym (c .before .before .is-fault .ensures) ∙ (c .before .if1 .left)) (c .past-literal .result) ((c .past-literal .ensures) (c .before .before .before .before .before .before .before .before .before .before .args .g .now)) ((c .before .before .before .before .before .loop .inv) .1 d w))
 
--- src/bodies.rt:53:1
 returns-2 : tie.Need-returns-2 Inv-loop μ-loop
 returns-2 c = λ d w. body-fine (d .list) (c .before .before .before .before .before .before .args .clause) (c .before .before .before .before .before .before .args .g .now) (c .before .before .before .before .before .before .args .table .now) (c .before .loop .at) (c .before .loop .i) (c .before .before .before .before .before .before .args .literals) (undeclaredBody (d .list) (c .before .before .before .before .before .before .args .clause) 1 (w .body)) (c .loop-test .left) ((c .before .loop .inv) .1 d w)
 

@@ -1,29 +1,21 @@
+-- `modes::bodies::undeclared_literal` meets its contract. Assumes nothing.
 use native.Mathlib.Omega.{arith}
 use Rattle.modes.proofs.Walking.{literal-room, no-call, atom-at, called}
 use Rattle.modes.proofs.bodies.undeclared_literal.Statement.{statement}
 use Rattle.modes.proofs.bodies.undeclared_literal.Tie as tie
-use Rattle.modes.proofs.bodies.undeclared_literal.Reads as reads
-use Rattle.modes.proofs.bodies.undeclared_literal.Lts as lts
-use Rattle.modes.proofs.marks.undeclared_atom.Reads as undeclared-atom-reads
-use Rattle.modes.proofs.table.word_at.Reads as word-at-reads
 
--- src/bodies.rt:45:8
 word-at-requires : tie.Need-word-at-requires
 word-at-requires c κs = literal-room (c .before .before .before .before .pre .1)
 
--- src/bodies.rt:46:9
 returns : tie.Need-returns
 returns c = λ d w. no-call (c .before .word-at .result) (c .before .word-at .ensures) (c .if1 .taken) (d .list) (c .before .before .before .before .before .before .args .clause) (c .before .before .before .before .before .before .args .literal) w
 
--- src/bodies.rt:48:13
 add-q : tie.Need-add-q
 add-q c = omega (arith, literal-room (c .before .before .before .before .before .before .pre .1))
 
--- src/bodies.rt:49:5
 undeclared-atom-requires : tie.Need-undeclared-atom-requires
 undeclared-atom-requires c κs = (c .before .before .before .before .before .before .pre .0, atom-at (c .before .word-at .result) (c .before .word-at .ensures) (c .if1 .left) (c .before .before .before .before .before .before .pre .1))
 
--- src/bodies.rt:40:1
 returns-2 : tie.Need-returns-2
 returns-2 c = λ d w. called (c .before .before .word-at .result) (c .before .before .word-at .ensures) (c .before .if1 .left) (d .list) (c .before .before .before .before .before .before .before .args .clause) (c .before .before .before .before .before .before .before .args .literal) (c .undeclared-atom .result) ((c .undeclared-atom .ensures) d) w
 

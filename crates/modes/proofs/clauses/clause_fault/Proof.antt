@@ -1,67 +1,46 @@
+-- `modes::clauses::clause_fault` meets its contract. Assumes nothing.
 use native.Mathlib.Omega.{arith}
 use mathlib.Core.Path.{sym, _∙_}
 use Rattle.syntax.specs.Terms.{input}
 use Rattle.rules.specs.Modes.{nothing}
 use Rattle.modes.proofs.Sheets.{clause-room, head-room, head-at, head-term, body-at, head-judged, head-marked, clause-stopped, clause-passed}
-use borrow.Author.Needs.{needs}
 use Rattle.modes.proofs.clauses.clause_fault.Statement.{statement}
 use Rattle.modes.proofs.clauses.clause_fault.Tie as tie
-use Rattle.modes.proofs.clauses.clause_fault.Reads as reads
-use Rattle.modes.proofs.clauses.clause_fault.Lts as lts
-use Rattle.modes.proofs.bodies.body_walk.Reads as body-walk-reads
-use Rattle.modes.proofs.is_fault.Reads as is-fault-reads
-use Rattle.modes.proofs.marks.ground_marked.Reads as ground-marked-reads
-use Rattle.modes.proofs.marks.head_fault.Reads as head-fault-reads
-use Rattle.modes.proofs.marks.marks_of.Reads as marks-of-reads
-use Rattle.modes.proofs.table.past.Reads as past-reads
-use Rattle.modes.proofs.table.word_at.Reads as word-at-reads
 
--- src/clauses.rt:65:35
 add-word-at : tie.Need-add-word-at
 add-word-at c = omega (arith, clause-room (c .before .before .before .pre .1))
 
--- src/clauses.rt:65:9
 word-at-requires : tie.Need-word-at-requires
 word-at-requires c κs = omega (arith, clause-room (c .before .before .before .pre .1))
 
--- src/clauses.rt:66:16
 add-head : tie.Need-add-head
 add-head c = omega (arith, clause-room (c .before .before .before .before .pre .1))
 
--- src/clauses.rt:67:9
 marks-of-requires : tie.Need-marks-of-requires
 marks-of-requires c κs = (c .before .before .before .before .pre .0, head-at (c .before .before .before .before .pre .1))
 
--- src/clauses.rt:68:16
 add-from : tie.Need-add-from
 add-from c = omega (arith, head-room (c .before .before .before .before .before .pre .1))
 
--- src/clauses.rt:69:9
 past-requires : tie.Need-past-requires
 past-requires c κs = head-term (c .before .before .before .before .before .pre .1)
 
--- src/clauses.rt:70:9
 ground-marked-requires : tie.Need-ground-marked-requires
 ground-marked-requires c κs = head-marked (c .before .before .before .before .before .before .args .s .now) (c .before .before .before .before .before .before .args .declared .now) (c .before .before .before .before .before .before .args .n) (c .before .before .before .before .before .before .args .table .now) (c .before .before .before .before .before .before .args .p) (c .before .before .before .before .before .before .args .clause) (c .before .marks-of .result) (c .before .marks-of .ensures) (c .before .before .word-at .result) (c .before .before .word-at .ensures) (c .past .result) (c .past .ensures) input (c .before .before .before .before .before .before .pre .0) (c .before .before .before .before .before .before .pre .1)
 
--- src/clauses.rt:71:9
 body-walk-requires : tie.Need-body-walk-requires
 body-walk-requires c κs = (c .before .before .before .before .before .before .before .pre .0, body-at (c .before .before .before .before .before .before .before .args .s .now) (c .before .before .before .before .before .before .before .args .table .now) (c .before .before .before .before .before .before .before .args .p) (c .before .before .before .word-at .result) (c .before .before .before .word-at .ensures) (c .before .past .result) (c .before .past .ensures) (c .before .before .before .before .before .before .before .pre .1))
 
--- src/clauses.rt:73:8
 is-fault-requires : tie.Need-is-fault-requires
 is-fault-requires c κs = tt
 
--- src/clauses.rt:74:9
 returns : tie.Need-returns
 unfolding nothing
 returns c = clause-stopped (c .before .before .before .before .before .before .before .before .before .before .args .s .now) (c .before .before .before .before .before .before .before .before .before .before .args .declared .now) (c .before .before .before .before .before .before .before .before .before .before .args .n) (c .before .before .before .before .before .before .before .before .before .before .args .table .now) (c .before .before .before .before .before .before .before .before .before .before .args .p) (c .before .before .before .before .before .before .before .before .before .before .args .clause) (c .before .before .before .before .before .marks-of .result) (c .before .before .before .before .before .marks-of .ensures) (c .before .before .before .before .before .before .word-at .result) (c .before .before .before .before .before .before .word-at .ensures) (c .before .before .before .before .past .result) (c .before .before .before .before .past .ensures) (c .before .before .before .ground-marked .result) (c .before .before .before .ground-marked .ensures) (c .before .before .body-walk .result) (c .before .before .body-walk .ensures) (sym (c .before .is-fault .ensures) ∙ (c .if1 .taken))
 
--- src/clauses.rt:77:5
 head-fault-requires : tie.Need-head-fault-requires
 head-fault-requires c κs = head-judged (c .before .before .before .before .before .before .before .before .before .before .before .args .s .now) (c .before .before .before .before .before .before .before .before .before .before .before .args .declared .now) (c .before .before .before .before .before .before .before .before .before .before .before .args .n) (c .before .before .before .before .before .before .before .before .before .before .before .args .table .now) (c .before .before .before .before .before .before .before .before .before .before .before .args .p) (c .before .before .before .before .before .before .before .before .before .before .before .args .clause) (c .before .before .before .before .before .before .marks-of .result) (c .before .before .before .before .before .before .marks-of .ensures) (c .before .before .before .before .before .before .before .word-at .result) (c .before .before .before .before .before .before .before .word-at .ensures) (c .before .before .before .before .before .past .result) (c .before .before .before .before .before .past .ensures) (c .before .before .before .before .before .before .before .before .before .before .before .pre .0) (c .before .before .before .before .before .before .before .before .before .before .before .pre .1)
 
--- src/clauses.rt:60:1
 returns-2 : tie.Need-returns-2
 unfolding nothing
 returns-2 c = clause-passed (c .before .before .before .before .before .before .before .before .before .before .before .before .args .s .now) (c .before .before .before .before .before .before .before .before .before .before .before .before .args .declared .now) (c .before .before .before .before .before .before .before .before .before .before .before .before .args .n) (c .before .before .before .before .before .before .before .before .before .before .before .before .args .table .now) (c .before .before .before .before .before .before .before .before .before .before .before .before .args .p) (c .before .before .before .before .before .before .before .before .before .before .before .before .args .clause) (c .before .before .before .before .before .before .before .marks-of .result) (c .before .before .before .before .before .before .before .marks-of .ensures) (c .before .before .before .before .before .before .before .before .word-at .result) (c .before .before .before .before .before .before .before .before .word-at .ensures) (c .before .before .before .before .before .before .past .result) (c .before .before .before .before .before .before .past .ensures) (c .before .before .before .before .before .ground-marked .result) (c .before .before .before .before .before .ground-marked .ensures) (c .before .before .before .before .body-walk .result) (c .before .before .before .before .body-walk .ensures) (sym (c .before .before .before .is-fault .ensures) ∙ (c .before .before .if1 .left)) (c .head-fault .result) (c .head-fault .ensures)

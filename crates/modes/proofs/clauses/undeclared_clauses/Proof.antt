@@ -1,3 +1,4 @@
+-- `modes::clauses::undeclared_clauses` meets its contract. The invariant: what is left of the clauses gives the answer of the whole (`Ahead`). Assumes nothing.
 use Prim.Native.Nat.{_≤_, _-_, suc}
 use native.Mathlib.Omega.{arith}
 use mathlib.Core.Path.{sym, _∙_}
@@ -6,11 +7,6 @@ use Rattle.modes.specs.Tables.{DeclarationsAt, ClausesAt}
 use Rattle.modes.proofs.Sheets.{Ahead, begun, turn, ended, clauses-stopped, clauses-on, undeclared-goes, undeclared-none}
 use Rattle.modes.proofs.clauses.undeclared_clauses.Statement.{statement}
 use Rattle.modes.proofs.clauses.undeclared_clauses.Tie as tie
-use Rattle.modes.proofs.clauses.undeclared_clauses.Reads as reads
-use Rattle.modes.proofs.clauses.undeclared_clauses.Lts as lts
-use Rattle.modes.proofs.clauses.past_clause.Reads as past-clause-reads
-use Rattle.modes.proofs.clauses.undeclared_clause.Reads as undeclared-clause-reads
-use Rattle.modes.proofs.is_fault.Reads as is-fault-reads
 
 abbrev Inv-loop : tie.InvT-loop
 Inv-loop s declared n table clauses at₀ i₀ at i = (i ≤ clauses) × ((d : DeclarationsAt s declared n) (w : ClausesAt s table 0 clauses) → Ahead s table at i clauses (undeclaredClauses (d .list) 1 (w .list)) (undeclaredClauses (d .list)))
@@ -18,39 +14,30 @@ Inv-loop s declared n table clauses at₀ i₀ at i = (i ≤ clauses) × ((d : D
 abbrev μ-loop : tie.MeasureT-loop
 μ-loop s declared n table clauses at₀ i₀ at i = clauses - i
 
--- src/clauses.rt:47:5
 loop-holds : tie.Need-loop-holds Inv-loop μ-loop
 loop-holds c = (omega arith, λ d w. begun (undeclaredClauses (d .list)) w)
 
--- src/clauses.rt:48:22
 add-number : tie.Need-add-number Inv-loop μ-loop
 add-number c = omega arith
 
--- src/clauses.rt:49:13
 undeclared-clause-requires : tie.Need-undeclared-clause-requires Inv-loop μ-loop
 undeclared-clause-requires c κs = (c .before .before .before .before .before .pre .0, turn (c .loop-test .taken) ((c .before .loop .inv) .1 (c .before .before .before .before .before .pre .0) (c .before .before .before .before .before .pre .1)) .clause)
 
--- src/clauses.rt:50:12
 is-fault-requires : tie.Need-is-fault-requires Inv-loop μ-loop
 is-fault-requires c κs = tt
 
--- src/clauses.rt:51:13
 returns : tie.Need-returns Inv-loop μ-loop
 returns c = λ d w. clauses-stopped (undeclaredClause (d .list)) (undeclared-goes (d .list)) (c .before .before .before .loop-test .taken) (c .before .before .undeclared-clause .result) ((c .before .before .undeclared-clause .ensures) d) (sym (c .before .is-fault .ensures) ∙ (c .if1 .taken)) ((c .before .before .before .before .loop .inv) .1 d w)
 
--- src/clauses.rt:53:9
 past-clause-requires : tie.Need-past-clause-requires Inv-loop μ-loop
-past-clause-requires c κs = turn (c .before .before .before .loop-test .taken) ((c .before .before .before .before .loop .inv) .1 (c .before .before .before .before .before .before .before .before .pre .0) (c .before .before .before .before .before .before .before .before .pre .1)) .clause
+past-clause-requires c κs = ((c .before .before .before .before .before .before .before .before .args .s .now), turn (c .before .before .before .loop-test .taken) ((c .before .before .before .before .loop .inv) .1 (c .before .before .before .before .before .before .before .before .pre .0) (c .before .before .before .before .before .before .before .before .pre .1)) .clause)
 
--- src/clauses.rt:47:5
 loop-less : tie.Need-loop-less Inv-loop μ-loop
 loop-less c = omega arith
 
--- src/clauses.rt:47:5
 loop-again : tie.Need-loop-again Inv-loop μ-loop
-loop-again c = (omega arith, λ d w. clauses-on (undeclaredClause (d .list)) (undeclared-goes (d .list)) (c .before .before .before .before .loop-test .taken) (c .before .before .before .undeclared-clause .result) ((c .before .before .before .undeclared-clause .ensures) d) (sym (c .before .before .is-fault .ensures) ∙ (c .before .if1 .left)) (c .past-clause .result) (c .past-clause .ensures) ((c .before .before .before .before .before .loop .inv) .1 d w))
+loop-again c = (omega arith, λ d w. clauses-on (undeclaredClause (d .list)) (undeclared-goes (d .list)) (c .before .before .before .before .loop-test .taken) (c .before .before .before .undeclared-clause .result) ((c .before .before .before .undeclared-clause .ensures) d) (sym (c .before .before .is-fault .ensures) ∙ (c .before .if1 .left)) (c .past-clause .result) ((c .past-clause .ensures) (c .before .before .before .before .before .before .before .before .before .args .s .now)) ((c .before .before .before .before .before .loop .inv) .1 d w))
 
--- src/clauses.rt:40:1
 returns-2 : tie.Need-returns-2 Inv-loop μ-loop
 returns-2 c = λ d w. ended (c .loop-test .left) ((c .before .loop .inv) .1 d w) (undeclared-none (d .list) (suc (c .before .loop .i)))
 

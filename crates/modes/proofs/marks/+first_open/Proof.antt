@@ -1,17 +1,17 @@
-use Prim.Native.Nat.{_+_, _-_, _*_}
+-- `modes::marks::first_open` meets its contract. The measure is what is left of the words. Assumes nothing.
+use Prim.Native.Nat.{_<_, _-_, ℕ}
 use native.Mathlib.Omega.{arith}
 use mathlib.Core.Path.{refl}
 use Rattle.modes.proofs.Marking.{none-open, marked-first, found-open, marked-further, marked-rest, open-on}
-use Prim.Native.Nat.{ℕ, _<_}
 use borrow.Fn.Kinds.{In}
 use borrow.Fn.PlainCycle.{Measures, is, falls, and}
+use Rattle.modes.proofs.marks.+first_open.{statement}
+use Rattle.modes.proofs.marks.+first_open.Tie.{close}
 use Rattle.modes.proofs.marks.first_open.Reads as first-open
 use Rattle.modes.proofs.marks.first_open.Kinds as first-open-kinds
 use Rattle.modes.proofs.marks.+first_open.Lts-first_open as first-open-lts
 use Rattle.modes.proofs.marks.is_open.Reads as is-open-reads
 use Rattle.modes.proofs.table.past.Reads as past-reads
-use Rattle.modes.proofs.marks.+first_open.{statement}
-use Rattle.modes.proofs.marks.+first_open.Tie.{close}
 
 abbrev μ-first-open : Measures 1 first-open-kinds.ps ℕ
 μ-first-open κs a = a .1 .1 .0 - a .1 .0
@@ -24,7 +24,6 @@ abbrev first-open-below : ℕ → In 1 first-open-kinds.ps
 first-open-below t =
     and 1 first-open-kinds.ps (falls 1 first-open-kinds.ps _<_ μ-first-open t) first-open.Pre
 
--- src/marks.rt:127:9
 first-open-returns : (t : ℕ) → first-open-lts.Need-returns (
   is-open-reads.Asked,
   is-open-reads.Learnt,
@@ -35,7 +34,6 @@ first-open-returns : (t : ℕ) → first-open-lts.Need-returns (
 ) (first-open-at t) first-open.Post
 first-open-returns t c = none-open (c .before .before .args .table .now) (c .before .before .args .p) (c .before .before .args .stop) (c .before .before .args .marks) (c .before .before .args .mark) (c .before .before .args .known) (c .before .before .args .number) (c .if1 .taken)
 
--- src/marks.rt:129:8
 first-open-is-open-requires : (t : ℕ) → first-open-lts.Need-is-open-requires (
   is-open-reads.Asked,
   is-open-reads.Learnt,
@@ -46,7 +44,6 @@ first-open-is-open-requires : (t : ℕ) → first-open-lts.Need-is-open-requires
 ) (first-open-at t) first-open.Post
 first-open-is-open-requires t c κs = marked-first (c .before .before .args .table .now) (c .before .before .args .p) (c .before .before .args .stop) (c .before .before .args .marks) (c .before .before .args .mark) (c .before .before .args .known) (c .if1 .left) (c .before .before .pre .1 .0)
 
--- src/marks.rt:130:9
 first-open-returns-2 : (t : ℕ) → first-open-lts.Need-returns-2 (
   is-open-reads.Asked,
   is-open-reads.Learnt,
@@ -57,7 +54,6 @@ first-open-returns-2 : (t : ℕ) → first-open-lts.Need-returns-2 (
 ) (first-open-at t) first-open.Post
 first-open-returns-2 t c = found-open (c .before .before .before .before .args .table .now) (c .before .before .before .before .args .p) (c .before .before .before .before .args .stop) (c .before .before .before .before .args .marks) (c .before .before .before .before .args .mark) (c .before .before .before .before .args .known) (c .before .before .if1 .left) (c .before .before .before .before .args .number) (c .before .is-open .result) (c .before .is-open .ensures) (c .if2 .taken)
 
--- src/marks.rt:132:9
 first-open-past-requires : (t : ℕ) → first-open-lts.Need-past-requires (
   is-open-reads.Asked,
   is-open-reads.Learnt,
@@ -68,7 +64,6 @@ first-open-past-requires : (t : ℕ) → first-open-lts.Need-past-requires (
 ) (first-open-at t) first-open.Post
 first-open-past-requires t c κs = marked-first (c .before .before .before .before .args .table .now) (c .before .before .before .before .args .p) (c .before .before .before .before .args .stop) (c .before .before .before .before .args .marks) (c .before .before .before .before .args .mark) (c .before .before .before .before .args .known) (c .before .before .if1 .left) (c .before .before .before .before .pre .1 .0)
 
--- src/marks.rt:134:16
 first-open-add-more : (t : ℕ) → first-open-lts.Need-add-more (
   is-open-reads.Asked,
   is-open-reads.Learnt,
@@ -79,7 +74,6 @@ first-open-add-more : (t : ℕ) → first-open-lts.Need-add-more (
 ) (first-open-at t) first-open.Post
 first-open-add-more t c = omega (arith, marked-further (c .before .before .before .before .before .args .table .now) (c .before .before .before .before .before .args .p) (c .before .before .before .before .before .args .stop) (c .before .before .before .before .before .args .marks) (c .before .before .before .before .before .args .mark) (c .before .before .before .before .before .args .known) (c .before .before .before .if1 .left) (c .past .result) (c .past .ensures) (c .before .before .before .before .before .pre .1 .0))
 
--- src/marks.rt:135:5
 first-open-first-open-requires : (t : ℕ) → first-open-lts.Need-first-open-requires (
   is-open-reads.Asked,
   is-open-reads.Learnt,
@@ -90,7 +84,6 @@ first-open-first-open-requires : (t : ℕ) → first-open-lts.Need-first-open-re
 ) (first-open-at t) first-open.Post
 first-open-first-open-requires t c κs = (omega (arith, marked-further (c .before .before .before .before .before .args .table .now) (c .before .before .before .before .before .args .p) (c .before .before .before .before .before .args .stop) (c .before .before .before .before .before .args .marks) (c .before .before .before .before .before .args .mark) (c .before .before .before .before .before .args .known) (c .before .before .before .if1 .left) (c .past .result) (c .past .ensures) (c .before .before .before .before .before .pre .1 .0)), (marked-rest (c .before .before .before .before .before .args .table .now) (c .before .before .before .before .before .args .p) (c .before .before .before .before .before .args .stop) (c .before .before .before .before .before .args .marks) (c .before .before .before .before .before .args .mark) (c .before .before .before .before .before .args .known) (c .before .before .before .if1 .left) (c .past .result) (c .past .ensures) (c .before .before .before .before .before .pre .1 .0), omega (arith, marked-further (c .before .before .before .before .before .args .table .now) (c .before .before .before .before .before .args .p) (c .before .before .before .before .before .args .stop) (c .before .before .before .before .before .args .marks) (c .before .before .before .before .before .args .mark) (c .before .before .before .before .before .args .known) (c .before .before .before .if1 .left) (c .past .result) (c .past .ensures) (c .before .before .before .before .before .pre .1 .0))))
 
--- src/marks.rt:121:1
 first-open-returns-3 : (t : ℕ) → first-open-lts.Need-returns-3 (
   is-open-reads.Asked,
   is-open-reads.Learnt,

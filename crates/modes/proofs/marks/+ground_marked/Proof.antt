@@ -1,16 +1,16 @@
-use Prim.Native.Nat.{_+_, _-_, _*_}
+-- `modes::marks::ground_marked` meets its contract. The measure is what is left of the words. Assumes nothing.
+use Prim.Native.Nat.{_<_, _-_, ℕ}
 use native.Mathlib.Omega.{arith}
 use Rattle.modes.proofs.Marking.{none-given, marked-first, marked-further, marked-rest, given-same, given-other}
-use Prim.Native.Nat.{ℕ, _<_}
 use borrow.Fn.Kinds.{In}
 use borrow.Fn.PlainCycle.{Measures, is, falls, and}
+use Rattle.modes.proofs.marks.+ground_marked.{statement}
+use Rattle.modes.proofs.marks.+ground_marked.Tie.{close}
 use Rattle.modes.proofs.marks.ground_marked.Reads as ground-marked
 use Rattle.modes.proofs.marks.ground_marked.Kinds as ground-marked-kinds
 use Rattle.modes.proofs.marks.+ground_marked.Lts-ground_marked as ground-marked-lts
 use Rattle.modes.proofs.table.past.Reads as past-reads
 use Rattle.modes.proofs.terms.ground_term.Reads as ground-term-reads
-use Rattle.modes.proofs.marks.+ground_marked.{statement}
-use Rattle.modes.proofs.marks.+ground_marked.Tie.{close}
 
 abbrev μ-ground-marked : Measures 1 ground-marked-kinds.ps ℕ
 μ-ground-marked κs a = a .1 .1 .0 - a .1 .0
@@ -27,7 +27,6 @@ ground-marked-below t =
     (falls 1 ground-marked-kinds.ps _<_ μ-ground-marked t)
     ground-marked.Pre
 
--- src/marks.rt:133:9
 ground-marked-returns : (t : ℕ) → ground-marked-lts.Need-returns (
   past-reads.Asked,
   past-reads.Learnt,
@@ -38,7 +37,6 @@ ground-marked-returns : (t : ℕ) → ground-marked-lts.Need-returns (
 ) (ground-marked-at t) ground-marked.Post
 ground-marked-returns t c = none-given (c .before .before .args .table .now) (c .before .before .args .p) (c .before .before .args .stop) (c .before .before .args .marks) (c .before .before .args .mark) (c .before .before .args .known) (c .if1 .taken)
 
--- src/marks.rt:135:9
 ground-marked-past-requires : (t : ℕ) → ground-marked-lts.Need-past-requires (
   past-reads.Asked,
   past-reads.Learnt,
@@ -49,7 +47,6 @@ ground-marked-past-requires : (t : ℕ) → ground-marked-lts.Need-past-requires
 ) (ground-marked-at t) ground-marked.Post
 ground-marked-past-requires t c κs = marked-first (c .before .before .args .table .now) (c .before .before .args .p) (c .before .before .args .stop) (c .before .before .args .marks) (c .before .before .args .mark) (c .before .before .args .known) (c .if1 .left) (c .before .before .pre .1)
 
--- src/marks.rt:138:13
 ground-marked-ground-term-requires : (t : ℕ) → ground-marked-lts.Need-ground-term-requires (
   past-reads.Asked,
   past-reads.Learnt,
@@ -60,7 +57,6 @@ ground-marked-ground-term-requires : (t : ℕ) → ground-marked-lts.Need-ground
 ) (ground-marked-at t) ground-marked.Post
 ground-marked-ground-term-requires t c κs = marked-first (c .before .before .before .before .args .table .now) (c .before .before .before .before .args .p) (c .before .before .before .before .args .stop) (c .before .before .before .before .args .marks) (c .before .before .before .before .args .mark) (c .before .before .before .before .args .known) (c .before .before .if1 .left) (c .before .before .before .before .pre .1)
 
--- src/marks.rt:139:9
 ground-marked-ground-marked-requires : (t : ℕ) → ground-marked-lts.Need-ground-marked-requires (
   past-reads.Asked,
   past-reads.Learnt,
@@ -71,7 +67,6 @@ ground-marked-ground-marked-requires : (t : ℕ) → ground-marked-lts.Need-grou
 ) (ground-marked-at t) ground-marked.Post
 ground-marked-ground-marked-requires t c κs = (omega (arith, marked-further (c .before .before .before .before .before .args .table .now) (c .before .before .before .before .before .args .p) (c .before .before .before .before .before .args .stop) (c .before .before .before .before .before .args .marks) (c .before .before .before .before .before .args .mark) (c .before .before .before .before .before .args .known) (c .before .before .before .if1 .left) (c .before .before .past .result) (c .before .before .past .ensures) (c .before .before .before .before .before .pre .1)), marked-rest (c .before .before .before .before .before .args .table .now) (c .before .before .before .before .before .args .p) (c .before .before .before .before .before .args .stop) (c .before .before .before .before .before .args .marks) (c .before .before .before .before .before .args .mark) (c .before .before .before .before .before .args .known) (c .before .before .before .if1 .left) (c .before .before .past .result) (c .before .before .past .ensures) (c .before .before .before .before .before .pre .1))
 
--- src/marks.rt:139:9
 ground-marked-returns-2 : (t : ℕ) → ground-marked-lts.Need-returns-2 (
   past-reads.Asked,
   past-reads.Learnt,
@@ -82,7 +77,6 @@ ground-marked-returns-2 : (t : ℕ) → ground-marked-lts.Need-returns-2 (
 ) (ground-marked-at t) ground-marked.Post
 ground-marked-returns-2 t c = given-same (c .before .before .before .before .before .before .args .table .now) (c .before .before .before .before .before .before .args .p) (c .before .before .before .before .before .before .args .stop) (c .before .before .before .before .before .before .args .marks) (c .before .before .before .before .before .before .args .mark) (c .before .before .before .before .before .before .args .known) (c .before .before .before .before .if1 .left) (c .before .before .before .past .result) (c .before .before .before .past .ensures) (c .before .before .if2 .taken) (c .before .ground-term .result) (c .ground-marked .result) (c .before .ground-term .ensures) (c .ground-marked .ensures)
 
--- src/marks.rt:141:5
 ground-marked-ground-marked-requires-2 : (t : ℕ) → ground-marked-lts.Need-ground-marked-requires-2 (
   past-reads.Asked,
   past-reads.Learnt,
@@ -93,7 +87,6 @@ ground-marked-ground-marked-requires-2 : (t : ℕ) → ground-marked-lts.Need-gr
 ) (ground-marked-at t) ground-marked.Post
 ground-marked-ground-marked-requires-2 t c κs = (omega (arith, marked-further (c .before .before .before .before .args .table .now) (c .before .before .before .before .args .p) (c .before .before .before .before .args .stop) (c .before .before .before .before .args .marks) (c .before .before .before .before .args .mark) (c .before .before .before .before .args .known) (c .before .before .if1 .left) (c .before .past .result) (c .before .past .ensures) (c .before .before .before .before .pre .1)), marked-rest (c .before .before .before .before .args .table .now) (c .before .before .before .before .args .p) (c .before .before .before .before .args .stop) (c .before .before .before .before .args .marks) (c .before .before .before .before .args .mark) (c .before .before .before .before .args .known) (c .before .before .if1 .left) (c .before .past .result) (c .before .past .ensures) (c .before .before .before .before .pre .1))
 
--- src/marks.rt:128:1
 ground-marked-returns-3 : (t : ℕ) → ground-marked-lts.Need-returns-3 (
   past-reads.Asked,
   past-reads.Learnt,

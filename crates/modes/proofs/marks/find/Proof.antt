@@ -1,3 +1,4 @@
+-- `modes::marks::find` meets its contract. The invariant: the search so far came to the rest of the list (`Rest`). Assumes nothing.
 use Prim.Native.Nat.{_≤_, _-_}
 use native.Mathlib.Omega.{arith}
 use mathlib.Core.Path.{refl}
@@ -6,9 +7,6 @@ use Rattle.modes.specs.Tables.{DeclarationsAt}
 use Rattle.modes.proofs.Marking.{declaration-room, Rest, searched-first, searched-all, declaration-at, searched-found, searched-on}
 use Rattle.modes.proofs.marks.find.Statement.{statement}
 use Rattle.modes.proofs.marks.find.Tie as tie
-use Rattle.modes.proofs.marks.find.Reads as reads
-use Rattle.modes.proofs.marks.find.Lts as lts
-use Rattle.modes.proofs.marks.declares.Reads as declares-reads
 
 abbrev Inv-loop : tie.InvT-loop
 Inv-loop s declared n g at len arguments i₀ i = (i ≤ n) × ((w : DeclarationsAt s declared n) → Rest s declared n i (w .list) (spelling g at len) arguments)
@@ -16,35 +14,27 @@ Inv-loop s declared n g at len arguments i₀ i = (i ≤ n) × ((w : Declaration
 abbrev μ-loop : tie.MeasureT-loop
 μ-loop s declared n g at len arguments i₀ i = n - i
 
--- src/marks.rt:49:5
 loop-holds : tie.Need-loop-holds Inv-loop μ-loop
 loop-holds c = (omega arith, searched-first (c .before .before .before .args .s .now) (c .before .before .before .args .declared .now) (c .before .before .before .args .n) (spelling (c .before .before .before .args .g .now) (c .before .before .before .args .at) (c .before .before .before .args .len)) (c .before .before .before .args .arguments) 0 refl)
 
--- src/marks.rt:50:17
 mul-p : tie.Need-mul-p Inv-loop μ-loop
 mul-p c = omega (arith, declaration-room (c .before .before .before .before .before .args .s .now) (c .before .before .before .before .before .args .declared .now) _ (declaration-at (c .before .before .before .before .before .args .s .now) (c .before .before .before .before .before .args .declared .now) (c .before .before .before .before .before .args .n) (spelling (c .before .before .before .before .before .args .g .now) (c .before .before .before .before .before .args .at) (c .before .before .before .before .before .args .len)) (c .before .before .before .before .before .args .arguments) (c .before .loop .i) (c .loop-test .taken) ((c .before .loop .inv) .1) (c .before .before .before .before .before .pre .0)))
 
--- src/marks.rt:51:12
 declares-requires : tie.Need-declares-requires Inv-loop μ-loop
 declares-requires c κs = (declaration-at (c .before .before .before .before .before .args .s .now) (c .before .before .before .before .before .args .declared .now) (c .before .before .before .before .before .args .n) (spelling (c .before .before .before .before .before .args .g .now) (c .before .before .before .before .before .args .at) (c .before .before .before .before .before .args .len)) (c .before .before .before .before .before .args .arguments) (c .before .loop .i) (c .loop-test .taken) ((c .before .loop .inv) .1) (c .before .before .before .before .before .pre .0), c .before .before .before .before .before .pre .1)
 
--- src/marks.rt:52:13
 returns : tie.Need-returns Inv-loop μ-loop
 returns c = searched-found (c .before .before .before .before .before .before .before .args .s .now) (c .before .before .before .before .before .before .before .args .declared .now) (c .before .before .before .before .before .before .before .args .n) (spelling (c .before .before .before .before .before .before .before .args .g .now) (c .before .before .before .before .before .before .before .args .at) (c .before .before .before .before .before .before .before .args .len)) (c .before .before .before .before .before .before .before .args .arguments) (c .before .before .before .loop .i) (c .before .before .loop-test .taken) ((c .before .before .before .loop .inv) .1) (c .before .declares .result) (c .before .declares .ensures) (c .if1 .taken)
 
--- src/marks.rt:54:9
 add-i : tie.Need-add-i Inv-loop μ-loop
 add-i c = omega arith
 
--- src/marks.rt:49:5
 loop-less : tie.Need-loop-less Inv-loop μ-loop
 loop-less c = omega arith
 
--- src/marks.rt:49:5
 loop-again : tie.Need-loop-again Inv-loop μ-loop
 loop-again c = (omega arith, searched-on (c .before .before .before .before .before .before .before .args .s .now) (c .before .before .before .before .before .before .before .args .declared .now) (c .before .before .before .before .before .before .before .args .n) (spelling (c .before .before .before .before .before .before .before .args .g .now) (c .before .before .before .before .before .before .before .args .at) (c .before .before .before .before .before .before .before .args .len)) (c .before .before .before .before .before .before .before .args .arguments) (c .before .before .before .loop .i) (c .before .before .loop-test .taken) ((c .before .before .before .loop .inv) .1) (c .before .declares .result) (c .before .declares .ensures) (c .if1 .left))
 
--- src/marks.rt:43:1
 returns-2 : tie.Need-returns-2 Inv-loop μ-loop
 returns-2 c = searched-all (c .before .before .before .before .before .args .s .now) (c .before .before .before .before .before .args .declared .now) (c .before .before .before .before .before .args .n) (spelling (c .before .before .before .before .before .args .g .now) (c .before .before .before .before .before .args .at) (c .before .before .before .before .before .args .len)) (c .before .before .before .before .before .args .arguments) (c .before .loop .i) (c .loop-test .left) ((c .before .loop .inv) .1)
 

@@ -1,24 +1,18 @@
+-- `modes::table::past` meets its contract. The size of a term is its second word. Assumes nothing.
 use native.Mathlib.Omega.{arith}
-use Rattle.modes.proofs.Places.{room, room-three, size-least, past-is}
+use Rattle.modes.proofs.Places.{room, room-three, past-is}
 use Rattle.modes.proofs.table.past.Statement.{statement}
 use Rattle.modes.proofs.table.past.Tie as tie
-use Rattle.modes.proofs.table.past.Reads as reads
-use Rattle.modes.proofs.table.past.Lts as lts
-use Rattle.modes.proofs.table.word_at.Reads as word-at-reads
 
--- src/table.rt:27:13
 add-q : tie.Need-add-q
 add-q c = omega (arith, room-three (c .before .args .table .now) (c .before .args .p) (c .before .pre))
 
--- src/table.rt:28:9
 word-at-requires : tie.Need-word-at-requires
 word-at-requires c κs = omega (arith, room-three (c .before .args .table .now) (c .before .args .p) (c .before .pre))
 
--- src/table.rt:29:5
 add-result : tie.Need-add-result
 add-result c = omega (arith, room (c .before .before .args .table .now) (c .before .before .args .p) (c .before .before .pre), c .word-at .ensures)
 
--- src/table.rt:23:1
 returns : tie.Need-returns
 returns c = past-is (c .before .before .args .table .now) (c .before .before .args .p) (c .word-at .result) (c .word-at .ensures)
 

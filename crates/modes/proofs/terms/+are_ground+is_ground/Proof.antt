@@ -1,14 +1,14 @@
+-- `modes::terms::are_ground` and `modes::terms::is_ground` meet their contracts. A term is measured by its words, a list of terms by the words that are left. Assumes nothing.
 use borrow.Author.Tests.{not-true, not-false}
-use Rattle.modes.proofs.Places.{stop-is, inner-at, next-further}
-use Prim.Native.Nat.{_+_, _-_, _*_}
+use Rattle.modes.proofs.Places.{stop-is, inner-at, next-further, room-three, size-least, variable-below, first-fits, parted}
+use Prim.Native.Nat.{_<_, _+_, _-_, _*_, ℕ}
 use native.Mathlib.Omega.{arith}
-use borrow.Author.Needs.{needs}
-use lib.ListN.{length, getD}
-use Rattle.modes.proofs.Places.{room-three, size-least, room, variable-below, first-fits, parted, opened}
+use lib.ListN.{getD}
 use Rattle.modes.proofs.Grounding.{flag, ground-inner, none-ground, first-open, rest-at, rest-ground}
-use Prim.Native.Nat.{ℕ, _<_}
 use borrow.Fn.Kinds.{In}
 use borrow.Fn.PlainCycle.{Measures, is, falls, and}
+use Rattle.modes.proofs.terms.+are_ground+is_ground.{statement}
+use Rattle.modes.proofs.terms.+are_ground+is_ground.Tie.{close}
 use Rattle.modes.proofs.terms.are_ground.Reads as are-ground
 use Rattle.modes.proofs.terms.are_ground.Kinds as are-ground-kinds
 use Rattle.modes.proofs.terms.+are_ground+is_ground.Lts-are_ground as are-ground-lts
@@ -17,8 +17,6 @@ use Rattle.modes.proofs.terms.is_ground.Kinds as is-ground-kinds
 use Rattle.modes.proofs.terms.+are_ground+is_ground.Lts-is_ground as is-ground-lts
 use Rattle.modes.proofs.table.past.Reads as past-reads
 use Rattle.modes.proofs.table.word_at.Reads as word-at-reads
-use Rattle.modes.proofs.terms.+are_ground+is_ground.{statement}
-use Rattle.modes.proofs.terms.+are_ground+is_ground.Tie.{close}
 
 abbrev μ-are-ground : Measures 1 are-ground-kinds.ps ℕ
 μ-are-ground κs a = 2 * (a .1 .1 .0 - a .1 .0) + 1
@@ -41,7 +39,6 @@ abbrev is-ground-below : ℕ → In 1 is-ground-kinds.ps
 is-ground-below t =
     and 1 is-ground-kinds.ps (falls 1 is-ground-kinds.ps _<_ μ-is-ground t) is-ground.Pre
 
--- src/terms.rt:35:9
 are-ground-returns : (t : ℕ) → are-ground-lts.Need-returns (
   is-ground-below t,
   is-ground.Post,
@@ -52,7 +49,6 @@ are-ground-returns : (t : ℕ) → are-ground-lts.Need-returns (
 ) (are-ground-at t) are-ground.Post
 are-ground-returns t c = none-ground (c .before .before .args .table .now) (c .before .before .args .p) (c .before .before .args .stop) (c .before .before .args .known) (c .if1 .taken)
 
--- src/terms.rt:37:9
 are-ground-is-ground-requires : (t : ℕ) → are-ground-lts.Need-is-ground-requires (
   is-ground-below t,
   is-ground.Post,
@@ -63,7 +59,6 @@ are-ground-is-ground-requires : (t : ℕ) → are-ground-lts.Need-is-ground-requ
 ) (are-ground-at t) are-ground.Post
 are-ground-is-ground-requires t c κs = (omega (arith, first-fits (c .if1 .left) (c .before .before .pre .1)), parted (c .if1 .left) (c .before .before .pre .1) .first)
 
--- src/terms.rt:38:9
 are-ground-returns-2 : (t : ℕ) → are-ground-lts.Need-returns-2 (
   is-ground-below t,
   is-ground.Post,
@@ -74,7 +69,6 @@ are-ground-returns-2 : (t : ℕ) → are-ground-lts.Need-returns-2 (
 ) (are-ground-at t) are-ground.Post
 are-ground-returns-2 t c = first-open (c .before .before .before .before .args .table .now) (c .before .before .before .before .args .p) (c .before .before .before .before .args .stop) (c .before .before .before .before .args .known) (c .before .before .if1 .left) (c .before .is-ground .result) (c .before .is-ground .ensures) (not-true _ (c .if2 .taken))
 
--- src/terms.rt:40:9
 are-ground-past-requires : (t : ℕ) → are-ground-lts.Need-past-requires (
   is-ground-below t,
   is-ground.Post,
@@ -85,7 +79,6 @@ are-ground-past-requires : (t : ℕ) → are-ground-lts.Need-past-requires (
 ) (are-ground-at t) are-ground.Post
 are-ground-past-requires t c κs = parted (c .before .before .if1 .left) (c .before .before .before .before .pre .1) .first
 
--- src/terms.rt:41:5
 are-ground-are-ground-requires : (t : ℕ) → are-ground-lts.Need-are-ground-requires (
   is-ground-below t,
   is-ground.Post,
@@ -96,7 +89,6 @@ are-ground-are-ground-requires : (t : ℕ) → are-ground-lts.Need-are-ground-re
 ) (are-ground-at t) are-ground.Post
 are-ground-are-ground-requires t c κs = (omega (arith, next-further (c .past .result) (c .before .before .before .if1 .left) (c .past .ensures) (c .before .before .before .before .before .pre .1)), rest-at (c .before .before .before .before .before .args .table .now) (c .before .before .before .before .before .args .p) (c .before .before .before .before .before .args .stop) (c .before .before .before .before .before .args .known) (c .before .before .before .if1 .left) (c .past .result) (c .past .ensures) (c .before .before .before .before .before .pre .1))
 
--- src/terms.rt:30:1
 are-ground-returns-3 : (t : ℕ) → are-ground-lts.Need-returns-3 (
   is-ground-below t,
   is-ground.Post,
@@ -107,7 +99,6 @@ are-ground-returns-3 : (t : ℕ) → are-ground-lts.Need-returns-3 (
 ) (are-ground-at t) are-ground.Post
 are-ground-returns-3 t c = rest-ground (c .before .before .before .before .before .before .args .table .now) (c .before .before .before .before .before .before .args .p) (c .before .before .before .before .before .before .args .stop) (c .before .before .before .before .before .before .args .known) (c .before .before .before .before .if1 .left) (c .before .past .result) (c .before .past .ensures) (c .before .before .before .is-ground .result) (c .before .before .before .is-ground .ensures) (not-false _ (c .before .before .if2 .left)) (c .are-ground .result) (c .are-ground .ensures)
 
--- src/terms.rt:20:9
 is-ground-word-at-requires : (t : ℕ) → is-ground-lts.Need-word-at-requires (
   word-at-reads.Asked,
   word-at-reads.Learnt,
@@ -118,7 +109,6 @@ is-ground-word-at-requires : (t : ℕ) → is-ground-lts.Need-word-at-requires (
 ) (is-ground-at t) is-ground.Post
 is-ground-word-at-requires t c κs = omega (arith, room-three (c .before .args .table .now) (c .before .args .p) (c .before .pre .1))
 
--- src/terms.rt:22:16
 is-ground-array-read-result : (t : ℕ) → is-ground-lts.Need-array-read-result (
   word-at-reads.Asked,
   word-at-reads.Learnt,
@@ -129,7 +119,6 @@ is-ground-array-read-result : (t : ℕ) → is-ground-lts.Need-array-read-result
 ) (is-ground-at t) is-ground.Post
 is-ground-array-read-result t c = variable-below (c .before .before .before .args .table .now) (c .before .before .before .args .p) (c .before .word-at .result) (c .before .before .before .pre .1) (c .before .word-at .ensures) (c .if1 .taken)
 
--- src/terms.rt:22:9
 is-ground-returns : (t : ℕ) → is-ground-lts.Need-returns (
   word-at-reads.Asked,
   word-at-reads.Learnt,
@@ -140,7 +129,6 @@ is-ground-returns : (t : ℕ) → is-ground-lts.Need-returns (
 ) (is-ground-at t) is-ground.Post
 is-ground-returns t c = flag (c .before .before .before .args .table .now) (c .before .before .before .args .p) (c .before .before .before .args .t3) (c .before .word-at .result) (c .before .word-at .ensures) (c .if1 .taken)
 
--- src/terms.rt:24:16
 is-ground-add-from : (t : ℕ) → is-ground-lts.Need-add-from (
   word-at-reads.Asked,
   word-at-reads.Learnt,
@@ -151,7 +139,6 @@ is-ground-add-from : (t : ℕ) → is-ground-lts.Need-add-from (
 ) (is-ground-at t) is-ground.Post
 is-ground-add-from t c = omega (arith, room-three (c .before .before .before .args .table .now) (c .before .before .before .args .p) (c .before .before .before .pre .1))
 
--- src/terms.rt:25:9
 is-ground-past-requires : (t : ℕ) → is-ground-lts.Need-past-requires (
   word-at-reads.Asked,
   word-at-reads.Learnt,
@@ -162,7 +149,6 @@ is-ground-past-requires : (t : ℕ) → is-ground-lts.Need-past-requires (
 ) (is-ground-at t) is-ground.Post
 is-ground-past-requires t c κs = c .before .before .before .pre .1
 
--- src/terms.rt:26:5
 is-ground-are-ground-requires : (t : ℕ) → is-ground-lts.Need-are-ground-requires (
   word-at-reads.Asked,
   word-at-reads.Learnt,
@@ -173,7 +159,6 @@ is-ground-are-ground-requires : (t : ℕ) → is-ground-lts.Need-are-ground-requ
 ) (is-ground-at t) is-ground.Post
 is-ground-are-ground-requires t c κs = (omega (arith, stop-is (c .past .result) (c .past .ensures) (c .before .before .before .before .pre .1), size-least (c .before .before .before .before .args .table .now) (c .before .before .before .before .args .p) (c .before .before .before .before .pre .1)), inner-at (c .before .before .word-at .result) (c .past .result) (c .before .before .word-at .ensures) (c .before .if1 .left) (c .past .ensures) (c .before .before .before .before .pre .1))
 
--- src/terms.rt:16:1
 is-ground-returns-2 : (t : ℕ) → is-ground-lts.Need-returns-2 (
   word-at-reads.Asked,
   word-at-reads.Learnt,

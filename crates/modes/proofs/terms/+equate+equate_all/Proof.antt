@@ -1,13 +1,15 @@
-use Prim.Native.Nat.{_+_, _-_, _*_}
+-- `modes::terms::equate` and `modes::terms::equate_all` meet their contracts. The left side is measured: a term by its words, a list of terms by the words that are left. Assumes nothing.
+use Prim.Native.Nat.{_<_, _+_, _-_, _*_, ℕ}
 use native.Mathlib.Omega.{arith}
 use borrow.Author.Tests.{not-true, not-false}
-use lib.ListN.{length, getD}
+use lib.ListN.{getD}
 use Rattle.rules.specs.Modes.{everything}
 use Rattle.modes.proofs.Places.{room-three, size-least, stop-is}
 use Rattle.modes.proofs.Equating.{left-at, right-at, equated-left, equated-right, clashed, pairs-at, descended, none-equated, split, pair-fits, pair-further, others-at, others-equated}
-use Prim.Native.Nat.{ℕ, _<_}
 use borrow.Fn.Kinds.{In}
 use borrow.Fn.PlainCycle.{Measures, is, falls, and}
+use Rattle.modes.proofs.terms.+equate+equate_all.{statement}
+use Rattle.modes.proofs.terms.+equate+equate_all.Tie.{close}
 use Rattle.modes.proofs.terms.equate.Reads as equate
 use Rattle.modes.proofs.terms.equate.Kinds as equate-kinds
 use Rattle.modes.proofs.terms.+equate+equate_all.Lts-equate as equate-lts
@@ -18,8 +20,6 @@ use Rattle.modes.proofs.table.past.Reads as past-reads
 use Rattle.modes.proofs.table.word_at.Reads as word-at-reads
 use Rattle.modes.proofs.terms.equate_variable.Reads as equate-variable-reads
 use Rattle.modes.proofs.terms.same_functor.Reads as same-functor-reads
-use Rattle.modes.proofs.terms.+equate+equate_all.{statement}
-use Rattle.modes.proofs.terms.+equate+equate_all.Tie.{close}
 
 abbrev μ-equate : Measures 2 equate-kinds.ps ℕ
 μ-equate κs a = 2 * getD (a .1 .0 .now) (a .1 .1 .0 + 1) 0
@@ -41,7 +41,6 @@ abbrev equate-all-below : ℕ → In 2 equate-all-kinds.ps
 equate-all-below t =
     and 2 equate-all-kinds.ps (falls 2 equate-all-kinds.ps _<_ μ-equate-all t) equate-all.Pre
 
--- src/terms.rt:112:8
 equate-word-at-requires : (t : ℕ) → equate-lts.Need-word-at-requires (
   word-at-reads.Asked,
   word-at-reads.Learnt,
@@ -56,7 +55,6 @@ equate-word-at-requires : (t : ℕ) → equate-lts.Need-word-at-requires (
 ) (equate-at t) equate.Post
 equate-word-at-requires t c κs = omega (arith, room-three (c .before .before .args .table .now) (c .before .before .args .p) (left-at (c .before .before .pre .1)))
 
--- src/terms.rt:113:9
 equate-equate-variable-requires : (t : ℕ) → equate-lts.Need-equate-variable-requires (
   word-at-reads.Asked,
   word-at-reads.Learnt,
@@ -71,7 +69,6 @@ equate-equate-variable-requires : (t : ℕ) → equate-lts.Need-equate-variable-
 ) (equate-at t) equate.Post
 equate-equate-variable-requires t c κs = (left-at (c .before .before .before .before .pre .1), right-at (c .before .before .before .before .pre .1))
 
--- src/terms.rt:113:9
 equate-returns : (t : ℕ) → equate-lts.Need-returns (
   word-at-reads.Asked,
   word-at-reads.Learnt,
@@ -86,7 +83,6 @@ equate-returns : (t : ℕ) → equate-lts.Need-returns (
 ) (equate-at t) equate.Post
 equate-returns t c = equated-left (c .before .before .before .before .before .args .s .now) (c .before .before .before .before .before .args .table .now) (c .before .before .before .before .before .args .p) (c .before .before .before .before .before .args .q) (c .before .before .before .before .before .args .known) (c .before .before .word-at .result) (c .before .before .word-at .ensures) (c .before .if1 .taken) (c .equate-variable .result) (c .equate-variable .ensures)
 
--- src/terms.rt:115:8
 equate-word-at-requires-2 : (t : ℕ) → equate-lts.Need-word-at-requires-2 (
   word-at-reads.Asked,
   word-at-reads.Learnt,
@@ -101,7 +97,6 @@ equate-word-at-requires-2 : (t : ℕ) → equate-lts.Need-word-at-requires-2 (
 ) (equate-at t) equate.Post
 equate-word-at-requires-2 t c κs = omega (arith, room-three (c .before .before .before .before .args .table .now) (c .before .before .before .before .args .q) (right-at (c .before .before .before .before .pre .1)))
 
--- src/terms.rt:116:9
 equate-equate-variable-requires-2 : (t : ℕ) → equate-lts.Need-equate-variable-requires-2 (
   word-at-reads.Asked,
   word-at-reads.Learnt,
@@ -116,7 +111,6 @@ equate-equate-variable-requires-2 : (t : ℕ) → equate-lts.Need-equate-variabl
 ) (equate-at t) equate.Post
 equate-equate-variable-requires-2 t c κs = (left-at (c .before .before .before .before .before .before .pre .1), right-at (c .before .before .before .before .before .before .pre .1))
 
--- src/terms.rt:116:9
 equate-returns-2 : (t : ℕ) → equate-lts.Need-returns-2 (
   word-at-reads.Asked,
   word-at-reads.Learnt,
@@ -131,7 +125,6 @@ equate-returns-2 : (t : ℕ) → equate-lts.Need-returns-2 (
 ) (equate-at t) equate.Post
 equate-returns-2 t c = equated-right (c .before .before .before .before .before .before .before .args .s .now) (c .before .before .before .before .before .before .before .args .table .now) (c .before .before .before .before .before .before .before .args .p) (c .before .before .before .before .before .before .before .args .q) (c .before .before .before .before .before .before .before .args .known) (c .before .before .word-at2 .result) (c .before .before .word-at2 .ensures) (c .before .if2 .taken) (c .equate-variable2 .result) (c .equate-variable2 .ensures)
 
--- src/terms.rt:118:9
 equate-same-functor-requires : (t : ℕ) → equate-lts.Need-same-functor-requires (
   word-at-reads.Asked,
   word-at-reads.Learnt,
@@ -146,7 +139,6 @@ equate-same-functor-requires : (t : ℕ) → equate-lts.Need-same-functor-requir
 ) (equate-at t) equate.Post
 equate-same-functor-requires t c κs = (c .before .before .before .before .before .before .pre .1, omega (arith, c .before .before .before .word-at .ensures, c .before .word-at2 .ensures))
 
--- src/terms.rt:119:9
 equate-returns-3 : (t : ℕ) → equate-lts.Need-returns-3 (
   word-at-reads.Asked,
   word-at-reads.Learnt,
@@ -162,7 +154,6 @@ equate-returns-3 : (t : ℕ) → equate-lts.Need-returns-3 (
 unfolding everything
 equate-returns-3 t c = clashed (c .before .before .before .before .before .before .before .before .args .s .now) (c .before .before .before .before .before .before .before .before .args .table .now) (c .before .before .before .before .before .before .before .before .args .p) (c .before .before .before .before .before .before .before .before .args .q) (c .before .before .before .before .before .before .before .before .args .known) (c .before .before .before .before .before .word-at .result) (c .before .before .before .word-at2 .result) (c .before .before .before .before .before .word-at .ensures) (c .before .before .before .word-at2 .ensures) (c .before .before .before .before .if1 .left) (c .before .before .if2 .left) (c .before .same-functor .result) (c .before .same-functor .ensures) (not-true _ (c .if3 .taken))
 
--- src/terms.rt:121:16
 equate-add-from : (t : ℕ) → equate-lts.Need-add-from (
   word-at-reads.Asked,
   word-at-reads.Learnt,
@@ -177,7 +168,6 @@ equate-add-from : (t : ℕ) → equate-lts.Need-add-from (
 ) (equate-at t) equate.Post
 equate-add-from t c = omega (arith, room-three (c .before .before .before .before .before .before .before .before .args .table .now) (c .before .before .before .before .before .before .before .before .args .p) (left-at (c .before .before .before .before .before .before .before .before .pre .1)))
 
--- src/terms.rt:122:9
 equate-past-requires : (t : ℕ) → equate-lts.Need-past-requires (
   word-at-reads.Asked,
   word-at-reads.Learnt,
@@ -192,7 +182,6 @@ equate-past-requires : (t : ℕ) → equate-lts.Need-past-requires (
 ) (equate-at t) equate.Post
 equate-past-requires t c κs = left-at (c .before .before .before .before .before .before .before .before .pre .1)
 
--- src/terms.rt:123:17
 equate-add-other : (t : ℕ) → equate-lts.Need-add-other (
   word-at-reads.Asked,
   word-at-reads.Learnt,
@@ -207,7 +196,6 @@ equate-add-other : (t : ℕ) → equate-lts.Need-add-other (
 ) (equate-at t) equate.Post
 equate-add-other t c = omega (arith, room-three (c .before .before .before .before .before .before .before .before .before .args .table .now) (c .before .before .before .before .before .before .before .before .before .args .q) (right-at (c .before .before .before .before .before .before .before .before .before .pre .1)))
 
--- src/terms.rt:124:5
 equate-equate-all-requires : (t : ℕ) → equate-lts.Need-equate-all-requires (
   word-at-reads.Asked,
   word-at-reads.Learnt,
@@ -222,7 +210,6 @@ equate-equate-all-requires : (t : ℕ) → equate-lts.Need-equate-all-requires (
 ) (equate-at t) equate.Post
 equate-equate-all-requires t c κs = (omega (arith, stop-is (c .past .result) (c .past .ensures) (left-at (c .before .before .before .before .before .before .before .before .before .pre .1)), size-least (c .before .before .before .before .before .before .before .before .before .args .table .now) (c .before .before .before .before .before .before .before .before .before .args .p) (left-at (c .before .before .before .before .before .before .before .before .before .pre .1))), pairs-at (c .before .before .before .before .before .before .before .before .before .args .s .now) (c .before .before .before .before .before .before .before .before .before .args .table .now) (c .before .before .before .before .before .before .before .before .before .args .p) (c .before .before .before .before .before .before .before .before .before .args .q) (c .before .before .before .before .before .before .before .before .before .args .known) (c .before .before .before .before .before .before .word-at .result) (c .before .before .before .before .word-at2 .result) (c .before .before .before .before .before .before .word-at .ensures) (c .before .before .before .before .word-at2 .ensures) (c .before .before .before .before .before .if1 .left) (c .before .before .before .if2 .left) (c .before .before .same-functor .result) (c .before .before .same-functor .ensures) (not-false _ (c .before .if3 .left)) (c .past .result) (c .past .ensures) (c .before .before .before .before .before .before .before .before .before .pre .1))
 
--- src/terms.rt:108:1
 equate-returns-4 : (t : ℕ) → equate-lts.Need-returns-4 (
   word-at-reads.Asked,
   word-at-reads.Learnt,
@@ -237,7 +224,6 @@ equate-returns-4 : (t : ℕ) → equate-lts.Need-returns-4 (
 ) (equate-at t) equate.Post
 equate-returns-4 t c = descended (c .before .before .before .before .before .before .before .before .before .before .args .s .now) (c .before .before .before .before .before .before .before .before .before .before .args .table .now) (c .before .before .before .before .before .before .before .before .before .before .args .p) (c .before .before .before .before .before .before .before .before .before .before .args .q) (c .before .before .before .before .before .before .before .before .before .before .args .known) (c .before .before .before .before .before .before .before .word-at .result) (c .before .before .before .before .before .word-at2 .result) (c .before .before .before .before .before .before .before .word-at .ensures) (c .before .before .before .before .before .word-at2 .ensures) (c .before .before .before .before .before .before .if1 .left) (c .before .before .before .before .if2 .left) (c .before .before .before .same-functor .result) (c .before .before .before .same-functor .ensures) (not-false _ (c .before .before .if3 .left)) (c .before .past .result) (c .before .past .ensures) (c .equate-all .result) (c .equate-all .ensures)
 
--- src/terms.rt:133:9
 equate-all-returns : (t : ℕ) → equate-all-lts.Need-returns (
   equate-below t,
   equate.Post,
@@ -248,7 +234,6 @@ equate-all-returns : (t : ℕ) → equate-all-lts.Need-returns (
 ) (equate-all-at t) equate-all.Post
 equate-all-returns t c = none-equated (c .before .before .before .args .s .now) (c .before .before .before .args .table .now) (c .before .before .before .args .p) (c .before .before .before .args .stop) (c .before .before .before .args .q) (c .before .before .before .args .known) (c .if1 .taken)
 
--- src/terms.rt:135:9
 equate-all-equate-requires : (t : ℕ) → equate-all-lts.Need-equate-requires (
   equate-below t,
   equate.Post,
@@ -259,7 +244,6 @@ equate-all-equate-requires : (t : ℕ) → equate-all-lts.Need-equate-requires (
 ) (equate-all-at t) equate-all.Post
 equate-all-equate-requires t c κs = (omega (arith, pair-fits (c .before .before .before .args .s .now) (c .before .before .before .args .table .now) (c .before .before .before .args .p) (c .before .before .before .args .stop) (c .before .before .before .args .q) (c .before .before .before .args .known) (c .if1 .left) (c .before .before .before .pre .1)), split (c .before .before .before .args .s .now) (c .before .before .before .args .table .now) (c .before .before .before .args .p) (c .before .before .before .args .stop) (c .before .before .before .args .q) (c .before .before .before .args .known) (c .if1 .left) (c .before .before .before .pre .1) .first)
 
--- src/terms.rt:136:9
 equate-all-past-requires : (t : ℕ) → equate-all-lts.Need-past-requires (
   equate-below t,
   equate.Post,
@@ -270,7 +254,6 @@ equate-all-past-requires : (t : ℕ) → equate-all-lts.Need-past-requires (
 ) (equate-all-at t) equate-all.Post
 equate-all-past-requires t c κs = left-at (split (c .before .before .before .before .args .s .now) (c .before .before .before .before .args .table .now) (c .before .before .before .before .args .p) (c .before .before .before .before .args .stop) (c .before .before .before .before .args .q) (c .before .before .before .before .args .known) (c .before .if1 .left) (c .before .before .before .before .pre .1) .first)
 
--- src/terms.rt:137:9
 equate-all-past-requires-2 : (t : ℕ) → equate-all-lts.Need-past-requires-2 (
   equate-below t,
   equate.Post,
@@ -281,7 +264,6 @@ equate-all-past-requires-2 : (t : ℕ) → equate-all-lts.Need-past-requires-2 (
 ) (equate-all-at t) equate-all.Post
 equate-all-past-requires-2 t c κs = right-at (split (c .before .before .before .before .before .args .s .now) (c .before .before .before .before .before .args .table .now) (c .before .before .before .before .before .args .p) (c .before .before .before .before .before .args .stop) (c .before .before .before .before .before .args .q) (c .before .before .before .before .before .args .known) (c .before .before .if1 .left) (c .before .before .before .before .before .pre .1) .first)
 
--- src/terms.rt:138:5
 equate-all-equate-all-requires : (t : ℕ) → equate-all-lts.Need-equate-all-requires (
   equate-below t,
   equate.Post,
@@ -292,7 +274,6 @@ equate-all-equate-all-requires : (t : ℕ) → equate-all-lts.Need-equate-all-re
 ) (equate-all-at t) equate-all.Post
 equate-all-equate-all-requires t c κs = (omega (arith, pair-further (c .before .before .before .before .before .before .args .s .now) (c .before .before .before .before .before .before .args .table .now) (c .before .before .before .before .before .before .args .p) (c .before .before .before .before .before .before .args .stop) (c .before .before .before .before .before .before .args .q) (c .before .before .before .before .before .before .args .known) (c .before .before .before .if1 .left) (c .before .past .result) (c .past2 .result) (c .before .past .ensures) (c .past2 .ensures) (c .before .before .before .before .before .before .pre .1)), others-at (c .before .before .before .before .before .before .args .s .now) (c .before .before .before .before .before .before .args .table .now) (c .before .before .before .before .before .before .args .p) (c .before .before .before .before .before .before .args .stop) (c .before .before .before .before .before .before .args .q) (c .before .before .before .before .before .before .args .known) (c .before .before .before .if1 .left) (c .before .past .result) (c .past2 .result) (c .before .past .ensures) (c .past2 .ensures) (c .before .before .before .before .before .before .pre .1))
 
--- src/terms.rt:128:1
 equate-all-returns-2 : (t : ℕ) → equate-all-lts.Need-returns-2 (
   equate-below t,
   equate.Post,

@@ -1,11 +1,13 @@
-use Prim.Native.Nat.{_+_, _-_, _*_}
+-- `modes::terms::ground_term` and `modes::terms::ground_terms` meet their contracts. A term is measured by its words, a list of terms by the words that are left. Assumes nothing.
+use Prim.Native.Nat.{_<_, _+_, _-_, _*_, ℕ}
 use native.Mathlib.Omega.{arith}
-use lib.ListN.{length, getD}
-use Rattle.modes.proofs.Places.{room-three, size-least, room, variable-below, first-fits, parted, opened, stop-is, inner-at, next-further}
+use lib.ListN.{getD}
+use Rattle.modes.proofs.Places.{room-three, size-least, variable-below, first-fits, parted, stop-is, inner-at, next-further}
 use Rattle.modes.proofs.Grounding.{stored, stored-inner, none-stored, rest-at, rest-stored}
-use Prim.Native.Nat.{ℕ, _<_}
 use borrow.Fn.Kinds.{In}
 use borrow.Fn.PlainCycle.{Measures, is, falls, and}
+use Rattle.modes.proofs.terms.+ground_term+ground_terms.{statement}
+use Rattle.modes.proofs.terms.+ground_term+ground_terms.Tie.{close}
 use Rattle.modes.proofs.terms.ground_term.Reads as ground-term
 use Rattle.modes.proofs.terms.ground_term.Kinds as ground-term-kinds
 use Rattle.modes.proofs.terms.+ground_term+ground_terms.Lts-ground_term as ground-term-lts
@@ -14,8 +16,6 @@ use Rattle.modes.proofs.terms.ground_terms.Kinds as ground-terms-kinds
 use Rattle.modes.proofs.terms.+ground_term+ground_terms.Lts-ground_terms as ground-terms-lts
 use Rattle.modes.proofs.table.past.Reads as past-reads
 use Rattle.modes.proofs.table.word_at.Reads as word-at-reads
-use Rattle.modes.proofs.terms.+ground_term+ground_terms.{statement}
-use Rattle.modes.proofs.terms.+ground_term+ground_terms.Tie.{close}
 
 abbrev μ-ground-term : Measures 1 ground-term-kinds.ps ℕ
 μ-ground-term κs a = 2 * getD (a .0 .now) (a .1 .0 + 1) 0
@@ -43,7 +43,6 @@ ground-terms-below t =
     (falls 1 ground-terms-kinds.ps _<_ μ-ground-terms t)
     ground-terms.Pre
 
--- src/terms.rt:49:9
 ground-term-word-at-requires : (t : ℕ) → ground-term-lts.Need-word-at-requires (
   word-at-reads.Asked,
   word-at-reads.Learnt,
@@ -54,7 +53,6 @@ ground-term-word-at-requires : (t : ℕ) → ground-term-lts.Need-word-at-requir
 ) (ground-term-at t) ground-term.Post
 ground-term-word-at-requires t c κs = omega (arith, room-three (c .before .args .table .now) (c .before .args .p) (c .before .pre .1))
 
--- src/terms.rt:52:9
 ground-term-array-write-after : (t : ℕ) → ground-term-lts.Need-array-write-after (
   word-at-reads.Asked,
   word-at-reads.Learnt,
@@ -65,7 +63,6 @@ ground-term-array-write-after : (t : ℕ) → ground-term-lts.Need-array-write-a
 ) (ground-term-at t) ground-term.Post
 ground-term-array-write-after t c = variable-below (c .before .before .before .args .table .now) (c .before .before .before .args .p) (c .before .word-at .result) (c .before .before .before .pre .1) (c .before .word-at .ensures) (c .if1 .taken)
 
--- src/terms.rt:53:9
 ground-term-returns : (t : ℕ) → ground-term-lts.Need-returns (
   word-at-reads.Asked,
   word-at-reads.Learnt,
@@ -76,7 +73,6 @@ ground-term-returns : (t : ℕ) → ground-term-lts.Need-returns (
 ) (ground-term-at t) ground-term.Post
 ground-term-returns t c = stored (c .before .before .before .args .table .now) (c .before .before .before .args .p) (c .before .before .before .args .known) (c .before .word-at .result) (c .before .word-at .ensures) (c .if1 .taken)
 
--- src/terms.rt:55:16
 ground-term-add-from : (t : ℕ) → ground-term-lts.Need-add-from (
   word-at-reads.Asked,
   word-at-reads.Learnt,
@@ -87,7 +83,6 @@ ground-term-add-from : (t : ℕ) → ground-term-lts.Need-add-from (
 ) (ground-term-at t) ground-term.Post
 ground-term-add-from t c = omega (arith, room-three (c .before .before .before .args .table .now) (c .before .before .before .args .p) (c .before .before .before .pre .1))
 
--- src/terms.rt:56:9
 ground-term-past-requires : (t : ℕ) → ground-term-lts.Need-past-requires (
   word-at-reads.Asked,
   word-at-reads.Learnt,
@@ -98,7 +93,6 @@ ground-term-past-requires : (t : ℕ) → ground-term-lts.Need-past-requires (
 ) (ground-term-at t) ground-term.Post
 ground-term-past-requires t c κs = c .before .before .before .pre .1
 
--- src/terms.rt:57:5
 ground-term-ground-terms-requires : (t : ℕ) → ground-term-lts.Need-ground-terms-requires (
   word-at-reads.Asked,
   word-at-reads.Learnt,
@@ -109,7 +103,6 @@ ground-term-ground-terms-requires : (t : ℕ) → ground-term-lts.Need-ground-te
 ) (ground-term-at t) ground-term.Post
 ground-term-ground-terms-requires t c κs = (omega (arith, stop-is (c .past .result) (c .past .ensures) (c .before .before .before .before .pre .1), size-least (c .before .before .before .before .args .table .now) (c .before .before .before .before .args .p) (c .before .before .before .before .pre .1)), inner-at (c .before .before .word-at .result) (c .past .result) (c .before .before .word-at .ensures) (c .before .if1 .left) (c .past .ensures) (c .before .before .before .before .pre .1))
 
--- src/terms.rt:45:1
 ground-term-returns-2 : (t : ℕ) → ground-term-lts.Need-returns-2 (
   word-at-reads.Asked,
   word-at-reads.Learnt,
@@ -120,7 +113,6 @@ ground-term-returns-2 : (t : ℕ) → ground-term-lts.Need-returns-2 (
 ) (ground-term-at t) ground-term.Post
 ground-term-returns-2 t c = stored-inner (c .before .before .before .before .before .args .table .now) (c .before .before .before .before .before .args .p) (c .before .before .before .before .before .args .known) (c .before .before .before .word-at .result) (c .before .before .before .word-at .ensures) (c .before .past .result) (c .before .before .if1 .left) (c .before .past .ensures) (c .ground-terms .result) (c .ground-terms .ensures)
 
--- src/terms.rt:66:9
 ground-terms-returns : (t : ℕ) → ground-terms-lts.Need-returns (
   ground-term-below t,
   ground-term.Post,
@@ -131,7 +123,6 @@ ground-terms-returns : (t : ℕ) → ground-terms-lts.Need-returns (
 ) (ground-terms-at t) ground-terms.Post
 ground-terms-returns t c = none-stored (c .before .before .args .table .now) (c .before .before .args .p) (c .before .before .args .stop) (c .before .before .args .known) (c .if1 .taken)
 
--- src/terms.rt:68:9
 ground-terms-ground-term-requires : (t : ℕ) → ground-terms-lts.Need-ground-term-requires (
   ground-term-below t,
   ground-term.Post,
@@ -142,7 +133,6 @@ ground-terms-ground-term-requires : (t : ℕ) → ground-terms-lts.Need-ground-t
 ) (ground-terms-at t) ground-terms.Post
 ground-terms-ground-term-requires t c κs = (omega (arith, first-fits (c .if1 .left) (c .before .before .pre .1)), parted (c .if1 .left) (c .before .before .pre .1) .first)
 
--- src/terms.rt:69:9
 ground-terms-past-requires : (t : ℕ) → ground-terms-lts.Need-past-requires (
   ground-term-below t,
   ground-term.Post,
@@ -153,7 +143,6 @@ ground-terms-past-requires : (t : ℕ) → ground-terms-lts.Need-past-requires (
 ) (ground-terms-at t) ground-terms.Post
 ground-terms-past-requires t c κs = parted (c .before .if1 .left) (c .before .before .before .pre .1) .first
 
--- src/terms.rt:70:5
 ground-terms-ground-terms-requires : (t : ℕ) → ground-terms-lts.Need-ground-terms-requires (
   ground-term-below t,
   ground-term.Post,
@@ -164,7 +153,6 @@ ground-terms-ground-terms-requires : (t : ℕ) → ground-terms-lts.Need-ground-
 ) (ground-terms-at t) ground-terms.Post
 ground-terms-ground-terms-requires t c κs = (omega (arith, next-further (c .past .result) (c .before .before .if1 .left) (c .past .ensures) (c .before .before .before .before .pre .1)), rest-at (c .before .before .before .before .args .table .now) (c .before .before .before .before .args .p) (c .before .before .before .before .args .stop) (c .before .before .before .before .args .known) (c .before .before .if1 .left) (c .past .result) (c .past .ensures) (c .before .before .before .before .pre .1))
 
--- src/terms.rt:61:1
 ground-terms-returns-2 : (t : ℕ) → ground-terms-lts.Need-returns-2 (
   ground-term-below t,
   ground-term.Post,
