@@ -1,7 +1,7 @@
 -- Laws of the definitions of tokens, over plain variables: a step of the scanner by the byte at a place, a step of a run and of a
 -- comparison, and by cases of a token's first byte where the token lies, how long it is and when it is the end.
 use Prim.Native.Nat.{ℕ, zero, suc, _+_, _-_, _≤_, _<_}
-use native.Mathlib.Nat.{add-zero, sub-zero}
+use native.Mathlib.Nat.{add-zero, sub-zero, le-of-suc-le-suc, not-suc-le-zero}
 use native.Mathlib.Numerals.{add-one}
 use native.Mathlib.Omega.{arith}
 use mathlib.Core.Path.{_≡_, refl, sym, ap, _∙_}
@@ -9,7 +9,7 @@ use mathlib.Core.Bool.{Bool, true, false, cond, _&&_}
 use mathlib.Core.List.{List, [], _∷_}
 use lib.Dec.{T, leb, eqb, leb→le}
 use lib.ListN.{length, getD, take, drop, length-drop, drop-of-length-le}
-use lib.Seq.{drop-cons}
+use lib.Seq.{drop-cons, getD-drop}
 use borrow.Author.Tests.{leb-true, leb-false, eqb-true, eqb-false, le-leb, lt-leb, eq-eqb, ne-eqb}
 use Rattle.syntax.specs.Bytes.{isBlank, isLower, isUpper, isDigit, classOf, inWord, inNumeral}
 use Rattle.syntax.specs.Tokens.{Gap, outside, inComment, Move, on, atToken, moveOf, skipped, run, word, dashFirst}
@@ -172,42 +172,72 @@ numeral-goes : (b : ℕ) → inNumeral b ≡ goesOn 5 b
 unfolding inNumeral goesOn
 numeral-goes b = numeral-tests (classOf b) _ refl _ refl _ refl
 
--- Comparisons.
-abbrev pub sameFrom : List ℕ → ℕ → List ℕ → ℕ → ℕ → ℕ → Bool
-sameFrom s a t b n i = sameBytes (take (n - i) (drop (a + i) s)) (take (n - i) (drop (b + i) t))
+-- Comparisons, from the last byte on: the bytes of names that begin alike are soon told apart.
+and-right : (x : Bool) → (x && true) ≡ x
+and-right true = refl
+and-right false = refl
 
--- the parts are the same where their rests from the i-th byte on are
-abbrev pub Alike : List ℕ → ℕ → List ℕ → ℕ → ℕ → ℕ → Type 0
-Alike s a t b n i = sameBytes (take n (drop a s)) (take n (drop b t)) ≡ sameFrom s a t b n i
+and-off : (x : Bool) → (x && false) ≡ false
+and-off true = refl
+and-off false = refl
 
-pub alike-first : (s : List ℕ) (a : ℕ) (t : List ℕ) (b n : ℕ) → Alike s a t b n 0
-alike-first s a t b n = simp (add-zero, sub-zero)
+and-over : (x y z : Bool) → (x && (y && z)) ≡ ((x && y) && z)
+and-over true y z = refl
+and-over false y z = refl
 
-same-step : (s : List ℕ) (a : ℕ) (t : List ℕ) (b n i : ℕ) → i < n → a + n ≤ length s → b + n ≤ length t
-    → sameFrom s a t b n i ≡ (eqb (getD s (a + i) 0) (getD t (b + i) 0) && sameFrom s a t b n (i + 1))
+-- one byte more
+same-snoc : (x y : List ℕ) (k : ℕ) → k < length x → k < length y
+    → sameBytes (take (suc k) x) (take (suc k) y) ≡ (sameBytes (take k x) (take k y) && eqb (getD x k 0) (getD y k 0))
 unfolding sameBytes
-same-step s a t b n i h p q =
-    let m : n - i ≡ suc (n - (i + 1)) = omega arith in
-    let u : drop (a + i) s ≡ getD s (a + i) 0 ∷ drop (a + i + 1) s = drop-next s (a + i) (omega arith) in
-    let v : drop (b + i) t ≡ getD t (b + i) 0 ∷ drop (b + i + 1) t = drop-next t (b + i) (omega arith) in
-    let x : a + i + 1 ≡ a + (i + 1) = omega arith in
-    let y : b + i + 1 ≡ b + (i + 1) = omega arith in
-    rw (m, u, v, x, y)
+same-snoc [] y k p q = absurd (not-suc-le-zero p)
+same-snoc (c ∷ r) [] k p q = absurd (not-suc-le-zero q)
+same-snoc (c ∷ r) (d ∷ u) zero p q = and-right (eqb c d)
+same-snoc (c ∷ r) (d ∷ u) (suc k) p q =
+    ap (λ (v : Bool). eqb c d && v) (same-snoc r u k (le-of-suc-le-suc p) (le-of-suc-le-suc q))
+    ∙ and-over (eqb c d) (sameBytes (take k r) (take k u)) (eqb (getD r k 0) (getD u k 0))
 
-pub alike-on : (s : List ℕ) (a : ℕ) (t : List ℕ) (b n i : ℕ) → i < n → (a + n ≤ length s) × (b + n ≤ length t)
-    → getD s (a + i) 0 ≡ getD t (b + i) 0 → Alike s a t b n i → Alike s a t b n (i + 1)
-alike-on s a t b n i h p e w =
-    w ∙ same-step s a t b n i h (p .0) (p .1) ∙ ap (λ (v : Bool). v && sameFrom s a t b n (i + 1)) (eq-eqb _ _ e)
+abbrev pub sameUpTo : List ℕ → ℕ → List ℕ → ℕ → ℕ → Bool
+sameUpTo s a t b i = sameBytes (take i (drop a s)) (take i (drop b t))
 
-pub alike-differ : (s : List ℕ) (a : ℕ) (t : List ℕ) (b n i : ℕ) → i < n → (a + n ≤ length s) × (b + n ≤ length t)
-    → (getD s (a + i) 0 ≡ getD t (b + i) 0 → ⊥) → Alike s a t b n i → false ≡ sameBytes (take n (drop a s)) (take n (drop b t))
-alike-differ s a t b n i h p e w =
-    sym (w ∙ same-step s a t b n i h (p .0) (p .1) ∙ ap (λ (v : Bool). v && sameFrom s a t b n (i + 1)) (ne-eqb _ _ e))
+-- the parts are the same where their first i bytes are
+abbrev pub Alike : List ℕ → ℕ → List ℕ → ℕ → ℕ → ℕ → Type 0
+Alike s a t b n i = sameBytes (take n (drop a s)) (take n (drop b t)) ≡ sameUpTo s a t b i
 
-pub alike-end : (s : List ℕ) (a : ℕ) (t : List ℕ) (b n i : ℕ) → n ≤ i → Alike s a t b n i
+pub alike-first : (s : List ℕ) (a : ℕ) (t : List ℕ) (b n : ℕ) → Alike s a t b n n
+alike-first s a t b n = refl
+
+same-step : (s : List ℕ) (a : ℕ) (t : List ℕ) (b i : ℕ) → 0 < i → a + i ≤ length s → b + i ≤ length t
+    → sameUpTo s a t b i ≡ (sameUpTo s a t b (i - 1) && eqb (getD s (a + (i - 1)) 0) (getD t (b + (i - 1)) 0))
+same-step s a t b i h p q =
+    let m : i ≡ suc (i - 1) = omega arith in
+    let x : i - 1 < length (drop a s) = omega (arith, length-drop a s) in
+    let y : i - 1 < length (drop b t) = omega (arith, length-drop b t) in
+    ap (sameUpTo s a t b) m
+    ∙ same-snoc (drop a s) (drop b t) (i - 1) x y
+    ∙ ap (λ (v : ℕ). sameUpTo s a t b (i - 1) && eqb v (getD (drop b t) (i - 1) 0)) (getD-drop a s (i - 1) 0)
+    ∙ ap (λ (v : ℕ). sameUpTo s a t b (i - 1) && eqb (getD s (a + (i - 1)) 0) v) (getD-drop b t (i - 1) 0)
+
+pub alike-on : (s : List ℕ) (a : ℕ) (t : List ℕ) (b n i : ℕ) → 0 < i → i ≤ n → (a + n ≤ length s) × (b + n ≤ length t)
+    → getD s (a + (i - 1)) 0 ≡ getD t (b + (i - 1)) 0 → Alike s a t b n i → Alike s a t b n (i - 1)
+alike-on s a t b n i h l p e w =
+    w
+    ∙ same-step s a t b i h (omega (arith, p .0)) (omega (arith, p .1))
+    ∙ ap (λ (v : Bool). sameUpTo s a t b (i - 1) && v) (eq-eqb _ _ e)
+    ∙ and-right (sameUpTo s a t b (i - 1))
+
+pub alike-differ : (s : List ℕ) (a : ℕ) (t : List ℕ) (b n i : ℕ) → 0 < i → i ≤ n → (a + n ≤ length s) × (b + n ≤ length t)
+    → (getD s (a + (i - 1)) 0 ≡ getD t (b + (i - 1)) 0 → ⊥) → Alike s a t b n i → false ≡ sameBytes (take n (drop a s)) (take n (drop b t))
+alike-differ s a t b n i h l p e w =
+    sym
+    (w
+    ∙ same-step s a t b i h (omega (arith, p .0)) (omega (arith, p .1))
+    ∙ ap (λ (v : Bool). sameUpTo s a t b (i - 1) && v) (ne-eqb _ _ e)
+    ∙ and-off (sameUpTo s a t b (i - 1)))
+
+pub alike-end : (s : List ℕ) (a : ℕ) (t : List ℕ) (b n i : ℕ) → i ≤ 0 → Alike s a t b n i
     → true ≡ sameBytes (take n (drop a s)) (take n (drop b t))
 unfolding sameBytes
-alike-end s a t b n i h w = let z : n - i ≡ 0 = omega arith in sym (w ∙ simp z)
+alike-end s a t b n i h w = let z : i ≡ 0 = omega arith in sym (w ∙ simp z)
 
 -- Tokens.
 pub word-in : (kind i n e : ℕ) → e ≡ i + 1 + n → e - i ≤ 31 → record { kind = kind; at = i; len = e - i } ≡ word kind i (suc n)

@@ -16,6 +16,7 @@ ghost use lib.ListN.{length, getD, take, drop};
 ghost use Rattle.syntax.specs.Bytes.{classOf};
 ghost use Rattle.syntax.specs.Tokens.{run, word, tokenOf, tokenPlace, tokenAt};
 ghost use Rattle.syntax.specs.Terms.{sameBytes};
+ghost use Rattle.lexer.specs.Classes.{Classified};
 ghost use Rattle.lexer.specs.Runs.{goesOn};
 
 // The classes of bytes that are no kind of token.
@@ -32,11 +33,19 @@ const DASH: u8 = 45;
 // The most bytes of a name, variable or numeral.
 const LONGEST: usize = 31;
 
+// The table of classes. A constant array is put into memory wherever it is used, so a token is scanned with one copy of it.
+fn class_table() -> [u8; 256]
+    ensures { λ r. ⌜ Classified r ⌝ }
+{
+    CLASSES
+}
+
 // The class of a byte.
-pub fn class(b: u8) -> usize
+fn class(table: &[u8; 256], b: u8) -> usize
+    requires { ⌜ Classified (now table) ⌝ }
     ensures { λ r. ⌜ r ≡ classOf b ⌝ }
 {
-    CLASSES[b as usize] as usize
+    table[b as usize] as usize
 }
 
 // The byte at a position, 0 past the end.
@@ -50,7 +59,8 @@ pub fn byte_at(s: &[u8], i: usize) -> u8
 }
 
 // Where the first token from a position on begins, past blanks and comments; the length where only these are left.
-pub fn skip(s: &[u8], from: usize) -> usize
+fn skip(table: &[u8; 256], s: &[u8], from: usize) -> usize
+    requires { ⌜ Classified (now table) ⌝ }
     requires { ⌜ from ≤ length (now s) ⌝ }
     ensures { λ r. ⌜ r ≡ tokenPlace (now (s .entry)) from ⌝ }
 {
@@ -60,7 +70,7 @@ pub fn skip(s: &[u8], from: usize) -> usize
         if s.len() <= at {
             break 'token;
         }
-        let c = class(s[at]);
+        let c = class(table, s[at]);
         if c == BLANK {
             at += 1;
             continue 'token;
@@ -83,13 +93,14 @@ pub fn skip(s: &[u8], from: usize) -> usize
 }
 
 // Where the bytes whose classes are from `least` to that of a digit end: those of a word or of a numeral.
-fn run_end(s: &[u8], from: usize, least: usize) -> usize
+fn run_end(table: &[u8; 256], s: &[u8], from: usize, least: usize) -> usize
+    requires { ⌜ Classified (now table) ⌝ }
     requires { ⌜ from ≤ length (now s) ⌝ }
     ensures { λ r. ⌜ r ≡ from + run (goesOn least) (drop from (now (s .entry))) ⌝ }
 {
     let mut at = from;
     while at < s.len() {
-        let c = class(s[at]);
+        let c = class(table, s[at]);
         if c < least {
             return at;
         }
@@ -102,11 +113,12 @@ fn run_end(s: &[u8], from: usize, least: usize) -> usize
 }
 
 // The name, variable or numeral that begins at a position and goes on with classes from `least` to that of a digit.
-fn word_token(s: &[u8], at: usize, kind: usize, least: usize) -> Token
+fn word_token(table: &[u8; 256], s: &[u8], at: usize, kind: usize, least: usize) -> Token
+    requires { ⌜ Classified (now table) ⌝ }
     requires { ⌜ at < length (now s) ⌝ }
     ensures { λ r. ⌜ r ≡ word kind at (suc (run (goesOn least) (drop (at + 1) (now (s .entry))))) ⌝ }
 {
-    let end = run_end(s, at + 1, least);
+    let end = run_end(table, s, at + 1, least);
     let len = end - at;
     if len <= LONGEST {
         return Token { kind, at, len };
@@ -143,7 +155,8 @@ pub fn token_at(s: &[u8], from: usize) -> Token
     requires { ⌜ from ≤ length (now s) ⌝ }
     ensures { λ r. ⌜ r ≡ tokenAt (now (s .entry)) from ⌝ }
 {
-    let at = skip(s, from);
+    let table = class_table();
+    let at = skip(&table, s, from);
     if s.len() <= at {
         return Token {
             kind: END,
@@ -151,15 +164,15 @@ pub fn token_at(s: &[u8], from: usize) -> Token
             len: 0,
         };
     }
-    let c = class(s[at]);
+    let c = class(&table, s[at]);
     if c == NAME {
-        return word_token(s, at, NAME, NAME);
+        return word_token(&table, s, at, NAME, NAME);
     }
     if c == VARIABLE {
-        return word_token(s, at, VARIABLE, NAME);
+        return word_token(&table, s, at, VARIABLE, NAME);
     }
     if c == NUMERAL {
-        return word_token(s, at, NUMERAL, NUMERAL);
+        return word_token(&table, s, at, NUMERAL, NUMERAL);
     }
     if c == COLON {
         return colon_token(s, at);
@@ -180,19 +193,19 @@ pub fn past_at(s: &[u8], from: usize) -> usize
     token.at + token.len
 }
 
-// Whether the `n` bytes of `s` from `a` on and those of `t` from `b` on are the same.
+// Whether the `n` bytes of `s` from `a` on and those of `t` from `b` on are the same, from the last one on.
 pub fn same_bytes(s: &[u8], a: usize, t: &[u8], b: usize, n: usize) -> bool
     requires { ⌜ (a + n ≤ length (now s)) × (b + n ≤ length (now t)) ⌝ }
     ensures { λ r. ⌜ r ≡ sameBytes (take n (drop a (now (s .entry)))) (take n (drop b (now (t .entry)))) ⌝ }
 {
-    let mut i = 0;
-    while i < n {
+    let mut i = n;
+    while 0 < i {
+        i -= 1;
         let p = a + i;
         let q = b + i;
         if s[p] != t[q] {
             return false;
         }
-        i += 1;
     }
     true
 }

@@ -2,8 +2,8 @@
 ghost use mathlib.Core.Path.{_≡_};
 ghost use Prim.Native.Nat.{_+_, _<_};
 ghost use lib.ListN.{length, getD};
-ghost use Rattle.syntax.specs.Words.{termWords, literalWords};
-ghost use Rattle.modes.specs.Tables.{TermAt, LiteralAt};
+ghost use Rattle.syntax.specs.Words.{termWords};
+ghost use Rattle.modes.specs.Tables.{TermAt};
 
 fn wide(x: u32) -> usize
     ensures { λ r. ⌜ r ≡ x ⌝ }

@@ -8,10 +8,10 @@ use Rattle.lexer.proofs.run_end.Statement.{statement}
 use Rattle.lexer.proofs.run_end.Tie as tie
 
 abbrev Inv-loop : tie.InvT-loop
-Inv-loop s from least at₀ at = (at ≤ length s) × Runs (goesOn least) s from at
+Inv-loop table s from least at₀ at = (at ≤ length s) × Runs (goesOn least) s from at
 
 abbrev μ-loop : tie.MeasureT-loop
-μ-loop s from least at₀ at = length s - at
+μ-loop table s from least at₀ at = length s - at
 
 loop-holds : tie.Need-loop-holds Inv-loop μ-loop
 loop-holds c = search needs

@@ -1,5 +1,5 @@
--- `lexer::same_bytes` meets its contract: while the bytes passed agree, the parts are the same where their rests are.
-use Prim.Native.Nat.{_≤_, _-_}
+-- `lexer::same_bytes` meets its contract: while the bytes passed, from the last one on, agree, the parts are the same where what is before them is.
+use Prim.Native.Nat.{_≤_}
 use borrow.Author.Needs.{needs}
 use Rattle.lexer.proofs.Laws.{Alike, alike-first, alike-on, alike-differ, alike-end}
 use Rattle.lexer.proofs.same_bytes.Statement.{statement}
@@ -9,10 +9,13 @@ abbrev Inv-loop : tie.InvT-loop
 Inv-loop s a t b n i₀ i = (i ≤ n) × Alike s a t b n i
 
 abbrev μ-loop : tie.MeasureT-loop
-μ-loop s a t b n i₀ i = n - i
+μ-loop s a t b n i₀ i = i
 
 loop-holds : tie.Need-loop-holds Inv-loop μ-loop
 loop-holds c = search (alike-first, needs)
+
+sub-i : tie.Need-sub-i Inv-loop μ-loop
+sub-i c = search needs
 
 add-p : tie.Need-add-p Inv-loop μ-loop
 add-p c = search needs
@@ -28,9 +31,6 @@ shared-slice-read-if1-2 c = search needs
 
 returns : tie.Need-returns Inv-loop μ-loop
 returns c = search (alike-differ, needs)
-
-add-i : tie.Need-add-i Inv-loop μ-loop
-add-i c = search needs
 
 loop-less : tie.Need-loop-less Inv-loop μ-loop
 loop-less c = search needs
@@ -48,12 +48,12 @@ same-bytes-spec =
     Inv-loop
     μ-loop
     loop-holds
+    sub-i
     add-p
     add-q
     shared-slice-read-if1
     shared-slice-read-if1-2
     returns
-    add-i
     loop-less
     loop-again
     returns-2)

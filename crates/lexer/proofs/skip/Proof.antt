@@ -8,16 +8,16 @@ use Rattle.lexer.proofs.skip.Statement.{statement}
 use Rattle.lexer.proofs.skip.Tie as tie
 
 abbrev Inv-comment : tie.InvT-comment
-Inv-comment s from at₀ c at = (at₀ ≤ at) × (at < length s) × Ahead inComment s from (at + 1)
+Inv-comment table s from at₀ c at = (at₀ ≤ at) × (at < length s) × Ahead inComment s from (at + 1)
 
 abbrev μ-comment : tie.MeasureT-comment
-μ-comment s from at₀ c at = length s - at
+μ-comment table s from at₀ c at = length s - at
 
 abbrev Inv-token : tie.InvT-token
-Inv-token s from at₀ at = (at ≤ length s) × Ahead outside s from at
+Inv-token table s from at₀ at = (at ≤ length s) × Ahead outside s from at
 
 abbrev μ-token : tie.MeasureT-token
-μ-token s from at₀ at = length s - at
+μ-token table s from at₀ at = length s - at
 
 token-holds : tie.Need-token-holds Inv-comment μ-comment Inv-token μ-token
 token-holds c = search (ahead-first, needs)

@@ -5,6 +5,9 @@ use borrow.Author.Needs.{needs}
 use Rattle.lexer.proofs.token_at.Statement.{statement}
 use Rattle.lexer.proofs.token_at.Tie as tie
 
+class-table-requires : tie.Need-class-table-requires
+class-table-requires c κs = search needs
+
 skip-requires : tie.Need-skip-requires
 skip-requires c κs = search needs
 
@@ -48,6 +51,7 @@ pub token-at-spec : {M : Type 1} → statement M
 token-at-spec =
     tie.close
     (tie.spec
+    class-table-requires
     skip-requires
     returns
     shared-slice-read-class
