@@ -312,6 +312,34 @@ token-byte s from i k p lt c n3 n4 n5 n6 =
     simp (ne-eqb _ _ n3, ne-eqb _ _ n4, ne-eqb _ _ n5, ne-eqb _ _ n6) in
     o ∙ sym (token-of s from i k p lt (sym c))
 
+-- a byte right at the position whose class is a kind of token
+token-sign : (s : List ℕ) (from n k : ℕ) → from < length s → getD s from 0 ≡ n → classOf n ≡ k → 6 < k
+    → record { kind = k; at = from; len = 1 } ≡ tokenAt s from
+token-sign s from n k lt b c high =
+    let e : k ≡ classOf (getD s from 0) = sym c ∙ ap classOf (sym b) in
+    token-byte s from from k (ahead-token s from from k lt e (λ z. omega arith) (λ z. omega arith) (ahead-first s from)) lt e (λ z. omega arith)
+    (λ z. omega arith) (λ z. omega arith) (λ z. omega arith)
+
+pub comma-there : (s : List ℕ) (from : ℕ) (t : Token) → from < length s → getD s from 0 ≡ 44 → t ≡ record { kind = 9; at = from; len = 1 }
+    → t ≡ tokenAt s from
+unfolding classOf
+comma-there s from t lt b e = e ∙ token-sign s from 44 9 lt b refl (omega arith)
+
+pub open-there : (s : List ℕ) (from : ℕ) (t : Token) → from < length s → getD s from 0 ≡ 40 → t ≡ record { kind = 7; at = from; len = 1 }
+    → t ≡ tokenAt s from
+unfolding classOf
+open-there s from t lt b e = e ∙ token-sign s from 40 7 lt b refl (omega arith)
+
+pub close-there : (s : List ℕ) (from : ℕ) (t : Token) → from < length s → getD s from 0 ≡ 41 → t ≡ record { kind = 8; at = from; len = 1 }
+    → t ≡ tokenAt s from
+unfolding classOf
+close-there s from t lt b e = e ∙ token-sign s from 41 8 lt b refl (omega arith)
+
+pub stop-there : (s : List ℕ) (from : ℕ) (t : Token) → from < length s → getD s from 0 ≡ 46 → t ≡ record { kind = 10; at = from; len = 1 }
+    → t ≡ tokenAt s from
+unfolding classOf
+stop-there s from t lt b e = e ∙ token-sign s from 46 10 lt b refl (omega arith)
+
 -- what holds of a token by cases of its first byte's class
 by-class : (P : Token → Type 0) (t3 t4 t5 t6 : Bool) (name variable numeral colon other : Token) → P name → P variable → P numeral
     → P colon → (t3 ≡ false → t4 ≡ false → t5 ≡ false → P other)

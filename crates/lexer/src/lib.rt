@@ -2,12 +2,16 @@
 mod classes;
 
 use classes::CLASSES;
+use syntax::CLOSE;
+use syntax::COMMA;
 use syntax::END;
 use syntax::NAME;
 use syntax::NECK;
 use syntax::NO_TOKEN;
 use syntax::NUMERAL;
+use syntax::OPEN;
 use syntax::OVERLONG;
+use syntax::STOP;
 use syntax::Token;
 use syntax::VARIABLE;
 ghost use mathlib.Core.Path.{_≡_};
@@ -150,8 +154,8 @@ fn colon_token(s: &[u8], at: usize) -> Token
     }
 }
 
-// The first token from a position on.
-pub fn token_at(s: &[u8], from: usize) -> Token
+// The first token from a position on, by the classes of its bytes.
+fn scan(s: &[u8], from: usize) -> Token
     requires { ⌜ from ≤ length (now s) ⌝ }
     ensures { λ r. ⌜ r ≡ tokenAt (now (s .entry)) from ⌝ }
 {
@@ -182,6 +186,37 @@ pub fn token_at(s: &[u8], from: usize) -> Token
         at,
         len: 1,
     }
+}
+
+// The token of one byte.
+fn sign(kind: usize, at: usize) -> Token
+    ensures { λ r. ⌜ r ≡ record { kind = kind; at = at; len = 1 } ⌝ }
+{
+    Token { kind, at, len: 1 }
+}
+
+// The first token from a position on. The commonest ones need no table of classes: a comma, bracket or full stop right there.
+pub fn token_at(s: &[u8], from: usize) -> Token
+    requires { ⌜ from ≤ length (now s) ⌝ }
+    ensures { λ r. ⌜ r ≡ tokenAt (now (s .entry)) from ⌝ }
+{
+    if s.len() <= from {
+        return scan(s, from);
+    }
+    let b = s[from];
+    if b == 44 {
+        return sign(COMMA, from);
+    }
+    if b == 40 {
+        return sign(OPEN, from);
+    }
+    if b == 41 {
+        return sign(CLOSE, from);
+    }
+    if b == 46 {
+        return sign(STOP, from);
+    }
+    scan(s, from)
 }
 
 // The position just past the first token from a position on.

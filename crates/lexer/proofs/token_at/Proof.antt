@@ -1,67 +1,62 @@
--- `lexer::token_at` meets its contract: one law for each way out, by the class of the first byte.
-use Rattle.lexer.proofs.Laws.{token-none, token-by, of-name, of-variable, of-numeral, token-byte}
-use mathlib.Core.Path.{refl}
+-- `lexer::token_at` meets its contract: one law for each sign that stands right there.
+use Rattle.lexer.proofs.Laws.{comma-there, open-there, close-there, stop-there}
 use borrow.Author.Needs.{needs}
 use Rattle.lexer.proofs.token_at.Statement.{statement}
 use Rattle.lexer.proofs.token_at.Tie as tie
 
-class-table-requires : tie.Need-class-table-requires
-class-table-requires c κs = search needs
-
-skip-requires : tie.Need-skip-requires
-skip-requires c κs = search needs
+scan-requires : tie.Need-scan-requires
+scan-requires c κs = search needs
 
 returns : tie.Need-returns
-returns c = search (token-none, needs)
+returns c = search needs
 
-shared-slice-read-class : tie.Need-shared-slice-read-class
-shared-slice-read-class c = search needs
+shared-slice-read-b : tie.Need-shared-slice-read-b
+shared-slice-read-b c = search needs
 
-class-requires : tie.Need-class-requires
-class-requires c κs = search needs
-
-word-token-requires : tie.Need-word-token-requires
-word-token-requires c κs = search needs
+sign-requires : tie.Need-sign-requires
+sign-requires c κs = search needs
 
 returns-2 : tie.Need-returns-2
-returns-2 c = search (token-by, of-name, needs)
+returns-2 c = search (comma-there, needs)
 
-word-token-requires-2 : tie.Need-word-token-requires-2
-word-token-requires-2 c κs = search needs
+sign-requires-2 : tie.Need-sign-requires-2
+sign-requires-2 c κs = search needs
 
 returns-3 : tie.Need-returns-3
-returns-3 c = search (token-by, of-variable, needs)
+returns-3 c = search (open-there, needs)
 
-word-token-requires-3 : tie.Need-word-token-requires-3
-word-token-requires-3 c κs = search needs
+sign-requires-3 : tie.Need-sign-requires-3
+sign-requires-3 c κs = search needs
 
 returns-4 : tie.Need-returns-4
-returns-4 c = search (token-by, of-numeral, needs)
+returns-4 c = search (close-there, needs)
 
-colon-token-requires : tie.Need-colon-token-requires
-colon-token-requires c κs = search needs
+sign-requires-4 : tie.Need-sign-requires-4
+sign-requires-4 c κs = search needs
 
 returns-5 : tie.Need-returns-5
-returns-5 c = search (token-by, refl, needs)
+returns-5 c = search (stop-there, needs)
+
+scan-requires-2 : tie.Need-scan-requires-2
+scan-requires-2 c κs = search needs
 
 returns-6 : tie.Need-returns-6
-returns-6 c = search (token-byte, needs)
+returns-6 c = search needs
 
 pub token-at-spec : {M : Type 1} → statement M
 token-at-spec =
     tie.close
     (tie.spec
-    class-table-requires
-    skip-requires
+    scan-requires
     returns
-    shared-slice-read-class
-    class-requires
-    word-token-requires
+    shared-slice-read-b
+    sign-requires
     returns-2
-    word-token-requires-2
+    sign-requires-2
     returns-3
-    word-token-requires-3
+    sign-requires-3
     returns-4
-    colon-token-requires
+    sign-requires-4
     returns-5
+    scan-requires-2
     returns-6)

@@ -1,0 +1,6 @@
+pub mod PartLaws
+pub mod NumberLaws
+pub mod StoreLaws
+pub mod WalkLaws
+pub mod ValueLaws
+pub mod LineLaws

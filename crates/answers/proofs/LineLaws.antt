@@ -1,0 +1,79 @@
+-- Laws of the whole line. Assumes nothing.
+use Prim.Native.Nat.{ℕ, zero, suc, _+_, _≤_, _<_, _^_, zero-le}
+use native.Mathlib.Omega.{arith}
+use mathlib.Core.Path.{_≡_, refl, sym, ap, _∙_, subst}
+use mathlib.Core.Bool.{Bool, true, false}
+use mathlib.Core.List.{List, [], _∷_}
+use lib.ListN.{length, getD, replicate, length-replicate, getD-replicate}
+use Rattle.syntax.specs.Quote.{bytes}
+use Rattle.syntax.specs.Tokens.{spelling}
+use Rattle.syntax.specs.Terms.{Goal}
+use Rattle.lines.specs.Lines.{Put}
+use Rattle.machine.specs.Substitution.{Variable, Binding}
+use Rattle.machine.specs.Answers.{placeOf, bytesOf, allAnonymous, valuesFrom, line}
+use Rattle.layout.specs.Nodes.{Symbol}
+use Rattle.layout.specs.State.{variableOf}
+use Rattle.answers.specs.Words.{numberIn, Numbers}
+use Rattle.answers.specs.Telling.{Counting, Setting, Values, SomeValues, Lined, Fitted}
+
+-- no variable is numbered yet
+number-zero : (v : Variable) → numberIn v [] ≡ 0
+unfolding numberIn placeOf
+number-zero v = refl
+
+pub numbers-none : (k : ℕ) → k ≡ 16385 → Numbers (replicate k 0) []
+numbers-none k e =
+    record {
+      long = length-replicate k 0 ∙ e;
+      counted = getD-replicate k 16384 0 0 (omega arith);
+      number = λ x l. getD-replicate k x 0 0 (omega arith) ∙ sym (number-zero (variableOf x));
+    }
+
+pub counting-none : (k at : ℕ) → k ≡ 16385 → at + 400 < 2 ^ 64 → Counting (replicate k 0) at
+counting-none k at e l = record { met = []; numbers-are = numbers-none k e; few = zero-le; near = omega arith }
+
+line-yes : (g : Goal) (b : List Binding) → allAnonymous (g .names) ≡ true → line g b ≡ bytes "yes\n"
+unfolding line
+line-yes g b e = rw (e, line)
+
+line-values : (g : Goal) (b : List Binding) → allAnonymous (g .names) ≡ false → line g b ≡ bytesOf [] (valuesFrom b 0 [] (g .names))
+unfolding line
+line-values g b e = rw (e, line)
+
+pub lined-yes : (g : Goal) (b : List Binding) (xs : List (List ℕ)) (r : Bool) (limit : ℕ) (old new : List ℕ) (at next : ℕ) → r ≡ allAnonymous xs → r ≡ true → g .names ≡ xs → Put old at (bytes "yes\n") new next → Lined limit (line g b) old at new next
+lined-yes g b xs r limit old new at next e t q p =
+    let is : line g b ≡ bytes "yes\n" = line-yes g b (ap allAnonymous q ∙ (sym e ∙ t)) in
+    record { done = λ l. rw is p; over = λ l. let a : next ≡ at + length (bytes "yes\n") = p .past in rw is (omega arith) }
+
+pub lined-values : (g : Goal) (b : List Binding) (xs : List (List ℕ)) (r : Bool) (limit : ℕ) (old new : List ℕ) (at next : ℕ) → r ≡ allAnonymous xs → r ≡ false → g .names ≡ xs → Lined limit (bytesOf [] (valuesFrom b 0 [] xs)) old at new next → Lined limit (line g b) old at new next
+lined-values g b xs r limit old new at next e t q p =
+    let is : line g b ≡ bytesOf [] (valuesFrom b 0 [] xs) = line-values g b (ap allAnonymous q ∙ (sym e ∙ t)) ∙ ap (λ (ys : List (List ℕ)). bytesOf [] (valuesFrom b 0 [] ys)) q in
+    rw is p
+
+-- ---- measured, then written
+
+pub fitted-put : (whole nothing nothing′ old new : List ℕ) (at past r limit : ℕ) → limit ≡ length old → past ≤ limit → Lined limit whole nothing at nothing′ past → Lined limit whole old at new r → Fitted whole old at new r
+fitted-put whole nothing nothing′ old new at past r limit e l p q =
+    let put : Put nothing at whole nothing′ past = p .done l in
+    let is : past ≡ at + length whole = put .past in
+    record {
+      fits = λ h. q .done (small (λ z. let k : limit < at + length whole = q .over z in omega arith));
+      full = λ h. absurd (omega arith);
+    }
+  where
+    small : (limit < r → ⊥) → r ≤ limit
+    small z = omega (arith, z)
+
+pub fitted-none : (whole nothing nothing′ old : List ℕ) (at past limit : ℕ) → limit ≡ length old → limit < past → Lined limit whole nothing at nothing′ past → Fitted whole old at old 0
+fitted-none whole nothing nothing′ old at past limit e l p =
+    let k : limit < at + length whole = p .over l in
+    record { fits = λ h. absurd (omega arith); full = λ h. (refl, refl) }
+
+-- another stack of the same length serves as well
+pub values-same : (ss : List Symbol) (n : ℕ) (nodes state symbols sheet goal stack after names : List ℕ) (count : ℕ) → length after ≡ length stack → Values ss n nodes state symbols sheet goal stack names count → Values ss n nodes state symbols sheet goal after names count
+values-same ss n nodes state symbols sheet goal stack after names count e v =
+    record {
+      setting = record { store = v .setting .store; names = v .setting .names; rows = record { high = omega arith; each = λ j k. absurd (let z : j < 0 = k in omega arith) } };
+      named = v .named;
+      shallow = λ i l. rw e (v .shallow i l);
+    }

@@ -1,0 +1,108 @@
+// The line of an answer, from the words of a run. Document 01 is the paper "Rule sheets".
+mod bytes;
+mod values;
+mod walk;
+mod words;
+
+use bytes::append_part;
+use values::all_anonymous;
+use values::append_values;
+ghost use mathlib.Core.Path.{_≡_};
+ghost use mathlib.Core.List.{List};
+ghost use Prim.Native.Nat.{ℕ, _+_, _^_, _≤_, _<_};
+ghost use lib.ListN.{length};
+ghost use Rattle.syntax.specs.Terms.{Goal};
+ghost use Rattle.machine.specs.Answers.{line};
+ghost use Rattle.layout.specs.Nodes.{Symbol};
+ghost use Rattle.layout.specs.State.{bindings};
+ghost use Rattle.answers.specs.Words.{namesFrom};
+ghost use Rattle.answers.specs.Telling.{Values, SomeValues, Lined, Fitted};
+
+// Writes the line of an answer from at on and returns the position past it; where the whole line does not fit, writes nothing
+// and returns 0. It is measured first.
+pub fn put_answer(
+    goal: &[u8],
+    names: &[u32],
+    count: usize,
+    nodes: &[u32],
+    state: &[u32],
+    symbols: &[u32],
+    sheet: &[u8],
+    stack: &mut [u32],
+    text: &mut [u8],
+    at: usize,
+) -> usize
+    requires { ⌜ SomeValues (now nodes) (now state) (now symbols) (now sheet) (now goal) (now stack) (now names) count ⌝ }
+    requires { ⌜ at ≤ length (now text) ⌝ }
+    ensures { λ r. ⌜ ((ss : List Symbol) (n : ℕ) (g : Goal) → Values ss n (now (nodes .entry)) (now (state .entry)) (now (symbols .entry)) (now (sheet .entry)) (now (goal .entry)) (now (stack .entry)) (now (names .entry)) count → g .names ≡ namesFrom (now (goal .entry)) (now (names .entry)) 0 count → Fitted (line g (bindings ss (now (nodes .entry)) (now (state .entry)) n)) (now (text .entry)) at (now (text .exit)) r) ⌝ }
+{
+    let room = text.len();
+    let mut nothing = [0u8; 0];
+    let past = append_answer(
+        goal,
+        names,
+        count,
+        nodes,
+        state,
+        symbols,
+        sheet,
+        stack,
+        &mut nothing,
+        at,
+        room,
+    );
+    if past <= room {
+        return append_answer(
+            goal,
+            names,
+            count,
+            nodes,
+            state,
+            symbols,
+            sheet,
+            stack,
+            text,
+            at,
+            room,
+        );
+    }
+    0
+}
+
+// The line from at on, left once the limit is passed.
+fn append_answer(
+    goal: &[u8],
+    names: &[u32],
+    count: usize,
+    nodes: &[u32],
+    state: &[u32],
+    symbols: &[u32],
+    sheet: &[u8],
+    stack: &mut [u32],
+    out: &mut [u8],
+    at: usize,
+    limit: usize,
+) -> usize
+    requires { ⌜ SomeValues (now nodes) (now state) (now symbols) (now sheet) (now goal) (now stack) (now names) count ⌝ }
+    requires { ⌜ (at + 400 < 2 ^ 64) × (limit + 400 < 2 ^ 64) ⌝ }
+    ensures { λ r. ⌜ ((ss : List Symbol) (n : ℕ) (g : Goal) → Values ss n (now (nodes .entry)) (now (state .entry)) (now (symbols .entry)) (now (sheet .entry)) (now (goal .entry)) (now (stack .entry)) (now (names .entry)) count → g .names ≡ namesFrom (now (goal .entry)) (now (names .entry)) 0 count → Lined limit (line g (bindings ss (now (nodes .entry)) (now (state .entry)) n)) (now (out .entry)) at (now (out .exit)) r) ⌝ }
+{
+    if all_anonymous(goal, names, count) {
+        return append_part(b"yes\n", 0, 4, out, at);
+    }
+    let mut numbers = [0usize; 16385];
+    append_values(
+        goal,
+        names,
+        count,
+        nodes,
+        state,
+        symbols,
+        sheet,
+        &mut numbers,
+        stack,
+        out,
+        at,
+        limit,
+    )
+}

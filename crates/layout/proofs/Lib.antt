@@ -1,0 +1,4 @@
+pub mod Nodes
+pub mod Pigeonhole
+pub mod State
+pub mod Witness

@@ -1,0 +1,10 @@
+pub mod Rules
+pub mod Deref
+pub mod Scan
+pub mod Rowwise
+pub mod Stacked
+pub mod Settle
+pub mod Turning
+pub mod Bare
+pub mod Solving
+pub mod Whole

@@ -1,0 +1,346 @@
+-- Laws of a crossing whose two terms are dereferenced: one for each way out. Assumes nothing.
+use Prim.Native.Nat.{ℕ, zero, suc, _+_, _-_, _*_, _≤_, _<_, _^_}
+use native.Mathlib.Omega.{arith}
+use mathlib.Core.Path.{_≡_, refl, sym, ap, ap₂, _∙_, subst, subst⁻¹}
+use mathlib.Core.Bool.{Bool, true, false}
+use mathlib.Core.List.{List, [], _∷_, _++_}
+use mathlib.Core.Option.{none}
+use lib.Dec.{T, eqb}
+use lib.ListN.{length, getD}
+use borrow.Author.Tests.{eqb-true, eqb-false}
+use Rattle.machine.specs.Substitution.{Variable, sameVariable, isLater, RTerm, RTerms, var, app, rnil, rcons, occurs, occursIn, Binding, resolve}
+use Rattle.machine.proofs.Tests.{variable-eq}
+use Rattle.machine.proofs.Terms.{resolveAll, resolve-app}
+use Rattle.layout.specs.Nodes.{Symbol, nameOf, Node, Row, termAt, termsAt, followed, count}
+use Rattle.layout.specs.State.{cellOf, variableOf, cellAt, bindings, Store}
+use Rattle.layout.proofs.Nodes.{node-inside, node-end, variable-at, compound-at, same-count, other-symbol}
+use Rattle.layout.proofs.State.{variable-cell, cell-eq, cell-small, resolve-unbound}
+use Rattle.unifier.specs.Rows.{unifyRows, nodesOf, sizeOf}
+use Rattle.unifier.specs.Stacks.{leftAt, rightAt, pairWords, SameMarks, Roomy, endOf, wholeOf, rowOf, rowsOf, Half, Via, Stack}
+use Rattle.unifier.specs.Turns.{Work, Goes, Binds, Turns, Reached, Crossed, Settled}
+use Rattle.unifier.specs.declared.stack.Side.{Side}
+use Rattle.unifier.specs.declared.solve.Turn.{Turn}
+use Rattle.unifier.specs.declared.solve.Turn.the-variants.{Go, Clash, Bind}
+use Rattle.unifier.proofs.Rules.{rows-same, rows-open, rows-clash, rows-occurs-left, rows-occurs-right, rows-bind-left, rows-bind-right, left-is-bound, right-is-bound, later-cell, earlier-cell, count-resolve}
+use Rattle.unifier.proofs.Rowwise.{size-cons, size-app, size-followed}
+use Rattle.unifier.proofs.Stacked.{pair-long, pair-marks, pair-left, pair-right, pair-left-others, pair-right-others, rows-agree, rows-top, half-agrees, half-pushed, stack-agrees, height}
+
+marks-refl : (scratch : List ℕ) → SameMarks scratch scratch
+marks-refl scratch = record { long = refl; words = λ j l. refl }
+
+pub nodes-some : (t : RTerm) → 1 ≤ nodesOf t
+unfolding nodesOf
+nodes-some (var v) = omega arith
+nodes-some (app f ts) = omega arith
+
+never-variable : (f : List ℕ) (ts : RTerms) (v : Variable) → app f ts ≡ var v → ⊥
+never-variable f ts v e = let z : _≡_ {A = ℕ} 0 1 = cc in omega arith
+
+same-variable : (v w : Variable) → var v ≡ var w → v ≡ w
+same-variable v w e = cc
+
+-- ---- what a dereferenced term is
+
+module _ (ss : List Symbol) (nodes state : List ℕ) (n top p c : ℕ) (store : Store ss nodes state n) (r : Reached ss nodes state top p c) where
+  is-open : getD nodes p 0 < 64 → resolve (bindings ss nodes state n) (termAt ss nodes p c) ≡ var (variableOf (cellOf c (getD nodes p 0)))
+  is-open l =
+      ap (resolve (bindings ss nodes state n)) (variable-at ss nodes p (r .node) c l ∙ ap var (sym (variable-cell c (getD nodes p 0) l)))
+      ∙ resolve-unbound ss nodes state n (cellOf c (getD nodes p 0)) store (cell-small c (getD nodes p 0) (r .copy) l) (r .stops l)
+
+  is-name : 64 ≤ getD nodes p 0 → resolve (bindings ss nodes state n) (termAt ss nodes p c) ≡ app (nameOf ss (getD nodes p 0 - 64)) (resolveAll (bindings ss nodes state n) (termsAt ss nodes (p + 2) (p + getD nodes (p + 1) 0) c))
+  is-name l = ap (resolve (bindings ss nodes state n)) (compound-at ss nodes p (r .node) c l) ∙ resolve-app (bindings ss nodes state n) (nameOf ss (getD nodes p 0 - 64)) (termsAt ss nodes (p + 2) (p + getD nodes (p + 1) 0) c)
+
+module _ (nodes scratch : List ℕ) (h p c q d : ℕ) (g : Crossed nodes scratch h p c q d) where
+  b : List Binding
+  b = bindings (g .work .ss) nodes (g .state) (g .n)
+
+  t : RTerm
+  t = termAt (g .work .ss) nodes p c
+
+  u : RTerm
+  u = termAt (g .work .ss) nodes q d
+
+  ls : RTerms
+  ls = rowsOf (g .work .ss) nodes (leftAt scratch) h
+
+  rs : RTerms
+  rs = rowsOf (g .work .ss) nodes (rightAt scratch) h
+
+  store : Store (g .work .ss) nodes (g .state) (g .n)
+  store = g .work .store
+
+  x : ℕ
+  x = cellOf c (getD nodes p 0)
+
+  y : ℕ
+  y = cellOf d (getD nodes q 0)
+
+  pub settle-inside : (p + 2 ≤ length nodes) × ((q + 2 ≤ length nodes) × (length nodes ≤ 65536))
+  settle-inside = (node-inside (g .work .ss) nodes p (g .left .node), (node-inside (g .work .ss) nodes q (g .right .node), g .work .store .small))
+
+  -- a cell of a copy that is at most the top
+  cell-below : (k m : ℕ) → k ≤ g .work .top → m < 64 → cellOf k m < (g .work .top + 1) * 64
+  cell-below k m l o = omega arith
+
+  -- the left variable bound to the right term
+  bind-left : getD nodes p 0 < 64 → ((w : Variable) → resolve b u ≡ var w → isLater (variableOf x) w ≡ true) → (getD nodes q 0 < 64 → y < x)
+      → (T (occurs (variableOf x) (resolve b u)) → unifyRows b (rcons t ls) (rcons u rs) ≡ none)
+      → Binds (g .work .ss) nodes (g .state) b (g .work .top) (rcons t ls) (rcons u rs) scratch h x q d
+  unfolding b t u ls rs x y
+  bind-left l later down stands =
+      record {
+        stack = g .work .stack;
+        cell = cell-small c (getD nodes p 0) (g .left .copy) l;
+        unbound = g .left .stops l;
+        below = cell-below c (getD nodes p 0) (g .left .below) l;
+        node = g .right .node;
+        copy = g .right .copy;
+        copy-below = g .right .below;
+        down = down;
+        stands = stands;
+        free = λ z. rows-bind-left b t u ls rs (variableOf x) (is-open (g .work .ss) nodes (g .state) (g .n) (g .work .top) p c (g .work .store) (g .left) l) (left-is-bound (variableOf x) (resolve b u) z later) z;
+      }
+
+  bind-right : getD nodes q 0 < 64 → ((w : Variable) → resolve b t ≡ var w → isLater w (variableOf y) ≡ false) → (getD nodes p 0 < 64 → x < y)
+      → (T (occurs (variableOf y) (resolve b t)) → unifyRows b (rcons t ls) (rcons u rs) ≡ none)
+      → Binds (g .work .ss) nodes (g .state) b (g .work .top) (rcons t ls) (rcons u rs) scratch h y p c
+  unfolding b t u ls rs x y
+  bind-right l later down stands =
+      record {
+        stack = g .work .stack;
+        cell = cell-small d (getD nodes q 0) (g .right .copy) l;
+        unbound = g .right .stops l;
+        below = cell-below d (getD nodes q 0) (g .right .below) l;
+        node = g .left .node;
+        copy = g .left .copy;
+        copy-below = g .left .below;
+        down = down;
+        stands = stands;
+        free = λ z. rows-bind-right b t u ls rs (variableOf y) (is-open (g .work .ss) nodes (g .state) (g .n) (g .work .top) q d (g .work .store) (g .right) l) (right-is-bound (variableOf y) (resolve b t) z later) z;
+      }
+
+  -- ---- two variables
+
+  module _ (lp : getD nodes p 0 < 64) (lq : getD nodes q 0 < 64) where
+    left-is : resolve b t ≡ var (variableOf x)
+    unfolding b t x
+    left-is = is-open (g .work .ss) nodes (g .state) (g .n) (g .work .top) p c (g .work .store) (g .left) lp
+
+    right-is : resolve b u ≡ var (variableOf y)
+    unfolding b u y
+    right-is = is-open (g .work .ss) nodes (g .state) (g .n) (g .work .top) q d (g .work .store) (g .right) lq
+
+    pub settle-same : cellOf c (getD nodes p 0) ≡ cellOf d (getD nodes q 0) → Settled nodes scratch scratch h p c q d g (Go h)
+    unfolding b t u ls rs x y
+    settle-same e = (
+      marks-refl scratch,
+      record {
+        stack = g .work .stack;
+        means = rows-same b t u ls rs (left-is ∙ (ap (λ (k : ℕ). var (variableOf k)) e ∙ sym right-is));
+        less = (let s : sizeOf b (rcons t ls) ≡ nodesOf (resolve b t) + sizeOf b ls = size-cons b t ls in let o : 1 ≤ nodesOf (resolve b t) = nodes-some (resolve b t) in omega arith);
+      },
+    )
+
+    pub settle-later : cellOf d (getD nodes q 0) < cellOf c (getD nodes p 0) → Settled nodes scratch scratch h p c q d g (Bind h (cellOf c (getD nodes p 0)) q d)
+    unfolding b t u ls rs x y
+    settle-later e = (
+      marks-refl scratch,
+      bind-left lp
+          (λ w k. subst (λ (v : Variable). isLater (variableOf x) v ≡ true) (same-variable (variableOf y) w (sym right-is ∙ k)) (later-cell x y e))
+          (λ k. e)
+          (λ k. absurd (let z : x ≡ y = cell-eq x y (variable-eq (variableOf x) (variableOf y) (subst (λ (v : RTerm). T (occurs (variableOf x) v)) right-is k)) in omega arith)),
+    )
+
+    pub settle-earlier : cellOf c (getD nodes p 0) < cellOf d (getD nodes q 0) → Settled nodes scratch scratch h p c q d g (Bind h (cellOf d (getD nodes q 0)) p c)
+    unfolding b t u ls rs x y
+    settle-earlier e = (
+      marks-refl scratch,
+      bind-right lq
+          (λ w k. subst (λ (v : Variable). isLater v (variableOf y) ≡ false) (same-variable (variableOf x) w (sym left-is ∙ k)) (earlier-cell y x e))
+          (λ k. e)
+          (λ k. absurd (let z : y ≡ x = cell-eq y x (variable-eq (variableOf y) (variableOf x) (subst (λ (v : RTerm). T (occurs (variableOf y) v)) left-is k)) in omega arith)),
+    )
+
+  -- ---- a variable and a name
+
+  pub settle-left : getD nodes p 0 < 64 → 64 ≤ getD nodes q 0 → Settled nodes scratch scratch h p c q d g (Bind h (cellOf c (getD nodes p 0)) q d)
+  unfolding b t u ls rs x y
+  settle-left lp hq =
+      let name : resolve b u ≡ app (nameOf (g .work .ss) (getD nodes q 0 - 64)) (resolveAll b (termsAt (g .work .ss) nodes (q + 2) (q + getD nodes (q + 1) 0) d)) = is-name (g .work .ss) nodes (g .state) (g .n) (g .work .top) q d (g .work .store) (g .right) hq in (
+        marks-refl scratch,
+        bind-left lp
+            (λ w k. absurd (never-variable (nameOf (g .work .ss) (getD nodes q 0 - 64)) (resolveAll b (termsAt (g .work .ss) nodes (q + 2) (q + getD nodes (q + 1) 0) d)) w (sym name ∙ k)))
+            (λ k. absurd (let z : getD nodes q 0 < 64 = k in omega arith))
+            (λ k. rows-occurs-left b t u ls rs (variableOf x) (nameOf (g .work .ss) (getD nodes q 0 - 64)) (resolveAll b (termsAt (g .work .ss) nodes (q + 2) (q + getD nodes (q + 1) 0) d)) (is-open (g .work .ss) nodes (g .state) (g .n) (g .work .top) p c (g .work .store) (g .left) lp) name (subst (λ (v : RTerm). T (occurs (variableOf x) v)) name k)),
+      )
+
+  pub settle-right : 64 ≤ getD nodes p 0 → getD nodes q 0 < 64 → Settled nodes scratch scratch h p c q d g (Bind h (cellOf d (getD nodes q 0)) p c)
+  unfolding b t u ls rs x y
+  settle-right hp lq =
+      let name : resolve b t ≡ app (nameOf (g .work .ss) (getD nodes p 0 - 64)) (resolveAll b (termsAt (g .work .ss) nodes (p + 2) (p + getD nodes (p + 1) 0) c)) = is-name (g .work .ss) nodes (g .state) (g .n) (g .work .top) p c (g .work .store) (g .left) hp in (
+        marks-refl scratch,
+        bind-right lq
+            (λ w k. absurd (never-variable (nameOf (g .work .ss) (getD nodes p 0 - 64)) (resolveAll b (termsAt (g .work .ss) nodes (p + 2) (p + getD nodes (p + 1) 0) c)) w (sym name ∙ k)))
+            (λ k. absurd (let z : getD nodes p 0 < 64 = k in omega arith))
+            (λ k. rows-occurs-right b t u ls rs (variableOf y) (nameOf (g .work .ss) (getD nodes p 0 - 64)) (resolveAll b (termsAt (g .work .ss) nodes (p + 2) (p + getD nodes (p + 1) 0) c)) name (is-open (g .work .ss) nodes (g .state) (g .n) (g .work .top) q d (g .work .store) (g .right) lq) (subst (λ (v : RTerm). T (occurs (variableOf y) v)) name k)),
+      )
+
+  -- ---- two names
+
+  module _ (hp : 64 ≤ getD nodes p 0) (hq : 64 ≤ getD nodes q 0) where
+    al : RTerms
+    al = termsAt (g .work .ss) nodes (p + 2) (p + getD nodes (p + 1) 0) c
+
+    ar : RTerms
+    ar = termsAt (g .work .ss) nodes (q + 2) (q + getD nodes (q + 1) 0) d
+
+    pub settle-clash : (getD nodes p 0 ≡ getD nodes q 0 → ⊥) → Settled nodes scratch scratch h p c q d g Clash
+    unfolding b t u ls rs al ar
+    settle-clash z = (
+      marks-refl scratch,
+      rows-clash b t u ls rs (nameOf (g .work .ss) (getD nodes p 0 - 64)) (nameOf (g .work .ss) (getD nodes q 0 - 64)) (resolveAll b al) (resolveAll b ar)
+          (is-name (g .work .ss) nodes (g .state) (g .n) (g .work .top) p c (g .work .store) (g .left) hp)
+          (is-name (g .work .ss) nodes (g .state) (g .n) (g .work .top) q d (g .work .store) (g .right) hq)
+          (λ n k. other-symbol (g .work .ss) nodes p q c d (g .left .node) (g .right .node) hp hq z n (sym (count-resolve b al) ∙ (k ∙ count-resolve b ar))),
+    )
+
+    module _ (w : getD nodes p 0 ≡ getD nodes q 0) where
+      -- the stack with the new pair, wherever its words stand
+      pushed : (l r : ℕ → Side) → ((k : ℕ) → k < h → l k ≡ leftAt scratch k) → l h ≡ record { root = p; at = p + 2; copy = c } → ((k : ℕ) → k < h → r k ≡ rightAt scratch k) → r h ≡ record { root = q; at = q + 2; copy = d } → Stack (g .work .ss) nodes (bindings (g .work .ss) nodes (g .state) (g .n)) (g .work .top) l r (suc h)
+      pushed l r a e a1 e1 =
+          record {
+            left = half-pushed (g .work .ss) nodes (bindings (g .work .ss) nodes (g .state) (g .n)) (g .work .top) (leftAt scratch) l h p c a e (g .left .node) (g .left .copy) (g .left .below) hp (g .inside) (g .work .stack .left);
+            right = half-pushed (g .work .ss) nodes (bindings (g .work .ss) nodes (g .state) (g .n)) (g .work .top) (rightAt scratch) r h q d a1 e1 (g .right .node) (g .right .copy) (g .right .below) hq (g .inside-right) (g .work .stack .right);
+            same = λ k o i j. same-at k o i j (eqb k h) refl;
+            via = λ k. pick (eqb k h) k;
+            vias = λ k o i. via-at k o i (eqb k h) refl;
+          }
+        where
+          pick : Bool → ℕ → ℕ
+          pick true k = g .via
+          pick false k = g .work .stack .via k
+
+          under : (k : ℕ) → k < suc h → eqb k h ≡ false → k < h
+          under k o q1 = let z : k ≡ h → ⊥ = eqb-false k h q1 in omega (arith, z)
+
+          same-at : (k : ℕ) → k < suc h → (i j : ℕ) → (z : Bool) → eqb k h ≡ z → count (termsAt (g .work .ss) nodes (l k .at) (endOf nodes (l k)) i) ≡ count (termsAt (g .work .ss) nodes (r k .at) (endOf nodes (r k)) j)
+          same-at k o i j true z =
+              ap (λ (s : Side). count (termsAt (g .work .ss) nodes (s .at) (endOf nodes s) i)) (ap l (eqb-true k h z) ∙ e)
+              ∙ (same-count (g .work .ss) nodes p q i j (g .left .node) (g .right .node) hp hq w ∙ sym (ap (λ (s : Side). count (termsAt (g .work .ss) nodes (s .at) (endOf nodes s) j)) (ap r (eqb-true k h z) ∙ e1)))
+          same-at k o i j false z =
+              ap (λ (s : Side). count (termsAt (g .work .ss) nodes (s .at) (endOf nodes s) i)) (a k (under k o z))
+              ∙ (g .work .stack .same k (under k o z) i j ∙ sym (ap (λ (s : Side). count (termsAt (g .work .ss) nodes (s .at) (endOf nodes s) j)) (a1 k (under k o z))))
+
+          via-at : (k : ℕ) → 1 ≤ k → k < suc h → (z : Bool) → eqb k h ≡ z → Via (bindings (g .work .ss) nodes (g .state) (g .n)) (pick z k) (wholeOf (g .work .ss) nodes (l k)) (wholeOf (g .work .ss) nodes (r k))
+          via-at k o i true z =
+              subst⁻¹ (λ (s : Side). Via (bindings (g .work .ss) nodes (g .state) (g .n)) (g .via) (wholeOf (g .work .ss) nodes s) (wholeOf (g .work .ss) nodes (r k))) (ap l (eqb-true k h z) ∙ e)
+              (subst⁻¹ (λ (s : Side). Via (bindings (g .work .ss) nodes (g .state) (g .n)) (g .via) (termAt (g .work .ss) nodes p c) (wholeOf (g .work .ss) nodes s)) (ap r (eqb-true k h z) ∙ e1) (g .via-is w hp))
+          via-at k o i false z =
+              subst⁻¹ (λ (s : Side). Via (bindings (g .work .ss) nodes (g .state) (g .n)) (g .work .stack .via k) (wholeOf (g .work .ss) nodes s) (wholeOf (g .work .ss) nodes (r k))) (a k (under k i z))
+              (subst⁻¹ (λ (s : Side). Via (bindings (g .work .ss) nodes (g .state) (g .n)) (g .work .stack .via k) (wholeOf (g .work .ss) nodes (leftAt scratch k)) (wholeOf (g .work .ss) nodes s)) (a1 k (under k i z)) (g .work .stack .vias k o (under k i z)))
+
+      -- there is room for it
+      pub settle-room : 32768 + h * 6 + 5 < length scratch
+      settle-room =
+          let k : suc h ≤ 32769 = height (g .work .ss) nodes (bindings (g .work .ss) nodes (g .state) (g .n)) (g .work .top) l r (suc h) (pushed l r (λ k o. l-is k o (eqb k h) refl) (l-top (eqb h h) refl) (λ k o. r-is k o (eqb k h) refl) (r-top (eqb h h) refl)) in
+          let o : 229382 ≤ length scratch = g .work .roomy in
+          omega arith
+        where
+          pick : Side → Side → Bool → Side
+          pick new old true = new
+          pick new old false = old
+
+          l : ℕ → Side
+          l k = pick (record { root = p; at = p + 2; copy = c }) (leftAt scratch k) (eqb k h)
+
+          r : ℕ → Side
+          r k = pick (record { root = q; at = q + 2; copy = d }) (rightAt scratch k) (eqb k h)
+
+          l-is : (k : ℕ) → k < h → (z : Bool) → eqb k h ≡ z → pick (record { root = p; at = p + 2; copy = c }) (leftAt scratch k) z ≡ leftAt scratch k
+          l-is k o true z = absurd (let i : k ≡ h = eqb-true k h z in omega arith)
+          l-is k o false z = refl
+
+          r-is : (k : ℕ) → k < h → (z : Bool) → eqb k h ≡ z → pick (record { root = q; at = q + 2; copy = d }) (rightAt scratch k) z ≡ rightAt scratch k
+          r-is k o true z = absurd (let i : k ≡ h = eqb-true k h z in omega arith)
+          r-is k o false z = refl
+
+          l-top : (z : Bool) → eqb h h ≡ z → pick (record { root = p; at = p + 2; copy = c }) (leftAt scratch h) z ≡ record { root = p; at = p + 2; copy = c }
+          l-top true z = refl
+          l-top false z = absurd (eqb-false h h z refl)
+
+          r-top : (z : Bool) → eqb h h ≡ z → pick (record { root = q; at = q + 2; copy = d }) (rightAt scratch h) z ≡ record { root = q; at = q + 2; copy = d }
+          r-top true z = refl
+          r-top false z = absurd (eqb-false h h z refl)
+
+      pub settle-open : (after : List ℕ) → after ≡ pairWords scratch h p (p + 2) c q (q + 2) d → Settled nodes scratch after h p c q d g (Go (h + 1))
+      unfolding b t u ls rs al ar
+      settle-open after e =
+          subst⁻¹ (λ (s : List ℕ). Settled nodes scratch s h p c q d g (Go (h + 1))) e
+          (let fits : 32768 + h * 6 + 5 < length scratch = settle-room in
+          let l-below : (k : ℕ) → k < h → leftAt (pairWords scratch h p (p + 2) c q (q + 2) d) k ≡ leftAt scratch k = (λ k o. pair-left-others scratch h p (p + 2) c q (q + 2) d fits k (λ z. omega arith)) in
+          let r-below : (k : ℕ) → k < h → rightAt (pairWords scratch h p (p + 2) c q (q + 2) d) k ≡ rightAt scratch k = (λ k o. pair-right-others scratch h p (p + 2) c q (q + 2) d fits k (λ z. omega arith)) in
+          let l-top : leftAt (pairWords scratch h p (p + 2) c q (q + 2) d) h ≡ record { root = p; at = p + 2; copy = c } = pair-left scratch h p (p + 2) c q (q + 2) d fits in
+          let r-top : rightAt (pairWords scratch h p (p + 2) c q (q + 2) d) h ≡ record { root = q; at = q + 2; copy = d } = pair-right scratch h p (p + 2) c q (q + 2) d fits in
+          let more : suc h ≡ h + 1 = omega arith in
+          let left-rows : rowsOf (g .work .ss) nodes (leftAt (pairWords scratch h p (p + 2) c q (q + 2) d)) (h + 1) ≡ followed al ls = ap (rowsOf (g .work .ss) nodes (leftAt (pairWords scratch h p (p + 2) c q (q + 2) d))) (sym more) ∙ (rows-top (g .work .ss) nodes (leftAt (pairWords scratch h p (p + 2) c q (q + 2) d)) h ∙ ap₂ followed (ap (rowOf (g .work .ss) nodes) l-top) (rows-agree (g .work .ss) nodes (leftAt scratch) (leftAt (pairWords scratch h p (p + 2) c q (q + 2) d)) h l-below)) in
+          let right-rows : rowsOf (g .work .ss) nodes (rightAt (pairWords scratch h p (p + 2) c q (q + 2) d)) (h + 1) ≡ followed ar rs = ap (rowsOf (g .work .ss) nodes (rightAt (pairWords scratch h p (p + 2) c q (q + 2) d))) (sym more) ∙ (rows-top (g .work .ss) nodes (rightAt (pairWords scratch h p (p + 2) c q (q + 2) d)) h ∙ ap₂ followed (ap (rowOf (g .work .ss) nodes) r-top) (rows-agree (g .work .ss) nodes (rightAt scratch) (rightAt (pairWords scratch h p (p + 2) c q (q + 2) d)) h r-below)) in
+          let opened : unifyRows b (rcons t ls) (rcons u rs) ≡ unifyRows b (followed al ls) (followed ar rs) = rows-open b t u ls rs (nameOf (g .work .ss) (getD nodes p 0 - 64)) al ar (ap (resolve b) (compound-at (g .work .ss) nodes p (g .left .node) c hp)) (ap (resolve b) (compound-at (g .work .ss) nodes q (g .right .node) d hq ∙ ap (λ (k : ℕ). app (nameOf (g .work .ss) (k - 64)) ar) (sym w))) (same-count (g .work .ss) nodes p q c d (g .left .node) (g .right .node) hp hq w) in (
+            pair-marks scratch h p (p + 2) c q (q + 2) d fits,
+            record {
+              stack = subst (Stack (g .work .ss) nodes b (g .work .top) (leftAt (pairWords scratch h p (p + 2) c q (q + 2) d)) (rightAt (pairWords scratch h p (p + 2) c q (q + 2) d))) more (pushed (leftAt (pairWords scratch h p (p + 2) c q (q + 2) d)) (rightAt (pairWords scratch h p (p + 2) c q (q + 2) d)) l-below l-top r-below r-top);
+              means = opened ∙ sym (ap₂ (unifyRows b) left-rows right-rows);
+              less = (let s : sizeOf b (rcons t ls) ≡ nodesOf (resolve b t) + sizeOf b ls = size-cons b t ls in
+                  let m : nodesOf (resolve b t) ≡ suc (sizeOf b al) = ap (λ (v : RTerm). nodesOf (resolve b v)) (compound-at (g .work .ss) nodes p (g .left .node) c hp) ∙ size-app b (nameOf (g .work .ss) (getD nodes p 0 - 64)) al in
+                  let o : sizeOf b (rowsOf (g .work .ss) nodes (leftAt (pairWords scratch h p (p + 2) c q (q + 2) d)) (h + 1)) ≡ sizeOf b al + sizeOf b ls = ap (sizeOf b) left-rows ∙ size-followed b al ls in
+                  omega arith);
+            },
+          ))
+
+-- the same, over the words as they are read
+module _ (nodes scratch : List ℕ) (h p c q d : ℕ) (g : Crossed nodes scratch h p c q d) (w z : ℕ) (ew : w ≡ getD nodes p 0) (ez : z ≡ getD nodes q 0) where
+  pub read-same : w < 64 → z < 64 → cellOf c w ≡ cellOf d z → Settled nodes scratch scratch h p c q d g (Go h)
+  read-same =
+      subst⁻¹ (λ (i : ℕ). i < 64 → z < 64 → cellOf c i ≡ cellOf d z → Settled nodes scratch scratch h p c q d g (Go h)) ew
+      (subst⁻¹ (λ (j : ℕ). getD nodes p 0 < 64 → j < 64 → cellOf c (getD nodes p 0) ≡ cellOf d j → Settled nodes scratch scratch h p c q d g (Go h)) ez (settle-same nodes scratch h p c q d g))
+
+  pub read-earlier : w < 64 → z < 64 → cellOf c w < cellOf d z → Settled nodes scratch scratch h p c q d g (Bind h (cellOf d z) p c)
+  read-earlier =
+      subst⁻¹ (λ (i : ℕ). i < 64 → z < 64 → cellOf c i < cellOf d z → Settled nodes scratch scratch h p c q d g (Bind h (cellOf d z) p c)) ew
+      (subst⁻¹ (λ (j : ℕ). getD nodes p 0 < 64 → j < 64 → cellOf c (getD nodes p 0) < cellOf d j → Settled nodes scratch scratch h p c q d g (Bind h (cellOf d j) p c)) ez (settle-earlier nodes scratch h p c q d g))
+
+  pub read-later : w < 64 → z < 64 → (cellOf c w ≡ cellOf d z → ⊥) → cellOf d z ≤ cellOf c w → Settled nodes scratch scratch h p c q d g (Bind h (cellOf c w) q d)
+  read-later lp lq n o =
+      subst⁻¹ (λ (i : ℕ). i < 64 → z < 64 → cellOf d z < cellOf c i → Settled nodes scratch scratch h p c q d g (Bind h (cellOf c i) q d)) ew
+      (subst⁻¹ (λ (j : ℕ). getD nodes p 0 < 64 → j < 64 → cellOf d j < cellOf c (getD nodes p 0) → Settled nodes scratch scratch h p c q d g (Bind h (cellOf c (getD nodes p 0)) q d)) ez (settle-later nodes scratch h p c q d g)) lp lq (omega (arith, n))
+
+  pub read-left : w < 64 → 64 ≤ z → Settled nodes scratch scratch h p c q d g (Bind h (cellOf c w) q d)
+  read-left =
+      subst⁻¹ (λ (i : ℕ). i < 64 → 64 ≤ z → Settled nodes scratch scratch h p c q d g (Bind h (cellOf c i) q d)) ew
+      (subst⁻¹ (λ (j : ℕ). getD nodes p 0 < 64 → 64 ≤ j → Settled nodes scratch scratch h p c q d g (Bind h (cellOf c (getD nodes p 0)) q d)) ez (settle-left nodes scratch h p c q d g))
+
+  pub read-right : 64 ≤ w → z < 64 → Settled nodes scratch scratch h p c q d g (Bind h (cellOf d z) p c)
+  read-right =
+      subst⁻¹ (λ (i : ℕ). 64 ≤ i → z < 64 → Settled nodes scratch scratch h p c q d g (Bind h (cellOf d z) p c)) ew
+      (subst⁻¹ (λ (j : ℕ). 64 ≤ getD nodes p 0 → j < 64 → Settled nodes scratch scratch h p c q d g (Bind h (cellOf d j) p c)) ez (settle-right nodes scratch h p c q d g))
+
+  pub read-clash : 64 ≤ w → 64 ≤ z → (w ≡ z → ⊥) → Settled nodes scratch scratch h p c q d g Clash
+  read-clash hp hq n = settle-clash nodes scratch h p c q d g (subst (λ (k : ℕ). 64 ≤ k) ew hp) (subst (λ (k : ℕ). 64 ≤ k) ez hq) (λ e. n (ew ∙ (e ∙ sym ez)))
+
+  pub read-room : 64 ≤ w → 64 ≤ z → w ≡ z → (32768 + h * 6 + 5 < length scratch) × (((p < 2 ^ 32) × ((p + 2 < 2 ^ 32) × (c < 2 ^ 32))) × ((q < 2 ^ 32) × ((q + 2 < 2 ^ 32) × (d < 2 ^ 32))))
+  read-room hp hq e =
+      let room : 32768 + h * 6 + 5 < length scratch = settle-room nodes scratch h p c q d g (subst (λ (k : ℕ). 64 ≤ k) ew hp) (subst (λ (k : ℕ). 64 ≤ k) ez hq) (sym ew ∙ (e ∙ ez)) in
+      let a : p + 2 ≤ length nodes = settle-inside nodes scratch h p c q d g .0 in
+      let b1 : q + 2 ≤ length nodes = settle-inside nodes scratch h p c q d g .1 .0 in
+      let s : length nodes ≤ 65536 = settle-inside nodes scratch h p c q d g .1 .1 in
+      let cl : c < 256 = g .left .copy in
+      let dl : d < 256 = g .right .copy in
+      (room, ((omega arith, (omega arith, omega arith)), (omega arith, (omega arith, omega arith))))
+
+  pub read-high : 64 ≤ w → 64 ≤ z → w ≡ z → h < 40000
+  read-high hp hq e = let k : suc h ≤ 32769 + 1 = height-now in omega arith
+    where
+      height-now : suc h ≤ 32769 + 1
+      height-now = let k : h ≤ 32769 = height (g .work .ss) nodes (bindings (g .work .ss) nodes (g .state) (g .n)) (g .work .top) (leftAt scratch) (rightAt scratch) h (g .work .stack) in omega arith
+
+  pub read-open : 64 ≤ w → 64 ≤ z → w ≡ z → (after : List ℕ) → after ≡ pairWords scratch h p (p + 2) c q (q + 2) d → Settled nodes scratch after h p c q d g (Go (h + 1))
+  read-open hp hq e = settle-open nodes scratch h p c q d g (subst (λ (k : ℕ). 64 ≤ k) ew hp) (subst (λ (k : ℕ). 64 ≤ k) ez hq) (sym ew ∙ (e ∙ ez))

@@ -1,0 +1,385 @@
+-- Laws of a turn: the top pair's rows walked, the crossing dereferenced. Assumes nothing.
+use Prim.Native.Nat.{ℕ, zero, suc, _+_, _-_, _*_, _≤_, _<_, _^_}
+use native.Mathlib.Omega.{arith}
+use mathlib.Core.Path.{_≡_, refl, sym, ap, ap₂, _∙_, subst, subst⁻¹}
+use mathlib.Core.Bool.{Bool, true, false}
+use mathlib.Core.List.{List, [], _∷_, _++_}
+use lib.Dec.{eqb}
+use borrow.Author.Tests.{eqb-true, eqb-false}
+use mathlib.Core.Option.{none}
+use mathlib.Core.Logic.{_⊎_, inl, inr}
+use lib.ListN.{length, getD}
+use Rattle.machine.specs.Substitution.{RTerm, RTerms, var, rnil, rcons, Binding, resolve}
+use Rattle.layout.specs.Nodes.{Symbol, Node, Row, termAt, termsAt, followed, count}
+use Rattle.layout.specs.State.{cellOf, variableOf, bindings, Store, Within}
+use Rattle.layout.proofs.Nodes.{node-inside, node-end, node-size, variable-at, row-first, row-rest, row-cons, row-order}
+use Rattle.layout.proofs.State.{variable-cell, cell-small}
+use Rattle.unifier.specs.Rows.{unifyRows, nodesOf, sizeOf}
+use Rattle.unifier.specs.Cells.{Given, Leads, Derefs}
+use Rattle.unifier.specs.Walks.{Beside, Walkable, Meets, Walks}
+use Rattle.unifier.specs.Stacks.{leftAt, rightAt, pairWords, SameMarks, Roomy, endOf, wholeOf, rowOf, rowsOf, Half, Via, Stack}
+use Rattle.unifier.specs.Turns.{Work, Goes, Binds, Turns, Turned, Reached, Crossed, Settled, Crossable, Crosses, Meetable, Turnable}
+use Rattle.unifier.specs.declared.stack.Side.{Side}
+use Rattle.unifier.specs.declared.walk.Walked.{Walked}
+use Rattle.unifier.specs.declared.walk.Walked.the-variants.{Done, Clash as Differ, Met}
+use Rattle.unifier.specs.declared.solve.Turn.{Turn}
+use Rattle.unifier.specs.declared.solve.Turn.the-variants.{Go, Clash, Bind}
+use Rattle.unifier.proofs.Rules.{rows-first, resolve-append}
+use Rattle.unifier.proofs.Rowwise.{size-cons, size-followed, one-followed, right-some, count-one}
+use Rattle.unifier.proofs.Stacked.{pair-long, pair-marks, pair-left, pair-right, pair-left-others, pair-right-others, rows-agree, rows-top, half-moved, stack-less, height}
+
+marks-trans : (a b c : List ℕ) → SameMarks a b → SameMarks b c → SameMarks a c
+marks-trans a b c x y = record { long = y .long ∙ x .long; words = λ j l. y .words j l ∙ x .words j l }
+
+-- rows that unify alike come to the same
+pub turns-alike : (ss : List Symbol) (nodes state : List ℕ) (b : List Binding) (top : ℕ) (ls rs ls′ rs′ : RTerms) (size size′ : ℕ) (after : List ℕ) (t : Turn) → unifyRows b ls rs ≡ unifyRows b ls′ rs′ → size′ ≤ size → Turns ss nodes state b top ls′ rs′ size′ after t → Turns ss nodes state b top ls rs size after t
+turns-alike ss nodes state b top ls rs ls′ rs′ size size′ after (Go k) e l g = record { stack = g .stack; means = e ∙ g .means; less = (let z : 2 * sizeOf b (rowsOf ss nodes (leftAt after) k) + k < size′ = g .less in omega arith) }
+turns-alike ss nodes state b top ls rs ls′ rs′ size size′ after Clash e l g = e ∙ g
+turns-alike ss nodes state b top ls rs ls′ rs′ size size′ after (Bind k x p c) e l g =
+    record { stack = g .stack; cell = g .cell; unbound = g .unbound; below = g .below; node = g .node; copy = g .copy; copy-below = g .copy-below; down = g .down; stands = λ z. e ∙ g .stands z; free = λ z. e ∙ g .free z }
+
+-- ---- the crossing
+
+module _ (nodes state scratch : List ℕ) (h p c q d : ℕ) (g : Crossable nodes state scratch h p c q d) where
+  pub cross-left : Given nodes state p c
+  cross-left = record { ss = g .work .ss; n = g .n; store = g .work .store; node = g .left; copy = g .copy }
+
+  pub cross-right : Given nodes state q d
+  cross-right = record { ss = g .work .ss; n = g .n; store = g .work .store; node = g .right; copy = g .copy-right }
+
+  module _ (p1 c1 q1 d1 : ℕ) (a : (k : Given nodes state p c) → Derefs (k .ss) nodes state (k .n) p c p1 c1) (a1 : (k : Given nodes state q d) → Derefs (k .ss) nodes state (k .n) q d q1 d1) where
+    to-left : Derefs (g .work .ss) nodes state (g .n) p c p1 c1
+    unfolding cross-left
+    to-left = a cross-left
+
+    to-right : Derefs (g .work .ss) nodes state (g .n) q d q1 d1
+    unfolding cross-right
+    to-right = a1 cross-right
+
+    later : (newer : List Binding) (s t : RTerm) → resolve (bindings (g .work .ss) nodes state (g .n)) s ≡ resolve (bindings (g .work .ss) nodes state (g .n)) t → nodesOf (resolve (newer ++ bindings (g .work .ss) nodes state (g .n)) s) ≡ nodesOf (resolve (newer ++ bindings (g .work .ss) nodes state (g .n)) t)
+    later newer s t e = ap nodesOf (resolve-append newer (bindings (g .work .ss) nodes state (g .n)) s ∙ (ap (resolve newer) e ∙ sym (resolve-append newer (bindings (g .work .ss) nodes state (g .n)) t)))
+
+    crossing : (v : ℕ) → Via (bindings (g .work .ss) nodes state (g .n)) v (termAt (g .work .ss) nodes p1 c1) (termAt (g .work .ss) nodes q1 d1) → Crossed nodes scratch h p1 c1 q1 d1
+    crossing v w =
+        record {
+          state = state;
+          n = g .n;
+          work = g .work;
+          some = g .some;
+          left = record { node = to-left .leads .node; copy = to-left .leads .copy; below = to-left .leads .within (g .work .top) (g .work .within) (g .below); stops = to-left .stops };
+          right = record { node = to-right .leads .node; copy = to-right .leads .copy; below = to-right .leads .within (g .work .top) (g .work .within) (g .below-right); stops = to-right .stops };
+          via = v;
+          via-is = λ x y. w;
+          inside = λ l newer. (let x : nodesOf (resolve (newer ++ bindings (g .work .ss) nodes state (g .n)) (termAt (g .work .ss) nodes p1 c1)) ≡ nodesOf (resolve (newer ++ bindings (g .work .ss) nodes state (g .n)) (termAt (g .work .ss) nodes p c)) = later newer (termAt (g .work .ss) nodes p1 c1) (termAt (g .work .ss) nodes p c) (to-left .leads .means) in
+              let y : nodesOf (resolve (newer ++ bindings (g .work .ss) nodes state (g .n)) (termAt (g .work .ss) nodes p c)) < nodesOf (resolve (newer ++ bindings (g .work .ss) nodes state (g .n)) (wholeOf (g .work .ss) nodes (leftAt scratch (h - 1)))) = g .inside l newer in omega arith);
+          inside-right = λ l newer. (let x : nodesOf (resolve (newer ++ bindings (g .work .ss) nodes state (g .n)) (termAt (g .work .ss) nodes q1 d1)) ≡ nodesOf (resolve (newer ++ bindings (g .work .ss) nodes state (g .n)) (termAt (g .work .ss) nodes q d)) = later newer (termAt (g .work .ss) nodes q1 d1) (termAt (g .work .ss) nodes q d) (to-right .leads .means) in
+              let y : nodesOf (resolve (newer ++ bindings (g .work .ss) nodes state (g .n)) (termAt (g .work .ss) nodes q d)) < nodesOf (resolve (newer ++ bindings (g .work .ss) nodes state (g .n)) (wholeOf (g .work .ss) nodes (rightAt scratch (h - 1)))) = g .inside-right l newer in omega arith);
+        }
+
+    cell-of : (i j : ℕ) → Node (g .work .ss) nodes i → getD nodes i 0 < 64 → resolve (bindings (g .work .ss) nodes state (g .n)) (var (variableOf (cellOf j (getD nodes i 0)))) ≡ resolve (bindings (g .work .ss) nodes state (g .n)) (termAt (g .work .ss) nodes i j)
+    cell-of i j n l = ap (resolve (bindings (g .work .ss) nodes state (g .n))) (ap var (variable-cell j (getD nodes i 0) l) ∙ sym (variable-at (g .work .ss) nodes i n j l))
+
+    pub cross-settle : Crossed nodes scratch h p1 c1 q1 d1
+    cross-settle = crossing (via-of (g .variable) .0) (via-of (g .variable) .1)
+      where
+        via-of : (getD nodes p 0 < 64) ⊎ (getD nodes q 0 < 64) → (v : ℕ) × Via (bindings (g .work .ss) nodes state (g .n)) v (termAt (g .work .ss) nodes p1 c1) (termAt (g .work .ss) nodes q1 d1)
+        via-of (inl l) =
+            let s : cellOf c (getD nodes p 0) < 16384 = cell-small c (getD nodes p 0) (g .copy) l in
+            (cellOf c (getD nodes p 0), record { small = omega arith; left-is = λ k. cell-of p c (g .left) l ∙ sym (to-left .leads .means); right-is = λ k. absurd (let z : 16384 ≤ cellOf c (getD nodes p 0) = k in omega arith) })
+        via-of (inr l) =
+            let s : cellOf d (getD nodes q 0) < 16384 = cell-small d (getD nodes q 0) (g .copy-right) l in
+            (16384 + cellOf d (getD nodes q 0), record { small = omega arith; left-is = λ k. absurd (let z : 16384 + cellOf d (getD nodes q 0) < 16384 = k in omega arith); right-is = λ k. ap (λ (i : ℕ). resolve (bindings (g .work .ss) nodes state (g .n)) (var (variableOf i))) (let e : 16384 + cellOf d (getD nodes q 0) - 16384 ≡ cellOf d (getD nodes q 0) = omega arith in e) ∙ (cell-of q d (g .right) l ∙ sym (to-right .leads .means)) })
+
+    pub cross-end : (after : List ℕ) (t : Turn) → ((k : Crossed nodes scratch h p1 c1 q1 d1) → Settled nodes scratch after h p1 c1 q1 d1 k t) → Crosses nodes state scratch after h p c q d g t
+    unfolding cross-settle crossing
+    cross-end after t s =
+        let k : Settled nodes scratch after h p1 c1 q1 d1 cross-settle t = s cross-settle in
+        let b : List Binding = bindings (g .work .ss) nodes state (g .n) in
+        let ls : RTerms = rowsOf (g .work .ss) nodes (leftAt scratch) h in
+        let rs : RTerms = rowsOf (g .work .ss) nodes (rightAt scratch) h in
+        let x : sizeOf (bindings (g .work .ss) nodes state (g .n)) (rcons (termAt (g .work .ss) nodes p c) (rowsOf (g .work .ss) nodes (leftAt scratch) h)) ≡ nodesOf (resolve (bindings (g .work .ss) nodes state (g .n)) (termAt (g .work .ss) nodes p c)) + sizeOf (bindings (g .work .ss) nodes state (g .n)) (rowsOf (g .work .ss) nodes (leftAt scratch) h) = size-cons (bindings (g .work .ss) nodes state (g .n)) (termAt (g .work .ss) nodes p c) (rowsOf (g .work .ss) nodes (leftAt scratch) h) in
+        let y : sizeOf (bindings (g .work .ss) nodes state (g .n)) (rcons (termAt (g .work .ss) nodes p1 c1) (rowsOf (g .work .ss) nodes (leftAt scratch) h)) ≡ nodesOf (resolve (bindings (g .work .ss) nodes state (g .n)) (termAt (g .work .ss) nodes p1 c1)) + sizeOf (bindings (g .work .ss) nodes state (g .n)) (rowsOf (g .work .ss) nodes (leftAt scratch) h) = size-cons (bindings (g .work .ss) nodes state (g .n)) (termAt (g .work .ss) nodes p1 c1) (rowsOf (g .work .ss) nodes (leftAt scratch) h) in
+        let z : nodesOf (resolve (bindings (g .work .ss) nodes state (g .n)) (termAt (g .work .ss) nodes p1 c1)) ≡ nodesOf (resolve (bindings (g .work .ss) nodes state (g .n)) (termAt (g .work .ss) nodes p c)) = ap nodesOf (to-left .leads .means) in (
+          k .0,
+          turns-alike (g .work .ss) nodes state b (g .work .top) (rcons (termAt (g .work .ss) nodes p c) ls) (rcons (termAt (g .work .ss) nodes q d) rs) (rcons (termAt (g .work .ss) nodes p1 c1) ls) (rcons (termAt (g .work .ss) nodes q1 d1) rs)
+              (2 * sizeOf b (rcons (termAt (g .work .ss) nodes p c) ls) + h) (2 * sizeOf b (rcons (termAt (g .work .ss) nodes p1 c1) ls) + h) after t
+              (rows-first b (termAt (g .work .ss) nodes p c) (termAt (g .work .ss) nodes q d) (termAt (g .work .ss) nodes p1 c1) (termAt (g .work .ss) nodes q1 d1) ls rs (sym (to-left .leads .means)) (sym (to-right .leads .means))) (omega arith) (k .1),
+        )
+
+-- ---- the top pair moved past the crossing
+
+module _ (nodes state scratch : List ℕ) (n h p q : ℕ) (w : Work nodes state scratch n h) (some : 1 ≤ h)
+    (m : Meets (w .ss) nodes (leftAt scratch (h - 1) .at) (endOf nodes (leftAt scratch (h - 1))) (rightAt scratch (h - 1) .at) (endOf nodes (rightAt scratch (h - 1))) p q) where
+  abbrev pub b : List Binding
+  b = bindings (w .ss) nodes state n
+
+  abbrev pub l0 : Side
+  l0 = leftAt scratch (h - 1)
+
+  abbrev pub r0 : Side
+  r0 = rightAt scratch (h - 1)
+
+  abbrev pub pa : ℕ
+  pa = p + getD nodes (p + 1) 0
+
+  abbrev pub qa : ℕ
+  qa = q + getD nodes (q + 1) 0
+
+  abbrev pub mid : List ℕ
+  mid = pairWords scratch (h - 1) (l0 .root) pa (l0 .copy) (r0 .root) qa (r0 .copy)
+
+  fits : 32768 + (h - 1) * 6 + 5 < length scratch
+  fits = let k : h ≤ 32769 = height (w .ss) nodes b (w .top) (leftAt scratch) (rightAt scratch) h (w .stack) in let o : 229382 ≤ length scratch = w .roomy in omega arith
+
+  under : (h - 1) < h
+  under = omega arith
+
+  right-more : q < endOf nodes r0
+  right-more = right-some nodes p (endOf nodes l0) q (record { ss = w .ss; f = endOf nodes r0; beside = m .beside }) (m .some)
+
+  left-node : Node (w .ss) nodes p
+  left-node = row-first (w .ss) nodes p (endOf nodes l0) (m .beside .left) (m .some)
+
+  right-node : Node (w .ss) nodes q
+  right-node = row-first (w .ss) nodes q (endOf nodes r0) (m .beside .right) right-more
+
+  left-cons : (c : ℕ) → termsAt (w .ss) nodes p (endOf nodes l0) c ≡ rcons (termAt (w .ss) nodes p c) (termsAt (w .ss) nodes pa (endOf nodes l0) c)
+  left-cons c = row-cons (w .ss) nodes p (endOf nodes l0) (m .beside .left) c (m .some)
+
+  right-cons : (d : ℕ) → termsAt (w .ss) nodes q (endOf nodes r0) d ≡ rcons (termAt (w .ss) nodes q d) (termsAt (w .ss) nodes qa (endOf nodes r0) d)
+  right-cons d = row-cons (w .ss) nodes q (endOf nodes r0) (m .beside .right) d right-more
+
+  left-size : (x : List Binding) (c : ℕ) → sizeOf x (termsAt (w .ss) nodes p (endOf nodes l0) c) ≡ nodesOf (resolve x (termAt (w .ss) nodes p c)) + sizeOf x (termsAt (w .ss) nodes pa (endOf nodes l0) c)
+  left-size x c = ap (sizeOf x) (left-cons c) ∙ size-cons x (termAt (w .ss) nodes p c) (termsAt (w .ss) nodes pa (endOf nodes l0) c)
+
+  right-size : (x : List Binding) (d : ℕ) → sizeOf x (termsAt (w .ss) nodes q (endOf nodes r0) d) ≡ nodesOf (resolve x (termAt (w .ss) nodes q d)) + sizeOf x (termsAt (w .ss) nodes qa (endOf nodes r0) d)
+  right-size x d = ap (sizeOf x) (right-cons d) ∙ size-cons x (termAt (w .ss) nodes q d) (termsAt (w .ss) nodes qa (endOf nodes r0) d)
+
+  left-below : (k : ℕ) → k < h - 1 → leftAt mid k ≡ leftAt scratch k
+  left-below k o = pair-left-others scratch (h - 1) (l0 .root) pa (l0 .copy) (r0 .root) qa (r0 .copy) fits k (λ e. omega arith)
+
+  right-below : (k : ℕ) → k < h - 1 → rightAt mid k ≡ rightAt scratch k
+  right-below k o = pair-right-others scratch (h - 1) (l0 .root) pa (l0 .copy) (r0 .root) qa (r0 .copy) fits k (λ e. omega arith)
+
+  left-top : leftAt mid (h - 1) ≡ record { root = l0 .root; at = pa; copy = l0 .copy }
+  left-top = pair-left scratch (h - 1) (l0 .root) pa (l0 .copy) (r0 .root) qa (r0 .copy) fits
+
+  right-top : rightAt mid (h - 1) ≡ record { root = r0 .root; at = qa; copy = r0 .copy }
+  right-top = pair-right scratch (h - 1) (l0 .root) pa (l0 .copy) (r0 .root) qa (r0 .copy) fits
+
+  back : suc (h - 1) ≡ h
+  back = omega arith
+
+  moved-left : Half (w .ss) nodes b (w .top) (leftAt mid) h
+  moved-left = subst (Half (w .ss) nodes b (w .top) (leftAt mid)) back
+      (half-moved (w .ss) nodes b (w .top) (leftAt scratch) (leftAt mid) (h - 1) pa left-below left-top (row-rest (w .ss) nodes p (endOf nodes l0) (m .beside .left) (m .some))
+      (λ x. (let y : sizeOf x (termsAt (w .ss) nodes p (endOf nodes l0) (l0 .copy)) ≤ sizeOf x (rowOf (w .ss) nodes l0) = m .less x (l0 .copy) in let z : sizeOf x (termsAt (w .ss) nodes p (endOf nodes l0) (l0 .copy)) ≡ nodesOf (resolve x (termAt (w .ss) nodes p (l0 .copy))) + sizeOf x (termsAt (w .ss) nodes pa (endOf nodes l0) (l0 .copy)) = left-size x (l0 .copy) in omega arith))
+      (subst⁻¹ (Half (w .ss) nodes b (w .top) (leftAt scratch)) back (w .stack .left)))
+
+  moved-right : Half (w .ss) nodes b (w .top) (rightAt mid) h
+  moved-right = subst (Half (w .ss) nodes b (w .top) (rightAt mid)) back
+      (half-moved (w .ss) nodes b (w .top) (rightAt scratch) (rightAt mid) (h - 1) qa right-below right-top (row-rest (w .ss) nodes q (endOf nodes r0) (m .beside .right) right-more)
+      (λ x. (let y : sizeOf x (termsAt (w .ss) nodes q (endOf nodes r0) (r0 .copy)) ≤ sizeOf x (rowOf (w .ss) nodes r0) = m .less-right x (r0 .copy) in let z : sizeOf x (termsAt (w .ss) nodes q (endOf nodes r0) (r0 .copy)) ≡ nodesOf (resolve x (termAt (w .ss) nodes q (r0 .copy))) + sizeOf x (termsAt (w .ss) nodes qa (endOf nodes r0) (r0 .copy)) = right-size x (r0 .copy) in omega arith))
+      (subst⁻¹ (Half (w .ss) nodes b (w .top) (rightAt scratch)) back (w .stack .right)))
+
+  rest-same : (i j : ℕ) → count (termsAt (w .ss) nodes pa (endOf nodes l0) i) ≡ count (termsAt (w .ss) nodes qa (endOf nodes r0) j)
+  rest-same i j =
+      let x : count (termsAt (w .ss) nodes p (endOf nodes l0) i) ≡ suc (count (termsAt (w .ss) nodes pa (endOf nodes l0) i)) = ap count (left-cons i) ∙ count-one (termAt (w .ss) nodes p i) (termsAt (w .ss) nodes pa (endOf nodes l0) i) in
+      let y : count (termsAt (w .ss) nodes q (endOf nodes r0) j) ≡ suc (count (termsAt (w .ss) nodes qa (endOf nodes r0) j)) = ap count (right-cons j) ∙ count-one (termAt (w .ss) nodes q j) (termsAt (w .ss) nodes qa (endOf nodes r0) j) in
+      let z : count (termsAt (w .ss) nodes p (endOf nodes l0) i) ≡ count (termsAt (w .ss) nodes q (endOf nodes r0) j) = m .beside .same i j in
+      omega arith
+
+  moved : Stack (w .ss) nodes b (w .top) (leftAt mid) (rightAt mid) h
+  moved =
+      record {
+        left = moved-left;
+        right = moved-right;
+        same = λ k o i j. same-at k o i j (eqb k (h - 1)) refl;
+        via = w .stack .via;
+        vias = λ k o i. via-at k o i (eqb k (h - 1)) refl;
+      }
+    where
+      same-at : (k : ℕ) → k < h → (i j : ℕ) → (z : Bool) → eqb k (h - 1) ≡ z → count (termsAt (w .ss) nodes (leftAt mid k .at) (endOf nodes (leftAt mid k)) i) ≡ count (termsAt (w .ss) nodes (rightAt mid k .at) (endOf nodes (rightAt mid k)) j)
+      same-at k o i j true z =
+          ap (λ (s : Side). count (termsAt (w .ss) nodes (s .at) (endOf nodes s) i)) (ap (leftAt mid) (eqb-true k (h - 1) z) ∙ left-top)
+          ∙ (rest-same i j ∙ sym (ap (λ (s : Side). count (termsAt (w .ss) nodes (s .at) (endOf nodes s) j)) (ap (rightAt mid) (eqb-true k (h - 1) z) ∙ right-top)))
+      same-at k o i j false z =
+          let u : k < h - 1 = (let v : k ≡ h - 1 → ⊥ = eqb-false k (h - 1) z in omega (arith, v)) in
+          ap (λ (s : Side). count (termsAt (w .ss) nodes (s .at) (endOf nodes s) i)) (left-below k u)
+          ∙ (w .stack .same k o i j ∙ sym (ap (λ (s : Side). count (termsAt (w .ss) nodes (s .at) (endOf nodes s) j)) (right-below k u)))
+
+      via-at : (k : ℕ) → 1 ≤ k → k < h → (z : Bool) → eqb k (h - 1) ≡ z → Via b (w .stack .via k) (wholeOf (w .ss) nodes (leftAt mid k)) (wholeOf (w .ss) nodes (rightAt mid k))
+      via-at k o i true z =
+          let e : k ≡ h - 1 = eqb-true k (h - 1) z in
+          subst⁻¹ (λ (j : ℕ). Via b (w .stack .via j) (wholeOf (w .ss) nodes (leftAt mid j)) (wholeOf (w .ss) nodes (rightAt mid j))) e
+          (subst⁻¹ (λ (s : Side). Via b (w .stack .via (h - 1)) (wholeOf (w .ss) nodes s) (wholeOf (w .ss) nodes (rightAt mid (h - 1)))) left-top
+          (subst⁻¹ (λ (s : Side). Via b (w .stack .via (h - 1)) (wholeOf (w .ss) nodes l0) (wholeOf (w .ss) nodes s)) right-top (w .stack .vias (h - 1) (omega arith) under)))
+      via-at k o i false z =
+          let u : k < h - 1 = (let v : k ≡ h - 1 → ⊥ = eqb-false k (h - 1) z in omega (arith, v)) in
+          subst⁻¹ (λ (s : Side). Via b (w .stack .via k) (wholeOf (w .ss) nodes s) (wholeOf (w .ss) nodes (rightAt mid k))) (left-below k u)
+          (subst⁻¹ (λ (s : Side). Via b (w .stack .via k) (wholeOf (w .ss) nodes (leftAt scratch k)) (wholeOf (w .ss) nodes s)) (right-below k u) (w .stack .vias k o i))
+
+  pub meet-crossable : Crossable nodes state mid h p (l0 .copy) q (r0 .copy)
+  meet-crossable =
+      record {
+        n = n;
+        work = record { ss = w .ss; top = w .top; store = w .store; within = w .within; roomy = (let e : length mid ≡ length scratch = pair-long scratch (h - 1) (l0 .root) pa (l0 .copy) (r0 .root) qa (r0 .copy) fits in let o : 229382 ≤ length scratch = w .roomy in omega arith); stack = moved };
+        some = some;
+        left = left-node;
+        right = right-node;
+        copy = w .stack .left .copy (h - 1) under;
+        copy-right = w .stack .right .copy (h - 1) under;
+        below = w .stack .left .below (h - 1) under;
+        below-right = w .stack .right .below (h - 1) under;
+        variable = m .variable;
+        inside = λ o newer. subst⁻¹ (λ (s : Side). nodesOf (resolve (newer ++ b) (termAt (w .ss) nodes p (l0 .copy))) < nodesOf (resolve (newer ++ b) (wholeOf (w .ss) nodes s))) left-top
+            (let x : sizeOf (newer ++ b) (termsAt (w .ss) nodes p (endOf nodes l0) (l0 .copy)) ≤ sizeOf (newer ++ b) (rowOf (w .ss) nodes l0) = m .less (newer ++ b) (l0 .copy) in
+            let y : sizeOf (newer ++ b) (termsAt (w .ss) nodes p (endOf nodes l0) (l0 .copy)) ≡ nodesOf (resolve (newer ++ b) (termAt (w .ss) nodes p (l0 .copy))) + sizeOf (newer ++ b) (termsAt (w .ss) nodes pa (endOf nodes l0) (l0 .copy)) = left-size (newer ++ b) (l0 .copy) in
+            let z : sizeOf (newer ++ b) (rowOf (w .ss) nodes l0) < nodesOf (resolve (newer ++ b) (wholeOf (w .ss) nodes l0)) = w .stack .left .small (h - 1) (omega arith) under newer in
+            omega arith);
+        inside-right = λ o newer. subst⁻¹ (λ (s : Side). nodesOf (resolve (newer ++ b) (termAt (w .ss) nodes q (r0 .copy))) < nodesOf (resolve (newer ++ b) (wholeOf (w .ss) nodes s))) right-top
+            (let x : sizeOf (newer ++ b) (termsAt (w .ss) nodes q (endOf nodes r0) (r0 .copy)) ≤ sizeOf (newer ++ b) (rowOf (w .ss) nodes r0) = m .less-right (newer ++ b) (r0 .copy) in
+            let y : sizeOf (newer ++ b) (termsAt (w .ss) nodes q (endOf nodes r0) (r0 .copy)) ≡ nodesOf (resolve (newer ++ b) (termAt (w .ss) nodes q (r0 .copy))) + sizeOf (newer ++ b) (termsAt (w .ss) nodes qa (endOf nodes r0) (r0 .copy)) = right-size (newer ++ b) (r0 .copy) in
+            let z : sizeOf (newer ++ b) (rowOf (w .ss) nodes r0) < nodesOf (resolve (newer ++ b) (wholeOf (w .ss) nodes r0)) = w .stack .right .small (h - 1) (omega arith) under newer in
+            omega arith);
+      }
+
+  -- the rows of the stack are the two terms, and then the rows of the stack moved on
+  top-left : rowsOf (w .ss) nodes (leftAt scratch) h ≡ followed (rowOf (w .ss) nodes l0) (rowsOf (w .ss) nodes (leftAt scratch) (h - 1))
+  top-left = ap (rowsOf (w .ss) nodes (leftAt scratch)) (sym back) ∙ rows-top (w .ss) nodes (leftAt scratch) (h - 1)
+
+  top-right : rowsOf (w .ss) nodes (rightAt scratch) h ≡ followed (rowOf (w .ss) nodes r0) (rowsOf (w .ss) nodes (rightAt scratch) (h - 1))
+  top-right = ap (rowsOf (w .ss) nodes (rightAt scratch)) (sym back) ∙ rows-top (w .ss) nodes (rightAt scratch) (h - 1)
+
+  mid-left : rcons (termAt (w .ss) nodes p (l0 .copy)) (rowsOf (w .ss) nodes (leftAt mid) h) ≡ followed (termsAt (w .ss) nodes p (endOf nodes l0) (l0 .copy)) (rowsOf (w .ss) nodes (leftAt scratch) (h - 1))
+  mid-left =
+      ap (rcons (termAt (w .ss) nodes p (l0 .copy))) (ap (rowsOf (w .ss) nodes (leftAt mid)) (sym back) ∙ (rows-top (w .ss) nodes (leftAt mid) (h - 1) ∙ ap₂ followed (ap (rowOf (w .ss) nodes) left-top) (rows-agree (w .ss) nodes (leftAt scratch) (leftAt mid) (h - 1) left-below)))
+      ∙ (sym (one-followed (termAt (w .ss) nodes p (l0 .copy)) (termsAt (w .ss) nodes pa (endOf nodes l0) (l0 .copy)) (rowsOf (w .ss) nodes (leftAt scratch) (h - 1))) ∙ ap (λ (ts : RTerms). followed ts (rowsOf (w .ss) nodes (leftAt scratch) (h - 1))) (sym (left-cons (l0 .copy))))
+
+  mid-right : rcons (termAt (w .ss) nodes q (r0 .copy)) (rowsOf (w .ss) nodes (rightAt mid) h) ≡ followed (termsAt (w .ss) nodes q (endOf nodes r0) (r0 .copy)) (rowsOf (w .ss) nodes (rightAt scratch) (h - 1))
+  mid-right =
+      ap (rcons (termAt (w .ss) nodes q (r0 .copy))) (ap (rowsOf (w .ss) nodes (rightAt mid)) (sym back) ∙ (rows-top (w .ss) nodes (rightAt mid) (h - 1) ∙ ap₂ followed (ap (rowOf (w .ss) nodes) right-top) (rows-agree (w .ss) nodes (rightAt scratch) (rightAt mid) (h - 1) right-below)))
+      ∙ (sym (one-followed (termAt (w .ss) nodes q (r0 .copy)) (termsAt (w .ss) nodes qa (endOf nodes r0) (r0 .copy)) (rowsOf (w .ss) nodes (rightAt scratch) (h - 1))) ∙ ap (λ (ts : RTerms). followed ts (rowsOf (w .ss) nodes (rightAt scratch) (h - 1))) (sym (right-cons (r0 .copy))))
+
+  pub meet-turned : (after : List ℕ) (t : Turn) → ((g : Crossable nodes state mid h p (l0 .copy) q (r0 .copy)) → Crosses nodes state mid after h p (l0 .copy) q (r0 .copy) g t) → Turned nodes state scratch after n h w t
+  unfolding meet-crossable
+  meet-turned after t k =
+      let s : Crosses nodes state mid after h p (l0 .copy) q (r0 .copy) meet-crossable t = k meet-crossable in
+      let x : sizeOf b (rcons (termAt (w .ss) nodes p (l0 .copy)) (rowsOf (w .ss) nodes (leftAt mid) h)) ≡ sizeOf b (termsAt (w .ss) nodes p (endOf nodes l0) (l0 .copy)) + sizeOf b (rowsOf (w .ss) nodes (leftAt scratch) (h - 1)) = ap (sizeOf b) mid-left ∙ size-followed b (termsAt (w .ss) nodes p (endOf nodes l0) (l0 .copy)) (rowsOf (w .ss) nodes (leftAt scratch) (h - 1)) in
+      let y : sizeOf b (rowsOf (w .ss) nodes (leftAt scratch) h) ≡ sizeOf b (rowOf (w .ss) nodes l0) + sizeOf b (rowsOf (w .ss) nodes (leftAt scratch) (h - 1)) = ap (sizeOf b) top-left ∙ size-followed b (rowOf (w .ss) nodes l0) (rowsOf (w .ss) nodes (leftAt scratch) (h - 1)) in
+      let z : sizeOf b (termsAt (w .ss) nodes p (endOf nodes l0) (l0 .copy)) ≤ sizeOf b (rowOf (w .ss) nodes l0) = m .less b (l0 .copy) in (
+        marks-trans scratch mid after (pair-marks scratch (h - 1) (l0 .root) pa (l0 .copy) (r0 .root) qa (r0 .copy) fits) (s .0),
+        turns-alike (w .ss) nodes state b (w .top) (rowsOf (w .ss) nodes (leftAt scratch) h) (rowsOf (w .ss) nodes (rightAt scratch) h) (rcons (termAt (w .ss) nodes p (l0 .copy)) (rowsOf (w .ss) nodes (leftAt mid) h)) (rcons (termAt (w .ss) nodes q (r0 .copy)) (rowsOf (w .ss) nodes (rightAt mid) h))
+            (2 * sizeOf b (rowsOf (w .ss) nodes (leftAt scratch) h) + h) (2 * sizeOf b (rcons (termAt (w .ss) nodes p (l0 .copy)) (rowsOf (w .ss) nodes (leftAt mid) h)) + h) after t
+            (ap₂ (unifyRows b) top-left top-right ∙ (m .means b (l0 .copy) (r0 .copy) (rowsOf (w .ss) nodes (leftAt scratch) (h - 1)) (rowsOf (w .ss) nodes (rightAt scratch) (h - 1)) ∙ sym (ap₂ (unifyRows b) mid-left mid-right)))
+            (omega arith) (s .1),
+      )
+
+  pub meet-inside : ((p + 1 < length nodes) × (q + 1 < length nodes)) × (((p + getD nodes (p + 1) 0 < 2 ^ 32) × (q + getD nodes (q + 1) 0 < 2 ^ 32)) × ((32768 + (h - 1) * 6 + 5 < length scratch) × ((l0 .root < 2 ^ 32) × ((l0 .copy < 2 ^ 32) × ((r0 .root < 2 ^ 32) × (r0 .copy < 2 ^ 32))))))
+  meet-inside =
+      let a : p + 2 ≤ length nodes = node-inside (w .ss) nodes p left-node in
+      let c : q + 2 ≤ length nodes = node-inside (w .ss) nodes q right-node in
+      let d : p + getD nodes (p + 1) 0 ≤ length nodes = node-end (w .ss) nodes p left-node in
+      let e : q + getD nodes (q + 1) 0 ≤ length nodes = node-end (w .ss) nodes q right-node in
+      let f : l0 .root + 2 ≤ length nodes = node-inside (w .ss) nodes (l0 .root) (w .stack .left .node (h - 1) under) in
+      let g : r0 .root + 2 ≤ length nodes = node-inside (w .ss) nodes (r0 .root) (w .stack .right .node (h - 1) under) in
+      let i : length nodes ≤ 65536 = w .store .small in
+      let j : l0 .copy < 256 = w .stack .left .copy (h - 1) under in
+      let k : r0 .copy < 256 = w .stack .right .copy (h - 1) under in
+      ((omega arith, omega arith), ((omega arith, omega arith), (fits, (omega arith, (omega arith, (omega arith, omega arith))))))
+
+-- the same, over the sides and sizes as they are read
+module _ (nodes state scratch : List ℕ) (n h p q : ℕ) (w : Work nodes state scratch n h) (some : 1 ≤ h) (l r : Side) (el : l ≡ leftAt scratch (h - 1)) (er : r ≡ rightAt scratch (h - 1)) where
+  canonical : Meets (w .ss) nodes (l .at) (endOf nodes l) (r .at) (endOf nodes r) p q → Meets (w .ss) nodes (leftAt scratch (h - 1) .at) (endOf nodes (leftAt scratch (h - 1))) (rightAt scratch (h - 1) .at) (endOf nodes (rightAt scratch (h - 1))) p q
+  canonical m = subst (λ (y : Side). Meets (w .ss) nodes (leftAt scratch (h - 1) .at) (endOf nodes (leftAt scratch (h - 1))) (y .at) (endOf nodes y) p q) er (subst (λ (x : Side). Meets (w .ss) nodes (x .at) (endOf nodes x) (r .at) (endOf nodes r) p q) el m)
+
+  module _ (m : Meets (w .ss) nodes (l .at) (endOf nodes l) (r .at) (endOf nodes r) p q) where
+    pub met-inside : ((p + 1 < length nodes) × (q + 1 < length nodes)) × (((p + getD nodes (p + 1) 0 < 2 ^ 32) × (q + getD nodes (q + 1) 0 < 2 ^ 32)) × ((32768 + (h - 1) * 6 + 5 < length scratch) × ((l .root < 2 ^ 32) × ((l .copy < 2 ^ 32) × ((r .root < 2 ^ 32) × (r .copy < 2 ^ 32))))))
+    met-inside =
+        subst⁻¹ (λ (x : Side). ((p + 1 < length nodes) × (q + 1 < length nodes)) × (((p + getD nodes (p + 1) 0 < 2 ^ 32) × (q + getD nodes (q + 1) 0 < 2 ^ 32)) × ((32768 + (h - 1) * 6 + 5 < length scratch) × ((x .root < 2 ^ 32) × ((x .copy < 2 ^ 32) × ((r .root < 2 ^ 32) × (r .copy < 2 ^ 32))))))) el
+        (subst⁻¹ (λ (y : Side). ((p + 1 < length nodes) × (q + 1 < length nodes)) × (((p + getD nodes (p + 1) 0 < 2 ^ 32) × (q + getD nodes (q + 1) 0 < 2 ^ 32)) × ((32768 + (h - 1) * 6 + 5 < length scratch) × ((leftAt scratch (h - 1) .root < 2 ^ 32) × ((leftAt scratch (h - 1) .copy < 2 ^ 32) × ((y .root < 2 ^ 32) × (y .copy < 2 ^ 32))))))) er
+        (meet-inside nodes state scratch n h p q w some (canonical m)))
+
+    module _ (s z : ℕ) (es : s ≡ getD nodes (p + 1) 0) (ez : z ≡ getD nodes (q + 1) 0) (mid1 : List ℕ) (e : mid1 ≡ pairWords scratch (h - 1) (l .root) (p + s) (l .copy) (r .root) (q + z) (r .copy)) where
+      mid-is : mid1 ≡ pairWords scratch (h - 1) (leftAt scratch (h - 1) .root) (p + getD nodes (p + 1) 0) (leftAt scratch (h - 1) .copy) (rightAt scratch (h - 1) .root) (q + getD nodes (q + 1) 0) (rightAt scratch (h - 1) .copy)
+      mid-is =
+          e ∙ (ap₂ (λ (x y : Side). pairWords scratch (h - 1) (x .root) (p + s) (x .copy) (y .root) (q + z) (y .copy)) el er
+          ∙ ap₂ (λ (i j : ℕ). pairWords scratch (h - 1) (leftAt scratch (h - 1) .root) (p + i) (leftAt scratch (h - 1) .copy) (rightAt scratch (h - 1) .root) (q + j) (rightAt scratch (h - 1) .copy)) es ez)
+
+      pub met-cross : Crossable nodes state mid1 h p (l .copy) q (r .copy)
+      met-cross =
+          subst⁻¹ (λ (x : Side). Crossable nodes state mid1 h p (x .copy) q (r .copy)) el
+          (subst⁻¹ (λ (y : Side). Crossable nodes state mid1 h p (leftAt scratch (h - 1) .copy) q (y .copy)) er
+          (subst⁻¹ (λ (k : List ℕ). Crossable nodes state k h p (leftAt scratch (h - 1) .copy) q (rightAt scratch (h - 1) .copy)) mid-is (meet-crossable nodes state scratch n h p q w some (canonical m))))
+
+      pub met-turned : (after : List ℕ) (t : Turn) → ((g : Crossable nodes state mid1 h p (l .copy) q (r .copy)) → Crosses nodes state mid1 after h p (l .copy) q (r .copy) g t) → Turned nodes state scratch after n h w t
+      met-turned after t k =
+          meet-turned nodes state scratch n h p q w some (canonical m) after t
+          (subst (λ (i : List ℕ). (g : Crossable nodes state i h p (leftAt scratch (h - 1) .copy) q (rightAt scratch (h - 1) .copy)) → Crosses nodes state i after h p (leftAt scratch (h - 1) .copy) q (rightAt scratch (h - 1) .copy) g t) mid-is
+          (subst (λ (y : Side). (g : Crossable nodes state mid1 h p (leftAt scratch (h - 1) .copy) q (y .copy)) → Crosses nodes state mid1 after h p (leftAt scratch (h - 1) .copy) q (y .copy) g t) er
+          (subst (λ (x : Side). (g : Crossable nodes state mid1 h p (x .copy) q (r .copy)) → Crosses nodes state mid1 after h p (x .copy) q (r .copy) g t) el k)))
+
+-- ---- one turn
+
+pub turn-room : (nodes state scratch : List ℕ) (h : ℕ) (g : Turnable nodes state scratch h) → (1 ≤ h) × ((h ≤ 32769) × (32768 + (h - 1) * 6 + 5 < length scratch))
+turn-room nodes state scratch h g =
+    let k : h ≤ 32769 = height (g .work .ss) nodes (bindings (g .work .ss) nodes state (g .n)) (g .work .top) (leftAt scratch) (rightAt scratch) h (g .work .stack) in
+    let o : 229382 ≤ length scratch = g .work .roomy in
+    let s : 1 ≤ h = g .some in
+    (s, (k, omega arith))
+
+module _ (nodes state scratch : List ℕ) (h : ℕ) (g : Turnable nodes state scratch h) (l r : Side) (el : l ≡ leftAt scratch (h - 1)) (er : r ≡ rightAt scratch (h - 1)) where
+  top-under : h - 1 < h
+  top-under = let s : 1 ≤ h = g .some in omega arith
+
+  left-root : Node (g .work .ss) nodes (l .root)
+  left-root = subst⁻¹ (λ (x : Side). Node (g .work .ss) nodes (x .root)) el (g .work .stack .left .node (h - 1) top-under)
+
+  pub turn-inside : (l .root + 1 < length nodes) × (l .root + getD nodes (l .root + 1) 0 ≤ length nodes)
+  turn-inside = let a : l .root + 2 ≤ length nodes = node-inside (g .work .ss) nodes (l .root) left-root in let c : l .root + getD nodes (l .root + 1) 0 ≤ length nodes = node-end (g .work .ss) nodes (l .root) left-root in (omega arith, c)
+
+  beside : Beside (g .work .ss) nodes (l .at) (endOf nodes l) (r .at) (endOf nodes r)
+  beside =
+      record {
+        left = subst⁻¹ (λ (x : Side). Row (g .work .ss) nodes (x .at) (endOf nodes x)) el (g .work .stack .left .row (h - 1) top-under);
+        right = subst⁻¹ (λ (x : Side). Row (g .work .ss) nodes (x .at) (endOf nodes x)) er (g .work .stack .right .row (h - 1) top-under);
+        same = λ i j. ap (λ (x : Side). count (termsAt (g .work .ss) nodes (x .at) (endOf nodes x) i)) el ∙ (g .work .stack .same (h - 1) top-under i j ∙ sym (ap (λ (x : Side). count (termsAt (g .work .ss) nodes (x .at) (endOf nodes x) j)) er));
+      }
+
+  module _ (s : ℕ) (es : s ≡ getD nodes (l .root + 1) 0) where
+    pub turn-walk : Walkable nodes (l .at) (l .root + s) (r .at)
+    turn-walk = subst⁻¹ (λ (k : ℕ). Walkable nodes (l .at) (l .root + k) (r .at)) es (record { ss = g .work .ss; f = endOf nodes r; beside = beside })
+
+    module _ (o : Walked) (k : (v : Walkable nodes (l .at) (l .root + s) (r .at)) → Walks (v .ss) nodes (l .at) (l .root + s) (r .at) (v .f) o) where
+      walked : Walks (g .work .ss) nodes (l .at) (endOf nodes l) (r .at) (endOf nodes r) o
+      walked = subst (λ (i : ℕ). (v : Walkable nodes (l .at) (l .root + i) (r .at)) → Walks (v .ss) nodes (l .at) (l .root + i) (r .at) (v .f) o) es k (record { ss = g .work .ss; f = endOf nodes r; beside = beside })
+
+      top-rows : rowsOf (g .work .ss) nodes (leftAt scratch) h ≡ followed (termsAt (g .work .ss) nodes (l .at) (endOf nodes l) (l .copy)) (rowsOf (g .work .ss) nodes (leftAt scratch) (h - 1))
+      top-rows = let q : 1 ≤ h = g .some in ap (rowsOf (g .work .ss) nodes (leftAt scratch)) (let e : h ≡ suc (h - 1) = omega arith in e) ∙ (rows-top (g .work .ss) nodes (leftAt scratch) (h - 1) ∙ ap (λ (x : Side). followed (rowOf (g .work .ss) nodes x) (rowsOf (g .work .ss) nodes (leftAt scratch) (h - 1))) (sym el))
+
+      top-rows-right : rowsOf (g .work .ss) nodes (rightAt scratch) h ≡ followed (termsAt (g .work .ss) nodes (r .at) (endOf nodes r) (r .copy)) (rowsOf (g .work .ss) nodes (rightAt scratch) (h - 1))
+      top-rows-right = let q : 1 ≤ h = g .some in ap (rowsOf (g .work .ss) nodes (rightAt scratch)) (let e : h ≡ suc (h - 1) = omega arith in e) ∙ (rows-top (g .work .ss) nodes (rightAt scratch) (h - 1) ∙ ap (λ (x : Side). followed (rowOf (g .work .ss) nodes x) (rowsOf (g .work .ss) nodes (rightAt scratch) (h - 1))) (sym er))
+
+      pub turn-done : o ≡ Done → Turned nodes state scratch scratch (g .n) h (g .work) (Go (h - 1))
+      turn-done e =
+          let v : Walks (g .work .ss) nodes (l .at) (endOf nodes l) (r .at) (endOf nodes r) Done = subst (Walks (g .work .ss) nodes (l .at) (endOf nodes l) (r .at) (endOf nodes r)) e walked in (
+            record { long = refl; words = λ j i. refl },
+            record {
+              stack = stack-less (g .work .ss) nodes (bindings (g .work .ss) nodes state (g .n)) (g .work .top) (leftAt scratch) (rightAt scratch) h (h - 1) (omega arith) (g .work .stack);
+              means = ap₂ (unifyRows (bindings (g .work .ss) nodes state (g .n))) top-rows top-rows-right ∙ v (bindings (g .work .ss) nodes state (g .n)) (l .copy) (r .copy) (rowsOf (g .work .ss) nodes (leftAt scratch) (h - 1)) (rowsOf (g .work .ss) nodes (rightAt scratch) (h - 1));
+              less = (let y : sizeOf (bindings (g .work .ss) nodes state (g .n)) (rowsOf (g .work .ss) nodes (leftAt scratch) h) ≡ sizeOf (bindings (g .work .ss) nodes state (g .n)) (termsAt (g .work .ss) nodes (l .at) (endOf nodes l) (l .copy)) + sizeOf (bindings (g .work .ss) nodes state (g .n)) (rowsOf (g .work .ss) nodes (leftAt scratch) (h - 1)) = ap (sizeOf (bindings (g .work .ss) nodes state (g .n))) top-rows ∙ size-followed (bindings (g .work .ss) nodes state (g .n)) (termsAt (g .work .ss) nodes (l .at) (endOf nodes l) (l .copy)) (rowsOf (g .work .ss) nodes (leftAt scratch) (h - 1)) in
+                  let q : 1 ≤ h = g .some in omega arith);
+            },
+          )
+
+      pub turn-clash : o ≡ Differ → Turned nodes state scratch scratch (g .n) h (g .work) Clash
+      turn-clash e =
+          let v : Walks (g .work .ss) nodes (l .at) (endOf nodes l) (r .at) (endOf nodes r) Differ = subst (Walks (g .work .ss) nodes (l .at) (endOf nodes l) (r .at) (endOf nodes r)) e walked in
+          (record { long = refl; words = λ j i. refl }, ap₂ (unifyRows (bindings (g .work .ss) nodes state (g .n))) top-rows top-rows-right ∙ v (bindings (g .work .ss) nodes state (g .n)) (l .copy) (r .copy) (rowsOf (g .work .ss) nodes (leftAt scratch) (h - 1)) (rowsOf (g .work .ss) nodes (rightAt scratch) (h - 1)))
+
+      pub turn-met : (p q : ℕ) → o ≡ Met p q → Meetable nodes state scratch h l r p q
+      turn-met p q e = record { n = g .n; work = g .work; some = g .some; left-is = el; right-is = er; meets = subst (Walks (g .work .ss) nodes (l .at) (endOf nodes l) (r .at) (endOf nodes r)) e walked }
+
+      pub turn-end : (p q : ℕ) (e : o ≡ Met p q) (after : List ℕ) (t : Turn) → ((v : Meetable nodes state scratch h l r p q) → Turned nodes state scratch after (v .n) h (v .work) t) → Turned nodes state scratch after (g .n) h (g .work) t
+      unfolding turn-met
+      turn-end p q e after t k = k (turn-met p q e)

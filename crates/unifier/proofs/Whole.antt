@@ -1,0 +1,118 @@
+-- Laws of `unify`: the first pair laid, and the definition's answer. Assumes nothing.
+use Prim.Native.Nat.{ℕ, zero, suc, _+_, _-_, _*_, _≤_, _<_, _^_}
+use native.Mathlib.Omega.{arith}
+use mathlib.Core.Path.{_≡_, refl, sym, ap, ap₂, _∙_, subst, subst⁻¹}
+use mathlib.Core.List.{List, [], _∷_, _++_}
+use lib.ListN.{length, getD}
+use Rattle.syntax.specs.Terms.{Term}
+use Rattle.machine.specs.Substitution.{RTerm, RTerms, rnil, rcons, copied, Binding}
+use Rattle.machine.specs.Unification.{unify}
+use Rattle.layout.specs.Nodes.{Symbol, Stands, Node, Row, termAt, termsAt, followed, count}
+use Rattle.layout.specs.State.{bindings}
+use Rattle.layout.proofs.Nodes.{node-inside, row-one, row-one-is, term-at}
+use Rattle.unifier.specs.Rows.{unifyRows}
+use Rattle.unifier.specs.Queues.{Clean}
+use Rattle.unifier.specs.Stacks.{leftAt, rightAt, pairWords, SameMarks, endOf, rowOf, rowsOf, Half, Stack}
+use Rattle.unifier.specs.Turns.{Work, Solvable, Solved, Unifiable, Unifies, answered}
+use Rattle.unifier.specs.declared.stack.Side.{Side}
+use Rattle.unifier.specs.declared.solve.Unified.{Unified}
+use Rattle.unifier.proofs.Rules.{rows-begin}
+use Rattle.unifier.proofs.Rowwise.{one-followed, none-followed, count-one}
+use Rattle.unifier.proofs.Stacked.{pair-long, pair-marks, pair-left, pair-right, rows-top}
+
+-- one side of a stack of one pair
+one-half : (ss : List Symbol) (nodes : List ℕ) (b : List Binding) (top p c : ℕ) (s : ℕ → Side) → s 0 ≡ record { root = p; at = p; copy = c } → Node ss nodes p → c < 256 → c ≤ top → Half ss nodes b top s 1
+one-half ss nodes b top p c s e n l o =
+    record {
+      node = λ k q. subst⁻¹ (λ (x : Side). Node ss nodes (x .root)) (at k q) n;
+      copy = λ k q. subst⁻¹ (λ (x : Side). x .copy < 256) (at k q) l;
+      below = λ k q. subst⁻¹ (λ (x : Side). x .copy ≤ top) (at k q) o;
+      row = λ k q. subst⁻¹ (λ (x : Side). Row ss nodes (x .at) (endOf nodes x)) (at k q) (row-one ss nodes p n);
+      small = λ k a q newer. absurd (let z : k < 1 = q in omega arith);
+      down = λ k a q newer. absurd (let z : k + 1 < 1 = q in omega arith);
+    }
+  where
+    at : (k : ℕ) → k < 1 → s k ≡ record { root = p; at = p; copy = c }
+    at k q = ap s (let z : k ≡ 0 = omega arith in z) ∙ e
+
+module _ (nodes state scratch : List ℕ) (p c q d n : ℕ) (g : Unifiable nodes state scratch p c q d n) where
+  pub unify-room : (32768 + 0 * 6 + 5 < length scratch) × (((p < 2 ^ 32) × ((p < 2 ^ 32) × (c < 2 ^ 32))) × ((q < 2 ^ 32) × ((q < 2 ^ 32) × (d < 2 ^ 32))))
+  unify-room =
+      let a : p + 2 ≤ length nodes = node-inside (g .ss) nodes p (g .left) in
+      let b : q + 2 ≤ length nodes = node-inside (g .ss) nodes q (g .right) in
+      let s : length nodes ≤ 65536 = g .store .small in
+      let r : 229382 ≤ length scratch = g .roomy in
+      let x : c < 256 = g .copy in
+      let y : d < 256 = g .copy-right in
+      (omega arith, ((omega arith, (omega arith, omega arith)), (omega arith, (omega arith, omega arith))))
+
+  abbrev pub mid : List ℕ
+  mid = pairWords scratch 0 p p c q q d
+
+  left-is : leftAt mid 0 ≡ record { root = p; at = p; copy = c }
+  left-is = pair-left scratch 0 p p c q q d (unify-room .0)
+
+  right-is : rightAt mid 0 ≡ record { root = q; at = q; copy = d }
+  right-is = pair-right scratch 0 p p c q q d (unify-room .0)
+
+  same-count : (i j : ℕ) → count (termsAt (g .ss) nodes p (p + getD nodes (p + 1) 0) i) ≡ count (termsAt (g .ss) nodes q (q + getD nodes (q + 1) 0) j)
+  same-count i j = ap count (row-one-is (g .ss) nodes p i (g .left)) ∙ (count-one (termAt (g .ss) nodes p i) rnil ∙ (sym (count-one (termAt (g .ss) nodes q j) rnil) ∙ sym (ap count (row-one-is (g .ss) nodes q j (g .right)))))
+
+  first-stack : Stack (g .ss) nodes (bindings (g .ss) nodes state n) (g .top) (leftAt mid) (rightAt mid) 1
+  first-stack =
+      record {
+        left = one-half (g .ss) nodes (bindings (g .ss) nodes state n) (g .top) p c (leftAt mid) left-is (g .left) (g .copy) (g .below);
+        right = one-half (g .ss) nodes (bindings (g .ss) nodes state n) (g .top) q d (rightAt mid) right-is (g .right) (g .copy-right) (g .below-right);
+        same = λ k l i j.
+            (let z : k ≡ 0 = omega arith in
+            ap (λ (s : Side). count (termsAt (g .ss) nodes (s .at) (endOf nodes s) i)) (ap (leftAt mid) z ∙ left-is) ∙ (same-count i j ∙ sym (ap (λ (s : Side). count (termsAt (g .ss) nodes (s .at) (endOf nodes s) j)) (ap (rightAt mid) z ∙ right-is))));
+        via = λ k. 0;
+        vias = λ k a l. absurd (let z : k < 1 = l in omega arith);
+      }
+
+  first-solvable : Solvable nodes state mid n
+  first-solvable =
+      let m : SameMarks scratch mid = pair-marks scratch 0 p p c q q d (unify-room .0) in
+      let e : length mid ≡ length scratch = m .long in
+      let r : 229382 ≤ length scratch = g .roomy in
+      record {
+        work = record { ss = g .ss; top = g .top; store = g .store; within = g .within; roomy = omega arith; stack = first-stack };
+        clean = record { long = omega arith; zero = λ y l. m .words y (omega arith) ∙ g .clean .zero y l };
+      }
+
+  pub unify-solvable : (s : List ℕ) → s ≡ pairWords scratch 0 p p c q q d → Solvable nodes state s n
+  unify-solvable s e = subst⁻¹ (λ (x : List ℕ). Solvable nodes state x n) e first-solvable
+
+  none-rows : (s : ℕ → Side) → rowsOf (g .ss) nodes s 0 ≡ rnil
+  unfolding rowsOf
+  none-rows s = refl
+
+  rows-left : rowsOf (g .ss) nodes (leftAt mid) 1 ≡ rcons (termAt (g .ss) nodes p c) rnil
+  rows-left =
+      rows-top (g .ss) nodes (leftAt mid) 0
+      ∙ (ap₂ followed (ap (rowOf (g .ss) nodes) left-is ∙ row-one-is (g .ss) nodes p c (g .left)) (none-rows (leftAt mid)) ∙ (one-followed (termAt (g .ss) nodes p c) rnil rnil ∙ ap (rcons (termAt (g .ss) nodes p c)) (none-followed rnil)))
+
+  rows-right : rowsOf (g .ss) nodes (rightAt mid) 1 ≡ rcons (termAt (g .ss) nodes q d) rnil
+  rows-right =
+      rows-top (g .ss) nodes (rightAt mid) 0
+      ∙ (ap₂ followed (ap (rowOf (g .ss) nodes) right-is ∙ row-one-is (g .ss) nodes q d (g .right)) (none-rows (rightAt mid)) ∙ (one-followed (termAt (g .ss) nodes q d) rnil rnil ∙ ap (rcons (termAt (g .ss) nodes q d)) (none-followed rnil)))
+
+  whole : (after later : List ℕ) (r : Unified) → Solved (g .ss) nodes state after mid later (g .top) n (rowsOf (g .ss) nodes (leftAt mid) 1) (rowsOf (g .ss) nodes (rightAt mid) 1) r → Unifies (g .ss) nodes state after scratch later (g .top) p c q d n r
+  whole after later r s =
+      record {
+        grows = s .grows;
+        store = s .store;
+        within = s .within;
+        keeps = s .keeps;
+        clean = s .clean;
+        long = s .long ∙ pair-long scratch 0 p p c q q d (unify-room .0);
+        answer = λ t u x y.
+            ap₂ (unify (bindings (g .ss) nodes state n)) (sym (term-at (g .ss) nodes p c t x)) (sym (term-at (g .ss) nodes q d u y))
+            ∙ (rows-begin (bindings (g .ss) nodes state n) (termAt (g .ss) nodes p c) (termAt (g .ss) nodes q d) ∙ (sym (ap₂ (unifyRows (bindings (g .ss) nodes state n)) rows-left rows-right) ∙ s .answer));
+      }
+
+  pub unify-end : (s : List ℕ) → s ≡ pairWords scratch 0 p p c q q d → (after later : List ℕ) (r : Unified)
+      → ((v : Solvable nodes state s n) → Solved (v .work .ss) nodes state after s later (v .work .top) n (rowsOf (v .work .ss) nodes (leftAt s) 1) (rowsOf (v .work .ss) nodes (rightAt s) 1) r) → Unifies (g .ss) nodes state after scratch later (g .top) p c q d n r
+  unfolding first-solvable
+  unify-end s e after later r k =
+      whole after later r (subst (λ (x : List ℕ). (v : Solvable nodes state x n) → Solved (v .work .ss) nodes state after x later (v .work .top) n (rowsOf (v .work .ss) nodes (leftAt x) 1) (rowsOf (v .work .ss) nodes (rightAt x) 1) r) e k first-solvable)

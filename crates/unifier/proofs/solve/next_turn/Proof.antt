@@ -1,0 +1,111 @@
+use native.Mathlib.Omega.{arith}
+use Rattle.unifier.proofs.Turning.{turn-room, turn-inside, turn-walk, turn-done, turn-clash, turn-met, turn-end}
+use borrow.Author.Needs.{needs}
+use Rattle.unifier.proofs.solve.next_turn.Statement.{statement}
+use Rattle.unifier.proofs.solve.next_turn.Tie as tie
+use Rattle.unifier.proofs.solve.next_turn.Reads as reads
+use Rattle.unifier.proofs.solve.next_turn.Lts as lts
+use Rattle.unifier.proofs.occurrence.size_at.Reads as size-at-reads
+use Rattle.unifier.proofs.solve.meet.Reads as meet-reads
+use Rattle.unifier.proofs.stack.side_at.Reads as side-at-reads
+use Rattle.unifier.proofs.walk.unify_list.Reads as unify-list-reads
+
+-- src/solve.rt:87:13
+sub-k : tie.Need-sub-k
+sub-k c = search needs
+
+-- src/solve.rt:88:24
+mul-base : tie.Need-mul-base
+mul-base c = omega (arith, turn-room (c .before .before .before .args .nodes .now) (c .before .before .before .args .state .now) (c .before .before .before .args .scratch .now) (c .before .before .before .args .h) (c .before .before .before .pre))
+
+-- src/solve.rt:88:16
+add-base : tie.Need-add-base
+add-base c = omega (arith, turn-room (c .before .before .before .args .nodes .now) (c .before .before .before .args .state .now) (c .before .before .before .args .scratch .now) (c .before .before .before .args .h) (c .before .before .before .pre))
+
+-- src/solve.rt:89:9
+side-at-requires : tie.Need-side-at-requires
+side-at-requires c κs = omega (arith, turn-room (c .before .before .before .before .args .nodes .now) (c .before .before .before .before .args .state .now) (c .before .before .before .before .args .scratch .now) (c .before .before .before .before .args .h) (c .before .before .before .before .pre))
+
+-- src/solve.rt:90:30
+add-side-at : tie.Need-add-side-at
+add-side-at c = omega (arith, turn-room (c .before .before .before .before .before .before .args .nodes .now) (c .before .before .before .before .before .before .args .state .now) (c .before .before .before .before .before .before .args .scratch .now) (c .before .before .before .before .before .before .args .h) (c .before .before .before .before .before .before .pre))
+
+-- src/solve.rt:90:9
+side-at-requires-2 : tie.Need-side-at-requires-2
+side-at-requires-2 c κs = omega (arith, turn-room (c .before .before .before .before .before .before .args .nodes .now) (c .before .before .before .before .before .before .args .state .now) (c .before .before .before .before .before .before .args .scratch .now) (c .before .before .before .before .before .before .args .h) (c .before .before .before .before .before .before .pre))
+
+-- src/solve.rt:94:20
+size-at-requires : tie.Need-size-at-requires
+size-at-requires c κs = turn-inside (c .before .before .before .before .before .before .before .args .nodes .now) (c .before .before .before .before .before .before .before .args .state .now) (c .before .before .before .before .before .before .before .args .scratch .now) (c .before .before .before .before .before .before .before .args .h) (c .before .before .before .before .before .before .before .pre) (c .before .before .side-at .result) (c .side-at2 .result) (c .before .before .side-at .ensures) (c .side-at2 .ensures) .0
+
+-- src/solve.rt:94:13
+add-e : tie.Need-add-e
+add-e c = omega (arith, c .size-at .ensures, turn-inside (c .before .before .before .before .before .before .before .before .args .nodes .now) (c .before .before .before .before .before .before .before .before .args .state .now) (c .before .before .before .before .before .before .before .before .args .scratch .now) (c .before .before .before .before .before .before .before .before .args .h) (c .before .before .before .before .before .before .before .before .pre) (c .before .before .before .side-at .result) (c .before .side-at2 .result) (c .before .before .before .side-at .ensures) (c .before .side-at2 .ensures))
+
+-- src/solve.rt:95:9
+unify-list-requires : tie.Need-unify-list-requires
+unify-list-requires c κs = turn-walk (c .before .before .before .before .before .before .before .before .args .nodes .now) (c .before .before .before .before .before .before .before .before .args .state .now) (c .before .before .before .before .before .before .before .before .args .scratch .now) (c .before .before .before .before .before .before .before .before .args .h) (c .before .before .before .before .before .before .before .before .pre) (c .before .before .before .side-at .result) (c .before .side-at2 .result) (c .before .before .before .side-at .ensures) (c .before .side-at2 .ensures) (c .size-at .result) (c .size-at .ensures)
+
+-- src/solve.rt:97:25
+enum-told : tie.Need-enum-told
+enum-told c = search needs
+
+-- src/solve.rt:98:26
+enum-told-2 : tie.Need-enum-told-2
+enum-told-2 c = search needs
+
+-- src/solve.rt:99:23
+enum-known-found : tie.Need-enum-known-found
+enum-known-found c = search needs
+
+-- src/solve.rt:99:40
+meet-requires : tie.Need-meet-requires
+meet-requires c κs = turn-met (c .before .before .before .before .before .before .before .before .before .before .before .before .before .args .nodes .now) (c .before .before .before .before .before .before .before .before .before .before .before .before .before .args .state .now) (c .before .before .before .before .before .before .before .before .before .before .before .before .before .args .scratch .now) (c .before .before .before .before .before .before .before .before .before .before .before .before .before .args .h) (c .before .before .before .before .before .before .before .before .before .before .before .before .before .pre) (c .before .before .before .before .before .before .before .before .side-at .result) (c .before .before .before .before .before .before .side-at2 .result) (c .before .before .before .before .before .before .before .before .side-at .ensures) (c .before .before .before .before .before .before .side-at2 .ensures) (c .before .before .before .before .before .size-at .result) (c .before .before .before .before .before .size-at .ensures) (c .before .before .before .before .unify-list .result) (c .before .before .before .before .unify-list .ensures) (c .before .before .found .given .0 .0) (c .before .before .found .given .0 .1 .0) (c .before .before .found .given .1)
+
+-- src/solve.rt:83:1
+same-length : tie.Need-same-length
+same-length c = search needs
+
+-- src/solve.rt:83:1
+returns : tie.Need-returns
+returns c = λ g. turn-done (c .before .before .before .before .before .before .before .before .before .before .before .args .nodes .now) (c .before .before .before .before .before .before .before .before .before .before .before .args .state .now) (c .before .before .before .before .before .before .before .before .before .before .before .args .scratch .now) (c .before .before .before .before .before .before .before .before .before .before .before .args .h) g (c .before .before .before .before .before .before .side-at .result) (c .before .before .before .before .side-at2 .result) (c .before .before .before .before .before .before .side-at .ensures) (c .before .before .before .before .side-at2 .ensures) (c .before .before .before .size-at .result) (c .before .before .before .size-at .ensures) (c .before .before .unify-list .result) (c .before .before .unify-list .ensures) (c .enum-told .given .1)
+
+-- src/solve.rt:83:1
+same-length-2 : tie.Need-same-length-2
+same-length-2 c = search needs
+
+-- src/solve.rt:83:1
+returns-2 : tie.Need-returns-2
+returns-2 c = λ g. turn-clash (c .before .before .before .before .before .before .before .before .before .before .before .args .nodes .now) (c .before .before .before .before .before .before .before .before .before .before .before .args .state .now) (c .before .before .before .before .before .before .before .before .before .before .before .args .scratch .now) (c .before .before .before .before .before .before .before .before .before .before .before .args .h) g (c .before .before .before .before .before .before .side-at .result) (c .before .before .before .before .side-at2 .result) (c .before .before .before .before .before .before .side-at .ensures) (c .before .before .before .before .side-at2 .ensures) (c .before .before .before .size-at .result) (c .before .before .before .size-at .ensures) (c .before .before .unify-list .result) (c .before .before .unify-list .ensures) (c .enum-told2 .given .1)
+
+-- src/solve.rt:83:1
+same-length-3 : tie.Need-same-length-3
+same-length-3 c = search needs
+
+-- src/solve.rt:83:1
+returns-3 : tie.Need-returns-3
+returns-3 c = λ g. turn-end (c .before .before .before .before .before .before .before .before .before .before .before .before .before .before .before .before .args .nodes .now) (c .before .before .before .before .before .before .before .before .before .before .before .before .before .before .before .before .args .state .now) (c .before .before .before .before .before .before .before .before .before .before .before .before .before .before .before .before .args .scratch .now) (c .before .before .before .before .before .before .before .before .before .before .before .before .before .before .before .before .args .h) g (c .before .before .before .before .before .before .before .before .before .before .before .side-at .result) (c .before .before .before .before .before .before .before .before .before .side-at2 .result) (c .before .before .before .before .before .before .before .before .before .before .before .side-at .ensures) (c .before .before .before .before .before .before .before .before .before .side-at2 .ensures) (c .before .before .before .before .before .before .before .before .size-at .result) (c .before .before .before .before .before .before .before .before .size-at .ensures) (c .before .before .before .before .before .before .before .unify-list .result) (c .before .before .before .before .before .before .before .unify-list .ensures) (c .before .before .before .before .before .found .given .0 .0) (c .before .before .before .before .before .found .given .0 .1 .0) (c .before .before .before .before .before .found .given .1) (c .before .before .meet .last .1 .1 .0) (c .before .before .meet .result) (c .before .before .meet .ensures)
+
+pub next-turn-spec : {M : Type 1} → statement M
+next-turn-spec =
+    tie.close
+    (tie.spec
+    sub-k
+    mul-base
+    add-base
+    side-at-requires
+    add-side-at
+    side-at-requires-2
+    size-at-requires
+    add-e
+    unify-list-requires
+    enum-told
+    enum-told-2
+    enum-known-found
+    meet-requires
+    same-length
+    returns
+    same-length-2
+    returns-2
+    same-length-3
+    returns-3)

@@ -1,0 +1,6 @@
+pub mod Rows
+pub mod Cells
+pub mod Queues
+pub mod Walks
+pub mod Stacks
+pub mod Turns

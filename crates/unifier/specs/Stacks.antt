@@ -1,0 +1,85 @@
+-- The work stack: pairs of rows, the first pair at the bottom. What its words mean, and the invariant that bounds its height.
+use Prim.Native.Nat.{ℕ, zero, suc, _+_, _-_, _*_, _≤_, _<_}
+use mathlib.Core.Path.{_≡_}
+use mathlib.Core.Bool.{true, false}
+use mathlib.Core.List.{List, _++_}
+use mathlib.Core.Option.{none, some}
+use mathlib.Core.Logic.{_⊎_}
+use lib.Dec.{T}
+use lib.ListN.{length, getD, set}
+use Rattle.machine.specs.Substitution.{Variable, RTerm, RTerms, var, rnil, rcons, occurs, Binding, resolve}
+use Rattle.layout.specs.Nodes.{Symbol, Node, Row, termAt, termsAt, followed, count}
+use Rattle.layout.specs.State.{cellOf, variableOf, cellAt, bindings, Store, Within, Keeps}
+use Rattle.unifier.specs.Rows.{unifyRows, nodesOf, sizeOf}
+use Rattle.unifier.specs.Queues.{Clean}
+use Rattle.unifier.specs.declared.stack.Side.{Side}
+
+-- ---- words
+
+-- three words: the root, the place reached, the copy
+abbrev pub sideAt : List ℕ → ℕ → Side
+sideAt words i = record { root = getD words i 0; at = getD words (i + 1) 0; copy = getD words (i + 2) 0 }
+
+unfoldable pub sideWords : List ℕ → ℕ → ℕ → ℕ → ℕ → List ℕ
+sideWords words i root at copy = set (set (set words i root) (i + 1) at) (i + 2) copy
+
+-- the two sides of the pair of number k
+abbrev pub leftAt : List ℕ → ℕ → Side
+leftAt scratch k = sideAt scratch (32768 + k * 6)
+
+abbrev pub rightAt : List ℕ → ℕ → Side
+rightAt scratch k = sideAt scratch (32768 + k * 6 + 3)
+
+unfoldable pub pairWords : List ℕ → ℕ → ℕ → ℕ → ℕ → ℕ → ℕ → ℕ → List ℕ
+pairWords scratch k root at copy other there second = sideWords (sideWords scratch (32768 + k * 6) root at copy) (32768 + k * 6 + 3) other there second
+
+-- marks and queue are as they were, and so is the length
+pub record SameMarks (before after : List ℕ) : Type 0 where
+  pub long : length after ≡ length before
+  pub words : (j : ℕ) → j < 32768 → getD after j 0 ≡ getD before j 0
+
+-- Room for marks, queue and 32,769 pairs.
+abbrev pub Roomy : List ℕ → Type 0
+Roomy scratch = 229382 ≤ length scratch
+
+-- ---- rows
+
+abbrev pub endOf : List ℕ → Side → ℕ
+endOf nodes s = s .root + getD nodes (s .root + 1) 0
+
+-- the term that a side's row is part of, and what is left of the row
+abbrev pub wholeOf : List Symbol → List ℕ → Side → RTerm
+wholeOf ss nodes s = termAt ss nodes (s .root) (s .copy)
+
+abbrev pub rowOf : List Symbol → List ℕ → Side → RTerms
+rowOf ss nodes s = termsAt ss nodes (s .at) (endOf nodes s) (s .copy)
+
+-- the rows of the first h sides, the last of them first
+unfoldable pub rowsOf : List Symbol → List ℕ → (ℕ → Side) → ℕ → RTerms
+rowsOf ss nodes s zero = rnil
+rowsOf ss nodes s (suc h) = followed (rowOf ss nodes (s h)) (rowsOf ss nodes s h)
+
+-- ---- the invariant
+
+-- One side of the stack, under bindings b and whatever newer ones: what is left of a row is smaller than its whole, and from the second pair on
+-- each whole is smaller than the one below it.
+pub record Half (ss : List Symbol) (nodes : List ℕ) (b : List Binding) (top : ℕ) (s : ℕ → Side) (h : ℕ) : Type 0 where
+  pub node : (k : ℕ) → k < h → Node ss nodes (s k .root)
+  pub copy : (k : ℕ) → k < h → s k .copy < 256
+  pub below : (k : ℕ) → k < h → s k .copy ≤ top
+  pub row : (k : ℕ) → k < h → Row ss nodes (s k .at) (endOf nodes (s k))
+  pub small : (k : ℕ) → 1 ≤ k → k < h → (newer : List Binding) → sizeOf (newer ++ b) (rowOf ss nodes (s k)) < nodesOf (resolve (newer ++ b) (wholeOf ss nodes (s k)))
+  pub down : (k : ℕ) → 1 ≤ k → k + 1 < h → (newer : List Binding) → nodesOf (resolve (newer ++ b) (wholeOf ss nodes (s (k + 1)))) < nodesOf (resolve (newer ++ b) (wholeOf ss nodes (s k)))
+
+-- A pair was opened by way of a bound cell: below 16,384 one that stands for the left whole, else one for the right.
+pub record Via (b : List Binding) (v : ℕ) (left right : RTerm) : Type 0 where
+  pub small : v < 32768
+  pub left-is : v < 16384 → resolve b (var (variableOf v)) ≡ resolve b left
+  pub right-is : 16384 ≤ v → resolve b (var (variableOf (v - 16384))) ≡ resolve b right
+
+pub record Stack (ss : List Symbol) (nodes : List ℕ) (b : List Binding) (top : ℕ) (l r : ℕ → Side) (h : ℕ) : Type 0 where
+  pub left : Half ss nodes b top l h
+  pub right : Half ss nodes b top r h
+  pub same : (k : ℕ) → k < h → (c d : ℕ) → count (termsAt ss nodes (l k .at) (endOf nodes (l k)) c) ≡ count (termsAt ss nodes (r k .at) (endOf nodes (r k)) d)
+  pub via : ℕ → ℕ
+  pub vias : (k : ℕ) → 1 ≤ k → k < h → Via b (via k) (wholeOf ss nodes (l k)) (wholeOf ss nodes (r k))

@@ -1,0 +1,178 @@
+-- What a turn of the unifier is given and what it comes to.
+use Prim.Native.Nat.{ℕ, _+_, _-_, _*_, _≤_, _<_}
+use mathlib.Core.Path.{_≡_}
+use mathlib.Core.Bool.{Bool, true, false}
+use mathlib.Core.List.{List, _∷_, _++_}
+use mathlib.Core.Option.{Option, none, some}
+use mathlib.Core.Logic.{_⊎_}
+use lib.Dec.{T}
+use lib.ListN.{length, getD}
+use Rattle.syntax.specs.Terms.{Term}
+use Rattle.machine.specs.Substitution.{RTerm, RTerms, rcons, copied, occurs, Binding, resolve}
+use Rattle.machine.specs.Unification.{unify}
+use Rattle.layout.specs.Nodes.{Symbol, Stands, Node, termAt}
+use Rattle.layout.specs.State.{cellOf, variableOf, cellAt, bindings, Store, Within, Keeps}
+use Rattle.unifier.specs.Rows.{unifyRows, nodesOf, sizeOf}
+use Rattle.unifier.specs.Queues.{Clean}
+use Rattle.unifier.specs.Walks.{Meets}
+use Rattle.unifier.specs.Stacks.{leftAt, rightAt, SameMarks, Roomy, endOf, wholeOf, rowsOf, Via, Stack}
+use Rattle.unifier.specs.declared.stack.Side.{Side}
+use Rattle.unifier.specs.declared.solve.Turn.{Turn}
+use Rattle.unifier.specs.declared.solve.Turn.the-variants.{Go, Clash, Bind}
+use Rattle.unifier.specs.declared.solve.Unified.{Unified}
+
+-- n bindings, and a stack of height h.
+pub record Work (nodes state scratch : List ℕ) (n h : ℕ) : Type 0 where
+  pub ss : List Symbol
+  pub top : ℕ
+  pub store : Store ss nodes state n
+  pub within : Within top state n
+  pub roomy : Roomy scratch
+  pub stack : Stack ss nodes (bindings ss nodes state n) top (leftAt scratch) (rightAt scratch) h
+
+-- The rows to be unified are now those of a stack of height k, and less is left.
+pub record Goes (ss : List Symbol) (nodes : List ℕ) (b : List Binding) (top : ℕ) (ls rs : RTerms) (size : ℕ) (after : List ℕ) (k : ℕ) : Type 0 where
+  pub stack : Stack ss nodes b top (leftAt after) (rightAt after) k
+  pub means : unifyRows b ls rs ≡ unifyRows b (rowsOf ss nodes (leftAt after) k) (rowsOf ss nodes (rightAt after) k)
+  pub less : 2 * sizeOf b (rowsOf ss nodes (leftAt after) k) + k < size
+
+-- The variable of cell x is to be bound to the term at p in copy c, unless it stands in it; then there is no unifier.
+pub record Binds (ss : List Symbol) (nodes state : List ℕ) (b : List Binding) (top : ℕ) (ls rs : RTerms) (after : List ℕ) (k x p c : ℕ) : Type 0 where
+  pub stack : Stack ss nodes b top (leftAt after) (rightAt after) k
+  pub cell : x < 16384
+  pub unbound : cellAt state x ≡ 0
+  pub below : x < (top + 1) * 64
+  pub node : Node ss nodes p
+  pub copy : c < 256
+  pub copy-below : c ≤ top
+  pub down : getD nodes p 0 < 64 → cellOf c (getD nodes p 0) < x
+  pub stands : T (occurs (variableOf x) (resolve b (termAt ss nodes p c))) → unifyRows b ls rs ≡ none
+  pub free : (T (occurs (variableOf x) (resolve b (termAt ss nodes p c))) → ⊥) → unifyRows b ls rs ≡ unifyRows (record { variable = variableOf x; term = resolve b (termAt ss nodes p c) } ∷ b) (rowsOf ss nodes (leftAt after) k) (rowsOf ss nodes (rightAt after) k)
+
+abbrev pub Turns : List Symbol → List ℕ → List ℕ → List Binding → ℕ → RTerms → RTerms → ℕ → List ℕ → Turn → Type 0
+Turns ss nodes state b top ls rs size after (Go k) = Goes ss nodes b top ls rs size after k
+Turns ss nodes state b top ls rs size after Clash = unifyRows b ls rs ≡ none
+Turns ss nodes state b top ls rs size after (Bind k x p c) = Binds ss nodes state b top ls rs after k x p c
+
+-- what `turn` promises of n bindings and a stack of height h
+abbrev pub Turned : (nodes state before after : List ℕ) (n h : ℕ) → Work nodes state before n h → Turn → Type 0
+Turned nodes state before after n h g t =
+    SameMarks before after × Turns (g .ss) nodes state (bindings (g .ss) nodes state n) (g .top) (rowsOf (g .ss) nodes (leftAt before) h) (rowsOf (g .ss) nodes (rightAt before) h) (2 * sizeOf (bindings (g .ss) nodes state n) (rowsOf (g .ss) nodes (leftAt before) h) + h) after t
+
+-- a term that is dereferenced
+pub record Reached (ss : List Symbol) (nodes state : List ℕ) (top p c : ℕ) : Type 0 where
+  pub node : Node ss nodes p
+  pub copy : c < 256
+  pub below : c ≤ top
+  pub stops : getD nodes p 0 < 64 → cellAt state (cellOf c (getD nodes p 0)) ≡ 0
+
+-- Two dereferenced terms before the rows of a stack: at least one was reached by way of a bound cell, and from the second pair on both stand
+-- strictly inside the wholes of the top pair.
+pub record Crossed (nodes scratch : List ℕ) (h p c q d : ℕ) : Type 0 where
+  pub state : List ℕ
+  pub n : ℕ
+  pub work : Work nodes state scratch n h
+  pub some : 1 ≤ h
+  pub left : Reached (work .ss) nodes state (work .top) p c
+  pub right : Reached (work .ss) nodes state (work .top) q d
+  pub via : ℕ
+  pub via-is : getD nodes p 0 ≡ getD nodes q 0 → 64 ≤ getD nodes p 0 → Via (bindings (work .ss) nodes state n) via (termAt (work .ss) nodes p c) (termAt (work .ss) nodes q d)
+  pub inside : 2 ≤ h → (newer : List Binding) → nodesOf (resolve (newer ++ bindings (work .ss) nodes state n) (termAt (work .ss) nodes p c)) < nodesOf (resolve (newer ++ bindings (work .ss) nodes state n) (wholeOf (work .ss) nodes (leftAt scratch (h - 1))))
+  pub inside-right : 2 ≤ h → (newer : List Binding) → nodesOf (resolve (newer ++ bindings (work .ss) nodes state n) (termAt (work .ss) nodes q d)) < nodesOf (resolve (newer ++ bindings (work .ss) nodes state n) (wholeOf (work .ss) nodes (rightAt scratch (h - 1))))
+
+abbrev pub Settled : (nodes before after : List ℕ) (h p c q d : ℕ) → Crossed nodes before h p c q d → Turn → Type 0
+Settled nodes before after h p c q d g t =
+    SameMarks before after × Turns (g .work .ss) nodes (g .state) (bindings (g .work .ss) nodes (g .state) (g .n)) (g .work .top) (rcons (termAt (g .work .ss) nodes p c) (rowsOf (g .work .ss) nodes (leftAt before) h)) (rcons (termAt (g .work .ss) nodes q d) (rowsOf (g .work .ss) nodes (rightAt before) h)) (2 * sizeOf (bindings (g .work .ss) nodes (g .state) (g .n)) (rcons (termAt (g .work .ss) nodes p c) (rowsOf (g .work .ss) nodes (leftAt before) h)) + h) after t
+
+-- Two terms before the rows of a stack, a variable on at least one side; from the second pair on both stand strictly inside the wholes of the
+-- top pair.
+pub record Crossable (nodes state scratch : List ℕ) (h p c q d : ℕ) : Type 0 where
+  pub n : ℕ
+  pub work : Work nodes state scratch n h
+  pub some : 1 ≤ h
+  pub left : Node (work .ss) nodes p
+  pub right : Node (work .ss) nodes q
+  pub copy : c < 256
+  pub copy-right : d < 256
+  pub below : c ≤ work .top
+  pub below-right : d ≤ work .top
+  pub variable : (getD nodes p 0 < 64) ⊎ (getD nodes q 0 < 64)
+  pub inside : 2 ≤ h → (newer : List Binding) → nodesOf (resolve (newer ++ bindings (work .ss) nodes state n) (termAt (work .ss) nodes p c)) < nodesOf (resolve (newer ++ bindings (work .ss) nodes state n) (wholeOf (work .ss) nodes (leftAt scratch (h - 1))))
+  pub inside-right : 2 ≤ h → (newer : List Binding) → nodesOf (resolve (newer ++ bindings (work .ss) nodes state n) (termAt (work .ss) nodes q d)) < nodesOf (resolve (newer ++ bindings (work .ss) nodes state n) (wholeOf (work .ss) nodes (rightAt scratch (h - 1))))
+
+abbrev pub Crosses : (nodes state before after : List ℕ) (h p c q d : ℕ) → Crossable nodes state before h p c q d → Turn → Type 0
+Crosses nodes state before after h p c q d g t =
+    SameMarks before after × Turns (g .work .ss) nodes state (bindings (g .work .ss) nodes state (g .n)) (g .work .top) (rcons (termAt (g .work .ss) nodes p c) (rowsOf (g .work .ss) nodes (leftAt before) h)) (rcons (termAt (g .work .ss) nodes q d) (rowsOf (g .work .ss) nodes (rightAt before) h)) (2 * sizeOf (bindings (g .work .ss) nodes state (g .n)) (rcons (termAt (g .work .ss) nodes p c) (rowsOf (g .work .ss) nodes (leftAt before) h)) + h) after t
+
+-- The top pair of a stack, and where its rows first have a variable on a side.
+pub record Meetable (nodes state scratch : List ℕ) (h : ℕ) (l r : Side) (p q : ℕ) : Type 0 where
+  pub n : ℕ
+  pub work : Work nodes state scratch n h
+  pub some : 1 ≤ h
+  pub left-is : l ≡ leftAt scratch (h - 1)
+  pub right-is : r ≡ rightAt scratch (h - 1)
+  pub meets : Meets (work .ss) nodes (l .at) (endOf nodes l) (r .at) (endOf nodes r) p q
+
+-- n bindings, and a stack that is not empty
+pub record Turnable (nodes state scratch : List ℕ) (h : ℕ) : Type 0 where
+  pub n : ℕ
+  pub work : Work nodes state scratch n h
+  pub some : 1 ≤ h
+
+-- ---- turns until something is to be bound
+
+abbrev pub Ends : List Symbol → List ℕ → List ℕ → List Binding → ℕ → RTerms → RTerms → List ℕ → Turn → Type 0
+Ends ss nodes state b top ls rs after (Go k) = unifyRows b ls rs ≡ some b
+Ends ss nodes state b top ls rs after Clash = unifyRows b ls rs ≡ none
+Ends ss nodes state b top ls rs after (Bind k x p c) = Binds ss nodes state b top ls rs after k x p c
+
+abbrev pub Advanced : (nodes state before after : List ℕ) (n h : ℕ) → Work nodes state before n h → Turn → Type 0
+Advanced nodes state before after n h g t =
+    SameMarks before after × Ends (g .ss) nodes state (bindings (g .ss) nodes state n) (g .top) (rowsOf (g .ss) nodes (leftAt before) h) (rowsOf (g .ss) nodes (rightAt before) h) after t
+
+-- ---- the whole
+
+-- what is answered: these bindings, or none
+unfoldable pub answered : Bool → List Binding → Option (List Binding)
+answered true b = some b
+answered false b = none
+
+-- n bindings, one pair on the stack, no cell marked
+pub record Solvable (nodes state scratch : List ℕ) (n : ℕ) : Type 0 where
+  pub work : Work nodes state scratch n 1
+  pub clean : Clean scratch
+
+pub record Solved (ss : List Symbol) (nodes before after scratch later : List ℕ) (top n : ℕ) (ls rs : RTerms) (r : Unified) : Type 0 where
+  pub grows : n ≤ r .trail
+  pub store : Store ss nodes after (r .trail)
+  pub within : Within top after (r .trail)
+  pub keeps : Keeps n before after
+  pub clean : Clean later
+  pub long : length later ≡ length scratch
+  pub answer : unifyRows (bindings ss nodes before n) ls rs ≡ answered (r .equal) (bindings ss nodes after (r .trail))
+
+-- Two run-time terms in a store of n bindings, of copies 0 to top; scratch words with room, no cell marked.
+pub record Unifiable (nodes state scratch : List ℕ) (p c q d n : ℕ) : Type 0 where
+  pub ss : List Symbol
+  pub top : ℕ
+  pub store : Store ss nodes state n
+  pub within : Within top state n
+  pub roomy : Roomy scratch
+  pub clean : Clean scratch
+  pub left : Node ss nodes p
+  pub right : Node ss nodes q
+  pub copy : c < 256
+  pub copy-right : d < 256
+  pub below : c ≤ top
+  pub below-right : d ≤ top
+
+-- What `unify` promises: the store after; the entries before and the words behind the trail as they were; no cell marked; and the bindings that
+-- the words then mean are those of the definition's `unify`, or there are none.
+pub record Unifies (ss : List Symbol) (nodes before after scratch later : List ℕ) (top p c q d n : ℕ) (r : Unified) : Type 0 where
+  pub grows : n ≤ r .trail
+  pub store : Store ss nodes after (r .trail)
+  pub within : Within top after (r .trail)
+  pub keeps : Keeps n before after
+  pub clean : Clean later
+  pub long : length later ≡ length scratch
+  pub answer : (t u : Term) → Stands ss nodes p t → Stands ss nodes q u → unify (bindings ss nodes before n) (copied c t) (copied d u) ≡ answered (r .equal) (bindings ss nodes after (r .trail))

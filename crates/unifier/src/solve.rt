@@ -1,0 +1,236 @@
+// Unification: the outer loop, which takes over where a bound variable is crossed.
+use crate::occurrence::occurs;
+use crate::occurrence::size_at;
+use crate::occurrence::word_at;
+use crate::stack::PAIR;
+use crate::stack::STACK;
+use crate::stack::Side;
+use crate::stack::put_pair;
+use crate::stack::side_at;
+use crate::store::bind;
+use crate::store::deref;
+use crate::walk::Walked;
+use crate::walk::unify_list;
+ghost use Rattle.unifier.specs.Turns.{Crossed, Crossable, Crosses, Meetable, Turnable, Turned, Work, Advanced, Solvable, Solved, Unifiable, Unifies};
+ghost use Rattle.unifier.specs.Stacks.{leftAt, rightAt, rowsOf};
+
+// What a turn comes to: on with a stack of this height, names that differ, or a variable to be bound.
+pub enum Turn {
+    Go(usize),
+    Clash,
+    Bind {
+        height: usize,
+        cell: usize,
+        node: usize,
+        copy: usize,
+    },
+}
+
+// Whether the two became equal, and the length of the trail.
+pub struct Unified {
+    pub equal: bool,
+    pub trail: usize,
+}
+
+// Two dereferenced terms before the rows of a stack of height h. Of two variables the later is bound to the earlier.
+fn settle(
+    nodes: &[u32],
+    scratch: &mut [u32],
+    h: usize,
+    p: usize,
+    c: usize,
+    q: usize,
+    d: usize,
+) -> Turn
+    requires { ⌜ Crossed (now nodes) (now scratch) h p c q d ⌝ }
+    ensures { λ r. ⌜ ((g : Crossed (now (nodes .entry)) (now (scratch .entry)) h p c q d) → Rattle.unifier.specs.Turns.Settled (now (nodes .entry)) (now (scratch .entry)) (now (scratch .exit)) h p c q d g r) ⌝ }
+{
+    let w = word_at(nodes, p);
+    let z = word_at(nodes, q);
+    if w < 64 {
+        let x = c * 64 + w;
+        if z < 64 {
+            let y = d * 64 + z;
+            if x == y {
+                return Turn::Go(h);
+            }
+            if x < y {
+                return Turn::Bind {
+                    height: h,
+                    cell: y,
+                    node: p,
+                    copy: c,
+                };
+            }
+            return Turn::Bind {
+                height: h,
+                cell: x,
+                node: q,
+                copy: d,
+            };
+        }
+        return Turn::Bind {
+            height: h,
+            cell: x,
+            node: q,
+            copy: d,
+        };
+    }
+    if z < 64 {
+        let v = d * 64 + z;
+        return Turn::Bind {
+            height: h,
+            cell: v,
+            node: p,
+            copy: c,
+        };
+    }
+    if w != z {
+        return Turn::Clash;
+    }
+    let i = p + 2;
+    let j = q + 2;
+    put_pair(scratch, h, p, i, c, q, j, d);
+    Turn::Go(h + 1)
+}
+
+// Two terms before the rows of a stack of height h, a variable on a side: they are dereferenced.
+fn cross(
+    nodes: &[u32],
+    state: &[u32],
+    scratch: &mut [u32],
+    h: usize,
+    p: usize,
+    c: usize,
+    q: usize,
+    d: usize,
+) -> Turn
+    requires { ⌜ Crossable (now nodes) (now state) (now scratch) h p c q d ⌝ }
+    ensures { λ r. ⌜ ((g : Crossable (now (nodes .entry)) (now (state .entry)) (now (scratch .entry)) h p c q d) → Crosses (now (nodes .entry)) (now (state .entry)) (now (scratch .entry)) (now (scratch .exit)) h p c q d g r) ⌝ }
+{
+    let a = deref(nodes, state, p, c);
+    let b = deref(nodes, state, q, d);
+    settle(nodes, scratch, h, a.node, a.copy, b.node, b.copy)
+}
+
+// The top pair, whose rows first have a variable on a side at p and q, moved past these two terms, which are then looked at.
+fn meet(
+    nodes: &[u32],
+    state: &[u32],
+    scratch: &mut [u32],
+    h: usize,
+    l: Side,
+    r: Side,
+    p: usize,
+    q: usize,
+) -> Turn
+    requires { ⌜ Meetable (now nodes) (now state) (now scratch) h l r p q ⌝ }
+    ensures { λ t. ⌜ ((g : Meetable (now (nodes .entry)) (now (state .entry)) (now (scratch .entry)) h l r p q) → Turned (now (nodes .entry)) (now (state .entry)) (now (scratch .entry)) (now (scratch .exit)) (g .n) h (g .work) t) ⌝ }
+{
+    let i = p + size_at(nodes, p);
+    let j = q + size_at(nodes, q);
+    let k = h - 1;
+    let root = l.root;
+    let c = l.copy;
+    let other = r.root;
+    let d = r.copy;
+    put_pair(scratch, k, root, i, c, other, j, d);
+    cross(nodes, state, scratch, h, p, c, q, d)
+}
+
+// One turn at the top of a stack of height h.
+fn next_turn(nodes: &[u32], state: &[u32], scratch: &mut [u32], h: usize) -> Turn
+    requires { ⌜ Turnable (now nodes) (now state) (now scratch) h ⌝ }
+    ensures { λ t. ⌜ ((g : Turnable (now (nodes .entry)) (now (state .entry)) (now (scratch .entry)) h) → Turned (now (nodes .entry)) (now (state .entry)) (now (scratch .entry)) (now (scratch .exit)) (g .n) h (g .work) t) ⌝ }
+{
+    let k = h - 1;
+    let base = STACK + k * PAIR;
+    let l = side_at(scratch, base);
+    let r = side_at(scratch, base + 3);
+    let root = l.root;
+    let from = l.at;
+    let there = r.at;
+    let e = root + size_at(nodes, root);
+    let found = unify_list(nodes, from, e, there);
+    match found {
+        Walked::Done => Turn::Go(k),
+        Walked::Clash => Turn::Clash,
+        Walked::Met { left, right } => meet(nodes, state, scratch, h, l, r, left, right),
+    }
+}
+
+// Turns, until the stack is empty or a turn does not go on. There are n bindings; they stay as they are, so the turns end.
+fn advance(nodes: &[u32], state: &[u32], scratch: &mut [u32], n: usize, h: usize) -> Turn
+    requires { ⌜ Work (now nodes) (now state) (now scratch) n h ⌝ }
+    ensures { λ t. ⌜ ((g : Work (now (nodes .entry)) (now (state .entry)) (now (scratch .entry)) n h) → Advanced (now (nodes .entry)) (now (state .entry)) (now (scratch .entry)) (now (scratch .exit)) n h g t) ⌝ }
+{
+    let mut k = h;
+    while 0 < k {
+        let t = next_turn(nodes, state, scratch, k);
+        let Turn::Go(next) = t else {
+            return t;
+        };
+        k = next;
+    }
+    Turn::Go(0)
+}
+
+// The one pair on the stack, with m bindings: turns, and a binding where they ask for one.
+fn solve_pair(nodes: &[u32], state: &mut [u32], scratch: &mut [u32], m: usize) -> Unified
+    requires { ⌜ Solvable (now nodes) (now state) (now scratch) m ⌝ }
+    ensures { λ r. ⌜ ((g : Solvable (now (nodes .entry)) (now (state .entry)) (now (scratch .entry)) m) → Solved (g .work .ss) (now (nodes .entry)) (now (state .entry)) (now (state .exit)) (now (scratch .entry)) (now (scratch .exit)) (g .work .top) m (rowsOf (g .work .ss) (now (nodes .entry)) (leftAt (now (scratch .entry))) 1) (rowsOf (g .work .ss) (now (nodes .entry)) (rightAt (now (scratch .entry))) 1) r) ⌝ }
+{
+    let mut n = m;
+    let mut h = 1;
+    loop {
+        let t = advance(nodes, state, scratch, n, h);
+        match t {
+            Turn::Go(_) => {
+                return Unified {
+                    equal: true,
+                    trail: n,
+                };
+            }
+            Turn::Clash => {
+                return Unified {
+                    equal: false,
+                    trail: n,
+                };
+            }
+            Turn::Bind {
+                height,
+                cell,
+                node,
+                copy,
+            } => {
+                if occurs(nodes, state, scratch, cell, node, copy) {
+                    return Unified {
+                        equal: false,
+                        trail: n,
+                    };
+                }
+                bind(state, n, cell, node, copy);
+                n += 1;
+                h = height;
+            }
+        }
+    }
+}
+
+// The term at p in copy c and the term at q in copy d unified, with n bindings. Where they do not unify, the trail is left as it then is.
+pub fn unify(
+    nodes: &[u32],
+    state: &mut [u32],
+    scratch: &mut [u32],
+    p: usize,
+    c: usize,
+    q: usize,
+    d: usize,
+    n: usize,
+) -> Unified
+    requires { ⌜ Unifiable (now nodes) (now state) (now scratch) p c q d n ⌝ }
+    ensures { λ r. ⌜ ((g : Unifiable (now (nodes .entry)) (now (state .entry)) (now (scratch .entry)) p c q d n) → Unifies (g .ss) (now (nodes .entry)) (now (state .entry)) (now (state .exit)) (now (scratch .entry)) (now (scratch .exit)) (g .top) p c q d n r) ⌝ }
+{
+    put_pair(scratch, 0, p, p, c, q, q, d);
+    solve_pair(nodes, state, scratch, n)
+}

@@ -1,0 +1,51 @@
+// Two clause terms side by side. One term and a list of terms call each other, within the brackets of the clause.
+use crate::occurrence::size_at;
+use crate::occurrence::word_at;
+ghost use Prim.Native.Nat.{_+_};
+ghost use lib.ListN.{getD};
+ghost use Rattle.unifier.specs.Walks.{Walkable, Pairable, Walks};
+
+// All the same; names that differ; or the first places where a variable stands on a side.
+pub enum Walked {
+    Done,
+    Clash,
+    Met { left: usize, right: usize },
+}
+
+pub fn unify_term(nodes: &[u32], p: usize, q: usize) -> Walked
+    requires { ⌜ Pairable (now nodes) p q ⌝ }
+    ensures { λ r. ⌜ ((g : Pairable (now (nodes .entry)) p q) → Walks (g .ss) (now (nodes .entry)) p (p + getD (now (nodes .entry)) (p + 1) 0) q (q + getD (now (nodes .entry)) (q + 1) 0) r) ⌝ }
+{
+    let w = word_at(nodes, p);
+    let z = word_at(nodes, q);
+    if w < 64 {
+        return Walked::Met { left: p, right: q };
+    }
+    if z < 64 {
+        return Walked::Met { left: p, right: q };
+    }
+    if w != z {
+        return Walked::Clash;
+    }
+    let e = p + size_at(nodes, p);
+    let i = p + 2;
+    let j = q + 2;
+    unify_list(nodes, i, e, j)
+}
+
+// The terms from p up to e, and as many from q on.
+pub fn unify_list(nodes: &[u32], p: usize, e: usize, q: usize) -> Walked
+    requires { ⌜ Walkable (now nodes) p e q ⌝ }
+    ensures { λ r. ⌜ ((g : Walkable (now (nodes .entry)) p e q) → Walks (g .ss) (now (nodes .entry)) p e q (g .f) r) ⌝ }
+{
+    if e <= p {
+        return Walked::Done;
+    }
+    let r = unify_term(nodes, p, q);
+    let Walked::Done = r else {
+        return r;
+    };
+    let i = p + size_at(nodes, p);
+    let j = q + size_at(nodes, q);
+    unify_list(nodes, i, e, j)
+}
