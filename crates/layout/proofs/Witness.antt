@@ -19,7 +19,7 @@ symbols = record { name = bytes "f"; arguments = 1 } ∷ []
 unfoldable pub table : List ℕ
 table = 64 ∷ 4 ∷ 0 ∷ 2 ∷ []
 
-node : Node symbols table 0
+pub node : Node symbols table 0
 unfolding symbols table loadedWords symbolOf isSymbol isLoadable isListed sameBytes
 node =
     (compound 0 (bytes "f") (cons (variable 0 0) nil), record { words = (omega arith, refl, (omega arith, refl, (omega arith, refl, (omega arith, refl, tt)))); loadable = tt })
@@ -27,7 +27,7 @@ node =
 unfoldable pub state : List ℕ
 state = replicate 32768 0
 
-empty : Store symbols table state 0
+pub empty : Store symbols table state 0
 unfolding table state
 empty = no-entries symbols table state (let e : length state ≡ 32768 = length-replicate {A = ℕ} 32768 0 in omega arith) (omega arith) (λ x l. getD-replicate {A = ℕ} 32768 x 0 0 (omega arith))
 

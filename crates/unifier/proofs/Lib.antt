@@ -8,3 +8,4 @@ pub mod Turning
 pub mod Bare
 pub mod Solving
 pub mod Whole
+pub mod Witness

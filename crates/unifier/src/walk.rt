@@ -1,4 +1,5 @@
-// Two clause terms side by side. One term and a list of terms call each other, within the brackets of the clause.
+// Two clause terms side by side. One term and a list of terms call each other, within the brackets of the clause: at most 16 brackets, each with
+// at most 8 terms left, so the calls nest some 150 deep at most.
 use crate::occurrence::size_at;
 use crate::occurrence::word_at;
 ghost use Prim.Native.Nat.{_+_};

@@ -1,0 +1,39 @@
+-- There is something to unify: what `unify` asks can be met. Assumes nothing.
+use Prim.Native.Nat.{ℕ, _<_}
+use native.Mathlib.Omega.{arith}
+use mathlib.Core.Path.{_≡_}
+use mathlib.Core.List.{List}
+use lib.ListN.{length, getD, replicate, length-replicate, getD-replicate}
+use Rattle.layout.proofs.Witness.{symbols, table, state, node, empty}
+use Rattle.unifier.specs.Queues.{Clean}
+use Rattle.unifier.specs.Turns.{Unifiable}
+
+unfoldable pub scratch : List ℕ
+scratch = replicate 229382 0
+
+scratch-long : length scratch ≡ 229382
+unfolding scratch
+scratch-long = length-replicate {A = ℕ} 229382 0
+
+scratch-zero : (y : ℕ) → y < 16384 → getD scratch y 0 ≡ 0
+unfolding scratch
+scratch-zero y l = getD-replicate {A = ℕ} 229382 y 0 0 (omega arith)
+
+-- f(X) of the goal and f(X) of copy 1
+pub witness : Unifiable table state scratch 0 0 0 1 0
+witness =
+    let l : length scratch ≡ 229382 = scratch-long in
+    record {
+      ss = symbols;
+      top = 1;
+      store = empty;
+      within = record { cell = λ i q. absurd (let z : i < 0 = q in omega arith); copy = λ i q. absurd (let z : i < 0 = q in omega arith) };
+      roomy = omega arith;
+      clean = record { long = omega arith; zero = scratch-zero };
+      left = node;
+      right = node;
+      copy = omega arith;
+      copy-right = omega arith;
+      below = omega arith;
+      below-right = omega arith;
+    }
