@@ -1,2 +1,4 @@
 pub mod Nodes
 pub mod State
+pub mod Program
+pub mod Pile
