@@ -1,5 +1,5 @@
 -- Laws of the node table: what stands at a place is what is read back from it. Assumes nothing.
-use Prim.Native.Nat.{ℕ, zero, suc, _+_, _-_, _*_, _≤_, _<_}
+use Prim.Native.Nat.{ℕ, zero, suc, max, _+_, _-_, _*_, _≤_, _<_}
 use native.Mathlib.Omega.{arith}
 use native.Mathlib.Nat.{not-suc-le-zero}
 use mathlib.Core.Path.{_≡_, refl, sym, ap, ap₂, _∙_, subst, subst⁻¹}
@@ -12,7 +12,7 @@ use borrow.Author.Tests.{lt-ltb, le-ltb}
 use Rattle.syntax.specs.Terms.{Term, Terms, variable, compound, nil, cons, arity, sameName, samePredicate}
 use Rattle.machine.specs.Substitution.{RTerm, RTerms, var, app, rnil, rcons, copied, copiedAll}
 use Rattle.machine.proofs.Tests.{both, and, either, name-eq}
-use Rattle.layout.specs.Nodes.{Symbol, isSymbol, symbolOf, isListed, nameOf, Has, loadedWords, loadedAll, isLoadable, areLoadable, Stands, StandAll, Node, Row, decoded, decodedAll, termAt, termsAt, followed, count}
+use Rattle.layout.specs.Nodes.{Symbol, isSymbol, symbolOf, isListed, nameOf, Has, loadedWords, loadedAll, isLoadable, areLoadable, bracketsOf, bracketsAll, Stands, StandAll, Node, Row, decoded, decodedAll, termAt, termsAt, followed, count}
 
 -- ---- words that stand in a table
 
@@ -83,6 +83,19 @@ unfolding loadedWords
 size-word ss nodes p (variable n b) h = h .2 .1
 size-word ss nodes p (compound b f ts) h = h .2 .1 ∙ (let e : 2 + length (loadedAll ss ts) ≡ suc (suc (length (loadedAll ss ts))) = omega arith in e)
 
+-- the brackets of a name's arguments, of a list's first term and of its others
+brackets-name : (b : ℕ) (f : List ℕ) (ts : Terms) → bracketsOf (compound b f ts) ≤ 16 → bracketsAll ts ≤ 17
+unfolding bracketsOf
+brackets-name b f ts l = let k : bracketsAll ts ≤ 16 = l in omega arith
+
+brackets-cons : (t : Term) (ts : Terms) → bracketsAll (cons t ts) ≤ 17 → (bracketsOf t ≤ 16) × (bracketsAll ts ≤ 17)
+unfolding bracketsAll
+brackets-cons t ts l = let k : max (suc (bracketsOf t)) (bracketsAll ts) ≤ 17 = l in (omega arith, omega arith)
+
+brackets-one : (t : Term) → bracketsOf t ≤ 16 → bracketsAll (cons t nil) ≤ 17
+unfolding bracketsAll
+brackets-one t l = omega arith
+
 two : (p : ℕ) → (p + 1) + 1 ≡ p + 2
 two p = omega arith
 
@@ -116,7 +129,7 @@ module _ (ss : List Symbol) (nodes : List ℕ) (c : ℕ) where
         let inner : Has nodes (p + 2) (loadedAll ss ts) = subst (λ (q : ℕ). Has nodes q (loadedAll ss ts)) (two p) (s .words .2 .2) in
         let ends : p + getD nodes (p + 1) 0 ≡ (p + 2) + length (loadedAll ss ts) = omega arith in
         let short : length (loadedAll ss ts) ≤ k = omega arith in
-        let args : decodedAll ss nodes c k (p + 2) ((p + 2) + length (loadedAll ss ts)) ≡ copiedAll c ts = decoded-all k (p + 2) ts (record { words = inner; loadable = ok .1 }) short in
+        let args : decodedAll ss nodes c k (p + 2) ((p + 2) + length (loadedAll ss ts)) ≡ copiedAll c ts = decoded-all k (p + 2) ts (record { words = inner; loadable = ok .1; shallow = brackets-name b f ts (s .shallow) }) short in
         let number : getD nodes p 0 - 64 ≡ symbolOf ss f (arity ts) = omega arith in
         ap (node-choice ss nodes c k p) (le-ltb (getD nodes p 0) 64 (let r : 64 ≤ getD nodes p 0 = omega arith in r))
         ∙ ap₂ app (ap (nameOf ss) number ∙ name-of ss f (arity ts) (ok .0)) (ap (λ (e : ℕ). decodedAll ss nodes c k (p + 2) e) ends ∙ args)
@@ -132,11 +145,12 @@ module _ (ss : List Symbol) (nodes : List ℕ) (c : ℕ) where
         let e : length (loadedWords ss t ++ loadedAll ss ts) ≡ length (loadedWords ss t) + length (loadedAll ss ts) = length-append (loadedWords ss t) (loadedAll ss ts) in
         let short : length (loadedWords ss t ++ loadedAll ss ts) ≤ suc k = l in
         let ok : T (isLoadable ss t) × T (areLoadable ss ts) = both (isLoadable ss t) (areLoadable ss ts) (s .loadable) in
+        let few : (bracketsOf t ≤ 16) × (bracketsAll ts ≤ 17) = brackets-cons t ts (s .shallow) in
         let first : Has nodes p (loadedWords ss t) = has-left nodes p (loadedWords ss t) (loadedAll ss ts) (s .words) in
         let rest : Has nodes (p + length (loadedWords ss t)) (loadedAll ss ts) = has-right nodes p (loadedWords ss t) (loadedAll ss ts) (s .words) in
         let size : getD nodes (p + 1) 0 ≡ length (loadedWords ss t) = size-word ss nodes p t first in
-        let one : decoded ss nodes c k p ≡ copied c t = decoded-is k p t (record { words = first; loadable = ok .0 }) (let r : length (loadedWords ss t) ≤ suc k = omega arith in r) in
-        let more : decodedAll ss nodes c k (p + length (loadedWords ss t)) ((p + length (loadedWords ss t)) + length (loadedAll ss ts)) ≡ copiedAll c ts = decoded-all k (p + length (loadedWords ss t)) ts (record { words = rest; loadable = ok .1 }) (let r : length (loadedAll ss ts) ≤ k = omega arith in r) in
+        let one : decoded ss nodes c k p ≡ copied c t = decoded-is k p t (record { words = first; loadable = ok .0; shallow = few .0 }) (let r : length (loadedWords ss t) ≤ suc k = omega arith in r) in
+        let more : decodedAll ss nodes c k (p + length (loadedWords ss t)) ((p + length (loadedWords ss t)) + length (loadedAll ss ts)) ≡ copiedAll c ts = decoded-all k (p + length (loadedWords ss t)) ts (record { words = rest; loadable = ok .1; shallow = few .1 }) (let r : length (loadedAll ss ts) ≤ k = omega arith in r) in
         let at : p + getD nodes (p + 1) 0 ≡ p + length (loadedWords ss t) = omega arith in
         let ends : p + length (loadedWords ss t ++ loadedAll ss ts) ≡ (p + length (loadedWords ss t)) + length (loadedAll ss ts) = omega arith in
         ap (row-choice ss nodes c k p (p + length (loadedWords ss t ++ loadedAll ss ts))) (lt-ltb p (p + length (loadedWords ss t ++ loadedAll ss ts)) (let r : p < p + length (loadedWords ss t ++ loadedAll ss ts) = omega arith in r))
@@ -205,7 +219,7 @@ view ss nodes p (compound b f ts) s =
       word = s .words .1;
       size = s .words .2 .1;
       listed = ok .0;
-      stand = record { words = subst (λ (q : ℕ). Has nodes q (loadedAll ss ts)) (two p) (s .words .2 .2); loadable = ok .1 };
+      stand = record { words = subst (λ (q : ℕ). Has nodes q (loadedAll ss ts)) (two p) (s .words .2 .2); loadable = ok .1; shallow = brackets-name b f ts (s .shallow) };
       means = λ c. term-at ss nodes p c (compound b f ts) s;
     })
 
@@ -251,7 +265,7 @@ row-one ss nodes p n =
     let a : length (loadedWords ss (n .0) ++ []) ≡ length (loadedWords ss (n .0)) = ap length (append-nil (loadedWords ss (n .0))) in
     record {
       terms = cons (n .0) nil;
-      stand = record { words = subst⁻¹ (Has nodes p) (append-nil (loadedWords ss (n .0))) (n .1 .words); loadable = and (isLoadable ss (n .0)) true (n .1 .loadable) tt };
+      stand = record { words = subst⁻¹ (Has nodes p) (append-nil (loadedWords ss (n .0))) (n .1 .words); loadable = and (isLoadable ss (n .0)) true (n .1 .loadable) tt; shallow = brackets-one (n .0) (n .1 .shallow) };
       ends = omega arith;
     }
 
@@ -271,10 +285,11 @@ unfolding loadedAll areLoadable
 row-view ss nodes p e nil s q l = absurd (let z : e ≡ p + 0 = q in omega arith)
 row-view ss nodes p e (cons t ts) s q l =
     let ok : T (isLoadable ss t) × T (areLoadable ss ts) = both (isLoadable ss t) (areLoadable ss ts) (s .loadable) in
-    let one : Stands ss nodes p t = record { words = has-left nodes p (loadedWords ss t) (loadedAll ss ts) (s .words); loadable = ok .0 } in
+    let few : (bracketsOf t ≤ 16) × (bracketsAll ts ≤ 17) = brackets-cons t ts (s .shallow) in
+    let one : Stands ss nodes p t = record { words = has-left nodes p (loadedWords ss t) (loadedAll ss ts) (s .words); loadable = ok .0; shallow = few .0 } in
     let size : getD nodes (p + 1) 0 ≡ length (loadedWords ss t) = size-word ss nodes p t (one .words) in
     let at : p + length (loadedWords ss t) ≡ p + getD nodes (p + 1) 0 = omega arith in
-    let more : StandAll ss nodes (p + getD nodes (p + 1) 0) ts = record { words = subst (λ (x : ℕ). Has nodes x (loadedAll ss ts)) at (has-right nodes p (loadedWords ss t) (loadedAll ss ts) (s .words)); loadable = ok .1 } in
+    let more : StandAll ss nodes (p + getD nodes (p + 1) 0) ts = record { words = subst (λ (x : ℕ). Has nodes x (loadedAll ss ts)) at (has-right nodes p (loadedWords ss t) (loadedAll ss ts) (s .words)); loadable = ok .1; shallow = few .1 } in
     let both-long : length (loadedWords ss t ++ loadedAll ss ts) ≡ length (loadedWords ss t) + length (loadedAll ss ts) = length-append (loadedWords ss t) (loadedAll ss ts) in
     let q1 : e ≡ p + length (loadedWords ss t ++ loadedAll ss ts) = q in
     let ends : e ≡ (p + getD nodes (p + 1) 0) + length (loadedAll ss ts) = omega arith in
@@ -301,6 +316,15 @@ loadable-join ss (cons t ts) us h k =
     let ok : T (isLoadable ss t) × T (areLoadable ss ts) = both (isLoadable ss t) (areLoadable ss ts) h in
     and (isLoadable ss t) (areLoadable ss (joinTerms ts us)) (ok .0) (loadable-join ss ts us (ok .1) k)
 
+brackets-join : (ts us : Terms) → bracketsAll ts ≤ 17 → bracketsAll us ≤ 17 → bracketsAll (joinTerms ts us) ≤ 17
+unfolding bracketsAll joinTerms
+brackets-join nil us h k = k
+brackets-join (cons t ts) us h k =
+    let few : (bracketsOf t ≤ 16) × (bracketsAll ts ≤ 17) = brackets-cons t ts h in
+    let first : bracketsOf t ≤ 16 = few .0 in
+    let rest : bracketsAll (joinTerms ts us) ≤ 17 = brackets-join ts us (few .1) k in
+    omega arith
+
 copied-join : (c : ℕ) (ts us : Terms) → copiedAll c (joinTerms ts us) ≡ followed (copiedAll c ts) (copiedAll c us)
 unfolding joinTerms followed
 copied-join c nil us = refl
@@ -320,6 +344,7 @@ join-rows ss nodes p m e a b =
     let stand : StandAll ss nodes p (joinTerms (a .terms) (b .terms)) = record {
       words = subst⁻¹ (Has nodes p) (loaded-join ss (a .terms) (b .terms)) (has-append nodes p (loadedAll ss (a .terms)) (loadedAll ss (b .terms)) (a .stand .words) (subst (λ (x : ℕ). Has nodes x (loadedAll ss (b .terms))) (a .ends) (b .stand .words)));
       loadable = loadable-join ss (a .terms) (b .terms) (a .stand .loadable) (b .stand .loadable);
+      shallow = brackets-join (a .terms) (b .terms) (a .stand .shallow) (b .stand .shallow);
     } in
     record {
       row = record { terms = joinTerms (a .terms) (b .terms); stand = stand; ends = ends };

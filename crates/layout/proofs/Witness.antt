@@ -8,7 +8,7 @@ use lib.ListN.{length, getD, replicate, length-replicate, getD-replicate}
 use Rattle.syntax.specs.Quote.{bytes}
 use Rattle.syntax.specs.Terms.{variable, compound, nil, cons, sameBytes}
 use Rattle.machine.specs.Substitution.{var, app, rnil, rcons, Binding, resolve}
-use Rattle.layout.specs.Nodes.{Symbol, isSymbol, symbolOf, isListed, nameOf, loadedWords, isLoadable, Stands, Node, decoded, termAt}
+use Rattle.layout.specs.Nodes.{Symbol, isSymbol, symbolOf, isListed, nameOf, loadedWords, isLoadable, bracketsOf, Stands, Node, decoded, termAt}
 use Rattle.layout.specs.State.{variableOf, wordOf, valueOf, bindings, Store, boundWords}
 use Rattle.layout.proofs.State.{no-entries, bind-store, bind-means}
 
@@ -20,9 +20,9 @@ unfoldable pub table : List ℕ
 table = 64 ∷ 4 ∷ 0 ∷ 2 ∷ []
 
 pub node : Node symbols table 0
-unfolding symbols table loadedWords symbolOf isSymbol isLoadable isListed sameBytes
+unfolding symbols table loadedWords symbolOf isSymbol isLoadable isListed bracketsOf sameBytes
 node =
-    (compound 0 (bytes "f") (cons (variable 0 0) nil), record { words = (omega arith, refl, (omega arith, refl, (omega arith, refl, (omega arith, refl, tt)))); loadable = tt })
+    (compound 0 (bytes "f") (cons (variable 0 0) nil), record { words = (omega arith, refl, (omega arith, refl, (omega arith, refl, (omega arith, refl, tt)))); loadable = tt; shallow = omega arith })
 
 unfoldable pub state : List ℕ
 state = replicate 32768 0

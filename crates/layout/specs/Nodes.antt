@@ -1,5 +1,5 @@
 -- Terms as they stand in the loaded node table, and terms of a copy read back from it.
-use Prim.Native.Nat.{ℕ, zero, suc, _+_, _-_, _<_, _≤_}
+use Prim.Native.Nat.{ℕ, zero, suc, max, _+_, _-_, _<_, _≤_}
 use mathlib.Core.Path.{_≡_}
 use mathlib.Core.Bool.{Bool, true, false, _&&_, _||_}
 use mathlib.Core.List.{List, [], _∷_, _++_}
@@ -60,14 +60,27 @@ unfoldable mutual
   areLoadable ss nil = true
   areLoadable ss (cons t ts) = isLoadable ss t && areLoadable ss ts
 
+-- How many brackets are open at once in a term, and in a bracketed list of terms. Document 01 allows a term 16; a list of such terms in a bracket
+-- of its own then has at most 17.
+unfoldable mutual
+  pub bracketsOf : Term → ℕ
+  bracketsOf (variable n b) = 0
+  bracketsOf (compound b f ts) = bracketsAll ts
+
+  pub bracketsAll : Terms → ℕ
+  bracketsAll nil = 0
+  bracketsAll (cons t ts) = max (suc (bracketsOf t)) (bracketsAll ts)
+
 -- a term, and some terms one behind the other, stand at p
 pub record Stands (ss : List Symbol) (nodes : List ℕ) (p : ℕ) (t : Term) : Type 0 where
   pub words : Has nodes p (loadedWords ss t)
   pub loadable : T (isLoadable ss t)
+  pub shallow : bracketsOf t ≤ 16
 
 pub record StandAll (ss : List Symbol) (nodes : List ℕ) (p : ℕ) (ts : Terms) : Type 0 where
   pub words : Has nodes p (loadedAll ss ts)
   pub loadable : T (areLoadable ss ts)
+  pub shallow : bracketsAll ts ≤ 17
 
 -- p is a node: some term stands there
 abbrev pub Node : List Symbol → List ℕ → ℕ → Type 0

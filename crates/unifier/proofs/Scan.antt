@@ -11,7 +11,7 @@ use borrow.Author.Tests.{lt-ltb, le-ltb, ltb-true, ltb-false, eqb-true, eqb-fals
 use Rattle.machine.specs.Substitution.{Variable, sameVariable, RTerm, RTerms, var, app, rnil, rcons, occurs, occursIn, replace, Binding, resolve}
 use Rattle.machine.proofs.Tests.{either, or-left, or-right, variable-eq, variable-refl}
 use Rattle.machine.proofs.Terms.{resolveAll, resolve-app, resolve-nil, resolve-cons, occurs-replace}
-use Rattle.layout.specs.Nodes.{Symbol, isSymbol, symbolOf, isListed, nameOf, loadedWords, loadedAll, isLoadable, areLoadable, Stands, Node, Row, decoded, termAt, termsAt, followed}
+use Rattle.layout.specs.Nodes.{Symbol, isSymbol, symbolOf, isListed, nameOf, loadedWords, loadedAll, isLoadable, areLoadable, bracketsOf, Stands, Node, Row, decoded, termAt, termsAt, followed}
 use Rattle.layout.specs.State.{cellOf, variableOf, wordOf, nodeOf, copyOf, cellAt, trailAt, valueOf, bindings, Entry, Store, Within, Keeps, boundWords}
 use Rattle.layout.proofs.Nodes.{node-inside, node-end, node-size, variable-at, variable-size, compound-at, row-one, row-one-is, row-order, row-none, row-first, row-rest, row-cons, row-open, row-opened}
 use Rattle.layout.proofs.State.{replace-away, variable-cell, cell-eq, cell-small, copy-small, resolve-bound, resolve-unbound, room, few, bind-store, bind-keeps, bound-entry, keeps-refl, keeps-trans, keeps-less, no-entries}
@@ -24,8 +24,8 @@ use Rattle.unifier.proofs.Deref.{BoundCell, bound-cell-is}
 -- ---- marks
 
 mark-node : Node markSymbols markTable 0
-unfolding markSymbols markTable loadedWords symbolOf isSymbol isLoadable isListed sameBytes
-mark-node = (compound 0 [] nil, record { words = (omega arith, refl, (omega arith, refl, tt)); loadable = tt })
+unfolding markSymbols markTable loadedWords symbolOf isSymbol isLoadable isListed bracketsOf sameBytes
+mark-node = (compound 0 [] nil, record { words = (omega arith, refl, (omega arith, refl, tt)); loadable = tt; shallow = omega arith })
 
 mark-term : termAt markSymbols markTable 0 0 ≡ app [] rnil
 unfolding markSymbols markTable termAt decoded nameOf
