@@ -1,4 +1,5 @@
 pub mod Nodes
 pub mod State
+pub mod Limits
 pub mod Program
 pub mod Pile

@@ -1,12 +1,54 @@
 -- A loaded sheet and goal: what stands in the table of clauses and literals.
 use Prim.Native.Nat.{ℕ, zero, suc, _+_, _*_, _<_, _≤_}
 use mathlib.Core.Path.{_≡_}
-use mathlib.Core.List.{List}
+use mathlib.Core.Bool.{Bool, true, _&&_}
+use mathlib.Core.List.{List, [], _∷_, _++_}
 use mathlib.Core.Option.{Option, none, some}
 use lib.ListN.{length, getD}
 use Rattle.syntax.specs.Terms.{termOf, Literal, call, equation, truth, falsity, Body, done, also, Clause, Sheet, Goal}
 use Rattle.machine.specs.Machine.{nextFor, clauseAt}
-use Rattle.layout.specs.Nodes.{Symbol, Stands}
+use Rattle.layout.specs.Nodes.{Symbol, loadedWords, isLoadable, Stands}
+
+-- ---- nodes
+
+-- the nodes of a literal's terms, of a body's, of a clause's and of all clauses', one behind the other
+unfoldable pub literalNodes : List Symbol → Literal → List ℕ
+literalNodes ss (call a) = loadedWords ss (termOf a)
+literalNodes ss (equation t u) = loadedWords ss t ++ loadedWords ss u
+literalNodes ss truth = []
+literalNodes ss falsity = []
+
+unfoldable pub bodyNodes : List Symbol → Body → List ℕ
+bodyNodes ss done = []
+bodyNodes ss (also x b) = literalNodes ss x ++ bodyNodes ss b
+
+unfoldable pub clauseNodes : List Symbol → Clause → List ℕ
+clauseNodes ss cl = loadedWords ss (termOf (cl .head)) ++ bodyNodes ss (cl .body)
+
+unfoldable pub clausesNodes : List Symbol → List Clause → List ℕ
+clausesNodes ss [] = []
+clausesNodes ss (cl ∷ cls) = clauseNodes ss cl ++ clausesNodes ss cls
+
+-- the goal's first
+unfoldable pub programNodes : List Symbol → Sheet → Goal → List ℕ
+programNodes ss sh g = bodyNodes ss (g .body) ++ clausesNodes ss (sh .clauses)
+
+-- all of these terms can stand in the table
+unfoldable pub literalLoadable : List Symbol → Literal → Bool
+literalLoadable ss (call a) = isLoadable ss (termOf a)
+literalLoadable ss (equation t u) = isLoadable ss t && isLoadable ss u
+literalLoadable ss truth = true
+literalLoadable ss falsity = true
+
+unfoldable pub bodyLoadable : List Symbol → Body → Bool
+bodyLoadable ss done = true
+bodyLoadable ss (also x b) = literalLoadable ss x && bodyLoadable ss b
+
+unfoldable pub clausesLoadable : List Symbol → List Clause → Bool
+clausesLoadable ss [] = true
+clausesLoadable ss (cl ∷ cls) = (isLoadable ss (termOf (cl .head)) && bodyLoadable ss (cl .body)) && clausesLoadable ss cls
+
+-- ---- clauses and literals
 
 -- Four words for the goal, which has the number 0, and for each clause by its number: the place of its head, where its first literal stands, the
 -- next clause of its predicate (0 for none), and a word that is free.
