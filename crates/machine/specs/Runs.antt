@@ -9,15 +9,16 @@ use Rattle.syntax.specs.Terms.{Literal, call, equation, truth, falsity, Clause,
 use Rattle.syntax.specs.Verdicts.{Outcome, refused, accepted}
 use Rattle.syntax.specs.declared.Text.{Text}
 use Rattle.syntax.specs.declared.Text.the-variants.{Sheet as inSheet, Goal as inGoal, Neither}
+pub use Rattle.syntax.specs.declared.Kind.{Kind}
+pub use Rattle.syntax.specs.declared.Kind.the-variants.{Wanted, Done, Steps, Full, Deep}
+pub use Rattle.syntax.specs.declared.Report.{Report}
+use Rattle.syntax.specs.declared.Run.{Run}
+use Rattle.syntax.specs.declared.Run.the-variants.{Ended as ended-by, Refused as refused-by}
 use Rattle.syntax.specs.declared.Refusal.{Refusal}
 use Rattle.syntax.specs.declared.Refusal.the-variants.{Settings}
 use Rattle.rules.specs.Checking.{checkedSheet, checkedGoal}
 use Rattle.machine.specs.Machine.{Pending, Alternative, path, clauseAt, step, start}
 use Rattle.machine.specs.Answers.{line}
-
--- how a run ends
-pub data Kind : Type 0 where
-  Wanted Done Steps Full Deep : Kind
 
 -- a run under way: the pile, the answers written, the steps taken, the text so far
 pub record Progress : Type 0 where
@@ -129,13 +130,7 @@ run sh g allowance wanted room = runFrom sh g wanted room allowance (begun sh g)
 
 -- ---- over texts
 
--- "The report is the kind, the answers written and the steps."
-pub record Report : Type 0 where
-  pub kind : Kind
-  pub answers : ℕ
-  pub steps : ℕ
-
--- a refusal with the text at fault, or the report and the answer text
+-- a refusal with the text at fault, or the report ("the kind, the answers written and the steps") and the answer text
 pub data RunOutcome : Type 0 where
   stopped : Text → Refusal → RunOutcome
   ran : Report → List ℕ → RunOutcome
@@ -162,3 +157,12 @@ inRange allowance wanted = (leb 1 allowance && leb allowance 65536) && (leb 1 wa
 unfoldable pub runOutcome : List ℕ → List ℕ → ℕ → ℕ → ℕ → RunOutcome
 runOutcome sheet goal allowance wanted room =
     elim (inRange allowance wanted) [ true ↦ overSheet goal allowance wanted room (checkedSheet sheet) | false ↦ stopped Neither Settings ]
+
+-- what a run gives back, and what it writes: a refusal writes nothing
+unfoldable pub runAnswer : RunOutcome → Run
+runAnswer (stopped text refusal) = refused-by text refusal
+runAnswer (ran report text) = ended-by report
+
+unfoldable pub runText : RunOutcome → List ℕ
+runText (stopped text refusal) = []
+runText (ran report text) = text

@@ -91,6 +91,28 @@ pub enum Verdict {
     Refused { text: Text, refusal: Refusal },
 }
 
+// How a run ends, in the order in which document 01 looks for the ends.
+pub enum Kind {
+    Wanted,
+    Done,
+    Steps,
+    Full,
+    Deep,
+}
+
+// What a run reports: how it ended, the answers written and the steps taken.
+pub struct Report {
+    pub kind: Kind,
+    pub answers: usize,
+    pub steps: usize,
+}
+
+// The answer to a run: its report, or the refusal and the text at fault.
+pub enum Run {
+    Ended(Report),
+    Refused { text: Text, refusal: Refusal },
+}
+
 // The five numbers of a refusal.
 pub struct Five {
     pub number: usize,
