@@ -2,5 +2,6 @@ pub mod PartLaws
 pub mod NumberLaws
 pub mod StoreLaws
 pub mod WalkLaws
+pub mod ShallowLaws
 pub mod ValueLaws
 pub mod LineLaws

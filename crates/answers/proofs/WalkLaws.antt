@@ -32,14 +32,14 @@ unfolding resolvedAll
 resolved-all b rnil = resolve-nil b
 resolved-all b (rcons t ts) = resolve-cons b t ts ∙ ap (rcons (resolve b t)) (resolved-all b ts)
 
-resolved-name : (b : List Binding) (f : List ℕ) (ts : RTerms) → resolve b (app f ts) ≡ app f (resolvedAll b ts)
+pub resolved-name : (b : List Binding) (f : List ℕ) (ts : RTerms) → resolve b (app f ts) ≡ app f (resolvedAll b ts)
 resolved-name b f ts = resolve-app b f ts ∙ ap (app f) (resolved-all b ts)
 
-depth-name : (f : List ℕ) (ts : RTerms) → depth (app f ts) ≡ depthAll ts
+pub depth-name : (f : List ℕ) (ts : RTerms) → depth (app f ts) ≡ depthAll ts
 unfolding depth
 depth-name f ts = refl
 
-depth-cons : (b : List Binding) (t : RTerm) (ts : RTerms) → depthAll (resolvedAll b (rcons t ts)) ≡ max (suc (depth (resolve b t))) (depthAll (resolvedAll b ts))
+pub depth-cons : (b : List Binding) (t : RTerm) (ts : RTerms) → depthAll (resolvedAll b (rcons t ts)) ≡ max (suc (depth (resolve b t))) (depthAll (resolvedAll b ts))
 unfolding depthAll resolvedAll
 depth-cons b t ts = refl
 
