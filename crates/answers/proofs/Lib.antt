@@ -5,3 +5,4 @@ pub mod WalkLaws
 pub mod ShallowLaws
 pub mod ValueLaws
 pub mod LineLaws
+pub mod Witness

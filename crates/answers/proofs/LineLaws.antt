@@ -12,9 +12,10 @@ use Rattle.lines.specs.Lines.{Put}
 use Rattle.machine.specs.Substitution.{Variable, Binding}
 use Rattle.machine.specs.Answers.{placeOf, bytesOf, allAnonymous, valuesFrom, line}
 use Rattle.layout.specs.Nodes.{Symbol}
-use Rattle.layout.specs.State.{variableOf}
-use Rattle.answers.specs.Words.{numberIn, Numbers}
-use Rattle.answers.specs.Telling.{Counting, Setting, Values, SomeValues, Lined, Fitted}
+use Rattle.layout.specs.State.{variableOf, bindings}
+use Rattle.answers.specs.Words.{numberIn, Numbers, depth}
+use Rattle.answers.specs.Telling.{Counting, Setting, Values, SomeValues, Answerable, SomeAnswerable, Lined, Fitted, valueIn}
+use Rattle.answers.proofs.ShallowLaws.{shallow-values}
 
 -- no variable is numbered yet
 number-zero : (v : Variable) → numberIn v [] ≡ 0
@@ -69,11 +70,18 @@ fitted-none whole nothing nothing′ old at past limit e l p =
     let k : limit < at + length whole = p .over l in
     record { fits = λ h. absurd (omega arith); full = λ h. (refl, refl) }
 
--- another stack of the same length serves as well
-pub values-same : (ss : List Symbol) (n : ℕ) (nodes state symbols sheet goal stack after names : List ℕ) (count : ℕ) → length after ≡ length stack → Values ss n nodes state symbols sheet goal stack names count → Values ss n nodes state symbols sheet goal after names count
-values-same ss n nodes state symbols sheet goal stack after names count e v =
+-- a stack long enough for the brackets of every value
+pub values-of : (ss : List Symbol) (n : ℕ) (nodes state symbols sheet goal stack names : List ℕ) (count : ℕ) → 524320 ≤ length stack → Answerable ss n nodes state symbols sheet goal names count → Values ss n nodes state symbols sheet goal stack names count
+values-of ss n nodes state symbols sheet goal stack names count l v =
     record {
-      setting = record { store = v .setting .store; names = v .setting .names; rows = record { high = omega arith; each = λ j k. absurd (let z : j < 0 = k in omega arith) } };
+      setting = record { store = v .store; names = v .symbols-are; rows = record { high = zero-le; each = λ j k. absurd (let z : j < 0 = k in omega arith) } };
       named = v .named;
-      shallow = λ i l. rw e (v .shallow i l);
+      shallow = λ i k. (let few : count ≤ 32 = v .named .few in let h : depth (valueIn (bindings ss nodes state n) i) ≤ 262160 = shallow-values ss nodes state n (v .store) i (omega arith) in omega arith);
     }
+
+pub still-long : (before after : ℕ) → after ≡ before → 524320 ≤ before → 524320 ≤ after
+still-long before after e l = omega arith
+
+pub some-values : (nodes state symbols sheet goal stack names : List ℕ) (count : ℕ) → 524320 ≤ length stack → SomeAnswerable nodes state symbols sheet goal names count → SomeValues nodes state symbols sheet goal stack names count
+some-values nodes state symbols sheet goal stack names count l v =
+    record { ss = v .ss; n = v .n; is = values-of (v .ss) (v .n) nodes state symbols sheet goal stack names count l (v .is) }

@@ -2,14 +2,14 @@
 --
 -- A clause's term opens at most 16 brackets before it comes to a variable, and what stands for that variable opens fewer than the whole does. So
 -- the bound variables that are passed one inside the other are distinct.
-use Prim.Native.Nat.{ℕ, zero, suc, max, _+_, _*_, _/_, _%_, _≤_, _<_}
+use Prim.Native.Nat.{ℕ, zero, suc, max, _+_, _*_, _≤_, _<_}
 use native.Mathlib.Omega.{arith}
 use mathlib.Core.Path.{_≡_, refl, sym, ap, _∙_, subst}
 use mathlib.Core.Bool.{Bool, true, false}
 use mathlib.Core.List.{List}
 use mathlib.Core.Logic.{_⊎_, inl, inr}
 use lib.Dec.{T, ltb, eqb, ltb→lt}
-use lib.ListN.{length, getD}
+use lib.ListN.{getD}
 use borrow.Author.Tests.{ltb-true, ltb-false, lt-ltb, le-ltb, eqb-true, eqb-false}
 use Rattle.syntax.specs.Terms.{Term, Terms, variable, compound, nil, cons, arity}
 use Rattle.machine.specs.Substitution.{Variable, RTerm, var, app, Binding, resolve, copied, copiedAll}

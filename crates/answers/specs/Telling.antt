@@ -142,6 +142,17 @@ pub record SomeValues (nodes state symbols sheet goal stack names : List ℕ) (c
   pub n : ℕ
   pub is : Values ss n nodes state symbols sheet goal stack names count
 
+-- What a line is made from: a store, the symbols' names, and the names of the goal's variables.
+pub record Answerable (ss : List Symbol) (n : ℕ) (nodes state symbols sheet goal names : List ℕ) (count : ℕ) : Type 0 where
+  pub store : Store ss nodes state n
+  pub symbols-are : Names ss symbols sheet goal
+  pub named : Named goal names count
+
+pub record SomeAnswerable (nodes state symbols sheet goal names : List ℕ) (count : ℕ) : Type 0 where
+  pub ss : List Symbol
+  pub n : ℕ
+  pub is : Answerable ss n nodes state symbols sheet goal names count
+
 -- The whole stands in the buffer, or the limit is passed, as it is by the whole.
 pub record Lined (limit : ℕ) (whole old : List ℕ) (at : ℕ) (new : List ℕ) (next : ℕ) : Type 0 where
   pub done : next ≤ limit → Put old at whole new next

@@ -16,10 +16,11 @@ ghost use Rattle.machine.specs.Answers.{line};
 ghost use Rattle.layout.specs.Nodes.{Symbol};
 ghost use Rattle.layout.specs.State.{bindings};
 ghost use Rattle.answers.specs.Words.{namesFrom};
-ghost use Rattle.answers.specs.Telling.{Values, SomeValues, Lined, Fitted};
+ghost use Rattle.answers.specs.Telling.{Values, SomeValues, Answerable, SomeAnswerable, Lined, Fitted};
 
 // Writes the line of an answer from at on and returns the position past it; where the whole line does not fit, writes nothing
-// and returns 0. It is measured first.
+// and returns 0. It is measured first. The stack has two words for each bracket that can be open at once: 16 in a term of a clause
+// or of the goal, and 16 behind each of 16,384 bindings.
 pub fn put_answer(
     goal: &[u8],
     names: &[u32],
@@ -32,9 +33,9 @@ pub fn put_answer(
     text: &mut [u8],
     at: usize,
 ) -> usize
-    requires { ⌜ SomeValues (now nodes) (now state) (now symbols) (now sheet) (now goal) (now stack) (now names) count ⌝ }
-    requires { ⌜ at ≤ length (now text) ⌝ }
-    ensures { λ r. ⌜ ((ss : List Symbol) (n : ℕ) (g : Goal) → Values ss n (now (nodes .entry)) (now (state .entry)) (now (symbols .entry)) (now (sheet .entry)) (now (goal .entry)) (now (stack .entry)) (now (names .entry)) count → g .names ≡ namesFrom (now (goal .entry)) (now (names .entry)) 0 count → Fitted (line g (bindings ss (now (nodes .entry)) (now (state .entry)) n)) (now (text .entry)) at (now (text .exit)) r) ⌝ }
+    requires { ⌜ SomeAnswerable (now nodes) (now state) (now symbols) (now sheet) (now goal) (now names) count ⌝ }
+    requires { ⌜ (at ≤ length (now text)) × (524320 ≤ length (now stack)) ⌝ }
+    ensures { λ r. ⌜ ((ss : List Symbol) (n : ℕ) (g : Goal) → Answerable ss n (now (nodes .entry)) (now (state .entry)) (now (symbols .entry)) (now (sheet .entry)) (now (goal .entry)) (now (names .entry)) count → g .names ≡ namesFrom (now (goal .entry)) (now (names .entry)) 0 count → Fitted (line g (bindings ss (now (nodes .entry)) (now (state .entry)) n)) (now (text .entry)) at (now (text .exit)) r) ⌝ }
 {
     let room = text.len();
     let mut nothing = [0u8; 0];

@@ -1,0 +1,44 @@
+-- There is an answer to put: what `put_answer` asks can be met. Assumes nothing.
+use Prim.Native.Nat.{ℕ, zero, suc, _+_, _/_, _%_, _<_, _≤_}
+use native.Mathlib.Omega.{arith}
+use mathlib.Core.Path.{_≡_, refl}
+use mathlib.Core.List.{List, [], _∷_}
+use lib.ListN.{length, getD, replicate, length-replicate}
+use Rattle.syntax.specs.Quote.{bytes}
+use Rattle.layout.specs.Nodes.{Symbol, nameOf}
+use Rattle.layout.specs.State.{wordOf, boundWords}
+use Rattle.layout.proofs.Witness.{symbols, table, state, witness as bound}
+use Rattle.answers.specs.Words.{nameAt, Placed, Names, Named}
+use Rattle.answers.specs.Telling.{SomeAnswerable}
+
+unfoldable pub stack : List ℕ
+stack = replicate 524320 0
+
+stack-long : length stack ≡ 524320
+unfolding stack
+stack-long = length-replicate {A = ℕ} 524320 0
+
+-- the sheet `f` and the goal `X`, of one byte each: a word for the symbol, and one for the variable
+spelt : Names symbols (1 ∷ []) (bytes "f") (bytes "X")
+unfolding symbols nameAt nameOf
+spelt = record { placed = λ k l. placed k l; name = λ k l. name k l }
+  where
+    placed : (k : ℕ) → k < 1 → Placed (1 ∷ []) (bytes "f") (bytes "X") k
+    placed zero l = record { listed = omega arith; inside = omega arith }
+    placed (suc k) l = absurd (omega arith)
+
+    name : (k : ℕ) → k < 1 → nameAt (1 ∷ []) (bytes "f") (bytes "X") k ≡ nameOf symbols k
+    name zero l = refl
+    name (suc k) l = absurd (omega arith)
+
+named : Named (bytes "X") (1 ∷ []) 1
+named = record { listed = omega arith; few = omega arith; inside = λ i l. inside i l }
+  where
+    inside : (i : ℕ) → i < 1 → getD (1 ∷ []) i 0 / 32 + getD (1 ∷ []) i 0 % 32 ≤ 1
+    inside zero l = omega arith
+    inside (suc i) l = absurd (omega arith)
+
+-- variable 0 of the goal is bound to f(X) of copy 1
+pub witness : SomeAnswerable table (boundWords state 0 0 (wordOf 0 1)) (1 ∷ []) (bytes "f") (bytes "X") (1 ∷ []) 1 × (524320 ≤ length stack)
+witness =
+    (record { ss = symbols; n = 1; is = record { store = bound; symbols-are = spelt; named = named } }, (let e : length stack ≡ 524320 = stack-long in omega arith))
