@@ -1,2 +1,3 @@
 mod EndLaws
 mod LineLaws
+mod LoopLaws

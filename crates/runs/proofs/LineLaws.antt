@@ -26,7 +26,7 @@ bytes-filled met [] f = f
 bytes-filled met (byte b ∷ ps) f = tt
 bytes-filled met (unbound v ∷ ps) f = by (placeOf v 1 met)
   where
-    by : (o : Option ℕ) → Filled (elim o [ none ↦ numbered (suc (length met)) (bytesOf (met ++ (v ∷ [])) ps) | some n ↦ numbered n (bytesOf met ps) ])
+    by : (o : Option ℕ) → Filled {A = ℕ} (elim o [ none ↦ numbered (suc (length met)) (bytesOf (met ++ (v ∷ [])) ps) | some n ↦ numbered n (bytesOf met ps) ])
     by none = tt
     by (some n) = tt
 
@@ -42,11 +42,11 @@ spaced-filled ps = tt
 values-filled : (b : List Binding) (i : ℕ) (separator : List ℕ) (xs : List (List ℕ)) → Filled (valuesFrom b i separator xs)
 unfolding valuesFrom
 values-filled b i separator [] = tt
-values-filled b i separator (x ∷ xs) = by (isAnonymous x)
+values-filled b i separator (x ∷ xs) = by (values-filled b (suc i) separator xs) (isAnonymous x)
   where
-    by : (o : Bool) → Filled (elim o [ true ↦ valuesFrom b (suc i) separator xs | false ↦ written separator (written x (written (bytes " = ") (spelt (resolve b (var (record { copy = 0; number = i }))) (valuesFrom b (suc i) (bytes ", ") xs)))) ])
-    by true = values-filled b (suc i) separator xs
-    by false = written-filled separator _ (written-filled x _ (spaced-filled _))
+    by : Filled (valuesFrom b (suc i) separator xs) → (o : Bool) → Filled {A = Piece} (elim o [ true ↦ valuesFrom b (suc i) separator xs | false ↦ written separator (written x (written (bytes " = ") (spelt (resolve b (var (record { copy = 0; number = i }))) (valuesFrom b (suc i) (bytes ", ") xs)))) ])
+    by f true = f
+    by f false = written-filled separator _ (written-filled x _ (spaced-filled _))
 
 some-long : (xs : List ℕ) → Filled xs → 1 ≤ length xs
 some-long [] f = absurd f
@@ -56,9 +56,9 @@ pub line-some : (g : Goal) (b : List Binding) → 1 ≤ length (line g b)
 unfolding line
 line-some g b = by (allAnonymous (g .names))
   where
-    by : (o : Bool) → 1 ≤ length (elim o [ true ↦ bytes "yes\n" | false ↦ bytesOf [] (valuesFrom b 0 [] (g .names)) ])
+    by : (o : Bool) → 1 ≤ length {A = ℕ} (elim o [ true ↦ bytes "yes\n" | false ↦ bytesOf [] (valuesFrom b 0 [] (g .names)) ])
     by true = omega arith
-    by false = some-long _ (bytes-filled [] _ (values-filled b 0 [] (g .names)))
+    by false = some-long (bytesOf [] (valuesFrom b 0 [] (g .names))) (bytes-filled [] (valuesFrom b 0 [] (g .names)) (values-filled b 0 [] (g .names)))
 
 line-with : (g : Goal) (a : Alternative) (ps : List Pending) → isEmpty ps ≡ true → lineWith g a ps ≡ line g (a .bindings)
 unfolding isEmpty lineWith
