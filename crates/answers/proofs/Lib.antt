@@ -1,3 +1,4 @@
+pub mod GoalNames
 pub mod PartLaws
 pub mod NumberLaws
 pub mod StoreLaws

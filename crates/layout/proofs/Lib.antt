@@ -1,3 +1,4 @@
+pub mod Limits
 pub mod Nodes
 pub mod Pigeonhole
 pub mod State
