@@ -294,8 +294,8 @@ module _ (s declared table : List ℕ) (ds cs used : ℕ) (st : State) (l : Load
 
 -- ---- goals
 
-pub goal-ready : (s table : List ℕ) (st : State) → Standing s st → 65540 ≤ length table → length table < 2 ^ 31 → Ready s st table 0 1
-goal-ready s table st stands long small = let short : length s ≤ 16384 = stands .short in record { standing = stands; room = omega arith; small = small }
+pub goal-ready : (s table : List ℕ) (st : State) → Standing s st → 4 * length s + 4 ≤ length table → length table < 2 ^ 31 → Ready s st table 0 1
+goal-ready s table st stands long small = record { standing = stands; room = omega arith; small = small }
 
 module _ (s : List ℕ) (entry exit : List ℕ) (st : State) (is : st ≡ atStart s) (r : Parsed) (g : Gives bodyWords bodyLength s st entry exit 0 r (readBody s 16 st)) where
   goal-whole : readGoal s ≡ andThen (readBody s 16 st) (λ b after. goalEnd s b after (eqb (after .token .kind) 16))

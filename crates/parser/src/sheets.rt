@@ -125,10 +125,10 @@ pub fn read_items(s: &[u8], declared: &mut [u32], table: &mut [u32]) -> Loaded
     }
 }
 
-// A goal into a node table, with refusals 3 to 6.
+// A goal into a node table of four words for each byte and four more, with refusals 3 to 6.
 pub fn read_goal(s: &[u8], table: &mut [u32]) -> Parsed
     requires { ⌜ length (now s) ≤ 16384 ⌝ }
-    requires { ⌜ (65540 ≤ length (now table)) × (length (now table) < 2 ^ 31) ⌝ }
+    requires { ⌜ (4 * length (now s) + 4 ≤ length (now table)) × (length (now table) < 2 ^ 31) ⌝ }
     ensures { λ r. ⌜ GoalLoads (now (table .exit)) r (readGoal (now (s .entry))) ⌝ }
 {
     let st = start(s);

@@ -4,8 +4,8 @@ use borrow.Author.Needs.{needs}
 use Rattle.pilvaust.proofs.read_goal.Statement.{statement}
 use Rattle.pilvaust.proofs.read_goal.Tie as tie
 
-node-room-requires : tie.Need-node-room-requires
-node-room-requires c κs = search needs
+goal-room-requires : tie.Need-goal-room-requires
+goal-room-requires c κs = search needs
 
 slice-aggregate-load-goal : tie.Need-slice-aggregate-load-goal
 slice-aggregate-load-goal c = search needs
@@ -18,4 +18,4 @@ returns c = goal-verdict _ _ _ (c .before .load-goal .ensures)
 
 pub read-goal-spec : {M : Type 1} → statement M
 read-goal-spec =
-    tie.close (tie.spec node-room-requires slice-aggregate-load-goal load-goal-requires returns)
+    tie.close (tie.spec goal-room-requires slice-aggregate-load-goal load-goal-requires returns)
