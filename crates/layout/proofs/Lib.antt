@@ -1,5 +1,6 @@
 pub mod Limits
 pub mod Nodes
 pub mod Pigeonhole
+pub mod Pile
 pub mod State
 pub mod Witness
