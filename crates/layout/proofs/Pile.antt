@@ -17,7 +17,8 @@ use Rattle.machine.proofs.Tests.{some-eq, some-none}
 use Rattle.layout.specs.Nodes.{Symbol, Stands}
 use Rattle.layout.specs.State.{bindings, Store, Within, Agrees, Keeps}
 use Rattle.layout.specs.Program.{bodyAt, kindAt, placeAt, otherAt, LiteralStands, BodyStands, Program}
-use Rattle.layout.specs.Pile.{bodyIn, bodyOf, dropBody, Calls, clauseIn, callerOf, callOf, restFrom, leftBehind, leftFrom, callsUpTo, Place, Frame, NextFor, Stacked, Piled}
+use Rattle.layout.specs.Pile.{bodyIn, bodyOf, dropBody, firstAtom, Calls, clauseIn, callerOf, callOf, restFrom, leftBehind, leftFrom, callsUpTo, copyAt, literalAt, nextAt, markAt, pathAt, alternativeAt, pileOf, Place, Frame, NextFor, Stacked, Piled}
+use Rattle.layout.proofs.State.{bindings-agree, agrees, within-agrees}
 
 -- ---- bodies
 
@@ -224,3 +225,167 @@ climb sh g code state k c l frames low e =
       place = frame-next sh g code state (suc c) f;
       below = b;
     }
+
+-- ---- words that are as they were
+
+-- the frames of copies 0 to k
+abbrev pub SameFrames : ℕ → List ℕ → List ℕ → Type 0
+SameFrames k before after = (j : ℕ) → 32768 ≤ j → j < 32768 + (k + 1) * 4 → getD after j 0 ≡ getD before j 0
+
+-- the first h alternatives, the frames of copies 0 to k, and the first n entries of the trail
+pub record SameUpTo (h k n : ℕ) (before after : List ℕ) : Type 0 where
+  pub frame : SameFrames k before after
+  pub alternative : (j : ℕ) → 33792 ≤ j → j < 33792 + h * 6 → getD after j 0 ≡ getD before j 0
+  pub agree : Agrees n before after
+
+agrees-less : (m n : ℕ) (before after : List ℕ) → m ≤ n → Agrees n before after → Agrees m before after
+agrees-less m n before after l a = record { entry = λ i q. a .entry i (omega arith); cell = λ i q. a .cell i (omega arith) }
+
+pub keeps-same : (h k n : ℕ) (before after : List ℕ) → Keeps n before after → SameUpTo h k n before after
+keeps-same h k n before after s = record { frame = λ j l q. s .others j l; alternative = λ j l q. s .others j (omega arith); agree = agrees n before after s }
+
+pub same-clause : (before after : List ℕ) (k : ℕ) → SameFrames k before after → (c : ℕ) → c ≤ k → clauseIn after c ≡ clauseIn before c
+unfolding clauseIn
+same-clause before after k s zero l = refl
+same-clause before after k s (suc c) l = s (32768 + suc c * 4) (omega arith) (omega arith)
+
+same-caller : (before after : List ℕ) (k : ℕ) → SameFrames k before after → (c : ℕ) → c ≤ k → callerOf after c ≡ callerOf before c
+same-caller before after k s c l = s (32768 + c * 4 + 1) (omega arith) (omega arith)
+
+same-call : (before after : List ℕ) (k : ℕ) → SameFrames k before after → (c : ℕ) → c ≤ k → callOf after c ≡ callOf before c
+same-call before after k s c l = s (32768 + c * 4 + 2) (omega arith) (omega arith)
+
+module _ (sh : Sheet) (g : Goal) (code before after : List ℕ) (k : ℕ) (same : SameFrames k before after) where
+  pub same-rest : (c l : ℕ) → c ≤ k → restFrom sh g code after c l ≡ restFrom sh g code before c l
+  unfolding restFrom
+  same-rest c l q = ap (λ (m : ℕ). dropBody ((l - bodyAt code m) / 4) (bodyOf sh g m)) (same-clause before after k same c q)
+
+  pub same-place : (c l : ℕ) → c ≤ k → Place sh g code before c l → Place sh g code after c l
+  same-place c l q p =
+      let e : clauseIn after c ≡ clauseIn before c = same-clause before after k same c q in
+      record {
+        clause = subst⁻¹ (λ (m : ℕ). m ≤ length (sh .clauses)) e (p .clause);
+        index = p .index;
+        is = subst⁻¹ (λ (m : ℕ). l ≡ bodyAt code m + p .index * 4) e (p .is);
+        low = subst⁻¹ (λ (m : ℕ). p .index ≤ bodyLength (bodyOf sh g m)) e (p .low);
+      }
+
+  pub same-frame : (c : ℕ) → suc c ≤ k → Frame sh g code before (suc c) → Frame sh g code after (suc c)
+  same-frame c q f =
+      let e : callerOf after (suc c) ≡ callerOf before (suc c) = same-caller before after k same (suc c) q in
+      let d : callOf after (suc c) ≡ callOf before (suc c) = same-call before after k same (suc c) q in
+      let b : callerOf before (suc c) < suc c = f .below in
+      let low : callerOf before (suc c) ≤ k = omega arith in
+      record {
+        clause = subst⁻¹ (λ (m : ℕ). m ≤ length (sh .clauses)) (same-clause before after k same (suc c) q) (f .clause);
+        below = (let z : callerOf after (suc c) < suc c = omega arith in z);
+        place = subst⁻¹ (λ (y : ℕ). Place sh g code after y (callOf after (suc c))) e (subst⁻¹ (Place sh g code after (callerOf before (suc c))) d (same-place (callerOf before (suc c)) (callOf before (suc c)) low (f .place)));
+        atom = f .atom;
+        calls = subst⁻¹ (λ (y : Body). Calls y (f .atom)) (ap₂ (restFrom sh g code after) e d ∙ same-rest (callerOf before (suc c)) (callOf before (suc c)) low) (f .calls);
+      }
+
+  pub same-behind : (p c : ℕ) → p ≤ k → c ≤ p → ((i : ℕ) → i < p → Frame sh g code before (suc i)) → leftBehind sh g code after p c ≡ leftBehind sh g code before p c
+  unfolding leftBehind
+  same-behind zero c q l frames = refl
+  same-behind (suc p) c q l frames =
+      let f : Frame sh g code before (suc p) = frames p (omega arith) in
+      let b : callerOf before (suc p) < suc p = f .below in
+      let e : callerOf after (suc p) ≡ callerOf before (suc p) = same-caller before after k same (suc p) q in
+      let d : callOf after (suc p) ≡ callOf before (suc p) = same-call before after k same (suc p) q in
+      let r : restFrom sh g code after (callerOf after (suc p)) (callOf after (suc p) + 4) ≡ restFrom sh g code before (callerOf before (suc p)) (callOf before (suc p) + 4) =
+          ap₂ (λ (x y : ℕ). restFrom sh g code after x (y + 4)) e d ∙ same-rest (callerOf before (suc p)) (callOf before (suc p) + 4) (omega arith) in
+      let t : leftBehind sh g code after p (callerOf after (suc p)) ≡ leftBehind sh g code before p (callerOf before (suc p)) =
+          ap (leftBehind sh g code after p) e ∙ same-behind p (callerOf before (suc p)) (omega arith) (omega arith) (λ i z. frames i (omega arith)) in
+      go (eqb c (suc p)) refl e r t (λ z. same-behind p c (omega arith) z (λ i y. frames i (omega arith)))
+    where
+      go : (b : Bool) → eqb c (suc p) ≡ b → callerOf after (suc p) ≡ callerOf before (suc p)
+          → restFrom sh g code after (callerOf after (suc p)) (callOf after (suc p) + 4) ≡ restFrom sh g code before (callerOf before (suc p)) (callOf before (suc p) + 4)
+          → leftBehind sh g code after p (callerOf after (suc p)) ≡ leftBehind sh g code before p (callerOf before (suc p))
+          → (c ≤ p → leftBehind sh g code after p c ≡ leftBehind sh g code before p c)
+          → behind sh g code after p c b ≡ behind sh g code before p c b
+      go true w e r t ih = λ i. pending (e i) (r i) (t i)
+      go false w e r t ih = ih (let z : c ≡ suc p → ⊥ = eqb-false c (suc p) w in omega (arith, z))
+
+  pub same-left : (p c l : ℕ) → p ≤ k → c ≤ p → ((i : ℕ) → i < p → Frame sh g code before (suc i)) → leftFrom sh g code after p c l ≡ leftFrom sh g code before p c l
+  unfolding leftFrom
+  same-left p c l q h frames = ap₂ (pending c) (same-rest c l (omega arith)) (same-behind p c q h frames)
+
+  pub same-calls : (p : ℕ) → p ≤ k → ((i : ℕ) → i < p → Frame sh g code before (suc i)) → callsUpTo sh g code after p ≡ callsUpTo sh g code before p
+  unfolding callsUpTo
+  same-calls zero q frames = refl
+  same-calls (suc p) q frames =
+      let f : Frame sh g code before (suc p) = frames p (omega arith) in
+      let b : callerOf before (suc p) < suc p = f .below in
+      let e : callerOf after (suc p) ≡ callerOf before (suc p) = same-caller before after k same (suc p) q in
+      let d : callOf after (suc p) ≡ callOf before (suc p) = same-call before after k same (suc p) q in
+      let r : restFrom sh g code after (callerOf after (suc p)) (callOf after (suc p)) ≡ restFrom sh g code before (callerOf before (suc p)) (callOf before (suc p)) =
+          ap₂ (restFrom sh g code after) e d ∙ same-rest (callerOf before (suc p)) (callOf before (suc p)) (omega arith) in
+      let t : callsUpTo sh g code after p ≡ callsUpTo sh g code before p = same-calls p (omega arith) (λ i z. frames i (omega arith)) in
+      λ i. record { copy = e i; atom = firstAtom (r i) } ∷ t i
+
+-- alternatives whose words are as they were
+module _ (before after : List ℕ) (h k n : ℕ) (same : SameUpTo h k n before after) (j : ℕ) (low : j < h) where
+  pub same-copyAt : copyAt after j ≡ copyAt before j
+  same-copyAt = same .alternative (33792 + j * 6) (omega arith) (omega arith)
+
+  pub same-literalAt : literalAt after j ≡ literalAt before j
+  same-literalAt = same .alternative (33792 + j * 6 + 1) (omega arith) (omega arith)
+
+  pub same-nextAt : nextAt after j ≡ nextAt before j
+  same-nextAt = same .alternative (33792 + j * 6 + 2) (omega arith) (omega arith)
+
+  pub same-markAt : markAt after j ≡ markAt before j
+  same-markAt = same .alternative (33792 + j * 6 + 3) (omega arith) (omega arith)
+
+  pub same-pathAt : pathAt after j ≡ pathAt before j
+  same-pathAt = same .alternative (33792 + j * 6 + 4) (omega arith) (omega arith)
+
+module _ (ss : List Symbol) (sh : Sheet) (g : Goal) (nodes code before after : List ℕ) (h k n : ℕ) (same : SameUpTo h k n before after) (j n0 : ℕ) (low : j < h) (path : pathAt before j ≤ k) (mark : markAt before j ≤ n) (s : Stacked sh g code before n0 j) where
+  pub same-alternative : alternativeAt ss sh g nodes code after j ≡ alternativeAt ss sh g nodes code before j
+  unfolding alternativeAt
+  same-alternative =
+      let p : pathAt after j ≡ pathAt before j = same-pathAt before after h k n same j low in
+      let c : copyAt after j ≡ copyAt before j = same-copyAt before after h k n same j low in
+      let l : literalAt after j ≡ literalAt before j = same-literalAt before after h k n same j low in
+      let m : markAt after j ≡ markAt before j = same-markAt before after h k n same j low in
+      let x : nextAt after j ≡ nextAt before j = same-nextAt before after h k n same j low in
+      let lits : leftFrom sh g code after (pathAt after j) (copyAt after j) (literalAt after j) ≡ leftFrom sh g code before (pathAt before j) (copyAt before j) (literalAt before j) =
+          (λ i. leftFrom sh g code after (p i) (c i) (l i)) ∙ same-left sh g code before after k (same .frame) (pathAt before j) (copyAt before j) (literalAt before j) path (s .copy) (s .frame) in
+      let binds : bindings ss nodes after (markAt after j) ≡ bindings ss nodes before (markAt before j) =
+          ap (bindings ss nodes after) m ∙ bindings-agree ss nodes before after (markAt before j) n mark (same .agree) in
+      let cs : callsUpTo sh g code after (pathAt after j) ≡ callsUpTo sh g code before (pathAt before j) =
+          ap (callsUpTo sh g code after) p ∙ same-calls sh g code before after k (same .frame) (pathAt before j) path (s .frame) in
+      λ i. record { literals = lits i; bindings = binds i; next = x i; calls = cs i }
+
+  pub same-stacked : (n1 : ℕ) → markAt before j ≤ n1 → Stacked sh g code after n1 j
+  same-stacked n1 q =
+      let p : pathAt after j ≡ pathAt before j = same-pathAt before after h k n same j low in
+      let c : copyAt after j ≡ copyAt before j = same-copyAt before after h k n same j low in
+      let l : literalAt after j ≡ literalAt before j = same-literalAt before after h k n same j low in
+      let m : markAt after j ≡ markAt before j = same-markAt before after h k n same j low in
+      let x : nextAt after j ≡ nextAt before j = same-nextAt before after h k n same j low in
+      let cp : copyAt before j ≤ pathAt before j = s .copy in
+      let pl : pathAt before j ≤ 255 = s .low in
+      let cl : copyAt before j ≤ k = omega arith in
+      let r : restFrom sh g code after (copyAt after j) (literalAt after j) ≡ restFrom sh g code before (copyAt before j) (literalAt before j) =
+          ap₂ (restFrom sh g code after) c l ∙ same-rest sh g code before after k (same .frame) (copyAt before j) (literalAt before j) cl in
+      let ag : Agrees (markAt before j) before after = agrees-less (markAt before j) n before after mark (same .agree) in
+      record {
+        low = (let z : pathAt after j ≤ 255 = omega arith in z);
+        copy = (let z : copyAt after j ≤ pathAt after j = omega arith in z);
+        mark = (let z : markAt after j ≤ n1 = omega arith in z);
+        within = subst⁻¹ (λ (y : ℕ). Within y after (markAt after j)) p (subst⁻¹ (Within (pathAt before j) after) m (within-agrees (pathAt before j) (markAt before j) (markAt before j) before after (omega arith) ag (s .within)));
+        frame = λ i z. same-frame sh g code before after k (same .frame) i (omega arith) (s .frame i (let y : i < pathAt after j = z in omega arith));
+        place = subst⁻¹ (λ (y : ℕ). Place sh g code after y (literalAt after j)) c (subst⁻¹ (Place sh g code after (copyAt before j)) l (same-place sh g code before after k (same .frame) (copyAt before j) (literalAt before j) cl (s .place)));
+        ends = λ e. c ∙ s .ends (sym r ∙ e);
+        next = λ a w. subst⁻¹ (NextFor sh a) x (s .next a (subst (λ (y : Body). Calls y a) r w));
+      }
+
+pub same-pile : (ss : List Symbol) (sh : Sheet) (g : Goal) (nodes code before after : List ℕ) (h k n n0 : ℕ) → SameUpTo h k n before after → ((j : ℕ) → j < h → Stacked sh g code before n0 j × (pathAt before j ≤ k) × (markAt before j ≤ n)) → pileOf ss sh g nodes code after h ≡ pileOf ss sh g nodes code before h
+unfolding pileOf
+same-pile ss sh g nodes code before after zero k n n0 same each = refl
+same-pile ss sh g nodes code before after (suc h) k n n0 same each =
+    let e : Stacked sh g code before n0 h × (pathAt before h ≤ k) × (markAt before h ≤ n) = each h (omega arith) in
+    let top : alternativeAt ss sh g nodes code after h ≡ alternativeAt ss sh g nodes code before h = same-alternative ss sh g nodes code before after (suc h) k n same h n0 (omega arith) (e .1) (e .2) (e .0) in
+    let rest : pileOf ss sh g nodes code after h ≡ pileOf ss sh g nodes code before h = same-pile ss sh g nodes code before after h k n n0 (record { frame = same .frame; alternative = λ j l q. same .alternative j l (omega arith); agree = same .agree }) (λ j l. each j (omega arith)) in
+    λ i. top i ∷ rest i
