@@ -6,14 +6,14 @@ use mathlib.Core.Bool.{Bool, true, false}
 use mathlib.Core.List.{List, [], _∷_}
 use mathlib.Core.Option.{Option, none, some}
 use mathlib.Core.Logic.{_⊎_, inl, inr}
-use lib.Dec.{T, eqb}
+use lib.Dec.{T, eqb, eqb→eq}
 use lib.ListN.{length, getD, drop}
 use borrow.Author.Tests.{eqb-true, eqb-false, eq-eqb, ne-eqb}
-use Rattle.syntax.specs.Terms.{Term, termOf, Atom, Literal, call, equation, truth, falsity, Body, done, also, Clause, Sheet, Goal}
+use Rattle.syntax.specs.Terms.{Term, termOf, Atom, Literal, call, equation, truth, falsity, Body, done, also, Clause, Sheet, Goal, arity, sameName, samePredicate}
 use Rattle.syntax.specs.Words.{bodyLength}
 use Rattle.machine.specs.Substitution.{Binding}
 use Rattle.machine.specs.Machine.{Pending, Call, Alternative, pending, isFor, firstFor, nextFor, nth, clauseAt}
-use Rattle.machine.proofs.Tests.{some-eq, some-none}
+use Rattle.machine.proofs.Tests.{some-none, both, name-eq}
 use Rattle.layout.specs.Nodes.{Symbol, Stands}
 use Rattle.layout.specs.State.{bindings, Store, Within, Agrees, Keeps}
 use Rattle.layout.specs.Program.{bodyAt, kindAt, placeAt, otherAt, LiteralStands, BodyStands, Program}
@@ -389,3 +389,113 @@ same-pile ss sh g nodes code before after (suc h) k n n0 same each =
     let top : alternativeAt ss sh g nodes code after h ≡ alternativeAt ss sh g nodes code before h = same-alternative ss sh g nodes code before after (suc h) k n same h n0 (omega arith) (e .1) (e .2) (e .0) in
     let rest : pileOf ss sh g nodes code after h ≡ pileOf ss sh g nodes code before h = same-pile ss sh g nodes code before after h k n n0 (record { frame = same .frame; alternative = λ j l q. same .alternative j l (omega arith); agree = same .agree }) (λ j l. each j (omega arith)) in
     λ i. top i ∷ rest i
+
+-- ---- a body's first literal
+
+-- from its first literal on, all of a body is left
+body-place : (sh : Sheet) (g : Goal) (code state : List ℕ) (c m : ℕ) → clauseIn state c ≡ m → m ≤ length (sh .clauses) → Place sh g code state c (bodyAt code m)
+body-place sh g code state c m e l =
+    record {
+      clause = subst⁻¹ (λ (y : ℕ). y ≤ length (sh .clauses)) e l;
+      index = 0;
+      is = subst⁻¹ (λ (y : ℕ). bodyAt code m ≡ bodyAt code y + 0 * 4) e (let z : bodyAt code m ≡ bodyAt code m + 0 * 4 = omega arith in z);
+      low = omega arith;
+    }
+
+body-rest : (sh : Sheet) (g : Goal) (code state : List ℕ) (c m : ℕ) → clauseIn state c ≡ m → restFrom sh g code state c (bodyAt code m) ≡ bodyOf sh g m
+unfolding restFrom dropBody
+body-rest sh g code state c m e =
+    let z : (bodyAt code m - bodyAt code m) / 4 ≡ 0 = omega arith in
+    ap (λ (y : ℕ). dropBody ((bodyAt code m - bodyAt code y) / 4) (bodyOf sh g y)) e ∙ ap (λ (i : ℕ). dropBody i (bodyOf sh g m)) z
+
+pub entered-place : (sh : Sheet) (g : Goal) (code state : List ℕ) (k m : ℕ) (cl : Clause) → clauseAt sh m ≡ some cl → clauseIn state (suc k) ≡ m → Place sh g code state (suc k) (bodyAt code m)
+entered-place sh g code state k m cl q e = body-place sh g code state (suc k) m e (clause-low sh m cl q)
+
+pub entered-rest : (sh : Sheet) (g : Goal) (code state : List ℕ) (k m : ℕ) (cl : Clause) → clauseAt sh m ≡ some cl → clauseIn state (suc k) ≡ m → restFrom sh g code state (suc k) (bodyAt code m) ≡ cl .body
+entered-rest sh g code state k m cl q e = body-rest sh g code state (suc k) m e ∙ clause-body sh g m cl q
+
+pub goal-place : (sh : Sheet) (g : Goal) (code state : List ℕ) → Place sh g code state 0 (bodyAt code 0)
+unfolding clauseIn
+goal-place sh g code state = body-place sh g code state 0 0 refl (omega arith)
+
+pub goal-rest : (sh : Sheet) (g : Goal) (code state : List ℕ) → restFrom sh g code state 0 (bodyAt code 0) ≡ g .body
+unfolding clauseIn bodyOf
+goal-rest sh g code state = body-rest sh g code state 0 0 refl
+
+-- ---- next clauses
+
+nth-drop : (k i : ℕ) (cls : List Clause) → nth cls (k + i) ≡ nth (drop k cls) i
+unfolding nth
+nth-drop zero i cls = ap (nth cls) (let e : 0 + i ≡ i = omega arith in e)
+nth-drop (suc k) i [] = refl
+nth-drop (suc k) i (cl ∷ cls) = ap (nth (cl ∷ cls)) (let e : suc k + i ≡ suc (k + i) = omega arith in e) ∙ nth-drop k i cls
+
+-- the search among clauses that have the numbers from suc k on
+first-for : (sh : Sheet) (a : Atom) (k : ℕ) (cls : List Clause) → ((i : ℕ) → clauseAt sh (suc (k + i)) ≡ nth cls i) → NextFor sh a (firstFor a (suc k) cls)
+unfolding firstFor nth
+first-for sh a k [] same = tt
+first-for sh a k (cl ∷ cls) same = go (isFor a cl) refl (first-for sh a (suc k) cls (λ i. ap (clauseAt sh) (let e : suc (suc k + i) ≡ suc (k + suc i) = omega arith in e) ∙ same (suc i)))
+  where
+    go : (b : Bool) → isFor a cl ≡ b → NextFor sh a (firstFor a (suc (suc k)) cls) → NextFor sh a (elim b [ true ↦ suc k | false ↦ firstFor a (suc (suc k)) cls ])
+    go true e ih = (cl, ap (clauseAt sh) (let e : suc k ≡ suc (k + 0) = omega arith in e) ∙ same 0, subst T (sym e) tt)
+    go false e ih = ih
+
+-- The next clause for an atom is one of its predicate, or none.
+pub next-for : (sh : Sheet) (a : Atom) (k : ℕ) → NextFor sh a (nextFor sh a k)
+unfolding nextFor clauseAt
+next-for sh a k = first-for sh a k (drop k (sh .clauses)) (λ i. nth-drop k i (sh .clauses))
+
+pub next-clause : (sh : Sheet) (a : Atom) (m : ℕ) → 1 ≤ m → NextFor sh a m → (cl : Clause) × (clauseAt sh m ≡ some cl) × T (isFor a cl)
+next-clause sh a zero l n = absurd (let z : 1 ≤ 0 = l in omega arith)
+next-clause sh a (suc k) l n = n
+
+pub next-low : (sh : Sheet) (a : Atom) (m : ℕ) → NextFor sh a m → m ≤ length (sh .clauses)
+next-low sh a zero n = omega arith
+next-low sh a (suc k) n = clause-low sh (suc k) (n .0) (n .1)
+
+first-same : (a b : Atom) (k : ℕ) (cls : List Clause) → a .name ≡ b .name → arity (a .args) ≡ arity (b .args) → firstFor a k cls ≡ firstFor b k cls
+unfolding firstFor
+first-same a b k [] p q = refl
+first-same a b k (cl ∷ cls) p q =
+    let e : isFor a cl ≡ isFor b cl = (λ i. samePredicate (cl .head .name) (arity (cl .head .args)) (p i) (q i)) in
+    ap₂ (λ (t : Bool) (r : ℕ). elim t [ true ↦ k | false ↦ r ]) e (first-same a b (suc k) cls p q)
+
+-- Clauses of one predicate have the same next clauses.
+pub next-head : (sh : Sheet) (a : Atom) (cl : Clause) (k : ℕ) → T (isFor a cl) → nextFor sh a k ≡ nextFor sh (cl .head) k
+unfolding nextFor
+next-head sh a cl k h =
+    let w : T (eqb (arity (cl .head .args)) (arity (a .args))) × T (sameName (cl .head .name) (a .name)) = both (eqb (arity (cl .head .args)) (arity (a .args))) (sameName (cl .head .name) (a .name)) h in
+    first-same a (cl .head) (suc k) (drop k (sh .clauses)) (sym (name-eq (cl .head .name) (a .name) (w .1))) (sym (eqb→eq (arity (cl .head .args)) (arity (a .args)) (w .0)))
+
+-- ---- the height of a pile
+
+module _ (ss : List Symbol) (sh : Sheet) (g : Goal) (nodes code state : List ℕ) (h n : ℕ) (piled : Piled ss sh g nodes code state h n) where
+  pub path-high : (j : ℕ) → j < h → j ≤ pathAt state j
+  path-high zero l = omega arith
+  path-high (suc j) l =
+      let a : j ≤ pathAt state j = path-high j (omega arith) in
+      let b : pathAt state j < pathAt state (suc j) = piled .longer j (suc j) (omega arith) l in
+      omega arith
+
+pub height : (ss : List Symbol) (sh : Sheet) (g : Goal) (nodes code state : List ℕ) (h n : ℕ) → Piled ss sh g nodes code state h n → h ≤ 256
+height ss sh g nodes code state zero n piled = omega arith
+height ss sh g nodes code state (suc h) n piled =
+    let a : h ≤ pathAt state h = path-high ss sh g nodes code state (suc h) n piled h (omega arith) in
+    let b : pathAt state h ≤ 255 = piled .each h (omega arith) .low in
+    omega arith
+
+-- paths and trails of the lower alternatives are no longer than those of the top
+module _ (ss : List Symbol) (sh : Sheet) (g : Goal) (nodes code state : List ℕ) (h n : ℕ) (piled : Piled ss sh g nodes code state (suc h) n) (j : ℕ) (low : j < suc h) where
+  pub mark-top : markAt state j ≤ markAt state h
+  mark-top = go (eqb j h) refl
+    where
+      go : (b : Bool) → eqb j h ≡ b → markAt state j ≤ markAt state h
+      go true e = subst⁻¹ (λ (y : ℕ). markAt state y ≤ markAt state h) (eqb-true j h e) (omega arith)
+      go false e = piled .later j h (let z : j ≡ h → ⊥ = eqb-false j h e in omega (arith, z)) (omega arith)
+
+  pub path-top : pathAt state j ≤ pathAt state h
+  path-top = go (eqb j h) refl
+    where
+      go : (b : Bool) → eqb j h ≡ b → pathAt state j ≤ pathAt state h
+      go true e = subst⁻¹ (λ (y : ℕ). pathAt state y ≤ pathAt state h) (eqb-true j h e) (omega arith)
+      go false e = let q : pathAt state j < pathAt state h = piled .longer j h (let z : j ≡ h → ⊥ = eqb-false j h e in omega (arith, z)) (omega arith) in omega arith
