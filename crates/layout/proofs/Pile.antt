@@ -18,7 +18,7 @@ use Rattle.layout.specs.Nodes.{Symbol, Stands}
 use Rattle.layout.specs.State.{bindings, Store, Within, Agrees, Keeps}
 use Rattle.layout.specs.Program.{bodyAt, kindAt, placeAt, otherAt, LiteralStands, BodyStands, Program}
 use Rattle.layout.specs.Pile.{bodyIn, bodyOf, dropBody, firstAtom, Calls, clauseIn, callerOf, callOf, restFrom, leftBehind, leftFrom, callsUpTo, copyAt, literalAt, nextAt, markAt, pathAt, alternativeAt, pileOf, Place, Frame, NextFor, Stacked, Piled}
-use Rattle.layout.proofs.State.{bindings-agree, agrees, within-agrees}
+use Rattle.layout.proofs.State.{bindings-agree, agrees, within-agrees, SameStore, same-agrees, store-same, no-entries}
 
 -- ---- bodies
 
@@ -499,3 +499,161 @@ module _ (ss : List Symbol) (sh : Sheet) (g : Goal) (nodes code state : List ℕ
       go : (b : Bool) → eqb j h ≡ b → pathAt state j ≤ pathAt state h
       go true e = subst⁻¹ (λ (y : ℕ). pathAt state y ≤ pathAt state h) (eqb-true j h e) (omega arith)
       go false e = let q : pathAt state j < pathAt state h = piled .longer j h (let z : j ≡ h → ⊥ = eqb-false j h e in omega (arith, z)) (omega arith) in omega arith
+
+-- ---- changes of the words
+
+-- The words of alternative h are written; its sixth word, and what lies above, are of no account.
+pub record Written (h c l x m p : ℕ) (before after : List ℕ) : Type 0 where
+  pub long : length after ≡ length before
+  pub copy : copyAt after h ≡ c
+  pub literal : literalAt after h ≡ l
+  pub next : nextAt after h ≡ x
+  pub mark : markAt after h ≡ m
+  pub path : pathAt after h ≡ p
+  pub others : (j : ℕ) → j < 33792 + h * 6 → getD after j 0 ≡ getD before j 0
+
+-- The frame of copy k is written; its fourth word is of no account.
+pub record Framed (k m c l : ℕ) (before after : List ℕ) : Type 0 where
+  pub long : length after ≡ length before
+  pub clause : getD after (32768 + k * 4) 0 ≡ m
+  pub caller : callerOf after k ≡ c
+  pub call : callOf after k ≡ l
+  pub under : (j : ℕ) → j < 32768 + k * 4 → getD after j 0 ≡ getD before j 0
+  pub over : (j : ℕ) → 32768 + k * 4 + 4 ≤ j → getD after j 0 ≡ getD before j 0
+
+-- an alternative can stand at l of copy c, with x for its next clause
+pub record Stand (sh : Sheet) (g : Goal) (code state : List ℕ) (c l x : ℕ) : Type 0 where
+  pub place : Place sh g code state c l
+  pub ends : restFrom sh g code state c l ≡ done → c ≡ 0
+  pub next : (a : Atom) → Calls (restFrom sh g code state c l) a → NextFor sh a x
+
+-- the words mean this pile
+pub record Means (ss : List Symbol) (sh : Sheet) (g : Goal) (nodes code state : List ℕ) (h n : ℕ) (pile : List Alternative) : Type 0 where
+  pub piled : Piled ss sh g nodes code state h n
+  pub is : pileOf ss sh g nodes code state h ≡ pile
+
+pub popped : (ss : List Symbol) (sh : Sheet) (g : Goal) (nodes code state : List ℕ) (h n : ℕ) → Piled ss sh g nodes code state (suc h) n → Piled ss sh g nodes code state h n
+popped ss sh g nodes code state h n p =
+    record {
+      program = p .program;
+      store = p .store;
+      long = p .long;
+      each = λ j l. p .each j (omega arith);
+      longer = λ i j l q. p .longer i j l (omega arith);
+      later = λ i j l q. p .later i j l (omega arith);
+    }
+
+-- a pile whose words are as they were
+carried : (ss : List Symbol) (sh : Sheet) (g : Goal) (nodes code before after : List ℕ) (h k n n0 n1 : ℕ) → Piled ss sh g nodes code before h n0 → SameUpTo h k n before after
+    → ((j : ℕ) → j < h → pathAt before j ≤ k) → ((j : ℕ) → j < h → markAt before j ≤ n) → n ≤ n1 → Store ss nodes after n1 → length after ≡ length before
+    → Means ss sh g nodes code after h n1 (pileOf ss sh g nodes code before h)
+carried ss sh g nodes code before after h k n n0 n1 p same path mark q store e =
+    record {
+      piled = record {
+        program = p .program;
+        store = store;
+        long = (let z : 35328 ≤ length before = p .long in let y : 35328 ≤ length after = omega arith in y);
+        each = λ j l. same-stacked ss sh g nodes code before after h k n same j n0 l (path j l) (mark j l) (p .each j l) n1 (let z : markAt before j ≤ n = mark j l in omega arith);
+        longer = λ i j l r. (let a : pathAt after i ≡ pathAt before i = same-pathAt before after h k n same i (omega arith) in let b : pathAt after j ≡ pathAt before j = same-pathAt before after h k n same j r in
+            let c : pathAt before i < pathAt before j = p .longer i j l r in let y : pathAt after i < pathAt after j = omega arith in y);
+        later = λ i j l r. (let a : markAt after i ≡ markAt before i = same-markAt before after h k n same i (omega arith) in let b : markAt after j ≡ markAt before j = same-markAt before after h k n same j r in
+            let c : markAt before i ≤ markAt before j = p .later i j l r in let y : markAt after i ≤ markAt after j = omega arith in y);
+      };
+      is = same-pile ss sh g nodes code before after h k n n0 same (λ j l. (p .each j l, path j l, mark j l));
+    }
+
+-- the trail is undone down to the top's mark
+pub undone : (ss : List Symbol) (sh : Sheet) (g : Goal) (nodes code state after : List ℕ) (h n m : ℕ) → Piled ss sh g nodes code state (suc h) n → markAt state h ≡ m → Keeps m state after → Store ss nodes after m
+    → Means ss sh g nodes code after (suc h) m (pileOf ss sh g nodes code state (suc h))
+undone ss sh g nodes code state after h n m p e k store =
+    carried ss sh g nodes code state after (suc h) 255 m n m p (keeps-same (suc h) 255 m state after k) (λ j l. p .each j l .low)
+        (λ j l. let z : markAt state j ≤ markAt state h = mark-top ss sh g nodes code state h n p j l in let y : markAt state j ≤ m = omega arith in y)
+        (omega arith) store (k .long)
+
+-- an alternative is written on top of h others
+module _ (ss : List Symbol) (sh : Sheet) (g : Goal) (nodes code before after : List ℕ) (h n m p c l x : ℕ)
+    (piled : Piled ss sh g nodes code before h n) (mark-low : m ≤ n) (path-low : p ≤ 255) (copy-low : c ≤ p)
+    (paths : (j : ℕ) → j < h → pathAt before j < p) (marks : (j : ℕ) → j < h → markAt before j ≤ m)
+    (within : Within p before m) (frames : (i : ℕ) → i < p → Frame sh g code before (suc i)) (stand : Stand sh g code before c l x) (w : Written h c l x m p before after) where
+  same-words : SameStore before after
+  same-words = (w .long, λ j q. w .others j (omega arith))
+
+  same-below : SameUpTo h 255 n before after
+  same-below = record { frame = λ j q r. w .others j (omega arith); alternative = λ j q r. w .others j r; agree = same-agrees ss nodes before after n (piled .store) same-words }
+
+  below : Means ss sh g nodes code after h n (pileOf ss sh g nodes code before h)
+  below =
+      carried ss sh g nodes code before after h 255 n n n piled same-below (λ j q. piled .each j q .low) (λ j q. piled .each j q .mark) (omega arith)
+          (store-same ss nodes before after n (piled .store) same-words) (w .long)
+
+  rest-after : restFrom sh g code after (copyAt after h) (literalAt after h) ≡ restFrom sh g code before c l
+  rest-after = ap₂ (restFrom sh g code after) (w .copy) (w .literal) ∙ same-rest sh g code before after 255 (same-below .frame) c l (omega arith)
+
+  top-stacked : Stacked sh g code after n h
+  top-stacked =
+      let ep : pathAt after h ≡ p = w .path in
+      let ec : copyAt after h ≡ c = w .copy in
+      let em : markAt after h ≡ m = w .mark in
+      record {
+        low = (let y : pathAt after h ≤ 255 = omega arith in y);
+        copy = (let y : copyAt after h ≤ pathAt after h = omega arith in y);
+        mark = (let y : markAt after h ≤ n = omega arith in y);
+        within = subst⁻¹ (λ (y : ℕ). Within y after (markAt after h)) ep (subst⁻¹ (Within p after) em (within-agrees p m m before after (omega arith) (agrees-less m n before after mark-low (same-below .agree)) within));
+        frame = λ i q. (let y : i < pathAt after h = q in same-frame sh g code before after 255 (same-below .frame) i (omega arith) (frames i (omega arith)));
+        place = subst⁻¹ (λ (y : ℕ). Place sh g code after y (literalAt after h)) ec (subst⁻¹ (Place sh g code after c) (w .literal) (same-place sh g code before after 255 (same-below .frame) c l (omega arith) (stand .place)));
+        ends = λ e. ec ∙ stand .ends (sym rest-after ∙ e);
+        next = λ a q. subst⁻¹ (NextFor sh a) (w .next) (stand .next a (subst (λ (y : Body). Calls y a) rest-after q));
+      }
+
+  top-is : alternativeAt ss sh g nodes code after h ≡ record { literals = leftFrom sh g code before p c l; bindings = bindings ss nodes before m; next = x; calls = callsUpTo sh g code before p }
+  unfolding alternativeAt
+  top-is =
+      let lits : leftFrom sh g code after (pathAt after h) (copyAt after h) (literalAt after h) ≡ leftFrom sh g code before p c l =
+          (λ i. leftFrom sh g code after (w .path i) (w .copy i) (w .literal i)) ∙ same-left sh g code before after 255 (same-below .frame) p c l path-low copy-low frames in
+      let binds : bindings ss nodes after (markAt after h) ≡ bindings ss nodes before m =
+          ap (bindings ss nodes after) (w .mark) ∙ bindings-agree ss nodes before after m n mark-low (same-below .agree) in
+      let cs : callsUpTo sh g code after (pathAt after h) ≡ callsUpTo sh g code before p =
+          ap (callsUpTo sh g code after) (w .path) ∙ same-calls sh g code before after 255 (same-below .frame) p path-low frames in
+      λ i. record { literals = lits i; bindings = binds i; next = w .next i; calls = cs i }
+
+  pub topped : Means ss sh g nodes code after (suc h) n (record { literals = leftFrom sh g code before p c l; bindings = bindings ss nodes before m; next = x; calls = callsUpTo sh g code before p } ∷ pileOf ss sh g nodes code before h)
+  unfolding pileOf
+  topped =
+      record {
+        piled = record {
+          program = piled .program;
+          store = below .piled .store;
+          long = below .piled .long;
+          each = λ j q. each-at j q (eqb j h) refl;
+          longer = λ i j q r. longer-at i j q r (eqb j h) refl;
+          later = λ i j q r. later-at i j q r (eqb j h) refl;
+        };
+        is = λ i. top-is i ∷ below .is i;
+      }
+    where
+      under : (j : ℕ) → j < suc h → eqb j h ≡ false → j < h
+      under j q e = let z : j ≡ h → ⊥ = eqb-false j h e in omega (arith, z)
+
+      each-at : (j : ℕ) → j < suc h → (b : Bool) → eqb j h ≡ b → Stacked sh g code after n j
+      each-at j q true e = subst⁻¹ (Stacked sh g code after n) (eqb-true j h e) top-stacked
+      each-at j q false e = below .piled .each j (under j q e)
+
+      longer-at : (i j : ℕ) → i < j → j < suc h → (b : Bool) → eqb j h ≡ b → pathAt after i < pathAt after j
+      longer-at i j q r true e =
+          let ej : j ≡ h = eqb-true j h e in
+          let a : pathAt after j ≡ p = ap (pathAt after) ej ∙ w .path in
+          let b : pathAt after i ≡ pathAt before i = same-pathAt before after h 255 n same-below i (omega arith) in
+          let d : pathAt before i < p = paths i (omega arith) in
+          let y : pathAt after i < pathAt after j = omega arith in
+          y
+      longer-at i j q r false e = below .piled .longer i j q (under j r e)
+
+      later-at : (i j : ℕ) → i < j → j < suc h → (b : Bool) → eqb j h ≡ b → markAt after i ≤ markAt after j
+      later-at i j q r true e =
+          let ej : j ≡ h = eqb-true j h e in
+          let a : markAt after j ≡ m = ap (markAt after) ej ∙ w .mark in
+          let b : markAt after i ≡ markAt before i = same-markAt before after h 255 n same-below i (omega arith) in
+          let d : markAt before i ≤ m = marks i (omega arith) in
+          let y : markAt after i ≤ markAt after j = omega arith in
+          y
+      later-at i j q r false e = below .piled .later i j q (under j r e)
