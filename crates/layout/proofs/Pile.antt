@@ -17,8 +17,8 @@ use Rattle.machine.proofs.Tests.{some-none, both, name-eq}
 use Rattle.layout.specs.Nodes.{Symbol, Stands}
 use Rattle.layout.specs.State.{bindings, Store, Within, Agrees, Keeps}
 use Rattle.layout.specs.Program.{bodyAt, kindAt, placeAt, otherAt, LiteralStands, BodyStands, Program}
-use Rattle.layout.specs.Pile.{bodyIn, bodyOf, dropBody, firstAtom, Calls, clauseIn, callerOf, callOf, restFrom, leftBehind, leftFrom, callsUpTo, copyAt, literalAt, nextAt, markAt, pathAt, alternativeAt, pileOf, Place, Frame, NextFor, Stacked, Piled}
-use Rattle.layout.proofs.State.{bindings-agree, agrees, within-agrees, SameStore, same-agrees, store-same, no-entries}
+use Rattle.layout.specs.Pile.{bodyIn, bodyOf, dropBody, atomIn, firstAtom, Calls, clauseIn, callerOf, callOf, restFrom, leftBehind, leftFrom, callsUpTo, copyAt, literalAt, nextAt, markAt, pathAt, alternativeAt, pileOf, Place, Frame, NextFor, Stacked, Piled}
+use Rattle.layout.proofs.State.{bindings-agree, agrees, within-agrees, SameStore, same-agrees, store-same, bindings-same, no-entries}
 
 -- ---- bodies
 
@@ -657,3 +657,209 @@ module _ (ss : List Symbol) (sh : Sheet) (g : Goal) (nodes code before after : L
           let y : markAt after i ≤ markAt after j = omega arith in
           y
       later-at i j q r false e = below .piled .later i j q (under j r e)
+
+-- the frames of the top's path, and its copy, where every word behind the trail is as it was
+module _ (ss : List Symbol) (sh : Sheet) (g : Goal) (nodes code state after : List ℕ) (h n m : ℕ) (piled : Piled ss sh g nodes code state (suc h) n) (keeps : Keeps m state after) where
+  kept-frames : (i : ℕ) → i < pathAt state h → Frame sh g code after (suc i)
+  kept-frames i l =
+      let z : pathAt state h ≤ 255 = piled .each h (omega arith) .low in
+      same-frame sh g code state after 255 (λ j q r. keeps .others j q) i (omega arith) (piled .each h (omega arith) .frame i l)
+
+  pub kept-calls : callsUpTo sh g code after (pathAt state h) ≡ callsUpTo sh g code state (pathAt state h)
+  kept-calls = same-calls sh g code state after 255 (λ j q r. keeps .others j q) (pathAt state h) (piled .each h (omega arith) .low) (piled .each h (omega arith) .frame)
+
+  pub kept-left : (c l : ℕ) → c ≤ pathAt state h → leftFrom sh g code after (pathAt state h) c l ≡ leftFrom sh g code state (pathAt state h) c l
+  kept-left c l q = same-left sh g code state after 255 (λ j r s. keeps .others j r) (pathAt state h) c l (piled .each h (omega arith) .low) q (piled .each h (omega arith) .frame)
+
+-- The top, whose trail ends at its mark, gets another place and more bindings.
+pub replaced : (ss : List Symbol) (sh : Sheet) (g : Goal) (nodes code state state1 state2 : List ℕ) (h n n1 p c l x : ℕ) → Piled ss sh g nodes code state (suc h) n → markAt state h ≡ n → pathAt state h ≡ p
+    → Keeps n state state1 → Store ss nodes state1 n1 → Within p state1 n1 → n ≤ n1 → c ≤ p → Stand sh g code state1 c l x → Written h c l x n1 p state1 state2
+    → Means ss sh g nodes code state2 (suc h) n1 (record { literals = leftFrom sh g code state1 p c l; bindings = bindings ss nodes state1 n1; next = x; calls = callsUpTo sh g code state p } ∷ pileOf ss sh g nodes code state h)
+replaced ss sh g nodes code state state1 state2 h n n1 p c l x piled em ep keeps store within more low stand w =
+    let lower : Means ss sh g nodes code state1 h n1 (pileOf ss sh g nodes code state h) =
+        carried ss sh g nodes code state state1 h 255 n n n1 (popped ss sh g nodes code state h n piled) (keeps-same h 255 n state state1 keeps) (λ j q. piled .each j (omega arith) .low) (λ j q. piled .each j (omega arith) .mark) more store (keeps .long) in
+    let path-low : pathAt state h ≤ 255 = piled .each h (omega arith) .low in
+    let all : Means ss sh g nodes code state2 (suc h) n1 (record { literals = leftFrom sh g code state1 p c l; bindings = bindings ss nodes state1 n1; next = x; calls = callsUpTo sh g code state1 p } ∷ pileOf ss sh g nodes code state1 h) =
+        topped ss sh g nodes code state1 state2 h n1 n1 p c l x (lower .piled) (omega arith) (omega arith) low
+            (λ j q. let a : pathAt state1 j ≡ pathAt state j = keeps .others (33792 + j * 6 + 4) (omega arith) in let b : pathAt state j < pathAt state h = piled .longer j h q (omega arith) in let y : pathAt state1 j < p = omega arith in y)
+            (λ j q. lower .piled .each j q .mark) within (λ i q. kept-frames ss sh g nodes code state state1 h n n piled keeps i (omega arith)) stand w in
+    let calls : callsUpTo sh g code state1 p ≡ callsUpTo sh g code state p = subst (λ (y : ℕ). callsUpTo sh g code state1 y ≡ callsUpTo sh g code state y) ep (kept-calls ss sh g nodes code state state1 h n n piled keeps) in
+    record {
+      piled = all .piled;
+      is = all .is ∙ (λ i. record { literals = leftFrom sh g code state1 p c l; bindings = bindings ss nodes state1 n1; next = x; calls = calls i } ∷ lower .is i);
+    }
+
+-- The top goes on to another clause.
+pub moved : (ss : List Symbol) (sh : Sheet) (g : Goal) (nodes code state after : List ℕ) (h n x : ℕ) → Piled ss sh g nodes code state (suc h) n
+    → ((a : Atom) → Calls (restFrom sh g code state (copyAt state h) (literalAt state h)) a → NextFor sh a x)
+    → Written h (copyAt state h) (literalAt state h) x (markAt state h) (pathAt state h) state after
+    → Means ss sh g nodes code after (suc h) n (record { literals = leftFrom sh g code state (pathAt state h) (copyAt state h) (literalAt state h); bindings = bindings ss nodes state (markAt state h); next = x; calls = callsUpTo sh g code state (pathAt state h) } ∷ pileOf ss sh g nodes code state h)
+moved ss sh g nodes code state after h n x piled next w =
+    let top : Stacked sh g code state n h = piled .each h (omega arith) in
+    topped ss sh g nodes code state after h n (markAt state h) (pathAt state h) (copyAt state h) (literalAt state h) x (popped ss sh g nodes code state h n piled) (top .mark) (top .low) (top .copy)
+        (λ j q. piled .longer j h q (omega arith)) (λ j q. piled .later j h q (omega arith)) (top .within) (top .frame) (record { place = top .place; ends = top .ends; next = next }) w
+
+-- ---- a clause's body is laid on top
+
+-- A clause is tried for the call at which the top stands: its frame is written, for the copy one past the top's path.
+pub record Pushing (ss : List Symbol) (sh : Sheet) (g : Goal) (nodes code state state1 state2 : List ℕ) (h n n1 p m : ℕ) (a : Atom) (cl : Clause) : Type 0 where
+  pub piled : Piled ss sh g nodes code state (suc h) n
+  pub mark : markAt state h ≡ n
+  pub path : p ≡ pathAt state h + 1
+  pub low : p ≤ 255
+  pub calls : Calls (restFrom sh g code state (copyAt state h) (literalAt state h)) a
+  pub keeps : Keeps n state state1
+  pub store : Store ss nodes state1 n1
+  pub within : Within p state1 n1
+  pub more : n ≤ n1
+  pub clause : clauseAt sh m ≡ some cl
+  pub framed : Framed p m (copyAt state h) (literalAt state h) state1 state2
+
+first-called : (b : Body) (a : Atom) → Calls b a → firstAtom b ≡ a
+unfolding firstAtom atomIn
+first-called done a h = absurd h
+first-called (also x b) a h = ap atomIn h
+
+module _ (ss : List Symbol) (sh : Sheet) (g : Goal) (nodes code state state1 state2 : List ℕ) (h n n1 p m : ℕ) (a : Atom) (cl : Clause) (t : Pushing ss sh g nodes code state state1 state2 h n n1 p m a cl) where
+  top-of : Stacked sh g code state n h
+  top-of = t .piled .each h (omega arith)
+
+  one-more : suc (pathAt state h) ≡ p
+  one-more = let e : p ≡ pathAt state h + 1 = t .path in omega arith
+
+  pushed-store : SameStore state1 state2
+  pushed-store = (t .framed .long, λ j q. t .framed .under j (omega arith))
+
+  frames-first : SameFrames (pathAt state h) state1 state2
+  frames-first j q r = t .framed .under j (let e : p ≡ pathAt state h + 1 = t .path in omega arith)
+
+  frames-both : SameFrames (pathAt state h) state state2
+  frames-both j q r = frames-first j q r ∙ t .keeps .others j q
+
+  pushed-below : Means ss sh g nodes code state2 (suc h) n1 (pileOf ss sh g nodes code state (suc h))
+  pushed-below =
+      let one : Means ss sh g nodes code state1 (suc h) n1 (pileOf ss sh g nodes code state (suc h)) =
+          carried ss sh g nodes code state state1 (suc h) 255 n n n1 (t .piled) (keeps-same (suc h) 255 n state state1 (t .keeps)) (λ j q. t .piled .each j q .low) (λ j q. t .piled .each j q .mark) (t .more) (t .store) (t .keeps .long) in
+      let same : SameUpTo (suc h) (pathAt state h) n1 state1 state2 =
+          record { frame = frames-first; alternative = λ j q r. t .framed .over j (let e : p ≤ 255 = t .low in omega arith); agree = same-agrees ss nodes state1 state2 n1 (t .store) pushed-store } in
+      let two : Means ss sh g nodes code state2 (suc h) n1 (pileOf ss sh g nodes code state1 (suc h)) =
+          carried ss sh g nodes code state1 state2 (suc h) (pathAt state h) n1 n1 n1 (one .piled) same
+              (λ j q. let e : pathAt state1 j ≡ pathAt state j = t .keeps .others (33792 + j * 6 + 4) (omega arith) in let z : pathAt state j ≤ pathAt state h = path-top ss sh g nodes code state h n (t .piled) j q in let y : pathAt state1 j ≤ pathAt state h = omega arith in y)
+              (λ j q. one .piled .each j q .mark) (omega arith) (store-same ss nodes state1 state2 n1 (t .store) pushed-store) (t .framed .long) in
+      record { piled = two .piled; is = two .is ∙ one .is }
+
+  new-clause : clauseIn state2 (suc (pathAt state h)) ≡ m
+  unfolding clauseIn
+  new-clause = ap (λ (y : ℕ). getD state2 (32768 + y * 4) 0) one-more ∙ t .framed .clause
+
+  new-caller : callerOf state2 (suc (pathAt state h)) ≡ copyAt state h
+  new-caller = ap (callerOf state2) one-more ∙ t .framed .caller
+
+  new-call : callOf state2 (suc (pathAt state h)) ≡ literalAt state h
+  new-call = ap (callOf state2) one-more ∙ t .framed .call
+
+  new-rest : restFrom sh g code state2 (callerOf state2 (suc (pathAt state h))) (callOf state2 (suc (pathAt state h))) ≡ restFrom sh g code state (copyAt state h) (literalAt state h)
+  new-rest = ap₂ (restFrom sh g code state2) new-caller new-call ∙ same-rest sh g code state state2 (pathAt state h) frames-both (copyAt state h) (literalAt state h) (top-of .copy)
+
+  new-frame : Frame sh g code state2 (suc (pathAt state h))
+  new-frame =
+      let c : copyAt state h ≤ pathAt state h = top-of .copy in
+      let e : callerOf state2 (suc (pathAt state h)) ≡ copyAt state h = new-caller in
+      record {
+        clause = subst⁻¹ (λ (y : ℕ). y ≤ length (sh .clauses)) new-clause (clause-low sh m cl (t .clause));
+        below = (let y : callerOf state2 (suc (pathAt state h)) < suc (pathAt state h) = omega arith in y);
+        place = subst⁻¹ (λ (y : ℕ). Place sh g code state2 y (callOf state2 (suc (pathAt state h)))) new-caller (subst⁻¹ (Place sh g code state2 (copyAt state h)) new-call (same-place sh g code state state2 (pathAt state h) frames-both (copyAt state h) (literalAt state h) c (top-of .place)));
+        atom = a;
+        calls = subst⁻¹ (λ (y : Body). Calls y a) new-rest (t .calls);
+      }
+
+  -- the frames of the copies made, the new one among them
+  pub pushed-frames : (i : ℕ) → i < p → Frame sh g code state2 (suc i)
+  pushed-frames i l = go (eqb i (pathAt state h)) refl
+    where
+      go : (b : Bool) → eqb i (pathAt state h) ≡ b → Frame sh g code state2 (suc i)
+      go true e = subst⁻¹ (λ (y : ℕ). Frame sh g code state2 (suc y)) (eqb-true i (pathAt state h) e) new-frame
+      go false e =
+          let z : i < pathAt state h = (let d : i ≡ pathAt state h → ⊥ = eqb-false i (pathAt state h) e in let q : p ≡ pathAt state h + 1 = t .path in omega (arith, d)) in
+          same-frame sh g code state state2 (pathAt state h) frames-both i z (top-of .frame i z)
+
+  new-calls : callsUpTo sh g code state2 (suc (pathAt state h)) ≡ record { copy = copyAt state h; atom = a } ∷ callsUpTo sh g code state (pathAt state h)
+  unfolding callsUpTo
+  new-calls =
+      let older : callsUpTo sh g code state2 (pathAt state h) ≡ callsUpTo sh g code state (pathAt state h) = same-calls sh g code state state2 (pathAt state h) frames-both (pathAt state h) (omega arith) (top-of .frame) in
+      let at : firstAtom (restFrom sh g code state2 (callerOf state2 (suc (pathAt state h))) (callOf state2 (suc (pathAt state h)))) ≡ a = ap firstAtom new-rest ∙ first-called (restFrom sh g code state (copyAt state h) (literalAt state h)) a (t .calls) in
+      λ i. record { copy = new-caller i; atom = at i } ∷ older i
+
+  pub pushed-calls : callsUpTo sh g code state2 p ≡ record { copy = copyAt state h; atom = a } ∷ callsUpTo sh g code state (pathAt state h)
+  pushed-calls = ap (callsUpTo sh g code state2) (sym one-more) ∙ new-calls
+
+  pub pushed-place : Place sh g code state2 p (bodyAt code m)
+  pushed-place = subst (λ (y : ℕ). Place sh g code state2 y (bodyAt code m)) one-more (entered-place sh g code state2 (pathAt state h) m cl (t .clause) new-clause)
+
+  pub pushed-rest : restFrom sh g code state2 p (bodyAt code m) ≡ cl .body
+  pushed-rest = ap (λ (y : ℕ). restFrom sh g code state2 y (bodyAt code m)) (sym one-more) ∙ entered-rest sh g code state2 (pathAt state h) m cl (t .clause) new-clause
+
+  -- what is left from the clause's body on: the body, and what is left behind the call
+  pub pushed-left : leftFrom sh g code state2 p p (bodyAt code m) ≡ pending p (cl .body) (leftFrom sh g code state (pathAt state h) (copyAt state h) (literalAt state h + 4))
+  unfolding leftFrom
+  pushed-left =
+      let caller : leftBehind sh g code state2 (suc (pathAt state h)) (suc (pathAt state h)) ≡ leftFrom sh g code state2 (pathAt state h) (copyAt state h) (literalAt state h + 4) =
+          left-here sh g code state2 (pathAt state h) ∙ ap₂ (λ (x y : ℕ). pending x (restFrom sh g code state2 x (y + 4)) (leftBehind sh g code state2 (pathAt state h) x)) new-caller new-call in
+      let same : leftFrom sh g code state2 (pathAt state h) (copyAt state h) (literalAt state h + 4) ≡ leftFrom sh g code state (pathAt state h) (copyAt state h) (literalAt state h + 4) =
+          same-left sh g code state state2 (pathAt state h) frames-both (pathAt state h) (copyAt state h) (literalAt state h + 4) (omega arith) (top-of .copy) (top-of .frame) in
+      ap₂ (pending p) pushed-rest (ap (λ (y : ℕ). leftBehind sh g code state2 y y) (sym one-more) ∙ (caller ∙ same))
+
+  -- A new alternative lies on top, at a place of the copies made.
+  pub pushed : (state3 : List ℕ) (c l x : ℕ) → c ≤ p → Stand sh g code state2 c l x → Written (suc h) c l x n1 p state2 state3
+      → Means ss sh g nodes code state3 (suc (suc h)) n1 (record { literals = leftFrom sh g code state2 p c l; bindings = bindings ss nodes state1 n1; next = x; calls = record { copy = copyAt state h; atom = a } ∷ callsUpTo sh g code state (pathAt state h) } ∷ pileOf ss sh g nodes code state (suc h))
+  pushed state3 c l x low stand w =
+      let agree : Agrees n1 state1 state2 = same-agrees ss nodes state1 state2 n1 (t .store) pushed-store in
+      let all : Means ss sh g nodes code state3 (suc (suc h)) n1 (record { literals = leftFrom sh g code state2 p c l; bindings = bindings ss nodes state2 n1; next = x; calls = callsUpTo sh g code state2 p } ∷ pileOf ss sh g nodes code state2 (suc h)) =
+          topped ss sh g nodes code state2 state3 (suc h) n1 n1 p c l x (pushed-below .piled) (omega arith) (t .low) low paths (λ j q. pushed-below .piled .each j q .mark)
+              (within-agrees p n1 n1 state1 state2 (omega arith) agree (t .within)) pushed-frames stand w in
+      let binds : bindings ss nodes state2 n1 ≡ bindings ss nodes state1 n1 = bindings-same ss nodes state1 state2 n1 (t .store) pushed-store in
+      record {
+        piled = all .piled;
+        is = all .is ∙ (λ i. record { literals = leftFrom sh g code state2 p c l; bindings = binds i; next = x; calls = pushed-calls i } ∷ pushed-below .is i);
+      }
+    where
+      paths : (j : ℕ) → j < suc h → pathAt state2 j < p
+      paths j q =
+          let d : pathAt state2 j ≡ pathAt state1 j = t .framed .over (33792 + j * 6 + 4) (let r : p ≤ 255 = t .low in omega arith) in
+          let e : pathAt state1 j ≡ pathAt state j = t .keeps .others (33792 + j * 6 + 4) (omega arith) in
+          let z : pathAt state j ≤ pathAt state h = path-top ss sh g nodes code state h n (t .piled) j q in
+          let r : p ≡ pathAt state h + 1 = t .path in
+          let y : pathAt state2 j < p = omega arith in
+          y
+
+-- ---- the goal alone
+
+-- the goal's literals are left, and no others
+pub goal-left : (sh : Sheet) (g : Goal) (code state : List ℕ) → leftFrom sh g code state 0 0 (bodyAt code 0) ≡ pending 0 (g .body) []
+unfolding leftFrom leftBehind
+goal-left sh g code state = ap (λ (y : Body). pending 0 y []) (goal-rest sh g code state)
+
+pub started : (ss : List Symbol) (sh : Sheet) (g : Goal) (nodes code state after : List ℕ) (x : ℕ) → Program ss sh g nodes code → 35328 ≤ length state → ((i : ℕ) → getD state i 0 ≡ 0)
+    → ((a : Atom) → Calls (g .body) a → NextFor sh a x) → Written 0 0 (bodyAt code 0) x 0 0 state after
+    → Means ss sh g nodes code after 1 0 (record { literals = pending 0 (g .body) []; bindings = []; next = x; calls = [] } ∷ [])
+unfolding pileOf bindings callsUpTo
+started ss sh g nodes code state after x program long zeros next w =
+    let empty : Piled ss sh g nodes code state 0 0 =
+        record {
+          program = program;
+          store = no-entries ss nodes state (omega arith) (program .small) (λ y q. zeros y);
+          long = long;
+          each = λ j q. absurd (let z : j < 0 = q in omega arith);
+          longer = λ i j q r. absurd (let z : j < 0 = r in omega arith);
+          later = λ i j q r. absurd (let z : j < 0 = r in omega arith);
+        } in
+    let all : Means ss sh g nodes code after 1 0 (record { literals = leftFrom sh g code state 0 0 (bodyAt code 0); bindings = bindings ss nodes state 0; next = x; calls = callsUpTo sh g code state 0 } ∷ pileOf ss sh g nodes code state 0) =
+        topped ss sh g nodes code state after 0 0 0 0 0 (bodyAt code 0) x empty (omega arith) (omega arith) (omega arith)
+            (λ j q. absurd (let z : j < 0 = q in omega arith)) (λ j q. absurd (let z : j < 0 = q in omega arith))
+            (record { cell = λ i q. absurd (let z : i < 0 = q in omega arith); copy = λ i q. absurd (let z : i < 0 = q in omega arith) })
+            (λ i q. absurd (let z : i < 0 = q in omega arith))
+            (record { place = goal-place sh g code state; ends = λ e. refl; next = λ a q. next a (subst (λ (y : Body). Calls y a) (goal-rest sh g code state) q) }) w in
+    record {
+      piled = all .piled;
+      is = all .is ∙ (λ i. record { literals = goal-left sh g code state i; bindings = []; next = x; calls = [] } ∷ []);
+    }
