@@ -7,7 +7,8 @@ use mathlib.Core.List.{List, [], _∷_}
 use mathlib.Core.Option.{Option, none, some}
 use mathlib.Core.Logic.{_⊎_, inl, inr}
 use lib.Dec.{T, eqb, eqb→eq}
-use lib.ListN.{length, getD, drop}
+use lib.ListN.{length, getD, drop, set, length-set}
+use lib.Seq.{getD-set-same, getD-set-other}
 use borrow.Author.Tests.{eqb-true, eqb-false, eq-eqb, ne-eqb}
 use Rattle.syntax.specs.Terms.{Term, termOf, Atom, Literal, call, equation, truth, falsity, Body, done, also, Clause, Sheet, Goal, arity, sameName, samePredicate}
 use Rattle.syntax.specs.Words.{bodyLength}
@@ -863,3 +864,110 @@ started ss sh g nodes code state after x program long zeros next w =
       piled = all .piled;
       is = all .is ∙ (λ i. record { literals = goal-left sh g code state i; bindings = []; next = x; calls = [] } ∷ []);
     }
+
+-- ---- the same changes, as words set one after the other
+
+module _ (state : List ℕ) (at v0 v1 v2 v3 v4 v5 : ℕ) (room : at + 6 ≤ length state) where
+  abbrev s0 : List ℕ
+  s0 = set state at v0
+
+  abbrev s1 : List ℕ
+  s1 = set s0 (at + 1) v1
+
+  abbrev s2 : List ℕ
+  s2 = set s1 (at + 2) v2
+
+  abbrev s3 : List ℕ
+  s3 = set s2 (at + 3) v3
+
+  abbrev s4 : List ℕ
+  s4 = set s3 (at + 4) v4
+
+  abbrev s5 : List ℕ
+  s5 = set s4 (at + 5) v5
+
+  l0 : length s0 ≡ length state
+  l0 = length-set state at v0
+
+  l1 : length s1 ≡ length state
+  l1 = length-set s0 (at + 1) v1 ∙ l0
+
+  l2 : length s2 ≡ length state
+  l2 = length-set s1 (at + 2) v2 ∙ l1
+
+  l3 : length s3 ≡ length state
+  l3 = length-set s2 (at + 3) v3 ∙ l2
+
+  l4 : length s4 ≡ length state
+  l4 = length-set s3 (at + 4) v4 ∙ l3
+
+  l5 : length s5 ≡ length state
+  l5 = length-set s4 (at + 5) v5 ∙ l4
+
+  g0 : getD s5 at 0 ≡ v0
+  g0 =
+      getD-set-other s4 (at + 5) at v5 0 (λ e. omega arith) ∙ (getD-set-other s3 (at + 4) at v4 0 (λ e. omega arith) ∙ (getD-set-other s2 (at + 3) at v3 0 (λ e. omega arith)
+      ∙ (getD-set-other s1 (at + 2) at v2 0 (λ e. omega arith) ∙ (getD-set-other s0 (at + 1) at v1 0 (λ e. omega arith) ∙ getD-set-same state at v0 0 (omega arith)))))
+
+  g1 : getD s5 (at + 1) 0 ≡ v1
+  g1 =
+      getD-set-other s4 (at + 5) (at + 1) v5 0 (λ e. omega arith) ∙ (getD-set-other s3 (at + 4) (at + 1) v4 0 (λ e. omega arith) ∙ (getD-set-other s2 (at + 3) (at + 1) v3 0 (λ e. omega arith)
+      ∙ (getD-set-other s1 (at + 2) (at + 1) v2 0 (λ e. omega arith) ∙ getD-set-same s0 (at + 1) v1 0 (let e : length s0 ≡ length state = l0 in omega arith))))
+
+  g2 : getD s5 (at + 2) 0 ≡ v2
+  g2 =
+      getD-set-other s4 (at + 5) (at + 2) v5 0 (λ e. omega arith) ∙ (getD-set-other s3 (at + 4) (at + 2) v4 0 (λ e. omega arith) ∙ (getD-set-other s2 (at + 3) (at + 2) v3 0 (λ e. omega arith)
+      ∙ getD-set-same s1 (at + 2) v2 0 (let e : length s1 ≡ length state = l1 in omega arith)))
+
+  g3 : getD s5 (at + 3) 0 ≡ v3
+  g3 = getD-set-other s4 (at + 5) (at + 3) v5 0 (λ e. omega arith) ∙ (getD-set-other s3 (at + 4) (at + 3) v4 0 (λ e. omega arith) ∙ getD-set-same s2 (at + 3) v3 0 (let e : length s2 ≡ length state = l2 in omega arith))
+
+  g4 : getD s5 (at + 4) 0 ≡ v4
+  g4 = getD-set-other s4 (at + 5) (at + 4) v5 0 (λ e. omega arith) ∙ getD-set-same s3 (at + 4) v4 0 (let e : length s3 ≡ length state = l3 in omega arith)
+
+  under-six : (j : ℕ) → j < at → getD s5 j 0 ≡ getD state j 0
+  under-six j q =
+      getD-set-other s4 (at + 5) j v5 0 (λ e. omega arith) ∙ (getD-set-other s3 (at + 4) j v4 0 (λ e. omega arith) ∙ (getD-set-other s2 (at + 3) j v3 0 (λ e. omega arith)
+      ∙ (getD-set-other s1 (at + 2) j v2 0 (λ e. omega arith) ∙ (getD-set-other s0 (at + 1) j v1 0 (λ e. omega arith) ∙ getD-set-other state at j v0 0 (λ e. omega arith)))))
+
+pub written : (state : List ℕ) (h c l x m p y : ℕ) → 33792 + h * 6 + 6 ≤ length state
+    → Written h c l x m p state (set (set (set (set (set (set state (33792 + h * 6) c) (33792 + h * 6 + 1) l) (33792 + h * 6 + 2) x) (33792 + h * 6 + 3) m) (33792 + h * 6 + 4) p) (33792 + h * 6 + 5) y)
+written state h c l x m p y room =
+    record {
+      long = l5 state (33792 + h * 6) c l x m p y room;
+      copy = g0 state (33792 + h * 6) c l x m p y room;
+      literal = g1 state (33792 + h * 6) c l x m p y room;
+      next = g2 state (33792 + h * 6) c l x m p y room;
+      mark = g3 state (33792 + h * 6) c l x m p y room;
+      path = g4 state (33792 + h * 6) c l x m p y room;
+      others = under-six state (33792 + h * 6) c l x m p y room;
+    }
+
+-- the next clause alone
+pub written-next : (state : List ℕ) (h x : ℕ) → 33792 + h * 6 + 6 ≤ length state → Written h (copyAt state h) (literalAt state h) x (markAt state h) (pathAt state h) state (set state (33792 + h * 6 + 2) x)
+written-next state h x room =
+    record {
+      long = length-set state (33792 + h * 6 + 2) x;
+      copy = getD-set-other state (33792 + h * 6 + 2) (33792 + h * 6) x 0 (λ e. omega arith);
+      literal = getD-set-other state (33792 + h * 6 + 2) (33792 + h * 6 + 1) x 0 (λ e. omega arith);
+      next = getD-set-same state (33792 + h * 6 + 2) x 0 (omega arith);
+      mark = getD-set-other state (33792 + h * 6 + 2) (33792 + h * 6 + 3) x 0 (λ e. omega arith);
+      path = getD-set-other state (33792 + h * 6 + 2) (33792 + h * 6 + 4) x 0 (λ e. omega arith);
+      others = λ j q. getD-set-other state (33792 + h * 6 + 2) j x 0 (λ e. omega arith);
+    }
+
+pub framed : (state : List ℕ) (k m c l : ℕ) → 32768 + k * 4 + 4 ≤ length state → Framed k m c l state (set (set (set state (32768 + k * 4) m) (32768 + k * 4 + 1) c) (32768 + k * 4 + 2) l)
+framed state k m c l room =
+    let e0 : length (set state (32768 + k * 4) m) ≡ length state = length-set state (32768 + k * 4) m in
+    let e1 : length (set (set state (32768 + k * 4) m) (32768 + k * 4 + 1) c) ≡ length state = length-set (set state (32768 + k * 4) m) (32768 + k * 4 + 1) c ∙ e0 in
+    record {
+      long = length-set (set (set state (32768 + k * 4) m) (32768 + k * 4 + 1) c) (32768 + k * 4 + 2) l ∙ e1;
+      clause = past (32768 + k * 4) (λ e. omega arith) ∙ (getD-set-other (set state (32768 + k * 4) m) (32768 + k * 4 + 1) (32768 + k * 4) c 0 (λ e. omega arith) ∙ getD-set-same state (32768 + k * 4) m 0 (omega arith));
+      caller = past (32768 + k * 4 + 1) (λ e. omega arith) ∙ getD-set-same (set state (32768 + k * 4) m) (32768 + k * 4 + 1) c 0 (omega arith);
+      call = getD-set-same (set (set state (32768 + k * 4) m) (32768 + k * 4 + 1) c) (32768 + k * 4 + 2) l 0 (omega arith);
+      under = λ j q. past j (λ e. omega arith) ∙ (getD-set-other (set state (32768 + k * 4) m) (32768 + k * 4 + 1) j c 0 (λ e. omega arith) ∙ getD-set-other state (32768 + k * 4) j m 0 (λ e. omega arith));
+      over = λ j q. past j (λ e. omega arith) ∙ (getD-set-other (set state (32768 + k * 4) m) (32768 + k * 4 + 1) j c 0 (λ e. omega arith) ∙ getD-set-other state (32768 + k * 4) j m 0 (λ e. omega arith));
+    }
+  where
+    past : (j : ℕ) → (j ≡ 32768 + k * 4 + 2 → ⊥) → getD (set (set (set state (32768 + k * 4) m) (32768 + k * 4 + 1) c) (32768 + k * 4 + 2) l) j 0 ≡ getD (set (set state (32768 + k * 4) m) (32768 + k * 4 + 1) c) j 0
+    past j z = getD-set-other (set (set state (32768 + k * 4) m) (32768 + k * 4 + 1) c) (32768 + k * 4 + 2) j l 0 z
