@@ -119,8 +119,8 @@ module _ (sh : Sheet) (g : Goal) (code state : List ℕ) (c l : ℕ) (at : Place
 pub place-stands : (ss : List Symbol) (sh : Sheet) (g : Goal) (nodes code state : List ℕ) (c l : ℕ) → Program ss sh g nodes code → Place sh g code state c l → BodyStands ss sh nodes code l (restFrom sh g code state c l)
 place-stands ss sh g nodes code state c l pr at =
     subst⁻¹ (BodyStands ss sh nodes code l) (rest-is sh g code state c l at)
-        (subst⁻¹ (λ (y : ℕ). BodyStands ss sh nodes code y (dropBody (at .index) (bodyOf sh g (clauseIn state c)))) (at .is)
-            (stand-from ss sh nodes code (at .index) (bodyAt code (clauseIn state c)) (bodyOf sh g (clauseIn state c)) (body-stands ss sh nodes code g (clauseIn state c) pr (at .clause)) (at .low)))
+    (subst⁻¹ (λ (y : ℕ). BodyStands ss sh nodes code y (dropBody (at .index) (bodyOf sh g (clauseIn state c)))) (at .is)
+    (stand-from ss sh nodes code (at .index) (bodyAt code (clauseIn state c)) (bodyOf sh g (clauseIn state c)) (body-stands ss sh nodes code g (clauseIn state c) pr (at .clause)) (at .low)))
 
 -- ---- what a literal's kind tells
 
@@ -217,7 +217,7 @@ climb sh g code state k c l frames low e =
     let f : Frame sh g code state (suc c) = frames c (omega arith) in
     let b : callerOf state (suc c) < suc c = f .below in
     let up : leftBehind sh g code state c (callerOf state (suc c)) ≡ leftBehind sh g code state k (callerOf state (suc c)) =
-        left-same-top sh g code state c (callerOf state (suc c)) (omega arith) ∙ sym (left-same-top sh g code state k (callerOf state (suc c)) (omega arith)) in
+    left-same-top sh g code state c (callerOf state (suc c)) (omega arith) ∙ sym (left-same-top sh g code state k (callerOf state (suc c)) (omega arith)) in
     record {
       left = ap (λ (y : Body). pending (suc c) y (leftBehind sh g code state k (suc c))) e
           ∙ (left-same-top sh g code state k (suc c) low
@@ -294,9 +294,9 @@ module _ (sh : Sheet) (g : Goal) (code before after : List ℕ) (k : ℕ) (same 
       let e : callerOf after (suc p) ≡ callerOf before (suc p) = same-caller before after k same (suc p) q in
       let d : callOf after (suc p) ≡ callOf before (suc p) = same-call before after k same (suc p) q in
       let r : restFrom sh g code after (callerOf after (suc p)) (callOf after (suc p) + 4) ≡ restFrom sh g code before (callerOf before (suc p)) (callOf before (suc p) + 4) =
-          ap₂ (λ (x y : ℕ). restFrom sh g code after x (y + 4)) e d ∙ same-rest (callerOf before (suc p)) (callOf before (suc p) + 4) (omega arith) in
+      ap₂ (λ (x y : ℕ). restFrom sh g code after x (y + 4)) e d ∙ same-rest (callerOf before (suc p)) (callOf before (suc p) + 4) (omega arith) in
       let t : leftBehind sh g code after p (callerOf after (suc p)) ≡ leftBehind sh g code before p (callerOf before (suc p)) =
-          ap (leftBehind sh g code after p) e ∙ same-behind p (callerOf before (suc p)) (omega arith) (omega arith) (λ i z. frames i (omega arith)) in
+      ap (leftBehind sh g code after p) e ∙ same-behind p (callerOf before (suc p)) (omega arith) (omega arith) (λ i z. frames i (omega arith)) in
       go (eqb c (suc p)) refl e r t (λ z. same-behind p c (omega arith) z (λ i y. frames i (omega arith)))
     where
       go : (b : Bool) → eqb c (suc p) ≡ b → callerOf after (suc p) ≡ callerOf before (suc p)
@@ -320,7 +320,7 @@ module _ (sh : Sheet) (g : Goal) (code before after : List ℕ) (k : ℕ) (same 
       let e : callerOf after (suc p) ≡ callerOf before (suc p) = same-caller before after k same (suc p) q in
       let d : callOf after (suc p) ≡ callOf before (suc p) = same-call before after k same (suc p) q in
       let r : restFrom sh g code after (callerOf after (suc p)) (callOf after (suc p)) ≡ restFrom sh g code before (callerOf before (suc p)) (callOf before (suc p)) =
-          ap₂ (restFrom sh g code after) e d ∙ same-rest (callerOf before (suc p)) (callOf before (suc p)) (omega arith) in
+      ap₂ (restFrom sh g code after) e d ∙ same-rest (callerOf before (suc p)) (callOf before (suc p)) (omega arith) in
       let t : callsUpTo sh g code after p ≡ callsUpTo sh g code before p = same-calls p (omega arith) (λ i z. frames i (omega arith)) in
       λ i. record { copy = e i; atom = firstAtom (r i) } ∷ t i
 
@@ -351,11 +351,11 @@ module _ (ss : List Symbol) (sh : Sheet) (g : Goal) (nodes code before after : L
       let m : markAt after j ≡ markAt before j = same-markAt before after h k n same j low in
       let x : nextAt after j ≡ nextAt before j = same-nextAt before after h k n same j low in
       let lits : leftFrom sh g code after (pathAt after j) (copyAt after j) (literalAt after j) ≡ leftFrom sh g code before (pathAt before j) (copyAt before j) (literalAt before j) =
-          (λ i. leftFrom sh g code after (p i) (c i) (l i)) ∙ same-left sh g code before after k (same .frame) (pathAt before j) (copyAt before j) (literalAt before j) path (s .copy) (s .frame) in
+      (λ i. leftFrom sh g code after (p i) (c i) (l i)) ∙ same-left sh g code before after k (same .frame) (pathAt before j) (copyAt before j) (literalAt before j) path (s .copy) (s .frame) in
       let binds : bindings ss nodes after (markAt after j) ≡ bindings ss nodes before (markAt before j) =
-          ap (bindings ss nodes after) m ∙ bindings-agree ss nodes before after (markAt before j) n mark (same .agree) in
+      ap (bindings ss nodes after) m ∙ bindings-agree ss nodes before after (markAt before j) n mark (same .agree) in
       let cs : callsUpTo sh g code after (pathAt after j) ≡ callsUpTo sh g code before (pathAt before j) =
-          ap (callsUpTo sh g code after) p ∙ same-calls sh g code before after k (same .frame) (pathAt before j) path (s .frame) in
+      ap (callsUpTo sh g code after) p ∙ same-calls sh g code before after k (same .frame) (pathAt before j) path (s .frame) in
       λ i. record { literals = lits i; bindings = binds i; next = x i; calls = cs i }
 
   pub same-stacked : (n1 : ℕ) → markAt before j ≤ n1 → Stacked sh g code after n1 j
@@ -369,7 +369,7 @@ module _ (ss : List Symbol) (sh : Sheet) (g : Goal) (nodes code before after : L
       let pl : pathAt before j ≤ 255 = s .low in
       let cl : copyAt before j ≤ k = omega arith in
       let r : restFrom sh g code after (copyAt after j) (literalAt after j) ≡ restFrom sh g code before (copyAt before j) (literalAt before j) =
-          ap₂ (restFrom sh g code after) c l ∙ same-rest sh g code before after k (same .frame) (copyAt before j) (literalAt before j) cl in
+      ap₂ (restFrom sh g code after) c l ∙ same-rest sh g code before after k (same .frame) (copyAt before j) (literalAt before j) cl in
       let ag : Agrees (markAt before j) before after = agrees-less (markAt before j) n before after mark (same .agree) in
       record {
         low = (let z : pathAt after j ≤ 255 = omega arith in z);
@@ -568,8 +568,8 @@ pub undone : (ss : List Symbol) (sh : Sheet) (g : Goal) (nodes code state after 
     → Means ss sh g nodes code after (suc h) m (pileOf ss sh g nodes code state (suc h))
 undone ss sh g nodes code state after h n m p e k store =
     carried ss sh g nodes code state after (suc h) 255 m n m p (keeps-same (suc h) 255 m state after k) (λ j l. p .each j l .low)
-        (λ j l. let z : markAt state j ≤ markAt state h = mark-top ss sh g nodes code state h n p j l in let y : markAt state j ≤ m = omega arith in y)
-        (omega arith) store (k .long)
+    (λ j l. let z : markAt state j ≤ markAt state h = mark-top ss sh g nodes code state h n p j l in let y : markAt state j ≤ m = omega arith in y)
+    (omega arith) store (k .long)
 
 -- an alternative is written on top of h others
 module _ (ss : List Symbol) (sh : Sheet) (g : Goal) (nodes code before after : List ℕ) (h n m p c l x : ℕ)
@@ -585,7 +585,7 @@ module _ (ss : List Symbol) (sh : Sheet) (g : Goal) (nodes code before after : L
   below : Means ss sh g nodes code after h n (pileOf ss sh g nodes code before h)
   below =
       carried ss sh g nodes code before after h 255 n n n piled same-below (λ j q. piled .each j q .low) (λ j q. piled .each j q .mark) (omega arith)
-          (store-same ss nodes before after n (piled .store) same-words) (w .long)
+      (store-same ss nodes before after n (piled .store) same-words) (w .long)
 
   rest-after : restFrom sh g code after (copyAt after h) (literalAt after h) ≡ restFrom sh g code before c l
   rest-after = ap₂ (restFrom sh g code after) (w .copy) (w .literal) ∙ same-rest sh g code before after 255 (same-below .frame) c l (omega arith)
@@ -610,11 +610,11 @@ module _ (ss : List Symbol) (sh : Sheet) (g : Goal) (nodes code before after : L
   unfolding alternativeAt
   top-is =
       let lits : leftFrom sh g code after (pathAt after h) (copyAt after h) (literalAt after h) ≡ leftFrom sh g code before p c l =
-          (λ i. leftFrom sh g code after (w .path i) (w .copy i) (w .literal i)) ∙ same-left sh g code before after 255 (same-below .frame) p c l path-low copy-low frames in
+      (λ i. leftFrom sh g code after (w .path i) (w .copy i) (w .literal i)) ∙ same-left sh g code before after 255 (same-below .frame) p c l path-low copy-low frames in
       let binds : bindings ss nodes after (markAt after h) ≡ bindings ss nodes before m =
-          ap (bindings ss nodes after) (w .mark) ∙ bindings-agree ss nodes before after m n mark-low (same-below .agree) in
+      ap (bindings ss nodes after) (w .mark) ∙ bindings-agree ss nodes before after m n mark-low (same-below .agree) in
       let cs : callsUpTo sh g code after (pathAt after h) ≡ callsUpTo sh g code before p =
-          ap (callsUpTo sh g code after) (w .path) ∙ same-calls sh g code before after 255 (same-below .frame) p path-low frames in
+      ap (callsUpTo sh g code after) (w .path) ∙ same-calls sh g code before after 255 (same-below .frame) p path-low frames in
       λ i. record { literals = lits i; bindings = binds i; next = w .next i; calls = cs i }
 
   pub topped : Means ss sh g nodes code after (suc h) n (record { literals = leftFrom sh g code before p c l; bindings = bindings ss nodes before m; next = x; calls = callsUpTo sh g code before p } ∷ pileOf ss sh g nodes code before h)
@@ -678,12 +678,12 @@ pub replaced : (ss : List Symbol) (sh : Sheet) (g : Goal) (nodes code state stat
     → Means ss sh g nodes code state2 (suc h) n1 (record { literals = leftFrom sh g code state1 p c l; bindings = bindings ss nodes state1 n1; next = x; calls = callsUpTo sh g code state p } ∷ pileOf ss sh g nodes code state h)
 replaced ss sh g nodes code state state1 state2 h n n1 p c l x piled em ep keeps store within more low stand w =
     let lower : Means ss sh g nodes code state1 h n1 (pileOf ss sh g nodes code state h) =
-        carried ss sh g nodes code state state1 h 255 n n n1 (popped ss sh g nodes code state h n piled) (keeps-same h 255 n state state1 keeps) (λ j q. piled .each j (omega arith) .low) (λ j q. piled .each j (omega arith) .mark) more store (keeps .long) in
+    carried ss sh g nodes code state state1 h 255 n n n1 (popped ss sh g nodes code state h n piled) (keeps-same h 255 n state state1 keeps) (λ j q. piled .each j (omega arith) .low) (λ j q. piled .each j (omega arith) .mark) more store (keeps .long) in
     let path-low : pathAt state h ≤ 255 = piled .each h (omega arith) .low in
     let all : Means ss sh g nodes code state2 (suc h) n1 (record { literals = leftFrom sh g code state1 p c l; bindings = bindings ss nodes state1 n1; next = x; calls = callsUpTo sh g code state1 p } ∷ pileOf ss sh g nodes code state1 h) =
-        topped ss sh g nodes code state1 state2 h n1 n1 p c l x (lower .piled) (omega arith) (omega arith) low
-            (λ j q. let a : pathAt state1 j ≡ pathAt state j = keeps .others (33792 + j * 6 + 4) (omega arith) in let b : pathAt state j < pathAt state h = piled .longer j h q (omega arith) in let y : pathAt state1 j < p = omega arith in y)
-            (λ j q. lower .piled .each j q .mark) within (λ i q. kept-frames ss sh g nodes code state state1 h n n piled keeps i (omega arith)) stand w in
+    topped ss sh g nodes code state1 state2 h n1 n1 p c l x (lower .piled) (omega arith) (omega arith) low
+    (λ j q. let a : pathAt state1 j ≡ pathAt state j = keeps .others (33792 + j * 6 + 4) (omega arith) in let b : pathAt state j < pathAt state h = piled .longer j h q (omega arith) in let y : pathAt state1 j < p = omega arith in y)
+    (λ j q. lower .piled .each j q .mark) within (λ i q. kept-frames ss sh g nodes code state state1 h n n piled keeps i (omega arith)) stand w in
     let calls : callsUpTo sh g code state1 p ≡ callsUpTo sh g code state p = subst (λ (y : ℕ). callsUpTo sh g code state1 y ≡ callsUpTo sh g code state y) ep (kept-calls ss sh g nodes code state state1 h n n piled keeps) in
     record {
       piled = all .piled;
@@ -698,7 +698,7 @@ pub moved : (ss : List Symbol) (sh : Sheet) (g : Goal) (nodes code state after :
 moved ss sh g nodes code state after h n x piled next w =
     let top : Stacked sh g code state n h = piled .each h (omega arith) in
     topped ss sh g nodes code state after h n (markAt state h) (pathAt state h) (copyAt state h) (literalAt state h) x (popped ss sh g nodes code state h n piled) (top .mark) (top .low) (top .copy)
-        (λ j q. piled .longer j h q (omega arith)) (λ j q. piled .later j h q (omega arith)) (top .within) (top .frame) (record { place = top .place; ends = top .ends; next = next }) w
+    (λ j q. piled .longer j h q (omega arith)) (λ j q. piled .later j h q (omega arith)) (top .within) (top .frame) (record { place = top .place; ends = top .ends; next = next }) w
 
 -- ---- a clause's body is laid on top
 
@@ -740,13 +740,13 @@ module _ (ss : List Symbol) (sh : Sheet) (g : Goal) (nodes code state state1 sta
   pushed-below : Means ss sh g nodes code state2 (suc h) n1 (pileOf ss sh g nodes code state (suc h))
   pushed-below =
       let one : Means ss sh g nodes code state1 (suc h) n1 (pileOf ss sh g nodes code state (suc h)) =
-          carried ss sh g nodes code state state1 (suc h) 255 n n n1 (t .piled) (keeps-same (suc h) 255 n state state1 (t .keeps)) (λ j q. t .piled .each j q .low) (λ j q. t .piled .each j q .mark) (t .more) (t .store) (t .keeps .long) in
+      carried ss sh g nodes code state state1 (suc h) 255 n n n1 (t .piled) (keeps-same (suc h) 255 n state state1 (t .keeps)) (λ j q. t .piled .each j q .low) (λ j q. t .piled .each j q .mark) (t .more) (t .store) (t .keeps .long) in
       let same : SameUpTo (suc h) (pathAt state h) n1 state1 state2 =
-          record { frame = frames-first; alternative = λ j q r. t .framed .over j (let e : p ≤ 255 = t .low in omega arith); agree = same-agrees ss nodes state1 state2 n1 (t .store) pushed-store } in
+      record { frame = frames-first; alternative = λ j q r. t .framed .over j (let e : p ≤ 255 = t .low in omega arith); agree = same-agrees ss nodes state1 state2 n1 (t .store) pushed-store } in
       let two : Means ss sh g nodes code state2 (suc h) n1 (pileOf ss sh g nodes code state1 (suc h)) =
-          carried ss sh g nodes code state1 state2 (suc h) (pathAt state h) n1 n1 n1 (one .piled) same
-              (λ j q. let e : pathAt state1 j ≡ pathAt state j = t .keeps .others (33792 + j * 6 + 4) (omega arith) in let z : pathAt state j ≤ pathAt state h = path-top ss sh g nodes code state h n (t .piled) j q in let y : pathAt state1 j ≤ pathAt state h = omega arith in y)
-              (λ j q. one .piled .each j q .mark) (omega arith) (store-same ss nodes state1 state2 n1 (t .store) pushed-store) (t .framed .long) in
+      carried ss sh g nodes code state1 state2 (suc h) (pathAt state h) n1 n1 n1 (one .piled) same
+      (λ j q. let e : pathAt state1 j ≡ pathAt state j = t .keeps .others (33792 + j * 6 + 4) (omega arith) in let z : pathAt state j ≤ pathAt state h = path-top ss sh g nodes code state h n (t .piled) j q in let y : pathAt state1 j ≤ pathAt state h = omega arith in y)
+      (λ j q. one .piled .each j q .mark) (omega arith) (store-same ss nodes state1 state2 n1 (t .store) pushed-store) (t .framed .long) in
       record { piled = two .piled; is = two .is ∙ one .is }
 
   new-clause : clauseIn state2 (suc (pathAt state h)) ≡ m
@@ -805,9 +805,9 @@ module _ (ss : List Symbol) (sh : Sheet) (g : Goal) (nodes code state state1 sta
   unfolding leftFrom
   pushed-left =
       let caller : leftBehind sh g code state2 (suc (pathAt state h)) (suc (pathAt state h)) ≡ leftFrom sh g code state2 (pathAt state h) (copyAt state h) (literalAt state h + 4) =
-          left-here sh g code state2 (pathAt state h) ∙ ap₂ (λ (x y : ℕ). pending x (restFrom sh g code state2 x (y + 4)) (leftBehind sh g code state2 (pathAt state h) x)) new-caller new-call in
+      left-here sh g code state2 (pathAt state h) ∙ ap₂ (λ (x y : ℕ). pending x (restFrom sh g code state2 x (y + 4)) (leftBehind sh g code state2 (pathAt state h) x)) new-caller new-call in
       let same : leftFrom sh g code state2 (pathAt state h) (copyAt state h) (literalAt state h + 4) ≡ leftFrom sh g code state (pathAt state h) (copyAt state h) (literalAt state h + 4) =
-          same-left sh g code state state2 (pathAt state h) frames-both (pathAt state h) (copyAt state h) (literalAt state h + 4) (omega arith) (top-of .copy) (top-of .frame) in
+      same-left sh g code state state2 (pathAt state h) frames-both (pathAt state h) (copyAt state h) (literalAt state h + 4) (omega arith) (top-of .copy) (top-of .frame) in
       ap₂ (pending p) pushed-rest (ap (λ (y : ℕ). leftBehind sh g code state2 y y) (sym one-more) ∙ (caller ∙ same))
 
   -- A new alternative lies on top, at a place of the copies made.
@@ -816,8 +816,8 @@ module _ (ss : List Symbol) (sh : Sheet) (g : Goal) (nodes code state state1 sta
   pushed state3 c l x low stand w =
       let agree : Agrees n1 state1 state2 = same-agrees ss nodes state1 state2 n1 (t .store) pushed-store in
       let all : Means ss sh g nodes code state3 (suc (suc h)) n1 (record { literals = leftFrom sh g code state2 p c l; bindings = bindings ss nodes state2 n1; next = x; calls = callsUpTo sh g code state2 p } ∷ pileOf ss sh g nodes code state2 (suc h)) =
-          topped ss sh g nodes code state2 state3 (suc h) n1 n1 p c l x (pushed-below .piled) (omega arith) (t .low) low paths (λ j q. pushed-below .piled .each j q .mark)
-              (within-agrees p n1 n1 state1 state2 (omega arith) agree (t .within)) pushed-frames stand w in
+      topped ss sh g nodes code state2 state3 (suc h) n1 n1 p c l x (pushed-below .piled) (omega arith) (t .low) low paths (λ j q. pushed-below .piled .each j q .mark)
+      (within-agrees p n1 n1 state1 state2 (omega arith) agree (t .within)) pushed-frames stand w in
       let binds : bindings ss nodes state2 n1 ≡ bindings ss nodes state1 n1 = bindings-same ss nodes state1 state2 n1 (t .store) pushed-store in
       record {
         piled = all .piled;
@@ -846,20 +846,20 @@ pub started : (ss : List Symbol) (sh : Sheet) (g : Goal) (nodes code state after
 unfolding pileOf bindings callsUpTo
 started ss sh g nodes code state after x program long zeros next w =
     let empty : Piled ss sh g nodes code state 0 0 =
-        record {
-          program = program;
-          store = no-entries ss nodes state (omega arith) (program .small) (λ y q. zeros y);
-          long = long;
-          each = λ j q. absurd (let z : j < 0 = q in omega arith);
-          longer = λ i j q r. absurd (let z : j < 0 = r in omega arith);
-          later = λ i j q r. absurd (let z : j < 0 = r in omega arith);
-        } in
+    record {
+      program = program;
+      store = no-entries ss nodes state (omega arith) (program .small) (λ y q. zeros y);
+      long = long;
+      each = λ j q. absurd (let z : j < 0 = q in omega arith);
+      longer = λ i j q r. absurd (let z : j < 0 = r in omega arith);
+      later = λ i j q r. absurd (let z : j < 0 = r in omega arith);
+    } in
     let all : Means ss sh g nodes code after 1 0 (record { literals = leftFrom sh g code state 0 0 (bodyAt code 0); bindings = bindings ss nodes state 0; next = x; calls = callsUpTo sh g code state 0 } ∷ pileOf ss sh g nodes code state 0) =
-        topped ss sh g nodes code state after 0 0 0 0 0 (bodyAt code 0) x empty (omega arith) (omega arith) (omega arith)
-            (λ j q. absurd (let z : j < 0 = q in omega arith)) (λ j q. absurd (let z : j < 0 = q in omega arith))
-            (record { cell = λ i q. absurd (let z : i < 0 = q in omega arith); copy = λ i q. absurd (let z : i < 0 = q in omega arith) })
-            (λ i q. absurd (let z : i < 0 = q in omega arith))
-            (record { place = goal-place sh g code state; ends = λ e. refl; next = λ a q. next a (subst (λ (y : Body). Calls y a) (goal-rest sh g code state) q) }) w in
+    topped ss sh g nodes code state after 0 0 0 0 0 (bodyAt code 0) x empty (omega arith) (omega arith) (omega arith)
+    (λ j q. absurd (let z : j < 0 = q in omega arith)) (λ j q. absurd (let z : j < 0 = q in omega arith))
+    (record { cell = λ i q. absurd (let z : i < 0 = q in omega arith); copy = λ i q. absurd (let z : i < 0 = q in omega arith) })
+    (λ i q. absurd (let z : i < 0 = q in omega arith))
+    (record { place = goal-place sh g code state; ends = λ e. refl; next = λ a q. next a (subst (λ (y : Body). Calls y a) (goal-rest sh g code state) q) }) w in
     record {
       piled = all .piled;
       is = all .is ∙ (λ i. record { literals = goal-left sh g code state i; bindings = []; next = x; calls = [] } ∷ []);
