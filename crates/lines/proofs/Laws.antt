@@ -15,7 +15,7 @@ use Rattle.lines.specs.Lines.{Put, digits, decimal, kindWord, nameWord, 
 
 -- ---- appending
 
-sets-append : (l : List ℕ) (i : ℕ) (xs ys : List ℕ) → sets l i (xs ++ ys) ≡ sets (sets l i xs) (i + length xs) ys
+pub sets-append : (l : List ℕ) (i : ℕ) (xs ys : List ℕ) → sets l i (xs ++ ys) ≡ sets (sets l i xs) (i + length xs) ys
 sets-append l i [] ys = ap (λ (k : ℕ). sets l k ys) (sym (add-zero i))
 sets-append l i (x ∷ xs) ys =
     sets-append (set l i x) (suc i) xs ys

@@ -4,9 +4,11 @@ use native.Mathlib.Omega.{arith}
 use native.Mathlib.Nat.{add-zero}
 use mathlib.Core.Path.{_≡_, refl, sym, ap, ap₂, _∙_, subst, subst⁻¹}
 use mathlib.Core.Bool.{Bool, true, false}
-use mathlib.Core.List.{List, [], _∷_, _++_, length-append}
+use mathlib.Core.List.{List, [], _∷_, _++_}
+use mathlib.Core.Logic.{_⊎_, inl, inr}
 use lib.Dec.{T, leb, ltb, eqb}
-use lib.ListN.{length}
+use lib.ListN.{length, length-append}
+use borrow.Author.Tests.{ltb-true, ltb-false, lt-ltb, le-ltb}
 use lib.Seq.{sets, length-sets}
 use Rattle.syntax.specs.Terms.{Sheet, Goal}
 use Rattle.syntax.specs.declared.Report.{Report}
@@ -37,6 +39,22 @@ pile-some : (ss : List Symbol) (sh : Sheet) (g : Goal) (nodes code state : List 
 unfolding isEmpty pileOf
 pile-some ss sh g nodes code state zero q = absurd (let y : _≡_ {A = Bool} true false = q in let x : _≡_ {A = ℕ} 0 1 = cc in omega arith)
 pile-some ss sh g nodes code state (suc h) q = omega arith
+
+roomy-same : (a b : List ℕ) → length b ≡ length a → Roomy a → Roomy b
+roomy-same a b e r = subst⁻¹ (λ (k : ℕ). 278535 ≤ k) e r
+
+lt-or-le : (a b : ℕ) → (a < b) ⊎ (b ≤ a)
+lt-or-le a b = by (ltb a b) refl
+  where
+    by : (o : Bool) → ltb a b ≡ o → (a < b) ⊎ (b ≤ a)
+    by true e = inl (ltb-true a b e)
+    by false e = inr (ltb-false a b e)
+
+not-over : (room n : ℕ) → n ≤ room → ltb room n ≡ false
+not-over room n l = le-ltb room n l
+
+over : (room n : ℕ) → room < n → ltb room n ≡ true
+over room n l = lt-ltb room n l
 
 module _ (ss : List Symbol) (sh : Sheet) (g : Goal) (nodes code : List ℕ) (allowance wanted : ℕ) (old : List ℕ) where
   abbrev progress : List ℕ → ℕ → ℕ → ℕ → List ℕ → Progress
@@ -72,11 +90,8 @@ module _ (ss : List Symbol) (sh : Sheet) (g : Goal) (nodes code : List ℕ) (all
     later state1 scratch1 stack1 h1 n1 p c e f =
         record {
           piled = p;
-          lent = record { roomy = subst⁻¹ Long e (o .under .lent .roomy); clean = c; deep = (let x : 524320 ≤ length stack = o .under .lent .deep in omega arith) }
+          lent = record { roomy = roomy-same scratch scratch1 e (o .under .lent .roomy); clean = c; deep = (let x : 524320 ≤ length stack = o .under .lent .deep in omega arith) }
         }
-      where
-        Long : ℕ → Type 0
-        Long k = least ≤ k
 
     -- a step that is no answer
     module _ (q : nextOf wanted answers (allowance - steps) sh (pileOf ss sh g nodes code state h) ≡ Step) where
@@ -107,3 +122,80 @@ module _ (ss : List Symbol) (sh : Sheet) (g : Goal) (nodes code : List ℕ) (all
             whole = o .whole ∙ goes .on ∙ ap₂ (λ (m : ℕ) (v : List Alternative). runFrom sh g wanted (length old) m (record { pile = v; answers = answers; steps = suc steps; text = o .written })) z (sym e)
                 ∙ ap (λ (s : ℕ). runFrom sh g wanted (length old) (allowance - (steps + 1)) (record { pile = pileOf ss sh g nodes code state1 h1; answers = answers; steps = s; text = o .written })) y
           }
+
+    -- an answer, once the trail is that of the top alternative
+    module _ (q : nextOf wanted answers (allowance - steps) sh (pileOf ss sh g nodes code state h) ≡ Answer) where
+      answers-here : Answers sh g wanted (length old) (allowance - steps) here
+      answers-here = run-answers sh g wanted (length old) (allowance - steps) here q
+
+      pub answer-some : 1 ≤ h
+      answer-some = pile-some ss sh g nodes code state h (answers-here .some-left)
+
+      pub answer-few : steps < allowance
+      answer-few = let x : 0 < allowance - steps = left-some (allowance - steps) (answers-here .more) in omega arith
+
+      module _ (state1 : List ℕ) (m : ℕ) (p : Piled ss sh g nodes code state1 h m) (e : pileOf ss sh g nodes code state1 h ≡ pileOf ss sh g nodes code state h) (mark : markAt state1 (h - 1) ≡ m) where
+        pub answer-goes : goesDeeper sh (pileOf ss sh g nodes code state1 h) ≡ false
+        answer-goes = ap (goesDeeper sh) e ∙ answer-flat sh (pileOf ss sh g nodes code state h) (answers-here .answer)
+
+        line-here : (k : ℕ) → h ≡ suc k → nextLine g (pileOf ss sh g nodes code state h) ≡ line g (bindings ss nodes state1 (markAt state1 k))
+        line-here k z =
+            ap (nextLine g) (sym e ∙ ap (pileOf ss sh g nodes code state1) z)
+            ∙ line-of ss sh g nodes code state1 k (sym (ap isAnswer (sym e ∙ ap (pileOf ss sh g nodes code state1) z)) ∙ answers-here .answer)
+
+        the-line : nextLine g (pileOf ss sh g nodes code state h) ≡ line g (bindings ss nodes state1 m)
+        the-line =
+            let l : 1 ≤ h = answer-some in
+            let z : h ≡ suc (h - 1) = omega arith in
+            line-here (h - 1) z ∙ ap (λ (k : ℕ). line g (bindings ss nodes state1 k)) mark
+
+        pub answer-room : at ≤ length new
+        answer-room = let x : length new ≡ length old = ap length (o .text-is) ∙ length-sets old 0 (o .written) in let y : at ≤ length old = o .fits in omega arith
+
+        module _ (new1 : List ℕ) (r : ℕ) (f : Fitted (line g (bindings ss nodes state1 m)) new at new1 r) where
+          abbrev L : ℕ
+          L = length (line g (bindings ss nodes state1 m))
+
+          room-same : length new ≡ length old
+          room-same = ap length (o .text-is) ∙ length-sets old 0 (o .written)
+
+          total : length (o .written) + length (nextLine g (pileOf ss sh g nodes code state h)) ≡ at + L
+          total = ap₂ (λ (a b : ℕ). a + b) (sym (o .at-is)) (ap length the-line)
+
+          pub full : r ≡ 0 → Runs sh g allowance wanted old new1 (record { kind = Full; answers = answers; steps = steps })
+          full z = by (lt-or-le (length new) (at + L))
+            where
+              by : (length new < at + L) ⊎ (at + L ≤ length new) → Runs sh g allowance wanted old new1 (record { kind = Full; answers = answers; steps = steps })
+              by (inl l) =
+                  subst⁻¹ (λ (t : List ℕ). Runs sh g allowance wanted old t (record { kind = Full; answers = answers; steps = steps })) (f .full l .1)
+                  (ended Full (answers-here .full (over (length old) (length (o .written) + length (nextLine g (pileOf ss sh g nodes code state h))) (let y : length new ≡ length old = room-same in let t : length (o .written) + length (nextLine g (pileOf ss sh g nodes code state h)) ≡ at + L = total in omega arith))))
+              by (inr l) =
+                  absurd (let y : r ≡ at + L = f .fits l .past in let t : 1 ≤ L = line-some g (bindings ss nodes state1 m) in omega arith)
+
+          fitting : (r ≡ 0 → ⊥) → at + L ≤ length new
+          fitting z = by (lt-or-le (length new) (at + L))
+            where
+              by : (length new < at + L) ⊎ (at + L ≤ length new) → at + L ≤ length new
+              by (inl l) = absurd (z (f .full l .0))
+              by (inr l) = l
+
+          pub answers-on : (r ≡ 0 → ⊥) → (state2 scratch2 stack2 : List ℕ) (h2 n2 : ℕ) → Piled ss sh g nodes code state2 h2 n2 → pileOf ss sh g nodes code state2 h2 ≡ step sh (pileOf ss sh g nodes code state1 h) → Clean scratch2 → length scratch2 ≡ length scratch → length stack2 ≡ length stack → Ongoing ss sh g nodes code state2 scratch2 stack2 allowance wanted old new1 h2 n2 (answers + 1) (steps + 1) r
+          answers-on z state2 scratch2 stack2 h2 n2 p2 e2 c2 l2 l3 =
+              let x : steps < allowance = answer-few in
+              let fit : at + L ≤ length new = fitting z in
+              let past : r ≡ at + L = f .fits fit .past in
+              let same : length new ≡ length old = room-same in
+              let tot : length (o .written) + length (nextLine g (pileOf ss sh g nodes code state h)) ≡ at + L = total in
+              let w : allowance - steps - 1 ≡ allowance - (steps + 1) = omega arith in
+              let y : suc steps ≡ steps + 1 = omega arith in
+              record {
+                under = later state2 scratch2 stack2 h2 n2 p2 c2 l2 l3;
+                written = o .written ++ line g (bindings ss nodes state1 m);
+                at-is = past ∙ ap (λ (a : ℕ). a + L) (o .at-is) ∙ sym (length-append (o .written) (line g (bindings ss nodes state1 m)));
+                fits = omega arith;
+                text-is = f .fits fit .text ∙ ap₂ (λ (t : List ℕ) (a : ℕ). sets t a (line g (bindings ss nodes state1 m))) (o .text-is) (o .at-is) ∙ sym (sets-append old 0 (o .written) (line g (bindings ss nodes state1 m)));
+                steps-few = omega arith;
+                whole = o .whole ∙ answers-here .on (not-over (length old) (length (o .written) + length (nextLine g (pileOf ss sh g nodes code state h))) (omega arith))
+                    ∙ ap₂ (λ (k : ℕ) (v : List Alternative). runFrom sh g wanted (length old) k (record { pile = v; answers = answers + 1; steps = suc steps; text = o .written ++ nextLine g (pileOf ss sh g nodes code state h) })) w (ap (step sh) (sym e) ∙ sym e2)
+                    ∙ ap₂ (λ (k : ℕ) (t : List ℕ). runFrom sh g wanted (length old) (allowance - (steps + 1)) (record { pile = pileOf ss sh g nodes code state2 h2; answers = answers + 1; steps = k; text = o .written ++ t })) y the-line
+              }
