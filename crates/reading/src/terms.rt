@@ -1,4 +1,5 @@
-// Terms into the node table. Reading one term and reading a list of terms call each other, with fewer brackets left.
+// Terms into the node table. Reading one term and reading a list of terms call each other, with fewer brackets left. `own` is a
+// copy of the reader for one call: compiled, a parameter that is handed on is copied whole at each entry, and `own` only where that call is made.
 use crate::Parsed;
 use crate::cursor::next;
 use crate::cursor::put_node;
@@ -218,7 +219,9 @@ pub fn read_term(s: &[u8], left: usize, st: State, table: &mut [u32], n: usize) 
         return leaf(s, st, table, n, what);
     }
     if kind == NAME {
-        return read_atom(s, left, st, table, n);
+        let own = st;
+        let r = read_atom(s, left, own, table, n);
+        return r;
     }
     wrong(st)
 }
@@ -231,7 +234,8 @@ fn read_arguments(s: &[u8], left: usize, k: usize, st: State, table: &mut [u32],
     if k == 0 {
         return full(st);
     }
-    let r = read_term(s, left, st, table, n);
+    let own = st;
+    let r = read_term(s, left, own, table, n);
     if r.number != 0 {
         return r;
     }
