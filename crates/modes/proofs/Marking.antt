@@ -1,5 +1,5 @@
 -- Laws of declarations and of arguments with a mark, one for each way out of the functions. Assumes nothing.
-use Prim.Native.Nat.{ℕ, suc, _+_, _-_, _*_, _%_, _/_, _≤_, _<_}
+use Prim.Native.Nat.{ℕ, zero, suc, _+_, _-_, _*_, _%_, _/_, _≤_, _<_}
 use native.Mathlib.Numerals.{add-one}
 use native.Mathlib.Omega.{arith}
 use mathlib.Core.Path.{_≡_, refl, sym, ap, ap₂, _∙_, subst, subst⁻¹}
@@ -181,10 +181,14 @@ module _ (g table : List ℕ) (p : ℕ) (name : Name) (en : (w : NamedAt table p
   pub atom-inside : AtomAt g table p → name .at + name .len ≤ length g
   atom-inside w = omega (arith, at-is w, len-is w, in-text w .name-at .inside)
 
+  pub atom-position : (ds : List Declaration) (w : AtomAt g table p)
+      → position ds (spelling g (name .at) (name .len)) (name .arguments) ≡ position ds (w .atom .name) (arity (w .atom .args))
+  atom-position ds w =
+      ap₂ (position ds) (ap₂ (λ (a l : ℕ). spelling g a l) (at-is w) (len-is w) ∙ sym (in-text w .name-at .spelt)) (ap (λ (x : Name). x .arguments) (en (atom-name w)))
+
   pub atom-found : (s declared : List ℕ) (n r : ℕ) → ((d : DeclarationsAt s declared n) → r ≡ position (d .list) (spelling g (name .at) (name .len)) (name .arguments))
       → (d : DeclarationsAt s declared n) (w : AtomAt g table p) → r ≡ position (d .list) (w .atom .name) (arity (w .atom .args))
-  atom-found s declared n r h d w =
-      h d ∙ ap₂ (position (d .list)) (ap₂ (λ (a l : ℕ). spelling g a l) (at-is w) (len-is w) ∙ sym (in-text w .name-at .spelt)) (ap (λ (x : Name). x .arguments) (en (atom-name w)))
+  atom-found s declared n r h d w = h d ∙ atom-position (d .list) w
 
   -- the fault of an atom without declaration
   pub undeclared-is : (ds : List Declaration) (c l : ℕ) (w : AtomAt g table p) → marksOf ds (w .atom) ≡ none
@@ -192,6 +196,59 @@ module _ (g table : List ℕ) (p : ℕ) (name : Name) (en : (w : NamedAt table p
   unfolding undeclaredAtom undeclared
   undeclared-is ds c l w e =
       ap₂ (λ (a k : ℕ). Fault (Undeclared c l a k)) (at-is w) (len-is w) ∙ sym (ap (λ (o : Option (List Mark)). checkedOf (undeclared c l (w .atom) o)) e)
+
+-- ---- one declaration by its number
+
+pub far : {A : Type 0} → false ≡ true → A
+far e = let y : _≡_ {A = ℕ} 0 1 = cc in absurd (omega arith)
+
+-- where the i-th of some declarations stands, and what it says of the search if it is the one looked for
+record Near (s declared : List ℕ) (p : ℕ) (ds : List Declaration) (name : List ℕ) (arguments : ℕ) : Type 0 where
+  it : DeclarationAt s declared p
+  found : samePredicate (it .declaration .name) (length (it .declaration .marks)) name arguments ≡ true → position ds name arguments < length ds
+
+later-by : (b : Bool) (d : Declaration) (ds : List Declaration) (name : List ℕ) (n : ℕ) → samePredicate (d .name) (length (d .marks)) name n ≡ b
+    → position ds name n < length ds → position (d ∷ ds) name n < suc (length ds)
+later-by true d ds name n e l = omega (arith, position-by true d ds name n e)
+later-by false d ds name n e l = omega (arith, position-by false d ds name n e)
+
+near-by : (s declared : List ℕ) (p : ℕ) (ds : List Declaration) (i : ℕ) (name : List ℕ) (arguments : ℕ) → i < length ds
+    → Has declared p (declarationsWords ds) → DeclarationsStand s ds → Near s declared (p + i * 4) ds name arguments
+unfolding declarationsWords declarationWords
+near-by s declared p [] i name arguments l h k = absurd (omega arith)
+near-by s declared p (d ∷ ds) zero name arguments l h (declaration-stands k ks) =
+    let e : p ≡ p + 0 * 4 = omega arith in
+    subst (λ (j : ℕ). Near s declared j (d ∷ ds) name arguments) e record {
+      it = record { declaration = d; has = has-left declared p (declarationWords d) (declarationsWords ds) h; stands = k };
+      found = λ b. omega (arith, position-by true d ds name arguments b);
+    }
+near-by s declared p (d ∷ ds) (suc i) name arguments l h (declaration-stands k ks) =
+    let e : p + 4 + i * 4 ≡ p + suc i * 4 = omega arith in
+    let o : Near s declared (p + suc i * 4) ds name arguments =
+    subst (λ (j : ℕ). Near s declared j ds name arguments) e
+    (near-by s declared (p + 4) ds i name arguments (omega arith) (has-right declared p (declarationWords d) (declarationsWords ds) h) ks) in
+    record { it = o .it; found = λ b. later-by _ d ds name arguments refl (o .found b) }
+
+module _ (s declared : List ℕ) (n near : ℕ) (l : near < n) where
+  near-of : (name : List ℕ) (arguments : ℕ) (d : DeclarationsAt s declared n) → Near s declared (near * 4) (d .list) name arguments
+  near-of name arguments d =
+      let e : 0 + near * 4 ≡ near * 4 = omega arith in
+      subst (λ (j : ℕ). Near s declared j (d .list) name arguments) e
+      (near-by s declared 0 (d .list) near name arguments (omega (arith, d .count)) (d .has) (d .stand))
+
+  pub near-at : DeclarationsAt s declared n → DeclarationAt s declared (near * 4)
+  near-at d = near-of [] 0 d .it
+
+  pub near-declares : (g table : List ℕ) (p : ℕ) (name : Name) → ((w : NamedAt table p) → name ≡ nameOf (w .atom)) → (q : ℕ) → q ≡ near * 4 → (b : Bool)
+      → ((w : DeclarationAt s declared q) → b ≡ samePredicate (w .declaration .name) (length (w .declaration .marks)) (spelling g (name .at) (name .len)) (name .arguments))
+      → b ≡ true → (d : DeclarationsAt s declared n) (w : AtomAt g table p) → position (d .list) (w .atom .name) (arity (w .atom .args)) < n
+  near-declares g table p name en q eq b eb t d w =
+      let o : Near s declared q (d .list) (spelling g (name .at) (name .len)) (name .arguments) =
+      subst⁻¹ (λ (j : ℕ). Near s declared j (d .list) (spelling g (name .at) (name .len)) (name .arguments)) eq (near-of (spelling g (name .at) (name .len)) (name .arguments) d) in
+      let k : position (d .list) (spelling g (name .at) (name .len)) (name .arguments) < length (d .list) = o .found (sym (eb (o .it)) ∙ t) in
+      let m : position (d .list) (spelling g (name .at) (name .len)) (name .arguments) ≡ position (d .list) (w .atom .name) (arity (w .atom .args)) =
+      atom-position g table p name en (d .list) w in
+      omega (arith, k, m, d .count)
 
 -- ---- the marks of a predicate
 
@@ -259,6 +316,14 @@ none-by d ds a false e l more = marks-by false d ds a e ∙ more (omega (arith, 
 none-found : (ds : List Declaration) (a : Atom) → length ds ≤ position ds (a .name) (arity (a .args)) → marksOf ds a ≡ none
 none-found [] a l = marks-empty a
 none-found (d ∷ ds) a l = none-by d ds a _ refl l (λ l1. none-found ds a l1)
+
+pub near-fine : (s declared : List ℕ) (n : ℕ) (g table : List ℕ) (p c k : ℕ) (d : DeclarationsAt s declared n) (w : AtomAt g table p)
+    → position (d .list) (w .atom .name) (arity (w .atom .args)) < n → Fine ≡ checkedOf (undeclaredAtom (d .list) c k (w .atom))
+unfolding undeclaredAtom undeclared
+near-fine s declared n g table p c k d w l =
+    sym
+    (ap (λ (o : Option (List Mark)). checkedOf (undeclared c k (w .atom) o))
+    (found-at declared 0 (d .list) (w .atom) (d .has) (omega (arith, l, d .count)) .is))
 
 module _ (s declared : List ℕ) (n : ℕ) (g table : List ℕ) (p i : ℕ)
     (ei : (d : DeclarationsAt s declared n) (w : AtomAt g table p) → i ≡ position (d .list) (w .atom .name) (arity (w .atom .args))) where

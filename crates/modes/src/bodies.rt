@@ -56,6 +56,7 @@ fn undeclared_literal(
     p: usize,
     clause: usize,
     literal: usize,
+    near: usize,
 ) -> Checked
     requires { ⌜ DeclarationsAt (now s) (now declared) n ⌝ }
     requires { ⌜ LiteralAt (now g) (now table) p ⌝ }
@@ -65,7 +66,7 @@ fn undeclared_literal(
         return Checked::Fine;
     }
     let q = p + 1;
-    undeclared_atom(s, declared, n, g, table, q, clause, literal)
+    undeclared_atom(s, declared, n, g, table, q, clause, literal, near)
 }
 
 // The first call of a body that has no declaration.
@@ -78,6 +79,7 @@ pub fn undeclared_body(
     p: usize,
     literals: usize,
     clause: usize,
+    near: usize,
 ) -> Checked
     requires { ⌜ DeclarationsAt (now s) (now declared) n ⌝ }
     requires { ⌜ BodyAt (now g) (now table) p literals ⌝ }
@@ -87,7 +89,7 @@ pub fn undeclared_body(
     let mut i = 0;
     while i < literals {
         let number = i + 1;
-        let fault = undeclared_literal(s, declared, n, g, table, at, clause, number);
+        let fault = undeclared_literal(s, declared, n, g, table, at, clause, number, near);
         if is_fault(fault) {
             return fault;
         }

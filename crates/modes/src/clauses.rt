@@ -5,8 +5,10 @@ use crate::bodies::body_walk;
 use crate::bodies::undeclared_body;
 use crate::is_fault;
 use crate::marks::INPUT;
+use crate::marks::find_atom;
 use crate::marks::ground_marked;
 use crate::marks::head_fault;
+use crate::marks::is_near;
 use crate::marks::marks_of;
 use crate::marks::undeclared_atom;
 use crate::table::past;
@@ -29,6 +31,18 @@ fn past_clause(table: &[u32], p: usize) -> usize
     p + size
 }
 
+// The number of the declaration of a clause's head, of which `near` is tried first. It only says where to look first, so any number would do.
+fn head_near(s: &[u8], declared: &[u32], n: usize, table: &[u32], p: usize, near: usize) -> usize
+    requires { ⌜ DeclarationsAt (now s) (now declared) n ⌝ }
+    requires { ⌜ ClauseAt (now s) (now table) p ⌝ }
+{
+    let head = p + 3;
+    if is_near(s, declared, n, s, table, head, near) {
+        return near;
+    }
+    find_atom(s, declared, n, s, table, head)
+}
+
 // The first of a clause's head and calls that has no declaration.
 fn undeclared_clause(
     s: &[u8],
@@ -37,6 +51,7 @@ fn undeclared_clause(
     table: &[u32],
     p: usize,
     clause: usize,
+    near: usize,
 ) -> Checked
     requires { ⌜ DeclarationsAt (now s) (now declared) n ⌝ }
     requires { ⌜ ClauseAt (now s) (now table) p ⌝ }
@@ -44,12 +59,12 @@ fn undeclared_clause(
 {
     let literals = word_at(table, p + 2);
     let head = p + 3;
-    let fault = undeclared_atom(s, declared, n, s, table, head, clause, 0);
+    let fault = undeclared_atom(s, declared, n, s, table, head, clause, 0, near);
     if is_fault(fault) {
         return fault;
     }
     let first = past(table, head);
-    undeclared_body(s, declared, n, s, table, first, literals, clause)
+    undeclared_body(s, declared, n, s, table, first, literals, clause, near)
 }
 
 // The first head or call of a sheet that has no declaration.
@@ -66,9 +81,11 @@ pub fn undeclared_clauses(
 {
     let mut at = 0;
     let mut i = 0;
+    let mut near = 0;
     while i < clauses {
         let number = i + 1;
-        let fault = undeclared_clause(s, declared, n, table, at, number);
+        near = head_near(s, declared, n, table, at, near);
+        let fault = undeclared_clause(s, declared, n, table, at, number, near);
         if is_fault(fault) {
             return fault;
         }

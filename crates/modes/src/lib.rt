@@ -67,7 +67,7 @@ pub fn check_goal(
     requires { ⌜ GoalAt (now s) (now declared) n (now g) (now table) literals ⌝ }
     ensures { λ r. ⌜ ((w : GoalAt (now (s .entry)) (now (declared .entry)) n (now (g .entry)) (now (table .entry)) literals) → r ≡ checkedOf (goalFault (w .sheet) (w .goal))) ⌝ }
 {
-    let fault = undeclared_body(s, declared, n, g, table, 0, literals, 0);
+    let fault = undeclared_body(s, declared, n, g, table, 0, literals, 0, 0);
     if is_fault(fault) {
         return fault;
     }

@@ -8,8 +8,8 @@ use crate::terms::ground_term;
 use crate::terms::is_ground;
 use syntax::Refusal;
 ghost use mathlib.Core.Path.{_≡_};
-ghost use mathlib.Core.Bool.{not, _&&_};
-ghost use Prim.Native.Nat.{_+_, _%_, _≤_};
+ghost use mathlib.Core.Bool.{true, not, _&&_};
+ghost use Prim.Native.Nat.{_+_, _%_, _≤_, _<_};
 ghost use lib.Dec.{eqb};
 ghost use lib.ListN.{length};
 ghost use Rattle.syntax.specs.Tokens.{spelling};
@@ -100,7 +100,7 @@ pub fn find(
 }
 
 // The same for the predicate of the atom at a place.
-fn find_atom(s: &[u8], declared: &[u32], n: usize, g: &[u8], table: &[u32], p: usize) -> usize
+pub fn find_atom(s: &[u8], declared: &[u32], n: usize, g: &[u8], table: &[u32], p: usize) -> usize
     requires { ⌜ DeclarationsAt (now s) (now declared) n ⌝ }
     requires { ⌜ AtomAt (now g) (now table) p ⌝ }
     ensures { λ r. ⌜ ((d : DeclarationsAt (now (s .entry)) (now (declared .entry)) n) (w : AtomAt (now (g .entry)) (now (table .entry)) p) → r ≡ position (d .list) (w .atom .name) (arity (w .atom .args))) ⌝ }
@@ -110,6 +110,32 @@ fn find_atom(s: &[u8], declared: &[u32], n: usize, g: &[u8], table: &[u32], p: u
     let len = name.len;
     let arguments = name.arguments;
     find(s, declared, n, g, at, len, arguments)
+}
+
+// Whether the declaration numbered `near` is one of the predicate of the atom at a place. Clauses of a predicate stand together and call it,
+// so the declaration found last is worth a try before a search.
+pub fn is_near(
+    s: &[u8],
+    declared: &[u32],
+    n: usize,
+    g: &[u8],
+    table: &[u32],
+    p: usize,
+    near: usize,
+) -> bool
+    requires { ⌜ DeclarationsAt (now s) (now declared) n ⌝ }
+    requires { ⌜ AtomAt (now g) (now table) p ⌝ }
+    ensures { λ r. ⌜ (r ≡ true → (d : DeclarationsAt (now (s .entry)) (now (declared .entry)) n) (w : AtomAt (now (g .entry)) (now (table .entry)) p) → position (d .list) (w .atom .name) (arity (w .atom .args)) < n) ⌝ }
+{
+    if n <= near {
+        return false;
+    }
+    let name = name_at(table, p);
+    let at = name.at;
+    let len = name.len;
+    let arguments = name.arguments;
+    let q = near * ENTRY;
+    declares(s, declared, q, g, at, len, arguments)
 }
 
 // The marks of the predicate of the atom at a place, in one number; 0 where it has no declaration.
@@ -126,7 +152,7 @@ pub fn marks_of(s: &[u8], declared: &[u32], n: usize, g: &[u8], table: &[u32], p
     0
 }
 
-// The fault of a head or call that has no declaration.
+// The fault of a head or call that has no declaration; the one numbered `near` is tried first.
 pub fn undeclared_atom(
     s: &[u8],
     declared: &[u32],
@@ -136,11 +162,15 @@ pub fn undeclared_atom(
     p: usize,
     clause: usize,
     literal: usize,
+    near: usize,
 ) -> Checked
     requires { ⌜ DeclarationsAt (now s) (now declared) n ⌝ }
     requires { ⌜ AtomAt (now g) (now table) p ⌝ }
     ensures { λ r. ⌜ ((d : DeclarationsAt (now (s .entry)) (now (declared .entry)) n) (w : AtomAt (now (g .entry)) (now (table .entry)) p) → r ≡ checkedOf (undeclaredAtom (d .list) clause literal (w .atom))) ⌝ }
 {
+    if is_near(s, declared, n, g, table, p, near) {
+        return Checked::Fine;
+    }
     let i = find_atom(s, declared, n, g, table, p);
     if i < n {
         return Checked::Fine;

@@ -9,10 +9,10 @@ use Rattle.modes.proofs.bodies.undeclared_body.Statement.{statement}
 use Rattle.modes.proofs.bodies.undeclared_body.Tie as tie
 
 abbrev Inv-loop : tie.InvT-loop
-Inv-loop s declared n g table p literals clause at₀ i₀ at i = (i ≤ literals) × ((d : DeclarationsAt s declared n) (w : BodyAt g table at₀ literals) → Ahead g table at i literals (undeclaredBody (d .list) clause 1 (w .body)) (undeclaredBody (d .list) clause))
+Inv-loop s declared n g table p literals clause near at₀ i₀ at i = (i ≤ literals) × ((d : DeclarationsAt s declared n) (w : BodyAt g table at₀ literals) → Ahead g table at i literals (undeclaredBody (d .list) clause 1 (w .body)) (undeclaredBody (d .list) clause))
 
 abbrev μ-loop : tie.MeasureT-loop
-μ-loop s declared n g table p literals clause at₀ i₀ at i = literals - i
+μ-loop s declared n g table p literals clause near at₀ i₀ at i = literals - i
 
 loop-holds : tie.Need-loop-holds Inv-loop μ-loop
 loop-holds c = (omega arith, λ d w. begun (undeclaredBody (d .list) (c .before .before .before .before .args .clause)) w)

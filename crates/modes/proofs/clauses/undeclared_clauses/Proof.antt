@@ -9,10 +9,10 @@ use Rattle.modes.proofs.clauses.undeclared_clauses.Statement.{statement
 use Rattle.modes.proofs.clauses.undeclared_clauses.Tie as tie
 
 abbrev Inv-loop : tie.InvT-loop
-Inv-loop s declared n table clauses at₀ i₀ at i = (i ≤ clauses) × ((d : DeclarationsAt s declared n) (w : ClausesAt s table 0 clauses) → Ahead s table at i clauses (undeclaredClauses (d .list) 1 (w .list)) (undeclaredClauses (d .list)))
+Inv-loop s declared n table clauses at₀ i₀ near₀ at i near = (i ≤ clauses) × ((d : DeclarationsAt s declared n) (w : ClausesAt s table 0 clauses) → Ahead s table at i clauses (undeclaredClauses (d .list) 1 (w .list)) (undeclaredClauses (d .list)))
 
 abbrev μ-loop : tie.MeasureT-loop
-μ-loop s declared n table clauses at₀ i₀ at i = clauses - i
+μ-loop s declared n table clauses at₀ i₀ near₀ at i near = clauses - i
 
 loop-holds : tie.Need-loop-holds Inv-loop μ-loop
 loop-holds c = (omega arith, λ d w. begun (undeclaredClauses (d .list)) w)
@@ -20,23 +20,26 @@ loop-holds c = (omega arith, λ d w. begun (undeclaredClauses (d .list)) w)
 add-number : tie.Need-add-number Inv-loop μ-loop
 add-number c = omega arith
 
+head-near-requires : tie.Need-head-near-requires Inv-loop μ-loop
+head-near-requires c κs = (c .before .before .before .before .before .pre .0, turn (c .loop-test .taken) ((c .before .loop .inv) .1 (c .before .before .before .before .before .pre .0) (c .before .before .before .before .before .pre .1)) .clause)
+
 undeclared-clause-requires : tie.Need-undeclared-clause-requires Inv-loop μ-loop
-undeclared-clause-requires c κs = (c .before .before .before .before .before .pre .0, turn (c .loop-test .taken) ((c .before .loop .inv) .1 (c .before .before .before .before .before .pre .0) (c .before .before .before .before .before .pre .1)) .clause)
+undeclared-clause-requires c κs = (c .before .before .before .before .before .before .pre .0, turn (c .before .loop-test .taken) ((c .before .before .loop .inv) .1 (c .before .before .before .before .before .before .pre .0) (c .before .before .before .before .before .before .pre .1)) .clause)
 
 is-fault-requires : tie.Need-is-fault-requires Inv-loop μ-loop
 is-fault-requires c κs = tt
 
 returns : tie.Need-returns Inv-loop μ-loop
-returns c = λ d w. clauses-stopped (undeclaredClause (d .list)) (undeclared-goes (d .list)) (c .before .before .before .loop-test .taken) (c .before .before .undeclared-clause .result) ((c .before .before .undeclared-clause .ensures) d) (sym (c .before .is-fault .ensures) ∙ (c .if1 .taken)) ((c .before .before .before .before .loop .inv) .1 d w)
+returns c = λ d w. clauses-stopped (undeclaredClause (d .list)) (undeclared-goes (d .list)) (c .before .before .before .before .loop-test .taken) (c .before .before .undeclared-clause .result) ((c .before .before .undeclared-clause .ensures) d) (sym (c .before .is-fault .ensures) ∙ (c .if1 .taken)) ((c .before .before .before .before .before .loop .inv) .1 d w)
 
 past-clause-requires : tie.Need-past-clause-requires Inv-loop μ-loop
-past-clause-requires c κs = ((c .before .before .before .before .before .before .before .before .args .s .now), turn (c .before .before .before .loop-test .taken) ((c .before .before .before .before .loop .inv) .1 (c .before .before .before .before .before .before .before .before .pre .0) (c .before .before .before .before .before .before .before .before .pre .1)) .clause)
+past-clause-requires c κs = ((c .before .before .before .before .before .before .before .before .before .args .s .now), turn (c .before .before .before .before .loop-test .taken) ((c .before .before .before .before .before .loop .inv) .1 (c .before .before .before .before .before .before .before .before .before .pre .0) (c .before .before .before .before .before .before .before .before .before .pre .1)) .clause)
 
 loop-less : tie.Need-loop-less Inv-loop μ-loop
 loop-less c = omega arith
 
 loop-again : tie.Need-loop-again Inv-loop μ-loop
-loop-again c = (omega arith, λ d w. clauses-on (undeclaredClause (d .list)) (undeclared-goes (d .list)) (c .before .before .before .before .loop-test .taken) (c .before .before .before .undeclared-clause .result) ((c .before .before .before .undeclared-clause .ensures) d) (sym (c .before .before .is-fault .ensures) ∙ (c .before .if1 .left)) (c .past-clause .result) ((c .past-clause .ensures) (c .before .before .before .before .before .before .before .before .before .args .s .now)) ((c .before .before .before .before .before .loop .inv) .1 d w))
+loop-again c = (omega arith, λ d w. clauses-on (undeclaredClause (d .list)) (undeclared-goes (d .list)) (c .before .before .before .before .before .loop-test .taken) (c .before .before .before .undeclared-clause .result) ((c .before .before .before .undeclared-clause .ensures) d) (sym (c .before .before .is-fault .ensures) ∙ (c .before .if1 .left)) (c .past-clause .result) ((c .past-clause .ensures) (c .before .before .before .before .before .before .before .before .before .before .args .s .now)) ((c .before .before .before .before .before .before .loop .inv) .1 d w))
 
 returns-2 : tie.Need-returns-2 Inv-loop μ-loop
 returns-2 c = λ d w. ended (c .loop-test .left) ((c .before .loop .inv) .1 d w) (undeclared-none (d .list) (suc (c .before .loop .i)))
@@ -49,6 +52,7 @@ undeclared-clauses-spec =
     μ-loop
     loop-holds
     add-number
+    head-near-requires
     undeclared-clause-requires
     is-fault-requires
     returns
