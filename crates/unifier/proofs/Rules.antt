@@ -152,6 +152,15 @@ pub rows-done : (b : List Binding) → unifyRows b rnil rnil ≡ some b
 unfolding unifyRows bound
 rows-done b = one-round b (app [] rnil) (app [] rnil) same (row-difference b rnil rnil ∙ differ-all-refl (resolveAll b rnil))
 
+-- rows that are equal already unify with no binding, and rows that do are equal
+pub rows-equal : (b : List Binding) (ts us : RTerms) → resolve b (app [] ts) ≡ resolve b (app [] us) → unifyRows b ts us ≡ some b
+unfolding unifyRows bound
+rows-equal b ts us e = one-round b (app [] ts) (app [] us) same (ap (λ (x : RTerm). differ x (resolve b (app [] us))) e ∙ differ-refl (resolve b (app [] us)))
+
+pub equal-rows : (b : List Binding) (ts us : RTerms) → unifyRows b ts us ≡ some b → resolve b (app [] ts) ≡ resolve b (app [] us)
+unfolding unifyRows
+equal-rows b ts us e = unify-some b (app [] ts) (app [] us) b e .equal
+
 module _ (b : List Binding) (t u : RTerm) (ts us : RTerms) where
   -- same: two terms that are equal already
   pub rows-same : resolve b t ≡ resolve b u → unifyRows b (rcons t ts) (rcons u us) ≡ unifyRows b ts us
@@ -177,13 +186,13 @@ module _ (b : List Binding) (t u : RTerm) (ts us : RTerms) where
           ∙ (ap₂ differAll (sym (resolve-followed b1 l ts)) (sym (resolve-followed b1 r us)) ∙ sym (row-difference b1 (followed l ts) (followed r us)))))
 
 -- clash: two names that differ, or have different numbers of arguments
-tail-of : (t u : RTerm) (ts us : RTerms) → app [] (rcons t ts) ≡ app [] (rcons u us) → t ≡ u
+pub tail-of : (t u : RTerm) (ts us : RTerms) → app [] (rcons t ts) ≡ app [] (rcons u us) → t ≡ u
 tail-of t u ts us e = cc
 
 name-of-app : (f g : List ℕ) (l r : RTerms) → app f l ≡ app g r → f ≡ g
 name-of-app f g l r e = cc
 
-args-of-app : (f g : List ℕ) (l r : RTerms) → app f l ≡ app g r → l ≡ r
+pub args-of-app : (f g : List ℕ) (l r : RTerms) → app f l ≡ app g r → l ≡ r
 args-of-app f g l r e = cc
 
 stands : (a : Bool) → T a → (d : Difference) → cond a clash d ≡ clash
@@ -204,6 +213,15 @@ replaced v s = go (sameVariable v v) (variable-refl v)
     go : (a : Bool) → T a → cond a s (var v) ≡ s
     go true h = refl
     go false h = absurd h
+
+-- a variable bound to a term in which it does not stand is equal to it
+pub left-bound : (b : List Binding) (t u : RTerm) (v : Variable) → resolve b t ≡ var v → (T (occurs v (resolve b u)) → ⊥) → resolve (record { variable = v; term = resolve b u } ∷ b) t ≡ resolve (record { variable = v; term = resolve b u } ∷ b) u
+unfolding resolve
+left-bound b t u v p z = ap (replace v (resolve b u)) p ∙ (replaced v (resolve b u) ∙ sym (replace-away v (resolve b u) (resolve b u) z))
+
+pub right-bound : (b : List Binding) (t u : RTerm) (v : Variable) → resolve b u ≡ var v → (T (occurs v (resolve b t)) → ⊥) → resolve (record { variable = v; term = resolve b t } ∷ b) t ≡ resolve (record { variable = v; term = resolve b t } ∷ b) u
+unfolding resolve
+right-bound b t u v p z = replace-away v (resolve b t) (resolve b t) z ∙ sym (ap (replace v (resolve b t)) p ∙ replaced v (resolve b t))
 
 module _ (b : List Binding) (t u : RTerm) (ts us : RTerms) where
   -- what unifies two rows makes their first terms equal
@@ -245,16 +263,10 @@ module _ (b : List Binding) (t u : RTerm) (ts us : RTerms) where
   bound-away v s e q = begin v s e ∙ rows-same (record { variable = v; term = s } ∷ b) t u ts us q
 
   pub rows-bind-left : (v : Variable) → resolve b t ≡ var v → differ (var v) (resolve b u) ≡ apart v (resolve b u) → (T (occurs v (resolve b u)) → ⊥) → unifyRows b (rcons t ts) (rcons u us) ≡ unifyRows (record { variable = v; term = resolve b u } ∷ b) ts us
-  unfolding resolve
-  rows-bind-left v p e z =
-      bound-away v (resolve b u) (ap (λ (x : RTerm). differ x (resolve b u)) p ∙ e)
-      (ap (replace v (resolve b u)) p ∙ (replaced v (resolve b u) ∙ sym (replace-away v (resolve b u) (resolve b u) z)))
+  rows-bind-left v p e z = bound-away v (resolve b u) (ap (λ (x : RTerm). differ x (resolve b u)) p ∙ e) (left-bound b t u v p z)
 
   pub rows-bind-right : (v : Variable) → resolve b u ≡ var v → differ (resolve b t) (var v) ≡ apart v (resolve b t) → (T (occurs v (resolve b t)) → ⊥) → unifyRows b (rcons t ts) (rcons u us) ≡ unifyRows (record { variable = v; term = resolve b t } ∷ b) ts us
-  unfolding resolve
-  rows-bind-right v p e z =
-      bound-away v (resolve b t) (ap (differ (resolve b t)) p ∙ e)
-      (replace-away v (resolve b t) (resolve b t) z ∙ sym (ap (replace v (resolve b t)) p ∙ replaced v (resolve b t)))
+  rows-bind-right v p e z = bound-away v (resolve b t) (ap (differ (resolve b t)) p ∙ e) (right-bound b t u v p z)
 
 -- ---- which variable is bound
 

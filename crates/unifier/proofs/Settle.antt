@@ -5,6 +5,7 @@ use mathlib.Core.Path.{_≡_, refl, sym, ap, ap₂, _∙_, subst, subst⁻¹}
 use mathlib.Core.Bool.{Bool, true, false}
 use mathlib.Core.List.{List, [], _∷_, _++_}
 use mathlib.Core.Option.{none}
+use mathlib.Core.Logic.{inr}
 use lib.Dec.{T, eqb}
 use lib.ListN.{length, getD}
 use borrow.Author.Tests.{eqb-true, eqb-false}
@@ -12,18 +13,21 @@ use Rattle.machine.specs.Substitution.{Variable, sameVariable, isLater, RTerm, 
 use Rattle.machine.proofs.Tests.{variable-eq}
 use Rattle.machine.proofs.Terms.{resolveAll, resolve-app}
 use Rattle.layout.specs.Nodes.{Symbol, nameOf, Node, Row, termAt, termsAt, followed, count}
-use Rattle.layout.specs.State.{cellOf, variableOf, cellAt, bindings, Store}
+use Rattle.layout.specs.State.{cellOf, variableOf, wordOf, cellAt, valueOf, bindings, Store}
 use Rattle.layout.proofs.Nodes.{node-inside, node-end, variable-at, compound-at, same-count, other-symbol}
 use Rattle.layout.proofs.State.{variable-cell, cell-eq, cell-small, resolve-unbound}
 use Rattle.unifier.specs.Rows.{unifyRows, nodesOf, sizeOf}
-use Rattle.unifier.specs.Stacks.{leftAt, rightAt, pairWords, SameMarks, Roomy, endOf, wholeOf, rowOf, rowsOf, Half, Via, Stack}
-use Rattle.unifier.specs.Turns.{Work, Goes, Binds, Turns, Reached, Crossed, Settled}
+use Rattle.unifier.specs.Memos.{Found}
+use Rattle.unifier.specs.Stacks.{leftAt, rightAt, pairWords, SameMarks, Roomy, endOf, wholeOf, rowOf, rowsOf, Half, Via, Stack, SameRows, nothing, Closes}
+use Rattle.unifier.specs.Turns.{Work, Goes, Binds, Turns, Reached, Crossed, Openable, Settled}
 use Rattle.unifier.specs.declared.stack.Side.{Side}
 use Rattle.unifier.specs.declared.solve.Turn.{Turn}
 use Rattle.unifier.specs.declared.solve.Turn.the-variants.{Go, Clash, Bind}
-use Rattle.unifier.proofs.Rules.{rows-same, rows-open, rows-clash, rows-occurs-left, rows-occurs-right, rows-bind-left, rows-bind-right, left-is-bound, right-is-bound, later-cell, earlier-cell, count-resolve}
+use Rattle.unifier.proofs.Rules.{rows-same, rows-open, rows-clash, rows-occurs-left, rows-occurs-right, rows-bind-left, rows-bind-right, left-is-bound, right-is-bound, left-bound, right-bound, later-cell, earlier-cell, count-resolve}
 use Rattle.unifier.proofs.Rowwise.{size-cons, size-app, size-followed}
-use Rattle.unifier.proofs.Stacked.{pair-long, pair-marks, pair-left, pair-right, pair-left-others, pair-right-others, rows-agree, rows-top, half-agrees, half-pushed, stack-agrees, height}
+use Rattle.unifier.proofs.Closing.{equal-named, closes-settled, closes-bound, closes-pushed}
+use Rattle.unifier.proofs.Remembering.{value-word, memo-kept, memo-found}
+use Rattle.unifier.proofs.Stacked.{pair-long, pair-others, pair-marks, pair-left, pair-right, pair-left-others, pair-right-others, rows-agree, rows-top, half-agrees, half-pushed, stack-agrees, height}
 
 marks-refl : (scratch : List ℕ) → SameMarks scratch scratch
 marks-refl scratch = record { long = refl; words = λ j l. refl }
@@ -99,6 +103,8 @@ module _ (nodes scratch : List ℕ) (h p c q d : ℕ) (g : Crossed nodes scratch
         down = down;
         stands = stands;
         free = λ z. rows-bind-left b t u ls rs (variableOf x) (is-open (g .work .ss) nodes (g .state) (g .n) (g .work .top) p c (g .work .store) (g .left) l) (left-is-bound (variableOf x) (resolve b u) z later) z;
+        memo = g .work .memo;
+        closes = λ z. closes-bound (g .work .ss) nodes b (leftAt scratch) (rightAt scratch) h t u (record { variable = variableOf x; term = resolve b u }) (left-bound b t u (variableOf x) (is-open (g .work .ss) nodes (g .state) (g .n) (g .work .top) p c (g .work .store) (g .left) l) z) (g .closes);
       }
 
   bind-right : getD nodes q 0 < 64 → ((w : Variable) → resolve b t ≡ var w → isLater w (variableOf y) ≡ false) → (getD nodes p 0 < 64 → x < y)
@@ -117,7 +123,23 @@ module _ (nodes scratch : List ℕ) (h p c q d : ℕ) (g : Crossed nodes scratch
         down = down;
         stands = stands;
         free = λ z. rows-bind-right b t u ls rs (variableOf y) (is-open (g .work .ss) nodes (g .state) (g .n) (g .work .top) q d (g .work .store) (g .right) l) (right-is-bound (variableOf y) (resolve b t) z later) z;
+        memo = g .work .memo;
+        closes = λ z. closes-bound (g .work .ss) nodes b (leftAt scratch) (rightAt scratch) h t u (record { variable = variableOf y; term = resolve b t }) (right-bound b t u (variableOf y) (is-open (g .work .ss) nodes (g .state) (g .n) (g .work .top) q d (g .work .store) (g .right) l) z) (g .closes);
       }
+
+  -- two terms that are equal already
+  pub settle-equal : resolve (bindings (g .work .ss) nodes (g .state) (g .n)) (termAt (g .work .ss) nodes p c) ≡ resolve (bindings (g .work .ss) nodes (g .state) (g .n)) (termAt (g .work .ss) nodes q d) → Settled nodes scratch scratch h p c q d g (Go h)
+  unfolding b t u ls rs
+  settle-equal e = (
+    marks-refl scratch,
+    record {
+      stack = g .work .stack;
+      means = rows-same b t u ls rs e;
+      less = (let s : sizeOf b (rcons t ls) ≡ nodesOf (resolve b t) + sizeOf b ls = size-cons b t ls in let o : 1 ≤ nodesOf (resolve b t) = nodes-some (resolve b t) in omega arith);
+      memo = g .work .memo;
+      closes = closes-settled (g .work .ss) nodes b (leftAt scratch) (rightAt scratch) h t u e (g .closes);
+    },
+  )
 
   -- ---- two variables
 
@@ -132,14 +154,7 @@ module _ (nodes scratch : List ℕ) (h p c q d : ℕ) (g : Crossed nodes scratch
 
     pub settle-same : cellOf c (getD nodes p 0) ≡ cellOf d (getD nodes q 0) → Settled nodes scratch scratch h p c q d g (Go h)
     unfolding b t u ls rs x y
-    settle-same e = (
-      marks-refl scratch,
-      record {
-        stack = g .work .stack;
-        means = rows-same b t u ls rs (left-is ∙ (ap (λ (k : ℕ). var (variableOf k)) e ∙ sym right-is));
-        less = (let s : sizeOf b (rcons t ls) ≡ nodesOf (resolve b t) + sizeOf b ls = size-cons b t ls in let o : 1 ≤ nodesOf (resolve b t) = nodes-some (resolve b t) in omega arith);
-      },
-    )
+    settle-same e = settle-equal (left-is ∙ (ap (λ (k : ℕ). var (variableOf k)) e ∙ sym right-is))
 
     pub settle-later : cellOf d (getD nodes q 0) < cellOf c (getD nodes p 0) → Settled nodes scratch scratch h p c q d g (Bind h (cellOf c (getD nodes p 0)) q d)
     unfolding b t u ls rs x y
@@ -240,11 +255,9 @@ module _ (nodes scratch : List ℕ) (h p c q d : ℕ) (g : Crossed nodes scratch
               (subst⁻¹ (λ (s : Side). Via (bindings (g .work .ss) nodes (g .state) (g .n)) (g .work .stack .via k) (wholeOf (g .work .ss) nodes (leftAt scratch k)) (wholeOf (g .work .ss) nodes s)) (a1 k (under k i z)) (g .work .stack .vias k o (under k i z)))
 
       -- there is room for it
-      pub settle-room : 32768 + h * 6 + 5 < length scratch
-      settle-room =
-          let k : suc h ≤ 32769 = height (g .work .ss) nodes (bindings (g .work .ss) nodes (g .state) (g .n)) (g .work .top) l r (suc h) (pushed l r (λ k o. l-is k o (eqb k h) refl) (l-top (eqb h h) refl) (λ k o. r-is k o (eqb k h) refl) (r-top (eqb h h) refl)) in
-          let o : 229382 ≤ length scratch = g .work .roomy in
-          omega arith
+      settle-height : suc h ≤ 32769
+      settle-height =
+          height (g .work .ss) nodes (bindings (g .work .ss) nodes (g .state) (g .n)) (g .work .top) l r (suc h) (pushed l r (λ k o. l-is k o (eqb k h) refl) (l-top (eqb h h) refl) (λ k o. r-is k o (eqb k h) refl) (r-top (eqb h h) refl))
         where
           pick : Side → Side → Bool → Side
           pick new old true = new
@@ -272,6 +285,18 @@ module _ (nodes scratch : List ℕ) (h p c q d : ℕ) (g : Crossed nodes scratch
           r-top true z = refl
           r-top false z = absurd (eqb-false h h z refl)
 
+      pub settle-room : 32768 + h * 6 + 5 < length scratch
+      settle-room = let k : suc h ≤ 32769 = settle-height in let o : 278535 ≤ length scratch = g .work .roomy in omega arith
+
+      -- arguments that are equal make the two terms equal
+      opens : (newer : List Binding) → resolve (newer ++ bindings (g .work .ss) nodes (g .state) (g .n)) (app [] al) ≡ resolve (newer ++ bindings (g .work .ss) nodes (g .state) (g .n)) (app [] ar)
+          → resolve (newer ++ bindings (g .work .ss) nodes (g .state) (g .n)) (termAt (g .work .ss) nodes p c) ≡ resolve (newer ++ bindings (g .work .ss) nodes (g .state) (g .n)) (termAt (g .work .ss) nodes q d)
+      unfolding al ar
+      opens newer e =
+          ap (resolve (newer ++ bindings (g .work .ss) nodes (g .state) (g .n))) (compound-at (g .work .ss) nodes p (g .left .node) c hp)
+          ∙ (equal-named (newer ++ bindings (g .work .ss) nodes (g .state) (g .n)) al ar e (nameOf (g .work .ss) (getD nodes p 0 - 64))
+          ∙ sym (ap (resolve (newer ++ bindings (g .work .ss) nodes (g .state) (g .n))) (compound-at (g .work .ss) nodes q (g .right .node) d hq ∙ ap (λ (k : ℕ). app (nameOf (g .work .ss) (k - 64)) ar) (sym w))))
+
       pub settle-open : (after : List ℕ) → after ≡ pairWords scratch h p (p + 2) c q (q + 2) d → Settled nodes scratch after h p c q d g (Go (h + 1))
       unfolding b t u ls rs al ar
       settle-open after e =
@@ -293,6 +318,11 @@ module _ (nodes scratch : List ℕ) (h p c q d : ℕ) (g : Crossed nodes scratch
                   let m : nodesOf (resolve b t) ≡ suc (sizeOf b al) = ap (λ (v : RTerm). nodesOf (resolve b v)) (compound-at (g .work .ss) nodes p (g .left .node) c hp) ∙ size-app b (nameOf (g .work .ss) (getD nodes p 0 - 64)) al in
                   let o : sizeOf b (rowsOf (g .work .ss) nodes (leftAt (pairWords scratch h p (p + 2) c q (q + 2) d)) (h + 1)) ≡ sizeOf b al + sizeOf b ls = ap (sizeOf b) left-rows ∙ size-followed b al ls in
                   omega arith);
+              memo = memo-kept (g .work .ss) nodes b scratch (g .work .memo) (pairWords scratch h p (p + 2) c q (q + 2) d) (λ j o. pair-others scratch h p (p + 2) c q (q + 2) d fits j (inr (let z : suc h ≤ 32769 = settle-height in omega arith)));
+              closes = subst (λ (i : ℕ). Closes (g .work .ss) nodes b (leftAt (pairWords scratch h p (p + 2) c q (q + 2) d)) (rightAt (pairWords scratch h p (p + 2) c q (q + 2) d)) i nothing nothing) more
+                  (closes-pushed (g .work .ss) nodes b (leftAt scratch) (rightAt scratch) (leftAt (pairWords scratch h p (p + 2) c q (q + 2) d)) (rightAt (pairWords scratch h p (p + 2) c q (q + 2) d)) h t u l-below r-below
+                  (ap (wholeOf (g .work .ss) nodes) l-top) (ap (wholeOf (g .work .ss) nodes) r-top)
+                  (λ newer e1. opens newer (sym (ap (λ (s : Side). resolve (newer ++ b) (app [] (rowOf (g .work .ss) nodes s))) l-top) ∙ (e1 ∙ ap (λ (s : Side). resolve (newer ++ b) (app [] (rowOf (g .work .ss) nodes s))) r-top))) (g .closes));
             },
           ))
 
@@ -326,21 +356,54 @@ module _ (nodes scratch : List ℕ) (h p c q d : ℕ) (g : Crossed nodes scratch
   pub read-clash : 64 ≤ w → 64 ≤ z → (w ≡ z → ⊥) → Settled nodes scratch scratch h p c q d g Clash
   read-clash hp hq n = settle-clash nodes scratch h p c q d g (subst (λ (k : ℕ). 64 ≤ k) ew hp) (subst (λ (k : ℕ). 64 ≤ k) ez hq) (λ e. n (ew ∙ (e ∙ sym ez)))
 
-  pub read-room : 64 ≤ w → 64 ≤ z → w ≡ z → (32768 + h * 6 + 5 < length scratch) × (((p < 2 ^ 32) × ((p + 2 < 2 ^ 32) × (c < 2 ^ 32))) × ((q < 2 ^ 32) × ((q + 2 < 2 ^ 32) × (d < 2 ^ 32))))
-  read-room hp hq e =
-      let room : 32768 + h * 6 + 5 < length scratch = settle-room nodes scratch h p c q d g (subst (λ (k : ℕ). 64 ≤ k) ew hp) (subst (λ (k : ℕ). 64 ≤ k) ez hq) (sym ew ∙ (e ∙ ez)) in
-      let a : p + 2 ≤ length nodes = settle-inside nodes scratch h p c q d g .0 in
-      let b1 : q + 2 ≤ length nodes = settle-inside nodes scratch h p c q d g .1 .0 in
-      let s : length nodes ≤ 65536 = settle-inside nodes scratch h p c q d g .1 .1 in
-      let cl : c < 256 = g .left .copy in
-      let dl : d < 256 = g .right .copy in
+  pub read-openable : 64 ≤ w → 64 ≤ z → w ≡ z → Openable scratch h p c q d
+  read-openable hp hq e = record { nodes = nodes; crossed = g; name = subst (λ (k : ℕ). 64 ≤ k) ew hp; same = sym ew ∙ (e ∙ ez) }
+
+  pub read-open : (hp : 64 ≤ w) (hq : 64 ≤ z) (e : w ≡ z) (after : List ℕ) (r : Turn) → ((k : Openable scratch h p c q d) → Settled (k .nodes) scratch after h p c q d (k .crossed) r) → Settled nodes scratch after h p c q d g r
+  unfolding read-openable
+  read-open hp hq e after r k = k (read-openable hp hq e)
+
+-- ---- two names that are the same
+
+module _ (scratch : List ℕ) (h p c q d : ℕ) (g : Openable scratch h p c q d) where
+  other-name : 64 ≤ getD (g .nodes) q 0
+  other-name = subst (λ (k : ℕ). 64 ≤ k) (g .same) (g .name)
+
+  pub open-small : ((p + 2 ≤ 65536) × (q + 2 ≤ 65536)) × (((c < 256) × (d < 256)) × (278535 ≤ length scratch))
+  open-small =
+      let a : p + 2 ≤ length (g .nodes) = settle-inside (g .nodes) scratch h p c q d (g .crossed) .0 in
+      let b1 : q + 2 ≤ length (g .nodes) = settle-inside (g .nodes) scratch h p c q d (g .crossed) .1 .0 in
+      let s : length (g .nodes) ≤ 65536 = settle-inside (g .nodes) scratch h p c q d (g .crossed) .1 .1 in
+      ((omega arith, omega arith), ((g .crossed .left .copy, g .crossed .right .copy), g .crossed .work .roomy))
+
+  words-equal : resolve (bindings (g .crossed .work .ss) (g .nodes) (g .crossed .state) (g .crossed .n)) (valueOf (g .crossed .work .ss) (g .nodes) (wordOf p c)) ≡ resolve (bindings (g .crossed .work .ss) (g .nodes) (g .crossed .state) (g .crossed .n)) (valueOf (g .crossed .work .ss) (g .nodes) (wordOf q d))
+      → Settled (g .nodes) scratch scratch h p c q d (g .crossed) (Go h)
+  words-equal e =
+      settle-equal (g .nodes) scratch h p c q d (g .crossed)
+      (ap (resolve (bindings (g .crossed .work .ss) (g .nodes) (g .crossed .state) (g .crossed .n))) (sym (value-word (g .crossed .work .ss) (g .nodes) p c (g .crossed .left .copy)))
+      ∙ (e ∙ ap (resolve (bindings (g .crossed .work .ss) (g .nodes) (g .crossed .state) (g .crossed .n))) (value-word (g .crossed .work .ss) (g .nodes) q d (g .crossed .right .copy))))
+
+  -- one term
+  pub open-same : wordOf p c ≡ wordOf q d → Settled (g .nodes) scratch scratch h p c q d (g .crossed) (Go h)
+  open-same e = words-equal (ap (λ (k : ℕ). resolve (bindings (g .crossed .work .ss) (g .nodes) (g .crossed .state) (g .crossed .n)) (valueOf (g .crossed .work .ss) (g .nodes) k)) e)
+
+  -- a pair of the memo
+  pub open-known : Found scratch (wordOf p c) (wordOf q d) → Settled (g .nodes) scratch scratch h p c q d (g .crossed) (Go h)
+  open-known f = words-equal (memo-found (g .crossed .work .ss) (g .nodes) (bindings (g .crossed .work .ss) (g .nodes) (g .crossed .state) (g .crossed .n)) scratch (g .crossed .work .memo) (wordOf p c) (wordOf q d) f)
+
+  pub open-room : (32768 + h * 6 + 5 < length scratch) × (((p < 2 ^ 32) × ((p + 2 < 2 ^ 32) × (c < 2 ^ 32))) × ((q < 2 ^ 32) × ((q + 2 < 2 ^ 32) × (d < 2 ^ 32))))
+  open-room =
+      let room : 32768 + h * 6 + 5 < length scratch = settle-room (g .nodes) scratch h p c q d (g .crossed) (g .name) other-name (g .same) in
+      let a : p + 2 ≤ 65536 = open-small .0 .0 in
+      let b1 : q + 2 ≤ 65536 = open-small .0 .1 in
+      let cl : c < 256 = g .crossed .left .copy in
+      let dl : d < 256 = g .crossed .right .copy in
       (room, ((omega arith, (omega arith, omega arith)), (omega arith, (omega arith, omega arith))))
 
-  pub read-high : 64 ≤ w → 64 ≤ z → w ≡ z → h < 40000
-  read-high hp hq e = let k : suc h ≤ 32769 + 1 = height-now in omega arith
-    where
-      height-now : suc h ≤ 32769 + 1
-      height-now = let k : h ≤ 32769 = height (g .work .ss) nodes (bindings (g .work .ss) nodes (g .state) (g .n)) (g .work .top) (leftAt scratch) (rightAt scratch) h (g .work .stack) in omega arith
+  pub open-high : h < 40000
+  open-high =
+      let k : h ≤ 32769 = height (g .crossed .work .ss) (g .nodes) (bindings (g .crossed .work .ss) (g .nodes) (g .crossed .state) (g .crossed .n)) (g .crossed .work .top) (leftAt scratch) (rightAt scratch) h (g .crossed .work .stack) in
+      omega arith
 
-  pub read-open : 64 ≤ w → 64 ≤ z → w ≡ z → (after : List ℕ) → after ≡ pairWords scratch h p (p + 2) c q (q + 2) d → Settled nodes scratch after h p c q d g (Go (h + 1))
-  read-open hp hq e = settle-open nodes scratch h p c q d g (subst (λ (k : ℕ). 64 ≤ k) ew hp) (subst (λ (k : ℕ). 64 ≤ k) ez hq) (sym ew ∙ (e ∙ ez))
+  pub open-pushed : (after : List ℕ) → after ≡ pairWords scratch h p (p + 2) c q (q + 2) d → Settled (g .nodes) scratch after h p c q d (g .crossed) (Go (h + 1))
+  open-pushed = settle-open (g .nodes) scratch h p c q d (g .crossed) (g .name) other-name (g .same)

@@ -14,12 +14,15 @@ use Rattle.layout.proofs.Nodes.{node-inside}
 use Rattle.layout.proofs.State.{bind-store, bind-keeps, bind-means, bind-within, keeps-refl, keeps-trans, room}
 use Rattle.unifier.specs.Rows.{unifyRows, sizeOf}
 use Rattle.unifier.specs.Queues.{Clean, Checkable, Checked}
-use Rattle.unifier.specs.Stacks.{leftAt, rightAt, SameMarks, Roomy, rowsOf, Stack}
-use Rattle.unifier.specs.Turns.{Work, Goes, Binds, Turns, Turned, Turnable, Ends, Advanced, Solvable, Solved, answered}
+use Rattle.unifier.specs.Memos.{Memo}
+use Rattle.unifier.specs.Stacks.{leftAt, rightAt, SameMarks, Roomy, rowsOf, Stack, nothing, Closes}
+use Rattle.unifier.specs.Turns.{Work, Goes, Binds, Turns, Turned, Turnable, Ready, Ends, Advanced, Solvable, Solved, answered}
 use Rattle.unifier.specs.declared.solve.Turn.{Turn}
 use Rattle.unifier.specs.declared.solve.Turn.the-variants.{Go, Clash, Bind}
 use Rattle.unifier.specs.declared.solve.Unified.{Unified}
 use Rattle.unifier.proofs.Rules.{rows-done}
+use Rattle.unifier.proofs.Closing.{closes-agree}
+use Rattle.unifier.proofs.Remembering.{memo-kept, memo-bound}
 use Rattle.unifier.proofs.Stacked.{left-kept, right-kept, rows-agree, stack-agrees, stack-bound}
 use Rattle.unifier.proofs.Bare.{size-bare}
 
@@ -29,13 +32,15 @@ pub record Advancing (ss : List Symbol) (nodes state before after : List ℕ) (t
   pub marks : SameMarks before after
   pub stack : Stack ss nodes (bindings ss nodes state n) top (leftAt after) (rightAt after) k
   pub means : unifyRows (bindings ss nodes state n) (rowsOf ss nodes (leftAt before) h) (rowsOf ss nodes (rightAt before) h) ≡ unifyRows (bindings ss nodes state n) (rowsOf ss nodes (leftAt after) k) (rowsOf ss nodes (rightAt after) k)
+  pub memo : Memo ss nodes (bindings ss nodes state n) after
+  pub closes : Closes ss nodes (bindings ss nodes state n) (leftAt after) (rightAt after) k nothing nothing
 
 -- what is left to be done, whatever the symbols
 abbrev pub left-over : List ℕ → List ℕ → List ℕ → ℕ → ℕ → ℕ
 left-over nodes state scratch n k = 2 * sizeOf (bindings [] nodes state n) (rowsOf [] nodes (leftAt scratch) k) + k
 
-pub advance-begin : (nodes state scratch : List ℕ) (n h : ℕ) (g : Work nodes state scratch n h) → Advancing (g .ss) nodes state scratch scratch (g .top) n h h
-advance-begin nodes state scratch n h g = record { marks = record { long = refl; words = λ j l. refl }; stack = g .stack; means = refl }
+pub advance-begin : (nodes state scratch : List ℕ) (n h : ℕ) (g : Ready nodes state scratch n h) → Advancing (g .work .ss) nodes state scratch scratch (g .work .top) n h h
+advance-begin nodes state scratch n h g = record { marks = record { long = refl; words = λ j l. refl }; stack = g .work .stack; means = refl; memo = g .work .memo; closes = g .closes }
 
 no-rows : (ss : List Symbol) (nodes after : List ℕ) → (rowsOf ss nodes (leftAt after) 0 ≡ rnil) × (rowsOf ss nodes (rightAt after) 0 ≡ rnil)
 unfolding rowsOf
@@ -43,10 +48,11 @@ no-rows ss nodes after = (refl, refl)
 
 module _ (nodes state before after : List ℕ) (n h k : ℕ) (g : Work nodes state before n h) (a : Advancing (g .ss) nodes state before after (g .top) n h k) where
   pub advance-work : Work nodes state after n k
-  advance-work = record { ss = g .ss; top = g .top; store = g .store; within = g .within; roomy = (let e : length after ≡ length before = a .marks .long in let o : 229382 ≤ length before = g .roomy in omega arith); stack = a .stack }
+  advance-work = record { ss = g .ss; top = g .top; store = g .store; within = g .within; roomy = (let e : length after ≡ length before = a .marks .long in let o : 278535 ≤ length before = g .roomy in omega arith); stack = a .stack; memo = a .memo }
 
   pub advance-turn : 0 < k → Turnable nodes state after k
-  advance-turn l = record { n = n; work = advance-work; some = omega arith }
+  unfolding advance-work
+  advance-turn l = record { n = n; work = advance-work; some = omega arith; closes = a .closes }
 
   marks-on : (later : List ℕ) → SameMarks after later → SameMarks before later
   marks-on later x = record { long = x .long ∙ a .marks .long; words = λ j l. x .words j l ∙ a .marks .words j l }
@@ -61,7 +67,7 @@ module _ (nodes state before after : List ℕ) (n h k : ℕ) (g : Work nodes sta
     gone j e = subst (λ (x : Turn). Turned nodes state after later n k advance-work x) e came
 
     pub advance-next : (j : ℕ) → t ≡ Go j → Advancing (g .ss) nodes state before later (g .top) n h j
-    advance-next j e = record { marks = marks-on later (gone j e .0); stack = gone j e .1 .stack; means = a .means ∙ gone j e .1 .means }
+    advance-next j e = record { marks = marks-on later (gone j e .0); stack = gone j e .1 .stack; means = a .means ∙ gone j e .1 .means; memo = gone j e .1 .memo; closes = gone j e .1 .closes }
 
     pub advance-less : (j : ℕ) → t ≡ Go j → left-over nodes state later n j < left-over nodes state after n k
     advance-less j e =
@@ -76,7 +82,7 @@ module _ (nodes state before after : List ℕ) (n h k : ℕ) (g : Work nodes sta
 
     binds-of : (i x p q : ℕ) → Binds (advance-work .ss) nodes state (bindings (advance-work .ss) nodes state n) (advance-work .top) (rowsOf (advance-work .ss) nodes (leftAt after) k) (rowsOf (advance-work .ss) nodes (rightAt after) k) later i x p q → Binds (g .ss) nodes state (bindings (g .ss) nodes state n) (g .top) (rowsOf (g .ss) nodes (leftAt before) h) (rowsOf (g .ss) nodes (rightAt before) h) later i x p q
     unfolding advance-work
-    binds-of i x p q s = record { stack = s .stack; cell = s .cell; unbound = s .unbound; below = s .below; node = s .node; copy = s .copy; copy-below = s .copy-below; down = s .down; stands = λ z. a .means ∙ s .stands z; free = λ z. a .means ∙ s .free z }
+    binds-of i x p q s = record { stack = s .stack; cell = s .cell; unbound = s .unbound; below = s .below; node = s .node; copy = s .copy; copy-below = s .copy-below; down = s .down; stands = λ z. a .means ∙ s .stands z; free = λ z. a .means ∙ s .free z; memo = s .memo; closes = s .closes }
 
     pub advance-stop : ((j : ℕ) → t ≡ Go j → ⊥) → Advanced nodes state before later n h g t
     advance-stop z = go t z came
@@ -102,10 +108,12 @@ pub record Solving (ss : List Symbol) (nodes before after scratch later : List �
   pub long : length later ≡ length scratch
   pub stack : Stack ss nodes (bindings ss nodes after m) top (leftAt later) (rightAt later) h
   pub means : unifyRows (bindings ss nodes before n) (rowsOf ss nodes (leftAt scratch) 1) (rowsOf ss nodes (rightAt scratch) 1) ≡ unifyRows (bindings ss nodes after m) (rowsOf ss nodes (leftAt later) h) (rowsOf ss nodes (rightAt later) h)
+  pub memo : Memo ss nodes (bindings ss nodes after m) later
+  pub closes : Closes ss nodes (bindings ss nodes after m) (leftAt later) (rightAt later) h nothing nothing
 
 pub solve-begin : (nodes state scratch : List ℕ) (n : ℕ) (g : Solvable nodes state scratch n) → Solving (g .work .ss) nodes state state scratch scratch (g .work .top) n n 1
 solve-begin nodes state scratch n g =
-    record { grows = omega arith; store = g .work .store; within = g .work .within; keeps = keeps-refl n state; clean = g .clean; long = refl; stack = g .work .stack; means = refl }
+    record { grows = omega arith; store = g .work .store; within = g .work .within; keeps = keeps-refl n state; clean = g .clean; long = refl; stack = g .work .stack; means = refl; memo = g .work .memo; closes = g .closes }
 
 module _ (nodes before after scratch later : List ℕ) (n m h : ℕ) (g : Solvable nodes before scratch n) (s : Solving (g .work .ss) nodes before after scratch later (g .work .top) n m h) where
   abbrev pub ss : List Symbol
@@ -115,11 +123,16 @@ module _ (nodes before after scratch later : List ℕ) (n m h : ℕ) (g : Solvab
   b = bindings ss nodes after m
 
   pub solve-work : Work nodes after later m h
-  solve-work = record { ss = ss; top = g .work .top; store = s .store; within = s .within; roomy = (let e : length later ≡ length scratch = s .long in let o : 229382 ≤ length scratch = g .work .roomy in omega arith); stack = s .stack }
+  solve-work = record { ss = ss; top = g .work .top; store = s .store; within = s .within; roomy = (let e : length later ≡ length scratch = s .long in let o : 278535 ≤ length scratch = g .work .roomy in omega arith); stack = s .stack; memo = s .memo }
 
-  module _ (next : List ℕ) (t : Turn) (c : (w : Work nodes after later m h) → Advanced nodes after later next m h w t) where
+  pub solve-ready : Ready nodes after later m h
+  unfolding solve-work
+  solve-ready = record { work = solve-work; closes = s .closes }
+
+  module _ (next : List ℕ) (t : Turn) (c : (w : Ready nodes after later m h) → Advanced nodes after later next m h (w .work) t) where
     gave : Advanced nodes after later next m h solve-work t
-    gave = c solve-work
+    unfolding solve-ready
+    gave = c solve-ready
 
     clean-next : Clean next
     clean-next =
@@ -202,4 +215,6 @@ module _ (nodes before after scratch later : List ℕ) (n m h : ℕ) (g : Solvab
               long = long-end;
               stack = subst⁻¹ (λ (y : List Binding). Stack ss nodes y (g .work .top) (leftAt end) (rightAt end) k) now (stack-agrees ss nodes (new ∷ b) (g .work .top) (leftAt next) (rightAt next) (leftAt end) (rightAt end) k l-same r-same (stack-bound ss nodes b new (g .work .top) (leftAt next) (rightAt next) k (binds .stack)));
               means = s .means ∙ (binds .free (free f) ∙ (ap₂ (unifyRows (new ∷ b)) (sym (rows-agree ss nodes (leftAt next) (leftAt end) k l-same)) (sym (rows-agree ss nodes (rightAt next) (rightAt end) k r-same)) ∙ ap (λ (y : List Binding). unifyRows y (rowsOf ss nodes (leftAt end) k) (rowsOf ss nodes (rightAt end) k)) (sym now)));
+              memo = subst⁻¹ (λ (y : List Binding). Memo ss nodes y end) now (memo-bound ss nodes b end (memo-kept ss nodes b next (binds .memo) end (λ j o1. checked .keeps .others j (omega arith))) new);
+              closes = subst⁻¹ (λ (y : List Binding). Closes ss nodes y (leftAt end) (rightAt end) k nothing nothing) now (closes-agree ss nodes (new ∷ b) (leftAt next) (rightAt next) (leftAt end) (rightAt end) k nothing nothing l-same r-same (binds .closes (free f)));
             }))

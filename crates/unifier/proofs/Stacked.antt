@@ -68,7 +68,7 @@ module _ (scratch : List ℕ) (k root at copy other there second : ℕ) (fits : 
   unfolding pairWords
   pair-long = side-long (sideWords scratch (32768 + k * 6) root at copy) (32768 + k * 6 + 3) other there second fits-two ∙ first-long
 
-  pair-others : (j : ℕ) → (j < 32768 + k * 6) ⊎ (32768 + k * 6 + 6 ≤ j) → getD (pairWords scratch k root at copy other there second) j 0 ≡ getD scratch j 0
+  pub pair-others : (j : ℕ) → (j < 32768 + k * 6) ⊎ (32768 + k * 6 + 6 ≤ j) → getD (pairWords scratch k root at copy other there second) j 0 ≡ getD scratch j 0
   unfolding pairWords
   pair-others j (inl l) = side-others (sideWords scratch (32768 + k * 6) root at copy) (32768 + k * 6 + 3) other there second fits-two j (inl (omega arith)) ∙ side-others scratch (32768 + k * 6) root at copy (omega arith) j (inl (omega arith))
   pair-others j (inr l) = side-others (sideWords scratch (32768 + k * 6) root at copy) (32768 + k * 6 + 3) other there second fits-two j (inr (omega arith)) ∙ side-others scratch (32768 + k * 6) root at copy (omega arith) j (inr (omega arith))
@@ -107,6 +107,13 @@ left-kept before after w k = side-kept before after (32768 + k * 6) (λ j l h. w
 
 pub right-kept : (before after : List ℕ) → ((j : ℕ) → 32768 ≤ j → getD after j 0 ≡ getD before j 0) → (k : ℕ) → rightAt after k ≡ rightAt before k
 right-kept before after w k = side-kept before after (32768 + k * 6 + 3) (λ j l h. w j (omega arith))
+
+-- words before the memo as they were: so are the pairs of a stack that is not too high
+pub left-front : (before after : List ℕ) → ((j : ℕ) → j < 229382 → getD after j 0 ≡ getD before j 0) → (k : ℕ) → k < 32769 → leftAt after k ≡ leftAt before k
+left-front before after w k o = side-kept before after (32768 + k * 6) (λ j l h. w j (omega arith))
+
+pub right-front : (before after : List ℕ) → ((j : ℕ) → j < 229382 → getD after j 0 ≡ getD before j 0) → (k : ℕ) → k < 32769 → rightAt after k ≡ rightAt before k
+right-front before after w k o = side-kept before after (32768 + k * 6 + 3) (λ j l h. w j (omega arith))
 
 -- ---- rows
 

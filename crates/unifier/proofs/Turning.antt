@@ -9,16 +9,17 @@ use borrow.Author.Tests.{eqb-true, eqb-false}
 use mathlib.Core.Option.{none}
 use mathlib.Core.Logic.{_⊎_, inl, inr}
 use lib.ListN.{length, getD}
-use Rattle.machine.specs.Substitution.{RTerm, RTerms, var, rnil, rcons, Binding, resolve}
+use Rattle.machine.specs.Substitution.{RTerm, RTerms, var, app, rnil, rcons, Binding, resolve}
 use Rattle.layout.specs.Nodes.{Symbol, Node, Row, termAt, termsAt, followed, count}
-use Rattle.layout.specs.State.{cellOf, variableOf, bindings, Store, Within}
+use Rattle.layout.specs.State.{cellOf, variableOf, wordOf, valueOf, bindings, Store, Within}
 use Rattle.layout.proofs.Nodes.{node-inside, node-end, node-size, variable-at, row-first, row-rest, row-cons, row-order}
 use Rattle.layout.proofs.State.{variable-cell, cell-small}
 use Rattle.unifier.specs.Rows.{unifyRows, nodesOf, sizeOf}
 use Rattle.unifier.specs.Cells.{Given, Leads, Derefs}
 use Rattle.unifier.specs.Walks.{Beside, Walkable, Meets, Walks}
-use Rattle.unifier.specs.Stacks.{leftAt, rightAt, pairWords, SameMarks, Roomy, endOf, wholeOf, rowOf, rowsOf, Half, Via, Stack}
-use Rattle.unifier.specs.Turns.{Work, Goes, Binds, Turns, Turned, Reached, Crossed, Settled, Crossable, Crosses, Meetable, Turnable}
+use Rattle.unifier.specs.Memos.{Remembers}
+use Rattle.unifier.specs.Stacks.{leftAt, rightAt, pairWords, SameMarks, Roomy, endOf, wholeOf, rowOf, rowsOf, Half, Via, Stack, SameRows, nothing, Closes}
+use Rattle.unifier.specs.Turns.{Work, Goes, Binds, Turns, Turned, Reached, Crossed, Settled, Crossable, Crosses, Meetable, Passable, Turnable}
 use Rattle.unifier.specs.declared.stack.Side.{Side}
 use Rattle.unifier.specs.declared.walk.Walked.{Walked}
 use Rattle.unifier.specs.declared.walk.Walked.the-variants.{Done, Clash as Differ, Met}
@@ -26,17 +27,19 @@ use Rattle.unifier.specs.declared.solve.Turn.{Turn}
 use Rattle.unifier.specs.declared.solve.Turn.the-variants.{Go, Clash, Bind}
 use Rattle.unifier.proofs.Rules.{rows-first, resolve-append}
 use Rattle.unifier.proofs.Rowwise.{size-cons, size-followed, one-followed, right-some, count-one}
-use Rattle.unifier.proofs.Stacked.{pair-long, pair-marks, pair-left, pair-right, pair-left-others, pair-right-others, rows-agree, rows-top, half-moved, stack-less, height}
+use Rattle.unifier.proofs.Closing.{equal-cons, walk-equal, meet-equal, closes-agree, closes-terms, closes-less, closes-moved}
+use Rattle.unifier.proofs.Remembering.{value-word, memo-kept, memo-remembers}
+use Rattle.unifier.proofs.Stacked.{pair-long, pair-others, pair-marks, pair-left, pair-right, pair-left-others, pair-right-others, left-front, right-front, rows-agree, rows-top, half-moved, stack-agrees, stack-less, height}
 
 marks-trans : (a b c : List ℕ) → SameMarks a b → SameMarks b c → SameMarks a c
 marks-trans a b c x y = record { long = y .long ∙ x .long; words = λ j l. y .words j l ∙ x .words j l }
 
 -- rows that unify alike come to the same
 pub turns-alike : (ss : List Symbol) (nodes state : List ℕ) (b : List Binding) (top : ℕ) (ls rs ls′ rs′ : RTerms) (size size′ : ℕ) (after : List ℕ) (t : Turn) → unifyRows b ls rs ≡ unifyRows b ls′ rs′ → size′ ≤ size → Turns ss nodes state b top ls′ rs′ size′ after t → Turns ss nodes state b top ls rs size after t
-turns-alike ss nodes state b top ls rs ls′ rs′ size size′ after (Go k) e l g = record { stack = g .stack; means = e ∙ g .means; less = (let z : 2 * sizeOf b (rowsOf ss nodes (leftAt after) k) + k < size′ = g .less in omega arith) }
+turns-alike ss nodes state b top ls rs ls′ rs′ size size′ after (Go k) e l g = record { stack = g .stack; means = e ∙ g .means; less = (let z : 2 * sizeOf b (rowsOf ss nodes (leftAt after) k) + k < size′ = g .less in omega arith); memo = g .memo; closes = g .closes }
 turns-alike ss nodes state b top ls rs ls′ rs′ size size′ after Clash e l g = e ∙ g
 turns-alike ss nodes state b top ls rs ls′ rs′ size size′ after (Bind k x p c) e l g =
-    record { stack = g .stack; cell = g .cell; unbound = g .unbound; below = g .below; node = g .node; copy = g .copy; copy-below = g .copy-below; down = g .down; stands = λ z. e ∙ g .stands z; free = λ z. e ∙ g .free z }
+    record { stack = g .stack; cell = g .cell; unbound = g .unbound; below = g .below; node = g .node; copy = g .copy; copy-below = g .copy-below; down = g .down; stands = λ z. e ∙ g .stands z; free = λ z. e ∙ g .free z; memo = g .memo; closes = g .closes }
 
 -- ---- the crossing
 
@@ -74,6 +77,7 @@ module _ (nodes state scratch : List ℕ) (h p c q d : ℕ) (g : Crossable nodes
               let y : nodesOf (resolve (newer ++ bindings (g .work .ss) nodes state (g .n)) (termAt (g .work .ss) nodes p c)) < nodesOf (resolve (newer ++ bindings (g .work .ss) nodes state (g .n)) (wholeOf (g .work .ss) nodes (leftAt scratch (h - 1)))) = g .inside l newer in omega arith);
           inside-right = λ l newer. (let x : nodesOf (resolve (newer ++ bindings (g .work .ss) nodes state (g .n)) (termAt (g .work .ss) nodes q1 d1)) ≡ nodesOf (resolve (newer ++ bindings (g .work .ss) nodes state (g .n)) (termAt (g .work .ss) nodes q d)) = later newer (termAt (g .work .ss) nodes q1 d1) (termAt (g .work .ss) nodes q d) (to-right .leads .means) in
               let y : nodesOf (resolve (newer ++ bindings (g .work .ss) nodes state (g .n)) (termAt (g .work .ss) nodes q d)) < nodesOf (resolve (newer ++ bindings (g .work .ss) nodes state (g .n)) (wholeOf (g .work .ss) nodes (rightAt scratch (h - 1)))) = g .inside-right l newer in omega arith);
+          closes = closes-terms (g .work .ss) nodes (bindings (g .work .ss) nodes state (g .n)) (leftAt scratch) (rightAt scratch) h (termAt (g .work .ss) nodes p c) (termAt (g .work .ss) nodes q d) (termAt (g .work .ss) nodes p1 c1) (termAt (g .work .ss) nodes q1 d1) (to-left .leads .means) (to-right .leads .means) (g .closes);
         }
 
     cell-of : (i j : ℕ) → Node (g .work .ss) nodes i → getD nodes i 0 < 64 → resolve (bindings (g .work .ss) nodes state (g .n)) (var (variableOf (cellOf j (getD nodes i 0)))) ≡ resolve (bindings (g .work .ss) nodes state (g .n)) (termAt (g .work .ss) nodes i j)
@@ -109,7 +113,8 @@ module _ (nodes state scratch : List ℕ) (h p c q d : ℕ) (g : Crossable nodes
 -- ---- the top pair moved past the crossing
 
 module _ (nodes state scratch : List ℕ) (n h p q : ℕ) (w : Work nodes state scratch n h) (some : 1 ≤ h)
-    (m : Meets (w .ss) nodes (leftAt scratch (h - 1) .at) (endOf nodes (leftAt scratch (h - 1))) (rightAt scratch (h - 1) .at) (endOf nodes (rightAt scratch (h - 1))) p q) where
+    (m : Meets (w .ss) nodes (leftAt scratch (h - 1) .at) (endOf nodes (leftAt scratch (h - 1))) (rightAt scratch (h - 1) .at) (endOf nodes (rightAt scratch (h - 1))) p q)
+    (cl : Closes (w .ss) nodes (bindings (w .ss) nodes state n) (leftAt scratch) (rightAt scratch) h nothing nothing) where
   abbrev pub b : List Binding
   b = bindings (w .ss) nodes state n
 
@@ -128,8 +133,11 @@ module _ (nodes state scratch : List ℕ) (n h p q : ℕ) (w : Work nodes state 
   abbrev pub mid : List ℕ
   mid = pairWords scratch (h - 1) (l0 .root) pa (l0 .copy) (r0 .root) qa (r0 .copy)
 
+  high : h ≤ 32769
+  high = height (w .ss) nodes b (w .top) (leftAt scratch) (rightAt scratch) h (w .stack)
+
   fits : 32768 + (h - 1) * 6 + 5 < length scratch
-  fits = let k : h ≤ 32769 = height (w .ss) nodes b (w .top) (leftAt scratch) (rightAt scratch) h (w .stack) in let o : 229382 ≤ length scratch = w .roomy in omega arith
+  fits = let k : h ≤ 32769 = high in let o : 278535 ≤ length scratch = w .roomy in omega arith
 
   under : (h - 1) < h
   under = omega arith
@@ -219,11 +227,28 @@ module _ (nodes state scratch : List ℕ) (n h p q : ℕ) (w : Work nodes state 
           subst⁻¹ (λ (s : Side). Via b (w .stack .via k) (wholeOf (w .ss) nodes s) (wholeOf (w .ss) nodes (rightAt mid k))) (left-below k u)
           (subst⁻¹ (λ (s : Side). Via b (w .stack .via k) (wholeOf (w .ss) nodes (leftAt scratch k)) (wholeOf (w .ss) nodes s)) (right-below k u) (w .stack .vias k o i))
 
+  -- the crossing's two terms and the rows behind them, equal: so are the rows
+  behind : (newer : List Binding) → resolve (newer ++ b) (termAt (w .ss) nodes p (l0 .copy)) ≡ resolve (newer ++ b) (termAt (w .ss) nodes q (r0 .copy)) → SameRows (w .ss) nodes (newer ++ b) (leftAt mid (h - 1)) (rightAt mid (h - 1)) → SameRows (w .ss) nodes (newer ++ b) l0 r0
+  behind newer e rows =
+      meet-equal (w .ss) nodes (l0 .at) (endOf nodes l0) (r0 .at) (endOf nodes r0) p q m (newer ++ b) (l0 .copy) (r0 .copy)
+      (ap (λ (ts : RTerms). resolve (newer ++ b) (app [] ts)) (left-cons (l0 .copy))
+      ∙ (equal-cons (newer ++ b) (termsAt (w .ss) nodes pa (endOf nodes l0) (l0 .copy)) (termsAt (w .ss) nodes qa (endOf nodes r0) (r0 .copy))
+      (sym (ap (λ (s : Side). resolve (newer ++ b) (app [] (rowOf (w .ss) nodes s))) left-top) ∙ (rows ∙ ap (λ (s : Side). resolve (newer ++ b) (app [] (rowOf (w .ss) nodes s))) right-top))
+      (termAt (w .ss) nodes p (l0 .copy)) (termAt (w .ss) nodes q (r0 .copy)) e
+      ∙ sym (ap (λ (ts : RTerms). resolve (newer ++ b) (app [] ts)) (right-cons (r0 .copy)))))
+
+  moved-closes : Closes (w .ss) nodes b (leftAt mid) (rightAt mid) h (termAt (w .ss) nodes p (l0 .copy)) (termAt (w .ss) nodes q (r0 .copy))
+  moved-closes =
+      subst (λ (i : ℕ). Closes (w .ss) nodes b (leftAt mid) (rightAt mid) i (termAt (w .ss) nodes p (l0 .copy)) (termAt (w .ss) nodes q (r0 .copy))) back
+      (closes-moved (w .ss) nodes b (leftAt scratch) (rightAt scratch) (leftAt mid) (rightAt mid) (h - 1) pa qa (termAt (w .ss) nodes p (l0 .copy)) (termAt (w .ss) nodes q (r0 .copy)) left-below right-below left-top right-top behind
+      (subst⁻¹ (λ (i : ℕ). Closes (w .ss) nodes b (leftAt scratch) (rightAt scratch) i nothing nothing) back cl))
+
   pub meet-crossable : Crossable nodes state mid h p (l0 .copy) q (r0 .copy)
   meet-crossable =
       record {
         n = n;
-        work = record { ss = w .ss; top = w .top; store = w .store; within = w .within; roomy = (let e : length mid ≡ length scratch = pair-long scratch (h - 1) (l0 .root) pa (l0 .copy) (r0 .root) qa (r0 .copy) fits in let o : 229382 ≤ length scratch = w .roomy in omega arith); stack = moved };
+        work = record { ss = w .ss; top = w .top; store = w .store; within = w .within; roomy = (let e : length mid ≡ length scratch = pair-long scratch (h - 1) (l0 .root) pa (l0 .copy) (r0 .root) qa (r0 .copy) fits in let o : 278535 ≤ length scratch = w .roomy in omega arith); stack = moved;
+            memo = memo-kept (w .ss) nodes b scratch (w .memo) mid (λ j o. pair-others scratch (h - 1) (l0 .root) pa (l0 .copy) (r0 .root) qa (r0 .copy) fits j (inr (let k : h ≤ 32769 = high in omega arith))) };
         some = some;
         left = left-node;
         right = right-node;
@@ -242,6 +267,7 @@ module _ (nodes state scratch : List ℕ) (n h p q : ℕ) (w : Work nodes state 
             let y : sizeOf (newer ++ b) (termsAt (w .ss) nodes q (endOf nodes r0) (r0 .copy)) ≡ nodesOf (resolve (newer ++ b) (termAt (w .ss) nodes q (r0 .copy))) + sizeOf (newer ++ b) (termsAt (w .ss) nodes qa (endOf nodes r0) (r0 .copy)) = right-size (newer ++ b) (r0 .copy) in
             let z : sizeOf (newer ++ b) (rowOf (w .ss) nodes r0) < nodesOf (resolve (newer ++ b) (wholeOf (w .ss) nodes r0)) = w .stack .right .small (h - 1) (omega arith) under newer in
             omega arith);
+        closes = moved-closes;
       }
 
   -- the rows of the stack are the two terms, and then the rows of the stack moved on
@@ -293,12 +319,12 @@ module _ (nodes state scratch : List ℕ) (n h p q : ℕ) (w : Work nodes state 
   canonical : Meets (w .ss) nodes (l .at) (endOf nodes l) (r .at) (endOf nodes r) p q → Meets (w .ss) nodes (leftAt scratch (h - 1) .at) (endOf nodes (leftAt scratch (h - 1))) (rightAt scratch (h - 1) .at) (endOf nodes (rightAt scratch (h - 1))) p q
   canonical m = subst (λ (y : Side). Meets (w .ss) nodes (leftAt scratch (h - 1) .at) (endOf nodes (leftAt scratch (h - 1))) (y .at) (endOf nodes y) p q) er (subst (λ (x : Side). Meets (w .ss) nodes (x .at) (endOf nodes x) (r .at) (endOf nodes r) p q) el m)
 
-  module _ (m : Meets (w .ss) nodes (l .at) (endOf nodes l) (r .at) (endOf nodes r) p q) where
+  module _ (m : Meets (w .ss) nodes (l .at) (endOf nodes l) (r .at) (endOf nodes r) p q) (cl : Closes (w .ss) nodes (bindings (w .ss) nodes state n) (leftAt scratch) (rightAt scratch) h nothing nothing) where
     pub met-inside : ((p + 1 < length nodes) × (q + 1 < length nodes)) × (((p + getD nodes (p + 1) 0 < 2 ^ 32) × (q + getD nodes (q + 1) 0 < 2 ^ 32)) × ((32768 + (h - 1) * 6 + 5 < length scratch) × ((l .root < 2 ^ 32) × ((l .copy < 2 ^ 32) × ((r .root < 2 ^ 32) × (r .copy < 2 ^ 32))))))
     met-inside =
         subst⁻¹ (λ (x : Side). ((p + 1 < length nodes) × (q + 1 < length nodes)) × (((p + getD nodes (p + 1) 0 < 2 ^ 32) × (q + getD nodes (q + 1) 0 < 2 ^ 32)) × ((32768 + (h - 1) * 6 + 5 < length scratch) × ((x .root < 2 ^ 32) × ((x .copy < 2 ^ 32) × ((r .root < 2 ^ 32) × (r .copy < 2 ^ 32))))))) el
         (subst⁻¹ (λ (y : Side). ((p + 1 < length nodes) × (q + 1 < length nodes)) × (((p + getD nodes (p + 1) 0 < 2 ^ 32) × (q + getD nodes (q + 1) 0 < 2 ^ 32)) × ((32768 + (h - 1) * 6 + 5 < length scratch) × ((leftAt scratch (h - 1) .root < 2 ^ 32) × ((leftAt scratch (h - 1) .copy < 2 ^ 32) × ((y .root < 2 ^ 32) × (y .copy < 2 ^ 32))))))) er
-        (meet-inside nodes state scratch n h p q w some (canonical m)))
+        (meet-inside nodes state scratch n h p q w some (canonical m) cl))
 
     module _ (s z : ℕ) (es : s ≡ getD nodes (p + 1) 0) (ez : z ≡ getD nodes (q + 1) 0) (mid1 : List ℕ) (e : mid1 ≡ pairWords scratch (h - 1) (l .root) (p + s) (l .copy) (r .root) (q + z) (r .copy)) where
       mid-is : mid1 ≡ pairWords scratch (h - 1) (leftAt scratch (h - 1) .root) (p + getD nodes (p + 1) 0) (leftAt scratch (h - 1) .copy) (rightAt scratch (h - 1) .root) (q + getD nodes (q + 1) 0) (rightAt scratch (h - 1) .copy)
@@ -310,11 +336,11 @@ module _ (nodes state scratch : List ℕ) (n h p q : ℕ) (w : Work nodes state 
       met-cross =
           subst⁻¹ (λ (x : Side). Crossable nodes state mid1 h p (x .copy) q (r .copy)) el
           (subst⁻¹ (λ (y : Side). Crossable nodes state mid1 h p (leftAt scratch (h - 1) .copy) q (y .copy)) er
-          (subst⁻¹ (λ (k : List ℕ). Crossable nodes state k h p (leftAt scratch (h - 1) .copy) q (rightAt scratch (h - 1) .copy)) mid-is (meet-crossable nodes state scratch n h p q w some (canonical m))))
+          (subst⁻¹ (λ (k : List ℕ). Crossable nodes state k h p (leftAt scratch (h - 1) .copy) q (rightAt scratch (h - 1) .copy)) mid-is (meet-crossable nodes state scratch n h p q w some (canonical m) cl)))
 
       pub met-turned : (after : List ℕ) (t : Turn) → ((g : Crossable nodes state mid1 h p (l .copy) q (r .copy)) → Crosses nodes state mid1 after h p (l .copy) q (r .copy) g t) → Turned nodes state scratch after n h w t
       met-turned after t k =
-          meet-turned nodes state scratch n h p q w some (canonical m) after t
+          meet-turned nodes state scratch n h p q w some (canonical m) cl after t
           (subst (λ (i : List ℕ). (g : Crossable nodes state i h p (leftAt scratch (h - 1) .copy) q (rightAt scratch (h - 1) .copy)) → Crosses nodes state i after h p (leftAt scratch (h - 1) .copy) q (rightAt scratch (h - 1) .copy) g t) mid-is
           (subst (λ (y : Side). (g : Crossable nodes state mid1 h p (leftAt scratch (h - 1) .copy) q (y .copy)) → Crosses nodes state mid1 after h p (leftAt scratch (h - 1) .copy) q (y .copy) g t) er
           (subst (λ (x : Side). (g : Crossable nodes state mid1 h p (x .copy) q (r .copy)) → Crosses nodes state mid1 after h p (x .copy) q (r .copy) g t) el k)))
@@ -324,7 +350,7 @@ module _ (nodes state scratch : List ℕ) (n h p q : ℕ) (w : Work nodes state 
 pub turn-room : (nodes state scratch : List ℕ) (h : ℕ) (g : Turnable nodes state scratch h) → (1 ≤ h) × ((h ≤ 32769) × (32768 + (h - 1) * 6 + 5 < length scratch))
 turn-room nodes state scratch h g =
     let k : h ≤ 32769 = height (g .work .ss) nodes (bindings (g .work .ss) nodes state (g .n)) (g .work .top) (leftAt scratch) (rightAt scratch) h (g .work .stack) in
-    let o : 229382 ≤ length scratch = g .work .roomy in
+    let o : 278535 ≤ length scratch = g .work .roomy in
     let s : 1 ≤ h = g .some in
     (s, (k, omega arith))
 
@@ -360,17 +386,13 @@ module _ (nodes state scratch : List ℕ) (h : ℕ) (g : Turnable nodes state sc
       top-rows-right : rowsOf (g .work .ss) nodes (rightAt scratch) h ≡ followed (termsAt (g .work .ss) nodes (r .at) (endOf nodes r) (r .copy)) (rowsOf (g .work .ss) nodes (rightAt scratch) (h - 1))
       top-rows-right = let q : 1 ≤ h = g .some in ap (rowsOf (g .work .ss) nodes (rightAt scratch)) (let e : h ≡ suc (h - 1) = omega arith in e) ∙ (rows-top (g .work .ss) nodes (rightAt scratch) (h - 1) ∙ ap (λ (x : Side). followed (rowOf (g .work .ss) nodes x) (rowsOf (g .work .ss) nodes (rightAt scratch) (h - 1))) (sym er))
 
-      pub turn-done : o ≡ Done → Turned nodes state scratch scratch (g .n) h (g .work) (Go (h - 1))
-      turn-done e =
-          let v : Walks (g .work .ss) nodes (l .at) (endOf nodes l) (r .at) (endOf nodes r) Done = subst (Walks (g .work .ss) nodes (l .at) (endOf nodes l) (r .at) (endOf nodes r)) e walked in (
-            record { long = refl; words = λ j i. refl },
-            record {
-              stack = stack-less (g .work .ss) nodes (bindings (g .work .ss) nodes state (g .n)) (g .work .top) (leftAt scratch) (rightAt scratch) h (h - 1) (omega arith) (g .work .stack);
-              means = ap₂ (unifyRows (bindings (g .work .ss) nodes state (g .n))) top-rows top-rows-right ∙ v (bindings (g .work .ss) nodes state (g .n)) (l .copy) (r .copy) (rowsOf (g .work .ss) nodes (leftAt scratch) (h - 1)) (rowsOf (g .work .ss) nodes (rightAt scratch) (h - 1));
-              less = (let y : sizeOf (bindings (g .work .ss) nodes state (g .n)) (rowsOf (g .work .ss) nodes (leftAt scratch) h) ≡ sizeOf (bindings (g .work .ss) nodes state (g .n)) (termsAt (g .work .ss) nodes (l .at) (endOf nodes l) (l .copy)) + sizeOf (bindings (g .work .ss) nodes state (g .n)) (rowsOf (g .work .ss) nodes (leftAt scratch) (h - 1)) = ap (sizeOf (bindings (g .work .ss) nodes state (g .n))) top-rows ∙ size-followed (bindings (g .work .ss) nodes state (g .n)) (termsAt (g .work .ss) nodes (l .at) (endOf nodes l) (l .copy)) (rowsOf (g .work .ss) nodes (leftAt scratch) (h - 1)) in
-                  let q : 1 ≤ h = g .some in omega arith);
-            },
-          )
+      pub turn-pass : o ≡ Done → Passable scratch h l r
+      turn-pass e =
+          record { nodes = nodes; state = state; n = g .n; work = g .work; some = g .some; left-is = el; right-is = er; walks = subst (Walks (g .work .ss) nodes (l .at) (endOf nodes l) (r .at) (endOf nodes r)) e walked; closes = g .closes }
+
+      pub turn-done : (e : o ≡ Done) (after : List ℕ) (t : Turn) → ((v : Passable scratch h l r) → Turned (v .nodes) (v .state) scratch after (v .n) h (v .work) t) → Turned nodes state scratch after (g .n) h (g .work) t
+      unfolding turn-pass
+      turn-done e after t k = k (turn-pass e)
 
       pub turn-clash : o ≡ Differ → Turned nodes state scratch scratch (g .n) h (g .work) Clash
       turn-clash e =
@@ -378,8 +400,90 @@ module _ (nodes state scratch : List ℕ) (h : ℕ) (g : Turnable nodes state sc
           (record { long = refl; words = λ j i. refl }, ap₂ (unifyRows (bindings (g .work .ss) nodes state (g .n))) top-rows top-rows-right ∙ v (bindings (g .work .ss) nodes state (g .n)) (l .copy) (r .copy) (rowsOf (g .work .ss) nodes (leftAt scratch) (h - 1)) (rowsOf (g .work .ss) nodes (rightAt scratch) (h - 1)))
 
       pub turn-met : (p q : ℕ) → o ≡ Met p q → Meetable nodes state scratch h l r p q
-      turn-met p q e = record { n = g .n; work = g .work; some = g .some; left-is = el; right-is = er; meets = subst (Walks (g .work .ss) nodes (l .at) (endOf nodes l) (r .at) (endOf nodes r)) e walked }
+      turn-met p q e = record { n = g .n; work = g .work; some = g .some; left-is = el; right-is = er; meets = subst (Walks (g .work .ss) nodes (l .at) (endOf nodes l) (r .at) (endOf nodes r)) e walked; closes = g .closes }
 
       pub turn-end : (p q : ℕ) (e : o ≡ Met p q) (after : List ℕ) (t : Turn) → ((v : Meetable nodes state scratch h l r p q) → Turned nodes state scratch after (v .n) h (v .work) t) → Turned nodes state scratch after (g .n) h (g .work) t
       unfolding turn-met
       turn-end p q e after t k = k (turn-met p q e)
+
+-- ---- the top pair done
+
+module _ (scratch : List ℕ) (h : ℕ) (l r : Side) (g : Passable scratch h l r) where
+  bs : List Binding
+  bs = bindings (g .work .ss) (g .nodes) (g .state) (g .n)
+
+  back-up : suc (h - 1) ≡ h
+  back-up = let s : 1 ≤ h = g .some in omega arith
+
+  top-is : h - 1 < h
+  top-is = let s : 1 ≤ h = g .some in omega arith
+
+  not-high : h ≤ 32769
+  not-high = height (g .work .ss) (g .nodes) (bindings (g .work .ss) (g .nodes) (g .state) (g .n)) (g .work .top) (leftAt scratch) (rightAt scratch) h (g .work .stack)
+
+  rows-done-is : (x : List Binding) → SameRows (g .work .ss) (g .nodes) x (leftAt scratch (h - 1)) (rightAt scratch (h - 1))
+  rows-done-is x =
+      subst (λ (s : Side). SameRows (g .work .ss) (g .nodes) x s (rightAt scratch (h - 1))) (g .left-is)
+      (subst (λ (s : Side). SameRows (g .work .ss) (g .nodes) x l s) (g .right-is) (walk-equal (g .work .ss) (g .nodes) (l .at) (endOf (g .nodes) l) (r .at) (endOf (g .nodes) r) (g .walks) x (l .copy) (r .copy)))
+
+  -- its two terms are equal
+  wholes-equal : resolve (bindings (g .work .ss) (g .nodes) (g .state) (g .n)) (wholeOf (g .work .ss) (g .nodes) (leftAt scratch (h - 1))) ≡ resolve (bindings (g .work .ss) (g .nodes) (g .state) (g .n)) (wholeOf (g .work .ss) (g .nodes) (rightAt scratch (h - 1)))
+  wholes-equal =
+      g .closes .wholes (h - 1) top-is [] refl
+      (λ j x y. subst⁻¹ (λ (i : ℕ). SameRows (g .work .ss) (g .nodes) (bindings (g .work .ss) (g .nodes) (g .state) (g .n)) (leftAt scratch i) (rightAt scratch i)) (let z : j ≡ h - 1 = omega arith in z) (rows-done-is (bindings (g .work .ss) (g .nodes) (g .state) (g .n))))
+
+  left-copy : l .copy < 256
+  left-copy = subst⁻¹ (λ (x : Side). x .copy < 256) (g .left-is) (g .work .stack .left .copy (h - 1) top-is)
+
+  right-copy : r .copy < 256
+  right-copy = subst⁻¹ (λ (x : Side). x .copy < 256) (g .right-is) (g .work .stack .right .copy (h - 1) top-is)
+
+  pub pass-small : ((l .root < 65536) × (r .root < 65536)) × (((l .copy < 256) × (r .copy < 256)) × ((278535 ≤ length scratch) × (1 ≤ h)))
+  pass-small =
+      let a : l .root + 2 ≤ length (g .nodes) = node-inside (g .work .ss) (g .nodes) (l .root) (subst⁻¹ (λ (x : Side). Node (g .work .ss) (g .nodes) (x .root)) (g .left-is) (g .work .stack .left .node (h - 1) top-is)) in
+      let b1 : r .root + 2 ≤ length (g .nodes) = node-inside (g .work .ss) (g .nodes) (r .root) (subst⁻¹ (λ (x : Side). Node (g .work .ss) (g .nodes) (x .root)) (g .right-is) (g .work .stack .right .node (h - 1) top-is)) in
+      let s : length (g .nodes) ≤ 65536 = g .work .store .small in
+      ((omega arith, omega arith), ((left-copy, right-copy), (g .work .roomy, g .some)))
+
+  words-equal : resolve (bindings (g .work .ss) (g .nodes) (g .state) (g .n)) (valueOf (g .work .ss) (g .nodes) (wordOf (l .root) (l .copy))) ≡ resolve (bindings (g .work .ss) (g .nodes) (g .state) (g .n)) (valueOf (g .work .ss) (g .nodes) (wordOf (r .root) (r .copy)))
+  words-equal =
+      ap (resolve (bindings (g .work .ss) (g .nodes) (g .state) (g .n))) (value-word (g .work .ss) (g .nodes) (l .root) (l .copy) left-copy ∙ ap (wholeOf (g .work .ss) (g .nodes)) (g .left-is))
+      ∙ (wholes-equal ∙ sym (ap (resolve (bindings (g .work .ss) (g .nodes) (g .state) (g .n))) (value-word (g .work .ss) (g .nodes) (r .root) (r .copy) right-copy ∙ ap (wholeOf (g .work .ss) (g .nodes)) (g .right-is))))
+
+  module _ (after : List ℕ) (k : Remembers scratch after (wordOf (l .root) (l .copy)) (wordOf (r .root) (r .copy))) where
+    left-same : (i : ℕ) → i < h → leftAt after i ≡ leftAt scratch i
+    left-same i o = left-front scratch after (k .words) i (let z : h ≤ 32769 = not-high in omega arith)
+
+    right-same : (i : ℕ) → i < h → rightAt after i ≡ rightAt scratch i
+    right-same i o = right-front scratch after (k .words) i (let z : h ≤ 32769 = not-high in omega arith)
+
+    left-under : (i : ℕ) → i < h - 1 → leftAt after i ≡ leftAt scratch i
+    left-under i o = left-same i (omega arith)
+
+    right-under : (i : ℕ) → i < h - 1 → rightAt after i ≡ rightAt scratch i
+    right-under i o = right-same i (omega arith)
+
+    rows-left : rowsOf (g .work .ss) (g .nodes) (leftAt scratch) h ≡ followed (rowOf (g .work .ss) (g .nodes) l) (rowsOf (g .work .ss) (g .nodes) (leftAt after) (h - 1))
+    rows-left =
+        ap (rowsOf (g .work .ss) (g .nodes) (leftAt scratch)) (sym back-up)
+        ∙ (rows-top (g .work .ss) (g .nodes) (leftAt scratch) (h - 1) ∙ ap₂ followed (ap (rowOf (g .work .ss) (g .nodes)) (sym (g .left-is))) (sym (rows-agree (g .work .ss) (g .nodes) (leftAt scratch) (leftAt after) (h - 1) left-under)))
+
+    rows-right : rowsOf (g .work .ss) (g .nodes) (rightAt scratch) h ≡ followed (rowOf (g .work .ss) (g .nodes) r) (rowsOf (g .work .ss) (g .nodes) (rightAt after) (h - 1))
+    rows-right =
+        ap (rowsOf (g .work .ss) (g .nodes) (rightAt scratch)) (sym back-up)
+        ∙ (rows-top (g .work .ss) (g .nodes) (rightAt scratch) (h - 1) ∙ ap₂ followed (ap (rowOf (g .work .ss) (g .nodes)) (sym (g .right-is))) (sym (rows-agree (g .work .ss) (g .nodes) (rightAt scratch) (rightAt after) (h - 1) right-under)))
+
+    pub pass-turned : Turned (g .nodes) (g .state) scratch after (g .n) h (g .work) (Go (h - 1))
+    unfolding bs
+    pass-turned = (
+      record { long = k .long; words = λ j i. k .words j (omega arith) },
+      record {
+        stack = stack-agrees (g .work .ss) (g .nodes) bs (g .work .top) (leftAt scratch) (rightAt scratch) (leftAt after) (rightAt after) (h - 1) left-under right-under (stack-less (g .work .ss) (g .nodes) bs (g .work .top) (leftAt scratch) (rightAt scratch) h (h - 1) (omega arith) (g .work .stack));
+        means = ap₂ (unifyRows bs) rows-left rows-right ∙ g .walks bs (l .copy) (r .copy) (rowsOf (g .work .ss) (g .nodes) (leftAt after) (h - 1)) (rowsOf (g .work .ss) (g .nodes) (rightAt after) (h - 1));
+        less = (let y : sizeOf bs (rowsOf (g .work .ss) (g .nodes) (leftAt scratch) h) ≡ sizeOf bs (rowOf (g .work .ss) (g .nodes) l) + sizeOf bs (rowsOf (g .work .ss) (g .nodes) (leftAt after) (h - 1)) = ap (sizeOf bs) rows-left ∙ size-followed bs (rowOf (g .work .ss) (g .nodes) l) (rowsOf (g .work .ss) (g .nodes) (leftAt after) (h - 1)) in
+            let q : 1 ≤ h = g .some in omega arith);
+        memo = memo-remembers (g .work .ss) (g .nodes) bs scratch (g .work .memo) after (wordOf (l .root) (l .copy)) (wordOf (r .root) (r .copy)) k words-equal;
+        closes = closes-agree (g .work .ss) (g .nodes) bs (leftAt scratch) (rightAt scratch) (leftAt after) (rightAt after) (h - 1) nothing nothing left-under right-under
+            (closes-less (g .work .ss) (g .nodes) bs (leftAt scratch) (rightAt scratch) (h - 1) (rows-done-is bs) (subst⁻¹ (λ (i : ℕ). Closes (g .work .ss) (g .nodes) bs (leftAt scratch) (rightAt scratch) i nothing nothing) back-up (g .closes)));
+      },
+    )

@@ -3,22 +3,27 @@ use Prim.Native.Nat.{ℕ, zero, suc, _+_, _-_, _*_, _≤_, _<_, _^_}
 use native.Mathlib.Omega.{arith}
 use mathlib.Core.Path.{_≡_, refl, sym, ap, ap₂, _∙_, subst, subst⁻¹}
 use mathlib.Core.List.{List, [], _∷_, _++_}
-use lib.ListN.{length, getD}
+use mathlib.Core.Logic.{inr}
+use lib.ListN.{length, getD, set, length-set}
+use lib.Seq.{getD-set-same, getD-set-other}
 use Rattle.syntax.specs.Terms.{Term}
-use Rattle.machine.specs.Substitution.{RTerm, RTerms, rnil, rcons, copied, Binding}
+use Rattle.machine.specs.Substitution.{RTerm, RTerms, app, rnil, rcons, copied, Binding, resolve}
 use Rattle.machine.specs.Unification.{unify}
 use Rattle.layout.specs.Nodes.{Symbol, Stands, Node, Row, termAt, termsAt, followed, count}
 use Rattle.layout.specs.State.{bindings}
 use Rattle.layout.proofs.Nodes.{node-inside, row-one, row-one-is, term-at}
 use Rattle.unifier.specs.Rows.{unifyRows}
 use Rattle.unifier.specs.Queues.{Clean}
-use Rattle.unifier.specs.Stacks.{leftAt, rightAt, pairWords, SameMarks, endOf, rowOf, rowsOf, Half, Stack}
+use Rattle.unifier.specs.Memos.{pairs}
+use Rattle.unifier.specs.Stacks.{leftAt, rightAt, pairWords, SameMarks, endOf, wholeOf, rowOf, rowsOf, Half, Stack, SameRows, nothing, Closes}
 use Rattle.unifier.specs.Turns.{Work, Solvable, Solved, Unifiable, Unifies, answered}
 use Rattle.unifier.specs.declared.stack.Side.{Side}
 use Rattle.unifier.specs.declared.solve.Unified.{Unified}
 use Rattle.unifier.proofs.Rules.{rows-begin}
 use Rattle.unifier.proofs.Rowwise.{one-followed, none-followed, count-one}
-use Rattle.unifier.proofs.Stacked.{pair-long, pair-marks, pair-left, pair-right, rows-top}
+use Rattle.unifier.proofs.Closing.{equal-first, closes-first}
+use Rattle.unifier.proofs.Remembering.{memo-none}
+use Rattle.unifier.proofs.Stacked.{pair-long, pair-others, pair-marks, pair-left, pair-right, rows-top}
 
 -- one side of a stack of one pair
 one-half : (ss : List Symbol) (nodes : List ℕ) (b : List Binding) (top p c : ℕ) (s : ℕ → Side) → s 0 ≡ record { root = p; at = p; copy = c } → Node ss nodes p → c < 256 → c ≤ top → Half ss nodes b top s 1
@@ -36,24 +41,38 @@ one-half ss nodes b top p c s e n l o =
     at k q = ap s (let z : k ≡ 0 = omega arith in z) ∙ e
 
 module _ (nodes state scratch : List ℕ) (p c q d n : ℕ) (g : Unifiable nodes state scratch p c q d n) where
-  pub unify-room : (32768 + 0 * 6 + 5 < length scratch) × (((p < 2 ^ 32) × ((p < 2 ^ 32) × (c < 2 ^ 32))) × ((q < 2 ^ 32) × ((q < 2 ^ 32) × (d < 2 ^ 32))))
-  unify-room =
+  -- the memo emptied
+  abbrev pub blank : List ℕ
+  blank = set scratch 229382 0
+
+  blank-long : length blank ≡ length scratch
+  blank-long = length-set scratch 229382 0
+
+  pub unify-forget : 229382 < length scratch
+  unify-forget = let r : 278535 ≤ length scratch = g .roomy in omega arith
+
+  blank-room : (32768 + 0 * 6 + 5 < length blank) × (((p < 2 ^ 32) × ((p < 2 ^ 32) × (c < 2 ^ 32))) × ((q < 2 ^ 32) × ((q < 2 ^ 32) × (d < 2 ^ 32))))
+  blank-room =
       let a : p + 2 ≤ length nodes = node-inside (g .ss) nodes p (g .left) in
       let b : q + 2 ≤ length nodes = node-inside (g .ss) nodes q (g .right) in
       let s : length nodes ≤ 65536 = g .store .small in
-      let r : 229382 ≤ length scratch = g .roomy in
+      let r : 278535 ≤ length scratch = g .roomy in
+      let e : length blank ≡ length scratch = blank-long in
       let x : c < 256 = g .copy in
       let y : d < 256 = g .copy-right in
       (omega arith, ((omega arith, (omega arith, omega arith)), (omega arith, (omega arith, omega arith))))
 
+  pub unify-room : (s : List ℕ) → s ≡ blank → (32768 + 0 * 6 + 5 < length s) × (((p < 2 ^ 32) × ((p < 2 ^ 32) × (c < 2 ^ 32))) × ((q < 2 ^ 32) × ((q < 2 ^ 32) × (d < 2 ^ 32))))
+  unify-room s e = subst⁻¹ (λ (x : List ℕ). (32768 + 0 * 6 + 5 < length x) × (((p < 2 ^ 32) × ((p < 2 ^ 32) × (c < 2 ^ 32))) × ((q < 2 ^ 32) × ((q < 2 ^ 32) × (d < 2 ^ 32))))) e blank-room
+
   abbrev pub mid : List ℕ
-  mid = pairWords scratch 0 p p c q q d
+  mid = pairWords blank 0 p p c q q d
 
   left-is : leftAt mid 0 ≡ record { root = p; at = p; copy = c }
-  left-is = pair-left scratch 0 p p c q q d (unify-room .0)
+  left-is = pair-left blank 0 p p c q q d (blank-room .0)
 
   right-is : rightAt mid 0 ≡ record { root = q; at = q; copy = d }
-  right-is = pair-right scratch 0 p p c q q d (unify-room .0)
+  right-is = pair-right blank 0 p p c q q d (blank-room .0)
 
   same-count : (i j : ℕ) → count (termsAt (g .ss) nodes p (p + getD nodes (p + 1) 0) i) ≡ count (termsAt (g .ss) nodes q (q + getD nodes (q + 1) 0) j)
   same-count i j = ap count (row-one-is (g .ss) nodes p i (g .left)) ∙ (count-one (termAt (g .ss) nodes p i) rnil ∙ (sym (count-one (termAt (g .ss) nodes q j) rnil) ∙ sym (ap count (row-one-is (g .ss) nodes q j (g .right)))))
@@ -70,18 +89,37 @@ module _ (nodes state scratch : List ℕ) (p c q d n : ℕ) (g : Unifiable nodes
         vias = λ k a l. absurd (let z : k < 1 = l in omega arith);
       }
 
+  no-pairs : pairs mid ≡ 0
+  no-pairs = pair-others blank 0 p p c q q d (blank-room .0) 229382 (inr (omega arith)) ∙ getD-set-same scratch 229382 0 0 unify-forget
+
+  -- the first pair's rows are its two terms
+  first-closes : Closes (g .ss) nodes (bindings (g .ss) nodes state n) (leftAt mid) (rightAt mid) 1 nothing nothing
+  first-closes =
+      closes-first (g .ss) nodes (bindings (g .ss) nodes state n) (leftAt mid) (rightAt mid)
+      (λ newer e.
+          ap (λ (s : Side). resolve (newer ++ bindings (g .ss) nodes state n) (wholeOf (g .ss) nodes s)) left-is
+          ∙ (equal-first (newer ++ bindings (g .ss) nodes state n) (termAt (g .ss) nodes p c) (termAt (g .ss) nodes q d) rnil rnil
+          (sym (ap (λ (ts : RTerms). resolve (newer ++ bindings (g .ss) nodes state n) (app [] ts)) (ap (rowOf (g .ss) nodes) left-is ∙ row-one-is (g .ss) nodes p c (g .left)))
+          ∙ (e ∙ ap (λ (ts : RTerms). resolve (newer ++ bindings (g .ss) nodes state n) (app [] ts)) (ap (rowOf (g .ss) nodes) right-is ∙ row-one-is (g .ss) nodes q d (g .right))))
+          ∙ sym (ap (λ (s : Side). resolve (newer ++ bindings (g .ss) nodes state n) (wholeOf (g .ss) nodes s)) right-is)))
+
   first-solvable : Solvable nodes state mid n
   first-solvable =
-      let m : SameMarks scratch mid = pair-marks scratch 0 p p c q q d (unify-room .0) in
-      let e : length mid ≡ length scratch = m .long in
-      let r : 229382 ≤ length scratch = g .roomy in
+      let m : SameMarks blank mid = pair-marks blank 0 p p c q q d (blank-room .0) in
+      let e : length mid ≡ length blank = m .long in
+      let e1 : length blank ≡ length scratch = blank-long in
+      let r : 278535 ≤ length scratch = g .roomy in
       record {
-        work = record { ss = g .ss; top = g .top; store = g .store; within = g .within; roomy = omega arith; stack = first-stack };
-        clean = record { long = omega arith; zero = λ y l. m .words y (omega arith) ∙ g .clean .zero y l };
+        work = record { ss = g .ss; top = g .top; store = g .store; within = g .within; roomy = omega arith; stack = first-stack; memo = memo-none (g .ss) nodes (bindings (g .ss) nodes state n) mid no-pairs };
+        closes = first-closes;
+        clean = record { long = omega arith; zero = λ y l. m .words y (omega arith) ∙ (getD-set-other scratch 229382 y 0 0 (λ e2. omega arith) ∙ g .clean .zero y l) };
       }
 
-  pub unify-solvable : (s : List ℕ) → s ≡ pairWords scratch 0 p p c q q d → Solvable nodes state s n
-  unify-solvable s e = subst⁻¹ (λ (x : List ℕ). Solvable nodes state x n) e first-solvable
+  mid-is : (s0 s : List ℕ) → s0 ≡ blank → s ≡ pairWords s0 0 p p c q q d → s ≡ mid
+  mid-is s0 s e0 e = e ∙ ap (λ (x : List ℕ). pairWords x 0 p p c q q d) e0
+
+  pub unify-solvable : (s0 s : List ℕ) → s0 ≡ blank → s ≡ pairWords s0 0 p p c q q d → Solvable nodes state s n
+  unify-solvable s0 s e0 e = subst⁻¹ (λ (x : List ℕ). Solvable nodes state x n) (mid-is s0 s e0 e) first-solvable
 
   none-rows : (s : ℕ → Side) → rowsOf (g .ss) nodes s 0 ≡ rnil
   unfolding rowsOf
@@ -105,14 +143,14 @@ module _ (nodes state scratch : List ℕ) (p c q d n : ℕ) (g : Unifiable nodes
         within = s .within;
         keeps = s .keeps;
         clean = s .clean;
-        long = s .long ∙ pair-long scratch 0 p p c q q d (unify-room .0);
+        long = s .long ∙ (pair-long blank 0 p p c q q d (blank-room .0) ∙ blank-long);
         answer = λ t u x y.
             ap₂ (unify (bindings (g .ss) nodes state n)) (sym (term-at (g .ss) nodes p c t x)) (sym (term-at (g .ss) nodes q d u y))
             ∙ (rows-begin (bindings (g .ss) nodes state n) (termAt (g .ss) nodes p c) (termAt (g .ss) nodes q d) ∙ (sym (ap₂ (unifyRows (bindings (g .ss) nodes state n)) rows-left rows-right) ∙ s .answer));
       }
 
-  pub unify-end : (s : List ℕ) → s ≡ pairWords scratch 0 p p c q q d → (after later : List ℕ) (r : Unified)
+  pub unify-end : (s0 s : List ℕ) → s0 ≡ blank → s ≡ pairWords s0 0 p p c q q d → (after later : List ℕ) (r : Unified)
       → ((v : Solvable nodes state s n) → Solved (v .work .ss) nodes state after s later (v .work .top) n (rowsOf (v .work .ss) nodes (leftAt s) 1) (rowsOf (v .work .ss) nodes (rightAt s) 1) r) → Unifies (g .ss) nodes state after scratch later (g .top) p c q d n r
   unfolding first-solvable
-  unify-end s e after later r k =
-      whole after later r (subst (λ (x : List ℕ). (v : Solvable nodes state x n) → Solved (v .work .ss) nodes state after x later (v .work .top) n (rowsOf (v .work .ss) nodes (leftAt x) 1) (rowsOf (v .work .ss) nodes (rightAt x) 1) r) e k first-solvable)
+  unify-end s0 s e0 e after later r k =
+      whole after later r (subst (λ (x : List ℕ). (v : Solvable nodes state x n) → Solved (v .work .ss) nodes state after x later (v .work .top) n (rowsOf (v .work .ss) nodes (leftAt x) 1) (rowsOf (v .work .ss) nodes (rightAt x) 1) r) (mid-is s0 s e0 e) k first-solvable)

@@ -2,12 +2,12 @@
 use Prim.Native.Nat.{ℕ, zero, suc, _+_, _-_, _*_, _≤_, _<_}
 use mathlib.Core.Path.{_≡_}
 use mathlib.Core.Bool.{true, false}
-use mathlib.Core.List.{List, _++_}
+use mathlib.Core.List.{List, [], _++_}
 use mathlib.Core.Option.{none, some}
 use mathlib.Core.Logic.{_⊎_}
 use lib.Dec.{T}
 use lib.ListN.{length, getD, set}
-use Rattle.machine.specs.Substitution.{Variable, RTerm, RTerms, var, rnil, rcons, occurs, Binding, resolve}
+use Rattle.machine.specs.Substitution.{Variable, RTerm, RTerms, var, app, rnil, rcons, occurs, Binding, resolve}
 use Rattle.layout.specs.Nodes.{Symbol, Node, Row, termAt, termsAt, followed, count}
 use Rattle.layout.specs.State.{cellOf, variableOf, cellAt, bindings, Store, Within, Keeps}
 use Rattle.unifier.specs.Rows.{unifyRows, nodesOf, sizeOf}
@@ -38,9 +38,9 @@ pub record SameMarks (before after : List ℕ) : Type 0 where
   pub long : length after ≡ length before
   pub words : (j : ℕ) → j < 32768 → getD after j 0 ≡ getD before j 0
 
--- Room for marks, queue and 32,769 pairs.
+-- Room for marks, queue, 32,769 pairs and the memo.
 abbrev pub Roomy : List ℕ → Type 0
-Roomy scratch = 229382 ≤ length scratch
+Roomy scratch = 278535 ≤ length scratch
 
 -- ---- rows
 
@@ -83,3 +83,18 @@ pub record Stack (ss : List Symbol) (nodes : List ℕ) (b : List Binding) (top :
   pub same : (k : ℕ) → k < h → (c d : ℕ) → count (termsAt ss nodes (l k .at) (endOf nodes (l k)) c) ≡ count (termsAt ss nodes (r k .at) (endOf nodes (r k)) d)
   pub via : ℕ → ℕ
   pub vias : (k : ℕ) → 1 ≤ k → k < h → Via b (via k) (wholeOf ss nodes (l k)) (wholeOf ss nodes (r k))
+
+-- ---- what is done makes the wholes equal
+
+-- with the bindings put in, what is left of two rows is the same
+abbrev pub SameRows : List Symbol → List ℕ → List Binding → Side → Side → Type 0
+SameRows ss nodes b s t = resolve b (app [] (rowOf ss nodes s)) ≡ resolve b (app [] (rowOf ss nodes t))
+
+-- A term to put on both sides where no two terms stand before the rows.
+abbrev pub nothing : RTerm
+nothing = app [] rnil
+
+-- Newer bindings that make two terms before the rows equal, and what is left of the rows of a pair and of each pair above it, make the wholes of that
+-- pair equal.
+pub record Closes (ss : List Symbol) (nodes : List ℕ) (b : List Binding) (l r : ℕ → Side) (h : ℕ) (t u : RTerm) : Type 0 where
+  pub wholes : (k : ℕ) → k < h → (newer : List Binding) → resolve (newer ++ b) t ≡ resolve (newer ++ b) u → ((j : ℕ) → k ≤ j → j < h → SameRows ss nodes (newer ++ b) (l j) (r j)) → resolve (newer ++ b) (wholeOf ss nodes (l k)) ≡ resolve (newer ++ b) (wholeOf ss nodes (r k))

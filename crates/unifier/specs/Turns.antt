@@ -14,14 +14,16 @@ use Rattle.layout.specs.Nodes.{Symbol, Stands, Node, termAt}
 use Rattle.layout.specs.State.{cellOf, variableOf, cellAt, bindings, Store, Within, Keeps}
 use Rattle.unifier.specs.Rows.{unifyRows, nodesOf, sizeOf}
 use Rattle.unifier.specs.Queues.{Clean}
-use Rattle.unifier.specs.Walks.{Meets}
-use Rattle.unifier.specs.Stacks.{leftAt, rightAt, SameMarks, Roomy, endOf, wholeOf, rowsOf, Via, Stack}
+use Rattle.unifier.specs.Walks.{Meets, Walks}
+use Rattle.unifier.specs.Memos.{Memo}
+use Rattle.unifier.specs.Stacks.{leftAt, rightAt, SameMarks, Roomy, endOf, wholeOf, rowsOf, Via, Stack, SameRows, nothing, Closes}
 use Rattle.unifier.specs.declared.stack.Side.{Side}
+use Rattle.unifier.specs.declared.walk.Walked.the-variants.{Done}
 use Rattle.unifier.specs.declared.solve.Turn.{Turn}
 use Rattle.unifier.specs.declared.solve.Turn.the-variants.{Go, Clash, Bind}
 use Rattle.unifier.specs.declared.solve.Unified.{Unified}
 
--- n bindings, and a stack of height h.
+-- n bindings, a stack of height h, and a memo.
 pub record Work (nodes state scratch : List ℕ) (n h : ℕ) : Type 0 where
   pub ss : List Symbol
   pub top : ℕ
@@ -29,12 +31,15 @@ pub record Work (nodes state scratch : List ℕ) (n h : ℕ) : Type 0 where
   pub within : Within top state n
   pub roomy : Roomy scratch
   pub stack : Stack ss nodes (bindings ss nodes state n) top (leftAt scratch) (rightAt scratch) h
+  pub memo : Memo ss nodes (bindings ss nodes state n) scratch
 
 -- The rows to be unified are now those of a stack of height k, and less is left.
 pub record Goes (ss : List Symbol) (nodes : List ℕ) (b : List Binding) (top : ℕ) (ls rs : RTerms) (size : ℕ) (after : List ℕ) (k : ℕ) : Type 0 where
   pub stack : Stack ss nodes b top (leftAt after) (rightAt after) k
   pub means : unifyRows b ls rs ≡ unifyRows b (rowsOf ss nodes (leftAt after) k) (rowsOf ss nodes (rightAt after) k)
   pub less : 2 * sizeOf b (rowsOf ss nodes (leftAt after) k) + k < size
+  pub memo : Memo ss nodes b after
+  pub closes : Closes ss nodes b (leftAt after) (rightAt after) k nothing nothing
 
 -- The variable of cell x is to be bound to the term at p in copy c, unless it stands in it; then there is no unifier.
 pub record Binds (ss : List Symbol) (nodes state : List ℕ) (b : List Binding) (top : ℕ) (ls rs : RTerms) (after : List ℕ) (k x p c : ℕ) : Type 0 where
@@ -48,6 +53,8 @@ pub record Binds (ss : List Symbol) (nodes state : List ℕ) (b : List Binding) 
   pub down : getD nodes p 0 < 64 → cellOf c (getD nodes p 0) < x
   pub stands : T (occurs (variableOf x) (resolve b (termAt ss nodes p c))) → unifyRows b ls rs ≡ none
   pub free : (T (occurs (variableOf x) (resolve b (termAt ss nodes p c))) → ⊥) → unifyRows b ls rs ≡ unifyRows (record { variable = variableOf x; term = resolve b (termAt ss nodes p c) } ∷ b) (rowsOf ss nodes (leftAt after) k) (rowsOf ss nodes (rightAt after) k)
+  pub memo : Memo ss nodes b after
+  pub closes : (T (occurs (variableOf x) (resolve b (termAt ss nodes p c))) → ⊥) → Closes ss nodes (record { variable = variableOf x; term = resolve b (termAt ss nodes p c) } ∷ b) (leftAt after) (rightAt after) k nothing nothing
 
 abbrev pub Turns : List Symbol → List ℕ → List ℕ → List Binding → ℕ → RTerms → RTerms → ℕ → List ℕ → Turn → Type 0
 Turns ss nodes state b top ls rs size after (Go k) = Goes ss nodes b top ls rs size after k
@@ -79,6 +86,14 @@ pub record Crossed (nodes scratch : List ℕ) (h p c q d : ℕ) : Type 0 where
   pub via-is : getD nodes p 0 ≡ getD nodes q 0 → 64 ≤ getD nodes p 0 → Via (bindings (work .ss) nodes state n) via (termAt (work .ss) nodes p c) (termAt (work .ss) nodes q d)
   pub inside : 2 ≤ h → (newer : List Binding) → nodesOf (resolve (newer ++ bindings (work .ss) nodes state n) (termAt (work .ss) nodes p c)) < nodesOf (resolve (newer ++ bindings (work .ss) nodes state n) (wholeOf (work .ss) nodes (leftAt scratch (h - 1))))
   pub inside-right : 2 ≤ h → (newer : List Binding) → nodesOf (resolve (newer ++ bindings (work .ss) nodes state n) (termAt (work .ss) nodes q d)) < nodesOf (resolve (newer ++ bindings (work .ss) nodes state n) (wholeOf (work .ss) nodes (rightAt scratch (h - 1))))
+  pub closes : Closes (work .ss) nodes (bindings (work .ss) nodes state n) (leftAt scratch) (rightAt scratch) h (termAt (work .ss) nodes p c) (termAt (work .ss) nodes q d)
+
+-- The same with two names that are the same.
+pub record Openable (scratch : List ℕ) (h p c q d : ℕ) : Type 0 where
+  pub nodes : List ℕ
+  pub crossed : Crossed nodes scratch h p c q d
+  pub name : 64 ≤ getD nodes p 0
+  pub same : getD nodes p 0 ≡ getD nodes q 0
 
 abbrev pub Settled : (nodes before after : List ℕ) (h p c q d : ℕ) → Crossed nodes before h p c q d → Turn → Type 0
 Settled nodes before after h p c q d g t =
@@ -99,6 +114,7 @@ pub record Crossable (nodes state scratch : List ℕ) (h p c q d : ℕ) : Type 0
   pub variable : (getD nodes p 0 < 64) ⊎ (getD nodes q 0 < 64)
   pub inside : 2 ≤ h → (newer : List Binding) → nodesOf (resolve (newer ++ bindings (work .ss) nodes state n) (termAt (work .ss) nodes p c)) < nodesOf (resolve (newer ++ bindings (work .ss) nodes state n) (wholeOf (work .ss) nodes (leftAt scratch (h - 1))))
   pub inside-right : 2 ≤ h → (newer : List Binding) → nodesOf (resolve (newer ++ bindings (work .ss) nodes state n) (termAt (work .ss) nodes q d)) < nodesOf (resolve (newer ++ bindings (work .ss) nodes state n) (wholeOf (work .ss) nodes (rightAt scratch (h - 1))))
+  pub closes : Closes (work .ss) nodes (bindings (work .ss) nodes state n) (leftAt scratch) (rightAt scratch) h (termAt (work .ss) nodes p c) (termAt (work .ss) nodes q d)
 
 abbrev pub Crosses : (nodes state before after : List ℕ) (h p c q d : ℕ) → Crossable nodes state before h p c q d → Turn → Type 0
 Crosses nodes state before after h p c q d g t =
@@ -112,12 +128,31 @@ pub record Meetable (nodes state scratch : List ℕ) (h : ℕ) (l r : Side) (p q
   pub left-is : l ≡ leftAt scratch (h - 1)
   pub right-is : r ≡ rightAt scratch (h - 1)
   pub meets : Meets (work .ss) nodes (l .at) (endOf nodes l) (r .at) (endOf nodes r) p q
+  pub closes : Closes (work .ss) nodes (bindings (work .ss) nodes state n) (leftAt scratch) (rightAt scratch) h nothing nothing
+
+-- The top pair of a stack, what is left of whose rows is the same.
+pub record Passable (scratch : List ℕ) (h : ℕ) (l r : Side) : Type 0 where
+  pub nodes : List ℕ
+  pub state : List ℕ
+  pub n : ℕ
+  pub work : Work nodes state scratch n h
+  pub some : 1 ≤ h
+  pub left-is : l ≡ leftAt scratch (h - 1)
+  pub right-is : r ≡ rightAt scratch (h - 1)
+  pub walks : Walks (work .ss) nodes (l .at) (endOf nodes l) (r .at) (endOf nodes r) Done
+  pub closes : Closes (work .ss) nodes (bindings (work .ss) nodes state n) (leftAt scratch) (rightAt scratch) h nothing nothing
 
 -- n bindings, and a stack that is not empty
 pub record Turnable (nodes state scratch : List ℕ) (h : ℕ) : Type 0 where
   pub n : ℕ
   pub work : Work nodes state scratch n h
   pub some : 1 ≤ h
+  pub closes : Closes (work .ss) nodes (bindings (work .ss) nodes state n) (leftAt scratch) (rightAt scratch) h nothing nothing
+
+-- n bindings, and a stack
+pub record Ready (nodes state scratch : List ℕ) (n h : ℕ) : Type 0 where
+  pub work : Work nodes state scratch n h
+  pub closes : Closes (work .ss) nodes (bindings (work .ss) nodes state n) (leftAt scratch) (rightAt scratch) h nothing nothing
 
 -- ---- turns until something is to be bound
 
@@ -140,6 +175,7 @@ answered false b = none
 -- n bindings, one pair on the stack, no cell marked
 pub record Solvable (nodes state scratch : List ℕ) (n : ℕ) : Type 0 where
   pub work : Work nodes state scratch n 1
+  pub closes : Closes (work .ss) nodes (bindings (work .ss) nodes state n) (leftAt scratch) (rightAt scratch) 1 nothing nothing
   pub clean : Clean scratch
 
 pub record Solved (ss : List Symbol) (nodes before after scratch later : List ℕ) (top n : ℕ) (ls rs : RTerms) (r : Unified) : Type 0 where

@@ -1,5 +1,6 @@
 // Unification over flat words.
 
+pub mod memo;
 pub mod occurrence;
 pub mod solve;
 pub mod stack;

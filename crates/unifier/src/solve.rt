@@ -1,4 +1,7 @@
 // Unification: the outer loop, which takes over where a bound variable is crossed.
+use crate::memo::forget;
+use crate::memo::known;
+use crate::memo::remember;
 use crate::occurrence::occurs;
 use crate::occurrence::size_at;
 use crate::occurrence::word_at;
@@ -11,7 +14,7 @@ use crate::store::bind;
 use crate::store::deref;
 use crate::walk::Walked;
 use crate::walk::unify_list;
-ghost use Rattle.unifier.specs.Turns.{Crossed, Crossable, Crosses, Meetable, Turnable, Turned, Work, Advanced, Solvable, Solved, Unifiable, Unifies};
+ghost use Rattle.unifier.specs.Turns.{Crossed, Crossable, Crosses, Meetable, Turnable, Turned, Openable, Passable, Ready, Advanced, Solvable, Solved, Unifiable, Unifies};
 ghost use Rattle.unifier.specs.Stacks.{leftAt, rightAt, rowsOf};
 
 // What a turn comes to: on with a stack of this height, names that differ, or a variable to be bound.
@@ -30,6 +33,26 @@ pub enum Turn {
 pub struct Unified {
     pub equal: bool,
     pub trail: usize,
+}
+
+// Two dereferenced terms of one name before the rows of a stack of height h. Where they are one term, or known to be equal, there is nothing to do;
+// else their arguments are looked at next.
+fn open_pair(scratch: &mut [u32], h: usize, p: usize, c: usize, q: usize, d: usize) -> Turn
+    requires { ⌜ Openable (now scratch) h p c q d ⌝ }
+    ensures { λ r. ⌜ ((g : Openable (now (scratch .entry)) h p c q d) → Rattle.unifier.specs.Turns.Settled (g .nodes) (now (scratch .entry)) (now (scratch .exit)) h p c q d (g .crossed) r) ⌝ }
+{
+    let left = p * 256 + c + 1;
+    let right = q * 256 + d + 1;
+    if left == right {
+        return Turn::Go(h);
+    }
+    if known(scratch, left, right) {
+        return Turn::Go(h);
+    }
+    let i = p + 2;
+    let j = q + 2;
+    put_pair(scratch, h, p, i, c, q, j, d);
+    Turn::Go(h + 1)
 }
 
 // Two dereferenced terms before the rows of a stack of height h. Of two variables the later is bound to the earlier.
@@ -88,10 +111,7 @@ fn settle(
     if w != z {
         return Turn::Clash;
     }
-    let i = p + 2;
-    let j = q + 2;
-    put_pair(scratch, h, p, i, c, q, j, d);
-    Turn::Go(h + 1)
+    open_pair(scratch, h, p, c, q, d)
 }
 
 // Two terms before the rows of a stack of height h, a variable on a side: they are dereferenced.
@@ -138,6 +158,21 @@ fn meet(
     cross(nodes, state, scratch, h, p, c, q, d)
 }
 
+// The top pair's rows are done: its two terms are equal from now on.
+fn pass(scratch: &mut [u32], h: usize, l: Side, r: Side) -> Turn
+    requires { ⌜ Passable (now scratch) h l r ⌝ }
+    ensures { λ t. ⌜ ((g : Passable (now (scratch .entry)) h l r) → Turned (g .nodes) (g .state) (now (scratch .entry)) (now (scratch .exit)) (g .n) h (g .work) t) ⌝ }
+{
+    let root = l.root;
+    let c = l.copy;
+    let other = r.root;
+    let d = r.copy;
+    let left = root * 256 + c + 1;
+    let right = other * 256 + d + 1;
+    remember(scratch, left, right);
+    Turn::Go(h - 1)
+}
+
 // One turn at the top of a stack of height h.
 fn next_turn(nodes: &[u32], state: &[u32], scratch: &mut [u32], h: usize) -> Turn
     requires { ⌜ Turnable (now nodes) (now state) (now scratch) h ⌝ }
@@ -153,7 +188,7 @@ fn next_turn(nodes: &[u32], state: &[u32], scratch: &mut [u32], h: usize) -> Tur
     let e = root + size_at(nodes, root);
     let found = unify_list(nodes, from, e, there);
     match found {
-        Walked::Done => Turn::Go(k),
+        Walked::Done => pass(scratch, h, l, r),
         Walked::Clash => Turn::Clash,
         Walked::Met { left, right } => meet(nodes, state, scratch, h, l, r, left, right),
     }
@@ -161,8 +196,8 @@ fn next_turn(nodes: &[u32], state: &[u32], scratch: &mut [u32], h: usize) -> Tur
 
 // Turns, until the stack is empty or a turn does not go on. There are n bindings; they stay as they are, so the turns end.
 fn advance(nodes: &[u32], state: &[u32], scratch: &mut [u32], n: usize, h: usize) -> Turn
-    requires { ⌜ Work (now nodes) (now state) (now scratch) n h ⌝ }
-    ensures { λ t. ⌜ ((g : Work (now (nodes .entry)) (now (state .entry)) (now (scratch .entry)) n h) → Advanced (now (nodes .entry)) (now (state .entry)) (now (scratch .entry)) (now (scratch .exit)) n h g t) ⌝ }
+    requires { ⌜ Ready (now nodes) (now state) (now scratch) n h ⌝ }
+    ensures { λ t. ⌜ ((g : Ready (now (nodes .entry)) (now (state .entry)) (now (scratch .entry)) n h) → Advanced (now (nodes .entry)) (now (state .entry)) (now (scratch .entry)) (now (scratch .exit)) n h (g .work) t) ⌝ }
 {
     let mut k = h;
     while 0 < k {
@@ -231,6 +266,7 @@ pub fn unify(
     requires { ⌜ Unifiable (now nodes) (now state) (now scratch) p c q d n ⌝ }
     ensures { λ r. ⌜ ((g : Unifiable (now (nodes .entry)) (now (state .entry)) (now (scratch .entry)) p c q d n) → Unifies (g .ss) (now (nodes .entry)) (now (state .entry)) (now (state .exit)) (now (scratch .entry)) (now (scratch .exit)) (g .top) p c q d n r) ⌝ }
 {
+    forget(scratch);
     put_pair(scratch, 0, p, p, c, q, q, d);
     solve_pair(nodes, state, scratch, n)
 }

@@ -5,7 +5,7 @@ use mathlib.Core.Path.{_≡_, sym, ap, _∙_}
 use mathlib.Core.Logic.{⊎-elim}
 use denote.Enum.Declared.{tagOf, declared}
 use Rattle.unifier.proofs.solve.Turn.{enum}
-use Rattle.unifier.specs.Turns.{Work}
+use Rattle.unifier.specs.Turns.{Ready}
 use Rattle.unifier.proofs.Solving.{Advancing, left-over, advance-begin, advance-turn, advance-next, advance-less, advance-stop, advance-end}
 use Rattle.unifier.proofs.solve.advance.Statement.{statement}
 use Rattle.unifier.proofs.solve.advance.Tie as tie
@@ -14,7 +14,7 @@ use Rattle.unifier.proofs.solve.advance.Lts as lts
 use Rattle.unifier.proofs.solve.next_turn.Reads as next-turn-reads
 
 abbrev Inv-loop : tie.InvT-loop
-Inv-loop nodes state scratch₀ n h k₀ scratch k = (g : Work nodes state scratch₀ n h) → Advancing (g .ss) nodes state scratch₀ scratch (g .top) n h k
+Inv-loop nodes state scratch₀ n h k₀ scratch k = (g : Ready nodes state scratch₀ n h) → Advancing (g .work .ss) nodes state scratch₀ scratch (g .work .top) n h k
 
 abbrev μ-loop : tie.MeasureT-loop
 μ-loop nodes state scratch₀ n h k₀ scratch k = left-over nodes state scratch n k
@@ -25,7 +25,7 @@ loop-holds c = λ g. advance-begin (c .before .before .before .args .nodes .now)
 
 -- src/solve.rt:110:13
 next-turn-requires : tie.Need-next-turn-requires Inv-loop μ-loop
-next-turn-requires c κs = advance-turn (c .before .before .before .before .before .before .args .nodes .now) (c .before .before .before .before .before .before .args .state .now) (c .before .before .before .before .before .before .args .scratch .now) (c .before .before .loop .scratch) (c .before .before .before .before .before .before .args .n) (c .before .before .before .before .before .before .args .h) (c .before .before .loop .k) (c .before .before .before .before .before .before .pre) (c .before .before .loop .inv (c .before .before .before .before .before .before .pre)) (c .before .loop-test .taken)
+next-turn-requires c κs = advance-turn (c .before .before .before .before .before .before .args .nodes .now) (c .before .before .before .before .before .before .args .state .now) (c .before .before .before .before .before .before .args .scratch .now) (c .before .before .loop .scratch) (c .before .before .before .before .before .before .args .n) (c .before .before .before .before .before .before .args .h) (c .before .before .loop .k) ((c .before .before .before .before .before .before .pre) .work) (c .before .before .loop .inv (c .before .before .before .before .before .before .pre)) (c .before .loop-test .taken)
 
 -- src/solve.rt:111:22
 enum-known-t : tie.Need-enum-known-t Inv-loop μ-loop
@@ -33,19 +33,19 @@ enum-known-t c = search needs
 
 -- src/solve.rt:112:13
 same-length : tie.Need-same-length Inv-loop μ-loop
-same-length c = advance-stop (c .before .before .before .before .before .before .before .before .before .before .args .nodes .now) (c .before .before .before .before .before .before .before .before .before .before .args .state .now) (c .before .before .before .before .before .before .before .before .before .before .args .scratch .now) (c .before .before .before .before .before .before .loop .scratch) (c .before .before .before .before .before .before .before .before .before .before .args .n) (c .before .before .before .before .before .before .before .before .before .before .args .h) (c .before .before .before .before .before .before .loop .k) (c .before .before .before .before .before .before .before .before .before .before .pre) (c .before .before .before .before .before .before .loop .inv (c .before .before .before .before .before .before .before .before .before .before .pre)) (c .before .before .before .before .before .loop-test .taken) (c .before .before .before .next-turn .last .1 .1 .0) (c .before .before .before .next-turn .result) (c .before .before .before .next-turn .ensures) (λ j e. ⊎-elim (λ k. let z : _≡_ {A = ℕ} 1 0 = sym k ∙ ap (tagOf (declared enum)) e in omega arith) (λ k. let z : _≡_ {A = ℕ} 2 0 = sym k ∙ ap (tagOf (declared enum)) e in omega arith) (c .match .keys2)) .0 .long
+same-length c = advance-stop (c .before .before .before .before .before .before .before .before .before .before .args .nodes .now) (c .before .before .before .before .before .before .before .before .before .before .args .state .now) (c .before .before .before .before .before .before .before .before .before .before .args .scratch .now) (c .before .before .before .before .before .before .loop .scratch) (c .before .before .before .before .before .before .before .before .before .before .args .n) (c .before .before .before .before .before .before .before .before .before .before .args .h) (c .before .before .before .before .before .before .loop .k) ((c .before .before .before .before .before .before .before .before .before .before .pre) .work) (c .before .before .before .before .before .before .loop .inv (c .before .before .before .before .before .before .before .before .before .before .pre)) (c .before .before .before .before .before .loop-test .taken) (c .before .before .before .next-turn .last .1 .1 .0) (c .before .before .before .next-turn .result) (c .before .before .before .next-turn .ensures) (λ j e. ⊎-elim (λ k. let z : _≡_ {A = ℕ} 1 0 = sym k ∙ ap (tagOf (declared enum)) e in omega arith) (λ k. let z : _≡_ {A = ℕ} 2 0 = sym k ∙ ap (tagOf (declared enum)) e in omega arith) (c .match .keys2)) .0 .long
 
 -- src/solve.rt:112:13
 returns : tie.Need-returns Inv-loop μ-loop
-returns c = λ g. advance-stop (c .before .before .before .before .before .before .before .before .before .before .args .nodes .now) (c .before .before .before .before .before .before .before .before .before .before .args .state .now) (c .before .before .before .before .before .before .before .before .before .before .args .scratch .now) (c .before .before .before .before .before .before .loop .scratch) (c .before .before .before .before .before .before .before .before .before .before .args .n) (c .before .before .before .before .before .before .before .before .before .before .args .h) (c .before .before .before .before .before .before .loop .k) g (c .before .before .before .before .before .before .loop .inv g) (c .before .before .before .before .before .loop-test .taken) (c .before .before .before .next-turn .last .1 .1 .0) (c .before .before .before .next-turn .result) (c .before .before .before .next-turn .ensures) (λ j e. ⊎-elim (λ k. let z : _≡_ {A = ℕ} 1 0 = sym k ∙ ap (tagOf (declared enum)) e in omega arith) (λ k. let z : _≡_ {A = ℕ} 2 0 = sym k ∙ ap (tagOf (declared enum)) e in omega arith) (c .match .keys2))
+returns c = λ g. advance-stop (c .before .before .before .before .before .before .before .before .before .before .args .nodes .now) (c .before .before .before .before .before .before .before .before .before .before .args .state .now) (c .before .before .before .before .before .before .before .before .before .before .args .scratch .now) (c .before .before .before .before .before .before .loop .scratch) (c .before .before .before .before .before .before .before .before .before .before .args .n) (c .before .before .before .before .before .before .before .before .before .before .args .h) (c .before .before .before .before .before .before .loop .k) (g .work) (c .before .before .before .before .before .before .loop .inv g) (c .before .before .before .before .before .loop-test .taken) (c .before .before .before .next-turn .last .1 .1 .0) (c .before .before .before .next-turn .result) (c .before .before .before .next-turn .ensures) (λ j e. ⊎-elim (λ k. let z : _≡_ {A = ℕ} 1 0 = sym k ∙ ap (tagOf (declared enum)) e in omega arith) (λ k. let z : _≡_ {A = ℕ} 2 0 = sym k ∙ ap (tagOf (declared enum)) e in omega arith) (c .match .keys2))
 
 -- src/solve.rt:109:5
 loop-less : tie.Need-loop-less Inv-loop μ-loop
-loop-less c = advance-less (c .before .before .before .before .before .before .before .before .before .before .before .before .args .nodes .now) (c .before .before .before .before .before .before .before .before .before .before .before .before .args .state .now) (c .before .before .before .before .before .before .before .before .before .before .before .before .args .scratch .now) (c .before .before .before .before .before .before .before .before .loop .scratch) (c .before .before .before .before .before .before .before .before .before .before .before .before .args .n) (c .before .before .before .before .before .before .before .before .before .before .before .before .args .h) (c .before .before .before .before .before .before .before .before .loop .k) (c .before .before .before .before .before .before .before .before .before .before .before .before .pre) (c .before .before .before .before .before .before .before .before .loop .inv (c .before .before .before .before .before .before .before .before .before .before .before .before .pre)) (c .before .before .before .before .before .before .before .loop-test .taken) (c .before .before .before .before .before .next-turn .last .1 .1 .0) (c .before .before .before .before .before .next-turn .result) (c .before .before .before .before .before .next-turn .ensures) (c .before .t .given .0 .0) (c .before .t .given .1)
+loop-less c = advance-less (c .before .before .before .before .before .before .before .before .before .before .before .before .args .nodes .now) (c .before .before .before .before .before .before .before .before .before .before .before .before .args .state .now) (c .before .before .before .before .before .before .before .before .before .before .before .before .args .scratch .now) (c .before .before .before .before .before .before .before .before .loop .scratch) (c .before .before .before .before .before .before .before .before .before .before .before .before .args .n) (c .before .before .before .before .before .before .before .before .before .before .before .before .args .h) (c .before .before .before .before .before .before .before .before .loop .k) ((c .before .before .before .before .before .before .before .before .before .before .before .before .pre) .work) (c .before .before .before .before .before .before .before .before .loop .inv (c .before .before .before .before .before .before .before .before .before .before .before .before .pre)) (c .before .before .before .before .before .before .before .loop-test .taken) (c .before .before .before .before .before .next-turn .last .1 .1 .0) (c .before .before .before .before .before .next-turn .result) (c .before .before .before .before .before .next-turn .ensures) (c .before .t .given .0 .0) (c .before .t .given .1)
 
 -- src/solve.rt:109:5
 loop-again : tie.Need-loop-again Inv-loop μ-loop
-loop-again c = λ g. advance-next (c .before .before .before .before .before .before .before .before .before .before .before .before .args .nodes .now) (c .before .before .before .before .before .before .before .before .before .before .before .before .args .state .now) (c .before .before .before .before .before .before .before .before .before .before .before .before .args .scratch .now) (c .before .before .before .before .before .before .before .before .loop .scratch) (c .before .before .before .before .before .before .before .before .before .before .before .before .args .n) (c .before .before .before .before .before .before .before .before .before .before .before .before .args .h) (c .before .before .before .before .before .before .before .before .loop .k) g (c .before .before .before .before .before .before .before .before .loop .inv g) (c .before .before .before .before .before .before .before .loop-test .taken) (c .before .before .before .before .before .next-turn .last .1 .1 .0) (c .before .before .before .before .before .next-turn .result) (c .before .before .before .before .before .next-turn .ensures) (c .before .t .given .0 .0) (c .before .t .given .1)
+loop-again c = λ g. advance-next (c .before .before .before .before .before .before .before .before .before .before .before .before .args .nodes .now) (c .before .before .before .before .before .before .before .before .before .before .before .before .args .state .now) (c .before .before .before .before .before .before .before .before .before .before .before .before .args .scratch .now) (c .before .before .before .before .before .before .before .before .loop .scratch) (c .before .before .before .before .before .before .before .before .before .before .before .before .args .n) (c .before .before .before .before .before .before .before .before .before .before .before .before .args .h) (c .before .before .before .before .before .before .before .before .loop .k) (g .work) (c .before .before .before .before .before .before .before .before .loop .inv g) (c .before .before .before .before .before .before .before .loop-test .taken) (c .before .before .before .before .before .next-turn .last .1 .1 .0) (c .before .before .before .before .before .next-turn .result) (c .before .before .before .before .before .next-turn .ensures) (c .before .t .given .0 .0) (c .before .t .given .1)
 
 -- src/solve.rt:104:1
 same-length-2 : tie.Need-same-length-2 Inv-loop μ-loop
@@ -53,7 +53,7 @@ same-length-2 c = c .before .loop .inv (c .before .before .before .before .befor
 
 -- src/solve.rt:104:1
 returns-2 : tie.Need-returns-2 Inv-loop μ-loop
-returns-2 c = λ g. advance-end (c .before .before .before .before .before .args .nodes .now) (c .before .before .before .before .before .args .state .now) (c .before .before .before .before .before .args .scratch .now) (c .before .loop .scratch) (c .before .before .before .before .before .args .n) (c .before .before .before .before .before .args .h) (c .before .loop .k) g (c .before .loop .inv g) (c .loop-test .left)
+returns-2 c = λ g. advance-end (c .before .before .before .before .before .args .nodes .now) (c .before .before .before .before .before .args .state .now) (c .before .before .before .before .before .args .scratch .now) (c .before .loop .scratch) (c .before .before .before .before .before .args .n) (c .before .before .before .before .before .args .h) (c .before .loop .k) (g .work) (c .before .loop .inv g) (c .loop-test .left)
 
 pub advance-spec : {M : Type 1} → statement M
 advance-spec =

@@ -1,5 +1,5 @@
+use Rattle.unifier.proofs.Turning.{turn-room, turn-inside, turn-walk, turn-pass, turn-done, turn-clash, turn-met, turn-end}
 use native.Mathlib.Omega.{arith}
-use Rattle.unifier.proofs.Turning.{turn-room, turn-inside, turn-walk, turn-done, turn-clash, turn-met, turn-end}
 use borrow.Author.Needs.{needs}
 use Rattle.unifier.proofs.solve.next_turn.Statement.{statement}
 use Rattle.unifier.proofs.solve.next_turn.Tie as tie
@@ -7,82 +7,87 @@ use Rattle.unifier.proofs.solve.next_turn.Reads as reads
 use Rattle.unifier.proofs.solve.next_turn.Lts as lts
 use Rattle.unifier.proofs.occurrence.size_at.Reads as size-at-reads
 use Rattle.unifier.proofs.solve.meet.Reads as meet-reads
+use Rattle.unifier.proofs.solve.pass.Reads as pass-reads
 use Rattle.unifier.proofs.stack.side_at.Reads as side-at-reads
 use Rattle.unifier.proofs.walk.unify_list.Reads as unify-list-reads
 
--- src/solve.rt:87:13
+-- src/solve.rt:181:13
 sub-k : tie.Need-sub-k
 sub-k c = search needs
 
--- src/solve.rt:88:24
+-- src/solve.rt:182:24
 mul-base : tie.Need-mul-base
 mul-base c = omega (arith, turn-room (c .before .before .before .args .nodes .now) (c .before .before .before .args .state .now) (c .before .before .before .args .scratch .now) (c .before .before .before .args .h) (c .before .before .before .pre))
 
--- src/solve.rt:88:16
+-- src/solve.rt:182:16
 add-base : tie.Need-add-base
 add-base c = omega (arith, turn-room (c .before .before .before .args .nodes .now) (c .before .before .before .args .state .now) (c .before .before .before .args .scratch .now) (c .before .before .before .args .h) (c .before .before .before .pre))
 
--- src/solve.rt:89:9
+-- src/solve.rt:183:9
 side-at-requires : tie.Need-side-at-requires
 side-at-requires c κs = omega (arith, turn-room (c .before .before .before .before .args .nodes .now) (c .before .before .before .before .args .state .now) (c .before .before .before .before .args .scratch .now) (c .before .before .before .before .args .h) (c .before .before .before .before .pre))
 
--- src/solve.rt:90:30
+-- src/solve.rt:184:30
 add-side-at : tie.Need-add-side-at
 add-side-at c = omega (arith, turn-room (c .before .before .before .before .before .before .args .nodes .now) (c .before .before .before .before .before .before .args .state .now) (c .before .before .before .before .before .before .args .scratch .now) (c .before .before .before .before .before .before .args .h) (c .before .before .before .before .before .before .pre))
 
--- src/solve.rt:90:9
+-- src/solve.rt:184:9
 side-at-requires-2 : tie.Need-side-at-requires-2
 side-at-requires-2 c κs = omega (arith, turn-room (c .before .before .before .before .before .before .args .nodes .now) (c .before .before .before .before .before .before .args .state .now) (c .before .before .before .before .before .before .args .scratch .now) (c .before .before .before .before .before .before .args .h) (c .before .before .before .before .before .before .pre))
 
--- src/solve.rt:94:20
+-- src/solve.rt:188:20
 size-at-requires : tie.Need-size-at-requires
 size-at-requires c κs = turn-inside (c .before .before .before .before .before .before .before .args .nodes .now) (c .before .before .before .before .before .before .before .args .state .now) (c .before .before .before .before .before .before .before .args .scratch .now) (c .before .before .before .before .before .before .before .args .h) (c .before .before .before .before .before .before .before .pre) (c .before .before .side-at .result) (c .side-at2 .result) (c .before .before .side-at .ensures) (c .side-at2 .ensures) .0
 
--- src/solve.rt:94:13
+-- src/solve.rt:188:13
 add-e : tie.Need-add-e
 add-e c = omega (arith, c .size-at .ensures, turn-inside (c .before .before .before .before .before .before .before .before .args .nodes .now) (c .before .before .before .before .before .before .before .before .args .state .now) (c .before .before .before .before .before .before .before .before .args .scratch .now) (c .before .before .before .before .before .before .before .before .args .h) (c .before .before .before .before .before .before .before .before .pre) (c .before .before .before .side-at .result) (c .before .side-at2 .result) (c .before .before .before .side-at .ensures) (c .before .side-at2 .ensures))
 
--- src/solve.rt:95:9
+-- src/solve.rt:189:9
 unify-list-requires : tie.Need-unify-list-requires
 unify-list-requires c κs = turn-walk (c .before .before .before .before .before .before .before .before .args .nodes .now) (c .before .before .before .before .before .before .before .before .args .state .now) (c .before .before .before .before .before .before .before .before .args .scratch .now) (c .before .before .before .before .before .before .before .before .args .h) (c .before .before .before .before .before .before .before .before .pre) (c .before .before .before .side-at .result) (c .before .side-at2 .result) (c .before .before .before .side-at .ensures) (c .before .side-at2 .ensures) (c .size-at .result) (c .size-at .ensures)
 
--- src/solve.rt:97:25
+-- src/solve.rt:191:30
 enum-told : tie.Need-enum-told
 enum-told c = search needs
 
--- src/solve.rt:98:26
+-- src/solve.rt:191:25
+pass-requires : tie.Need-pass-requires
+pass-requires c κs = turn-pass (c .before .before .before .before .before .before .before .before .before .before .before .before .args .nodes .now) (c .before .before .before .before .before .before .before .before .before .before .before .before .args .state .now) (c .before .before .before .before .before .before .before .before .before .before .before .before .args .scratch .now) (c .before .before .before .before .before .before .before .before .before .before .before .before .args .h) (c .before .before .before .before .before .before .before .before .before .before .before .before .pre) (c .before .before .before .before .before .before .before .side-at .result) (c .before .before .before .before .before .side-at2 .result) (c .before .before .before .before .before .before .before .side-at .ensures) (c .before .before .before .before .before .side-at2 .ensures) (c .before .before .before .before .size-at .result) (c .before .before .before .before .size-at .ensures) (c .before .before .before .unify-list .result) (c .before .before .before .unify-list .ensures) (c .before .enum-told .given .1)
+
+-- src/solve.rt:192:26
 enum-told-2 : tie.Need-enum-told-2
 enum-told-2 c = search needs
 
--- src/solve.rt:99:23
+-- src/solve.rt:193:23
 enum-known-found : tie.Need-enum-known-found
 enum-known-found c = search needs
 
--- src/solve.rt:99:40
+-- src/solve.rt:193:40
 meet-requires : tie.Need-meet-requires
 meet-requires c κs = turn-met (c .before .before .before .before .before .before .before .before .before .before .before .before .before .args .nodes .now) (c .before .before .before .before .before .before .before .before .before .before .before .before .before .args .state .now) (c .before .before .before .before .before .before .before .before .before .before .before .before .before .args .scratch .now) (c .before .before .before .before .before .before .before .before .before .before .before .before .before .args .h) (c .before .before .before .before .before .before .before .before .before .before .before .before .before .pre) (c .before .before .before .before .before .before .before .before .side-at .result) (c .before .before .before .before .before .before .side-at2 .result) (c .before .before .before .before .before .before .before .before .side-at .ensures) (c .before .before .before .before .before .before .side-at2 .ensures) (c .before .before .before .before .before .size-at .result) (c .before .before .before .before .before .size-at .ensures) (c .before .before .before .before .unify-list .result) (c .before .before .before .before .unify-list .ensures) (c .before .before .found .given .0 .0) (c .before .before .found .given .0 .1 .0) (c .before .before .found .given .1)
 
--- src/solve.rt:83:1
+-- src/solve.rt:177:1
 same-length : tie.Need-same-length
 same-length c = search needs
 
--- src/solve.rt:83:1
+-- src/solve.rt:177:1
 returns : tie.Need-returns
-returns c = λ g. turn-done (c .before .before .before .before .before .before .before .before .before .before .before .args .nodes .now) (c .before .before .before .before .before .before .before .before .before .before .before .args .state .now) (c .before .before .before .before .before .before .before .before .before .before .before .args .scratch .now) (c .before .before .before .before .before .before .before .before .before .before .before .args .h) g (c .before .before .before .before .before .before .side-at .result) (c .before .before .before .before .side-at2 .result) (c .before .before .before .before .before .before .side-at .ensures) (c .before .before .before .before .side-at2 .ensures) (c .before .before .before .size-at .result) (c .before .before .before .size-at .ensures) (c .before .before .unify-list .result) (c .before .before .unify-list .ensures) (c .enum-told .given .1)
+returns c = λ g. turn-done (c .before .before .before .before .before .before .before .before .before .before .before .before .before .before .before .args .nodes .now) (c .before .before .before .before .before .before .before .before .before .before .before .before .before .before .before .args .state .now) (c .before .before .before .before .before .before .before .before .before .before .before .before .before .before .before .args .scratch .now) (c .before .before .before .before .before .before .before .before .before .before .before .before .before .before .before .args .h) g (c .before .before .before .before .before .before .before .before .before .before .side-at .result) (c .before .before .before .before .before .before .before .before .side-at2 .result) (c .before .before .before .before .before .before .before .before .before .before .side-at .ensures) (c .before .before .before .before .before .before .before .before .side-at2 .ensures) (c .before .before .before .before .before .before .before .size-at .result) (c .before .before .before .before .before .before .before .size-at .ensures) (c .before .before .before .before .before .before .unify-list .result) (c .before .before .before .before .before .before .unify-list .ensures) (c .before .before .before .before .enum-told .given .1) (c .before .before .pass .last .0) (c .before .before .pass .result) (c .before .before .pass .ensures)
 
--- src/solve.rt:83:1
+-- src/solve.rt:177:1
 same-length-2 : tie.Need-same-length-2
 same-length-2 c = search needs
 
--- src/solve.rt:83:1
+-- src/solve.rt:177:1
 returns-2 : tie.Need-returns-2
 returns-2 c = λ g. turn-clash (c .before .before .before .before .before .before .before .before .before .before .before .args .nodes .now) (c .before .before .before .before .before .before .before .before .before .before .before .args .state .now) (c .before .before .before .before .before .before .before .before .before .before .before .args .scratch .now) (c .before .before .before .before .before .before .before .before .before .before .before .args .h) g (c .before .before .before .before .before .before .side-at .result) (c .before .before .before .before .side-at2 .result) (c .before .before .before .before .before .before .side-at .ensures) (c .before .before .before .before .side-at2 .ensures) (c .before .before .before .size-at .result) (c .before .before .before .size-at .ensures) (c .before .before .unify-list .result) (c .before .before .unify-list .ensures) (c .enum-told2 .given .1)
 
--- src/solve.rt:83:1
+-- src/solve.rt:177:1
 same-length-3 : tie.Need-same-length-3
 same-length-3 c = search needs
 
--- src/solve.rt:83:1
+-- src/solve.rt:177:1
 returns-3 : tie.Need-returns-3
 returns-3 c = λ g. turn-end (c .before .before .before .before .before .before .before .before .before .before .before .before .before .before .before .before .args .nodes .now) (c .before .before .before .before .before .before .before .before .before .before .before .before .before .before .before .before .args .state .now) (c .before .before .before .before .before .before .before .before .before .before .before .before .before .before .before .before .args .scratch .now) (c .before .before .before .before .before .before .before .before .before .before .before .before .before .before .before .before .args .h) g (c .before .before .before .before .before .before .before .before .before .before .before .side-at .result) (c .before .before .before .before .before .before .before .before .before .side-at2 .result) (c .before .before .before .before .before .before .before .before .before .before .before .side-at .ensures) (c .before .before .before .before .before .before .before .before .before .side-at2 .ensures) (c .before .before .before .before .before .before .before .before .size-at .result) (c .before .before .before .before .before .before .before .before .size-at .ensures) (c .before .before .before .before .before .before .before .unify-list .result) (c .before .before .before .before .before .before .before .unify-list .ensures) (c .before .before .before .before .before .found .given .0 .0) (c .before .before .before .before .before .found .given .0 .1 .0) (c .before .before .before .before .before .found .given .1) (c .before .before .meet .last .1 .1 .0) (c .before .before .meet .result) (c .before .before .meet .ensures)
 
@@ -100,6 +105,7 @@ next-turn-spec =
     add-e
     unify-list-requires
     enum-told
+    pass-requires
     enum-told-2
     enum-known-found
     meet-requires

@@ -2,7 +2,7 @@ use Prim.Native.Nat.{_-_}
 use native.Mathlib.Omega.{arith}
 use borrow.Author.Needs.{needs}
 use Rattle.unifier.specs.Turns.{Solvable}
-use Rattle.unifier.proofs.Solving.{Solving, solve-begin, solve-work, solve-done, solve-clash, solve-check, solve-room, solve-few, solve-stands, solve-next}
+use Rattle.unifier.proofs.Solving.{Solving, solve-begin, solve-ready, solve-done, solve-clash, solve-check, solve-room, solve-few, solve-stands, solve-next}
 use Rattle.unifier.proofs.solve.solve_pair.Statement.{statement}
 use Rattle.unifier.proofs.solve.solve_pair.Tie as tie
 use Rattle.unifier.proofs.solve.solve_pair.Reads as reads
@@ -23,7 +23,7 @@ loop-holds c = λ g. solve-begin (c .before .before .before .args .nodes .now) (
 
 -- src/solve.rt:128:13
 advance-requires : tie.Need-advance-requires Inv-loop μ-loop
-advance-requires c κs = solve-work (c .before .before .before .before .before .before .args .nodes .now) (c .before .before .before .before .before .before .args .state .now) (c .before .before .loop .state) (c .before .before .before .before .before .before .args .scratch .now) (c .before .before .loop .scratch) (c .before .before .before .before .before .before .args .m) (c .before .before .loop .n) (c .before .before .loop .h) (c .before .before .before .before .before .before .pre) (c .before .before .loop .inv (c .before .before .before .before .before .before .pre))
+advance-requires c κs = solve-ready (c .before .before .before .before .before .before .args .nodes .now) (c .before .before .before .before .before .before .args .state .now) (c .before .before .loop .state) (c .before .before .before .before .before .before .args .scratch .now) (c .before .before .loop .scratch) (c .before .before .before .before .before .before .args .m) (c .before .before .loop .n) (c .before .before .loop .h) (c .before .before .before .before .before .before .pre) (c .before .before .loop .inv (c .before .before .before .before .before .before .pre))
 
 -- src/solve.rt:131:17
 enum-told : tie.Need-enum-told Inv-loop μ-loop
