@@ -1,5 +1,5 @@
 -- Laws of what makes the wholes of a stack's pairs equal. Assumes nothing.
-use Prim.Native.Nat.{ℕ, zero, suc, _+_, _-_, _*_, _≤_, _<_}
+use Prim.Native.Nat.{ℕ, suc, _≤_, _<_}
 use native.Mathlib.Omega.{arith}
 use mathlib.Core.Path.{_≡_, refl, sym, ap, ap₂, _∙_, subst, subst⁻¹}
 use mathlib.Core.Bool.{Bool, true, false}
@@ -7,7 +7,7 @@ use mathlib.Core.List.{List, [], _∷_, _++_, append-assoc}
 use lib.Dec.{eqb}
 use borrow.Author.Tests.{eqb-true, eqb-false}
 use Rattle.machine.specs.Substitution.{RTerm, RTerms, app, rnil, rcons, Binding, resolve}
-use Rattle.machine.proofs.Terms.{resolveAll, resolve-app, resolve-nil, resolve-cons, grows-more}
+use Rattle.machine.proofs.Terms.{resolveAll, resolve-app, resolve-cons, grows-more}
 use Rattle.layout.specs.Nodes.{Symbol, termsAt, followed}
 use Rattle.unifier.specs.Rows.{unifyRows}
 use Rattle.unifier.specs.Walks.{Meets, Walks}
@@ -60,9 +60,6 @@ under : (k h : ℕ) → k < suc h → eqb k h ≡ false → k < h
 under k h l q = let z : k ≡ h → ⊥ = eqb-false k h q in omega (arith, z)
 
 module _ (ss : List Symbol) (nodes : List ℕ) (b : List Binding) (l r : ℕ → Side) where
-  row-term : Side → RTerm
-  row-term s = app [] (rowOf ss nodes s)
-
   -- sides that are as they were
   pub closes-agree : (l′ r′ : ℕ → Side) (h : ℕ) (t u : RTerm) → ((k : ℕ) → k < h → l′ k ≡ l k) → ((k : ℕ) → k < h → r′ k ≡ r k) → Closes ss nodes b l r h t u → Closes ss nodes b l′ r′ h t u
   closes-agree l′ r′ h t u a a1 c =

@@ -18,7 +18,7 @@ use Rattle.layout.proofs.Nodes.{node-inside, node-end, variable-at, compound-at
 use Rattle.layout.proofs.State.{variable-cell, cell-eq, cell-small, resolve-unbound}
 use Rattle.unifier.specs.Rows.{unifyRows, nodesOf, sizeOf}
 use Rattle.unifier.specs.Memos.{Found}
-use Rattle.unifier.specs.Stacks.{leftAt, rightAt, pairWords, SameMarks, Roomy, endOf, wholeOf, rowOf, rowsOf, Half, Via, Stack, SameRows, nothing, Closes}
+use Rattle.unifier.specs.Stacks.{leftAt, rightAt, pairWords, SameMarks, Roomy, endOf, wholeOf, rowOf, rowsOf, Half, Via, Stack, nothing, Closes}
 use Rattle.unifier.specs.Turns.{Work, Goes, Binds, Turns, Reached, Crossed, Openable, Settled}
 use Rattle.unifier.specs.declared.stack.Side.{Side}
 use Rattle.unifier.specs.declared.solve.Turn.{Turn}

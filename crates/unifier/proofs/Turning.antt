@@ -247,8 +247,15 @@ module _ (nodes state scratch : List ℕ) (n h p q : ℕ) (w : Work nodes state 
   meet-crossable =
       record {
         n = n;
-        work = record { ss = w .ss; top = w .top; store = w .store; within = w .within; roomy = (let e : length mid ≡ length scratch = pair-long scratch (h - 1) (l0 .root) pa (l0 .copy) (r0 .root) qa (r0 .copy) fits in let o : 278535 ≤ length scratch = w .roomy in omega arith); stack = moved;
-            memo = memo-kept (w .ss) nodes b scratch (w .memo) mid (λ j o. pair-others scratch (h - 1) (l0 .root) pa (l0 .copy) (r0 .root) qa (r0 .copy) fits j (inr (let k : h ≤ 32769 = high in omega arith))) };
+        work = record {
+          ss = w .ss;
+          top = w .top;
+          store = w .store;
+          within = w .within;
+          roomy = (let e : length mid ≡ length scratch = pair-long scratch (h - 1) (l0 .root) pa (l0 .copy) (r0 .root) qa (r0 .copy) fits in let o : 278535 ≤ length scratch = w .roomy in omega arith);
+          stack = moved;
+          memo = memo-kept (w .ss) nodes b scratch (w .memo) mid (λ j o. pair-others scratch (h - 1) (l0 .root) pa (l0 .copy) (r0 .root) qa (r0 .copy) fits j (inr (let k : h ≤ 32769 = high in omega arith)));
+        };
         some = some;
         left = left-node;
         right = right-node;

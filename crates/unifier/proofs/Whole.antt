@@ -15,7 +15,7 @@ use Rattle.layout.proofs.Nodes.{node-inside, row-one, row-one-is, term-at}
 use Rattle.unifier.specs.Rows.{unifyRows}
 use Rattle.unifier.specs.Queues.{Clean}
 use Rattle.unifier.specs.Memos.{pairs}
-use Rattle.unifier.specs.Stacks.{leftAt, rightAt, pairWords, SameMarks, endOf, wholeOf, rowOf, rowsOf, Half, Stack, SameRows, nothing, Closes}
+use Rattle.unifier.specs.Stacks.{leftAt, rightAt, pairWords, SameMarks, endOf, wholeOf, rowOf, rowsOf, Half, Stack, nothing, Closes}
 use Rattle.unifier.specs.Turns.{Work, Solvable, Solved, Unifiable, Unifies, answered}
 use Rattle.unifier.specs.declared.stack.Side.{Side}
 use Rattle.unifier.specs.declared.solve.Unified.{Unified}
@@ -97,11 +97,11 @@ module _ (nodes state scratch : List ℕ) (p c q d n : ℕ) (g : Unifiable nodes
   first-closes =
       closes-first (g .ss) nodes (bindings (g .ss) nodes state n) (leftAt mid) (rightAt mid)
       (λ newer e.
-          ap (λ (s : Side). resolve (newer ++ bindings (g .ss) nodes state n) (wholeOf (g .ss) nodes s)) left-is
-          ∙ (equal-first (newer ++ bindings (g .ss) nodes state n) (termAt (g .ss) nodes p c) (termAt (g .ss) nodes q d) rnil rnil
-          (sym (ap (λ (ts : RTerms). resolve (newer ++ bindings (g .ss) nodes state n) (app [] ts)) (ap (rowOf (g .ss) nodes) left-is ∙ row-one-is (g .ss) nodes p c (g .left)))
-          ∙ (e ∙ ap (λ (ts : RTerms). resolve (newer ++ bindings (g .ss) nodes state n) (app [] ts)) (ap (rowOf (g .ss) nodes) right-is ∙ row-one-is (g .ss) nodes q d (g .right))))
-          ∙ sym (ap (λ (s : Side). resolve (newer ++ bindings (g .ss) nodes state n) (wholeOf (g .ss) nodes s)) right-is)))
+      ap (λ (s : Side). resolve (newer ++ bindings (g .ss) nodes state n) (wholeOf (g .ss) nodes s)) left-is
+      ∙ (equal-first (newer ++ bindings (g .ss) nodes state n) (termAt (g .ss) nodes p c) (termAt (g .ss) nodes q d) rnil rnil
+      (sym (ap (λ (ts : RTerms). resolve (newer ++ bindings (g .ss) nodes state n) (app [] ts)) (ap (rowOf (g .ss) nodes) left-is ∙ row-one-is (g .ss) nodes p c (g .left)))
+      ∙ (e ∙ ap (λ (ts : RTerms). resolve (newer ++ bindings (g .ss) nodes state n) (app [] ts)) (ap (rowOf (g .ss) nodes) right-is ∙ row-one-is (g .ss) nodes q d (g .right))))
+      ∙ sym (ap (λ (s : Side). resolve (newer ++ bindings (g .ss) nodes state n) (wholeOf (g .ss) nodes s)) right-is)))
 
   first-solvable : Solvable nodes state mid n
   first-solvable =

@@ -16,7 +16,7 @@ use Rattle.unifier.specs.Rows.{unifyRows, nodesOf, sizeOf}
 use Rattle.unifier.specs.Queues.{Clean}
 use Rattle.unifier.specs.Walks.{Meets, Walks}
 use Rattle.unifier.specs.Memos.{Memo}
-use Rattle.unifier.specs.Stacks.{leftAt, rightAt, SameMarks, Roomy, endOf, wholeOf, rowsOf, Via, Stack, SameRows, nothing, Closes}
+use Rattle.unifier.specs.Stacks.{leftAt, rightAt, SameMarks, Roomy, endOf, wholeOf, rowsOf, Via, Stack, nothing, Closes}
 use Rattle.unifier.specs.declared.stack.Side.{Side}
 use Rattle.unifier.specs.declared.walk.Walked.the-variants.{Done}
 use Rattle.unifier.specs.declared.solve.Turn.{Turn}
