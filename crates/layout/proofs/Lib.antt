@@ -3,4 +3,5 @@ pub mod Nodes
 pub mod Pigeonhole
 pub mod Pile
 pub mod State
+pub mod Step
 pub mod Witness

@@ -1,0 +1,190 @@
+-- What the definition's step makes of the pile that the words mean. Assumes nothing.
+use Prim.Native.Nat.{ℕ, zero, suc, _+_, _≤_, _<_}
+use native.Mathlib.Omega.{arith}
+use mathlib.Core.Path.{_≡_, refl, sym, ap, ap₂, _∙_, subst, subst⁻¹}
+use mathlib.Core.Bool.{Bool, true, false}
+use mathlib.Core.List.{List, [], _∷_, _++_}
+use mathlib.Core.Option.{Option, none, some}
+use lib.ListN.{length}
+use Rattle.syntax.specs.Terms.{Term, termOf, Atom, Literal, call, equation, truth, falsity, Body, done, also, Clause, Sheet, Goal}
+use Rattle.machine.specs.Substitution.{Binding, copied}
+use Rattle.machine.specs.Unification.{unify}
+use Rattle.machine.specs.Machine.{Pending, Call, Alternative, path, pending, nextFor, nextOf, topmost, clauseAt, standing, gone, equated, movedOn, laid, tried, onTop, called, worked, workedOn, outcome, step}
+use Rattle.layout.specs.Nodes.{Symbol}
+use Rattle.layout.specs.State.{bindings, Store, Within, Keeps}
+use Rattle.layout.specs.Program.{kindAt, otherAt, BodyStands, Program}
+use Rattle.layout.specs.Pile.{Calls, callerOf, callOf, restFrom, leftBehind, leftFrom, callsUpTo, copyAt, literalAt, nextAt, markAt, pathAt, alternativeAt, pileOf, Place, Frame, NextFor, Stacked, Piled}
+use Rattle.layout.proofs.Pile.{place-stands, rest-next, left-under, climb, next-for, Written, Stand, Means, replaced}
+
+-- ---- the literals left
+
+module _ (sh : Sheet) (g : Goal) (code state : List ℕ) where
+  -- as many calls as copies made
+  pub calls-count : (k : ℕ) → length (callsUpTo sh g code state k) ≡ k
+  unfolding callsUpTo
+  calls-count zero = refl
+  calls-count (suc k) = ap suc (calls-count k)
+
+  -- nothing is left behind the goal
+  pub left-goal : (k : ℕ) → leftBehind sh g code state k 0 ≡ []
+  unfolding leftBehind
+  left-goal zero = refl
+  left-goal (suc k) = left-under sh g code state k 0 (omega arith) ∙ left-goal k
+
+  pub left-done : (k c l : ℕ) → c ≡ 0 → restFrom sh g code state c l ≡ done → leftFrom sh g code state k c l ≡ []
+  unfolding leftFrom pending
+  left-done k c l z e = ap₂ (λ (b : Body) (y : ℕ). pending c b (leftBehind sh g code state k y)) e z ∙ left-goal k
+
+  pub left-also : (k c l : ℕ) → Place sh g code state c l → (x : Literal) (b : Body) → restFrom sh g code state c l ≡ also x b → leftFrom sh g code state k c l ≡ record { copy = c; literal = x } ∷ leftFrom sh g code state k c (l + 4)
+  unfolding leftFrom pending
+  left-also k c l at x b e =
+      ap (λ (y : Body). pending c y (leftBehind sh g code state k c)) e
+      ∙ ap (λ (y : Body). record { copy = c; literal = x } ∷ pending c y (leftBehind sh g code state k c)) (sym (rest-next sh g code state c l at x b e))
+
+-- a copy other than the goal is at its end
+pub record Rising (sh : Sheet) (g : Goal) (code state : List ℕ) (k c l : ℕ) : Type 0 where
+  pub left : leftFrom sh g code state k c l ≡ leftFrom sh g code state k (callerOf state c) (callOf state c + 4)
+  pub place : Place sh g code state (callerOf state c) (callOf state c + 4)
+  pub below : callerOf state c < c
+
+pub rise : (sh : Sheet) (g : Goal) (code state : List ℕ) (k c l : ℕ) → ((i : ℕ) → i < k → Frame sh g code state (suc i)) → 1 ≤ c → c ≤ k → restFrom sh g code state c l ≡ done → Rising sh g code state k c l
+rise sh g code state k zero l frames h low e = absurd (let z : 1 ≤ 0 = h in omega arith)
+rise sh g code state k (suc c) l frames h low e =
+    record { left = climb sh g code state k c l frames low e .left; place = climb sh g code state k c l frames low e .place; below = climb sh g code state k c l frames low e .below }
+
+-- ---- the next clause of a new literal
+
+call-eq : (a b : Atom) → call a ≡ call b → a ≡ b
+call-eq a b e = cc
+
+-- x is the word that a place's first literal gives: the topmost clause for a call, else 0
+pub record Fresh (sh : Sheet) (g : Goal) (code state : List ℕ) (k c l x : ℕ) : Type 0 where
+  pub stand : Stand sh g code state c l x
+  pub topmost-is : x ≡ topmost sh (leftFrom sh g code state k c l)
+
+pub fresh : (ss : List Symbol) (sh : Sheet) (g : Goal) (nodes code state : List ℕ) (k c l x : ℕ) → Program ss sh g nodes code → Place sh g code state c l → (restFrom sh g code state c l ≡ done → c ≡ 0)
+    → (kindAt code l ≡ 2 → x ≡ otherAt code l) → ((kindAt code l ≡ 2 → ⊥) → x ≡ 0) → Fresh sh g code state k c l x
+unfolding topmost nextOf
+fresh ss sh g nodes code state k c l x pr at ends is-call other = go (restFrom sh g code state c l) refl (place-stands ss sh g nodes code state c l pr at)
+  where
+    none-next : x ≡ 0 → Stand sh g code state c l x
+    none-next z = record { place = at; ends = ends; next = λ a q. subst⁻¹ (NextFor sh a) z tt }
+
+    first : (y : Literal) (b : Body) → restFrom sh g code state c l ≡ also y b → x ≡ nextOf sh y → x ≡ topmost sh (leftFrom sh g code state k c l)
+    first y b e q = q ∙ sym (ap (topmost sh) (left-also sh g code state k c l at y b e))
+
+    go : (b : Body) → restFrom sh g code state c l ≡ b → BodyStands ss sh nodes code l b → Fresh sh g code state k c l x
+    go done e s =
+        let kind : kindAt code l ≡ 4 = s .1 in
+        let z : x ≡ 0 = other (λ q. omega arith) in
+        record { stand = none-next z; topmost-is = z ∙ sym (ap (topmost sh) (left-done sh g code state k c l (ends e) e)) }
+    go (also (call a) b) e s =
+        let q : x ≡ nextFor sh a 0 = is-call (s .1 .0) ∙ s .1 .2 in
+        record {
+          stand = record { place = at; ends = ends; next = λ o w. subst (λ (y : Atom). NextFor sh y x) (call-eq a o (subst (λ (y : Body). Calls y o) e w)) (subst⁻¹ (NextFor sh a) q (next-for sh a 0)) };
+          topmost-is = first (call a) b e q;
+        }
+    go (also (equation t u) b) e s =
+        let kind : kindAt code l ≡ 3 = s .1 .0 in
+        let z : x ≡ 0 = other (λ q. omega arith) in
+        record { stand = none-next z; topmost-is = first (equation t u) b e z }
+    go (also truth b) e s =
+        let kind : kindAt code l ≡ 0 = s .1 in
+        let z : x ≡ 0 = other (λ q. omega arith) in
+        record { stand = none-next z; topmost-is = first truth b e z }
+    go (also falsity b) e s =
+        let kind : kindAt code l ≡ 1 = s .1 in
+        let z : x ≡ 0 = other (λ q. omega arith) in
+        record { stand = none-next z; topmost-is = first falsity b e z }
+
+-- ---- a step of the pile, by the top's first literal
+
+module _ (ss : List Symbol) (sh : Sheet) (g : Goal) (nodes code state : List ℕ) (h : ℕ) where
+  step-on : (lits : List Pending) → leftFrom sh g code state (pathAt state h) (copyAt state h) (literalAt state h) ≡ lits
+      → step sh (pileOf ss sh g nodes code state (suc h)) ≡ workedOn sh (alternativeAt ss sh g nodes code state h) lits ++ pileOf ss sh g nodes code state h
+  unfolding pileOf step outcome alternativeAt
+  step-on lits e = ap (λ (y : List Pending). workedOn sh (alternativeAt ss sh g nodes code state h) y ++ pileOf ss sh g nodes code state h) e
+
+  -- no literal is left
+  pub step-answer : (restFrom sh g code state (copyAt state h) (literalAt state h) ≡ done → copyAt state h ≡ 0) → restFrom sh g code state (copyAt state h) (literalAt state h) ≡ done
+      → step sh (pileOf ss sh g nodes code state (suc h)) ≡ pileOf ss sh g nodes code state h
+  unfolding workedOn
+  step-answer ends e = step-on [] (left-done sh g code state (pathAt state h) (copyAt state h) (literalAt state h) (ends e) e)
+
+  module _ (at : Place sh g code state (copyAt state h) (literalAt state h)) (r : Body) where
+    step-literal : (y : Literal) → restFrom sh g code state (copyAt state h) (literalAt state h) ≡ also y r
+        → step sh (pileOf ss sh g nodes code state (suc h)) ≡ worked sh (alternativeAt ss sh g nodes code state h) (copyAt state h) (leftFrom sh g code state (pathAt state h) (copyAt state h) (literalAt state h + 4)) y ++ pileOf ss sh g nodes code state h
+    unfolding workedOn
+    step-literal y e =
+        step-on (record { copy = copyAt state h; literal = y } ∷ leftFrom sh g code state (pathAt state h) (copyAt state h) (literalAt state h + 4)) (left-also sh g code state (pathAt state h) (copyAt state h) (literalAt state h) at y r e)
+
+    pub step-falsity : restFrom sh g code state (copyAt state h) (literalAt state h) ≡ also falsity r → step sh (pileOf ss sh g nodes code state (suc h)) ≡ pileOf ss sh g nodes code state h
+    unfolding worked
+    step-falsity e = step-literal falsity e
+
+    pub step-truth : restFrom sh g code state (copyAt state h) (literalAt state h) ≡ also truth r
+        → step sh (pileOf ss sh g nodes code state (suc h)) ≡ standing sh (leftFrom sh g code state (pathAt state h) (copyAt state h) (literalAt state h + 4)) (bindings ss nodes state (markAt state h)) (callsUpTo sh g code state (pathAt state h)) ∷ pileOf ss sh g nodes code state h
+    unfolding worked gone alternativeAt
+    step-truth e = step-literal truth e
+
+    pub step-unequal : (t u : Term) → restFrom sh g code state (copyAt state h) (literalAt state h) ≡ also (equation t u) r
+        → unify (bindings ss nodes state (markAt state h)) (copied (copyAt state h) t) (copied (copyAt state h) u) ≡ none
+        → step sh (pileOf ss sh g nodes code state (suc h)) ≡ pileOf ss sh g nodes code state h
+    unfolding worked equated alternativeAt
+    step-unequal t u e q =
+        step-literal (equation t u) e
+        ∙ ap (λ (o : Option (List Binding)). equated sh (alternativeAt ss sh g nodes code state h) (leftFrom sh g code state (pathAt state h) (copyAt state h) (literalAt state h + 4)) o ++ pileOf ss sh g nodes code state h) q
+
+    pub step-equal : (t u : Term) (b : List Binding) → restFrom sh g code state (copyAt state h) (literalAt state h) ≡ also (equation t u) r
+        → unify (bindings ss nodes state (markAt state h)) (copied (copyAt state h) t) (copied (copyAt state h) u) ≡ some b
+        → step sh (pileOf ss sh g nodes code state (suc h)) ≡ standing sh (leftFrom sh g code state (pathAt state h) (copyAt state h) (literalAt state h + 4)) b (callsUpTo sh g code state (pathAt state h)) ∷ pileOf ss sh g nodes code state h
+    unfolding worked equated gone alternativeAt
+    step-equal t u b e q =
+        step-literal (equation t u) e
+        ∙ ap (λ (o : Option (List Binding)). equated sh (alternativeAt ss sh g nodes code state h) (leftFrom sh g code state (pathAt state h) (copyAt state h) (literalAt state h + 4)) o ++ pileOf ss sh g nodes code state h) q
+
+    -- a call without a further clause
+    pub step-exhausted : (a : Atom) → restFrom sh g code state (copyAt state h) (literalAt state h) ≡ also (call a) r → nextAt state h ≡ 0
+        → step sh (pileOf ss sh g nodes code state (suc h)) ≡ pileOf ss sh g nodes code state h
+    unfolding worked called clauseAt alternativeAt
+    step-exhausted a e q =
+        step-literal (call a) e
+        ∙ ap (λ (m : ℕ). called sh (alternativeAt ss sh g nodes code state h) (copyAt state h) a (leftFrom sh g code state (pathAt state h) (copyAt state h) (literalAt state h + 4)) (clauseAt sh m) ++ pileOf ss sh g nodes code state h) q
+
+    module _ (a : Atom) (cl : Clause) (e : restFrom sh g code state (copyAt state h) (literalAt state h) ≡ also (call a) r) (q : clauseAt sh (nextAt state h) ≡ some cl) where
+      path-is : length (alternativeAt ss sh g nodes code state h .calls) ≡ pathAt state h
+      unfolding alternativeAt
+      path-is = calls-count sh g code state (pathAt state h)
+
+      step-called : step sh (pileOf ss sh g nodes code state (suc h))
+          ≡ onTop (laid sh (alternativeAt ss sh g nodes code state h) (copyAt state h) a (leftFrom sh g code state (pathAt state h) (copyAt state h) (literalAt state h + 4)) cl
+              (unify (bindings ss nodes state (markAt state h)) (copied (copyAt state h) (termOf a)) (copied (suc (pathAt state h)) (termOf (cl .head))))) (movedOn sh (alternativeAt ss sh g nodes code state h) a) ++ pileOf ss sh g nodes code state h
+      unfolding worked called tried alternativeAt
+      step-called =
+          step-literal (call a) e
+          ∙ (ap (λ (o : Option Clause). called sh (alternativeAt ss sh g nodes code state h) (copyAt state h) a (leftFrom sh g code state (pathAt state h) (copyAt state h) (literalAt state h + 4)) o ++ pileOf ss sh g nodes code state h) q
+          ∙ ap (λ (k : ℕ). onTop (laid sh (alternativeAt ss sh g nodes code state h) (copyAt state h) a (leftFrom sh g code state (pathAt state h) (copyAt state h) (literalAt state h + 4)) cl
+              (unify (bindings ss nodes state (markAt state h)) (copied (copyAt state h) (termOf a)) (copied (suc k) (termOf (cl .head))))) (movedOn sh (alternativeAt ss sh g nodes code state h) a) ++ pileOf ss sh g nodes code state h) path-is)
+
+      -- the head does not unify
+      pub step-refused : unify (bindings ss nodes state (markAt state h)) (copied (copyAt state h) (termOf a)) (copied (suc (pathAt state h)) (termOf (cl .head))) ≡ none
+          → step sh (pileOf ss sh g nodes code state (suc h))
+          ≡ record { literals = leftFrom sh g code state (pathAt state h) (copyAt state h) (literalAt state h); bindings = bindings ss nodes state (markAt state h); next = nextFor sh a (nextAt state h); calls = callsUpTo sh g code state (pathAt state h) } ∷ pileOf ss sh g nodes code state h
+      unfolding laid onTop movedOn alternativeAt
+      step-refused u =
+          step-called
+          ∙ ap (λ (o : Option (List Binding)). onTop (laid sh (alternativeAt ss sh g nodes code state h) (copyAt state h) a (leftFrom sh g code state (pathAt state h) (copyAt state h) (literalAt state h + 4)) cl o) (movedOn sh (alternativeAt ss sh g nodes code state h) a) ++ pileOf ss sh g nodes code state h) u
+
+      -- it does
+      pub step-tried : (b : List Binding) → unify (bindings ss nodes state (markAt state h)) (copied (copyAt state h) (termOf a)) (copied (suc (pathAt state h)) (termOf (cl .head))) ≡ some b
+          → step sh (pileOf ss sh g nodes code state (suc h))
+          ≡ standing sh (pending (suc (pathAt state h)) (cl .body) (leftFrom sh g code state (pathAt state h) (copyAt state h) (literalAt state h + 4))) b (record { copy = copyAt state h; atom = a } ∷ callsUpTo sh g code state (pathAt state h))
+          ∷ record { literals = leftFrom sh g code state (pathAt state h) (copyAt state h) (literalAt state h); bindings = bindings ss nodes state (markAt state h); next = nextFor sh a (nextAt state h); calls = callsUpTo sh g code state (pathAt state h) }
+          ∷ pileOf ss sh g nodes code state h
+      unfolding laid onTop movedOn alternativeAt
+      step-tried b u =
+          step-called
+          ∙ (ap (λ (o : Option (List Binding)). onTop (laid sh (alternativeAt ss sh g nodes code state h) (copyAt state h) a (leftFrom sh g code state (pathAt state h) (copyAt state h) (literalAt state h + 4)) cl o) (movedOn sh (alternativeAt ss sh g nodes code state h) a) ++ pileOf ss sh g nodes code state h) u
+          ∙ ap (λ (k : ℕ). standing sh (pending (suc k) (cl .body) (leftFrom sh g code state (pathAt state h) (copyAt state h) (literalAt state h + 4))) b (record { copy = copyAt state h; atom = a } ∷ callsUpTo sh g code state (pathAt state h))
+              ∷ record { literals = leftFrom sh g code state (pathAt state h) (copyAt state h) (literalAt state h); bindings = bindings ss nodes state (markAt state h); next = nextFor sh a (nextAt state h); calls = callsUpTo sh g code state (pathAt state h) }
+              ∷ pileOf ss sh g nodes code state h) path-is)
