@@ -1,7 +1,7 @@
 -- A run under way: its beginning, its ends, a step and an answer.
 use Prim.Native.Nat.{ℕ, zero, suc, _+_, _-_, _≤_, _<_}
 use native.Mathlib.Omega.{arith}
-use native.Mathlib.Nat.{add-zero}
+use native.Mathlib.Nat.{zero-add}
 use mathlib.Core.Path.{_≡_, refl, sym, ap, ap₂, _∙_, subst, subst⁻¹}
 use mathlib.Core.Bool.{Bool, true, false}
 use mathlib.Core.List.{List, [], _∷_, _++_}
@@ -193,7 +193,7 @@ module _ (ss : List Symbol) (sh : Sheet) (g : Goal) (nodes code : List ℕ) (all
                 written = o .written ++ line g (bindings ss nodes state1 m);
                 at-is = past ∙ ap (λ (a : ℕ). a + L) (o .at-is) ∙ sym (length-append (o .written) (line g (bindings ss nodes state1 m)));
                 fits = omega arith;
-                text-is = f .fits fit .text ∙ ap₂ (λ (t : List ℕ) (a : ℕ). sets t a (line g (bindings ss nodes state1 m))) (o .text-is) (o .at-is) ∙ sym (sets-append old 0 (o .written) (line g (bindings ss nodes state1 m)));
+                text-is = f .fits fit .text ∙ ap₂ (λ (t : List ℕ) (a : ℕ). sets t a (line g (bindings ss nodes state1 m))) (o .text-is) (o .at-is ∙ sym (zero-add (length (o .written)))) ∙ sym (sets-append old 0 (o .written) (line g (bindings ss nodes state1 m)));
                 steps-few = omega arith;
                 whole = o .whole ∙ answers-here .on (not-over (length old) (length (o .written) + length (nextLine g (pileOf ss sh g nodes code state h))) (omega arith))
                     ∙ ap₂ (λ (k : ℕ) (v : List Alternative). runFrom sh g wanted (length old) k (record { pile = v; answers = answers + 1; steps = suc steps; text = o .written ++ nextLine g (pileOf ss sh g nodes code state h) })) w (ap (step sh) (sym e) ∙ sym e2)

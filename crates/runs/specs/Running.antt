@@ -9,14 +9,19 @@ use lib.Seq.{sets}
 use Rattle.syntax.specs.Terms.{Sheet, Goal}
 use Rattle.syntax.specs.declared.Report.{Report}
 use Rattle.syntax.specs.declared.Kind.the-variants.{Wanted, Done, Steps, Deep}
-use Rattle.machine.specs.Machine.{Alternative}
+use Rattle.machine.specs.Machine.{Alternative, start}
+use Rattle.machine.specs.Answers.{line}
 use Rattle.machine.specs.Runs.{Progress, Ended, isEmpty, isAnswer, goesDeeper, runFrom, begun, run}
 use Rattle.layout.specs.Nodes.{Symbol}
 use Rattle.layout.specs.Program.{Program}
-use Rattle.layout.specs.Pile.{pileOf, Piled}
+use Rattle.layout.specs.State.{bindings}
+use Rattle.layout.specs.Pile.{pileOf, Piled, markAt}
 use Rattle.unifier.specs.Queues.{Clean}
 use Rattle.unifier.specs.Stacks.{Roomy}
 use Rattle.answers.specs.Words.{Names, Named, namesFrom}
+use Rattle.answers.specs.Telling.{Fitted}
+use Rattle.engine.specs.Steps.{Stepped}
+use Rattle.runs.specs.declared.Told.{Told}
 use Rattle.runs.specs.declared.Next.{Next}
 use Rattle.runs.specs.declared.Next.the-variants.{End, Answer, Step}
 
@@ -33,12 +38,8 @@ nextOf wanted answers left sh pile =
 abbrev pub reportOf : Ended → Report
 reportOf e = record { kind = e .kind; answers = e .at .answers; steps = e .at .steps }
 
--- a loaded program, its symbols and its goal's variables spelt
-pub record Spelt (sheet goal names : List ℕ) (count : ℕ) (nodes code symbols : List ℕ) : Type 0 where
-  pub ss : List Symbol
-  pub sh : Sheet
-  pub g : Goal
-  pub program : Program ss sh g nodes code
+-- the symbols and the goal's variables are spelt in the two texts
+pub record Spelt (ss : List Symbol) (g : Goal) (sheet goal names : List ℕ) (count : ℕ) (symbols : List ℕ) : Type 0 where
   pub spelt : Names ss symbols sheet goal
   pub named : Named goal names count
   pub names-are : g .names ≡ namesFrom goal names 0 count
@@ -49,9 +50,9 @@ pub record Lent (scratch stack : List ℕ) : Type 0 where
   pub clean : Clean scratch
   pub deep : 524320 ≤ length stack
 
--- words that mean a pile, and a text of which some bytes are written
-pub record Under (w-ss : List Symbol) (sh : Sheet) (g : Goal) (nodes code state scratch stack : List ℕ) (h n : ℕ) : Type 0 where
-  pub piled : Piled w-ss sh g nodes code state h n
+-- words that mean a pile, and that room
+pub record Under (ss : List Symbol) (sh : Sheet) (g : Goal) (nodes code state scratch stack : List ℕ) (h n : ℕ) : Type 0 where
+  pub piled : Piled ss sh g nodes code state h n
   pub lent : Lent scratch stack
 
 -- Where a run stands: the rest of it is the rest of the whole run.
@@ -68,3 +69,67 @@ pub record Ongoing (ss : List Symbol) (sh : Sheet) (g : Goal) (nodes code state 
 pub record Runs (sh : Sheet) (g : Goal) (allowance wanted : ℕ) (old new : List ℕ) (r : Report) : Type 0 where
   pub is : r ≡ reportOf (run sh g allowance wanted (length old))
   pub text-is : new ≡ sets old 0 (run sh g allowance wanted (length old) .at .text)
+
+-- ---- what the functions ask and promise
+
+-- words that mean a pile that is not empty, whatever the program
+pub record Rewindable (state : List ℕ) (h n : ℕ) : Type 0 where
+  pub ss : List Symbol
+  pub sh : Sheet
+  pub g : Goal
+  pub nodes : List ℕ
+  pub code : List ℕ
+  pub piled : Piled ss sh g nodes code state h n
+  pub some : 1 ≤ h
+
+-- the same pile, and the trail is the top's
+pub record Same (ss : List Symbol) (sh : Sheet) (g : Goal) (nodes code before after : List ℕ) (h m : ℕ) : Type 0 where
+  pub piled : Piled ss sh g nodes code after h m
+  pub is : pileOf ss sh g nodes code after h ≡ pileOf ss sh g nodes code before h
+
+pub record Rewound (before after : List ℕ) (h n m : ℕ) : Type 0 where
+  pub long : length after ≡ length before
+  pub mark : markAt after (h - 1) ≡ m
+  pub same : (ss : List Symbol) (sh : Sheet) (g : Goal) (nodes code : List ℕ) → Piled ss sh g nodes code before h n → Same ss sh g nodes code before after h m
+
+-- an answer is next
+pub record Answering (sheet goal names : List ℕ) (count : ℕ) (nodes code symbols state scratch stack text : List ℕ) (h n at : ℕ) : Type 0 where
+  pub ss : List Symbol
+  pub sh : Sheet
+  pub g : Goal
+  pub spelt : Spelt ss g sheet goal names count symbols
+  pub under : Under ss sh g nodes code state scratch stack h n
+  pub some : 1 ≤ h
+  pub answer : isAnswer (pileOf ss sh g nodes code state h) ≡ true
+  pub room : at ≤ length text
+
+-- The line is written and the step taken, or the line does not fit: then the position is 0.
+pub record Answered (ss : List Symbol) (sh : Sheet) (g : Goal) (nodes code before after scratch later stack stack1 old new : List ℕ) (h at : ℕ) (r : Told) : Type 0 where
+  pub mid : List ℕ
+  pub m : ℕ
+  pub same : Same ss sh g nodes code before mid h m
+  pub mark : markAt mid (h - 1) ≡ m
+  pub fitted : Fitted (line g (bindings ss nodes mid m)) old at new (r .at)
+  pub stepped : (r .at ≡ 0 → ⊥) → Stepped ss sh g nodes code mid after scratch later h (record { height = r .height; trail = r .trail })
+  pub state-long : length after ≡ length before
+  pub stack-long : length stack1 ≡ length stack
+
+-- the goal alone on the pile
+pub record Begun (sheet goal names : List ℕ) (count : ℕ) (nodes code symbols state scratch stack : List ℕ) : Type 0 where
+  pub ss : List Symbol
+  pub sh : Sheet
+  pub g : Goal
+  pub spelt : Spelt ss g sheet goal names count symbols
+  pub under : Under ss sh g nodes code state scratch stack 1 0
+  pub alone : pileOf ss sh g nodes code state 1 ≡ start sh g
+
+-- a loaded program and a state of zeros
+pub record Runnable (sheet goal names : List ℕ) (count : ℕ) (nodes code symbols state scratch stack : List ℕ) : Type 0 where
+  pub ss : List Symbol
+  pub sh : Sheet
+  pub g : Goal
+  pub spelt : Spelt ss g sheet goal names count symbols
+  pub program : Program ss sh g nodes code
+  pub long : 35328 ≤ length state
+  pub zero-words : (i : ℕ) → getD state i 0 ≡ 0
+  pub lent : Lent scratch stack

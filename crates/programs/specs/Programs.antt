@@ -1,0 +1,46 @@
+-- A sheet and a goal as they were read into their tables.
+use Prim.Native.Nat.{ℕ, _≤_}
+use mathlib.Core.Path.{_≡_}
+use mathlib.Core.List.{List}
+use lib.ListN.{length, getD}
+use Rattle.syntax.specs.Terms.{Sheet, Goal}
+use Rattle.syntax.specs.Words.{bodyWords, bodyLength, clausesWords}
+use Rattle.modes.specs.Standing.{BodyStands, ClausesStand}
+use Rattle.modes.specs.Tables.{Has}
+use Rattle.layout.specs.Nodes.{Symbol}
+use Rattle.layout.specs.Limits.{SheetLimited, GoalLimited}
+use Rattle.layout.specs.Program.{Program}
+use Rattle.answers.specs.Words.{Named, namesFrom}
+use Rattle.runs.specs.Running.{Spelt}
+
+-- Words that are all zero, so many.
+pub record Zeros (k : ℕ) (words : List ℕ) : Type 0 where
+  pub long : k ≡ length words
+  pub zero-words : (i : ℕ) → getD words i 0 ≡ 0
+
+-- Within document 01's limits, in tables of these sizes; the goal's variables are spelt in it.
+pub record Programmed (sheet table : List ℕ) (clauses : ℕ) (goal goals : List ℕ) (literals : ℕ) (names : List ℕ) (count : ℕ) : Type 0 where
+  pub sh : Sheet
+  pub g : Goal
+  pub has-clauses : Has table 0 (clausesWords (sh .clauses))
+  pub clauses-count : clauses ≡ length (sh .clauses)
+  pub clauses-stand : ClausesStand sheet (sh .clauses)
+  pub has-goal : Has goals 0 (bodyWords (g .body))
+  pub literals-count : literals ≡ bodyLength (g .body)
+  pub goal-stands : BodyStands goal (g .body)
+  pub limits : SheetLimited sh
+  pub goal-limits : GoalLimited g
+  pub named : Named goal names count
+  pub names-are : g .names ≡ namesFrom goal names 0 count
+  pub sheet-short : length sheet ≤ 16384
+  pub goal-short : length goal ≤ 1024
+  pub table-short : length table ≤ 65540
+  pub goals-short : length goals ≤ 4100
+
+-- loaded and linked
+pub record Linked (sheet goal names : List ℕ) (count : ℕ) (nodes code symbols : List ℕ) : Type 0 where
+  pub ss : List Symbol
+  pub sh : Sheet
+  pub g : Goal
+  pub program : Program ss sh g nodes code
+  pub spelt : Spelt ss g sheet goal names count symbols

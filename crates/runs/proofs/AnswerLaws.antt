@@ -1,0 +1,181 @@
+-- The functions of a run: what comes next, the trail rewound, an answer.
+use Prim.Native.Nat.{ℕ, zero, suc, _+_, _-_, _*_, _≤_, _<_}
+use native.Mathlib.Omega.{arith}
+use mathlib.Core.Path.{_≡_, refl, sym, ap, ap₂, _∙_, subst, subst⁻¹}
+use mathlib.Core.Bool.{Bool, true, false, cond}
+use mathlib.Core.List.{List, [], _∷_}
+use lib.Dec.{leb, eqb}
+use lib.ListN.{length, getD}
+use borrow.Author.Tests.{le-leb, lt-leb, eq-eqb, ne-eqb}
+use Rattle.syntax.specs.Terms.{Sheet, Goal}
+use Rattle.syntax.specs.declared.Kind.the-variants.{Wanted, Done, Steps, Deep}
+use Rattle.machine.specs.Machine.{Alternative, step}
+use Rattle.machine.specs.Answers.{line}
+use Rattle.machine.specs.Runs.{isEmpty, isAnswer, goesDeeper}
+use Rattle.layout.specs.Nodes.{Symbol}
+use Rattle.layout.specs.State.{bindings}
+use Rattle.layout.specs.Pile.{pileOf, Piled, markAt}
+use Rattle.layout.proofs.Pile.{height, undone, Means}
+use Rattle.unifier.specs.Cells.{Stored, Undone}
+use Rattle.answers.specs.Words.{namesFrom}
+use Rattle.answers.specs.Telling.{Answerable, SomeAnswerable, Fitted}
+use Rattle.engine.specs.Steps.{Running, Steppable, Stepped}
+use Rattle.engine.specs.declared.Pile.{Pile}
+use Rattle.runs.specs.declared.Next.{Next}
+use Rattle.runs.specs.declared.Next.the-variants.{End, Answer, Step}
+use Rattle.runs.specs.Running.{nextOf, Spelt, Under, Rewindable, Same, Rewound, Answering, Answered}
+use Rattle.runs.proofs.EndLaws.{answer-flat}
+
+-- ---- what comes next
+
+module _ (wanted answers left : ℕ) (sh : Sheet) (pile : List Alternative) where
+  abbrev picks : Bool → Bool → Bool → Bool → Bool → Next
+  picks a b c d e = cond a (End Wanted) (cond b (End Done) (cond c (End Steps) (cond d Answer (cond e (End Deep) Step))))
+
+  picked : nextOf wanted answers left sh pile ≡ picks (leb wanted answers) (isEmpty pile) (eqb left 0) (isAnswer pile) (goesDeeper sh pile)
+  unfolding nextOf
+  picked = refl
+
+  picks-to : (a b c d e : Bool) → leb wanted answers ≡ a → isEmpty pile ≡ b → eqb left 0 ≡ c → isAnswer pile ≡ d → goesDeeper sh pile ≡ e → nextOf wanted answers left sh pile ≡ picks a b c d e
+  picks-to a b c d e p q r s t =
+      picked
+      ∙ ap (λ (x : Bool). picks x (isEmpty pile) (eqb left 0) (isAnswer pile) (goesDeeper sh pile)) p
+      ∙ ap (λ (x : Bool). picks a x (eqb left 0) (isAnswer pile) (goesDeeper sh pile)) q
+      ∙ ap (λ (x : Bool). picks a b x (isAnswer pile) (goesDeeper sh pile)) r
+      ∙ ap (λ (x : Bool). picks a b c x (goesDeeper sh pile)) s
+      ∙ ap (λ (x : Bool). picks a b c d x) t
+
+pile-empty : (ss : List Symbol) (sh : Sheet) (g : Goal) (nodes code state : List ℕ) (h : ℕ) → h ≡ 0 → isEmpty (pileOf ss sh g nodes code state h) ≡ true
+unfolding isEmpty pileOf
+pile-empty ss sh g nodes code state zero q = refl
+pile-empty ss sh g nodes code state (suc h) q = absurd (omega arith)
+
+pile-filled : (ss : List Symbol) (sh : Sheet) (g : Goal) (nodes code state : List ℕ) (h : ℕ) → (h ≡ 0 → ⊥) → isEmpty (pileOf ss sh g nodes code state h) ≡ false
+unfolding isEmpty pileOf
+pile-filled ss sh g nodes code state zero q = absurd (q refl)
+pile-filled ss sh g nodes code state (suc h) q = refl
+
+module _ {nodes code state : List ℕ} {allowance wanted h n answers steps : ℕ} (few : steps ≤ allowance) (w : Running nodes code state h n) where
+  abbrev pile : List Alternative
+  pile = pileOf (w .ss) (w .sh) (w .g) nodes code state h
+
+  pub next-wanted : wanted ≤ answers → End Wanted ≡ nextOf wanted answers (allowance - steps) (w .sh) pile
+  next-wanted l = sym (picks-to wanted answers (allowance - steps) (w .sh) pile true _ _ _ _ (le-leb wanted answers l) refl refl refl refl)
+
+  module _ (l : answers < wanted) where
+    pub next-done : h ≡ 0 → End Done ≡ nextOf wanted answers (allowance - steps) (w .sh) pile
+    next-done z = sym (picks-to wanted answers (allowance - steps) (w .sh) pile false true _ _ _ (lt-leb wanted answers l) (pile-empty (w .ss) (w .sh) (w .g) nodes code state h z) refl refl refl)
+
+    module _ (z : h ≡ 0 → ⊥) where
+      pub next-steps : steps ≡ allowance → End Steps ≡ nextOf wanted answers (allowance - steps) (w .sh) pile
+      next-steps e = sym (picks-to wanted answers (allowance - steps) (w .sh) pile false false true _ _ (lt-leb wanted answers l) (pile-filled (w .ss) (w .sh) (w .g) nodes code state h z) (eq-eqb (allowance - steps) 0 (omega arith)) refl refl)
+
+      module _ (e : steps ≡ allowance → ⊥) where
+        more : eqb (allowance - steps) 0 ≡ false
+        more = ne-eqb (allowance - steps) 0 (λ q. e (omega arith))
+
+        pub next-answer : true ≡ isAnswer pile → Answer ≡ nextOf wanted answers (allowance - steps) (w .sh) pile
+        next-answer a = sym (picks-to wanted answers (allowance - steps) (w .sh) pile false false false true _ (lt-leb wanted answers l) (pile-filled (w .ss) (w .sh) (w .g) nodes code state h z) more (sym a) refl)
+
+        pub next-deep : false ≡ isAnswer pile → true ≡ goesDeeper (w .sh) pile → End Deep ≡ nextOf wanted answers (allowance - steps) (w .sh) pile
+        next-deep a d = sym (picks-to wanted answers (allowance - steps) (w .sh) pile false false false false true (lt-leb wanted answers l) (pile-filled (w .ss) (w .sh) (w .g) nodes code state h z) more (sym a) (sym d))
+
+        pub next-step : false ≡ isAnswer pile → false ≡ goesDeeper (w .sh) pile → Step ≡ nextOf wanted answers (allowance - steps) (w .sh) pile
+        next-step a d = sym (picks-to wanted answers (allowance - steps) (w .sh) pile false false false false false (lt-leb wanted answers l) (pile-filled (w .ss) (w .sh) (w .g) nodes code state h z) more (sym a) (sym d))
+
+-- ---- the trail rewound
+
+module _ {state : List ℕ} {h n : ℕ} (w : Rewindable state h n) where
+  pub rewind-room : 33792 + (h - 1) * 6 + 3 < length state
+  rewind-room = let x : h ≤ 256 = height (w .ss) (w .sh) (w .g) (w .nodes) (w .code) state h n (w .piled) in let y : 35328 ≤ length state = w .piled .long in let z : 1 ≤ h = w .some in omega arith
+
+  pub rewind-stored : Stored state n
+  rewind-stored = record { ss = w .ss; nodes = w .nodes; store = w .piled .store }
+
+  top-low : h - 1 < h
+  top-low = let z : 1 ≤ h = w .some in omega arith
+
+  pub rewind-mark : markAt state (h - 1) ≤ n
+  rewind-mark = w .piled .each (h - 1) top-low .mark
+
+  module _ {after : List ℕ} (u : Undone state after (markAt state (h - 1)) n) where
+    rewinds : (j : ℕ) → h ≡ suc j → Undone state after (markAt state j) n → (ss : List Symbol) (sh : Sheet) (g : Goal) (nodes code : List ℕ) → Piled ss sh g nodes code state (suc j) n → Same ss sh g nodes code state after (suc j) (markAt state j)
+    rewinds j e v ss sh g nodes code p =
+        let m : Means ss sh g nodes code after (suc j) (markAt state j) (pileOf ss sh g nodes code state (suc j)) = undone ss sh g nodes code state after j n (markAt state j) p refl (v .keeps) (v .store ss nodes (p .store)) in
+        record { piled = m .piled; is = m .is }
+
+    rewound-by : (j : ℕ) → h ≡ suc j → (ss : List Symbol) (sh : Sheet) (g : Goal) (nodes code : List ℕ) → Piled ss sh g nodes code state h n → Same ss sh g nodes code state after h (markAt state (h - 1))
+    rewound-by j e ss sh g nodes code p =
+        let k : j ≡ h - 1 = omega arith in
+        subst⁻¹ (λ (x : ℕ). Same ss sh g nodes code state after x (markAt state (h - 1))) e
+            (subst (λ (x : ℕ). Same ss sh g nodes code state after (suc j) (markAt state x)) k
+                (rewinds j e (subst⁻¹ (λ (x : ℕ). Undone state after (markAt state x) n) k u) ss sh g nodes code (subst (λ (x : ℕ). Piled ss sh g nodes code state x n) e p)))
+
+    pub rewind-end : Rewound state after h n (markAt state (h - 1))
+    rewind-end =
+        record {
+          long = u .keeps .long;
+          mark = u .keeps .others (33792 + (h - 1) * 6 + 3) (omega arith);
+          same = rewound-by (h - 1) (let z : 1 ≤ h = w .some in omega arith)
+        }
+
+-- ---- an answer
+
+module _ {sheet goal names : List ℕ} {count : ℕ} {nodes code symbols state scratch stack text : List ℕ} {h n at : ℕ} (w : Answering sheet goal names count nodes code symbols state scratch stack text h n at) where
+  pub answer-rewinds : Rewindable state h n
+  answer-rewinds = record { ss = w .ss; sh = w .sh; g = w .g; nodes = nodes; code = code; piled = w .under .piled; some = w .some }
+
+  module _ {mid : List ℕ} {m : ℕ} (x : Rewound state mid h n m) where
+    same-pile : Same (w .ss) (w .sh) (w .g) nodes code state mid h m
+    same-pile = x .same (w .ss) (w .sh) (w .g) nodes code (w .under .piled)
+
+    tells : Answerable (w .ss) m nodes mid symbols sheet goal names count
+    tells = record { store = same-pile .piled .store; symbols-are = w .spelt .spelt; named = w .spelt .named }
+
+    pub answer-tells : SomeAnswerable nodes mid symbols sheet goal names count
+    answer-tells = record { ss = w .ss; n = m; is = tells }
+
+    pub answer-room : (at ≤ length text) × (524320 ≤ length stack)
+    answer-room = (w .room, w .under .lent .deep)
+
+    pub answer-steps : Steppable nodes code mid scratch h m
+    answer-steps =
+        record {
+          running = record { ss = w .ss; sh = w .sh; g = w .g; piled = same-pile .piled };
+          some = w .some;
+          goes = ap (goesDeeper (w .sh)) (same-pile .is) ∙ answer-flat (w .sh) (pileOf (w .ss) (w .sh) (w .g) nodes code state h) (w .answer);
+          roomy = w .under .lent .roomy;
+          clean = w .under .lent .clean
+        }
+
+    module _ {new stack1 : List ℕ} {past : ℕ} (l : length stack1 ≡ length stack) (f : (ss : List Symbol) (k : ℕ) (g : Goal) → Answerable ss k nodes mid symbols sheet goal names count → g .names ≡ namesFrom goal names 0 count → Fitted (line g (bindings ss nodes mid k)) text at new past) where
+      fitted-here : Fitted (line (w .g) (bindings (w .ss) nodes mid m)) text at new past
+      fitted-here = f (w .ss) m (w .g) tells (w .spelt .names-are)
+
+      pub answer-full : past ≡ 0 → Answered (w .ss) (w .sh) (w .g) nodes code state mid scratch scratch stack stack1 text new h at (record { at = 0; height = h; trail = m })
+      answer-full z =
+          record {
+            mid = mid;
+            m = m;
+            same = same-pile;
+            mark = x .mark;
+            fitted = subst (Fitted (line (w .g) (bindings (w .ss) nodes mid m)) text at new) z fitted-here;
+            stepped = λ q. absurd (q refl);
+            state-long = x .long;
+            stack-long = l
+          }
+
+      pub answer-on : {after later : List ℕ} {r : Pile} → ((v : Steppable nodes code mid scratch h m) → Stepped (v .running .ss) (v .running .sh) (v .running .g) nodes code mid after scratch later h r) → Answered (w .ss) (w .sh) (w .g) nodes code state after scratch later stack stack1 text new h at (record { at = past; height = r .height; trail = r .trail })
+      unfolding answer-steps
+      answer-on {after} {later} {r} k =
+          let s : Stepped (w .ss) (w .sh) (w .g) nodes code mid after scratch later h r = k answer-steps in
+          record {
+            mid = mid;
+            m = m;
+            same = same-pile;
+            mark = x .mark;
+            fitted = fitted-here;
+            stepped = λ q. s;
+            state-long = s .state-long ∙ x .long;
+            stack-long = l
+          }
