@@ -78,5 +78,5 @@ module _ {sheet goal names : List ℕ} {count : ℕ} {nodes code symbols : List 
         program = w .program;
         long = omega arith;
         zero-words = z .zero-words;
-        lent = record { roomy = omega arith; clean = record { marks = λ j l. y .zero-words j }; deep = omega arith }
+        lent = record { roomy = omega arith; clean = record { long = omega arith; zero = λ i l. y .zero-words i }; deep = omega arith }
       }
