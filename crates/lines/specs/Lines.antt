@@ -9,6 +9,8 @@ use lib.Seq.{sets}
 use Rattle.syntax.specs.Quote.{bytes}
 use Rattle.syntax.specs.Refusals.{numbersOf}
 use Rattle.syntax.specs.declared.Five.{Five}
+use Rattle.syntax.specs.declared.Kind.{Kind}
+use Rattle.syntax.specs.declared.Kind.the-variants.{Wanted, Done, Steps, Full, Deep}
 use Rattle.syntax.specs.declared.Text.{Text}
 use Rattle.syntax.specs.declared.Text.the-variants.{Sheet, Goal, Neither}
 use Rattle.syntax.specs.declared.Verdict.{Verdict}
@@ -49,6 +51,14 @@ nameWord (b ∷ bs) = 32 ∷ b ∷ bs
 -- the line of a verdict and the name handed back with it
 unfoldable pub lineOf : Verdict → List ℕ → List ℕ
 lineOf verdict name = verdictWords verdict ++ nameWord name ++ (10 ∷ [])
+
+-- the kinds of end by number
+abbrev pub kindNumber : Kind → ℕ
+kindNumber Wanted = 0
+kindNumber Done = 1
+kindNumber Steps = 2
+kindNumber Full = 3
+kindNumber Deep = 4
 
 -- how a run ended; a number above 4 counts as 4
 abbrev pub kindWord : ℕ → List ℕ

@@ -1,11 +1,12 @@
 // The lines that the programs print, into a lent buffer. Document 01 is the paper "Rule sheets".
 use syntax::Five;
+use syntax::Kind;
 use syntax::Text;
 use syntax::Verdict;
 ghost use mathlib.Core.Path.{_≡_};
 ghost use mathlib.Core.List.{[], _∷_};
 ghost use Prim.Native.Nat.{_+_, _^_, _≤_, _<_};
-ghost use Rattle.lines.specs.Lines.{Put, written, fitted, lineOf, reportLine, decimal, number, textWord, verdictWords, nameWord, kindWord};
+ghost use Rattle.lines.specs.Lines.{Put, written, fitted, lineOf, reportLine, decimal, number, textWord, verdictWords, nameWord, kindNumber, kindWord};
 ghost use Rattle.lines.specs.Lines.{five as Lines·five};
 
 // Writes the line of a verdict, with the name handed back if there is one, to the start of out and returns its length;
@@ -20,6 +21,19 @@ pub fn put_line(verdict: Verdict, name: &[u8], out: &mut [u8]) -> usize
         append_line(verdict, name, out)
     } else {
         0
+    }
+}
+
+// The number of a kind of end.
+pub fn kind_number(kind: Kind) -> usize
+    ensures { λ r. ⌜ r ≡ kindNumber kind ⌝ }
+{
+    match kind {
+        Kind::Wanted => 0,
+        Kind::Done => 1,
+        Kind::Steps => 2,
+        Kind::Full => 3,
+        Kind::Deep => 4,
     }
 }
 

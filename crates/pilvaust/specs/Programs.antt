@@ -3,9 +3,9 @@ use Prim.Native.Nat.{ℕ}
 use mathlib.Core.List.{List, [], _++_}
 use Rattle.syntax.specs.declared.Verdict.{Verdict}
 use Rattle.syntax.specs.declared.Verdict.the-variants.{Refused}
-use Rattle.lines.specs.Lines.{lineOf, reportLine}
+use Rattle.lines.specs.Lines.{lineOf, kindNumber, reportLine}
 use Rattle.rules.specs.Checking.{checkVerdict, faultName}
-use Rattle.machine.specs.Runs.{Kind, Wanted, Done, Steps, Full, Deep, RunOutcome, stopped, ran, runOutcome}
+use Rattle.machine.specs.Runs.{RunOutcome, stopped, ran, runOutcome}
 
 -- a verdict, with the name that it hands back of the two texts
 unfoldable pub verdictLine : List ℕ → List ℕ → Verdict → List ℕ
@@ -14,14 +14,6 @@ verdictLine sheet goal v = lineOf v (faultName sheet goal v)
 -- the checker's output for a sheet
 unfoldable pub checker : List ℕ → List ℕ
 checker sheet = verdictLine sheet [] (checkVerdict sheet)
-
--- the kinds in the order of the report's numbers
-unfoldable pub kindNumber : Kind → ℕ
-kindNumber Wanted = 0
-kindNumber Done = 1
-kindNumber Steps = 2
-kindNumber Full = 3
-kindNumber Deep = 4
 
 -- the answer lines and the report, or the refusal
 unfoldable pub runLines : List ℕ → List ℕ → RunOutcome → List ℕ
