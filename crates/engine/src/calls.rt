@@ -1,0 +1,135 @@
+// What comes of the top alternative, by the literal it stands at. The trail is as long as the top's.
+use crate::Pile;
+use crate::laying::CALL;
+use crate::laying::EQUATION;
+use crate::laying::TRUTH;
+use crate::laying::lay;
+use crate::records::Stand;
+use crate::records::put_frame;
+use crate::records::put_next;
+use crate::records::stand_at;
+use unifier::occurrence::word_at;
+use unifier::solve::unify;
+ghost use mathlib.Core.Path.{_≡_};
+ghost use Prim.Native.Nat.{_-_};
+ghost use Rattle.layout.specs.Program.{kindAt};
+ghost use Rattle.layout.specs.Pile.{literalAt, nextAt, markAt};
+ghost use Rattle.engine.specs.Words.{standAt};
+ghost use Rattle.engine.specs.Moves.{Tryable, Comes, triedOn};
+ghost use Rattle.engine.specs.Steps.{Steppable, Stepped};
+
+// The clause of number k tried, as the copy one past the path; where its head unifies, its body is laid on top.
+fn try_clause(
+    nodes: &[u32],
+    code: &[u32],
+    state: &mut [u32],
+    scratch: &mut [u32],
+    h: usize,
+    k: usize,
+) -> Pile
+    requires { ⌜ Tryable (now nodes) (now code) (now state) (now scratch) h (h - 1) k ⌝ }
+    ensures { λ r. ⌜ ((w : Tryable (now (nodes .entry)) (now (code .entry)) (now (state .entry)) (now (scratch .entry)) h (h - 1) k) → Comes (w .ss) (w .sh) (w .g) (now (nodes .entry)) (now (code .entry)) (now (state .entry)) (now (state .exit)) (now (scratch .entry)) (now (scratch .exit)) (triedOn (w .ss) (w .sh) (w .g) (now (nodes .entry)) (now (code .entry)) (now (state .entry)) (h - 1) (w .atom) (w .clause)) r) ⌝ }
+{
+    let j = h - 1;
+    let s = stand_at(state, j);
+    let c = s.copy;
+    let l = s.literal;
+    let mark = s.mark;
+    let new = s.path + 1;
+    let i = k * 4;
+    let p = word_at(code, l + 1);
+    let q = word_at(code, i);
+    let u = unify(nodes, state, scratch, p, c, q, new, mark);
+    let trail = u.trail;
+    if u.equal {
+        let body = word_at(code, i + 1);
+        put_frame(state, new, k, c, l);
+        lay(code, state, h, new, body, trail, new);
+        return Pile {
+            height: h + 1,
+            trail,
+        };
+    }
+    Pile { height: h, trail }
+}
+
+// A call: the alternative moves on first, then the clause is tried on the words as they then are.
+fn work_call(
+    nodes: &[u32],
+    code: &[u32],
+    state: &mut [u32],
+    scratch: &mut [u32],
+    h: usize,
+    s: Stand,
+) -> Pile
+    requires { ⌜ Steppable (now nodes) (now code) (now state) (now scratch) h (markAt (now state) (h - 1)) ⌝ }
+    requires { ⌜ s ≡ standAt (now state) (h - 1) ⌝ }
+    requires { ⌜ kindAt (now code) (literalAt (now state) (h - 1)) ≡ 2 ⌝ }
+    ensures { λ r. ⌜ ((w : Steppable (now (nodes .entry)) (now (code .entry)) (now (state .entry)) (now (scratch .entry)) h (markAt (now (state .entry)) (h - 1))) → Stepped (w .running .ss) (w .running .sh) (w .running .g) (now (nodes .entry)) (now (code .entry)) (now (state .entry)) (now (state .exit)) (now (scratch .entry)) (now (scratch .exit)) h r) ⌝ }
+{
+    let j = h - 1;
+    let next = s.next;
+    if next == 0 {
+        return Pile {
+            height: j,
+            trail: s.mark,
+        };
+    }
+    let i = next * 4 + 2;
+    let after = word_at(code, i);
+    put_next(state, j, after);
+    try_clause(nodes, code, state, scratch, h, next)
+}
+
+// An equation: unified, the literal goes; else the alternative.
+fn work_equation(
+    nodes: &[u32],
+    code: &[u32],
+    state: &mut [u32],
+    scratch: &mut [u32],
+    h: usize,
+    s: Stand,
+) -> Pile
+    requires { ⌜ Steppable (now nodes) (now code) (now state) (now scratch) h (markAt (now state) (h - 1)) ⌝ }
+    requires { ⌜ s ≡ standAt (now state) (h - 1) ⌝ }
+    requires { ⌜ kindAt (now code) (literalAt (now state) (h - 1)) ≡ 3 ⌝ }
+    ensures { λ r. ⌜ ((w : Steppable (now (nodes .entry)) (now (code .entry)) (now (state .entry)) (now (scratch .entry)) h (markAt (now (state .entry)) (h - 1))) → Stepped (w .running .ss) (w .running .sh) (w .running .g) (now (nodes .entry)) (now (code .entry)) (now (state .entry)) (now (state .exit)) (now (scratch .entry)) (now (scratch .exit)) h r) ⌝ }
+{
+    let j = h - 1;
+    let c = s.copy;
+    let l = s.literal;
+    let p = word_at(code, l + 1);
+    let q = word_at(code, l + 2);
+    let u = unify(nodes, state, scratch, p, c, q, c, s.mark);
+    let trail = u.trail;
+    if u.equal {
+        let rest = l + 4;
+        lay(code, state, j, c, rest, trail, s.path);
+        return Pile { height: h, trail };
+    }
+    Pile { height: j, trail }
+}
+
+// By the literal: `fail` and a goal's end leave the pile below.
+pub fn work(nodes: &[u32], code: &[u32], state: &mut [u32], scratch: &mut [u32], h: usize) -> Pile
+    requires { ⌜ Steppable (now nodes) (now code) (now state) (now scratch) h (markAt (now state) (h - 1)) ⌝ }
+    ensures { λ r. ⌜ ((w : Steppable (now (nodes .entry)) (now (code .entry)) (now (state .entry)) (now (scratch .entry)) h (markAt (now (state .entry)) (h - 1))) → Stepped (w .running .ss) (w .running .sh) (w .running .g) (now (nodes .entry)) (now (code .entry)) (now (state .entry)) (now (state .exit)) (now (scratch .entry)) (now (scratch .exit)) h r) ⌝ }
+{
+    let j = h - 1;
+    let s = stand_at(state, j);
+    let l = s.literal;
+    let kind = word_at(code, l);
+    if kind == CALL {
+        return work_call(nodes, code, state, scratch, h, s);
+    }
+    if kind == EQUATION {
+        return work_equation(nodes, code, state, scratch, h, s);
+    }
+    let trail = s.mark;
+    if kind == TRUTH {
+        let rest = l + 4;
+        lay(code, state, j, s.copy, rest, trail, s.path);
+        return Pile { height: h, trail };
+    }
+    Pile { height: j, trail }
+}

@@ -1,0 +1,186 @@
+-- The first literal left is found up the callers, and an alternative is laid there. Assumes nothing.
+use Prim.Native.Nat.{ℕ, zero, suc, _+_, _-_, _*_, _≤_, _<_, _^_}
+use native.Mathlib.Omega.{arith}
+use mathlib.Core.Path.{_≡_, refl, sym, ap, ap₂, _∙_, subst, subst⁻¹}
+use mathlib.Core.Bool.{Bool, true, false}
+use mathlib.Core.List.{List, [], _∷_}
+use lib.ListN.{length, getD}
+use Rattle.syntax.specs.Terms.{Term, termOf, Atom, Literal, call, equation, truth, falsity, Body, done, also, Clause, Sheet, Goal}
+use Rattle.machine.specs.Machine.{Pending, pending, nextFor, nextOf, topmost}
+use Rattle.layout.specs.Nodes.{Symbol, Stands}
+use Rattle.layout.specs.Program.{kindAt, placeAt, otherAt, LiteralStands, BodyStands, Program}
+use Rattle.layout.specs.Pile.{Calls, callerOf, callOf, restFrom, leftBehind, leftFrom, Place, Frame, NextFor}
+use Rattle.engine.specs.Words.{callerAt, topmostAt, standWords}
+use Rattle.engine.specs.Moves.{Climbing, Climbable, Climbs, Layable, Lays}
+use Rattle.engine.specs.declared.records.Spot.{Spot}
+use Rattle.engine.proofs.WordLaws.{topmost-call, topmost-other, stand-long}
+use Rattle.layout.proofs.Step.{left-goal}
+use Rattle.layout.proofs.Pile.{place-stands, kind-room, kind-done, Climbed, climb, next-for, next-low}
+
+-- The same literals are left from l of copy c on as from the spot reached.
+pub record Along (sh : Sheet) (g : Goal) (code state : List ℕ) (path c l copy literal : ℕ) : Type 0 where
+  pub low : copy ≤ c
+  pub here : copy ≡ c → literal ≡ l
+  pub place : Place sh g code state copy literal
+  pub same : leftFrom sh g code state path copy literal ≡ leftFrom sh g code state path c l
+
+module _ {code state : List ℕ} {c l : ℕ} (w : Climbable code state c l) where
+  pub along-begin : Along (w .sh) (w .g) code state (w .path) c l c l
+  along-begin = record { low = omega arith; here = λ e. refl; place = w .climbing .place; same = refl }
+
+  module _ {copy literal : ℕ} (a : Along (w .sh) (w .g) code state (w .path) c l copy literal) where
+    stands : BodyStands (w .ss) (w .sh) (w .nodes) code literal (restFrom (w .sh) (w .g) code state copy literal)
+    stands = place-stands (w .ss) (w .sh) (w .g) (w .nodes) code state copy literal (w .climbing .program) (a .place)
+
+    room : literal + 4 ≤ length code
+    room = kind-room (w .ss) (w .sh) (w .nodes) code literal (restFrom (w .sh) (w .g) code state copy literal) stands
+
+    pub along-inside : literal < length code
+    along-inside = let r : literal + 4 ≤ length code = room in omega arith
+
+    high : copy ≤ w .path
+    high = let x : copy ≤ c = a .low in let y : c ≤ w .path = w .climbing .copy in omega arith
+
+    pub along-frame : 32768 + copy * 4 + 3 < length state
+    along-frame =
+        let x : copy ≤ w .path = high in
+        let y : w .path ≤ 255 = w .climbing .low in
+        let z : 35328 ≤ length state = w .climbing .long in
+        omega arith
+
+    -- a literal stands here
+    pub along-stops : (v : ℕ) → v ≡ kindAt code literal → (v ≡ 4 → ⊥) → Climbs (w .sh) (w .g) code state (w .path) c l (record { copy = copy; literal = literal })
+    along-stops v e z =
+        record {
+          copy = a .low;
+          here = a .here;
+          place = a .place;
+          ends = λ q. absurd (z (e ∙ subst (BodyStands (w .ss) (w .sh) (w .nodes) code literal) q stands .1));
+          same = a .same;
+        }
+
+    -- the goal is reached
+    pub along-goal : copy ≤ 0 → Climbs (w .sh) (w .g) code state (w .path) c l (record { copy = copy; literal = literal })
+    along-goal z =
+        record { copy = a .low; here = a .here; place = a .place; ends = λ q. (let e : copy ≡ 0 = omega arith in e); same = a .same }
+
+    -- the body has ended
+    at-end : (v : ℕ) → v ≡ kindAt code literal → v ≡ 4 → restFrom (w .sh) (w .g) code state copy literal ≡ done
+    at-end v e q = kind-done (w .ss) (w .sh) (w .nodes) code literal (restFrom (w .sh) (w .g) code state copy literal) stands (sym e ∙ q)
+
+-- up to the caller
+up : (ss : List Symbol) (sh : Sheet) (g : Goal) (nodes code state : List ℕ) (path c l copy literal : ℕ) → Climbing ss sh g nodes code state path c l → Along sh g code state path c l copy literal → copy ≤ path → 0 < copy
+    → restFrom sh g code state copy literal ≡ done
+    → (callerOf state copy < copy) × Along sh g code state path c l (callerOf state copy) (callOf state copy + 4)
+up ss sh g nodes code state path c l zero literal k a h z e = absurd (let y : 0 < 0 = z in omega arith)
+up ss sh g nodes code state path c l (suc copy) literal k a h z e =
+    let m : Climbed sh g code state path copy literal = climb sh g code state path copy literal (k .frame) h e in
+    let b : callerOf state (suc copy) < suc copy = m .below in
+    let x : suc copy ≤ c = a .low in
+    (b, record { low = (let y : callerOf state (suc copy) ≤ c = omega arith in y); here = λ q. absurd (let y : callerOf state (suc copy) ≡ c = q in omega arith); place = m .place; same = sym (m .left) ∙ a .same })
+
+module _ {code state : List ℕ} {c l : ℕ} (w : Climbable code state c l) {copy literal : ℕ} (a : Along (w .sh) (w .g) code state (w .path) c l copy literal) (z : 0 < copy) (v : ℕ) (e : v ≡ kindAt code literal) (q : v ≡ 4) where
+  risen : (callerOf state copy < copy) × Along (w .sh) (w .g) code state (w .path) c l (callerOf state copy) (callOf state copy + 4)
+  risen = up (w .ss) (w .sh) (w .g) (w .nodes) code state (w .path) c l copy literal (w .climbing) a (high w a) z (at-end w a v e q)
+
+  module _ (s : Spot) (is : s ≡ callerAt state copy) where
+    copy-is : s .copy ≡ callerOf state copy
+    copy-is = ap (λ (x : Spot). x .copy) is
+
+    literal-is : s .literal ≡ callOf state copy
+    literal-is = ap (λ (x : Spot). x .literal) is
+
+    pub along-less : s .copy < copy
+    along-less = let x : callerOf state copy < copy = risen .0 in let y : s .copy ≡ callerOf state copy = copy-is in omega arith
+
+    pub along-next : Along (w .sh) (w .g) code state (w .path) c l (s .copy) (s .literal + 4)
+    along-next = subst⁻¹ (λ (x : Spot). Along (w .sh) (w .g) code state (w .path) c l (x .copy) (x .literal + 4)) is (risen .1)
+
+    -- the sum is no larger than the table
+    pub along-fits : s .literal + 4 ≤ 65536
+    along-fits =
+        let x : s .literal + 4 < length code = along-inside w along-next in
+        let y : length code ≤ 65536 = w .climbing .program .short in
+        omega arith
+
+-- ---- laying
+
+climbable : (code state : List ℕ) (j c l mark path : ℕ) → Layable code state j c l mark path → Climbable code state c l
+climbable code state j c l mark path w = record { ss = w .ss; sh = w .sh; g = w .g; nodes = w .nodes; path = path; climbing = w .climbing }
+
+pub lay-climbable : {code state : List ℕ} {j c l mark path : ℕ} → Layable code state j c l mark path → Climbable code state c l
+lay-climbable {code} {state} {j} {c} {l} {mark} {path} w = climbable code state j c l mark path w
+
+-- the topmost clause for what stands first
+topmost-of : (ss : List Symbol) (sh : Sheet) (nodes code : List ℕ) (l copy : ℕ) (b : Body) (rest : List Pending) → BodyStands ss sh nodes code l b → (b ≡ done → rest ≡ []) → topmostAt code l ≡ topmost sh (pending copy b rest)
+unfolding topmost nextOf pending
+topmost-of ss sh nodes code l copy done rest s z = sym (topmost-other code l (λ q. (let x : kindAt code l ≡ 4 = s .1 in omega arith))) ∙ sym (ap (topmost sh) (z refl))
+topmost-of ss sh nodes code l copy (also (call a) b) rest s z = sym (topmost-call code l (s .1 .0)) ∙ s .1 .2
+topmost-of ss sh nodes code l copy (also (equation t u) b) rest s z = sym (topmost-other code l (λ q. (let x : kindAt code l ≡ 3 = s .1 .0 in omega arith)))
+topmost-of ss sh nodes code l copy (also truth b) rest s z = sym (topmost-other code l (λ q. (let x : kindAt code l ≡ 0 = s .1 in omega arith)))
+topmost-of ss sh nodes code l copy (also falsity b) rest s z = sym (topmost-other code l (λ q. (let x : kindAt code l ≡ 1 = s .1 in omega arith)))
+
+topmost-for : (ss : List Symbol) (sh : Sheet) (nodes code : List ℕ) (l : ℕ) (b : Body) → BodyStands ss sh nodes code l b → (a : Atom) → Calls b a → NextFor sh a (topmostAt code l)
+topmost-for ss sh nodes code l done s a k = absurd k
+topmost-for ss sh nodes code l (also x b) s a k =
+    let t : LiteralStands ss sh nodes code l (call a) = subst (LiteralStands ss sh nodes code l) k (s .1) in
+    subst (NextFor sh a) (sym (t .2) ∙ topmost-call code l (t .0)) (next-for sh a 0)
+
+topmost-low : (ss : List Symbol) (sh : Sheet) (nodes code : List ℕ) (l : ℕ) (b : Body) → BodyStands ss sh nodes code l b → topmostAt code l ≤ length (sh .clauses)
+topmost-low ss sh nodes code l done s = let z : 0 ≡ topmostAt code l = topmost-other code l (λ q. (let x : kindAt code l ≡ 4 = s .1 in omega arith)) in omega arith
+topmost-low ss sh nodes code l (also (call a) b) s = next-low sh a (topmostAt code l) (topmost-for ss sh nodes code l (also (call a) b) s a refl)
+topmost-low ss sh nodes code l (also (equation t u) b) s = let z : 0 ≡ topmostAt code l = topmost-other code l (λ q. (let x : kindAt code l ≡ 3 = s .1 .0 in omega arith)) in omega arith
+topmost-low ss sh nodes code l (also truth b) s = let z : 0 ≡ topmostAt code l = topmost-other code l (λ q. (let x : kindAt code l ≡ 0 = s .1 in omega arith)) in omega arith
+topmost-low ss sh nodes code l (also falsity b) s = let z : 0 ≡ topmostAt code l = topmost-other code l (λ q. (let x : kindAt code l ≡ 1 = s .1 in omega arith)) in omega arith
+
+module _ {code state : List ℕ} {j c l mark path : ℕ} (w : Layable code state j c l mark path) (s : Spot) (k : (v : Climbable code state c l) → Climbs (v .sh) (v .g) code state (v .path) c l s) where
+  spot-climbs : Climbs (w .sh) (w .g) code state path c l s
+  spot-climbs = k (record { ss = w .ss; sh = w .sh; g = w .g; nodes = w .nodes; path = path; climbing = w .climbing })
+
+  spot-stands : BodyStands (w .ss) (w .sh) (w .nodes) code (s .literal) (restFrom (w .sh) (w .g) code state (s .copy) (s .literal))
+  spot-stands = place-stands (w .ss) (w .sh) (w .g) (w .nodes) code state (s .copy) (s .literal) (w .climbing .program) (spot-climbs .place)
+
+  spot-room : s .literal + 4 ≤ length code
+  spot-room = kind-room (w .ss) (w .sh) (w .nodes) code (s .literal) (restFrom (w .sh) (w .g) code state (s .copy) (s .literal)) spot-stands
+
+  pub lay-inside : s .literal + 3 < length code
+  lay-inside = let r : s .literal + 4 ≤ length code = spot-room in omega arith
+
+  module _ (next : ℕ) (is : next ≡ topmostAt code (s .literal)) where
+    pub lay-room : (33792 + j * 6 + 5 < length state) × (((s .copy < 2 ^ 32) × (s .literal < 2 ^ 32)) × ((next < 2 ^ 32) × ((mark < 2 ^ 32) × (path < 2 ^ 32))))
+    lay-room =
+        let r : s .literal + 4 ≤ length code = spot-room in
+        let a : length code ≤ 65536 = w .climbing .program .short in
+        let b : s .copy ≤ c = spot-climbs .copy in
+        let d : c ≤ path = w .climbing .copy in
+        let e : path ≤ 255 = w .climbing .low in
+        let f : mark ≤ 16384 = w .small in
+        let h : j ≤ 255 = w .room in
+        let i : 35328 ≤ length state = w .climbing .long in
+        let m : topmostAt code (s .literal) ≤ length (w .sh .clauses) = topmost-low (w .ss) (w .sh) (w .nodes) code (s .literal) (restFrom (w .sh) (w .g) code state (s .copy) (s .literal)) spot-stands in
+        let n : length (w .sh .clauses) ≤ 256 = w .climbing .program .few in
+        (omega arith, ((omega arith, omega arith), (omega arith, (omega arith, omega arith))))
+
+    next-top : next ≡ topmost (w .sh) (leftFrom (w .sh) (w .g) code state path (s .copy) (s .literal))
+    unfolding leftFrom
+    next-top =
+        is ∙ topmost-of (w .ss) (w .sh) (w .nodes) code (s .literal) (s .copy) (restFrom (w .sh) (w .g) code state (s .copy) (s .literal)) (leftBehind (w .sh) (w .g) code state path (s .copy)) spot-stands
+        (λ q. ap (leftBehind (w .sh) (w .g) code state path) (spot-climbs .ends q) ∙ left-goal (w .sh) (w .g) code state path)
+
+    pub lay-end : (after : List ℕ) → after ≡ standWords state j (s .copy) (s .literal) next mark path → Lays (w .sh) (w .g) code state after j c l mark path
+    lay-end after e =
+        record {
+          spot = s;
+          next = next;
+          climbs = spot-climbs;
+          next-is = next-top ∙ ap (topmost (w .sh)) (spot-climbs .same);
+          next-for = λ a q. subst⁻¹ (NextFor (w .sh) a) is (topmost-for (w .ss) (w .sh) (w .nodes) code (s .literal) (restFrom (w .sh) (w .g) code state (s .copy) (s .literal)) spot-stands a q);
+          words = e;
+        }
+
+pub lays-long : {sh : Sheet} {g : Goal} {code before after : List ℕ} {j c l mark path : ℕ} → 33792 + j * 6 + 5 < length before → Lays sh g code before after j c l mark path → length after ≡ length before
+lays-long {sh} {g} {code} {before} {after} {j} {c} {l} {mark} {path} room k = ap length (k .words) ∙ stand-long before j (k .spot .copy) (k .spot .literal) (k .next) mark path room
+
+-- what `lay` promises
+abbrev pub LayEnds : (code state after : List ℕ) (j c l mark path : ℕ) → Type 0
+LayEnds code state after j c l mark path = (v : Layable code state j c l mark path) → Lays (v .sh) (v .g) code state after j c l mark path

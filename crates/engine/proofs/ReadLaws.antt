@@ -1,0 +1,307 @@
+-- The laws of the top as the code meets them: for a height and the number below it, and words that were read. Assumes nothing.
+use Prim.Native.Nat.{ℕ, zero, suc, _+_, _-_, _*_, _≤_, _<_, _^_}
+use native.Mathlib.Omega.{arith}
+use mathlib.Core.Path.{_≡_, refl, sym, ap, ap₂, _∙_, subst, subst⁻¹}
+use mathlib.Core.Bool.{Bool, true, false}
+use mathlib.Core.List.{List}
+use lib.ListN.{length, getD}
+use Rattle.syntax.specs.Terms.{Sheet, Goal}
+use Rattle.layout.specs.Program.{headAt, bodyAt, afterAt, kindAt, placeAt, otherAt}
+use Rattle.layout.specs.Pile.{copyAt, literalAt, nextAt, markAt, pathAt, Piled}
+use Rattle.unifier.specs.Turns.{Unifiable, Unifies}
+use Rattle.unifier.specs.declared.solve.Unified.{Unified}
+use Rattle.engine.specs.Words.{standAt, nextWords, frameWords}
+use Rattle.engine.specs.Moves.{Layable, Lays, Tryable, Comes, triedOn}
+use Rattle.engine.specs.Steps.{Steppable, Stepped}
+use Rattle.engine.specs.declared.Pile.{Pile}
+use Rattle.engine.specs.declared.records.Stand.{Stand}
+use Rattle.layout.proofs.Pile.{clause-low}
+use Rattle.engine.proofs.LayLaws.{LayEnds}
+use Rattle.engine.proofs.TopLaws.{at-top, top-stacked, top-inside, top-low, top-room}
+use Rattle.engine.proofs.WorkLaws.{pops-other, truth-layable-top, truth-core, equation-unifiable-top, equation-fails-top, equation-layable-top, equation-core}
+use Rattle.engine.proofs.CallLaws.{try-unifiable-top, try-fails-top, try-frame-top, try-layable-top, try-core, call-none-top, call-inside-top, call-room-top, call-tryable-top, call-end-top}
+
+-- ---- what a callee promises, of equal numbers
+
+abbrev pub UnifyEnds : (nodes state state1 scratch later : List ℕ) (p c q d n : ℕ) → Unified → Type 0
+UnifyEnds nodes state state1 scratch later p c q d n r = (v : Unifiable nodes state scratch p c q d n) → Unifies (v .ss) nodes state state1 scratch later (v .top) p c q d n r
+
+module _ {nodes state scratch : List ℕ} {p p2 c c2 q q2 d d2 n n2 : ℕ} (pe : p ≡ p2) (ce : c ≡ c2) (qe : q ≡ q2) (de : d ≡ d2) (ne : n ≡ n2) where
+  pub unifiable-of : Unifiable nodes state scratch p2 c2 q2 d2 n2 → Unifiable nodes state scratch p c q d n
+  unifiable-of v =
+      subst⁻¹ (λ (x : ℕ). Unifiable nodes state scratch x c q d n) pe
+      (subst⁻¹ (λ (x : ℕ). Unifiable nodes state scratch p2 x q d n) ce
+      (subst⁻¹ (λ (x : ℕ). Unifiable nodes state scratch p2 c2 x d n) qe
+      (subst⁻¹ (λ (x : ℕ). Unifiable nodes state scratch p2 c2 q2 x n) de (subst⁻¹ (λ (x : ℕ). Unifiable nodes state scratch p2 c2 q2 d2 x) ne v))))
+
+  pub unify-ends : (state1 later : List ℕ) (r : Unified) → UnifyEnds nodes state state1 scratch later p c q d n r → UnifyEnds nodes state state1 scratch later p2 c2 q2 d2 n2 r
+  unify-ends state1 later r k =
+      subst (λ (x : ℕ). UnifyEnds nodes state state1 scratch later p2 c2 q2 d2 x r) ne
+      (subst (λ (x : ℕ). UnifyEnds nodes state state1 scratch later p2 c2 q2 x n r) de
+      (subst (λ (x : ℕ). UnifyEnds nodes state state1 scratch later p2 c2 x d n r) qe
+      (subst (λ (x : ℕ). UnifyEnds nodes state state1 scratch later p2 x q d n r) ce (subst (λ (x : ℕ). UnifyEnds nodes state state1 scratch later x c q d n r) pe k))))
+
+module _ {code state : List ℕ} {j c c2 l l2 mark mark2 path path2 : ℕ} (ce : c ≡ c2) (le : l ≡ l2) (me : mark ≡ mark2) (pe : path ≡ path2) where
+  pub layable-of : Layable code state j c2 l2 mark2 path2 → Layable code state j c l mark path
+  layable-of v =
+      subst⁻¹ (λ (x : ℕ). Layable code state j x l mark path) ce
+      (subst⁻¹ (λ (x : ℕ). Layable code state j c2 x mark path) le
+      (subst⁻¹ (λ (x : ℕ). Layable code state j c2 l2 x path) me (subst⁻¹ (λ (x : ℕ). Layable code state j c2 l2 mark2 x) pe v)))
+
+  pub lay-ends : (after : List ℕ) → LayEnds code state after j c l mark path → LayEnds code state after j c2 l2 mark2 path2
+  lay-ends after k =
+      subst (λ (x : ℕ). LayEnds code state after j c2 l2 mark2 x) pe
+      (subst (λ (x : ℕ). LayEnds code state after j c2 l2 x path) me
+      (subst (λ (x : ℕ). LayEnds code state after j c2 x mark path) le (subst (λ (x : ℕ). LayEnds code state after j x l mark path) ce k)))
+
+-- ---- the top
+
+module _ (nodes code state scratch : List ℕ) (j : ℕ) (w : Steppable nodes code state scratch (suc j) (markAt state j)) where
+  top-facts : (33792 + j * 6 + 5 < length state) × ((literalAt state j + 4 ≤ length code) × (length code ≤ 65536))
+  top-facts = (
+    top-room (w .running .ss) (w .running .sh) (w .running .g) nodes code state j (markAt state j) (w .running .piled),
+    (top-inside (w .running .ss) (w .running .sh) (w .running .g) nodes code state j (markAt state j) (w .running .piled), w .running .piled .program .short),
+  )
+
+-- ---- below `step`
+
+module _ {nodes code state scratch : List ℕ} {h : ℕ} (w : Steppable nodes code state scratch h (markAt state (h - 1))) where
+  facts : (33792 + (h - 1) * 6 + 5 < length state) × ((literalAt state (h - 1) + 4 ≤ length code) × (length code ≤ 65536))
+  facts =
+      at-top (λ (h j : ℕ). Steppable nodes code state scratch h (markAt state j) → (33792 + j * 6 + 5 < length state) × ((literalAt state j + 4 ≤ length code) × (length code ≤ 65536)))
+      (λ j w. top-facts nodes code state scratch j w) h (w .some) w
+
+  pub work-room : 33792 + (h - 1) * 6 + 5 < length state
+  work-room = facts .0
+
+  module _ {s : Stand} (is : s ≡ standAt state (h - 1)) where
+    copy-is : s .copy ≡ copyAt state (h - 1)
+    copy-is = ap (λ (x : Stand). x .copy) is
+
+    literal-is : s .literal ≡ literalAt state (h - 1)
+    literal-is = ap (λ (x : Stand). x .literal) is
+
+    next-is : s .next ≡ nextAt state (h - 1)
+    next-is = ap (λ (x : Stand). x .next) is
+
+    mark-is : s .mark ≡ markAt state (h - 1)
+    mark-is = ap (λ (x : Stand). x .mark) is
+
+    path-is : s .path ≡ pathAt state (h - 1)
+    path-is = ap (λ (x : Stand). x .path) is
+
+    pub work-inside : (s .literal + 4 ≤ length code) × (length code ≤ 65536)
+    work-inside =
+        let a : literalAt state (h - 1) + 4 ≤ length code = facts .1 .0 in
+        let b : s .literal ≡ literalAt state (h - 1) = literal-is in
+        (omega arith, facts .1 .1)
+
+    -- the kind, as it was read
+    pub kind-read : {v k : ℕ} → v ≡ getD code (s .literal) 0 → v ≡ k → kindAt code (literalAt state (h - 1)) ≡ k
+    kind-read {v} {k} e q = sym (ap (λ (x : ℕ). getD code x 0) literal-is) ∙ (sym e ∙ q)
+
+    other-read : {v k : ℕ} → v ≡ getD code (s .literal) 0 → (v ≡ k → ⊥) → kindAt code (literalAt state (h - 1)) ≡ k → ⊥
+    other-read {v} {k} e z q = z (e ∙ (ap (λ (x : ℕ). getD code x 0) literal-is ∙ q))
+
+    pub work-pops : {v : ℕ} → v ≡ getD code (s .literal) 0 → (v ≡ 2 → ⊥) → (v ≡ 3 → ⊥) → (v ≡ 0 → ⊥)
+        → Stepped (w .running .ss) (w .running .sh) (w .running .g) nodes code state state scratch scratch h (record { height = h - 1; trail = s .mark })
+    work-pops e a b c =
+        subst⁻¹ (λ (x : ℕ). Stepped (w .running .ss) (w .running .sh) (w .running .g) nodes code state state scratch scratch h (record { height = h - 1; trail = x })) mark-is
+        (at-top (λ (h j : ℕ). (w : Steppable nodes code state scratch h (markAt state j)) → (kindAt code (literalAt state j) ≡ 2 → ⊥) → (kindAt code (literalAt state j) ≡ 3 → ⊥) → (kindAt code (literalAt state j) ≡ 0 → ⊥) → Stepped (w .running .ss) (w .running .sh) (w .running .g) nodes code state state scratch scratch h (record { height = j; trail = markAt state j }))
+        (λ j w x y z. pops-other nodes code state scratch j w x y z) h (w .some) w (other-read e a) (other-read e b) (other-read e c))
+
+    pub truth-layable : {v : ℕ} → v ≡ getD code (s .literal) 0 → v ≡ 0 → Layable code state (h - 1) (s .copy) (s .literal + 4) (s .mark) (s .path)
+    truth-layable e q =
+        layable-of copy-is (ap (λ (x : ℕ). x + 4) literal-is) mark-is path-is
+        (at-top (λ (h j : ℕ). Steppable nodes code state scratch h (markAt state j) → kindAt code (literalAt state j) ≡ 0 → Layable code state j (copyAt state j) (literalAt state j + 4) (markAt state j) (pathAt state j))
+        (λ j w x. truth-layable-top nodes code state scratch j w x) h (w .some) w (kind-read e q))
+
+    pub truth-end : {v : ℕ} → v ≡ getD code (s .literal) 0 → v ≡ 0 → (after : List ℕ) → LayEnds code state after (h - 1) (s .copy) (s .literal + 4) (s .mark) (s .path)
+        → Stepped (w .running .ss) (w .running .sh) (w .running .g) nodes code state after scratch scratch h (record { height = h; trail = s .mark })
+    truth-end e q after k =
+        subst⁻¹ (λ (x : ℕ). Stepped (w .running .ss) (w .running .sh) (w .running .g) nodes code state after scratch scratch h (record { height = h; trail = x })) mark-is
+        (at-top (λ (h j : ℕ). (w : Steppable nodes code state scratch h (markAt state j)) → kindAt code (literalAt state j) ≡ 0 → LayEnds code state after j (copyAt state j) (literalAt state j + 4) (markAt state j) (pathAt state j) → Stepped (w .running .ss) (w .running .sh) (w .running .g) nodes code state after scratch scratch h (record { height = h; trail = markAt state j }))
+        (λ j w x y. truth-core nodes code state scratch j w x after y) h (w .some) w (kind-read e q) (lay-ends copy-is (ap (λ (x : ℕ). x + 4) literal-is) mark-is path-is after k))
+
+    -- an equation
+    module _ (kind : kindAt code (literalAt state (h - 1)) ≡ 3) {p q : ℕ} (pe : p ≡ getD code (s .literal + 1) 0) (qe : q ≡ getD code (s .literal + 2) 0) where
+      place-is : p ≡ placeAt code (literalAt state (h - 1))
+      place-is = pe ∙ ap (λ (x : ℕ). getD code (x + 1) 0) literal-is
+
+      other-is : q ≡ otherAt code (literalAt state (h - 1))
+      other-is = qe ∙ ap (λ (x : ℕ). getD code (x + 2) 0) literal-is
+
+      pub equation-unifiable : Unifiable nodes state scratch p (s .copy) q (s .copy) (s .mark)
+      equation-unifiable =
+          unifiable-of place-is copy-is other-is copy-is mark-is
+          (at-top (λ (h j : ℕ). Steppable nodes code state scratch h (markAt state j) → kindAt code (literalAt state j) ≡ 3 → Unifiable nodes state scratch (placeAt code (literalAt state j)) (copyAt state j) (otherAt code (literalAt state j)) (copyAt state j) (markAt state j))
+          (λ j w x. equation-unifiable-top nodes code state scratch j w x) h (w .some) w kind)
+
+      module _ {state1 later : List ℕ} {r : Unified} (k : UnifyEnds nodes state state1 scratch later p (s .copy) q (s .copy) (s .mark) r) where
+        ends-is : UnifyEnds nodes state state1 scratch later (placeAt code (literalAt state (h - 1))) (copyAt state (h - 1)) (otherAt code (literalAt state (h - 1))) (copyAt state (h - 1)) (markAt state (h - 1)) r
+        ends-is = unify-ends place-is copy-is other-is copy-is mark-is state1 later r k
+
+        pub equation-fails : r .equal ≡ false → Stepped (w .running .ss) (w .running .sh) (w .running .g) nodes code state state1 scratch later h (record { height = h - 1; trail = r .trail })
+        equation-fails e =
+            at-top (λ (h j : ℕ). (w : Steppable nodes code state scratch h (markAt state j)) → kindAt code (literalAt state j) ≡ 3 → UnifyEnds nodes state state1 scratch later (placeAt code (literalAt state j)) (copyAt state j) (otherAt code (literalAt state j)) (copyAt state j) (markAt state j) r → Stepped (w .running .ss) (w .running .sh) (w .running .g) nodes code state state1 scratch later h (record { height = j; trail = r .trail }))
+            (λ j w x u. equation-fails-top nodes code state scratch j w x state1 later r u e) h (w .some) w kind ends-is
+
+        pub equation-layable : r .equal ≡ true → Layable code state1 (h - 1) (s .copy) (s .literal + 4) (r .trail) (s .path)
+        equation-layable e =
+            layable-of copy-is (ap (λ (x : ℕ). x + 4) literal-is) refl path-is
+            (at-top (λ (h j : ℕ). Steppable nodes code state scratch h (markAt state j) → kindAt code (literalAt state j) ≡ 3 → UnifyEnds nodes state state1 scratch later (placeAt code (literalAt state j)) (copyAt state j) (otherAt code (literalAt state j)) (copyAt state j) (markAt state j) r → Layable code state1 j (copyAt state j) (literalAt state j + 4) (r .trail) (pathAt state j))
+            (λ j w x u. equation-layable-top nodes code state scratch j w x state1 later r u e) h (w .some) w kind ends-is)
+
+        pub equation-end : r .equal ≡ true → (after : List ℕ) → LayEnds code state1 after (h - 1) (s .copy) (s .literal + 4) (r .trail) (s .path)
+            → Stepped (w .running .ss) (w .running .sh) (w .running .g) nodes code state after scratch later h (record { height = h; trail = r .trail })
+        equation-end e after y =
+            at-top (λ (h j : ℕ). (w : Steppable nodes code state scratch h (markAt state j)) → kindAt code (literalAt state j) ≡ 3 → UnifyEnds nodes state state1 scratch later (placeAt code (literalAt state j)) (copyAt state j) (otherAt code (literalAt state j)) (copyAt state j) (markAt state j) r → LayEnds code state1 after j (copyAt state j) (literalAt state j + 4) (r .trail) (pathAt state j) → Stepped (w .running .ss) (w .running .sh) (w .running .g) nodes code state after scratch later h (record { height = h; trail = r .trail }))
+            (λ j w x u z. equation-core nodes code state scratch j w x state1 later r u e after z) h (w .some) w kind ends-is (lay-ends copy-is (ap (λ (x : ℕ). x + 4) literal-is) refl path-is after y)
+
+    -- a call
+    module _ (kind : kindAt code (literalAt state (h - 1)) ≡ 2) where
+      pub call-none : s .next ≡ 0 → Stepped (w .running .ss) (w .running .sh) (w .running .g) nodes code state state scratch scratch h (record { height = h - 1; trail = s .mark })
+      call-none e =
+          subst⁻¹ (λ (x : ℕ). Stepped (w .running .ss) (w .running .sh) (w .running .g) nodes code state state scratch scratch h (record { height = h - 1; trail = x })) mark-is
+          (at-top (λ (h j : ℕ). (w : Steppable nodes code state scratch h (markAt state j)) → kindAt code (literalAt state j) ≡ 2 → nextAt state j ≡ 0 → Stepped (w .running .ss) (w .running .sh) (w .running .g) nodes code state state scratch scratch h (record { height = j; trail = markAt state j }))
+          (λ j w x z. call-none-top nodes code state scratch j w x z) h (w .some) w kind (sym next-is ∙ e))
+
+      module _ (z : s .next ≡ 0 → ⊥) where
+        some-next : 1 ≤ nextAt state (h - 1)
+        some-next = let a : s .next ≡ nextAt state (h - 1) = next-is in let b : s .next ≡ 0 → ⊥ = z in omega (arith, b)
+
+        pub call-inside : s .next * 4 + 2 < length code
+        call-inside =
+            let a : nextAt state (h - 1) * 4 + 2 < length code =
+            at-top (λ (h j : ℕ). Steppable nodes code state scratch h (markAt state j) → kindAt code (literalAt state j) ≡ 2 → 1 ≤ nextAt state j → nextAt state j * 4 + 2 < length code)
+            (λ j w x y. call-inside-top nodes code state scratch j w x y) h (w .some) w kind some-next in
+            let b : s .next ≡ nextAt state (h - 1) = next-is in
+            omega arith
+
+        module _ {after : ℕ} (ae : after ≡ getD code (s .next * 4 + 2) 0) where
+          after-is : after ≡ afterAt code (nextAt state (h - 1))
+          after-is = ae ∙ ap (λ (x : ℕ). getD code (x * 4 + 2) 0) next-is
+
+          pub call-room : (33792 + (h - 1) * 6 + 5 < length state) × (after < 2 ^ 32)
+          call-room =
+              let a : (33792 + (h - 1) * 6 + 5 < length state) × (afterAt code (nextAt state (h - 1)) < 2 ^ 32) =
+              at-top (λ (h j : ℕ). Steppable nodes code state scratch h (markAt state j) → kindAt code (literalAt state j) ≡ 2 → 1 ≤ nextAt state j → (33792 + j * 6 + 5 < length state) × (afterAt code (nextAt state j) < 2 ^ 32))
+              (λ j w x y. call-room-top nodes code state scratch j w x y) h (w .some) w kind some-next in
+              (a .0, subst⁻¹ (λ (x : ℕ). x < 2 ^ 32) after-is (a .1))
+
+          module _ {state1 : List ℕ} (words : state1 ≡ nextWords state (h - 1) after) where
+            words-is : state1 ≡ nextWords state (h - 1) (afterAt code (nextAt state (h - 1)))
+            words-is = words ∙ ap (nextWords state (h - 1)) after-is
+
+            pub call-tryable : Tryable nodes code state1 scratch h (h - 1) (s .next)
+            call-tryable =
+                subst⁻¹ (Tryable nodes code state1 scratch h (h - 1)) next-is
+                (at-top (λ (h j : ℕ). Steppable nodes code state scratch h (markAt state j) → kindAt code (literalAt state j) ≡ 2 → 1 ≤ nextAt state j → state1 ≡ nextWords state j (afterAt code (nextAt state j)) → Tryable nodes code state1 scratch h j (nextAt state j))
+                (λ j w x y u. call-tryable-top nodes code state scratch j w x y state1 u) h (w .some) w kind some-next words-is)
+
+            pub call-end : (final later : List ℕ) (r : Pile) → ((v : Tryable nodes code state1 scratch h (h - 1) (s .next)) → Comes (v .ss) (v .sh) (v .g) nodes code state1 final scratch later (triedOn (v .ss) (v .sh) (v .g) nodes code state1 (h - 1) (v .atom) (v .clause)) r)
+                → Stepped (w .running .ss) (w .running .sh) (w .running .g) nodes code state final scratch later h r
+            call-end final later r k =
+                at-top (λ (h j : ℕ). (w : Steppable nodes code state scratch h (markAt state j)) → kindAt code (literalAt state j) ≡ 2 → 1 ≤ nextAt state j → state1 ≡ nextWords state j (afterAt code (nextAt state j))
+                → ((v : Tryable nodes code state1 scratch h j (nextAt state j)) → Comes (v .ss) (v .sh) (v .g) nodes code state1 final scratch later (triedOn (v .ss) (v .sh) (v .g) nodes code state1 j (v .atom) (v .clause)) r)
+                → Stepped (w .running .ss) (w .running .sh) (w .running .g) nodes code state final scratch later h r)
+                (λ j w x y u v. call-end-top nodes code state scratch j w x y state1 u final later r v) h (w .some) w kind some-next words-is
+                (subst (λ (x : ℕ). (v : Tryable nodes code state1 scratch h (h - 1) x) → Comes (v .ss) (v .sh) (v .g) nodes code state1 final scratch later (triedOn (v .ss) (v .sh) (v .g) nodes code state1 (h - 1) (v .atom) (v .clause)) r) next-is k)
+
+-- ---- trying a clause
+
+try-facts-top : (nodes code state scratch : List ℕ) (j k : ℕ) → Tryable nodes code state scratch (suc j) j k
+    → (33792 + j * 6 + 5 < length state) × ((literalAt state j + 4 ≤ length code) × ((length code ≤ 65536) × ((1028 ≤ length code) × ((k ≤ 256) × ((pathAt state j < 255) × (suc j ≤ 256))))))
+try-facts-top nodes code state scratch j k w =
+    let a : j ≤ 255 = top-low (w .ss) (w .sh) (w .g) nodes code state j (markAt state j) (w .piled) in
+    let b : k ≤ length (w .sh .clauses) = clause-low (w .sh) k (w .clause) (w .there) in
+    let c : length (w .sh .clauses) ≤ 256 = w .piled .program .few in (
+      top-room (w .ss) (w .sh) (w .g) nodes code state j (markAt state j) (w .piled),
+      (top-inside (w .ss) (w .sh) (w .g) nodes code state j (markAt state j) (w .piled), (w .piled .program .short, (w .piled .program .long, (omega arith, (w .low, omega arith))))),
+    )
+
+module _ {nodes code state scratch : List ℕ} {h k : ℕ} (w : Tryable nodes code state scratch h (h - 1) k) where
+  filled : 1 ≤ h
+  filled = let e : h ≡ suc (h - 1) = w .filled in omega arith
+
+  try-all : (33792 + (h - 1) * 6 + 5 < length state) × ((literalAt state (h - 1) + 4 ≤ length code) × ((length code ≤ 65536) × ((1028 ≤ length code) × ((k ≤ 256) × ((pathAt state (h - 1) < 255) × (h ≤ 256))))))
+  try-all =
+      at-top (λ (h j : ℕ). Tryable nodes code state scratch h j k → (33792 + j * 6 + 5 < length state) × ((literalAt state j + 4 ≤ length code) × ((length code ≤ 65536) × ((1028 ≤ length code) × ((k ≤ 256) × ((pathAt state j < 255) × (h ≤ 256)))))))
+      (λ j w. try-facts-top nodes code state scratch j k w) h filled w
+
+  pub try-some : 1 ≤ h
+  try-some = filled
+
+  pub try-room : 33792 + (h - 1) * 6 + 5 < length state
+  try-room = try-all .0
+
+  module _ {s : Stand} (is : s ≡ standAt state (h - 1)) where
+    t-copy : s .copy ≡ copyAt state (h - 1)
+    t-copy = ap (λ (x : Stand). x .copy) is
+
+    t-literal : s .literal ≡ literalAt state (h - 1)
+    t-literal = ap (λ (x : Stand). x .literal) is
+
+    t-mark : s .mark ≡ markAt state (h - 1)
+    t-mark = ap (λ (x : Stand). x .mark) is
+
+    t-path : s .path ≡ pathAt state (h - 1)
+    t-path = ap (λ (x : Stand). x .path) is
+
+    pub try-facts : (s .literal + 4 ≤ length code) × ((length code ≤ 65536) × ((1028 ≤ length code) × ((k ≤ 256) × ((s .path < 255) × (h ≤ 256)))))
+    try-facts =
+        let a : s .literal ≡ literalAt state (h - 1) = t-literal in
+        let b : s .path ≡ pathAt state (h - 1) = t-path in
+        let c : literalAt state (h - 1) + 4 ≤ length code = try-all .1 .0 in
+        let d : pathAt state (h - 1) < 255 = try-all .1 .1 .1 .1 .1 .0 in
+        (omega arith, (try-all .1 .1 .0, (try-all .1 .1 .1 .0, (try-all .1 .1 .1 .1 .0, (omega arith, try-all .1 .1 .1 .1 .1 .1)))))
+
+    module _ {p q : ℕ} (pe : p ≡ getD code (s .literal + 1) 0) (qe : q ≡ getD code (k * 4) 0) where
+      t-place : p ≡ placeAt code (literalAt state (h - 1))
+      t-place = pe ∙ ap (λ (x : ℕ). getD code (x + 1) 0) t-literal
+
+      t-new : s .path + 1 ≡ pathAt state (h - 1) + 1
+      t-new = ap (λ (x : ℕ). x + 1) t-path
+
+      pub try-unifiable : Unifiable nodes state scratch p (s .copy) q (s .path + 1) (s .mark)
+      try-unifiable =
+          unifiable-of t-place t-copy qe t-new t-mark
+          (at-top (λ (h j : ℕ). Tryable nodes code state scratch h j k → Unifiable nodes state scratch (placeAt code (literalAt state j)) (copyAt state j) (headAt code k) (pathAt state j + 1) (markAt state j))
+          (λ j w. try-unifiable-top nodes code state scratch j k w) h filled w)
+
+      module _ {state1 later : List ℕ} {r : Unified} (u : UnifyEnds nodes state state1 scratch later p (s .copy) q (s .path + 1) (s .mark) r) where
+        t-ends : UnifyEnds nodes state state1 scratch later (placeAt code (literalAt state (h - 1))) (copyAt state (h - 1)) (headAt code k) (pathAt state (h - 1) + 1) (markAt state (h - 1)) r
+        t-ends = unify-ends t-place t-copy qe t-new t-mark state1 later r u
+
+        pub try-fails : r .equal ≡ false → Comes (w .ss) (w .sh) (w .g) nodes code state state1 scratch later (triedOn (w .ss) (w .sh) (w .g) nodes code state (h - 1) (w .atom) (w .clause)) (record { height = h; trail = r .trail })
+        try-fails e =
+            at-top (λ (h j : ℕ). (w : Tryable nodes code state scratch h j k) → UnifyEnds nodes state state1 scratch later (placeAt code (literalAt state j)) (copyAt state j) (headAt code k) (pathAt state j + 1) (markAt state j) r
+            → Comes (w .ss) (w .sh) (w .g) nodes code state state1 scratch later (triedOn (w .ss) (w .sh) (w .g) nodes code state j (w .atom) (w .clause)) (record { height = h; trail = r .trail }))
+            (λ j w u. try-fails-top nodes code state scratch j k w state1 later r u e) h filled w t-ends
+
+        pub try-frame : (32768 + (s .path + 1) * 4 + 3 < length state1) × ((k < 2 ^ 32) × ((s .copy < 2 ^ 32) × (s .literal < 2 ^ 32)))
+        try-frame =
+            let a : (32768 + (pathAt state (h - 1) + 1) * 4 + 3 < length state1) × ((k < 2 ^ 32) × ((copyAt state (h - 1) < 2 ^ 32) × (literalAt state (h - 1) < 2 ^ 32))) =
+            at-top (λ (h j : ℕ). Tryable nodes code state scratch h j k → UnifyEnds nodes state state1 scratch later (placeAt code (literalAt state j)) (copyAt state j) (headAt code k) (pathAt state j + 1) (markAt state j) r
+            → (32768 + (pathAt state j + 1) * 4 + 3 < length state1) × ((k < 2 ^ 32) × ((copyAt state j < 2 ^ 32) × (literalAt state j < 2 ^ 32))))
+            (λ j w u. try-frame-top nodes code state scratch j k w state1 later r u) h filled w t-ends in
+            (subst⁻¹ (λ (x : ℕ). 32768 + (x + 1) * 4 + 3 < length state1) t-path (a .0), (a .1 .0, (subst⁻¹ (λ (x : ℕ). x < 2 ^ 32) t-copy (a .1 .1 .0), subst⁻¹ (λ (x : ℕ). x < 2 ^ 32) t-literal (a .1 .1 .1))))
+
+        module _ {state2 : List ℕ} (words : state2 ≡ frameWords state1 (s .path + 1) k (s .copy) (s .literal)) {body : ℕ} (be : body ≡ getD code (k * 4 + 1) 0) where
+          t-words : state2 ≡ frameWords state1 (pathAt state (h - 1) + 1) k (copyAt state (h - 1)) (literalAt state (h - 1))
+          t-words = words ∙ (λ i. frameWords state1 (t-path i + 1) k (t-copy i) (t-literal i))
+
+          pub try-layable : Layable code state2 h (s .path + 1) body (r .trail) (s .path + 1)
+          try-layable =
+              layable-of t-new be refl t-new
+              (at-top (λ (h j : ℕ). Tryable nodes code state scratch h j k → UnifyEnds nodes state state1 scratch later (placeAt code (literalAt state j)) (copyAt state j) (headAt code k) (pathAt state j + 1) (markAt state j) r
+              → state2 ≡ frameWords state1 (pathAt state j + 1) k (copyAt state j) (literalAt state j) → Layable code state2 h (pathAt state j + 1) (bodyAt code k) (r .trail) (pathAt state j + 1))
+              (λ j w u x. try-layable-top nodes code state scratch j k w state1 later r u state2 x) h filled w t-ends t-words)
+
+          pub try-end : r .equal ≡ true → (after : List ℕ) → LayEnds code state2 after h (s .path + 1) body (r .trail) (s .path + 1)
+              → Comes (w .ss) (w .sh) (w .g) nodes code state after scratch later (triedOn (w .ss) (w .sh) (w .g) nodes code state (h - 1) (w .atom) (w .clause)) (record { height = h + 1; trail = r .trail })
+          try-end e after y =
+              at-top (λ (h j : ℕ). (w : Tryable nodes code state scratch h j k) → UnifyEnds nodes state state1 scratch later (placeAt code (literalAt state j)) (copyAt state j) (headAt code k) (pathAt state j + 1) (markAt state j) r
+              → state2 ≡ frameWords state1 (pathAt state j + 1) k (copyAt state j) (literalAt state j) → LayEnds code state2 after h (pathAt state j + 1) (bodyAt code k) (r .trail) (pathAt state j + 1)
+              → Comes (w .ss) (w .sh) (w .g) nodes code state after scratch later (triedOn (w .ss) (w .sh) (w .g) nodes code state j (w .atom) (w .clause)) (record { height = h + 1; trail = r .trail }))
+              (λ j w u x z. try-core nodes code state scratch j k w state1 later r u state2 x e after z) h filled w t-ends t-words (lay-ends t-new be refl t-new after y)

@@ -1,0 +1,131 @@
+-- The top alternative: where it stands, and what its step comes to. Assumes nothing.
+use Prim.Native.Nat.{ℕ, zero, suc, _+_, _-_, _*_, _≤_, _<_}
+use native.Mathlib.Omega.{arith}
+use mathlib.Core.Path.{_≡_, refl, sym, ap, ap₂, _∙_, subst, subst⁻¹}
+use mathlib.Core.List.{List, [], _∷_, _++_}
+use lib.ListN.{length, getD}
+use Rattle.syntax.specs.Terms.{Literal, Body, done, also, Sheet, Goal}
+use Rattle.machine.specs.Substitution.{Binding}
+use Rattle.machine.specs.Machine.{Pending, Alternative, topmost, gone, worked, workedOn, outcome, step}
+use Rattle.layout.specs.Nodes.{Symbol}
+use Rattle.layout.specs.State.{trailAt, bindings, Store, Within, Keeps}
+use Rattle.layout.specs.Program.{BodyStands}
+use Rattle.layout.specs.Pile.{restFrom, leftFrom, callsUpTo, copyAt, literalAt, markAt, pathAt, alternativeAt, pileOf, Place, Stacked, Piled}
+use Rattle.layout.proofs.Pigeonhole.{pigeonhole}
+use Rattle.engine.specs.Words.{standWords}
+use Rattle.engine.specs.Moves.{Climbing, Lays, restAt}
+use Rattle.engine.proofs.WordLaws.{less-one, stand-written}
+use Rattle.layout.proofs.Step.{left-also, left-done}
+use Rattle.layout.proofs.Pile.{place-stands, place-next, kind-room, SameUpTo, keeps-same, same-place, same-frame, same-pathAt, same-markAt, same-stacked, same-pile, path-high, mark-top, Written, Means, kept-left, replaced}
+
+-- a law of the top, alternative j of suc j, for a height and the number below it
+pub at-top : (P : ℕ → ℕ → Type 0) → ((j : ℕ) → P (suc j) j) → (h : ℕ) → 1 ≤ h → P h (h - 1)
+at-top P f zero l = absurd (let z : 1 ≤ 0 = l in omega arith)
+at-top P f (suc j) l = subst⁻¹ (P (suc j)) (less-one j) (f j)
+
+-- a trail's entries are distinct cells
+pub trail-low : (ss : List Symbol) (nodes state : List ℕ) (n : ℕ) → Store ss nodes state n → n ≤ 16384
+trail-low ss nodes state n s = pigeonhole 16384 n (trailAt state) (λ i l. s .entry i l .cell) same-entry
+  where
+    same-entry : (i j : ℕ) → i < n → j < n → trailAt state i ≡ trailAt state j → i ≡ j
+    same-entry i j l h e = let a : i < j → ⊥ = (λ q. s .apart i j q h e) in let b : j < i → ⊥ = (λ q. s .apart j i q l (sym e)) in omega (arith, a, b)
+
+pub head-eq : (x y : Alternative) (xs ys : List Alternative) → x ∷ xs ≡ y ∷ ys → x ≡ y
+head-eq x y xs ys e = let r : x ≡ y = cc in r
+
+pub tail-eq : (x y : Alternative) (xs ys : List Alternative) → x ∷ xs ≡ y ∷ ys → xs ≡ ys
+tail-eq x y xs ys e = let r : xs ≡ ys = cc in r
+
+-- piles that are the same have the same below
+pub pile-tail : (ss : List Symbol) (sh : Sheet) (g : Goal) (nodes code a b : List ℕ) (j : ℕ) → pileOf ss sh g nodes code a (suc j) ≡ pileOf ss sh g nodes code b (suc j) → pileOf ss sh g nodes code a j ≡ pileOf ss sh g nodes code b j
+unfolding pileOf
+pile-tail ss sh g nodes code a b j q = tail-eq (alternativeAt ss sh g nodes code a j) (alternativeAt ss sh g nodes code b j) (pileOf ss sh g nodes code a j) (pileOf ss sh g nodes code b j) q
+
+module _ (ss : List Symbol) (sh : Sheet) (g : Goal) (nodes code state : List ℕ) (j n : ℕ) (piled : Piled ss sh g nodes code state (suc j) n) where
+  pub top-stacked : Stacked sh g code state n j
+  top-stacked = piled .each j (omega arith)
+
+  pub top-stands : BodyStands ss sh nodes code (literalAt state j) (restFrom sh g code state (copyAt state j) (literalAt state j))
+  top-stands = place-stands ss sh g nodes code state (copyAt state j) (literalAt state j) (piled .program) (top-stacked .place)
+
+  pub top-inside : literalAt state j + 4 ≤ length code
+  top-inside = kind-room ss sh nodes code (literalAt state j) (restFrom sh g code state (copyAt state j) (literalAt state j)) top-stands
+
+  pub top-low : j ≤ 255
+  top-low =
+      let a : j ≤ pathAt state j = path-high ss sh g nodes code state (suc j) n piled j (omega arith) in
+      let b : pathAt state j ≤ 255 = top-stacked .low in
+      omega arith
+
+  pub top-room : 33792 + j * 6 + 5 < length state
+  top-room = let a : j ≤ 255 = top-low in let b : 35328 ≤ length state = piled .long in omega arith
+
+  -- a step, where the top stands at a literal
+  pub step-also : (x : Literal) (b : Body) → restFrom sh g code state (copyAt state j) (literalAt state j) ≡ also x b
+      → step sh (pileOf ss sh g nodes code state (suc j)) ≡ worked sh (alternativeAt ss sh g nodes code state j) (copyAt state j) (restAt sh g code state j) x ++ pileOf ss sh g nodes code state j
+  unfolding step outcome workedOn pileOf alternativeAt
+  step-also x b e = ap (λ (ls : List Pending). workedOn sh (alternativeAt ss sh g nodes code state j) ls ++ pileOf ss sh g nodes code state j) (left-also sh g code state (pathAt state j) (copyAt state j) (literalAt state j) (top-stacked .place) x b e)
+
+  -- and where it stands at the goal's end
+  pub step-done : restFrom sh g code state (copyAt state j) (literalAt state j) ≡ done → step sh (pileOf ss sh g nodes code state (suc j)) ≡ pileOf ss sh g nodes code state j
+  unfolding step outcome workedOn pileOf alternativeAt
+  step-done e = ap (λ (ls : List Pending). workedOn sh (alternativeAt ss sh g nodes code state j) ls ++ pileOf ss sh g nodes code state j) (left-done sh g code state (pathAt state j) (copyAt state j) (literalAt state j) (top-stacked .ends e) e)
+
+  -- More bindings, and the words behind the trail as they were: the pile is the same.
+  module _ (mark : markAt state j ≡ n) (state1 : List ℕ) (n1 : ℕ) (keeps : Keeps n state state1) (store1 : Store ss nodes state1 n1) (more : n ≤ n1) where
+    same : SameUpTo (suc j) 255 n state state1
+    same = keeps-same (suc j) 255 n state state1 keeps
+
+    mark-low : (i : ℕ) → i < suc j → markAt state i ≤ n
+    mark-low i l = let z : markAt state i ≤ markAt state j = mark-top ss sh g nodes code state j n piled i l in omega arith
+
+    pub kept : Means ss sh g nodes code state1 (suc j) n1 (pileOf ss sh g nodes code state (suc j))
+    kept =
+        record {
+          piled = record {
+            program = piled .program;
+            store = store1;
+            long = (let z : 35328 ≤ length state = piled .long in let e : length state1 ≡ length state = keeps .long in let y : 35328 ≤ length state1 = omega arith in y);
+            each = λ i l. same-stacked ss sh g nodes code state state1 (suc j) 255 n same i n l (piled .each i l .low) (mark-low i l) (piled .each i l) n1 (let z : markAt state i ≤ n = mark-low i l in omega arith);
+            longer = λ i k l q. (let a : pathAt state1 i ≡ pathAt state i = same-pathAt state state1 (suc j) 255 n same i (omega arith) in let b : pathAt state1 k ≡ pathAt state k = same-pathAt state state1 (suc j) 255 n same k q in
+                let d : pathAt state i < pathAt state k = piled .longer i k l q in let y : pathAt state1 i < pathAt state1 k = omega arith in y);
+            later = λ i k l q. (let a : markAt state1 i ≡ markAt state i = same-markAt state state1 (suc j) 255 n same i (omega arith) in let b : markAt state1 k ≡ markAt state k = same-markAt state state1 (suc j) 255 n same k q in
+                let d : markAt state i ≤ markAt state k = piled .later i k l q in let y : markAt state1 i ≤ markAt state1 k = omega arith in y);
+          };
+          is = same-pile ss sh g nodes code state state1 (suc j) 255 n n same (λ i l. (piled .each i l, piled .each i l .low, mark-low i l));
+        }
+
+    -- The literal goes: an alternative with these bindings is laid in the top's place.
+    module _ (within1 : Within (pathAt state j) state1 n1) (x : Literal) (b : Body) (is : restFrom sh g code state (copyAt state j) (literalAt state j) ≡ also x b) where
+      pub gone-climbing : Climbing ss sh g nodes code state1 (pathAt state j) (copyAt state j) (literalAt state j + 4)
+      gone-climbing =
+          let p : pathAt state j ≤ 255 = top-stacked .low in
+          let c : copyAt state j ≤ pathAt state j = top-stacked .copy in
+          record {
+            program = piled .program;
+            long = kept .piled .long;
+            low = p;
+            frame = λ i l. same-frame sh g code state state1 255 (same .frame) i (omega arith) (top-stacked .frame i l);
+            copy = c;
+            place = same-place sh g code state state1 255 (same .frame) (copyAt state j) (literalAt state j + 4) (omega arith) (place-next sh g code state (copyAt state j) (literalAt state j) (top-stacked .place) x b is);
+          }
+
+      pub gone-means : (after : List ℕ) → Lays sh g code state1 after j (copyAt state j) (literalAt state j + 4) n1 (pathAt state j)
+          → Means ss sh g nodes code after (suc j) n1 (gone sh (alternativeAt ss sh g nodes code state j) (restAt sh g code state j) (bindings ss nodes state1 n1) ∷ pileOf ss sh g nodes code state j)
+      unfolding gone alternativeAt
+      gone-means after k =
+          let a : k .spot .copy ≤ copyAt state j = k .climbs .copy in
+          let c : copyAt state j ≤ pathAt state j = top-stacked .copy in
+          let l : j ≤ 255 = top-low in
+          let long : 35328 ≤ length state1 = kept .piled .long in
+          let rest : leftFrom sh g code state1 (pathAt state j) (copyAt state j) (literalAt state j + 4) ≡ restAt sh g code state j = kept-left ss sh g nodes code state state1 j n n piled keeps (copyAt state j) (literalAt state j + 4) c in
+          let written : Written j (k .spot .copy) (k .spot .literal) (k .next) n1 (pathAt state j) state1 after =
+          subst⁻¹ (λ (s : List ℕ). Written j (k .spot .copy) (k .spot .literal) (k .next) n1 (pathAt state j) state1 s) (k .words) (stand-written state1 j (k .spot .copy) (k .spot .literal) (k .next) n1 (pathAt state j) (omega arith)) in
+          let m : Means ss sh g nodes code after (suc j) n1 (record { literals = leftFrom sh g code state1 (pathAt state j) (k .spot .copy) (k .spot .literal); bindings = bindings ss nodes state1 n1; next = k .next; calls = callsUpTo sh g code state (pathAt state j) } ∷ pileOf ss sh g nodes code state j) =
+          replaced ss sh g nodes code state state1 after j n n1 (pathAt state j) (k .spot .copy) (k .spot .literal) (k .next) piled mark refl keeps store1 within1 more (omega arith) (record { place = k .climbs .place; ends = k .climbs .ends; next = k .next-for }) written in
+          let lits : leftFrom sh g code state1 (pathAt state j) (k .spot .copy) (k .spot .literal) ≡ restAt sh g code state j = k .climbs .same ∙ rest in
+          let nxt : k .next ≡ topmost sh (restAt sh g code state j) = k .next-is ∙ ap (topmost sh) rest in
+          record {
+            piled = m .piled;
+            is = m .is ∙ (λ i. record { literals = lits i; bindings = bindings ss nodes state1 n1; next = nxt i; calls = callsUpTo sh g code state (pathAt state j) } ∷ pileOf ss sh g nodes code state j);
+          }

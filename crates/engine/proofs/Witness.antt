@@ -1,0 +1,42 @@
+-- There is something to start and something to step: what `start` and `step` ask can be met. Assumes nothing.
+use Prim.Native.Nat.{ℕ, _≤_}
+use native.Mathlib.Omega.{arith}
+use mathlib.Core.Path.{_≡_, refl, ap, _∙_}
+use mathlib.Core.Bool.{Bool, true, false}
+use mathlib.Core.List.{List, [], _∷_}
+use lib.Dec.{ltb}
+use lib.ListN.{length, getD, replicate, length-replicate, getD-replicate, List·getD-eq-default}
+use borrow.Author.Tests.{ltb-true, ltb-false}
+use Rattle.machine.specs.Machine.{pending}
+use Rattle.machine.specs.Runs.{triesWith, triesFirst, goesDeeper}
+use Rattle.layout.specs.Pile.{pileOf}
+use Rattle.layout.proofs.Witness.{sheet, goal, code, program, zeros, words, pile}
+use Rattle.unifier.proofs.Witness.{scratch, witness as unifiable}
+use Rattle.engine.specs.Steps.{Steppable, Startable}
+
+zeros-long : length zeros ≡ 35328
+unfolding zeros
+zeros-long = length-replicate {A = ℕ} 35328 0
+
+zeros-words : (i : ℕ) → getD zeros i 0 ≡ 0
+unfolding zeros
+zeros-words i = go (ltb i 35328) refl
+  where
+    go : (b : Bool) → ltb i 35328 ≡ b → getD zeros i 0 ≡ 0
+    go true e = getD-replicate {A = ℕ} 35328 i 0 0 (ltb-true i 35328 e)
+    go false e = List·getD-eq-default {A = ℕ} zeros 0 {n = i} (let l : length zeros ≡ 35328 = zeros-long in let q : 35328 ≤ i = ltb-false i 35328 e in omega arith)
+
+-- no clauses, and the goal `true.`
+pub startable : Startable [] code zeros
+startable =
+    let l : length zeros ≡ 35328 = zeros-long in
+    record { ss = []; sh = sheet; g = goal; program = program; long = omega arith; zero-words = zeros-words }
+
+not-deeper : goesDeeper sheet (pileOf [] sheet goal [] code words 1) ≡ false
+unfolding goesDeeper triesFirst triesWith pending goal
+not-deeper = ap (goesDeeper sheet) (pile .is)
+
+-- the goal alone on the pile
+pub steppable : Steppable [] code words scratch 1 0
+steppable =
+    record { running = record { ss = []; sh = sheet; g = goal; piled = pile .piled }; some = omega arith; goes = not-deeper; roomy = unifiable .roomy; clean = unifiable .clean }

@@ -1,0 +1,198 @@
+-- What comes of the top at `true`, at `fail`, at an equation and at the goal's end. Assumes nothing.
+use Prim.Native.Nat.{ℕ, zero, suc, _+_, _-_, _*_, _≤_, _<_}
+use native.Mathlib.Omega.{arith}
+use mathlib.Core.Path.{_≡_, refl, sym, ap, ap₂, _∙_, subst, subst⁻¹}
+use mathlib.Core.Bool.{Bool, true, false}
+use mathlib.Core.List.{List, [], _∷_, _++_}
+use mathlib.Core.Option.{Option, none, some}
+use lib.Dec.{eqb}
+use lib.ListN.{length, getD}
+use borrow.Author.Tests.{eqb-true, eqb-false}
+use Rattle.syntax.specs.Terms.{Term, Literal, call, equation, truth, falsity, Body, done, also, Sheet, Goal}
+use Rattle.machine.specs.Substitution.{copied, Binding}
+use Rattle.machine.specs.Unification.{unify}
+use Rattle.machine.specs.Machine.{Alternative, gone, equated, worked, step}
+use Rattle.layout.specs.Nodes.{Symbol, Stands}
+use Rattle.layout.specs.State.{bindings, Store, Within, Keeps}
+use Rattle.layout.specs.Program.{kindAt, placeAt, otherAt}
+use Rattle.layout.specs.Pile.{restFrom, copyAt, literalAt, markAt, pathAt, alternativeAt, pileOf, Piled}
+use Rattle.layout.proofs.State.{keeps-refl}
+use Rattle.unifier.specs.Queues.{Clean}
+use Rattle.unifier.specs.Turns.{answered, Unifiable, Unifies}
+use Rattle.unifier.specs.declared.solve.Unified.{Unified}
+use Rattle.engine.specs.Words.{standAt}
+use Rattle.engine.specs.Moves.{Layable, Lays, restAt}
+use Rattle.engine.specs.Steps.{Steppable, Stepped}
+use Rattle.engine.specs.declared.Pile.{Pile}
+use Rattle.engine.specs.declared.records.Stand.{Stand}
+use Rattle.engine.proofs.LayLaws.{lays-long, LayEnds}
+use Rattle.engine.proofs.TopLaws.{at-top, trail-low, top-stacked, top-stands, top-inside, top-low, top-room, step-also, step-done, pile-tail, kept, gone-climbing, gone-means}
+use Rattle.layout.proofs.Pile.{kind-small, kind-done, kind-truth, kind-falsity, kind-equation, Means, popped}
+
+kind-one : (k : ℕ) → k ≤ 4 → (k ≡ 2 → ⊥) → (k ≡ 3 → ⊥) → (k ≡ 0 → ⊥) → (k ≡ 4 → ⊥) → k ≡ 1
+kind-one zero l a b c d = absurd (c refl)
+kind-one (suc zero) l a b c d = refl
+kind-one (suc (suc zero)) l a b c d = absurd (a refl)
+kind-one (suc (suc (suc zero))) l a b c d = absurd (b refl)
+kind-one (suc (suc (suc (suc zero)))) l a b c d = absurd (d refl)
+kind-one (suc (suc (suc (suc (suc k))))) l a b c d = absurd (let z : suc (suc (suc (suc (suc k)))) ≤ 4 = l in omega arith)
+
+-- ---- the top is alternative j of suc j
+
+module _ (nodes code state scratch : List ℕ) (j : ℕ) (w : Steppable nodes code state scratch (suc j) (markAt state j)) where
+  abbrev ss : List Symbol
+  ss = w .running .ss
+
+  abbrev sh : Sheet
+  sh = w .running .sh
+
+  abbrev g : Goal
+  g = w .running .g
+
+  abbrev rest : Body
+  rest = restFrom (w .running .sh) (w .running .g) code state (copyAt state j) (literalAt state j)
+
+  pub piled-top : Piled (w .running .ss) (w .running .sh) (w .running .g) nodes code state (suc j) (markAt state j)
+  piled-top = w .running .piled
+
+  -- the alternative goes; some words may have changed
+  pub pops : (after later : List ℕ) (n : ℕ) → Means ss sh g nodes code after (suc j) n (pileOf ss sh g nodes code state (suc j)) → length after ≡ length state → Clean later → length later ≡ length scratch
+      → step sh (pileOf ss sh g nodes code state (suc j)) ≡ pileOf ss sh g nodes code state j → pileOf ss sh g nodes code after j ≡ pileOf ss sh g nodes code state j
+      → Stepped ss sh g nodes code state after scratch later (suc j) (record { height = j; trail = n })
+  pops after later n m e k l s q =
+      record { is = q ∙ sym s; piled = popped ss sh g nodes code after j n (m .piled); state-long = e; clean = k; scratch-long = l }
+
+  -- with no word changed
+  pub pops-here : step sh (pileOf ss sh g nodes code state (suc j)) ≡ pileOf ss sh g nodes code state j
+      → Stepped ss sh g nodes code state state scratch scratch (suc j) (record { height = j; trail = markAt state j })
+  pops-here s = pops state scratch (markAt state j) (record { piled = piled-top; is = refl }) refl (w .clean) refl s refl
+
+  -- at `fail`, and at the goal's end
+  falsity-step : (r : Body) → rest ≡ also falsity r → step sh (pileOf ss sh g nodes code state (suc j)) ≡ pileOf ss sh g nodes code state j
+  unfolding worked
+  falsity-step r e = step-also ss sh g nodes code state j (markAt state j) piled-top falsity r e
+
+  pub pops-other : (kindAt code (literalAt state j) ≡ 2 → ⊥) → (kindAt code (literalAt state j) ≡ 3 → ⊥) → (kindAt code (literalAt state j) ≡ 0 → ⊥)
+      → Stepped ss sh g nodes code state state scratch scratch (suc j) (record { height = j; trail = markAt state j })
+  pops-other a b c = pops-here (go (eqb (kindAt code (literalAt state j)) 4) refl)
+    where
+      go : (t : Bool) → eqb (kindAt code (literalAt state j)) 4 ≡ t → step sh (pileOf ss sh g nodes code state (suc j)) ≡ pileOf ss sh g nodes code state j
+      go true e =
+          step-done ss sh g nodes code state j (markAt state j) piled-top
+          (kind-done ss sh nodes code (literalAt state j) rest (top-stands ss sh g nodes code state j (markAt state j) piled-top) (eqb-true (kindAt code (literalAt state j)) 4 e))
+      go false e =
+          let z : kindAt code (literalAt state j) ≡ 4 → ⊥ = eqb-false (kindAt code (literalAt state j)) 4 e in
+          let q : kindAt code (literalAt state j) ≤ 4 = kind-small ss sh nodes code (literalAt state j) rest (top-stands ss sh g nodes code state j (markAt state j) piled-top) in
+          let k : (r : Body) × (rest ≡ also falsity r) = kind-falsity ss sh nodes code (literalAt state j) rest (top-stands ss sh g nodes code state j (markAt state j) piled-top) (kind-one (kindAt code (literalAt state j)) q a b c z) in
+          falsity-step (k .0) (k .1)
+
+  -- at `true`
+  module _ (kind : kindAt code (literalAt state j) ≡ 0) where
+    truth-first : (r : Body) × (rest ≡ also truth r)
+    truth-first = kind-truth ss sh nodes code (literalAt state j) rest (top-stands ss sh g nodes code state j (markAt state j) piled-top) kind
+
+    pub truth-layable-top : Layable code state j (copyAt state j) (literalAt state j + 4) (markAt state j) (pathAt state j)
+    truth-layable-top =
+        record {
+          ss = ss;
+          sh = sh;
+          g = g;
+          nodes = nodes;
+          climbing = gone-climbing ss sh g nodes code state j (markAt state j) piled-top refl state (markAt state j) (keeps-refl (markAt state j) state) (piled-top .store) (omega arith) (top-stacked ss sh g nodes code state j (markAt state j) piled-top .within) truth (truth-first .0) (truth-first .1);
+          room = top-low ss sh g nodes code state j (markAt state j) piled-top;
+          small = trail-low ss nodes state (markAt state j) (piled-top .store);
+        }
+
+    truth-end-top : (after : List ℕ) → Lays sh g code state after j (copyAt state j) (literalAt state j + 4) (markAt state j) (pathAt state j)
+        → Stepped ss sh g nodes code state after scratch scratch (suc j) (record { height = suc j; trail = markAt state j })
+    unfolding worked alternativeAt
+    truth-end-top after k =
+        let m : Means ss sh g nodes code after (suc j) (markAt state j) (gone sh (alternativeAt ss sh g nodes code state j) (restAt sh g code state j) (bindings ss nodes state (markAt state j)) ∷ pileOf ss sh g nodes code state j) =
+        gone-means ss sh g nodes code state j (markAt state j) piled-top refl state (markAt state j) (keeps-refl (markAt state j) state) (piled-top .store) (omega arith) (top-stacked ss sh g nodes code state j (markAt state j) piled-top .within) truth (truth-first .0) (truth-first .1) after k in
+        record {
+          is = m .is ∙ sym (step-also ss sh g nodes code state j (markAt state j) piled-top truth (truth-first .0) (truth-first .1));
+          piled = m .piled;
+          state-long = lays-long (top-room ss sh g nodes code state j (markAt state j) piled-top) k;
+          clean = w .clean;
+          scratch-long = refl;
+        }
+
+    pub truth-core : (after : List ℕ) → LayEnds code state after j (copyAt state j) (literalAt state j + 4) (markAt state j) (pathAt state j)
+        → Stepped ss sh g nodes code state after scratch scratch (suc j) (record { height = suc j; trail = markAt state j })
+    unfolding truth-layable-top
+    truth-core after k = truth-end-top after (k truth-layable-top)
+
+  -- at an equation
+  module _ (kind : kindAt code (literalAt state j) ≡ 3) where
+    sides : (t : Term) × (u : Term) × (r : Body) × (rest ≡ also (equation t u) r) × Stands ss nodes (placeAt code (literalAt state j)) t × Stands ss nodes (otherAt code (literalAt state j)) u
+    sides = kind-equation ss sh nodes code (literalAt state j) rest (top-stands ss sh g nodes code state j (markAt state j) piled-top) kind
+
+    pub equation-unifiable-top : Unifiable nodes state scratch (placeAt code (literalAt state j)) (copyAt state j) (otherAt code (literalAt state j)) (copyAt state j) (markAt state j)
+    equation-unifiable-top =
+        let p : pathAt state j ≤ 255 = top-stacked ss sh g nodes code state j (markAt state j) piled-top .low in
+        let c : copyAt state j ≤ pathAt state j = top-stacked ss sh g nodes code state j (markAt state j) piled-top .copy in
+        record {
+          ss = ss;
+          top = pathAt state j;
+          store = piled-top .store;
+          within = top-stacked ss sh g nodes code state j (markAt state j) piled-top .within;
+          roomy = w .roomy;
+          clean = w .clean;
+          left = (sides .0, sides .4);
+          right = (sides .1, sides .5);
+          copy = omega arith;
+          copy-right = omega arith;
+          below = c;
+          below-right = c;
+        }
+
+    module _ (state1 later : List ℕ) (r : Unified)
+        (u : (v : Unifiable nodes state scratch (placeAt code (literalAt state j)) (copyAt state j) (otherAt code (literalAt state j)) (copyAt state j) (markAt state j)) → Unifies (v .ss) nodes state state1 scratch later (v .top) (placeAt code (literalAt state j)) (copyAt state j) (otherAt code (literalAt state j)) (copyAt state j) (markAt state j) r) where
+      unifies : Unifies ss nodes state state1 scratch later (pathAt state j) (placeAt code (literalAt state j)) (copyAt state j) (otherAt code (literalAt state j)) (copyAt state j) (markAt state j) r
+      unfolding equation-unifiable-top
+      unifies = u equation-unifiable-top
+
+      equation-step : step sh (pileOf ss sh g nodes code state (suc j)) ≡ equated sh (alternativeAt ss sh g nodes code state j) (restAt sh g code state j) (answered (r .equal) (bindings ss nodes state1 (r .trail))) ++ pileOf ss sh g nodes code state j
+      unfolding worked alternativeAt
+      equation-step =
+          step-also ss sh g nodes code state j (markAt state j) piled-top (equation (sides .0) (sides .1)) (sides .2) (sides .3)
+          ∙ ap (λ (o : Option (List Binding)). equated sh (alternativeAt ss sh g nodes code state j) (restAt sh g code state j) o ++ pileOf ss sh g nodes code state j) (unifies .answer (sides .0) (sides .1) (sides .4) (sides .5))
+
+      pub equation-fails-top : r .equal ≡ false → Stepped ss sh g nodes code state state1 scratch later (suc j) (record { height = j; trail = r .trail })
+      unfolding equated answered
+      equation-fails-top e =
+          let m : Means ss sh g nodes code state1 (suc j) (r .trail) (pileOf ss sh g nodes code state (suc j)) = kept ss sh g nodes code state j (markAt state j) piled-top refl state1 (r .trail) (unifies .keeps) (unifies .store) (unifies .grows) in
+          pops state1 later (r .trail) m (unifies .keeps .long) (unifies .clean) (unifies .long)
+          (equation-step ∙ ap (λ (b : Bool). equated sh (alternativeAt ss sh g nodes code state j) (restAt sh g code state j) (answered b (bindings ss nodes state1 (r .trail))) ++ pileOf ss sh g nodes code state j) e)
+          (pile-tail ss sh g nodes code state1 state j (m .is))
+
+      pub equation-layable-top : r .equal ≡ true → Layable code state1 j (copyAt state j) (literalAt state j + 4) (r .trail) (pathAt state j)
+      equation-layable-top e =
+          record {
+            ss = ss;
+            sh = sh;
+            g = g;
+            nodes = nodes;
+            climbing = gone-climbing ss sh g nodes code state j (markAt state j) piled-top refl state1 (r .trail) (unifies .keeps) (unifies .store) (unifies .grows) (unifies .within) (equation (sides .0) (sides .1)) (sides .2) (sides .3);
+            room = top-low ss sh g nodes code state j (markAt state j) piled-top;
+            small = trail-low ss nodes state1 (r .trail) (unifies .store);
+          }
+
+      equation-end-top : r .equal ≡ true → (after : List ℕ) → Lays sh g code state1 after j (copyAt state j) (literalAt state j + 4) (r .trail) (pathAt state j)
+          → Stepped ss sh g nodes code state after scratch later (suc j) (record { height = suc j; trail = r .trail })
+      unfolding equated answered
+      equation-end-top e after k =
+          let m : Means ss sh g nodes code after (suc j) (r .trail) (gone sh (alternativeAt ss sh g nodes code state j) (restAt sh g code state j) (bindings ss nodes state1 (r .trail)) ∷ pileOf ss sh g nodes code state j) =
+          gone-means ss sh g nodes code state j (markAt state j) piled-top refl state1 (r .trail) (unifies .keeps) (unifies .store) (unifies .grows) (unifies .within) (equation (sides .0) (sides .1)) (sides .2) (sides .3) after k in
+          record {
+            is = m .is ∙ sym (equation-step ∙ ap (λ (b : Bool). equated sh (alternativeAt ss sh g nodes code state j) (restAt sh g code state j) (answered b (bindings ss nodes state1 (r .trail))) ++ pileOf ss sh g nodes code state j) e);
+            piled = m .piled;
+            state-long = lays-long (let a : length state1 ≡ length state = unifies .keeps .long in let b : 33792 + j * 6 + 5 < length state = top-room ss sh g nodes code state j (markAt state j) piled-top in omega arith) k ∙ unifies .keeps .long;
+            clean = unifies .clean;
+            scratch-long = unifies .long;
+          }
+
+      pub equation-core : r .equal ≡ true → (after : List ℕ) → LayEnds code state1 after j (copyAt state j) (literalAt state j + 4) (r .trail) (pathAt state j)
+          → Stepped ss sh g nodes code state after scratch later (suc j) (record { height = suc j; trail = r .trail })
+      unfolding equation-layable-top
+      equation-core e after k = equation-end-top e after (k (equation-layable-top e))

@@ -1,0 +1,65 @@
+use native.Mathlib.Omega.{arith}
+use Rattle.engine.proofs.ReadLaws.{work-inside, call-none, call-inside, call-room, call-tryable, call-end}
+use borrow.Author.Needs.{needs}
+use Rattle.engine.proofs.calls.work_call.Statement.{statement}
+use Rattle.engine.proofs.calls.work_call.Tie as tie
+use Rattle.engine.proofs.calls.work_call.Reads as reads
+use Rattle.engine.proofs.calls.work_call.Lts as lts
+use Rattle.engine.proofs.calls.try_clause.Reads as try-clause-reads
+use Rattle.engine.proofs.records.put_next.Reads as put-next-reads
+use Rattle.unifier.proofs.occurrence.word_at.Reads as word-at-reads
+
+-- src/calls.rt:70:13
+sub-j : tie.Need-sub-j
+sub-j c = search needs
+
+-- src/calls.rt:73:9
+returns : tie.Need-returns
+returns c = λ w. call-none w (c .before .before .before .before .before .pre .1 .0) (c .before .before .before .before .before .pre .1 .1) (c .if1 .taken)
+
+-- src/calls.rt:78:13
+mul-i : tie.Need-mul-i
+mul-i c = omega (arith, call-inside (c .before .before .before .before .before .pre .0) (c .before .before .before .before .before .pre .1 .0) (c .before .before .before .before .before .pre .1 .1) (c .if1 .left), work-inside (c .before .before .before .before .before .pre .0) (c .before .before .before .before .before .pre .1 .0))
+
+-- src/calls.rt:78:13
+add-i : tie.Need-add-i
+add-i c = omega (arith, call-inside (c .before .before .before .before .before .pre .0) (c .before .before .before .before .before .pre .1 .0) (c .before .before .before .before .before .pre .1 .1) (c .if1 .left), work-inside (c .before .before .before .before .before .pre .0) (c .before .before .before .before .before .pre .1 .0))
+
+-- src/calls.rt:79:9
+word-at-requires : tie.Need-word-at-requires
+word-at-requires c κs = call-inside (c .before .before .before .before .before .pre .0) (c .before .before .before .before .before .pre .1 .0) (c .before .before .before .before .before .pre .1 .1) (c .if1 .left)
+
+-- src/calls.rt:80:5
+put-next-requires : tie.Need-put-next-requires
+put-next-requires c κs = call-room (c .before .before .before .before .before .before .before .pre .0) (c .before .before .before .before .before .before .before .pre .1 .0) (c .before .before .before .before .before .before .before .pre .1 .1) (c .before .before .if1 .left) (c .before .word-at .ensures)
+
+-- src/calls.rt:81:5
+try-clause-requires : tie.Need-try-clause-requires
+try-clause-requires c κs = call-tryable (c .before .before .before .before .before .before .before .before .before .before .before .before .pre .0) (c .before .before .before .before .before .before .before .before .before .before .before .before .pre .1 .0) (c .before .before .before .before .before .before .before .before .before .before .before .before .pre .1 .1) (c .before .before .before .before .before .before .before .if1 .left) (c .before .before .before .before .before .before .word-at .ensures) (c .before .before .before .before .put-next .ensures)
+
+-- src/calls.rt:57:1
+same-length : tie.Need-same-length
+same-length c = search needs
+
+-- src/calls.rt:57:1
+same-length-2 : tie.Need-same-length-2
+same-length-2 c = search needs
+
+-- src/calls.rt:57:1
+returns-2 : tie.Need-returns-2
+returns-2 c = λ w. call-end w (c .before .before .before .before .before .before .before .before .before .before .before .before .before .before .before .before .before .pre .1 .0) (c .before .before .before .before .before .before .before .before .before .before .before .before .before .before .before .before .before .pre .1 .1) (c .before .before .before .before .before .before .before .before .before .before .before .before .if1 .left) (c .before .before .before .before .before .before .before .before .before .before .before .word-at .ensures) (c .before .before .before .before .before .before .before .before .before .put-next .ensures) (c .before .before .before .before .try-clause .last .1 .1 .0) (c .before .before .before .before .try-clause .last .1 .1 .1 .0) (c .before .before .before .before .try-clause .result) (c .before .before .before .before .try-clause .ensures)
+
+pub work-call-spec : {M : Type 1} → statement M
+work-call-spec =
+    tie.close
+    (tie.spec
+    sub-j
+    returns
+    mul-i
+    add-i
+    word-at-requires
+    put-next-requires
+    try-clause-requires
+    same-length
+    same-length-2
+    returns-2)
