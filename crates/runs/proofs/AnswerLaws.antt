@@ -56,32 +56,29 @@ pile-filled ss sh g nodes code state zero q = absurd (q refl)
 pile-filled ss sh g nodes code state (suc h) q = refl
 
 module _ {nodes code state : List ℕ} {allowance wanted h n answers steps : ℕ} (few : steps ≤ allowance) (w : Running nodes code state h n) where
-  abbrev pile : List Alternative
-  pile = pileOf (w .ss) (w .sh) (w .g) nodes code state h
-
-  pub next-wanted : wanted ≤ answers → End Wanted ≡ nextOf wanted answers (allowance - steps) (w .sh) pile
-  next-wanted l = sym (picks-to wanted answers (allowance - steps) (w .sh) pile true _ _ _ _ (le-leb wanted answers l) refl refl refl refl)
+  pub next-wanted : wanted ≤ answers → End Wanted ≡ nextOf wanted answers (allowance - steps) (w .sh) (pileOf (w .ss) (w .sh) (w .g) nodes code state h)
+  next-wanted l = sym (picks-to wanted answers (allowance - steps) (w .sh) (pileOf (w .ss) (w .sh) (w .g) nodes code state h) true (isEmpty (pileOf (w .ss) (w .sh) (w .g) nodes code state h)) (eqb (allowance - steps) 0) (isAnswer (pileOf (w .ss) (w .sh) (w .g) nodes code state h)) (goesDeeper (w .sh) (pileOf (w .ss) (w .sh) (w .g) nodes code state h)) (le-leb wanted answers l) refl refl refl refl)
 
   module _ (l : answers < wanted) where
-    pub next-done : h ≡ 0 → End Done ≡ nextOf wanted answers (allowance - steps) (w .sh) pile
-    next-done z = sym (picks-to wanted answers (allowance - steps) (w .sh) pile false true _ _ _ (lt-leb wanted answers l) (pile-empty (w .ss) (w .sh) (w .g) nodes code state h z) refl refl refl)
+    pub next-done : h ≡ 0 → End Done ≡ nextOf wanted answers (allowance - steps) (w .sh) (pileOf (w .ss) (w .sh) (w .g) nodes code state h)
+    next-done z = sym (picks-to wanted answers (allowance - steps) (w .sh) (pileOf (w .ss) (w .sh) (w .g) nodes code state h) false true (eqb (allowance - steps) 0) (isAnswer (pileOf (w .ss) (w .sh) (w .g) nodes code state h)) (goesDeeper (w .sh) (pileOf (w .ss) (w .sh) (w .g) nodes code state h)) (lt-leb wanted answers l) (pile-empty (w .ss) (w .sh) (w .g) nodes code state h z) refl refl refl)
 
     module _ (z : h ≡ 0 → ⊥) where
-      pub next-steps : steps ≡ allowance → End Steps ≡ nextOf wanted answers (allowance - steps) (w .sh) pile
-      next-steps e = sym (picks-to wanted answers (allowance - steps) (w .sh) pile false false true _ _ (lt-leb wanted answers l) (pile-filled (w .ss) (w .sh) (w .g) nodes code state h z) (eq-eqb (allowance - steps) 0 (omega arith)) refl refl)
+      pub next-steps : steps ≡ allowance → End Steps ≡ nextOf wanted answers (allowance - steps) (w .sh) (pileOf (w .ss) (w .sh) (w .g) nodes code state h)
+      next-steps e = sym (picks-to wanted answers (allowance - steps) (w .sh) (pileOf (w .ss) (w .sh) (w .g) nodes code state h) false false true (isAnswer (pileOf (w .ss) (w .sh) (w .g) nodes code state h)) (goesDeeper (w .sh) (pileOf (w .ss) (w .sh) (w .g) nodes code state h)) (lt-leb wanted answers l) (pile-filled (w .ss) (w .sh) (w .g) nodes code state h z) (eq-eqb (allowance - steps) 0 (omega arith)) refl refl)
 
       module _ (e : steps ≡ allowance → ⊥) where
         more : eqb (allowance - steps) 0 ≡ false
         more = ne-eqb (allowance - steps) 0 (λ q. e (omega arith))
 
-        pub next-answer : true ≡ isAnswer pile → Answer ≡ nextOf wanted answers (allowance - steps) (w .sh) pile
-        next-answer a = sym (picks-to wanted answers (allowance - steps) (w .sh) pile false false false true _ (lt-leb wanted answers l) (pile-filled (w .ss) (w .sh) (w .g) nodes code state h z) more (sym a) refl)
+        pub next-answer : true ≡ isAnswer (pileOf (w .ss) (w .sh) (w .g) nodes code state h) → Answer ≡ nextOf wanted answers (allowance - steps) (w .sh) (pileOf (w .ss) (w .sh) (w .g) nodes code state h)
+        next-answer a = sym (picks-to wanted answers (allowance - steps) (w .sh) (pileOf (w .ss) (w .sh) (w .g) nodes code state h) false false false true (goesDeeper (w .sh) (pileOf (w .ss) (w .sh) (w .g) nodes code state h)) (lt-leb wanted answers l) (pile-filled (w .ss) (w .sh) (w .g) nodes code state h z) more (sym a) refl)
 
-        pub next-deep : false ≡ isAnswer pile → true ≡ goesDeeper (w .sh) pile → End Deep ≡ nextOf wanted answers (allowance - steps) (w .sh) pile
-        next-deep a d = sym (picks-to wanted answers (allowance - steps) (w .sh) pile false false false false true (lt-leb wanted answers l) (pile-filled (w .ss) (w .sh) (w .g) nodes code state h z) more (sym a) (sym d))
+        pub next-deep : false ≡ isAnswer (pileOf (w .ss) (w .sh) (w .g) nodes code state h) → true ≡ goesDeeper (w .sh) (pileOf (w .ss) (w .sh) (w .g) nodes code state h) → End Deep ≡ nextOf wanted answers (allowance - steps) (w .sh) (pileOf (w .ss) (w .sh) (w .g) nodes code state h)
+        next-deep a d = sym (picks-to wanted answers (allowance - steps) (w .sh) (pileOf (w .ss) (w .sh) (w .g) nodes code state h) false false false false true (lt-leb wanted answers l) (pile-filled (w .ss) (w .sh) (w .g) nodes code state h z) more (sym a) (sym d))
 
-        pub next-step : false ≡ isAnswer pile → false ≡ goesDeeper (w .sh) pile → Step ≡ nextOf wanted answers (allowance - steps) (w .sh) pile
-        next-step a d = sym (picks-to wanted answers (allowance - steps) (w .sh) pile false false false false false (lt-leb wanted answers l) (pile-filled (w .ss) (w .sh) (w .g) nodes code state h z) more (sym a) (sym d))
+        pub next-step : false ≡ isAnswer (pileOf (w .ss) (w .sh) (w .g) nodes code state h) → false ≡ goesDeeper (w .sh) (pileOf (w .ss) (w .sh) (w .g) nodes code state h) → Step ≡ nextOf wanted answers (allowance - steps) (w .sh) (pileOf (w .ss) (w .sh) (w .g) nodes code state h)
+        next-step a d = sym (picks-to wanted answers (allowance - steps) (w .sh) (pileOf (w .ss) (w .sh) (w .g) nodes code state h) false false false false false (lt-leb wanted answers l) (pile-filled (w .ss) (w .sh) (w .g) nodes code state h z) more (sym a) (sym d))
 
 -- ---- the trail rewound
 
@@ -148,12 +145,12 @@ module _ {sheet goal names : List ℕ} {count : ℕ} {nodes code symbols state s
           clean = w .under .lent .clean
         }
 
-    module _ {new stack1 : List ℕ} {past : ℕ} (l : length stack1 ≡ length stack) (f : (ss : List Symbol) (k : ℕ) (g : Goal) → Answerable ss k nodes mid symbols sheet goal names count → g .names ≡ namesFrom goal names 0 count → Fitted (line g (bindings ss nodes mid k)) text at new past) where
+    module _ {new : List ℕ} {past : ℕ} (f : (ss : List Symbol) (k : ℕ) (g : Goal) → Answerable ss k nodes mid symbols sheet goal names count → g .names ≡ namesFrom goal names 0 count → Fitted (line g (bindings ss nodes mid k)) text at new past) where
       fitted-here : Fitted (line (w .g) (bindings (w .ss) nodes mid m)) text at new past
       fitted-here = f (w .ss) m (w .g) tells (w .spelt .names-are)
 
-      pub answer-full : past ≡ 0 → Answered (w .ss) (w .sh) (w .g) nodes code state mid scratch scratch stack stack1 text new h at (record { at = 0; height = h; trail = m })
-      answer-full z =
+      pub answer-full : (stack1 : List ℕ) → length stack1 ≡ length stack → past ≡ 0 → Answered (w .ss) (w .sh) (w .g) nodes code state mid scratch scratch stack stack1 text new h at (record { at = 0; height = h; trail = m })
+      answer-full stack1 l z =
           record {
             mid = mid;
             m = m;
@@ -165,9 +162,9 @@ module _ {sheet goal names : List ℕ} {count : ℕ} {nodes code symbols state s
             stack-long = l
           }
 
-      pub answer-on : {after later : List ℕ} {r : Pile} → ((v : Steppable nodes code mid scratch h m) → Stepped (v .running .ss) (v .running .sh) (v .running .g) nodes code mid after scratch later h r) → Answered (w .ss) (w .sh) (w .g) nodes code state after scratch later stack stack1 text new h at (record { at = past; height = r .height; trail = r .trail })
+      pub answer-on : (stack1 after later : List ℕ) (r : Pile) → length stack1 ≡ length stack → ((v : Steppable nodes code mid scratch h m) → Stepped (v .running .ss) (v .running .sh) (v .running .g) nodes code mid after scratch later h r) → Answered (w .ss) (w .sh) (w .g) nodes code state after scratch later stack stack1 text new h at (record { at = past; height = r .height; trail = r .trail })
       unfolding answer-steps
-      answer-on {after} {later} {r} k =
+      answer-on stack1 after later r l k =
           let s : Stepped (w .ss) (w .sh) (w .g) nodes code mid after scratch later h r = k answer-steps in
           record {
             mid = mid;

@@ -1,3 +1,4 @@
 mod EndLaws
 mod LineLaws
 mod LoopLaws
+mod AnswerLaws

@@ -76,7 +76,8 @@ fn rewind(state: &mut [u32], h: usize, n: usize) -> usize
     requires { ⌜ Rewindable (now state) h n ⌝ }
     ensures { λ r. ⌜ Rewound (now (state .entry)) (now (state .exit)) h n r ⌝ }
 {
-    let i = ALTERNATIVES + (h - 1) * ALTERNATIVE + MARK;
+    let j = h - 1;
+    let i = ALTERNATIVES + j * ALTERNATIVE + MARK;
     let mark = word_at(state, i);
     undo(state, mark, n);
     mark

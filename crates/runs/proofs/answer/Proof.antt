@@ -1,0 +1,73 @@
+use borrow.Author.Needs.{needs}
+use Rattle.runs.proofs.answer.Statement.{statement}
+use Rattle.runs.proofs.answer.Tie as tie
+use Rattle.runs.proofs.answer.Reads as reads
+use Rattle.runs.proofs.answer.Lts as lts
+use Rattle.answers.proofs.put_answer.Reads as put-answer-reads
+use Rattle.engine.proofs.step.Reads as step-reads
+use Rattle.runs.proofs.rewind.Reads as rewind-reads
+
+-- src/lib.rt:106:9
+rewind-requires : tie.Need-rewind-requires
+rewind-requires c κs = search needs
+
+-- src/lib.rt:107:9
+put-answer-requires : tie.Need-put-answer-requires
+put-answer-requires c κs = ?
+
+-- src/lib.rt:109:9
+same-length : tie.Need-same-length
+same-length c = search needs
+
+-- src/lib.rt:109:9
+same-length-2 : tie.Need-same-length-2
+same-length-2 c = search needs
+
+-- src/lib.rt:109:9
+same-length-3 : tie.Need-same-length-3
+same-length-3 c = search needs
+
+-- src/lib.rt:109:9
+returns : tie.Need-returns
+returns c = ?
+
+-- src/lib.rt:115:9
+step-requires : tie.Need-step-requires
+step-requires c κs = ?
+
+-- src/lib.rt:87:1
+same-length-4 : tie.Need-same-length-4
+same-length-4 c = search needs
+
+-- src/lib.rt:87:1
+same-length-5 : tie.Need-same-length-5
+same-length-5 c = search needs
+
+-- src/lib.rt:87:1
+same-length-6 : tie.Need-same-length-6
+same-length-6 c = search needs
+
+-- src/lib.rt:87:1
+same-length-7 : tie.Need-same-length-7
+same-length-7 c = search needs
+
+-- src/lib.rt:87:1
+returns-2 : tie.Need-returns-2
+returns-2 c = ?
+
+pub answer-spec : {M : Type 1} → statement M
+answer-spec =
+    tie.close
+    (tie.spec
+    rewind-requires
+    put-answer-requires
+    same-length
+    same-length-2
+    same-length-3
+    returns
+    step-requires
+    same-length-4
+    same-length-5
+    same-length-6
+    same-length-7
+    returns-2)
