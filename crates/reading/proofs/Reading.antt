@@ -16,7 +16,7 @@ use Rattle.syntax.specs.Reading.{Read, fault, ok, standing, next, numberOf, sam
 use Rattle.syntax.specs.Terms.{Term, Terms, Atom, variable, compound, nil, cons, arity, termOf}
 use Rattle.syntax.specs.declared.Token.{Token}
 use Rattle.syntax.specs.declared.State.{State}
-use Rattle.reading.specs.Gives.{Standing, Moved, FoundAs, Ready, Faulted, Given, Gives, GivesWith, left, one, Refused, fullNumber}
+use Rattle.reading.specs.Gives.{Standing, Moved, FoundAs, MetAs, Ready, Faulted, Given, Gives, GivesWith, left, one, Refused, fullNumber}
 use Rattle.syntax.specs.Words.{termWords, termsWords, atomWords}
 use Rattle.reading.specs.declared.Parsed.{Parsed}
 use Rattle.lexer.proofs.Laws.{token-inside, token-at-from, token-some}
@@ -211,3 +211,26 @@ module _ (s : List ℕ) (st : State) (entry exit : List ℕ) (n : ℕ) (r : Pars
 
     pub variable-new : b ≡ false → (v : ℕ) → FoundAs (numberOf s (st .token) 0 (take (st .count) (st .first))) (st .count) v → st .count ≤ v → Gives termWords one s st entry exit n r (newVariable s st) → Gives termWords one s st entry exit n r (readVariable s st)
     variable-new e v f h g = named-old e (new-by (numberOf s (st .token) 0 (take (st .count) (st .first))) v f h g)
+
+  module _ (v : ℕ) (f : MetAs (isAnonymous s (st .token)) (numberOf s (st .token) 0 (take (st .count) (st .first))) (st .count) v) where
+    pub variable-met : v < st .count → Given s st entry exit n r (v ∷ 3 ∷ (st .token .at) ∷ []) 1 (next s st) → Gives termWords one s st entry exit n r (readVariable s st)
+    variable-met h g = by (isAnonymous s (st .token)) refl f
+      where
+        by : (b : Bool) → b ≡ isAnonymous s (st .token) → MetAs b (numberOf s (st .token) 0 (take (st .count) (st .first))) (st .count) v → Gives termWords one s st entry exit n r (readVariable s st)
+        by true e k = absurd (omega (arith, k))
+        by false e k = variable-old false e refl v k h g
+
+    pub variable-unmet : st .count ≤ v → Gives termWords one s st entry exit n r (newVariable s st) → Gives termWords one s st entry exit n r (readVariable s st)
+    variable-unmet h g = by (isAnonymous s (st .token)) refl f
+      where
+        by : (b : Bool) → b ≡ isAnonymous s (st .token) → MetAs b (numberOf s (st .token) 0 (take (st .count) (st .first))) (st .count) v → Gives termWords one s st entry exit n r (readVariable s st)
+        by true e k = variable-anonymous true e refl g
+        by false e k = variable-new false e refl v k h g
+
+-- which variable the token at hand is
+module _ (s : List ℕ) (st : State) (b : Bool) (eb : b ≡ isAnonymous s (st .token)) (found : Option ℕ) where
+  pub met-anonymous : b ≡ true → MetAs (isAnonymous s (st .token)) found (st .count) (st .count)
+  met-anonymous e = subst (λ (u : Bool). MetAs u found (st .count) (st .count)) (sym e ∙ eb) refl
+
+  pub met-named : b ≡ false → (v : ℕ) → FoundAs found (st .count) v → MetAs (isAnonymous s (st .token)) found (st .count) v
+  met-named e v f = subst (λ (u : Bool). MetAs u found (st .count) v) (sym e ∙ eb) f

@@ -1,7 +1,7 @@
 -- What the functions of this crate promise: the answer is the definition's, and a lent table holds the words of what was read.
 use Prim.Native.Nat.{ℕ, _+_, _-_, _*_, _≤_, _<_, _^_}
 use mathlib.Core.Path.{_≡_}
-use mathlib.Core.Bool.{Bool, cond}
+use mathlib.Core.Bool.{Bool, true, false, cond}
 use mathlib.Core.List.{List, _++_}
 use mathlib.Core.Option.{Option, none, some}
 use lib.ListN.{length, take}
@@ -54,6 +54,11 @@ pub record GivenWith (spare : ℕ) (s : List ℕ) (from : State) (entry exit : L
 abbrev pub FoundAs : Option ℕ → ℕ → ℕ → Type 0
 FoundAs none count r = r ≡ count
 FoundAs (some i) count r = (r ≡ i) × (i < count)
+
+-- The same for the variable at hand, of which is known whether it is `_` alone: that one was never met.
+abbrev pub MetAs : Bool → Option ℕ → ℕ → ℕ → Type 0
+MetAs true found count r = r ≡ count
+MetAs false found count r = FoundAs found count r
 
 abbrev pub GivesWith : ℕ → {A : Type 0} → (A → List ℕ) → (A → ℕ) → List ℕ → State → List ℕ → List ℕ → ℕ → Parsed → Read A → Type 0
 GivesWith spare words items s from entry exit n r (fault k b) = Faulted entry exit n r k b

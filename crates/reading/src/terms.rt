@@ -22,7 +22,7 @@ ghost use Rattle.syntax.specs.Terms.{arity};
 ghost use Rattle.syntax.specs.Reading.{isAnonymous, numberOf, withNew, newVariable, readVariable, readTerm, readList, readAtomWith, readArguments, startOf};
 ghost use Rattle.reading.specs.Atoms.{readAtomAt};
 ghost use Rattle.syntax.specs.Words.{termWords, termsWords, atomWords, functor};
-ghost use Rattle.reading.specs.Gives.{Standing, Ready, Given, Gives, FoundAs, Refused, Counted, fullNumber, one};
+ghost use Rattle.reading.specs.Gives.{Standing, Ready, Given, Gives, FoundAs, MetAs, Refused, Counted, fullNumber, one};
 
 // The most arguments or marks in a list.
 pub const ARGUMENTS: usize = 8;
@@ -64,6 +64,19 @@ fn number_of(s: &[u8], st: State) -> usize
         i += 1;
     }
     count
+}
+
+// The number of the variable at hand if it was met before, else how many there are; `_` alone never was.
+fn known_number(s: &[u8], st: State) -> usize
+    requires { ⌜ Standing (now s) st ⌝ }
+    ensures { λ r. ⌜ MetAs (isAnonymous (now (s .entry)) (st .token)) (numberOf (now (s .entry)) (st .token) 0 (take (st .count) (st .first))) (st .count) r ⌝ }
+{
+    let t = st.token;
+    let count = st.count;
+    if is_anonymous(s, t) {
+        return count;
+    }
+    number_of(s, st)
 }
 
 // The reader with one variable more, first met here.
@@ -119,12 +132,8 @@ fn read_variable(s: &[u8], st: State, table: &mut [u32], n: usize) -> Parsed
     requires { ⌜ st .token .kind ≡ 4 ⌝ }
     ensures { λ r. ⌜ Gives termWords one (now (s .entry)) st (now (table .entry)) (now (table .exit)) n r (readVariable (now (s .entry)) st) ⌝ }
 {
-    let t = st.token;
-    if is_anonymous(s, t) {
-        return new_variable(s, st, table, n);
-    }
     let count = st.count;
-    let v = number_of(s, st);
+    let v = known_number(s, st);
     if v < count {
         return leaf(s, st, table, n, v);
     }
