@@ -116,6 +116,12 @@ module _ {state : List ℕ} {h n : ℕ} (w : Rewindable state h n) where
           same = rewound-by (h - 1) (let z : 1 ≤ h = w .some in omega arith)
         }
 
+pub rewind-low : {state : List ℕ} {h n m : ℕ} (w : Rewindable state h n) → m ≡ markAt state (h - 1) → m ≤ n
+rewind-low {state} {h} {n} {m} w e = subst⁻¹ (λ (x : ℕ). x ≤ n) e (rewind-mark w)
+
+pub rewind-ends : {state after : List ℕ} {h n m : ℕ} (w : Rewindable state h n) → m ≡ markAt state (h - 1) → Undone state after m n → Rewound state after h n m
+rewind-ends {state} {after} {h} {n} {m} w e u = subst⁻¹ (Rewound state after h n) e (rewind-end w (subst (λ (x : ℕ). Undone state after x n) e u))
+
 -- ---- an answer
 
 module _ {sheet goal names : List ℕ} {count : ℕ} {nodes code symbols state scratch stack text : List ℕ} {h n at : ℕ} (w : Answering sheet goal names count nodes code symbols state scratch stack text h n at) where

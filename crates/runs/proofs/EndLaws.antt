@@ -7,6 +7,7 @@ use mathlib.Core.List.{List, [], _∷_, _++_, append-nil}
 use mathlib.Core.Option.{Option, none, some}
 use lib.Dec.{leb, ltb, eqb}
 use lib.ListN.{length}
+use borrow.Author.Tests.{leb-false}
 use native.Mathlib.Nat.{add-zero}
 use Rattle.syntax.specs.Terms.{Sheet, Goal}
 use Rattle.syntax.specs.declared.Kind.{Kind}
@@ -166,3 +167,12 @@ module _ (sh : Sheet) (g : Goal) (wanted room : ℕ) where
         full = λ f. from-some left p Full (first-is left p ∙ ap (λ (x : Bool). firstBy (leb wanted (p .answers)) (isEmpty (p .pile)) (eqb left 0) (isAnswer (p .pile) && x) (goesDeeper sh (p .pile))) f ∙ s .full-is);
         on = λ f. from-none left p (s .more) (first-is left p ∙ ap (λ (x : Bool). firstBy (leb wanted (p .answers)) (isEmpty (p .pile)) (eqb left 0) (isAnswer (p .pile) && x) (goesDeeper sh (p .pile))) f ∙ s .fits-is) ∙ ap (runFrom sh g wanted room (left - 1)) (answered p d)
       }
+
+below-by : (a b c d e : Bool) → nextBy a b c d e ≡ Answer → a ≡ false
+below-by true b c d e q = absurd (let y : _≡_ {A = ℕ} 0 1 = cc in omega arith)
+below-by false b c d e q = refl
+
+-- an answer more is wanted
+pub answer-below : (wanted answers left : ℕ) (sh : Sheet) (pile : List Alternative) → nextOf wanted answers left sh pile ≡ Answer → answers < wanted
+unfolding nextOf
+answer-below wanted answers left sh pile q = leb-false wanted answers (below-by (leb wanted answers) (isEmpty pile) (eqb left 0) (isAnswer pile) (goesDeeper sh pile) q)

@@ -2,3 +2,4 @@ mod EndLaws
 mod LineLaws
 mod LoopLaws
 mod AnswerLaws
+mod GoingLaws

@@ -131,6 +131,9 @@ module _ (ss : List Symbol) (sh : Sheet) (g : Goal) (nodes code : List ℕ) (all
       pub answer-some : 1 ≤ h
       answer-some = pile-some ss sh g nodes code state h (answers-here .some-left)
 
+      pub answer-here : isAnswer (pileOf ss sh g nodes code state h) ≡ true
+      answer-here = answers-here .answer
+
       pub answer-few : steps < allowance
       answer-few = let x : 0 < allowance - steps = left-some (allowance - steps) (answers-here .more) in omega arith
 

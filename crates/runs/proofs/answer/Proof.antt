@@ -1,3 +1,4 @@
+use Rattle.runs.proofs.AnswerLaws.{answer-rewinds, answer-tells, answer-room, answer-full, answer-steps, answer-on}
 use borrow.Author.Needs.{needs}
 use Rattle.runs.proofs.answer.Statement.{statement}
 use Rattle.runs.proofs.answer.Tie as tie
@@ -9,11 +10,11 @@ use Rattle.runs.proofs.rewind.Reads as rewind-reads
 
 -- src/lib.rt:106:9
 rewind-requires : tie.Need-rewind-requires
-rewind-requires c κs = search needs
+rewind-requires c κs = answer-rewinds (c .before .before .before .before .before .before .before .before .before .before .before .pre)
 
 -- src/lib.rt:107:9
 put-answer-requires : tie.Need-put-answer-requires
-put-answer-requires c κs = ?
+put-answer-requires c κs = (answer-tells (c .before .before .before .before .before .before .before .before .before .before .before .before .before .before .before .before .before .pre) (c .before .before .before .before .before .rewind .ensures), answer-room (c .before .before .before .before .before .before .before .before .before .before .before .before .before .before .before .before .before .pre) (c .before .before .before .before .before .rewind .ensures))
 
 -- src/lib.rt:109:9
 same-length : tie.Need-same-length
@@ -29,11 +30,11 @@ same-length-3 c = search needs
 
 -- src/lib.rt:109:9
 returns : tie.Need-returns
-returns c = ?
+returns c = λ w. answer-full w (c .before .before .before .before .before .before .before .before .before .before .before .rewind .ensures) (c .before .before .before .before .before .put-answer .ensures) _ (c .before .before .before .before .before .put-answer .kept .1 .1 .1 .1 .1 .1 .1 .0) (c .if1 .taken)
 
 -- src/lib.rt:115:9
 step-requires : tie.Need-step-requires
-step-requires c κs = ?
+step-requires c κs = answer-steps (c .before .before .before .before .before .before .before .before .before .before .before .before .before .before .before .before .before .before .before .before .before .before .before .before .before .pre) (c .before .before .before .before .before .before .before .before .before .before .before .before .before .rewind .ensures)
 
 -- src/lib.rt:87:1
 same-length-4 : tie.Need-same-length-4
@@ -53,7 +54,7 @@ same-length-7 c = search needs
 
 -- src/lib.rt:87:1
 returns-2 : tie.Need-returns-2
-returns-2 c = ?
+returns-2 c = λ w. answer-on w (c .before .before .before .before .before .before .before .before .before .before .before .before .before .before .before .before .before .before .rewind .ensures) (c .before .before .before .before .before .before .before .before .before .before .before .before .put-answer .ensures) _ _ _ (c .before .before .before .before .step .result) (c .before .before .before .before .before .before .before .before .before .before .before .before .put-answer .kept .1 .1 .1 .1 .1 .1 .1 .0) (c .before .before .before .before .step .ensures)
 
 pub answer-spec : {M : Type 1} → statement M
 answer-spec =

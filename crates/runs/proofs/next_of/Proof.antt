@@ -1,3 +1,5 @@
+use mathlib.Core.Path.{sym, _∙_}
+use Rattle.runs.proofs.AnswerLaws.{next-wanted, next-done, next-steps, next-answer, next-deep, next-step}
 use borrow.Author.Needs.{needs}
 use Rattle.runs.proofs.next_of.Statement.{statement}
 use Rattle.runs.proofs.next_of.Tie as tie
@@ -8,15 +10,15 @@ use Rattle.engine.proofs.is_answer.Reads as is-answer-reads
 
 -- src/lib.rt:57:9
 returns : tie.Need-returns
-returns c = ?
+returns c = λ nodes w. search (next-wanted, needs)
 
 -- src/lib.rt:60:9
 returns-2 : tie.Need-returns-2
-returns-2 c = ?
+returns-2 c = λ nodes w. search (next-done, needs)
 
 -- src/lib.rt:63:9
 returns-3 : tie.Need-returns-3
-returns-3 c = ?
+returns-3 c = λ nodes w. search (next-steps, needs)
 
 -- src/lib.rt:65:8
 is-answer-requires : tie.Need-is-answer-requires
@@ -24,7 +26,7 @@ is-answer-requires c κs = search needs
 
 -- src/lib.rt:66:9
 returns-4 : tie.Need-returns-4
-returns-4 c = ?
+returns-4 c = λ nodes w. next-answer (c .before .before .before .before .before .before .before .pre .1) w (c .before .before .before .before .if1 .left) (c .before .before .before .if2 .left) (c .before .before .if3 .left) (sym (c .if4 .taken) ∙ c .before .is-answer .ensures nodes w)
 
 -- src/lib.rt:68:8
 goes-deeper-requires : tie.Need-goes-deeper-requires
@@ -32,11 +34,11 @@ goes-deeper-requires c κs = search needs
 
 -- src/lib.rt:69:9
 returns-5 : tie.Need-returns-5
-returns-5 c = ?
+returns-5 c = λ nodes w. next-deep (c .before .before .before .before .before .before .before .before .before .pre .1) w (c .before .before .before .before .before .before .if1 .left) (c .before .before .before .before .before .if2 .left) (c .before .before .before .before .if3 .left) (sym (c .before .before .if4 .left) ∙ c .before .before .before .is-answer .ensures nodes w) (sym (c .if5 .taken) ∙ c .before .goes-deeper .ensures nodes w)
 
 -- src/lib.rt:42:1
 returns-6 : tie.Need-returns-6
-returns-6 c = ?
+returns-6 c = λ nodes w. next-step (c .before .before .before .before .before .before .before .before .before .pre .1) w (c .before .before .before .before .before .before .if1 .left) (c .before .before .before .before .before .if2 .left) (c .before .before .before .before .if3 .left) (sym (c .before .before .if4 .left) ∙ c .before .before .before .is-answer .ensures nodes w) (sym (c .if5 .left) ∙ c .before .goes-deeper .ensures nodes w)
 
 pub next-of-spec : {M : Type 1} → statement M
 next-of-spec =

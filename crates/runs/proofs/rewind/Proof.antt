@@ -1,3 +1,5 @@
+use native.Mathlib.Omega.{arith}
+use Rattle.runs.proofs.AnswerLaws.{rewind-room, rewind-stored, rewind-low, rewind-ends}
 use borrow.Author.Needs.{needs}
 use Rattle.runs.proofs.rewind.Statement.{statement}
 use Rattle.runs.proofs.rewind.Tie as tie
@@ -12,23 +14,23 @@ sub-j c = search needs
 
 -- src/lib.rt:80:28
 mul-i : tie.Need-mul-i
-mul-i c = ?
+mul-i c = omega (arith, rewind-room (c .before .pre), c .before .good)
 
 -- src/lib.rt:80:13
 add-i : tie.Need-add-i
-add-i c = ?
+add-i c = omega (arith, rewind-room (c .before .pre), c .before .good)
 
 -- src/lib.rt:80:13
 add-i-2 : tie.Need-add-i-2
-add-i-2 c = ?
+add-i-2 c = omega (arith, rewind-room (c .before .pre), c .before .good)
 
 -- src/lib.rt:81:9
 word-at-requires : tie.Need-word-at-requires
-word-at-requires c κs = ?
+word-at-requires c κs = rewind-room (c .before .before .pre)
 
 -- src/lib.rt:82:5
 undo-requires : tie.Need-undo-requires
-undo-requires c κs = ?
+undo-requires c κs = (rewind-stored (c .before .before .before .before .pre), rewind-low (c .before .before .before .before .pre) (c .before .word-at .ensures))
 
 -- src/lib.rt:75:1
 same-length : tie.Need-same-length
@@ -36,7 +38,7 @@ same-length c = search needs
 
 -- src/lib.rt:75:1
 returns : tie.Need-returns
-returns c = ?
+returns c = rewind-ends (c .before .before .before .before .before .before .before .pre) (c .before .before .before .before .word-at .ensures) (c .before .before .undo .ensures)
 
 pub rewind-spec : {M : Type 1} → statement M
 rewind-spec =
