@@ -1,1 +1,3 @@
+pub mod Flat
+pub mod Listing
 pub mod Loading

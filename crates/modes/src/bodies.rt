@@ -30,7 +30,7 @@ const FALSITY: usize = 1;
 const CALL: usize = 2;
 
 // The place past a literal.
-fn past_literal(table: &[u32], p: usize) -> usize
+pub fn past_literal(table: &[u32], p: usize) -> usize
     requires { ⌜ ((g : List ℕ) × LiteralAt g (now table) p) ⌝ }
     ensures { λ r. ⌜ ((g : List ℕ) (w : LiteralAt g (now (table .entry)) p) → r ≡ p + length (literalWords (w .literal))) ⌝ }
 {

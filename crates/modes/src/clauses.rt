@@ -23,7 +23,7 @@ ghost use Rattle.modes.specs.Tables.{DeclarationsAt, ClauseAt, ClausesAt
 ghost use Rattle.modes.specs.Answers.{checkedOf};
 
 // The place past a clause.
-fn past_clause(table: &[u32], p: usize) -> usize
+pub fn past_clause(table: &[u32], p: usize) -> usize
     requires { ⌜ ((s : List ℕ) × ClauseAt s (now table) p) ⌝ }
     ensures { λ r. ⌜ ((s : List ℕ) (w : ClauseAt s (now (table .entry)) p) → r ≡ p + length (clauseWords (w .clause))) ⌝ }
 {

@@ -1,6 +1,6 @@
 // The mode check: refusals 8 to 10 of document 01, over the tables of words that the parser fills. Document 01 is the paper "Rule sheets".
-mod bodies;
-mod clauses;
+pub mod bodies;
+pub mod clauses;
 pub mod marks;
 pub mod table;
 mod terms;

@@ -1,0 +1,101 @@
+// The nodes of terms copied one behind the other, a name by its place.
+use modes::bodies::past_literal;
+use modes::clauses::past_clause;
+use modes::table::past;
+use modes::table::word_at;
+ghost use mathlib.Core.Path.{_≡_};
+ghost use Prim.Native.Nat.{_+_, _*_, _/_, _≤_, _<_};
+ghost use lib.ListN.{length};
+ghost use Rattle.loader.specs.Flat.{flatWhat, Fits, flatWords, flatAll, bodyParsed, clauseParsed, clausesParsed, written, RunAt, BodyHere, ClauseHere, ClausesHere};
+
+// From this word on a node is a name.
+pub const NAMED: u32 = 64;
+
+// The first word of a copied node: a variable's number; or 64, and the name's place, its text and its length, and its number of arguments.
+fn name_word(what: u32, byte: u32, text: u32) -> u32
+    requires { ⌜ (text ≤ 1) × Fits what byte ⌝ }
+    ensures { λ r. ⌜ r ≡ flatWhat text what byte ⌝ }
+{
+    if what < NAMED {
+        return what;
+    }
+    let named = what - NAMED;
+    let word = byte * 64 + text * 32 + named % 32;
+    NAMED + word * 32 + named / 32
+}
+
+// How many words a copied node takes with its arguments: two where three were read.
+fn two_of_three(size: u32) -> u32
+    ensures { λ r. ⌜ r ≡ size / 3 * 2 ⌝ }
+{
+    size / 3 * 2
+}
+
+// The nodes from one place up to another, copied to `at`; the place past the copies.
+fn copy_nodes(table: &[u32], from: usize, stop: usize, text: u32, nodes: &mut [u32], at: usize) -> usize
+    requires { ⌜ (text ≤ 1) × ((length (now table) ≤ 65540) × ((46428 ≤ length (now nodes)) × (at * 3 ≤ from * 2 + 8200))) ⌝ }
+    requires { ⌜ RunAt (now table) from stop ⌝ }
+    ensures { λ r. ⌜ ((w : RunAt (now (table .entry)) from stop) → (now (nodes .exit) ≡ written (now (nodes .entry)) at (flatWords (flatAll text (w .run)))) × (r ≡ at + length (flatWords (flatAll text (w .run))))) ⌝ }
+{
+    let mut p = from;
+    let mut q = at;
+    while p < stop {
+        let b = p + 1;
+        let c = p + 2;
+        let d = q + 1;
+        nodes[q] = name_word(table[p], table[c], text);
+        nodes[d] = two_of_three(table[b]);
+        p += 3;
+        q += 2;
+    }
+    q
+}
+
+// The nodes of so many literals from a place on.
+pub fn copy_body(table: &[u32], from: usize, literals: usize, text: u32, nodes: &mut [u32], at: usize) -> usize
+    requires { ⌜ (text ≤ 1) × ((length (now table) ≤ 65540) × ((46428 ≤ length (now nodes)) × (at * 3 ≤ from * 2 + 8200))) ⌝ }
+    requires { ⌜ BodyHere (now table) from literals ⌝ }
+    ensures { λ r. ⌜ ((w : BodyHere (now (table .entry)) from literals) → (now (nodes .exit) ≡ written (now (nodes .entry)) at (flatWords (flatAll text (bodyParsed (w .body))))) × (r ≡ at + length (flatWords (flatAll text (bodyParsed (w .body)))))) ⌝ }
+{
+    let mut p = from;
+    let mut q = at;
+    let mut i = 0;
+    while i < literals {
+        let first = p + 1;
+        let next = past_literal(table, p);
+        q = copy_nodes(table, first, next, text, nodes, q);
+        p = next;
+        i += 1;
+    }
+    q
+}
+
+// The nodes of the clause at a place: its head's, then its body's.
+fn copy_clause(table: &[u32], p: usize, nodes: &mut [u32], at: usize) -> usize
+    requires { ⌜ (length (now table) ≤ 65540) × ((46428 ≤ length (now nodes)) × (at * 3 ≤ p * 2 + 8200)) ⌝ }
+    requires { ⌜ ClauseHere (now table) p ⌝ }
+    ensures { λ r. ⌜ ((w : ClauseHere (now (table .entry)) p) → (now (nodes .exit) ≡ written (now (nodes .entry)) at (flatWords (flatAll 0 (clauseParsed (w .clause))))) × (r ≡ at + length (flatWords (flatAll 0 (clauseParsed (w .clause)))))) ⌝ }
+{
+    let literals = word_at(table, p + 2);
+    let head = p + 3;
+    let body = past(table, head);
+    let q = copy_nodes(table, head, body, 0, nodes, at);
+    copy_body(table, body, literals, 0, nodes, q)
+}
+
+// The nodes of so many clauses.
+pub fn copy_clauses(table: &[u32], clauses: usize, nodes: &mut [u32], at: usize) -> usize
+    requires { ⌜ (length (now table) ≤ 65540) × ((46428 ≤ length (now nodes)) × (at * 3 ≤ 8200)) ⌝ }
+    requires { ⌜ ClausesHere (now table) 0 clauses ⌝ }
+    ensures { λ r. ⌜ ((w : ClausesHere (now (table .entry)) 0 clauses) → (now (nodes .exit) ≡ written (now (nodes .entry)) at (flatWords (flatAll 0 (clausesParsed (w .list))))) × (r ≡ at + length (flatWords (flatAll 0 (clausesParsed (w .list)))))) ⌝ }
+{
+    let mut p = 0;
+    let mut q = at;
+    let mut i = 0;
+    while i < clauses {
+        q = copy_clause(table, p, nodes, q);
+        p = past_clause(table, p);
+        i += 1;
+    }
+    q
+}

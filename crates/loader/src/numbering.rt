@@ -1,0 +1,65 @@
+// Each name of the copied nodes replaced by its symbol's number.
+use crate::copying::NAMED;
+use crate::symbols::HALF;
+use crate::symbols::find_symbol;
+ghost use Prim.Native.Nat.{_≤_, _<_};
+ghost use lib.ListN.{length, getD};
+ghost use Rattle.loader.specs.Listing.{Inside, Listed, Interned, Counted, NodeInside, Copied, NodeNumbered, NodesNumbered};
+
+// The number of the symbol with the name of a word and so many arguments, which is listed where it is new.
+fn intern(sheet: &[u8], goal: &[u8], symbols: &mut [u32], count: usize, w: u32, arguments: u32) -> usize
+    requires { ⌜ (Listed (now sheet) (now goal) (now symbols) count × (count < 23214)) × ((46428 ≤ length (now symbols)) × Inside (now sheet) (now goal) w) ⌝ }
+    ensures { λ r. ⌜ Interned (now (sheet .entry)) (now (goal .entry)) (now (symbols .entry)) count w arguments (now (symbols .exit)) r ⌝ }
+{
+    let k = find_symbol(sheet, goal, symbols, count, w, arguments);
+    if k < count {
+        return k;
+    }
+    let j = HALF + count;
+    symbols[count] = w;
+    symbols[j] = arguments;
+    count
+}
+
+// How many symbols there are once number k is among them.
+fn counted(count: usize, k: usize) -> usize
+    requires { ⌜ (count < 23214) × (k ≤ count) ⌝ }
+    ensures { λ r. ⌜ Counted count k r ⌝ }
+{
+    if k < count {
+        return count;
+    }
+    count + 1
+}
+
+// The node at a place with its symbol's number; how many symbols there are then.
+fn number_node(sheet: &[u8], goal: &[u8], nodes: &mut [u32], p: usize, symbols: &mut [u32], count: usize) -> usize
+    requires { ⌜ (Listed (now sheet) (now goal) (now symbols) count × (count < 23214)) × ((46428 ≤ length (now symbols)) × (p < length (now nodes))) ⌝ }
+    requires { ⌜ NodeInside (now sheet) (now goal) (getD (now nodes) p 0) ⌝ }
+    ensures { λ r. ⌜ NodeNumbered (now (sheet .entry)) (now (goal .entry)) (now (nodes .entry)) p (now (symbols .entry)) count (now (nodes .exit)) (now (symbols .exit)) r ⌝ }
+{
+    let v = nodes[p];
+    if v < NAMED {
+        return count;
+    }
+    let named = v - NAMED;
+    let k = intern(sheet, goal, symbols, count, named / 32, named % 32);
+    let number = k + 64;
+    nodes[p] = number as u32;
+    counted(count, k)
+}
+
+// All copied nodes up to a place with their symbols' numbers.
+pub fn number_nodes(sheet: &[u8], goal: &[u8], nodes: &mut [u32], stop: usize, symbols: &mut [u32]) -> usize
+    requires { ⌜ (46428 ≤ length (now symbols)) × (stop ≤ 46428) ⌝ }
+    requires { ⌜ Copied (now sheet) (now goal) (now nodes) stop ⌝ }
+    ensures { λ r. ⌜ ((w : Copied (now (sheet .entry)) (now (goal .entry)) (now (nodes .entry)) stop) → NodesNumbered (now (sheet .entry)) (now (goal .entry)) (w .flats) (now (nodes .entry)) (now (nodes .exit)) (now (symbols .exit)) r) ⌝ }
+{
+    let mut p = 0;
+    let mut count = 0;
+    while p < stop {
+        count = number_node(sheet, goal, nodes, p, symbols, count);
+        p += 2;
+    }
+    count
+}

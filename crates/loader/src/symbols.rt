@@ -1,0 +1,72 @@
+// Symbols: for number k, a word with the place, the text and the length of its name, and HALF words on its number of arguments.
+ghost use mathlib.Core.Path.{_≡_};
+ghost use Prim.Native.Nat.{_+_, _%_, _≤_, _<_};
+ghost use lib.ListN.{length, getD};
+ghost use Rattle.syntax.specs.Terms.{sameBytes};
+ghost use Rattle.syntax.specs.Tokens.{spelling};
+ghost use Rattle.layout.specs.Nodes.{isSymbol, symbolOf};
+ghost use Rattle.loader.specs.Listing.{wordName, Inside, Listed, symbolAt, symbolsOf};
+
+// Where the numbers of arguments begin.
+pub const HALF: usize = 23214;
+
+fn wide(x: u32) -> usize
+    ensures { λ r. ⌜ r ≡ x ⌝ }
+{
+    x as usize
+}
+
+// Whether the name of a word is the part of a text at a place.
+fn same_part(text: &[u8], at: usize, len: usize, sheet: &[u8], goal: &[u8], w: u32) -> bool
+    requires { ⌜ (at + len ≤ length (now text)) × (Inside (now sheet) (now goal) w × (len ≡ w % 32)) ⌝ }
+    ensures { λ r. ⌜ r ≡ sameBytes (wordName (now (sheet .entry)) (now (goal .entry)) w) (spelling (now (text .entry)) at len) ⌝ }
+{
+    let place = wide(w / 64);
+    if w / 32 % 2 == 0 {
+        return lexer::same_bytes(sheet, place, text, at, len);
+    }
+    lexer::same_bytes(goal, place, text, at, len)
+}
+
+// Whether two words have the same name.
+fn same_name(sheet: &[u8], goal: &[u8], v: u32, w: u32) -> bool
+    requires { ⌜ Inside (now sheet) (now goal) v × Inside (now sheet) (now goal) w ⌝ }
+    ensures { λ r. ⌜ r ≡ sameBytes (wordName (now (sheet .entry)) (now (goal .entry)) v) (wordName (now (sheet .entry)) (now (goal .entry)) w) ⌝ }
+{
+    let len = wide(w % 32);
+    if v % 32 != w % 32 {
+        return false;
+    }
+    let at = wide(w / 64);
+    if w / 32 % 2 == 0 {
+        return same_part(sheet, at, len, sheet, goal, v);
+    }
+    same_part(goal, at, len, sheet, goal, v)
+}
+
+// Whether the symbol of a number has the name of a word and so many arguments.
+fn is_symbol(sheet: &[u8], goal: &[u8], symbols: &[u32], k: usize, w: u32, arguments: u32) -> bool
+    requires { ⌜ (23214 + k < length (now symbols)) × (Inside (now sheet) (now goal) (getD (now symbols) k 0) × Inside (now sheet) (now goal) w) ⌝ }
+    ensures { λ r. ⌜ r ≡ isSymbol (wordName (now (sheet .entry)) (now (goal .entry)) w) arguments (symbolAt (now (sheet .entry)) (now (goal .entry)) (now (symbols .entry)) k) ⌝ }
+{
+    let j = HALF + k;
+    if symbols[j] != arguments {
+        return false;
+    }
+    same_name(sheet, goal, symbols[k], w)
+}
+
+// The number of the symbol with the name of a word and so many arguments; `count` where it is not among those so far.
+pub fn find_symbol(sheet: &[u8], goal: &[u8], symbols: &[u32], count: usize, w: u32, arguments: u32) -> usize
+    requires { ⌜ Listed (now sheet) (now goal) (now symbols) count × Inside (now sheet) (now goal) w ⌝ }
+    ensures { λ r. ⌜ r ≡ symbolOf (symbolsOf (now (sheet .entry)) (now (goal .entry)) (now (symbols .entry)) count) (wordName (now (sheet .entry)) (now (goal .entry)) w) arguments ⌝ }
+{
+    let mut k = 0;
+    while k < count {
+        if is_symbol(sheet, goal, symbols, k, w, arguments) {
+            return k;
+        }
+        k += 1;
+    }
+    count
+}
