@@ -1,103 +1,85 @@
+-- `loader::copying::copy_nodes` meets its contract. The invariant: what is left of the run gives the whole (`Running`). Assumes nothing.
+use Prim.Native.Nat.{_+_, _-_}
+use native.Mathlib.Omega.{arith}
+use mathlib.Core.Path.{_≡_, refl}
+use lib.ListN.{length, length-set}
+use Rattle.loader.specs.Flat.{flatWords, flatAll, RunAt}
+use Rattle.loader.proofs.Writing.{length-two}
+use Rattle.loader.proofs.Runs.{Running, run-begin, turn, run-end}
 use Rattle.loader.proofs.copying.copy_nodes.Statement.{statement}
 use Rattle.loader.proofs.copying.copy_nodes.Tie as tie
-use Rattle.loader.proofs.copying.copy_nodes.Reads as reads
-use Rattle.loader.proofs.copying.copy_nodes.Lts as lts
-use Rattle.loader.proofs.copying.name_word.Reads as name-word-reads
-use Rattle.loader.proofs.copying.two_of_three.Reads as two-of-three-reads
 
 abbrev Inv-loop : tie.InvT-loop
-Inv-loop table from stop text nodes₀ at p₀ q₀ nodes p q = ?
+Inv-loop table from stop text nodes₀ at p₀ q₀ nodes p q = (length nodes ≡ length nodes₀) × ((w : RunAt table from stop) → Running table stop text nodes₀ at (flatWords (flatAll text (w .run))) nodes p q)
 
 abbrev μ-loop : tie.MeasureT-loop
-μ-loop table from stop text nodes₀ at p₀ q₀ nodes p q = ?
+μ-loop table from stop text nodes₀ at p₀ q₀ nodes p q = stop - p
 
--- src/copying.rt:42:5
 loop-holds : tie.Need-loop-holds Inv-loop μ-loop
-loop-holds c = ?
+loop-holds c = (refl, λ w. run-begin (c .before .before .args .table .now) (c .before .before .args .from) (c .before .before .args .stop) (c .before .before .args .text) (c .before .before .args .nodes .now) (c .before .before .args .at) (c .before .before .pre .0 .1 .1 .1) w)
 
--- src/copying.rt:43:17
 add-b : tie.Need-add-b Inv-loop μ-loop
-add-b c = ?
+add-b c = omega (arith, turn (c .before .before .before .before .args .table .now) (c .before .before .before .before .args .stop) (c .before .before .before .before .args .text) (c .before .before .before .before .args .nodes .now) (c .before .before .before .before .args .at) (flatWords (flatAll (c .before .before .before .before .args .text) (c .before .before .before .before .pre .1 .run))) (c .before .loop .nodes) (c .before .loop .p) (c .before .loop .q) (c .loop-test .taken) (c .before .loop .inv .1 (c .before .before .before .before .pre .1)) .inside, c .before .loop .inv .1 (c .before .before .before .before .pre .1) .near, c .before .loop .inv .0, c .before .before .before .before .pre .0 .1 .0, c .before .before .before .before .pre .0 .1 .1 .0)
 
--- src/copying.rt:44:17
 add-c : tie.Need-add-c Inv-loop μ-loop
-add-c c = ?
+add-c c = omega (arith, turn (c .before .before .before .before .args .table .now) (c .before .before .before .before .args .stop) (c .before .before .before .before .args .text) (c .before .before .before .before .args .nodes .now) (c .before .before .before .before .args .at) (flatWords (flatAll (c .before .before .before .before .args .text) (c .before .before .before .before .pre .1 .run))) (c .before .loop .nodes) (c .before .loop .p) (c .before .loop .q) (c .loop-test .taken) (c .before .loop .inv .1 (c .before .before .before .before .pre .1)) .inside, c .before .loop .inv .1 (c .before .before .before .before .pre .1) .near, c .before .loop .inv .0, c .before .before .before .before .pre .0 .1 .0, c .before .before .before .before .pre .0 .1 .1 .0)
 
--- src/copying.rt:45:17
 add-d : tie.Need-add-d Inv-loop μ-loop
-add-d c = ?
+add-d c = omega (arith, turn (c .before .before .before .before .args .table .now) (c .before .before .before .before .args .stop) (c .before .before .before .before .args .text) (c .before .before .before .before .args .nodes .now) (c .before .before .before .before .args .at) (flatWords (flatAll (c .before .before .before .before .args .text) (c .before .before .before .before .pre .1 .run))) (c .before .loop .nodes) (c .before .loop .p) (c .before .loop .q) (c .loop-test .taken) (c .before .loop .inv .1 (c .before .before .before .before .pre .1)) .inside, c .before .loop .inv .1 (c .before .before .before .before .pre .1) .near, c .before .loop .inv .0, c .before .before .before .before .pre .0 .1 .0, c .before .before .before .before .pre .0 .1 .1 .0)
 
--- src/copying.rt:46:30
 mul-name-word : tie.Need-mul-name-word Inv-loop μ-loop
-mul-name-word c = ?
+mul-name-word c = omega (arith, turn (c .before .before .before .before .args .table .now) (c .before .before .before .before .args .stop) (c .before .before .before .before .args .text) (c .before .before .before .before .args .nodes .now) (c .before .before .before .before .args .at) (flatWords (flatAll (c .before .before .before .before .args .text) (c .before .before .before .before .pre .1 .run))) (c .before .loop .nodes) (c .before .loop .p) (c .before .loop .q) (c .loop-test .taken) (c .before .loop .inv .1 (c .before .before .before .before .pre .1)) .inside, c .before .loop .inv .1 (c .before .before .before .before .pre .1) .near, c .before .loop .inv .0, c .before .before .before .before .pre .0 .1 .0, c .before .before .before .before .pre .0 .1 .1 .0)
 
--- src/copying.rt:46:30
 shared-slice-read-name-word : tie.Need-shared-slice-read-name-word Inv-loop μ-loop
-shared-slice-read-name-word c = ?
+shared-slice-read-name-word c = omega (arith, turn (c .before .before .before .before .before .args .table .now) (c .before .before .before .before .before .args .stop) (c .before .before .before .before .before .args .text) (c .before .before .before .before .before .args .nodes .now) (c .before .before .before .before .before .args .at) (flatWords (flatAll (c .before .before .before .before .before .args .text) (c .before .before .before .before .before .pre .1 .run))) (c .before .before .loop .nodes) (c .before .before .loop .p) (c .before .before .loop .q) (c .before .loop-test .taken) (c .before .before .loop .inv .1 (c .before .before .before .before .before .pre .1)) .inside, c .before .before .loop .inv .1 (c .before .before .before .before .before .pre .1) .near, c .before .before .loop .inv .0, c .before .before .before .before .before .pre .0 .1 .0, c .before .before .before .before .before .pre .0 .1 .1 .0)
 
--- src/copying.rt:46:40
 mul-name-word-2 : tie.Need-mul-name-word-2 Inv-loop μ-loop
-mul-name-word-2 c = ?
+mul-name-word-2 c = omega (arith, turn (c .before .before .before .before .before .args .table .now) (c .before .before .before .before .before .args .stop) (c .before .before .before .before .before .args .text) (c .before .before .before .before .before .args .nodes .now) (c .before .before .before .before .before .args .at) (flatWords (flatAll (c .before .before .before .before .before .args .text) (c .before .before .before .before .before .pre .1 .run))) (c .before .before .loop .nodes) (c .before .before .loop .p) (c .before .before .loop .q) (c .before .loop-test .taken) (c .before .before .loop .inv .1 (c .before .before .before .before .before .pre .1)) .inside, c .before .before .loop .inv .1 (c .before .before .before .before .before .pre .1) .near, c .before .before .loop .inv .0, c .before .before .before .before .before .pre .0 .1 .0, c .before .before .before .before .before .pre .0 .1 .1 .0)
 
--- src/copying.rt:46:40
 shared-slice-read-name-word-2 : tie.Need-shared-slice-read-name-word-2 Inv-loop μ-loop
-shared-slice-read-name-word-2 c = ?
+shared-slice-read-name-word-2 c = omega (arith, turn (c .before .before .before .before .before .before .args .table .now) (c .before .before .before .before .before .before .args .stop) (c .before .before .before .before .before .before .args .text) (c .before .before .before .before .before .before .args .nodes .now) (c .before .before .before .before .before .before .args .at) (flatWords (flatAll (c .before .before .before .before .before .before .args .text) (c .before .before .before .before .before .before .pre .1 .run))) (c .before .before .before .loop .nodes) (c .before .before .before .loop .p) (c .before .before .before .loop .q) (c .before .before .loop-test .taken) (c .before .before .before .loop .inv .1 (c .before .before .before .before .before .before .pre .1)) .inside, c .before .before .before .loop .inv .1 (c .before .before .before .before .before .before .pre .1) .near, c .before .before .before .loop .inv .0, c .before .before .before .before .before .before .pre .0 .1 .0, c .before .before .before .before .before .before .pre .0 .1 .1 .0)
 
--- src/copying.rt:46:20
 name-word-requires : tie.Need-name-word-requires Inv-loop μ-loop
-name-word-requires c κs = ?
+name-word-requires c κs = (c .before .before .before .before .before .before .pre .0 .0, turn (c .before .before .before .before .before .before .args .table .now) (c .before .before .before .before .before .before .args .stop) (c .before .before .before .before .before .before .args .text) (c .before .before .before .before .before .before .args .nodes .now) (c .before .before .before .before .before .before .args .at) (flatWords (flatAll (c .before .before .before .before .before .before .args .text) (c .before .before .before .before .before .before .pre .1 .run))) (c .before .before .before .loop .nodes) (c .before .before .before .loop .p) (c .before .before .before .loop .q) (c .before .before .loop-test .taken) (c .before .before .before .loop .inv .1 (c .before .before .before .before .before .before .pre .1)) .fits)
 
--- src/copying.rt:46:9
 mul-nodes : tie.Need-mul-nodes Inv-loop μ-loop
-mul-nodes c = ?
+mul-nodes c = omega (arith, turn (c .before .before .before .before .before .before .before .args .table .now) (c .before .before .before .before .before .before .before .args .stop) (c .before .before .before .before .before .before .before .args .text) (c .before .before .before .before .before .before .before .args .nodes .now) (c .before .before .before .before .before .before .before .args .at) (flatWords (flatAll (c .before .before .before .before .before .before .before .args .text) (c .before .before .before .before .before .before .before .pre .1 .run))) (c .before .before .before .before .loop .nodes) (c .before .before .before .before .loop .p) (c .before .before .before .before .loop .q) (c .before .before .before .loop-test .taken) (c .before .before .before .before .loop .inv .1 (c .before .before .before .before .before .before .before .pre .1)) .inside, c .before .before .before .before .loop .inv .1 (c .before .before .before .before .before .before .before .pre .1) .near, c .before .before .before .before .loop .inv .0, c .before .before .before .before .before .before .before .pre .0 .1 .0, c .before .before .before .before .before .before .before .pre .0 .1 .1 .0)
 
--- src/copying.rt:46:9
 slice-write-nodes : tie.Need-slice-write-nodes Inv-loop μ-loop
-slice-write-nodes c = ?
+slice-write-nodes c = omega (arith, turn (c .before .before .before .before .before .before .before .args .table .now) (c .before .before .before .before .before .before .before .args .stop) (c .before .before .before .before .before .before .before .args .text) (c .before .before .before .before .before .before .before .args .nodes .now) (c .before .before .before .before .before .before .before .args .at) (flatWords (flatAll (c .before .before .before .before .before .before .before .args .text) (c .before .before .before .before .before .before .before .pre .1 .run))) (c .before .before .before .before .loop .nodes) (c .before .before .before .before .loop .p) (c .before .before .before .before .loop .q) (c .before .before .before .loop-test .taken) (c .before .before .before .before .loop .inv .1 (c .before .before .before .before .before .before .before .pre .1)) .inside, c .before .before .before .before .loop .inv .1 (c .before .before .before .before .before .before .before .pre .1) .near, c .before .before .before .before .loop .inv .0, c .before .before .before .before .before .before .before .pre .0 .1 .0, c .before .before .before .before .before .before .before .pre .0 .1 .1 .0)
 
--- src/copying.rt:47:33
 mul-two-of-three : tie.Need-mul-two-of-three Inv-loop μ-loop
-mul-two-of-three c = ?
+mul-two-of-three c = omega (arith, turn (c .before .before .before .before .before .before .before .args .table .now) (c .before .before .before .before .before .before .before .args .stop) (c .before .before .before .before .before .before .before .args .text) (c .before .before .before .before .before .before .before .args .nodes .now) (c .before .before .before .before .before .before .before .args .at) (flatWords (flatAll (c .before .before .before .before .before .before .before .args .text) (c .before .before .before .before .before .before .before .pre .1 .run))) (c .before .before .before .before .loop .nodes) (c .before .before .before .before .loop .p) (c .before .before .before .before .loop .q) (c .before .before .before .loop-test .taken) (c .before .before .before .before .loop .inv .1 (c .before .before .before .before .before .before .before .pre .1)) .inside, c .before .before .before .before .loop .inv .1 (c .before .before .before .before .before .before .before .pre .1) .near, c .before .before .before .before .loop .inv .0, c .before .before .before .before .before .before .before .pre .0 .1 .0, c .before .before .before .before .before .before .before .pre .0 .1 .1 .0)
 
--- src/copying.rt:47:33
 shared-slice-read-two-of-three : tie.Need-shared-slice-read-two-of-three Inv-loop μ-loop
-shared-slice-read-two-of-three c = ?
+shared-slice-read-two-of-three c = omega (arith, turn (c .before .before .before .before .before .before .before .before .args .table .now) (c .before .before .before .before .before .before .before .before .args .stop) (c .before .before .before .before .before .before .before .before .args .text) (c .before .before .before .before .before .before .before .before .args .nodes .now) (c .before .before .before .before .before .before .before .before .args .at) (flatWords (flatAll (c .before .before .before .before .before .before .before .before .args .text) (c .before .before .before .before .before .before .before .before .pre .1 .run))) (c .before .before .before .before .before .loop .nodes) (c .before .before .before .before .before .loop .p) (c .before .before .before .before .before .loop .q) (c .before .before .before .before .loop-test .taken) (c .before .before .before .before .before .loop .inv .1 (c .before .before .before .before .before .before .before .before .pre .1)) .inside, c .before .before .before .before .before .loop .inv .1 (c .before .before .before .before .before .before .before .before .pre .1) .near, c .before .before .before .before .before .loop .inv .0, c .before .before .before .before .before .before .before .before .pre .0 .1 .0, c .before .before .before .before .before .before .before .before .pre .0 .1 .1 .0)
 
--- src/copying.rt:47:20
 two-of-three-requires : tie.Need-two-of-three-requires Inv-loop μ-loop
-two-of-three-requires c κs = ?
+two-of-three-requires c κs = tt
 
--- src/copying.rt:47:9
 mul-nodes-2 : tie.Need-mul-nodes-2 Inv-loop μ-loop
-mul-nodes-2 c = ?
+mul-nodes-2 c = omega (arith, turn (c .before .before .before .before .before .before .before .before .before .args .table .now) (c .before .before .before .before .before .before .before .before .before .args .stop) (c .before .before .before .before .before .before .before .before .before .args .text) (c .before .before .before .before .before .before .before .before .before .args .nodes .now) (c .before .before .before .before .before .before .before .before .before .args .at) (flatWords (flatAll (c .before .before .before .before .before .before .before .before .before .args .text) (c .before .before .before .before .before .before .before .before .before .pre .1 .run))) (c .before .before .before .before .before .before .loop .nodes) (c .before .before .before .before .before .before .loop .p) (c .before .before .before .before .before .before .loop .q) (c .before .before .before .before .before .loop-test .taken) (c .before .before .before .before .before .before .loop .inv .1 (c .before .before .before .before .before .before .before .before .before .pre .1)) .inside, c .before .before .before .before .before .before .loop .inv .1 (c .before .before .before .before .before .before .before .before .before .pre .1) .near, c .before .before .before .before .before .before .loop .inv .0, c .before .before .before .before .before .before .before .before .before .pre .0 .1 .0, c .before .before .before .before .before .before .before .before .before .pre .0 .1 .1 .0)
 
--- src/copying.rt:47:9
 slice-write-nodes-2 : tie.Need-slice-write-nodes-2 Inv-loop μ-loop
-slice-write-nodes-2 c = ?
+slice-write-nodes-2 c = omega (arith, turn (c .before .before .before .before .before .before .before .before .before .args .table .now) (c .before .before .before .before .before .before .before .before .before .args .stop) (c .before .before .before .before .before .before .before .before .before .args .text) (c .before .before .before .before .before .before .before .before .before .args .nodes .now) (c .before .before .before .before .before .before .before .before .before .args .at) (flatWords (flatAll (c .before .before .before .before .before .before .before .before .before .args .text) (c .before .before .before .before .before .before .before .before .before .pre .1 .run))) (c .before .before .before .before .before .before .loop .nodes) (c .before .before .before .before .before .before .loop .p) (c .before .before .before .before .before .before .loop .q) (c .before .before .before .before .before .loop-test .taken) (c .before .before .before .before .before .before .loop .inv .1 (c .before .before .before .before .before .before .before .before .before .pre .1)) .inside, c .before .before .before .before .before .before .loop .inv .1 (c .before .before .before .before .before .before .before .before .before .pre .1) .near, c .before .before .before .before .before .before .loop .inv .0, c .before .before .before .before .before .before .before .before .before .pre .0 .1 .0, c .before .before .before .before .before .before .before .before .before .pre .0 .1 .1 .0, length-set (c .before .before .before .before .before .before .loop .nodes) (c .before .before .before .before .before .before .loop .q) (c .before .before .name-word .result))
 
--- src/copying.rt:48:9
 add-p : tie.Need-add-p Inv-loop μ-loop
-add-p c = ?
+add-p c = omega (arith, turn (c .before .before .before .before .before .before .before .before .before .args .table .now) (c .before .before .before .before .before .before .before .before .before .args .stop) (c .before .before .before .before .before .before .before .before .before .args .text) (c .before .before .before .before .before .before .before .before .before .args .nodes .now) (c .before .before .before .before .before .before .before .before .before .args .at) (flatWords (flatAll (c .before .before .before .before .before .before .before .before .before .args .text) (c .before .before .before .before .before .before .before .before .before .pre .1 .run))) (c .before .before .before .before .before .before .loop .nodes) (c .before .before .before .before .before .before .loop .p) (c .before .before .before .before .before .before .loop .q) (c .before .before .before .before .before .loop-test .taken) (c .before .before .before .before .before .before .loop .inv .1 (c .before .before .before .before .before .before .before .before .before .pre .1)) .inside, c .before .before .before .before .before .before .loop .inv .1 (c .before .before .before .before .before .before .before .before .before .pre .1) .near, c .before .before .before .before .before .before .loop .inv .0, c .before .before .before .before .before .before .before .before .before .pre .0 .1 .0, c .before .before .before .before .before .before .before .before .before .pre .0 .1 .1 .0)
 
--- src/copying.rt:49:9
 add-q : tie.Need-add-q Inv-loop μ-loop
-add-q c = ?
+add-q c = omega (arith, turn (c .before .before .before .before .before .before .before .before .before .args .table .now) (c .before .before .before .before .before .before .before .before .before .args .stop) (c .before .before .before .before .before .before .before .before .before .args .text) (c .before .before .before .before .before .before .before .before .before .args .nodes .now) (c .before .before .before .before .before .before .before .before .before .args .at) (flatWords (flatAll (c .before .before .before .before .before .before .before .before .before .args .text) (c .before .before .before .before .before .before .before .before .before .pre .1 .run))) (c .before .before .before .before .before .before .loop .nodes) (c .before .before .before .before .before .before .loop .p) (c .before .before .before .before .before .before .loop .q) (c .before .before .before .before .before .loop-test .taken) (c .before .before .before .before .before .before .loop .inv .1 (c .before .before .before .before .before .before .before .before .before .pre .1)) .inside, c .before .before .before .before .before .before .loop .inv .1 (c .before .before .before .before .before .before .before .before .before .pre .1) .near, c .before .before .before .before .before .before .loop .inv .0, c .before .before .before .before .before .before .before .before .before .pre .0 .1 .0, c .before .before .before .before .before .before .before .before .before .pre .0 .1 .1 .0)
 
--- src/copying.rt:42:5
 loop-less : tie.Need-loop-less Inv-loop μ-loop
-loop-less c = ?
+loop-less c = omega (arith, c .before .before .before .before .before .loop-test .taken)
 
--- src/copying.rt:42:5
 loop-again : tie.Need-loop-again Inv-loop μ-loop
-loop-again c = ?
+loop-again c = (length-two (c .before .before .before .before .before .before .loop .nodes) (c .before .before .before .before .before .before .before .before .before .args .nodes .now) (c .before .before .before .before .before .before .loop .q) (c .before .before .name-word .result) (c .before .before .before .before .before .before .loop .q + 1) (c .two-of-three .result) (c .before .before .before .before .before .before .loop .inv .0), λ w. turn (c .before .before .before .before .before .before .before .before .before .args .table .now) (c .before .before .before .before .before .before .before .before .before .args .stop) (c .before .before .before .before .before .before .before .before .before .args .text) (c .before .before .before .before .before .before .before .before .before .args .nodes .now) (c .before .before .before .before .before .before .before .before .before .args .at) (flatWords (flatAll (c .before .before .before .before .before .before .before .before .before .args .text) (w .run))) (c .before .before .before .before .before .before .loop .nodes) (c .before .before .before .before .before .before .loop .p) (c .before .before .before .before .before .before .loop .q) (c .before .before .before .before .before .loop-test .taken) (c .before .before .before .before .before .before .loop .inv .1 w) .next (c .before .before .name-word .result) (c .two-of-three .result) (c .before .before .name-word .ensures) (c .two-of-three .ensures))
 
--- src/copying.rt:35:1
 same-length : tie.Need-same-length Inv-loop μ-loop
-same-length c = ?
+same-length c = c .before .loop .inv .0
 
--- src/copying.rt:35:1
 returns : tie.Need-returns Inv-loop μ-loop
-returns c = ?
+returns c = λ w. run-end (c .before .before .before .before .args .table .now) (c .before .before .before .before .args .stop) (c .before .before .before .before .args .text) (c .before .before .before .before .args .nodes .now) (c .before .before .before .before .args .at) (flatWords (flatAll (c .before .before .before .before .args .text) (w .run))) (c .before .loop .nodes) (c .before .loop .p) (c .before .loop .q) (c .loop-test .left) (c .before .loop .inv .1 w)
 
 pub copy-nodes-spec : {M : Type 1} → statement M
 copy-nodes-spec =

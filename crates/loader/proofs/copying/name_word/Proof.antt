@@ -1,44 +1,39 @@
+-- `loader::copying::name_word` meets its contract. Assumes nothing.
+use native.Mathlib.Omega.{arith}
+use Rattle.loader.proofs.Runs.{flat-variable, flat-name}
+-- `loader::copying::name_word` meets its contract. Assumes nothing.
+use native.Mathlib.Omega.{arith}
 use borrow.Author.Needs.{needs}
+use Rattle.loader.proofs.Runs.{flat-variable, flat-name}
 use Rattle.loader.proofs.copying.name_word.Statement.{statement}
 use Rattle.loader.proofs.copying.name_word.Tie as tie
-use Rattle.loader.proofs.copying.name_word.Reads as reads
-use Rattle.loader.proofs.copying.name_word.Lts as lts
 
--- src/copying.rt:20:9
 returns : tie.Need-returns
-returns c = ?
+returns c = flat-variable (c .before .args .text) (c .before .args .what) (c .before .args .byte) (c .if1 .taken)
 
--- src/copying.rt:23:16
 mul-word : tie.Need-mul-word
-mul-word c = ?
+mul-word c = omega (arith, c .before .pre .1 (c .if1 .left) .0, c .before .pre .1 (c .if1 .left) .1)
 
--- src/copying.rt:23:28
 mul-word-2 : tie.Need-mul-word-2
 mul-word-2 c = search needs
 
--- src/copying.rt:23:16
 add-word : tie.Need-add-word
-add-word c = ?
+add-word c = omega (arith, c .before .pre .1 (c .if1 .left) .0, c .before .pre .1 (c .if1 .left) .1)
 
--- src/copying.rt:23:16
 add-word-2 : tie.Need-add-word-2
-add-word-2 c = ?
+add-word-2 c = omega (arith, c .before .pre .1 (c .if1 .left) .0, c .before .pre .1 (c .if1 .left) .1)
 
--- src/copying.rt:24:13
 mul-result : tie.Need-mul-result
-mul-result c = ?
+mul-result c = omega (arith, c .before .pre .1 (c .if1 .left) .0, c .before .pre .1 (c .if1 .left) .1)
 
--- src/copying.rt:24:5
 add-result : tie.Need-add-result
-add-result c = ?
+add-result c = omega (arith, c .before .pre .1 (c .if1 .left) .0, c .before .pre .1 (c .if1 .left) .1)
 
--- src/copying.rt:24:5
 add-result-2 : tie.Need-add-result-2
-add-result-2 c = ?
+add-result-2 c = omega (arith, c .before .pre .1 (c .if1 .left) .0, c .before .pre .1 (c .if1 .left) .1)
 
--- src/copying.rt:15:1
 returns-2 : tie.Need-returns-2
-returns-2 c = ?
+returns-2 c = flat-name (c .before .args .text) (c .before .args .what) (c .before .args .byte) (c .if1 .left)
 
 pub name-word-spec : {M : Type 1} → statement M
 name-word-spec =
