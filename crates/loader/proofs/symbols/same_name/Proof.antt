@@ -1,38 +1,31 @@
+-- `loader::symbols::same_name` meets its contract. Assumes nothing.
+use mathlib.Core.Path.{sym, _∙_}
+use Rattle.loader.specs.Listing.{wordName}
+use Rattle.loader.proofs.Spelt.{sheet-text, goal-text, inside-text, name-is, other-length}
 use borrow.Author.Needs.{needs}
 use Rattle.loader.proofs.symbols.same_name.Statement.{statement}
 use Rattle.loader.proofs.symbols.same_name.Tie as tie
-use Rattle.loader.proofs.symbols.same_name.Reads as reads
-use Rattle.loader.proofs.symbols.same_name.Lts as lts
-use Rattle.loader.proofs.symbols.same_part.Reads as same-part-reads
-use Rattle.loader.proofs.symbols.wide.Reads as wide-reads
 
--- src/symbols.rt:36:9
 wide-requires : tie.Need-wide-requires
 wide-requires c κs = search needs
 
--- src/symbols.rt:38:9
 returns : tie.Need-returns
-returns c = ?
+returns c = other-length (c .before .before .before .before .args .sheet .now) (c .before .before .before .before .args .goal .now) (c .before .before .before .before .args .v) (c .before .before .before .before .args .w) (c .before .before .before .before .pre .0) (c .before .before .before .before .pre .1) (c .if1 .taken)
 
--- src/symbols.rt:40:9
 wide-requires-2 : tie.Need-wide-requires-2
 wide-requires-2 c κs = search needs
 
--- src/symbols.rt:42:9
 same-part-requires : tie.Need-same-part-requires
-same-part-requires c κs = ?
+same-part-requires c κs = (inside-text (c .before .before .before .before .before .before .args .sheet .now) (c .before .before .before .before .before .before .args .sheet .now) (c .before .before .before .before .before .before .args .goal .now) (c .before .before .before .before .before .before .args .w) (c .before .wide2 .result) (c .before .before .before .wide .result) (sheet-text (c .before .before .before .before .before .before .args .sheet .now) (c .before .before .before .before .before .before .args .goal .now) (c .before .before .before .before .before .before .args .w) (c .if2 .taken)) (c .before .wide2 .ensures) (c .before .before .before .wide .ensures) (c .before .before .before .before .before .before .pre .1), (c .before .before .before .before .before .before .pre .0, c .before .before .before .wide .ensures ∙ sym (c .before .before .if1 .left)))
 
--- src/symbols.rt:42:9
 returns-2 : tie.Need-returns-2
-returns-2 c = ?
+returns-2 c = name-is (c .before .before .before .before .before .before .before .args .sheet .now) (c .before .before .before .before .before .before .before .args .sheet .now) (c .before .before .before .before .before .before .before .args .goal .now) (c .before .before .before .before .before .before .before .args .w) (c .before .before .wide2 .result) (c .before .before .before .before .wide .result) (sheet-text (c .before .before .before .before .before .before .before .args .sheet .now) (c .before .before .before .before .before .before .before .args .goal .now) (c .before .before .before .before .before .before .before .args .w) (c .before .if2 .taken)) (c .before .before .wide2 .ensures) (c .before .before .before .before .wide .ensures) (wordName (c .before .before .before .before .before .before .before .args .sheet .now) (c .before .before .before .before .before .before .before .args .goal .now) (c .before .before .before .before .before .before .before .args .v)) (c .same-part .result) (c .same-part .ensures)
 
--- src/symbols.rt:44:5
 same-part-requires-2 : tie.Need-same-part-requires-2
-same-part-requires-2 c κs = ?
+same-part-requires-2 c κs = (inside-text (c .before .before .before .before .before .before .args .goal .now) (c .before .before .before .before .before .before .args .sheet .now) (c .before .before .before .before .before .before .args .goal .now) (c .before .before .before .before .before .before .args .w) (c .before .wide2 .result) (c .before .before .before .wide .result) (goal-text (c .before .before .before .before .before .before .args .sheet .now) (c .before .before .before .before .before .before .args .goal .now) (c .before .before .before .before .before .before .args .w) (c .if2 .left)) (c .before .wide2 .ensures) (c .before .before .before .wide .ensures) (c .before .before .before .before .before .before .pre .1), (c .before .before .before .before .before .before .pre .0, c .before .before .before .wide .ensures ∙ sym (c .before .before .if1 .left)))
 
--- src/symbols.rt:32:1
 returns-3 : tie.Need-returns-3
-returns-3 c = ?
+returns-3 c = name-is (c .before .before .before .before .before .before .before .args .goal .now) (c .before .before .before .before .before .before .before .args .sheet .now) (c .before .before .before .before .before .before .before .args .goal .now) (c .before .before .before .before .before .before .before .args .w) (c .before .before .wide2 .result) (c .before .before .before .before .wide .result) (goal-text (c .before .before .before .before .before .before .before .args .sheet .now) (c .before .before .before .before .before .before .before .args .goal .now) (c .before .before .before .before .before .before .before .args .w) (c .before .if2 .left)) (c .before .before .wide2 .ensures) (c .before .before .before .before .wide .ensures) (wordName (c .before .before .before .before .before .before .before .args .sheet .now) (c .before .before .before .before .before .before .before .args .goal .now) (c .before .before .before .before .before .before .before .args .v)) (c .same-part2 .result) (c .same-part2 .ensures)
 
 pub same-name-spec : {M : Type 1} → statement M
 same-name-spec =

@@ -1,0 +1,283 @@
+-- Laws of the list of symbols: where a symbol is first, and what one more symbol changes. Assumes nothing.
+use Prim.Native.Nat.{ℕ, zero, suc, _+_, _-_, _≤_, _<_}
+use native.Mathlib.Numerals.{add-one}
+use native.Mathlib.Omega.{arith}
+use mathlib.Core.Path.{_≡_, refl, sym, ap, ap₂, _∙_, subst}
+use mathlib.Core.Bool.{Bool, true, false, cond, not, _&&_, _||_}
+use mathlib.Core.List.{List, [], _∷_, _++_, append-assoc, append-nil}
+use mathlib.Core.Logic.{_⊎_, inl, inr}
+use lib.Dec.{T, eqb, ltb, eqb-refl, ltb→lt, nltb→le}
+use lib.ListN.{length, getD, set, length-set, length-append}
+use lib.Seq.{getD-set-same, getD-set-other}
+use Rattle.machine.proofs.Tests.{and, or-left, or-right}
+use Rattle.syntax.specs.Terms.{sameBytes}
+use Rattle.layout.specs.Nodes.{Symbol, isSymbol, symbolOf, isListed}
+use Rattle.loader.specs.Listing.{wordName, Inside, symbolAt, symbolsOf, Listed, withSymbol, Counted, Interned}
+
+-- ---- lists of symbols
+
+pub is-true : (b : Bool) → T b → b ≡ true
+is-true true t = refl
+is-true false t = absurd t
+
+pub decide : (b : Bool) → T b ⊎ (b ≡ false)
+decide true = inl tt
+decide false = inr refl
+
+true-false : {A : Type 0} → true ≡ false → A
+true-false e = absurd (subst T e tt)
+
+or-assoc : (a b c : Bool) → (a || (b || c)) ≡ ((a || b) || c)
+or-assoc true b c = refl
+or-assoc false b c = refl
+
+pub listed-append : (ss us : List Symbol) (f : List ℕ) (n : ℕ) → isListed (ss ++ us) f n ≡ (isListed ss f n || isListed us f n)
+unfolding isListed
+listed-append [] us f n = refl
+listed-append (s ∷ ss) us f n = ap (λ (b : Bool). isSymbol f n s || b) (listed-append ss us f n) ∙ or-assoc (isSymbol f n s) (isListed ss f n) (isListed us f n)
+
+pub stays-listed : (ss us : List Symbol) (f : List ℕ) (n : ℕ) → T (isListed ss f n) → T (isListed (ss ++ us) f n)
+stays-listed ss us f n h = subst T (sym (listed-append ss us f n)) (or-left (isListed ss f n) (isListed us f n) h)
+
+pub symbol-stays : (ss us : List Symbol) (f : List ℕ) (n : ℕ) → T (isListed ss f n) → symbolOf (ss ++ us) f n ≡ symbolOf ss f n
+unfolding symbolOf isListed
+symbol-stays [] us f n h = absurd h
+symbol-stays (s ∷ ss) us f n h = go (isSymbol f n s) h (λ k. symbol-stays ss us f n k)
+  where
+    go : (a : Bool) → T (a || isListed ss f n) → (T (isListed ss f n) → symbolOf (ss ++ us) f n ≡ symbolOf ss f n)
+        → _≡_ {A = ℕ} (elim a [ true ↦ 0 | false ↦ suc (symbolOf (ss ++ us) f n) ]) (elim a [ true ↦ 0 | false ↦ suc (symbolOf ss f n) ])
+    go true k ih = refl
+    go false k ih = ap suc (ih k)
+
+symbol-new : (ss us : List Symbol) (f : List ℕ) (n : ℕ) → isListed ss f n ≡ false → symbolOf (ss ++ us) f n ≡ length ss + symbolOf us f n
+unfolding symbolOf isListed
+symbol-new [] us f n h = (let e : symbolOf us f n ≡ 0 + symbolOf us f n = omega arith in e)
+symbol-new (s ∷ ss) us f n h = go (isSymbol f n s) h (λ k. symbol-new ss us f n k)
+  where
+    go : (a : Bool) → (a || isListed ss f n) ≡ false → (isListed ss f n ≡ false → symbolOf (ss ++ us) f n ≡ length ss + symbolOf us f n)
+        → _≡_ {A = ℕ} (elim a [ true ↦ 0 | false ↦ suc (symbolOf (ss ++ us) f n) ]) (suc (length ss) + symbolOf us f n)
+    go true k ih = true-false k
+    go false k ih = let z : symbolOf (ss ++ us) f n ≡ length ss + symbolOf us f n = ih k in let y : suc (symbolOf (ss ++ us) f n) ≡ suc (length ss) + symbolOf us f n = omega arith in y
+
+symbol-none : (ss : List Symbol) (f : List ℕ) (n : ℕ) → isListed ss f n ≡ false → symbolOf ss f n ≡ length ss
+unfolding symbolOf isListed
+symbol-none [] f n h = refl
+symbol-none (s ∷ ss) f n h = go (isSymbol f n s) h (λ k. symbol-none ss f n k)
+  where
+    go : (a : Bool) → (a || isListed ss f n) ≡ false → (isListed ss f n ≡ false → symbolOf ss f n ≡ length ss)
+        → _≡_ {A = ℕ} (elim a [ true ↦ 0 | false ↦ suc (symbolOf ss f n) ]) (suc (length ss))
+    go true k ih = true-false k
+    go false k ih = ap suc (ih k)
+
+symbol-low : (ss : List Symbol) (f : List ℕ) (n : ℕ) → T (isListed ss f n) → symbolOf ss f n < length ss
+unfolding symbolOf isListed
+symbol-low [] f n h = absurd h
+symbol-low (s ∷ ss) f n h = go (isSymbol f n s) h (λ k. symbol-low ss f n k)
+  where
+    go : (a : Bool) → T (a || isListed ss f n) → (T (isListed ss f n) → symbolOf ss f n < length ss)
+        → (elim a as (λ _. ℕ) [ true ↦ 0 | false ↦ suc (symbolOf ss f n) ]) < suc (length ss)
+    go true k ih = omega arith
+    go false k ih = let z : symbolOf ss f n < length ss = ih k in let y : suc (symbolOf ss f n) < suc (length ss) = omega arith in y
+
+symbol-one : (s : Symbol) (f : List ℕ) (n : ℕ) → isSymbol f n s ≡ true → symbolOf (s ∷ []) f n ≡ 0
+unfolding symbolOf
+symbol-one s f n e = ap (λ (a : Bool). elim a as (λ _. ℕ) [ true ↦ 0 | false ↦ suc 0 ]) e
+
+-- a symbol is itself
+same-self : (l : List ℕ) → T (sameBytes l l)
+unfolding sameBytes
+same-self [] = tt
+same-self (x ∷ xs) = and (eqb x x) (sameBytes xs xs) (eqb-refl x) (same-self xs)
+
+pub self-symbol : (f : List ℕ) (n : ℕ) → isSymbol f n (record { name = f; arguments = n }) ≡ true
+unfolding isSymbol
+self-symbol f n = is-true (eqb n n && sameBytes f f) (and (eqb n n) (sameBytes f f) (eqb-refl n) (same-self f))
+
+pub listed-one : (s : Symbol) (f : List ℕ) (n : ℕ) → isListed (s ∷ []) f n ≡ (isSymbol f n s || false)
+unfolding isListed
+listed-one s f n = refl
+
+pub below-or : (i n : ℕ) → (i < n) ⊎ (n ≤ i)
+below-or i n = go (ltb i n) refl
+  where
+    go : (b : Bool) → ltb i n ≡ b → (i < n) ⊎ (n ≤ i)
+    go true e = inl (ltb→lt i n (subst T (sym e) tt))
+    go false e = inr (nltb→le i n (subst (λ (b : Bool). T (not b)) (sym e) tt))
+
+-- ---- the symbols of a table
+
+module _ (sheet goal symbols : List ℕ) where
+  pub length-symbols : (k : ℕ) → length (symbolsOf sheet goal symbols k) ≡ k
+  unfolding symbolsOf
+  length-symbols zero = refl
+  length-symbols (suc k) =
+      let e : length (symbolsOf sheet goal symbols k) ≡ k = length-symbols k in
+      let a : length (symbolsOf sheet goal symbols k ++ (symbolAt sheet goal symbols k ∷ [])) ≡ length (symbolsOf sheet goal symbols k) + 1 = length-append (symbolsOf sheet goal symbols k) (symbolAt sheet goal symbols k ∷ []) in
+      let y : length (symbolsOf sheet goal symbols k ++ (symbolAt sheet goal symbols k ∷ [])) ≡ suc k = omega arith in y
+
+  split : (k d count : ℕ) → count ≡ k + d → (more : List Symbol) × (symbolsOf sheet goal symbols count ≡ symbolsOf sheet goal symbols k ++ more)
+  unfolding symbolsOf
+  split k zero count e = ([], ap (symbolsOf sheet goal symbols) (let z : count ≡ k = omega arith in z) ∙ sym (append-nil (symbolsOf sheet goal symbols k)))
+  split k (suc d) zero e = absurd (omega arith)
+  split k (suc d) (suc c) e =
+      let r : (more : List Symbol) × (symbolsOf sheet goal symbols c ≡ symbolsOf sheet goal symbols k ++ more) = split k d c (let z : c ≡ k + d = omega arith in z) in
+      (r .0 ++ (symbolAt sheet goal symbols c ∷ []),
+      ap (λ (l : List Symbol). l ++ (symbolAt sheet goal symbols c ∷ [])) (r .1) ∙ append-assoc (symbolsOf sheet goal symbols k) (r .0) (symbolAt sheet goal symbols c ∷ []))
+
+  snoc : (k : ℕ) → symbolsOf sheet goal symbols (suc k) ≡ symbolsOf sheet goal symbols k ++ (symbolAt sheet goal symbols k ∷ [])
+  unfolding symbolsOf
+  snoc k = refl
+
+  module _ (f : List ℕ) (n : ℕ) where
+    pub none-yet : isListed (symbolsOf sheet goal symbols 0) f n ≡ false
+    unfolding symbolsOf isListed
+    none-yet = refl
+
+    pub not-this : (k : ℕ) (b : Bool) → isListed (symbolsOf sheet goal symbols k) f n ≡ false → b ≡ isSymbol f n (symbolAt sheet goal symbols k) → b ≡ false
+        → isListed (symbolsOf sheet goal symbols (k + 1)) f n ≡ false
+    not-this k b e q r =
+        ap (λ (j : ℕ). isListed (symbolsOf sheet goal symbols j) f n) (add-one k)
+        ∙ (ap (λ (l : List Symbol). isListed l f n) (snoc k)
+        ∙ (listed-append (symbolsOf sheet goal symbols k) (symbolAt sheet goal symbols k ∷ []) f n
+        ∙ ap₂ _||_ e (listed-one (symbolAt sheet goal symbols k) f n ∙ ap (λ (x : Bool). x || false) (sym q ∙ r))))
+
+    pub found : (k count : ℕ) (b : Bool) → k < count → isListed (symbolsOf sheet goal symbols k) f n ≡ false → b ≡ isSymbol f n (symbolAt sheet goal symbols k) → b ≡ true
+        → k ≡ symbolOf (symbolsOf sheet goal symbols count) f n
+    found k count b l e q r =
+        let p : (more : List Symbol) × (symbolsOf sheet goal symbols count ≡ symbolsOf sheet goal symbols (suc k) ++ more) = split (suc k) (count - suc k) count (let z : count ≡ suc k + (count - suc k) = omega arith in z) in
+        let is : isSymbol f n (symbolAt sheet goal symbols k) ≡ true = sym q ∙ r in
+        let here : T (isListed (symbolAt sheet goal symbols k ∷ []) f n) = subst T (sym (listed-one (symbolAt sheet goal symbols k) f n ∙ ap (λ (x : Bool). x || false) is)) tt in
+        let listed : T (isListed (symbolsOf sheet goal symbols (suc k)) f n) =
+            subst (λ (l : List Symbol). T (isListed l f n)) (sym (snoc k)) (subst T (sym (listed-append (symbolsOf sheet goal symbols k) (symbolAt sheet goal symbols k ∷ []) f n)) (or-right (isListed (symbolsOf sheet goal symbols k) f n) (isListed (symbolAt sheet goal symbols k ∷ []) f n) here)) in
+        let whole : symbolOf (symbolsOf sheet goal symbols count) f n ≡ symbolOf (symbolsOf sheet goal symbols (suc k)) f n = ap (λ (l : List Symbol). symbolOf l f n) (p .1) ∙ symbol-stays (symbolsOf sheet goal symbols (suc k)) (p .0) f n listed in
+        let last : symbolOf (symbolsOf sheet goal symbols (suc k)) f n ≡ length (symbolsOf sheet goal symbols k) + symbolOf (symbolAt sheet goal symbols k ∷ []) f n =
+            ap (λ (l : List Symbol). symbolOf l f n) (snoc k) ∙ symbol-new (symbolsOf sheet goal symbols k) (symbolAt sheet goal symbols k ∷ []) f n e in
+        let one : symbolOf (symbolAt sheet goal symbols k ∷ []) f n ≡ 0 = symbol-one (symbolAt sheet goal symbols k) f n is in
+        let long : length (symbolsOf sheet goal symbols k) ≡ k = length-symbols k in
+        let y : k ≡ symbolOf (symbolsOf sheet goal symbols count) f n = omega arith in y
+
+    pub not-found : (k count : ℕ) → k ≤ count → count ≤ k → isListed (symbolsOf sheet goal symbols k) f n ≡ false → count ≡ symbolOf (symbolsOf sheet goal symbols count) f n
+    not-found k count l m e =
+        let same : k ≡ count = omega arith in
+        let z : symbolOf (symbolsOf sheet goal symbols count) f n ≡ length (symbolsOf sheet goal symbols count) = symbol-none (symbolsOf sheet goal symbols count) f n (subst (λ (j : ℕ). isListed (symbolsOf sheet goal symbols j) f n ≡ false) same e) in
+        let long : length (symbolsOf sheet goal symbols count) ≡ count = length-symbols count in
+        let y : count ≡ symbolOf (symbolsOf sheet goal symbols count) f n = omega arith in y
+
+-- ---- one symbol more
+
+abbrev with-choice : List Symbol → List ℕ → ℕ → Bool → List Symbol
+with-choice ss f n b = cond b ss (ss ++ (record { name = f; arguments = n } ∷ []))
+
+pub with-old : (ss : List Symbol) (f : List ℕ) (n : ℕ) → T (isListed ss f n) → withSymbol ss f n ≡ ss
+unfolding withSymbol
+with-old ss f n h = ap (with-choice ss f n) (is-true (isListed ss f n) h)
+
+pub with-new : (ss : List Symbol) (f : List ℕ) (n : ℕ) → isListed ss f n ≡ false → withSymbol ss f n ≡ ss ++ (record { name = f; arguments = n } ∷ [])
+unfolding withSymbol
+with-new ss f n h = ap (with-choice ss f n) h
+
+symbol-at : (sheet goal symbols : List ℕ) (k w n : ℕ) → getD symbols k 0 ≡ w → getD symbols (23214 + k) 0 ≡ n → symbolAt sheet goal symbols k ≡ record { name = wordName sheet goal w; arguments = n }
+unfolding symbolAt
+symbol-at sheet goal symbols k w n e q = ap₂ (λ (x m : ℕ). record { name = wordName sheet goal x; arguments = m }) e q
+
+same-symbol : (sheet goal after symbols : List ℕ) (k : ℕ) → getD after k 0 ≡ getD symbols k 0 → getD after (23214 + k) 0 ≡ getD symbols (23214 + k) 0 → symbolAt sheet goal after k ≡ symbolAt sheet goal symbols k
+unfolding symbolAt
+same-symbol sheet goal after symbols k e q = ap₂ (λ (x m : ℕ). record { name = wordName sheet goal x; arguments = m }) e q
+
+same-symbols : (sheet goal after symbols : List ℕ) (k : ℕ) → ((j : ℕ) → j < k → getD after j 0 ≡ getD symbols j 0) → ((j : ℕ) → j < k → getD after (23214 + j) 0 ≡ getD symbols (23214 + j) 0)
+    → symbolsOf sheet goal after k ≡ symbolsOf sheet goal symbols k
+unfolding symbolsOf
+same-symbols sheet goal after symbols zero e q = refl
+same-symbols sheet goal after symbols (suc k) e q =
+    ap₂ (λ (l : List Symbol) (s : Symbol). l ++ (s ∷ []))
+    (same-symbols sheet goal after symbols k (λ j l. e j (let z : j < suc k = omega arith in z)) (λ j l. q j (let z : j < suc k = omega arith in z)))
+    (same-symbol sheet goal after symbols k (e k (let z : k < suc k = omega arith in z)) (q k (let z : k < suc k = omega arith in z)))
+
+module _ (sheet goal symbols : List ℕ) (count w n k : ℕ) (listed : Listed sheet goal symbols count) (number : k ≡ symbolOf (symbolsOf sheet goal symbols count) (wordName sheet goal w) n) where
+  long : length (symbolsOf sheet goal symbols count) ≡ count
+  long = length-symbols sheet goal symbols count
+
+  old-listed : k < count → T (isListed (symbolsOf sheet goal symbols count) (wordName sheet goal w) n)
+  old-listed l = go (decide (isListed (symbolsOf sheet goal symbols count) (wordName sheet goal w) n))
+    where
+      go : T (isListed (symbolsOf sheet goal symbols count) (wordName sheet goal w) n) ⊎ (isListed (symbolsOf sheet goal symbols count) (wordName sheet goal w) n ≡ false) → T (isListed (symbolsOf sheet goal symbols count) (wordName sheet goal w) n)
+      go (inl h) = h
+      go (inr h) = absurd (let z : symbolOf (symbolsOf sheet goal symbols count) (wordName sheet goal w) n ≡ length (symbolsOf sheet goal symbols count) = symbol-none (symbolsOf sheet goal symbols count) (wordName sheet goal w) n h in omega (arith, long))
+
+  new-listed : count ≤ k → isListed (symbolsOf sheet goal symbols count) (wordName sheet goal w) n ≡ false
+  new-listed l = go (decide (isListed (symbolsOf sheet goal symbols count) (wordName sheet goal w) n))
+    where
+      go : T (isListed (symbolsOf sheet goal symbols count) (wordName sheet goal w) n) ⊎ (isListed (symbolsOf sheet goal symbols count) (wordName sheet goal w) n ≡ false) → isListed (symbolsOf sheet goal symbols count) (wordName sheet goal w) n ≡ false
+      go (inr h) = h
+      go (inl h) = absurd (let z : symbolOf (symbolsOf sheet goal symbols count) (wordName sheet goal w) n < length (symbolsOf sheet goal symbols count) = symbol-low (symbolsOf sheet goal symbols count) (wordName sheet goal w) n h in omega (arith, long))
+
+  pub intern-old : k < count → Interned sheet goal symbols count w n symbols k
+  intern-old l =
+      let same : withSymbol (symbolsOf sheet goal symbols count) (wordName sheet goal w) n ≡ symbolsOf sheet goal symbols count = with-old (symbolsOf sheet goal symbols count) (wordName sheet goal w) n (old-listed l) in
+      record {
+        number = number ∙ ap (λ (ss : List Symbol). symbolOf ss (wordName sheet goal w) n) (sym same);
+        low = omega arith;
+        listed = λ r c. subst (Listed sheet goal symbols) (sym (c .old l)) listed;
+        symbols-are = λ r c. ap (symbolsOf sheet goal symbols) (c .old l) ∙ sym same;
+      }
+
+  module _ (few : count < 23214) (room : 46428 ≤ length symbols) (inside : Inside sheet goal w) where
+    after : List ℕ
+    after = set (set symbols count w) (23214 + count) n
+
+    after-word : (j : ℕ) → j < count → getD after j 0 ≡ getD symbols j 0
+    unfolding after
+    after-word j l =
+        getD-set-other (set symbols count w) (23214 + count) j n 0 (λ e. let z : j ≡ 23214 + count = e in omega arith)
+        ∙ getD-set-other symbols count j w 0 (λ e. let z : j ≡ count = e in omega arith)
+
+    after-arguments : (j : ℕ) → j < count → getD after (23214 + j) 0 ≡ getD symbols (23214 + j) 0
+    unfolding after
+    after-arguments j l =
+        getD-set-other (set symbols count w) (23214 + count) (23214 + j) n 0 (λ e. let z : 23214 + j ≡ 23214 + count = e in omega arith)
+        ∙ getD-set-other symbols count (23214 + j) w 0 (λ e. let z : 23214 + j ≡ count = e in omega arith)
+
+    last-word : getD after count 0 ≡ w
+    unfolding after
+    last-word =
+        getD-set-other (set symbols count w) (23214 + count) count n 0 (λ e. let z : count ≡ 23214 + count = e in omega arith)
+        ∙ getD-set-same symbols count w 0 (omega arith)
+
+    last-arguments : getD after (23214 + count) 0 ≡ n
+    unfolding after
+    last-arguments = getD-set-same (set symbols count w) (23214 + count) n 0 (let z : length (set symbols count w) ≡ length symbols = length-set symbols count w in omega arith)
+
+    after-long : length after ≡ length symbols
+    unfolding after
+    after-long = length-set (set symbols count w) (23214 + count) n ∙ length-set symbols count w
+
+    after-inside : (j : ℕ) → j < count + 1 → Inside sheet goal (getD after j 0)
+    after-inside j l = go (below-or j count)
+      where
+        go : (j < count) ⊎ (count ≤ j) → Inside sheet goal (getD after j 0)
+        go (inl m) = subst (Inside sheet goal) (sym (after-word j m)) (listed .inside j m)
+        go (inr m) = subst (λ (i : ℕ). Inside sheet goal (getD after i 0)) (let z : count ≡ j = omega arith in z) (subst (Inside sheet goal) (sym last-word) inside)
+
+    after-symbols : symbolsOf sheet goal after (count + 1) ≡ symbolsOf sheet goal symbols count ++ (record { name = wordName sheet goal w; arguments = n } ∷ [])
+    after-symbols =
+        ap (symbolsOf sheet goal after) (add-one count)
+        ∙ (snoc sheet goal after count
+        ∙ ap₂ (λ (l : List Symbol) (s : Symbol). l ++ (s ∷ [])) (same-symbols sheet goal after symbols count after-word after-arguments) (symbol-at sheet goal after count w n last-word last-arguments))
+
+    pub intern-new : count ≤ k → Interned sheet goal symbols count w n (set (set symbols count w) (23214 + count) n) count
+    unfolding after
+    intern-new l =
+        let fresh : isListed (symbolsOf sheet goal symbols count) (wordName sheet goal w) n ≡ false = new-listed l in
+        let same : withSymbol (symbolsOf sheet goal symbols count) (wordName sheet goal w) n ≡ symbolsOf sheet goal symbols count ++ (record { name = wordName sheet goal w; arguments = n } ∷ []) = with-new (symbolsOf sheet goal symbols count) (wordName sheet goal w) n fresh in
+        let m : count ≤ count = omega arith in
+        let last : symbolOf (symbolsOf sheet goal symbols count ++ (record { name = wordName sheet goal w; arguments = n } ∷ [])) (wordName sheet goal w) n ≡ length (symbolsOf sheet goal symbols count) + symbolOf (record { name = wordName sheet goal w; arguments = n } ∷ []) (wordName sheet goal w) n =
+            symbol-new (symbolsOf sheet goal symbols count) (record { name = wordName sheet goal w; arguments = n } ∷ []) (wordName sheet goal w) n fresh in
+        let one : symbolOf (record { name = wordName sheet goal w; arguments = n } ∷ []) (wordName sheet goal w) n ≡ 0 = symbol-one (record { name = wordName sheet goal w; arguments = n }) (wordName sheet goal w) n (self-symbol (wordName sheet goal w) n) in
+        let long1 : length (symbolsOf sheet goal symbols count) ≡ count = long in
+        let c0 : count ≡ symbolOf (symbolsOf sheet goal symbols count ++ (record { name = wordName sheet goal w; arguments = n } ∷ [])) (wordName sheet goal w) n = omega arith in
+        record {
+          number = c0 ∙ ap (λ (ss : List Symbol). symbolOf ss (wordName sheet goal w) n) (sym same);
+          low = m;
+          listed = λ r c. subst (Listed sheet goal after) (sym (c .new m)) (record { room = (let z : length after ≡ length symbols = after-long in omega arith); inside = after-inside });
+          symbols-are = λ r c. ap (symbolsOf sheet goal after) (c .new m) ∙ (after-symbols ∙ sym same);
+        }

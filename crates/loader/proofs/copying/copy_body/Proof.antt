@@ -1,0 +1,58 @@
+-- `loader::copying::copy_body` meets its contract. The invariant: what is left of the body gives the whole (`Going`). Assumes nothing.
+use Prim.Native.Nat.{_-_, _≤_}
+use native.Mathlib.Omega.{arith}
+use mathlib.Core.Path.{_≡_, refl, _∙_}
+use lib.ListN.{length}
+use Rattle.loader.specs.Flat.{bodyParsed, flatWords, flatAll, BodyHere}
+use Rattle.loader.proofs.Bodies.{Going, body-begin, body-turn, body-end}
+use Rattle.loader.proofs.copying.copy_body.Statement.{statement}
+use Rattle.loader.proofs.copying.copy_body.Tie as tie
+
+abbrev Inv-loop : tie.InvT-loop
+Inv-loop table from literals text nodes₀ at p₀ q₀ i₀ nodes p q i = (i ≤ literals) × ((length nodes ≡ length nodes₀) × ((w : BodyHere table from literals) → Going table literals text nodes₀ at (flatWords (flatAll text (bodyParsed (w .body)))) nodes p q i))
+
+abbrev μ-loop : tie.MeasureT-loop
+μ-loop table from literals text nodes₀ at p₀ q₀ i₀ nodes p q i = literals - i
+
+loop-holds : tie.Need-loop-holds Inv-loop μ-loop
+loop-holds c = (omega arith, (refl, λ w. body-begin (c .before .before .args .table .now) (c .before .before .args .from) (c .before .before .args .literals) (c .before .before .args .text) (c .before .before .args .nodes .now) (c .before .before .args .at) (c .before .before .pre .0 .1 .1 .1) w))
+
+add-first : tie.Need-add-first Inv-loop μ-loop
+add-first c = omega (arith, body-turn (c .before .before .before .before .args .table .now) (c .before .before .before .before .args .literals) (c .before .before .before .before .args .text) (c .before .before .before .before .args .nodes .now) (c .before .before .before .before .args .at) (flatWords (flatAll (c .before .before .before .before .args .text) (bodyParsed (c .before .before .before .before .pre .1 .body)))) (c .before .loop .nodes) (c .before .loop .p) (c .before .loop .q) (c .before .loop .i) (c .loop-test .taken) (c .before .loop .inv .1 .1 (c .before .before .before .before .pre .1)) .inside, c .before .before .before .before .pre .0 .1 .0)
+
+past-literal-requires : tie.Need-past-literal-requires Inv-loop μ-loop
+past-literal-requires c κs = (body-turn (c .before .before .before .before .args .table .now) (c .before .before .before .before .args .literals) (c .before .before .before .before .args .text) (c .before .before .before .before .args .nodes .now) (c .before .before .before .before .args .at) (flatWords (flatAll (c .before .before .before .before .args .text) (bodyParsed (c .before .before .before .before .pre .1 .body)))) (c .before .loop .nodes) (c .before .loop .p) (c .before .loop .q) (c .before .loop .i) (c .loop-test .taken) (c .before .loop .inv .1 .1 (c .before .before .before .before .pre .1)) .source, body-turn (c .before .before .before .before .args .table .now) (c .before .before .before .before .args .literals) (c .before .before .before .before .args .text) (c .before .before .before .before .args .nodes .now) (c .before .before .before .before .args .at) (flatWords (flatAll (c .before .before .before .before .args .text) (bodyParsed (c .before .before .before .before .pre .1 .body)))) (c .before .loop .nodes) (c .before .loop .p) (c .before .loop .q) (c .before .loop .i) (c .loop-test .taken) (c .before .loop .inv .1 .1 (c .before .before .before .before .pre .1)) .literal)
+
+copy-nodes-requires : tie.Need-copy-nodes-requires Inv-loop μ-loop
+copy-nodes-requires c κs = ((c .before .before .before .before .before .before .pre .0 .0, (c .before .before .before .before .before .before .pre .0 .1 .0, (omega (arith, c .before .before .before .loop .inv .1 .0, c .before .before .before .before .before .before .pre .0 .1 .1 .0), body-turn (c .before .before .before .before .before .before .args .table .now) (c .before .before .before .before .before .before .args .literals) (c .before .before .before .before .before .before .args .text) (c .before .before .before .before .before .before .args .nodes .now) (c .before .before .before .before .before .before .args .at) (flatWords (flatAll (c .before .before .before .before .before .before .args .text) (bodyParsed (c .before .before .before .before .before .before .pre .1 .body)))) (c .before .before .before .loop .nodes) (c .before .before .before .loop .p) (c .before .before .before .loop .q) (c .before .before .before .loop .i) (c .before .before .loop-test .taken) (c .before .before .before .loop .inv .1 .1 (c .before .before .before .before .before .before .pre .1)) .near))), body-turn (c .before .before .before .before .before .before .args .table .now) (c .before .before .before .before .before .before .args .literals) (c .before .before .before .before .before .before .args .text) (c .before .before .before .before .before .before .args .nodes .now) (c .before .before .before .before .before .before .args .at) (flatWords (flatAll (c .before .before .before .before .before .before .args .text) (bodyParsed (c .before .before .before .before .before .before .pre .1 .body)))) (c .before .before .before .loop .nodes) (c .before .before .before .loop .p) (c .before .before .before .loop .q) (c .before .before .before .loop .i) (c .before .before .loop-test .taken) (c .before .before .before .loop .inv .1 .1 (c .before .before .before .before .before .before .pre .1)) .run (c .before .past-literal .result) (c .before .past-literal .ensures (body-turn (c .before .before .before .before .before .before .args .table .now) (c .before .before .before .before .before .before .args .literals) (c .before .before .before .before .before .before .args .text) (c .before .before .before .before .before .before .args .nodes .now) (c .before .before .before .before .before .before .args .at) (flatWords (flatAll (c .before .before .before .before .before .before .args .text) (bodyParsed (c .before .before .before .before .before .before .pre .1 .body)))) (c .before .before .before .loop .nodes) (c .before .before .before .loop .p) (c .before .before .before .loop .q) (c .before .before .before .loop .i) (c .before .before .loop-test .taken) (c .before .before .before .loop .inv .1 .1 (c .before .before .before .before .before .before .pre .1)) .source) (body-turn (c .before .before .before .before .before .before .args .table .now) (c .before .before .before .before .before .before .args .literals) (c .before .before .before .before .before .before .args .text) (c .before .before .before .before .before .before .args .nodes .now) (c .before .before .before .before .before .before .args .at) (flatWords (flatAll (c .before .before .before .before .before .before .args .text) (bodyParsed (c .before .before .before .before .before .before .pre .1 .body)))) (c .before .before .before .loop .nodes) (c .before .before .before .loop .p) (c .before .before .before .loop .q) (c .before .before .before .loop .i) (c .before .before .loop-test .taken) (c .before .before .before .loop .inv .1 .1 (c .before .before .before .before .before .before .pre .1)) .literal)))
+
+add-i : tie.Need-add-i Inv-loop μ-loop
+add-i c = omega arith
+
+loop-less : tie.Need-loop-less Inv-loop μ-loop
+loop-less c = omega arith
+
+loop-again : tie.Need-loop-again Inv-loop μ-loop
+loop-again c = (omega arith, (c .before .before .copy-nodes .kept .1 .1 .1 .1 .0 ∙ c .before .before .before .before .before .before .loop .inv .1 .0, λ w. body-turn (c .before .before .before .before .before .before .before .before .before .args .table .now) (c .before .before .before .before .before .before .before .before .before .args .literals) (c .before .before .before .before .before .before .before .before .before .args .text) (c .before .before .before .before .before .before .before .before .before .args .nodes .now) (c .before .before .before .before .before .before .before .before .before .args .at) (flatWords (flatAll (c .before .before .before .before .before .before .before .before .before .args .text) (bodyParsed (w .body)))) (c .before .before .before .before .before .before .loop .nodes) (c .before .before .before .before .before .before .loop .p) (c .before .before .before .before .before .before .loop .q) (c .before .before .before .before .before .before .loop .i) (c .before .before .before .before .before .loop-test .taken) (c .before .before .before .before .before .before .loop .inv .1 .1 (w)) .on (c .before .before .before .before .past-literal .result) (c .before .before .copy-nodes .last .1 .1 .1 .1 .0) (c .before .before .copy-nodes .result) (c .before .before .before .before .past-literal .ensures (body-turn (c .before .before .before .before .before .before .before .before .before .args .table .now) (c .before .before .before .before .before .before .before .before .before .args .literals) (c .before .before .before .before .before .before .before .before .before .args .text) (c .before .before .before .before .before .before .before .before .before .args .nodes .now) (c .before .before .before .before .before .before .before .before .before .args .at) (flatWords (flatAll (c .before .before .before .before .before .before .before .before .before .args .text) (bodyParsed (w .body)))) (c .before .before .before .before .before .before .loop .nodes) (c .before .before .before .before .before .before .loop .p) (c .before .before .before .before .before .before .loop .q) (c .before .before .before .before .before .before .loop .i) (c .before .before .before .before .before .loop-test .taken) (c .before .before .before .before .before .before .loop .inv .1 .1 (w)) .source) (body-turn (c .before .before .before .before .before .before .before .before .before .args .table .now) (c .before .before .before .before .before .before .before .before .before .args .literals) (c .before .before .before .before .before .before .before .before .before .args .text) (c .before .before .before .before .before .before .before .before .before .args .nodes .now) (c .before .before .before .before .before .before .before .before .before .args .at) (flatWords (flatAll (c .before .before .before .before .before .before .before .before .before .args .text) (bodyParsed (w .body)))) (c .before .before .before .before .before .before .loop .nodes) (c .before .before .before .before .before .before .loop .p) (c .before .before .before .before .before .before .loop .q) (c .before .before .before .before .before .before .loop .i) (c .before .before .before .before .before .loop-test .taken) (c .before .before .before .before .before .before .loop .inv .1 .1 (w)) .literal)) (c .before .before .copy-nodes .ensures (body-turn (c .before .before .before .before .before .before .before .before .before .args .table .now) (c .before .before .before .before .before .before .before .before .before .args .literals) (c .before .before .before .before .before .before .before .before .before .args .text) (c .before .before .before .before .before .before .before .before .before .args .nodes .now) (c .before .before .before .before .before .before .before .before .before .args .at) (flatWords (flatAll (c .before .before .before .before .before .before .before .before .before .args .text) (bodyParsed (w .body)))) (c .before .before .before .before .before .before .loop .nodes) (c .before .before .before .before .before .before .loop .p) (c .before .before .before .before .before .before .loop .q) (c .before .before .before .before .before .before .loop .i) (c .before .before .before .before .before .loop-test .taken) (c .before .before .before .before .before .before .loop .inv .1 .1 (w)) .run (c .before .before .before .before .past-literal .result) (c .before .before .before .before .past-literal .ensures (body-turn (c .before .before .before .before .before .before .before .before .before .args .table .now) (c .before .before .before .before .before .before .before .before .before .args .literals) (c .before .before .before .before .before .before .before .before .before .args .text) (c .before .before .before .before .before .before .before .before .before .args .nodes .now) (c .before .before .before .before .before .before .before .before .before .args .at) (flatWords (flatAll (c .before .before .before .before .before .before .before .before .before .args .text) (bodyParsed (w .body)))) (c .before .before .before .before .before .before .loop .nodes) (c .before .before .before .before .before .before .loop .p) (c .before .before .before .before .before .before .loop .q) (c .before .before .before .before .before .before .loop .i) (c .before .before .before .before .before .loop-test .taken) (c .before .before .before .before .before .before .loop .inv .1 .1 (w)) .source) (body-turn (c .before .before .before .before .before .before .before .before .before .args .table .now) (c .before .before .before .before .before .before .before .before .before .args .literals) (c .before .before .before .before .before .before .before .before .before .args .text) (c .before .before .before .before .before .before .before .before .before .args .nodes .now) (c .before .before .before .before .before .before .before .before .before .args .at) (flatWords (flatAll (c .before .before .before .before .before .before .before .before .before .args .text) (bodyParsed (w .body)))) (c .before .before .before .before .before .before .loop .nodes) (c .before .before .before .before .before .before .loop .p) (c .before .before .before .before .before .before .loop .q) (c .before .before .before .before .before .before .loop .i) (c .before .before .before .before .before .loop-test .taken) (c .before .before .before .before .before .before .loop .inv .1 .1 (w)) .literal))))))
+
+same-length : tie.Need-same-length Inv-loop μ-loop
+same-length c = c .before .loop .inv .1 .0
+
+returns : tie.Need-returns Inv-loop μ-loop
+returns c = λ w. body-end (c .before .before .before .before .args .table .now) (c .before .before .before .before .args .literals) (c .before .before .before .before .args .text) (c .before .before .before .before .args .nodes .now) (c .before .before .before .before .args .at) (flatWords (flatAll (c .before .before .before .before .args .text) (bodyParsed (w .body)))) (c .before .loop .nodes) (c .before .loop .p) (c .before .loop .q) (c .before .loop .i) (c .loop-test .left) (c .before .loop .inv .1 .1 w)
+
+pub copy-body-spec : {M : Type 1} → statement M
+copy-body-spec =
+    tie.close
+    (tie.spec
+    Inv-loop
+    μ-loop
+    loop-holds
+    add-first
+    past-literal-requires
+    copy-nodes-requires
+    add-i
+    loop-less
+    loop-again
+    same-length
+    returns)
