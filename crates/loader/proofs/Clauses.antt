@@ -146,7 +146,7 @@ pub record ClausesTurn (table : List ℕ) (clauses : ℕ) (before : List ℕ) (a
       → (after ≡ written nodes q (flatWords (flatAll 0 (clauseParsed (clause .clause))))) × (r ≡ q + length (flatWords (flatAll 0 (clauseParsed (clause .clause)))))
       → Clausing table clauses before at whole after next r (i + 1)
 
-pub clause-at : (table : List ℕ) (p : ℕ) (w : ClauseHere table p) → ClauseAt (w .text) table p
+abbrev pub clause-at : (table : List ℕ) (p : ℕ) (w : ClauseHere table p) → ClauseAt (w .text) table p
 clause-at table p w = record { clause = w .clause; has = w .has; stands = w .stands }
 
 module _ (table : List ℕ) (clauses : ℕ) (before : List ℕ) (at : ℕ) (whole nodes : List ℕ) (p q i : ℕ) where

@@ -8,7 +8,7 @@ use mathlib.Core.List.{List, [], _∷_, _++_, append-assoc, append-nil}
 use mathlib.Core.Logic.{_⊎_, inl, inr}
 use lib.Dec.{T, eqb, ltb, eqb-refl, ltb→lt, nltb→le}
 use lib.ListN.{length, getD, set, length-set, length-append}
-use lib.Seq.{getD-set-same, getD-set-other}
+use lib.Seq.{getD-at, getD-set-same, getD-set-other}
 use Rattle.machine.proofs.Tests.{and, or-left, or-right}
 use Rattle.syntax.specs.Terms.{sameBytes}
 use Rattle.layout.specs.Nodes.{Symbol, isSymbol, symbolOf, isListed}
@@ -127,6 +127,13 @@ module _ (sheet goal symbols : List ℕ) where
   snoc : (k : ℕ) → symbolsOf sheet goal symbols (suc k) ≡ symbolsOf sheet goal symbols k ++ (symbolAt sheet goal symbols k ∷ [])
   unfolding symbolsOf
   snoc k = refl
+
+  -- symbol k of the table is number k of the list
+  pub symbols-at : (k count : ℕ) (d : Symbol) → k < count → getD (symbolsOf sheet goal symbols count) k d ≡ symbolAt sheet goal symbols k
+  symbols-at k count d l =
+      let p : (more : List Symbol) × (symbolsOf sheet goal symbols count ≡ symbolsOf sheet goal symbols (suc k) ++ more) = split (suc k) (count - suc k) count (let z : count ≡ suc k + (count - suc k) = omega arith in z) in
+      ap (λ (l : List Symbol). getD l k d) (p .1 ∙ (ap (λ (l : List Symbol). l ++ p .0) (snoc k) ∙ append-assoc (symbolsOf sheet goal symbols k) (symbolAt sheet goal symbols k ∷ []) (p .0)))
+      ∙ getD-at (symbolsOf sheet goal symbols k) (symbolAt sheet goal symbols k) (p .0) d k (length-symbols k)
 
   module _ (f : List ℕ) (n : ℕ) where
     pub none-yet : isListed (symbolsOf sheet goal symbols 0) f n ≡ false

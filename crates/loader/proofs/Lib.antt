@@ -5,3 +5,5 @@ pub mod Clauses
 pub mod Spelt
 pub mod Finding
 pub mod Numbered
+pub mod Terms
+pub mod Whole
