@@ -7,3 +7,4 @@ pub mod Finding
 pub mod Numbered
 pub mod Terms
 pub mod Whole
+pub mod Witness

@@ -109,12 +109,12 @@ module _ (sheet table : List ℕ) (clauses : ℕ) (goal goals : List ℕ) (liter
       all-words : flatWords all-flats ≡ goal-words ++ clauses-words
       all-words = words-append (flatAll 1 (bodyParsed (w .g .body))) (flatAll 0 (clausesParsed (w .sh .clauses)))
 
-      second-is : second ≡ written nodes 0 (flatWords all-flats)
+      pub second-is : second ≡ written nodes 0 (flatWords all-flats)
       second-is =
           b .0 ∙ (ap₂ (λ (l : List ℕ) (k : ℕ). written l k clauses-words) (a .0) (a .1)
           ∙ (sym (written-append nodes 0 goal-words clauses-words) ∙ ap (written nodes 0) (sym all-words)))
 
-      stop-is : stop ≡ length (flatWords all-flats)
+      pub stop-is : stop ≡ length (flatWords all-flats)
       stop-is =
           let e : m ≡ 0 + length goal-words = a .1 in
           let f : stop ≡ m + length clauses-words = b .1 in
@@ -130,7 +130,7 @@ module _ (sheet table : List ℕ) (clauses : ℕ) (goal goals : List ℕ) (liter
       second-long : length second ≡ length nodes
       second-long = ap length second-is ∙ length-written nodes 0 (flatWords all-flats)
 
-      reads-goal : (x : ℕ) → x / 32 % 2 ≡ 1 → textOf x sheet goal ≡ goal
+      pub reads-goal : (x : ℕ) → x / 32 % 2 ≡ 1 → textOf x sheet goal ≡ goal
       reads-goal x e = goal-text sheet goal x (λ q. let z : x / 32 % 2 ≡ 0 = q in omega arith)
 
       abbrev pub copied : Copied sheet goal second stop

@@ -1,0 +1,50 @@
+-- There is something to load: what `load_nodes` asks can be met. Assumes nothing.
+use Prim.Native.Nat.{ℕ, _≤_, _<_}
+use native.Mathlib.Omega.{arith}
+use mathlib.Core.Path.{_≡_, refl}
+use mathlib.Core.List.{List, [], _∷_}
+use lib.ListN.{length, replicate, length-replicate}
+use Rattle.syntax.specs.Terms.{Sheet, Goal, truth, done, also}
+use Rattle.syntax.specs.Words.{literalWords, bodyWords, clausesWords}
+use Rattle.modes.specs.Standing.{no-clauses, truth-stands, done-stands, also-stands}
+use Rattle.modes.specs.Tables.{Has}
+use Rattle.loader.specs.Loading.{Loadable}
+
+-- room for the nodes, and for the symbols
+unfoldable pub room : List ℕ
+room = replicate 46428 0
+
+room-long : length room ≡ 46428
+unfolding room
+room-long = length-replicate {A = ℕ} 46428 0
+
+has-none : Has [] 0 (clausesWords [])
+unfolding Has clausesWords
+has-none = tt
+
+has-truth : Has (0 ∷ []) 0 (bodyWords (also truth done))
+unfolding Has bodyWords literalWords
+has-truth = (let l : 0 < 1 = omega arith in l, (refl, tt))
+
+-- a sheet without clauses, and the goal `true`
+pub witness : Loadable [] [] 0 [] (0 ∷ []) 1 room room
+witness =
+    let l : length room ≡ 46428 = room-long in
+    record {
+      sh = record { declarations = []; clauses = [] };
+      g = record { body = also truth done; names = [] };
+      has-clauses = has-none;
+      clauses-count = refl;
+      clauses-stand = no-clauses;
+      has-goal = has-truth;
+      literals-count = refl;
+      goal-stands = also-stands truth-stands done-stands;
+      sheet-short = (let z : 0 ≤ 16384 = omega arith in z);
+      goal-short = (let z : 0 ≤ 1024 = omega arith in z);
+      table-short = (let z : 0 ≤ 65540 = omega arith in z);
+      goals-short = (let z : 1 ≤ 4100 = omega arith in z);
+      nodes-room = omega arith;
+      nodes-short = omega arith;
+      symbols-room = omega arith;
+      symbols-short = omega arith;
+    }
