@@ -1,16 +1,15 @@
 -- Laws of copying literals and clauses, one for each way out of the functions. Assumes nothing.
-use Prim.Native.Nat.{ℕ, suc, _+_, _-_, _*_, _/_, _%_, _≤_, _<_}
+use Prim.Native.Nat.{ℕ, suc, _+_, _*_, _/_, _≤_, _<_}
 use native.Mathlib.Omega.{arith}
-use mathlib.Core.Path.{_≡_, refl, sym, ap, ap₂, _∙_, subst, subst⁻¹}
-use mathlib.Core.List.{List, [], _∷_, _++_, append-assoc, append-nil}
-use lib.ListN.{length, getD, set, length-append}
-use Rattle.syntax.specs.Terms.{Term, Terms, variable, compound, nil, cons, arity, Atom, termOf, Literal, Body, call, equation, truth, falsity, done, also, Clause}
-use Rattle.syntax.specs.Words.{functor, termWords, termsWords, atomWords, literalWords, bodyWords, bodyLength, clauseWords, clausesWords}
-use Rattle.modes.specs.Standing.{NameAt, Stands, AllStand, stands-variable, stands-compound, stand-nil, stand-cons, LiteralStands, call-stands, equation-stands, truth-stands, falsity-stands, BodyStands, done-stands, also-stands, ClauseStands, ClausesStand, clause-stands}
-use Rattle.modes.specs.Tables.{Has, TermAt, LiteralAt, ClauseAt}
-use Rattle.modes.proofs.Places.{has-left, has-right, Node, node}
-use Rattle.modes.proofs.Equating.{numbered}
-use Rattle.loader.specs.Flat.{Parsed, parsedWords, termParsed, termsParsed, literalParsed, bodyParsed, clauseParsed, clausesParsed, flatWords, flatWhat, flatAll, Fits, AllFit, written, RunAt, BodyHere, ClauseHere, ClausesHere}
+use mathlib.Core.Path.{_≡_, refl, sym, ap, ap₂, _∙_, subst}
+use mathlib.Core.List.{List, [], _∷_, _++_}
+use lib.ListN.{length, length-append}
+use Rattle.syntax.specs.Terms.{Term, Terms, variable, compound, nil, cons, arity, termOf, Literal, Body, call, equation, truth, falsity, done, also}
+use Rattle.syntax.specs.Words.{functor, termWords, termsWords, literalWords, bodyWords, bodyLength}
+use Rattle.modes.specs.Standing.{Stands, AllStand, stands-variable, stands-compound, stand-nil, stand-cons, LiteralStands, call-stands, equation-stands, truth-stands, falsity-stands, BodyStands, also-stands}
+use Rattle.modes.specs.Tables.{Has, LiteralAt}
+use Rattle.modes.proofs.Places.{has-left, has-right}
+use Rattle.loader.specs.Flat.{Parsed, parsedWords, termParsed, termsParsed, literalParsed, bodyParsed, flatWords, flatWhat, flatAll, AllFit, written, RunAt, BodyHere}
 use Rattle.loader.proofs.Writing.{written-nil, written-append}
 
 -- ---- runs
@@ -120,9 +119,15 @@ pub record Going (table : List ℕ) (literals text : ℕ) (before : List ℕ) (a
 pub body-begin : (table : List ℕ) (from literals text : ℕ) (nodes : List ℕ) (at : ℕ) → at * 3 ≤ from * 2 + 8200 → (w : BodyHere table from literals)
     → Going table literals text nodes at (flatWords (flatAll text (bodyParsed (w .body)))) nodes from at 0
 body-begin table from literals text nodes at l w = record {
-  source = w .text; short = w .short; rest = w .body; has = w .has;
+  source = w .text;
+  short = w .short;
+  rest = w .body;
+  has = w .has;
   count = (let e : literals ≡ bodyLength (w .body) = w .count in let z : literals ≡ 0 + bodyLength (w .body) = omega arith in z);
-  stands = w .stands; same = refl; past = refl; near = l;
+  stands = w .stands;
+  same = refl;
+  past = refl;
+  near = l;
 }
 
 -- a turn: the literal, its nodes, and the body after it
@@ -147,8 +152,6 @@ module _ (table : List ℕ) (literals text : ℕ) (before : List ℕ) (at : ℕ)
       let hx : Has table p (literalWords x) = has-left table p (literalWords x) (bodyWords b) h in
       let hb : Has table (p + length (literalWords x)) (bodyWords b) = has-right table p (literalWords x) (bodyWords b) h in
       let c1 : literals ≡ i + suc (bodyLength b) = c in
-      let fx : List ℕ = flatWords (flatAll text (literalParsed x)) in
-      let fb : List ℕ = flatWords (flatAll text (bodyParsed b)) in
       let whole-is : flatWords (flatAll text (literalParsed x ++ bodyParsed b)) ≡ flatWords (flatAll text (literalParsed x)) ++ flatWords (flatAll text (bodyParsed b)) = flat-append text (literalParsed x) (bodyParsed b) in
       let long : length (flatWords (flatAll text (literalParsed x ++ bodyParsed b))) ≡ length (flatWords (flatAll text (literalParsed x))) + length (flatWords (flatAll text (bodyParsed b))) = ap length whole-is ∙ length-append (flatWords (flatAll text (literalParsed x))) (flatWords (flatAll text (bodyParsed b))) in
       let third : length (flatWords (flatAll text (literalParsed x))) * 3 ≡ length (parsedWords (literalParsed x)) * 2 = flat-length text (literalParsed x) in

@@ -4,13 +4,13 @@ use native.Mathlib.Omega.{arith}
 use mathlib.Core.Path.{_≡_, refl, sym, ap, ap₂, _∙_, subst}
 use mathlib.Core.List.{List, [], _∷_, _++_}
 use lib.ListN.{length, getD, length-append}
-use Rattle.syntax.specs.Terms.{Term, termOf, Literal, Body, done, also, Clause}
+use Rattle.syntax.specs.Terms.{termOf, Body, done, also, Clause}
 use Rattle.syntax.specs.Words.{termWords, atomWords, literalWords, bodyWords, bodyLength, clauseWords, clausesWords}
-use Rattle.modes.specs.Standing.{Stands, BodyStands, ClauseStands, ClausesStand, clause-stands}
+use Rattle.modes.specs.Standing.{ClausesStand, clause-stands}
 use Rattle.modes.specs.Tables.{Has, TermAt, ClauseAt}
 use Rattle.modes.proofs.Places.{has-left, has-right, Node, node}
 use Rattle.modes.proofs.Equating.{numbered}
-use Rattle.loader.specs.Flat.{Parsed, parsedWords, termParsed, literalParsed, bodyParsed, clauseParsed, clausesParsed, flatWords, flatAll, AllFit, written, RunAt, BodyHere, ClauseHere, ClausesHere}
+use Rattle.loader.specs.Flat.{parsedWords, termParsed, literalParsed, bodyParsed, clauseParsed, clausesParsed, flatWords, flatAll, written, RunAt, BodyHere, ClauseHere, ClausesHere}
 use Rattle.loader.proofs.Writing.{written-nil, written-append}
 use Rattle.loader.proofs.Bodies.{parsed-append, flat-append, flat-length, term-words, term-fits, literal-long}
 
@@ -46,7 +46,6 @@ flat-clause-long c = ap length (flat-clause c) ∙ length-append (flatWords (fla
 
 pub clause-parts : (table : List ℕ) (p : ℕ) (w : ClauseHere table p) → ClauseParts table p w
 clause-parts table p w =
-    let t : Term = termOf (w .clause .head) in
     let o : Node table p (3 + length (atomWords (w .clause .head) ++ bodyWords (w .clause .body))) (w .clause .variables) (bodyLength (w .clause .body)) (atomWords (w .clause .head) ++ bodyWords (w .clause .body)) = clause-node table p (w .clause) (w .has) in
     let i : p + 2 < length table = o .inside in
     let hh : Has table (p + 3) (termWords (termOf (w .clause .head))) = has-left table (p + 3) (termWords (termOf (w .clause .head))) (bodyWords (w .clause .body)) (o .rest) in
@@ -72,14 +71,15 @@ clause-parts table p w =
         stands = w .stands .body;
       };
       near = λ stop at q e n m. (let m1 : q ≡ at + length (flatWords (flatAll 0 (termParsed (termOf (w .clause .head))))) = m in let y : q * 3 ≤ stop * 2 + 8200 = omega arith in y);
-      joined = λ stop literals at q r nodes middle after e l m n.
-        (n .0
-        ∙ (ap₂ (λ (a : List ℕ) (k : ℕ). written a k (flatWords (flatAll 0 (bodyParsed (w .clause .body))))) (m .0) (m .1)
-        ∙ (sym (written-append nodes at (flatWords (flatAll 0 (termParsed (termOf (w .clause .head))))) (flatWords (flatAll 0 (bodyParsed (w .clause .body)))))
-        ∙ ap (written nodes at) (sym (flat-clause (w .clause))))),
+      joined = λ stop literals at q r nodes middle after e l m n. (
+        n .0
+            ∙ (ap₂ (λ (a : List ℕ) (k : ℕ). written a k (flatWords (flatAll 0 (bodyParsed (w .clause .body))))) (m .0) (m .1)
+            ∙ (sym (written-append nodes at (flatWords (flatAll 0 (termParsed (termOf (w .clause .head))))) (flatWords (flatAll 0 (bodyParsed (w .clause .body)))))
+            ∙ ap (written nodes at) (sym (flat-clause (w .clause))))),
         (let m1 : q ≡ at + length (flatWords (flatAll 0 (termParsed (termOf (w .clause .head))))) = m .1 in
-        let n1 : r ≡ q + length (flatWords (flatAll 0 (bodyParsed (w .clause .body)))) = n .1 in
-        let y : r ≡ at + length (flatWords (flatAll 0 (clauseParsed (w .clause)))) = omega arith in y));
+            let n1 : r ≡ q + length (flatWords (flatAll 0 (bodyParsed (w .clause .body)))) = n .1 in
+            let y : r ≡ at + length (flatWords (flatAll 0 (clauseParsed (w .clause)))) = omega arith in y),
+      );
     }
 
 -- ---- how long the copies are
@@ -133,9 +133,14 @@ pub record Clausing (table : List ℕ) (clauses : ℕ) (before : List ℕ) (at :
 pub clauses-begin : (table : List ℕ) (clauses : ℕ) (nodes : List ℕ) (at : ℕ) → at * 3 ≤ 8200 → (w : ClausesHere table 0 clauses)
     → Clausing table clauses nodes at (flatWords (flatAll 0 (clausesParsed (w .list)))) nodes 0 at 0
 clauses-begin table clauses nodes at l w = record {
-  source = w .text; short = w .short; rest = w .list; has = w .has;
+  source = w .text;
+  short = w .short;
+  rest = w .list;
+  has = w .has;
   count = (let e : clauses ≡ length (w .list) = w .count in let z : clauses ≡ 0 + length (w .list) = omega arith in z);
-  stand = w .stand; same = refl; past = refl;
+  stand = w .stand;
+  same = refl;
+  past = refl;
   near = (let y : at * 3 ≤ 0 * 2 + 8200 = omega arith in y);
 }
 

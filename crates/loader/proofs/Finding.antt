@@ -12,7 +12,7 @@ use lib.Seq.{getD-at, getD-set-same, getD-set-other}
 use Rattle.machine.proofs.Tests.{and, or-left, or-right}
 use Rattle.syntax.specs.Terms.{sameBytes}
 use Rattle.layout.specs.Nodes.{Symbol, isSymbol, symbolOf, isListed}
-use Rattle.loader.specs.Listing.{wordName, Inside, symbolAt, symbolsOf, Listed, withSymbol, Counted, Interned}
+use Rattle.loader.specs.Listing.{wordName, Inside, symbolAt, symbolsOf, Listed, withSymbol, Interned}
 
 -- ---- lists of symbols
 
@@ -120,9 +120,10 @@ module _ (sheet goal symbols : List ℕ) where
   split k zero count e = ([], ap (symbolsOf sheet goal symbols) (let z : count ≡ k = omega arith in z) ∙ sym (append-nil (symbolsOf sheet goal symbols k)))
   split k (suc d) zero e = absurd (omega arith)
   split k (suc d) (suc c) e =
-      let r : (more : List Symbol) × (symbolsOf sheet goal symbols c ≡ symbolsOf sheet goal symbols k ++ more) = split k d c (let z : c ≡ k + d = omega arith in z) in
-      (r .0 ++ (symbolAt sheet goal symbols c ∷ []),
-      ap (λ (l : List Symbol). l ++ (symbolAt sheet goal symbols c ∷ [])) (r .1) ∙ append-assoc (symbolsOf sheet goal symbols k) (r .0) (symbolAt sheet goal symbols c ∷ []))
+      let r : (more : List Symbol) × (symbolsOf sheet goal symbols c ≡ symbolsOf sheet goal symbols k ++ more) = split k d c (let z : c ≡ k + d = omega arith in z) in (
+        r .0 ++ (symbolAt sheet goal symbols c ∷ []),
+        ap (λ (l : List Symbol). l ++ (symbolAt sheet goal symbols c ∷ [])) (r .1) ∙ append-assoc (symbolsOf sheet goal symbols k) (r .0) (symbolAt sheet goal symbols c ∷ []),
+      )
 
   snoc : (k : ℕ) → symbolsOf sheet goal symbols (suc k) ≡ symbolsOf sheet goal symbols k ++ (symbolAt sheet goal symbols k ∷ [])
   unfolding symbolsOf
@@ -155,10 +156,10 @@ module _ (sheet goal symbols : List ℕ) where
         let is : isSymbol f n (symbolAt sheet goal symbols k) ≡ true = sym q ∙ r in
         let here : T (isListed (symbolAt sheet goal symbols k ∷ []) f n) = subst T (sym (listed-one (symbolAt sheet goal symbols k) f n ∙ ap (λ (x : Bool). x || false) is)) tt in
         let listed : T (isListed (symbolsOf sheet goal symbols (suc k)) f n) =
-            subst (λ (l : List Symbol). T (isListed l f n)) (sym (snoc k)) (subst T (sym (listed-append (symbolsOf sheet goal symbols k) (symbolAt sheet goal symbols k ∷ []) f n)) (or-right (isListed (symbolsOf sheet goal symbols k) f n) (isListed (symbolAt sheet goal symbols k ∷ []) f n) here)) in
+        subst (λ (l : List Symbol). T (isListed l f n)) (sym (snoc k)) (subst T (sym (listed-append (symbolsOf sheet goal symbols k) (symbolAt sheet goal symbols k ∷ []) f n)) (or-right (isListed (symbolsOf sheet goal symbols k) f n) (isListed (symbolAt sheet goal symbols k ∷ []) f n) here)) in
         let whole : symbolOf (symbolsOf sheet goal symbols count) f n ≡ symbolOf (symbolsOf sheet goal symbols (suc k)) f n = ap (λ (l : List Symbol). symbolOf l f n) (p .1) ∙ symbol-stays (symbolsOf sheet goal symbols (suc k)) (p .0) f n listed in
         let last : symbolOf (symbolsOf sheet goal symbols (suc k)) f n ≡ length (symbolsOf sheet goal symbols k) + symbolOf (symbolAt sheet goal symbols k ∷ []) f n =
-            ap (λ (l : List Symbol). symbolOf l f n) (snoc k) ∙ symbol-new (symbolsOf sheet goal symbols k) (symbolAt sheet goal symbols k ∷ []) f n e in
+        ap (λ (l : List Symbol). symbolOf l f n) (snoc k) ∙ symbol-new (symbolsOf sheet goal symbols k) (symbolAt sheet goal symbols k ∷ []) f n e in
         let one : symbolOf (symbolAt sheet goal symbols k ∷ []) f n ≡ 0 = symbol-one (symbolAt sheet goal symbols k) f n is in
         let long : length (symbolsOf sheet goal symbols k) ≡ k = length-symbols k in
         let y : k ≡ symbolOf (symbolsOf sheet goal symbols count) f n = omega arith in y
@@ -278,7 +279,7 @@ module _ (sheet goal symbols : List ℕ) (count w n k : ℕ) (listed : Listed sh
         let same : withSymbol (symbolsOf sheet goal symbols count) (wordName sheet goal w) n ≡ symbolsOf sheet goal symbols count ++ (record { name = wordName sheet goal w; arguments = n } ∷ []) = with-new (symbolsOf sheet goal symbols count) (wordName sheet goal w) n fresh in
         let m : count ≤ count = omega arith in
         let last : symbolOf (symbolsOf sheet goal symbols count ++ (record { name = wordName sheet goal w; arguments = n } ∷ [])) (wordName sheet goal w) n ≡ length (symbolsOf sheet goal symbols count) + symbolOf (record { name = wordName sheet goal w; arguments = n } ∷ []) (wordName sheet goal w) n =
-            symbol-new (symbolsOf sheet goal symbols count) (record { name = wordName sheet goal w; arguments = n } ∷ []) (wordName sheet goal w) n fresh in
+        symbol-new (symbolsOf sheet goal symbols count) (record { name = wordName sheet goal w; arguments = n } ∷ []) (wordName sheet goal w) n fresh in
         let one : symbolOf (record { name = wordName sheet goal w; arguments = n } ∷ []) (wordName sheet goal w) n ≡ 0 = symbol-one (record { name = wordName sheet goal w; arguments = n }) (wordName sheet goal w) n (self-symbol (wordName sheet goal w) n) in
         let long1 : length (symbolsOf sheet goal symbols count) ≡ count = long in
         let c0 : count ≡ symbolOf (symbolsOf sheet goal symbols count ++ (record { name = wordName sheet goal w; arguments = n } ∷ [])) (wordName sheet goal w) n = omega arith in

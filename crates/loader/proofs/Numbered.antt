@@ -1,8 +1,8 @@
 -- Laws of numbering copied nodes, one for each way out of the functions. Assumes nothing.
-use Prim.Native.Nat.{ℕ, suc, _+_, _-_, _*_, _/_, _%_, _≤_, _<_}
+use Prim.Native.Nat.{ℕ, suc, _+_, _-_, _/_, _%_, _≤_, _<_}
 use native.Mathlib.Omega.{arith}
-use mathlib.Core.Path.{_≡_, refl, sym, ap, ap₂, _∙_, subst}
-use mathlib.Core.Bool.{Bool, true, false, cond, _||_}
+use mathlib.Core.Path.{_≡_, refl, sym, ap, _∙_, subst}
+use mathlib.Core.Bool.{Bool, false, cond, _||_}
 use mathlib.Core.List.{List, [], _∷_, _++_, append-assoc, append-nil}
 use mathlib.Core.Logic.{_⊎_, inl, inr}
 use lib.Dec.{T}
@@ -10,11 +10,11 @@ use lib.ListN.{length, getD, set, length-set}
 use lib.Seq.{getD-set-other, set-getD}
 use borrow.Author.Tests.{lt-ltb, le-ltb}
 use Rattle.machine.proofs.Tests.{or-right}
-use Rattle.layout.specs.Nodes.{Symbol, isSymbol, symbolOf, isListed, Has}
+use Rattle.layout.specs.Nodes.{Symbol, symbolOf, isListed, Has}
 use Rattle.loader.specs.Flat.{Flat, flatWords, written}
-use Rattle.loader.specs.Listing.{wordName, Inside, symbolsOf, Listed, withSymbol, Counted, Interned, withNode, withAll, numberedWhat, numberedAll, NodeInside, AllInside, Copied, NodeNumbered, NodesNumbered}
+use Rattle.loader.specs.Listing.{wordName, symbolsOf, Listed, withSymbol, Counted, Interned, withNode, withAll, numberedWhat, numberedAll, NodeInside, AllInside, Copied, NodeNumbered, NodesNumbered}
 use Rattle.loader.proofs.Writing.{written-nil, written-two}
-use Rattle.loader.proofs.Finding.{decide, below-or, listed-append, listed-one, self-symbol, stays-listed, symbol-stays, with-old, with-new}
+use Rattle.loader.proofs.Finding.{decide, below-or, listed-append, listed-one, self-symbol, symbol-stays, with-old, with-new}
 
 module _ (sheet goal : List ℕ) where
   -- ---- one node
@@ -159,10 +159,11 @@ module _ (sheet goal : List ℕ) where
 
 has-frame : (nodes : List ℕ) (p u q : ℕ) (ws : List ℕ) → p < q → Has nodes q ws → Has (set nodes p u) q ws
 has-frame nodes p u q [] l h = tt
-has-frame nodes p u q (w ∷ ws) l h =
-    (subst (λ (k : ℕ). q < k) (sym (length-set nodes p u)) (h .0),
-    getD-set-other nodes p q u 0 (λ e. let z : q ≡ p = e in omega arith) ∙ h .1,
-    has-frame nodes p u (q + 1) ws (omega arith) (h .2))
+has-frame nodes p u q (w ∷ ws) l h = (
+  subst (λ (k : ℕ). q < k) (sym (length-set nodes p u)) (h .0),
+  getD-set-other nodes p q u 0 (λ e. let z : q ≡ p = e in omega arith) ∙ h .1,
+  has-frame nodes p u (q + 1) ws (omega arith) (h .2),
+)
 
 written-number : (nodes : List ℕ) (p u size : ℕ) (ws : List ℕ) → getD nodes (p + 1) 0 ≡ size → written (set nodes p u) (p + 2) ws ≡ written nodes p (u ∷ size ∷ ws)
 written-number nodes p u size ws e =
@@ -191,20 +192,20 @@ module _ (sheet goal : List ℕ) (flats : List Flat) (before nodes : List ℕ) (
         within = omega arith;
         inside = subst (NodeInside sheet goal) (sym v) (i .0);
         on = λ after us ea eu.
-          let all : withAll sheet goal us xs ≡ whole = ap (λ (k : List Symbol). withAll sheet goal k xs) (eu ∙ ap (withNode sheet goal ss) v) ∙ a in
-          let word : numberedWhat sheet goal (withNode sheet goal ss (getD nodes p 0)) (getD nodes p 0) ≡ numberedWhat sheet goal whole (x .what) =
-              ap (λ (k : ℕ). numberedWhat sheet goal (withNode sheet goal ss k) k) v
-              ∙ (sym (number-stays sheet goal ss xs (x .what)) ∙ ap (λ (k : List Symbol). numberedWhat sheet goal k (x .what)) a) in
-          record {
-            rest = xs;
-            has = subst (λ (l : List ℕ). Has l (p + 2) (flatWords xs)) (sym ea) (has-frame nodes p (numberedWhat sheet goal (withNode sheet goal ss (getD nodes p 0)) (getD nodes p 0)) (p + 2) (flatWords xs) (omega arith) more);
-            ends = (let z : stop ≡ (p + 2) + length (flatWords xs) = omega arith in z);
-            inside = i .1;
-            all = all;
-            same = ap (λ (l : List ℕ). written l (p + 2) (flatWords (numberedAll sheet goal whole xs))) ea
-                ∙ (written-number nodes p (numberedWhat sheet goal (withNode sheet goal ss (getD nodes p 0)) (getD nodes p 0)) (x .size) (flatWords (numberedAll sheet goal whole xs)) size
-                ∙ (ap (λ (k : ℕ). written nodes p (k ∷ (x .size) ∷ flatWords (numberedAll sheet goal whole xs))) word ∙ s));
-          };
+            let all : withAll sheet goal us xs ≡ whole = ap (λ (k : List Symbol). withAll sheet goal k xs) (eu ∙ ap (withNode sheet goal ss) v) ∙ a in
+            let word : numberedWhat sheet goal (withNode sheet goal ss (getD nodes p 0)) (getD nodes p 0) ≡ numberedWhat sheet goal whole (x .what) =
+            ap (λ (k : ℕ). numberedWhat sheet goal (withNode sheet goal ss k) k) v
+            ∙ (sym (number-stays sheet goal ss xs (x .what)) ∙ ap (λ (k : List Symbol). numberedWhat sheet goal k (x .what)) a) in
+            record {
+              rest = xs;
+              has = subst (λ (l : List ℕ). Has l (p + 2) (flatWords xs)) (sym ea) (has-frame nodes p (numberedWhat sheet goal (withNode sheet goal ss (getD nodes p 0)) (getD nodes p 0)) (p + 2) (flatWords xs) (omega arith) more);
+              ends = (let z : stop ≡ (p + 2) + length (flatWords xs) = omega arith in z);
+              inside = i .1;
+              all = all;
+              same = ap (λ (l : List ℕ). written l (p + 2) (flatWords (numberedAll sheet goal whole xs))) ea
+                  ∙ (written-number nodes p (numberedWhat sheet goal (withNode sheet goal ss (getD nodes p 0)) (getD nodes p 0)) (x .size) (flatWords (numberedAll sheet goal whole xs)) size
+                  ∙ (ap (λ (k : ℕ). written nodes p (k ∷ (x .size) ∷ flatWords (numberedAll sheet goal whole xs))) word ∙ s));
+            };
       }
 
   pub number-turn : p < stop → Numbering sheet goal flats before nodes stop p ss → NumberTurn sheet goal flats before nodes stop p ss

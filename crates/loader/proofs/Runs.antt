@@ -1,9 +1,9 @@
 -- Laws of copying a run of nodes, one for each way out of the functions. Assumes nothing.
 use Prim.Native.Nat.{ℕ, suc, _+_, _-_, _*_, _/_, _%_, _≤_, _<_}
 use native.Mathlib.Omega.{arith}
-use mathlib.Core.Path.{_≡_, refl, sym, ap, ap₂, _∙_, subst, subst⁻¹}
+use mathlib.Core.Path.{_≡_, refl, sym, ap, ap₂, _∙_, subst}
 use mathlib.Core.Bool.{Bool, cond}
-use mathlib.Core.List.{List, [], _∷_, _++_}
+use mathlib.Core.List.{List, [], _∷_}
 use lib.ListN.{length, getD, set}
 use borrow.Author.Tests.{lt-ltb, le-ltb}
 use Rattle.modes.specs.Tables.{Has}
@@ -70,8 +70,8 @@ module _ (table : List ℕ) (stop text : ℕ) (before : List ℕ) (at : ℕ) (wh
           fit = f .1;
           same = written-two nodes q v u (flatWords (flatAll text xs))
               ∙ (ap₂ (λ (a b : ℕ). written nodes q (a ∷ b ∷ flatWords (flatAll text xs)))
-                  (ev ∙ ap₂ (flatWhat text) (o .first) (o .third))
-                  (eu ∙ ap (λ (k : ℕ). k / 3 * 2) (o .second))
+              (ev ∙ ap₂ (flatWhat text) (o .first) (o .third))
+              (eu ∙ ap (λ (k : ℕ). k / 3 * 2) (o .second))
               ∙ s);
           past = omega arith;
           near = omega arith;

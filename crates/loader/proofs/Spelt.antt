@@ -1,5 +1,5 @@
 -- Laws of names by their words, one for each way out of the functions. Assumes nothing.
-use Prim.Native.Nat.{ℕ, suc, min, _+_, _-_, _/_, _%_, _≤_, _<_}
+use Prim.Native.Nat.{ℕ, min, _+_, _-_, _/_, _%_, _≤_}
 use native.Mathlib.Omega.{arith}
 use mathlib.Core.Path.{_≡_, refl, sym, ap, ap₂, _∙_, subst}
 use mathlib.Core.Bool.{Bool, true, false, cond, _&&_}

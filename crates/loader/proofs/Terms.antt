@@ -2,12 +2,11 @@
 use Prim.Native.Nat.{ℕ, suc, _+_, _-_, _*_, _/_, _%_, _≤_, _<_}
 use native.Mathlib.Omega.{arith}
 use mathlib.Core.Path.{_≡_, refl, sym, ap, ap₂, _∙_, subst}
-use mathlib.Core.Bool.{Bool, true, false, _&&_}
+use mathlib.Core.Bool.{Bool, _&&_}
 use mathlib.Core.List.{List, [], _∷_, _++_}
-use lib.Dec.{T, ltb, lt→ltb}
-use lib.ListN.{length, take, drop, length-append}
-use Rattle.syntax.specs.Terms.{Term, Terms, variable, compound, nil, cons, arity, Atom, termOf, Literal, Body, call, equation, truth, falsity, done, also, Clause}
-use Rattle.syntax.specs.Tokens.{spelling}
+use lib.Dec.{T, lt→ltb}
+use lib.ListN.{length}
+use Rattle.syntax.specs.Terms.{Term, Terms, variable, compound, nil, cons, arity, termOf, Literal, Body, call, equation, truth, falsity, done, also, Clause}
 use Rattle.syntax.specs.Words.{functor, termsWords}
 use Rattle.modes.specs.Standing.{NameAt, Stands, AllStand, stands-variable, stands-compound, stand-nil, stand-cons, LiteralStands, call-stands, equation-stands, truth-stands, falsity-stands, BodyStands, done-stands, also-stands, ClauseStands, ClausesStand, no-clauses, clause-stands}
 use Rattle.machine.proofs.Tests.{and}
@@ -15,7 +14,7 @@ use Rattle.layout.specs.Nodes.{Symbol, symbolOf, isListed, loadedWords, loadedA
 use Rattle.layout.specs.Program.{literalNodes, bodyNodes, clauseNodes, clausesNodes, literalLoadable, bodyLoadable, clausesLoadable}
 use Rattle.answers.specs.Words.{textOf}
 use Rattle.loader.specs.Flat.{Parsed, parsedWords, termParsed, termsParsed, literalParsed, bodyParsed, clauseParsed, clausesParsed, Flat, flatWords, flatWhat, flatAll}
-use Rattle.loader.specs.Listing.{wordName, Inside, withNode, withAll, numberedWhat, numberedAll, NodeInside, AllInside}
+use Rattle.loader.specs.Listing.{wordName, Inside, withNode, withAll, numberedWhat, numberedAll, AllInside}
 use Rattle.loader.proofs.Runs.{flat-variable, flat-name}
 use Rattle.loader.proofs.Bodies.{terms-words}
 use Rattle.loader.proofs.Spelt.{word-name}
@@ -57,10 +56,11 @@ module _ (sheet goal : List ℕ) where
   pub all-listed : (ss : List Symbol) (xs : List Flat) → AllListed (withAll sheet goal ss xs) xs
   unfolding withAll
   all-listed ss [] = tt
-  all-listed ss (x ∷ xs) =
-      (λ l. subst (λ (k : List Symbol). T (isListed k (wordName sheet goal ((x .what - 64) / 32)) ((x .what - 64) % 32))) (sym (with-all-more sheet goal (withNode sheet goal ss (x .what)) xs .1))
+  all-listed ss (x ∷ xs) = (
+    λ l. subst (λ (k : List Symbol). T (isListed k (wordName sheet goal ((x .what - 64) / 32)) ((x .what - 64) % 32))) (sym (with-all-more sheet goal (withNode sheet goal ss (x .what)) xs .1))
         (stays-listed (withNode sheet goal ss (x .what)) (with-all-more sheet goal (withNode sheet goal ss (x .what)) xs .0) (wordName sheet goal ((x .what - 64) / 32)) ((x .what - 64) % 32) (name-listed sheet goal ss (x .what) l)),
-      all-listed (withNode sheet goal ss (x .what)) xs)
+    all-listed (withNode sheet goal ss (x .what)) xs,
+  )
 
   pub listed-left : (ss : List Symbol) (xs ys : List Flat) → AllListed ss (xs ++ ys) → AllListed ss xs
   listed-left ss [] ys h = tt
@@ -101,7 +101,6 @@ module _ (sheet goal : List ℕ) where
         let v : 64 + (b * 64 + text * 32 + (functor n (length f) - 64) % 32) * 32 + (functor n (length f) - 64) / 32 ≡ flatWhat text (functor n (length f)) b = flat-name text (functor n (length f)) b (omega arith) in
         let low : (functor n (length f) - 64) % 32 ≡ length f = low-is n (length f) short in
         let few : (functor n (length f) - 64) / 32 ≡ n = high-is n (length f) short in
-        let x : ℕ = b * 64 + text * 32 + length f in
         let is : flatWhat text (functor n (length f)) b ≡ 64 + (b * 64 + text * 32 + length f) * 32 + n = omega arith in
         let at : (flatWhat text (functor n (length f)) b - 64) / 32 ≡ b * 64 + text * 32 + length f = ap (λ (y : ℕ). (y - 64) / 32) is ∙ word-is (b * 64 + text * 32 + length f) n m in
         let place : b ≡ (flatWhat text (functor n (length f)) b - 64) / 32 / 64 = sym (ap (λ (y : ℕ). y / 64) at ∙ place-is b text (length f) one short) in
@@ -207,20 +206,22 @@ module _ (sheet goal : List ℕ) where
       pub term-fine : (t : Term) → Stands s t → AllListed ss (flatAll text (termParsed t)) → Fine (isLoadable ss t) (loadedWords ss t) (termParsed t)
       term-fine (variable n b) (stands-variable k) h =
           let small : n < 64 = (let z : n < 32 = k in omega arith) in
-          let e : flatWhat text n b ≡ n = sym (flat-variable text n b small) in
-          (lt→ltb n 64 small,
-          ap (λ (v : ℕ). v ∷ 2 ∷ []) (sym (ap (numberedWhat sheet goal ss) e ∙ number-variable sheet goal ss n small)))
+          let e : flatWhat text n b ≡ n = sym (flat-variable text n b small) in (
+            lt→ltb n 64 small,
+            ap (λ (v : ℕ). v ∷ 2 ∷ []) (sym (ap (numberedWhat sheet goal ss) e ∙ number-variable sheet goal ss n small)),
+          )
       term-fine (compound b f ts) (stands-compound n k a) h =
           let w : Word b (arity ts) f (flatWhat text (functor (arity ts) (length f)) b) = word b (arity ts) f n k in
           let inner : Fine (areLoadable ss ts) (loadedAll ss ts) (termsParsed ts) = terms-fine ts a (h .1) in
           let listed : T (isListed ss f (arity ts)) =
-              subst (λ (g : List ℕ). T (isListed ss g (arity ts))) (w .name)
-              (subst (λ (m : ℕ). T (isListed ss (wordName sheet goal ((flatWhat text (functor (arity ts) (length f)) b - 64) / 32)) m)) (w .arguments) (h .0 (w .high))) in
+          subst (λ (g : List ℕ). T (isListed ss g (arity ts))) (w .name)
+          (subst (λ (m : ℕ). T (isListed ss (wordName sheet goal ((flatWhat text (functor (arity ts) (length f)) b - 64) / 32)) m)) (w .arguments) (h .0 (w .high))) in
           let number : 64 + symbolOf ss f (arity ts) ≡ numberedWhat sheet goal ss (flatWhat text (functor (arity ts) (length f)) b) =
-              sym (number-name sheet goal ss (flatWhat text (functor (arity ts) (length f)) b) (w .high) ∙ ap₂ (λ (g : List ℕ) (m : ℕ). 64 + symbolOf ss g m) (w .name) (w .arguments)) in
-          (and (isListed ss f (arity ts)) (areLoadable ss ts) listed (inner .0),
-          (ap₂ (λ (x y : ℕ). x ∷ y ∷ loadedAll ss ts) number (size-is ts (loadedAll ss ts) (inner .1))
-          ∙ ap (λ (l : List ℕ). numberedWhat sheet goal ss (flatWhat text (functor (arity ts) (length f)) b) ∷ ((3 + length (termsWords ts)) / 3 * 2) ∷ l) (inner .1)))
+          sym (number-name sheet goal ss (flatWhat text (functor (arity ts) (length f)) b) (w .high) ∙ ap₂ (λ (g : List ℕ) (m : ℕ). 64 + symbolOf ss g m) (w .name) (w .arguments)) in (
+            and (isListed ss f (arity ts)) (areLoadable ss ts) listed (inner .0),
+            (ap₂ (λ (x y : ℕ). x ∷ y ∷ loadedAll ss ts) number (size-is ts (loadedAll ss ts) (inner .1))
+                ∙ ap (λ (l : List ℕ). numberedWhat sheet goal ss (flatWhat text (functor (arity ts) (length f)) b) ∷ ((3 + length (termsWords ts)) / 3 * 2) ∷ l) (inner .1)),
+          )
 
       pub terms-fine : (ts : Terms) → AllStand s ts → AllListed ss (flatAll text (termsParsed ts)) → Fine (areLoadable ss ts) (loadedAll ss ts) (termsParsed ts)
       terms-fine nil stand-nil h = (tt, refl)

@@ -2,11 +2,9 @@
 use Prim.Native.Nat.{ℕ, suc, _+_, _*_, _/_, _%_, _≤_, _<_}
 use native.Mathlib.Omega.{arith}
 use mathlib.Core.Path.{_≡_, refl, sym, ap, ap₂, _∙_, subst}
-use mathlib.Core.Bool.{Bool}
 use mathlib.Core.List.{List, [], _∷_, _++_}
 use lib.Dec.{T}
-use lib.ListN.{length, getD, length-append}
-use Rattle.syntax.specs.Terms.{Body, Clause}
+use lib.ListN.{length, length-append}
 use Rattle.syntax.specs.Words.{bodyWords, clausesWords}
 use Rattle.modes.specs.Tables.{Has}
 use Rattle.modes.proofs.Places.{has-inside}
@@ -14,7 +12,7 @@ use Rattle.layout.specs.Nodes.{Symbol, nameOf, Has as HasNodes}
 use Rattle.layout.specs.Program.{bodyNodes, clausesNodes, programNodes, bodyLoadable, clausesLoadable}
 use Rattle.answers.specs.Words.{textOf, nameAt, Placed, Names}
 use Rattle.loader.specs.Flat.{parsedWords, bodyParsed, clausesParsed, Flat, flatWords, flatAll, written, BodyHere, ClausesHere}
-use Rattle.loader.specs.Listing.{wordName, Inside, symbolAt, symbolsOf, Listed, withAll, numberedWhat, numberedAll, AllInside, Copied, NodesNumbered}
+use Rattle.loader.specs.Listing.{wordName, Inside, symbolAt, symbolsOf, Listed, withAll, numberedAll, Copied, NodesNumbered}
 use Rattle.loader.specs.Loading.{Loadable, Loaded}
 use Rattle.loader.proofs.Writing.{length-written, written-append, has-written}
 use Rattle.loader.proofs.Bodies.{flat-length}

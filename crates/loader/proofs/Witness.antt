@@ -4,7 +4,7 @@ use native.Mathlib.Omega.{arith}
 use mathlib.Core.Path.{_≡_, refl}
 use mathlib.Core.List.{List, [], _∷_}
 use lib.ListN.{length, replicate, length-replicate}
-use Rattle.syntax.specs.Terms.{Sheet, Goal, truth, done, also}
+use Rattle.syntax.specs.Terms.{truth, done, also}
 use Rattle.syntax.specs.Words.{literalWords, bodyWords, clausesWords}
 use Rattle.modes.specs.Standing.{no-clauses, truth-stands, done-stands, also-stands}
 use Rattle.modes.specs.Tables.{Has}

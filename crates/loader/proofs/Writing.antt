@@ -1,7 +1,7 @@
 -- Laws of words written one behind the other. Assumes nothing.
 use Prim.Native.Nat.{ℕ, suc, _+_, _≤_, _<_}
 use native.Mathlib.Omega.{arith}
-use mathlib.Core.Path.{_≡_, refl, sym, ap, _∙_, subst, subst⁻¹}
+use mathlib.Core.Path.{_≡_, refl, ap, _∙_}
 use mathlib.Core.List.{List, [], _∷_, _++_}
 use lib.ListN.{length, getD, set, length-set}
 use lib.Seq.{getD-set-same, getD-set-other}
@@ -42,10 +42,11 @@ has-written l q [] h = tt
 has-written l q (w ∷ ws) h =
     let n : length (written (set l q w) (q + 1) ws) ≡ length l = length-written (set l q w) (q + 1) ws ∙ length-set l q w in
     let m : length (set l q w) ≡ length l = length-set l q w in
-    let k : q + suc (length ws) ≤ length l = h in
-    (omega arith,
-    written-before (set l q w) (q + 1) ws q (omega arith) ∙ getD-set-same l q w 0 (omega arith),
-    has-written (set l q w) (q + 1) ws (omega arith))
+    let k : q + suc (length ws) ≤ length l = h in (
+      omega arith,
+      written-before (set l q w) (q + 1) ws q (omega arith) ∙ getD-set-same l q w 0 (omega arith),
+      has-written (set l q w) (q + 1) ws (omega arith),
+    )
 
 -- two stores keep the length
 pub length-two : (l before : List ℕ) (q v d u : ℕ) → length l ≡ length before → length (set (set l q v) d u) ≡ length before

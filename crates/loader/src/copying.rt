@@ -32,7 +32,14 @@ fn two_of_three(size: u32) -> u32
 }
 
 // The nodes from one place up to another, copied to `at`; the place past the copies.
-fn copy_nodes(table: &[u32], from: usize, stop: usize, text: u32, nodes: &mut [u32], at: usize) -> usize
+fn copy_nodes(
+    table: &[u32],
+    from: usize,
+    stop: usize,
+    text: u32,
+    nodes: &mut [u32],
+    at: usize,
+) -> usize
     requires { ⌜ (text ≤ 1) × ((length (now table) ≤ 65540) × ((46428 ≤ length (now nodes)) × (at * 3 ≤ from * 2 + 8200))) ⌝ }
     requires { ⌜ RunAt (now table) from stop ⌝ }
     ensures { λ r. ⌜ ((w : RunAt (now (table .entry)) from stop) → (now (nodes .exit) ≡ written (now (nodes .entry)) at (flatWords (flatAll text (w .run)))) × (r ≡ at + length (flatWords (flatAll text (w .run))))) ⌝ }
@@ -52,7 +59,14 @@ fn copy_nodes(table: &[u32], from: usize, stop: usize, text: u32, nodes: &mut [u
 }
 
 // The nodes of so many literals from a place on.
-pub fn copy_body(table: &[u32], from: usize, literals: usize, text: u32, nodes: &mut [u32], at: usize) -> usize
+pub fn copy_body(
+    table: &[u32],
+    from: usize,
+    literals: usize,
+    text: u32,
+    nodes: &mut [u32],
+    at: usize,
+) -> usize
     requires { ⌜ (text ≤ 1) × ((length (now table) ≤ 65540) × ((46428 ≤ length (now nodes)) × (at * 3 ≤ from * 2 + 8200))) ⌝ }
     requires { ⌜ BodyHere (now table) from literals ⌝ }
     ensures { λ r. ⌜ ((w : BodyHere (now (table .entry)) from literals) → (now (nodes .exit) ≡ written (now (nodes .entry)) at (flatWords (flatAll text (bodyParsed (w .body))))) × (r ≡ at + length (flatWords (flatAll text (bodyParsed (w .body)))))) ⌝ }

@@ -7,7 +7,14 @@ ghost use lib.ListN.{length, getD};
 ghost use Rattle.loader.specs.Listing.{Inside, Listed, Interned, Counted, NodeInside, Copied, NodeNumbered, NodesNumbered};
 
 // The number of the symbol with the name of a word and so many arguments, which is listed where it is new.
-fn intern(sheet: &[u8], goal: &[u8], symbols: &mut [u32], count: usize, w: u32, arguments: u32) -> usize
+fn intern(
+    sheet: &[u8],
+    goal: &[u8],
+    symbols: &mut [u32],
+    count: usize,
+    w: u32,
+    arguments: u32,
+) -> usize
     requires { ⌜ (Listed (now sheet) (now goal) (now symbols) count × (count < 23214)) × ((46428 ≤ length (now symbols)) × Inside (now sheet) (now goal) w) ⌝ }
     ensures { λ r. ⌜ Interned (now (sheet .entry)) (now (goal .entry)) (now (symbols .entry)) count w arguments (now (symbols .exit)) r ⌝ }
 {
@@ -33,7 +40,14 @@ fn counted(count: usize, k: usize) -> usize
 }
 
 // The node at a place with its symbol's number; how many symbols there are then.
-fn number_node(sheet: &[u8], goal: &[u8], nodes: &mut [u32], p: usize, symbols: &mut [u32], count: usize) -> usize
+fn number_node(
+    sheet: &[u8],
+    goal: &[u8],
+    nodes: &mut [u32],
+    p: usize,
+    symbols: &mut [u32],
+    count: usize,
+) -> usize
     requires { ⌜ (Listed (now sheet) (now goal) (now symbols) count × (count < 23214)) × ((46428 ≤ length (now symbols)) × (p < length (now nodes))) ⌝ }
     requires { ⌜ NodeInside (now sheet) (now goal) (getD (now nodes) p 0) ⌝ }
     ensures { λ r. ⌜ NodeNumbered (now (sheet .entry)) (now (goal .entry)) (now (nodes .entry)) p (now (symbols .entry)) count (now (nodes .exit)) (now (symbols .exit)) r ⌝ }
@@ -50,7 +64,13 @@ fn number_node(sheet: &[u8], goal: &[u8], nodes: &mut [u32], p: usize, symbols: 
 }
 
 // All copied nodes up to a place with their symbols' numbers.
-pub fn number_nodes(sheet: &[u8], goal: &[u8], nodes: &mut [u32], stop: usize, symbols: &mut [u32]) -> usize
+pub fn number_nodes(
+    sheet: &[u8],
+    goal: &[u8],
+    nodes: &mut [u32],
+    stop: usize,
+    symbols: &mut [u32],
+) -> usize
     requires { ⌜ (46428 ≤ length (now symbols)) × (stop ≤ 46428) ⌝ }
     requires { ⌜ Copied (now sheet) (now goal) (now nodes) stop ⌝ }
     ensures { λ r. ⌜ ((w : Copied (now (sheet .entry)) (now (goal .entry)) (now (nodes .entry)) stop) → NodesNumbered (now (sheet .entry)) (now (goal .entry)) (w .flats) (now (nodes .entry)) (now (nodes .exit)) (now (symbols .exit)) r) ⌝ }

@@ -57,7 +57,14 @@ fn is_symbol(sheet: &[u8], goal: &[u8], symbols: &[u32], k: usize, w: u32, argum
 }
 
 // The number of the symbol with the name of a word and so many arguments; `count` where it is not among those so far.
-pub fn find_symbol(sheet: &[u8], goal: &[u8], symbols: &[u32], count: usize, w: u32, arguments: u32) -> usize
+pub fn find_symbol(
+    sheet: &[u8],
+    goal: &[u8],
+    symbols: &[u32],
+    count: usize,
+    w: u32,
+    arguments: u32,
+) -> usize
     requires { ⌜ Listed (now sheet) (now goal) (now symbols) count × Inside (now sheet) (now goal) w ⌝ }
     ensures { λ r. ⌜ r ≡ symbolOf (symbolsOf (now (sheet .entry)) (now (goal .entry)) (now (symbols .entry)) count) (wordName (now (sheet .entry)) (now (goal .entry)) w) arguments ⌝ }
 {
