@@ -2,7 +2,6 @@
 use native.Mathlib.Omega.{arith}
 use Rattle.loader.proofs.Whole.{goal-here, clauses-here, middle-near, stop-few, copied, loaded}
 use borrow.Author.Needs.{needs}
-use borrow.Author.Needs.{needs}
 use Rattle.loader.proofs.load_nodes.Statement.{statement}
 use Rattle.loader.proofs.load_nodes.Tie as tie
 

@@ -1,10 +1,7 @@
 -- `loader::copying::name_word` meets its contract. Assumes nothing.
 use native.Mathlib.Omega.{arith}
 use Rattle.loader.proofs.Runs.{flat-variable, flat-name}
--- `loader::copying::name_word` meets its contract. Assumes nothing.
-use native.Mathlib.Omega.{arith}
 use borrow.Author.Needs.{needs}
-use Rattle.loader.proofs.Runs.{flat-variable, flat-name}
 use Rattle.loader.proofs.copying.name_word.Statement.{statement}
 use Rattle.loader.proofs.copying.name_word.Tie as tie
 
