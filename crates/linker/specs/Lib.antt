@@ -1,1 +1,3 @@
 pub mod Linking
+pub mod Records
+pub mod Places

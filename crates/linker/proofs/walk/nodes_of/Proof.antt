@@ -1,0 +1,17 @@
+-- `linker::walk::nodes_of` meets its contract. Assumes nothing.
+use native.Mathlib.Omega.{arith}
+use borrow.Author.Needs.{needs}
+use Rattle.linker.proofs.walk.nodes_of.Statement.{statement}
+use Rattle.linker.proofs.walk.nodes_of.Tie as tie
+
+sub-result : tie.Need-sub-result
+sub-result c = search needs
+
+mul-result : tie.Need-mul-result
+mul-result c = search needs
+
+returns : tie.Need-returns
+returns c = λ n e. omega arith
+
+pub nodes-of-spec : {M : Type 1} → statement M
+nodes-of-spec = tie.close (tie.spec sub-result mul-result returns)

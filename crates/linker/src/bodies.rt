@@ -1,0 +1,76 @@
+// Records of literals. The nodes of a literal at p of the table stand at q.
+use crate::records::put;
+use crate::records::put_record;
+use crate::search::next_for;
+use crate::walk::nodes_of;
+use crate::walk::past;
+use crate::walk::past_literal;
+use modes::table::word_at;
+ghost use mathlib.Core.Path.{_≡_};
+ghost use mathlib.Core.List.{List};
+ghost use Rattle.syntax.specs.Terms.{Literal, Body, Sheet};
+ghost use Rattle.layout.specs.Nodes.{Symbol};
+ghost use Rattle.linker.specs.Records.{putRecord, kindOf, otherOf, putBody};
+ghost use Rattle.linker.specs.Places.{LiteralTo, BodyTo};
+
+// Kinds of records: a call, and a body's end. Truth and falsehood have the kinds below a call's.
+const CALL: usize = 2;
+
+const END: usize = 4;
+
+// The third word of a literal's record.
+fn other_of(table: &[u32], p: usize, nodes: &[u32], q: usize, clauses: usize, code: &[u32], l: usize) -> usize
+    requires { ⌜ ((ss : List Symbol) × ((sh : Sheet) × ((x : Literal) × LiteralTo ss sh x (now table) p (now nodes) q clauses (now code) l))) ⌝ }
+    ensures { λ r. ⌜ ((ss : List Symbol) (sh : Sheet) (x : Literal) → LiteralTo ss sh x (now (table .entry)) p (now (nodes .entry)) q clauses (now (code .entry)) l → r ≡ otherOf ss sh q x) ⌝ }
+{
+    let kind = word_at(table, p);
+    if kind < CALL {
+        return 0;
+    }
+    if kind == CALL {
+        let word = word_at(nodes, q);
+        return next_for(nodes, code, clauses, word, 0);
+    }
+    past(nodes, q)
+}
+
+// The record of a literal.
+fn put_literal(table: &[u32], p: usize, nodes: &[u32], q: usize, clauses: usize, code: &mut [u32], l: usize)
+    requires { ⌜ ((ss : List Symbol) × ((sh : Sheet) × ((x : Literal) × LiteralTo ss sh x (now table) p (now nodes) q clauses (now code) l))) ⌝ }
+    ensures { λ _. ⌜ ((ss : List Symbol) (sh : Sheet) (x : Literal) → LiteralTo ss sh x (now (table .entry)) p (now (nodes .entry)) q clauses (now (code .entry)) l → now (code .exit) ≡ putRecord (now (code .entry)) l (kindOf x) q (otherOf ss sh q x)) ⌝ }
+{
+    let kind = word_at(table, p);
+    let other = other_of(table, p, nodes, q, clauses, code, l);
+    put_record(code, l, kind, q, other);
+}
+
+// The records of a body's literals from l on, and its end.
+pub fn put_body(
+    table: &[u32],
+    p: usize,
+    literals: usize,
+    nodes: &[u32],
+    q: usize,
+    clauses: usize,
+    code: &mut [u32],
+    l: usize,
+)
+    requires { ⌜ ((ss : List Symbol) × ((sh : Sheet) × ((b : Body) × BodyTo ss sh b (now table) p literals (now nodes) q clauses (now code) l))) ⌝ }
+    ensures { λ _. ⌜ ((ss : List Symbol) (sh : Sheet) (b : Body) → BodyTo ss sh b (now (table .entry)) p literals (now (nodes .entry)) q clauses (now (code .entry)) l → now (code .exit) ≡ putBody ss sh q b (now (code .entry)) l) ⌝ }
+{
+    let mut at = p;
+    let mut node = q;
+    let mut to = l;
+    let mut i = 0;
+    while i < literals {
+        put_literal(table, at, nodes, node, clauses, code, to);
+        let next = past_literal(table, at);
+        let words = next - at;
+        let size = nodes_of(words, 1);
+        at = next;
+        node += size;
+        to += 4;
+        i += 1;
+    }
+    put(code, to, END);
+}

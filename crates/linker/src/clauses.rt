@@ -1,0 +1,86 @@
+// Records of clauses. The nodes of a clause at p of the table stand at q.
+use crate::bodies::put_body;
+use crate::records::BODIES;
+use crate::records::BODY;
+use crate::records::put;
+use crate::records::put_pair;
+use crate::search::next_for;
+use crate::walk::nodes_of;
+use crate::walk::past;
+use modes::table::word_at;
+ghost use mathlib.Core.Path.{_≡_};
+ghost use mathlib.Core.List.{List};
+ghost use lib.ListN.{length};
+ghost use Rattle.syntax.specs.Terms.{Clause, Sheet};
+ghost use Rattle.syntax.specs.Words.{clauseWords};
+ghost use Rattle.modes.specs.Tables.{Has};
+ghost use Rattle.layout.specs.Nodes.{Symbol};
+ghost use Rattle.layout.specs.Program.{clauseNodes};
+ghost use Rattle.linker.specs.Records.{putHeads, putClause, putClauses};
+ghost use Rattle.linker.specs.Places.{HeadsTo, ClauseTo, ClausesTo};
+
+// Words of a clause before its head: its length, its variables, its literals.
+const LITERALS: usize = 2;
+
+const HEAD: usize = 3;
+
+// How many words the nodes of the clause at p take.
+fn clause_nodes(table: &[u32], p: usize) -> usize
+    requires { ⌜ ((cl : Clause) × Has (now table) p (clauseWords cl)) ⌝ }
+    ensures { λ r. ⌜ ((ss : List Symbol) (cl : Clause) → Has (now (table .entry)) p (clauseWords cl) → r ≡ length (clauseNodes ss cl)) ⌝ }
+{
+    let size = word_at(table, p);
+    let literals = word_at(table, p + LITERALS);
+    nodes_of(size, literals + HEAD)
+}
+
+// The places of the heads of clauses.
+pub fn put_heads(table: &[u32], clauses: usize, q: usize, code: &mut [u32])
+    requires { ⌜ ((ss : List Symbol) × ((cls : List Clause) × HeadsTo ss cls (now table) 0 q clauses (now code) 1)) ⌝ }
+    ensures { λ _. ⌜ ((ss : List Symbol) (cls : List Clause) → HeadsTo ss cls (now (table .entry)) 0 q clauses (now (code .entry)) 1 → now (code .exit) ≡ putHeads ss q cls (now (code .entry)) 1) ⌝ }
+{
+    let mut at = 0;
+    let mut node = q;
+    let mut k = 1;
+    while k <= clauses {
+        put(code, k * 4, node);
+        let size = clause_nodes(table, at);
+        let words = word_at(table, at);
+        at += words;
+        node += size;
+        k += 1;
+    }
+}
+
+// The body of clause k and the next clause of its predicate.
+fn put_clause(table: &[u32], p: usize, nodes: &[u32], q: usize, clauses: usize, code: &mut [u32], k: usize)
+    requires { ⌜ ((ss : List Symbol) × ((sh : Sheet) × ((cl : Clause) × ClauseTo ss sh cl (now table) p (now nodes) q clauses (now code) k))) ⌝ }
+    ensures { λ _. ⌜ ((ss : List Symbol) (sh : Sheet) (cl : Clause) → ClauseTo ss sh cl (now (table .entry)) p (now (nodes .entry)) q clauses (now (code .entry)) k → now (code .exit) ≡ putClause ss sh q cl (now (code .entry)) k) ⌝ }
+{
+    let word = word_at(nodes, q);
+    let after = next_for(nodes, code, clauses, word, k);
+    let l = BODIES + k * BODY;
+    put_pair(code, k * 4 + 1, l, after);
+    let literals = word_at(table, p + LITERALS);
+    let first = past(table, p + HEAD);
+    let node = past(nodes, q);
+    put_body(table, first, literals, nodes, node, clauses, code, l);
+}
+
+// The bodies of all clauses and the next clauses of their predicates.
+pub fn put_clauses(table: &[u32], clauses: usize, nodes: &[u32], q: usize, code: &mut [u32])
+    requires { ⌜ ((ss : List Symbol) × ((sh : Sheet) × ((cls : List Clause) × ClausesTo ss sh cls (now table) 0 (now nodes) q clauses (now code) 1))) ⌝ }
+    ensures { λ _. ⌜ ((ss : List Symbol) (sh : Sheet) (cls : List Clause) → ClausesTo ss sh cls (now (table .entry)) 0 (now (nodes .entry)) q clauses (now (code .entry)) 1 → now (code .exit) ≡ putClauses ss sh q cls (now (code .entry)) 1) ⌝ }
+{
+    let mut at = 0;
+    let mut node = q;
+    let mut k = 1;
+    while k <= clauses {
+        put_clause(table, at, nodes, node, clauses, code, k);
+        let size = clause_nodes(table, at);
+        let words = word_at(table, at);
+        at += words;
+        node += size;
+        k += 1;
+    }
+}
