@@ -231,6 +231,18 @@ module _ (table : List ℕ) (at i literals : ℕ) (nodes : List ℕ) (node claus
           let m : length (literalNodes ss x) * 3 + 1 * 2 ≡ length (literalWords x) * 2 = literal-nodes ss x in
           z (length (literalNodes ss x)) (omega arith)
 
+      size-in : (ss : List Symbol) (sh : Sheet) (b : Body) (left : ℕ) → BodyTo ss sh b table at left nodes node clauses code to → i + left ≡ literals → node + size ≤ 65536
+      size-in ss sh done left w c = absurd (let y : left ≡ 0 = w .count in omega arith)
+      size-in ss sh (also x b) left w c =
+          let o : Split ss sh table at nodes node clauses code to x b = split ss sh x b table at left nodes node clauses code to w in
+          let e : size ≡ length (literalNodes ss x) = size-is ss x (o .literal .has) in
+          let a : node + length (literalNodes ss x) ≤ length nodes = o .inside in
+          let d : length nodes ≤ 65536 = w .headed .nodes-short in
+          omega arith
+
+      pub ahead-size : (ss : List Symbol) (sh : Sheet) (whole : List ℕ) → BodyAhead ss sh whole table at i literals nodes node clauses code to → node + size ≤ 65536
+      ahead-size ss sh whole w = size-in ss sh (w .rest) (w .left) (w .ready) (w .count)
+
       next-in : (ss : List Symbol) (sh : Sheet) (whole : List ℕ) (b : Body) (left : ℕ) → BodyTo ss sh b table at left nodes node clauses code to → i + left ≡ literals → putBody ss sh node b code to ≡ whole
           → BodyAhead ss sh whole table next (i + 1) literals nodes (node + size) clauses new (to + 4)
       unfolding putBody

@@ -1,64 +1,61 @@
+-- `linker::clauses::put_heads` meets its contract. The invariant: what is left of the heads makes the whole (`HeadsAhead`). Assumes nothing.
+use Prim.Native.Nat.{suc, _+_, _-_, _≤_}
+use mathlib.Core.Path.{_≡_, sym, ap, _∙_}
+use mathlib.Core.List.{List}
+use lib.ListN.{length}
+use Rattle.syntax.specs.Terms.{Clause}
+use Rattle.layout.specs.Nodes.{Symbol}
+use Rattle.linker.specs.Records.{putHeads}
+use Rattle.linker.specs.Places.{HeadsTo}
+use Rattle.linker.proofs.Writing.{heads-long}
+use Rattle.linker.proofs.Sheets.{clause-ends, HeadsAhead, heads-begin, heads-clause, heads-room, heads-size, heads-next, heads-end}
+use native.Mathlib.Omega.{arith}
+use borrow.Author.Needs.{needs}
 use Rattle.linker.proofs.clauses.put_heads.Statement.{statement}
 use Rattle.linker.proofs.clauses.put_heads.Tie as tie
-use Rattle.linker.proofs.clauses.put_heads.Reads as reads
-use Rattle.linker.proofs.clauses.put_heads.Lts as lts
-use Rattle.linker.proofs.clauses.clause_nodes.Reads as clause-nodes-reads
-use Rattle.linker.proofs.records.put.Reads as put-reads
-use Rattle.modes.proofs.table.word_at.Reads as word-at-reads
 
 abbrev Inv-loop : tie.InvT-loop
-Inv-loop table clauses q code₀ at₀ node₀ k₀ code at node k = ?
+Inv-loop table clauses q code₀ at₀ node₀ k₀ code at node k =
+    (ss : List Symbol) (cls : List Clause) → HeadsTo ss cls table 0 q clauses code₀ 1 → HeadsAhead ss (putHeads ss q cls code₀ 1) table at node clauses code k
 
 abbrev μ-loop : tie.MeasureT-loop
-μ-loop table clauses q code₀ at₀ node₀ k₀ code at node k = ?
+μ-loop table clauses q code₀ at₀ node₀ k₀ code at node k = suc clauses - k
 
--- src/clauses.rt:43:5
 loop-holds : tie.Need-loop-holds Inv-loop μ-loop
-loop-holds c = ?
+loop-holds c = λ ss cls w. heads-begin ss cls (c .before .before .args .table .now) (c .before .before .args .q) (c .before .before .args .clauses) (c .before .before .args .code .now) w
 
--- src/clauses.rt:44:19
 mul-put : tie.Need-mul-put Inv-loop μ-loop
-mul-put c = ?
+mul-put c = omega (arith, heads-room (c .before .before .before .before .before .args .table .now) (c .before .before .loop .at) (c .before .before .loop .node) (c .before .before .before .before .before .args .clauses) (c .before .before .loop .code) (c .before .before .loop .k) (c .before .loop-test .taken) (c .before .before .before .before .before .pre .0) _ (c .before .before .loop .inv (c .before .before .before .before .before .pre .0) (c .before .before .before .before .before .pre .1 .0) (c .before .before .before .before .before .pre .1 .1)) .0)
 
--- src/clauses.rt:44:9
 put-requires : tie.Need-put-requires Inv-loop μ-loop
-put-requires c κs = ?
+put-requires c κs = (heads-room (c .before .before .before .before .before .args .table .now) (c .before .before .loop .at) (c .before .before .loop .node) (c .before .before .before .before .before .args .clauses) (c .before .before .loop .code) (c .before .before .loop .k) (c .before .loop-test .taken) (c .before .before .before .before .before .pre .0) _ (c .before .before .loop .inv (c .before .before .before .before .before .pre .0) (c .before .before .before .before .before .pre .1 .0) (c .before .before .before .before .before .pre .1 .1)) .1 .0, omega (arith, heads-room (c .before .before .before .before .before .args .table .now) (c .before .before .loop .at) (c .before .before .loop .node) (c .before .before .before .before .before .args .clauses) (c .before .before .loop .code) (c .before .before .loop .k) (c .before .loop-test .taken) (c .before .before .before .before .before .pre .0) _ (c .before .before .loop .inv (c .before .before .before .before .before .pre .0) (c .before .before .before .before .before .pre .1 .0) (c .before .before .before .before .before .pre .1 .1)) .1 .1))
 
--- src/clauses.rt:45:13
 clause-nodes-requires : tie.Need-clause-nodes-requires Inv-loop μ-loop
-clause-nodes-requires c κs = ?
+clause-nodes-requires c κs = heads-clause (c .before .before .before .before .before .before .before .before .args .table .now) (c .before .before .before .before .before .loop .at) (c .before .before .before .before .before .loop .node) (c .before .before .before .before .before .before .before .before .args .clauses) (c .before .before .before .before .before .loop .code) (c .before .before .before .before .before .loop .k) (c .before .before .before .before .loop-test .taken) (c .before .before .before .before .before .before .before .before .pre .0) _ (c .before .before .before .before .before .loop .inv (c .before .before .before .before .before .before .before .before .pre .0) (c .before .before .before .before .before .before .before .before .pre .1 .0) (c .before .before .before .before .before .before .before .before .pre .1 .1))
 
--- src/clauses.rt:46:13
 word-at-requires : tie.Need-word-at-requires Inv-loop μ-loop
-word-at-requires c κs = ?
+word-at-requires c κs = clause-ends (c .before .before .before .before .before .before .before .before .before .args .table .now) (c .before .before .before .before .before .before .loop .at) (heads-clause (c .before .before .before .before .before .before .before .before .before .args .table .now) (c .before .before .before .before .before .before .loop .at) (c .before .before .before .before .before .before .loop .node) (c .before .before .before .before .before .before .before .before .before .args .clauses) (c .before .before .before .before .before .before .loop .code) (c .before .before .before .before .before .before .loop .k) (c .before .before .before .before .before .loop-test .taken) (c .before .before .before .before .before .before .before .before .before .pre .0) _ (c .before .before .before .before .before .before .loop .inv (c .before .before .before .before .before .before .before .before .before .pre .0) (c .before .before .before .before .before .before .before .before .before .pre .1 .0) (c .before .before .before .before .before .before .before .before .before .pre .1 .1)) .0) (heads-clause (c .before .before .before .before .before .before .before .before .before .args .table .now) (c .before .before .before .before .before .before .loop .at) (c .before .before .before .before .before .before .loop .node) (c .before .before .before .before .before .before .before .before .before .args .clauses) (c .before .before .before .before .before .before .loop .code) (c .before .before .before .before .before .before .loop .k) (c .before .before .before .before .before .loop-test .taken) (c .before .before .before .before .before .before .before .before .before .pre .0) _ (c .before .before .before .before .before .before .loop .inv (c .before .before .before .before .before .before .before .before .before .pre .0) (c .before .before .before .before .before .before .before .before .before .pre .1 .0) (c .before .before .before .before .before .before .before .before .before .pre .1 .1)) .1) .0
 
--- src/clauses.rt:47:9
 add-at : tie.Need-add-at Inv-loop μ-loop
-add-at c = ?
+add-at c = omega (arith, c .word-at .ensures, clause-ends (c .before .before .before .before .before .before .before .before .before .before .args .table .now) (c .before .before .before .before .before .before .before .loop .at) (heads-clause (c .before .before .before .before .before .before .before .before .before .before .args .table .now) (c .before .before .before .before .before .before .before .loop .at) (c .before .before .before .before .before .before .before .loop .node) (c .before .before .before .before .before .before .before .before .before .before .args .clauses) (c .before .before .before .before .before .before .before .loop .code) (c .before .before .before .before .before .before .before .loop .k) (c .before .before .before .before .before .before .loop-test .taken) (c .before .before .before .before .before .before .before .before .before .before .pre .0) _ (c .before .before .before .before .before .before .before .loop .inv (c .before .before .before .before .before .before .before .before .before .before .pre .0) (c .before .before .before .before .before .before .before .before .before .before .pre .1 .0) (c .before .before .before .before .before .before .before .before .before .before .pre .1 .1)) .0) (heads-clause (c .before .before .before .before .before .before .before .before .before .before .args .table .now) (c .before .before .before .before .before .before .before .loop .at) (c .before .before .before .before .before .before .before .loop .node) (c .before .before .before .before .before .before .before .before .before .before .args .clauses) (c .before .before .before .before .before .before .before .loop .code) (c .before .before .before .before .before .before .before .loop .k) (c .before .before .before .before .before .before .loop-test .taken) (c .before .before .before .before .before .before .before .before .before .before .pre .0) _ (c .before .before .before .before .before .before .before .loop .inv (c .before .before .before .before .before .before .before .before .before .before .pre .0) (c .before .before .before .before .before .before .before .before .before .before .pre .1 .0) (c .before .before .before .before .before .before .before .before .before .before .pre .1 .1)) .1) .1)
 
--- src/clauses.rt:48:9
 add-node : tie.Need-add-node Inv-loop μ-loop
-add-node c = ?
+add-node c = omega (arith, heads-size (c .before .before .before .before .before .before .before .before .before .before .args .table .now) (c .before .before .before .before .before .before .before .loop .at) (c .before .before .before .before .before .before .before .loop .node) (c .before .before .before .before .before .before .before .before .before .before .args .clauses) (c .before .before .before .before .before .before .before .loop .code) (c .before .before .before .before .before .before .before .loop .k) (c .before .before .before .before .before .before .loop-test .taken) (c .before .clause-nodes .result) (c .before .clause-nodes .ensures) (c .before .before .before .before .before .before .before .before .before .before .pre .0) _ (c .before .before .before .before .before .before .before .loop .inv (c .before .before .before .before .before .before .before .before .before .before .pre .0) (c .before .before .before .before .before .before .before .before .before .before .pre .1 .0) (c .before .before .before .before .before .before .before .before .before .before .pre .1 .1)))
 
--- src/clauses.rt:49:9
 add-k : tie.Need-add-k Inv-loop μ-loop
-add-k c = ?
+add-k c = omega (arith, heads-room (c .before .before .before .before .before .before .before .before .before .before .args .table .now) (c .before .before .before .before .before .before .before .loop .at) (c .before .before .before .before .before .before .before .loop .node) (c .before .before .before .before .before .before .before .before .before .before .args .clauses) (c .before .before .before .before .before .before .before .loop .code) (c .before .before .before .before .before .before .before .loop .k) (c .before .before .before .before .before .before .loop-test .taken) (c .before .before .before .before .before .before .before .before .before .before .pre .0) _ (c .before .before .before .before .before .before .before .loop .inv (c .before .before .before .before .before .before .before .before .before .before .pre .0) (c .before .before .before .before .before .before .before .before .before .before .pre .1 .0) (c .before .before .before .before .before .before .before .before .before .before .pre .1 .1)) .0)
 
--- src/clauses.rt:43:5
 loop-less : tie.Need-loop-less Inv-loop μ-loop
-loop-less c = ?
+loop-less c = omega arith
 
--- src/clauses.rt:43:5
 loop-again : tie.Need-loop-again Inv-loop μ-loop
-loop-again c = ?
+loop-again c = λ ss cls w. heads-next (c .before .before .before .before .before .before .before .before .before .before .args .table .now) (c .before .before .before .before .before .before .before .loop .at) (c .before .before .before .before .before .before .before .loop .node) (c .before .before .before .before .before .before .before .before .before .before .args .clauses) (c .before .before .before .before .before .before .before .loop .code) (c .before .before .before .before .before .before .before .loop .k) (c .before .before .before .before .before .before .loop-test .taken) (c .before .clause-nodes .result) (c .before .clause-nodes .ensures) _ (c .before .before .before .before .put .ensures) (c .word-at .result) (c .word-at .ensures) ss _ (c .before .before .before .before .before .before .before .loop .inv ss cls w)
 
--- src/clauses.rt:36:1
 same-length : tie.Need-same-length Inv-loop μ-loop
-same-length c = ?
+same-length c = ap length (heads-end (c .before .before .before .before .pre .0) _ (c .before .before .before .before .args .table .now) (c .before .loop .at) (c .before .loop .node) (c .before .before .before .before .args .clauses) (c .before .loop .code) (c .before .loop .k) (c .loop-test .left) (c .before .loop .inv (c .before .before .before .before .pre .0) (c .before .before .before .before .pre .1 .0) (c .before .before .before .before .pre .1 .1))) ∙ heads-long (c .before .before .before .before .pre .0) (c .before .before .before .before .args .q) (c .before .before .before .before .pre .1 .0) (c .before .before .before .before .args .code .now) 1
 
--- src/clauses.rt:36:1
 returns : tie.Need-returns Inv-loop μ-loop
-returns c = ?
+returns c = λ ss cls w. heads-end ss _ (c .before .before .before .before .args .table .now) (c .before .loop .at) (c .before .loop .node) (c .before .before .before .before .args .clauses) (c .before .loop .code) (c .before .loop .k) (c .loop-test .left) (c .before .loop .inv ss cls w)
 
 pub put-heads-spec : {M : Type 1} → statement M
 put-heads-spec =

@@ -1,4 +1,5 @@
 -- `linker::walk::nodes_of` meets its contract. Assumes nothing.
+use Rattle.linker.proofs.Sizes.{nodes-of-is}
 use native.Mathlib.Omega.{arith}
 use borrow.Author.Needs.{needs}
 use Rattle.linker.proofs.walk.nodes_of.Statement.{statement}
@@ -11,7 +12,7 @@ mul-result : tie.Need-mul-result
 mul-result c = search needs
 
 returns : tie.Need-returns
-returns c = λ n e. omega arith
+returns c = nodes-of-is (c .args .words) (c .args .marks)
 
 pub nodes-of-spec : {M : Type 1} → statement M
 nodes-of-spec = tie.close (tie.spec sub-result mul-result returns)

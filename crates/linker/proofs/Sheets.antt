@@ -1,0 +1,301 @@
+-- Laws for the functions that go along the clauses, one for each way out. Assumes nothing.
+use Prim.Native.Nat.{ℕ, zero, suc, _+_, _-_, _*_, _≤_, _<_}
+use native.Mathlib.Omega.{arith}
+use mathlib.Core.Path.{_≡_, refl, sym, ap, ap₂, _∙_, subst, subst⁻¹}
+use mathlib.Core.Bool.{_&&_}
+use mathlib.Core.List.{List, [], _∷_, _++_}
+use lib.Dec.{T}
+use lib.ListN.{length, getD, set, length-set, length-append}
+use Rattle.syntax.specs.Terms.{termOf, Body, Clause, Sheet}
+use Rattle.syntax.specs.Words.{atomWords, bodyWords, bodyLength, clauseWords, clausesWords}
+use Rattle.machine.specs.Machine.{nextFor}
+use Rattle.machine.proofs.Tests.{both}
+use Rattle.modes.specs.Tables.{Has}
+use Rattle.modes.proofs.Places.{has-left, has-right, size-is}
+use Rattle.layout.specs.Nodes.{Symbol, loadedWords, isLoadable, Has as HasNodes}
+use Rattle.layout.specs.Limits.{ClauseLimited, ClausesLimited}
+use Rattle.layout.specs.Program.{bodyNodes, clauseNodes, clausesNodes, bodyLoadable, clausesLoadable}
+use Rattle.layout.proofs.Nodes.{has-left as nodes-left, has-right as nodes-right}
+use Rattle.linker.specs.Records.{putPair, putBody, bodyPlace, putHeads, putClause, putClauses, sought}
+use Rattle.linker.specs.Places.{Searchable, Headed, BodyTo, HeadsTo, ClauseTo, ClausesTo}
+use Rattle.linker.proofs.Sizes.{Fits, term-fits, Says, says}
+use Rattle.linker.proofs.Seeking.{atom-word, atom-listed, searchable, next-is}
+use Rattle.linker.proofs.Writing.{SameHeads, pair-long, pair-heads, heads-long, headed-kept, Kept, clause-kept, clauses-kept}
+use Rattle.linker.proofs.Turns.{end-inside, loaded-size, loaded-fits, next-bound}
+
+-- ---- the first of some clauses
+
+first-words : (table : List ℕ) (p : ℕ) (cl : Clause) (cls : List Clause) → Has table p (clausesWords (cl ∷ cls)) → Has table p (clauseWords cl)
+unfolding clausesWords
+first-words table p cl cls h = has-left table p (clauseWords cl) (clausesWords cls) h
+
+rest-words : (table : List ℕ) (p words : ℕ) (cl : Clause) (cls : List Clause) → words ≡ getD table p 0 → Has table p (clausesWords (cl ∷ cls)) → Has table (p + words) (clausesWords cls)
+unfolding clausesWords
+rest-words table p words cl cls e h =
+    let s : getD table p 0 ≡ length (clauseWords cl) = says [] table p cl (first-words table p cl cls h) .size in
+    subst⁻¹ (λ (k : ℕ). Has table (p + k) (clausesWords cls)) (e ∙ s) (has-right table p (clauseWords cl) (clausesWords cls) h)
+
+clauses-sum : (ss : List Symbol) (cl : Clause) (cls : List Clause) → length (clausesNodes ss (cl ∷ cls)) ≡ length (clauseNodes ss cl) + length (clausesNodes ss cls)
+unfolding clausesNodes
+clauses-sum ss cl cls = length-append (clauseNodes ss cl) (clausesNodes ss cls)
+
+-- where the code goes on: the clause at p ends inside the table
+pub clause-ends : (table : List ℕ) (p : ℕ) (cl : Clause) → Has table p (clauseWords cl) → (p < length table) × (p + getD table p 0 ≤ length table)
+clause-ends table p cl h =
+    let s : Says [] table p cl = says [] table p cl h in
+    let a : p + 2 < length table = s .inside in
+    (omega arith, s .fits)
+
+-- ---- heads
+
+-- What is left of the heads, from number k on, makes the whole.
+pub record HeadsAhead (ss : List Symbol) (whole table : List ℕ) (at node clauses : ℕ) (code : List ℕ) (k : ℕ) : Type 0 where
+  pub rest : List Clause
+  pub ready : HeadsTo ss rest table at node clauses code k
+  pub gives : putHeads ss node rest code k ≡ whole
+
+pub heads-begin : (ss : List Symbol) (cls : List Clause) (table : List ℕ) (q clauses : ℕ) (code : List ℕ) → HeadsTo ss cls table 0 q clauses code 1 → HeadsAhead ss (putHeads ss q cls code 1) table 0 q clauses code 1
+heads-begin ss cls table q clauses code w = record { rest = cls; ready = w; gives = refl }
+
+pub heads-length : (ss : List Symbol) (whole table : List ℕ) (at node clauses : ℕ) (code : List ℕ) (k : ℕ) → HeadsAhead ss whole table at node clauses code k → length whole ≡ length code
+heads-length ss whole table at node clauses code k w = sym (ap length (w .gives)) ∙ heads-long ss node (w .rest) code k
+
+module _ (table : List ℕ) (at node clauses : ℕ) (code : List ℕ) (k : ℕ) (l : k ≤ clauses) where
+  clause-in : (ss : List Symbol) (cls : List Clause) → HeadsTo ss cls table at node clauses code k → (cl : Clause) × Has table at (clauseWords cl)
+  clause-in ss [] w = absurd (let z : k + 0 ≡ suc clauses = w .count in omega arith)
+  clause-in ss (cl ∷ cls) w = (cl, first-words table at cl cls (w .has))
+
+  pub heads-clause : (ss : List Symbol) (whole : List ℕ) → HeadsAhead ss whole table at node clauses code k → (cl : Clause) × Has table at (clauseWords cl)
+  heads-clause ss whole w = clause-in ss (w .rest) (w .ready)
+
+  pub heads-room : (ss : List Symbol) (whole : List ℕ) → HeadsAhead ss whole table at node clauses code k → (k ≤ 256) × ((k * 4 < length code) × (node ≤ 65536))
+  heads-room ss whole w =
+      let a : clauses ≤ 256 = w .ready .few in
+      let b : 1028 ≤ length code = w .ready .long in
+      let c : node + length (clausesNodes ss (w .rest)) ≤ 65536 = w .ready .node in
+      (omega arith, (omega arith, omega arith))
+
+  module _ (size : ℕ) (z : (ss : List Symbol) (cl : Clause) → Has table at (clauseWords cl) → size ≡ length (clauseNodes ss cl)) where
+    size-fits : (ss : List Symbol) (cls : List Clause) → HeadsTo ss cls table at node clauses code k → node + size ≤ 65536
+    size-fits ss [] w = absurd (let y : k + 0 ≡ suc clauses = w .count in omega arith)
+    size-fits ss (cl ∷ cls) w =
+        let e : size ≡ length (clauseNodes ss cl) = z ss cl (first-words table at cl cls (w .has)) in
+        let s : length (clausesNodes ss (cl ∷ cls)) ≡ length (clauseNodes ss cl) + length (clausesNodes ss cls) = clauses-sum ss cl cls in
+        let n : node + length (clausesNodes ss (cl ∷ cls)) ≤ 65536 = w .node in
+        omega arith
+
+    pub heads-size : (ss : List Symbol) (whole : List ℕ) → HeadsAhead ss whole table at node clauses code k → node + size ≤ 65536
+    heads-size ss whole w = size-fits ss (w .rest) (w .ready)
+
+    module _ (new : List ℕ) (n : new ≡ set code (k * 4) node) (words : ℕ) (m : words ≡ getD table at 0) where
+      next-in : (ss : List Symbol) (whole : List ℕ) (cls : List Clause) → HeadsTo ss cls table at node clauses code k → putHeads ss node cls code k ≡ whole → HeadsAhead ss whole table (at + words) (node + size) clauses new (k + 1)
+      unfolding putHeads
+      next-in ss whole [] w g = absurd (let y : k + 0 ≡ suc clauses = w .count in omega arith)
+      next-in ss whole (cl ∷ cls) w g =
+          let f : node + size ≡ node + length (clauseNodes ss cl) = ap (λ (i : ℕ). node + i) (z ss cl (first-words table at cl cls (w .has))) in
+          let s : length (clausesNodes ss (cl ∷ cls)) ≡ length (clauseNodes ss cl) + length (clausesNodes ss cls) = clauses-sum ss cl cls in
+          let o : node + length (clausesNodes ss (cl ∷ cls)) ≤ 65536 = w .node in
+          let many : k + suc (length cls) ≡ suc clauses = w .count in
+          let long : length new ≡ length code = ap length n ∙ simp length-set in
+          let b : 1028 ≤ length code = w .long in
+          record {
+            rest = cls;
+            ready = record {
+              has = rest-words table at words cl cls m (w .has);
+              few = w .few;
+              low = omega arith;
+              count = omega arith;
+              long = omega arith;
+              node = omega arith;
+            };
+            gives = ap₂ (λ (i : ℕ) (c : List ℕ). putHeads ss i cls c (k + 1)) f n ∙ g;
+          }
+
+      pub heads-next : (ss : List Symbol) (whole : List ℕ) → HeadsAhead ss whole table at node clauses code k → HeadsAhead ss whole table (at + words) (node + size) clauses new (k + 1)
+      heads-next ss whole w = next-in ss whole (w .rest) (w .ready) (w .gives)
+
+pub heads-end : (ss : List Symbol) (whole table : List ℕ) (at node clauses : ℕ) (code : List ℕ) (k : ℕ) → clauses < k → HeadsAhead ss whole table at node clauses code k → code ≡ whole
+unfolding putHeads
+heads-end ss whole table at node clauses code k l w = go (w .rest) (w .ready .count) (w .gives)
+  where
+    go : (cls : List Clause) → k + length cls ≡ suc clauses → putHeads ss node cls code k ≡ whole → code ≡ whole
+    go [] c g = g
+    go (cl ∷ cls) c g = absurd (let z : k + suc (length cls) ≡ suc clauses = c in omega arith)
+
+-- ---- one clause
+
+head-stands : (ss : List Symbol) (nodes : List ℕ) (q : ℕ) (cl : Clause) → HasNodes nodes q (clauseNodes ss cl) → HasNodes nodes q (loadedWords ss (termOf (cl .head)))
+unfolding clauseNodes
+head-stands ss nodes q cl h = nodes-left nodes q (loadedWords ss (termOf (cl .head))) (bodyNodes ss (cl .body)) h
+
+body-stand : (ss : List Symbol) (nodes : List ℕ) (q : ℕ) (cl : Clause) → HasNodes nodes q (clauseNodes ss cl) → HasNodes nodes (q + length (loadedWords ss (termOf (cl .head)))) (bodyNodes ss (cl .body))
+unfolding clauseNodes
+body-stand ss nodes q cl h = nodes-right nodes q (loadedWords ss (termOf (cl .head))) (bodyNodes ss (cl .body)) h
+
+module _ (table : List ℕ) (p : ℕ) (nodes : List ℕ) (q clauses : ℕ) (code : List ℕ) (k : ℕ) where
+  module _ (ss : List Symbol) (sh : Sheet) (cl : Clause) (w : ClauseTo ss sh cl table p nodes q clauses code k) where
+    pub head-inside : q < length nodes
+    head-inside = atom-word ss nodes q (cl .head) (head-stands ss nodes q cl (w .stand)) .0
+
+    pub clause-search : Searchable nodes code clauses × (k ≤ clauses)
+    clause-search = (searchable ss sh nodes clauses code (w .headed), w .high)
+
+    pub clause-small : k ≤ 256
+    clause-small = let a : clauses ≤ 256 = w .headed .few in let b : k ≤ clauses = w .high in omega arith
+
+    pub clause-inside : p + 3 ≤ length table
+    clause-inside = let a : p + 2 < length table = says ss table p cl (w .has) .inside in omega arith
+
+    pub head-fits : Fits table (p + 3)
+    head-fits = term-fits table (p + 3) (termOf (cl .head)) (says ss table p cl (w .has) .head)
+
+    pub head-node-fits : Fits nodes q
+    head-node-fits = loaded-fits ss nodes q (termOf (cl .head)) (head-stands ss nodes q cl (w .stand))
+
+  module _ (word after : ℕ) (v : word ≡ getD nodes q 0) (s : after ≡ sought nodes code word (k + 1) (clauses - k)) where
+    after-is : (ss : List Symbol) (sh : Sheet) (cl : Clause) → ClauseTo ss sh cl table p nodes q clauses code k → after ≡ nextFor sh (cl .head) k
+    after-is ss sh cl w = next-is ss sh nodes clauses code (w .headed) (cl .head) (atom-listed ss (cl .head) (w .head-loadable)) word k after (v ∙ atom-word ss nodes q (cl .head) (head-stands ss nodes q cl (w .stand)) .1) s
+
+    pub pair-ready : (ss : List Symbol) (sh : Sheet) (cl : Clause) → ClauseTo ss sh cl table p nodes q clauses code k
+        → (k * 4 + 1 + 1 < length code) × ((1028 + k * 68 < 4294967296) × (after < 4294967296))
+    pair-ready ss sh cl w =
+        let a : after ≡ nextFor sh (cl .head) k = after-is ss sh cl w in
+        let b : nextFor sh (cl .head) k ≤ 257 = next-bound ss sh nodes clauses code (w .headed) (cl .head) k (w .high) in
+        let c : k ≤ 256 = clause-small ss sh cl w in
+        let d : 18504 ≤ length code = w .headed .room in
+        (omega arith, (omega arith, omega arith))
+
+    module _ (new : List ℕ) (n : new ≡ putPair code (k * 4 + 1) (1028 + k * 68) after) (literals first node : ℕ)
+        (m : literals ≡ getD table (p + 2) 0) (f : first ≡ p + 3 + getD table (p + 3 + 1) 0) (o : node ≡ q + getD nodes (q + 1) 0) where
+      node-is : (ss : List Symbol) (sh : Sheet) (cl : Clause) → ClauseTo ss sh cl table p nodes q clauses code k → node ≡ q + length (loadedWords ss (termOf (cl .head)))
+      node-is ss sh cl w = o ∙ ap (λ (i : ℕ). q + i) (loaded-size ss nodes q (termOf (cl .head)) (head-stands ss nodes q cl (w .stand)))
+
+      pub body-ready : (ss : List Symbol) (sh : Sheet) (cl : Clause) → ClauseTo ss sh cl table p nodes q clauses code k → BodyTo ss sh (cl .body) table first literals nodes node clauses new (1028 + k * 68)
+      body-ready ss sh cl w =
+          let said : Says ss table p cl = says ss table p cl (w .has) in
+          let z : getD table (p + 3 + 1) 0 ≡ length (atomWords (cl .head)) = size-is table (p + 3) (termOf (cl .head)) (said .head) in
+          let long : length new ≡ length code = ap length n ∙ pair-long code (k * 4 + 1) (1028 + k * 68) after in
+          let many : literals ≡ bodyLength (cl .body) = m ∙ said .literals in
+          let few : bodyLength (cl .body) ≤ 16 = w .short in
+          let small : k ≤ 256 = clause-small ss sh cl w in
+          let room : 18504 ≤ length code = w .headed .room in
+          let fits : q + getD nodes (q + 1) 0 ≤ length nodes = head-node-fits ss sh cl w .1 in
+          record {
+            headed = headed-kept ss sh nodes clauses code new long (subst⁻¹ (SameHeads code) n (pair-heads code k (1028 + k * 68) after)) (w .headed);
+            has = subst⁻¹ (λ (i : ℕ). Has table i (bodyWords (cl .body))) (f ∙ ap (λ (i : ℕ). p + 3 + i) z) (said .body);
+            count = many;
+            stand = subst⁻¹ (λ (i : ℕ). HasNodes nodes i (bodyNodes ss (cl .body))) (node-is ss sh cl w) (body-stand ss nodes q cl (w .stand));
+            loadable = w .body-loadable;
+            node = omega arith;
+            low = omega arith;
+            high = omega arith;
+          }
+
+      pub clause-put : (exit : List ℕ) → ((ss : List Symbol) (sh : Sheet) (b : Body) → BodyTo ss sh b table first literals nodes node clauses new (1028 + k * 68) → exit ≡ putBody ss sh node b new (1028 + k * 68))
+          → (ss : List Symbol) (sh : Sheet) (cl : Clause) → ClauseTo ss sh cl table p nodes q clauses code k → exit ≡ putClause ss sh q cl code k
+      unfolding putClause
+      clause-put exit x ss sh cl w =
+          x ss sh (cl .body) (body-ready ss sh cl w)
+          ∙ ap₂ (λ (i : ℕ) (c : List ℕ). putBody ss sh i (cl .body) c (1028 + k * 68)) (node-is ss sh cl w) (n ∙ ap (λ (i : ℕ). putPair code (k * 4 + 1) (1028 + k * 68) i) (after-is ss sh cl w))
+
+-- ---- all clauses
+
+-- What is left of the clauses, from number k on, makes the whole.
+pub record ClausesAhead (ss : List Symbol) (sh : Sheet) (whole table : List ℕ) (at : ℕ) (nodes : List ℕ) (node clauses : ℕ) (code : List ℕ) (k : ℕ) : Type 0 where
+  pub rest : List Clause
+  pub ready : ClausesTo ss sh rest table at nodes node clauses code k
+  pub gives : putClauses ss sh node rest code k ≡ whole
+
+pub clauses-begin : (ss : List Symbol) (sh : Sheet) (cls : List Clause) (table nodes : List ℕ) (q clauses : ℕ) (code : List ℕ) → ClausesTo ss sh cls table 0 nodes q clauses code 1
+    → ClausesAhead ss sh (putClauses ss sh q cls code 1) table 0 nodes q clauses code 1
+clauses-begin ss sh cls table nodes q clauses code w = record { rest = cls; ready = w; gives = refl }
+
+pub clauses-length : (ss : List Symbol) (sh : Sheet) (whole table : List ℕ) (at : ℕ) (nodes : List ℕ) (node clauses : ℕ) (code : List ℕ) (k : ℕ) → ClausesAhead ss sh whole table at nodes node clauses code k → length whole ≡ length code
+clauses-length ss sh whole table at nodes node clauses code k w =
+    let a : k + length (w .rest) ≡ suc clauses = w .ready .count in
+    let b : clauses ≤ 256 = w .ready .headed .few in
+    sym (ap length (w .gives)) ∙ clauses-kept ss sh node (w .rest) code k (omega arith) .long
+
+-- the first clause and the rest
+record Split (ss : List Symbol) (sh : Sheet) (table : List ℕ) (at : ℕ) (nodes : List ℕ) (node clauses : ℕ) (code : List ℕ) (k : ℕ) (cl : Clause) (cls : List Clause) : Type 0 where
+  clause : ClauseTo ss sh cl table at nodes node clauses code k
+  stand : HasNodes nodes (node + length (clauseNodes ss cl)) (clausesNodes ss cls)
+  loadable : T (clausesLoadable ss cls)
+  limited : ClausesLimited cls
+  inside : node + length (clauseNodes ss cl) ≤ length nodes
+
+split : (table : List ℕ) (at : ℕ) (nodes : List ℕ) (node clauses : ℕ) (code : List ℕ) (k : ℕ) → k ≤ clauses → (ss : List Symbol) (sh : Sheet) (cl : Clause) (cls : List Clause) → ClausesTo ss sh (cl ∷ cls) table at nodes node clauses code k
+    → Split ss sh table at nodes node clauses code k cl cls
+unfolding clausesNodes clausesLoadable
+split table at nodes node clauses code k l ss sh cl cls w =
+    let oks : T (isLoadable ss (termOf (cl .head)) && bodyLoadable ss (cl .body)) × T (clausesLoadable ss cls) = both (isLoadable ss (termOf (cl .head)) && bodyLoadable ss (cl .body)) (clausesLoadable ss cls) (w .loadable) in
+    let ok : T (isLoadable ss (termOf (cl .head))) × T (bodyLoadable ss (cl .body)) = both (isLoadable ss (termOf (cl .head))) (bodyLoadable ss (cl .body)) (oks .0) in
+    let first : HasNodes nodes node (clauseNodes ss cl) = nodes-left nodes node (clauseNodes ss cl) (clausesNodes ss cls) (w .stand) in
+    let inside : node < length nodes = atom-word ss nodes node (cl .head) (head-stands ss nodes node cl first) .0 in
+    record {
+      clause = record { headed = w .headed; has = first-words table at cl cls (w .has); stand = first; head-loadable = ok .0; body-loadable = ok .1; short = w .limited .0 .body .few; low = w .low; high = l };
+      stand = nodes-right nodes node (clauseNodes ss cl) (clausesNodes ss cls) (w .stand);
+      loadable = oks .1;
+      limited = w .limited .1;
+      inside = end-inside nodes node (clauseNodes ss cl) (omega arith) first;
+    }
+
+module _ (table : List ℕ) (at : ℕ) (nodes : List ℕ) (node clauses : ℕ) (code : List ℕ) (k : ℕ) (l : k ≤ clauses) where
+  to-clause : (ss : List Symbol) (sh : Sheet) (cls : List Clause) → ClausesTo ss sh cls table at nodes node clauses code k → (cl : Clause) × ClauseTo ss sh cl table at nodes node clauses code k
+  to-clause ss sh [] w = absurd (let z : k + 0 ≡ suc clauses = w .count in omega arith)
+  to-clause ss sh (cl ∷ cls) w = (cl, split table at nodes node clauses code k l ss sh cl cls w .clause)
+
+  pub ahead-clause : (ss : List Symbol) (sh : Sheet) (whole : List ℕ) → ClausesAhead ss sh whole table at nodes node clauses code k → (cl : Clause) × ClauseTo ss sh cl table at nodes node clauses code k
+  ahead-clause ss sh whole w = to-clause ss sh (w .rest) (w .ready)
+
+  module _ (new : List ℕ) (n : (ss : List Symbol) (sh : Sheet) (cl : Clause) → ClauseTo ss sh cl table at nodes node clauses code k → new ≡ putClause ss sh node cl code k)
+      (size : ℕ) (z : (ss : List Symbol) (cl : Clause) → Has table at (clauseWords cl) → size ≡ length (clauseNodes ss cl)) where
+    pub node-fits : (ss : List Symbol) (sh : Sheet) (whole : List ℕ) → ClausesAhead ss sh whole table at nodes node clauses code k → node + size ≤ 65536
+    node-fits ss sh whole w = go (w .rest) (w .ready)
+      where
+        go : (cls : List Clause) → ClausesTo ss sh cls table at nodes node clauses code k → node + size ≤ 65536
+        go [] v = absurd (let y : k + 0 ≡ suc clauses = v .count in omega arith)
+        go (cl ∷ cls) v =
+            let o : Split ss sh table at nodes node clauses code k cl cls = split table at nodes node clauses code k l ss sh cl cls v in
+            let e : size ≡ length (clauseNodes ss cl) = z ss cl (o .clause .has) in
+            let i : node + length (clauseNodes ss cl) ≤ length nodes = o .inside in
+            let s : length nodes ≤ 65536 = v .headed .nodes-short in
+            omega arith
+
+    module _ (words : ℕ) (m : words ≡ getD table at 0) where
+      after-in : (ss : List Symbol) (sh : Sheet) (whole : List ℕ) (cls : List Clause) → ClausesTo ss sh cls table at nodes node clauses code k → putClauses ss sh node cls code k ≡ whole
+          → ClausesAhead ss sh whole table (at + words) nodes (node + size) clauses new (k + 1)
+      unfolding putClauses
+      after-in ss sh whole [] w g = absurd (let y : k + 0 ≡ suc clauses = w .count in omega arith)
+      after-in ss sh whole (cl ∷ cls) w g =
+          let o : Split ss sh table at nodes node clauses code k cl cls = split table at nodes node clauses code k l ss sh cl cls w in
+          let f : node + size ≡ node + length (clauseNodes ss cl) = ap (λ (i : ℕ). node + i) (z ss cl (o .clause .has)) in
+          let new-is : new ≡ putClause ss sh node cl code k = n ss sh cl (o .clause) in
+          let few : clauses ≤ 256 = w .headed .few in
+          let kept : Kept code (putClause ss sh node cl code k) k = clause-kept ss sh node cl code k (omega arith) in
+          let many : k + suc (length cls) ≡ suc clauses = w .count in
+          record {
+            rest = cls;
+            ready = record {
+              headed = headed-kept ss sh nodes clauses code new (ap length new-is ∙ kept .long) (subst⁻¹ (SameHeads code) new-is (kept .heads)) (w .headed);
+              has = rest-words table at words cl cls m (w .has);
+              stand = subst⁻¹ (λ (i : ℕ). HasNodes nodes i (clausesNodes ss cls)) f (o .stand);
+              loadable = o .loadable;
+              limited = o .limited;
+              low = omega arith;
+              count = omega arith;
+            };
+            gives = ap₂ (λ (i : ℕ) (c : List ℕ). putClauses ss sh i cls c (k + 1)) f new-is ∙ g;
+          }
+
+      pub clauses-next : (ss : List Symbol) (sh : Sheet) (whole : List ℕ) → ClausesAhead ss sh whole table at nodes node clauses code k
+          → ClausesAhead ss sh whole table (at + words) nodes (node + size) clauses new (k + 1)
+      clauses-next ss sh whole w = after-in ss sh whole (w .rest) (w .ready) (w .gives)
+
+pub clauses-end : (ss : List Symbol) (sh : Sheet) (whole table : List ℕ) (at : ℕ) (nodes : List ℕ) (node clauses : ℕ) (code : List ℕ) (k : ℕ) → clauses < k → ClausesAhead ss sh whole table at nodes node clauses code k → code ≡ whole
+unfolding putClauses
+clauses-end ss sh whole table at nodes node clauses code k l w = go (w .rest) (w .ready .count) (w .gives)
+  where
+    go : (cls : List Clause) → k + length cls ≡ suc clauses → putClauses ss sh node cls code k ≡ whole → code ≡ whole
+    go [] c g = g
+    go (cl ∷ cls) c g = absurd (let z : k + suc (length cls) ≡ suc clauses = c in omega arith)
