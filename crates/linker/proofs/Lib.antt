@@ -4,3 +4,4 @@ pub mod Writing
 pub mod Turns
 pub mod Sheets
 pub mod Whole
+pub mod Witness

@@ -1,0 +1,67 @@
+-- There is something to link: what `link` asks can be met. Assumes nothing.
+use Prim.Native.Nat.{ℕ}
+use native.Mathlib.Omega.{arith}
+use mathlib.Core.Path.{_≡_, refl}
+use mathlib.Core.List.{List, [], _∷_}
+use lib.ListN.{length, replicate, length-replicate}
+use Rattle.syntax.specs.Quote.{bytes}
+use Rattle.syntax.specs.Terms.{Atom, nil, call, done, also, Clause, Sheet, Goal, sameBytes}
+use Rattle.syntax.specs.Words.{termWords, literalWords, bodyWords, bodyLength, clauseWords, clausesWords}
+use Rattle.modes.specs.Tables.{Has}
+use Rattle.layout.specs.Nodes.{Symbol, symbolOf, isSymbol, isListed, loadedWords, isLoadable, bracketsOf, Has as HasNodes}
+use Rattle.layout.specs.Limits.{SheetLimited, GoalLimited}
+use Rattle.layout.specs.Program.{literalNodes, bodyNodes, clauseNodes, clausesNodes, programNodes, literalLoadable, bodyLoadable, clausesLoadable}
+use Rattle.linker.specs.Linking.{Linkable}
+
+-- the sheet `p.` and the goal `p.`
+abbrev p : Atom
+p = record { at = 0; name = bytes "p"; args = nil }
+
+abbrev sheet : Sheet
+sheet = record { declarations = []; clauses = record { head = p; body = done; variables = 0 } ∷ [] }
+
+abbrev goal : Goal
+goal = record { body = also (call p) done; names = [] }
+
+abbrev symbols : List Symbol
+symbols = record { name = bytes "p"; arguments = 0 } ∷ []
+
+abbrev table : List ℕ
+table = 6 ∷ 0 ∷ 0 ∷ 65 ∷ 3 ∷ 0 ∷ []
+
+abbrev goals : List ℕ
+goals = 2 ∷ 65 ∷ 3 ∷ 0 ∷ []
+
+abbrev nodes : List ℕ
+nodes = 64 ∷ 2 ∷ 64 ∷ 2 ∷ []
+
+unfoldable pub code : List ℕ
+code = replicate 18504 0
+
+code-long : length code ≡ 18504
+unfolding code
+code-long = length-replicate {A = ℕ} 18504 0
+
+pub witness : Linkable table 1 goals 1 nodes code
+unfolding Has clausesWords clauseWords termWords bodyWords literalWords loadedWords symbolOf isSymbol isListed isLoadable bracketsOf sameBytes literalNodes bodyNodes clauseNodes clausesNodes programNodes literalLoadable bodyLoadable clausesLoadable
+witness =
+    let l : length code ≡ 18504 = code-long in
+    record {
+      ss = symbols;
+      sh = sheet;
+      g = goal;
+      has-clauses = (omega arith, (refl, (omega arith, (refl, (omega arith, (refl, (omega arith, (refl, (omega arith, (refl, (omega arith, (refl, tt))))))))))));
+      clauses-count = refl;
+      has-goal = (omega arith, (refl, (omega arith, (refl, (omega arith, (refl, (omega arith, (refl, tt))))))));
+      literals-count = refl;
+      limits = record { clauses = (record { head = omega arith; body = record { each = tt; few = omega arith } }, tt); few = omega arith };
+      goal-limits = record { each = (omega arith, tt); few = omega arith };
+      nodes-stand = (omega arith, refl, (omega arith, refl, (omega arith, refl, (omega arith, refl, tt))));
+      goal-loadable = tt;
+      clauses-loadable = tt;
+      nodes-short = omega arith;
+      table-short = omega arith;
+      goals-short = omega arith;
+      code-room = omega arith;
+      code-short = omega arith;
+    }
