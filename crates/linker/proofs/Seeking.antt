@@ -1,11 +1,11 @@
 -- Laws of the search by predicate: a head has an atom's predicate exactly if the first words of their nodes are the same. Assumes nothing.
-use Prim.Native.Nat.{ℕ, zero, suc, _+_, _-_, _*_, _≤_, _<_}
+use Prim.Native.Nat.{ℕ, zero, suc, _+_, _-_, _≤_, _<_}
 use native.Mathlib.Numerals.{add-one}
 use native.Mathlib.Omega.{arith}
-use mathlib.Core.Path.{_≡_, refl, sym, ap, ap₂, _∙_, subst, subst⁻¹}
-use mathlib.Core.Bool.{Bool, true, false, _&&_}
+use mathlib.Core.Path.{_≡_, refl, sym, ap, ap₂, _∙_, subst}
+use mathlib.Core.Bool.{Bool, true, false}
 use mathlib.Core.List.{List, [], _∷_}
-use mathlib.Core.Option.{Option, none, some}
+use mathlib.Core.Option.{some}
 use lib.Dec.{T, eqb, eqb→eq, eqb-refl}
 use lib.ListN.{length, getD, drop, length-drop}
 use Rattle.syntax.specs.Terms.{arity, Atom, termOf, sameName, samePredicate, Clause, Sheet}
@@ -68,16 +68,16 @@ same-symbol : (ss : List Symbol) (f g : List ℕ) (n m : ℕ) → T (isListed ss
 same-symbol ss f g n m h k =
     bool-eq (eqb (64 + symbolOf ss f n) (64 + symbolOf ss g m)) (samePredicate f n g m)
     (λ t.
-      let z : 64 + symbolOf ss f n ≡ 64 + symbolOf ss g m = eqb→eq (64 + symbolOf ss f n) (64 + symbolOf ss g m) t in
-      let y : symbolOf ss f n ≡ symbolOf ss g m = omega arith in
-      let arities : n ≡ m = arguments-of ss f g n m h k y in
-      let names : f ≡ g = sym (name-of ss f n h) ∙ (ap (nameOf ss) y ∙ name-of ss g m k) in
-      and (eqb n m) (sameName f g) (subst (λ (i : ℕ). T (eqb n i)) arities (eqb-refl n)) (subst (λ (i : List ℕ). T (sameName f i)) names (name-refl f)))
+    let z : 64 + symbolOf ss f n ≡ 64 + symbolOf ss g m = eqb→eq (64 + symbolOf ss f n) (64 + symbolOf ss g m) t in
+    let y : symbolOf ss f n ≡ symbolOf ss g m = omega arith in
+    let arities : n ≡ m = arguments-of ss f g n m h k y in
+    let names : f ≡ g = sym (name-of ss f n h) ∙ (ap (nameOf ss) y ∙ name-of ss g m k) in
+    and (eqb n m) (sameName f g) (subst (λ (i : ℕ). T (eqb n i)) arities (eqb-refl n)) (subst (λ (i : List ℕ). T (sameName f i)) names (name-refl f)))
     (λ t.
-      let o : T (eqb n m) × T (sameName f g) = both (eqb n m) (sameName f g) t in
-      let arities : n ≡ m = eqb→eq n m (o .0) in
-      let names : f ≡ g = name-eq f g (o .1) in
-      subst (λ (i : ℕ). T (eqb (64 + symbolOf ss f n) i)) (ap (λ (i : ℕ). 64 + i) (ap₂ (symbolOf ss) names arities)) (eqb-refl (64 + symbolOf ss f n)))
+    let o : T (eqb n m) × T (sameName f g) = both (eqb n m) (sameName f g) t in
+    let arities : n ≡ m = eqb→eq n m (o .0) in
+    let names : f ≡ g = name-eq f g (o .1) in
+    subst (λ (i : ℕ). T (eqb (64 + symbolOf ss f n) i)) (ap (λ (i : ℕ). 64 + i) (ap₂ (symbolOf ss) names arities)) (eqb-refl (64 + symbolOf ss f n)))
 
 -- the first word of an atom's node
 abbrev pub wordOf : List Symbol → Atom → ℕ

@@ -1,9 +1,9 @@
 -- Laws for the functions that go along the clauses, one for each way out. Assumes nothing.
-use Prim.Native.Nat.{ℕ, zero, suc, _+_, _-_, _*_, _≤_, _<_}
+use Prim.Native.Nat.{ℕ, suc, _+_, _-_, _*_, _≤_, _<_}
 use native.Mathlib.Omega.{arith}
-use mathlib.Core.Path.{_≡_, refl, sym, ap, ap₂, _∙_, subst, subst⁻¹}
+use mathlib.Core.Path.{_≡_, refl, sym, ap, ap₂, _∙_, subst⁻¹}
 use mathlib.Core.Bool.{_&&_}
-use mathlib.Core.List.{List, [], _∷_, _++_}
+use mathlib.Core.List.{List, [], _∷_}
 use lib.Dec.{T}
 use lib.ListN.{length, getD, set, length-set, length-append}
 use Rattle.syntax.specs.Terms.{termOf, Body, Clause, Sheet}
@@ -13,15 +13,15 @@ use Rattle.machine.proofs.Tests.{both}
 use Rattle.modes.specs.Tables.{Has}
 use Rattle.modes.proofs.Places.{has-left, has-right, size-is}
 use Rattle.layout.specs.Nodes.{Symbol, loadedWords, isLoadable, Has as HasNodes}
-use Rattle.layout.specs.Limits.{ClauseLimited, ClausesLimited}
+use Rattle.layout.specs.Limits.{ClausesLimited}
 use Rattle.layout.specs.Program.{bodyNodes, clauseNodes, clausesNodes, bodyLoadable, clausesLoadable}
-use Rattle.layout.proofs.Nodes.{has-left as nodes-left, has-right as nodes-right}
-use Rattle.linker.specs.Records.{putPair, putBody, bodyPlace, putHeads, putClause, putClauses, sought}
-use Rattle.linker.specs.Places.{Searchable, Headed, BodyTo, HeadsTo, ClauseTo, ClausesTo}
+use Rattle.layout.proofs.Nodes.{size-word, has-left as nodes-left, has-right as nodes-right}
+use Rattle.linker.specs.Records.{putPair, putBody, putHeads, putClause, putClauses, sought}
+use Rattle.linker.specs.Places.{Searchable, BodyTo, HeadsTo, ClauseTo, ClausesTo}
 use Rattle.linker.proofs.Sizes.{Fits, term-fits, Says, says}
 use Rattle.linker.proofs.Seeking.{atom-word, atom-listed, searchable, next-is}
 use Rattle.linker.proofs.Writing.{SameHeads, pair-long, pair-heads, heads-long, headed-kept, Kept, clause-kept, clauses-kept}
-use Rattle.linker.proofs.Turns.{end-inside, loaded-size, loaded-fits, next-bound}
+use Rattle.linker.proofs.Turns.{end-inside, loaded-fits, next-bound}
 
 -- ---- the first of some clauses
 
@@ -168,7 +168,7 @@ module _ (table : List ℕ) (p : ℕ) (nodes : List ℕ) (q clauses : ℕ) (code
     module _ (new : List ℕ) (n : new ≡ putPair code (k * 4 + 1) (1028 + k * 68) after) (literals first node : ℕ)
         (m : literals ≡ getD table (p + 2) 0) (f : first ≡ p + 3 + getD table (p + 3 + 1) 0) (o : node ≡ q + getD nodes (q + 1) 0) where
       node-is : (ss : List Symbol) (sh : Sheet) (cl : Clause) → ClauseTo ss sh cl table p nodes q clauses code k → node ≡ q + length (loadedWords ss (termOf (cl .head)))
-      node-is ss sh cl w = o ∙ ap (λ (i : ℕ). q + i) (loaded-size ss nodes q (termOf (cl .head)) (head-stands ss nodes q cl (w .stand)))
+      node-is ss sh cl w = o ∙ ap (λ (i : ℕ). q + i) (size-word ss nodes q (termOf (cl .head)) (head-stands ss nodes q cl (w .stand)))
 
       pub body-ready : (ss : List Symbol) (sh : Sheet) (cl : Clause) → ClauseTo ss sh cl table p nodes q clauses code k → BodyTo ss sh (cl .body) table first literals nodes node clauses new (1028 + k * 68)
       body-ready ss sh cl w =

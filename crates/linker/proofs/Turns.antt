@@ -1,19 +1,19 @@
 -- Laws for the functions, one for each way out. Assumes nothing.
-use Prim.Native.Nat.{ℕ, zero, suc, _+_, _-_, _*_, _≤_, _<_}
+use Prim.Native.Nat.{ℕ, suc, _+_, _-_, _*_, _≤_, _<_}
 use native.Mathlib.Omega.{arith}
-use mathlib.Core.Path.{_≡_, refl, sym, ap, ap₂, _∙_, subst, subst⁻¹}
-use mathlib.Core.Bool.{Bool, true, false, _&&_}
-use mathlib.Core.List.{List, [], _∷_, _++_}
+use mathlib.Core.Path.{_≡_, refl, sym, ap, ap₂, _∙_, subst⁻¹}
+use mathlib.Core.Bool.{Bool, true, false}
+use mathlib.Core.List.{List, [], _∷_}
 use lib.Dec.{T}
-use lib.ListN.{length, getD, set, drop, length-drop, length-append}
-use Rattle.syntax.specs.Terms.{Term, Atom, termOf, Literal, call, equation, truth, falsity, Body, done, also, Clause, Sheet}
-use Rattle.syntax.specs.Words.{termWords, literalWords, bodyWords, bodyLength, clauseWords, clausesWords}
+use lib.ListN.{length, getD, set, drop, length-drop}
+use Rattle.syntax.specs.Terms.{Term, Atom, Literal, call, equation, truth, falsity, Body, done, also, Clause, Sheet}
+use Rattle.syntax.specs.Words.{literalWords, bodyWords, bodyLength, clauseWords}
 use Rattle.machine.specs.Machine.{isFor, firstFor, nextFor}
 use Rattle.machine.proofs.Tests.{both}
 use Rattle.modes.specs.Tables.{Has}
 use Rattle.modes.proofs.Places.{has-left, has-right}
-use Rattle.layout.specs.Nodes.{Symbol, loadedWords, isLoadable, Has as HasNodes}
-use Rattle.layout.specs.Program.{literalNodes, bodyNodes, clauseNodes, clausesNodes, literalLoadable, bodyLoadable, clausesLoadable}
+use Rattle.layout.specs.Nodes.{Symbol, loadedWords, Has as HasNodes}
+use Rattle.layout.specs.Program.{literalNodes, bodyNodes, clauseNodes, literalLoadable, bodyLoadable}
 use Rattle.layout.proofs.Nodes.{has-end, size-word, words-some, has-left as nodes-left, has-right as nodes-right}
 use Rattle.linker.specs.Records.{putRecord, kindOf, otherOf, putBody, sought}
 use Rattle.linker.specs.Places.{Headed, LiteralTo, BodyTo}
@@ -50,9 +50,6 @@ some-words ws n l e = let z : length ws ≡ 0 = ap length e in omega arith
 pub end-inside : (nodes : List ℕ) (q : ℕ) (ws : List ℕ) → q ≤ length nodes → HasNodes nodes q ws → q + length ws ≤ length nodes
 end-inside nodes q [] l h = let z : q + 0 ≤ length nodes = omega arith in z
 end-inside nodes q (w ∷ ws) l h = has-end nodes q (w ∷ ws) h (some-words (w ∷ ws) 0 (omega arith))
-
-pub loaded-size : (ss : List Symbol) (nodes : List ℕ) (q : ℕ) (t : Term) → HasNodes nodes q (loadedWords ss t) → getD nodes (q + 1) 0 ≡ length (loadedWords ss t)
-loaded-size ss nodes q t h = size-word ss nodes q t h
 
 pub loaded-fits : (ss : List Symbol) (nodes : List ℕ) (q : ℕ) (t : Term) → HasNodes nodes q (loadedWords ss t) → Fits nodes q
 loaded-fits ss nodes q t h =
@@ -132,7 +129,7 @@ module _ (table : List ℕ) (p : ℕ) (nodes : List ℕ) (q clauses : ℕ) (code
     other-equation r s ss sh truth w = absurd (let z : kind ≡ 0 = is-kind ss sh truth w in omega arith)
     other-equation r s ss sh falsity w = absurd (let z : kind ≡ 1 = is-kind ss sh falsity w in omega arith)
     other-equation r s ss sh (call a) w = absurd (d (is-kind ss sh (call a) w))
-    other-equation r s ss sh (equation t u) w = s ∙ ap (λ (i : ℕ). q + i) (loaded-size ss nodes q t (nodes-left nodes q (loadedWords ss t) (loadedWords ss u) (w .stand)))
+    other-equation r s ss sh (equation t u) w = s ∙ ap (λ (i : ℕ). q + i) (size-word ss nodes q t (nodes-left nodes q (loadedWords ss t) (loadedWords ss u) (w .stand)))
 
   other-bound : (ss : List Symbol) (sh : Sheet) (x : Literal) → LiteralTo ss sh x table p nodes q clauses code l → otherOf ss sh q x ≤ 65536
   unfolding otherOf literalNodes

@@ -1,19 +1,19 @@
 -- What linking leaves is the loaded program. Assumes nothing.
-use Prim.Native.Nat.{ℕ, zero, suc, _+_, _-_, _*_, _≤_, _<_}
+use Prim.Native.Nat.{ℕ, zero, suc, _+_, _*_, _≤_, _<_}
 use native.Mathlib.Omega.{arith}
-use mathlib.Core.Path.{_≡_, refl, sym, ap, ap₂, _∙_, subst, subst⁻¹}
-use mathlib.Core.List.{List, [], _∷_, _++_}
-use mathlib.Core.Option.{Option, none, some}
+use mathlib.Core.Path.{_≡_, sym, ap, _∙_, subst, subst⁻¹}
+use mathlib.Core.List.{List, _++_}
+use mathlib.Core.Option.{some}
 use lib.ListN.{length, getD, length-append}
 use Rattle.syntax.specs.Terms.{termOf, Body, Clause, Sheet}
 use Rattle.syntax.specs.Words.{bodyWords, bodyLength}
-use Rattle.machine.specs.Machine.{clauseAt, nth}
+use Rattle.machine.specs.Machine.{clauseAt}
 use Rattle.machine.proofs.Tests.{some-none}
 use Rattle.layout.specs.Nodes.{Symbol, Stands, Has as HasNodes}
 use Rattle.layout.specs.Program.{bodyNodes, clausesNodes, programNodes, headAt, bodyAt, BodyStands, ClauseStands, Program}
 use Rattle.layout.proofs.Nodes.{has-left as nodes-left, has-right as nodes-right}
 use Rattle.linker.specs.Linking.{Linkable}
-use Rattle.linker.specs.Records.{putPair, putBody, bodyPlace, putHeads, putClauses}
+use Rattle.linker.specs.Records.{putPair, putBody, putHeads, putClauses}
 use Rattle.linker.specs.Places.{BodyAt, HeadsStand, Headed, BodyTo, HeadsTo, ClausesTo}
 use Rattle.linker.proofs.Sizes.{body-nodes}
 use Rattle.linker.proofs.Seeking.{heads-at}
@@ -24,10 +24,11 @@ program-nodes : (ss : List Symbol) (nodes : List ℕ) (b : Body) (cls : List Cla
     → HasNodes nodes 0 (bodyNodes ss b) × HasNodes nodes (length (bodyNodes ss b)) (clausesNodes ss cls) × (length (bodyNodes ss b) + length (clausesNodes ss cls) ≤ length nodes)
 program-nodes ss nodes b cls h =
     let e : length (bodyNodes ss b ++ clausesNodes ss cls) ≡ length (bodyNodes ss b) + length (clausesNodes ss cls) = length-append (bodyNodes ss b) (clausesNodes ss cls) in
-    let l : 0 + length (bodyNodes ss b ++ clausesNodes ss cls) ≤ length nodes = end-inside nodes 0 (bodyNodes ss b ++ clausesNodes ss cls) (omega arith) h in
-    (nodes-left nodes 0 (bodyNodes ss b) (clausesNodes ss cls) h,
-    subst (λ (i : ℕ). HasNodes nodes i (clausesNodes ss cls)) (let z : 0 + length (bodyNodes ss b) ≡ length (bodyNodes ss b) = omega arith in z) (nodes-right nodes 0 (bodyNodes ss b) (clausesNodes ss cls) h),
-    omega arith)
+    let l : 0 + length (bodyNodes ss b ++ clausesNodes ss cls) ≤ length nodes = end-inside nodes 0 (bodyNodes ss b ++ clausesNodes ss cls) (omega arith) h in (
+      nodes-left nodes 0 (bodyNodes ss b) (clausesNodes ss cls) h,
+      subst (λ (i : ℕ). HasNodes nodes i (clausesNodes ss cls)) (let z : 0 + length (bodyNodes ss b) ≡ length (bodyNodes ss b) = omega arith in z) (nodes-right nodes 0 (bodyNodes ss b) (clausesNodes ss cls) h),
+      omega arith,
+    )
 
 module _ (table : List ℕ) (clauses : ℕ) (goals : List ℕ) (literals : ℕ) (nodes code : List ℕ) where
   pub goal-at : (w : Linkable table clauses goals literals nodes code) → BodyAt goals 0 literals (w .g .body)

@@ -5,11 +5,10 @@ use mathlib.Core.Path.{_≡_, refl}
 use mathlib.Core.List.{List, [], _∷_}
 use lib.ListN.{length, replicate, length-replicate}
 use Rattle.syntax.specs.Quote.{bytes}
-use Rattle.syntax.specs.Terms.{Atom, nil, call, done, also, Clause, Sheet, Goal, sameBytes}
-use Rattle.syntax.specs.Words.{termWords, literalWords, bodyWords, bodyLength, clauseWords, clausesWords}
+use Rattle.syntax.specs.Terms.{Atom, nil, call, done, also, Sheet, Goal, sameBytes}
+use Rattle.syntax.specs.Words.{termWords, literalWords, bodyWords, clauseWords, clausesWords}
 use Rattle.modes.specs.Tables.{Has}
-use Rattle.layout.specs.Nodes.{Symbol, symbolOf, isSymbol, isListed, loadedWords, isLoadable, bracketsOf, Has as HasNodes}
-use Rattle.layout.specs.Limits.{SheetLimited, GoalLimited}
+use Rattle.layout.specs.Nodes.{Symbol, symbolOf, isSymbol, isListed, loadedWords, isLoadable, bracketsOf}
 use Rattle.layout.specs.Program.{literalNodes, bodyNodes, clauseNodes, clausesNodes, programNodes, literalLoadable, bodyLoadable, clausesLoadable}
 use Rattle.linker.specs.Linking.{Linkable}
 

@@ -1,19 +1,19 @@
 -- Laws of the words that linking writes: what stands where they were written, and what they leave as it was. Assumes nothing.
-use Prim.Native.Nat.{ℕ, zero, suc, _+_, _-_, _*_, _≤_, _<_}
+use Prim.Native.Nat.{ℕ, zero, suc, _+_, _*_, _≤_, _<_}
 use native.Mathlib.Omega.{arith}
-use mathlib.Core.Path.{_≡_, refl, sym, ap, _∙_, subst, subst⁻¹}
+use mathlib.Core.Path.{_≡_, refl, sym, _∙_, subst, subst⁻¹}
 use mathlib.Core.Bool.{_&&_}
-use mathlib.Core.List.{List, [], _∷_, _++_}
-use mathlib.Core.Option.{Option, none, some}
+use mathlib.Core.List.{List, [], _∷_}
+use mathlib.Core.Option.{some}
 use lib.Dec.{T}
-use lib.ListN.{length, getD, set, length-set, length-append}
+use lib.ListN.{length, getD, set, length-set}
 use lib.Seq.{getD-set-same, getD-set-other}
-use Rattle.syntax.specs.Terms.{Term, termOf, Literal, call, equation, truth, falsity, Body, done, also, Clause, Sheet}
+use Rattle.syntax.specs.Terms.{termOf, Literal, call, equation, truth, falsity, Body, done, also, Clause, Sheet}
 use Rattle.syntax.specs.Words.{bodyLength}
 use Rattle.machine.specs.Machine.{nextFor, nth}
 use Rattle.machine.proofs.Tests.{both, some-eq, some-none}
-use Rattle.layout.specs.Nodes.{Symbol, loadedWords, isLoadable, bracketsOf, Stands, Has}
-use Rattle.layout.specs.Limits.{LiteralLimited, EachLimited, BodyLimited, ClauseLimited, ClausesLimited}
+use Rattle.layout.specs.Nodes.{Symbol, loadedWords, isLoadable, Stands, Has}
+use Rattle.layout.specs.Limits.{LiteralLimited, EachLimited, ClauseLimited, ClausesLimited}
 use Rattle.layout.specs.Program.{literalNodes, bodyNodes, clauseNodes, clausesNodes, literalLoadable, bodyLoadable, clausesLoadable, headAt, bodyAt, afterAt, kindAt, placeAt, otherAt, LiteralStands, BodyStands}
 use Rattle.layout.proofs.Nodes.{has-left, has-right}
 use Rattle.linker.specs.Records.{putPair, putRecord, kindOf, otherOf, putBody, bodyPlace, putHeads, putClause, putClauses}
@@ -97,28 +97,32 @@ module _ (ss : List Symbol) (sh : Sheet) (nodes : List ℕ) where
   unfolding literalNodes literalLoadable otherOf
   literal-written q truth code l h k s r = record-kind code l 0 q 0 r
   literal-written q falsity code l h k s r = record-kind code l 1 q 0 r
-  literal-written q (call a) code l h k s r =
-      (record-kind code l 2 q (nextFor sh a 0) r,
-      subst⁻¹ (λ (i : ℕ). Stands ss nodes i (termOf a)) (record-place code l 2 q (nextFor sh a 0) r) (record { words = h; loadable = k; shallow = s }),
-      record-other code l 2 q (nextFor sh a 0) r)
+  literal-written q (call a) code l h k s r = (
+    record-kind code l 2 q (nextFor sh a 0) r,
+    subst⁻¹ (λ (i : ℕ). Stands ss nodes i (termOf a)) (record-place code l 2 q (nextFor sh a 0) r) (record { words = h; loadable = k; shallow = s }),
+    record-other code l 2 q (nextFor sh a 0) r,
+  )
   literal-written q (equation t u) code l h k s r =
-      let ok : T (isLoadable ss t) × T (isLoadable ss u) = both (isLoadable ss t) (isLoadable ss u) k in
-      (record-kind code l 3 q (q + length (loadedWords ss t)) r,
-      subst⁻¹ (λ (i : ℕ). Stands ss nodes i t) (record-place code l 3 q (q + length (loadedWords ss t)) r) (record { words = has-left nodes q (loadedWords ss t) (loadedWords ss u) h; loadable = ok .0; shallow = s .0 }),
-      subst⁻¹ (λ (i : ℕ). Stands ss nodes i u) (record-other code l 3 q (q + length (loadedWords ss t)) r) (record { words = has-right nodes q (loadedWords ss t) (loadedWords ss u) h; loadable = ok .1; shallow = s .1 }))
+      let ok : T (isLoadable ss t) × T (isLoadable ss u) = both (isLoadable ss t) (isLoadable ss u) k in (
+        record-kind code l 3 q (q + length (loadedWords ss t)) r,
+        subst⁻¹ (λ (i : ℕ). Stands ss nodes i t) (record-place code l 3 q (q + length (loadedWords ss t)) r) (record { words = has-left nodes q (loadedWords ss t) (loadedWords ss u) h; loadable = ok .0; shallow = s .0 }),
+        subst⁻¹ (λ (i : ℕ). Stands ss nodes i u) (record-other code l 3 q (q + length (loadedWords ss t)) r) (record { words = has-right nodes q (loadedWords ss t) (loadedWords ss u) h; loadable = ok .1; shallow = s .1 }),
+      )
 
   literal-kept : (code new : List ℕ) (l : ℕ) (x : Literal) → ((i : ℕ) → l ≤ i → i < l + 4 → getD new i 0 ≡ getD code i 0) → LiteralStands ss sh nodes code l x
       → LiteralStands ss sh nodes new l x
   literal-kept code new l truth f h = f l (omega arith) (omega arith) ∙ h
   literal-kept code new l falsity f h = f l (omega arith) (omega arith) ∙ h
-  literal-kept code new l (call a) f h =
-      (f l (omega arith) (omega arith) ∙ h .0,
-      subst⁻¹ (λ (i : ℕ). Stands ss nodes i (termOf a)) (f (l + 1) (omega arith) (omega arith)) (h .1),
-      f (l + 2) (omega arith) (omega arith) ∙ h .2)
-  literal-kept code new l (equation t u) f h =
-      (f l (omega arith) (omega arith) ∙ h .0,
-      subst⁻¹ (λ (i : ℕ). Stands ss nodes i t) (f (l + 1) (omega arith) (omega arith)) (h .1),
-      subst⁻¹ (λ (i : ℕ). Stands ss nodes i u) (f (l + 2) (omega arith) (omega arith)) (h .2))
+  literal-kept code new l (call a) f h = (
+    f l (omega arith) (omega arith) ∙ h .0,
+    subst⁻¹ (λ (i : ℕ). Stands ss nodes i (termOf a)) (f (l + 1) (omega arith) (omega arith)) (h .1),
+    f (l + 2) (omega arith) (omega arith) ∙ h .2,
+  )
+  literal-kept code new l (equation t u) f h = (
+    f l (omega arith) (omega arith) ∙ h .0,
+    subst⁻¹ (λ (i : ℕ). Stands ss nodes i t) (f (l + 1) (omega arith) (omega arith)) (h .1),
+    subst⁻¹ (λ (i : ℕ). Stands ss nodes i u) (f (l + 2) (omega arith) (omega arith)) (h .2),
+  )
 
   -- what was written is the body
   pub body-written : (q : ℕ) (b : Body) (code : List ℕ) (l : ℕ) → Has nodes q (bodyNodes ss b) → T (bodyLoadable ss b) → EachLimited b → l + bodyLength b * 4 + 4 ≤ length code
@@ -133,22 +137,24 @@ module _ (ss : List Symbol) (sh : Sheet) (nodes : List ℕ) where
       let ok : T (literalLoadable ss x) × T (bodyLoadable ss b) = both (literalLoadable ss x) (bodyLoadable ss b) k in
       let n : length (putRecord code l (kindOf x) q (otherOf ss sh q x)) ≡ length code = record-long code l (kindOf x) q (otherOf ss sh q x) in
       let m : length (putBody ss sh (q + length (literalNodes ss x)) b (putRecord code l (kindOf x) q (otherOf ss sh q x)) (l + 4)) ≡ length (putRecord code l (kindOf x) q (otherOf ss sh q x)) =
-      body-long ss sh (q + length (literalNodes ss x)) b (putRecord code l (kindOf x) q (otherOf ss sh q x)) (l + 4) in
-      (omega arith,
-      literal-kept (putRecord code l (kindOf x) q (otherOf ss sh q x)) (putBody ss sh (q + length (literalNodes ss x)) b (putRecord code l (kindOf x) q (otherOf ss sh q x)) (l + 4)) l x
-        (λ i a u. body-below ss sh (q + length (literalNodes ss x)) b (putRecord code l (kindOf x) q (otherOf ss sh q x)) (l + 4) i u)
-        (literal-written q x code l (has-left nodes q (literalNodes ss x) (bodyNodes ss b) h) (ok .0) (s .0) (omega arith)),
-      body-written (q + length (literalNodes ss x)) b (putRecord code l (kindOf x) q (otherOf ss sh q x)) (l + 4) (has-right nodes q (literalNodes ss x) (bodyNodes ss b) h) (ok .1) (s .1) (omega arith))
+      body-long ss sh (q + length (literalNodes ss x)) b (putRecord code l (kindOf x) q (otherOf ss sh q x)) (l + 4) in (
+        omega arith,
+        literal-kept (putRecord code l (kindOf x) q (otherOf ss sh q x)) (putBody ss sh (q + length (literalNodes ss x)) b (putRecord code l (kindOf x) q (otherOf ss sh q x)) (l + 4)) l x
+            (λ i a u. body-below ss sh (q + length (literalNodes ss x)) b (putRecord code l (kindOf x) q (otherOf ss sh q x)) (l + 4) i u)
+            (literal-written q x code l (has-left nodes q (literalNodes ss x) (bodyNodes ss b) h) (ok .0) (s .0) (omega arith)),
+        body-written (q + length (literalNodes ss x)) b (putRecord code l (kindOf x) q (otherOf ss sh q x)) (l + 4) (has-right nodes q (literalNodes ss x) (bodyNodes ss b) h) (ok .1) (s .1) (omega arith),
+      )
 
   -- it stays where its words stay
   pub body-kept : (code new : List ℕ) (l : ℕ) (b : Body) → length new ≡ length code → ((i : ℕ) → l ≤ i → i < l + bodyLength b * 4 + 4 → getD new i 0 ≡ getD code i 0)
       → BodyStands ss sh nodes code l b → BodyStands ss sh nodes new l b
   body-kept code new l done n f h = let z : l + 4 ≤ length code = h .0 in (omega arith, f l (omega arith) (omega arith) ∙ h .1)
   body-kept code new l (also x b) n f h =
-      let z : l + 4 ≤ length code = h .0 in
-      (omega arith,
-      literal-kept code new l x (λ i a u. f i a (let k : i < l + suc (bodyLength b) * 4 + 4 = omega arith in k)) (h .1),
-      body-kept code new (l + 4) b n (λ i a u. f i (omega arith) (let k : i < l + suc (bodyLength b) * 4 + 4 = omega arith in k)) (h .2))
+      let z : l + 4 ≤ length code = h .0 in (
+        omega arith,
+        literal-kept code new l x (λ i a u. f i a (let k : i < l + suc (bodyLength b) * 4 + 4 = omega arith in k)) (h .1),
+        body-kept code new (l + 4) b n (λ i a u. f i (omega arith) (let k : i < l + suc (bodyLength b) * 4 + 4 = omega arith in k)) (h .2),
+      )
 
 -- ---- heads
 
@@ -211,9 +217,10 @@ module _ (ss : List Symbol) where
       let ok : T (isLoadable ss (termOf (cl .head))) × T (bodyLoadable ss (cl .body)) = both (isLoadable ss (termOf (cl .head))) (bodyLoadable ss (cl .body)) (oks .0) in
       let first : Has nodes q (clauseNodes ss cl) = has-left nodes q (clauseNodes ss cl) (clausesNodes ss cls) h in
       let e : getD (putHeads ss (q + length (clauseNodes ss cl)) cls (set code (k * 4) q) (k + 1)) (k * 4) 0 ≡ q =
-      heads-below (q + length (clauseNodes ss cl)) cls (set code (k * 4) q) (k + 1) (k * 4) (omega arith) ∙ getD-set-same code (k * 4) q 0 (omega arith) in
-      (subst⁻¹ (λ (i : ℕ). Stands ss nodes i (termOf (cl .head))) e (record { words = has-left nodes q (loadedWords ss (termOf (cl .head))) (bodyNodes ss (cl .body)) first; loadable = ok .0; shallow = s .0 .head }),
-      heads-written nodes (q + length (clauseNodes ss cl)) cls (set code (k * 4) q) (k + 1) (has-right nodes q (clauseNodes ss cl) (clausesNodes ss cls) h) (oks .1) (s .1) (omega arith) (omega arith))
+      heads-below (q + length (clauseNodes ss cl)) cls (set code (k * 4) q) (k + 1) (k * 4) (omega arith) ∙ getD-set-same code (k * 4) q 0 (omega arith) in (
+        subst⁻¹ (λ (i : ℕ). Stands ss nodes i (termOf (cl .head))) e (record { words = has-left nodes q (loadedWords ss (termOf (cl .head))) (bodyNodes ss (cl .body)) first; loadable = ok .0; shallow = s .0 .head }),
+        heads-written nodes (q + length (clauseNodes ss cl)) cls (set code (k * 4) q) (k + 1) (has-right nodes q (clauseNodes ss cl) (clausesNodes ss cls) h) (oks .1) (s .1) (omega arith) (omega arith),
+      )
 
 -- ---- clauses
 
@@ -236,11 +243,11 @@ module _ (ss : List Symbol) (sh : Sheet) where
   clause-kept q cl code k l = record {
     long = body-long ss sh (q + length (loadedWords ss (termOf (cl .head)))) (cl .body) (putPair code (k * 4 + 1) (bodyPlace k) (nextFor sh (cl .head) k)) (bodyPlace k) ∙ pair-long code (k * 4 + 1) (bodyPlace k) (nextFor sh (cl .head) k);
     records = λ i u. body-below ss sh (q + length (loadedWords ss (termOf (cl .head)))) (cl .body) (putPair code (k * 4 + 1) (bodyPlace k) (nextFor sh (cl .head) k)) (bodyPlace k) i (omega arith)
-    ∙ pair-other code (k * 4 + 1) (bodyPlace k) (nextFor sh (cl .head) k) i (λ e. omega arith) (λ e. omega arith);
+        ∙ pair-other code (k * 4 + 1) (bodyPlace k) (nextFor sh (cl .head) k) i (λ e. omega arith) (λ e. omega arith);
     bodies = λ i a u. body-below ss sh (q + length (loadedWords ss (termOf (cl .head)))) (cl .body) (putPair code (k * 4 + 1) (bodyPlace k) (nextFor sh (cl .head) k)) (bodyPlace k) i u
-    ∙ pair-other code (k * 4 + 1) (bodyPlace k) (nextFor sh (cl .head) k) i (λ e. omega arith) (λ e. omega arith);
+        ∙ pair-other code (k * 4 + 1) (bodyPlace k) (nextFor sh (cl .head) k) i (λ e. omega arith) (λ e. omega arith);
     heads = λ j u. body-heads ss sh (q + length (loadedWords ss (termOf (cl .head)))) (cl .body) (putPair code (k * 4 + 1) (bodyPlace k) (nextFor sh (cl .head) k)) (bodyPlace k) (omega arith) j u
-    ∙ pair-heads code k (bodyPlace k) (nextFor sh (cl .head) k) j u;
+        ∙ pair-heads code k (bodyPlace k) (nextFor sh (cl .head) k) j u;
   }
 
   pub clauses-kept : (q : ℕ) (cls : List Clause) (code : List ℕ) (k : ℕ) → k + length cls ≤ 257 → Kept code (putClauses ss sh q cls code k) k
@@ -266,10 +273,10 @@ module _ (ss : List Symbol) (sh : Sheet) where
         let n : length (putPair code (k * 4 + 1) (bodyPlace k) (nextFor sh (cl .head) k)) ≡ length code = pair-long code (k * 4 + 1) (bodyPlace k) (nextFor sh (cl .head) k) in
         record {
           at = body-below ss sh (q + length (loadedWords ss (termOf (cl .head)))) (cl .body) (putPair code (k * 4 + 1) (bodyPlace k) (nextFor sh (cl .head) k)) (bodyPlace k) (k * 4 + 1) (omega arith)
-          ∙ pair-first code (k * 4 + 1) (bodyPlace k) (nextFor sh (cl .head) k) (omega arith);
+              ∙ pair-first code (k * 4 + 1) (bodyPlace k) (nextFor sh (cl .head) k) (omega arith);
           body = body-written ss sh nodes (q + length (loadedWords ss (termOf (cl .head)))) (cl .body) (putPair code (k * 4 + 1) (bodyPlace k) (nextFor sh (cl .head) k)) (bodyPlace k) (has-right nodes q (loadedWords ss (termOf (cl .head))) (bodyNodes ss (cl .body)) h) t (s .body .each) (omega arith);
           after = body-below ss sh (q + length (loadedWords ss (termOf (cl .head)))) (cl .body) (putPair code (k * 4 + 1) (bodyPlace k) (nextFor sh (cl .head) k)) (bodyPlace k) (k * 4 + 2) (omega arith)
-          ∙ subst (λ (i : ℕ). getD (putPair code (k * 4 + 1) (bodyPlace k) (nextFor sh (cl .head) k)) i 0 ≡ nextFor sh (cl .head) k) (let e : k * 4 + 1 + 1 ≡ k * 4 + 2 = omega arith in e) (pair-second code (k * 4 + 1) (bodyPlace k) (nextFor sh (cl .head) k) (omega arith));
+              ∙ subst (λ (i : ℕ). getD (putPair code (k * 4 + 1) (bodyPlace k) (nextFor sh (cl .head) k)) i 0 ≡ nextFor sh (cl .head) k) (let e : k * 4 + 1 + 1 ≡ k * 4 + 2 = omega arith in e) (pair-second code (k * 4 + 1) (bodyPlace k) (nextFor sh (cl .head) k) (omega arith));
         }
 
     part-kept : (code new : List ℕ) (k : ℕ) (cl : Clause) → k ≤ 256 → bodyLength (cl .body) ≤ 16 → Kept code new (k + 1) → BodyPart ss sh nodes code k cl → BodyPart ss sh nodes new k cl

@@ -2,6 +2,7 @@
 use crate::records::put;
 use crate::records::put_record;
 use crate::search::next_for;
+use crate::walk::CALL;
 use crate::walk::nodes_of;
 use crate::walk::past;
 use crate::walk::past_literal;
@@ -13,13 +14,19 @@ ghost use Rattle.layout.specs.Nodes.{Symbol};
 ghost use Rattle.linker.specs.Records.{putRecord, kindOf, otherOf, putBody};
 ghost use Rattle.linker.specs.Places.{LiteralTo, BodyTo};
 
-// Kinds of records: a call, and a body's end. Truth and falsehood have the kinds below a call's.
-const CALL: usize = 2;
-
+// The kind of a body's end.
 const END: usize = 4;
 
 // The third word of a literal's record.
-fn other_of(table: &[u32], p: usize, nodes: &[u32], q: usize, clauses: usize, code: &[u32], l: usize) -> usize
+fn other_of(
+    table: &[u32],
+    p: usize,
+    nodes: &[u32],
+    q: usize,
+    clauses: usize,
+    code: &[u32],
+    l: usize,
+) -> usize
     requires { ⌜ ((ss : List Symbol) × ((sh : Sheet) × ((x : Literal) × LiteralTo ss sh x (now table) p (now nodes) q clauses (now code) l))) ⌝ }
     ensures { λ r. ⌜ ((ss : List Symbol) (sh : Sheet) (x : Literal) → LiteralTo ss sh x (now (table .entry)) p (now (nodes .entry)) q clauses (now (code .entry)) l → r ≡ otherOf ss sh q x) ⌝ }
 {
@@ -35,7 +42,15 @@ fn other_of(table: &[u32], p: usize, nodes: &[u32], q: usize, clauses: usize, co
 }
 
 // The record of a literal.
-fn put_literal(table: &[u32], p: usize, nodes: &[u32], q: usize, clauses: usize, code: &mut [u32], l: usize)
+fn put_literal(
+    table: &[u32],
+    p: usize,
+    nodes: &[u32],
+    q: usize,
+    clauses: usize,
+    code: &mut [u32],
+    l: usize,
+)
     requires { ⌜ ((ss : List Symbol) × ((sh : Sheet) × ((x : Literal) × LiteralTo ss sh x (now table) p (now nodes) q clauses (now code) l))) ⌝ }
     ensures { λ _. ⌜ ((ss : List Symbol) (sh : Sheet) (x : Literal) → LiteralTo ss sh x (now (table .entry)) p (now (nodes .entry)) q clauses (now (code .entry)) l → now (code .exit) ≡ putRecord (now (code .entry)) l (kindOf x) q (otherOf ss sh q x)) ⌝ }
 {

@@ -19,10 +19,13 @@ ghost use Rattle.layout.specs.Program.{clauseNodes};
 ghost use Rattle.linker.specs.Records.{putHeads, putClause, putClauses};
 ghost use Rattle.linker.specs.Places.{HeadsTo, ClauseTo, ClausesTo};
 
-// Words of a clause before its head: its length, its variables, its literals.
+// Where a clause's number of literals stands, and its head: behind its length and its number of variables.
 const LITERALS: usize = 2;
 
 const HEAD: usize = 3;
+
+// How many words a clause's record takes.
+const RECORD: usize = 4;
 
 // How many words the nodes of the clause at p take.
 fn clause_nodes(table: &[u32], p: usize) -> usize
@@ -43,7 +46,7 @@ pub fn put_heads(table: &[u32], clauses: usize, q: usize, code: &mut [u32])
     let mut node = q;
     let mut k = 1;
     while k <= clauses {
-        put(code, k * 4, node);
+        put(code, k * RECORD, node);
         let size = clause_nodes(table, at);
         let words = word_at(table, at);
         at += words;
@@ -53,14 +56,22 @@ pub fn put_heads(table: &[u32], clauses: usize, q: usize, code: &mut [u32])
 }
 
 // The body of clause k and the next clause of its predicate.
-fn put_clause(table: &[u32], p: usize, nodes: &[u32], q: usize, clauses: usize, code: &mut [u32], k: usize)
+fn put_clause(
+    table: &[u32],
+    p: usize,
+    nodes: &[u32],
+    q: usize,
+    clauses: usize,
+    code: &mut [u32],
+    k: usize,
+)
     requires { ⌜ ((ss : List Symbol) × ((sh : Sheet) × ((cl : Clause) × ClauseTo ss sh cl (now table) p (now nodes) q clauses (now code) k))) ⌝ }
     ensures { λ _. ⌜ ((ss : List Symbol) (sh : Sheet) (cl : Clause) → ClauseTo ss sh cl (now (table .entry)) p (now (nodes .entry)) q clauses (now (code .entry)) k → now (code .exit) ≡ putClause ss sh q cl (now (code .entry)) k) ⌝ }
 {
     let word = word_at(nodes, q);
     let after = next_for(nodes, code, clauses, word, k);
     let l = BODIES + k * BODY;
-    put_pair(code, k * 4 + 1, l, after);
+    put_pair(code, k * RECORD + 1, l, after);
     let literals = word_at(table, p + LITERALS);
     let first = past(table, p + HEAD);
     let node = past(nodes, q);

@@ -16,7 +16,14 @@ ghost use Rattle.layout.specs.Program.{Program};
 ghost use Rattle.linker.specs.Linking.{Linkable};
 
 // The records of a sheet's clauses and of a goal, whose nodes are loaded.
-pub fn link(table: &[u32], clauses: usize, goals: &[u32], literals: usize, nodes: &[u32], code: &mut [u32])
+pub fn link(
+    table: &[u32],
+    clauses: usize,
+    goals: &[u32],
+    literals: usize,
+    nodes: &[u32],
+    code: &mut [u32],
+)
     requires { ⌜ Linkable (now table) clauses (now goals) literals (now nodes) (now code) ⌝ }
     ensures { λ _. ⌜ ((w : Linkable (now (table .entry)) clauses (now (goals .entry)) literals (now (nodes .entry)) (now (code .entry))) → Program (w .ss) (w .sh) (w .g) (now (nodes .entry)) (now (code .exit))) ⌝ }
 {

@@ -8,8 +8,8 @@ ghost use Rattle.syntax.specs.Words.{literalWords, bodyWords};
 ghost use Rattle.modes.specs.Tables.{Has};
 ghost use Rattle.linker.specs.Places.{BodyAt};
 
-// The kind of a call.
-const CALL: usize = 2;
+// The kind of a call. Truth and falsehood have the kinds below it, an equation has the one above.
+pub const CALL: usize = 2;
 
 // The place past a node and its arguments: its second word is how many words they take.
 pub fn past(words: &[u32], p: usize) -> usize

@@ -1,8 +1,5 @@
 -- `linker::link` meets its contract. Assumes nothing.
-use mathlib.Core.Path.{_≡_, sym, ap, _∙_}
-use lib.ListN.{length}
 use Rattle.linker.proofs.Whole.{goal-at, marks-below, heads-ready, pair-ready, goal-ready, clauses-ready, program}
-use native.Mathlib.Omega.{arith}
 use borrow.Author.Needs.{needs}
 use Rattle.linker.proofs.link.Statement.{statement}
 use Rattle.linker.proofs.link.Tie as tie

@@ -3,7 +3,6 @@ use Rattle.linker.proofs.Sizes.{literal-room}
 use Rattle.linker.proofs.Seeking.{searchable}
 use Rattle.linker.proofs.Turns.{other-none, call-inside, other-call, equation-inside, other-equation}
 use native.Mathlib.Omega.{arith}
-use borrow.Author.Needs.{needs}
 use Rattle.linker.proofs.bodies.other_of.Statement.{statement}
 use Rattle.linker.proofs.bodies.other_of.Tie as tie
 

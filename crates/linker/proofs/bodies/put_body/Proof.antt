@@ -1,8 +1,8 @@
 -- `linker::bodies::put_body` meets its contract. The invariant: what is left of the body makes the whole (`BodyAhead`). Assumes nothing.
-use Prim.Native.Nat.{_+_, _-_, _≤_}
-use mathlib.Core.Path.{_≡_, sym, ap, _∙_}
+use Prim.Native.Nat.{_-_}
+use mathlib.Core.Path.{ap, _∙_}
 use mathlib.Core.List.{List}
-use lib.ListN.{length, length-set}
+use lib.ListN.{length}
 use Rattle.syntax.specs.Terms.{Sheet, Body}
 use Rattle.layout.specs.Nodes.{Symbol}
 use Rattle.linker.specs.Records.{putBody}
@@ -10,7 +10,6 @@ use Rattle.linker.specs.Places.{BodyTo}
 use Rattle.linker.proofs.Writing.{body-long}
 use Rattle.linker.proofs.Turns.{BodyAhead, body-begin, ahead-literal, literal-behind, ahead-next, ahead-bounds, ahead-size, ahead-end}
 use native.Mathlib.Omega.{arith}
-use borrow.Author.Needs.{needs}
 use Rattle.linker.proofs.bodies.put_body.Statement.{statement}
 use Rattle.linker.proofs.bodies.put_body.Tie as tie
 

@@ -1,7 +1,6 @@
 -- `linker::bodies::put_literal` meets its contract. Assumes nothing.
 use Rattle.linker.proofs.Sizes.{literal-room}
 use Rattle.linker.proofs.Turns.{record-ready, literal-put}
-use native.Mathlib.Omega.{arith}
 use borrow.Author.Needs.{needs}
 use Rattle.linker.proofs.bodies.put_literal.Statement.{statement}
 use Rattle.linker.proofs.bodies.put_literal.Tie as tie

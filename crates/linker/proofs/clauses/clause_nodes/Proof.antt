@@ -1,10 +1,8 @@
 -- `linker::clauses::clause_nodes` meets its contract. Assumes nothing.
-use mathlib.Core.List.{List, []}
-use Rattle.layout.specs.Nodes.{Symbol}
-use Rattle.linker.proofs.Sizes.{Says, says}
+use mathlib.Core.List.{[]}
+use Rattle.linker.proofs.Sizes.{says}
 use Rattle.linker.proofs.Turns.{clause-marks, clause-size}
 use native.Mathlib.Omega.{arith}
-use borrow.Author.Needs.{needs}
 use Rattle.linker.proofs.clauses.clause_nodes.Statement.{statement}
 use Rattle.linker.proofs.clauses.clause_nodes.Tie as tie
 

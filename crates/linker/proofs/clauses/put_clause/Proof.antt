@@ -1,7 +1,4 @@
 -- `linker::clauses::put_clause` meets its contract. Assumes nothing.
-use mathlib.Core.Path.{_≡_, sym, ap, _∙_}
-use lib.ListN.{length}
-use Rattle.linker.proofs.Writing.{pair-long}
 use Rattle.linker.proofs.Sheets.{head-inside, clause-search, clause-small, clause-inside, head-fits, head-node-fits, pair-ready, body-ready, clause-put}
 use native.Mathlib.Omega.{arith}
 use borrow.Author.Needs.{needs}

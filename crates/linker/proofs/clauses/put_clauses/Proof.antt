@@ -1,6 +1,6 @@
 -- `linker::clauses::put_clauses` meets its contract. The invariant: what is left of the clauses makes the whole (`ClausesAhead`). Assumes nothing.
-use Prim.Native.Nat.{suc, _+_, _-_, _≤_}
-use mathlib.Core.Path.{_≡_, sym, ap, _∙_}
+use Prim.Native.Nat.{suc, _-_}
+use mathlib.Core.Path.{ap, _∙_}
 use mathlib.Core.List.{List}
 use lib.ListN.{length}
 use Rattle.syntax.specs.Terms.{Sheet, Clause}
@@ -9,7 +9,6 @@ use Rattle.linker.specs.Records.{putClauses}
 use Rattle.linker.specs.Places.{ClausesTo}
 use Rattle.linker.proofs.Sheets.{clause-ends, clause-small, ClausesAhead, clauses-begin, clauses-length, ahead-clause, node-fits, clauses-next, clauses-end}
 use native.Mathlib.Omega.{arith}
-use borrow.Author.Needs.{needs}
 use Rattle.linker.proofs.clauses.put_clauses.Statement.{statement}
 use Rattle.linker.proofs.clauses.put_clauses.Tie as tie
 

@@ -1,6 +1,6 @@
 -- `linker::clauses::put_heads` meets its contract. The invariant: what is left of the heads makes the whole (`HeadsAhead`). Assumes nothing.
-use Prim.Native.Nat.{suc, _+_, _-_, _≤_}
-use mathlib.Core.Path.{_≡_, sym, ap, _∙_}
+use Prim.Native.Nat.{suc, _-_}
+use mathlib.Core.Path.{ap, _∙_}
 use mathlib.Core.List.{List}
 use lib.ListN.{length}
 use Rattle.syntax.specs.Terms.{Clause}
@@ -10,7 +10,6 @@ use Rattle.linker.specs.Places.{HeadsTo}
 use Rattle.linker.proofs.Writing.{heads-long}
 use Rattle.linker.proofs.Sheets.{clause-ends, HeadsAhead, heads-begin, heads-clause, heads-room, heads-size, heads-next, heads-end}
 use native.Mathlib.Omega.{arith}
-use borrow.Author.Needs.{needs}
 use Rattle.linker.proofs.clauses.put_heads.Statement.{statement}
 use Rattle.linker.proofs.clauses.put_heads.Tie as tie
 

@@ -1,7 +1,6 @@
 -- `linker::records::put_pair` meets its contract. Assumes nothing.
 use mathlib.Core.Path.{refl}
 use Rattle.linker.specs.Records.{putPair}
-use native.Mathlib.Omega.{arith}
 use borrow.Author.Needs.{needs}
 use Rattle.linker.proofs.records.put_pair.Statement.{statement}
 use Rattle.linker.proofs.records.put_pair.Tie as tie

@@ -1,7 +1,5 @@
 -- `linker::records::put_record` meets its contract. Assumes nothing.
-use mathlib.Core.Path.{refl}
 use Rattle.linker.specs.Records.{putRecord}
-use native.Mathlib.Omega.{arith}
 use borrow.Author.Needs.{needs}
 use Rattle.linker.proofs.records.put_record.Statement.{statement}
 use Rattle.linker.proofs.records.put_record.Tie as tie

@@ -1,8 +1,4 @@
 -- `linker::search::head_word` meets its contract. Assumes nothing.
-use mathlib.Core.Path.{ap, _∙_}
-use Prim.Native.Nat.{ℕ}
-use lib.ListN.{getD}
-use native.Mathlib.Omega.{arith}
 use borrow.Author.Needs.{needs}
 use Rattle.linker.proofs.search.head_word.Statement.{statement}
 use Rattle.linker.proofs.search.head_word.Tie as tie

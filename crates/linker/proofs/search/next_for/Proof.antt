@@ -4,7 +4,6 @@ use mathlib.Core.Path.{_≡_, sym, _∙_}
 use Rattle.linker.specs.Records.{sought}
 use Rattle.linker.proofs.Seeking.{seek-begin, seek-found, seek-on, seek-none}
 use native.Mathlib.Omega.{arith}
-use borrow.Author.Needs.{needs}
 use Rattle.linker.proofs.search.next_for.Statement.{statement}
 use Rattle.linker.proofs.search.next_for.Tie as tie
 

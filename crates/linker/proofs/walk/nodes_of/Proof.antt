@@ -1,6 +1,5 @@
 -- `linker::walk::nodes_of` meets its contract. Assumes nothing.
 use Rattle.linker.proofs.Sizes.{nodes-of-is}
-use native.Mathlib.Omega.{arith}
 use borrow.Author.Needs.{needs}
 use Rattle.linker.proofs.walk.nodes_of.Statement.{statement}
 use Rattle.linker.proofs.walk.nodes_of.Tie as tie

@@ -1,12 +1,11 @@
 -- `linker::walk::past_body` meets its contract. The invariant: what is left of the body ends where the whole does. Assumes nothing.
-use Prim.Native.Nat.{_+_, _-_, _≤_}
+use Prim.Native.Nat.{_+_, _-_}
 use lib.ListN.{length}
 use Rattle.syntax.specs.Terms.{Body}
 use Rattle.syntax.specs.Words.{bodyWords}
 use Rattle.linker.specs.Places.{BodyAt}
 use Rattle.linker.proofs.Sizes.{BodyOn, on-begin, on-first, on-next, on-end}
 use native.Mathlib.Omega.{arith}
-use borrow.Author.Needs.{needs}
 use Rattle.linker.proofs.walk.past_body.Statement.{statement}
 use Rattle.linker.proofs.walk.past_body.Tie as tie
 

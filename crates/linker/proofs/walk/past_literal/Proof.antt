@@ -1,7 +1,6 @@
 -- `linker::walk::past_literal` meets its contract. Assumes nothing.
 use Rattle.linker.proofs.Sizes.{literal-room, past-none, first-fits, past-call, right-fits, past-equation}
 use native.Mathlib.Omega.{arith}
-use borrow.Author.Needs.{needs}
 use Rattle.linker.proofs.walk.past_literal.Statement.{statement}
 use Rattle.linker.proofs.walk.past_literal.Tie as tie
 
