@@ -16,7 +16,7 @@ use Rattle.layout.specs.Nodes.{Symbol, loadedWords, Has as HasNodes}
 use Rattle.layout.specs.Program.{literalNodes, bodyNodes, clauseNodes, literalLoadable, bodyLoadable}
 use Rattle.layout.proofs.Nodes.{has-end, size-word, words-some, has-left as nodes-left, has-right as nodes-right}
 use Rattle.linker.specs.Records.{putRecord, kindOf, otherOf, putBody, sought}
-use Rattle.linker.specs.Places.{Headed, LiteralTo, BodyTo}
+use Rattle.linker.specs.Places.{Headed, LiteralIn, LiteralTo, BodyTo}
 use Rattle.linker.proofs.Sizes.{Fits, View, view-truth, view-falsity, view-call, view-equation, view, literal-nodes, Says, says}
 use Rattle.linker.proofs.Seeking.{atom-word, atom-listed, next-is}
 use Rattle.linker.proofs.Writing.{SameHeads, record-long, body-long, headed-kept, record-heads}
@@ -91,25 +91,25 @@ kind-is table p x h = by (view table p x h)
     by (view-call q h) = q
     by (view-equation q h r) = q
 
-module _ (table : List ℕ) (p : ℕ) (nodes : List ℕ) (q clauses : ℕ) (code : List ℕ) (l : ℕ) (kind : ℕ) (e : kind ≡ getD table p 0) where
-  is-kind : (ss : List Symbol) (sh : Sheet) (x : Literal) → LiteralTo ss sh x table p nodes q clauses code l → kind ≡ kindOf x
+module _ (table : List ℕ) (p : ℕ) (nodes : List ℕ) (q clauses : ℕ) (code : List ℕ) (kind : ℕ) (e : kind ≡ getD table p 0) where
+  is-kind : (ss : List Symbol) (sh : Sheet) (x : Literal) → LiteralIn ss sh x table p nodes q clauses code → kind ≡ kindOf x
   is-kind ss sh x w = e ∙ kind-is table p x (w .has)
 
-  pub other-none : kind < 2 → (ss : List Symbol) (sh : Sheet) (x : Literal) → LiteralTo ss sh x table p nodes q clauses code l → 0 ≡ otherOf ss sh q x
+  pub other-none : kind < 2 → (ss : List Symbol) (sh : Sheet) (x : Literal) → LiteralIn ss sh x table p nodes q clauses code → 0 ≡ otherOf ss sh q x
   unfolding otherOf
   other-none k ss sh truth w = refl
   other-none k ss sh falsity w = refl
   other-none k ss sh (call a) w = absurd (let z : kind ≡ 2 = is-kind ss sh (call a) w in omega arith)
   other-none k ss sh (equation t u) w = absurd (let z : kind ≡ 3 = is-kind ss sh (equation t u) w in omega arith)
 
-  pub call-inside : kind ≡ 2 → (ss : List Symbol) (sh : Sheet) (x : Literal) → LiteralTo ss sh x table p nodes q clauses code l → q < length nodes
+  pub call-inside : kind ≡ 2 → (ss : List Symbol) (sh : Sheet) (x : Literal) → LiteralIn ss sh x table p nodes q clauses code → q < length nodes
   unfolding literalNodes
   call-inside k ss sh truth w = absurd (let z : kind ≡ 0 = is-kind ss sh truth w in omega arith)
   call-inside k ss sh falsity w = absurd (let z : kind ≡ 1 = is-kind ss sh falsity w in omega arith)
   call-inside k ss sh (call a) w = atom-word ss nodes q a (w .stand) .0
   call-inside k ss sh (equation t u) w = absurd (let z : kind ≡ 3 = is-kind ss sh (equation t u) w in omega arith)
 
-  pub other-call : kind ≡ 2 → (word r : ℕ) → word ≡ getD nodes q 0 → r ≡ sought nodes code word (0 + 1) (clauses - 0) → (ss : List Symbol) (sh : Sheet) (x : Literal) → LiteralTo ss sh x table p nodes q clauses code l → r ≡ otherOf ss sh q x
+  pub other-call : kind ≡ 2 → (word r : ℕ) → word ≡ getD nodes q 0 → r ≡ sought nodes code word (0 + 1) (clauses - 0) → (ss : List Symbol) (sh : Sheet) (x : Literal) → LiteralIn ss sh x table p nodes q clauses code → r ≡ otherOf ss sh q x
   unfolding otherOf literalNodes literalLoadable
   other-call k word r v s ss sh truth w = absurd (let z : kind ≡ 0 = is-kind ss sh truth w in omega arith)
   other-call k word r v s ss sh falsity w = absurd (let z : kind ≡ 1 = is-kind ss sh falsity w in omega arith)
@@ -117,21 +117,21 @@ module _ (table : List ℕ) (p : ℕ) (nodes : List ℕ) (q clauses : ℕ) (code
   other-call k word r v s ss sh (equation t u) w = absurd (let z : kind ≡ 3 = is-kind ss sh (equation t u) w in omega arith)
 
   module _ (k : 2 ≤ kind) (d : kind ≡ 2 → ⊥) where
-    pub equation-inside : (ss : List Symbol) (sh : Sheet) (x : Literal) → LiteralTo ss sh x table p nodes q clauses code l → Fits nodes q
+    pub equation-inside : (ss : List Symbol) (sh : Sheet) (x : Literal) → LiteralIn ss sh x table p nodes q clauses code → Fits nodes q
     unfolding literalNodes
     equation-inside ss sh truth w = absurd (let z : kind ≡ 0 = is-kind ss sh truth w in omega arith)
     equation-inside ss sh falsity w = absurd (let z : kind ≡ 1 = is-kind ss sh falsity w in omega arith)
     equation-inside ss sh (call a) w = absurd (d (is-kind ss sh (call a) w))
     equation-inside ss sh (equation t u) w = loaded-fits ss nodes q t (nodes-left nodes q (loadedWords ss t) (loadedWords ss u) (w .stand))
 
-    pub other-equation : (r : ℕ) → r ≡ q + getD nodes (q + 1) 0 → (ss : List Symbol) (sh : Sheet) (x : Literal) → LiteralTo ss sh x table p nodes q clauses code l → r ≡ otherOf ss sh q x
+    pub other-equation : (r : ℕ) → r ≡ q + getD nodes (q + 1) 0 → (ss : List Symbol) (sh : Sheet) (x : Literal) → LiteralIn ss sh x table p nodes q clauses code → r ≡ otherOf ss sh q x
     unfolding otherOf literalNodes
     other-equation r s ss sh truth w = absurd (let z : kind ≡ 0 = is-kind ss sh truth w in omega arith)
     other-equation r s ss sh falsity w = absurd (let z : kind ≡ 1 = is-kind ss sh falsity w in omega arith)
     other-equation r s ss sh (call a) w = absurd (d (is-kind ss sh (call a) w))
     other-equation r s ss sh (equation t u) w = s ∙ ap (λ (i : ℕ). q + i) (size-word ss nodes q t (nodes-left nodes q (loadedWords ss t) (loadedWords ss u) (w .stand)))
 
-  other-bound : (ss : List Symbol) (sh : Sheet) (x : Literal) → LiteralTo ss sh x table p nodes q clauses code l → otherOf ss sh q x ≤ 65536
+  other-bound : (ss : List Symbol) (sh : Sheet) (x : Literal) → LiteralIn ss sh x table p nodes q clauses code → otherOf ss sh q x ≤ 65536
   unfolding otherOf literalNodes
   other-bound ss sh truth w = omega arith
   other-bound ss sh falsity w = omega arith
@@ -147,22 +147,22 @@ module _ (table : List ℕ) (p : ℕ) (nodes : List ℕ) (q clauses : ℕ) (code
   kind-bound (call a) = omega arith
   kind-bound (equation t u) = omega arith
 
-  module _ (other : ℕ) (o : (ss : List Symbol) (sh : Sheet) (x : Literal) → LiteralTo ss sh x table p nodes q clauses code l → other ≡ otherOf ss sh q x) where
+  module _ (other : ℕ) (o : (ss : List Symbol) (sh : Sheet) (x : Literal) → LiteralIn ss sh x table p nodes q clauses code → other ≡ otherOf ss sh q x) (l : ℕ) where
     pub record-ready : (ss : List Symbol) (sh : Sheet) (x : Literal) → LiteralTo ss sh x table p nodes q clauses code l
         → (l + 2 < length code) × ((kind < 4294967296) × ((q < 4294967296) × (other < 4294967296)))
     record-ready ss sh x w =
         let a : l + 4 ≤ length code = w .high in
-        let b : kind ≡ kindOf x = is-kind ss sh x w in
+        let b : kind ≡ kindOf x = is-kind ss sh x (w .given) in
         let c : kindOf x ≤ 3 = kind-bound x in
-        let d : q ≤ length nodes = w .node in
-        let f : length nodes ≤ 65536 = w .headed .nodes-short in
-        let g : other ≡ otherOf ss sh q x = o ss sh x w in
-        let h : otherOf ss sh q x ≤ 65536 = other-bound ss sh x w in
+        let d : q ≤ length nodes = w .given .node in
+        let f : length nodes ≤ 65536 = w .given .headed .nodes-short in
+        let g : other ≡ otherOf ss sh q x = o ss sh x (w .given) in
+        let h : otherOf ss sh q x ≤ 65536 = other-bound ss sh x (w .given) in
         (omega arith, (omega arith, (omega arith, omega arith)))
 
     pub literal-put : (new : List ℕ) → new ≡ putRecord code l kind q other → (ss : List Symbol) (sh : Sheet) (x : Literal) → LiteralTo ss sh x table p nodes q clauses code l
         → new ≡ putRecord code l (kindOf x) q (otherOf ss sh q x)
-    literal-put new n ss sh x w = n ∙ ap₂ (λ (i j : ℕ). putRecord code l i q j) (is-kind ss sh x w) (o ss sh x w)
+    literal-put new n ss sh x w = n ∙ ap₂ (λ (i j : ℕ). putRecord code l i q j) (is-kind ss sh x (w .given)) (o ss sh x (w .given))
 
 -- ---- a body
 
@@ -196,7 +196,7 @@ split ss sh x b table p literals nodes q clauses code l w =
     let n : literals ≡ suc (bodyLength b) = w .count in
     let first : HasNodes nodes q (literalNodes ss x) = nodes-left nodes q (literalNodes ss x) (bodyNodes ss b) (w .stand) in
     record {
-      literal = record { headed = w .headed; has = has-left table p (literalWords x) (bodyWords b) (w .has); stand = first; loadable = ok .0; node = w .node; low = w .low; high = omega arith };
+      literal = record { given = record { headed = w .headed; has = has-left table p (literalWords x) (bodyWords b) (w .has); stand = first; loadable = ok .0; node = w .node }; low = w .low; high = omega arith };
       has = has-right table p (literalWords x) (bodyWords b) (w .has);
       stand = nodes-right nodes q (literalNodes ss x) (bodyNodes ss b) (w .stand);
       loadable = ok .1;
@@ -232,7 +232,7 @@ module _ (table : List ℕ) (at i literals : ℕ) (nodes : List ℕ) (node claus
       size-in ss sh done left w c = absurd (let y : left ≡ 0 = w .count in omega arith)
       size-in ss sh (also x b) left w c =
           let o : Split ss sh table at nodes node clauses code to x b = split ss sh x b table at left nodes node clauses code to w in
-          let e : size ≡ length (literalNodes ss x) = size-is ss x (o .literal .has) in
+          let e : size ≡ length (literalNodes ss x) = size-is ss x (o .literal .given .has) in
           let a : node + length (literalNodes ss x) ≤ length nodes = o .inside in
           let d : length nodes ≤ 65536 = w .headed .nodes-short in
           omega arith
@@ -246,8 +246,8 @@ module _ (table : List ℕ) (at i literals : ℕ) (nodes : List ℕ) (node claus
       next-in ss sh whole done left w c g = absurd (let y : left ≡ 0 = w .count in omega arith)
       next-in ss sh whole (also x b) left w c g =
           let o : Split ss sh table at nodes node clauses code to x b = split ss sh x b table at left nodes node clauses code to w in
-          let e : next ≡ at + length (literalWords x) = s x (o .literal .has) in
-          let f : node + size ≡ node + length (literalNodes ss x) = ap (λ (k : ℕ). node + k) (size-is ss x (o .literal .has)) in
+          let e : next ≡ at + length (literalWords x) = s x (o .literal .given .has) in
+          let f : node + size ≡ node + length (literalNodes ss x) = ap (λ (k : ℕ). node + k) (size-is ss x (o .literal .given .has)) in
           let new-is : new ≡ putRecord code to (kindOf x) node (otherOf ss sh node x) = n ss sh x (o .literal) in
           let long : length new ≡ length code = ap length new-is ∙ record-long code to (kindOf x) node (otherOf ss sh node x) in
           let many : left ≡ suc (bodyLength b) = w .count in

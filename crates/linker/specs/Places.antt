@@ -36,13 +36,17 @@ pub record Headed (ss : List Symbol) (sh : Sheet) (nodes : List ℕ) (clauses : 
   pub short : length code ≤ 65536
   pub nodes-short : length nodes ≤ 65536
 
--- a literal whose nodes stand at q, to be written at l
-pub record LiteralTo (ss : List Symbol) (sh : Sheet) (x : Literal) (table : List ℕ) (p : ℕ) (nodes : List ℕ) (q clauses : ℕ) (code : List ℕ) (l : ℕ) : Type 0 where
+-- a literal whose nodes stand at q
+pub record LiteralIn (ss : List Symbol) (sh : Sheet) (x : Literal) (table : List ℕ) (p : ℕ) (nodes : List ℕ) (q clauses : ℕ) (code : List ℕ) : Type 0 where
   pub headed : Headed ss sh nodes clauses code
   pub has : Has table p (literalWords x)
   pub stand : HasNodes nodes q (literalNodes ss x)
   pub loadable : T (literalLoadable ss x)
   pub node : q ≤ length nodes
+
+-- and there is room for its record at l
+pub record LiteralTo (ss : List Symbol) (sh : Sheet) (x : Literal) (table : List ℕ) (p : ℕ) (nodes : List ℕ) (q clauses : ℕ) (code : List ℕ) (l : ℕ) : Type 0 where
+  pub given : LiteralIn ss sh x table p nodes q clauses code
   pub low : 1028 ≤ l
   pub high : l + 4 ≤ length code
 

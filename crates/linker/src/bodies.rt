@@ -1,4 +1,5 @@
 // Records of literals. The nodes of a literal at p of the table stand at q.
+use crate::records::RECORD;
 use crate::records::put;
 use crate::records::put_record;
 use crate::search::next_for;
@@ -12,23 +13,15 @@ ghost use mathlib.Core.List.{List};
 ghost use Rattle.syntax.specs.Terms.{Literal, Body, Sheet};
 ghost use Rattle.layout.specs.Nodes.{Symbol};
 ghost use Rattle.linker.specs.Records.{putRecord, kindOf, otherOf, putBody};
-ghost use Rattle.linker.specs.Places.{LiteralTo, BodyTo};
+ghost use Rattle.linker.specs.Places.{LiteralIn, LiteralTo, BodyTo};
 
 // The kind of a body's end.
 const END: usize = 4;
 
 // The third word of a literal's record.
-fn other_of(
-    table: &[u32],
-    p: usize,
-    nodes: &[u32],
-    q: usize,
-    clauses: usize,
-    code: &[u32],
-    l: usize,
-) -> usize
-    requires { ⌜ ((ss : List Symbol) × ((sh : Sheet) × ((x : Literal) × LiteralTo ss sh x (now table) p (now nodes) q clauses (now code) l))) ⌝ }
-    ensures { λ r. ⌜ ((ss : List Symbol) (sh : Sheet) (x : Literal) → LiteralTo ss sh x (now (table .entry)) p (now (nodes .entry)) q clauses (now (code .entry)) l → r ≡ otherOf ss sh q x) ⌝ }
+fn other_of(table: &[u32], p: usize, nodes: &[u32], q: usize, clauses: usize, code: &[u32]) -> usize
+    requires { ⌜ ((ss : List Symbol) × ((sh : Sheet) × ((x : Literal) × LiteralIn ss sh x (now table) p (now nodes) q clauses (now code)))) ⌝ }
+    ensures { λ r. ⌜ ((ss : List Symbol) (sh : Sheet) (x : Literal) → LiteralIn ss sh x (now (table .entry)) p (now (nodes .entry)) q clauses (now (code .entry)) → r ≡ otherOf ss sh q x) ⌝ }
 {
     let kind = word_at(table, p);
     if kind < CALL {
@@ -55,7 +48,7 @@ fn put_literal(
     ensures { λ _. ⌜ ((ss : List Symbol) (sh : Sheet) (x : Literal) → LiteralTo ss sh x (now (table .entry)) p (now (nodes .entry)) q clauses (now (code .entry)) l → now (code .exit) ≡ putRecord (now (code .entry)) l (kindOf x) q (otherOf ss sh q x)) ⌝ }
 {
     let kind = word_at(table, p);
-    let other = other_of(table, p, nodes, q, clauses, code, l);
+    let other = other_of(table, p, nodes, q, clauses, code);
     put_record(code, l, kind, q, other);
 }
 
@@ -84,7 +77,7 @@ pub fn put_body(
         let size = nodes_of(words, 1);
         at = next;
         node += size;
-        to += 4;
+        to += RECORD;
         i += 1;
     }
     put(code, to, END);

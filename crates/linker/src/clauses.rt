@@ -2,6 +2,7 @@
 use crate::bodies::put_body;
 use crate::records::BODIES;
 use crate::records::BODY;
+use crate::records::RECORD;
 use crate::records::put;
 use crate::records::put_pair;
 use crate::search::next_for;
@@ -23,9 +24,6 @@ ghost use Rattle.linker.specs.Places.{HeadsTo, ClauseTo, ClausesTo};
 const LITERALS: usize = 2;
 
 const HEAD: usize = 3;
-
-// How many words a clause's record takes.
-const RECORD: usize = 4;
 
 // How many words the nodes of the clause at p take.
 fn clause_nodes(table: &[u32], p: usize) -> usize

@@ -4,6 +4,9 @@ ghost use Prim.Native.Nat.{_+_, _<_, _^_};
 ghost use lib.ListN.{length, set};
 ghost use Rattle.linker.specs.Records.{putPair, putRecord};
 
+// How many words a record takes.
+pub const RECORD: usize = 4;
+
 // Where the bodies begin, and how many words each has.
 pub const BODIES: usize = 1028;
 

@@ -1,4 +1,5 @@
 // Clauses sought by predicate: the first word of a head's node says which it is.
+use crate::records::RECORD;
 use modes::table::word_at;
 ghost use mathlib.Core.Path.{_≡_};
 ghost use Prim.Native.Nat.{_+_, _-_, _*_, _≤_, _<_};
@@ -12,7 +13,7 @@ fn head_word(nodes: &[u32], code: &[u32], j: usize) -> usize
     requires { ⌜ (j ≤ 256) × ((j * 4 < length (now code)) × (headAt (now code) j < length (now nodes))) ⌝ }
     ensures { λ r. ⌜ r ≡ getD (now (nodes .entry)) (headAt (now (code .entry)) j) 0 ⌝ }
 {
-    let at = j * 4;
+    let at = j * RECORD;
     let head = word_at(code, at);
     word_at(nodes, head)
 }

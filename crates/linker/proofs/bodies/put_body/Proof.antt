@@ -28,13 +28,13 @@ put-literal-requires c κs = ((c .before .before .before .before .before .before
 
 past-literal-requires : tie.Need-past-literal-requires Inv-loop μ-loop
 past-literal-requires c κs =
-    (ahead-literal (c .before .before .before .before .before .before .before .before .before .args .table .now) (c .before .before .before .before .before .loop .at) (c .before .before .before .before .before .loop .i) (c .before .before .before .before .before .before .before .before .before .args .literals) (c .before .before .before .before .before .before .before .before .before .args .nodes .now) (c .before .before .before .before .before .loop .node) (c .before .before .before .before .before .before .before .before .before .args .clauses) (c .before .before .before .before .before .loop .code) (c .before .before .before .before .before .loop .to) (c .before .before .before .before .loop-test .taken) (c .before .before .before .before .before .before .before .before .before .pre .0) (c .before .before .before .before .before .before .before .before .before .pre .1 .0) _ (c .before .before .before .before .before .loop .inv (c .before .before .before .before .before .before .before .before .before .pre .0) (c .before .before .before .before .before .before .before .before .before .pre .1 .0) (c .before .before .before .before .before .before .before .before .before .pre .1 .1 .0) (c .before .before .before .before .before .before .before .before .before .pre .1 .1 .1)) .0, ahead-literal (c .before .before .before .before .before .before .before .before .before .args .table .now) (c .before .before .before .before .before .loop .at) (c .before .before .before .before .before .loop .i) (c .before .before .before .before .before .before .before .before .before .args .literals) (c .before .before .before .before .before .before .before .before .before .args .nodes .now) (c .before .before .before .before .before .loop .node) (c .before .before .before .before .before .before .before .before .before .args .clauses) (c .before .before .before .before .before .loop .code) (c .before .before .before .before .before .loop .to) (c .before .before .before .before .loop-test .taken) (c .before .before .before .before .before .before .before .before .before .pre .0) (c .before .before .before .before .before .before .before .before .before .pre .1 .0) _ (c .before .before .before .before .before .loop .inv (c .before .before .before .before .before .before .before .before .before .pre .0) (c .before .before .before .before .before .before .before .before .before .pre .1 .0) (c .before .before .before .before .before .before .before .before .before .pre .1 .1 .0) (c .before .before .before .before .before .before .before .before .before .pre .1 .1 .1)) .1 .has)
+    (ahead-literal (c .before .before .before .before .before .before .before .before .before .args .table .now) (c .before .before .before .before .before .loop .at) (c .before .before .before .before .before .loop .i) (c .before .before .before .before .before .before .before .before .before .args .literals) (c .before .before .before .before .before .before .before .before .before .args .nodes .now) (c .before .before .before .before .before .loop .node) (c .before .before .before .before .before .before .before .before .before .args .clauses) (c .before .before .before .before .before .loop .code) (c .before .before .before .before .before .loop .to) (c .before .before .before .before .loop-test .taken) (c .before .before .before .before .before .before .before .before .before .pre .0) (c .before .before .before .before .before .before .before .before .before .pre .1 .0) _ (c .before .before .before .before .before .loop .inv (c .before .before .before .before .before .before .before .before .before .pre .0) (c .before .before .before .before .before .before .before .before .before .pre .1 .0) (c .before .before .before .before .before .before .before .before .before .pre .1 .1 .0) (c .before .before .before .before .before .before .before .before .before .pre .1 .1 .1)) .0, ahead-literal (c .before .before .before .before .before .before .before .before .before .args .table .now) (c .before .before .before .before .before .loop .at) (c .before .before .before .before .before .loop .i) (c .before .before .before .before .before .before .before .before .before .args .literals) (c .before .before .before .before .before .before .before .before .before .args .nodes .now) (c .before .before .before .before .before .loop .node) (c .before .before .before .before .before .before .before .before .before .args .clauses) (c .before .before .before .before .before .loop .code) (c .before .before .before .before .before .loop .to) (c .before .before .before .before .loop-test .taken) (c .before .before .before .before .before .before .before .before .before .pre .0) (c .before .before .before .before .before .before .before .before .before .pre .1 .0) _ (c .before .before .before .before .before .loop .inv (c .before .before .before .before .before .before .before .before .before .pre .0) (c .before .before .before .before .before .before .before .before .before .pre .1 .0) (c .before .before .before .before .before .before .before .before .before .pre .1 .1 .0) (c .before .before .before .before .before .before .before .before .before .pre .1 .1 .1)) .1 .given .has)
 
 sub-words : tie.Need-sub-words Inv-loop μ-loop
-sub-words c = literal-behind (c .before .before .before .before .before .before .before .before .before .before .args .table .now) (c .before .before .before .before .before .before .loop .at) (c .before .before .before .before .before .before .loop .i) (c .before .before .before .before .before .before .before .before .before .before .args .literals) (c .before .before .before .before .before .before .before .before .before .before .args .nodes .now) (c .before .before .before .before .before .before .loop .node) (c .before .before .before .before .before .before .before .before .before .before .args .clauses) (c .before .before .before .before .before .before .loop .code) (c .before .before .before .before .before .before .loop .to) (c .before .before .before .before .before .loop-test .taken) _ (c .before .before .before .put-literal .ensures) (c .past-literal .result) (c .past-literal .ensures) (ahead-literal (c .before .before .before .before .before .before .before .before .before .before .args .table .now) (c .before .before .before .before .before .before .loop .at) (c .before .before .before .before .before .before .loop .i) (c .before .before .before .before .before .before .before .before .before .before .args .literals) (c .before .before .before .before .before .before .before .before .before .before .args .nodes .now) (c .before .before .before .before .before .before .loop .node) (c .before .before .before .before .before .before .before .before .before .before .args .clauses) (c .before .before .before .before .before .before .loop .code) (c .before .before .before .before .before .before .loop .to) (c .before .before .before .before .before .loop-test .taken) (c .before .before .before .before .before .before .before .before .before .before .pre .0) (c .before .before .before .before .before .before .before .before .before .before .pre .1 .0) _ (c .before .before .before .before .before .before .loop .inv (c .before .before .before .before .before .before .before .before .before .before .pre .0) (c .before .before .before .before .before .before .before .before .before .before .pre .1 .0) (c .before .before .before .before .before .before .before .before .before .before .pre .1 .1 .0) (c .before .before .before .before .before .before .before .before .before .before .pre .1 .1 .1)) .0) (ahead-literal (c .before .before .before .before .before .before .before .before .before .before .args .table .now) (c .before .before .before .before .before .before .loop .at) (c .before .before .before .before .before .before .loop .i) (c .before .before .before .before .before .before .before .before .before .before .args .literals) (c .before .before .before .before .before .before .before .before .before .before .args .nodes .now) (c .before .before .before .before .before .before .loop .node) (c .before .before .before .before .before .before .before .before .before .before .args .clauses) (c .before .before .before .before .before .before .loop .code) (c .before .before .before .before .before .before .loop .to) (c .before .before .before .before .before .loop-test .taken) (c .before .before .before .before .before .before .before .before .before .before .pre .0) (c .before .before .before .before .before .before .before .before .before .before .pre .1 .0) _ (c .before .before .before .before .before .before .loop .inv (c .before .before .before .before .before .before .before .before .before .before .pre .0) (c .before .before .before .before .before .before .before .before .before .before .pre .1 .0) (c .before .before .before .before .before .before .before .before .before .before .pre .1 .1 .0) (c .before .before .before .before .before .before .before .before .before .before .pre .1 .1 .1)) .1 .has) .0
+sub-words c = literal-behind (c .before .before .before .before .before .before .before .before .before .before .args .table .now) (c .before .before .before .before .before .before .loop .at) (c .before .before .before .before .before .before .loop .i) (c .before .before .before .before .before .before .before .before .before .before .args .literals) (c .before .before .before .before .before .before .before .before .before .before .args .nodes .now) (c .before .before .before .before .before .before .loop .node) (c .before .before .before .before .before .before .before .before .before .before .args .clauses) (c .before .before .before .before .before .before .loop .code) (c .before .before .before .before .before .before .loop .to) (c .before .before .before .before .before .loop-test .taken) _ (c .before .before .before .put-literal .ensures) (c .past-literal .result) (c .past-literal .ensures) (ahead-literal (c .before .before .before .before .before .before .before .before .before .before .args .table .now) (c .before .before .before .before .before .before .loop .at) (c .before .before .before .before .before .before .loop .i) (c .before .before .before .before .before .before .before .before .before .before .args .literals) (c .before .before .before .before .before .before .before .before .before .before .args .nodes .now) (c .before .before .before .before .before .before .loop .node) (c .before .before .before .before .before .before .before .before .before .before .args .clauses) (c .before .before .before .before .before .before .loop .code) (c .before .before .before .before .before .before .loop .to) (c .before .before .before .before .before .loop-test .taken) (c .before .before .before .before .before .before .before .before .before .before .pre .0) (c .before .before .before .before .before .before .before .before .before .before .pre .1 .0) _ (c .before .before .before .before .before .before .loop .inv (c .before .before .before .before .before .before .before .before .before .before .pre .0) (c .before .before .before .before .before .before .before .before .before .before .pre .1 .0) (c .before .before .before .before .before .before .before .before .before .before .pre .1 .1 .0) (c .before .before .before .before .before .before .before .before .before .before .pre .1 .1 .1)) .0) (ahead-literal (c .before .before .before .before .before .before .before .before .before .before .args .table .now) (c .before .before .before .before .before .before .loop .at) (c .before .before .before .before .before .before .loop .i) (c .before .before .before .before .before .before .before .before .before .before .args .literals) (c .before .before .before .before .before .before .before .before .before .before .args .nodes .now) (c .before .before .before .before .before .before .loop .node) (c .before .before .before .before .before .before .before .before .before .before .args .clauses) (c .before .before .before .before .before .before .loop .code) (c .before .before .before .before .before .before .loop .to) (c .before .before .before .before .before .loop-test .taken) (c .before .before .before .before .before .before .before .before .before .before .pre .0) (c .before .before .before .before .before .before .before .before .before .before .pre .1 .0) _ (c .before .before .before .before .before .before .loop .inv (c .before .before .before .before .before .before .before .before .before .before .pre .0) (c .before .before .before .before .before .before .before .before .before .before .pre .1 .0) (c .before .before .before .before .before .before .before .before .before .before .pre .1 .1 .0) (c .before .before .before .before .before .before .before .before .before .before .pre .1 .1 .1)) .1 .given .has) .0
 
 nodes-of-requires : tie.Need-nodes-of-requires Inv-loop μ-loop
-nodes-of-requires c κs = literal-behind (c .before .before .before .before .before .before .before .before .before .before .args .table .now) (c .before .before .before .before .before .before .loop .at) (c .before .before .before .before .before .before .loop .i) (c .before .before .before .before .before .before .before .before .before .before .args .literals) (c .before .before .before .before .before .before .before .before .before .before .args .nodes .now) (c .before .before .before .before .before .before .loop .node) (c .before .before .before .before .before .before .before .before .before .before .args .clauses) (c .before .before .before .before .before .before .loop .code) (c .before .before .before .before .before .before .loop .to) (c .before .before .before .before .before .loop-test .taken) _ (c .before .before .before .put-literal .ensures) (c .past-literal .result) (c .past-literal .ensures) (ahead-literal (c .before .before .before .before .before .before .before .before .before .before .args .table .now) (c .before .before .before .before .before .before .loop .at) (c .before .before .before .before .before .before .loop .i) (c .before .before .before .before .before .before .before .before .before .before .args .literals) (c .before .before .before .before .before .before .before .before .before .before .args .nodes .now) (c .before .before .before .before .before .before .loop .node) (c .before .before .before .before .before .before .before .before .before .before .args .clauses) (c .before .before .before .before .before .before .loop .code) (c .before .before .before .before .before .before .loop .to) (c .before .before .before .before .before .loop-test .taken) (c .before .before .before .before .before .before .before .before .before .before .pre .0) (c .before .before .before .before .before .before .before .before .before .before .pre .1 .0) _ (c .before .before .before .before .before .before .loop .inv (c .before .before .before .before .before .before .before .before .before .before .pre .0) (c .before .before .before .before .before .before .before .before .before .before .pre .1 .0) (c .before .before .before .before .before .before .before .before .before .before .pre .1 .1 .0) (c .before .before .before .before .before .before .before .before .before .before .pre .1 .1 .1)) .0) (ahead-literal (c .before .before .before .before .before .before .before .before .before .before .args .table .now) (c .before .before .before .before .before .before .loop .at) (c .before .before .before .before .before .before .loop .i) (c .before .before .before .before .before .before .before .before .before .before .args .literals) (c .before .before .before .before .before .before .before .before .before .before .args .nodes .now) (c .before .before .before .before .before .before .loop .node) (c .before .before .before .before .before .before .before .before .before .before .args .clauses) (c .before .before .before .before .before .before .loop .code) (c .before .before .before .before .before .before .loop .to) (c .before .before .before .before .before .loop-test .taken) (c .before .before .before .before .before .before .before .before .before .before .pre .0) (c .before .before .before .before .before .before .before .before .before .before .pre .1 .0) _ (c .before .before .before .before .before .before .loop .inv (c .before .before .before .before .before .before .before .before .before .before .pre .0) (c .before .before .before .before .before .before .before .before .before .before .pre .1 .0) (c .before .before .before .before .before .before .before .before .before .before .pre .1 .1 .0) (c .before .before .before .before .before .before .before .before .before .before .pre .1 .1 .1)) .1 .has) .1
+nodes-of-requires c κs = literal-behind (c .before .before .before .before .before .before .before .before .before .before .args .table .now) (c .before .before .before .before .before .before .loop .at) (c .before .before .before .before .before .before .loop .i) (c .before .before .before .before .before .before .before .before .before .before .args .literals) (c .before .before .before .before .before .before .before .before .before .before .args .nodes .now) (c .before .before .before .before .before .before .loop .node) (c .before .before .before .before .before .before .before .before .before .before .args .clauses) (c .before .before .before .before .before .before .loop .code) (c .before .before .before .before .before .before .loop .to) (c .before .before .before .before .before .loop-test .taken) _ (c .before .before .before .put-literal .ensures) (c .past-literal .result) (c .past-literal .ensures) (ahead-literal (c .before .before .before .before .before .before .before .before .before .before .args .table .now) (c .before .before .before .before .before .before .loop .at) (c .before .before .before .before .before .before .loop .i) (c .before .before .before .before .before .before .before .before .before .before .args .literals) (c .before .before .before .before .before .before .before .before .before .before .args .nodes .now) (c .before .before .before .before .before .before .loop .node) (c .before .before .before .before .before .before .before .before .before .before .args .clauses) (c .before .before .before .before .before .before .loop .code) (c .before .before .before .before .before .before .loop .to) (c .before .before .before .before .before .loop-test .taken) (c .before .before .before .before .before .before .before .before .before .before .pre .0) (c .before .before .before .before .before .before .before .before .before .before .pre .1 .0) _ (c .before .before .before .before .before .before .loop .inv (c .before .before .before .before .before .before .before .before .before .before .pre .0) (c .before .before .before .before .before .before .before .before .before .before .pre .1 .0) (c .before .before .before .before .before .before .before .before .before .before .pre .1 .1 .0) (c .before .before .before .before .before .before .before .before .before .before .pre .1 .1 .1)) .0) (ahead-literal (c .before .before .before .before .before .before .before .before .before .before .args .table .now) (c .before .before .before .before .before .before .loop .at) (c .before .before .before .before .before .before .loop .i) (c .before .before .before .before .before .before .before .before .before .before .args .literals) (c .before .before .before .before .before .before .before .before .before .before .args .nodes .now) (c .before .before .before .before .before .before .loop .node) (c .before .before .before .before .before .before .before .before .before .before .args .clauses) (c .before .before .before .before .before .before .loop .code) (c .before .before .before .before .before .before .loop .to) (c .before .before .before .before .before .loop-test .taken) (c .before .before .before .before .before .before .before .before .before .before .pre .0) (c .before .before .before .before .before .before .before .before .before .before .pre .1 .0) _ (c .before .before .before .before .before .before .loop .inv (c .before .before .before .before .before .before .before .before .before .before .pre .0) (c .before .before .before .before .before .before .before .before .before .before .pre .1 .0) (c .before .before .before .before .before .before .before .before .before .before .pre .1 .1 .0) (c .before .before .before .before .before .before .before .before .before .before .pre .1 .1 .1)) .1 .given .has) .1
 
 add-node : tie.Need-add-node Inv-loop μ-loop
 add-node c = omega (arith, ahead-size (c .before .before .before .before .before .before .before .before .before .before .before .args .table .now) (c .before .before .before .before .before .before .before .loop .at) (c .before .before .before .before .before .before .before .loop .i) (c .before .before .before .before .before .before .before .before .before .before .before .args .literals) (c .before .before .before .before .before .before .before .before .before .before .before .args .nodes .now) (c .before .before .before .before .before .before .before .loop .node) (c .before .before .before .before .before .before .before .before .before .before .before .args .clauses) (c .before .before .before .before .before .before .before .loop .code) (c .before .before .before .before .before .before .before .loop .to) (c .before .before .before .before .before .before .loop-test .taken) _ (c .before .before .before .before .put-literal .ensures) (c .before .past-literal .result) (c .before .past-literal .ensures) (c .nodes-of .result) (c .nodes-of .ensures) (c .before .before .before .before .before .before .before .before .before .before .before .pre .0) (c .before .before .before .before .before .before .before .before .before .before .before .pre .1 .0) _ (c .before .before .before .before .before .before .before .loop .inv (c .before .before .before .before .before .before .before .before .before .before .before .pre .0) (c .before .before .before .before .before .before .before .before .before .before .before .pre .1 .0) (c .before .before .before .before .before .before .before .before .before .before .before .pre .1 .1 .0) (c .before .before .before .before .before .before .before .before .before .before .before .pre .1 .1 .1)))
