@@ -1,3 +1,4 @@
+use Rattle.runs.proofs.GoingLaws.{go-startable, go-begun, go-runs}
 use borrow.Author.Needs.{needs}
 use Rattle.runs.proofs.run.Statement.{statement}
 use Rattle.runs.proofs.run.Tie as tie
@@ -8,11 +9,11 @@ use Rattle.runs.proofs.run_on.Reads as run-on-reads
 
 -- src/lib.rt:203:5
 start-requires : tie.Need-start-requires
-start-requires c κs = ?
+start-requires c κs = go-startable (c .before .before .before .before .before .before .before .before .before .before .before .pre)
 
 -- src/lib.rt:204:5
 run-on-requires : tie.Need-run-on-requires
-run-on-requires c κs = ?
+run-on-requires c κs = go-begun (c .before .before .before .before .before .before .before .before .before .before .before .before .before .before .before .before .before .before .pre) (c .before .before .before .before .before .before .start .ensures)
 
 -- src/lib.rt:185:1
 same-length : tie.Need-same-length
@@ -32,7 +33,7 @@ same-length-4 c = search needs
 
 -- src/lib.rt:185:1
 returns : tie.Need-returns
-returns c = ?
+returns c = λ w. go-runs w (c .before .before .before .before .before .before .before .before .before .before .before .before .before .before .before .start .ensures) (c .before .before .before .before .before .before .before .before .run-on .ensures)
 
 pub run-spec : {M : Type 1} → statement M
 run-spec =
