@@ -1,3 +1,4 @@
+pub mod CallWitness
 pub mod Limits
 pub mod Nodes
 pub mod Pigeonhole

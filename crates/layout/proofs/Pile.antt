@@ -661,7 +661,7 @@ module _ (ss : List Symbol) (sh : Sheet) (g : Goal) (nodes code before after : L
 
 -- the frames of the top's path, and its copy, where every word behind the trail is as it was
 module _ (ss : List Symbol) (sh : Sheet) (g : Goal) (nodes code state after : List ℕ) (h n m : ℕ) (piled : Piled ss sh g nodes code state (suc h) n) (keeps : Keeps m state after) where
-  kept-frames : (i : ℕ) → i < pathAt state h → Frame sh g code after (suc i)
+  pub kept-frames : (i : ℕ) → i < pathAt state h → Frame sh g code after (suc i)
   kept-frames i l =
       let z : pathAt state h ≤ 255 = piled .each h (omega arith) .low in
       same-frame sh g code state after 255 (λ j q r. keeps .others j q) i (omega arith) (piled .each h (omega arith) .frame i l)

@@ -5,16 +5,16 @@ use mathlib.Core.Path.{_≡_, refl, sym, ap, ap₂, _∙_, subst, subst⁻¹}
 use mathlib.Core.Bool.{Bool, true, false}
 use mathlib.Core.List.{List, [], _∷_, _++_}
 use mathlib.Core.Option.{Option, none, some}
-use lib.ListN.{length}
+use lib.ListN.{length, getD}
 use Rattle.syntax.specs.Terms.{Term, termOf, Atom, Literal, call, equation, truth, falsity, Body, done, also, Clause, Sheet, Goal}
 use Rattle.machine.specs.Substitution.{Binding, copied}
 use Rattle.machine.specs.Unification.{unify}
 use Rattle.machine.specs.Machine.{Pending, Call, Alternative, path, pending, nextFor, nextOf, topmost, clauseAt, standing, gone, equated, movedOn, laid, tried, onTop, called, worked, workedOn, outcome, step}
 use Rattle.layout.specs.Nodes.{Symbol}
 use Rattle.layout.specs.State.{bindings, Store, Within, Keeps}
-use Rattle.layout.specs.Program.{kindAt, otherAt, BodyStands, Program}
+use Rattle.layout.specs.Program.{bodyAt, kindAt, otherAt, BodyStands, Program}
 use Rattle.layout.specs.Pile.{Calls, callerOf, callOf, restFrom, leftBehind, leftFrom, callsUpTo, copyAt, literalAt, nextAt, markAt, pathAt, alternativeAt, pileOf, Place, Frame, NextFor, Stacked, Piled}
-use Rattle.layout.proofs.Pile.{place-stands, rest-next, left-under, climb, next-for, Written, Stand, Means, replaced}
+use Rattle.layout.proofs.Pile.{place-stands, rest-next, left-under, climb, next-for, SameFrames, same-left, same-calls, kept-left, Written, Stand, Means, popped, replaced, moved, Pushing, pushed, pushed-left}
 
 -- ---- the literals left
 
@@ -188,3 +188,109 @@ module _ (ss : List Symbol) (sh : Sheet) (g : Goal) (nodes code state : List ℕ
           ∙ ap (λ (k : ℕ). standing sh (pending (suc k) (cl .body) (leftFrom sh g code state (pathAt state h) (copyAt state h) (literalAt state h + 4))) b (record { copy = copyAt state h; atom = a } ∷ callsUpTo sh g code state (pathAt state h))
               ∷ record { literals = leftFrom sh g code state (pathAt state h) (copyAt state h) (literalAt state h); bindings = bindings ss nodes state (markAt state h); next = nextFor sh a (nextAt state h); calls = callsUpTo sh g code state (pathAt state h) }
               ∷ pileOf ss sh g nodes code state h) path-is)
+
+-- ---- words after a step
+
+-- the top goes
+pub top-goes : (ss : List Symbol) (sh : Sheet) (g : Goal) (nodes code state : List ℕ) (h n : ℕ) → Piled ss sh g nodes code state (suc h) n → step sh (pileOf ss sh g nodes code state (suc h)) ≡ pileOf ss sh g nodes code state h
+    → Means ss sh g nodes code state h n (step sh (pileOf ss sh g nodes code state (suc h)))
+top-goes ss sh g nodes code state h n piled e = record { piled = popped ss sh g nodes code state h n piled; is = sym e }
+
+-- The first literal of the top goes: what is left begins at l of copy c, and the trail has n1 entries.
+pub record Going (ss : List Symbol) (sh : Sheet) (g : Goal) (nodes code state state1 state2 : List ℕ) (h n n1 p c l x : ℕ) : Type 0 where
+  pub piled : Piled ss sh g nodes code state (suc h) n
+  pub mark : markAt state h ≡ n
+  pub path : pathAt state h ≡ p
+  pub keeps : Keeps n state state1
+  pub store : Store ss nodes state1 n1
+  pub within : Within p state1 n1
+  pub more : n ≤ n1
+  pub copy : c ≤ p
+  pub left : leftFrom sh g code state1 p c l ≡ leftFrom sh g code state1 p (copyAt state h) (literalAt state h + 4)
+  pub fresh : Fresh sh g code state1 p c l x
+  pub written : Written h c l x n1 p state1 state2
+
+pub literal-goes : (ss : List Symbol) (sh : Sheet) (g : Goal) (nodes code state state1 state2 : List ℕ) (h n n1 p c l x : ℕ) → Going ss sh g nodes code state state1 state2 h n n1 p c l x
+    → Means ss sh g nodes code state2 (suc h) n1 (standing sh (leftFrom sh g code state (pathAt state h) (copyAt state h) (literalAt state h + 4)) (bindings ss nodes state1 n1) (callsUpTo sh g code state (pathAt state h)) ∷ pileOf ss sh g nodes code state h)
+literal-goes ss sh g nodes code state state1 state2 h n n1 p c l x t =
+    let all : Means ss sh g nodes code state2 (suc h) n1 (record { literals = leftFrom sh g code state1 p c l; bindings = bindings ss nodes state1 n1; next = x; calls = callsUpTo sh g code state p } ∷ pileOf ss sh g nodes code state h) =
+    replaced ss sh g nodes code state state1 state2 h n n1 p c l x (t .piled) (t .mark) (t .path) (t .keeps) (t .store) (t .within) (t .more) (t .copy) (t .fresh .stand) (t .written) in
+    let lits : leftFrom sh g code state1 p c l ≡ leftFrom sh g code state (pathAt state h) (copyAt state h) (literalAt state h + 4) =
+    t .left ∙ (ap (λ (y : ℕ). leftFrom sh g code state1 y (copyAt state h) (literalAt state h + 4)) (sym (t .path)) ∙ kept-left ss sh g nodes code state state1 h n n (t .piled) (t .keeps) (copyAt state h) (literalAt state h + 4) (t .piled .each h (omega arith) .copy)) in
+    let next : x ≡ topmost sh (leftFrom sh g code state (pathAt state h) (copyAt state h) (literalAt state h + 4)) = t .fresh .topmost-is ∙ ap (topmost sh) lits in
+    let calls : callsUpTo sh g code state p ≡ callsUpTo sh g code state (pathAt state h) = ap (callsUpTo sh g code state) (sym (t .path)) in
+    record {
+      piled = all .piled;
+      is = all .is ∙ (λ i. record { literals = lits i; bindings = bindings ss nodes state1 n1; next = next i; calls = calls i } ∷ pileOf ss sh g nodes code state h);
+    }
+
+-- `true`
+pub truth-step : (ss : List Symbol) (sh : Sheet) (g : Goal) (nodes code state after : List ℕ) (h n p c l x : ℕ) (r : Body) → Going ss sh g nodes code state state after h n n p c l x
+    → restFrom sh g code state (copyAt state h) (literalAt state h) ≡ also truth r → Means ss sh g nodes code after (suc h) n (step sh (pileOf ss sh g nodes code state (suc h)))
+truth-step ss sh g nodes code state after h n p c l x r t e =
+    let all : Means ss sh g nodes code after (suc h) n (standing sh (leftFrom sh g code state (pathAt state h) (copyAt state h) (literalAt state h + 4)) (bindings ss nodes state n) (callsUpTo sh g code state (pathAt state h)) ∷ pileOf ss sh g nodes code state h) =
+    literal-goes ss sh g nodes code state state after h n n p c l x t in
+    record {
+      piled = all .piled;
+      is = all .is
+          ∙ (ap (λ (y : ℕ). standing sh (leftFrom sh g code state (pathAt state h) (copyAt state h) (literalAt state h + 4)) (bindings ss nodes state y) (callsUpTo sh g code state (pathAt state h)) ∷ pileOf ss sh g nodes code state h) (sym (t .mark))
+          ∙ sym (step-truth ss sh g nodes code state h (t .piled .each h (omega arith) .place) r e));
+    }
+
+-- an equation whose sides unify
+pub equal-step : (ss : List Symbol) (sh : Sheet) (g : Goal) (nodes code state state1 state2 : List ℕ) (h n n1 p c l x : ℕ) (r : Body) (t u : Term) → Going ss sh g nodes code state state1 state2 h n n1 p c l x
+    → restFrom sh g code state (copyAt state h) (literalAt state h) ≡ also (equation t u) r
+    → unify (bindings ss nodes state n) (copied (copyAt state h) t) (copied (copyAt state h) u) ≡ some (bindings ss nodes state1 n1)
+    → Means ss sh g nodes code state2 (suc h) n1 (step sh (pileOf ss sh g nodes code state (suc h)))
+equal-step ss sh g nodes code state state1 state2 h n n1 p c l x r t u w e q =
+    let all : Means ss sh g nodes code state2 (suc h) n1 (standing sh (leftFrom sh g code state (pathAt state h) (copyAt state h) (literalAt state h + 4)) (bindings ss nodes state1 n1) (callsUpTo sh g code state (pathAt state h)) ∷ pileOf ss sh g nodes code state h) =
+    literal-goes ss sh g nodes code state state1 state2 h n n1 p c l x w in
+    let unified : unify (bindings ss nodes state (markAt state h)) (copied (copyAt state h) t) (copied (copyAt state h) u) ≡ some (bindings ss nodes state1 n1) =
+    ap (λ (y : ℕ). unify (bindings ss nodes state y) (copied (copyAt state h) t) (copied (copyAt state h) u)) (w .mark) ∙ q in
+    record { piled = all .piled; is = all .is ∙ sym (step-equal ss sh g nodes code state h (w .piled .each h (omega arith) .place) r t u (bindings ss nodes state1 n1) e unified) }
+
+-- The top, at a call, goes on to the clause after: `moved` has it in `after`.
+module _ (ss : List Symbol) (sh : Sheet) (g : Goal) (nodes code state after : List ℕ) (h n : ℕ) (a : Atom) (cl : Clause) (r : Body) (piled : Piled ss sh g nodes code state (suc h) n)
+    (e : restFrom sh g code state (copyAt state h) (literalAt state h) ≡ also (call a) r) (q : clauseAt sh (nextAt state h) ≡ some cl)
+    (w : Written h (copyAt state h) (literalAt state h) (nextFor sh a (nextAt state h)) (markAt state h) (pathAt state h) state after) where
+  pub call-moved : Means ss sh g nodes code after (suc h) n (record { literals = leftFrom sh g code state (pathAt state h) (copyAt state h) (literalAt state h); bindings = bindings ss nodes state (markAt state h); next = nextFor sh a (nextAt state h); calls = callsUpTo sh g code state (pathAt state h) } ∷ pileOf ss sh g nodes code state h)
+  call-moved =
+      moved ss sh g nodes code state after h n (nextFor sh a (nextAt state h)) piled
+      (λ o z. subst (λ (y : Atom). NextFor sh y (nextFor sh a (nextAt state h))) (call-eq a o (subst (λ (y : Body). Calls y o) e z)) (next-for sh a (nextAt state h))) w
+
+  -- the head does not unify
+  pub refused-step : unify (bindings ss nodes state (markAt state h)) (copied (copyAt state h) (termOf a)) (copied (suc (pathAt state h)) (termOf (cl .head))) ≡ none
+      → Means ss sh g nodes code after (suc h) n (step sh (pileOf ss sh g nodes code state (suc h)))
+  refused-step u = record { piled = call-moved .piled; is = call-moved .is ∙ sym (step-refused ss sh g nodes code state h (piled .each h (omega arith) .place) r a cl e q u) }
+
+  same-after : SameFrames 255 state after
+  same-after j l k = w .others j (omega arith)
+
+  after-calls : callsUpTo sh g code after (pathAt after h) ≡ callsUpTo sh g code state (pathAt state h)
+  after-calls = ap (callsUpTo sh g code after) (w .path) ∙ same-calls sh g code state after 255 same-after (pathAt state h) (piled .each h (omega arith) .low) (piled .each h (omega arith) .frame)
+
+  after-left : leftFrom sh g code after (pathAt after h) (copyAt after h) (literalAt after h + 4) ≡ leftFrom sh g code state (pathAt state h) (copyAt state h) (literalAt state h + 4)
+  after-left =
+      (λ i. leftFrom sh g code after (w .path i) (w .copy i) (w .literal i + 4))
+      ∙ same-left sh g code state after 255 same-after (pathAt state h) (copyAt state h) (literalAt state h + 4) (piled .each h (omega arith) .low) (piled .each h (omega arith) .copy) (piled .each h (omega arith) .frame)
+
+  -- the head unifies: the clause's body is laid on top of the alternative that has moved on
+  pub tried-step : (state1 state2 state3 : List ℕ) (n1 p m c l x : ℕ) → Pushing ss sh g nodes code after state1 state2 h n n1 p m a cl
+      → unify (bindings ss nodes state (markAt state h)) (copied (copyAt state h) (termOf a)) (copied (suc (pathAt state h)) (termOf (cl .head))) ≡ some (bindings ss nodes state1 n1)
+      → c ≤ p → leftFrom sh g code state2 p c l ≡ leftFrom sh g code state2 p p (bodyAt code m) → Fresh sh g code state2 p c l x → Written (suc h) c l x n1 p state2 state3
+      → Means ss sh g nodes code state3 (suc (suc h)) n1 (step sh (pileOf ss sh g nodes code state (suc h)))
+  tried-step state1 state2 state3 n1 p m c l x t u low left f v =
+      let all : Means ss sh g nodes code state3 (suc (suc h)) n1 (record { literals = leftFrom sh g code state2 p c l; bindings = bindings ss nodes state1 n1; next = x; calls = record { copy = copyAt after h; atom = a } ∷ callsUpTo sh g code after (pathAt after h) } ∷ pileOf ss sh g nodes code after (suc h)) =
+      pushed ss sh g nodes code after state1 state2 h n n1 p m a cl t state3 c l x low (f .stand) v in
+      let path : p ≡ suc (pathAt state h) = (let y : p ≡ pathAt after h + 1 = t .path in let z : pathAt after h ≡ pathAt state h = w .path in omega arith) in
+      let lits : leftFrom sh g code state2 p c l ≡ pending (suc (pathAt state h)) (cl .body) (leftFrom sh g code state (pathAt state h) (copyAt state h) (literalAt state h + 4)) =
+      left ∙ (pushed-left ss sh g nodes code after state1 state2 h n n1 p m a cl t ∙ ap₂ (λ (y : ℕ) (o : List Pending). pending y (cl .body) o) path after-left) in
+      let next : x ≡ topmost sh (pending (suc (pathAt state h)) (cl .body) (leftFrom sh g code state (pathAt state h) (copyAt state h) (literalAt state h + 4))) = f .topmost-is ∙ ap (topmost sh) lits in
+      let made : _≡_ {A = Alternative}
+          (record { literals = leftFrom sh g code state2 p c l; bindings = bindings ss nodes state1 n1; next = x; calls = record { copy = copyAt after h; atom = a } ∷ callsUpTo sh g code after (pathAt after h) })
+          (standing sh (pending (suc (pathAt state h)) (cl .body) (leftFrom sh g code state (pathAt state h) (copyAt state h) (literalAt state h + 4))) (bindings ss nodes state1 n1) (record { copy = copyAt state h; atom = a } ∷ callsUpTo sh g code state (pathAt state h))) =
+      (λ i. record { literals = lits i; bindings = bindings ss nodes state1 n1; next = next i; calls = record { copy = w .copy i; atom = a } ∷ after-calls i }) in
+      record {
+        piled = all .piled;
+        is = all .is ∙ ((λ i. made i ∷ call-moved .is i) ∙ sym (step-tried ss sh g nodes code state h (piled .each h (omega arith) .place) r a cl e q (bindings ss nodes state1 n1) u));
+      }

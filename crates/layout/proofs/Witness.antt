@@ -98,11 +98,11 @@ program =
 unfoldable pub zeros : List ℕ
 zeros = replicate 35328 0
 
-zeros-long : length zeros ≡ 35328
+pub zeros-long : length zeros ≡ 35328
 unfolding zeros
 zeros-long = length-replicate {A = ℕ} 35328 0
 
-zeros-words : (i : ℕ) → getD zeros i 0 ≡ 0
+pub zeros-words : (i : ℕ) → getD zeros i 0 ≡ 0
 unfolding zeros
 zeros-words i = go (ltb i 35328) refl
   where
