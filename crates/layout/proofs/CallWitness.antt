@@ -4,16 +4,15 @@ use native.Mathlib.Omega.{arith}
 use mathlib.Core.Path.{_≡_, refl, sym, ap₂, _∙_, subst, subst⁻¹}
 use mathlib.Core.List.{List, [], _∷_}
 use mathlib.Core.Option.{some}
-use lib.Dec.{T}
-use lib.ListN.{length, getD, set, drop, replicate, length-replicate}
+use lib.ListN.{length, set, replicate, length-replicate}
 use Rattle.syntax.specs.Quote.{bytes}
 use Rattle.syntax.specs.Terms.{nil, Atom, termOf, call, Body, done, also, sameBytes, Clause, Sheet, Goal}
-use Rattle.machine.specs.Machine.{Alternative, pending, firstFor, nextFor, nth, clauseAt}
+use Rattle.machine.specs.Machine.{pending, firstFor, nextFor, nth, clauseAt}
 use Rattle.machine.proofs.Tests.{some-eq, some-none}
 use Rattle.layout.specs.Nodes.{Symbol, isSymbol, symbolOf, isListed, loadedWords, isLoadable, bracketsOf, Stands}
-use Rattle.layout.specs.State.{bindings, Within}
+use Rattle.layout.specs.State.{bindings}
 use Rattle.layout.specs.Program.{bodyAt, BodyStands, ClauseStands, Program}
-use Rattle.layout.specs.Pile.{Calls, restFrom, leftFrom, callsUpTo, copyAt, literalAt, markAt, pathAt, pileOf, Place, NextFor, Piled}
+use Rattle.layout.specs.Pile.{Calls, restFrom, copyAt, literalAt, pathAt, NextFor, Piled}
 use Rattle.layout.proofs.State.{keeps-refl}
 use Rattle.layout.proofs.Pile.{place-next, rest-next, goal-place, goal-rest, next-for, Written, Framed, Stand, Means, Pushing, pushed, started, written, framed}
 use Rattle.layout.proofs.Witness.{zeros, zeros-long, zeros-words}

@@ -4,20 +4,18 @@ use native.Mathlib.Omega.{arith}
 use mathlib.Core.Path.{_≡_, refl, sym, ap, ap₂, _∙_, subst, subst⁻¹}
 use mathlib.Core.Bool.{Bool, true, false}
 use mathlib.Core.List.{List, [], _∷_}
-use mathlib.Core.Option.{Option, none, some}
-use mathlib.Core.Logic.{_⊎_, inl, inr}
+use mathlib.Core.Option.{some}
 use lib.Dec.{T, eqb, eqb→eq}
 use lib.ListN.{length, getD, drop, set, length-set}
 use lib.Seq.{getD-set-same, getD-set-other}
 use borrow.Author.Tests.{eqb-true, eqb-false, eq-eqb, ne-eqb}
 use Rattle.syntax.specs.Terms.{Term, termOf, Atom, Literal, call, equation, truth, falsity, Body, done, also, Clause, Sheet, Goal, arity, sameName, samePredicate}
 use Rattle.syntax.specs.Words.{bodyLength}
-use Rattle.machine.specs.Substitution.{Binding}
-use Rattle.machine.specs.Machine.{Pending, Call, Alternative, pending, isFor, firstFor, nextFor, nth, clauseAt}
+use Rattle.machine.specs.Machine.{Pending, Alternative, pending, isFor, firstFor, nextFor, nth, clauseAt}
 use Rattle.machine.proofs.Tests.{some-none, both, name-eq}
 use Rattle.layout.specs.Nodes.{Symbol, Stands}
 use Rattle.layout.specs.State.{bindings, Store, Within, Agrees, Keeps}
-use Rattle.layout.specs.Program.{bodyAt, kindAt, placeAt, otherAt, LiteralStands, BodyStands, Program}
+use Rattle.layout.specs.Program.{bodyAt, kindAt, placeAt, otherAt, BodyStands, Program}
 use Rattle.layout.specs.Pile.{bodyIn, bodyOf, dropBody, atomIn, firstAtom, Calls, clauseIn, callerOf, callOf, restFrom, leftBehind, leftFrom, callsUpTo, copyAt, literalAt, nextAt, markAt, pathAt, alternativeAt, pileOf, Place, Frame, NextFor, Stacked, Piled}
 use Rattle.layout.proofs.State.{bindings-agree, agrees, within-agrees, SameStore, same-agrees, store-same, bindings-same, no-entries}
 

@@ -2,19 +2,18 @@
 use Prim.Native.Nat.{ℕ, zero, suc, _+_, _≤_, _<_}
 use native.Mathlib.Omega.{arith}
 use mathlib.Core.Path.{_≡_, refl, sym, ap, ap₂, _∙_, subst, subst⁻¹}
-use mathlib.Core.Bool.{Bool, true, false}
 use mathlib.Core.List.{List, [], _∷_, _++_}
 use mathlib.Core.Option.{Option, none, some}
 use lib.ListN.{length, getD}
 use Rattle.syntax.specs.Terms.{Term, termOf, Atom, Literal, call, equation, truth, falsity, Body, done, also, Clause, Sheet, Goal}
 use Rattle.machine.specs.Substitution.{Binding, copied}
 use Rattle.machine.specs.Unification.{unify}
-use Rattle.machine.specs.Machine.{Pending, Call, Alternative, path, pending, nextFor, nextOf, topmost, clauseAt, standing, gone, equated, movedOn, laid, tried, onTop, called, worked, workedOn, outcome, step}
+use Rattle.machine.specs.Machine.{Pending, Alternative, path, pending, nextFor, nextOf, topmost, clauseAt, standing, gone, equated, movedOn, laid, tried, onTop, called, worked, workedOn, outcome, step, start}
 use Rattle.layout.specs.Nodes.{Symbol}
 use Rattle.layout.specs.State.{bindings, Store, Within, Keeps}
 use Rattle.layout.specs.Program.{bodyAt, kindAt, otherAt, BodyStands, Program}
-use Rattle.layout.specs.Pile.{Calls, callerOf, callOf, restFrom, leftBehind, leftFrom, callsUpTo, copyAt, literalAt, nextAt, markAt, pathAt, alternativeAt, pileOf, Place, Frame, NextFor, Stacked, Piled}
-use Rattle.layout.proofs.Pile.{place-stands, rest-next, left-under, climb, next-for, SameFrames, same-left, same-calls, kept-left, Written, Stand, Means, popped, replaced, moved, Pushing, pushed, pushed-left}
+use Rattle.layout.specs.Pile.{Calls, callerOf, callOf, restFrom, leftBehind, leftFrom, callsUpTo, copyAt, literalAt, nextAt, markAt, pathAt, alternativeAt, pileOf, Place, Frame, NextFor, Piled}
+use Rattle.layout.proofs.Pile.{place-stands, rest-next, left-under, climb, goal-place, goal-rest, next-for, SameFrames, same-left, same-calls, kept-left, Written, Stand, Means, popped, replaced, moved, Pushing, pushed, pushed-left, goal-left, started}
 
 -- ---- the literals left
 
@@ -158,13 +157,13 @@ module _ (ss : List Symbol) (sh : Sheet) (g : Goal) (nodes code state : List ℕ
 
       step-called : step sh (pileOf ss sh g nodes code state (suc h))
           ≡ onTop (laid sh (alternativeAt ss sh g nodes code state h) (copyAt state h) a (leftFrom sh g code state (pathAt state h) (copyAt state h) (literalAt state h + 4)) cl
-              (unify (bindings ss nodes state (markAt state h)) (copied (copyAt state h) (termOf a)) (copied (suc (pathAt state h)) (termOf (cl .head))))) (movedOn sh (alternativeAt ss sh g nodes code state h) a) ++ pileOf ss sh g nodes code state h
+          (unify (bindings ss nodes state (markAt state h)) (copied (copyAt state h) (termOf a)) (copied (suc (pathAt state h)) (termOf (cl .head))))) (movedOn sh (alternativeAt ss sh g nodes code state h) a) ++ pileOf ss sh g nodes code state h
       unfolding worked called tried alternativeAt
       step-called =
           step-literal (call a) e
           ∙ (ap (λ (o : Option Clause). called sh (alternativeAt ss sh g nodes code state h) (copyAt state h) a (leftFrom sh g code state (pathAt state h) (copyAt state h) (literalAt state h + 4)) o ++ pileOf ss sh g nodes code state h) q
           ∙ ap (λ (k : ℕ). onTop (laid sh (alternativeAt ss sh g nodes code state h) (copyAt state h) a (leftFrom sh g code state (pathAt state h) (copyAt state h) (literalAt state h + 4)) cl
-              (unify (bindings ss nodes state (markAt state h)) (copied (copyAt state h) (termOf a)) (copied (suc k) (termOf (cl .head))))) (movedOn sh (alternativeAt ss sh g nodes code state h) a) ++ pileOf ss sh g nodes code state h) path-is)
+          (unify (bindings ss nodes state (markAt state h)) (copied (copyAt state h) (termOf a)) (copied (suc k) (termOf (cl .head))))) (movedOn sh (alternativeAt ss sh g nodes code state h) a) ++ pileOf ss sh g nodes code state h) path-is)
 
       -- the head does not unify
       pub step-refused : unify (bindings ss nodes state (markAt state h)) (copied (copyAt state h) (termOf a)) (copied (suc (pathAt state h)) (termOf (cl .head))) ≡ none
@@ -186,8 +185,8 @@ module _ (ss : List Symbol) (sh : Sheet) (g : Goal) (nodes code state : List ℕ
           step-called
           ∙ (ap (λ (o : Option (List Binding)). onTop (laid sh (alternativeAt ss sh g nodes code state h) (copyAt state h) a (leftFrom sh g code state (pathAt state h) (copyAt state h) (literalAt state h + 4)) cl o) (movedOn sh (alternativeAt ss sh g nodes code state h) a) ++ pileOf ss sh g nodes code state h) u
           ∙ ap (λ (k : ℕ). standing sh (pending (suc k) (cl .body) (leftFrom sh g code state (pathAt state h) (copyAt state h) (literalAt state h + 4))) b (record { copy = copyAt state h; atom = a } ∷ callsUpTo sh g code state (pathAt state h))
-              ∷ record { literals = leftFrom sh g code state (pathAt state h) (copyAt state h) (literalAt state h); bindings = bindings ss nodes state (markAt state h); next = nextFor sh a (nextAt state h); calls = callsUpTo sh g code state (pathAt state h) }
-              ∷ pileOf ss sh g nodes code state h) path-is)
+          ∷ record { literals = leftFrom sh g code state (pathAt state h) (copyAt state h) (literalAt state h); bindings = bindings ss nodes state (markAt state h); next = nextFor sh a (nextAt state h); calls = callsUpTo sh g code state (pathAt state h) }
+          ∷ pileOf ss sh g nodes code state h) path-is)
 
 -- ---- words after a step
 
@@ -287,10 +286,21 @@ module _ (ss : List Symbol) (sh : Sheet) (g : Goal) (nodes code state after : Li
       left ∙ (pushed-left ss sh g nodes code after state1 state2 h n n1 p m a cl t ∙ ap₂ (λ (y : ℕ) (o : List Pending). pending y (cl .body) o) path after-left) in
       let next : x ≡ topmost sh (pending (suc (pathAt state h)) (cl .body) (leftFrom sh g code state (pathAt state h) (copyAt state h) (literalAt state h + 4))) = f .topmost-is ∙ ap (topmost sh) lits in
       let made : _≡_ {A = Alternative}
-          (record { literals = leftFrom sh g code state2 p c l; bindings = bindings ss nodes state1 n1; next = x; calls = record { copy = copyAt after h; atom = a } ∷ callsUpTo sh g code after (pathAt after h) })
-          (standing sh (pending (suc (pathAt state h)) (cl .body) (leftFrom sh g code state (pathAt state h) (copyAt state h) (literalAt state h + 4))) (bindings ss nodes state1 n1) (record { copy = copyAt state h; atom = a } ∷ callsUpTo sh g code state (pathAt state h))) =
+      (record { literals = leftFrom sh g code state2 p c l; bindings = bindings ss nodes state1 n1; next = x; calls = record { copy = copyAt after h; atom = a } ∷ callsUpTo sh g code after (pathAt after h) })
+      (standing sh (pending (suc (pathAt state h)) (cl .body) (leftFrom sh g code state (pathAt state h) (copyAt state h) (literalAt state h + 4))) (bindings ss nodes state1 n1) (record { copy = copyAt state h; atom = a } ∷ callsUpTo sh g code state (pathAt state h))) =
       (λ i. record { literals = lits i; bindings = bindings ss nodes state1 n1; next = next i; calls = record { copy = w .copy i; atom = a } ∷ after-calls i }) in
       record {
         piled = all .piled;
         is = all .is ∙ ((λ i. made i ∷ call-moved .is i) ∙ sym (step-tried ss sh g nodes code state h (piled .each h (omega arith) .place) r a cl e q (bindings ss nodes state1 n1) u));
       }
+
+-- the words of the goal alone mean the definition's start
+pub start-is : (ss : List Symbol) (sh : Sheet) (g : Goal) (nodes code state after : List ℕ) (x : ℕ) → Program ss sh g nodes code → 35328 ≤ length state → ((i : ℕ) → getD state i 0 ≡ 0)
+    → (kindAt code (bodyAt code 0) ≡ 2 → x ≡ otherAt code (bodyAt code 0)) → ((kindAt code (bodyAt code 0) ≡ 2 → ⊥) → x ≡ 0) → Written 0 0 (bodyAt code 0) x 0 0 state after → Means ss sh g nodes code after 1 0 (start sh g)
+unfolding start
+start-is ss sh g nodes code state after x program long zeros is-call other w =
+    let f : Fresh sh g code state 0 0 (bodyAt code 0) x = fresh ss sh g nodes code state 0 0 (bodyAt code 0) x program (goal-place sh g code state) (λ e. refl) is-call other in
+    let all : Means ss sh g nodes code after 1 0 (record { literals = pending 0 (g .body) []; bindings = []; next = x; calls = [] } ∷ []) =
+    started ss sh g nodes code state after x program long zeros (λ a h. f .stand .next a (subst⁻¹ (λ (y : Body). Calls y a) (goal-rest sh g code state) h)) w in
+    let next : x ≡ topmost sh (pending 0 (g .body) []) = f .topmost-is ∙ ap (topmost sh) (goal-left sh g code state) in
+    record { piled = all .piled; is = all .is ∙ (λ i. record { literals = pending 0 (g .body) []; bindings = []; next = next i; calls = [] } ∷ []) }

@@ -5,21 +5,21 @@ use mathlib.Core.Path.{_≡_, refl, sym, _∙_, subst⁻¹}
 use mathlib.Core.Bool.{Bool, true, false}
 use mathlib.Core.List.{List, [], _∷_}
 use mathlib.Core.Option.{some}
-use lib.Dec.{T, ltb}
+use lib.Dec.{ltb}
 use lib.ListN.{length, getD, set, replicate, length-set, length-replicate, getD-replicate, List·getD-eq-default}
 use lib.Seq.{getD-set-same, getD-set-other}
 use borrow.Author.Tests.{ltb-true, ltb-false}
 use Rattle.syntax.specs.Quote.{bytes}
 use Rattle.syntax.specs.Terms.{variable, compound, nil, cons, sameBytes, truth, done, also, Clause, Sheet, Goal}
-use Rattle.machine.specs.Substitution.{var, app, rnil, rcons, Binding, resolve}
-use Rattle.layout.specs.Nodes.{Symbol, isSymbol, symbolOf, isListed, nameOf, loadedWords, isLoadable, bracketsOf, Stands, Node, decoded, termAt}
-use Rattle.layout.specs.State.{variableOf, wordOf, valueOf, bindings, Store, boundWords}
-use Rattle.machine.specs.Machine.{Alternative, pending, nth, clauseAt}
+use Rattle.machine.specs.Substitution.{resolve}
+use Rattle.layout.specs.Nodes.{Symbol, isSymbol, symbolOf, isListed, nameOf, loadedWords, isLoadable, bracketsOf, Node, decoded, termAt}
+use Rattle.layout.specs.State.{wordOf, bindings, Store, boundWords}
+use Rattle.machine.specs.Machine.{pending, nth, clauseAt}
 use Rattle.machine.proofs.Tests.{some-none}
 use Rattle.layout.specs.Program.{bodyAt, kindAt, BodyStands, Program}
 use Rattle.layout.specs.Pile.{Piled}
 use Rattle.layout.proofs.Pile.{Means, started, written}
-use Rattle.layout.proofs.State.{no-entries, bind-store, bind-means}
+use Rattle.layout.proofs.State.{no-entries, bind-store}
 
 -- the symbol f with one argument, and the table of f(X)
 unfoldable pub symbols : List Symbol
