@@ -82,6 +82,10 @@ module _ (nodes scratch : List ℕ) (h p c q d : ℕ) (g : Crossed nodes scratch
   pub settle-inside : (p + 2 ≤ length nodes) × ((q + 2 ≤ length nodes) × (length nodes ≤ 65536))
   settle-inside = (node-inside (g .work .ss) nodes p (g .left .node), (node-inside (g .work .ss) nodes q (g .right .node), g .work .store .small))
 
+  -- a turn that is this one
+  pub settle-as : {k : Turn} (r : Turn) → r ≡ k → Settled nodes scratch scratch h p c q d g k → Settled nodes scratch scratch h p c q d g r
+  settle-as r e x = subst⁻¹ (λ (k : Turn). Settled nodes scratch scratch h p c q d g k) e x
+
   -- a cell of a copy that is at most the top
   cell-below : (k m : ℕ) → k ≤ g .work .top → m < 64 → cellOf k m < (g .work .top + 1) * 64
   cell-below k m l o = omega arith

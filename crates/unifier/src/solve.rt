@@ -14,6 +14,8 @@ use crate::store::bind;
 use crate::store::deref;
 use crate::walk::Walked;
 use crate::walk::unify_list;
+ghost use mathlib.Core.Path.{_≡_};
+ghost use Rattle.unifier.specs.declared.solve.Turn.the-variants.{Bind};
 ghost use Rattle.unifier.specs.Turns.{Crossed, Crossable, Crosses, Meetable, Turnable, Turned, Openable, Passable, Ready, Advanced, Solvable, Solved, Unifiable, Unifies};
 ghost use Rattle.unifier.specs.Stacks.{leftAt, rightAt, rowsOf};
 
@@ -55,6 +57,18 @@ fn open_pair(scratch: &mut [u32], h: usize, p: usize, c: usize, q: usize, d: usi
     Turn::Go(h + 1)
 }
 
+// The variable of cell x is to be bound to the term at p in copy c.
+fn bind_to(h: usize, x: usize, p: usize, c: usize) -> Turn
+    ensures { λ r. ⌜ r ≡ Bind h x p c ⌝ }
+{
+    Turn::Bind {
+        height: h,
+        cell: x,
+        node: p,
+        copy: c,
+    }
+}
+
 // Two dereferenced terms before the rows of a stack of height h. Of two variables the later is bound to the earlier.
 fn settle(
     nodes: &[u32],
@@ -78,35 +92,15 @@ fn settle(
                 return Turn::Go(h);
             }
             if x < y {
-                return Turn::Bind {
-                    height: h,
-                    cell: y,
-                    node: p,
-                    copy: c,
-                };
+                return bind_to(h, y, p, c);
             }
-            return Turn::Bind {
-                height: h,
-                cell: x,
-                node: q,
-                copy: d,
-            };
+            return bind_to(h, x, q, d);
         }
-        return Turn::Bind {
-            height: h,
-            cell: x,
-            node: q,
-            copy: d,
-        };
+        return bind_to(h, x, q, d);
     }
     if z < 64 {
         let v = d * 64 + z;
-        return Turn::Bind {
-            height: h,
-            cell: v,
-            node: p,
-            copy: c,
-        };
+        return bind_to(h, v, p, c);
     }
     if w != z {
         return Turn::Clash;

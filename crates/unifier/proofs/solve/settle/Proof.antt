@@ -1,4 +1,4 @@
-use Rattle.unifier.proofs.Settle.{settle-inside, read-same, read-earlier, read-later, read-left, read-right, read-clash, read-openable, read-open}
+use Rattle.unifier.proofs.Settle.{settle-inside, settle-as, read-same, read-earlier, read-later, read-left, read-right, read-clash, read-openable, read-open}
 use native.Mathlib.Omega.{arith}
 use borrow.Author.Needs.{needs}
 use Rattle.unifier.proofs.solve.settle.Statement.{statement}
@@ -6,73 +6,90 @@ use Rattle.unifier.proofs.solve.settle.Tie as tie
 use Rattle.unifier.proofs.solve.settle.Reads as reads
 use Rattle.unifier.proofs.solve.settle.Lts as lts
 use Rattle.unifier.proofs.occurrence.word_at.Reads as word-at-reads
+use Rattle.unifier.proofs.solve.bind_to.Reads as bind-to-reads
 use Rattle.unifier.proofs.solve.open_pair.Reads as open-pair-reads
 
--- src/solve.rt:71:9
+-- src/solve.rt:85:9
 word-at-requires : tie.Need-word-at-requires
 word-at-requires c κs = omega (arith, settle-inside (c .before .before .args .nodes .now) (c .before .before .args .scratch .now) (c .before .before .args .h) (c .before .before .args .p) (c .before .before .args .c) (c .before .before .args .q) (c .before .before .args .d) (c .before .before .pre))
 
--- src/solve.rt:72:9
+-- src/solve.rt:86:9
 word-at-requires-2 : tie.Need-word-at-requires-2
 word-at-requires-2 c κs = omega (arith, settle-inside (c .before .before .before .args .nodes .now) (c .before .before .before .args .scratch .now) (c .before .before .before .args .h) (c .before .before .before .args .p) (c .before .before .before .args .c) (c .before .before .before .args .q) (c .before .before .before .args .d) (c .before .before .before .pre))
 
--- src/solve.rt:74:17
+-- src/solve.rt:88:17
 mul-x : tie.Need-mul-x
 mul-x c = search needs
 
--- src/solve.rt:74:17
+-- src/solve.rt:88:17
 add-x : tie.Need-add-x
 add-x c = search needs
 
--- src/solve.rt:76:21
+-- src/solve.rt:90:21
 mul-y : tie.Need-mul-y
 mul-y c = search needs
 
--- src/solve.rt:76:21
+-- src/solve.rt:90:21
 add-y : tie.Need-add-y
 add-y c = search needs
 
--- src/solve.rt:78:17
+-- src/solve.rt:92:17
 returns : tie.Need-returns
 returns c = λ g. read-same (c .before .before .before .before .before .before .before .args .nodes .now) (c .before .before .before .before .before .before .before .args .scratch .now) (c .before .before .before .before .before .before .before .args .h) (c .before .before .before .before .before .before .before .args .p) (c .before .before .before .before .before .before .before .args .c) (c .before .before .before .before .before .before .before .args .q) (c .before .before .before .before .before .before .before .args .d) g (c .before .before .before .before .word-at .result) (c .before .before .before .word-at2 .result) (c .before .before .before .before .word-at .ensures) (c .before .before .before .word-at2 .ensures) (c .before .before .if1 .taken) (c .before .if2 .taken) (c .if3 .taken)
 
--- src/solve.rt:81:17
+-- src/solve.rt:95:17
+bind-to-requires : tie.Need-bind-to-requires
+bind-to-requires c κs = search needs
+
+-- src/solve.rt:95:17
 returns-2 : tie.Need-returns-2
-returns-2 c = λ g. read-earlier (c .before .before .before .before .before .before .before .before .args .nodes .now) (c .before .before .before .before .before .before .before .before .args .scratch .now) (c .before .before .before .before .before .before .before .before .args .h) (c .before .before .before .before .before .before .before .before .args .p) (c .before .before .before .before .before .before .before .before .args .c) (c .before .before .before .before .before .before .before .before .args .q) (c .before .before .before .before .before .before .before .before .args .d) g (c .before .before .before .before .before .word-at .result) (c .before .before .before .before .word-at2 .result) (c .before .before .before .before .before .word-at .ensures) (c .before .before .before .before .word-at2 .ensures) (c .before .before .before .if1 .taken) (c .before .before .if2 .taken) (c .if4 .taken)
+returns-2 c = λ g. settle-as (c .before .before .before .before .before .before .before .before .before .args .nodes .now) (c .before .before .before .before .before .before .before .before .before .args .scratch .now) (c .before .before .before .before .before .before .before .before .before .args .h) (c .before .before .before .before .before .before .before .before .before .args .p) (c .before .before .before .before .before .before .before .before .before .args .c) (c .before .before .before .before .before .before .before .before .before .args .q) (c .before .before .before .before .before .before .before .before .before .args .d) g (c .bind-to .result) (c .bind-to .ensures) (read-earlier (c .before .before .before .before .before .before .before .before .before .args .nodes .now) (c .before .before .before .before .before .before .before .before .before .args .scratch .now) (c .before .before .before .before .before .before .before .before .before .args .h) (c .before .before .before .before .before .before .before .before .before .args .p) (c .before .before .before .before .before .before .before .before .before .args .c) (c .before .before .before .before .before .before .before .before .before .args .q) (c .before .before .before .before .before .before .before .before .before .args .d) g (c .before .before .before .before .before .before .word-at .result) (c .before .before .before .before .before .word-at2 .result) (c .before .before .before .before .before .before .word-at .ensures) (c .before .before .before .before .before .word-at2 .ensures) (c .before .before .before .before .if1 .taken) (c .before .before .before .if2 .taken) (c .before .if4 .taken))
 
--- src/solve.rt:88:13
+-- src/solve.rt:97:13
+bind-to-requires-2 : tie.Need-bind-to-requires-2
+bind-to-requires-2 c κs = search needs
+
+-- src/solve.rt:97:13
 returns-3 : tie.Need-returns-3
-returns-3 c = λ g. read-later (c .before .before .before .before .before .before .before .before .args .nodes .now) (c .before .before .before .before .before .before .before .before .args .scratch .now) (c .before .before .before .before .before .before .before .before .args .h) (c .before .before .before .before .before .before .before .before .args .p) (c .before .before .before .before .before .before .before .before .args .c) (c .before .before .before .before .before .before .before .before .args .q) (c .before .before .before .before .before .before .before .before .args .d) g (c .before .before .before .before .before .word-at .result) (c .before .before .before .before .word-at2 .result) (c .before .before .before .before .before .word-at .ensures) (c .before .before .before .before .word-at2 .ensures) (c .before .before .before .if1 .taken) (c .before .before .if2 .taken) (c .before .if3 .left) (c .if4 .left)
+returns-3 c = λ g. settle-as (c .before .before .before .before .before .before .before .before .before .args .nodes .now) (c .before .before .before .before .before .before .before .before .before .args .scratch .now) (c .before .before .before .before .before .before .before .before .before .args .h) (c .before .before .before .before .before .before .before .before .before .args .p) (c .before .before .before .before .before .before .before .before .before .args .c) (c .before .before .before .before .before .before .before .before .before .args .q) (c .before .before .before .before .before .before .before .before .before .args .d) g (c .bind-to2 .result) (c .bind-to2 .ensures) (read-later (c .before .before .before .before .before .before .before .before .before .args .nodes .now) (c .before .before .before .before .before .before .before .before .before .args .scratch .now) (c .before .before .before .before .before .before .before .before .before .args .h) (c .before .before .before .before .before .before .before .before .before .args .p) (c .before .before .before .before .before .before .before .before .before .args .c) (c .before .before .before .before .before .before .before .before .before .args .q) (c .before .before .before .before .before .before .before .before .before .args .d) g (c .before .before .before .before .before .before .word-at .result) (c .before .before .before .before .before .word-at2 .result) (c .before .before .before .before .before .before .word-at .ensures) (c .before .before .before .before .before .word-at2 .ensures) (c .before .before .before .before .if1 .taken) (c .before .before .before .if2 .taken) (c .before .before .if3 .left) (c .before .if4 .left))
 
--- src/solve.rt:95:9
+-- src/solve.rt:99:9
+bind-to-requires-3 : tie.Need-bind-to-requires-3
+bind-to-requires-3 c κs = search needs
+
+-- src/solve.rt:99:9
 returns-4 : tie.Need-returns-4
-returns-4 c = λ g. read-left (c .before .before .before .before .before .before .args .nodes .now) (c .before .before .before .before .before .before .args .scratch .now) (c .before .before .before .before .before .before .args .h) (c .before .before .before .before .before .before .args .p) (c .before .before .before .before .before .before .args .c) (c .before .before .before .before .before .before .args .q) (c .before .before .before .before .before .before .args .d) g (c .before .before .before .word-at .result) (c .before .before .word-at2 .result) (c .before .before .before .word-at .ensures) (c .before .before .word-at2 .ensures) (c .before .if1 .taken) (c .if2 .left)
+returns-4 c = λ g. settle-as (c .before .before .before .before .before .before .before .args .nodes .now) (c .before .before .before .before .before .before .before .args .scratch .now) (c .before .before .before .before .before .before .before .args .h) (c .before .before .before .before .before .before .before .args .p) (c .before .before .before .before .before .before .before .args .c) (c .before .before .before .before .before .before .before .args .q) (c .before .before .before .before .before .before .before .args .d) g (c .bind-to3 .result) (c .bind-to3 .ensures) (read-left (c .before .before .before .before .before .before .before .args .nodes .now) (c .before .before .before .before .before .before .before .args .scratch .now) (c .before .before .before .before .before .before .before .args .h) (c .before .before .before .before .before .before .before .args .p) (c .before .before .before .before .before .before .before .args .c) (c .before .before .before .before .before .before .before .args .q) (c .before .before .before .before .before .before .before .args .d) g (c .before .before .before .before .word-at .result) (c .before .before .before .word-at2 .result) (c .before .before .before .before .word-at .ensures) (c .before .before .before .word-at2 .ensures) (c .before .before .if1 .taken) (c .before .if2 .left))
 
--- src/solve.rt:103:17
+-- src/solve.rt:102:17
 mul-v : tie.Need-mul-v
 mul-v c = search needs
 
--- src/solve.rt:103:17
+-- src/solve.rt:102:17
 add-v : tie.Need-add-v
 add-v c = search needs
 
--- src/solve.rt:104:9
-returns-5 : tie.Need-returns-5
-returns-5 c = λ g. read-right (c .before .before .before .before .before .before .args .nodes .now) (c .before .before .before .before .before .before .args .scratch .now) (c .before .before .before .before .before .before .args .h) (c .before .before .before .before .before .before .args .p) (c .before .before .before .before .before .before .args .c) (c .before .before .before .before .before .before .args .q) (c .before .before .before .before .before .before .args .d) g (c .before .before .before .word-at .result) (c .before .before .word-at2 .result) (c .before .before .before .word-at .ensures) (c .before .before .word-at2 .ensures) (c .before .if1 .left) (c .if5 .taken)
+-- src/solve.rt:103:9
+bind-to-requires-4 : tie.Need-bind-to-requires-4
+bind-to-requires-4 c κs = search needs
 
--- src/solve.rt:112:9
+-- src/solve.rt:103:9
+returns-5 : tie.Need-returns-5
+returns-5 c = λ g. settle-as (c .before .before .before .before .before .before .before .args .nodes .now) (c .before .before .before .before .before .before .before .args .scratch .now) (c .before .before .before .before .before .before .before .args .h) (c .before .before .before .before .before .before .before .args .p) (c .before .before .before .before .before .before .before .args .c) (c .before .before .before .before .before .before .before .args .q) (c .before .before .before .before .before .before .before .args .d) g (c .bind-to4 .result) (c .bind-to4 .ensures) (read-right (c .before .before .before .before .before .before .before .args .nodes .now) (c .before .before .before .before .before .before .before .args .scratch .now) (c .before .before .before .before .before .before .before .args .h) (c .before .before .before .before .before .before .before .args .p) (c .before .before .before .before .before .before .before .args .c) (c .before .before .before .before .before .before .before .args .q) (c .before .before .before .before .before .before .before .args .d) g (c .before .before .before .before .word-at .result) (c .before .before .before .word-at2 .result) (c .before .before .before .before .word-at .ensures) (c .before .before .before .word-at2 .ensures) (c .before .before .if1 .left) (c .before .if5 .taken))
+
+-- src/solve.rt:106:9
 returns-6 : tie.Need-returns-6
 returns-6 c = λ g. read-clash (c .before .before .before .before .before .before .before .args .nodes .now) (c .before .before .before .before .before .before .before .args .scratch .now) (c .before .before .before .before .before .before .before .args .h) (c .before .before .before .before .before .before .before .args .p) (c .before .before .before .before .before .before .before .args .c) (c .before .before .before .before .before .before .before .args .q) (c .before .before .before .before .before .before .before .args .d) g (c .before .before .before .before .word-at .result) (c .before .before .before .word-at2 .result) (c .before .before .before .before .word-at .ensures) (c .before .before .before .word-at2 .ensures) (c .before .before .if1 .left) (c .before .if5 .left) (c .if6 .taken)
 
--- src/solve.rt:114:5
+-- src/solve.rt:108:5
 open-pair-requires : tie.Need-open-pair-requires
 open-pair-requires c κs = read-openable (c .before .before .before .before .before .before .before .before .args .nodes .now) (c .before .before .before .before .before .before .before .before .args .scratch .now) (c .before .before .before .before .before .before .before .before .args .h) (c .before .before .before .before .before .before .before .before .args .p) (c .before .before .before .before .before .before .before .before .args .c) (c .before .before .before .before .before .before .before .before .args .q) (c .before .before .before .before .before .before .before .before .args .d) (c .before .before .before .before .before .before .before .before .pre) (c .before .before .before .before .before .word-at .result) (c .before .before .before .before .word-at2 .result) (c .before .before .before .before .before .word-at .ensures) (c .before .before .before .before .word-at2 .ensures) (c .before .before .before .if1 .left) (c .before .before .if5 .left) (c .before .if6 .left)
 
--- src/solve.rt:59:1
+-- src/solve.rt:73:1
 same-length : tie.Need-same-length
 same-length c = search needs
 
--- src/solve.rt:59:1
+-- src/solve.rt:73:1
 returns-7 : tie.Need-returns-7
 returns-7 c = λ g. read-open (c .before .before .before .before .before .before .before .before .before .before .before .args .nodes .now) (c .before .before .before .before .before .before .before .before .before .before .before .args .scratch .now) (c .before .before .before .before .before .before .before .before .before .before .before .args .h) (c .before .before .before .before .before .before .before .before .before .before .before .args .p) (c .before .before .before .before .before .before .before .before .before .before .before .args .c) (c .before .before .before .before .before .before .before .before .before .before .before .args .q) (c .before .before .before .before .before .before .before .before .before .before .before .args .d) g (c .before .before .before .before .before .before .before .before .word-at .result) (c .before .before .before .before .before .before .before .word-at2 .result) (c .before .before .before .before .before .before .before .before .word-at .ensures) (c .before .before .before .before .before .before .before .word-at2 .ensures) (c .before .before .before .before .before .before .if1 .left) (c .before .before .before .before .before .if5 .left) (c .before .before .before .before .if6 .left) (c .before .before .open-pair .last .0) (c .before .before .open-pair .result) (c .before .before .open-pair .ensures)
 
@@ -87,11 +104,15 @@ settle-spec =
     mul-y
     add-y
     returns
+    bind-to-requires
     returns-2
+    bind-to-requires-2
     returns-3
+    bind-to-requires-3
     returns-4
     mul-v
     add-v
+    bind-to-requires-4
     returns-5
     returns-6
     open-pair-requires
