@@ -1,33 +1,33 @@
 -- What comes of the top at a call: a clause is tried, and the alternative moves on. Assumes nothing.
-use Prim.Native.Nat.{ℕ, zero, suc, _+_, _-_, _*_, _≤_, _<_, _^_}
+use Prim.Native.Nat.{ℕ, suc, _+_, _-_, _*_, _≤_, _<_, _^_}
 use native.Mathlib.Omega.{arith}
 use mathlib.Core.Path.{_≡_, refl, sym, ap, ap₂, _∙_, subst, subst⁻¹}
 use mathlib.Core.Bool.{Bool, true, false, _&&_}
-use mathlib.Core.List.{List, [], _∷_, _++_}
+use mathlib.Core.List.{List, _∷_, _++_}
 use mathlib.Core.Option.{Option, none, some}
 use lib.Dec.{T, leb}
-use lib.ListN.{length, getD}
+use lib.ListN.{length}
 use borrow.Author.Tests.{leb-false}
-use Rattle.syntax.specs.Terms.{Term, termOf, Atom, Literal, call, equation, truth, falsity, Body, done, also, Clause, Sheet, Goal}
+use Rattle.syntax.specs.Terms.{termOf, Atom, call, Body, also, Clause, Sheet, Goal}
 use Rattle.machine.specs.Substitution.{copied, Binding}
 use Rattle.machine.specs.Unification.{unify}
-use Rattle.machine.specs.Machine.{Pending, Call, Alternative, pending, isFor, nextFor, topmost, clauseAt, movedOn, laid, tried, onTop, called, worked, step}
+use Rattle.machine.specs.Machine.{Pending, Alternative, pending, isFor, nextFor, topmost, clauseAt, movedOn, laid, tried, onTop, called, worked, step}
 use Rattle.machine.specs.Runs.{isThere, triesWith, triesFirst, goesDeeper}
 use Rattle.layout.specs.Nodes.{Symbol, Stands}
-use Rattle.layout.specs.State.{copyOf, cellAt, trailAt, bindings, Store, Within, Keeps}
+use Rattle.layout.specs.State.{copyOf, cellAt, trailAt, bindings, Within}
 use Rattle.layout.specs.Program.{headAt, bodyAt, afterAt, kindAt, placeAt, otherAt, BodyStands}
 use Rattle.layout.specs.Pile.{Calls, restFrom, leftFrom, callsUpTo, copyAt, literalAt, nextAt, markAt, pathAt, alternativeAt, pileOf, NextFor, Piled}
 use Rattle.unifier.specs.Turns.{answered, Unifiable, Unifies}
 use Rattle.unifier.specs.declared.solve.Unified.{Unified}
-use Rattle.engine.specs.Words.{standWords, nextWords, frameWords}
+use Rattle.engine.specs.Words.{nextWords, frameWords}
 use Rattle.engine.specs.Moves.{Layable, Lays, Tryable, Comes, restAt, triedOn}
 use Rattle.engine.specs.Steps.{Steppable, Stepped}
 use Rattle.engine.specs.declared.Pile.{Pile}
 use Rattle.engine.proofs.WordLaws.{add-one, stand-written, next-written, frame-framed}
 use Rattle.engine.proofs.LayLaws.{lays-long, LayEnds}
-use Rattle.engine.proofs.TopLaws.{at-top, trail-low, head-eq, tail-eq, top-stacked, top-stands, top-inside, top-low, top-room, step-also, kept}
+use Rattle.engine.proofs.TopLaws.{trail-low, head-eq, tail-eq, top-stacked, top-stands, top-inside, top-room, step-also, kept}
 use Rattle.engine.proofs.WorkLaws.{pops-here}
-use Rattle.layout.proofs.Step.{calls-count, left-also}
+use Rattle.layout.proofs.Step.{calls-count, left-also, step-exhausted}
 use Rattle.layout.proofs.Pile.{SameFrames, path-high, calls-also, clause-low, kind-call, same-rest, same-left, next-for, next-clause, next-low, next-head, Written, Framed, Means, moved, Pushing, pushed-frames, pushed-place, pushed-left, pushed}
 
 within-more : (k n : ℕ) (state : List ℕ) → Within k state n → Within (k + 1) state n
@@ -249,10 +249,9 @@ module _ (nodes code state scratch : List ℕ) (j : ℕ) (w : Steppable nodes co
   call-step = step-also ss₁ sh₁ g₁ nodes code state j (markAt state j) piled (call (calling .0)) (calling .1) (calling .2)
 
   pub call-none-top : nextAt state j ≡ 0 → Stepped ss₁ sh₁ g₁ nodes code state state scratch scratch (suc j) (record { height = j; trail = markAt state j })
-  unfolding called clauseAt
   call-none-top e =
       pops-here nodes code state scratch j w
-      (call-step ∙ ap (λ (y : ℕ). called sh₁ (alternativeAt ss₁ sh₁ g₁ nodes code state j) (copyAt state j) (calling .0) (restAt sh₁ g₁ code state j) (clauseAt sh₁ y) ++ pileOf ss₁ sh₁ g₁ nodes code state j) e)
+      (step-exhausted ss₁ sh₁ g₁ nodes code state j (top-stacked ss₁ sh₁ g₁ nodes code state j (markAt state j) piled .place) (calling .1) (calling .0) (calling .2) e)
 
   module _ (l : 1 ≤ nextAt state j) where
     clause-of : (a : Atom) → Calls (restFrom sh₁ g₁ code state (copyAt state j) (literalAt state j)) a → (cl : Clause) × (clauseAt sh₁ (nextAt state j) ≡ some cl) × T (isFor a cl)

@@ -1,21 +1,20 @@
 -- The first literal left is found up the callers, and an alternative is laid there. Assumes nothing.
-use Prim.Native.Nat.{ℕ, zero, suc, _+_, _-_, _*_, _≤_, _<_, _^_}
+use Prim.Native.Nat.{ℕ, _+_, _-_, _*_, _≤_, _<_, _^_}
 use native.Mathlib.Omega.{arith}
-use mathlib.Core.Path.{_≡_, refl, sym, ap, ap₂, _∙_, subst, subst⁻¹}
-use mathlib.Core.Bool.{Bool, true, false}
-use mathlib.Core.List.{List, [], _∷_}
-use lib.ListN.{length, getD}
-use Rattle.syntax.specs.Terms.{Term, termOf, Atom, Literal, call, equation, truth, falsity, Body, done, also, Clause, Sheet, Goal}
-use Rattle.machine.specs.Machine.{Pending, pending, nextFor, nextOf, topmost}
-use Rattle.layout.specs.Nodes.{Symbol, Stands}
-use Rattle.layout.specs.Program.{kindAt, placeAt, otherAt, LiteralStands, BodyStands, Program}
-use Rattle.layout.specs.Pile.{Calls, callerOf, callOf, restFrom, leftBehind, leftFrom, Place, Frame, NextFor}
+use mathlib.Core.Path.{_≡_, refl, sym, ap, _∙_, subst, subst⁻¹}
+use mathlib.Core.List.{List}
+use lib.ListN.{length}
+use Rattle.syntax.specs.Terms.{call, equation, truth, falsity, Body, done, also, Sheet, Goal}
+use Rattle.machine.specs.Machine.{nextFor, topmost}
+use Rattle.layout.specs.Nodes.{Symbol}
+use Rattle.layout.specs.Program.{kindAt, BodyStands}
+use Rattle.layout.specs.Pile.{callerOf, callOf, restFrom, leftFrom, Place}
 use Rattle.engine.specs.Words.{callerAt, topmostAt, standWords}
-use Rattle.engine.specs.Moves.{Climbing, Climbable, Climbs, Layable, Lays}
+use Rattle.engine.specs.Moves.{Climbable, Climbs, Layable, Lays}
 use Rattle.engine.specs.declared.records.Spot.{Spot}
 use Rattle.engine.proofs.WordLaws.{topmost-call, topmost-other, stand-long}
-use Rattle.layout.proofs.Step.{left-goal}
-use Rattle.layout.proofs.Pile.{place-stands, kind-room, kind-done, Climbed, climb, next-for, next-low}
+use Rattle.layout.proofs.Step.{Rising, rise, Fresh, fresh}
+use Rattle.layout.proofs.Pile.{place-stands, kind-room, kind-done, next-for, next-low}
 
 -- The same literals are left from l of copy c on as from the spot reached.
 pub record Along (sh : Sheet) (g : Goal) (code state : List ℕ) (path c l copy literal : ℕ) : Type 0 where
@@ -68,20 +67,20 @@ module _ {code state : List ℕ} {c l : ℕ} (w : Climbable code state c l) wher
     at-end : (v : ℕ) → v ≡ kindAt code literal → v ≡ 4 → restFrom (w .sh) (w .g) code state copy literal ≡ done
     at-end v e q = kind-done (w .ss) (w .sh) (w .nodes) code literal (restFrom (w .sh) (w .g) code state copy literal) stands (sym e ∙ q)
 
--- up to the caller
-up : (ss : List Symbol) (sh : Sheet) (g : Goal) (nodes code state : List ℕ) (path c l copy literal : ℕ) → Climbing ss sh g nodes code state path c l → Along sh g code state path c l copy literal → copy ≤ path → 0 < copy
-    → restFrom sh g code state copy literal ≡ done
-    → (callerOf state copy < copy) × Along sh g code state path c l (callerOf state copy) (callOf state copy + 4)
-up ss sh g nodes code state path c l zero literal k a h z e = absurd (let y : 0 < 0 = z in omega arith)
-up ss sh g nodes code state path c l (suc copy) literal k a h z e =
-    let m : Climbed sh g code state path copy literal = climb sh g code state path copy literal (k .frame) h e in
-    let b : callerOf state (suc copy) < suc copy = m .below in
-    let x : suc copy ≤ c = a .low in
-    (b, record { low = (let y : callerOf state (suc copy) ≤ c = omega arith in y); here = λ q. absurd (let y : callerOf state (suc copy) ≡ c = q in omega arith); place = m .place; same = sym (m .left) ∙ a .same })
-
 module _ {code state : List ℕ} {c l : ℕ} (w : Climbable code state c l) {copy literal : ℕ} (a : Along (w .sh) (w .g) code state (w .path) c l copy literal) (z : 0 < copy) (v : ℕ) (e : v ≡ kindAt code literal) (q : v ≡ 4) where
-  risen : (callerOf state copy < copy) × Along (w .sh) (w .g) code state (w .path) c l (callerOf state copy) (callOf state copy + 4)
-  risen = up (w .ss) (w .sh) (w .g) (w .nodes) code state (w .path) c l copy literal (w .climbing) a (high w a) z (at-end w a v e q)
+  rising : Rising (w .sh) (w .g) code state (w .path) copy literal
+  rising = rise (w .sh) (w .g) code state (w .path) copy literal (w .climbing .frame) (let y : 0 < copy = z in omega arith) (high w a) (at-end w a v e q)
+
+  risen : Along (w .sh) (w .g) code state (w .path) c l (callerOf state copy) (callOf state copy + 4)
+  risen =
+      let x : callerOf state copy < copy = rising .below in
+      let y : copy ≤ c = a .low in
+      record {
+        low = (let t : callerOf state copy ≤ c = omega arith in t);
+        here = λ o. absurd (let t : callerOf state copy ≡ c = o in omega arith);
+        place = rising .place;
+        same = sym (rising .left) ∙ a .same;
+      }
 
   module _ (s : Spot) (is : s ≡ callerAt state copy) where
     copy-is : s .copy ≡ callerOf state copy
@@ -91,10 +90,10 @@ module _ {code state : List ℕ} {c l : ℕ} (w : Climbable code state c l) {cop
     literal-is = ap (λ (x : Spot). x .literal) is
 
     pub along-less : s .copy < copy
-    along-less = let x : callerOf state copy < copy = risen .0 in let y : s .copy ≡ callerOf state copy = copy-is in omega arith
+    along-less = let x : callerOf state copy < copy = rising .below in let y : s .copy ≡ callerOf state copy = copy-is in omega arith
 
     pub along-next : Along (w .sh) (w .g) code state (w .path) c l (s .copy) (s .literal + 4)
-    along-next = subst⁻¹ (λ (x : Spot). Along (w .sh) (w .g) code state (w .path) c l (x .copy) (x .literal + 4)) is (risen .1)
+    along-next = subst⁻¹ (λ (x : Spot). Along (w .sh) (w .g) code state (w .path) c l (x .copy) (x .literal + 4)) is risen
 
     -- the sum is no larger than the table
     pub along-fits : s .literal + 4 ≤ 65536
@@ -105,30 +104,9 @@ module _ {code state : List ℕ} {c l : ℕ} (w : Climbable code state c l) {cop
 
 -- ---- laying
 
-climbable : (code state : List ℕ) (j c l mark path : ℕ) → Layable code state j c l mark path → Climbable code state c l
-climbable code state j c l mark path w = record { ss = w .ss; sh = w .sh; g = w .g; nodes = w .nodes; path = path; climbing = w .climbing }
-
-pub lay-climbable : {code state : List ℕ} {j c l mark path : ℕ} → Layable code state j c l mark path → Climbable code state c l
-lay-climbable {code} {state} {j} {c} {l} {mark} {path} w = climbable code state j c l mark path w
-
--- the topmost clause for what stands first
-topmost-of : (ss : List Symbol) (sh : Sheet) (nodes code : List ℕ) (l copy : ℕ) (b : Body) (rest : List Pending) → BodyStands ss sh nodes code l b → (b ≡ done → rest ≡ []) → topmostAt code l ≡ topmost sh (pending copy b rest)
-unfolding topmost nextOf pending
-topmost-of ss sh nodes code l copy done rest s z = sym (topmost-other code l (λ q. (let x : kindAt code l ≡ 4 = s .1 in omega arith))) ∙ sym (ap (topmost sh) (z refl))
-topmost-of ss sh nodes code l copy (also (call a) b) rest s z = sym (topmost-call code l (s .1 .0)) ∙ s .1 .2
-topmost-of ss sh nodes code l copy (also (equation t u) b) rest s z = sym (topmost-other code l (λ q. (let x : kindAt code l ≡ 3 = s .1 .0 in omega arith)))
-topmost-of ss sh nodes code l copy (also truth b) rest s z = sym (topmost-other code l (λ q. (let x : kindAt code l ≡ 0 = s .1 in omega arith)))
-topmost-of ss sh nodes code l copy (also falsity b) rest s z = sym (topmost-other code l (λ q. (let x : kindAt code l ≡ 1 = s .1 in omega arith)))
-
-topmost-for : (ss : List Symbol) (sh : Sheet) (nodes code : List ℕ) (l : ℕ) (b : Body) → BodyStands ss sh nodes code l b → (a : Atom) → Calls b a → NextFor sh a (topmostAt code l)
-topmost-for ss sh nodes code l done s a k = absurd k
-topmost-for ss sh nodes code l (also x b) s a k =
-    let t : LiteralStands ss sh nodes code l (call a) = subst (LiteralStands ss sh nodes code l) k (s .1) in
-    subst (NextFor sh a) (sym (t .2) ∙ topmost-call code l (t .0)) (next-for sh a 0)
-
 topmost-low : (ss : List Symbol) (sh : Sheet) (nodes code : List ℕ) (l : ℕ) (b : Body) → BodyStands ss sh nodes code l b → topmostAt code l ≤ length (sh .clauses)
 topmost-low ss sh nodes code l done s = let z : 0 ≡ topmostAt code l = topmost-other code l (λ q. (let x : kindAt code l ≡ 4 = s .1 in omega arith)) in omega arith
-topmost-low ss sh nodes code l (also (call a) b) s = next-low sh a (topmostAt code l) (topmost-for ss sh nodes code l (also (call a) b) s a refl)
+topmost-low ss sh nodes code l (also (call a) b) s = subst (λ (y : ℕ). y ≤ length (sh .clauses)) (sym (s .1 .2) ∙ topmost-call code l (s .1 .0)) (next-low sh a (nextFor sh a 0) (next-for sh a 0))
 topmost-low ss sh nodes code l (also (equation t u) b) s = let z : 0 ≡ topmostAt code l = topmost-other code l (λ q. (let x : kindAt code l ≡ 3 = s .1 .0 in omega arith)) in omega arith
 topmost-low ss sh nodes code l (also truth b) s = let z : 0 ≡ topmostAt code l = topmost-other code l (λ q. (let x : kindAt code l ≡ 0 = s .1 in omega arith)) in omega arith
 topmost-low ss sh nodes code l (also falsity b) s = let z : 0 ≡ topmostAt code l = topmost-other code l (λ q. (let x : kindAt code l ≡ 1 = s .1 in omega arith)) in omega arith
@@ -161,11 +139,8 @@ module _ {code state : List ℕ} {j c l mark path : ℕ} (w : Layable code state
         let n : length (w .sh .clauses) ≤ 256 = w .climbing .program .few in
         (omega arith, ((omega arith, omega arith), (omega arith, (omega arith, omega arith))))
 
-    next-top : next ≡ topmost (w .sh) (leftFrom (w .sh) (w .g) code state path (s .copy) (s .literal))
-    unfolding leftFrom
-    next-top =
-        is ∙ topmost-of (w .ss) (w .sh) (w .nodes) code (s .literal) (s .copy) (restFrom (w .sh) (w .g) code state (s .copy) (s .literal)) (leftBehind (w .sh) (w .g) code state path (s .copy)) spot-stands
-        (λ q. ap (leftBehind (w .sh) (w .g) code state path) (spot-climbs .ends q) ∙ left-goal (w .sh) (w .g) code state path)
+    new : Fresh (w .sh) (w .g) code state path (s .copy) (s .literal) next
+    new = fresh (w .ss) (w .sh) (w .g) (w .nodes) code state path (s .copy) (s .literal) next (w .climbing .program) (spot-climbs .place) (spot-climbs .ends) (λ q. is ∙ sym (topmost-call code (s .literal) q)) (λ z. is ∙ sym (topmost-other code (s .literal) z))
 
     pub lay-end : (after : List ℕ) → after ≡ standWords state j (s .copy) (s .literal) next mark path → Lays (w .sh) (w .g) code state after j c l mark path
     lay-end after e =
@@ -173,8 +148,8 @@ module _ {code state : List ℕ} {j c l mark path : ℕ} (w : Layable code state
           spot = s;
           next = next;
           climbs = spot-climbs;
-          next-is = next-top ∙ ap (topmost (w .sh)) (spot-climbs .same);
-          next-for = λ a q. subst⁻¹ (NextFor (w .sh) a) is (topmost-for (w .ss) (w .sh) (w .nodes) code (s .literal) (restFrom (w .sh) (w .g) code state (s .copy) (s .literal)) spot-stands a q);
+          next-is = new .topmost-is ∙ ap (topmost (w .sh)) (spot-climbs .same);
+          next-for = new .stand .next;
           words = e;
         }
 

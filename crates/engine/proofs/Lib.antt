@@ -6,3 +6,4 @@ pub mod CallLaws
 pub mod ReadLaws
 pub mod StepLaws
 pub mod Witness
+pub mod CallWitness

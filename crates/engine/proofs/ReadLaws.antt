@@ -1,23 +1,22 @@
 -- The laws of the top as the code meets them: for a height and the number below it, and words that were read. Assumes nothing.
-use Prim.Native.Nat.{ℕ, zero, suc, _+_, _-_, _*_, _≤_, _<_, _^_}
+use Prim.Native.Nat.{ℕ, suc, _+_, _-_, _*_, _≤_, _<_, _^_}
 use native.Mathlib.Omega.{arith}
-use mathlib.Core.Path.{_≡_, refl, sym, ap, ap₂, _∙_, subst, subst⁻¹}
-use mathlib.Core.Bool.{Bool, true, false}
+use mathlib.Core.Path.{_≡_, refl, sym, ap, _∙_, subst, subst⁻¹}
+use mathlib.Core.Bool.{true, false}
 use mathlib.Core.List.{List}
 use lib.ListN.{length, getD}
-use Rattle.syntax.specs.Terms.{Sheet, Goal}
 use Rattle.layout.specs.Program.{headAt, bodyAt, afterAt, kindAt, placeAt, otherAt}
-use Rattle.layout.specs.Pile.{copyAt, literalAt, nextAt, markAt, pathAt, Piled}
+use Rattle.layout.specs.Pile.{copyAt, literalAt, nextAt, markAt, pathAt}
 use Rattle.unifier.specs.Turns.{Unifiable, Unifies}
 use Rattle.unifier.specs.declared.solve.Unified.{Unified}
 use Rattle.engine.specs.Words.{standAt, nextWords, frameWords}
-use Rattle.engine.specs.Moves.{Layable, Lays, Tryable, Comes, triedOn}
+use Rattle.engine.specs.Moves.{Layable, Tryable, Comes, triedOn}
 use Rattle.engine.specs.Steps.{Steppable, Stepped}
 use Rattle.engine.specs.declared.Pile.{Pile}
 use Rattle.engine.specs.declared.records.Stand.{Stand}
 use Rattle.layout.proofs.Pile.{clause-low}
 use Rattle.engine.proofs.LayLaws.{LayEnds}
-use Rattle.engine.proofs.TopLaws.{at-top, top-stacked, top-inside, top-low, top-room}
+use Rattle.engine.proofs.TopLaws.{at-top, top-inside, top-low, top-room}
 use Rattle.engine.proofs.WorkLaws.{pops-other, truth-layable-top, truth-core, equation-unifiable-top, equation-fails-top, equation-layable-top, equation-core}
 use Rattle.engine.proofs.CallLaws.{try-unifiable-top, try-fails-top, try-frame-top, try-layable-top, try-core, call-none-top, call-inside-top, call-room-top, call-tryable-top, call-end-top}
 

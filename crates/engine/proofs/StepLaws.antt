@@ -1,20 +1,19 @@
 -- A step undoes the trail to the top's mark and works on the top; the start lays the goal. Assumes nothing.
-use Prim.Native.Nat.{ℕ, zero, suc, _+_, _-_, _*_, _≤_, _<_}
+use Prim.Native.Nat.{ℕ, suc, _+_, _-_, _*_, _≤_, _<_}
 use native.Mathlib.Omega.{arith}
 use mathlib.Core.Path.{_≡_, refl, sym, ap, ap₂, _∙_, subst, subst⁻¹}
 use mathlib.Core.Bool.{Bool, true, false, _&&_}
 use mathlib.Core.List.{List, [], _∷_}
-use mathlib.Core.Option.{Option, none, some}
-use lib.Dec.{T, eqb, leb}
+use mathlib.Core.Option.{some}
+use lib.Dec.{eqb, leb}
 use lib.ListN.{length, getD}
 use borrow.Author.Tests.{eq-eqb, ne-eqb}
-use Rattle.syntax.specs.Terms.{Atom, Literal, call, equation, truth, falsity, Body, done, also, Clause, Sheet, Goal}
+use Rattle.syntax.specs.Terms.{Atom, Literal, call, equation, truth, falsity, Body, done, also, Clause, Sheet}
 use Rattle.machine.specs.Machine.{Pending, Alternative, pending, topmost, clauseAt, step, start}
 use Rattle.machine.specs.Runs.{isEmpty, isAnswer, isThere, triesWith, triesFirst, goesDeeper}
 use Rattle.layout.specs.Nodes.{Symbol}
-use Rattle.layout.specs.State.{Store, Keeps}
 use Rattle.layout.specs.Program.{bodyAt, kindAt, LiteralStands, BodyStands}
-use Rattle.layout.specs.Pile.{Calls, restFrom, leftFrom, callsUpTo, copyAt, literalAt, nextAt, markAt, pathAt, alternativeAt, pileOf, Place, NextFor, Piled}
+use Rattle.layout.specs.Pile.{Calls, restFrom, leftFrom, copyAt, literalAt, nextAt, markAt, pathAt, alternativeAt, pileOf, NextFor, Piled}
 use Rattle.unifier.specs.Cells.{Stored, Undone}
 use Rattle.engine.specs.Words.{standAt}
 use Rattle.engine.specs.Moves.{Layable, Lays}

@@ -1,22 +1,20 @@
 -- The top alternative: where it stands, and what its step comes to. Assumes nothing.
 use Prim.Native.Nat.{ℕ, zero, suc, _+_, _-_, _*_, _≤_, _<_}
 use native.Mathlib.Omega.{arith}
-use mathlib.Core.Path.{_≡_, refl, sym, ap, ap₂, _∙_, subst, subst⁻¹}
-use mathlib.Core.List.{List, [], _∷_, _++_}
-use lib.ListN.{length, getD}
-use Rattle.syntax.specs.Terms.{Literal, Body, done, also, Sheet, Goal}
-use Rattle.machine.specs.Substitution.{Binding}
-use Rattle.machine.specs.Machine.{Pending, Alternative, topmost, gone, worked, workedOn, outcome, step}
+use mathlib.Core.Path.{_≡_, refl, sym, ap, _∙_, subst, subst⁻¹}
+use mathlib.Core.List.{List, _∷_, _++_}
+use lib.ListN.{length}
+use Rattle.syntax.specs.Terms.{Literal, Body, also, Sheet, Goal}
+use Rattle.machine.specs.Machine.{Pending, Alternative, topmost, worked, workedOn, outcome, step}
 use Rattle.layout.specs.Nodes.{Symbol}
-use Rattle.layout.specs.State.{trailAt, bindings, Store, Within, Keeps}
+use Rattle.layout.specs.State.{trailAt, Store, Within, Keeps}
 use Rattle.layout.specs.Program.{BodyStands}
-use Rattle.layout.specs.Pile.{restFrom, leftFrom, callsUpTo, copyAt, literalAt, markAt, pathAt, alternativeAt, pileOf, Place, Stacked, Piled}
+use Rattle.layout.specs.Pile.{restFrom, copyAt, literalAt, markAt, pathAt, alternativeAt, pileOf, Stacked, Piled}
 use Rattle.layout.proofs.Pigeonhole.{pigeonhole}
-use Rattle.engine.specs.Words.{standWords}
 use Rattle.engine.specs.Moves.{Climbing, Lays, restAt}
 use Rattle.engine.proofs.WordLaws.{less-one, stand-written}
-use Rattle.layout.proofs.Step.{left-also, left-done}
-use Rattle.layout.proofs.Pile.{place-stands, place-next, kind-room, SameUpTo, keeps-same, same-place, same-frame, same-pathAt, same-markAt, same-stacked, same-pile, path-high, mark-top, Written, Means, kept-left, replaced}
+use Rattle.layout.proofs.Step.{left-also, Going}
+use Rattle.layout.proofs.Pile.{place-stands, place-next, kind-room, SameUpTo, keeps-same, same-place, same-frame, same-pathAt, same-markAt, same-stacked, same-pile, path-high, mark-top, Written, Means}
 
 -- a law of the top, alternative j of suc j, for a height and the number below it
 pub at-top : (P : ℕ → ℕ → Type 0) → ((j : ℕ) → P (suc j) j) → (h : ℕ) → 1 ≤ h → P h (h - 1)
@@ -66,11 +64,6 @@ module _ (ss : List Symbol) (sh : Sheet) (g : Goal) (nodes code state : List ℕ
   unfolding step outcome workedOn pileOf alternativeAt
   step-also x b e = ap (λ (ls : List Pending). workedOn sh (alternativeAt ss sh g nodes code state j) ls ++ pileOf ss sh g nodes code state j) (left-also sh g code state (pathAt state j) (copyAt state j) (literalAt state j) (top-stacked .place) x b e)
 
-  -- and where it stands at the goal's end
-  pub step-done : restFrom sh g code state (copyAt state j) (literalAt state j) ≡ done → step sh (pileOf ss sh g nodes code state (suc j)) ≡ pileOf ss sh g nodes code state j
-  unfolding step outcome workedOn pileOf alternativeAt
-  step-done e = ap (λ (ls : List Pending). workedOn sh (alternativeAt ss sh g nodes code state j) ls ++ pileOf ss sh g nodes code state j) (left-done sh g code state (pathAt state j) (copyAt state j) (literalAt state j) (top-stacked .ends e) e)
-
   -- More bindings, and the words behind the trail as they were: the pile is the same.
   module _ (mark : markAt state j ≡ n) (state1 : List ℕ) (n1 : ℕ) (keeps : Keeps n state state1) (store1 : Store ss nodes state1 n1) (more : n ≤ n1) where
     same : SameUpTo (suc j) 255 n state state1
@@ -110,22 +103,23 @@ module _ (ss : List Symbol) (sh : Sheet) (g : Goal) (nodes code state : List ℕ
             place = same-place sh g code state state1 255 (same .frame) (copyAt state j) (literalAt state j + 4) (omega arith) (place-next sh g code state (copyAt state j) (literalAt state j) (top-stacked .place) x b is);
           }
 
-      pub gone-means : (after : List ℕ) → Lays sh g code state1 after j (copyAt state j) (literalAt state j + 4) n1 (pathAt state j)
-          → Means ss sh g nodes code after (suc j) n1 (gone sh (alternativeAt ss sh g nodes code state j) (restAt sh g code state j) (bindings ss nodes state1 n1) ∷ pileOf ss sh g nodes code state j)
-      unfolding gone alternativeAt
-      gone-means after k =
+      pub going : (after : List ℕ) (k : Lays sh g code state1 after j (copyAt state j) (literalAt state j + 4) n1 (pathAt state j))
+          → Going ss sh g nodes code state state1 after j n n1 (pathAt state j) (k .spot .copy) (k .spot .literal) (k .next)
+      going after k =
           let a : k .spot .copy ≤ copyAt state j = k .climbs .copy in
           let c : copyAt state j ≤ pathAt state j = top-stacked .copy in
           let l : j ≤ 255 = top-low in
           let long : 35328 ≤ length state1 = kept .piled .long in
-          let rest : leftFrom sh g code state1 (pathAt state j) (copyAt state j) (literalAt state j + 4) ≡ restAt sh g code state j = kept-left ss sh g nodes code state state1 j n n piled keeps (copyAt state j) (literalAt state j + 4) c in
-          let written : Written j (k .spot .copy) (k .spot .literal) (k .next) n1 (pathAt state j) state1 after =
-          subst⁻¹ (λ (s : List ℕ). Written j (k .spot .copy) (k .spot .literal) (k .next) n1 (pathAt state j) state1 s) (k .words) (stand-written state1 j (k .spot .copy) (k .spot .literal) (k .next) n1 (pathAt state j) (omega arith)) in
-          let m : Means ss sh g nodes code after (suc j) n1 (record { literals = leftFrom sh g code state1 (pathAt state j) (k .spot .copy) (k .spot .literal); bindings = bindings ss nodes state1 n1; next = k .next; calls = callsUpTo sh g code state (pathAt state j) } ∷ pileOf ss sh g nodes code state j) =
-          replaced ss sh g nodes code state state1 after j n n1 (pathAt state j) (k .spot .copy) (k .spot .literal) (k .next) piled mark refl keeps store1 within1 more (omega arith) (record { place = k .climbs .place; ends = k .climbs .ends; next = k .next-for }) written in
-          let lits : leftFrom sh g code state1 (pathAt state j) (k .spot .copy) (k .spot .literal) ≡ restAt sh g code state j = k .climbs .same ∙ rest in
-          let nxt : k .next ≡ topmost sh (restAt sh g code state j) = k .next-is ∙ ap (topmost sh) rest in
           record {
-            piled = m .piled;
-            is = m .is ∙ (λ i. record { literals = lits i; bindings = bindings ss nodes state1 n1; next = nxt i; calls = callsUpTo sh g code state (pathAt state j) } ∷ pileOf ss sh g nodes code state j);
+            piled = piled;
+            mark = mark;
+            path = refl;
+            keeps = keeps;
+            store = store1;
+            within = within1;
+            more = more;
+            copy = omega arith;
+            left = k .climbs .same;
+            fresh = record { stand = record { place = k .climbs .place; ends = k .climbs .ends; next = k .next-for }; topmost-is = k .next-is ∙ sym (ap (topmost sh) (k .climbs .same)) };
+            written = subst⁻¹ (λ (s : List ℕ). Written j (k .spot .copy) (k .spot .literal) (k .next) n1 (pathAt state j) state1 s) (k .words) (stand-written state1 j (k .spot .copy) (k .spot .literal) (k .next) n1 (pathAt state j) (omega arith));
           }

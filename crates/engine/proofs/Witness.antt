@@ -1,11 +1,11 @@
 -- There is something to start and something to step: what `start` and `step` ask can be met. Assumes nothing.
 use Prim.Native.Nat.{ℕ, _≤_}
 use native.Mathlib.Omega.{arith}
-use mathlib.Core.Path.{_≡_, refl, ap, _∙_}
+use mathlib.Core.Path.{_≡_, refl, ap}
 use mathlib.Core.Bool.{Bool, true, false}
-use mathlib.Core.List.{List, [], _∷_}
+use mathlib.Core.List.{[]}
 use lib.Dec.{ltb}
-use lib.ListN.{length, getD, replicate, length-replicate, getD-replicate, List·getD-eq-default}
+use lib.ListN.{length, getD, length-replicate, getD-replicate, List·getD-eq-default}
 use borrow.Author.Tests.{ltb-true, ltb-false}
 use Rattle.machine.specs.Machine.{pending}
 use Rattle.machine.specs.Runs.{triesWith, triesFirst, goesDeeper}

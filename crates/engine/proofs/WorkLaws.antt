@@ -1,32 +1,29 @@
 -- What comes of the top at `true`, at `fail`, at an equation and at the goal's end. Assumes nothing.
 use Prim.Native.Nat.{ℕ, zero, suc, _+_, _-_, _*_, _≤_, _<_}
 use native.Mathlib.Omega.{arith}
-use mathlib.Core.Path.{_≡_, refl, sym, ap, ap₂, _∙_, subst, subst⁻¹}
+use mathlib.Core.Path.{_≡_, refl, sym, ap, _∙_}
 use mathlib.Core.Bool.{Bool, true, false}
-use mathlib.Core.List.{List, [], _∷_, _++_}
-use mathlib.Core.Option.{Option, none, some}
+use mathlib.Core.List.{List}
 use lib.Dec.{eqb}
-use lib.ListN.{length, getD}
+use lib.ListN.{length}
 use borrow.Author.Tests.{eqb-true, eqb-false}
-use Rattle.syntax.specs.Terms.{Term, Literal, call, equation, truth, falsity, Body, done, also, Sheet, Goal}
-use Rattle.machine.specs.Substitution.{copied, Binding}
+use Rattle.syntax.specs.Terms.{Term, equation, truth, falsity, Body, also, Sheet, Goal}
+use Rattle.machine.specs.Substitution.{copied}
 use Rattle.machine.specs.Unification.{unify}
-use Rattle.machine.specs.Machine.{Alternative, gone, equated, worked, step}
+use Rattle.machine.specs.Machine.{step}
 use Rattle.layout.specs.Nodes.{Symbol, Stands}
-use Rattle.layout.specs.State.{bindings, Store, Within, Keeps}
+use Rattle.layout.specs.State.{bindings}
 use Rattle.layout.specs.Program.{kindAt, placeAt, otherAt}
-use Rattle.layout.specs.Pile.{restFrom, copyAt, literalAt, markAt, pathAt, alternativeAt, pileOf, Piled}
+use Rattle.layout.specs.Pile.{restFrom, copyAt, literalAt, markAt, pathAt, pileOf, Piled}
 use Rattle.layout.proofs.State.{keeps-refl}
 use Rattle.unifier.specs.Queues.{Clean}
 use Rattle.unifier.specs.Turns.{answered, Unifiable, Unifies}
 use Rattle.unifier.specs.declared.solve.Unified.{Unified}
-use Rattle.engine.specs.Words.{standAt}
-use Rattle.engine.specs.Moves.{Layable, Lays, restAt}
+use Rattle.engine.specs.Moves.{Layable, Lays}
 use Rattle.engine.specs.Steps.{Steppable, Stepped}
-use Rattle.engine.specs.declared.Pile.{Pile}
-use Rattle.engine.specs.declared.records.Stand.{Stand}
 use Rattle.engine.proofs.LayLaws.{lays-long, LayEnds}
-use Rattle.engine.proofs.TopLaws.{at-top, trail-low, top-stacked, top-stands, top-inside, top-low, top-room, step-also, step-done, pile-tail, kept, gone-climbing, gone-means}
+use Rattle.engine.proofs.TopLaws.{trail-low, top-stacked, top-stands, top-low, top-room, pile-tail, kept, gone-climbing, going}
+use Rattle.layout.proofs.Step.{step-answer, step-falsity, step-unequal, truth-step, equal-step}
 use Rattle.layout.proofs.Pile.{kind-small, kind-done, kind-truth, kind-falsity, kind-equation, Means, popped}
 
 kind-one : (k : ℕ) → k ≤ 4 → (k ≡ 2 → ⊥) → (k ≡ 3 → ⊥) → (k ≡ 0 → ⊥) → (k ≡ 4 → ⊥) → k ≡ 1
@@ -68,23 +65,19 @@ module _ (nodes code state scratch : List ℕ) (j : ℕ) (w : Steppable nodes co
   pops-here s = pops state scratch (markAt state j) (record { piled = piled-top; is = refl }) refl (w .clean) refl s refl
 
   -- at `fail`, and at the goal's end
-  falsity-step : (r : Body) → rest ≡ also falsity r → step sh (pileOf ss sh g nodes code state (suc j)) ≡ pileOf ss sh g nodes code state j
-  unfolding worked
-  falsity-step r e = step-also ss sh g nodes code state j (markAt state j) piled-top falsity r e
-
   pub pops-other : (kindAt code (literalAt state j) ≡ 2 → ⊥) → (kindAt code (literalAt state j) ≡ 3 → ⊥) → (kindAt code (literalAt state j) ≡ 0 → ⊥)
       → Stepped ss sh g nodes code state state scratch scratch (suc j) (record { height = j; trail = markAt state j })
   pops-other a b c = pops-here (go (eqb (kindAt code (literalAt state j)) 4) refl)
     where
       go : (t : Bool) → eqb (kindAt code (literalAt state j)) 4 ≡ t → step sh (pileOf ss sh g nodes code state (suc j)) ≡ pileOf ss sh g nodes code state j
       go true e =
-          step-done ss sh g nodes code state j (markAt state j) piled-top
+          step-answer ss sh g nodes code state j (top-stacked ss sh g nodes code state j (markAt state j) piled-top .ends)
           (kind-done ss sh nodes code (literalAt state j) rest (top-stands ss sh g nodes code state j (markAt state j) piled-top) (eqb-true (kindAt code (literalAt state j)) 4 e))
       go false e =
           let z : kindAt code (literalAt state j) ≡ 4 → ⊥ = eqb-false (kindAt code (literalAt state j)) 4 e in
           let q : kindAt code (literalAt state j) ≤ 4 = kind-small ss sh nodes code (literalAt state j) rest (top-stands ss sh g nodes code state j (markAt state j) piled-top) in
           let k : (r : Body) × (rest ≡ also falsity r) = kind-falsity ss sh nodes code (literalAt state j) rest (top-stands ss sh g nodes code state j (markAt state j) piled-top) (kind-one (kindAt code (literalAt state j)) q a b c z) in
-          falsity-step (k .0) (k .1)
+          step-falsity ss sh g nodes code state j (top-stacked ss sh g nodes code state j (markAt state j) piled-top .place) (k .0) (k .1)
 
   -- at `true`
   module _ (kind : kindAt code (literalAt state j) ≡ 0) where
@@ -105,17 +98,11 @@ module _ (nodes code state scratch : List ℕ) (j : ℕ) (w : Steppable nodes co
 
     truth-end-top : (after : List ℕ) → Lays sh g code state after j (copyAt state j) (literalAt state j + 4) (markAt state j) (pathAt state j)
         → Stepped ss sh g nodes code state after scratch scratch (suc j) (record { height = suc j; trail = markAt state j })
-    unfolding worked alternativeAt
     truth-end-top after k =
-        let m : Means ss sh g nodes code after (suc j) (markAt state j) (gone sh (alternativeAt ss sh g nodes code state j) (restAt sh g code state j) (bindings ss nodes state (markAt state j)) ∷ pileOf ss sh g nodes code state j) =
-        gone-means ss sh g nodes code state j (markAt state j) piled-top refl state (markAt state j) (keeps-refl (markAt state j) state) (piled-top .store) (omega arith) (top-stacked ss sh g nodes code state j (markAt state j) piled-top .within) truth (truth-first .0) (truth-first .1) after k in
-        record {
-          is = m .is ∙ sym (step-also ss sh g nodes code state j (markAt state j) piled-top truth (truth-first .0) (truth-first .1));
-          piled = m .piled;
-          state-long = lays-long (top-room ss sh g nodes code state j (markAt state j) piled-top) k;
-          clean = w .clean;
-          scratch-long = refl;
-        }
+        let m : Means ss sh g nodes code after (suc j) (markAt state j) (step sh (pileOf ss sh g nodes code state (suc j))) =
+        truth-step ss sh g nodes code state after j (markAt state j) (pathAt state j) (k .spot .copy) (k .spot .literal) (k .next) (truth-first .0)
+        (going ss sh g nodes code state j (markAt state j) piled-top refl state (markAt state j) (keeps-refl (markAt state j) state) (piled-top .store) (omega arith) (top-stacked ss sh g nodes code state j (markAt state j) piled-top .within) truth (truth-first .0) (truth-first .1) after k) (truth-first .1) in
+        record { is = m .is; piled = m .piled; state-long = lays-long (top-room ss sh g nodes code state j (markAt state j) piled-top) k; clean = w .clean; scratch-long = refl }
 
     pub truth-core : (after : List ℕ) → LayEnds code state after j (copyAt state j) (literalAt state j + 4) (markAt state j) (pathAt state j)
         → Stepped ss sh g nodes code state after scratch scratch (suc j) (record { height = suc j; trail = markAt state j })
@@ -152,18 +139,15 @@ module _ (nodes code state scratch : List ℕ) (j : ℕ) (w : Steppable nodes co
       unfolding equation-unifiable-top
       unifies = u equation-unifiable-top
 
-      equation-step : step sh (pileOf ss sh g nodes code state (suc j)) ≡ equated sh (alternativeAt ss sh g nodes code state j) (restAt sh g code state j) (answered (r .equal) (bindings ss nodes state1 (r .trail))) ++ pileOf ss sh g nodes code state j
-      unfolding worked alternativeAt
-      equation-step =
-          step-also ss sh g nodes code state j (markAt state j) piled-top (equation (sides .0) (sides .1)) (sides .2) (sides .3)
-          ∙ ap (λ (o : Option (List Binding)). equated sh (alternativeAt ss sh g nodes code state j) (restAt sh g code state j) o ++ pileOf ss sh g nodes code state j) (unifies .answer (sides .0) (sides .1) (sides .4) (sides .5))
+      equation-answer : (b : Bool) → r .equal ≡ b → unify (bindings ss nodes state (markAt state j)) (copied (copyAt state j) (sides .0)) (copied (copyAt state j) (sides .1)) ≡ answered b (bindings ss nodes state1 (r .trail))
+      equation-answer b e = unifies .answer (sides .0) (sides .1) (sides .4) (sides .5) ∙ ap (λ (y : Bool). answered y (bindings ss nodes state1 (r .trail))) e
 
       pub equation-fails-top : r .equal ≡ false → Stepped ss sh g nodes code state state1 scratch later (suc j) (record { height = j; trail = r .trail })
-      unfolding equated answered
+      unfolding answered
       equation-fails-top e =
           let m : Means ss sh g nodes code state1 (suc j) (r .trail) (pileOf ss sh g nodes code state (suc j)) = kept ss sh g nodes code state j (markAt state j) piled-top refl state1 (r .trail) (unifies .keeps) (unifies .store) (unifies .grows) in
           pops state1 later (r .trail) m (unifies .keeps .long) (unifies .clean) (unifies .long)
-          (equation-step ∙ ap (λ (b : Bool). equated sh (alternativeAt ss sh g nodes code state j) (restAt sh g code state j) (answered b (bindings ss nodes state1 (r .trail))) ++ pileOf ss sh g nodes code state j) e)
+          (step-unequal ss sh g nodes code state j (top-stacked ss sh g nodes code state j (markAt state j) piled-top .place) (sides .2) (sides .0) (sides .1) (sides .3) (equation-answer false e))
           (pile-tail ss sh g nodes code state1 state j (m .is))
 
       pub equation-layable-top : r .equal ≡ true → Layable code state1 j (copyAt state j) (literalAt state j + 4) (r .trail) (pathAt state j)
@@ -180,17 +164,14 @@ module _ (nodes code state scratch : List ℕ) (j : ℕ) (w : Steppable nodes co
 
       equation-end-top : r .equal ≡ true → (after : List ℕ) → Lays sh g code state1 after j (copyAt state j) (literalAt state j + 4) (r .trail) (pathAt state j)
           → Stepped ss sh g nodes code state after scratch later (suc j) (record { height = suc j; trail = r .trail })
-      unfolding equated answered
+      unfolding answered
       equation-end-top e after k =
-          let m : Means ss sh g nodes code after (suc j) (r .trail) (gone sh (alternativeAt ss sh g nodes code state j) (restAt sh g code state j) (bindings ss nodes state1 (r .trail)) ∷ pileOf ss sh g nodes code state j) =
-          gone-means ss sh g nodes code state j (markAt state j) piled-top refl state1 (r .trail) (unifies .keeps) (unifies .store) (unifies .grows) (unifies .within) (equation (sides .0) (sides .1)) (sides .2) (sides .3) after k in
-          record {
-            is = m .is ∙ sym (equation-step ∙ ap (λ (b : Bool). equated sh (alternativeAt ss sh g nodes code state j) (restAt sh g code state j) (answered b (bindings ss nodes state1 (r .trail))) ++ pileOf ss sh g nodes code state j) e);
-            piled = m .piled;
-            state-long = lays-long (let a : length state1 ≡ length state = unifies .keeps .long in let b : 33792 + j * 6 + 5 < length state = top-room ss sh g nodes code state j (markAt state j) piled-top in omega arith) k ∙ unifies .keeps .long;
-            clean = unifies .clean;
-            scratch-long = unifies .long;
-          }
+          let m : Means ss sh g nodes code after (suc j) (r .trail) (step sh (pileOf ss sh g nodes code state (suc j))) =
+          equal-step ss sh g nodes code state state1 after j (markAt state j) (r .trail) (pathAt state j) (k .spot .copy) (k .spot .literal) (k .next) (sides .2) (sides .0) (sides .1)
+          (going ss sh g nodes code state j (markAt state j) piled-top refl state1 (r .trail) (unifies .keeps) (unifies .store) (unifies .grows) (unifies .within) (equation (sides .0) (sides .1)) (sides .2) (sides .3) after k) (sides .3) (equation-answer true e) in
+          let a : length state1 ≡ length state = unifies .keeps .long in
+          let b : 33792 + j * 6 + 5 < length state = top-room ss sh g nodes code state j (markAt state j) piled-top in
+          record { is = m .is; piled = m .piled; state-long = lays-long (let c : 33792 + j * 6 + 5 < length state1 = omega arith in c) k ∙ a; clean = unifies .clean; scratch-long = unifies .long }
 
       pub equation-core : r .equal ≡ true → (after : List ℕ) → LayEnds code state1 after j (copyAt state j) (literalAt state j + 4) (r .trail) (pathAt state j)
           → Stepped ss sh g nodes code state after scratch later (suc j) (record { height = suc j; trail = r .trail })

@@ -3,7 +3,7 @@ use Prim.Native.Nat.{ℕ, _+_, _*_}
 use mathlib.Core.Bool.{true, false}
 use mathlib.Core.List.{List}
 use lib.Dec.{eqb}
-use lib.ListN.{getD, set}
+use lib.ListN.{set}
 use Rattle.layout.specs.Program.{kindAt, otherAt}
 use Rattle.layout.specs.Pile.{callerOf, callOf, copyAt, literalAt, nextAt, markAt, pathAt}
 use Rattle.engine.specs.declared.records.Stand.{Stand}
