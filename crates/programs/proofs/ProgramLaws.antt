@@ -1,16 +1,25 @@
 -- What loading, linking and running ask of each other.
-use Prim.Native.Nat.{ℕ, _≤_}
+use Prim.Native.Nat.{ℕ, zero, suc, _≤_}
 use native.Mathlib.Omega.{arith}
-use mathlib.Core.Path.{_≡_, refl, subst}
+use mathlib.Core.Path.{_≡_, refl, sym}
 use mathlib.Core.List.{List}
-use lib.ListN.{length, getD}
+use lib.ListN.{length, getD, replicate, length-replicate}
 use Rattle.syntax.specs.Terms.{Sheet, Goal}
 use Rattle.layout.specs.Program.{Program}
 use Rattle.unifier.specs.Queues.{Clean}
 use Rattle.loader.specs.Loading.{Loadable, Loaded}
 use Rattle.linker.specs.Linking.{Linkable}
-use Rattle.runs.specs.Running.{Spelt, Lent, Runnable}
+use Rattle.syntax.specs.declared.Report.{Report}
+use Rattle.runs.specs.Running.{Spelt, Lent, Runnable, Runs}
 use Rattle.programs.specs.Programs.{Zeros, Programmed, Linked}
+
+zero-at : (n i : ℕ) → _≡_ {A = ℕ} (getD (replicate n 0) i 0) 0
+zero-at zero i = refl
+zero-at (suc n) zero = refl
+zero-at (suc n) (suc i) = zero-at n i
+
+pub zeros : (n : ℕ) → Zeros n (replicate n 0)
+zeros n = record { long = sym (length-replicate n 0); zero-words = zero-at n }
 
 module _ {sheet table : List ℕ} {clauses : ℕ} {goal goals : List ℕ} {literals : ℕ} {names : List ℕ} {count : ℕ} (w : Programmed sheet table clauses goal goals literals names count) where
   pub loads : {nodes symbols : List ℕ} → Zeros 46428 nodes → Zeros 46428 symbols → Loadable sheet table clauses goal goals literals nodes symbols
@@ -36,13 +45,18 @@ module _ {sheet table : List ℕ} {clauses : ℕ} {goal goals : List ℕ} {liter
         symbols-short = omega arith
       }
 
-  module _ {nodes symbols : List ℕ} (a : 46428 ≡ length nodes) (l : Loaded sheet goal (w .sh) (w .g) nodes symbols) where
-    pub links : {code : List ℕ} → Zeros 18504 code → Linkable table clauses goals literals nodes code
-    links {code} z =
-        let b : 18504 ≡ length code = z .long in
+  module _ {nodes0 symbols0 nodes symbols : List ℕ} (z : Zeros 46428 nodes0) (y : Zeros 46428 symbols0) (a : length nodes ≡ length nodes0) (k : (v : Loadable sheet table clauses goal goals literals nodes0 symbols0) → Loaded sheet goal (v .sh) (v .g) nodes symbols) where
+    loaded : Loaded sheet goal (w .sh) (w .g) nodes symbols
+    unfolding loads
+    loaded = k (loads z y)
+
+    pub links : {code0 : List ℕ} → Zeros 18504 code0 → Linkable table clauses goals literals nodes code0
+    links {code0} x =
+        let b : 18504 ≡ length code0 = x .long in
         let c : length goals ≤ 4100 = w .goals-short in
+        let d : 46428 ≡ length nodes0 = z .long in
         record {
-          ss = l .ss;
+          ss = loaded .ss;
           sh = w .sh;
           g = w .g;
           has-clauses = w .has-clauses;
@@ -51,9 +65,9 @@ module _ {sheet table : List ℕ} {clauses : ℕ} {goal goals : List ℕ} {liter
           literals-count = w .literals-count;
           limits = w .limits;
           goal-limits = w .goal-limits;
-          nodes-stand = l .nodes-stand;
-          goal-loadable = l .goal-loadable;
-          clauses-loadable = l .clauses-loadable;
+          nodes-stand = loaded .nodes-stand;
+          goal-loadable = loaded .goal-loadable;
+          clauses-loadable = loaded .clauses-loadable;
           nodes-short = omega arith;
           table-short = w .table-short;
           goals-short = omega arith;
@@ -61,8 +75,17 @@ module _ {sheet table : List ℕ} {clauses : ℕ} {goal goals : List ℕ} {liter
           code-short = omega arith
         }
 
-    pub linked : {code : List ℕ} → Program (l .ss) (w .sh) (w .g) nodes code → Linked sheet goal names count nodes code symbols
-    linked p = record { ss = l .ss; sh = w .sh; g = w .g; program = p; spelt = record { spelt = l .names; named = w .named; names-are = w .names-are } }
+    module _ {code0 code : List ℕ} (x : Zeros 18504 code0) (p : (v : Linkable table clauses goals literals nodes code0) → Program (v .ss) (v .sh) (v .g) nodes code) where
+      program : Program (loaded .ss) (w .sh) (w .g) nodes code
+      unfolding links
+      program = p (links x)
+
+      pub linked : Linked sheet goal names count nodes code symbols
+      linked = record { ss = loaded .ss; sh = w .sh; g = w .g; program = program; spelt = record { spelt = loaded .names; named = w .named; names-are = w .names-are } }
+
+      pub program-runs : {allowance wanted : ℕ} {old new : List ℕ} {r : Report} → ((v : Linked sheet goal names count nodes code symbols) → Runs (v .sh) (v .g) allowance wanted old new r) → Runs (w .sh) (w .g) allowance wanted old new r
+      unfolding linked
+      program-runs q = q linked
 
 module _ {sheet goal names : List ℕ} {count : ℕ} {nodes code symbols : List ℕ} (w : Linked sheet goal names count nodes code symbols) where
   pub runnable : {state scratch stack : List ℕ} → Zeros 35328 state → Zeros 278535 scratch → Zeros 524320 stack → Runnable sheet goal names count nodes code symbols state scratch stack
@@ -80,3 +103,7 @@ module _ {sheet goal names : List ℕ} {count : ℕ} {nodes code symbols : List 
         zero-words = z .zero-words;
         lent = record { roomy = omega arith; clean = record { long = omega arith; zero = λ i l. y .zero-words i }; deep = omega arith }
       }
+
+  pub linked-runs : {state scratch stack : List ℕ} {allowance wanted : ℕ} {old new : List ℕ} {r : Report} → Zeros 35328 state → Zeros 278535 scratch → Zeros 524320 stack → ((v : Runnable sheet goal names count nodes code symbols state scratch stack) → Runs (v .sh) (v .g) allowance wanted old new r) → Runs (w .sh) (w .g) allowance wanted old new r
+  unfolding runnable
+  linked-runs z y x k = k (runnable z y x)

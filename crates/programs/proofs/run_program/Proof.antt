@@ -1,0 +1,91 @@
+use Rattle.programs.proofs.ProgramLaws.{loads, links, linked, program-runs}
+use borrow.Author.Needs.{needs}
+use Rattle.programs.proofs.run_program.Statement.{statement}
+use Rattle.programs.proofs.run_program.Tie as tie
+use Rattle.programs.proofs.run_program.Reads as reads
+use Rattle.programs.proofs.run_program.Lts as lts
+use Rattle.linker.proofs.link.Reads as link-reads
+use Rattle.loader.proofs.load_nodes.Reads as load-nodes-reads
+use Rattle.programs.proofs.code_words.Reads as code-words-reads
+use Rattle.programs.proofs.node_words.Reads as node-words-reads
+use Rattle.programs.proofs.run_linked.Reads as run-linked-reads
+
+-- src/lib.rt:97:21
+node-words-requires : tie.Need-node-words-requires
+node-words-requires c κs = search needs
+
+-- src/lib.rt:98:23
+node-words-requires-2 : tie.Need-node-words-requires-2
+node-words-requires-2 c κs = search needs
+
+-- src/lib.rt:99:20
+code-words-requires : tie.Need-code-words-requires
+code-words-requires c κs = search needs
+
+-- src/lib.rt:100:62
+slice-aggregate-load-nodes : tie.Need-slice-aggregate-load-nodes
+slice-aggregate-load-nodes c = search needs
+
+-- src/lib.rt:100:74
+slice-aggregate-load-nodes-2 : tie.Need-slice-aggregate-load-nodes-2
+slice-aggregate-load-nodes-2 c = search needs
+
+-- src/lib.rt:100:5
+load-nodes-requires : tie.Need-load-nodes-requires
+load-nodes-requires c κs = loads (c .before .before .before .before .before .before .before .before .before .before .before .pre) (c .before .before .before .before .node-words .ensures) (c .before .before .before .node-words2 .ensures)
+
+-- src/lib.rt:101:43
+slice-aggregate-link : tie.Need-slice-aggregate-link
+slice-aggregate-link c = search needs
+
+-- src/lib.rt:101:51
+slice-aggregate-link-2 : tie.Need-slice-aggregate-link-2
+slice-aggregate-link-2 c = search needs
+
+-- src/lib.rt:101:5
+link-requires : tie.Need-link-requires
+link-requires c κs = links (c .before .before .before .before .before .before .before .before .before .before .before .before .before .before .before .before .pre) (c .before .before .before .before .before .before .before .before .before .node-words .ensures) (c .before .before .before .before .before .before .before .before .node-words2 .ensures) (c .before .before .before .before .load-nodes .kept .1 .1 .1 .1 .1 .1 .0) (c .before .before .before .before .load-nodes .ensures) (c .before .before .before .before .before .before .before .code-words .ensures)
+
+-- src/lib.rt:103:36
+slice-aggregate-run-linked : tie.Need-slice-aggregate-run-linked
+slice-aggregate-run-linked c = search needs
+
+-- src/lib.rt:103:44
+slice-aggregate-run-linked-2 : tie.Need-slice-aggregate-run-linked-2
+slice-aggregate-run-linked-2 c = search needs
+
+-- src/lib.rt:103:51
+slice-aggregate-run-linked-3 : tie.Need-slice-aggregate-run-linked-3
+slice-aggregate-run-linked-3 c = search needs
+
+-- src/lib.rt:102:5
+run-linked-requires : tie.Need-run-linked-requires
+run-linked-requires c κs = linked (c .before .before .before .before .before .before .before .before .before .before .before .before .before .before .before .before .before .before .before .before .before .before .pre) (c .before .before .before .before .before .before .before .before .before .before .before .before .before .before .before .node-words .ensures) (c .before .before .before .before .before .before .before .before .before .before .before .before .before .before .node-words2 .ensures) (c .before .before .before .before .before .before .before .before .before .before .load-nodes .kept .1 .1 .1 .1 .1 .1 .0) (c .before .before .before .before .before .before .before .before .before .before .load-nodes .ensures) (c .before .before .before .before .before .before .before .before .before .before .before .before .before .code-words .ensures) (c .before .before .before .before .before .link .ensures)
+
+-- src/lib.rt:81:1
+same-length : tie.Need-same-length
+same-length c = search needs
+
+-- src/lib.rt:81:1
+returns : tie.Need-returns
+returns c = λ w. program-runs w (c .before .before .before .before .before .before .before .before .before .before .before .before .before .before .before .before .before .before .node-words .ensures) (c .before .before .before .before .before .before .before .before .before .before .before .before .before .before .before .before .before .node-words2 .ensures) (c .before .before .before .before .before .before .before .before .before .before .before .before .before .load-nodes .kept .1 .1 .1 .1 .1 .1 .0) (c .before .before .before .before .before .before .before .before .before .before .before .before .before .load-nodes .ensures) (c .before .before .before .before .before .before .before .before .before .before .before .before .before .before .before .before .code-words .ensures) (c .before .before .before .before .before .before .before .before .link .ensures) (c .before .before .run-linked .ensures)
+
+pub run-program-spec : {M : Type 1} → statement M
+run-program-spec =
+    tie.close
+    (tie.spec
+    node-words-requires
+    node-words-requires-2
+    code-words-requires
+    slice-aggregate-load-nodes
+    slice-aggregate-load-nodes-2
+    load-nodes-requires
+    slice-aggregate-link
+    slice-aggregate-link-2
+    link-requires
+    slice-aggregate-run-linked
+    slice-aggregate-run-linked-2
+    slice-aggregate-run-linked-3
+    run-linked-requires
+    same-length
+    returns)
