@@ -185,6 +185,16 @@ def large_terms(add):
         for goal in goals if height <= 10 else goals[:-1]:  # at most 2 ** 20 leaves
             add(sheet, goal)
             add(sheet, goal, room=100)
+    # 57,600 levels printed; the line one byte too long
+    sheet = tower("c", 240) + ":-mode d(+,*). :-mode w(*). w(X) :- c(N), d(N,X).\n" + down
+    for room in (len("X = z\n") + 3 * 57_600, len("X = z\n") + 3 * 57_600 - 1):
+        add(sheet, "w(X).", room=room)
+    # 8 ** 15 leaves
+    links = ["V%d = f(%s)" % (n + 1, ",".join(["V%d" % n] * 8)) for n in range(15)]
+    sheet = ":-mode t(*,*). t(V0,V15) :- %s.\n" % ", ".join(links)
+    for goal in ("t(a,_).", "t(A,X), A = X.", "t(A,_X), t(B,_Y), _X = _Y.", "t(A,_X), t(B,_X), A = a, B = b.",
+                 "t(A,X), t(X,A).", "t(A,X)."):
+        add(sheet, goal)
 
 
 def rooms(add):

@@ -42,7 +42,7 @@ module _ {sheet table : List ℕ} {clauses : ℕ} {goal goals : List ℕ} {liter
         nodes-room = omega arith;
         nodes-short = omega arith;
         symbols-room = omega arith;
-        symbols-short = omega arith
+        symbols-short = omega arith;
       }
 
   module _ {nodes0 symbols0 nodes symbols : List ℕ} (z : Zeros 46428 nodes0) (y : Zeros 46428 symbols0) (a : length nodes ≡ length nodes0) (k : (v : Loadable sheet table clauses goal goals literals nodes0 symbols0) → Loaded sheet goal (v .sh) (v .g) nodes symbols) where
@@ -72,7 +72,7 @@ module _ {sheet table : List ℕ} {clauses : ℕ} {goal goals : List ℕ} {liter
           table-short = w .table-short;
           goals-short = omega arith;
           code-room = omega arith;
-          code-short = omega arith
+          code-short = omega arith;
         }
 
     module _ {code0 code : List ℕ} (x : Zeros 18504 code0) (p : (v : Linkable table clauses goals literals nodes code0) → Program (v .ss) (v .sh) (v .g) nodes code) where
@@ -101,7 +101,7 @@ module _ {sheet goal names : List ℕ} {count : ℕ} {nodes code symbols : List 
         program = w .program;
         long = omega arith;
         zero-words = z .zero-words;
-        lent = record { roomy = omega arith; clean = record { long = omega arith; zero = λ i l. y .zero-words i }; deep = omega arith }
+        lent = record { roomy = omega arith; clean = record { long = omega arith; zero = λ i l. y .zero-words i }; deep = omega arith };
       }
 
   pub linked-runs : {state scratch stack : List ℕ} {allowance wanted : ℕ} {old new : List ℕ} {r : Report} → Zeros 35328 state → Zeros 278535 scratch → Zeros 524320 stack → ((v : Runnable sheet goal names count nodes code symbols state scratch stack) → Runs (v .sh) (v .g) allowance wanted old new r) → Runs (w .sh) (w .g) allowance wanted old new r

@@ -97,9 +97,27 @@ pub fn run_program(
     let mut nodes = node_words();
     let mut symbols = node_words();
     let mut code = code_words();
-    load_nodes(sheet, table, clauses, goal, goals, literals, &mut nodes, &mut symbols);
+    load_nodes(
+        sheet,
+        table,
+        clauses,
+        goal,
+        goals,
+        literals,
+        &mut nodes,
+        &mut symbols,
+    );
     link(table, clauses, goals, literals, &nodes, &mut code);
     run_linked(
-        sheet, goal, names, count, &nodes, &code, &symbols, text, allowance, wanted,
+        sheet,
+        goal,
+        names,
+        count,
+        &nodes,
+        &code,
+        &symbols,
+        text,
+        allowance,
+        wanted,
     )
 }

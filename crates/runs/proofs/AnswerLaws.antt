@@ -105,15 +105,15 @@ module _ {state : List ℕ} {h n : ℕ} (w : Rewindable state h n) where
     rewound-by j e ss sh g nodes code p =
         let k : j ≡ h - 1 = omega arith in
         subst⁻¹ (λ (x : ℕ). Same ss sh g nodes code state after x (markAt state (h - 1))) e
-            (subst (λ (x : ℕ). Same ss sh g nodes code state after (suc j) (markAt state x)) k
-                (rewinds j e (subst⁻¹ (λ (x : ℕ). Undone state after (markAt state x) n) k u) ss sh g nodes code (subst (λ (x : ℕ). Piled ss sh g nodes code state x n) e p)))
+        (subst (λ (x : ℕ). Same ss sh g nodes code state after (suc j) (markAt state x)) k
+        (rewinds j e (subst⁻¹ (λ (x : ℕ). Undone state after (markAt state x) n) k u) ss sh g nodes code (subst (λ (x : ℕ). Piled ss sh g nodes code state x n) e p)))
 
     pub rewind-end : Rewound state after h n (markAt state (h - 1))
     rewind-end =
         record {
           long = u .keeps .long;
           mark = u .keeps .others (33792 + (h - 1) * 6 + 3) (omega arith);
-          same = rewound-by (h - 1) (let z : 1 ≤ h = w .some in omega arith)
+          same = rewound-by (h - 1) (let z : 1 ≤ h = w .some in omega arith);
         }
 
 pub rewind-low : {state : List ℕ} {h n m : ℕ} (w : Rewindable state h n) → m ≡ markAt state (h - 1) → m ≤ n
@@ -148,7 +148,7 @@ module _ {sheet goal names : List ℕ} {count : ℕ} {nodes code symbols state s
           some = w .some;
           goes = ap (goesDeeper (w .sh)) (same-pile .is) ∙ answer-flat (w .sh) (pileOf (w .ss) (w .sh) (w .g) nodes code state h) (w .answer);
           roomy = w .under .lent .roomy;
-          clean = w .under .lent .clean
+          clean = w .under .lent .clean;
         }
 
     module _ {new : List ℕ} {past : ℕ} (f : (ss : List Symbol) (k : ℕ) (g : Goal) → Answerable ss k nodes mid symbols sheet goal names count → g .names ≡ namesFrom goal names 0 count → Fitted (line g (bindings ss nodes mid k)) text at new past) where
@@ -165,7 +165,7 @@ module _ {sheet goal names : List ℕ} {count : ℕ} {nodes code symbols state s
             fitted = subst (Fitted (line (w .g) (bindings (w .ss) nodes mid m)) text at new) z fitted-here;
             stepped = λ q. absurd (q refl);
             state-long = x .long;
-            stack-long = l
+            stack-long = l;
           }
 
       pub answer-on : (stack1 after later : List ℕ) (r : Pile) → length stack1 ≡ length stack → ((v : Steppable nodes code mid scratch h m) → Stepped (v .running .ss) (v .running .sh) (v .running .g) nodes code mid after scratch later h r) → Answered (w .ss) (w .sh) (w .g) nodes code state after scratch later stack stack1 text new h at (record { at = past; height = r .height; trail = r .trail })
@@ -180,5 +180,5 @@ module _ {sheet goal names : List ℕ} {count : ℕ} {nodes code symbols state s
             fitted = fitted-here;
             stepped = λ q. s;
             state-long = s .state-long ∙ x .long;
-            stack-long = l
+            stack-long = l;
           }

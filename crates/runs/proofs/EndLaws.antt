@@ -165,7 +165,7 @@ module _ (sh : Sheet) (g : Goal) (wanted room : ℕ) where
         more = s .more;
         answer = d;
         full = λ f. from-some left p Full (first-is left p ∙ ap (λ (x : Bool). firstBy (leb wanted (p .answers)) (isEmpty (p .pile)) (eqb left 0) (isAnswer (p .pile) && x) (goesDeeper sh (p .pile))) f ∙ s .full-is);
-        on = λ f. from-none left p (s .more) (first-is left p ∙ ap (λ (x : Bool). firstBy (leb wanted (p .answers)) (isEmpty (p .pile)) (eqb left 0) (isAnswer (p .pile) && x) (goesDeeper sh (p .pile))) f ∙ s .fits-is) ∙ ap (runFrom sh g wanted room (left - 1)) (answered p d)
+        on = λ f. from-none left p (s .more) (first-is left p ∙ ap (λ (x : Bool). firstBy (leb wanted (p .answers)) (isEmpty (p .pile)) (eqb left 0) (isAnswer (p .pile) && x) (goesDeeper sh (p .pile))) f ∙ s .fits-is) ∙ ap (runFrom sh g wanted room (left - 1)) (answered p d);
       }
 
 below-by : (a b c d e : Bool) → nextBy a b c d e ≡ Answer → a ≡ false

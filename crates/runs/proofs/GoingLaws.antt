@@ -37,7 +37,7 @@ go-begin {sheet} {goal} {names} {count} {nodes} {code} {symbols} {state} {scratc
       scratch-long = refl;
       stack-long = refl;
       text-long = refl;
-      on = λ w. begins (w .ss) (w .sh) (w .g) nodes code allowance wanted text state scratch stack (w .under .piled) (w .alone) (w .under .lent)
+      on = λ w. begins (w .ss) (w .sh) (w .g) nodes code allowance wanted text state scratch stack (w .under .piled) (w .alone) (w .under .lent);
     }
 
 module _ {sheet goal names : List ℕ} {count : ℕ} {nodes code symbols state₀ scratch₀ stack₀ text₀ : List ℕ} {allowance wanted : ℕ} {state scratch stack text : List ℕ} {h n answers steps at : ℕ} (i : Going sheet goal names count nodes code symbols state₀ scratch₀ stack₀ text₀ allowance wanted state scratch stack text h n answers steps at) where
@@ -71,7 +71,7 @@ module _ {sheet goal names : List ℕ} {count : ℕ} {nodes code symbols state�
               some = step-some (w .ss) (w .sh) (w .g) nodes code allowance wanted text₀ state scratch stack text h n answers steps at (i .on w) stepping;
               goes = flat;
               roomy = i .on w .under .lent .roomy;
-              clean = i .on w .under .lent .clean
+              clean = i .on w .under .lent .clean;
             }
           where
             flat : goesDeeper (running .sh) (pileOf (running .ss) (running .sh) (running .g) nodes code state h) ≡ false
@@ -104,7 +104,7 @@ module _ {sheet goal names : List ℕ} {count : ℕ} {nodes code symbols state�
               under = i .on w .under;
               some = answer-some (w .ss) (w .sh) (w .g) nodes code allowance wanted text₀ state scratch stack text h n answers steps at (i .on w) answering;
               answer = answer-here (w .ss) (w .sh) (w .g) nodes code allowance wanted text₀ state scratch stack text h n answers steps at (i .on w) answering;
-              room = (let x : length text ≡ length text₀ = i .text-long in let y : at ≤ length text₀ = i .on w .fits in omega arith)
+              room = (let x : length text ≡ length text₀ = i .text-long in let y : at ≤ length text₀ = i .on w .fits in omega arith);
             }
 
         pub go-answer-more : steps < allowance

@@ -71,7 +71,7 @@ module _ (ss : List Symbol) (sh : Sheet) (g : Goal) (nodes code : List ℕ) (all
         fits = omega arith;
         text-is = refl;
         steps-few = omega arith;
-        whole = ap₂ (λ (n : ℕ) (q : List Alternative). runFrom sh g wanted (length old) n (record { pile = q; answers = 0; steps = 0; text = [] })) z (sym e)
+        whole = ap₂ (λ (n : ℕ) (q : List Alternative). runFrom sh g wanted (length old) n (record { pile = q; answers = 0; steps = 0; text = [] })) z (sym e);
       }
 
   module _ (state scratch stack new : List ℕ) (h n answers steps at : ℕ) (o : Ongoing ss sh g nodes code state scratch stack allowance wanted old new h n answers steps at) where
@@ -90,7 +90,7 @@ module _ (ss : List Symbol) (sh : Sheet) (g : Goal) (nodes code : List ℕ) (all
     later state1 scratch1 stack1 h1 n1 p c e f =
         record {
           piled = p;
-          lent = record { roomy = roomy-same scratch scratch1 e (o .under .lent .roomy); clean = c; deep = (let x : 524320 ≤ length stack = o .under .lent .deep in omega arith) }
+          lent = record { roomy = roomy-same scratch scratch1 e (o .under .lent .roomy); clean = c; deep = (let x : 524320 ≤ length stack = o .under .lent .deep in omega arith) };
         }
 
     -- a step that is no answer
@@ -120,7 +120,7 @@ module _ (ss : List Symbol) (sh : Sheet) (g : Goal) (nodes code : List ℕ) (all
             text-is = o .text-is;
             steps-few = omega arith;
             whole = o .whole ∙ goes .on ∙ ap₂ (λ (m : ℕ) (v : List Alternative). runFrom sh g wanted (length old) m (record { pile = v; answers = answers; steps = suc steps; text = o .written })) z (sym e)
-                ∙ ap (λ (s : ℕ). runFrom sh g wanted (length old) (allowance - (steps + 1)) (record { pile = pileOf ss sh g nodes code state1 h1; answers = answers; steps = s; text = o .written })) y
+                ∙ ap (λ (s : ℕ). runFrom sh g wanted (length old) (allowance - (steps + 1)) (record { pile = pileOf ss sh g nodes code state1 h1; answers = answers; steps = s; text = o .written })) y;
           }
 
     -- an answer, once the trail is that of the top alternative
@@ -200,5 +200,5 @@ module _ (ss : List Symbol) (sh : Sheet) (g : Goal) (nodes code : List ℕ) (all
                 steps-few = omega arith;
                 whole = o .whole ∙ answers-here .on (not-over (length old) (length (o .written) + length (nextLine g (pileOf ss sh g nodes code state h))) (omega arith))
                     ∙ ap₂ (λ (k : ℕ) (v : List Alternative). runFrom sh g wanted (length old) k (record { pile = v; answers = answers + 1; steps = suc steps; text = o .written ++ nextLine g (pileOf ss sh g nodes code state h) })) w (ap (step sh) (sym e) ∙ sym e2)
-                    ∙ ap₂ (λ (k : ℕ) (t : List ℕ). runFrom sh g wanted (length old) (allowance - (steps + 1)) (record { pile = pileOf ss sh g nodes code state2 h2; answers = answers + 1; steps = k; text = o .written ++ t })) y the-line
+                    ∙ ap₂ (λ (k : ℕ) (t : List ℕ). runFrom sh g wanted (length old) (allowance - (steps + 1)) (record { pile = pileOf ss sh g nodes code state2 h2; answers = answers + 1; steps = k; text = o .written ++ t })) y the-line;
               }

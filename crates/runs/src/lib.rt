@@ -104,7 +104,18 @@ fn answer(
     ensures { λ r. ⌜ ((w : Answering (now (sheet .entry)) (now (goal .entry)) (now (names .entry)) count (now (nodes .entry)) (now (code .entry)) (now (symbols .entry)) (now (state .entry)) (now (scratch .entry)) (now (stack .entry)) (now (text .entry)) h n at) → Answered (w .ss) (w .sh) (w .g) (now (nodes .entry)) (now (code .entry)) (now (state .entry)) (now (state .exit)) (now (scratch .entry)) (now (scratch .exit)) (now (stack .entry)) (now (stack .exit)) (now (text .entry)) (now (text .exit)) h at r) ⌝ }
 {
     let m = rewind(state, h, n);
-    let past = put_answer(goal, names, count, nodes, state, symbols, sheet, stack, text, at);
+    let past = put_answer(
+        goal,
+        names,
+        count,
+        nodes,
+        state,
+        symbols,
+        sheet,
+        stack,
+        text,
+        at,
+    );
     if past == 0 {
         return Told {
             at: 0,
@@ -155,7 +166,19 @@ fn run_on(
             }
             Next::Answer => {
                 let t = answer(
-                    sheet, goal, names, count, nodes, code, symbols, state, scratch, stack, text, h, n,
+                    sheet,
+                    goal,
+                    names,
+                    count,
+                    nodes,
+                    code,
+                    symbols,
+                    state,
+                    scratch,
+                    stack,
+                    text,
+                    h,
+                    n,
                     at,
                 );
                 if t.at == 0 {
@@ -202,6 +225,18 @@ pub fn run(
 {
     start(code, state);
     run_on(
-        sheet, goal, names, count, nodes, code, symbols, state, scratch, stack, text, allowance, wanted,
+        sheet,
+        goal,
+        names,
+        count,
+        nodes,
+        code,
+        symbols,
+        state,
+        scratch,
+        stack,
+        text,
+        allowance,
+        wanted,
     )
 }
