@@ -29,11 +29,11 @@ same : {A : Type 0} (a b : A) → _≡_ {A = Outcome A} (accepted a) (accepted b
 same a b e = cc
 
 -- no fault, or the fault, as the definition has it
-fine-none : (o : Option Refusal) → Fine ≡ checkedOf o → o ≡ none
+pub fine-none : (o : Option Refusal) → Fine ≡ checkedOf o → o ≡ none
 fine-none none e = refl
 fine-none (some r) e = absurd (let z : _≡_ {A = ℕ} 0 1 = cc in omega arith)
 
-fault-some : (o : Option Refusal) (q : Refusal) → Fault q ≡ checkedOf o → o ≡ some q
+pub fault-some : (o : Option Refusal) (q : Refusal) → Fault q ≡ checkedOf o → o ≡ some q
 fault-some none q e = absurd (let z : _≡_ {A = ℕ} 0 1 = cc in omega arith)
 fault-some (some r) q e = ap some (let z : r ≡ q = cc in z)
 
@@ -83,7 +83,7 @@ module _ (s declared table : List ℕ) (v : Verdict) (e : v ≡ readVerdict s) (
 
 -- ---- a goal over a sheet
 
-goal-refused-by : (o : Outcome Goal) (t : Text) (q : Refusal) → goalVerdict o ≡ Refused t q → (o ≡ refused q) × (t ≡ inGoal)
+pub goal-refused-by : (o : Outcome Goal) (t : Text) (q : Refusal) → goalVerdict o ≡ Refused t q → (o ≡ refused q) × (t ≡ inGoal)
 unfolding goalVerdict
 goal-refused-by (refused r) t q e = (cc, cc)
 goal-refused-by (accepted g) t q e = absurd (let z : _≡_ {A = ℕ} 0 1 = cc in omega arith)
@@ -101,10 +101,10 @@ module _ (s declared : List ℕ) (n k : ℕ) (g table : List ℕ) (r : GoalRead)
       e ∙ ap (λ (y : Text). Refused y q) (o .1) ∙ sym (ap (λ (y : Outcome Goal). goalAnswer (w .sheet) (checkedGoalFrom (w .sheet) y)) (o .0))
 
   module _ (a b : ℕ) (e : r .verdict ≡ Accepted a b) where
-    goal-of : (x : Goal) × (goalOutcome g ≡ accepted x)
+    pub goal-of : (x : Goal) × (goalOutcome g ≡ accepted x)
     goal-of = goal-accepted-by (goalOutcome g) a b (sym (t .is) ∙ e)
 
-    standing : GoalStanding g table (r .literals) (goal-of .0)
+    pub standing : GoalStanding g table (r .literals) (r .names) (r .count) (goal-of .0)
     standing = t .holds (goal-of .0) (goal-of .1)
 
     pub goal-stands-at : Over s declared n k → GoalAt s declared n g table (r .literals)
@@ -120,7 +120,7 @@ module _ (s declared : List ℕ) (n k : ℕ) (g table : List ℕ) (r : GoalRead)
     }
 
     module _ (ck : Checked) (ec : (w : GoalAt s declared n g table (r .literals)) → ck ≡ checkedOf (goalFault (w .sheet) (w .goal))) where
-      checked-over : (w : Over s declared n k) → ck ≡ checkedOf (goalFault (w .sheet) (goal-of .0))
+      pub checked-over : (w : Over s declared n k) → ck ≡ checkedOf (goalFault (w .sheet) (goal-of .0))
       unfolding goal-stands-at
       checked-over w = ec (goal-stands-at w)
 
@@ -136,12 +136,12 @@ module _ (s declared : List ℕ) (n k : ℕ) (g table : List ℕ) (r : GoalRead)
 
 -- ---- both texts
 
-checked-refused-by : (o : Outcome Sheet) (t : Text) (q : Refusal) → sheetVerdict o ≡ Refused t q → (o ≡ refused q) × (t ≡ inSheet)
+pub checked-refused-by : (o : Outcome Sheet) (t : Text) (q : Refusal) → sheetVerdict o ≡ Refused t q → (o ≡ refused q) × (t ≡ inSheet)
 unfolding sheetVerdict
 checked-refused-by (refused r) t q e = (cc, cc)
 checked-refused-by (accepted sh) t q e = absurd (let z : _≡_ {A = ℕ} 0 1 = cc in omega arith)
 
-checked-accepted-by : (o : Outcome Sheet) (n k : ℕ) → sheetVerdict o ≡ Accepted n k → (sh : Sheet) × (o ≡ accepted sh) × (n ≡ length (sh .declarations)) × (k ≡ length (sh .clauses))
+pub checked-accepted-by : (o : Outcome Sheet) (n k : ℕ) → sheetVerdict o ≡ Accepted n k → (sh : Sheet) × (o ≡ accepted sh) × (n ≡ length (sh .declarations)) × (k ≡ length (sh .clauses))
 unfolding sheetVerdict
 checked-accepted-by (refused r) n k e = absurd (let z : _≡_ {A = ℕ} 0 1 = cc in omega arith)
 checked-accepted-by (accepted sh) n k e = (sh, refl, cc, cc)
@@ -154,11 +154,11 @@ module _ (s declared table g : List ℕ) (v : Verdict) (e : v ≡ checkVerdict s
       f ∙ ap (λ (y : Text). Refused y q) (o .1) ∙ sym (ap (checkGoalFrom g) (o .0))
 
   module _ (n k : ℕ) (f : v ≡ Accepted n k) where
-    checked-sheet : (sh : Sheet) × (checkedSheet s ≡ accepted sh) × (n ≡ length (sh .declarations)) × (k ≡ length (sh .clauses))
+    pub checked-sheet : (sh : Sheet) × (checkedSheet s ≡ accepted sh) × (n ≡ length (sh .declarations)) × (k ≡ length (sh .clauses))
     unfolding checkVerdict
     checked-sheet = checked-accepted-by (checkedSheet s) n k (sym e ∙ f)
 
-    checked-tabled : Tabled s declared table (checked-sheet .0)
+    pub checked-tabled : Tabled s declared table (checked-sheet .0)
     checked-tabled = holds (checked-sheet .0) (checked-sheet .1)
 
     pub over-at : Over s declared n k

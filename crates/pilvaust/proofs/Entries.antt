@@ -5,7 +5,7 @@ use native.Mathlib.Omega.{arith}
 use mathlib.Core.Path.{_≡_, refl, sym, ap, ap₂, _∙_, subst, subst⁻¹}
 use mathlib.Core.Bool.{Bool, true, false, cond}
 use mathlib.Core.List.{List, [], _∷_, _++_}
-use lib.ListN.{length, getD, take}
+use lib.ListN.{length, getD, take, replicate}
 use lib.Dec.{leb, eqb, leb·suc-suc}
 use borrow.Author.Tests.{le-leb, lt-leb}
 use Rattle.syntax.specs.Terms.{Sheet, Goal, Declaration}
@@ -31,6 +31,8 @@ use Rattle.pilvaust.specs.declared.GoalRead.{GoalRead}
 use Rattle.pilvaust.proofs.Laws.{four-words, never}
 use Rattle.modes.proofs.Accepted.{goal-stands}
 use Rattle.modes.proofs.Loaded.{has-taken}
+use Rattle.answers.specs.Words.{Named, namesFrom}
+use Rattle.answers.proofs.GoalNames.{goal-names, goal-named, goal-words}
 
 -- ---- one entry of a table
 
@@ -113,14 +115,15 @@ module _ (s declared table : List ℕ) (v : Verdict) (e : v ≡ readVerdict s) (
 
 -- ---- goals
 
-goal-answer : (s table : List ℕ) (q : Refusal) (r : GoalRead) → goalOutcome s ≡ refused q → r ≡ record { verdict = Refused inGoal q; literals = 0 } → GoalTabled s table r
+goal-answer : (s table : List ℕ) (q : Refusal) (r : GoalRead) → goalOutcome s ≡ refused q → r ≡ record { verdict = Refused inGoal q; literals = 0; count = 0; names = replicate 32 0 } → GoalTabled s table r
 unfolding goalVerdict
 goal-answer s table q r e f = record {
   is = ap (λ (x : GoalRead). x .verdict) f ∙ ap goalVerdict (sym e);
+  words = sym (ap (λ (x : GoalRead). length (x .names)) f);
   holds = λ g a. absurd (never q g (sym e ∙ a));
 }
 
-pub goal-long : (s table : List ℕ) (r : GoalRead) → 1024 < length s → r ≡ record { verdict = Refused inGoal TooLong; literals = 0 } → GoalTabled s table r
+pub goal-long : (s table : List ℕ) (r : GoalRead) → 1024 < length s → r ≡ record { verdict = Refused inGoal TooLong; literals = 0; count = 0; names = replicate 32 0 } → GoalTabled s table r
 goal-long s table r h f = goal-answer s table TooLong r is f
   where
     is : goalOutcome s ≡ refused TooLong
@@ -136,7 +139,7 @@ module _ (s table : List ℕ) (p : Parsed) (short : length s ≤ 1024) (g : Goal
   goal-fault-by (fault k b) e h z = goal-from ∙ ap goalFrom e ∙ ap₂ (λ (n b : ℕ). refused (faultOf n b)) (sym (h .number-is)) (sym (h .byte-is))
   goal-fault-by (ok x end) e h z = absurd (z (h .number-is))
 
-  pub goal-faults : (p .number ≡ 0 → ⊥) → (q : Refusal) (r : GoalRead) → q ≡ faultOf (p .number) (p .state .token .at) → r ≡ record { verdict = Refused inGoal q; literals = 0 } → GoalTabled s table r
+  pub goal-faults : (p .number ≡ 0 → ⊥) → (q : Refusal) (r : GoalRead) → q ≡ faultOf (p .number) (p .state .token .at) → r ≡ record { verdict = Refused inGoal q; literals = 0; count = 0; names = replicate 32 0 } → GoalTabled s table r
   goal-faults z q r eq f = goal-answer s table q r (goal-fault-by (readGoal s) refl g z ∙ ap refused (sym eq)) f
 
   goal-read-by : (d : Read Goal) → readGoal s ≡ d → GoalLoads table p d → p .number ≡ 0 → (x : Goal) × (end : State) × (readGoal s ≡ ok x end) × GoalGiven table p x end
@@ -146,19 +149,23 @@ module _ (s table : List ℕ) (p : Parsed) (short : length s ≤ 1024) (g : Goal
   same-goal : (a b : Goal) → _≡_ {A = Outcome Goal} (accepted a) (accepted b) → a ≡ b
   same-goal a b e = cc
 
-  pub goal-accepted : p .number ≡ 0 → GoalTabled s table (record { verdict = Accepted 0 0; literals = p .items })
+  pub goal-accepted : p .number ≡ 0 → GoalTabled s table (record { verdict = Accepted 0 0; literals = p .items; count = p .state .count; names = p .state .first })
   unfolding goalVerdict goalFrom
   goal-accepted z =
       let o : (x : Goal) × (end : State) × (readGoal s ≡ ok x end) × GoalGiven table p x end = goal-read-by (readGoal s) refl g z in
       let a : goalOutcome s ≡ accepted (o .0) = goal-from ∙ ap goalFrom (o .2) in
-      let st : GoalStanding s table (p .items) (o .0) = record {
+      let end : p .state ≡ o .1 = o .3 .state-is in
+      let st : GoalStanding s table (p .items) (p .state .first) (p .state .count) (o .0) = record {
         has = has-taken table (p .used) (bodyWords (o .0 .body)) (o .3 .table-is);
         count = o .3 .items-is;
         stands = goal-stands s (o .0) (o .1) (o .2);
+        named = subst⁻¹ (λ (x : State). Named s (x .first) (x .count)) end (goal-named s (o .0) (o .1) (o .2));
+        names-are = goal-names s (o .0) (o .1) (o .2) ∙ sym (ap (λ (x : State). namesFrom s (x .first) 0 (x .count)) end);
       } in
       record {
         is = ap goalVerdict (sym a);
-        holds = λ x e. subst (GoalStanding s table (p .items)) (same-goal (o .0) x (sym a ∙ e)) st;
+        words = sym (ap (λ (x : State). length (x .first)) end ∙ goal-words s (o .0) (o .1) (o .2));
+        holds = λ x e. subst (GoalStanding s table (p .items) (p .state .first) (p .state .count)) (same-goal (o .0) x (sym a ∙ e)) st;
       }
 
 pub goal-verdict : (s table : List ℕ) (r : GoalRead) → GoalTabled s table r → r .verdict ≡ readGoalVerdict s

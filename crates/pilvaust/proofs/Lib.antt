@@ -1,4 +1,5 @@
 pub mod Laws
 pub mod Entries
 pub mod Checking
+pub mod RunLaws
 pub mod Starred

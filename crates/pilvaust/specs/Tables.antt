@@ -1,17 +1,22 @@
--- What the tables hold after a sheet was read.
-use Prim.Native.Nat.{ℕ, _+_, _*_}
+-- What the tables hold after a sheet and a goal were read, and what a run over them promises.
+use Prim.Native.Nat.{ℕ, _+_, _*_, _≤_}
 use mathlib.Core.Path.{_≡_}
 use mathlib.Core.Bool.{cond}
 use mathlib.Core.List.{List}
 use lib.Dec.{leb}
 use lib.ListN.{length, getD, take}
+use lib.Seq.{sets}
 use Rattle.syntax.specs.Terms.{Sheet, Goal}
 use Rattle.syntax.specs.Verdicts.{Outcome, accepted, goalOutcome, goalVerdict}
 use Rattle.syntax.specs.Words.{bodyWords, bodyLength, declarationsWords}
 use Rattle.syntax.specs.declared.Declared.{Declared}
 use Rattle.syntax.specs.declared.Declared.the-variants.{As, Nothing}
+use Rattle.syntax.specs.declared.Run.{Run}
 use Rattle.modes.specs.Standing.{DeclarationsStand, GoalStands}
 use Rattle.modes.specs.Tables.{Has, SheetAt}
+use Rattle.machine.specs.Runs.{RunOutcome, runAnswer, runText}
+use Rattle.layout.specs.Limits.{SheetLimited}
+use Rattle.answers.specs.Words.{Named, namesFrom}
 use Rattle.pilvaust.specs.declared.GoalRead.{GoalRead}
 
 -- the sheet that was read stands in the tables
@@ -19,15 +24,18 @@ pub record Tabled (s declared table : List ℕ) (sh : Sheet) : Type 0 where
   pub stands : SheetAt s declared (length (sh .declarations)) table (length (sh .clauses))
   pub is : stands .sheet ≡ sh
 
--- the answer to a goal, and the goal that was read stands in the table
-pub record GoalStanding (s table : List ℕ) (literals : ℕ) (g : Goal) : Type 0 where
+-- the answer to a goal, and the goal that was read stands in the table; its variables are spelt in it
+pub record GoalStanding (s table : List ℕ) (literals : ℕ) (names : List ℕ) (k : ℕ) (g : Goal) : Type 0 where
   pub has : Has table 0 (bodyWords (g .body))
   pub count : literals ≡ bodyLength (g .body)
   pub stands : GoalStands s g
+  pub named : Named s names k
+  pub names-are : g .names ≡ namesFrom s names 0 k
 
 pub record GoalTabled (s table : List ℕ) (r : GoalRead) : Type 0 where
   pub is : r .verdict ≡ goalVerdict (goalOutcome s)
-  pub holds : (g : Goal) → goalOutcome s ≡ accepted g → GoalStanding s table (r .literals) g
+  pub words : 32 ≡ length (r .names)
+  pub holds : (g : Goal) → goalOutcome s ≡ accepted g → GoalStanding s table (r .literals) (r .names) (r .count) g
 
 -- the entry of the i-th of n declarations, four words each
 abbrev pub entryWords : List ℕ → ℕ → ℕ → Declared
@@ -40,3 +48,15 @@ pub record Over (s declared : List ℕ) (n k : ℕ) : Type 0 where
   pub count : n ≡ length (sheet .declarations)
   pub clauses : k ≡ length (sheet .clauses)
   pub stand : DeclarationsStand s (sheet .declarations)
+
+-- a sheet of which the n declarations and k clauses stand in tables, within document 01's limits
+pub record Ready (s declared : List ℕ) (n : ℕ) (table : List ℕ) (k : ℕ) : Type 0 where
+  pub stands : SheetAt s declared n table k
+  pub limits : SheetLimited (stands .sheet)
+  pub short : length s ≤ 16384
+  pub table-short : length table ≤ 65540
+
+-- what a run gives, and what it writes over a text
+pub record Answers (o : RunOutcome) (old new : List ℕ) (r : Run) : Type 0 where
+  pub is : r ≡ runAnswer o
+  pub text-is : new ≡ sets old 0 (runText o)

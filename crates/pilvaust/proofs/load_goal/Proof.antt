@@ -23,13 +23,13 @@ same-length : tie.Need-same-length
 same-length c = search needs
 
 returns-2 : tie.Need-returns-2
-returns-2 c = goal-faults (c .before .before .before .before .before .before .before .before .before .before .before .before .args .goal .now) (c .before .before .before .before .before .before .before .read-goal .last .1 .0) (c .before .before .before .before .before .before .before .read-goal .result) (c .before .before .before .before .before .before .before .before .before .if1 .left) (c .before .before .before .before .before .before .before .read-goal .ensures) (c .before .before .before .before .if2 .taken) (c .before .fault-of .result) (c .goal-refused2 .result) (c .before .fault-of .ensures) (c .goal-refused2 .ensures)
+returns-2 c = goal-faults (c .before .before .before .before .before .before .before .before .before .before .before .before .args .goal .now) (c .before .before .before .before .before .before .before .read-goal .last .1 .0) (c .before .before .before .before .before .before .before .read-goal .result) (c .before .before .before .before .before .before .before .before .before .if1 .left) (c .before .before .before .before .before .before .before .read-goal .ensures) (c .before .before .before .if2 .taken) (c .before .fault-of .result) (c .goal-refused2 .result) (c .before .fault-of .ensures) (c .goal-refused2 .ensures)
 
 same-length-2 : tie.Need-same-length-2
 same-length-2 c = search needs
 
 returns-3 : tie.Need-returns-3
-returns-3 c = goal-accepted (c .before .before .before .before .before .before .before .before .args .goal .now) (c .before .before .before .read-goal .last .1 .0) (c .before .before .before .read-goal .result) (c .before .before .before .before .before .if1 .left) (c .before .before .before .read-goal .ensures) (c .if2 .left)
+returns-3 c = goal-accepted (c .before .before .before .before .before .before .before .before .before .before .args .goal .now) (c .before .before .before .before .before .read-goal .last .1 .0) (c .before .before .before .before .before .read-goal .result) (c .before .before .before .before .before .before .before .if1 .left) (c .before .before .before .before .before .read-goal .ensures) (c .before .if2 .left)
 
 pub load-goal-spec : {M : Type 1} → statement M
 load-goal-spec =
