@@ -3,6 +3,7 @@
 use cases::wide;
 use syntax::Run;
 use syntax::Verdict;
+ghost use mathlib.Core.Path.{_≡_};
 ghost use Prim.Native.Nat.{_+_, _≤_, _<_};
 ghost use lib.ListN.{length};
 
@@ -22,7 +23,7 @@ fn three(cases: &[u8], at: usize) -> usize
     wide(cases[at]) + 256 * wide(cases[at + 1]) + 65536 * wide(cases[at + 2])
 }
 
-fn print_run(sheet: &[u8], goal: &[u8], run: Run, text: &[u8]) {
+fn print_run<'a>(sheet: &'a [u8], goal: &'a [u8], run: Run, text: &[u8]) {
     match run {
         Run::Ended(report) => {
             printing::print_lines(text, report.answers);
@@ -41,14 +42,37 @@ fn print_run(sheet: &[u8], goal: &[u8], run: Run, text: &[u8]) {
     }
 }
 
-// Runs with so much room of 200,000 bytes; a record that asks for more is passed over.
-fn answer_run(sheet: &[u8], goal: &[u8], allowance: usize, wanted: usize, room: usize) {
-    let mut text = [0u8; 200000];
+// Runs with a text, and prints what comes of it.
+fn run_with<'a>(
+    sheet: &'a [u8],
+    goal: &'a [u8],
+    allowance: usize,
+    wanted: usize,
+    text: &mut [u8],
+) {
+    let run = pilvaust::run(sheet, goal, allowance, wanted, text);
+    print_run(sheet, goal, run, text);
+}
+
+fn text_room() -> [u8; 200000]
+    ensures { λ r. ⌜ 200000 ≡ length r ⌝ }
+{
+    [0; 200000]
+}
+
+// Runs with so much room; a record that asks for more than 200,000 bytes is passed over.
+fn answer_run<'a>(
+    sheet: &'a [u8],
+    goal: &'a [u8],
+    allowance: usize,
+    wanted: usize,
+    room: usize,
+) {
     if 200000 < room {
         return;
     }
-    let run = pilvaust::run(sheet, goal, allowance, wanted, &mut text[..room]);
-    print_run(sheet, goal, run, &text);
+    let mut text = text_room();
+    run_with(sheet, goal, allowance, wanted, &mut text[..room]);
 }
 
 // Answers the record at a place and returns the place past it.
