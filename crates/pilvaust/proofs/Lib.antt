@@ -1,3 +1,4 @@
+pub mod Demand3
 pub mod Laws
 pub mod Entries
 pub mod Checking
