@@ -43,13 +43,7 @@ fn print_run<'a>(sheet: &'a [u8], goal: &'a [u8], run: Run, text: &[u8]) {
 }
 
 // Runs with a text, and prints what comes of it.
-fn run_with<'a>(
-    sheet: &'a [u8],
-    goal: &'a [u8],
-    allowance: usize,
-    wanted: usize,
-    text: &mut [u8],
-) {
+fn run_with<'a>(sheet: &'a [u8], goal: &'a [u8], allowance: usize, wanted: usize, text: &mut [u8]) {
     let run = pilvaust::run(sheet, goal, allowance, wanted, text);
     print_run(sheet, goal, run, text);
 }
@@ -61,13 +55,7 @@ fn text_room() -> [u8; 200000]
 }
 
 // Runs with so much room; a record that asks for more than 200,000 bytes is passed over.
-fn answer_run<'a>(
-    sheet: &'a [u8],
-    goal: &'a [u8],
-    allowance: usize,
-    wanted: usize,
-    room: usize,
-) {
+fn answer_run<'a>(sheet: &'a [u8], goal: &'a [u8], allowance: usize, wanted: usize, room: usize) {
     if 200000 < room {
         return;
     }
@@ -93,7 +81,13 @@ fn answer(cases: &[u8], at: usize) -> usize
     let goal = cases::text_at(cases, end);
     let from = goal.start;
     let to = goal.end;
-    answer_run(&cases[start..end], &cases[from..to], allowance, wanted, room);
+    answer_run(
+        &cases[start..end],
+        &cases[from..to],
+        allowance,
+        wanted,
+        room,
+    );
     to
 }
 
