@@ -1,5 +1,4 @@
 pub mod GoalNames
-pub mod PartLaws
 pub mod NumberLaws
 pub mod StoreLaws
 pub mod WalkLaws

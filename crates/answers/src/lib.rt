@@ -1,10 +1,9 @@
 // The line of an answer, from the words of a run. Document 01 is the paper "Rule sheets".
-mod bytes;
 mod values;
 mod walk;
 mod words;
 
-use bytes::append_part;
+use lines::bytes::append_part;
 use values::all_anonymous;
 use values::append_values;
 ghost use mathlib.Core.Path.{_≡_};

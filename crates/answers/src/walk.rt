@@ -1,5 +1,4 @@
 // A term spelt without recursion: the stack has a row for each bracket that is open.
-use crate::bytes::append_byte;
 use crate::words::append_name;
 use crate::words::append_unbound;
 use crate::words::deref;
@@ -7,6 +6,7 @@ use crate::words::move_row;
 use crate::words::put_row;
 use crate::words::row_at;
 use crate::words::word_at;
+use lines::bytes::append_byte;
 ghost use mathlib.Core.Path.{_≡_};
 ghost use mathlib.Core.Logic.{_⊎_};
 ghost use mathlib.Core.List.{List};

@@ -1,7 +1,7 @@
 // What the words of the node table, the state and the tables of this crate say.
-use crate::bytes::append_byte;
-use crate::bytes::append_decimal;
-use crate::bytes::append_part;
+use lines::bytes::append_byte;
+use lines::bytes::append_decimal;
+use lines::bytes::append_part;
 ghost use mathlib.Core.Path.{_≡_};
 ghost use mathlib.Core.List.{List, _∷_};
 ghost use Prim.Native.Nat.{ℕ, _+_, _*_, _/_, _%_, _^_, _≤_, _<_};

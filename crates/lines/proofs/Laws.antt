@@ -7,8 +7,8 @@ use mathlib.Core.Path.{_≡_, refl, sym, ap, _∙_}
 use mathlib.Core.Bool.{Bool, true, false}
 use mathlib.Core.List.{List, [], _∷_, _++_}
 use lib.Dec.{leb, ltb, lit<}
-use lib.ListN.{length, take, drop, getD, set, length-append}
-use lib.Seq.{sets, sets-eq, set-out, take-suc, take-all}
+use lib.ListN.{length, take, drop, getD, set, length-append, length-drop}
+use lib.Seq.{sets, sets-eq, set-out, take-suc, take-all, getD-drop}
 use borrow.Author.Tests.{ltb-true, ltb-false, lt-ltb, le-ltb, le-leb, lt-leb}
 use Rattle.syntax.specs.Quote.{bytes}
 use Rattle.lines.specs.Lines.{Put, digits, decimal, kindWord, nameWord, written, fitted}
@@ -41,13 +41,24 @@ pub out-of-range : (l : List ℕ) (i b : ℕ) → length l ≤ i → Put l i (b 
 out-of-range l i b h = record { text = sym (set-out l i b h); past = refl }
 
 -- one byte more of a text that is appended
-pub another : (l : List ℕ) (at : ℕ) (ws m : List ℕ) (past i : ℕ) (m′ : List ℕ) (past′ : ℕ) → i < length ws → Put l at (take i ws) m past → Put m past (getD ws i 0 ∷ []) m′ past′
+another : (l : List ℕ) (at : ℕ) (ws m : List ℕ) (past i : ℕ) (m′ : List ℕ) (past′ : ℕ) → i < length ws → Put l at (take i ws) m past → Put m past (getD ws i 0 ∷ []) m′ past′
     → Put l at (take (i + 1) ws) m′ past′
 another l at ws m past i m′ past′ h p q = rw (add-one, take-suc ws i 0 h) (then p q)
 
--- all of its bytes
-pub whole : (l : List ℕ) (at : ℕ) (ws m : List ℕ) (past i : ℕ) → length ws ≤ i → Put l at (take i ws) m past → Put l at ws m past
-whole l at ws m past i h p = rw (take-all i ws h) at p
+-- one byte more of a part
+pub part-more : (l : List ℕ) (at : ℕ) (text : List ℕ) (from len : ℕ) (m : List ℕ) (past i : ℕ) (m′ : List ℕ) (past′ : ℕ) → from + len ≤ length text → i < len
+    → Put l at (take i (drop from text)) m past → Put m past (getD text (from + i) 0 ∷ []) m′ past′ → Put l at (take (i + 1) (drop from text)) m′ past′
+part-more l at text from len m past i m′ past′ h k p q =
+    another l at (drop from text) m past i m′ past′ (rw length-drop (omega arith)) p (rw getD-drop q)
+
+-- all of it
+pub part-whole : (l : List ℕ) (at : ℕ) (text : List ℕ) (from len : ℕ) (m : List ℕ) (past i : ℕ) → len ≤ i → i ≤ len → Put l at (take i (drop from text)) m past
+    → Put l at (take len (drop from text)) m past
+part-whole l at text from len m past i h k p = let e : len ≡ i = omega arith in rw e p
+
+-- all of a text is such a part
+pub whole-part : (l : List ℕ) (at : ℕ) (ws m : List ℕ) (past : ℕ) → Put l at (take (length ws) (drop 0 ws)) m past → Put l at ws m past
+whole-part l at ws m past p = rw (take-all (length ws) ws (omega arith)) at p
 
 -- ---- decimal digits
 

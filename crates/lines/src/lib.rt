@@ -1,12 +1,16 @@
 // The lines that the programs print, into a lent buffer. Document 01 is the paper "Rule sheets".
+pub mod bytes;
+
+use bytes::append_byte;
+use bytes::append_decimal;
+use bytes::append_part;
 use syntax::Five;
 use syntax::Kind;
 use syntax::Text;
 use syntax::Verdict;
 ghost use mathlib.Core.Path.{_≡_};
-ghost use mathlib.Core.List.{[], _∷_};
-ghost use Prim.Native.Nat.{_+_, _^_, _≤_, _<_};
-ghost use Rattle.lines.specs.Lines.{Put, written, fitted, lineOf, reportLine, decimal, number, textWord, verdictWords, nameWord, kindNumber, kindWord};
+ghost use Prim.Native.Nat.{_+_, _≤_};
+ghost use Rattle.lines.specs.Lines.{Put, written, fitted, lineOf, reportLine, number, textWord, verdictWords, nameWord, kindNumber, kindWord};
 ghost use Rattle.lines.specs.Lines.{five as Lines·five};
 
 // Writes the line of a verdict, with the name handed back if there is one, to the start of out and returns its length;
@@ -52,9 +56,8 @@ pub fn put_report(kind: usize, answers: usize, steps: usize, out: &mut [u8]) -> 
     }
 }
 
-// Each function below writes from a position on and returns the position past what it wrote. Bytes at or past the buffer's
-// end are left out but counted, so a buffer of no bytes measures. Positions do not overflow: `refused sheet` has 13 bytes
-// and a number with its space at most 21, so a verdict's words end at 118 at most, and then comes the name.
+// Each function below appends as those of `bytes` do. Positions do not overflow: `refused sheet` has 13 bytes and a number
+// with its space at most 21, so a verdict's words end at 118 at most, and then comes the name.
 
 fn append_line(verdict: Verdict, name: &[u8], out: &mut [u8]) -> usize
     ensures { λ r. ⌜ Put (now (out .entry)) 0 (lineOf verdict (now (name .entry))) (now (out .exit)) r ⌝ }
@@ -155,38 +158,9 @@ fn append_number(n: usize, out: &mut [u8], at: usize) -> usize
     append_decimal(n, out, past_space)
 }
 
-// The digits of n / 10, then the last one.
-fn append_decimal(n: usize, out: &mut [u8], at: usize) -> usize
-    requires { ⌜ at ≤ 119 ⌝ }
-    ensures { λ r. ⌜ Put (now (out .entry)) at (decimal n) (now (out .exit)) r ⌝ }
-{
-    if n < 10 {
-        return append_byte((48 + n) as u8, out, at);
-    }
-    let past_others = append_decimal(n / 10, out, at);
-    append_byte((48 + n % 10) as u8, out, past_others)
-}
-
 fn append(text: &[u8], out: &mut [u8], at: usize) -> usize
     requires { ⌜ at ≤ 119 ⌝ }
     ensures { λ r. ⌜ Put (now (out .entry)) at (now (text .entry)) (now (out .exit)) r ⌝ }
 {
-    let mut past = at;
-    let mut i = 0;
-    while i < text.len() {
-        past = append_byte(text[i], out, past);
-        i += 1;
-    }
-    past
-}
-
-fn append_byte(byte: u8, out: &mut [u8], at: usize) -> usize
-    requires { ⌜ at + 1 < 2 ^ 64 ⌝ }
-    ensures { λ r. ⌜ Put (now (out .entry)) at (byte ∷ []) (now (out .exit)) r ⌝ }
-{
-    if at < out.len() {
-        out[at] = byte;
-        return at + 1;
-    }
-    at + 1
+    append_part(text, 0, text.len(), out, at)
 }
