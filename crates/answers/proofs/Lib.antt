@@ -1,6 +1,5 @@
 pub mod GoalNames
 pub mod NumberLaws
-pub mod StoreLaws
 pub mod WalkLaws
 pub mod ShallowLaws
 pub mod ValueLaws

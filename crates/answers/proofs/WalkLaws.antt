@@ -22,8 +22,9 @@ use Rattle.layout.specs.Nodes.{Symbol, isSymbol, symbolOf, isListed, nameOf, No
 use Rattle.layout.specs.State.{cellOf, variableOf, bindings, Store, cellAt}
 use Rattle.layout.proofs.Nodes.{node-inside, node-size, node-end, variable-at, compound-row, compound-at, row-none, row-cons, row-first, row-rest, row-order}
 use Rattle.layout.proofs.State.{variable-cell, cell-small, resolve-unbound}
+use Rattle.unifier.specs.Cells.{Derefs}
 use Rattle.answers.specs.Words.{Placed, nameAt, Names, Numbers, resolvedAll, depth, depthAll, speltRow, rowTerms, left, Standing, Rows}
-use Rattle.answers.specs.Telling.{separatorOf, Told, Led, Counting, Heading, SomeHeading, Setting, SomeSetting, Facing, SomeFacing, Spelling, Walked}
+use Rattle.answers.specs.Telling.{separatorOf, Told, Counting, Heading, SomeHeading, Setting, SomeSetting, Facing, SomeFacing, Spelling, Walked}
 
 -- ---- resolved lists and depths
 
@@ -278,28 +279,28 @@ few-met numbers at met k n =
 -- ---- a term, where it leads
 
 module _ (ss : List Symbol) (n : ℕ) (nodes state symbols sheet goal stack : List ℕ) (p c height : ℕ) (f : Facing ss n nodes state symbols sheet goal stack p c height) where
-  pub facing-head : (q d : ℕ) → Led ss nodes state n p c q d → Heading ss (bindings ss nodes state n) nodes symbols sheet goal stack q d height
+  pub facing-head : (q d : ℕ) → Derefs ss nodes state n p c q d → Heading ss (bindings ss nodes state n) nodes symbols sheet goal stack q d height
   facing-head q d l =
       record {
-        node = l .node;
-        copy = l .copy;
+        node = l .leads .node;
+        copy = l .leads .copy;
         small = f .setting .store .small;
         names = f .setting .names;
         free = λ low. free low;
         rows = f .setting .rows;
-        shallow = (let e : depth (resolve (bindings ss nodes state n) (termAt ss nodes p c)) ≡ depth (resolve (bindings ss nodes state n) (termAt ss nodes q d)) = ap depth (l .same) in let k : depth (resolve (bindings ss nodes state n) (termAt ss nodes p c)) + height ≤ length stack / 2 = f .shallow in omega arith);
+        shallow = (let e : depth (resolve (bindings ss nodes state n) (termAt ss nodes p c)) ≡ depth (resolve (bindings ss nodes state n) (termAt ss nodes q d)) = ap depth (sym (l .leads .means)) in let k : depth (resolve (bindings ss nodes state n) (termAt ss nodes p c)) + height ≤ length stack / 2 = f .shallow in omega arith);
       }
     where
       free : getD nodes q 0 < 64 → resolve (bindings ss nodes state n) (termAt ss nodes q d) ≡ termAt ss nodes q d
       free low =
-          let is : termAt ss nodes q d ≡ var (variableOf (cellOf d (getD nodes q 0))) = variable-at ss nodes q (l .node) d low ∙ ap var (sym (variable-cell d (getD nodes q 0) low)) in
-          rw is (resolve-unbound ss nodes state n (cellOf d (getD nodes q 0)) (f .setting .store) (cell-small d (getD nodes q 0) (l .copy) low) (l .free low))
+          let is : termAt ss nodes q d ≡ var (variableOf (cellOf d (getD nodes q 0))) = variable-at ss nodes q (l .leads .node) d low ∙ ap var (sym (variable-cell d (getD nodes q 0) low)) in
+          rw is (resolve-unbound ss nodes state n (cellOf d (getD nodes q 0)) (f .setting .store) (cell-small d (getD nodes q 0) (l .leads .copy) low) (l .stops low))
 
-  pub facing-spelt : (q d : ℕ) (met : List Variable) (old new numbers after : List ℕ) (at next high : ℕ) (rest : List Piece) → Led ss nodes state n p c q d
+  pub facing-spelt : (q d : ℕ) (met : List Variable) (old new numbers after : List ℕ) (at next high : ℕ) (rest : List Piece) → Derefs ss nodes state n p c q d
       → Spelling ss nodes (bindings ss nodes state n) (bytesOf met (spelt (resolve (bindings ss nodes state n) (termAt ss nodes q d)) (left ss nodes (bindings ss nodes state n) stack height rest))) old at new numbers after next high rest
       → Spelling ss nodes (bindings ss nodes state n) (bytesOf met (spelt (resolve (bindings ss nodes state n) (termAt ss nodes p c)) (left ss nodes (bindings ss nodes state n) stack height rest))) old at new numbers after next high rest
   facing-spelt q d met old new numbers after at next high rest l s =
-      record { told = told-whole (ap (λ (t : RTerm). bytesOf met (spelt t (left ss nodes (bindings ss nodes state n) stack height rest))) (l .same)) (s .told); rows = s .rows }
+      record { told = told-whole (ap (λ (t : RTerm). bytesOf met (spelt t (left ss nodes (bindings ss nodes state n) stack height rest))) (sym (l .leads .means))) (s .told); rows = s .rows }
 
 -- bytes before a part that is told
 pub told-after : {whole ws old mid new numbers : List ℕ} {at m next : ℕ} (met : List Variable) (ps : List Piece) {qs : List Piece} → Put old at ws mid m → whole ≡ ws ++ bytesOf met ps → Told (bytesOf met ps) mid m new next numbers qs → Told whole old at new next numbers qs

@@ -1,16 +1,16 @@
 -- What the functions promise: bytes appended, and what is still to be spelt.
-use Prim.Native.Nat.{ℕ, zero, suc, _+_, _*_, _/_, _<_, _≤_, _^_}
+use Prim.Native.Nat.{ℕ, zero, suc, _+_, _/_, _<_, _≤_, _^_}
 use Rattle.syntax.specs.Quote.{bytes}
 use mathlib.Core.Path.{_≡_}
 use mathlib.Core.Bool.{cond}
 use mathlib.Core.List.{List, [], _∷_, _++_}
-use lib.Dec.{leb, eqb}
+use lib.Dec.{eqb}
 use lib.ListN.{length, getD}
 use Rattle.lines.specs.Lines.{Put}
 use Rattle.machine.specs.Substitution.{Variable, RTerm, var, Binding, resolve}
 use Rattle.machine.specs.Answers.{Piece, unbound, numbered, bytesOf}
 use Rattle.layout.specs.Nodes.{Symbol, Node, termAt}
-use Rattle.layout.specs.State.{variableOf, bindings, Store, cellAt, cellOf}
+use Rattle.layout.specs.State.{variableOf, bindings, Store}
 use Rattle.answers.specs.Words.{Names, Named, Numbers, Rows, left, depth}
 
 -- A cell's number, before any pieces.
@@ -28,25 +28,6 @@ pub record Told (whole old : List ℕ) (at : ℕ) (new : List ℕ) (next : ℕ) 
   pub numbers-are : Numbers numbers met
   pub few : length met ≤ next
   pub is : whole ≡ words ++ bytesOf met ps
-
--- A node in a copy that stands for a term: a name, or an unbound variable.
-pub record Led (ss : List Symbol) (nodes state : List ℕ) (n p c q d : ℕ) : Type 0 where
-  pub node : Node ss nodes q
-  pub copy : d < 256
-  pub same : resolve (bindings ss nodes state n) (termAt ss nodes p c) ≡ resolve (bindings ss nodes state n) (termAt ss nodes q d)
-  pub free : getD nodes q 0 < 64 → cellAt state (cellOf d (getD nodes q 0)) ≡ 0
-
--- the word of the cell of the variable at p in copy c, 0 where a name stands there
-abbrev pub cellWord : List ℕ → List ℕ → ℕ → ℕ → ℕ
-cellWord nodes state p c = cond (leb 64 (getD nodes p 0)) 0 (cellAt state (cellOf c (getD nodes p 0)))
-
--- What a walk along bindings needs: the words mean a store, and p is a node.
-pub record Ordered (nodes state : List ℕ) (p c : ℕ) : Type 0 where
-  pub ss : List Symbol
-  pub n : ℕ
-  pub store : Store ss nodes state n
-  pub node : Node ss nodes p
-  pub copy : c < 256
 
 -- ---- the walk
 

@@ -2,9 +2,9 @@
 use crate::walk::append_rows;
 use crate::walk::append_term;
 use crate::words::append_unbound;
-use crate::words::word_at;
 use lines::bytes::append_byte;
 use lines::bytes::append_part;
+use unifier::occurrence::word_at;
 ghost use mathlib.Core.Path.{_≡_};
 ghost use mathlib.Core.Logic.{_⊎_};
 ghost use mathlib.Core.List.{List, [], _∷_, _++_};

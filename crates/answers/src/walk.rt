@@ -1,12 +1,12 @@
 // A term spelt without recursion: the stack has a row for each bracket that is open.
 use crate::words::append_name;
 use crate::words::append_unbound;
-use crate::words::deref;
 use crate::words::move_row;
 use crate::words::put_row;
 use crate::words::row_at;
-use crate::words::word_at;
 use lines::bytes::append_byte;
+use unifier::occurrence::word_at;
+use unifier::store::deref;
 ghost use mathlib.Core.Path.{_≡_};
 ghost use mathlib.Core.Logic.{_⊎_};
 ghost use mathlib.Core.List.{List};

@@ -2,6 +2,7 @@
 use lines::bytes::append_byte;
 use lines::bytes::append_decimal;
 use lines::bytes::append_part;
+use unifier::occurrence::word_at;
 ghost use mathlib.Core.Path.{_≡_};
 ghost use mathlib.Core.List.{List, _∷_};
 ghost use Prim.Native.Nat.{ℕ, _+_, _*_, _/_, _%_, _^_, _≤_, _<_};
@@ -9,16 +10,9 @@ ghost use lib.ListN.{length, getD, set};
 ghost use Rattle.lines.specs.Lines.{Put};
 ghost use Rattle.machine.specs.Substitution.{Variable};
 ghost use Rattle.machine.specs.Answers.{Piece, unbound, bytesOf};
-ghost use Rattle.layout.specs.Nodes.{Symbol, Node};
-ghost use Rattle.layout.specs.State.{Store, variableOf};
+ghost use Rattle.layout.specs.State.{variableOf};
 ghost use Rattle.answers.specs.Words.{nameAt, Placed, Numbers};
-ghost use Rattle.answers.specs.Telling.{Numbered, Told, Led, cellWord, Ordered};
-
-// A node, in a copy.
-pub struct At {
-    pub node: usize,
-    pub copy: usize,
-}
+ghost use Rattle.answers.specs.Telling.{Numbered, Told};
 
 // The arguments from place to last in a copy that are still to be spelt; more is 0 where none of their list is spelt yet.
 pub struct Row {
@@ -26,14 +20,6 @@ pub struct Row {
     pub more: usize,
     pub last: usize,
     pub copy: usize,
-}
-
-// The word at a place.
-pub fn word_at(table: &[u32], p: usize) -> usize
-    requires { ⌜ p < length (now table) ⌝ }
-    ensures { λ r. ⌜ (r ≡ getD (now (table .entry)) p 0) × (r < 2 ^ 32) ⌝ }
-{
-    table[p] as usize
 }
 
 // The name of a symbol.
@@ -83,35 +69,6 @@ pub fn append_unbound(numbers: &mut [usize], x: usize, out: &mut [u8], at: usize
     let past = append_byte(b'_', out, at);
     let number = number_of(numbers, x);
     append_decimal(number, out, past)
-}
-
-// The word of the cell of the variable at a place; 0 where it is unbound, or a name stands there.
-pub fn bound_at(nodes: &[u32], state: &[u32], p: usize, c: usize) -> usize
-    requires { ⌜ (p < length (now nodes)) × ((c < 256) × (16384 ≤ length (now state))) ⌝ }
-    ensures { λ r. ⌜ (r ≡ cellWord (now (nodes .entry)) (now (state .entry)) p c) × (r < 2 ^ 32) ⌝ }
-{
-    let w = word_at(nodes, p);
-    if 64 <= w {
-        return 0;
-    }
-    let x = c * 64 + w;
-    word_at(state, x)
-}
-
-// Where a term leads: to a name, or to an unbound variable.
-pub fn deref(nodes: &[u32], state: &[u32], p: usize, c: usize) -> At
-    requires { ⌜ Ordered (now nodes) (now state) p c ⌝ }
-    ensures { λ r. ⌜ ((ss : List Symbol) (n : ℕ) → Store ss (now (nodes .entry)) (now (state .entry)) n → Node ss (now (nodes .entry)) p → Led ss (now (nodes .entry)) (now (state .entry)) n p c (r .node) (r .copy)) ⌝ }
-{
-    let mut node = p;
-    let mut copy = c;
-    let mut w = bound_at(nodes, state, p, c);
-    while w != 0 {
-        node = (w - 1) / 256;
-        copy = (w - 1) % 256;
-        w = bound_at(nodes, state, node, copy);
-    }
-    At { node, copy }
 }
 
 // The row at a height of the stack.
