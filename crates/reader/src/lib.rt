@@ -1,0 +1,79 @@
+// A reader over a sheet, which hands out one token at a time: a struct that holds the text and a position in it, and thin
+// functions over it. The borrow checker covers no function over such a struct, so the walks of `new`, `next`, `moved` and
+// `nth_token` are proved by hand; the work is in `token_of` and `past_tokens`, which take the slice and the number.
+use lexer::past_at;
+use lexer::token_at;
+use syntax::END;
+use syntax::Token;
+ghost use mathlib.Core.Path.{_≡_};
+ghost use lib.ListN.{length};
+ghost use Rattle.syntax.specs.Tokens.{tokenAt};
+ghost use Rattle.reader.specs.Nth.{pastTokens, nthToken};
+
+pub struct Reader<'a> {
+    pub text: &'a [u8],
+    pub at: usize,
+}
+
+// The first token from a position on; past the end of the text, its end.
+fn token_of(text: &[u8], at: usize) -> Token
+    ensures { λ t. ⌜ t ≡ tokenAt (now (text .entry)) at ⌝ }
+{
+    if text.len() < at {
+        return Token {
+            kind: END,
+            at,
+            len: 0,
+        };
+    }
+    token_at(text, at)
+}
+
+// The position just past the first `n` tokens from a position on. At the end of the text the position stays.
+fn past_tokens(text: &[u8], from: usize, n: usize) -> usize
+    ensures { λ r. ⌜ r ≡ pastTokens n (now (text .entry)) from ⌝ }
+{
+    if text.len() < from {
+        return from;
+    }
+    let mut at = from;
+    let mut left = n;
+    while 0 < left {
+        let past = past_at(text, at);
+        if past == at {
+            return at;
+        }
+        at = past;
+        left -= 1;
+    }
+    at
+}
+
+// A reader at the beginning of a text.
+pub fn new<'a>(text: &'a [u8]) -> Reader<'a>
+    ensures { λ r. ⌜ (r .text ≡ text .entry) × (r .at ≡ 0) ⌝ }
+{
+    Reader { text, at: 0 }
+}
+
+// The token at a reader's place.
+pub fn next<'a>(r: Reader<'a>) -> Token
+    ensures { λ t. ⌜ t ≡ tokenAt (now (r .entry .text)) (r .entry .at) ⌝ }
+{
+    token_of(r.text, r.at)
+}
+
+// The reader moved past its next `n` tokens.
+pub fn moved<'a>(r: Reader<'a>, n: usize) -> Reader<'a>
+    ensures { λ q. ⌜ (q .text ≡ r .entry .text) × (q .at ≡ pastTokens n (now (r .entry .text)) (r .entry .at)) ⌝ }
+{
+    let at = past_tokens(r.text, r.at, n);
+    Reader { text: r.text, at }
+}
+
+// The token of a text before which `n` tokens stand; the end of the text where there are not so many.
+pub fn nth_token(text: &[u8], n: usize) -> Token
+    ensures { λ t. ⌜ t ≡ nthToken (now (text .entry)) n ⌝ }
+{
+    next(moved(new(text), n))
+}
