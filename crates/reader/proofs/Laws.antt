@@ -1,12 +1,12 @@
 -- Laws of the tokens of a text, over plain variables: past the end of the text, at a position that stays, and a turn of the loop.
 use Prim.Native.Nat.{ℕ, zero, suc, _+_, _-_, _≤_, _<_}
-use native.Mathlib.Nat.{add-zero, sub-zero, le-of-suc-le-suc, not-suc-le-zero}
+use native.Mathlib.Nat.{add-zero, not-suc-le-zero}
 use native.Mathlib.Numerals.{unary-clauses}
 use native.Mathlib.Omega.{arith}
 use mathlib.Core.Path.{_≡_, refl, sym, ap, _∙_}
-use mathlib.Core.List.{List, [], _∷_}
-use lib.ListN.{length, drop, drop-of-length-le}
-use Rattle.syntax.specs.Tokens.{outside, skipped, tokenFrom, tokenPlace, tokenAt}
+use mathlib.Core.List.{List}
+use lib.ListN.{length, drop-of-length-le}
+use Rattle.syntax.specs.Tokens.{skipped, tokenPlace, tokenAt}
 use Rattle.syntax.specs.declared.Token.{Token}
 use Rattle.reader.specs.Nth.{pastToken, pastTokens, nthToken}
 use Rattle.lexer.proofs.Laws.{token-none, token-inside}
@@ -31,6 +31,11 @@ past-end s p h = ap (λ (t : Token). t .at + t .len) (sym (token-past s p h)) �
 
 pub tokens-past : (s : List ℕ) (p n : ℕ) → length s < p → p ≡ pastTokens n s p
 tokens-past s p n h = sym (stays s p n (past-end s p h))
+
+-- past one token is where `lexer::past_at` says
+pub past-one : (s : List ℕ) (p : ℕ) → pastTokens 1 s p ≡ (tokenAt s p) .at + (tokenAt s p) .len
+unfolding pastTokens pastToken
+past-one s p = refl
 
 -- A turn: the tokens left from the place reached end where all end.
 pub turn : (s : List ℕ) (p left past x : ℕ) → 0 < left → past ≡ (tokenAt s p) .at + (tokenAt s p) .len

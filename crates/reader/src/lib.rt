@@ -6,13 +6,12 @@ use lexer::token_at;
 use syntax::END;
 use syntax::Token;
 ghost use mathlib.Core.Path.{_≡_};
-ghost use lib.ListN.{length};
 ghost use Rattle.syntax.specs.Tokens.{tokenAt};
 ghost use Rattle.reader.specs.Nth.{pastTokens, nthToken};
 
 pub struct Reader<'a> {
-    pub text: &'a [u8],
-    pub at: usize,
+    text: &'a [u8],
+    at: usize,
 }
 
 // The first token from a position on; past the end of the text, its end.
