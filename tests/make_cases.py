@@ -66,6 +66,11 @@ def make_read(cases):
     read_cases.make(add, random.Random(read_cases.SEED))
     read_cases.make_entries(add_entry)
 
+    def add_token(number, text):
+        cases.add(b"T" + bytes([number]) + text_field(text), engine.read_token(text, number))
+
+    read_cases.make_tokens(add_token)
+
 
 def make_check(cases):
     checkers = {"C": engine.check_sheet, "K": engine.check_goal}

@@ -241,6 +241,17 @@ def make_entries(add):
             add(number, sheet)
 
 
+def make_tokens(add):
+    """Tokens by number, at the end of the text and past it."""
+    for text in (
+        b"", b" ", b"% x", b"% x\n", b"p", b"p.", b" p :- q(X,_1,007). % z\n", b":-:-(),.=+-*", b"a" * 30 + b"B 1",
+        b":- mode plus(+,+,-).\nplus(z,N,N).\nplus(s(M),N,s(P)) :- plus(M,N,P).\n", b"1a_Z9 Aa1 _ __ 0",
+    ):
+        for number in range(40):
+            add(number, text)
+        add(255, text)
+
+
 # ---------------------------------------------------------------- by chance
 
 NAMES = [b"p", b"q", b"a", b"f", b"mode", b"true", b"fail", b"s", b"zA_9", b"b" * 31]

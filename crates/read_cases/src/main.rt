@@ -1,5 +1,6 @@
 // Answers each record of the file `cases`: `S` and a sheet or `G` and a goal, whose reading is printed, or `E`, the
-// number of a declaration from 0 on in one byte, and a sheet, of which that entry is printed.
+// number of a declaration from 0 on in one byte, and a sheet, of which that entry is printed, or `T`, a number in one byte
+// and a text, of which the token is printed before which so many stand.
 use libc::STDOUT_FILENO;
 use syntax::Declared;
 ghost use Prim.Native.Nat.{_≤_, _<_};
@@ -8,6 +9,8 @@ ghost use lib.ListN.{length};
 const SHEET: u8 = b'S';
 
 const ENTRY: u8 = b'E';
+
+const TOKEN: u8 = b'T';
 
 fn print_number(n: usize) {
     io::write_all(STDOUT_FILENO, b" ");
@@ -38,6 +41,9 @@ fn answer(cases: &[u8], at: usize) -> usize
     if kind == ENTRY {
         return answer_entry(cases, at + 1);
     }
+    if kind == TOKEN {
+        return answer_token(cases, at + 1);
+    }
     let text = cases::text_at(cases, at + 1);
     let start = text.start;
     let end = text.end;
@@ -61,6 +67,26 @@ fn answer_entry(cases: &[u8], at: usize) -> usize
     let start = text.start;
     let end = text.end;
     print_entry(pilvaust::entry(&cases[start..end], cases::wide(cases[at])));
+    end
+}
+
+// Answers the rest of a record that asks for a token.
+fn answer_token(cases: &[u8], at: usize) -> usize
+    requires { ⌜ at ≤ length (now cases) ⌝ }
+    ensures { λ r. ⌜ (at ≤ r) × (r ≤ length (now (cases .entry))) ⌝ }
+{
+    if at == cases.len() {
+        return at;
+    }
+    let text = cases::text_at(cases, at + 1);
+    let start = text.start;
+    let end = text.end;
+    let token = reader::nth_token(&cases[start..end], cases::wide(cases[at]));
+    io::write_all(STDOUT_FILENO, b"token");
+    print_number(token.kind);
+    print_number(token.at);
+    print_number(token.len);
+    io::write_all(STDOUT_FILENO, b"\n");
     end
 }
 
