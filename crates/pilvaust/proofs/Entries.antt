@@ -57,7 +57,7 @@ one-entry declared d n p q e h =
 later : (declared : List ℕ) (n i q : ℕ) → cond (leb (suc n) (suc i)) Nothing (As (record { at = getD declared q 0; len = getD declared (q + 1) 0; arguments = getD declared (q + 2) 0 })) ≡ cond (leb n i) Nothing (As (record { at = getD declared q 0; len = getD declared (q + 1) 0; arguments = getD declared (q + 2) 0 }))
 later declared n i q = ap (λ (b : Bool). cond b Nothing (As (record { at = getD declared q 0; len = getD declared (q + 1) 0; arguments = getD declared (q + 2) 0 }))) (leb·suc-suc n i)
 
-entry-from : (declared : List ℕ) (ds : List Declaration) (p i q : ℕ) → q ≡ p + 4 * i → Has declared p (declarationsWords ds) → nthEntry ds i ≡ cond (leb (length ds) i) Nothing (As (record { at = getD declared q 0; len = getD declared (q + 1) 0; arguments = getD declared (q + 2) 0 }))
+pub entry-from : (declared : List ℕ) (ds : List Declaration) (p i q : ℕ) → q ≡ p + 4 * i → Has declared p (declarationsWords ds) → nthEntry ds i ≡ cond (leb (length ds) i) Nothing (As (record { at = getD declared q 0; len = getD declared (q + 1) 0; arguments = getD declared (q + 2) 0 }))
 unfolding nthEntry declarationsWords declarationWords
 entry-from declared [] p i q e h = simp (le-leb 0 i (omega arith))
 entry-from declared (d ∷ ds) p zero q e h =
@@ -67,6 +67,11 @@ entry-from declared (d ∷ ds) p zero q e h =
 entry-from declared (d ∷ ds) p (suc i) q e h =
     let next : p + 4 ≡ p + length (declarationWords d) = refl in
     entry-from declared ds (p + 4) i q (omega arith) (has-right declared p (declarationWords d) (declarationsWords ds) h) ∙ sym (later declared (length ds) i q)
+
+-- words that stand in a table are no longer than it
+pub long-by : (declared ws : List ℕ) → Has declared 0 ws → length ws ≤ length declared
+long-by declared [] h = omega arith
+long-by declared (w ∷ ws) h = let i : 0 + length (w ∷ ws) ≤ length declared = has-inside declared 0 (w ∷ ws) h (omega arith) in omega arith
 
 -- an answer that counts declarations is that of a sheet
 counted-by : (o : Outcome Sheet) (n k : ℕ) → sheetVerdict o ≡ Accepted n k → (sh : Sheet) × (o ≡ accepted sh) × (n ≡ length (sh .declarations)) × (k ≡ length (sh .clauses))
@@ -98,12 +103,8 @@ module _ (s declared table : List ℕ) (v : Verdict) (e : v ≡ readVerdict s) (
     words-has : Has declared 0 (declarationsWords (of .0 .declarations))
     words-has = subst (λ (x : Sheet). Has declared 0 (declarationsWords (x .declarations))) (tabled .is) (tabled .stands .has-declarations)
 
-    long-by : (ws : List ℕ) → Has declared 0 ws → length ws ≤ length declared
-    long-by [] h = omega arith
-    long-by (w ∷ ws) h = let i : 0 + length (w ∷ ws) ≤ length declared = has-inside declared 0 (w ∷ ws) h (omega arith) in omega arith
-
     pub entries-long : 4 * n ≤ length declared
-    entries-long = let l : length (declarationsWords (of .0 .declarations)) ≤ length declared = long-by (declarationsWords (of .0 .declarations)) words-has in let f4 : length (declarationsWords (of .0 .declarations)) ≡ 4 * length (of .0 .declarations) = four-words (of .0 .declarations) in let c : n ≡ length (of .0 .declarations) = of .2 in omega arith
+    entries-long = let l : length (declarationsWords (of .0 .declarations)) ≤ length declared = long-by declared (declarationsWords (of .0 .declarations)) words-has in let f4 : length (declarationsWords (of .0 .declarations)) ≡ 4 * length (of .0 .declarations) = four-words (of .0 .declarations) in let c : n ≡ length (of .0 .declarations) = of .2 in omega arith
 
     pub entry-is : (i : ℕ) (d : Declared) → d ≡ entryWords declared n i → d ≡ entryAt s i
     unfolding entryAt outcomeEntry

@@ -4,3 +4,4 @@ pub mod Entries
 pub mod Checking
 pub mod RunLaws
 pub mod Starred
+pub mod Listings
