@@ -1,0 +1,29 @@
+-- Laws of entries that are stored one after another. Assumes nothing.
+use Prim.Native.Nat.{ℕ, zero, suc, _+_, _*_, _≤_, _<_, _^_}
+use native.Mathlib.Nat.{lt-of-le-of-lt}
+use native.Mathlib.Numerals.{add-one}
+use native.Mathlib.Omega.{arith}
+use mathlib.Core.Path.{_≡_, refl, sym, ap, _∙_}
+use mathlib.Core.List.{List, [], _∷_}
+use lib.Dec.{lit<}
+use lib.ListN.{length, set, length-set}
+use Rattle.syntax.specs.declared.Entry.{Entry}
+use Rattle.pilvaust.specs.Listings.{pasted}
+
+pub pasted-none : (f : ℕ → Entry) (es : List Entry) → es ≡ pasted f 0 es
+unfolding pasted
+pasted-none f es = refl
+
+pub pasted-more : (f : ℕ → Entry) (i : ℕ) (es : List Entry) → set (pasted f i es) i (f i) ≡ pasted f (i + 1) es
+unfolding pasted
+pasted-more f i es = ap (λ (k : ℕ). pasted f k es) (sym (add-one i))
+
+pub pasted-long : (f : ℕ → Entry) (i : ℕ) (es : List Entry) → length (pasted f i es) ≡ length es
+unfolding pasted
+pasted-long f zero es = refl
+pasted-long f (suc i) es = length-set (pasted f i es) i (f i) ∙ pasted-long f i es
+
+pub bytes-fit : (i n : ℕ) → i < n → n ≤ 64 → i * 24 < 2 ^ 64
+bytes-fit i n h l =
+    let few : i * 24 ≤ 1536 = omega arith in
+    lt-of-le-of-lt few (lit< tt)

@@ -1,0 +1,45 @@
+// The entries of a sheet's declarations, for a caller who lends a list of them. Each function here is proved by a walk of its code.
+use pilvaust::Listing;
+use pilvaust::check_listing;
+use pilvaust::entry_in;
+use pilvaust::read_listing;
+use syntax::Entry;
+use syntax::Verdict;
+ghost use mathlib.Core.Path.{_≡_};
+ghost use Prim.Native.Nat.{_≤_};
+ghost use lib.ListN.{length};
+ghost use Rattle.syntax.specs.Verdicts.{sheetOf, readVerdict};
+ghost use Rattle.rules.specs.Checking.{checkedSheet, checkVerdict};
+ghost use Rattle.pilvaust.specs.Listings.{overlay, declaredOf, entryFrom, pasted};
+
+// A listing's entries into the list.
+fn fill(found: Listing, entries: &mut [Entry])
+    requires { ⌜ (256 ≡ length (found .words)) × ((found .count ≤ 64) × (found .count ≤ length (now entries))) ⌝ }
+    ensures { λ _. ⌜ now (entries .exit) ≡ pasted (entryFrom (found .words)) (found .count) (now (entries .entry)) ⌝ }
+{
+    let n = found.count;
+    let mut i = 0;
+    while i < n {
+        let e = entry_in(found, i);
+        entries[i] = e;
+        i = i + 1;
+    }
+}
+
+// Reads a sheet; when it is accepted, the entries of its declarations, in sheet order, as far as the list goes.
+pub fn read_entries(sheet: &[u8], entries: &mut [Entry]) -> Verdict
+    ensures { λ r. ⌜ (r ≡ readVerdict (now (sheet .entry))) × (now (entries .exit) ≡ overlay (now (entries .entry)) (declaredOf (sheetOf (now (sheet .entry))))) ⌝ }
+{
+    let found = read_listing(sheet, entries.len());
+    fill(found, entries);
+    found.verdict
+}
+
+// The same of a sheet that is checked.
+pub fn check_entries(sheet: &[u8], entries: &mut [Entry]) -> Verdict
+    ensures { λ r. ⌜ (r ≡ checkVerdict (now (sheet .entry))) × (now (entries .exit) ≡ overlay (now (entries .entry)) (declaredOf (checkedSheet (now (sheet .entry))))) ⌝ }
+{
+    let found = check_listing(sheet, entries.len());
+    fill(found, entries);
+    found.verdict
+}
