@@ -7,7 +7,10 @@ use mathlib.Core.Path.{_≡_, refl, sym, ap, _∙_}
 use mathlib.Core.List.{List, [], _∷_}
 use lib.Dec.{lit<}
 use lib.ListN.{length, set, length-set}
+use Rattle.syntax.specs.Verdicts.{sheetOf, sheetVerdict, readVerdict}
 use Rattle.syntax.specs.declared.Entry.{Entry}
+use Rattle.syntax.specs.declared.Verdict.{Verdict}
+use Rattle.rules.specs.Checking.{checkedSheet, checkVerdict}
 use Rattle.pilvaust.specs.Listings.{pasted}
 
 pub pasted-none : (f : ℕ → Entry) (es : List Entry) → es ≡ pasted f 0 es
@@ -27,3 +30,13 @@ pub bytes-fit : (i n : ℕ) → i < n → n ≤ 64 → i * 24 < 2 ^ 64
 bytes-fit i n h l =
     let few : i * 24 ≤ 1536 = omega arith in
     lt-of-le-of-lt few (lit< tt)
+
+-- ---- the answers
+
+pub read-is : (s : List ℕ) (v : Verdict) → v ≡ sheetVerdict (sheetOf s) → v ≡ readVerdict s
+unfolding readVerdict
+read-is s v e = e
+
+pub check-is : (s : List ℕ) (v : Verdict) → v ≡ sheetVerdict (checkedSheet s) → v ≡ checkVerdict s
+unfolding checkVerdict
+check-is s v e = e
