@@ -3,15 +3,15 @@ use Prim.Native.Nat.{ℕ, zero, suc, _+_, _*_, _≤_, _<_, _^_}
 use native.Mathlib.Nat.{lt-of-le-of-lt}
 use native.Mathlib.Numerals.{add-one}
 use native.Mathlib.Omega.{arith}
-use mathlib.Core.Path.{_≡_, refl, sym, ap, _∙_}
+use mathlib.Core.Path.{_≡_, refl, sym, ap, ap₂, _∙_}
 use mathlib.Core.List.{List, [], _∷_}
 use lib.Dec.{lit<}
-use lib.ListN.{length, set, length-set}
+use lib.ListN.{length, getD, set, length-set}
 use Rattle.syntax.specs.Verdicts.{sheetOf, sheetVerdict, readVerdict}
 use Rattle.syntax.specs.declared.Entry.{Entry}
 use Rattle.syntax.specs.declared.Verdict.{Verdict}
 use Rattle.rules.specs.Checking.{checkedSheet, checkVerdict}
-use Rattle.pilvaust.specs.Listings.{pasted}
+use Rattle.pilvaust.specs.Listings.{entryFrom, pasted}
 
 pub pasted-none : (f : ℕ → Entry) (es : List Entry) → es ≡ pasted f 0 es
 unfolding pasted
@@ -30,6 +30,9 @@ pub bytes-fit : (i n : ℕ) → i < n → n ≤ 64 → i * 24 < 2 ^ 64
 bytes-fit i n h l =
     let few : i * 24 ≤ 1536 = omega arith in
     lt-of-le-of-lt few (lit< tt)
+
+pub entry-made : (words : List ℕ) (i a l m : ℕ) → a ≡ getD words (4 * i) 0 → l ≡ getD words (4 * i + 1) 0 → m ≡ getD words (4 * i + 2) 0 → record { at = a; len = l; arguments = m } ≡ entryFrom words i
+entry-made words i a l m ea el em = ap (λ (x : ℕ). record { at = x; len = l; arguments = m }) ea ∙ ap₂ (λ (x y : ℕ). record { at = getD words (4 * i) 0; len = x; arguments = y }) el em
 
 -- ---- the answers
 

@@ -1,16 +1,29 @@
-// The entries of a sheet's declarations, for a caller who lends a list of them. Each function here is proved by a walk of its code.
+// The entries of a sheet's declarations, for a caller who lends a list of them. The functions that take the list are proved by walks of their code.
+use modes::table::word_at;
 use pilvaust::Listing;
 use pilvaust::check_listing;
-use pilvaust::entry_in;
 use pilvaust::read_listing;
 use syntax::Entry;
 use syntax::Verdict;
 ghost use mathlib.Core.Path.{_≡_};
-ghost use Prim.Native.Nat.{_≤_};
+ghost use Prim.Native.Nat.{_≤_, _<_};
 ghost use lib.ListN.{length};
 ghost use Rattle.syntax.specs.Verdicts.{sheetOf, readVerdict};
 ghost use Rattle.rules.specs.Checking.{checkedSheet, checkVerdict};
 ghost use Rattle.pilvaust.specs.Listings.{overlay, declaredOf, entryFrom, pasted};
+
+// The i-th entry of a listing.
+fn entry_in(listing: Listing, i: usize) -> Entry
+    requires { ⌜ (256 ≡ length (listing .words)) × (i < 64) ⌝ }
+    ensures { λ r. ⌜ r ≡ entryFrom (listing .words) i ⌝ }
+{
+    let words = listing.words;
+    let p = 4 * i;
+    let at = word_at(&words, p);
+    let len = word_at(&words, p + 1);
+    let arguments = word_at(&words, p + 2);
+    Entry { at, len, arguments }
+}
 
 // A listing's entries into the list.
 fn fill(found: Listing, entries: &mut [Entry])

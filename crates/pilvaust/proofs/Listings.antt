@@ -128,6 +128,3 @@ module _ (s words table : List ℕ) (size : 256 ≡ length words) (room : ℕ) w
   pub check-lists : (v : Verdict) (k : ℕ) → v ≡ checkVerdict s → ((sh : Sheet) → checkedSheet s ≡ accepted sh → Tabled s words table sh) → k ≡ listedOf v room → Lists (checkedSheet s) room (record { verdict = v; count = k; words = words })
   unfolding checkVerdict
   check-lists v k e h c = lists (checkedSheet s) v k e h c
-
-pub entry-made : (words : List ℕ) (i a l m : ℕ) → a ≡ getD words (4 * i) 0 → l ≡ getD words (4 * i + 1) 0 → m ≡ getD words (4 * i + 2) 0 → record { at = a; len = l; arguments = m } ≡ entryFrom words i
-entry-made words i a l m ea el em = ap (λ (x : ℕ). record { at = x; len = l; arguments = m }) ea ∙ ap₂ (λ (x y : ℕ). record { at = getD words (4 * i) 0; len = x; arguments = y }) el em

@@ -54,10 +54,10 @@ use Rattle.pilvaust.specs.declared.Listing.{Listing}
 use Rattle.pilvaust.specs.Listings.{entryFrom, pasted}
 use Rattle.pilvaust.proofs.Listing as T
 use Rattle.pilvaust.proofs.Listing.Laws as T′
-use Rattle.pilvaust.proofs.entry_in as entry-in
-use Rattle.pilvaust.proofs.entry_in.Symbol as entry-in-def
-use Rattle.pilvaust.proofs.entry_in.Symbol.{name as #entry-in}
-use Rattle.pilvaust.proofs.entry_in.Met as entry-in-thm
+use Rattle.entries.proofs.entry_in as entry-in
+use Rattle.entries.proofs.entry_in.Symbol as entry-in-def
+use Rattle.entries.proofs.entry_in.Symbol.{name as #entry-in}
+use Rattle.entries.proofs.entry_in.Met as entry-in-thm
 use Rattle.entries.proofs.Filled.{pasted-none, pasted-more, pasted-long, bytes-fit}
 use Rattle.entries.proofs.fill.Key.{name as #entries·fill}
 use Rattle.entries.proofs.fill as fill
@@ -261,4 +261,4 @@ fill-spec 𝓤 H 𝓜 𝓖 𝓡 =
     entered 𝓤 H (tripleOf 𝓤 H (𝓖 .A) fill.signature (fill.spec 𝓤 H (𝓖 .A) (𝓜 .mem) (𝓡 .run)))
     (tables 𝓤 H 𝓜 𝓡 code.env .C) (tables 𝓤 H 𝓜 𝓡 code.env .Λ) #entries·fill code.function (code.unfolded 𝓤 H 𝓜 𝓡)
     (fill-meets 𝓤 H (𝓖 .A) (givenOf 𝓤 H 𝓜 𝓖) (𝓜 .mem) (𝓡 .run) (tablesOf 𝓤 H 𝓜 (tables 𝓤 H 𝓜 𝓡 code.env))
-    (cited 𝓤 H (EntryIn 𝓤 H (𝓖 .A) (𝓜 .mem) (𝓡 .run)) 𝓜 𝓡 code.env #entry-in entry-in-def.routine code.calls-pilvaust·entry-in (entry-in-thm.met 𝓤 H 𝓜 𝓖 𝓡)))
+    (cited 𝓤 H (EntryIn 𝓤 H (𝓖 .A) (𝓜 .mem) (𝓡 .run)) 𝓜 𝓡 code.env #entry-in entry-in-def.routine code.calls-entries·entry-in (entry-in-thm.met 𝓤 H 𝓜 𝓖 𝓡)))

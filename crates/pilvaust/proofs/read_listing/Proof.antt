@@ -3,38 +3,25 @@ use Rattle.pilvaust.proofs.Listings.{read-lists}
 use borrow.Author.Needs.{needs}
 use Rattle.pilvaust.proofs.read_listing.Statement.{statement}
 use Rattle.pilvaust.proofs.read_listing.Tie as tie
-use Rattle.pilvaust.proofs.read_listing.Reads as reads
-use Rattle.pilvaust.proofs.read_listing.Lts as lts
-use Rattle.pilvaust.proofs.declared_room.Reads as declared-room-reads
-use Rattle.pilvaust.proofs.listed.Reads as listed-reads
-use Rattle.pilvaust.proofs.load.Reads as load-reads
-use Rattle.pilvaust.proofs.node_room.Reads as node-room-reads
 
--- src/lib.rt:280:21
 declared-room-requires : tie.Need-declared-room-requires
 declared-room-requires c κs = search needs
 
--- src/lib.rt:281:21
 node-room-requires : tie.Need-node-room-requires
 node-room-requires c κs = search needs
 
--- src/lib.rt:282:31
 slice-aggregate-load : tie.Need-slice-aggregate-load
 slice-aggregate-load c = search needs
 
--- src/lib.rt:282:43
 slice-aggregate-load-2 : tie.Need-slice-aggregate-load-2
 slice-aggregate-load-2 c = search needs
 
--- src/lib.rt:282:9
 load-requires : tie.Need-load-requires
 load-requires c κs = search needs
 
--- src/lib.rt:283:9
 listed-requires : tie.Need-listed-requires
 listed-requires c κs = search needs
 
--- src/lib.rt:277:1
 returns : tie.Need-returns
 returns c = read-lists (c .before .before .before .before .before .before .before .before .before .args .sheet .now) (c .before .before .before .load .last .1 .0) (c .before .before .before .load .last .1 .1 .0) (search needs) (c .before .before .before .before .before .before .before .before .before .args .room) (c .before .before .before .load .result) (c .listed .result) (c .before .before .before .load .ensures .0) (c .before .before .before .load .ensures .1) (c .listed .ensures)
 
