@@ -20,11 +20,11 @@ use Rattle.syntax.specs.declared.Declared.{Declared}
 use Rattle.syntax.specs.declared.Declared.the-variants.{As, Nothing}
 use Rattle.rules.specs.Checking.{checkedSheet, checkVerdict}
 use Rattle.modes.specs.Tables.{Has}
-use Rattle.pilvaust.specs.Tables.{Tabled}
+use Rattle.tables.specs.Tables.{Tabled}
 use Rattle.pilvaust.specs.Listings.{overlay, declaredOf, listedOf, entryFrom, pasted, Lists}
 use Rattle.pilvaust.specs.declared.Listing.{Listing}
-use Rattle.pilvaust.proofs.Laws.{four-words}
-use Rattle.pilvaust.proofs.Entries.{entry-from, long-by}
+use Rattle.tables.proofs.Laws.{four-words}
+use Rattle.tables.proofs.Entries.{entry-from, long-by}
 
 -- ---- how many entries a list takes
 

@@ -1,5 +1,5 @@
 -- `pilvaust::check_goal` meets its contract: each way out is a law of `Checking`. Assumes nothing.
-use Rattle.pilvaust.proofs.Checking.{both-refused, over-at, both-answered}
+use Rattle.tables.proofs.Checking.{both-refused, over-at, both-answered}
 use native.Mathlib.Omega.{arith}
 use borrow.Author.Needs.{needs}
 use Rattle.pilvaust.proofs.check_goal.Statement.{statement}

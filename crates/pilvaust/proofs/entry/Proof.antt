@@ -1,5 +1,5 @@
 -- `pilvaust::entry` meets its contract: each way out is a law of `Entries`. Assumes nothing.
-use Rattle.pilvaust.proofs.Entries.{entries-long, entry-is, entry-refused}
+use Rattle.tables.proofs.Entries.{entries-long, entry-is, entry-refused}
 use borrow.Author.Needs.{needs}
 use Rattle.pilvaust.proofs.entry.Statement.{statement}
 use Rattle.pilvaust.proofs.entry.Tie as tie

@@ -1,5 +1,5 @@
 -- `pilvaust::entry_of` meets its contract: each way out is a law of `Entries`. Assumes nothing.
-use Rattle.pilvaust.proofs.Entries.{entry-none, entry-some}
+use Rattle.tables.proofs.Entries.{entry-none, entry-some}
 use borrow.Author.Needs.{needs}
 use Rattle.pilvaust.proofs.entry_of.Statement.{statement}
 use Rattle.pilvaust.proofs.entry_of.Tie as tie

@@ -1,5 +1,5 @@
 -- `pilvaust::read_goal` meets its contract: each way out is a law of `Entries`. Assumes nothing.
-use Rattle.pilvaust.proofs.Entries.{goal-verdict}
+use Rattle.tables.proofs.Entries.{goal-verdict}
 use borrow.Author.Needs.{needs}
 use Rattle.pilvaust.proofs.read_goal.Statement.{statement}
 use Rattle.pilvaust.proofs.read_goal.Tie as tie

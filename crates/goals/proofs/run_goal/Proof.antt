@@ -1,9 +1,9 @@
--- `pilvaust::run_goal` meets its contract: each way out is a law of `RunLaws`. Assumes nothing.
-use Rattle.pilvaust.proofs.RunLaws.{goal-stops, goal-at, goal-programmed, fault-stops, goal-runs}
+-- `goals::run_goal` meets its contract: each way out is a law of `GoalLaws`. Assumes nothing.
+use Rattle.goals.proofs.GoalLaws.{goal-stops, goal-at, goal-programmed, fault-stops, goal-runs}
 use native.Mathlib.Omega.{arith}
 use borrow.Author.Needs.{needs}
-use Rattle.pilvaust.proofs.run_goal.Statement.{statement}
-use Rattle.pilvaust.proofs.run_goal.Tie as tie
+use Rattle.goals.proofs.run_goal.Statement.{statement}
+use Rattle.goals.proofs.run_goal.Tie as tie
 
 goal-room-requires : tie.Need-goal-room-requires
 goal-room-requires c κs = search needs

@@ -1,8 +1,8 @@
--- `pilvaust::load_goal` meets its contract: each way out is a law of `Entries`. Assumes nothing.
-use Rattle.pilvaust.proofs.Entries.{goal-long, goal-faults, goal-accepted}
+-- `tables::load_goal` meets its contract: each way out is a law of `Entries`. Assumes nothing.
+use Rattle.tables.proofs.Entries.{goal-long, goal-faults, goal-accepted}
 use borrow.Author.Needs.{needs}
-use Rattle.pilvaust.proofs.load_goal.Statement.{statement}
-use Rattle.pilvaust.proofs.load_goal.Tie as tie
+use Rattle.tables.proofs.load_goal.Statement.{statement}
+use Rattle.tables.proofs.load_goal.Tie as tie
 
 goal-refused-requires : tie.Need-goal-refused-requires
 goal-refused-requires c κs = search needs

@@ -1,23 +1,19 @@
--- What the tables hold after a sheet and a goal were read, and what a run over them promises.
-use Prim.Native.Nat.{ℕ, _+_, _*_, _≤_}
+-- What the tables hold after a sheet and a goal were read.
+use Prim.Native.Nat.{ℕ, _+_, _*_}
 use mathlib.Core.Path.{_≡_}
 use mathlib.Core.Bool.{cond}
 use mathlib.Core.List.{List}
 use lib.Dec.{leb}
-use lib.ListN.{length, getD, take}
-use lib.Seq.{sets}
+use lib.ListN.{length, getD}
 use Rattle.syntax.specs.Terms.{Sheet, Goal}
-use Rattle.syntax.specs.Verdicts.{Outcome, accepted, goalOutcome, goalVerdict}
+use Rattle.syntax.specs.Verdicts.{accepted, goalOutcome, goalVerdict}
 use Rattle.syntax.specs.Words.{bodyWords, bodyLength, declarationsWords}
 use Rattle.syntax.specs.declared.Declared.{Declared}
 use Rattle.syntax.specs.declared.Declared.the-variants.{As, Nothing}
-use Rattle.syntax.specs.declared.Run.{Run}
 use Rattle.modes.specs.Standing.{DeclarationsStand, GoalStands}
 use Rattle.modes.specs.Tables.{Has, SheetAt}
-use Rattle.machine.specs.Runs.{RunOutcome, runAnswer, runText}
-use Rattle.layout.specs.Limits.{SheetLimited}
 use Rattle.answers.specs.Words.{Named, namesFrom}
-use Rattle.pilvaust.specs.declared.GoalRead.{GoalRead}
+use Rattle.tables.specs.declared.GoalRead.{GoalRead}
 
 -- the sheet that was read stands in the tables
 pub record Tabled (s declared table : List ℕ) (sh : Sheet) : Type 0 where
@@ -48,15 +44,3 @@ pub record Over (s declared : List ℕ) (n k : ℕ) : Type 0 where
   pub count : n ≡ length (sheet .declarations)
   pub clauses : k ≡ length (sheet .clauses)
   pub stand : DeclarationsStand s (sheet .declarations)
-
--- a sheet of which the n declarations and k clauses stand in tables, within document 01's limits
-pub record Ready (s declared : List ℕ) (n : ℕ) (table : List ℕ) (k : ℕ) : Type 0 where
-  pub stands : SheetAt s declared n table k
-  pub limits : SheetLimited (stands .sheet)
-  pub short : length s ≤ 16384
-  pub table-short : length table ≤ 65540
-
--- what a run gives, and what it writes over a text
-pub record Answers (o : RunOutcome) (old new : List ℕ) (r : Run) : Type 0 where
-  pub is : r ≡ runAnswer o
-  pub text-is : new ≡ sets old 0 (runText o)

@@ -26,9 +26,9 @@ use Rattle.parser.specs.Marks.{Stopped}
 use Rattle.parser.specs.Sheets.{GoalGiven, GoalLoads}
 use Rattle.modes.specs.Tables.{Has}
 use Rattle.modes.proofs.Places.{has-left, has-right, has-inside}
-use Rattle.pilvaust.specs.Tables.{Tabled, GoalStanding, GoalTabled, entryWords}
-use Rattle.pilvaust.specs.declared.GoalRead.{GoalRead}
-use Rattle.pilvaust.proofs.Laws.{four-words, never}
+use Rattle.tables.specs.Tables.{Tabled, GoalStanding, GoalTabled, entryWords}
+use Rattle.tables.specs.declared.GoalRead.{GoalRead}
+use Rattle.tables.proofs.Laws.{four-words, never}
 use Rattle.modes.proofs.Accepted.{goal-stands}
 use Rattle.modes.proofs.Loaded.{has-taken}
 use Rattle.answers.specs.Words.{Named, namesFrom}

@@ -1,8 +1,8 @@
--- `pilvaust::load` meets its contract: each way out is a law of `Laws`. Assumes nothing.
-use Rattle.pilvaust.proofs.Laws.{sheet-long, sheet-fault, declarations-at, sheet-repeats, sheet-accepted}
+-- `tables::load` meets its contract: each way out is a law of `Laws`. Assumes nothing.
+use Rattle.tables.proofs.Laws.{sheet-long, sheet-fault, declarations-at, sheet-repeats, sheet-accepted}
 use borrow.Author.Needs.{needs}
-use Rattle.pilvaust.proofs.load.Statement.{statement}
-use Rattle.pilvaust.proofs.load.Tie as tie
+use Rattle.tables.proofs.load.Statement.{statement}
+use Rattle.tables.proofs.load.Tie as tie
 
 sheet-refused-requires : tie.Need-sheet-refused-requires
 sheet-refused-requires c κs = search needs

@@ -1,8 +1,8 @@
--- `pilvaust::fault_of` meets its contract: each way out is a law of `Laws`. Assumes nothing.
+-- `tables::fault_of` meets its contract: each way out is a law of `Laws`. Assumes nothing.
 use borrow.Author.Needs.{needs}
-use Rattle.pilvaust.proofs.Laws.{fault-3, fault-4, fault-5, fault-6}
-use Rattle.pilvaust.proofs.fault_of.Statement.{statement}
-use Rattle.pilvaust.proofs.fault_of.Tie as tie
+use Rattle.tables.proofs.Laws.{fault-3, fault-4, fault-5, fault-6}
+use Rattle.tables.proofs.fault_of.Statement.{statement}
+use Rattle.tables.proofs.fault_of.Tie as tie
 
 returns : tie.Need-returns
 returns c = search (fault-3, needs)

@@ -20,10 +20,10 @@ use Rattle.modes.specs.Tables.{Has, SheetAt, GoalAt}
 use Rattle.modes.specs.Answers.{checkedOf}
 use Rattle.modes.specs.declared.Checked.{Checked}
 use Rattle.modes.specs.declared.Checked.the-variants.{Fine, Fault}
-use Rattle.pilvaust.specs.Tables.{Tabled, GoalStanding, GoalTabled, Over}
-use Rattle.pilvaust.specs.declared.GoalRead.{GoalRead}
-use Rattle.pilvaust.proofs.Laws.{never}
-use Rattle.pilvaust.proofs.Entries.{counted-sheet, refused-sheet}
+use Rattle.tables.specs.Tables.{Tabled, GoalStanding, GoalTabled, Over}
+use Rattle.tables.specs.declared.GoalRead.{GoalRead}
+use Rattle.tables.proofs.Laws.{never}
+use Rattle.tables.proofs.Entries.{counted-sheet, refused-sheet}
 
 same : {A : Type 0} (a b : A) → _≡_ {A = Outcome A} (accepted a) (accepted b) → a ≡ b
 same a b e = cc

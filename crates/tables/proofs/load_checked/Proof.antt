@@ -1,8 +1,8 @@
--- `pilvaust::load_checked` meets its contract: each way out is a law of `Checking`. Assumes nothing.
-use Rattle.pilvaust.proofs.Checking.{checked-refused, sheet-stands-at, checked-fine, checked-fault}
+-- `tables::load_checked` meets its contract: each way out is a law of `Checking`. Assumes nothing.
+use Rattle.tables.proofs.Checking.{checked-refused, sheet-stands-at, checked-fine, checked-fault}
 use borrow.Author.Needs.{needs}
-use Rattle.pilvaust.proofs.load_checked.Statement.{statement}
-use Rattle.pilvaust.proofs.load_checked.Tie as tie
+use Rattle.tables.proofs.load_checked.Statement.{statement}
+use Rattle.tables.proofs.load_checked.Tie as tie
 
 load-requires : tie.Need-load-requires
 load-requires c κs = search needs

@@ -23,7 +23,7 @@ use Rattle.parser.specs.declared.Loaded.{Loaded}
 use Rattle.modes.specs.Tables.{Has, DeclarationsAt, SheetAt}
 use Rattle.repeats.specs.Repeating.{repeatOf}
 use Rattle.repeats.specs.declared.Repeat.{Repeat}
-use Rattle.pilvaust.specs.Tables.{Tabled}
+use Rattle.tables.specs.Tables.{Tabled}
 use Rattle.modes.proofs.Accepted.{read-stands}
 use Rattle.modes.proofs.Loaded.{has-taken}
 

@@ -1,8 +1,8 @@
--- `pilvaust::goal_over` meets its contract: each way out is a law of `Checking`. Assumes nothing.
-use Rattle.pilvaust.proofs.Checking.{over-refused, goal-stands-at, over-fine, over-fault}
+-- `goals::goal_over` meets its contract: each way out is a law of `Checking`. Assumes nothing.
+use Rattle.tables.proofs.Checking.{over-refused, goal-stands-at, over-fine, over-fault}
 use borrow.Author.Needs.{needs}
-use Rattle.pilvaust.proofs.goal_over.Statement.{statement}
-use Rattle.pilvaust.proofs.goal_over.Tie as tie
+use Rattle.goals.proofs.goal_over.Statement.{statement}
+use Rattle.goals.proofs.goal_over.Tie as tie
 
 load-goal-requires : tie.Need-load-goal-requires
 load-goal-requires c κs = search needs

@@ -1,0 +1,22 @@
+-- What a goal needs of a sheet's tables, and what its run promises.
+use Prim.Native.Nat.{ℕ, _≤_}
+use mathlib.Core.Path.{_≡_}
+use mathlib.Core.List.{List}
+use lib.ListN.{length}
+use lib.Seq.{sets}
+use Rattle.syntax.specs.declared.Run.{Run}
+use Rattle.modes.specs.Tables.{SheetAt}
+use Rattle.machine.specs.Runs.{RunOutcome, runAnswer, runText}
+use Rattle.layout.specs.Limits.{SheetLimited}
+
+-- a sheet of which the n declarations and k clauses stand in tables, within document 01's limits
+pub record Ready (s declared : List ℕ) (n : ℕ) (table : List ℕ) (k : ℕ) : Type 0 where
+  pub stands : SheetAt s declared n table k
+  pub limits : SheetLimited (stands .sheet)
+  pub short : length s ≤ 16384
+  pub table-short : length table ≤ 65540
+
+-- what a run gives, and what it writes over a text
+pub record Answers (o : RunOutcome) (old new : List ℕ) (r : Run) : Type 0 where
+  pub is : r ≡ runAnswer o
+  pub text-is : new ≡ sets old 0 (runText o)

@@ -1,0 +1,114 @@
+// A goal over a sheet that was checked and stands in its tables: the goal checked, and the goal run.
+use modes::Checked;
+use programs::run_program;
+use syntax::Refusal;
+use syntax::Run;
+use syntax::Text;
+use syntax::Verdict;
+use tables::goal_room;
+use tables::load_goal;
+ghost use mathlib.Core.Path.{_≡_};
+ghost use Prim.Native.Nat.{_≤_, _<_, _^_};
+ghost use lib.ListN.{length};
+ghost use Rattle.rules.specs.Checking.{checkedGoal, goalAnswer};
+ghost use Rattle.machine.specs.Runs.{overGoal};
+ghost use Rattle.tables.specs.Tables.{Over};
+ghost use Rattle.goals.specs.Goals.{Ready, Answers};
+
+// A goal over the declarations of a checked sheet, which has k clauses.
+pub fn goal_over(
+    sheet: &[u8],
+    declared: &[u32],
+    n: usize,
+    k: usize,
+    goal: &[u8],
+    table: &mut [u32],
+) -> Verdict
+    requires { ⌜ Over (now sheet) (now declared) n k ⌝ }
+    requires { ⌜ (65540 ≤ length (now table)) × (length (now table) < 2 ^ 31) ⌝ }
+    ensures { λ r. ⌜ ((w : Over (now (sheet .entry)) (now (declared .entry)) n k) → r ≡ goalAnswer (w .sheet) (checkedGoal (w .sheet) (now (goal .entry)))) ⌝ }
+{
+    let r = load_goal(goal, table);
+    let v = r.verdict;
+    let literals = r.literals;
+    match v {
+        Verdict::Refused {
+            text: _,
+            refusal: _,
+        } => v,
+        Verdict::Accepted {
+            declarations: _,
+            clauses: _,
+        } => {
+            let fault = modes::check_goal(sheet, declared, n, goal, table, literals);
+            match fault {
+                Checked::Fine => Verdict::Accepted {
+                    declarations: n,
+                    clauses: k,
+                },
+                Checked::Fault(refusal) => Verdict::Refused {
+                    text: Text::Goal,
+                    refusal,
+                },
+            }
+        }
+    }
+}
+
+// The refusal of a run, and the text at fault.
+pub fn run_refused(text: Text, refusal: Refusal) -> Run
+    ensures { λ r. ⌜ r ≡ Run.Refused text refusal ⌝ }
+{
+    Run::Refused { text, refusal }
+}
+
+// A goal run over a checked sheet that stands in its tables.
+pub fn run_goal(
+    sheet: &[u8],
+    declared: &[u32],
+    n: usize,
+    table: &[u32],
+    k: usize,
+    goal: &[u8],
+    text: &mut [u8],
+    allowance: usize,
+    wanted: usize,
+) -> Run
+    requires { ⌜ Ready (now sheet) (now declared) n (now table) k ⌝ }
+    ensures { λ r. ⌜ ((w : Ready (now (sheet .entry)) (now (declared .entry)) n (now (table .entry)) k) → Answers (overGoal (w .stands .sheet) allowance wanted (length (now (text .entry))) (checkedGoal (w .stands .sheet) (now (goal .entry)))) (now (text .entry)) (now (text .exit)) r) ⌝ }
+{
+    let mut goals = goal_room();
+    let r = load_goal(goal, &mut goals);
+    let v = r.verdict;
+    let literals = r.literals;
+    let count = r.count;
+    let names = r.names;
+    match v {
+        Verdict::Refused {
+            text: at_fault,
+            refusal,
+        } => run_refused(at_fault, refusal),
+        Verdict::Accepted {
+            declarations: _,
+            clauses: _,
+        } => {
+            let fault = modes::check_goal(sheet, declared, n, goal, &goals, literals);
+            match fault {
+                Checked::Fine => Run::Ended(run_program(
+                    sheet,
+                    table,
+                    k,
+                    goal,
+                    &goals,
+                    literals,
+                    &names,
+                    count,
+                    text,
+                    allowance,
+                    wanted,
+                )),
+                Checked::Fault(refusal) => run_refused(Text::Goal, refusal),
+            }
+        }
+    }
+}

@@ -1,0 +1,172 @@
+// A sheet and a goal in tables: read into words, the sheet held against its marks. Document 01 is the paper "Rule sheets".
+use modes::Checked;
+use parser::sheets::read_items;
+use repeats::first_repeat;
+use syntax::Refusal;
+use syntax::Text;
+use syntax::Verdict;
+ghost use mathlib.Core.Path.{_≡_};
+ghost use Prim.Native.Nat.{_≤_, _<_, _^_};
+ghost use lib.ListN.{length, replicate};
+ghost use Rattle.syntax.specs.Terms.{Sheet};
+ghost use Rattle.syntax.specs.Verdicts.{faultOf, accepted, sheetOf, readVerdict};
+ghost use Rattle.rules.specs.Checking.{checkedSheet, checkVerdict};
+ghost use Rattle.tables.specs.Tables.{Tabled, GoalTabled};
+
+// The most bytes of a sheet.
+const SHEET_BYTES: usize = 16384;
+
+// The most bytes of a goal.
+const GOAL_BYTES: usize = 1024;
+
+// A fault of reading, 3 to 6, as a refusal.
+fn fault_of(number: usize, byte: usize) -> Refusal
+    ensures { λ r. ⌜ r ≡ faultOf number byte ⌝ }
+{
+    if number == 3 {
+        return Refusal::NoToken(byte);
+    }
+    if number == 4 {
+        return Refusal::Overlong(byte);
+    }
+    if number == 5 {
+        return Refusal::Misplaced(byte);
+    }
+    Refusal::OverLimit(byte)
+}
+
+// The refusal of a sheet.
+fn sheet_refused(refusal: Refusal) -> Verdict
+    ensures { λ r. ⌜ r ≡ Verdict.Refused Text.Sheet refusal ⌝ }
+{
+    Verdict::Refused {
+        text: Text::Sheet,
+        refusal,
+    }
+}
+
+// A sheet into its tables.
+pub fn load(sheet: &[u8], declared: &mut [u32], table: &mut [u32]) -> Verdict
+    requires { ⌜ (256 ≤ length (now declared)) × ((65540 ≤ length (now table)) × (length (now table) < 2 ^ 31)) ⌝ }
+    ensures is { λ r. ⌜ r ≡ readVerdict (now (sheet .entry)) ⌝ }
+    ensures holds { λ r. ⌜ ((sh : Sheet) → sheetOf (now (sheet .entry)) ≡ accepted sh → Tabled (now (sheet .entry)) (now (declared .exit)) (now (table .exit)) sh) ⌝ }
+{
+    if SHEET_BYTES < sheet.len() {
+        return sheet_refused(Refusal::TooLong);
+    }
+    let r = read_items(sheet, declared, table);
+    let number = r.number;
+    if number != 0 {
+        let byte = r.byte;
+        return sheet_refused(fault_of(number, byte));
+    }
+    let declarations = r.declarations;
+    let clauses = r.clauses;
+    let repeat = first_repeat(sheet, declared, declarations);
+    if repeat.found {
+        let byte = repeat.byte;
+        return sheet_refused(Refusal::Repeated(byte));
+    }
+    Verdict::Accepted {
+        declarations,
+        clauses,
+    }
+}
+
+// Room for a sheet's declarations, for the nodes of a sheet and for those of a goal. The contracts give the lengths alone.
+pub fn declared_room() -> [u32; 256]
+    ensures { λ r. ⌜ 256 ≡ length r ⌝ }
+{
+    [0; 256]
+}
+
+pub fn node_room() -> [u32; 65540]
+    ensures { λ r. ⌜ 65540 ≡ length r ⌝ }
+{
+    [0; 65540]
+}
+
+pub fn goal_room() -> [u32; 4100]
+    ensures { λ r. ⌜ 4100 ≡ length r ⌝ }
+{
+    [0; 4100]
+}
+
+// What reading a goal gives: how many literals it has, how many variables, and for each of these the place and length of its first
+// occurrence, as place * 32 + length.
+pub struct GoalRead {
+    pub verdict: Verdict,
+    pub literals: usize,
+    pub count: usize,
+    pub names: [u32; 32],
+}
+
+// A goal into its table.
+pub fn load_goal(goal: &[u8], table: &mut [u32]) -> GoalRead
+    requires { ⌜ (4100 ≤ length (now table)) × (length (now table) < 2 ^ 31) ⌝ }
+    ensures { λ r. ⌜ GoalTabled (now (goal .entry)) (now (table .exit)) r ⌝ }
+{
+    if GOAL_BYTES < goal.len() {
+        return goal_refused(Refusal::TooLong);
+    }
+    let r = parser::sheets::read_goal(goal, table);
+    let number = r.number;
+    let st = r.state;
+    if number != 0 {
+        let t = st.token;
+        let byte = t.at;
+        return goal_refused(fault_of(number, byte));
+    }
+    let literals = r.items;
+    let count = st.count;
+    let names = st.first;
+    GoalRead {
+        verdict: Verdict::Accepted {
+            declarations: 0,
+            clauses: 0,
+        },
+        literals,
+        count,
+        names,
+    }
+}
+
+// The refusal of a goal.
+fn goal_refused(refusal: Refusal) -> GoalRead
+    ensures { λ r. ⌜ r ≡ record { verdict = Verdict.Refused Text.Goal refusal; literals = 0; count = 0; names = replicate 32 0 } ⌝ }
+{
+    GoalRead {
+        verdict: Verdict::Refused {
+            text: Text::Goal,
+            refusal,
+        },
+        literals: 0,
+        count: 0,
+        names: [0; 32],
+    }
+}
+
+// A sheet into its tables, held against its marks.
+pub fn load_checked(sheet: &[u8], declared: &mut [u32], table: &mut [u32]) -> Verdict
+    requires { ⌜ (256 ≤ length (now declared)) × ((65540 ≤ length (now table)) × (length (now table) < 2 ^ 31)) ⌝ }
+    ensures is { λ r. ⌜ r ≡ checkVerdict (now (sheet .entry)) ⌝ }
+    ensures holds { λ r. ⌜ ((sh : Sheet) → checkedSheet (now (sheet .entry)) ≡ accepted sh → Tabled (now (sheet .entry)) (now (declared .exit)) (now (table .exit)) sh) ⌝ }
+{
+    let v = load(sheet, declared, table);
+    match v {
+        Verdict::Refused {
+            text: _,
+            refusal: _,
+        } => v,
+        Verdict::Accepted {
+            declarations,
+            clauses,
+        } => {
+            let fault = modes::check_sheet(sheet, declared, declarations, table, clauses);
+            match fault {
+                Checked::Fine => v,
+                Checked::Fault(refusal) => sheet_refused(refusal),
+            }
+        }
+    }
+}
