@@ -8,7 +8,7 @@ use lib.ListN.{length, getD, replicate, length-replicate, getD-replicate}
 use Rattle.syntax.specs.Quote.{bytes}
 use Rattle.syntax.specs.Tokens.{spelling}
 use Rattle.syntax.specs.Terms.{Goal}
-use Rattle.lines.specs.Lines.{Put}
+use Rattle.buffers.specs.Buffers.{Put}
 use Rattle.machine.specs.Substitution.{Variable, Binding}
 use Rattle.machine.specs.Answers.{placeOf, bytesOf, allAnonymous, valuesFrom, line}
 use Rattle.layout.specs.Nodes.{Symbol}

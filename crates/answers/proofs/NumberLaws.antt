@@ -1,21 +1,20 @@
 -- Laws of the numbers of unbound variables, and of the names of symbols. Assumes nothing.
-use Prim.Native.Nat.{ℕ, zero, suc, min, _+_, _*_, _/_, _%_, _≤_, _<_, _^_}
+use Prim.Native.Nat.{ℕ, suc, _+_, _/_, _%_, _≤_, _<_, _^_}
 use native.Mathlib.Nat.{add-zero}
 use native.Mathlib.Omega.{arith}
 use mathlib.Core.Path.{_≡_, refl, sym, ap, _∙_, subst}
-use mathlib.Core.Bool.{Bool, true, false, cond}
-use mathlib.Core.List.{List, [], _∷_, _++_, append-assoc}
+use mathlib.Core.Bool.{Bool, true, false}
+use mathlib.Core.List.{List, [], _∷_, _++_}
 use mathlib.Core.Option.{Option, none, some}
-use lib.Dec.{T, eqb, ltb}
+use lib.Dec.{T, eqb}
 use lib.ListN.{length, getD, set, take, drop, length-set, length-append, length-take}
 use lib.Seq.{getD-set-same, getD-set-other}
 use borrow.Author.Tests.{eqb-true, eqb-false, eq-eqb, ne-eqb}
 use Rattle.syntax.specs.Tokens.{spelling}
-use Rattle.lines.specs.Lines.{Put}
-use Rattle.lines.specs.Lines.{digits as lineDigits, decimal as lineDecimal}
-use Rattle.lines.proofs.Laws.{then, decimal-few}
+use Rattle.buffers.specs.Buffers.{Put, decimal}
+use Rattle.buffers.proofs.Laws.{then, decimal-few}
 use Rattle.machine.specs.Substitution.{Variable, sameVariable}
-use Rattle.machine.specs.Answers.{Piece, unbound, placeOf, digits, decimal, numbered, bytesOf}
+use Rattle.machine.specs.Answers.{Piece, unbound, placeOf, numbered, bytesOf}
 use Rattle.machine.proofs.Tests.{variable-eq, variable-refl}
 use Rattle.layout.specs.State.{variableOf}
 use Rattle.layout.proofs.State.{cell-eq}
@@ -200,51 +199,22 @@ number-new met x numbers l z h = go (placeOf (variableOf x) 1 met) refl (place-l
 
 -- ---- decimals
 
-digits-one : (k n : ℕ) (rest : List ℕ) → ltb n 10 ≡ true → digits (suc k) n rest ≡ (48 + n) ∷ rest
-unfolding digits
-digits-one k n rest e = rw (e, digits)
-
-digits-more : (k n : ℕ) (rest : List ℕ) → ltb n 10 ≡ false → digits (suc k) n rest ≡ digits k (n / 10) ((48 + n % 10) ∷ rest)
-unfolding digits
-digits-more k n rest e = rw (e, digits)
-
-line-one : (k n : ℕ) → ltb n 10 ≡ true → lineDigits (suc k) n ≡ (48 + n) ∷ []
-unfolding lineDigits
-line-one k n e = rw (e, lineDigits)
-
-line-more : (k n : ℕ) → ltb n 10 ≡ false → lineDigits (suc k) n ≡ lineDigits k (n / 10) ++ ((48 + n % 10) ∷ [])
-unfolding lineDigits
-line-more k n e = rw (e, lineDigits)
-
-digits-are : (k n : ℕ) (rest : List ℕ) → digits k n rest ≡ lineDigits k n ++ rest
-unfolding digits lineDigits
-digits-are zero n rest = refl
-digits-are (suc k) n rest = go (ltb n 10) refl (digits-are k (n / 10) ((48 + n % 10) ∷ rest))
-  where
-    go : (b : Bool) → ltb n 10 ≡ b → digits k (n / 10) ((48 + n % 10) ∷ rest) ≡ lineDigits k (n / 10) ++ ((48 + n % 10) ∷ rest) → digits (suc k) n rest ≡ lineDigits (suc k) n ++ rest
-    go true e ih = digits-one k n rest e ∙ ap (λ (l : List ℕ). l ++ rest) (sym (line-one k n e))
-    go false e ih = digits-more k n rest e ∙ (ih ∙ (sym (append-assoc (lineDigits k (n / 10)) ((48 + n % 10) ∷ []) rest) ∙ ap (λ (l : List ℕ). l ++ rest) (sym (line-more k n e))))
-
-decimal-is : (n : ℕ) (rest : List ℕ) → decimal n rest ≡ lineDecimal n ++ rest
-unfolding decimal lineDecimal
-decimal-is n rest = digits-are (suc n) n rest
-
 -- an unbound variable: an underscore, then its number
-pub unbound-told : (met : List Variable) (x r at m next : ℕ) (numbers old mid new : List ℕ) → length met ≤ at → Numbered met x numbers r → Put old at (95 ∷ []) mid m → Put mid m (lineDecimal r) new next
+pub unbound-told : (met : List Variable) (x r at m next : ℕ) (numbers old mid new : List ℕ) → length met ≤ at → Numbered met x numbers r → Put old at (95 ∷ []) mid m → Put mid m (decimal r) new next
     → (ps : List Piece) → Told (bytesOf met (unbound (variableOf x) ∷ ps)) old at new next numbers ps
 unfolding numbered
 unbound-told met x r at m next numbers old mid new few n p q ps =
     record {
-      words = (95 ∷ []) ++ lineDecimal r;
+      words = (95 ∷ []) ++ decimal r;
       put = then p q;
       met = n .met-after;
       numbers-are = n .numbers-after;
-      few = (let a : m ≡ at + 1 = p .past in let b : next ≡ m + length (lineDecimal r) = q .past in let k : length (n .met-after) ≤ length met + 1 = n .few in omega arith);
-      is = n .is ps ∙ ap (λ (l : List ℕ). 95 ∷ l) (decimal-is r (bytesOf (n .met-after) ps));
+      few = (let a : m ≡ at + 1 = p .past in let b : next ≡ m + length (decimal r) = q .past in let k : length (n .met-after) ≤ length met + 1 = n .few in omega arith);
+      is = n .is ps;
     }
 
-pub unbound-near : (at m next r : ℕ) (old mid new : List ℕ) → r < 2 ^ 64 → Put old at (95 ∷ []) mid m → Put mid m (lineDecimal r) new next → (at ≤ next) × (next ≤ at + 31)
-unbound-near at m next r old mid new h p q = let a : m ≡ at + 1 = p .past in let b : next ≡ m + length (lineDecimal r) = q .past in let k : length (lineDecimal r) ≤ 20 = decimal-few r h in (omega arith, omega arith)
+pub unbound-near : (at m next r : ℕ) (old mid new : List ℕ) → r < 2 ^ 64 → Put old at (95 ∷ []) mid m → Put mid m (decimal r) new next → (at ≤ next) × (next ≤ at + 31)
+unbound-near at m next r old mid new h p q = let a : m ≡ at + 1 = p .past in let b : next ≡ m + length (decimal r) = q .past in let k : length (decimal r) ≤ 20 = decimal-few r h in (omega arith, omega arith)
 
 pub name-near : (text out out′ : List ℕ) (from len at r : ℕ) → len ≤ 31 → Put out at (spelling text from len) out′ r → r ≤ at + 31
 name-near text out out′ from len at r h p =

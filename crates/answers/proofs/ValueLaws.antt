@@ -13,8 +13,8 @@ use lib.Seq.{drop-cons}
 use Rattle.syntax.specs.Quote.{bytes}
 use Rattle.syntax.specs.Terms.{sameBytes}
 use Rattle.syntax.specs.Tokens.{spelling}
-use Rattle.lines.specs.Lines.{Put}
-use Rattle.lines.proofs.Laws.{then, nothing}
+use Rattle.buffers.specs.Buffers.{Put}
+use Rattle.buffers.proofs.Laws.{then, nothing}
 use Rattle.machine.specs.Substitution.{Variable, RTerm, var, Binding, resolve}
 use Rattle.machine.specs.Answers.{Piece, unbound, written, spelt, bytesOf, isAnonymous, allAnonymous, valuesFrom}
 use Rattle.layout.specs.Nodes.{Symbol, Node, termAt}

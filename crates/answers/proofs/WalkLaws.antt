@@ -12,8 +12,8 @@ use lib.ListN.{length, getD, set, length-set, length-append}
 use lib.Seq.{getD-set-same, getD-set-other}
 use borrow.Author.Tests.{eqb-true, eqb-false, eq-eqb, ne-eqb}
 use Rattle.syntax.specs.Terms.{Term, Terms, variable, compound, arity}
-use Rattle.lines.specs.Lines.{Put}
-use Rattle.lines.proofs.Laws.{then, nothing}
+use Rattle.buffers.specs.Buffers.{Put}
+use Rattle.buffers.proofs.Laws.{then, nothing}
 use Rattle.machine.specs.Substitution.{Variable, RTerm, RTerms, var, app, rnil, rcons, Binding, resolve}
 use Rattle.machine.specs.Answers.{Piece, byte, unbound, written, spelt, speltArgs, speltMore, bytesOf}
 use Rattle.machine.proofs.Terms.{resolveAll, resolve-app, resolve-nil, resolve-cons}

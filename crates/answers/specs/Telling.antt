@@ -6,7 +6,7 @@ use mathlib.Core.Bool.{cond}
 use mathlib.Core.List.{List, [], _∷_, _++_}
 use lib.Dec.{eqb}
 use lib.ListN.{length, getD}
-use Rattle.lines.specs.Lines.{Put}
+use Rattle.buffers.specs.Buffers.{Put}
 use Rattle.machine.specs.Substitution.{Variable, RTerm, var, Binding, resolve}
 use Rattle.machine.specs.Answers.{Piece, unbound, numbered, bytesOf}
 use Rattle.layout.specs.Nodes.{Symbol, Node, termAt}

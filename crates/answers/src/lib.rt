@@ -3,7 +3,7 @@ mod values;
 mod walk;
 mod words;
 
-use lines::bytes::append_part;
+use buffers::append_part;
 use values::all_anonymous;
 use values::append_values;
 ghost use mathlib.Core.Path.{_≡_};

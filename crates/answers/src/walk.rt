@@ -4,7 +4,7 @@ use crate::words::append_unbound;
 use crate::words::move_row;
 use crate::words::put_row;
 use crate::words::row_at;
-use lines::bytes::append_byte;
+use buffers::append_byte;
 use unifier::occurrence::word_at;
 use unifier::store::deref;
 ghost use mathlib.Core.Path.{_≡_};

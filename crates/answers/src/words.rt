@@ -1,13 +1,13 @@
 // What the words of the node table, the state and the tables of this crate say.
-use lines::bytes::append_byte;
-use lines::bytes::append_decimal;
-use lines::bytes::append_part;
+use buffers::append_byte;
+use buffers::append_decimal;
+use buffers::append_part;
 use unifier::occurrence::word_at;
 ghost use mathlib.Core.Path.{_≡_};
 ghost use mathlib.Core.List.{List, _∷_};
 ghost use Prim.Native.Nat.{ℕ, _+_, _*_, _/_, _%_, _^_, _≤_, _<_};
 ghost use lib.ListN.{length, getD, set};
-ghost use Rattle.lines.specs.Lines.{Put};
+ghost use Rattle.buffers.specs.Buffers.{Put};
 ghost use Rattle.machine.specs.Substitution.{Variable};
 ghost use Rattle.machine.specs.Answers.{Piece, unbound, bytesOf};
 ghost use Rattle.layout.specs.State.{variableOf};

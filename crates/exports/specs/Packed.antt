@@ -8,7 +8,7 @@ use Rattle.syntax.specs.declared.Run.{Run}
 use Rattle.syntax.specs.declared.Run.the-variants.{Ended, Refused as stopped}
 use Rattle.syntax.specs.declared.Verdict.{Verdict}
 use Rattle.syntax.specs.declared.Verdict.the-variants.{Accepted, Refused}
-use Rattle.lines.specs.Lines.{kindNumber}
+use Rattle.reports.specs.Reports.{kindNumber}
 
 -- a high part and the lowest 32 bits of a low part
 abbrev pub joined : ℕ → ℕ → ℕ

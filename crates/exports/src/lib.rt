@@ -72,7 +72,7 @@ fn pack_report(report: Report) -> u64
     let kind = report.kind;
     let answers = report.answers;
     let steps = report.steps;
-    let number = lines::kind_number(kind);
+    let number = reports::kind_number(kind);
     join_report(number, answers, steps)
 }
 

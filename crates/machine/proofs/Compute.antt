@@ -12,7 +12,8 @@ use Rattle.rules.specs.Checking.{faultless, checkedFrom, checkedSheet, checkedG
 use Rattle.machine.specs.Substitution.{resolve, isBound}
 use Rattle.machine.specs.Unification.{differVariables, differMixed, orElse, differ, bound, rounds, unify}
 use Rattle.machine.specs.Machine.{pending, firstFor, nextFor, nextOf, topmost, nth, clauseAt, gone, equated, movedOn, laid, tried, onTop, called, worked, workedOn, outcome, step, start, pileAfter}
-use Rattle.machine.specs.Answers.{written, spelt, digits, decimal, placeOf, numbered, bytesOf, isAnonymous as isBlankName, allAnonymous, valuesFrom, line}
+use Rattle.buffers.specs.Buffers.{digits, decimal}
+use Rattle.machine.specs.Answers.{written, spelt, placeOf, numbered, bytesOf, isAnonymous as isBlankName, allAnonymous, valuesFrom, line}
 use Rattle.machine.specs.Counts.{openArguments, inputsOf, inputsFirst, openInputs, isWithin, isLeft, shows, showsNewly, countIf, outputsOver, openOutputs, Tally, countedOn, countedStep, tally}
 use Rattle.machine.specs.Runs.{isEmpty, isAnswer, lineWith, nextLine, isThere, triesWith, triesFirst, goesDeeper, firstEnd, oneIf, advance, endOr, runFrom, begun, run, RunOutcome, reported, overGoal, overSheet, inRange, runOutcome}
 

@@ -1,11 +1,11 @@
 -- The answer line, byte for byte (document 01, "The run").
-use Prim.Native.Nat.{ℕ, zero, suc, _+_, _/_, _%_}
+use Prim.Native.Nat.{ℕ, suc}
 use mathlib.Core.Bool.{Bool, true, false, _&&_}
 use mathlib.Core.List.{List, [], _∷_, _++_}
 use mathlib.Core.Option.{Option, none, some}
-use lib.Dec.{ltb}
 use lib.ListN.{length}
 use Rattle.syntax.specs.Quote.{bytes}
+use Rattle.buffers.specs.Buffers.{decimal}
 use Rattle.syntax.specs.Terms.{Goal, sameName}
 use Rattle.machine.specs.Substitution.{Variable, sameVariable, RTerm, RTerms, var, app, rnil, rcons, Binding, resolve}
 
@@ -35,14 +35,6 @@ unfoldable mutual
 
 -- ---- the unbound variables are _1, _2 and on by first appearance in the line
 
--- the decimal digits of a number before some bytes; the first number bounds their number
-unfoldable pub digits : ℕ → ℕ → List ℕ → List ℕ
-digits zero n rest = rest
-digits (suc k) n rest = elim (ltb n 10) [ true ↦ (48 + n) ∷ rest | false ↦ digits k (n / 10) ((48 + n % 10) ∷ rest) ]
-
-unfoldable pub decimal : ℕ → List ℕ → List ℕ
-decimal n rest = digits (suc n) n rest
-
 -- the place of a variable among some, counted from n
 unfoldable pub placeOf : Variable → ℕ → List Variable → Option ℕ
 placeOf v n [] = none
@@ -50,7 +42,7 @@ placeOf v n (w ∷ ws) = elim (sameVariable v w) [ true ↦ some n | false ↦ p
 
 -- the unbound variable of number n, before some bytes
 unfoldable pub numbered : ℕ → List ℕ → List ℕ
-numbered n rest = 95 ∷ decimal n rest
+numbered n rest = 95 ∷ (decimal n ++ rest)
 
 -- the bytes of some pieces, before which some unbound variables were met, in that order
 unfoldable pub bytesOf : List Variable → List Piece → List ℕ

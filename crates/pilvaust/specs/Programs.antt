@@ -3,7 +3,8 @@ use Prim.Native.Nat.{ℕ}
 use mathlib.Core.List.{List, [], _++_}
 use Rattle.syntax.specs.declared.Verdict.{Verdict}
 use Rattle.syntax.specs.declared.Verdict.the-variants.{Refused}
-use Rattle.lines.specs.Lines.{lineOf, kindNumber, reportLine}
+use Rattle.lines.specs.Lines.{lineOf}
+use Rattle.reports.specs.Reports.{kindNumber, reportLine}
 use Rattle.rules.specs.Checking.{checkVerdict, faultName}
 use Rattle.machine.specs.Runs.{RunOutcome, stopped, ran, runOutcome}
 

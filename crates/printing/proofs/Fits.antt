@@ -8,7 +8,7 @@ use lib.Dec.{leb}
 use lib.ListN.{length}
 use lib.Seq.{sets, length-sets}
 use borrow.Author.Tests.{leb-true}
-use Rattle.lines.specs.Lines.{written, fitted}
+use Rattle.buffers.specs.Buffers.{written, fitted}
 
 by-test : (line out : List ℕ) (b : Bool) → leb (length line) (length out) ≡ b → cond b (length line) 0 ≤ length (cond b (sets out 0 line) out)
 by-test line out true e =

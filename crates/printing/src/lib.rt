@@ -50,7 +50,7 @@ pub fn print_lines(text: &[u8], lines: usize) {
 // Prints the line that ends a run, which takes at most 52 bytes.
 fn print_end(kind: usize, answers: usize, steps: usize) {
     let mut line = [0u8; 64];
-    let n = lines::put_report(kind, answers, steps, &mut line);
+    let n = reports::put_report(kind, answers, steps, &mut line);
     io::write_all(STDOUT_FILENO, &line[..n]);
 }
 
@@ -59,5 +59,5 @@ pub fn print_report(report: Report) {
     let answers = report.answers;
     let steps = report.steps;
     let kind = report.kind;
-    print_end(lines::kind_number(kind), answers, steps);
+    print_end(reports::kind_number(kind), answers, steps);
 }

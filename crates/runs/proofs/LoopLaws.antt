@@ -14,8 +14,8 @@ use Rattle.syntax.specs.Terms.{Sheet, Goal}
 use Rattle.syntax.specs.declared.Report.{Report}
 use Rattle.syntax.specs.declared.Kind.{Kind}
 use Rattle.syntax.specs.declared.Kind.the-variants.{Full}
-use Rattle.lines.specs.Lines.{Put}
-use Rattle.lines.proofs.Laws.{sets-append}
+use Rattle.buffers.specs.Buffers.{Put}
+use Rattle.buffers.proofs.Laws.{sets-append}
 use Rattle.machine.specs.Machine.{Alternative, step, start}
 use Rattle.machine.specs.Answers.{line}
 use Rattle.machine.specs.Runs.{Progress, Ended, isEmpty, isAnswer, nextLine, goesDeeper, runFrom, begun, run}

@@ -4,7 +4,7 @@ use mathlib.Core.Path.{sym, ap, subst, _∙_}
 use borrow.Author.Needs.{needs}
 use Rattle.syntax.specs.declared.Kind.{Kind}
 use Rattle.syntax.specs.declared.Kind.the-variants.{Wanted, Done, Steps, Full, Deep}
-use Rattle.lines.specs.Lines.{kindNumber}
+use Rattle.reports.specs.Reports.{kindNumber}
 use Rattle.exports.specs.Packed.{packedReport, joinedReport}
 use Rattle.exports.proofs.pack_report.Statement.{statement}
 use Rattle.exports.proofs.pack_report.Tie as tie

@@ -1,6 +1,6 @@
 -- Five numbers, one after another.
 use native.Mathlib.Omega.{arith}
-use Rattle.lines.proofs.Laws.{then}
+use Rattle.buffers.proofs.Laws.{then}
 use borrow.Author.Needs.{needs}
 use Rattle.lines.proofs.append_five.Statement.{statement}
 use Rattle.lines.proofs.append_five.Tie as tie

@@ -1,7 +1,8 @@
 -- The verdict's words, the name and the line feed, one after another.
 use native.Mathlib.Omega.{arith}
 use Rattle.lines.specs.Lines.{lineOf}
-use Rattle.lines.proofs.Laws.{then, name-length}
+use Rattle.buffers.proofs.Laws.{then}
+use Rattle.lines.proofs.Laws.{name-length}
 use borrow.Author.Needs.{needs}
 use Rattle.lines.proofs.append_line.Statement.{statement}
 use Rattle.lines.proofs.append_line.Tie as tie

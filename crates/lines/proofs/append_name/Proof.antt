@@ -1,5 +1,6 @@
 -- Nothing for an empty name; otherwise a space and the name.
-use Rattle.lines.proofs.Laws.{nothing, then, spelt, no-name, some-name}
+use Rattle.buffers.proofs.Laws.{nothing, then, spelt}
+use Rattle.lines.proofs.Laws.{no-name, some-name}
 use borrow.Author.Needs.{needs}
 use Rattle.lines.proofs.append_name.Statement.{statement}
 use Rattle.lines.proofs.append_name.Tie as tie

@@ -2,7 +2,7 @@
 use native.Mathlib.Omega.{arith}
 use mathlib.Core.Path.{ap}
 use Rattle.lines.specs.Lines.{textWord}
-use Rattle.lines.proofs.Laws.{nothing, spelt}
+use Rattle.buffers.proofs.Laws.{nothing, spelt}
 use borrow.Author.Needs.{needs}
 use Rattle.lines.proofs.append_text.Statement.{statement}
 use Rattle.lines.proofs.append_text.Tie as tie

@@ -2,7 +2,7 @@
 use native.Mathlib.Omega.{arith}
 use mathlib.Core.Path.{ap, sym}
 use Rattle.lines.specs.Lines.{verdictWords, five}
-use Rattle.lines.proofs.Laws.{then, spelt}
+use Rattle.buffers.proofs.Laws.{then, spelt}
 use borrow.Author.Needs.{needs}
 use Rattle.lines.proofs.append_verdict.Statement.{statement}
 use Rattle.lines.proofs.append_verdict.Tie as tie

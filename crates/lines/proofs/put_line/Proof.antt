@@ -1,6 +1,6 @@
 -- The line's length is measured on a buffer of no bytes; it is written where it fits.
 use native.Mathlib.Omega.{arith}
-use Rattle.lines.proofs.Laws.{measured, too-long}
+use Rattle.buffers.proofs.Laws.{measured, too-long}
 use borrow.Author.Needs.{needs}
 use Rattle.lines.proofs.put_line.Statement.{statement}
 use Rattle.lines.proofs.put_line.Tie as tie

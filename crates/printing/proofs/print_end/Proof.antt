@@ -3,7 +3,7 @@ use mathlib.Core.Path.{sym}
 use lib.ListN.{replicate}
 use lib.Seq.{length-take-le}
 use borrow.Author.Needs.{needs}
-use Rattle.lines.specs.Lines.{reportLine}
+use Rattle.reports.specs.Reports.{reportLine}
 use Rattle.printing.proofs.Fits.{fits}
 use Rattle.printing.proofs.print_end.Statement.{statement}
 use Rattle.printing.proofs.print_end.Tie as tie

@@ -1,6 +1,6 @@
 use native.Mathlib.Omega.{arith}
 use Prim.Native.Nat.{_/_, _%_}
-use Rattle.lines.proofs.Laws.{then}
+use Rattle.buffers.proofs.Laws.{then}
 use Rattle.answers.proofs.NumberLaws.{name-near}
 use Rattle.answers.proofs.ValueLaws.{gap-short}
 use borrow.Author.Needs.{needs}

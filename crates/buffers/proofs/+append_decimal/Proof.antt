@@ -2,16 +2,16 @@
 use native.Mathlib.Omega.{arith}
 use mathlib.Core.Path.{_∙_}
 use borrow.Author.Needs.{needs}
-use Rattle.lines.proofs.Laws.{decimal-few, first-digit, next-digit}
+use Rattle.buffers.proofs.Laws.{decimal-few, first-digit, next-digit}
 use Prim.Native.Nat.{ℕ, _/_, _<_}
 use borrow.Fn.Kinds.{In}
 use borrow.Fn.PlainCycle.{Measures, is, falls, and}
-use Rattle.lines.proofs.bytes.append_decimal.Reads as append-decimal
-use Rattle.lines.proofs.bytes.append_decimal.Kinds as append-decimal-kinds
-use Rattle.lines.proofs.bytes.+append_decimal.Lts-append_decimal as append-decimal-lts
-use Rattle.lines.proofs.bytes.append_byte.Reads as append-byte-reads
-use Rattle.lines.proofs.bytes.+append_decimal.{statement}
-use Rattle.lines.proofs.bytes.+append_decimal.Tie.{close}
+use Rattle.buffers.proofs.append_decimal.Reads as append-decimal
+use Rattle.buffers.proofs.append_decimal.Kinds as append-decimal-kinds
+use Rattle.buffers.proofs.+append_decimal.Lts-append_decimal as append-decimal-lts
+use Rattle.buffers.proofs.append_byte.Reads as append-byte-reads
+use Rattle.buffers.proofs.+append_decimal.{statement}
+use Rattle.buffers.proofs.+append_decimal.Tie.{close}
 
 abbrev μ-append-decimal : Measures 1 append-decimal-kinds.ps ℕ
 μ-append-decimal κs a = a .0

@@ -4,10 +4,10 @@ use borrow.Author.Needs.{needs}
 use native.Mathlib.Omega.{arith}
 use mathlib.Core.Path.{_≡_, refl, _∙_}
 use lib.ListN.{length, take, drop}
-use Rattle.lines.specs.Lines.{Put}
-use Rattle.lines.proofs.Laws.{nothing, part-more, part-whole}
-use Rattle.lines.proofs.bytes.append_part.Statement.{statement}
-use Rattle.lines.proofs.bytes.append_part.Tie as tie
+use Rattle.buffers.specs.Buffers.{Put}
+use Rattle.buffers.proofs.Laws.{nothing, part-more, part-whole}
+use Rattle.buffers.proofs.append_part.Statement.{statement}
+use Rattle.buffers.proofs.append_part.Tie as tie
 
 abbrev Inv-loop : tie.InvT-loop
 Inv-loop text from len out₀ at past₀ i₀ out past i = (i ≤ len) × (length out ≡ length out₀) × (past ≡ at + i) × Put out₀ at (take i (drop from text)) out past

@@ -1,9 +1,9 @@
 -- The line's length is measured on a buffer of no bytes; it is written where it fits.
 use native.Mathlib.Omega.{arith}
-use Rattle.lines.proofs.Laws.{measured, too-long}
+use Rattle.buffers.proofs.Laws.{measured, too-long}
 use borrow.Author.Needs.{needs}
-use Rattle.lines.proofs.put_report.Statement.{statement}
-use Rattle.lines.proofs.put_report.Tie as tie
+use Rattle.reports.proofs.put_report.Statement.{statement}
+use Rattle.reports.proofs.put_report.Tie as tie
 
 slice-aggregate-append-report : tie.Need-slice-aggregate-append-report
 slice-aggregate-append-report c = search needs

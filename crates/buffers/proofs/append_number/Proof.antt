@@ -1,9 +1,9 @@
 -- A space, then the digits, of which a 64-bit number has at most 20.
 use native.Mathlib.Omega.{arith}
-use Rattle.lines.proofs.Laws.{then, decimal-few}
+use Rattle.buffers.proofs.Laws.{then, decimal-few}
 use borrow.Author.Needs.{needs}
-use Rattle.lines.proofs.append_number.Statement.{statement}
-use Rattle.lines.proofs.append_number.Tie as tie
+use Rattle.buffers.proofs.append_number.Statement.{statement}
+use Rattle.buffers.proofs.append_number.Tie as tie
 
 append-byte-requires : tie.Need-append-byte-requires
 append-byte-requires c κs = search needs

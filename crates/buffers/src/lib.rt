@@ -1,11 +1,10 @@
 // Bytes into a lent buffer. Each function writes from a position on and returns the position past what it wrote; bytes at or
 // past the buffer's end are left out but counted, so a buffer of no bytes measures.
-ghost use mathlib.Core.Path.{_≡_};
 ghost use mathlib.Core.List.{[], _∷_};
 ghost use Prim.Native.Nat.{_+_, _^_, _≤_, _<_};
 ghost use lib.ListN.{length};
 ghost use Rattle.syntax.specs.Tokens.{spelling};
-ghost use Rattle.lines.specs.Lines.{Put, decimal};
+ghost use Rattle.buffers.specs.Buffers.{Put, decimal, number};
 
 pub fn append_byte(byte: u8, out: &mut [u8], at: usize) -> usize
     requires { ⌜ at + 1 < 2 ^ 64 ⌝ }
@@ -43,4 +42,22 @@ pub fn append_decimal(n: usize, out: &mut [u8], at: usize) -> usize
     }
     let past = append_decimal(n / 10, out, at);
     append_byte((48 + n % 10) as u8, out, past)
+}
+
+// A space and the number, within a line: its words end at 118 at most.
+pub fn append_number(n: usize, out: &mut [u8], at: usize) -> usize
+    requires { ⌜ at ≤ 118 ⌝ }
+    ensures wrote { λ r. ⌜ Put (now (out .entry)) at (number n) (now (out .exit)) r ⌝ }
+    ensures within { λ r. ⌜ r ≤ at + 21 ⌝ }
+{
+    let past_space = append_byte(b' ', out, at);
+    append_decimal(n, out, past_space)
+}
+
+// All of a text; within a line as above.
+pub fn append(text: &[u8], out: &mut [u8], at: usize) -> usize
+    requires { ⌜ at ≤ 119 ⌝ }
+    ensures { λ r. ⌜ Put (now (out .entry)) at (now (text .entry)) (now (out .exit)) r ⌝ }
+{
+    append_part(text, 0, text.len(), out, at)
 }

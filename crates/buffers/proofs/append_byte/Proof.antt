@@ -1,8 +1,8 @@
 -- A store within the buffer is the append itself; past the end there is nothing to store.
-use Rattle.lines.proofs.Laws.{out-of-range}
+use Rattle.buffers.proofs.Laws.{out-of-range}
 use borrow.Author.Needs.{needs}
-use Rattle.lines.proofs.bytes.append_byte.Statement.{statement}
-use Rattle.lines.proofs.bytes.append_byte.Tie as tie
+use Rattle.buffers.proofs.append_byte.Statement.{statement}
+use Rattle.buffers.proofs.append_byte.Tie as tie
 
 slice-write-out : tie.Need-slice-write-out
 slice-write-out c = search needs

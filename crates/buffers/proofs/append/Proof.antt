@@ -1,8 +1,8 @@
 -- All of a text is a part of it.
 use native.Mathlib.Omega.{arith}
-use Rattle.lines.proofs.Laws.{whole-part}
-use Rattle.lines.proofs.append.Statement.{statement}
-use Rattle.lines.proofs.append.Tie as tie
+use Rattle.buffers.proofs.Laws.{whole-part}
+use Rattle.buffers.proofs.append.Statement.{statement}
+use Rattle.buffers.proofs.append.Tie as tie
 
 append-part-requires : tie.Need-append-part-requires
 append-part-requires c κs = (omega arith, omega arith)

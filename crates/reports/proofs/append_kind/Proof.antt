@@ -1,11 +1,12 @@
 -- The word of each kind, by what the match told.
 use native.Mathlib.Omega.{arith}
 use mathlib.Core.Path.{ap}
-use Rattle.lines.specs.Lines.{kindWord}
-use Rattle.lines.proofs.Laws.{spelt, deep}
+use Rattle.reports.specs.Reports.{kindWord}
+use Rattle.buffers.proofs.Laws.{spelt}
+use Rattle.reports.proofs.Laws.{deep}
 use borrow.Author.Needs.{needs}
-use Rattle.lines.proofs.append_kind.Statement.{statement}
-use Rattle.lines.proofs.append_kind.Tie as tie
+use Rattle.reports.proofs.append_kind.Statement.{statement}
+use Rattle.reports.proofs.append_kind.Tie as tie
 
 slice-aggregate-append : tie.Need-slice-aggregate-append
 slice-aggregate-append c = search needs

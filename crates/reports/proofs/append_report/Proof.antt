@@ -1,9 +1,9 @@
 -- The words of a run's last line, one after another.
-use Rattle.lines.specs.Lines.{reportLine}
-use Rattle.lines.proofs.Laws.{then}
+use Rattle.reports.specs.Reports.{reportLine}
+use Rattle.buffers.proofs.Laws.{then}
 use borrow.Author.Needs.{needs}
-use Rattle.lines.proofs.append_report.Statement.{statement}
-use Rattle.lines.proofs.append_report.Tie as tie
+use Rattle.reports.proofs.append_report.Statement.{statement}
+use Rattle.reports.proofs.append_report.Tie as tie
 
 slice-aggregate-append : tie.Need-slice-aggregate-append
 slice-aggregate-append c = search needs
