@@ -15,7 +15,7 @@ use Rattle.syntax.specs.Reading.{Read, fault, ok, andThen, kindAt, is, standing
 use Rattle.syntax.specs.declared.Token.{Token}
 use Rattle.syntax.specs.declared.State.{State}
 use Rattle.lexer.proofs.Laws.{token-inside, token-word-short}
-use Rattle.modes.specs.Standing.{NameAt, Stands, AllStand, stands-variable, stands-compound, stand-nil, stand-cons, LiteralStands, call-stands, equation-stands, truth-stands, falsity-stands, BodyStands, done-stands, also-stands, ClauseStands, no-clauses, clause-stands, DeclarationStands, no-declarations, declaration-stands, SheetStands, GoalStands}
+use Rattle.marking.specs.Standing.{NameAt, Stands, AllStand, stands-variable, stands-compound, stand-nil, stand-cons, LiteralStands, call-stands, equation-stands, truth-stands, falsity-stands, BodyStands, done-stands, also-stands, ClauseStands, no-clauses, clause-stands, DeclarationStands, no-declarations, declaration-stands, SheetStands, GoalStands}
 
 -- ---- where a reader stands
 

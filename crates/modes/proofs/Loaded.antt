@@ -9,7 +9,7 @@ use Rattle.syntax.specs.Terms.{Sheet, Goal}
 use Rattle.syntax.specs.Words.{declarationsWords, clausesWords, bodyWords, bodyLength}
 use Rattle.syntax.specs.Reading.{ok, readSheet, readGoal}
 use Rattle.syntax.specs.declared.State.{State}
-use Rattle.modes.specs.Tables.{Has, SheetAt, GoalAt}
+use Rattle.marking.specs.Tables.{Has, SheetAt, GoalAt}
 use Rattle.modes.proofs.Accepted.{read-stands, goal-stands}
 
 has-from : (table : List ℕ) (p : ℕ) (ws rest : List ℕ) → drop p table ≡ ws ++ rest → Has table p ws

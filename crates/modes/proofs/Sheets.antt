@@ -11,15 +11,16 @@ use Rattle.syntax.specs.Terms.{Atom, termOf, Mark, input, output, Declaration, 
 use Rattle.syntax.specs.Words.{termWords, atomWords, bodyWords, bodyLength, clauseWords, clausesWords, markNumber, marksNumber}
 use Rattle.syntax.specs.declared.Refusal.{Refusal}
 use Rattle.rules.specs.Modes.{Known, nothing, isGround, marksFor, listOf, firstFaulty, groundMarked, openOutput, undeclaredAtom, undeclaredBody, undeclaredClause, undeclaredClauses, undeclaredInSheet, undeclaredInGoal, startKnown, headFault, clauseFault, clausesFault, sheetFault, goalFault, walkFault, Walk, bodyFault}
-use Rattle.modes.specs.Standing.{ClausesStand, clause-stands}
-use Rattle.modes.specs.Tables.{Has, TermAt, MarkedAt, JudgedAt, DeclarationsAt, AtomAt, BodyAt, ClauseAt, ClausesAt, SheetAt, GoalAt}
-use Rattle.modes.specs.Answers.{checkedOf, isFault, walkBy, walkOf}
-use Rattle.modes.specs.declared.Checked.{Checked}
-use Rattle.modes.specs.declared.Checked.the-variants.{Fine, Fault}
+use Rattle.marking.specs.Standing.{ClausesStand, clause-stands}
+use Rattle.marking.specs.Tables.{Has, TermAt, MarkedAt, JudgedAt, DeclarationsAt, AtomAt, BodyAt, ClauseAt, ClausesAt, SheetAt, GoalAt}
+use Rattle.marking.specs.Answers.{checkedOf}
+use Rattle.modes.specs.Answers.{isFault, walkBy, walkOf}
+use Rattle.marking.specs.declared.Checked.{Checked}
+use Rattle.marking.specs.declared.Checked.the-variants.{Fine, Fault}
 use Rattle.modes.specs.declared.Walked.{Walked}
-use Rattle.modes.proofs.Places.{Node, node, has-left, has-right, has-inside}
-use Rattle.modes.proofs.Equating.{numbered}
-use Rattle.modes.proofs.Judging.{judged-marked}
+use Rattle.marking.proofs.Places.{Node, node, has-left, has-right, has-inside}
+use Rattle.marking.proofs.Equating.{numbered}
+use Rattle.marking.proofs.Judging.{judged-marked}
 use Rattle.modes.proofs.Walking.{judged-at, fault-stays, fine-goes}
 
 -- ---- one clause
@@ -55,7 +56,7 @@ abbrev pub head-term : {s table : List ℕ} {p : ℕ} → ClauseAt s table p →
 head-term w = record { term = termOf (w .clause .head); has = head-at w .has; numbered = numbered (w .stands .head) }
 
 pub head-room : {s table : List ℕ} {p : ℕ} → ClauseAt s table p → p + 6 ≤ length table
-head-room {s} {table} {p} w = omega (arith, Rattle.modes.proofs.Places.room-three table (p + 3) (head-term w))
+head-room {s} {table} {p} w = omega (arith, Rattle.marking.proofs.Places.room-three table (p + 3) (head-term w))
 
 module _ (s table : List ℕ) (p literals : ℕ) (el : literals ≡ getD table (p + 2) 0) (first : ℕ) (ef : (u : TermAt table (p + 3)) → first ≡ p + 3 + length (termWords (u .term))) where
   abbrev pub body-at : ClauseAt s table p → BodyAt s table first literals

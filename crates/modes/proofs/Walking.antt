@@ -11,16 +11,17 @@ use Rattle.syntax.specs.Terms.{Term, Atom, termOf, Literal, Body, call, equatio
 use Rattle.syntax.specs.Words.{termWords, atomWords, literalWords, bodyWords, bodyLength, marksNumber}
 use Rattle.syntax.specs.declared.Refusal.{Refusal}
 use Rattle.rules.specs.Modes.{Known, everything, isGround, marksFor, listOf, firstFaulty, groundMarked, equate, openInput, undeclaredAtom, undeclaredLiteral, undeclaredBody, literalFault, afterLiteral, Walk, faulted, known, walkOn, bodyFault}
-use Rattle.modes.specs.Standing.{Stands, LiteralStands, call-stands, equation-stands, BodyStands, also-stands}
-use Rattle.modes.specs.Tables.{Has, TermAt, PairAt, MarkedAt, JudgedAt, DeclarationsAt, AtomAt, LiteralAt, BodyAt}
-use Rattle.modes.specs.Answers.{checkedOf, isFault, walkBy, walkOf, literalWalk}
-use Rattle.modes.specs.declared.Checked.{Checked}
-use Rattle.modes.specs.declared.Checked.the-variants.{Fine, Fault}
+use Rattle.marking.specs.Standing.{Stands, LiteralStands, call-stands, equation-stands, BodyStands, also-stands}
+use Rattle.marking.specs.Tables.{Has, TermAt, PairAt, MarkedAt, JudgedAt, DeclarationsAt, AtomAt, LiteralAt, BodyAt}
+use Rattle.marking.specs.Answers.{checkedOf}
+use Rattle.modes.specs.Answers.{isFault, walkBy, walkOf, literalWalk}
+use Rattle.marking.specs.declared.Checked.{Checked}
+use Rattle.marking.specs.declared.Checked.the-variants.{Fine, Fault}
 use Rattle.modes.specs.declared.Walked.{Walked}
-use Rattle.modes.proofs.Places.{has-left, has-right}
-use Rattle.modes.proofs.Equating.{numbered, all-numbered, right-at}
-use Rattle.modes.proofs.Marking.{in-text}
-use Rattle.modes.proofs.Judging.{judged-marked}
+use Rattle.marking.proofs.Places.{has-left, has-right}
+use Rattle.marking.proofs.Equating.{numbered, all-numbered, right-at}
+use Rattle.marking.proofs.Marking.{in-text}
+use Rattle.marking.proofs.Judging.{judged-marked}
 
 -- ---- answers
 

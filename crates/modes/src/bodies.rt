@@ -1,17 +1,17 @@
 // Literals and bodies of a text `g`, by the declarations of a sheet `s`.
-use crate::Checked;
-use crate::Known;
-use crate::VARIABLES;
 use crate::Walked;
 use crate::is_fault;
-use crate::marks::OUTPUT;
-use crate::marks::call_fault;
-use crate::marks::ground_marked;
-use crate::marks::marks_of;
-use crate::marks::undeclared_atom;
-use crate::table::past;
-use crate::table::word_at;
-use crate::terms::equate;
+use marking::Checked;
+use marking::Known;
+use marking::VARIABLES;
+use marking::marks::OUTPUT;
+use marking::marks::call_fault;
+use marking::marks::ground_marked;
+use marking::marks::marks_of;
+use marking::marks::undeclared_atom;
+use marking::table::past;
+use marking::table::word_at;
+use marking::terms::equate;
 ghost use mathlib.Core.Path.{_≡_};
 ghost use mathlib.Core.List.{List};
 ghost use Prim.Native.Nat.{ℕ, _+_};
@@ -19,8 +19,9 @@ ghost use lib.ListN.{length};
 ghost use Rattle.syntax.specs.Terms.{call};
 ghost use Rattle.syntax.specs.Words.{literalWords};
 ghost use Rattle.rules.specs.Modes.{undeclaredLiteral, undeclaredBody, bodyFault};
-ghost use Rattle.modes.specs.Tables.{DeclarationsAt, AtomAt, LiteralAt, BodyAt};
-ghost use Rattle.modes.specs.Answers.{checkedOf, walkOf, literalWalk};
+ghost use Rattle.marking.specs.Tables.{DeclarationsAt, AtomAt, LiteralAt, BodyAt};
+ghost use Rattle.marking.specs.Answers.{checkedOf};
+ghost use Rattle.modes.specs.Answers.{walkOf, literalWalk};
 
 // The first words of literals.
 const TRUTH: usize = 0;

@@ -1,26 +1,26 @@
 // The clauses of a sheet `s`, by its declarations.
-use crate::Checked;
-use crate::VARIABLES;
 use crate::bodies::body_walk;
 use crate::bodies::undeclared_body;
 use crate::is_fault;
-use crate::marks::INPUT;
-use crate::marks::find_atom;
-use crate::marks::ground_marked;
-use crate::marks::head_fault;
-use crate::marks::is_near;
-use crate::marks::marks_of;
-use crate::marks::undeclared_atom;
-use crate::table::past;
-use crate::table::word_at;
+use marking::Checked;
+use marking::VARIABLES;
+use marking::marks::INPUT;
+use marking::marks::find_atom;
+use marking::marks::ground_marked;
+use marking::marks::head_fault;
+use marking::marks::is_near;
+use marking::marks::marks_of;
+use marking::marks::undeclared_atom;
+use marking::table::past;
+use marking::table::word_at;
 ghost use mathlib.Core.Path.{_≡_};
 ghost use mathlib.Core.List.{List};
 ghost use Prim.Native.Nat.{ℕ, _+_};
 ghost use lib.ListN.{length};
 ghost use Rattle.syntax.specs.Words.{clauseWords};
 ghost use Rattle.rules.specs.Modes.{undeclaredClause, undeclaredClauses, clauseFault, clausesFault};
-ghost use Rattle.modes.specs.Tables.{DeclarationsAt, ClauseAt, ClausesAt};
-ghost use Rattle.modes.specs.Answers.{checkedOf};
+ghost use Rattle.marking.specs.Tables.{DeclarationsAt, ClauseAt, ClausesAt};
+ghost use Rattle.marking.specs.Answers.{checkedOf};
 
 // The place past a clause.
 pub fn past_clause(table: &[u32], p: usize) -> usize

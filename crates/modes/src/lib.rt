@@ -1,31 +1,19 @@
 // The mode check: refusals 8 to 10 of document 01, over the tables of words that the parser fills. Document 01 is the paper "Rule sheets".
 pub mod bodies;
 pub mod clauses;
-pub mod marks;
-pub mod table;
-mod terms;
 
 use bodies::body_walk;
 use bodies::undeclared_body;
 use clauses::clauses_fault;
 use clauses::undeclared_clauses;
-use syntax::Refusal;
+use marking::Checked;
+use marking::Known;
+use marking::VARIABLES;
 ghost use mathlib.Core.Path.{_≡_};
 ghost use Rattle.rules.specs.Modes.{sheetFault, goalFault};
-ghost use Rattle.modes.specs.Tables.{SheetAt, GoalAt};
-ghost use Rattle.modes.specs.Answers.{checkedOf, isFault};
-
-// The most variables in a clause or goal.
-pub const VARIABLES: usize = 32;
-
-// What is known ground: a flag for each variable number. An array by value is the list of flags of the definitions, and a store is their `set`.
-pub type Known = [bool; VARIABLES];
-
-// No fault of those looked for, or the first one.
-pub enum Checked {
-    Fine,
-    Fault(Refusal),
-}
+ghost use Rattle.marking.specs.Tables.{SheetAt, GoalAt};
+ghost use Rattle.marking.specs.Answers.{checkedOf};
+ghost use Rattle.modes.specs.Answers.{isFault};
 
 // What a walk along a body gives: its first fault, or what is known ground after it.
 pub struct Walked {

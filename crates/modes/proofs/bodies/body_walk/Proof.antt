@@ -3,7 +3,7 @@ use Prim.Native.Nat.{_≤_, _-_}
 use native.Mathlib.Omega.{arith}
 use mathlib.Core.Path.{sym, _∙_}
 use Rattle.rules.specs.Modes.{bodyFault}
-use Rattle.modes.specs.Tables.{DeclarationsAt, BodyAt}
+use Rattle.marking.specs.Tables.{DeclarationsAt, BodyAt}
 use Rattle.modes.proofs.Walking.{Ahead, begun, turn, walk-ended, walk-faulted, walk-on}
 use Rattle.modes.proofs.bodies.body_walk.Statement.{statement}
 use Rattle.modes.proofs.bodies.body_walk.Tie as tie

@@ -1,7 +1,7 @@
 -- `modes::bodies::call_walk` meets its contract. Assumes nothing.
 use native.Mathlib.Omega.{arith}
 use Rattle.syntax.specs.Terms.{output}
-use Rattle.modes.proofs.Judging.{judged-term, judged-room, judged-marked}
+use Rattle.marking.proofs.Judging.{judged-term, judged-room, judged-marked}
 use Rattle.modes.proofs.Walking.{judged-at, walked-fault}
 use borrow.Author.Needs.{needs}
 use Rattle.modes.proofs.bodies.call_walk.Statement.{statement}

@@ -3,7 +3,7 @@ use Prim.Native.Nat.{_≤_, _-_}
 use native.Mathlib.Omega.{arith}
 use mathlib.Core.Path.{sym, _∙_}
 use Rattle.rules.specs.Modes.{undeclaredBody}
-use Rattle.modes.specs.Tables.{DeclarationsAt, BodyAt}
+use Rattle.marking.specs.Tables.{DeclarationsAt, BodyAt}
 use Rattle.modes.proofs.Walking.{Ahead, begun, turn, body-fine, body-undeclared, body-on}
 use Rattle.modes.proofs.bodies.undeclared_body.Statement.{statement}
 use Rattle.modes.proofs.bodies.undeclared_body.Tie as tie

@@ -1,0 +1,5 @@
+pub mod Places
+pub mod Grounding
+pub mod Equating
+pub mod Marking
+pub mod Judging

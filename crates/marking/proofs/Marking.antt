@@ -1,0 +1,528 @@
+-- Laws of declarations and of arguments with a mark, one for each way out of the functions. Assumes nothing.
+use Prim.Native.Nat.{ℕ, zero, suc, _+_, _-_, _*_, _%_, _/_, _≤_, _<_}
+use native.Mathlib.Numerals.{add-one}
+use native.Mathlib.Omega.{arith}
+use mathlib.Core.Path.{_≡_, refl, sym, ap, ap₂, _∙_, subst, subst⁻¹}
+use mathlib.Core.Bool.{Bool, true, false, not, _&&_}
+use mathlib.Core.List.{List, [], _∷_}
+use mathlib.Core.Option.{Option, none, some}
+use lib.Dec.{eqb}
+use lib.ListN.{length, getD, take, drop, length-append, length-drop}
+use lib.Seq.{length-take-le}
+use borrow.Author.Tests.{eq-eqb, ne-eqb}
+use Rattle.syntax.specs.Terms.{Term, Terms, compound, nil, cons, arity, Atom, termOf, Mark, input, output, free, Declaration, sameBytes, samePredicate}
+use Rattle.syntax.specs.Tokens.{spelling}
+use Rattle.syntax.specs.Words.{termWords, termsWords, declarationWords, declarationsWords, markNumber, marksNumber}
+use Rattle.syntax.specs.declared.Refusal.the-variants.{Undeclared}
+use Rattle.rules.specs.Modes.{Known, isGround, marksOf, orNoMarks, marksFor, sameMark, listOf, faulty, firstFaulty, groundIf, groundMarked, groundTerm, undeclared, undeclaredAtom}
+use Rattle.marking.specs.Standing.{NameAt, AllNumbered, numbered-cons, Stands, AllStand, stands-compound, DeclarationsStand, declaration-stands}
+use Rattle.marking.specs.Tables.{Has, TermAt, DeclarationAt, DeclarationsAt, AtomAt, NamedAt, MarkedAt}
+use Rattle.marking.specs.Answers.{checkedOf, nameOf, numberOr0, position}
+use Rattle.marking.specs.declared.marks.Name.{Name}
+use Rattle.marking.specs.declared.Checked.the-variants.{Fine, Fault}
+use Rattle.marking.proofs.Places.{Says, says as atom-words, Node, node, has-left, has-right, has-inside, sized, cons-long}
+use Rattle.marking.proofs.Equating.{lengths-differ}
+
+-- ---- one declaration
+
+says : (s declared : List ℕ) (p : ℕ) (w : DeclarationAt s declared p)
+    → Node declared p (w .declaration .at) (length (w .declaration .name)) (length (w .declaration .marks)) (marksNumber (w .declaration .marks) ∷ [])
+unfolding declarationWords
+says s declared p w = node declared p _ _ _ _ (w .has)
+
+pub declaration-room : (s declared : List ℕ) (p : ℕ) → DeclarationAt s declared p → p + 2 < length declared
+declaration-room s declared p w = says s declared p w .inside
+
+spelling-long : (g : List ℕ) (at len : ℕ) → at + len ≤ length g → length (spelling g at len) ≡ len
+spelling-long g at len h = length-take-le len (drop at g) (omega (arith, length-drop at g))
+
+module _ (s declared : List ℕ) (p : ℕ) (g : List ℕ) (at len arguments : ℕ) (h : at + len ≤ length g) (count : ℕ) (ec : count ≡ getD declared (p + 2) 0) where
+  pub other-arity : (count ≡ arguments → ⊥) → (w : DeclarationAt s declared p)
+      → false ≡ samePredicate (w .declaration .name) (length (w .declaration .marks)) (spelling g at len) arguments
+  other-arity n w =
+      sym
+      (ap (λ (t : Bool). t && sameBytes (w .declaration .name) (spelling g at len))
+      (ne-eqb (length (w .declaration .marks)) arguments (λ e. n (ec ∙ says s declared p w .third ∙ e))))
+
+  module _ (e : count ≡ arguments) (bytes : ℕ) (eb : bytes ≡ getD declared (p + 1) 0) where
+    by-arity : (w : DeclarationAt s declared p) (t : Bool) → sameBytes (w .declaration .name) (spelling g at len) ≡ t
+        → t ≡ samePredicate (w .declaration .name) (length (w .declaration .marks)) (spelling g at len) arguments
+    by-arity w t k = sym (ap₂ (λ (x y : Bool). x && y) (eq-eqb (length (w .declaration .marks)) arguments (sym (says s declared p w .third) ∙ sym ec ∙ e)) k)
+
+    pub other-length : (bytes ≡ len → ⊥) → (w : DeclarationAt s declared p)
+        → false ≡ samePredicate (w .declaration .name) (length (w .declaration .marks)) (spelling g at len) arguments
+    other-length n w =
+        by-arity w false
+        (lengths-differ (w .declaration .name) (spelling g at len) (λ k. n (eb ∙ says s declared p w .second ∙ k ∙ spelling-long g at len h)))
+
+    module _ (el : bytes ≡ len) (place : ℕ) (ep : place ≡ getD declared p 0) where
+      pub names-inside : DeclarationAt s declared p → (place + len ≤ length s) × (at + len ≤ length g)
+      names-inside w = (omega (arith, says s declared p w .first, says s declared p w .second, w .stands .name .inside), h)
+
+      pub names-same : (r : Bool) → r ≡ sameBytes (take len (drop place s)) (take len (drop at g)) → (w : DeclarationAt s declared p)
+          → r ≡ samePredicate (w .declaration .name) (length (w .declaration .marks)) (spelling g at len) arguments
+      names-same r k w =
+          let n : take len (drop place s) ≡ w .declaration .name =
+          ap₂ (λ (l a : ℕ). take l (drop a s)) (sym el ∙ eb ∙ says s declared p w .second) (ep ∙ says s declared p w .first) ∙ sym (w .stands .name .spelt) in
+          by-arity w r (sym (k ∙ ap (λ (x : List ℕ). sameBytes x (take len (drop at g))) n))
+
+-- ---- the search
+
+position-by : (b : Bool) (d : Declaration) (ds : List Declaration) (name : List ℕ) (n : ℕ) → samePredicate (d .name) (length (d .marks)) name n ≡ b
+    → position (d ∷ ds) name n ≡ elim b as (λ _. ℕ) [ true ↦ 0 | false ↦ suc (position ds name n) ]
+unfolding position
+position-by b d ds name n e = ap (λ (t : Bool). elim t as (λ _. ℕ) [ true ↦ 0 | false ↦ suc (position ds name n) ]) e
+
+position-none : (name : List ℕ) (n : ℕ) → position [] name n ≡ 0
+unfolding position
+position-none name n = refl
+
+-- what is left of the search from the i-th declaration on
+pub record Rest (s declared : List ℕ) (n i : ℕ) (all : List Declaration) (name : List ℕ) (arguments : ℕ) : Type 0 where
+  pub list : List Declaration
+  pub has : Has declared (i * 4) (declarationsWords list)
+  pub count : n ≡ i + length list
+  pub stand : DeclarationsStand s list
+  pub same : position all name arguments ≡ i + position list name arguments
+
+-- the first of them and the others
+pub record Turn (s declared : List ℕ) (n i : ℕ) (all : List Declaration) (name : List ℕ) (arguments : ℕ) : Type 0 where
+  pub first : DeclarationAt s declared (i * 4)
+  pub found : samePredicate (first .declaration .name) (length (first .declaration .marks)) name arguments ≡ true → position all name arguments ≡ i
+  pub on : samePredicate (first .declaration .name) (length (first .declaration .marks)) name arguments ≡ false → Rest s declared n (i + 1) all name arguments
+
+turn-by : (s declared : List ℕ) (n i : ℕ) (all : List Declaration) (name : List ℕ) (arguments : ℕ) (ds : List Declaration) → i < n
+    → Has declared (i * 4) (declarationsWords ds) → n ≡ i + length ds → DeclarationsStand s ds → position all name arguments ≡ i + position ds name arguments
+    → Turn s declared n i all name arguments
+unfolding declarationsWords declarationWords
+turn-by s declared n i all name arguments [] l h c k e = absurd (omega arith)
+turn-by s declared n i all name arguments (d ∷ ds) l h c (declaration-stands k ks) e = record {
+  first = record { declaration = d; has = has-left declared (i * 4) (declarationWords d) (declarationsWords ds) h; stands = k };
+  found = λ b. omega (arith, e, position-by true d ds name arguments b);
+  on = λ b. record {
+    list = ds;
+    has = (let p : i * 4 + 4 ≡ (i + 1) * 4 = omega arith in subst (λ (j : ℕ). Has declared j (declarationsWords ds)) p (has-right declared (i * 4) (declarationWords d) (declarationsWords ds) h));
+    count = omega arith;
+    stand = ks;
+    same = omega (arith, e, position-by false d ds name arguments b);
+  };
+}
+
+module _ (s declared : List ℕ) (n : ℕ) (name : List ℕ) (arguments i : ℕ) where
+  pub searched-first : i ≡ 0 → (w : DeclarationsAt s declared n) → Rest s declared n i (w .list) name arguments
+  searched-first z w = record {
+    list = w .list;
+    has = (let p : i * 4 ≡ 0 = omega arith in subst⁻¹ (λ (j : ℕ). Has declared j (declarationsWords (w .list))) p (w .has));
+    count = omega (arith, w .count);
+    stand = w .stand;
+    same = omega arith;
+  }
+
+  pub searched-all : n ≤ i → ((w : DeclarationsAt s declared n) → Rest s declared n i (w .list) name arguments) → (w : DeclarationsAt s declared n)
+      → n ≡ position (w .list) name arguments
+  searched-all l inv w = by (inv w .list) (inv w .count) (inv w .same)
+    where
+      by : (ds : List Declaration) → n ≡ i + length ds → position (w .list) name arguments ≡ i + position ds name arguments → n ≡ position (w .list) name arguments
+      by [] c e = omega (arith, e, position-none name arguments)
+      by (d ∷ ds) c e = absurd (omega arith)
+
+  module _ (l : i < n) (inv : (w : DeclarationsAt s declared n) → Rest s declared n i (w .list) name arguments) where
+    turn : (w : DeclarationsAt s declared n) → Turn s declared n i (w .list) name arguments
+    turn w = turn-by s declared n i (w .list) name arguments (inv w .list) l (inv w .has) (inv w .count) (inv w .stand) (inv w .same)
+
+    pub declaration-at : DeclarationsAt s declared n → DeclarationAt s declared (i * 4)
+    declaration-at w = turn w .first
+
+    module _ (b : Bool) (eb : (w : DeclarationAt s declared (i * 4)) → b ≡ samePredicate (w .declaration .name) (length (w .declaration .marks)) name arguments) where
+      pub searched-found : b ≡ true → (w : DeclarationsAt s declared n) → i ≡ position (w .list) name arguments
+      searched-found t w = sym (turn w .found (sym (eb (turn w .first)) ∙ t))
+
+      pub searched-on : b ≡ false → (w : DeclarationsAt s declared n) → Rest s declared n (i + 1) (w .list) name arguments
+      searched-on f w = turn w .on (sym (eb (turn w .first)) ∙ f)
+
+-- ---- atoms
+
+pub name-room : {table : List ℕ} {p : ℕ} → NamedAt table p → p + 2 < length table
+name-room {table} {p} w = atom-words table p (w .atom) (w .has) .inside
+
+pub name-least : {table : List ℕ} {p : ℕ} (v : ℕ) → v ≡ getD table p 0 → NamedAt table p → 64 ≤ v
+name-least {table} {p} v e w = omega (arith, atom-words table p (w .atom) (w .has) .what)
+
+pub name-is : {table : List ℕ} {p : ℕ} (v at : ℕ) → v ≡ getD table p 0 → at ≡ getD table (p + 2) 0 → (w : NamedAt table p)
+    → record { at = at; len = (v - 64) % 32; arguments = (v - 64) / 32 } ≡ nameOf (w .atom)
+name-is {table} {p} v at ev ea w =
+    let o : Says table p (w .atom) = atom-words table p (w .atom) (w .has) in
+    let place : at ≡ w .atom .at = ea ∙ o .place in
+    let long : (v - 64) % 32 ≡ length (w .atom .name) = omega (arith, o .what, w .short) in
+    let count : (v - 64) / 32 ≡ arity (w .atom .args) = omega (arith, o .what, w .short) in
+    cc
+
+-- an atom of a text has a short name, and arguments that stand in the text
+pub record InText (g : List ℕ) (a : Atom) : Type 0 where
+  pub name-at : NameAt g (a .at) (a .name)
+  pub stand : AllStand g (a .args)
+
+in-by : (g : List ℕ) (a : Atom) → Stands g (termOf a) → InText g a
+in-by g a (stands-compound n k ks) = record { name-at = n; stand = ks }
+
+pub in-text : {g table : List ℕ} {p : ℕ} (w : AtomAt g table p) → InText g (w .atom)
+in-text {g} w = in-by g (w .atom) (w .stands)
+
+abbrev pub atom-name : {g table : List ℕ} {p : ℕ} → AtomAt g table p → NamedAt table p
+atom-name w = record { atom = w .atom; has = w .has; short = in-text w .name-at .short }
+
+module _ (g table : List ℕ) (p : ℕ) (name : Name) (en : (w : NamedAt table p) → name ≡ nameOf (w .atom)) where
+  at-is : (w : AtomAt g table p) → name .at ≡ w .atom .at
+  at-is w = ap (λ (x : Name). x .at) (en (atom-name w))
+
+  len-is : (w : AtomAt g table p) → name .len ≡ length (w .atom .name)
+  len-is w = ap (λ (x : Name). x .len) (en (atom-name w))
+
+  pub atom-inside : AtomAt g table p → name .at + name .len ≤ length g
+  atom-inside w = omega (arith, at-is w, len-is w, in-text w .name-at .inside)
+
+  pub atom-position : (ds : List Declaration) (w : AtomAt g table p)
+      → position ds (spelling g (name .at) (name .len)) (name .arguments) ≡ position ds (w .atom .name) (arity (w .atom .args))
+  atom-position ds w =
+      ap₂ (position ds) (ap₂ (λ (a l : ℕ). spelling g a l) (at-is w) (len-is w) ∙ sym (in-text w .name-at .spelt)) (ap (λ (x : Name). x .arguments) (en (atom-name w)))
+
+  pub atom-found : (s declared : List ℕ) (n r : ℕ) → ((d : DeclarationsAt s declared n) → r ≡ position (d .list) (spelling g (name .at) (name .len)) (name .arguments))
+      → (d : DeclarationsAt s declared n) (w : AtomAt g table p) → r ≡ position (d .list) (w .atom .name) (arity (w .atom .args))
+  atom-found s declared n r h d w = h d ∙ atom-position (d .list) w
+
+  -- the fault of an atom without declaration
+  pub undeclared-is : (ds : List Declaration) (c l : ℕ) (w : AtomAt g table p) → marksOf ds (w .atom) ≡ none
+      → Fault (Undeclared c l (name .at) (name .len)) ≡ checkedOf (undeclaredAtom ds c l (w .atom))
+  unfolding undeclaredAtom undeclared
+  undeclared-is ds c l w e =
+      ap₂ (λ (a k : ℕ). Fault (Undeclared c l a k)) (at-is w) (len-is w) ∙ sym (ap (λ (o : Option (List Mark)). checkedOf (undeclared c l (w .atom) o)) e)
+
+-- ---- one declaration by its number
+
+pub far : {A : Type 0} → false ≡ true → A
+far e = let y : _≡_ {A = ℕ} 0 1 = cc in absurd (omega arith)
+
+-- where the i-th of some declarations stands, and what it says of the search if it is the one looked for
+record Near (s declared : List ℕ) (p : ℕ) (ds : List Declaration) (name : List ℕ) (arguments : ℕ) : Type 0 where
+  it : DeclarationAt s declared p
+  found : samePredicate (it .declaration .name) (length (it .declaration .marks)) name arguments ≡ true → position ds name arguments < length ds
+
+later-by : (b : Bool) (d : Declaration) (ds : List Declaration) (name : List ℕ) (n : ℕ) → samePredicate (d .name) (length (d .marks)) name n ≡ b
+    → position ds name n < length ds → position (d ∷ ds) name n < suc (length ds)
+later-by true d ds name n e l = omega (arith, position-by true d ds name n e)
+later-by false d ds name n e l = omega (arith, position-by false d ds name n e)
+
+near-by : (s declared : List ℕ) (p : ℕ) (ds : List Declaration) (i : ℕ) (name : List ℕ) (arguments : ℕ) → i < length ds
+    → Has declared p (declarationsWords ds) → DeclarationsStand s ds → Near s declared (p + i * 4) ds name arguments
+unfolding declarationsWords declarationWords
+near-by s declared p [] i name arguments l h k = absurd (omega arith)
+near-by s declared p (d ∷ ds) zero name arguments l h (declaration-stands k ks) =
+    let e : p ≡ p + 0 * 4 = omega arith in
+    subst (λ (j : ℕ). Near s declared j (d ∷ ds) name arguments) e record {
+      it = record { declaration = d; has = has-left declared p (declarationWords d) (declarationsWords ds) h; stands = k };
+      found = λ b. omega (arith, position-by true d ds name arguments b);
+    }
+near-by s declared p (d ∷ ds) (suc i) name arguments l h (declaration-stands k ks) =
+    let e : p + 4 + i * 4 ≡ p + suc i * 4 = omega arith in
+    let o : Near s declared (p + suc i * 4) ds name arguments =
+    subst (λ (j : ℕ). Near s declared j ds name arguments) e
+    (near-by s declared (p + 4) ds i name arguments (omega arith) (has-right declared p (declarationWords d) (declarationsWords ds) h) ks) in
+    record { it = o .it; found = λ b. later-by _ d ds name arguments refl (o .found b) }
+
+module _ (s declared : List ℕ) (n near : ℕ) (l : near < n) where
+  near-of : (name : List ℕ) (arguments : ℕ) (d : DeclarationsAt s declared n) → Near s declared (near * 4) (d .list) name arguments
+  near-of name arguments d =
+      let e : 0 + near * 4 ≡ near * 4 = omega arith in
+      subst (λ (j : ℕ). Near s declared j (d .list) name arguments) e
+      (near-by s declared 0 (d .list) near name arguments (omega (arith, d .count)) (d .has) (d .stand))
+
+  pub near-at : DeclarationsAt s declared n → DeclarationAt s declared (near * 4)
+  near-at d = near-of [] 0 d .it
+
+  pub near-declares : (g table : List ℕ) (p : ℕ) (name : Name) → ((w : NamedAt table p) → name ≡ nameOf (w .atom)) → (q : ℕ) → q ≡ near * 4 → (b : Bool)
+      → ((w : DeclarationAt s declared q) → b ≡ samePredicate (w .declaration .name) (length (w .declaration .marks)) (spelling g (name .at) (name .len)) (name .arguments))
+      → b ≡ true → (d : DeclarationsAt s declared n) (w : AtomAt g table p) → position (d .list) (w .atom .name) (arity (w .atom .args)) < n
+  near-declares g table p name en q eq b eb t d w =
+      let o : Near s declared q (d .list) (spelling g (name .at) (name .len)) (name .arguments) =
+      subst⁻¹ (λ (j : ℕ). Near s declared j (d .list) (spelling g (name .at) (name .len)) (name .arguments)) eq (near-of (spelling g (name .at) (name .len)) (name .arguments) d) in
+      let k : position (d .list) (spelling g (name .at) (name .len)) (name .arguments) < length (d .list) = o .found (sym (eb (o .it)) ∙ t) in
+      let m : position (d .list) (spelling g (name .at) (name .len)) (name .arguments) ≡ position (d .list) (w .atom .name) (arity (w .atom .args)) =
+      atom-position g table p name en (d .list) w in
+      omega (arith, k, m, d .count)
+
+-- ---- the marks of a predicate
+
+-- what the search says of the marks
+pub record MarksFound (declared : List ℕ) (p : ℕ) (ds : List Declaration) (a : Atom) (i : ℕ) : Type 0 where
+  pub marks : List Mark
+  pub is : marksOf ds a ≡ some marks
+  pub inside : p + i * 4 + 3 < length declared
+  pub word : getD declared (p + i * 4 + 3) 0 ≡ marksNumber marks
+
+marks-by : (b : Bool) (d : Declaration) (ds : List Declaration) (a : Atom) → samePredicate (d .name) (length (d .marks)) (a .name) (arity (a .args)) ≡ b
+    → marksOf (d ∷ ds) a ≡ elim b as (λ _. Option (List Mark)) [ true ↦ some (d .marks) | false ↦ marksOf ds a ]
+unfolding marksOf
+marks-by b d ds a e = ap (λ (t : Bool). elim t as (λ _. Option (List Mark)) [ true ↦ some (d .marks) | false ↦ marksOf ds a ]) e
+
+four : (declared : List ℕ) (p a b c m : ℕ) → Has declared p (a ∷ b ∷ c ∷ m ∷ []) → (p + 3 < length declared) × (getD declared (p + 3) 0 ≡ m)
+unfolding Has
+four declared p a b c m h =
+    let o : Node declared p a b c (m ∷ []) = node declared p a b c (m ∷ []) h in
+    let r : (p + 3 < length declared) × ((getD declared (p + 3) 0 ≡ m) × Unit) = o .rest in
+    (r .0, r .1 .0)
+
+found-by : (declared : List ℕ) (p : ℕ) (d : Declaration) (ds : List Declaration) (a : Atom) (b : Bool)
+    → samePredicate (d .name) (length (d .marks)) (a .name) (arity (a .args)) ≡ b → Has declared p (declarationsWords (d ∷ ds))
+    → position (d ∷ ds) (a .name) (arity (a .args)) < suc (length ds)
+    → (Has declared (p + 4) (declarationsWords ds) → position ds (a .name) (arity (a .args)) < length ds → MarksFound declared (p + 4) ds a (position ds (a .name) (arity (a .args))))
+    → MarksFound declared p (d ∷ ds) a (position (d ∷ ds) (a .name) (arity (a .args)))
+unfolding declarationsWords declarationWords
+found-by declared p d ds a true e h l more =
+    let q : (p + 3 < length declared) × (getD declared (p + 3) 0 ≡ marksNumber (d .marks)) = four declared p _ _ _ _ (has-left declared p (declarationWords d) (declarationsWords ds) h) in
+    let z : position (d ∷ ds) (a .name) (arity (a .args)) ≡ 0 = position-by true d ds (a .name) (arity (a .args)) e in
+    let k : p + 3 ≡ p + position (d ∷ ds) (a .name) (arity (a .args)) * 4 + 3 = omega arith in
+    record {
+      marks = d .marks;
+      is = marks-by true d ds a e;
+      inside = omega (arith, q .0);
+      word = subst (λ (j : ℕ). getD declared j 0 ≡ marksNumber (d .marks)) k (q .1);
+    }
+found-by declared p d ds a false e h l more =
+    let z : position (d ∷ ds) (a .name) (arity (a .args)) ≡ suc (position ds (a .name) (arity (a .args))) = position-by false d ds (a .name) (arity (a .args)) e in
+    let q : MarksFound declared (p + 4) ds a (position ds (a .name) (arity (a .args))) = more (has-right declared p (declarationWords d) (declarationsWords ds) h) (omega arith) in
+    let k : p + 4 + position ds (a .name) (arity (a .args)) * 4 + 3 ≡ p + position (d ∷ ds) (a .name) (arity (a .args)) * 4 + 3 = omega arith in
+    record {
+      marks = q .marks;
+      is = marks-by false d ds a e ∙ q .is;
+      inside = omega (arith, q .inside);
+      word = subst (λ (j : ℕ). getD declared j 0 ≡ marksNumber (q .marks)) k (q .word);
+    }
+
+found-at : (declared : List ℕ) (p : ℕ) (ds : List Declaration) (a : Atom) → Has declared p (declarationsWords ds)
+    → position ds (a .name) (arity (a .args)) < length ds → MarksFound declared p ds a (position ds (a .name) (arity (a .args)))
+found-at declared p [] a h l = absurd (omega arith)
+found-at declared p (d ∷ ds) a h l = found-by declared p d ds a _ refl h l (λ h1 l1. found-at declared (p + 4) ds a h1 l1)
+
+marks-empty : (a : Atom) → marksOf [] a ≡ none
+unfolding marksOf
+marks-empty a = refl
+
+none-by : (d : Declaration) (ds : List Declaration) (a : Atom) (b : Bool) → samePredicate (d .name) (length (d .marks)) (a .name) (arity (a .args)) ≡ b
+    → suc (length ds) ≤ position (d ∷ ds) (a .name) (arity (a .args)) → (length ds ≤ position ds (a .name) (arity (a .args)) → marksOf ds a ≡ none)
+    → marksOf (d ∷ ds) a ≡ none
+none-by d ds a true e l more = absurd (omega (arith, position-by true d ds (a .name) (arity (a .args)) e))
+none-by d ds a false e l more = marks-by false d ds a e ∙ more (omega (arith, position-by false d ds (a .name) (arity (a .args)) e))
+
+none-found : (ds : List Declaration) (a : Atom) → length ds ≤ position ds (a .name) (arity (a .args)) → marksOf ds a ≡ none
+none-found [] a l = marks-empty a
+none-found (d ∷ ds) a l = none-by d ds a _ refl l (λ l1. none-found ds a l1)
+
+pub near-fine : (s declared : List ℕ) (n : ℕ) (g table : List ℕ) (p c k : ℕ) (d : DeclarationsAt s declared n) (w : AtomAt g table p)
+    → position (d .list) (w .atom .name) (arity (w .atom .args)) < n → Fine ≡ checkedOf (undeclaredAtom (d .list) c k (w .atom))
+unfolding undeclaredAtom undeclared
+near-fine s declared n g table p c k d w l =
+    sym
+    (ap (λ (o : Option (List Mark)). checkedOf (undeclared c k (w .atom) o))
+    (found-at declared 0 (d .list) (w .atom) (d .has) (omega (arith, l, d .count)) .is))
+
+module _ (s declared : List ℕ) (n : ℕ) (g table : List ℕ) (p i : ℕ)
+    (ei : (d : DeclarationsAt s declared n) (w : AtomAt g table p) → i ≡ position (d .list) (w .atom .name) (arity (w .atom .args))) where
+  module _ (l : i < n) where
+    found : (d : DeclarationsAt s declared n) (w : AtomAt g table p) → MarksFound declared 0 (d .list) (w .atom) i
+    found d w =
+        subst⁻¹ (MarksFound declared 0 (d .list) (w .atom)) (ei d w) (found-at declared 0 (d .list) (w .atom) (d .has) (omega (arith, ei d w, d .count)))
+
+    pub marks-inside : DeclarationsAt s declared n → AtomAt g table p → i * 4 + 3 < length declared
+    marks-inside d w = omega (arith, found d w .inside)
+
+    pub marks-word : (q r : ℕ) → q ≡ i * 4 + 3 → r ≡ getD declared q 0 → (d : DeclarationsAt s declared n) (w : AtomAt g table p) → r ≡ marksNumber (marksFor (d .list) (w .atom))
+    unfolding marksFor orNoMarks
+    marks-word q r e h d w =
+        let k : q ≡ 0 + i * 4 + 3 = omega arith in
+        h ∙ ap (λ (j : ℕ). getD declared j 0) k ∙ found d w .word ∙ sym (ap (λ (o : Option (List Mark)). marksNumber (orNoMarks o)) (found d w .is))
+
+    pub declared-fine : (c k : ℕ) (d : DeclarationsAt s declared n) (w : AtomAt g table p) → Fine ≡ checkedOf (undeclaredAtom (d .list) c k (w .atom))
+    unfolding undeclaredAtom undeclared
+    declared-fine c k d w = sym (ap (λ (o : Option (List Mark)). checkedOf (undeclared c k (w .atom) o)) (found d w .is))
+
+  module _ (l : n ≤ i) where
+    pub not-found : (d : DeclarationsAt s declared n) (w : AtomAt g table p) → marksOf (d .list) (w .atom) ≡ none
+    not-found d w = none-found (d .list) (w .atom) (omega (arith, ei d w, d .count))
+
+    pub marks-none : (d : DeclarationsAt s declared n) (w : AtomAt g table p) → 0 ≡ marksNumber (marksFor (d .list) (w .atom))
+    unfolding marksFor orNoMarks marksNumber
+    marks-none d w = sym (ap (λ (o : Option (List Mark)). marksNumber (orNoMarks o)) (not-found d w))
+
+-- ---- arguments with a mark
+
+mark-some : (m : Mark) → 1 ≤ markNumber m
+mark-some input = omega arith
+mark-some output = omega arith
+mark-some free = omega arith
+
+same-number : (m k : Mark) → eqb (markNumber k) (markNumber m) ≡ sameMark m k
+unfolding sameMark
+same-number input input = refl
+same-number input output = refl
+same-number input free = refl
+same-number output input = refl
+same-number output output = refl
+same-number output free = refl
+same-number free input = refl
+same-number free output = refl
+same-number free free = refl
+
+lowest : (k : Mark) (ks : List Mark) → (marksNumber (k ∷ ks) % 4 ≡ markNumber k) × (marksNumber (k ∷ ks) / 4 ≡ marksNumber ks)
+unfolding marksNumber
+lowest input ks = omega arith
+lowest output ks = omega arith
+lowest free ks = omega arith
+
+-- the first argument and the others, with their marks
+pub record Marked (table : List ℕ) (p stop marks mark : ℕ) (m : Mark) (ms : List Mark) (ts : Terms) : Type 0 where
+  pub first : TermAt table p
+  pub rest : MarkedAt table (p + length (termWords (first .term))) stop (marks / 4) mark
+  pub fault-is : (test : Term → Bool) (n : ℕ)
+      → firstFaulty m test ms (listOf ts) n ≡ elim (eqb (marks % 4) mark && not (test (first .term))) as (λ _. Option ℕ) [ true ↦ some n | false ↦ firstFaulty (rest .wanted) test (rest .listed) (listOf (rest .terms)) (suc n) ]
+  pub ground-is : (τ : Known) → groundMarked m ms (listOf ts) τ ≡ groundMarked (rest .wanted) (rest .listed) (listOf (rest .terms)) (groundIf (eqb (marks % 4) mark) (first .term) τ)
+
+-- the mark of the first argument, and what is left of the marks
+record Lowest (marks mark : ℕ) (m : Mark) (ms : List Mark) (t : Term) (ts : Terms) : Type 0 where
+  left : List Mark
+  number : marks / 4 ≡ marksNumber left
+  fault-is : (test : Term → Bool) (n : ℕ)
+      → firstFaulty m test ms (t ∷ listOf ts) n ≡ elim (eqb (marks % 4) mark && not (test t)) as (λ _. Option ℕ) [ true ↦ some n | false ↦ firstFaulty m test left (listOf ts) (suc n) ]
+  ground-is : (τ : Known) → groundMarked m ms (t ∷ listOf ts) τ ≡ groundMarked m left (listOf ts) (groundIf (eqb (marks % 4) mark) t τ)
+
+no-marks : (marks mark : ℕ) (m : Mark) (t : Term) (ts : Terms) → marks ≡ marksNumber [] → mark ≡ markNumber m → Lowest marks mark m [] t ts
+unfolding marksNumber firstFaulty groundMarked groundIf
+no-marks marks mark m t ts em ew =
+    let no : eqb (marks % 4) mark ≡ false = ne-eqb (marks % 4) mark (λ e. omega (arith, mark-some m)) in
+    record {
+      left = [];
+      number = omega arith;
+      fault-is = λ test n. sym (ap (λ (b : Bool). elim (b && not (test t)) as (λ _. Option ℕ) [ true ↦ some n | false ↦ none ]) no);
+      ground-is = λ τ. sym (ap (λ (b : Bool). groundIf b t τ) no);
+    }
+
+one-mark : (marks mark : ℕ) (m k : Mark) (ks : List Mark) (t : Term) (ts : Terms) → marks ≡ marksNumber (k ∷ ks) → mark ≡ markNumber m → Lowest marks mark m (k ∷ ks) t ts
+unfolding firstFaulty groundMarked groundIf faulty
+one-mark marks mark m k ks t ts em ew =
+    let is : eqb (marks % 4) mark ≡ sameMark m k = ap₂ eqb (ap (λ (x : ℕ). x % 4) em ∙ lowest k ks .0) ew ∙ same-number m k in
+    record {
+      left = ks;
+      number = ap (λ (x : ℕ). x / 4) em ∙ lowest k ks .1;
+      fault-is = λ test n. sym (ap (λ (b : Bool). elim (b && not (test t)) as (λ _. Option ℕ) [ true ↦ some n | false ↦ firstFaulty m test ks (listOf ts) (suc n) ]) is);
+      ground-is = λ τ. sym (ap (λ (b : Bool). groundMarked m ks (listOf ts) (groundIf b t τ)) is);
+    }
+
+lowest-of : (marks mark : ℕ) (m : Mark) (ms : List Mark) (t : Term) (ts : Terms) → marks ≡ marksNumber ms → mark ≡ markNumber m → Lowest marks mark m ms t ts
+lowest-of marks mark m [] t ts em ew = no-marks marks mark m t ts em ew
+lowest-of marks mark m (k ∷ ks) t ts em ew = one-mark marks mark m k ks t ts em ew
+
+marked-by : (table : List ℕ) (p stop marks mark : ℕ) (m : Mark) (ms : List Mark) (ts : Terms) → p < stop → Has table p (termsWords ts)
+    → stop ≡ p + length (termsWords ts) → AllNumbered ts → marks ≡ marksNumber ms → mark ≡ markNumber m → Marked table p stop marks mark m ms ts
+unfolding termWords
+marked-by table p stop marks mark m ms nil l h e k em ew = absurd (omega arith)
+marked-by table p stop marks mark m ms (cons t ts) l h e (numbered-cons k ks) em ew =
+    let o : Lowest marks mark m ms t ts = lowest-of marks mark m ms t ts em ew in
+    record {
+      first = record { term = t; has = has-left table p (termWords t) (termsWords ts) h; numbered = k };
+      rest = record {
+        terms = ts;
+        has = has-right table p (termWords t) (termsWords ts) h;
+        ends = omega (arith, length-append (termWords t) (termsWords ts));
+        numbered = ks;
+        listed = o .left;
+        number = o .number;
+        wanted = m;
+        wanted-is = ew;
+      };
+      fault-is = o .fault-is;
+      ground-is = o .ground-is;
+    }
+
+none-marked : (ms : List Mark) (m : Mark) (ts : Terms) (p stop : ℕ) → stop ≤ p → stop ≡ p + length (termsWords ts)
+    → ((test : Term → Bool) (n : ℕ) → firstFaulty m test ms (listOf ts) n ≡ none) × ((τ : Known) → groundMarked m ms (listOf ts) τ ≡ τ)
+unfolding firstFaulty groundMarked
+none-marked [] m ts p stop l e = ((λ test n. refl), (λ τ. refl))
+none-marked (k ∷ ks) m nil p stop l e = ((λ test n. refl), (λ τ. refl))
+none-marked (k ∷ ks) m (cons t ts) p stop l e = absurd (omega (arith, cons-long t ts))
+
+pub open-other : (table : List ℕ) (p marks mark : ℕ) (τ : Known) → (marks % 4 ≡ mark → ⊥) → (w : TermAt table p) → false ≡ (eqb (marks % 4) mark && not (isGround τ (w .term)))
+open-other table p marks mark τ n w = sym (ap (λ (b : Bool). b && not (isGround τ (w .term))) (ne-eqb (marks % 4) mark n))
+
+pub open-same : (table : List ℕ) (p marks mark : ℕ) (τ : Known) → marks % 4 ≡ mark → (b : Bool) → ((w : TermAt table p) → b ≡ isGround τ (w .term))
+    → (w : TermAt table p) → not b ≡ (eqb (marks % 4) mark && not (isGround τ (w .term)))
+open-same table p marks mark τ e b h w = ap not (h w) ∙ sym (ap (λ (x : Bool). x && not (isGround τ (w .term))) (eq-eqb (marks % 4) mark e))
+
+ends-inside : (table : List ℕ) (p : ℕ) (ts : Terms) → Has table p (termsWords ts) → 0 < length (termsWords ts) → p + length (termsWords ts) ≤ length table
+ends-inside table p ts h l = has-inside table p (termsWords ts) h l
+
+module _ (table : List ℕ) (p stop marks mark : ℕ) (τ : Known) where
+  pub none-open : (number : ℕ) → stop ≤ p → (w : MarkedAt table p stop marks mark) → 0 ≡ numberOr0 (firstFaulty (w .wanted) (isGround τ) (w .listed) (listOf (w .terms)) number)
+  none-open number l w = sym (ap numberOr0 (none-marked (w .listed) (w .wanted) (w .terms) p stop l (w .ends) .0 (isGround τ) number))
+
+  pub none-given : stop ≤ p → (w : MarkedAt table p stop marks mark) → τ ≡ groundMarked (w .wanted) (w .listed) (listOf (w .terms)) τ
+  none-given l w = sym (none-marked (w .listed) (w .wanted) (w .terms) p stop l (w .ends) .1 τ)
+
+  module _ (l : p < stop) where
+    pub marked : (w : MarkedAt table p stop marks mark) → Marked table p stop marks mark (w .wanted) (w .listed) (w .terms)
+    marked w = marked-by table p stop marks mark (w .wanted) (w .listed) (w .terms) l (w .has) (w .ends) (w .numbered) (w .number) (w .wanted-is)
+
+    pub marked-first : MarkedAt table p stop marks mark → TermAt table p
+    marked-first w = marked w .first
+
+    pub found-open : (number : ℕ) (b : Bool) → ((w : TermAt table p) → b ≡ (eqb (marks % 4) mark && not (isGround τ (w .term)))) → b ≡ true
+        → (w : MarkedAt table p stop marks mark) → number ≡ numberOr0 (firstFaulty (w .wanted) (isGround τ) (w .listed) (listOf (w .terms)) number)
+    found-open number b h e w =
+        sym
+        (ap numberOr0
+        (marked w .fault-is (isGround τ) number
+        ∙ ap (λ (x : Bool). elim x as (λ _. Option ℕ) [ true ↦ some number | false ↦ firstFaulty (marked w .rest .wanted) (isGround τ) (marked w .rest .listed) (listOf (marked w .rest .terms)) (suc number) ]) (sym (h (marked w .first)) ∙ e)))
+
+    module _ (next : ℕ) (n : (u : TermAt table p) → next ≡ p + length (termWords (u .term))) where
+      pub marked-further : MarkedAt table p stop marks mark → (p + 3 ≤ next) × ((next ≤ stop) × (stop ≤ length table))
+      marked-further w =
+          omega
+          (arith, n (marked w .first), sized table p (marked w .first) .long, marked w .rest .ends, ends-inside table p (w .terms) (w .has) (omega (arith, w .ends)), w .ends)
+
+      pub marked-rest : MarkedAt table p stop marks mark → MarkedAt table next stop (marks / 4) mark
+      marked-rest w = subst⁻¹ (λ (k : ℕ). MarkedAt table k stop (marks / 4) mark) (n (marked w .first)) (marked w .rest)
+
+      pub open-on : (number more : ℕ) (b : Bool) → ((w : TermAt table p) → b ≡ (eqb (marks % 4) mark && not (isGround τ (w .term)))) → b ≡ false → more ≡ number + 1
+          → (r : ℕ) → ((w : MarkedAt table next stop (marks / 4) mark) → r ≡ numberOr0 (firstFaulty (w .wanted) (isGround τ) (w .listed) (listOf (w .terms)) more))
+          → (w : MarkedAt table p stop marks mark) → r ≡ numberOr0 (firstFaulty (w .wanted) (isGround τ) (w .listed) (listOf (w .terms)) number)
+      open-on number more b h e em r k w =
+          let q : Marked table p stop marks mark (w .wanted) (w .listed) (w .terms) = marked w in
+          let k1 : (u : MarkedAt table (p + length (termWords (q .first .term))) stop (marks / 4) mark) → r ≡ numberOr0 (firstFaulty (u .wanted) (isGround τ) (u .listed) (listOf (u .terms)) more) =
+          subst (λ (j : ℕ). (u : MarkedAt table j stop (marks / 4) mark) → r ≡ numberOr0 (firstFaulty (u .wanted) (isGround τ) (u .listed) (listOf (u .terms)) more)) (n (q .first)) k in
+          k1 (q .rest)
+          ∙ ap (λ (j : ℕ). numberOr0 (firstFaulty (q .rest .wanted) (isGround τ) (q .rest .listed) (listOf (q .rest .terms)) j)) (em ∙ add-one number)
+          ∙ sym
+          (ap numberOr0
+          (q .fault-is (isGround τ) number
+          ∙ ap (λ (x : Bool). elim x as (λ _. Option ℕ) [ true ↦ some number | false ↦ firstFaulty (q .rest .wanted) (isGround τ) (q .rest .listed) (listOf (q .rest .terms)) (suc number) ]) (sym (h (q .first)) ∙ e)))
+
+      given-on : (b : Bool) (σ r : Known) (w : MarkedAt table p stop marks mark) → eqb (marks % 4) mark ≡ b → σ ≡ groundIf b (marked w .first .term) τ
+          → ((u : MarkedAt table next stop (marks / 4) mark) → r ≡ groundMarked (u .wanted) (u .listed) (listOf (u .terms)) σ)
+          → r ≡ groundMarked (w .wanted) (w .listed) (listOf (w .terms)) τ
+      given-on b σ r w e es k =
+          let q : Marked table p stop marks mark (w .wanted) (w .listed) (w .terms) = marked w in
+          let k1 : (u : MarkedAt table (p + length (termWords (q .first .term))) stop (marks / 4) mark) → r ≡ groundMarked (u .wanted) (u .listed) (listOf (u .terms)) σ =
+          subst (λ (j : ℕ). (u : MarkedAt table j stop (marks / 4) mark) → r ≡ groundMarked (u .wanted) (u .listed) (listOf (u .terms)) σ) (n (q .first)) k in
+          k1 (q .rest)
+          ∙ ap (groundMarked (q .rest .wanted) (q .rest .listed) (listOf (q .rest .terms))) (es ∙ ap (λ (x : Bool). groundIf x (q .first .term) τ) (sym e))
+          ∙ sym (q .ground-is τ)
+
+      pub given-same : marks % 4 ≡ mark → (σ r : Known) → ((u : TermAt table p) → σ ≡ groundTerm (u .term) τ)
+          → ((u : MarkedAt table next stop (marks / 4) mark) → r ≡ groundMarked (u .wanted) (u .listed) (listOf (u .terms)) σ)
+          → (w : MarkedAt table p stop marks mark) → r ≡ groundMarked (w .wanted) (w .listed) (listOf (w .terms)) τ
+      unfolding groundIf
+      given-same e σ r h k w = given-on true σ r w (eq-eqb (marks % 4) mark e) (h (marked w .first)) k
+
+      pub given-other : (marks % 4 ≡ mark → ⊥) → (r : Known)
+          → ((u : MarkedAt table next stop (marks / 4) mark) → r ≡ groundMarked (u .wanted) (u .listed) (listOf (u .terms)) τ)
+          → (w : MarkedAt table p stop marks mark) → r ≡ groundMarked (w .wanted) (w .listed) (listOf (w .terms)) τ
+      unfolding groundIf
+      given-other e r k w = given-on false τ r w (ne-eqb (marks % 4) mark e) refl k

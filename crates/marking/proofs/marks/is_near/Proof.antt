@@ -1,0 +1,24 @@
+-- `marking::marks::is_near` meets its contract. Assumes nothing.
+use native.Mathlib.Omega.{arith}
+use mathlib.Core.Path.{refl}
+use Rattle.marking.proofs.Marking.{declaration-room, atom-name, atom-inside, far, near-at, near-declares}
+use Rattle.marking.proofs.marks.is_near.Statement.{statement}
+use Rattle.marking.proofs.marks.is_near.Tie as tie
+
+returns : tie.Need-returns
+returns c = λ e d w. far e
+
+name-at-requires : tie.Need-name-at-requires
+name-at-requires c κs = atom-name (c .before .before .before .before .before .pre .1)
+
+mul-q : tie.Need-mul-q
+mul-q c = omega (arith, declaration-room (c .before .before .before .before .before .before .args .s .now) (c .before .before .before .before .before .before .args .declared .now) _ (near-at (c .before .before .before .before .before .before .args .s .now) (c .before .before .before .before .before .before .args .declared .now) (c .before .before .before .before .before .before .args .n) (c .before .before .before .before .before .before .args .near) (c .before .if1 .left) (c .before .before .before .before .before .before .pre .0)))
+
+declares-requires : tie.Need-declares-requires
+declares-requires c κs = (near-at (c .before .before .before .before .before .before .args .s .now) (c .before .before .before .before .before .before .args .declared .now) (c .before .before .before .before .before .before .args .n) (c .before .before .before .before .before .before .args .near) (c .before .if1 .left) (c .before .before .before .before .before .before .pre .0), atom-inside (c .before .before .before .before .before .before .args .g .now) (c .before .before .before .before .before .before .args .table .now) (c .before .before .before .before .before .before .args .p) (c .name-at .result) (c .name-at .ensures) (c .before .before .before .before .before .before .pre .1))
+
+returns-2 : tie.Need-returns-2
+returns-2 c = near-declares (c .before .before .before .before .before .before .before .args .s .now) (c .before .before .before .before .before .before .before .args .declared .now) (c .before .before .before .before .before .before .before .args .n) (c .before .before .before .before .before .before .before .args .near) (c .before .before .if1 .left) (c .before .before .before .before .before .before .before .args .g .now) (c .before .before .before .before .before .before .before .args .table .now) (c .before .before .before .before .before .before .before .args .p) (c .before .name-at .result) (c .before .name-at .ensures) _ refl (c .declares .result) (c .declares .ensures)
+
+pub is-near-spec : {M : Type 1} → statement M
+is-near-spec = tie.close (tie.spec returns name-at-requires mul-q declares-requires returns-2)

@@ -1,0 +1,52 @@
+-- `marking::terms::same_functor` meets its contract. Assumes nothing.
+use native.Mathlib.Omega.{arith}
+use Rattle.marking.proofs.Places.{room-three}
+use Rattle.marking.proofs.Equating.{left-at, right-at, functors-differ, functors-inside, functors-same}
+use borrow.Author.Needs.{needs}
+use Rattle.marking.proofs.terms.same_functor.Statement.{statement}
+use Rattle.marking.proofs.terms.same_functor.Tie as tie
+
+word-at-requires : tie.Need-word-at-requires
+word-at-requires c κs = omega (arith, room-three (c .before .before .args .table .now) (c .before .before .args .p) (left-at (c .before .before .pre .0)))
+
+word-at-requires-2 : tie.Need-word-at-requires-2
+word-at-requires-2 c κs = omega (arith, room-three (c .before .before .before .args .table .now) (c .before .before .before .args .q) (right-at (c .before .before .before .pre .0)))
+
+returns : tie.Need-returns
+returns c = functors-differ (c .before .before .before .before .before .args .s .now) (c .before .before .before .before .before .args .table .now) (c .before .before .before .before .before .args .p) (c .before .before .before .before .before .args .q) (c .before .before .word-at .result) (c .before .word-at2 .result) (c .before .before .word-at .ensures) (c .before .word-at2 .ensures) (c .before .before .before .before .before .pre .1) (c .if1 .taken)
+
+add-word-at : tie.Need-add-word-at
+add-word-at c = omega (arith, room-three (c .before .before .before .before .before .args .table .now) (c .before .before .before .before .before .args .p) (left-at (c .before .before .before .before .before .pre .0)))
+
+word-at-requires-3 : tie.Need-word-at-requires-3
+word-at-requires-3 c κs = omega (arith, room-three (c .before .before .before .before .before .args .table .now) (c .before .before .before .before .before .args .p) (left-at (c .before .before .before .before .before .pre .0)))
+
+add-word-at-2 : tie.Need-add-word-at-2
+add-word-at-2 c = omega (arith, room-three (c .before .before .before .before .before .before .args .table .now) (c .before .before .before .before .before .before .args .q) (right-at (c .before .before .before .before .before .before .pre .0)))
+
+word-at-requires-4 : tie.Need-word-at-requires-4
+word-at-requires-4 c κs = omega (arith, room-three (c .before .before .before .before .before .before .args .table .now) (c .before .before .before .before .before .before .args .q) (right-at (c .before .before .before .before .before .before .pre .0)))
+
+sub-len : tie.Need-sub-len
+sub-len c = search needs
+
+same-bytes-requires : tie.Need-same-bytes-requires
+same-bytes-requires c κs = functors-inside (c .before .before .before .before .before .before .before .args .s .now) (c .before .before .before .before .before .before .before .args .table .now) (c .before .before .before .before .before .before .before .args .p) (c .before .before .before .before .before .before .before .args .q) (c .before .before .before .before .word-at .result) (c .before .before .before .word-at2 .result) (c .before .before .before .before .word-at .ensures) (c .before .before .before .word-at2 .ensures) (c .before .before .before .before .before .before .before .pre .1) (c .before .before .if1 .left) (c .before .word-at3 .result) (c .word-at4 .result) (c .before .word-at3 .ensures) (c .word-at4 .ensures) (c .before .before .before .before .before .before .before .pre .0)
+
+returns-2 : tie.Need-returns-2
+returns-2 c = functors-same (c .before .before .before .before .before .before .before .before .args .s .now) (c .before .before .before .before .before .before .before .before .args .table .now) (c .before .before .before .before .before .before .before .before .args .p) (c .before .before .before .before .before .before .before .before .args .q) (c .before .before .before .before .before .word-at .result) (c .before .before .before .before .word-at2 .result) (c .before .before .before .before .before .word-at .ensures) (c .before .before .before .before .word-at2 .ensures) (c .before .before .before .before .before .before .before .before .pre .1) (c .before .before .before .if1 .left) (c .before .before .word-at3 .result) (c .before .word-at4 .result) (c .before .before .word-at3 .ensures) (c .before .word-at4 .ensures) (c .same-bytes .result) (c .same-bytes .ensures)
+
+pub same-functor-spec : {M : Type 1} → statement M
+same-functor-spec =
+    tie.close
+    (tie.spec
+    word-at-requires
+    word-at-requires-2
+    returns
+    add-word-at
+    word-at-requires-3
+    add-word-at-2
+    word-at-requires-4
+    sub-len
+    same-bytes-requires
+    returns-2)

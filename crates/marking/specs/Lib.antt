@@ -1,0 +1,4 @@
+pub mod Functors
+pub mod Standing
+pub mod Tables
+pub mod Answers

@@ -1,0 +1,300 @@
+// The marks of a predicate, and the arguments that have one of them.
+use crate::Checked;
+use crate::Known;
+use crate::table::past;
+use crate::table::word_at;
+use crate::terms::NAMED;
+use crate::terms::ground_term;
+use crate::terms::is_ground;
+use syntax::Refusal;
+ghost use mathlib.Core.Path.{_≡_};
+ghost use mathlib.Core.Bool.{true, not, _&&_};
+ghost use Prim.Native.Nat.{_+_, _%_, _≤_, _<_};
+ghost use lib.Dec.{eqb};
+ghost use lib.ListN.{length};
+ghost use Rattle.syntax.specs.Tokens.{spelling};
+ghost use Rattle.syntax.specs.Terms.{arity, samePredicate, input, output};
+ghost use Rattle.syntax.specs.Words.{marksNumber};
+ghost use Rattle.rules.specs.Modes.{isGround, marksFor, listOf, firstFaulty, groundMarked, undeclaredAtom, openInput, openOutput};
+ghost use Rattle.marking.specs.Tables.{TermAt, DeclarationAt, DeclarationsAt, AtomAt, NamedAt, MarkedAt, JudgedAt};
+ghost use Rattle.marking.specs.Answers.{checkedOf, nameOf, numberOr0, position};
+
+// The numbers of the marks + and -.
+pub const INPUT: usize = 1;
+
+pub const OUTPUT: usize = 2;
+
+// The words of a declaration: place and length of its name, number of marks, the marks.
+const ENTRY: usize = 4;
+
+// The name of an atom: its byte, its length, and the number of arguments behind it.
+pub struct Name {
+    pub at: usize,
+    pub len: usize,
+    pub arguments: usize,
+}
+
+// The name of the atom at a place.
+fn name_at(table: &[u32], p: usize) -> Name
+    requires { ⌜ NamedAt (now table) p ⌝ }
+    ensures { λ r. ⌜ ((w : NamedAt (now (table .entry)) p) → r ≡ nameOf (w .atom)) ⌝ }
+{
+    let what = word_at(table, p) - NAMED;
+    let at = word_at(table, p + 2);
+    Name {
+        at,
+        len: what % 32,
+        arguments: what / 32,
+    }
+}
+
+// Whether the declaration at a place is of the predicate whose name is the part of `g` at `at`, `len` bytes long.
+fn declares(
+    s: &[u8],
+    declared: &[u32],
+    p: usize,
+    g: &[u8],
+    at: usize,
+    len: usize,
+    arguments: usize,
+) -> bool
+    requires { ⌜ DeclarationAt (now s) (now declared) p ⌝ }
+    requires { ⌜ at + len ≤ length (now g) ⌝ }
+    ensures { λ r. ⌜ ((w : DeclarationAt (now (s .entry)) (now (declared .entry)) p) → r ≡ samePredicate (w .declaration .name) (length (w .declaration .marks)) (spelling (now (g .entry)) at len) arguments) ⌝ }
+{
+    let count = word_at(declared, p + 2);
+    if count != arguments {
+        return false;
+    }
+    let bytes = word_at(declared, p + 1);
+    if bytes != len {
+        return false;
+    }
+    let place = word_at(declared, p);
+    lexer::same_bytes(s, place, g, at, len)
+}
+
+// The search for a predicate's declaration: which of the `n` it is, or `n` where there is none.
+pub fn find(
+    s: &[u8],
+    declared: &[u32],
+    n: usize,
+    g: &[u8],
+    at: usize,
+    len: usize,
+    arguments: usize,
+) -> usize
+    requires { ⌜ DeclarationsAt (now s) (now declared) n ⌝ }
+    requires { ⌜ at + len ≤ length (now g) ⌝ }
+    ensures { λ r. ⌜ ((w : DeclarationsAt (now (s .entry)) (now (declared .entry)) n) → r ≡ position (w .list) (spelling (now (g .entry)) at len) arguments) ⌝ }
+{
+    let mut i = 0;
+    while i < n {
+        let p = i * ENTRY;
+        if declares(s, declared, p, g, at, len, arguments) {
+            return i;
+        }
+        i += 1;
+    }
+    n
+}
+
+// The same for the predicate of the atom at a place.
+pub fn find_atom(s: &[u8], declared: &[u32], n: usize, g: &[u8], table: &[u32], p: usize) -> usize
+    requires { ⌜ DeclarationsAt (now s) (now declared) n ⌝ }
+    requires { ⌜ AtomAt (now g) (now table) p ⌝ }
+    ensures { λ r. ⌜ ((d : DeclarationsAt (now (s .entry)) (now (declared .entry)) n) (w : AtomAt (now (g .entry)) (now (table .entry)) p) → r ≡ position (d .list) (w .atom .name) (arity (w .atom .args))) ⌝ }
+{
+    let name = name_at(table, p);
+    let at = name.at;
+    let len = name.len;
+    let arguments = name.arguments;
+    find(s, declared, n, g, at, len, arguments)
+}
+
+// Whether the declaration numbered `near` is one of the predicate of the atom at a place. Clauses of a predicate stand together and call it,
+// so the declaration found last is worth a try before a search.
+pub fn is_near(
+    s: &[u8],
+    declared: &[u32],
+    n: usize,
+    g: &[u8],
+    table: &[u32],
+    p: usize,
+    near: usize,
+) -> bool
+    requires { ⌜ DeclarationsAt (now s) (now declared) n ⌝ }
+    requires { ⌜ AtomAt (now g) (now table) p ⌝ }
+    ensures { λ r. ⌜ (r ≡ true → (d : DeclarationsAt (now (s .entry)) (now (declared .entry)) n) (w : AtomAt (now (g .entry)) (now (table .entry)) p) → position (d .list) (w .atom .name) (arity (w .atom .args)) < n) ⌝ }
+{
+    if n <= near {
+        return false;
+    }
+    let name = name_at(table, p);
+    let at = name.at;
+    let len = name.len;
+    let arguments = name.arguments;
+    let q = near * ENTRY;
+    declares(s, declared, q, g, at, len, arguments)
+}
+
+// The marks of the predicate of the atom at a place, in one number; 0 where it has no declaration.
+pub fn marks_of(s: &[u8], declared: &[u32], n: usize, g: &[u8], table: &[u32], p: usize) -> usize
+    requires { ⌜ DeclarationsAt (now s) (now declared) n ⌝ }
+    requires { ⌜ AtomAt (now g) (now table) p ⌝ }
+    ensures { λ r. ⌜ ((d : DeclarationsAt (now (s .entry)) (now (declared .entry)) n) (w : AtomAt (now (g .entry)) (now (table .entry)) p) → r ≡ marksNumber (marksFor (d .list) (w .atom))) ⌝ }
+{
+    let i = find_atom(s, declared, n, g, table, p);
+    if i < n {
+        let q = i * ENTRY + 3;
+        return word_at(declared, q);
+    }
+    0
+}
+
+// The fault of a head or call that has no declaration; the one numbered `near` is tried first.
+pub fn undeclared_atom(
+    s: &[u8],
+    declared: &[u32],
+    n: usize,
+    g: &[u8],
+    table: &[u32],
+    p: usize,
+    clause: usize,
+    literal: usize,
+    near: usize,
+) -> Checked
+    requires { ⌜ DeclarationsAt (now s) (now declared) n ⌝ }
+    requires { ⌜ AtomAt (now g) (now table) p ⌝ }
+    ensures { λ r. ⌜ ((d : DeclarationsAt (now (s .entry)) (now (declared .entry)) n) (w : AtomAt (now (g .entry)) (now (table .entry)) p) → r ≡ checkedOf (undeclaredAtom (d .list) clause literal (w .atom))) ⌝ }
+{
+    if is_near(s, declared, n, g, table, p, near) {
+        return Checked::Fine;
+    }
+    let i = find_atom(s, declared, n, g, table, p);
+    if i < n {
+        return Checked::Fine;
+    }
+    let name = name_at(table, p);
+    let at = name.at;
+    let len = name.len;
+    Checked::Fault(Refusal::Undeclared {
+        clause,
+        literal,
+        at,
+        len,
+    })
+}
+
+// Whether a term, whose mark is the lowest of `marks`, has the mark and is not ground.
+fn is_open(table: &[u32], p: usize, marks: usize, mark: usize, known: Known) -> bool
+    requires { ⌜ TermAt (now table) p ⌝ }
+    ensures { λ r. ⌜ ((w : TermAt (now (table .entry)) p) → r ≡ (eqb (marks % 4) mark && not (isGround known (w .term)))) ⌝ }
+{
+    if marks % 4 != mark {
+        return false;
+    }
+    !is_ground(table, p, known)
+}
+
+// The number, counted from `number`, of the first of the terms up to a place that has the mark and is not ground; 0 where there is none.
+fn first_open(
+    table: &[u32],
+    p: usize,
+    stop: usize,
+    marks: usize,
+    mark: usize,
+    known: Known,
+    number: usize,
+) -> usize
+    requires { ⌜ MarkedAt (now table) p stop marks mark ⌝ }
+    requires { ⌜ number + stop ≤ length (now table) + p ⌝ }
+    ensures { λ r. ⌜ ((w : MarkedAt (now (table .entry)) p stop marks mark) → r ≡ numberOr0 (firstFaulty (w .wanted) (isGround known) (w .listed) (listOf (w .terms)) number)) ⌝ }
+{
+    if stop <= p {
+        return 0;
+    }
+    if is_open(table, p, marks, mark, known) {
+        return number;
+    }
+    let next = past(table, p);
+    let rest = marks / 4;
+    let more = number + 1;
+    first_open(table, next, stop, rest, mark, known, more)
+}
+
+// What is known once the variables of the terms up to a place that have the mark are ground.
+pub fn ground_marked(
+    table: &[u32],
+    p: usize,
+    stop: usize,
+    marks: usize,
+    mark: usize,
+    known: Known,
+) -> Known
+    requires { ⌜ MarkedAt (now table) p stop marks mark ⌝ }
+    ensures { λ r. ⌜ ((w : MarkedAt (now (table .entry)) p stop marks mark) → r ≡ groundMarked (w .wanted) (w .listed) (listOf (w .terms)) known) ⌝ }
+{
+    if stop <= p {
+        return known;
+    }
+    let next = past(table, p);
+    let rest = marks / 4;
+    if marks % 4 == mark {
+        let after = ground_term(table, p, known);
+        return ground_marked(table, next, stop, rest, mark, after);
+    }
+    ground_marked(table, next, stop, rest, mark, known)
+}
+
+// The fault of a call, by its marks: the first + argument that is not ground.
+pub fn call_fault(
+    table: &[u32],
+    p: usize,
+    marks: usize,
+    known: Known,
+    clause: usize,
+    literal: usize,
+) -> Checked
+    requires { ⌜ JudgedAt (now table) p marks ⌝ }
+    ensures { λ r. ⌜ ((w : JudgedAt (now (table .entry)) p marks) → r ≡ checkedOf (openInput clause literal (w .atom) (firstFaulty input (isGround known) (w .listed) (listOf (w .atom .args)) 1))) ⌝ }
+{
+    let from = p + 3;
+    let stop = past(table, p);
+    let argument = first_open(table, from, stop, marks, INPUT, known, 1);
+    if argument == 0 {
+        return Checked::Fine;
+    }
+    let name = name_at(table, p);
+    let at = name.at;
+    let len = name.len;
+    Checked::Fault(Refusal::OpenInput {
+        clause,
+        literal,
+        argument,
+        at,
+        len,
+    })
+}
+
+// The fault of a head after its body, by its marks: the first - argument that is not ground.
+pub fn head_fault(table: &[u32], p: usize, marks: usize, known: Known, clause: usize) -> Checked
+    requires { ⌜ JudgedAt (now table) p marks ⌝ }
+    ensures { λ r. ⌜ ((w : JudgedAt (now (table .entry)) p marks) → r ≡ checkedOf (openOutput clause (w .atom) (firstFaulty output (isGround known) (w .listed) (listOf (w .atom .args)) 1))) ⌝ }
+{
+    let from = p + 3;
+    let stop = past(table, p);
+    let argument = first_open(table, from, stop, marks, OUTPUT, known, 1);
+    if argument == 0 {
+        return Checked::Fine;
+    }
+    let name = name_at(table, p);
+    let at = name.at;
+    let len = name.len;
+    Checked::Fault(Refusal::OpenOutput {
+        clause,
+        argument,
+        at,
+        len,
+    })
+}

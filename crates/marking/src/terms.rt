@@ -1,0 +1,141 @@
+// What is known ground of terms in a node table: each function on a term and the one on a list of terms call each other, as far as the
+// brackets go.
+use crate::Known;
+use crate::VARIABLES;
+use crate::table::past;
+use crate::table::word_at;
+ghost use mathlib.Core.Path.{_≡_};
+ghost use Prim.Native.Nat.{_≤_};
+ghost use lib.ListN.{getD};
+ghost use Rattle.rules.specs.Modes.{isGround, areGround, groundTerm, groundTerms, equateVariable, equate, equateAll};
+ghost use Rattle.marking.specs.Tables.{TermAt, TermsAt, PairAt, PairsAt};
+ghost use Rattle.marking.specs.Functors.{sameFunctor};
+
+// From this word on a node is a name, with 32 more for each argument and its length added; below it is a variable's number.
+pub const NAMED: usize = 64;
+
+// Whether a term is ground.
+pub fn is_ground(table: &[u32], p: usize, known: Known) -> bool
+    requires { ⌜ TermAt (now table) p ⌝ }
+    ensures { λ r. ⌜ ((w : TermAt (now (table .entry)) p) → r ≡ isGround known (w .term)) ⌝ }
+{
+    let v = word_at(table, p);
+    if v < NAMED {
+        return known[v];
+    }
+    let from = p + 3;
+    let stop = past(table, p);
+    are_ground(table, from, stop, known)
+}
+
+// Whether all terms up to a place are ground.
+fn are_ground(table: &[u32], p: usize, stop: usize, known: Known) -> bool
+    requires { ⌜ TermsAt (now table) p stop ⌝ }
+    ensures { λ r. ⌜ ((w : TermsAt (now (table .entry)) p stop) → r ≡ areGround known (w .terms)) ⌝ }
+{
+    if stop <= p {
+        return true;
+    }
+    if !is_ground(table, p, known) {
+        return false;
+    }
+    let next = past(table, p);
+    are_ground(table, next, stop, known)
+}
+
+// What is known once all variables of a term are ground.
+pub fn ground_term(table: &[u32], p: usize, known: Known) -> Known
+    requires { ⌜ TermAt (now table) p ⌝ }
+    ensures { λ r. ⌜ ((w : TermAt (now (table .entry)) p) → r ≡ groundTerm (w .term) known) ⌝ }
+{
+    let v = word_at(table, p);
+    if v < NAMED {
+        let mut after = known;
+        after[v] = true;
+        return after;
+    }
+    let from = p + 3;
+    let stop = past(table, p);
+    ground_terms(table, from, stop, known)
+}
+
+// The same of all terms up to a place.
+fn ground_terms(table: &[u32], p: usize, stop: usize, known: Known) -> Known
+    requires { ⌜ TermsAt (now table) p stop ⌝ }
+    ensures { λ r. ⌜ ((w : TermsAt (now (table .entry)) p stop) → r ≡ groundTerms (w .terms) known) ⌝ }
+{
+    if stop <= p {
+        return known;
+    }
+    let after = ground_term(table, p, known);
+    let next = past(table, p);
+    ground_terms(table, next, stop, after)
+}
+
+// The effect of an equation with a variable on either side.
+fn equate_variable(table: &[u32], p: usize, q: usize, known: Known) -> Known
+    requires { ⌜ TermAt (now table) p ⌝ }
+    requires { ⌜ TermAt (now table) q ⌝ }
+    ensures { λ r. ⌜ ((t : TermAt (now (table .entry)) p) (u : TermAt (now (table .entry)) q) → r ≡ equateVariable (t .term) (u .term) known) ⌝ }
+{
+    if is_ground(table, p, known) {
+        let left = ground_term(table, p, known);
+        return ground_term(table, q, left);
+    }
+    if is_ground(table, q, known) {
+        let left = ground_term(table, p, known);
+        return ground_term(table, q, left);
+    }
+    known
+}
+
+// Whether two terms that are no variables have the same name and number of arguments.
+fn same_functor(s: &[u8], table: &[u32], p: usize, q: usize) -> bool
+    requires { ⌜ PairAt (now s) (now table) p q ⌝ }
+    requires { ⌜ (64 ≤ getD (now table) p 0) × (64 ≤ getD (now table) q 0) ⌝ }
+    ensures { λ r. ⌜ ((w : PairAt (now (s .entry)) (now (table .entry)) p q) → r ≡ sameFunctor (w .left) (w .right)) ⌝ }
+{
+    let v = word_at(table, p);
+    let w = word_at(table, q);
+    if v != w {
+        return false;
+    }
+    let a = word_at(table, p + 2);
+    let b = word_at(table, q + 2);
+    let len = (v - NAMED) % 32;
+    lexer::same_bytes(s, a, s, b, len)
+}
+
+// The effect of an equation of two terms of the text.
+pub fn equate(s: &[u8], table: &[u32], p: usize, q: usize, known: Known) -> Known
+    requires { ⌜ PairAt (now s) (now table) p q ⌝ }
+    ensures { λ r. ⌜ ((w : PairAt (now (s .entry)) (now (table .entry)) p q) → r ≡ equate (w .left) (w .right) known) ⌝ }
+{
+    if word_at(table, p) < NAMED {
+        return equate_variable(table, p, q, known);
+    }
+    if word_at(table, q) < NAMED {
+        return equate_variable(table, p, q, known);
+    }
+    if !same_functor(s, table, p, q) {
+        return [true; VARIABLES];
+    }
+    let from = p + 3;
+    let stop = past(table, p);
+    let other = q + 3;
+    equate_all(s, table, from, stop, other, known)
+}
+
+// The effect of the equations of two lists of as many terms, from left to right.
+fn equate_all(s: &[u8], table: &[u32], p: usize, stop: usize, q: usize, known: Known) -> Known
+    requires { ⌜ PairsAt (now s) (now table) p stop q ⌝ }
+    ensures { λ r. ⌜ ((w : PairsAt (now (s .entry)) (now (table .entry)) p stop q) → r ≡ equateAll (w .left) (w .right) known) ⌝ }
+{
+    if stop <= p {
+        return known;
+    }
+    let after = equate(s, table, p, q, known);
+    let next = past(table, p);
+    let other = past(table, q);
+    equate_all(s, table, next, stop, other, after)
+}
