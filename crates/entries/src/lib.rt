@@ -1,5 +1,5 @@
 // The entries of a sheet's declarations, for a caller who lends a list of them. The functions that take the list are proved by walks of their code.
-use modes::table::word_at;
+use marking::table::word_at;
 use pilvaust::Listing;
 use pilvaust::check_listing;
 use pilvaust::read_listing;

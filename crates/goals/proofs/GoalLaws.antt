@@ -21,10 +21,10 @@ use Rattle.syntax.specs.declared.Run.the-variants.{Ended as ended-by, Refused a
 use Rattle.rules.specs.Modes.{goalFault}
 use Rattle.rules.specs.Checking.{faultless, checkedGoalFrom, checkedGoal}
 use Rattle.machine.specs.Runs.{RunOutcome, stopped, reported, run, overGoal, runAnswer, runText}
-use Rattle.modes.specs.Tables.{GoalAt}
-use Rattle.modes.specs.Answers.{checkedOf}
-use Rattle.modes.specs.declared.Checked.{Checked}
-use Rattle.modes.specs.declared.Checked.the-variants.{Fine, Fault}
+use Rattle.marking.specs.Tables.{GoalAt}
+use Rattle.marking.specs.Answers.{checkedOf}
+use Rattle.marking.specs.declared.Checked.{Checked}
+use Rattle.marking.specs.declared.Checked.the-variants.{Fine, Fault}
 use Rattle.layout.proofs.Limits.{goal-limited}
 use Rattle.runs.specs.Running.{Runs}
 use Rattle.programs.specs.Programs.{Programmed}

@@ -5,7 +5,7 @@ use mathlib.Core.List.{List}
 use lib.ListN.{length}
 use lib.Seq.{sets}
 use Rattle.syntax.specs.declared.Run.{Run}
-use Rattle.modes.specs.Tables.{SheetAt}
+use Rattle.marking.specs.Tables.{SheetAt}
 use Rattle.machine.specs.Runs.{RunOutcome, runAnswer, runText}
 use Rattle.layout.specs.Limits.{SheetLimited}
 

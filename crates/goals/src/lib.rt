@@ -1,5 +1,5 @@
 // A goal over a sheet that was checked and stands in its tables: the goal checked, and the goal run.
-use modes::Checked;
+use marking::Checked;
 use programs::run_program;
 use syntax::Refusal;
 use syntax::Run;

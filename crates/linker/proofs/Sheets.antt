@@ -10,8 +10,8 @@ use Rattle.syntax.specs.Terms.{termOf, Body, Clause, Sheet}
 use Rattle.syntax.specs.Words.{atomWords, bodyWords, bodyLength, clauseWords, clausesWords}
 use Rattle.machine.specs.Machine.{nextFor}
 use Rattle.machine.proofs.Tests.{both}
-use Rattle.modes.specs.Tables.{Has}
-use Rattle.modes.proofs.Places.{has-left, has-right, size-is}
+use Rattle.marking.specs.Tables.{Has}
+use Rattle.marking.proofs.Places.{has-left, has-right, size-is}
 use Rattle.layout.specs.Nodes.{Symbol, loadedWords, isLoadable, Has as HasNodes}
 use Rattle.layout.specs.Limits.{ClausesLimited}
 use Rattle.layout.specs.Program.{bodyNodes, clauseNodes, clausesNodes, bodyLoadable, clausesLoadable}

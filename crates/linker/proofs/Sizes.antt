@@ -8,8 +8,8 @@ use lib.Arith.{digits-div}
 use lib.ListN.{length, getD, length-append}
 use Rattle.syntax.specs.Terms.{Term, Terms, variable, compound, nil, cons, Atom, termOf, Literal, call, equation, truth, falsity, Body, done, also, Clause}
 use Rattle.syntax.specs.Words.{termWords, termsWords, atomWords, literalWords, bodyWords, bodyLength, clauseWords}
-use Rattle.modes.specs.Tables.{Has}
-use Rattle.modes.proofs.Places.{has-left, has-right, has-inside, Node, node, long-term, size-is}
+use Rattle.marking.specs.Tables.{Has}
+use Rattle.marking.proofs.Places.{has-left, has-right, has-inside, Node, node, long-term, size-is}
 use Rattle.layout.specs.Nodes.{Symbol, loadedWords, loadedAll}
 use Rattle.layout.specs.Program.{literalNodes, bodyNodes, clauseNodes}
 use Rattle.linker.specs.Places.{BodyAt}

@@ -10,8 +10,8 @@ use Rattle.syntax.specs.Terms.{Term, Atom, Literal, call, equation, truth, fals
 use Rattle.syntax.specs.Words.{literalWords, bodyWords, bodyLength, clauseWords}
 use Rattle.machine.specs.Machine.{isFor, firstFor, nextFor}
 use Rattle.machine.proofs.Tests.{both}
-use Rattle.modes.specs.Tables.{Has}
-use Rattle.modes.proofs.Places.{has-left, has-right}
+use Rattle.marking.specs.Tables.{Has}
+use Rattle.marking.proofs.Places.{has-left, has-right}
 use Rattle.layout.specs.Nodes.{Symbol, loadedWords, Has as HasNodes}
 use Rattle.layout.specs.Program.{literalNodes, bodyNodes, clauseNodes, literalLoadable, bodyLoadable}
 use Rattle.layout.proofs.Nodes.{has-end, size-word, words-some, has-left as nodes-left, has-right as nodes-right}

@@ -7,7 +7,7 @@ use lib.ListN.{length, replicate, length-replicate}
 use Rattle.syntax.specs.Quote.{bytes}
 use Rattle.syntax.specs.Terms.{Atom, nil, call, done, also, Sheet, Goal, sameBytes}
 use Rattle.syntax.specs.Words.{termWords, literalWords, bodyWords, clauseWords, clausesWords}
-use Rattle.modes.specs.Tables.{Has}
+use Rattle.marking.specs.Tables.{Has}
 use Rattle.layout.specs.Nodes.{Symbol, symbolOf, isSymbol, isListed, loadedWords, isLoadable, bracketsOf}
 use Rattle.layout.specs.Program.{literalNodes, bodyNodes, clauseNodes, clausesNodes, programNodes, literalLoadable, bodyLoadable, clausesLoadable}
 use Rattle.linker.specs.Linking.{Linkable}

@@ -6,7 +6,7 @@ use lib.Dec.{T}
 use lib.ListN.{length}
 use Rattle.syntax.specs.Terms.{Sheet, Goal}
 use Rattle.syntax.specs.Words.{bodyWords, bodyLength, clausesWords}
-use Rattle.modes.specs.Tables.{Has}
+use Rattle.marking.specs.Tables.{Has}
 use Rattle.layout.specs.Nodes.{Symbol, Has as HasNodes}
 use Rattle.layout.specs.Limits.{SheetLimited, GoalLimited}
 use Rattle.layout.specs.Program.{programNodes, bodyLoadable, clausesLoadable}

@@ -6,7 +6,7 @@ use lib.Dec.{T}
 use lib.ListN.{length}
 use Rattle.syntax.specs.Terms.{termOf, Literal, Body, Clause, Sheet}
 use Rattle.syntax.specs.Words.{literalWords, bodyWords, bodyLength, clauseWords, clausesWords}
-use Rattle.modes.specs.Tables.{Has}
+use Rattle.marking.specs.Tables.{Has}
 use Rattle.layout.specs.Nodes.{Symbol, Stands, isLoadable, Has as HasNodes}
 use Rattle.layout.specs.Limits.{ClausesLimited}
 use Rattle.layout.specs.Program.{literalNodes, bodyNodes, clauseNodes, clausesNodes, literalLoadable, bodyLoadable, clausesLoadable, headAt}

@@ -7,7 +7,7 @@ use crate::walk::CALL;
 use crate::walk::nodes_of;
 use crate::walk::past;
 use crate::walk::past_literal;
-use modes::table::word_at;
+use marking::table::word_at;
 ghost use mathlib.Core.Path.{_≡_};
 ghost use mathlib.Core.List.{List};
 ghost use Rattle.syntax.specs.Terms.{Literal, Body, Sheet};

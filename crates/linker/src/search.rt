@@ -1,6 +1,6 @@
 // Clauses sought by predicate: the first word of a head's node says which it is.
 use crate::records::RECORD;
-use modes::table::word_at;
+use marking::table::word_at;
 ghost use mathlib.Core.Path.{_≡_};
 ghost use Prim.Native.Nat.{_+_, _-_, _*_, _≤_, _<_};
 ghost use lib.ListN.{length, getD};

@@ -1,11 +1,11 @@
 // Places in the tables.
-use modes::table::word_at;
+use marking::table::word_at;
 ghost use mathlib.Core.Path.{_≡_};
 ghost use Prim.Native.Nat.{ℕ, _+_, _*_, _≤_, _<_};
 ghost use lib.ListN.{length, getD};
 ghost use Rattle.syntax.specs.Terms.{Literal, Body};
 ghost use Rattle.syntax.specs.Words.{literalWords, bodyWords};
-ghost use Rattle.modes.specs.Tables.{Has};
+ghost use Rattle.marking.specs.Tables.{Has};
 ghost use Rattle.linker.specs.Places.{BodyAt};
 
 // The kind of a call. Truth and falsehood have the kinds below it, an equation has the one above.

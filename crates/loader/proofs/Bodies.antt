@@ -6,9 +6,9 @@ use mathlib.Core.List.{List, [], _∷_, _++_}
 use lib.ListN.{length, length-append}
 use Rattle.syntax.specs.Terms.{Term, Terms, variable, compound, nil, cons, arity, termOf, Literal, Body, call, equation, truth, falsity, done, also}
 use Rattle.syntax.specs.Words.{functor, termWords, termsWords, literalWords, bodyWords, bodyLength}
-use Rattle.modes.specs.Standing.{Stands, AllStand, stands-variable, stands-compound, stand-nil, stand-cons, LiteralStands, call-stands, equation-stands, truth-stands, falsity-stands, BodyStands, also-stands}
-use Rattle.modes.specs.Tables.{Has, LiteralAt}
-use Rattle.modes.proofs.Places.{has-left, has-right}
+use Rattle.marking.specs.Standing.{Stands, AllStand, stands-variable, stands-compound, stand-nil, stand-cons, LiteralStands, call-stands, equation-stands, truth-stands, falsity-stands, BodyStands, also-stands}
+use Rattle.marking.specs.Tables.{Has, LiteralAt}
+use Rattle.marking.proofs.Places.{has-left, has-right}
 use Rattle.loader.specs.Flat.{Parsed, parsedWords, termParsed, termsParsed, literalParsed, bodyParsed, flatWords, flatWhat, flatAll, AllFit, written, RunAt, BodyHere}
 use Rattle.loader.proofs.Writing.{written-nil, written-append}
 

@@ -6,10 +6,10 @@ use mathlib.Core.List.{List, [], _∷_, _++_}
 use lib.ListN.{length, getD, length-append}
 use Rattle.syntax.specs.Terms.{termOf, Body, done, also, Clause}
 use Rattle.syntax.specs.Words.{termWords, atomWords, literalWords, bodyWords, bodyLength, clauseWords, clausesWords}
-use Rattle.modes.specs.Standing.{ClausesStand, clause-stands}
-use Rattle.modes.specs.Tables.{Has, TermAt, ClauseAt}
-use Rattle.modes.proofs.Places.{has-left, has-right, Node, node}
-use Rattle.modes.proofs.Equating.{numbered}
+use Rattle.marking.specs.Standing.{ClausesStand, clause-stands}
+use Rattle.marking.specs.Tables.{Has, TermAt, ClauseAt}
+use Rattle.marking.proofs.Places.{has-left, has-right, Node, node}
+use Rattle.marking.proofs.Equating.{numbered}
 use Rattle.loader.specs.Flat.{parsedWords, termParsed, literalParsed, bodyParsed, clauseParsed, clausesParsed, flatWords, flatAll, written, RunAt, BodyHere, ClauseHere, ClausesHere}
 use Rattle.loader.proofs.Writing.{written-nil, written-append}
 use Rattle.loader.proofs.Bodies.{parsed-append, flat-append, flat-length, term-words, term-fits, literal-long}

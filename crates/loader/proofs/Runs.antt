@@ -6,8 +6,8 @@ use mathlib.Core.Bool.{Bool, cond}
 use mathlib.Core.List.{List, [], _∷_}
 use lib.ListN.{length, getD, set}
 use borrow.Author.Tests.{lt-ltb, le-ltb}
-use Rattle.modes.specs.Tables.{Has}
-use Rattle.modes.proofs.Places.{Node, node}
+use Rattle.marking.specs.Tables.{Has}
+use Rattle.marking.proofs.Places.{Node, node}
 use Rattle.loader.specs.Flat.{Parsed, parsedWords, flatWords, flatWhat, flatAll, Fits, AllFit, written, RunAt}
 use Rattle.loader.proofs.Writing.{written-nil, written-two}
 

@@ -6,8 +6,8 @@ use mathlib.Core.List.{List, [], _∷_, _++_}
 use lib.Dec.{T}
 use lib.ListN.{length, length-append}
 use Rattle.syntax.specs.Words.{bodyWords, clausesWords}
-use Rattle.modes.specs.Tables.{Has}
-use Rattle.modes.proofs.Places.{has-inside}
+use Rattle.marking.specs.Tables.{Has}
+use Rattle.marking.proofs.Places.{has-inside}
 use Rattle.layout.specs.Nodes.{Symbol, nameOf, Has as HasNodes}
 use Rattle.layout.specs.Program.{bodyNodes, clausesNodes, programNodes, bodyLoadable, clausesLoadable}
 use Rattle.answers.specs.Words.{textOf, nameAt, Placed, Names}

@@ -6,8 +6,8 @@ use mathlib.Core.List.{List, [], _∷_}
 use lib.ListN.{length, replicate, length-replicate}
 use Rattle.syntax.specs.Terms.{truth, done, also}
 use Rattle.syntax.specs.Words.{literalWords, bodyWords, clausesWords}
-use Rattle.modes.specs.Standing.{no-clauses, truth-stands, done-stands, also-stands}
-use Rattle.modes.specs.Tables.{Has}
+use Rattle.marking.specs.Standing.{no-clauses, truth-stands, done-stands, also-stands}
+use Rattle.marking.specs.Tables.{Has}
 use Rattle.loader.specs.Loading.{Loadable}
 
 -- room for the nodes, and for the symbols

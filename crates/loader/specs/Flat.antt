@@ -7,8 +7,8 @@ use lib.Dec.{ltb}
 use lib.ListN.{length, set}
 use Rattle.syntax.specs.Terms.{Term, Terms, variable, compound, nil, cons, arity, termOf, Literal, Body, call, equation, truth, falsity, done, also, Clause}
 use Rattle.syntax.specs.Words.{functor, termsWords, bodyWords, bodyLength, clauseWords, clausesWords}
-use Rattle.modes.specs.Standing.{BodyStands, ClauseStands, ClausesStand}
-use Rattle.modes.specs.Tables.{Has}
+use Rattle.marking.specs.Standing.{BodyStands, ClauseStands, ClausesStand}
+use Rattle.marking.specs.Tables.{Has}
 
 -- ---- nodes as they were read
 

@@ -6,8 +6,8 @@ use lib.Dec.{T}
 use lib.ListN.{length}
 use Rattle.syntax.specs.Terms.{Sheet, Goal}
 use Rattle.syntax.specs.Words.{bodyWords, bodyLength, clausesWords}
-use Rattle.modes.specs.Standing.{BodyStands, ClausesStand}
-use Rattle.modes.specs.Tables.{Has}
+use Rattle.marking.specs.Standing.{BodyStands, ClausesStand}
+use Rattle.marking.specs.Tables.{Has}
 use Rattle.layout.specs.Nodes.{Symbol, Has as HasNodes}
 use Rattle.layout.specs.Program.{programNodes, bodyLoadable, clausesLoadable}
 use Rattle.answers.specs.Words.{Names}

@@ -1,8 +1,8 @@
 // The nodes of terms copied one behind the other, a name by its place.
+use marking::table::past;
+use marking::table::word_at;
 use modes::bodies::past_literal;
 use modes::clauses::past_clause;
-use modes::table::past;
-use modes::table::word_at;
 ghost use mathlib.Core.Path.{_≡_};
 ghost use Prim.Native.Nat.{_+_, _*_, _/_, _≤_, _<_};
 ghost use lib.ListN.{length};

@@ -19,7 +19,7 @@ use Rattle.syntax.specs.declared.Entry.{Entry}
 use Rattle.syntax.specs.declared.Declared.{Declared}
 use Rattle.syntax.specs.declared.Declared.the-variants.{As, Nothing}
 use Rattle.rules.specs.Checking.{checkedSheet, checkVerdict}
-use Rattle.modes.specs.Tables.{Has}
+use Rattle.marking.specs.Tables.{Has}
 use Rattle.tables.specs.Tables.{Tabled}
 use Rattle.pilvaust.specs.Listings.{overlay, declaredOf, listedOf, entryFrom, pasted, Lists}
 use Rattle.pilvaust.specs.declared.Listing.{Listing}

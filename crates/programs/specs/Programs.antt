@@ -5,8 +5,8 @@ use mathlib.Core.List.{List}
 use lib.ListN.{length, getD}
 use Rattle.syntax.specs.Terms.{Sheet, Goal}
 use Rattle.syntax.specs.Words.{bodyWords, bodyLength, clausesWords}
-use Rattle.modes.specs.Standing.{BodyStands, ClausesStand}
-use Rattle.modes.specs.Tables.{Has}
+use Rattle.marking.specs.Standing.{BodyStands, ClausesStand}
+use Rattle.marking.specs.Tables.{Has}
 use Rattle.layout.specs.Nodes.{Symbol}
 use Rattle.layout.specs.Limits.{SheetLimited, GoalLimited}
 use Rattle.layout.specs.Program.{Program}

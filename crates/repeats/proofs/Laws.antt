@@ -15,10 +15,10 @@ use Rattle.syntax.specs.Tokens.{spelling}
 use Rattle.syntax.specs.Terms.{Declaration, sameName, samePredicate, true-name, fail-name}
 use Rattle.syntax.specs.Reading.{declares, repeats, firstRepeat}
 use Rattle.syntax.specs.Words.{declarationWords, declarationsWords}
-use Rattle.modes.specs.Standing.{DeclarationStands, DeclarationsStand, no-declarations, declaration-stands}
-use Rattle.modes.specs.Tables.{Has, DeclarationsAt}
-use Rattle.modes.specs.Answers.{position}
-use Rattle.modes.proofs.Places.{has-left, has-right}
+use Rattle.marking.specs.Standing.{DeclarationStands, DeclarationsStand, no-declarations, declaration-stands}
+use Rattle.marking.specs.Tables.{Has, DeclarationsAt}
+use Rattle.marking.specs.Answers.{position}
+use Rattle.marking.proofs.Places.{has-left, has-right}
 use Rattle.repeats.specs.Repeating.{repeatOf, nth}
 use Rattle.repeats.specs.declared.Repeat.{Repeat}
 

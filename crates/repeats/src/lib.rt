@@ -1,6 +1,6 @@
 // Refusal 7 of document 01: a declaration that repeats an earlier predicate, or names `true` or `fail` without arguments.
-use modes::marks::find;
-use modes::table::word_at;
+use marking::marks::find;
+use marking::table::word_at;
 use reading::cursor::is_fail;
 use reading::cursor::is_true;
 ghost use mathlib.Core.Path.{_≡_};
@@ -8,7 +8,7 @@ ghost use mathlib.Core.List.{[]};
 ghost use Prim.Native.Nat.{_<_};
 ghost use lib.ListN.{take};
 ghost use Rattle.syntax.specs.Reading.{repeats, firstRepeat};
-ghost use Rattle.modes.specs.Tables.{DeclarationsAt};
+ghost use Rattle.marking.specs.Tables.{DeclarationsAt};
 ghost use Rattle.repeats.specs.Repeating.{repeatOf, nth};
 
 // Whether a declaration is at fault, and its byte.

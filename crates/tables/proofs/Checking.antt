@@ -15,11 +15,11 @@ use Rattle.syntax.specs.declared.Verdict.{Verdict}
 use Rattle.syntax.specs.declared.Verdict.the-variants.{Accepted, Refused}
 use Rattle.rules.specs.Modes.{sheetFault, goalFault}
 use Rattle.rules.specs.Checking.{faultless, checkedFrom, checkedSheet, checkVerdict, checkedGoalFrom, checkedGoal, goalAnswer, checkGoalFrom, checkGoalVerdict}
-use Rattle.modes.specs.Standing.{SheetStands, DeclarationsStand}
-use Rattle.modes.specs.Tables.{Has, SheetAt, GoalAt}
-use Rattle.modes.specs.Answers.{checkedOf}
-use Rattle.modes.specs.declared.Checked.{Checked}
-use Rattle.modes.specs.declared.Checked.the-variants.{Fine, Fault}
+use Rattle.marking.specs.Standing.{SheetStands, DeclarationsStand}
+use Rattle.marking.specs.Tables.{Has, SheetAt, GoalAt}
+use Rattle.marking.specs.Answers.{checkedOf}
+use Rattle.marking.specs.declared.Checked.{Checked}
+use Rattle.marking.specs.declared.Checked.the-variants.{Fine, Fault}
 use Rattle.tables.specs.Tables.{Tabled, GoalStanding, GoalTabled, Over}
 use Rattle.tables.specs.declared.GoalRead.{GoalRead}
 use Rattle.tables.proofs.Laws.{never}

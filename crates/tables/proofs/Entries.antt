@@ -24,8 +24,8 @@ use Rattle.syntax.specs.declared.Declared.the-variants.{As, Nothing}
 use Rattle.reading.specs.declared.Parsed.{Parsed}
 use Rattle.parser.specs.Marks.{Stopped}
 use Rattle.parser.specs.Sheets.{GoalGiven, GoalLoads}
-use Rattle.modes.specs.Tables.{Has}
-use Rattle.modes.proofs.Places.{has-left, has-right, has-inside}
+use Rattle.marking.specs.Tables.{Has}
+use Rattle.marking.proofs.Places.{has-left, has-right, has-inside}
 use Rattle.tables.specs.Tables.{Tabled, GoalStanding, GoalTabled, entryWords}
 use Rattle.tables.specs.declared.GoalRead.{GoalRead}
 use Rattle.tables.proofs.Laws.{four-words, never}

@@ -20,7 +20,7 @@ use Rattle.syntax.specs.declared.Verdict.{Verdict}
 use Rattle.syntax.specs.declared.Verdict.the-variants.{Accepted, Refused}
 use Rattle.parser.specs.Sheets.{Holds, LoadFault, LoadGiven, Loads}
 use Rattle.parser.specs.declared.Loaded.{Loaded}
-use Rattle.modes.specs.Tables.{Has, DeclarationsAt, SheetAt}
+use Rattle.marking.specs.Tables.{Has, DeclarationsAt, SheetAt}
 use Rattle.repeats.specs.Repeating.{repeatOf}
 use Rattle.repeats.specs.declared.Repeat.{Repeat}
 use Rattle.tables.specs.Tables.{Tabled}

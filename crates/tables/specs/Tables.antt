@@ -10,8 +10,8 @@ use Rattle.syntax.specs.Verdicts.{accepted, goalOutcome, goalVerdict}
 use Rattle.syntax.specs.Words.{bodyWords, bodyLength, declarationsWords}
 use Rattle.syntax.specs.declared.Declared.{Declared}
 use Rattle.syntax.specs.declared.Declared.the-variants.{As, Nothing}
-use Rattle.modes.specs.Standing.{DeclarationsStand, GoalStands}
-use Rattle.modes.specs.Tables.{Has, SheetAt}
+use Rattle.marking.specs.Standing.{DeclarationsStand, GoalStands}
+use Rattle.marking.specs.Tables.{Has, SheetAt}
 use Rattle.answers.specs.Words.{Named, namesFrom}
 use Rattle.tables.specs.declared.GoalRead.{GoalRead}
 

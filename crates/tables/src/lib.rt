@@ -1,5 +1,5 @@
 // A sheet and a goal in tables: read into words, the sheet held against its marks. Document 01 is the paper "Rule sheets".
-use modes::Checked;
+use marking::Checked;
 use parser::sheets::read_items;
 use repeats::first_repeat;
 use syntax::Refusal;

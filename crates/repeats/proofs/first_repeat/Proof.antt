@@ -5,7 +5,7 @@ use mathlib.Core.List.{[]}
 use native.Mathlib.Omega.{arith}
 use lib.ListN.{take, drop}
 use Rattle.syntax.specs.Reading.{firstRepeat}
-use Rattle.modes.specs.Tables.{DeclarationsAt}
+use Rattle.marking.specs.Tables.{DeclarationsAt}
 use Rattle.repeats.proofs.Laws.{place-in, found-here, not-here, none-left}
 use Rattle.repeats.proofs.first_repeat.Statement.{statement}
 use Rattle.repeats.proofs.first_repeat.Tie as tie
