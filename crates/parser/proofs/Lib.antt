@@ -1,5 +1,2 @@
-pub mod LiteralLaws
-pub mod BodyLaws
-pub mod ClauseLaws
 pub mod MarkLaws
 pub mod SheetLaws

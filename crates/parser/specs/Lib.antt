@@ -1,4 +1,2 @@
-pub mod Atoms
-pub mod Rules
 pub mod Marks
 pub mod Sheets

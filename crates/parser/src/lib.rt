@@ -1,5 +1,4 @@
-// The parser: clauses, declarations, sheets and goals into tables of words, with refusals 3 to 7 of document 01.
-pub mod clauses;
+// The parser: declarations, sheets and goals into tables of words, with refusals 3 to 7 of document 01.
 pub mod declarations;
 pub mod sheets;
 

@@ -1,9 +1,9 @@
 // Sheets and goals.
 use crate::Loaded;
-use crate::clauses::LITERALS;
-use crate::clauses::read_body;
-use crate::clauses::read_clause;
 use crate::declarations::read_declaration;
+use clauses::LITERALS;
+use clauses::read_body;
+use clauses::read_clause;
 use reading::Parsed;
 use reading::cursor::refuse;
 use reading::cursor::wrong;

@@ -1,9 +1,9 @@
--- `parser::clauses::alone` meets its contract: each way out is a law of `LiteralLaws`. Assumes nothing.
-use Rattle.parser.proofs.LiteralLaws.{number-asked, alone-call, alone-other}
+-- `clauses::alone` meets its contract: each way out is a law of `LiteralLaws`. Assumes nothing.
+use Rattle.clauses.proofs.LiteralLaws.{number-asked, alone-call, alone-other}
 use native.Mathlib.Omega.{arith}
 use borrow.Author.Needs.{needs}
-use Rattle.parser.proofs.clauses.alone.Statement.{statement}
-use Rattle.parser.proofs.clauses.alone.Tie as tie
+use Rattle.clauses.proofs.alone.Statement.{statement}
+use Rattle.clauses.proofs.alone.Tie as tie
 
 add-m : tie.Need-add-m
 add-m c = search needs

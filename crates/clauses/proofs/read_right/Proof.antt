@@ -1,8 +1,8 @@
--- `parser::clauses::read_right` meets its contract: each way out is a law of `LiteralLaws`. Assumes nothing.
-use Rattle.parser.proofs.LiteralLaws.{right-given}
+-- `clauses::read_right` meets its contract: each way out is a law of `LiteralLaws`. Assumes nothing.
+use Rattle.clauses.proofs.LiteralLaws.{right-given}
 use borrow.Author.Needs.{needs}
-use Rattle.parser.proofs.clauses.read_right.Statement.{statement}
-use Rattle.parser.proofs.clauses.read_right.Tie as tie
+use Rattle.clauses.proofs.read_right.Statement.{statement}
+use Rattle.clauses.proofs.read_right.Tie as tie
 
 put-requires : tie.Need-put-requires
 put-requires c κs = search needs

@@ -1,8 +1,8 @@
--- `parser::clauses::read_literal` meets its contract: each way out is a law of `LiteralLaws`. Assumes nothing.
-use Rattle.parser.proofs.LiteralLaws.{literal-named, literal-other}
+-- `clauses::read_literal` meets its contract: each way out is a law of `LiteralLaws`. Assumes nothing.
+use Rattle.clauses.proofs.LiteralLaws.{literal-named, literal-other}
 use borrow.Author.Needs.{needs}
-use Rattle.parser.proofs.clauses.read_literal.Statement.{statement}
-use Rattle.parser.proofs.clauses.read_literal.Tie as tie
+use Rattle.clauses.proofs.read_literal.Statement.{statement}
+use Rattle.clauses.proofs.read_literal.Tie as tie
 
 read-named-requires : tie.Need-read-named-requires
 read-named-requires c κs = search needs

@@ -1,20 +1,20 @@
--- `parser::clauses::read_body` meet its contract: each way out is a law of `BodyLaws`. Assumes nothing.
+-- `clauses::read_body` meet its contract: each way out is a law of `BodyLaws`. Assumes nothing.
 use borrow.Author.Needs.{needs}
 use native.Mathlib.Omega.{arith}
-use Rattle.parser.proofs.BodyLaws.{body-full, body-fault, body-standing, body-ready, body-few, body-more, body-last, body-wrong}
+use Rattle.clauses.proofs.BodyLaws.{body-full, body-fault, body-standing, body-ready, body-few, body-more, body-last, body-wrong}
 use Prim.Native.Nat.{ℕ, _<_}
 use borrow.Fn.Kinds.{In}
 use borrow.Fn.PlainCycle.{Measures, is, falls, and}
-use Rattle.parser.proofs.clauses.read_body.Reads as read-body
-use Rattle.parser.proofs.clauses.read_body.Kinds as read-body-kinds
-use Rattle.parser.proofs.clauses.+read_body.Lts-read_body as read-body-lts
-use Rattle.parser.proofs.clauses.read_literal.Reads as read-literal-reads
+use Rattle.clauses.proofs.read_body.Reads as read-body
+use Rattle.clauses.proofs.read_body.Kinds as read-body-kinds
+use Rattle.clauses.proofs.+read_body.Lts-read_body as read-body-lts
+use Rattle.clauses.proofs.read_literal.Reads as read-literal-reads
 use Rattle.reading.proofs.cursor.next.Reads as next-reads
 use Rattle.reading.proofs.cursor.wrong.Reads as wrong-reads
 use Rattle.reading.proofs.terms.counted.Reads as counted-reads
 use Rattle.reading.proofs.terms.full.Reads as full-reads
-use Rattle.parser.proofs.clauses.+read_body.{statement}
-use Rattle.parser.proofs.clauses.+read_body.Tie.{close}
+use Rattle.clauses.proofs.+read_body.{statement}
+use Rattle.clauses.proofs.+read_body.Tie.{close}
 
 abbrev μ-read-body : Measures 2 read-body-kinds.ps ℕ
 μ-read-body κs a = a .1 .0

@@ -16,8 +16,8 @@ use Rattle.reading.specs.Gives.{Standing, Moved, Ready, Faulted, Given, Gives, 
 use Rattle.reading.specs.declared.Parsed.{Parsed}
 use Rattle.reading.proofs.Reading.{refused-wrong, moved-next}
 use Rattle.reading.proofs.Sequence.{seq-fault, seq-ok, shorter, kept-before, joined, header}
-use Rattle.parser.specs.Rules.{Ruled}
-use Rattle.parser.proofs.BodyLaws.{body-words}
+use Rattle.clauses.specs.Rules.{Ruled}
+use Rattle.clauses.proofs.BodyLaws.{body-words}
 
 tail-fact : (k : ℕ) → k ≡ 10 → tailOf k ≡ fact
 tail-fact k e = simp (eq-eqb k 10 e)

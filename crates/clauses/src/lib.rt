@@ -25,8 +25,8 @@ ghost use Rattle.syntax.specs.Tokens.{spelling};
 ghost use Rattle.syntax.specs.Reading.{readTerm, literalWith, readLiteral, readBody, readClause};
 ghost use Rattle.syntax.specs.Words.{termWords, literalWords, bodyWords, bodyLength, clauseWords};
 ghost use Rattle.reading.specs.Gives.{Standing, Ready, Given, Gives, GivesWith, one};
-ghost use Rattle.parser.specs.Atoms.{atomNumber, Alone};
-ghost use Rattle.parser.specs.Rules.{Ruled};
+ghost use Rattle.clauses.specs.Atoms.{atomNumber, Alone};
+ghost use Rattle.clauses.specs.Rules.{Ruled};
 
 // The most brackets open at once.
 const BRACKETS: usize = 16;

@@ -1,8 +1,8 @@
--- `parser::clauses::read_named` meets its contract: each way out is a law of `LiteralLaws`. Assumes nothing.
-use Rattle.parser.proofs.LiteralLaws.{named-fault, named-ready, named-equation, alone-asked, named-alone}
+-- `clauses::read_named` meets its contract: each way out is a law of `LiteralLaws`. Assumes nothing.
+use Rattle.clauses.proofs.LiteralLaws.{named-fault, named-ready, named-equation, alone-asked, named-alone}
 use borrow.Author.Needs.{needs}
-use Rattle.parser.proofs.clauses.read_named.Statement.{statement}
-use Rattle.parser.proofs.clauses.read_named.Tie as tie
+use Rattle.clauses.proofs.read_named.Statement.{statement}
+use Rattle.clauses.proofs.read_named.Tie as tie
 
 add-m : tie.Need-add-m
 add-m c = search needs

@@ -20,7 +20,7 @@ use Rattle.reading.specs.declared.Parsed.{Parsed}
 use Rattle.reading.proofs.Reading.{refused-wrong-with, moved-next}
 use Rattle.reading.proofs.TermLaws.{term-some}
 use Rattle.reading.proofs.Sequence.{seq-fault, seq-ok, shorter, kept-before, joined}
-use Rattle.parser.specs.Atoms.{atomNumber, aloneNumber, Alone}
+use Rattle.clauses.specs.Atoms.{atomNumber, aloneNumber, Alone}
 
 -- ---- one word stored in front of a run
 

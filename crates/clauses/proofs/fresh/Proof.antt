@@ -1,8 +1,8 @@
--- `parser::clauses::fresh` meets its contract. Assumes nothing.
+-- `clauses::fresh` meets its contract. Assumes nothing.
 use mathlib.Core.Path.{refl}
 use Rattle.syntax.specs.Reading
-use Rattle.parser.proofs.clauses.fresh.Statement.{statement}
-use Rattle.parser.proofs.clauses.fresh.Tie as tie
+use Rattle.clauses.proofs.fresh.Statement.{statement}
+use Rattle.clauses.proofs.fresh.Tie as tie
 
 returns : tie.Need-returns
 unfolding Reading.fresh

@@ -1,8 +1,8 @@
--- `parser::clauses::read_clause` meets its contract: each way out is a law of `ClauseLaws`. Assumes nothing.
-use Rattle.parser.proofs.ClauseLaws.{head-ready, clause-fault, clause-standing, fact-asked, clause-fact, clause-wrong, rule-asked, clause-rule}
+-- `clauses::read_clause` meets its contract: each way out is a law of `ClauseLaws`. Assumes nothing.
+use Rattle.clauses.proofs.ClauseLaws.{head-ready, clause-fault, clause-standing, fact-asked, clause-fact, clause-wrong, rule-asked, clause-rule}
 use borrow.Author.Needs.{needs}
-use Rattle.parser.proofs.clauses.read_clause.Statement.{statement}
-use Rattle.parser.proofs.clauses.read_clause.Tie as tie
+use Rattle.clauses.proofs.read_clause.Statement.{statement}
+use Rattle.clauses.proofs.read_clause.Tie as tie
 
 fresh-requires : tie.Need-fresh-requires
 fresh-requires c κs = search needs

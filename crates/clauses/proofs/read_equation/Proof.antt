@@ -1,8 +1,8 @@
--- `parser::clauses::read_equation` meets its contract: each way out is a law of `LiteralLaws`. Assumes nothing.
-use Rattle.parser.proofs.LiteralLaws.{equation-fault, equation-ready, equation-read, equation-wrong}
+-- `clauses::read_equation` meets its contract: each way out is a law of `LiteralLaws`. Assumes nothing.
+use Rattle.clauses.proofs.LiteralLaws.{equation-fault, equation-ready, equation-read, equation-wrong}
 use borrow.Author.Needs.{needs}
-use Rattle.parser.proofs.clauses.read_equation.Statement.{statement}
-use Rattle.parser.proofs.clauses.read_equation.Tie as tie
+use Rattle.clauses.proofs.read_equation.Statement.{statement}
+use Rattle.clauses.proofs.read_equation.Tie as tie
 
 add-m : tie.Need-add-m
 add-m c = search needs

@@ -1,8 +1,8 @@
--- `parser::clauses::atom_number` meets its contract: each way out is a law of `LiteralLaws`. Assumes nothing.
-use Rattle.parser.proofs.LiteralLaws.{number-long, number-true, number-fail, number-call}
+-- `clauses::atom_number` meets its contract: each way out is a law of `LiteralLaws`. Assumes nothing.
+use Rattle.clauses.proofs.LiteralLaws.{number-long, number-true, number-fail, number-call}
 use borrow.Author.Needs.{needs}
-use Rattle.parser.proofs.clauses.atom_number.Statement.{statement}
-use Rattle.parser.proofs.clauses.atom_number.Tie as tie
+use Rattle.clauses.proofs.atom_number.Statement.{statement}
+use Rattle.clauses.proofs.atom_number.Tie as tie
 
 returns : tie.Need-returns
 returns c = search (number-long, needs)

@@ -1,8 +1,8 @@
--- `parser::clauses::read_rule` meets its contract: each way out is a law of `ClauseLaws`. Assumes nothing.
-use Rattle.parser.proofs.ClauseLaws.{ruled-fault, ruled-stored, ruled-asked}
+-- `clauses::read_rule` meets its contract: each way out is a law of `ClauseLaws`. Assumes nothing.
+use Rattle.clauses.proofs.ClauseLaws.{ruled-fault, ruled-stored, ruled-asked}
 use borrow.Author.Needs.{needs}
-use Rattle.parser.proofs.clauses.read_rule.Statement.{statement}
-use Rattle.parser.proofs.clauses.read_rule.Tie as tie
+use Rattle.clauses.proofs.read_rule.Statement.{statement}
+use Rattle.clauses.proofs.read_rule.Tie as tie
 
 next-requires : tie.Need-next-requires
 next-requires c κs = search needs

@@ -1,0 +1,3 @@
+pub mod LiteralLaws
+pub mod BodyLaws
+pub mod ClauseLaws
