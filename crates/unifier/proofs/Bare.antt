@@ -8,9 +8,9 @@ use lib.ListN.{length, getD}
 use Rattle.machine.specs.Substitution.{Variable, sameVariable, RTerm, RTerms, var, app, rnil, rcons, replace, replaceAll, Binding, resolve}
 use Rattle.layout.specs.Nodes.{Symbol, nameOf, decoded, decodedAll, termAt, termsAt, followed}
 use Rattle.layout.specs.State.{nodeOf, copyOf, variableOf, cellAt, trailAt, valueOf, bindings}
+use Rattle.bindings.specs.declared.stack.Side.{Side}
 use Rattle.unifier.specs.Rows.{nodesOf, nodesOfAll, sizeOf}
 use Rattle.unifier.specs.Stacks.{endOf, rowOf, rowsOf}
-use Rattle.unifier.specs.declared.stack.Side.{Side}
 
 unfoldable mutual
   bare : RTerm → RTerm

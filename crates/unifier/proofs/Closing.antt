@@ -9,10 +9,10 @@ use borrow.Author.Tests.{eqb-true, eqb-false}
 use Rattle.machine.specs.Substitution.{RTerm, RTerms, app, rnil, rcons, Binding, resolve}
 use Rattle.machine.proofs.Terms.{resolveAll, resolve-app, resolve-cons, grows-more}
 use Rattle.layout.specs.Nodes.{Symbol, termsAt, followed}
+use Rattle.bindings.specs.declared.stack.Side.{Side}
 use Rattle.unifier.specs.Rows.{unifyRows}
 use Rattle.unifier.specs.Walks.{Meets, Walks}
 use Rattle.unifier.specs.Stacks.{wholeOf, rowOf, SameRows, nothing, Closes}
-use Rattle.unifier.specs.declared.stack.Side.{Side}
 use Rattle.unifier.specs.declared.walk.Walked.the-variants.{Done}
 use Rattle.unifier.proofs.Rules.{rows-done, rows-equal, equal-rows, tail-of, args-of-app}
 

@@ -1,9 +1,6 @@
 pub mod Rules
-pub mod Deref
-pub mod Scan
 pub mod Rowwise
 pub mod Closing
-pub mod Remembering
 pub mod Stacked
 pub mod Settle
 pub mod Turning

@@ -16,17 +16,18 @@ use Rattle.layout.specs.Nodes.{Symbol, nameOf, Node, Row, termAt, termsAt, foll
 use Rattle.layout.specs.State.{cellOf, variableOf, wordOf, cellAt, valueOf, bindings, Store}
 use Rattle.layout.proofs.Nodes.{node-inside, node-end, variable-at, compound-at, same-count, other-symbol}
 use Rattle.layout.proofs.State.{variable-cell, cell-eq, cell-small, resolve-unbound}
+use Rattle.bindings.specs.Memos.{Found}
+use Rattle.bindings.specs.Scratch.{leftAt, rightAt, pairWords, SameMarks, Roomy}
+use Rattle.bindings.specs.declared.stack.Side.{Side}
+use Rattle.bindings.proofs.Remembering.{value-word, memo-kept, memo-found}
 use Rattle.unifier.specs.Rows.{unifyRows, nodesOf, sizeOf}
-use Rattle.unifier.specs.Memos.{Found}
-use Rattle.unifier.specs.Stacks.{leftAt, rightAt, pairWords, SameMarks, Roomy, endOf, wholeOf, rowOf, rowsOf, Half, Via, Stack, nothing, Closes}
+use Rattle.unifier.specs.Stacks.{endOf, wholeOf, rowOf, rowsOf, Half, Via, Stack, nothing, Closes}
 use Rattle.unifier.specs.Turns.{Work, Goes, Binds, Turns, Reached, Crossed, Openable, Settled}
-use Rattle.unifier.specs.declared.stack.Side.{Side}
 use Rattle.unifier.specs.declared.solve.Turn.{Turn}
 use Rattle.unifier.specs.declared.solve.Turn.the-variants.{Go, Clash, Bind}
 use Rattle.unifier.proofs.Rules.{rows-same, rows-open, rows-clash, rows-occurs-left, rows-occurs-right, rows-bind-left, rows-bind-right, left-is-bound, right-is-bound, left-bound, right-bound, later-cell, earlier-cell, count-resolve}
 use Rattle.unifier.proofs.Rowwise.{size-cons, size-app, size-followed}
 use Rattle.unifier.proofs.Closing.{equal-named, closes-settled, closes-bound, closes-pushed}
-use Rattle.unifier.proofs.Remembering.{value-word, memo-kept, memo-found}
 use Rattle.unifier.proofs.Stacked.{pair-long, pair-others, pair-marks, pair-left, pair-right, pair-left-others, pair-right-others, rows-agree, rows-top, half-agrees, half-pushed, stack-agrees, height}
 
 marks-refl : (scratch : List ℕ) → SameMarks scratch scratch

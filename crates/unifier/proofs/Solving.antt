@@ -12,17 +12,18 @@ use Rattle.layout.specs.Nodes.{Symbol, Node, termAt}
 use Rattle.layout.specs.State.{variableOf, wordOf, bindings, Store, Within, Keeps, boundWords}
 use Rattle.layout.proofs.Nodes.{node-inside}
 use Rattle.layout.proofs.State.{bind-store, bind-keeps, bind-means, bind-within, keeps-refl, keeps-trans, room}
+use Rattle.bindings.specs.Queues.{Clean, Checkable, Checked}
+use Rattle.bindings.specs.Memos.{Memo}
+use Rattle.bindings.specs.Scratch.{leftAt, rightAt, SameMarks, Roomy}
+use Rattle.bindings.proofs.Remembering.{memo-kept, memo-bound}
 use Rattle.unifier.specs.Rows.{unifyRows, sizeOf}
-use Rattle.unifier.specs.Queues.{Clean, Checkable, Checked}
-use Rattle.unifier.specs.Memos.{Memo}
-use Rattle.unifier.specs.Stacks.{leftAt, rightAt, SameMarks, Roomy, rowsOf, Stack, nothing, Closes}
+use Rattle.unifier.specs.Stacks.{rowsOf, Stack, nothing, Closes}
 use Rattle.unifier.specs.Turns.{Work, Goes, Binds, Turns, Turned, Turnable, Ready, Ends, Advanced, Solvable, Solved, answered}
 use Rattle.unifier.specs.declared.solve.Turn.{Turn}
 use Rattle.unifier.specs.declared.solve.Turn.the-variants.{Go, Clash, Bind}
 use Rattle.unifier.specs.declared.solve.Unified.{Unified}
 use Rattle.unifier.proofs.Rules.{rows-done}
 use Rattle.unifier.proofs.Closing.{closes-agree}
-use Rattle.unifier.proofs.Remembering.{memo-kept, memo-bound}
 use Rattle.unifier.proofs.Stacked.{left-kept, right-kept, rows-agree, stack-agrees, stack-bound}
 use Rattle.unifier.proofs.Bare.{size-bare}
 

@@ -14,9 +14,10 @@ use Rattle.layout.specs.Nodes.{Symbol, nameOf, Node, Row, termAt, termsAt, foll
 use Rattle.layout.specs.State.{variableOf}
 use Rattle.layout.proofs.Nodes.{compound-at, compound-row}
 use Rattle.layout.proofs.Pigeonhole.{pigeonhole}
+use Rattle.bindings.specs.Scratch.{sideAt, sideWords, leftAt, rightAt, pairWords, SameMarks, Roomy}
+use Rattle.bindings.specs.declared.stack.Side.{Side}
 use Rattle.unifier.specs.Rows.{unifyRows, nodesOf, sizeOf}
-use Rattle.unifier.specs.Stacks.{sideAt, sideWords, leftAt, rightAt, pairWords, SameMarks, Roomy, endOf, wholeOf, rowOf, rowsOf, Half, Via, Stack}
-use Rattle.unifier.specs.declared.stack.Side.{Side}
+use Rattle.unifier.specs.Stacks.{endOf, wholeOf, rowOf, rowsOf, Half, Via, Stack}
 use Rattle.unifier.proofs.Rowwise.{size-app}
 use Rattle.unifier.proofs.Rules.{resolve-append}
 

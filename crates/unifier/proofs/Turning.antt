@@ -14,13 +14,15 @@ use Rattle.layout.specs.Nodes.{Symbol, Node, Row, termAt, termsAt, followed, co
 use Rattle.layout.specs.State.{cellOf, variableOf, wordOf, valueOf, bindings, Store, Within}
 use Rattle.layout.proofs.Nodes.{node-inside, node-end, node-size, variable-at, row-first, row-rest, row-cons, row-order}
 use Rattle.layout.proofs.State.{variable-cell, cell-small}
+use Rattle.bindings.specs.Cells.{Given, Leads, Derefs}
+use Rattle.bindings.specs.Memos.{Remembers}
+use Rattle.bindings.specs.Scratch.{leftAt, rightAt, pairWords, SameMarks, Roomy}
+use Rattle.bindings.specs.declared.stack.Side.{Side}
+use Rattle.bindings.proofs.Remembering.{value-word, memo-kept, memo-remembers}
 use Rattle.unifier.specs.Rows.{unifyRows, nodesOf, sizeOf}
-use Rattle.unifier.specs.Cells.{Given, Leads, Derefs}
 use Rattle.unifier.specs.Walks.{Beside, Walkable, Meets, Walks}
-use Rattle.unifier.specs.Memos.{Remembers}
-use Rattle.unifier.specs.Stacks.{leftAt, rightAt, pairWords, SameMarks, Roomy, endOf, wholeOf, rowOf, rowsOf, Half, Via, Stack, SameRows, nothing, Closes}
+use Rattle.unifier.specs.Stacks.{endOf, wholeOf, rowOf, rowsOf, Half, Via, Stack, SameRows, nothing, Closes}
 use Rattle.unifier.specs.Turns.{Work, Goes, Binds, Turns, Turned, Reached, Crossed, Settled, Crossable, Crosses, Meetable, Passable, Turnable}
-use Rattle.unifier.specs.declared.stack.Side.{Side}
 use Rattle.unifier.specs.declared.walk.Walked.{Walked}
 use Rattle.unifier.specs.declared.walk.Walked.the-variants.{Done, Clash as Differ, Met}
 use Rattle.unifier.specs.declared.solve.Turn.{Turn}
@@ -28,7 +30,6 @@ use Rattle.unifier.specs.declared.solve.Turn.the-variants.{Go, Clash, Bi
 use Rattle.unifier.proofs.Rules.{rows-first, resolve-append}
 use Rattle.unifier.proofs.Rowwise.{size-cons, size-followed, one-followed, right-some, count-one}
 use Rattle.unifier.proofs.Closing.{equal-cons, walk-equal, meet-equal, closes-agree, closes-terms, closes-less, closes-moved}
-use Rattle.unifier.proofs.Remembering.{value-word, memo-kept, memo-remembers}
 use Rattle.unifier.proofs.Stacked.{pair-long, pair-others, pair-marks, pair-left, pair-right, pair-left-others, pair-right-others, left-front, right-front, rows-agree, rows-top, half-moved, stack-agrees, stack-less, height}
 
 marks-trans : (a b c : List ℕ) → SameMarks a b → SameMarks b c → SameMarks a c

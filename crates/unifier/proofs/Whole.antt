@@ -12,17 +12,18 @@ use Rattle.machine.specs.Unification.{unify}
 use Rattle.layout.specs.Nodes.{Symbol, Stands, Node, Row, termAt, termsAt, followed, count}
 use Rattle.layout.specs.State.{bindings}
 use Rattle.layout.proofs.Nodes.{node-inside, row-one, row-one-is, term-at}
+use Rattle.bindings.specs.Queues.{Clean}
+use Rattle.bindings.specs.Memos.{pairs}
+use Rattle.bindings.specs.Scratch.{leftAt, rightAt, pairWords, SameMarks}
+use Rattle.bindings.specs.declared.stack.Side.{Side}
+use Rattle.bindings.proofs.Remembering.{memo-none}
 use Rattle.unifier.specs.Rows.{unifyRows}
-use Rattle.unifier.specs.Queues.{Clean}
-use Rattle.unifier.specs.Memos.{pairs}
-use Rattle.unifier.specs.Stacks.{leftAt, rightAt, pairWords, SameMarks, endOf, wholeOf, rowOf, rowsOf, Half, Stack, nothing, Closes}
+use Rattle.unifier.specs.Stacks.{endOf, wholeOf, rowOf, rowsOf, Half, Stack, nothing, Closes}
 use Rattle.unifier.specs.Turns.{Work, Solvable, Solved, Unifiable, Unifies, answered}
-use Rattle.unifier.specs.declared.stack.Side.{Side}
 use Rattle.unifier.specs.declared.solve.Unified.{Unified}
 use Rattle.unifier.proofs.Rules.{rows-begin}
 use Rattle.unifier.proofs.Rowwise.{one-followed, none-followed, count-one}
 use Rattle.unifier.proofs.Closing.{equal-first, closes-first}
-use Rattle.unifier.proofs.Remembering.{memo-none}
 use Rattle.unifier.proofs.Stacked.{pair-long, pair-others, pair-marks, pair-left, pair-right, rows-top}
 
 -- one side of a stack of one pair

@@ -5,7 +5,7 @@ use mathlib.Core.Path.{_≡_}
 use mathlib.Core.List.{List}
 use lib.ListN.{length, getD, replicate, length-replicate, getD-replicate}
 use Rattle.layout.proofs.Witness.{symbols, table, state, node, empty}
-use Rattle.unifier.specs.Queues.{Clean}
+use Rattle.bindings.specs.Queues.{Clean}
 use Rattle.unifier.specs.Turns.{Unifiable}
 
 unfoldable pub scratch : List ℕ

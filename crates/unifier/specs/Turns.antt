@@ -12,12 +12,13 @@ use Rattle.machine.specs.Substitution.{RTerm, RTerms, rcons, copied, occurs, Bi
 use Rattle.machine.specs.Unification.{unify}
 use Rattle.layout.specs.Nodes.{Symbol, Stands, Node, termAt}
 use Rattle.layout.specs.State.{cellOf, variableOf, cellAt, bindings, Store, Within, Keeps}
+use Rattle.bindings.specs.Queues.{Clean}
+use Rattle.bindings.specs.Memos.{Memo}
+use Rattle.bindings.specs.Scratch.{leftAt, rightAt, SameMarks, Roomy}
+use Rattle.bindings.specs.declared.stack.Side.{Side}
 use Rattle.unifier.specs.Rows.{unifyRows, nodesOf, sizeOf}
-use Rattle.unifier.specs.Queues.{Clean}
 use Rattle.unifier.specs.Walks.{Meets, Walks}
-use Rattle.unifier.specs.Memos.{Memo}
-use Rattle.unifier.specs.Stacks.{leftAt, rightAt, SameMarks, Roomy, endOf, wholeOf, rowsOf, Via, Stack, nothing, Closes}
-use Rattle.unifier.specs.declared.stack.Side.{Side}
+use Rattle.unifier.specs.Stacks.{endOf, wholeOf, rowsOf, Via, Stack, nothing, Closes}
 use Rattle.unifier.specs.declared.walk.Walked.the-variants.{Done}
 use Rattle.unifier.specs.declared.solve.Turn.{Turn}
 use Rattle.unifier.specs.declared.solve.Turn.the-variants.{Go, Clash, Bind}

@@ -1,23 +1,24 @@
 // Unification: the outer loop, which takes over where a bound variable is crossed.
-use crate::memo::forget;
-use crate::memo::known;
-use crate::memo::remember;
-use crate::occurrence::occurs;
-use crate::occurrence::size_at;
-use crate::occurrence::word_at;
-use crate::stack::PAIR;
-use crate::stack::STACK;
-use crate::stack::Side;
-use crate::stack::put_pair;
-use crate::stack::side_at;
-use crate::store::bind;
-use crate::store::deref;
 use crate::walk::Walked;
 use crate::walk::unify_list;
+use bindings::memo::forget;
+use bindings::memo::known;
+use bindings::memo::remember;
+use bindings::occurrence::occurs;
+use bindings::occurrence::size_at;
+use bindings::occurrence::word_at;
+use bindings::stack::PAIR;
+use bindings::stack::STACK;
+use bindings::stack::Side;
+use bindings::stack::put_pair;
+use bindings::stack::side_at;
+use bindings::store::bind;
+use bindings::store::deref;
 ghost use mathlib.Core.Path.{_≡_};
+ghost use Rattle.bindings.specs.Scratch.{leftAt, rightAt};
 ghost use Rattle.unifier.specs.declared.solve.Turn.the-variants.{Bind};
 ghost use Rattle.unifier.specs.Turns.{Crossed, Crossable, Crosses, Meetable, Turnable, Turned, Openable, Passable, Ready, Advanced, Solvable, Solved, Unifiable, Unifies};
-ghost use Rattle.unifier.specs.Stacks.{leftAt, rightAt, rowsOf};
+ghost use Rattle.unifier.specs.Stacks.{rowsOf};
 
 // What a turn comes to: on with a stack of this height, names that differ, or a variable to be bound.
 pub enum Turn {

@@ -1,7 +1,7 @@
 // Two clause terms side by side. One term and a list of terms call each other, within the brackets of the clause: at most 16 brackets, each with
 // at most 8 terms left, so the calls nest some 150 deep at most.
-use crate::occurrence::size_at;
-use crate::occurrence::word_at;
+use bindings::occurrence::size_at;
+use bindings::occurrence::word_at;
 ghost use Prim.Native.Nat.{_+_};
 ghost use lib.ListN.{getD};
 ghost use Rattle.unifier.specs.Walks.{Walkable, Pairable, Walks};

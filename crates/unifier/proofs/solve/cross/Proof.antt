@@ -5,7 +5,7 @@ use Rattle.unifier.proofs.solve.cross.Tie as tie
 use Rattle.unifier.proofs.solve.cross.Reads as reads
 use Rattle.unifier.proofs.solve.cross.Lts as lts
 use Rattle.unifier.proofs.solve.settle.Reads as settle-reads
-use Rattle.unifier.proofs.store.deref.Reads as deref-reads
+use Rattle.bindings.proofs.store.deref.Reads as deref-reads
 
 -- src/solve.rt:60:9
 deref-requires : tie.Need-deref-requires

@@ -5,7 +5,7 @@ use Rattle.unifier.proofs.solve.settle.Statement.{statement}
 use Rattle.unifier.proofs.solve.settle.Tie as tie
 use Rattle.unifier.proofs.solve.settle.Reads as reads
 use Rattle.unifier.proofs.solve.settle.Lts as lts
-use Rattle.unifier.proofs.occurrence.word_at.Reads as word-at-reads
+use Rattle.bindings.proofs.occurrence.word_at.Reads as word-at-reads
 use Rattle.unifier.proofs.solve.bind_to.Reads as bind-to-reads
 use Rattle.unifier.proofs.solve.open_pair.Reads as open-pair-reads
 

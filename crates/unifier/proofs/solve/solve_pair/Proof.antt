@@ -7,9 +7,9 @@ use Rattle.unifier.proofs.solve.solve_pair.Statement.{statement}
 use Rattle.unifier.proofs.solve.solve_pair.Tie as tie
 use Rattle.unifier.proofs.solve.solve_pair.Reads as reads
 use Rattle.unifier.proofs.solve.solve_pair.Lts as lts
-use Rattle.unifier.proofs.occurrence.occurs.Reads as occurs-reads
+use Rattle.bindings.proofs.occurrence.occurs.Reads as occurs-reads
 use Rattle.unifier.proofs.solve.advance.Reads as advance-reads
-use Rattle.unifier.proofs.store.bind.Reads as bind-reads
+use Rattle.bindings.proofs.store.bind.Reads as bind-reads
 
 abbrev Inv-loop : tie.InvT-loop
 Inv-loop nodes state₀ scratch₀ m n₀ h₀ state scratch n h = (g : Solvable nodes state₀ scratch₀ m) → Solving (g .work .ss) nodes state₀ state scratch₀ scratch (g .work .top) m n h

@@ -4,9 +4,9 @@ use Rattle.unifier.proofs.solve.unify.Statement.{statement}
 use Rattle.unifier.proofs.solve.unify.Tie as tie
 use Rattle.unifier.proofs.solve.unify.Reads as reads
 use Rattle.unifier.proofs.solve.unify.Lts as lts
-use Rattle.unifier.proofs.memo.forget.Reads as forget-reads
+use Rattle.bindings.proofs.memo.forget.Reads as forget-reads
 use Rattle.unifier.proofs.solve.solve_pair.Reads as solve-pair-reads
-use Rattle.unifier.proofs.stack.put_pair.Reads as put-pair-reads
+use Rattle.bindings.proofs.stack.put_pair.Reads as put-pair-reads
 
 -- src/solve.rt:269:5
 forget-requires : tie.Need-forget-requires

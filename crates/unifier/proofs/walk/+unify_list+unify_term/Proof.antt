@@ -18,8 +18,8 @@ use Rattle.unifier.proofs.walk.+unify_list+unify_term.Lts-unify_list as
 use Rattle.unifier.proofs.walk.unify_term.Reads as unify-term
 use Rattle.unifier.proofs.walk.unify_term.Kinds as unify-term-kinds
 use Rattle.unifier.proofs.walk.+unify_list+unify_term.Lts-unify_term as unify-term-lts
-use Rattle.unifier.proofs.occurrence.size_at.Reads as size-at-reads
-use Rattle.unifier.proofs.occurrence.word_at.Reads as word-at-reads
+use Rattle.bindings.proofs.occurrence.size_at.Reads as size-at-reads
+use Rattle.bindings.proofs.occurrence.word_at.Reads as word-at-reads
 use Rattle.unifier.proofs.walk.+unify_list+unify_term.{statement}
 use Rattle.unifier.proofs.walk.+unify_list+unify_term.Tie.{close}
 

@@ -1,0 +1,44 @@
+use Prim.Native.Nat.{ℕ, _+_, _*_}
+use mathlib.Core.List.{List}
+use mathlib.Core.Path.{_∙_, ap}
+use Rattle.bindings.specs.Scratch.{sideWords, pairWords}
+use borrow.Author.Needs.{needs}
+use Rattle.bindings.proofs.stack.put_pair.Statement.{statement}
+use Rattle.bindings.proofs.stack.put_pair.Tie as tie
+use Rattle.bindings.proofs.stack.put_pair.Reads as reads
+use Rattle.bindings.proofs.stack.put_pair.Lts as lts
+use Rattle.bindings.proofs.stack.put_side.Reads as put-side-reads
+
+-- src/stack.rt:44:21
+mul-i : tie.Need-mul-i
+mul-i c = search needs
+
+-- src/stack.rt:44:13
+add-i : tie.Need-add-i
+add-i c = search needs
+
+-- src/stack.rt:45:5
+put-side-requires : tie.Need-put-side-requires
+put-side-requires c κs = search needs
+
+-- src/stack.rt:46:23
+add-put-side : tie.Need-add-put-side
+add-put-side c = search needs
+
+-- src/stack.rt:46:5
+put-side-requires-2 : tie.Need-put-side-requires-2
+put-side-requires-2 c κs = search needs
+
+-- src/stack.rt:40:1
+same-length : tie.Need-same-length
+same-length c = search needs
+
+-- src/stack.rt:40:1
+returns : tie.Need-returns
+unfolding pairWords
+returns c = c .before .before .put-side2 .ensures ∙ ap (λ (s : List ℕ). sideWords s (32768 + c .before .before .before .before .before .before .before .before .before .args .k * 6 + 3) (c .before .before .before .before .before .before .before .before .before .args .other) (c .before .before .before .before .before .before .before .before .before .args .there) (c .before .before .before .before .before .before .before .before .before .args .second)) (c .before .before .before .before .before .before .put-side .ensures)
+
+pub put-pair-spec : {M : Type 1} → statement M
+put-pair-spec =
+    tie.close
+    (tie.spec mul-i add-i put-side-requires add-put-side put-side-requires-2 same-length returns)

@@ -1,0 +1,73 @@
+use Rattle.layout.specs.State.{boundWords}
+use mathlib.Core.Path.{refl}
+use borrow.Author.Needs.{needs}
+use Rattle.bindings.proofs.store.bind.Statement.{statement}
+use Rattle.bindings.proofs.store.bind.Tie as tie
+use Rattle.bindings.proofs.store.bind.Reads as reads
+use Rattle.bindings.proofs.store.bind.Lts as lts
+
+-- src/store.rt:47:13
+mul-w : tie.Need-mul-w
+mul-w c = search needs
+
+-- src/store.rt:47:13
+add-w : tie.Need-add-w
+add-w c = search needs
+
+-- src/store.rt:47:13
+add-w-2 : tie.Need-add-w-2
+add-w-2 c = search needs
+
+-- src/store.rt:48:14
+add-at : tie.Need-add-at
+add-at c = search needs
+
+-- src/store.rt:49:16
+cast-state : tie.Need-cast-state
+cast-state c = search needs
+
+-- src/store.rt:49:5
+mul-state : tie.Need-mul-state
+mul-state c = search needs
+
+-- src/store.rt:49:5
+slice-write-state : tie.Need-slice-write-state
+slice-write-state c = search needs
+
+-- src/store.rt:50:17
+cast-state-2 : tie.Need-cast-state-2
+cast-state-2 c = search needs
+
+-- src/store.rt:50:5
+mul-state-2 : tie.Need-mul-state-2
+mul-state-2 c = search needs
+
+-- src/store.rt:50:5
+slice-write-state-2 : tie.Need-slice-write-state-2
+slice-write-state-2 c = search needs
+
+-- src/store.rt:43:1
+same-length : tie.Need-same-length
+same-length c = search needs
+
+-- src/store.rt:43:1
+returns : tie.Need-returns
+unfolding boundWords
+returns c = refl
+
+pub bind-spec : {M : Type 1} → statement M
+bind-spec =
+    tie.close
+    (tie.spec
+    mul-w
+    add-w
+    add-w-2
+    add-at
+    cast-state
+    mul-state
+    slice-write-state
+    cast-state-2
+    mul-state-2
+    slice-write-state-2
+    same-length
+    returns)

@@ -1,0 +1,62 @@
+use native.Mathlib.Omega.{arith}
+use mathlib.Core.Path.{_≡_}
+use Rattle.bindings.specs.Cells.{boundAt, Given, Leads}
+use Rattle.bindings.proofs.Deref.{place, leads-begin, leads-on, leads-end, depth, depth-falls}
+use Rattle.bindings.proofs.store.deref.Statement.{statement}
+use Rattle.bindings.proofs.store.deref.Tie as tie
+use Rattle.bindings.proofs.store.deref.Reads as reads
+use Rattle.bindings.proofs.store.deref.Lts as lts
+use Rattle.bindings.proofs.store.bound_at.Reads as bound-at-reads
+
+abbrev Inv-loop : tie.InvT-loop
+Inv-loop nodes state p c node₀ copy₀ w₀ node copy w = (w ≡ boundAt nodes state node copy) × ((g : Given nodes state p c) → Leads (g .ss) nodes state (g .n) p c node copy)
+
+abbrev μ-loop : tie.MeasureT-loop
+μ-loop nodes state p c node₀ copy₀ w₀ node copy w = depth nodes node copy
+
+-- src/store.rt:33:9
+bound-at-requires : tie.Need-bound-at-requires Inv-loop μ-loop
+bound-at-requires c κs = place (c .before .before .pre .ss) (c .before .before .args .nodes .now) (c .before .before .args .state .now) (c .before .before .pre .n) (c .before .before .args .p) (c .before .before .args .c) (c .before .before .pre .store) (c .before .before .pre .node) (c .before .before .pre .copy)
+
+-- src/store.rt:34:5
+loop-holds : tie.Need-loop-holds Inv-loop μ-loop
+loop-holds c = (c .bound-at .ensures, λ g. leads-begin (c .before .before .before .args .nodes .now) (c .before .before .before .args .state .now) (c .before .before .before .args .p) (c .before .before .before .args .c) g)
+
+-- src/store.rt:35:17
+sub-node : tie.Need-sub-node Inv-loop μ-loop
+sub-node c = omega (arith, c .loop-test .taken)
+
+-- src/store.rt:36:17
+sub-copy : tie.Need-sub-copy Inv-loop μ-loop
+sub-copy c = omega (arith, c .loop-test .taken)
+
+-- src/store.rt:37:9
+bound-at-requires-2 : tie.Need-bound-at-requires-2 Inv-loop μ-loop
+bound-at-requires-2 c κs = let g : Given (c .before .before .before .before .before .args .nodes .now) (c .before .before .before .before .before .args .state .now) (c .before .before .before .before .before .args .p) (c .before .before .before .before .before .args .c) = c .before .before .before .before .before .pre in let k : Leads (g .ss) (c .before .before .before .before .before .args .nodes .now) (c .before .before .before .before .before .args .state .now) (g .n) (c .before .before .before .before .before .args .p) (c .before .before .before .before .before .args .c) _ _ = leads-on (c .before .before .before .before .before .args .nodes .now) (c .before .before .before .before .before .args .state .now) (c .before .before .before .before .before .args .p) (c .before .before .before .before .before .args .c) (c .before .loop .node) (c .before .loop .copy) (c .before .loop .w) g (c .before .loop .inv .1 g) (c .before .loop .inv .0) (c .loop-test .taken) in place (g .ss) (c .before .before .before .before .before .args .nodes .now) (c .before .before .before .before .before .args .state .now) (g .n) _ _ (g .store) (k .node) (k .copy)
+
+-- src/store.rt:34:5
+loop-less : tie.Need-loop-less Inv-loop μ-loop
+loop-less c = depth-falls (c .before .before .before .before .before .before .args .nodes .now) (c .before .before .before .before .before .before .args .state .now) (c .before .before .before .before .before .before .args .p) (c .before .before .before .before .before .before .args .c) (c .before .before .loop .node) (c .before .before .loop .copy) (c .before .before .loop .w) (c .before .before .before .before .before .before .pre) (c .before .before .loop .inv .1 (c .before .before .before .before .before .before .pre)) (c .before .before .loop .inv .0) (c .before .loop-test .taken)
+
+-- src/store.rt:34:5
+loop-again : tie.Need-loop-again Inv-loop μ-loop
+loop-again c = (c .bound-at2 .ensures, λ g. leads-on (c .before .before .before .before .before .before .args .nodes .now) (c .before .before .before .before .before .before .args .state .now) (c .before .before .before .before .before .before .args .p) (c .before .before .before .before .before .before .args .c) (c .before .before .loop .node) (c .before .before .loop .copy) (c .before .before .loop .w) g (c .before .before .loop .inv .1 g) (c .before .before .loop .inv .0) (c .before .loop-test .taken))
+
+-- src/store.rt:27:1
+returns : tie.Need-returns Inv-loop μ-loop
+returns c = λ g. leads-end (c .before .before .before .before .before .args .nodes .now) (c .before .before .before .before .before .args .state .now) (c .before .before .before .before .before .args .p) (c .before .before .before .before .before .args .c) (c .before .loop .node) (c .before .loop .copy) (c .before .loop .w) g (c .before .loop .inv .1 g) (c .before .loop .inv .0) (c .loop-test .left)
+
+pub deref-spec : {M : Type 1} → statement M
+deref-spec =
+    tie.close
+    (tie.spec
+    Inv-loop
+    μ-loop
+    bound-at-requires
+    loop-holds
+    sub-node
+    sub-copy
+    bound-at-requires-2
+    loop-less
+    loop-again
+    returns)

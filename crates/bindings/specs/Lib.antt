@@ -1,0 +1,4 @@
+pub mod Cells
+pub mod Queues
+pub mod Scratch
+pub mod Memos

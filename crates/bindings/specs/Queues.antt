@@ -1,0 +1,114 @@
+-- What the occurs check is given and what it promises. Its marks and its queue of marked cells are laid out as cells and trail are: a marked cell
+-- is "bound" to the one node of a table of its own, so the laws of stores serve for both.
+use Prim.Native.Nat.{ℕ, _+_, _≤_, _<_}
+use mathlib.Core.Path.{_≡_}
+use mathlib.Core.Bool.{Bool, true, false}
+use mathlib.Core.List.{List, [], _∷_}
+use mathlib.Core.Logic.{_⊎_}
+use lib.Dec.{T, ltb, eqb}
+use lib.ListN.{length, getD}
+use Rattle.machine.specs.Substitution.{Variable, var, occurs, resolve}
+use Rattle.layout.specs.Nodes.{Symbol, Node, Row, termAt, termsAt}
+use Rattle.layout.specs.State.{cellOf, variableOf, cellAt, trailAt, valueOf, bindings, Store, Keeps}
+use Rattle.bindings.specs.declared.occurrence.Queue.{Queue}
+
+unfoldable pub markSymbols : List Symbol
+markSymbols = record { name = []; arguments = 0 } ∷ []
+
+unfoldable pub markTable : List ℕ
+markTable = 64 ∷ 2 ∷ []
+
+-- The first m of the queue are the marked cells, and they are bound in the state.
+pub record Queued (state scratch : List ℕ) (m : ℕ) : Type 0 where
+  pub marked : Store markSymbols markTable scratch m
+  pub bound : (i : ℕ) → i < m → cellAt state (trailAt scratch i) ≡ 0 → ⊥
+
+-- No cell is marked.
+pub record Clean (scratch : List ℕ) : Type 0 where
+  pub long : 32768 ≤ length scratch
+  pub zero : (y : ℕ) → y < 16384 → getD scratch y 0 ≡ 0
+
+-- the node at i, in copy d, is the variable of cell x
+unfoldable pub isCell : List ℕ → ℕ → ℕ → ℕ → Bool
+isCell nodes i d x = elim (ltb (getD nodes i 0) 64) [ true ↦ eqb (cellOf d (getD nodes i 0)) x | false ↦ false ]
+
+-- ---- visiting a node
+
+pub record Visitable (nodes state scratch : List ℕ) (i d m : ℕ) : Type 0 where
+  pub inside : i < length nodes
+  pub copy : d < 256
+  pub long : 16384 ≤ length state
+  pub queued : Queued state scratch m
+
+-- the cell of a variable is unbound or queued
+abbrev pub Settled : List ℕ → List ℕ → ℕ → ℕ → Type 0
+Settled state scratch n y = (cellAt state y ≡ 0) ⊎ ((j : ℕ) × (j < n) × (trailAt scratch j ≡ y))
+
+pub record Visited (nodes state before after : List ℕ) (i d m n : ℕ) : Type 0 where
+  pub grows : m ≤ n
+  pub keeps : Keeps m before after
+  pub queued : Queued state after n
+  pub new : (j : ℕ) → m ≤ j → j < n → (getD nodes i 0 < 64) × (trailAt after j ≡ cellOf d (getD nodes i 0))
+  pub settled : getD nodes i 0 < 64 → Settled state after n (cellOf d (getD nodes i 0))
+
+-- ---- scanning a term
+
+pub record Scannable (nodes state scratch : List ℕ) (q d m : ℕ) : Type 0 where
+  pub ss : List Symbol
+  pub node : Node ss nodes q
+  pub copy : d < 256
+  pub long : 16384 ≤ length state
+  pub queued : Queued state scratch m
+
+-- a variable is not that of cell x, and its cell is unbound or queued
+pub record Dealt (state scratch : List ℕ) (x n : ℕ) (v : Variable) : Type 0 where
+  pub cell : ℕ
+  pub is : v ≡ variableOf cell
+  pub small : cell < 16384
+  pub other : cell ≡ x → ⊥
+  pub settled : Settled state scratch n cell
+
+-- What was queued stands in the term; cell x was found there, or each variable of the term is dealt with.
+pub record Scanned (ss : List Symbol) (nodes state before after : List ℕ) (q d x m : ℕ) (r : Queue) : Type 0 where
+  pub grows : m ≤ r .n
+  pub keeps : Keeps m before after
+  pub queued : Queued state after (r .n)
+  pub new : (j : ℕ) → m ≤ j → j < r .n → T (occurs (variableOf (trailAt after j)) (termAt ss nodes q d))
+  pub found : r .found ≡ true → T (occurs (variableOf x) (termAt ss nodes q d))
+  pub clear : r .found ≡ false → (v : Variable) → T (occurs v (termAt ss nodes q d)) → Dealt state after x (r .n) v
+
+-- ---- searching the queue
+
+pub record Searchable (nodes state scratch : List ℕ) (x m : ℕ) : Type 0 where
+  pub ss : List Symbol
+  pub n : ℕ
+  pub store : Store ss nodes state n
+  pub cell : x < 16384
+  pub unbound : cellAt state x ≡ 0
+  pub queued : Queued state scratch m
+
+-- Cell x was found below one of the first m cells, or each variable in the terms of the queued cells is dealt with.
+pub record Searched (ss : List Symbol) (nodes state : List ℕ) (n : ℕ) (before after : List ℕ) (x m : ℕ) (r : Queue) : Type 0 where
+  pub grows : m ≤ r .n
+  pub keeps : Keeps m before after
+  pub queued : Queued state after (r .n)
+  pub found : r .found ≡ true → (i : ℕ) × (i < m) × T (occurs (variableOf x) (resolve (bindings ss nodes state n) (var (variableOf (trailAt before i)))))
+  pub clear : r .found ≡ false → (i : ℕ) → i < r .n → (v : Variable) → T (occurs v (valueOf ss nodes (cellAt state (trailAt after i)))) → Dealt state after x (r .n) v
+
+-- ---- the check
+
+pub record Checkable (nodes state scratch : List ℕ) (x q d : ℕ) : Type 0 where
+  pub ss : List Symbol
+  pub n : ℕ
+  pub store : Store ss nodes state n
+  pub node : Node ss nodes q
+  pub copy : d < 256
+  pub cell : x < 16384
+  pub unbound : cellAt state x ≡ 0
+  pub clean : Clean scratch
+
+-- The answer is the definition's; no cell is marked again, and the words behind the queue are as they were.
+pub record Checked (ss : List Symbol) (nodes state : List ℕ) (n : ℕ) (before after : List ℕ) (x q d : ℕ) (r : Bool) : Type 0 where
+  pub answer : r ≡ occurs (variableOf x) (resolve (bindings ss nodes state n) (termAt ss nodes q d))
+  pub clean : Clean after
+  pub keeps : Keeps 0 before after

@@ -1,0 +1,12 @@
+// Below unification, over flat words: cells and trail, the occurs check, the work stack, and the memo of pairs made equal.
+
+pub mod memo;
+pub mod occurrence;
+pub mod stack;
+pub mod store;
+
+// A run-time term: the place of a node, and a copy.
+pub struct At {
+    pub node: usize,
+    pub copy: usize,
+}

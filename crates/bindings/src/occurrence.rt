@@ -1,0 +1,131 @@
+// The occurs check. The scratch words begin with a mark for each cell and a queue of the marked cells, laid out as cells and trail are.
+use crate::store::TRAIL;
+use crate::store::bind;
+use crate::store::undo;
+ghost use mathlib.Core.Path.{_≡_};
+ghost use Prim.Native.Nat.{_+_, _≤_, _<_};
+ghost use lib.ListN.{length, getD};
+ghost use Rattle.bindings.specs.Queues.{isCell, Visitable, Visited, Scannable, Scanned, Searchable, Searched, Checkable, Checked};
+
+// Whether a cell was found, and how many are queued.
+pub struct Queue {
+    pub found: bool,
+    pub n: usize,
+}
+
+pub fn word_at(words: &[u32], i: usize) -> usize
+    requires { ⌜ i < length (now words) ⌝ }
+    ensures { λ r. ⌜ r ≡ getD (now (words .entry)) i 0 ⌝ }
+{
+    words[i] as usize
+}
+
+// How many words the node at p takes with its arguments.
+pub fn size_at(nodes: &[u32], p: usize) -> usize
+    requires { ⌜ p + 1 < length (now nodes) ⌝ }
+    ensures { λ r. ⌜ r ≡ getD (now (nodes .entry)) (p + 1) 0 ⌝ }
+{
+    word_at(nodes, p + 1)
+}
+
+// Whether the node at i, in copy d, is the variable of cell x.
+fn is_cell(nodes: &[u32], i: usize, d: usize, x: usize) -> bool
+    requires { ⌜ (i < length (now nodes)) × (d < 256) ⌝ }
+    ensures { λ r. ⌜ r ≡ isCell (now (nodes .entry)) i d x ⌝ }
+{
+    let w = word_at(nodes, i);
+    if 64 <= w {
+        return false;
+    }
+    d * 64 + w == x
+}
+
+// The cell of the variable at i, in copy d, queued where it is bound and not yet marked.
+fn visit(nodes: &[u32], state: &[u32], scratch: &mut [u32], i: usize, d: usize, m: usize) -> usize
+    requires { ⌜ Visitable (now nodes) (now state) (now scratch) i d m ⌝ }
+    ensures { λ r. ⌜ Visited (now (nodes .entry)) (now (state .entry)) (now (scratch .entry)) (now (scratch .exit)) i d m r ⌝ }
+{
+    let w = word_at(nodes, i);
+    if 64 <= w {
+        return m;
+    }
+    let y = d * 64 + w;
+    if word_at(state, y) == 0 {
+        return m;
+    }
+    if word_at(scratch, y) != 0 {
+        return m;
+    }
+    bind(scratch, m, y, 0, 0);
+    m + 1
+}
+
+// The nodes of the term at q, in copy d, one after the other: cell x looked for, bound cells queued.
+fn scan(
+    nodes: &[u32],
+    state: &[u32],
+    scratch: &mut [u32],
+    q: usize,
+    d: usize,
+    x: usize,
+    m: usize,
+) -> Queue
+    requires { ⌜ Scannable (now nodes) (now state) (now scratch) q d m ⌝ }
+    ensures { λ r. ⌜ ((g : Scannable (now (nodes .entry)) (now (state .entry)) (now (scratch .entry)) q d m) → Scanned (g .ss) (now (nodes .entry)) (now (state .entry)) (now (scratch .entry)) (now (scratch .exit)) q d x m r) ⌝ }
+{
+    let e = q + size_at(nodes, q);
+    let mut i = q;
+    let mut n = m;
+    while i < e {
+        if is_cell(nodes, i, d, x) {
+            return Queue { found: true, n };
+        }
+        n = visit(nodes, state, scratch, i, d, n);
+        i += 2;
+    }
+    Queue { found: false, n }
+}
+
+// The terms of the queued cells, until cell x is found or the queue is at its end.
+fn search(nodes: &[u32], state: &[u32], scratch: &mut [u32], x: usize, m: usize) -> Queue
+    requires { ⌜ Searchable (now nodes) (now state) (now scratch) x m ⌝ }
+    ensures { λ r. ⌜ ((g : Searchable (now (nodes .entry)) (now (state .entry)) (now (scratch .entry)) x m) → Searched (g .ss) (now (nodes .entry)) (now (state .entry)) (g .n) (now (scratch .entry)) (now (scratch .exit)) x m r) ⌝ }
+{
+    let mut k = 0;
+    let mut n = m;
+    while k < n {
+        let y = word_at(scratch, TRAIL + k);
+        let w = word_at(state, y);
+        let q = (w - 1) / 256;
+        let d = (w - 1) % 256;
+        let r = scan(nodes, state, scratch, q, d, x, n);
+        if r.found {
+            return r;
+        }
+        n = r.n;
+        k += 1;
+    }
+    Queue { found: false, n }
+}
+
+// Whether the unbound variable of cell x stands in the term at q, in copy d, with the bindings put in.
+pub fn occurs(
+    nodes: &[u32],
+    state: &[u32],
+    scratch: &mut [u32],
+    x: usize,
+    q: usize,
+    d: usize,
+) -> bool
+    requires { ⌜ Checkable (now nodes) (now state) (now scratch) x q d ⌝ }
+    ensures { λ r. ⌜ ((g : Checkable (now (nodes .entry)) (now (state .entry)) (now (scratch .entry)) x q d) → Checked (g .ss) (now (nodes .entry)) (now (state .entry)) (g .n) (now (scratch .entry)) (now (scratch .exit)) x q d r) ⌝ }
+{
+    let r = scan(nodes, state, scratch, q, d, x, 0);
+    if r.found {
+        undo(scratch, 0, r.n);
+        return true;
+    }
+    let s = search(nodes, state, scratch, x, r.n);
+    undo(scratch, 0, s.n);
+    s.found
+}
