@@ -22,7 +22,7 @@ use Rattle.layout.specs.Nodes.{Symbol, isSymbol, symbolOf, isListed, nameOf, No
 use Rattle.layout.specs.State.{cellOf, variableOf, bindings, Store, cellAt}
 use Rattle.layout.proofs.Nodes.{node-inside, node-size, node-end, variable-at, compound-row, compound-at, row-none, row-cons, row-first, row-rest, row-order}
 use Rattle.layout.proofs.State.{variable-cell, cell-small, resolve-unbound}
-use Rattle.unifier.specs.Cells.{Derefs}
+use Rattle.bindings.specs.Cells.{Derefs}
 use Rattle.answers.specs.Words.{Placed, nameAt, Names, Numbers, resolvedAll, depth, depthAll, speltRow, rowTerms, left, Standing, Rows}
 use Rattle.answers.specs.Telling.{separatorOf, Told, Counting, Heading, SomeHeading, Setting, SomeSetting, Facing, SomeFacing, Spelling, Walked}
 

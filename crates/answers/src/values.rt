@@ -2,9 +2,9 @@
 use crate::walk::append_rows;
 use crate::walk::append_term;
 use crate::words::append_unbound;
+use bindings::occurrence::word_at;
 use buffers::append_byte;
 use buffers::append_part;
-use unifier::occurrence::word_at;
 ghost use mathlib.Core.Path.{_≡_};
 ghost use mathlib.Core.Logic.{_⊎_};
 ghost use mathlib.Core.List.{List, [], _∷_, _++_};

@@ -1,8 +1,8 @@
 // What the words of the node table, the state and the tables of this crate say.
+use bindings::occurrence::word_at;
 use buffers::append_byte;
 use buffers::append_decimal;
 use buffers::append_part;
-use unifier::occurrence::word_at;
 ghost use mathlib.Core.Path.{_≡_};
 ghost use mathlib.Core.List.{List, _∷_};
 ghost use Prim.Native.Nat.{ℕ, _+_, _*_, _/_, _%_, _^_, _≤_, _<_};

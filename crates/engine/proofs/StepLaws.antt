@@ -14,7 +14,7 @@ use Rattle.machine.specs.Runs.{isEmpty, isAnswer, isThere, triesWith, triesFirs
 use Rattle.layout.specs.Nodes.{Symbol}
 use Rattle.layout.specs.Program.{bodyAt, kindAt, LiteralStands, BodyStands}
 use Rattle.layout.specs.Pile.{Calls, restFrom, leftFrom, copyAt, literalAt, nextAt, markAt, pathAt, alternativeAt, pileOf, NextFor, Piled}
-use Rattle.unifier.specs.Cells.{Stored, Undone}
+use Rattle.bindings.specs.Cells.{Stored, Undone}
 use Rattle.engine.specs.Words.{standAt}
 use Rattle.engine.specs.Moves.{Layable, Lays}
 use Rattle.engine.specs.Steps.{Running, Steppable, Stepped, Startable, Started}

@@ -16,7 +16,7 @@ use Rattle.layout.specs.State.{bindings}
 use Rattle.layout.specs.Program.{kindAt, placeAt, otherAt}
 use Rattle.layout.specs.Pile.{restFrom, copyAt, literalAt, markAt, pathAt, pileOf, Piled}
 use Rattle.layout.proofs.State.{keeps-refl}
-use Rattle.unifier.specs.Queues.{Clean}
+use Rattle.bindings.specs.Queues.{Clean}
 use Rattle.unifier.specs.Turns.{answered, Unifiable, Unifies}
 use Rattle.unifier.specs.declared.solve.Unified.{Unified}
 use Rattle.engine.specs.Moves.{Layable, Lays}

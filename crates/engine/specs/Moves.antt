@@ -9,8 +9,8 @@ use Rattle.machine.specs.Machine.{Pending, Alternative, topmost, clauseAt, trie
 use Rattle.layout.specs.Nodes.{Symbol}
 use Rattle.layout.specs.Program.{Program}
 use Rattle.layout.specs.Pile.{Calls, restFrom, leftFrom, copyAt, literalAt, markAt, pathAt, alternativeAt, pileOf, Place, Frame, NextFor, Piled}
-use Rattle.unifier.specs.Queues.{Clean}
-use Rattle.unifier.specs.Stacks.{Roomy}
+use Rattle.bindings.specs.Queues.{Clean}
+use Rattle.bindings.specs.Scratch.{Roomy}
 use Rattle.engine.specs.Words.{standWords}
 use Rattle.engine.specs.declared.Pile.{Pile}
 use Rattle.engine.specs.declared.records.Spot.{Spot}

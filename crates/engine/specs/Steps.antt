@@ -10,8 +10,8 @@ use Rattle.machine.specs.Runs.{goesDeeper}
 use Rattle.layout.specs.Nodes.{Symbol}
 use Rattle.layout.specs.Program.{Program}
 use Rattle.layout.specs.Pile.{pileOf, Piled}
-use Rattle.unifier.specs.Queues.{Clean}
-use Rattle.unifier.specs.Stacks.{Roomy}
+use Rattle.bindings.specs.Queues.{Clean}
+use Rattle.bindings.specs.Scratch.{Roomy}
 use Rattle.engine.specs.declared.Pile.{Pile}
 
 -- some loaded program and words that mean a pile of it

@@ -8,7 +8,7 @@ use crate::records::Stand;
 use crate::records::put_frame;
 use crate::records::put_next;
 use crate::records::stand_at;
-use unifier::occurrence::word_at;
+use bindings::occurrence::word_at;
 use unifier::solve::unify;
 ghost use mathlib.Core.Path.{_≡_};
 ghost use Prim.Native.Nat.{_-_};

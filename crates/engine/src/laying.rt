@@ -2,7 +2,7 @@
 use crate::records::Spot;
 use crate::records::caller_at;
 use crate::records::put_stand;
-use unifier::occurrence::word_at;
+use bindings::occurrence::word_at;
 ghost use mathlib.Core.Path.{_≡_};
 ghost use Prim.Native.Nat.{_+_, _<_};
 ghost use lib.ListN.{length};

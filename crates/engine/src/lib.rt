@@ -3,13 +3,13 @@ mod calls;
 mod laying;
 mod records;
 
+use bindings::occurrence::word_at;
+use bindings::store::undo;
 use calls::work;
 use laying::CALL;
 use laying::END;
 use laying::lay;
 use records::stand_at;
-use unifier::occurrence::word_at;
-use unifier::store::undo;
 ghost use mathlib.Core.Path.{_≡_};
 ghost use mathlib.Core.List.{List};
 ghost use Prim.Native.Nat.{ℕ};

@@ -1,5 +1,5 @@
 // Words of the state: frames and alternatives, by their fields.
-use unifier::occurrence::word_at;
+use bindings::occurrence::word_at;
 ghost use mathlib.Core.Path.{_≡_};
 ghost use Prim.Native.Nat.{_+_, _*_, _<_, _^_};
 ghost use lib.ListN.{length};

@@ -6,7 +6,7 @@ use mathlib.Core.List.{List}
 use lib.ListN.{length, getD, replicate, length-replicate}
 use Rattle.syntax.specs.Terms.{Sheet, Goal}
 use Rattle.layout.specs.Program.{Program}
-use Rattle.unifier.specs.Queues.{Clean}
+use Rattle.bindings.specs.Queues.{Clean}
 use Rattle.loader.specs.Loading.{Loadable, Loaded}
 use Rattle.linker.specs.Linking.{Linkable}
 use Rattle.syntax.specs.declared.Report.{Report}

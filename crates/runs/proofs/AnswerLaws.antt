@@ -16,7 +16,7 @@ use Rattle.layout.specs.Nodes.{Symbol}
 use Rattle.layout.specs.State.{bindings}
 use Rattle.layout.specs.Pile.{pileOf, Piled, markAt}
 use Rattle.layout.proofs.Pile.{height, undone, Means}
-use Rattle.unifier.specs.Cells.{Stored, Undone}
+use Rattle.bindings.specs.Cells.{Stored, Undone}
 use Rattle.answers.specs.Words.{namesFrom}
 use Rattle.answers.specs.Telling.{Answerable, SomeAnswerable, Fitted}
 use Rattle.engine.specs.Steps.{Running, Steppable, Stepped}

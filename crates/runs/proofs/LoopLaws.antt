@@ -22,8 +22,8 @@ use Rattle.machine.specs.Runs.{Progress, Ended, isEmpty, isAnswer, nextLine, go
 use Rattle.layout.specs.Nodes.{Symbol}
 use Rattle.layout.specs.State.{bindings}
 use Rattle.layout.specs.Pile.{pileOf, Piled, markAt}
-use Rattle.unifier.specs.Queues.{Clean}
-use Rattle.unifier.specs.Stacks.{Roomy}
+use Rattle.bindings.specs.Queues.{Clean}
+use Rattle.bindings.specs.Scratch.{Roomy}
 use Rattle.answers.specs.Telling.{Fitted}
 use Rattle.runs.specs.declared.Next.{Next}
 use Rattle.runs.specs.declared.Next.the-variants.{End, Answer, Step}

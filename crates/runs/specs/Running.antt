@@ -16,8 +16,8 @@ use Rattle.layout.specs.Nodes.{Symbol}
 use Rattle.layout.specs.Program.{Program}
 use Rattle.layout.specs.State.{bindings}
 use Rattle.layout.specs.Pile.{pileOf, Piled, markAt}
-use Rattle.unifier.specs.Queues.{Clean}
-use Rattle.unifier.specs.Stacks.{Roomy}
+use Rattle.bindings.specs.Queues.{Clean}
+use Rattle.bindings.specs.Scratch.{Roomy}
 use Rattle.answers.specs.Words.{Names, Named, namesFrom}
 use Rattle.answers.specs.Telling.{Fitted}
 use Rattle.engine.specs.Steps.{Stepped}

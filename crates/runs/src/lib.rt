@@ -1,14 +1,14 @@
 // A run over loaded words: the step repeated until document 01 ends it, and the lines of its answers. Document 01 is the paper "Rule
 // sheets".
 use answers::put_answer;
+use bindings::occurrence::word_at;
+use bindings::store::undo;
 use engine::goes_deeper;
 use engine::is_answer;
 use engine::start;
 use engine::step;
 use syntax::Kind;
 use syntax::Report;
-use unifier::occurrence::word_at;
-use unifier::store::undo;
 ghost use mathlib.Core.Path.{_≡_};
 ghost use mathlib.Core.List.{List};
 ghost use Prim.Native.Nat.{ℕ, _-_, _≤_};

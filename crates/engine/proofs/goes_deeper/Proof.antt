@@ -5,7 +5,7 @@ use Rattle.engine.proofs.goes_deeper.Tie as tie
 use Rattle.engine.proofs.goes_deeper.Reads as reads
 use Rattle.engine.proofs.goes_deeper.Lts as lts
 use Rattle.engine.proofs.records.stand_at.Reads as stand-at-reads
-use Rattle.unifier.proofs.occurrence.word_at.Reads as word-at-reads
+use Rattle.bindings.proofs.occurrence.word_at.Reads as word-at-reads
 
 -- src/lib.rt:72:9
 returns : tie.Need-returns

@@ -6,7 +6,7 @@ use Rattle.engine.proofs.step.Reads as reads
 use Rattle.engine.proofs.step.Lts as lts
 use Rattle.engine.proofs.calls.work.Reads as work-reads
 use Rattle.engine.proofs.records.stand_at.Reads as stand-at-reads
-use Rattle.unifier.proofs.store.undo.Reads as undo-reads
+use Rattle.bindings.proofs.store.undo.Reads as undo-reads
 
 -- src/lib.rt:38:13
 sub-j : tie.Need-sub-j

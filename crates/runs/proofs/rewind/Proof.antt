@@ -5,8 +5,8 @@ use Rattle.runs.proofs.rewind.Statement.{statement}
 use Rattle.runs.proofs.rewind.Tie as tie
 use Rattle.runs.proofs.rewind.Reads as reads
 use Rattle.runs.proofs.rewind.Lts as lts
-use Rattle.unifier.proofs.occurrence.word_at.Reads as word-at-reads
-use Rattle.unifier.proofs.store.undo.Reads as undo-reads
+use Rattle.bindings.proofs.occurrence.word_at.Reads as word-at-reads
+use Rattle.bindings.proofs.store.undo.Reads as undo-reads
 
 -- src/lib.rt:79:13
 sub-j : tie.Need-sub-j

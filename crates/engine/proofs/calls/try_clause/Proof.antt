@@ -8,7 +8,7 @@ use Rattle.engine.proofs.calls.try_clause.Lts as lts
 use Rattle.engine.proofs.laying.lay.Reads as lay-reads
 use Rattle.engine.proofs.records.put_frame.Reads as put-frame-reads
 use Rattle.engine.proofs.records.stand_at.Reads as stand-at-reads
-use Rattle.unifier.proofs.occurrence.word_at.Reads as word-at-reads
+use Rattle.bindings.proofs.occurrence.word_at.Reads as word-at-reads
 use Rattle.unifier.proofs.solve.unify.Reads as unify-reads
 
 -- src/calls.rt:33:13

@@ -9,7 +9,7 @@ use Rattle.engine.proofs.calls.work_call.Reads as work-call-reads
 use Rattle.engine.proofs.calls.work_equation.Reads as work-equation-reads
 use Rattle.engine.proofs.laying.lay.Reads as lay-reads
 use Rattle.engine.proofs.records.stand_at.Reads as stand-at-reads
-use Rattle.unifier.proofs.occurrence.word_at.Reads as word-at-reads
+use Rattle.bindings.proofs.occurrence.word_at.Reads as word-at-reads
 
 -- src/calls.rt:124:13
 sub-j : tie.Need-sub-j

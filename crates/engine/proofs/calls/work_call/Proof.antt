@@ -7,7 +7,7 @@ use Rattle.engine.proofs.calls.work_call.Reads as reads
 use Rattle.engine.proofs.calls.work_call.Lts as lts
 use Rattle.engine.proofs.calls.try_clause.Reads as try-clause-reads
 use Rattle.engine.proofs.records.put_next.Reads as put-next-reads
-use Rattle.unifier.proofs.occurrence.word_at.Reads as word-at-reads
+use Rattle.bindings.proofs.occurrence.word_at.Reads as word-at-reads
 
 -- src/calls.rt:70:13
 sub-j : tie.Need-sub-j

@@ -6,7 +6,7 @@ use Rattle.engine.proofs.calls.work_equation.Tie as tie
 use Rattle.engine.proofs.calls.work_equation.Reads as reads
 use Rattle.engine.proofs.calls.work_equation.Lts as lts
 use Rattle.engine.proofs.laying.lay.Reads as lay-reads
-use Rattle.unifier.proofs.occurrence.word_at.Reads as word-at-reads
+use Rattle.bindings.proofs.occurrence.word_at.Reads as word-at-reads
 use Rattle.unifier.proofs.solve.unify.Reads as unify-reads
 
 -- src/calls.rt:98:13

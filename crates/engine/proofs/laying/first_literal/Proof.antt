@@ -6,7 +6,7 @@ use Rattle.engine.proofs.laying.first_literal.Tie as tie
 use Rattle.engine.proofs.laying.first_literal.Reads as reads
 use Rattle.engine.proofs.laying.first_literal.Lts as lts
 use Rattle.engine.proofs.records.caller_at.Reads as caller-at-reads
-use Rattle.unifier.proofs.occurrence.word_at.Reads as word-at-reads
+use Rattle.bindings.proofs.occurrence.word_at.Reads as word-at-reads
 
 abbrev Inv-loop : tie.InvT-loop
 Inv-loop code state c l copy₀ literal₀ copy literal = (w : Climbable code state c l) → Along (w .sh) (w .g) code state (w .path) c l copy literal

@@ -4,7 +4,7 @@ use Rattle.engine.proofs.laying.topmost.Statement.{statement}
 use Rattle.engine.proofs.laying.topmost.Tie as tie
 use Rattle.engine.proofs.laying.topmost.Reads as reads
 use Rattle.engine.proofs.laying.topmost.Lts as lts
-use Rattle.unifier.proofs.occurrence.word_at.Reads as word-at-reads
+use Rattle.bindings.proofs.occurrence.word_at.Reads as word-at-reads
 
 -- src/laying.rt:44:8
 word-at-requires : tie.Need-word-at-requires
