@@ -1,7 +1,2 @@
-pub mod GoalNames
-pub mod NumberLaws
-pub mod WalkLaws
-pub mod ShallowLaws
-pub mod ValueLaws
 pub mod LineLaws
 pub mod Witness

@@ -13,9 +13,10 @@ use Rattle.machine.specs.Substitution.{Variable, Binding}
 use Rattle.machine.specs.Answers.{placeOf, bytesOf, allAnonymous, valuesFrom, line}
 use Rattle.layout.specs.Nodes.{Symbol}
 use Rattle.layout.specs.State.{variableOf, bindings}
-use Rattle.answers.specs.Words.{numberIn, Numbers, depth}
-use Rattle.answers.specs.Telling.{Counting, Setting, Values, SomeValues, Answerable, SomeAnswerable, Lined, Fitted, valueIn}
-use Rattle.answers.proofs.ShallowLaws.{shallow-values}
+use Rattle.spelling.specs.Words.{numberIn, Numbers, depth}
+use Rattle.spelling.specs.Telling.{Counting, Setting, Values, SomeValues, Lined, valueIn}
+use Rattle.spelling.proofs.ShallowLaws.{shallow-values}
+use Rattle.answers.specs.Fitting.{Answerable, SomeAnswerable, Fitted}
 
 -- no variable is numbered yet
 number-zero : (v : Variable) → numberIn v [] ≡ 0

@@ -8,8 +8,8 @@ use Rattle.syntax.specs.Quote.{bytes}
 use Rattle.layout.specs.Nodes.{Symbol, nameOf}
 use Rattle.layout.specs.State.{wordOf, boundWords}
 use Rattle.layout.proofs.Witness.{symbols, table, state, witness as bound}
-use Rattle.answers.specs.Words.{nameAt, Placed, Names, Named}
-use Rattle.answers.specs.Telling.{SomeAnswerable}
+use Rattle.spelling.specs.Words.{nameAt, Placed, Names, Named}
+use Rattle.answers.specs.Fitting.{SomeAnswerable}
 
 unfoldable pub stack : List ℕ
 stack = replicate 524320 0

@@ -1,11 +1,7 @@
 // The line of an answer, from the words of a run. Document 01 is the paper "Rule sheets".
-mod values;
-mod walk;
-mod words;
-
 use buffers::append_part;
-use values::all_anonymous;
-use values::append_values;
+use spelling::values::all_anonymous;
+use spelling::values::append_values;
 ghost use mathlib.Core.Path.{_≡_};
 ghost use mathlib.Core.List.{List};
 ghost use Prim.Native.Nat.{ℕ, _+_, _^_, _≤_, _<_};
@@ -14,8 +10,9 @@ ghost use Rattle.syntax.specs.Terms.{Goal};
 ghost use Rattle.machine.specs.Answers.{line};
 ghost use Rattle.layout.specs.Nodes.{Symbol};
 ghost use Rattle.layout.specs.State.{bindings};
-ghost use Rattle.answers.specs.Words.{namesFrom};
-ghost use Rattle.answers.specs.Telling.{Values, SomeValues, Answerable, SomeAnswerable, Lined, Fitted};
+ghost use Rattle.spelling.specs.Words.{namesFrom};
+ghost use Rattle.spelling.specs.Telling.{Values, SomeValues, Lined};
+ghost use Rattle.answers.specs.Fitting.{Answerable, SomeAnswerable, Fitted};
 
 // Writes the line of an answer from at on and returns the position past it; where the whole line does not fit, writes nothing
 // and returns 0. It is measured first. The stack has two words for each bracket that can be open at once: 16 in a term of a clause

@@ -1,0 +1,5 @@
+pub mod GoalNames
+pub mod NumberLaws
+pub mod WalkLaws
+pub mod ShallowLaws
+pub mod ValueLaws

@@ -1,0 +1,54 @@
+use native.Mathlib.Omega.{arith}
+use Prim.Native.Nat.{_+_, _-_, _≤_, _<_, _/_, _%_}
+use mathlib.Core.Path.{_≡_, refl, sym}
+use lib.ListN.{length}
+use borrow.Author.Needs.{needs}
+use borrow.Author.Tests.{not-true, not-false}
+use Rattle.spelling.proofs.ValueLaws.{AllFrom, all-start, all-more, all-not, all-end, word-inside}
+use Rattle.spelling.proofs.values.all_anonymous.Statement.{statement}
+use Rattle.spelling.proofs.values.all_anonymous.Tie as tie
+
+abbrev Inv-loop : tie.InvT-loop
+Inv-loop goal names count i₀ i = (i ≤ count) × AllFrom goal names count i
+
+abbrev μ-loop : tie.MeasureT-loop
+μ-loop goal names count i₀ i = count - i
+
+loop-holds : tie.Need-loop-holds Inv-loop μ-loop
+loop-holds c = (omega arith, all-start _ _ _)
+
+word-at-requires : tie.Need-word-at-requires Inv-loop μ-loop
+word-at-requires c κs = omega (arith, c .before .before .before .before .pre .listed)
+
+is-anonymous-requires : tie.Need-is-anonymous-requires Inv-loop μ-loop
+is-anonymous-requires c κs = word-inside _ _ (c .before .before .before .before .before .args .count) (c .before .before .loop .i) _ (c .before .before .before .before .before .pre) (c .before .loop-test .taken) (c .word-at .ensures)
+
+returns : tie.Need-returns Inv-loop μ-loop
+returns c = all-not (c .before .before .before .before .before .before .before .args .goal .now) (c .before .before .before .before .before .before .before .args .names .now) (c .before .before .before .before .before .before .before .args .count) (c .before .before .before .before .loop .i) (c .before .before .word-at .result) (c .before .is-anonymous .result) (c .before .before .before .loop-test .taken) (c .before .before .word-at .ensures) (c .before .is-anonymous .ensures) (not-true (c .before .is-anonymous .result) (c .if1 .taken)) (c .before .before .before .before .loop .inv .1)
+
+add-i : tie.Need-add-i Inv-loop μ-loop
+add-i c = omega arith
+
+loop-less : tie.Need-loop-less Inv-loop μ-loop
+loop-less c = omega arith
+
+loop-again : tie.Need-loop-again Inv-loop μ-loop
+loop-again c = (omega arith, all-more (c .before .before .before .before .before .before .before .args .goal .now) (c .before .before .before .before .before .before .before .args .names .now) (c .before .before .before .before .before .before .before .args .count) (c .before .before .before .before .loop .i) (c .before .before .word-at .result) (c .before .is-anonymous .result) (c .before .before .before .loop-test .taken) (c .before .before .word-at .ensures) (c .before .is-anonymous .ensures) (not-false (c .before .is-anonymous .result) (c .if1 .left)) (c .before .before .before .before .loop .inv .1))
+
+returns-2 : tie.Need-returns-2 Inv-loop μ-loop
+returns-2 c = all-end _ _ (c .before .before .before .before .args .count) (c .before .loop .i) (c .loop-test .left) (c .before .loop .inv .1)
+
+pub all-anonymous-spec : {M : Type 1} → statement M
+all-anonymous-spec =
+    tie.close
+    (tie.spec
+    Inv-loop
+    μ-loop
+    loop-holds
+    word-at-requires
+    is-anonymous-requires
+    returns
+    add-i
+    loop-less
+    loop-again
+    returns-2)

@@ -1,0 +1,129 @@
+-- What the functions promise: bytes appended, and what is still to be spelt.
+use Prim.Native.Nat.{ℕ, zero, suc, _+_, _/_, _<_, _≤_, _^_}
+use Rattle.syntax.specs.Quote.{bytes}
+use mathlib.Core.Path.{_≡_}
+use mathlib.Core.Bool.{cond}
+use mathlib.Core.List.{List, [], _∷_, _++_}
+use lib.Dec.{eqb}
+use lib.ListN.{length, getD}
+use Rattle.buffers.specs.Buffers.{Put}
+use Rattle.machine.specs.Substitution.{Variable, RTerm, var, Binding, resolve}
+use Rattle.machine.specs.Answers.{Piece, unbound, numbered, bytesOf}
+use Rattle.layout.specs.Nodes.{Symbol, Node, termAt}
+use Rattle.layout.specs.State.{variableOf, bindings, Store}
+use Rattle.spelling.specs.Words.{Names, Named, Numbers, Rows, left, depth}
+
+-- A cell's number, before any pieces.
+pub record Numbered (met : List Variable) (x : ℕ) (numbers : List ℕ) (r : ℕ) : Type 0 where
+  pub met-after : List Variable
+  pub numbers-after : Numbers numbers met-after
+  pub few : length met-after ≤ length met + 1
+  pub is : (ps : List Piece) → bytesOf met (unbound (variableOf x) ∷ ps) ≡ numbered r (bytesOf met-after ps)
+
+-- Bytes are appended, and with what the pieces that are left give they are the whole.
+pub record Told (whole old : List ℕ) (at : ℕ) (new : List ℕ) (next : ℕ) (numbers : List ℕ) (ps : List Piece) : Type 0 where
+  pub words : List ℕ
+  pub put : Put old at words new next
+  pub met : List Variable
+  pub numbers-are : Numbers numbers met
+  pub few : length met ≤ next
+  pub is : whole ≡ words ++ bytesOf met ps
+
+-- ---- the walk
+
+-- The table numbers some variables, and numbers and positions fit.
+pub record Counting (numbers : List ℕ) (at : ℕ) : Type 0 where
+  pub met : List Variable
+  pub numbers-are : Numbers numbers met
+  pub few : length met ≤ at
+  pub near : at + 100 < 2 ^ 64
+
+-- A term at p, a name or an unbound variable, with a stack that has room for its brackets.
+pub record Heading (ss : List Symbol) (b : List Binding) (nodes symbols sheet goal stack : List ℕ) (p c height : ℕ) : Type 0 where
+  pub node : Node ss nodes p
+  pub copy : c < 256
+  pub small : length nodes ≤ 65536
+  pub names : Names ss symbols sheet goal
+  pub free : getD nodes p 0 < 64 → resolve b (termAt ss nodes p c) ≡ termAt ss nodes p c
+  pub rows : Rows ss nodes b stack height
+  pub shallow : depth (resolve b (termAt ss nodes p c)) + height ≤ length stack / 2
+
+pub record SomeHeading (nodes symbols sheet goal stack : List ℕ) (p c height : ℕ) : Type 0 where
+  pub ss : List Symbol
+  pub b : List Binding
+  pub is : Heading ss b nodes symbols sheet goal stack p c height
+
+-- The words mean a store, the symbols are spelt, and the rows stand.
+pub record Setting (ss : List Symbol) (n : ℕ) (nodes state symbols sheet goal stack : List ℕ) (height : ℕ) : Type 0 where
+  pub store : Store ss nodes state n
+  pub names : Names ss symbols sheet goal
+  pub rows : Rows ss nodes (bindings ss nodes state n) stack height
+
+-- and a term at p is next
+pub record Facing (ss : List Symbol) (n : ℕ) (nodes state symbols sheet goal stack : List ℕ) (p c height : ℕ) : Type 0 where
+  pub setting : Setting ss n nodes state symbols sheet goal stack height
+  pub node : Node ss nodes p
+  pub copy : c < 256
+  pub shallow : depth (resolve (bindings ss nodes state n) (termAt ss nodes p c)) + height ≤ length stack / 2
+
+pub record SomeFacing (nodes state symbols sheet goal stack : List ℕ) (p c height : ℕ) : Type 0 where
+  pub ss : List Symbol
+  pub n : ℕ
+  pub is : Facing ss n nodes state symbols sheet goal stack p c height
+
+pub record SomeSetting (nodes state symbols sheet goal stack : List ℕ) (height : ℕ) : Type 0 where
+  pub ss : List Symbol
+  pub n : ℕ
+  pub is : Setting ss n nodes state symbols sheet goal stack height
+
+-- Bytes are appended, and the rest is on the stack.
+pub record Spelling (ss : List Symbol) (nodes : List ℕ) (b : List Binding) (whole old : List ℕ) (at : ℕ) (new numbers stack : List ℕ) (next height : ℕ) (rest : List Piece) : Type 0 where
+  pub told : Told whole old at new next numbers (left ss nodes b stack height rest)
+  pub rows : Rows ss nodes b stack height
+
+-- All is spelt, or the limit is passed, as it is by the whole.
+pub record Walked (limit : ℕ) (whole old : List ℕ) (at : ℕ) (new : List ℕ) (next : ℕ) (numbers : List ℕ) (rest : List Piece) : Type 0 where
+  pub done : next ≤ limit → Told whole old at new next numbers rest
+  pub over : limit < next → limit < at + length whole
+
+-- an open bracket, or a comma
+abbrev pub separatorOf : ℕ → ℕ
+separatorOf more = cond (eqb more 0) 40 44
+
+-- ---- the goal's variables
+
+-- the value of the goal's variable i
+abbrev pub valueIn : List Binding → ℕ → RTerm
+valueIn b i = resolve b (var (record { copy = 0; number = i }))
+
+-- the stack has room for the brackets of a variable's value
+pub record Valued (ss : List Symbol) (n : ℕ) (nodes state symbols sheet goal stack : List ℕ) (i : ℕ) : Type 0 where
+  pub setting : Setting ss n nodes state symbols sheet goal stack 0
+  pub low : i < 32
+  pub shallow : depth (valueIn (bindings ss nodes state n) i) ≤ length stack / 2
+
+pub record SomeValued (nodes state symbols sheet goal stack : List ℕ) (i : ℕ) : Type 0 where
+  pub ss : List Symbol
+  pub n : ℕ
+  pub is : Valued ss n nodes state symbols sheet goal stack i
+
+-- what stands before a variable: nothing before the first
+abbrev pub gap : ℕ → List ℕ
+gap zero = []
+gap (suc more) = bytes ", "
+
+-- all of the goal's variables
+pub record Values (ss : List Symbol) (n : ℕ) (nodes state symbols sheet goal stack names : List ℕ) (count : ℕ) : Type 0 where
+  pub setting : Setting ss n nodes state symbols sheet goal stack 0
+  pub named : Named goal names count
+  pub shallow : (i : ℕ) → i < count → depth (valueIn (bindings ss nodes state n) i) ≤ length stack / 2
+
+pub record SomeValues (nodes state symbols sheet goal stack names : List ℕ) (count : ℕ) : Type 0 where
+  pub ss : List Symbol
+  pub n : ℕ
+  pub is : Values ss n nodes state symbols sheet goal stack names count
+
+-- The whole stands in the buffer, or the limit is passed, as it is by the whole.
+pub record Lined (limit : ℕ) (whole old : List ℕ) (at : ℕ) (new : List ℕ) (next : ℕ) : Type 0 where
+  pub done : next ≤ limit → Put old at whole new next
+  pub over : limit < next → limit < at + length whole
