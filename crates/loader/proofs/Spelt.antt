@@ -9,7 +9,7 @@ use lib.ListN.{length, getD, take, drop, length-take, length-drop}
 use Rattle.syntax.specs.Terms.{sameBytes}
 use Rattle.machine.proofs.Tests.{name-eq}
 use Rattle.layout.specs.Nodes.{isSymbol}
-use Rattle.answers.specs.Words.{textOf}
+use Rattle.spelling.specs.Words.{textOf}
 use Rattle.loader.specs.Listing.{wordName, Inside, symbolAt}
 
 -- ---- a word's text

@@ -12,7 +12,7 @@ use Rattle.marking.specs.Standing.{NameAt, Stands, AllStand, stands-variable, s
 use Rattle.machine.proofs.Tests.{and}
 use Rattle.layout.specs.Nodes.{Symbol, symbolOf, isListed, loadedWords, loadedAll, isLoadable, areLoadable}
 use Rattle.layout.specs.Program.{literalNodes, bodyNodes, clauseNodes, clausesNodes, literalLoadable, bodyLoadable, clausesLoadable}
-use Rattle.answers.specs.Words.{textOf}
+use Rattle.spelling.specs.Words.{textOf}
 use Rattle.loader.specs.Flat.{Parsed, parsedWords, termParsed, termsParsed, literalParsed, bodyParsed, clauseParsed, clausesParsed, Flat, flatWords, flatWhat, flatAll}
 use Rattle.loader.specs.Listing.{wordName, Inside, withNode, withAll, numberedWhat, numberedAll, AllInside}
 use Rattle.loader.proofs.Runs.{flat-variable, flat-name}

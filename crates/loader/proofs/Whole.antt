@@ -10,7 +10,7 @@ use Rattle.marking.specs.Tables.{Has}
 use Rattle.marking.proofs.Places.{has-inside}
 use Rattle.layout.specs.Nodes.{Symbol, nameOf, Has as HasNodes}
 use Rattle.layout.specs.Program.{bodyNodes, clausesNodes, programNodes, bodyLoadable, clausesLoadable}
-use Rattle.answers.specs.Words.{textOf, nameAt, Placed, Names}
+use Rattle.spelling.specs.Words.{textOf, nameAt, Placed, Names}
 use Rattle.loader.specs.Flat.{parsedWords, bodyParsed, clausesParsed, Flat, flatWords, flatAll, written, BodyHere, ClausesHere}
 use Rattle.loader.specs.Listing.{wordName, Inside, symbolAt, symbolsOf, Listed, withAll, numberedAll, Copied, NodesNumbered}
 use Rattle.loader.specs.Loading.{Loadable, Loaded}

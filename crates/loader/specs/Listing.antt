@@ -7,7 +7,7 @@ use lib.Dec.{ltb}
 use lib.ListN.{length, getD, set}
 use Rattle.syntax.specs.Tokens.{spelling}
 use Rattle.layout.specs.Nodes.{Symbol, symbolOf, isListed, Has}
-use Rattle.answers.specs.Words.{textOf}
+use Rattle.spelling.specs.Words.{textOf}
 use Rattle.loader.specs.Flat.{Flat, flatWords, written}
 
 -- ---- symbols

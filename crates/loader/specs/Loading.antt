@@ -10,7 +10,7 @@ use Rattle.marking.specs.Standing.{BodyStands, ClausesStand}
 use Rattle.marking.specs.Tables.{Has}
 use Rattle.layout.specs.Nodes.{Symbol, Has as HasNodes}
 use Rattle.layout.specs.Program.{programNodes, bodyLoadable, clausesLoadable}
-use Rattle.answers.specs.Words.{Names}
+use Rattle.spelling.specs.Words.{Names}
 
 -- A sheet's clauses and a goal as they were read into their tables; room for nodes and symbols.
 pub record Loadable (sheet table : List ℕ) (clauses : ℕ) (goal goals : List ℕ) (literals : ℕ) (nodes symbols : List ℕ) : Type 0 where

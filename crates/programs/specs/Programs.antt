@@ -10,7 +10,7 @@ use Rattle.marking.specs.Tables.{Has}
 use Rattle.layout.specs.Nodes.{Symbol}
 use Rattle.layout.specs.Limits.{SheetLimited, GoalLimited}
 use Rattle.layout.specs.Program.{Program}
-use Rattle.answers.specs.Words.{Named, namesFrom}
+use Rattle.spelling.specs.Words.{Named, namesFrom}
 use Rattle.runs.specs.Running.{Spelt}
 
 -- Words that are all zero, so many.

@@ -17,8 +17,8 @@ use Rattle.layout.specs.State.{bindings}
 use Rattle.layout.specs.Pile.{pileOf, Piled, markAt}
 use Rattle.layout.proofs.Pile.{height, undone, Means}
 use Rattle.bindings.specs.Cells.{Stored, Undone}
-use Rattle.answers.specs.Words.{namesFrom}
-use Rattle.answers.specs.Telling.{Answerable, SomeAnswerable, Fitted}
+use Rattle.spelling.specs.Words.{namesFrom}
+use Rattle.answers.specs.Fitting.{Answerable, SomeAnswerable, Fitted}
 use Rattle.engine.specs.Steps.{Running, Steppable, Stepped}
 use Rattle.engine.specs.declared.Pile.{Pile}
 use Rattle.runs.specs.declared.Next.{Next}

@@ -24,7 +24,7 @@ use Rattle.layout.specs.State.{bindings}
 use Rattle.layout.specs.Pile.{pileOf, Piled, markAt}
 use Rattle.bindings.specs.Queues.{Clean}
 use Rattle.bindings.specs.Scratch.{Roomy}
-use Rattle.answers.specs.Telling.{Fitted}
+use Rattle.answers.specs.Fitting.{Fitted}
 use Rattle.runs.specs.declared.Next.{Next}
 use Rattle.runs.specs.declared.Next.the-variants.{End, Answer, Step}
 use Rattle.runs.specs.Running.{nextOf, reportOf, Lent, Under, Ongoing, Runs}

@@ -18,8 +18,8 @@ use Rattle.layout.specs.State.{bindings}
 use Rattle.layout.specs.Pile.{pileOf, Piled, markAt}
 use Rattle.bindings.specs.Queues.{Clean}
 use Rattle.bindings.specs.Scratch.{Roomy}
-use Rattle.answers.specs.Words.{Names, Named, namesFrom}
-use Rattle.answers.specs.Telling.{Fitted}
+use Rattle.spelling.specs.Words.{Names, Named, namesFrom}
+use Rattle.answers.specs.Fitting.{Fitted}
 use Rattle.engine.specs.Steps.{Stepped}
 use Rattle.runs.specs.declared.Told.{Told}
 use Rattle.runs.specs.declared.Next.{Next}

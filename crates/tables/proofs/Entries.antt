@@ -31,8 +31,8 @@ use Rattle.tables.specs.declared.GoalRead.{GoalRead}
 use Rattle.tables.proofs.Laws.{four-words, never}
 use Rattle.modes.proofs.Accepted.{goal-stands}
 use Rattle.modes.proofs.Loaded.{has-taken}
-use Rattle.answers.specs.Words.{Named, namesFrom}
-use Rattle.answers.proofs.GoalNames.{goal-names, goal-named, goal-words}
+use Rattle.spelling.specs.Words.{Named, namesFrom}
+use Rattle.spelling.proofs.GoalNames.{goal-names, goal-named, goal-words}
 
 -- ---- one entry of a table
 

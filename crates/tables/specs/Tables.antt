@@ -12,7 +12,7 @@ use Rattle.syntax.specs.declared.Declared.{Declared}
 use Rattle.syntax.specs.declared.Declared.the-variants.{As, Nothing}
 use Rattle.marking.specs.Standing.{DeclarationsStand, GoalStands}
 use Rattle.marking.specs.Tables.{Has, SheetAt}
-use Rattle.answers.specs.Words.{Named, namesFrom}
+use Rattle.spelling.specs.Words.{Named, namesFrom}
 use Rattle.tables.specs.declared.GoalRead.{GoalRead}
 
 -- the sheet that was read stands in the tables
