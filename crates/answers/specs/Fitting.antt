@@ -3,7 +3,7 @@ use Prim.Native.Nat.{ℕ, _+_, _<_, _≤_}
 use mathlib.Core.Path.{_≡_}
 use mathlib.Core.List.{List}
 use lib.ListN.{length}
-use Rattle.lines.specs.Lines.{Put}
+use Rattle.buffers.specs.Buffers.{Put}
 use Rattle.layout.specs.Nodes.{Symbol}
 use Rattle.layout.specs.State.{Store}
 use Rattle.spelling.specs.Words.{Names, Named}
