@@ -3,6 +3,7 @@
 python3 tests/make_cases.py read     crates/read_cases/data/cases and .../stdout
 python3 tests/make_cases.py check    crates/check_cases/data/cases and .../stdout
 python3 tests/make_cases.py run      crates/run_cases/data/cases and .../stdout
+python3 tests/make_cases.py list     crates/list_cases/data/cases and .../stdout
 
 A case is a letter and its fields; a text is its length in 3 bytes, lowest
 first, then its bytes.  The cases come from fixed seeds: each call writes the
@@ -16,6 +17,7 @@ from pathlib import Path
 
 import check_cases
 import engine
+import list_cases
 import read_cases
 import run_cases
 
@@ -105,12 +107,20 @@ def make_run(cases):
     run_cases.make(add, random.Random(run_cases.SEED))
 
 
-STAGES = {"read": make_read, "check": make_check, "run": make_run}
+def make_list(cases):
+    def add(sheet):
+        cases.add(b"L" + text_field(sheet), engine.read_lent(sheet, list_cases.HELD))
+        cases.add(b"M" + text_field(sheet), engine.check_lent(sheet, list_cases.HELD))
+
+    list_cases.make(add, random.Random(list_cases.SEED))
+
+
+STAGES = {"read": make_read, "check": make_check, "run": make_run, "list": make_list}
 
 
 def kind_of(output):
-    """accepted, refused with text and number, or end with its kind."""
-    words = output.splitlines()[-1].decode().split()
+    """accepted, refused with text and number, or end with its kind; a list's lines begin with no word."""
+    words = [line for line in output.decode().splitlines() if line[0].isalpha()][-1].split()
     return " ".join(words[: {"refused": 3, "end": 2}.get(words[0], 1)])
 
 
