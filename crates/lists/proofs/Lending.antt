@@ -105,7 +105,7 @@ lent-is : (r : Verdict) (u : Val) (xs : List Entry) → Is V′.the-row r (u ∷
 lent-is r u xs v-is l-is = ((u ∷ [], (list-val xs ∷ [], tt)), (refl, (v-is, ((l-is .0, ((l-is .1 .0 .0, length-map xs (E.the-field .into) ∙ l-is .1 .0 .1), in-field xs (l-is .0) (l-is .1 .1))), tt))))
 
 module _ (verdict : List ℕ → Verdict) (declared : List ℕ → List Declaration) {M : Type 1} (𝓤 : URA M) where
-  -- what the call promises, and what the caller does
+  -- what the function that is called promises, and what its caller does
   abbrev pub filled : Clauses 𝓤 entries.ended
   filled κs a = record { ghost = Unit {0}; requires = λ _. emp 𝓤; ensures = λ _ r e. fact 𝓤 ((r ≡ verdict (now (a .0))) × (now (e .1 .0) ≡ overlay (now (a .1 .0)) (declared (now (a .0))))) }
 
