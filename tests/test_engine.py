@@ -49,6 +49,18 @@ def test_checking():
         expect((sheet, goal), lines(engine.check_goal(sheet, goal)), wanted)
 
 
+def test_lists():
+    """Two declarations and a clause that does not check, with lists of 0 to 3 entries lent."""
+    sheet = b":-mode p(+). :- mode qq. p(X) :- r."
+    found, held = [(7, 1, 1), (21, 2, 0)], [(90, 91, 92), (93, 94, 95), (96, 97, 98)]
+    for size in range(4):
+        wanted = found[:size] + held[2:size]
+        expect(size, engine.read_lent(sheet, held[:size]), ((2, 1), wanted))
+        expect(size, engine.check_lent(sheet[:-11], held[:size]), ((2, 0), wanted))
+        expect(size, engine.check_lent(sheet, held[:size]).entries, held[:size])
+        expect(size, engine.read_lent(sheet + b"!", held[:size]).entries, held[:size])
+
+
 def test_running():
     for sheet, goal, output in examples.RUNS:
         expect((sheet, goal), lines(engine.run(sheet, goal, 65_536, 16, 4_096)), output)
@@ -81,7 +93,7 @@ def test_large_terms():
         expect("t", lines(report), "yes\nend " + end)
 
 
-for test in (test_reading, test_checking, test_running, test_counts, test_large_terms):
+for test in (test_reading, test_checking, test_lists, test_running, test_counts, test_large_terms):
     test()
 print("%d passed, %d failed" % (passed, failed))
 sys.exit(failed > 0)
