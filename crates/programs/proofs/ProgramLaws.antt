@@ -88,10 +88,10 @@ module _ {sheet table : List ℕ} {clauses : ℕ} {goal goals : List ℕ} {liter
       program-runs q = q linked
 
 module _ {sheet goal names : List ℕ} {count : ℕ} {nodes code symbols : List ℕ} (w : Linked sheet goal names count nodes code symbols) where
-  pub runnable : {state scratch stack : List ℕ} → Zeros 35328 state → Zeros 278535 scratch → Zeros 524320 stack → Runnable sheet goal names count nodes code symbols state scratch stack
+  pub runnable : {state scratch stack : List ℕ} → Zeros 35328 state → Zeros 360455 scratch → Zeros 524320 stack → Runnable sheet goal names count nodes code symbols state scratch stack
   runnable {state} {scratch} {stack} z y x =
       let a : 35328 ≡ length state = z .long in
-      let b : 278535 ≡ length scratch = y .long in
+      let b : 360455 ≡ length scratch = y .long in
       let c : 524320 ≡ length stack = x .long in
       record {
         ss = w .ss;
@@ -104,6 +104,6 @@ module _ {sheet goal names : List ℕ} {count : ℕ} {nodes code symbols : List 
         lent = record { roomy = omega arith; clean = record { long = omega arith; zero = λ i l. y .zero-words i }; deep = omega arith };
       }
 
-  pub linked-runs : {state scratch stack : List ℕ} {allowance wanted : ℕ} {old new : List ℕ} {r : Report} → Zeros 35328 state → Zeros 278535 scratch → Zeros 524320 stack → ((v : Runnable sheet goal names count nodes code symbols state scratch stack) → Runs (v .sh) (v .g) allowance wanted old new r) → Runs (w .sh) (w .g) allowance wanted old new r
+  pub linked-runs : {state scratch stack : List ℕ} {allowance wanted : ℕ} {old new : List ℕ} {r : Report} → Zeros 35328 state → Zeros 360455 scratch → Zeros 524320 stack → ((v : Runnable sheet goal names count nodes code symbols state scratch stack) → Runs (v .sh) (v .g) allowance wanted old new r) → Runs (w .sh) (w .g) allowance wanted old new r
   unfolding runnable
   linked-runs z y x k = k (runnable z y x)

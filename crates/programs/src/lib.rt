@@ -28,10 +28,10 @@ fn state_words() -> [u32; 35328]
 }
 
 // Room for unification.
-fn scratch_words() -> [u32; 278535]
-    ensures { λ r. ⌜ Zeros 278535 r ⌝ }
+fn scratch_words() -> [u32; 360455]
+    ensures { λ r. ⌜ Zeros 360455 r ⌝ }
 {
-    [0; 278535]
+    [0; 360455]
 }
 
 // Room for the open brackets of an answer.

@@ -13,7 +13,7 @@ use Rattle.layout.specs.Nodes.{Symbol, Stands, Node, Row, termAt, termsAt, foll
 use Rattle.layout.specs.State.{bindings}
 use Rattle.layout.proofs.Nodes.{node-inside, row-one, row-one-is, term-at}
 use Rattle.bindings.specs.Queues.{Clean}
-use Rattle.bindings.specs.Memos.{pairs}
+use Rattle.bindings.specs.Memos.{terms}
 use Rattle.bindings.specs.Scratch.{leftAt, rightAt, pairWords, SameMarks}
 use Rattle.bindings.specs.declared.stack.Side.{Side}
 use Rattle.bindings.proofs.Remembering.{memo-none}
@@ -50,14 +50,14 @@ module _ (nodes state scratch : List ℕ) (p c q d n : ℕ) (g : Unifiable nodes
   blank-long = length-set scratch 229382 0
 
   pub unify-forget : 229382 < length scratch
-  unify-forget = let r : 278535 ≤ length scratch = g .roomy in omega arith
+  unify-forget = let r : 360455 ≤ length scratch = g .roomy in omega arith
 
   blank-room : (32768 + 0 * 6 + 5 < length blank) × (((p < 2 ^ 32) × ((p < 2 ^ 32) × (c < 2 ^ 32))) × ((q < 2 ^ 32) × ((q < 2 ^ 32) × (d < 2 ^ 32))))
   blank-room =
       let a : p + 2 ≤ length nodes = node-inside (g .ss) nodes p (g .left) in
       let b : q + 2 ≤ length nodes = node-inside (g .ss) nodes q (g .right) in
       let s : length nodes ≤ 65536 = g .store .small in
-      let r : 278535 ≤ length scratch = g .roomy in
+      let r : 360455 ≤ length scratch = g .roomy in
       let e : length blank ≡ length scratch = blank-long in
       let x : c < 256 = g .copy in
       let y : d < 256 = g .copy-right in
@@ -90,8 +90,8 @@ module _ (nodes state scratch : List ℕ) (p c q d n : ℕ) (g : Unifiable nodes
         vias = λ k a l. absurd (let z : k < 1 = l in omega arith);
       }
 
-  no-pairs : pairs mid ≡ 0
-  no-pairs = pair-others blank 0 p p c q q d (blank-room .0) 229382 (inr (omega arith)) ∙ getD-set-same scratch 229382 0 0 unify-forget
+  no-terms : terms mid ≡ 0
+  no-terms = pair-others blank 0 p p c q q d (blank-room .0) 229382 (inr (omega arith)) ∙ getD-set-same scratch 229382 0 0 unify-forget
 
   -- the first pair's rows are its two terms
   first-closes : Closes (g .ss) nodes (bindings (g .ss) nodes state n) (leftAt mid) (rightAt mid) 1 nothing nothing
@@ -109,9 +109,9 @@ module _ (nodes state scratch : List ℕ) (p c q d n : ℕ) (g : Unifiable nodes
       let m : SameMarks blank mid = pair-marks blank 0 p p c q q d (blank-room .0) in
       let e : length mid ≡ length blank = m .long in
       let e1 : length blank ≡ length scratch = blank-long in
-      let r : 278535 ≤ length scratch = g .roomy in
+      let r : 360455 ≤ length scratch = g .roomy in
       record {
-        work = record { ss = g .ss; top = g .top; store = g .store; within = g .within; roomy = omega arith; stack = first-stack; memo = memo-none (g .ss) nodes (bindings (g .ss) nodes state n) mid no-pairs };
+        work = record { ss = g .ss; top = g .top; store = g .store; within = g .within; roomy = omega arith; stack = first-stack; memo = memo-none (g .ss) nodes (bindings (g .ss) nodes state n) mid no-terms };
         closes = first-closes;
         clean = record { long = omega arith; zero = λ y l. m .words y (omega arith) ∙ (getD-set-other scratch 229382 y 0 0 (λ e2. omega arith) ∙ g .clean .zero y l) };
       }
