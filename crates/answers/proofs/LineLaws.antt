@@ -13,8 +13,8 @@ use Rattle.machine.specs.Substitution.{Variable, Binding}
 use Rattle.machine.specs.Answers.{placeOf, bytesOf, allAnonymous, valuesFrom, line}
 use Rattle.layout.specs.Nodes.{Symbol}
 use Rattle.layout.specs.State.{variableOf, bindings}
-use Rattle.spelling.specs.Words.{numberIn, Numbers, depth}
-use Rattle.spelling.specs.Telling.{Counting, Setting, Values, SomeValues, Lined, valueIn}
+use Rattle.spelling.specs.Words.{numberIn, Numbers}
+use Rattle.spelling.specs.Telling.{Counting, Setting, Values, SomeValues, Lined}
 use Rattle.spelling.proofs.ShallowLaws.{shallow-values}
 use Rattle.answers.specs.Fitting.{Answerable, SomeAnswerable, Fitted}
 
@@ -71,18 +71,15 @@ fitted-none whole nothing nothing′ old at past limit e l p =
     let k : limit < at + length whole = p .over l in
     record { fits = λ h. absurd (omega arith); full = λ h. (refl, refl) }
 
--- a stack long enough for the brackets of every value
-pub values-of : (ss : List Symbol) (n : ℕ) (nodes state symbols sheet goal stack names : List ℕ) (count : ℕ) → 524320 ≤ length stack → Answerable ss n nodes state symbols sheet goal names count → Values ss n nodes state symbols sheet goal stack names count
-values-of ss n nodes state symbols sheet goal stack names count l v =
+-- whatever the stack, no value opens more than 262,160 brackets at once
+pub values-of : (ss : List Symbol) (n : ℕ) (nodes state symbols sheet goal stack names : List ℕ) (count : ℕ) → Answerable ss n nodes state symbols sheet goal names count → Values ss n nodes state symbols sheet goal stack names count
+values-of ss n nodes state symbols sheet goal stack names count v =
     record {
       setting = record { store = v .store; names = v .symbols-are; rows = record { high = zero-le; each = λ j k. absurd (let z : j < 0 = k in omega arith) } };
       named = v .named;
-      shallow = λ i k. (let few : count ≤ 32 = v .named .few in let h : depth (valueIn (bindings ss nodes state n) i) ≤ 262160 = shallow-values ss nodes state n (v .store) i (omega arith) in omega arith);
+      shallow = λ i k. shallow-values ss nodes state n (v .store) i (let few : count ≤ 32 = v .named .few in omega arith);
     }
 
-pub still-long : (before after : ℕ) → after ≡ before → 524320 ≤ before → 524320 ≤ after
-still-long before after e l = omega arith
-
-pub some-values : (nodes state symbols sheet goal stack names : List ℕ) (count : ℕ) → 524320 ≤ length stack → SomeAnswerable nodes state symbols sheet goal names count → SomeValues nodes state symbols sheet goal stack names count
-some-values nodes state symbols sheet goal stack names count l v =
-    record { ss = v .ss; n = v .n; is = values-of (v .ss) (v .n) nodes state symbols sheet goal stack names count l (v .is) }
+pub some-values : (nodes state symbols sheet goal stack names : List ℕ) (count : ℕ) → SomeAnswerable nodes state symbols sheet goal names count → SomeValues nodes state symbols sheet goal stack names count
+some-values nodes state symbols sheet goal stack names count v =
+    record { ss = v .ss; n = v .n; is = values-of (v .ss) (v .n) nodes state symbols sheet goal stack names count (v .is) }

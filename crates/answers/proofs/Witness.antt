@@ -1,5 +1,5 @@
 -- There is an answer to put: what `put_answer` asks can be met. Assumes nothing.
-use Prim.Native.Nat.{ℕ, zero, suc, _+_, _/_, _%_, _<_, _≤_}
+use Prim.Native.Nat.{ℕ, zero, suc, _+_, _*_, _/_, _%_, _<_, _≤_}
 use native.Mathlib.Omega.{arith}
 use mathlib.Core.Path.{_≡_, refl}
 use mathlib.Core.List.{List, [], _∷_}
@@ -9,14 +9,16 @@ use Rattle.layout.specs.Nodes.{Symbol, nameOf}
 use Rattle.layout.specs.State.{wordOf, boundWords}
 use Rattle.layout.proofs.Witness.{symbols, table, state, witness as bound}
 use Rattle.spelling.specs.Words.{nameAt, Placed, Names, Named}
+use Rattle.spelling.specs.Telling.{Ample}
 use Rattle.answers.specs.Fitting.{SomeAnswerable}
 
+-- a stack for ten bytes of room
 unfoldable pub stack : List ℕ
-stack = replicate 524320 0
+stack = replicate 24 0
 
-stack-long : length stack ≡ 524320
+stack-long : length stack ≡ 24
 unfolding stack
-stack-long = length-replicate {A = ℕ} 524320 0
+stack-long = length-replicate {A = ℕ} 24 0
 
 -- the sheet `f` and the goal `X`, of one byte each: a word for the symbol, and one for the variable
 spelt : Names symbols (1 ∷ []) (bytes "f") (bytes "X")
@@ -39,6 +41,6 @@ named = record { listed = omega arith; few = omega arith; inside = λ i l. insid
     inside (suc i) l = absurd (omega arith)
 
 -- variable 0 of the goal is bound to f(X) of copy 1
-pub witness : SomeAnswerable table (boundWords state 0 0 (wordOf 0 1)) (1 ∷ []) (bytes "f") (bytes "X") (1 ∷ []) 1 × (524320 ≤ length stack)
+pub witness : SomeAnswerable table (boundWords state 0 0 (wordOf 0 1)) (1 ∷ []) (bytes "f") (bytes "X") (1 ∷ []) 1 × Ample stack (10 * 2 + 4)
 witness =
-    (record { ss = symbols; n = 1; is = record { store = bound; symbols-are = spelt; named = named } }, (let e : length stack ≡ 524320 = stack-long in omega arith))
+    (record { ss = symbols; n = 1; is = record { store = bound; symbols-are = spelt; named = named } }, (let e : length stack ≡ 24 = stack-long in omega arith))

@@ -4,19 +4,19 @@ use spelling::values::all_anonymous;
 use spelling::values::append_values;
 ghost use mathlib.Core.Path.{_≡_};
 ghost use mathlib.Core.List.{List};
-ghost use Prim.Native.Nat.{ℕ, _+_, _^_, _≤_, _<_};
+ghost use Prim.Native.Nat.{ℕ, _+_, _-_, _*_, _^_, _≤_, _<_};
 ghost use lib.ListN.{length};
 ghost use Rattle.syntax.specs.Terms.{Goal};
 ghost use Rattle.machine.specs.Answers.{line};
 ghost use Rattle.layout.specs.Nodes.{Symbol};
 ghost use Rattle.layout.specs.State.{bindings};
 ghost use Rattle.spelling.specs.Words.{namesFrom};
-ghost use Rattle.spelling.specs.Telling.{Values, SomeValues, Lined};
+ghost use Rattle.spelling.specs.Telling.{Ample, Values, SomeValues, Lined};
 ghost use Rattle.answers.specs.Fitting.{Answerable, SomeAnswerable, Fitted};
 
 // Writes the line of an answer from at on and returns the position past it; where the whole line does not fit, writes nothing
 // and returns 0. It is measured first. The stack has two words for each bracket that can be open at once: 16 in a term of a clause
-// or of the goal, and 16 behind each of 16,384 bindings.
+// or of the goal, and 16 behind each of 16,384 bindings; or, where that is less, two for each byte of room, and four.
 pub fn put_answer(
     goal: &[u8],
     names: &[u32],
@@ -30,7 +30,7 @@ pub fn put_answer(
     at: usize,
 ) -> usize
     requires { ⌜ SomeAnswerable (now nodes) (now state) (now symbols) (now sheet) (now goal) (now names) count ⌝ }
-    requires { ⌜ (at ≤ length (now text)) × (524320 ≤ length (now stack)) ⌝ }
+    requires { ⌜ (at ≤ length (now text)) × Ample (now stack) ((length (now text) - at) * 2 + 4) ⌝ }
     ensures { λ r. ⌜ ((ss : List Symbol) (n : ℕ) (g : Goal) → Answerable ss n (now (nodes .entry)) (now (state .entry)) (now (symbols .entry)) (now (sheet .entry)) (now (goal .entry)) (now (names .entry)) count → g .names ≡ namesFrom (now (goal .entry)) (now (names .entry)) 0 count → Fitted (line g (bindings ss (now (nodes .entry)) (now (state .entry)) n)) (now (text .entry)) at (now (text .exit)) r) ⌝ }
 {
     let room = text.len();
@@ -81,7 +81,7 @@ fn append_answer(
     limit: usize,
 ) -> usize
     requires { ⌜ SomeValues (now nodes) (now state) (now symbols) (now sheet) (now goal) (now stack) (now names) count ⌝ }
-    requires { ⌜ (at + 400 < 2 ^ 64) × (limit + 400 < 2 ^ 64) ⌝ }
+    requires { ⌜ (at + 400 < 2 ^ 64) × ((limit + 400 < 2 ^ 64) × Ample (now stack) ((limit - at) * 2 + 4)) ⌝ }
     ensures { λ r. ⌜ ((ss : List Symbol) (n : ℕ) (g : Goal) → Values ss n (now (nodes .entry)) (now (state .entry)) (now (symbols .entry)) (now (sheet .entry)) (now (goal .entry)) (now (stack .entry)) (now (names .entry)) count → g .names ≡ namesFrom (now (goal .entry)) (now (names .entry)) 0 count → Lined limit (line g (bindings ss (now (nodes .entry)) (now (state .entry)) n)) (now (out .entry)) at (now (out .exit)) r) ⌝ }
 {
     if all_anonymous(goal, names, count) {

@@ -1,5 +1,5 @@
 -- What loading, linking and running ask of each other.
-use Prim.Native.Nat.{ℕ, zero, suc, _≤_}
+use Prim.Native.Nat.{ℕ, zero, suc, _+_, _*_, _≤_}
 use native.Mathlib.Omega.{arith}
 use mathlib.Core.Path.{_≡_, refl, sym}
 use mathlib.Core.List.{List}
@@ -7,6 +7,7 @@ use lib.ListN.{length, getD, replicate, length-replicate}
 use Rattle.syntax.specs.Terms.{Sheet, Goal}
 use Rattle.layout.specs.Program.{Program}
 use Rattle.bindings.specs.Queues.{Clean}
+use Rattle.spelling.specs.Telling.{Ample}
 use Rattle.loader.specs.Loading.{Loadable, Loaded}
 use Rattle.linker.specs.Linking.{Linkable}
 use Rattle.syntax.specs.declared.Report.{Report}
@@ -88,11 +89,10 @@ module _ {sheet table : List ℕ} {clauses : ℕ} {goal goals : List ℕ} {liter
       program-runs q = q linked
 
 module _ {sheet goal names : List ℕ} {count : ℕ} {nodes code symbols : List ℕ} (w : Linked sheet goal names count nodes code symbols) where
-  pub runnable : {state scratch stack : List ℕ} → Zeros 35328 state → Zeros 360455 scratch → Zeros 524320 stack → Runnable sheet goal names count nodes code symbols state scratch stack
-  runnable {state} {scratch} {stack} z y x =
+  pub runnable : {state scratch stack text : List ℕ} → Zeros 35328 state → Zeros 360455 scratch → Ample stack (length text * 2 + 4) → Runnable sheet goal names count nodes code symbols state scratch stack text
+  runnable {state} {scratch} {stack} {text} z y x =
       let a : 35328 ≡ length state = z .long in
       let b : 360455 ≡ length scratch = y .long in
-      let c : 524320 ≡ length stack = x .long in
       record {
         ss = w .ss;
         sh = w .sh;
@@ -101,9 +101,9 @@ module _ {sheet goal names : List ℕ} {count : ℕ} {nodes code symbols : List 
         program = w .program;
         long = omega arith;
         zero-words = z .zero-words;
-        lent = record { roomy = omega arith; clean = record { long = omega arith; zero = λ i l. y .zero-words i }; deep = omega arith };
+        lent = record { roomy = omega arith; clean = record { long = omega arith; zero = λ i l. y .zero-words i }; deep = x };
       }
 
-  pub linked-runs : {state scratch stack : List ℕ} {allowance wanted : ℕ} {old new : List ℕ} {r : Report} → Zeros 35328 state → Zeros 360455 scratch → Zeros 524320 stack → ((v : Runnable sheet goal names count nodes code symbols state scratch stack) → Runs (v .sh) (v .g) allowance wanted old new r) → Runs (w .sh) (w .g) allowance wanted old new r
+  pub linked-runs : {state scratch stack text : List ℕ} {allowance wanted : ℕ} {old new : List ℕ} {r : Report} → Zeros 35328 state → Zeros 360455 scratch → Ample stack (length text * 2 + 4) → ((v : Runnable sheet goal names count nodes code symbols state scratch stack text) → Runs (v .sh) (v .g) allowance wanted old new r) → Runs (w .sh) (w .g) allowance wanted old new r
   unfolding runnable
   linked-runs z y x k = k (runnable z y x)

@@ -3,6 +3,9 @@ use linker::link;
 use loader::load_nodes;
 use runs::run;
 use syntax::Report;
+ghost use Prim.Native.Nat.{_+_, _*_, _≤_};
+ghost use lib.ListN.{length};
+ghost use Rattle.spelling.specs.Telling.{Ample};
 ghost use Rattle.runs.specs.Running.{Runs};
 ghost use Rattle.programs.specs.Programs.{Zeros, Programmed, Linked};
 
@@ -34,14 +37,121 @@ fn scratch_words() -> [u32; 360455]
     [0; 360455]
 }
 
-// Room for the open brackets of an answer.
+// Room for the open brackets of an answer in a text of at most 16,384 bytes.
+fn short_stack_words() -> [u32; 32772]
+    ensures { λ r. ⌜ Zeros 32772 r ⌝ }
+{
+    [0; 32772]
+}
+
+// Room for the open brackets of any answer.
 fn stack_words() -> [u32; 524320]
     ensures { λ r. ⌜ Zeros 524320 r ⌝ }
 {
     [0; 524320]
 }
 
-// A loaded and linked program run.
+// A loaded and linked program run, with a stack for the brackets of its answers.
+fn run_with(
+    sheet: &[u8],
+    goal: &[u8],
+    names: &[u32],
+    count: usize,
+    nodes: &[u32],
+    code: &[u32],
+    symbols: &[u32],
+    stack: &mut [u32],
+    text: &mut [u8],
+    allowance: usize,
+    wanted: usize,
+) -> Report
+    requires { ⌜ (Linked (now sheet) (now goal) (now names) count (now nodes) (now code) (now symbols)) × Ample (now stack) (length (now text) * 2 + 4) ⌝ }
+    ensures { λ r. ⌜ ((w : Linked (now (sheet .entry)) (now (goal .entry)) (now (names .entry)) count (now (nodes .entry)) (now (code .entry)) (now (symbols .entry))) → Runs (w .sh) (w .g) allowance wanted (now (text .entry)) (now (text .exit)) r) ⌝ }
+{
+    let mut state = state_words();
+    let mut scratch = scratch_words();
+    run(
+        sheet,
+        goal,
+        names,
+        count,
+        nodes,
+        code,
+        symbols,
+        &mut state,
+        &mut scratch,
+        stack,
+        text,
+        allowance,
+        wanted,
+    )
+}
+
+// The run for a text of at most 16,384 bytes.
+fn run_short(
+    sheet: &[u8],
+    goal: &[u8],
+    names: &[u32],
+    count: usize,
+    nodes: &[u32],
+    code: &[u32],
+    symbols: &[u32],
+    text: &mut [u8],
+    allowance: usize,
+    wanted: usize,
+) -> Report
+    requires { ⌜ (Linked (now sheet) (now goal) (now names) count (now nodes) (now code) (now symbols)) × (length (now text) ≤ 16384) ⌝ }
+    ensures { λ r. ⌜ ((w : Linked (now (sheet .entry)) (now (goal .entry)) (now (names .entry)) count (now (nodes .entry)) (now (code .entry)) (now (symbols .entry))) → Runs (w .sh) (w .g) allowance wanted (now (text .entry)) (now (text .exit)) r) ⌝ }
+{
+    let mut stack = short_stack_words();
+    run_with(
+        sheet,
+        goal,
+        names,
+        count,
+        nodes,
+        code,
+        symbols,
+        &mut stack,
+        text,
+        allowance,
+        wanted,
+    )
+}
+
+// The run for any text.
+fn run_long(
+    sheet: &[u8],
+    goal: &[u8],
+    names: &[u32],
+    count: usize,
+    nodes: &[u32],
+    code: &[u32],
+    symbols: &[u32],
+    text: &mut [u8],
+    allowance: usize,
+    wanted: usize,
+) -> Report
+    requires { ⌜ Linked (now sheet) (now goal) (now names) count (now nodes) (now code) (now symbols) ⌝ }
+    ensures { λ r. ⌜ ((w : Linked (now (sheet .entry)) (now (goal .entry)) (now (names .entry)) count (now (nodes .entry)) (now (code .entry)) (now (symbols .entry))) → Runs (w .sh) (w .g) allowance wanted (now (text .entry)) (now (text .exit)) r) ⌝ }
+{
+    let mut stack = stack_words();
+    run_with(
+        sheet,
+        goal,
+        names,
+        count,
+        nodes,
+        code,
+        symbols,
+        &mut stack,
+        text,
+        allowance,
+        wanted,
+    )
+}
+
+// A loaded and linked program run. Only the stack that the text needs is cleared.
 fn run_linked(
     sheet: &[u8],
     goal: &[u8],
@@ -57,10 +167,21 @@ fn run_linked(
     requires { ⌜ Linked (now sheet) (now goal) (now names) count (now nodes) (now code) (now symbols) ⌝ }
     ensures { λ r. ⌜ ((w : Linked (now (sheet .entry)) (now (goal .entry)) (now (names .entry)) count (now (nodes .entry)) (now (code .entry)) (now (symbols .entry))) → Runs (w .sh) (w .g) allowance wanted (now (text .entry)) (now (text .exit)) r) ⌝ }
 {
-    let mut state = state_words();
-    let mut scratch = scratch_words();
-    let mut stack = stack_words();
-    run(
+    if text.len() <= 16384 {
+        return run_short(
+            sheet,
+            goal,
+            names,
+            count,
+            nodes,
+            code,
+            symbols,
+            text,
+            allowance,
+            wanted,
+        );
+    }
+    run_long(
         sheet,
         goal,
         names,
@@ -68,9 +189,6 @@ fn run_linked(
         nodes,
         code,
         symbols,
-        &mut state,
-        &mut scratch,
-        &mut stack,
         text,
         allowance,
         wanted,

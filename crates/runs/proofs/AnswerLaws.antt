@@ -18,6 +18,7 @@ use Rattle.layout.specs.Pile.{pileOf, Piled, markAt}
 use Rattle.layout.proofs.Pile.{height, undone, Means}
 use Rattle.bindings.specs.Cells.{Stored, Undone}
 use Rattle.spelling.specs.Words.{namesFrom}
+use Rattle.spelling.specs.Telling.{Ample}
 use Rattle.answers.specs.Fitting.{Answerable, SomeAnswerable, Fitted}
 use Rattle.engine.specs.Steps.{Running, Steppable, Stepped}
 use Rattle.engine.specs.declared.Pile.{Pile}
@@ -138,8 +139,8 @@ module _ {sheet goal names : List ℕ} {count : ℕ} {nodes code symbols state s
     pub answer-tells : SomeAnswerable nodes mid symbols sheet goal names count
     answer-tells = record { ss = w .ss; n = m; is = tells }
 
-    pub answer-room : (at ≤ length text) × (524320 ≤ length stack)
-    answer-room = (w .room, w .under .lent .deep)
+    pub answer-room : (at ≤ length text) × Ample stack ((length text - at) * 2 + 4)
+    answer-room = (w .room, (let x : Ample stack (length text * 2 + 4) = w .under .lent .deep in omega arith))
 
     pub answer-steps : Steppable nodes code mid scratch h m
     answer-steps =

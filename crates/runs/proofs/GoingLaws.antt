@@ -28,7 +28,7 @@ pub record Going (sheet goal names : List ℕ) (count : ℕ) (nodes code symbols
   pub scratch-long : length scratch ≡ length scratch₀
   pub stack-long : length stack ≡ length stack₀
   pub text-long : length text ≡ length text₀
-  pub on : (w : Begun sheet goal names count nodes code symbols state₀ scratch₀ stack₀) → Ongoing (w .ss) (w .sh) (w .g) nodes code state scratch stack allowance wanted text₀ text h n answers steps at
+  pub on : (w : Begun sheet goal names count nodes code symbols state₀ scratch₀ stack₀ text₀) → Ongoing (w .ss) (w .sh) (w .g) nodes code state scratch stack allowance wanted text₀ text h n answers steps at
 
 pub go-begin : {sheet goal names : List ℕ} {count : ℕ} {nodes code symbols state scratch stack text : List ℕ} {allowance wanted : ℕ} → Going sheet goal names count nodes code symbols state scratch stack text allowance wanted state scratch stack text 1 0 0 0 0
 go-begin {sheet} {goal} {names} {count} {nodes} {code} {symbols} {state} {scratch} {stack} {text} {allowance} {wanted} =
@@ -41,7 +41,7 @@ go-begin {sheet} {goal} {names} {count} {nodes} {code} {symbols} {state} {scratc
     }
 
 module _ {sheet goal names : List ℕ} {count : ℕ} {nodes code symbols state₀ scratch₀ stack₀ text₀ : List ℕ} {allowance wanted : ℕ} {state scratch stack text : List ℕ} {h n answers steps at : ℕ} (i : Going sheet goal names count nodes code symbols state₀ scratch₀ stack₀ text₀ allowance wanted state scratch stack text h n answers steps at) where
-  module _ (w : Begun sheet goal names count nodes code symbols state₀ scratch₀ stack₀) where
+  module _ (w : Begun sheet goal names count nodes code symbols state₀ scratch₀ stack₀ text₀) where
     running : Running nodes code state h n
     running = record { ss = w .ss; sh = w .sh; g = w .g; piled = i .on w .under .piled }
 
@@ -101,7 +101,7 @@ module _ {sheet goal names : List ℕ} {count : ℕ} {nodes code symbols state�
               sh = w .sh;
               g = w .g;
               spelt = w .spelt;
-              under = i .on w .under;
+              under = subst (λ (x : ℕ). Under (w .ss) (w .sh) (w .g) nodes code state scratch stack x h n) (sym (i .text-long)) (i .on w .under);
               some = answer-some (w .ss) (w .sh) (w .g) nodes code allowance wanted text₀ state scratch stack text h n answers steps at (i .on w) answering;
               answer = answer-here (w .ss) (w .sh) (w .g) nodes code allowance wanted text₀ state scratch stack text h n answers steps at (i .on w) answering;
               room = (let x : length text ≡ length text₀ = i .text-long in let y : at ≤ length text₀ = i .on w .fits in omega arith);
@@ -132,7 +132,7 @@ module _ {sheet goal names : List ℕ} {count : ℕ} {nodes code symbols state�
 
 -- ---- the start
 
-module _ {sheet goal names : List ℕ} {count : ℕ} {nodes code symbols state scratch stack : List ℕ} (w : Runnable sheet goal names count nodes code symbols state scratch stack) where
+module _ {sheet goal names : List ℕ} {count : ℕ} {nodes code symbols state scratch stack text : List ℕ} (w : Runnable sheet goal names count nodes code symbols state scratch stack text) where
   startable : Startable nodes code state
   startable = record { ss = w .ss; sh = w .sh; g = w .g; program = w .program; long = w .long; zero-words = w .zero-words }
 
@@ -144,9 +144,9 @@ module _ {sheet goal names : List ℕ} {count : ℕ} {nodes code symbols state s
     unfolding startable
     started-here = s nodes startable
 
-    pub go-begun : Begun sheet goal names count nodes code symbols state1 scratch stack
+    pub go-begun : Begun sheet goal names count nodes code symbols state1 scratch stack text
     go-begun = record { ss = w .ss; sh = w .sh; g = w .g; spelt = w .spelt; under = record { piled = started-here .piled; lent = w .lent }; alone = started-here .is }
 
-    pub go-runs : {allowance wanted : ℕ} {old new : List ℕ} {r : Rattle.syntax.specs.declared.Report.Report} → ((v : Begun sheet goal names count nodes code symbols state1 scratch stack) → Runs (v .sh) (v .g) allowance wanted old new r) → Runs (w .sh) (w .g) allowance wanted old new r
+    pub go-runs : {allowance wanted : ℕ} {old new : List ℕ} {r : Rattle.syntax.specs.declared.Report.Report} → ((v : Begun sheet goal names count nodes code symbols state1 scratch stack text) → Runs (v .sh) (v .g) allowance wanted old new r) → Runs (w .sh) (w .g) allowance wanted old new r
     unfolding go-begun
     go-runs k = k go-begun

@@ -1,5 +1,5 @@
 -- A run under way: its beginning, its ends, a step and an answer.
-use Prim.Native.Nat.{ℕ, zero, suc, _+_, _-_, _≤_, _<_}
+use Prim.Native.Nat.{ℕ, zero, suc, _+_, _-_, _*_, _≤_, _<_}
 use native.Mathlib.Omega.{arith}
 use native.Mathlib.Nat.{zero-add}
 use mathlib.Core.Path.{_≡_, refl, sym, ap, ap₂, _∙_, subst, subst⁻¹}
@@ -24,6 +24,7 @@ use Rattle.layout.specs.State.{bindings}
 use Rattle.layout.specs.Pile.{pileOf, Piled, markAt}
 use Rattle.bindings.specs.Queues.{Clean}
 use Rattle.bindings.specs.Scratch.{Roomy}
+use Rattle.spelling.specs.Telling.{Ample}
 use Rattle.answers.specs.Fitting.{Fitted}
 use Rattle.runs.specs.declared.Next.{Next}
 use Rattle.runs.specs.declared.Next.the-variants.{End, Answer, Step}
@@ -60,7 +61,7 @@ module _ (ss : List Symbol) (sh : Sheet) (g : Goal) (nodes code : List ℕ) (all
   abbrev progress : List ℕ → ℕ → ℕ → ℕ → List ℕ → Progress
   progress state h answers steps written = record { pile = pileOf ss sh g nodes code state h; answers = answers; steps = steps; text = written }
 
-  pub begins : (state scratch stack : List ℕ) → Piled ss sh g nodes code state 1 0 → pileOf ss sh g nodes code state 1 ≡ start sh g → Lent scratch stack → Ongoing ss sh g nodes code state scratch stack allowance wanted old old 1 0 0 0 0
+  pub begins : (state scratch stack : List ℕ) → Piled ss sh g nodes code state 1 0 → pileOf ss sh g nodes code state 1 ≡ start sh g → Lent scratch stack (length old) → Ongoing ss sh g nodes code state scratch stack allowance wanted old old 1 0 0 0 0
   unfolding run begun
   begins state scratch stack p e l =
       let z : allowance ≡ allowance - 0 = omega arith in
@@ -86,11 +87,11 @@ module _ (ss : List Symbol) (sh : Sheet) (g : Goal) (nodes code : List ℕ) (all
     pub ends : (k : Kind) → nextOf wanted answers (allowance - steps) sh (pileOf ss sh g nodes code state h) ≡ End k → Runs sh g allowance wanted old new (record { kind = k; answers = answers; steps = steps })
     ends k q = ended k (run-ends sh g wanted (length old) (allowance - steps) here k q)
 
-    later : (state1 scratch1 stack1 : List ℕ) (h1 n1 : ℕ) → Piled ss sh g nodes code state1 h1 n1 → Clean scratch1 → length scratch1 ≡ length scratch → length stack1 ≡ length stack → Under ss sh g nodes code state1 scratch1 stack1 h1 n1
+    later : (state1 scratch1 stack1 : List ℕ) (h1 n1 : ℕ) → Piled ss sh g nodes code state1 h1 n1 → Clean scratch1 → length scratch1 ≡ length scratch → length stack1 ≡ length stack → Under ss sh g nodes code state1 scratch1 stack1 (length old) h1 n1
     later state1 scratch1 stack1 h1 n1 p c e f =
         record {
           piled = p;
-          lent = record { roomy = roomy-same scratch scratch1 e (o .under .lent .roomy); clean = c; deep = (let x : 524320 ≤ length stack = o .under .lent .deep in omega arith) };
+          lent = record { roomy = roomy-same scratch scratch1 e (o .under .lent .roomy); clean = c; deep = (let x : Ample stack (length old * 2 + 4) = o .under .lent .deep in omega arith) };
         }
 
     -- a step that is no answer

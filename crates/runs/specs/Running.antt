@@ -1,5 +1,5 @@
 -- What a run over loaded words is given, and what it promises.
-use Prim.Native.Nat.{ℕ, _+_, _-_, _≤_}
+use Prim.Native.Nat.{ℕ, _+_, _-_, _*_, _≤_}
 use mathlib.Core.Path.{_≡_}
 use mathlib.Core.Bool.{Bool, true, cond}
 use mathlib.Core.List.{List}
@@ -19,6 +19,7 @@ use Rattle.layout.specs.Pile.{pileOf, Piled, markAt}
 use Rattle.bindings.specs.Queues.{Clean}
 use Rattle.bindings.specs.Scratch.{Roomy}
 use Rattle.spelling.specs.Words.{Names, Named, namesFrom}
+use Rattle.spelling.specs.Telling.{Ample}
 use Rattle.answers.specs.Fitting.{Fitted}
 use Rattle.engine.specs.Steps.{Stepped}
 use Rattle.runs.specs.declared.Told.{Told}
@@ -44,20 +45,20 @@ pub record Spelt (ss : List Symbol) (g : Goal) (sheet goal names : List ℕ) (co
   pub named : Named goal names count
   pub names-are : g .names ≡ namesFrom goal names 0 count
 
--- room for a run: scratch words without a mark, and a stack for the brackets of an answer
-pub record Lent (scratch stack : List ℕ) : Type 0 where
+-- what a run is lent: scratch words without a mark, and a stack for the brackets of an answer in a text of so many bytes
+pub record Lent (scratch stack : List ℕ) (room : ℕ) : Type 0 where
   pub roomy : Roomy scratch
   pub clean : Clean scratch
-  pub deep : 524320 ≤ length stack
+  pub deep : Ample stack (room * 2 + 4)
 
--- words that mean a pile, and that room
-pub record Under (ss : List Symbol) (sh : Sheet) (g : Goal) (nodes code state scratch stack : List ℕ) (h n : ℕ) : Type 0 where
+-- words that mean a pile, and what is lent
+pub record Under (ss : List Symbol) (sh : Sheet) (g : Goal) (nodes code state scratch stack : List ℕ) (room h n : ℕ) : Type 0 where
   pub piled : Piled ss sh g nodes code state h n
-  pub lent : Lent scratch stack
+  pub lent : Lent scratch stack room
 
 -- Where a run stands: the rest of it is the rest of the whole run.
 pub record Ongoing (ss : List Symbol) (sh : Sheet) (g : Goal) (nodes code state scratch stack : List ℕ) (allowance wanted : ℕ) (old new : List ℕ) (h n answers steps at : ℕ) : Type 0 where
-  pub under : Under ss sh g nodes code state scratch stack h n
+  pub under : Under ss sh g nodes code state scratch stack (length old) h n
   pub written : List ℕ
   pub at-is : at ≡ length written
   pub fits : at ≤ length old
@@ -98,7 +99,7 @@ pub record Answering (sheet goal names : List ℕ) (count : ℕ) (nodes code sym
   pub sh : Sheet
   pub g : Goal
   pub spelt : Spelt ss g sheet goal names count symbols
-  pub under : Under ss sh g nodes code state scratch stack h n
+  pub under : Under ss sh g nodes code state scratch stack (length text) h n
   pub some : 1 ≤ h
   pub answer : isAnswer (pileOf ss sh g nodes code state h) ≡ true
   pub room : at ≤ length text
@@ -115,16 +116,16 @@ pub record Answered (ss : List Symbol) (sh : Sheet) (g : Goal) (nodes code befor
   pub stack-long : length stack1 ≡ length stack
 
 -- the goal alone on the pile
-pub record Begun (sheet goal names : List ℕ) (count : ℕ) (nodes code symbols state scratch stack : List ℕ) : Type 0 where
+pub record Begun (sheet goal names : List ℕ) (count : ℕ) (nodes code symbols state scratch stack text : List ℕ) : Type 0 where
   pub ss : List Symbol
   pub sh : Sheet
   pub g : Goal
   pub spelt : Spelt ss g sheet goal names count symbols
-  pub under : Under ss sh g nodes code state scratch stack 1 0
+  pub under : Under ss sh g nodes code state scratch stack (length text) 1 0
   pub alone : pileOf ss sh g nodes code state 1 ≡ start sh g
 
 -- a loaded program and a state of zeros
-pub record Runnable (sheet goal names : List ℕ) (count : ℕ) (nodes code symbols state scratch stack : List ℕ) : Type 0 where
+pub record Runnable (sheet goal names : List ℕ) (count : ℕ) (nodes code symbols state scratch stack text : List ℕ) : Type 0 where
   pub ss : List Symbol
   pub sh : Sheet
   pub g : Goal
@@ -132,4 +133,4 @@ pub record Runnable (sheet goal names : List ℕ) (count : ℕ) (nodes code symb
   pub program : Program ss sh g nodes code
   pub long : 35328 ≤ length state
   pub zero-words : (i : ℕ) → getD state i 0 ≡ 0
-  pub lent : Lent scratch stack
+  pub lent : Lent scratch stack (length text)

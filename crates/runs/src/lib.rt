@@ -147,8 +147,8 @@ fn run_on(
     allowance: usize,
     wanted: usize,
 ) -> Report
-    requires { ⌜ Begun (now sheet) (now goal) (now names) count (now nodes) (now code) (now symbols) (now state) (now scratch) (now stack) ⌝ }
-    ensures { λ r. ⌜ ((w : Begun (now (sheet .entry)) (now (goal .entry)) (now (names .entry)) count (now (nodes .entry)) (now (code .entry)) (now (symbols .entry)) (now (state .entry)) (now (scratch .entry)) (now (stack .entry))) → Runs (w .sh) (w .g) allowance wanted (now (text .entry)) (now (text .exit)) r) ⌝ }
+    requires { ⌜ Begun (now sheet) (now goal) (now names) count (now nodes) (now code) (now symbols) (now state) (now scratch) (now stack) (now text) ⌝ }
+    ensures { λ r. ⌜ ((w : Begun (now (sheet .entry)) (now (goal .entry)) (now (names .entry)) count (now (nodes .entry)) (now (code .entry)) (now (symbols .entry)) (now (state .entry)) (now (scratch .entry)) (now (stack .entry)) (now (text .entry))) → Runs (w .sh) (w .g) allowance wanted (now (text .entry)) (now (text .exit)) r) ⌝ }
 {
     let mut h = 1;
     let mut n = 0;
@@ -220,8 +220,8 @@ pub fn run(
     allowance: usize,
     wanted: usize,
 ) -> Report
-    requires { ⌜ Runnable (now sheet) (now goal) (now names) count (now nodes) (now code) (now symbols) (now state) (now scratch) (now stack) ⌝ }
-    ensures { λ r. ⌜ ((w : Runnable (now (sheet .entry)) (now (goal .entry)) (now (names .entry)) count (now (nodes .entry)) (now (code .entry)) (now (symbols .entry)) (now (state .entry)) (now (scratch .entry)) (now (stack .entry))) → Runs (w .sh) (w .g) allowance wanted (now (text .entry)) (now (text .exit)) r) ⌝ }
+    requires { ⌜ Runnable (now sheet) (now goal) (now names) count (now nodes) (now code) (now symbols) (now state) (now scratch) (now stack) (now text) ⌝ }
+    ensures { λ r. ⌜ ((w : Runnable (now (sheet .entry)) (now (goal .entry)) (now (names .entry)) count (now (nodes .entry)) (now (code .entry)) (now (symbols .entry)) (now (state .entry)) (now (scratch .entry)) (now (stack .entry)) (now (text .entry))) → Runs (w .sh) (w .g) allowance wanted (now (text .entry)) (now (text .exit)) r) ⌝ }
 {
     start(code, state);
     run_on(

@@ -21,7 +21,7 @@ use Rattle.layout.specs.Nodes.{Symbol, Node, termAt}
 use Rattle.layout.specs.State.{cellOf, variableOf, nodeOf, copyOf, cellAt, trailAt, valueOf, bindings, Entry, Store}
 use Rattle.layout.proofs.State.{copy-small, resolve-bound, resolve-unbound}
 use Rattle.spelling.specs.Words.{Names, Numbers, Rows, left, depth, Named, nameIn, namesFrom}
-use Rattle.spelling.specs.Telling.{Told, Counting, Setting, SomeSetting, Facing, SomeFacing, Spelling, Walked, Lined, Valued, SomeValued, Values, SomeValues, valueIn, gap}
+use Rattle.spelling.specs.Telling.{Told, Ample, Counting, Setting, SomeSetting, Facing, SomeFacing, Spelling, Walked, Lined, Valued, SomeValued, Values, SomeValues, valueIn, gap}
 use Rattle.spelling.proofs.WalkLaws.{told-whole, told-words, told-after, told-then, few-met, bytes-written, walked-told}
 
 -- ---- `_`
@@ -126,8 +126,8 @@ module _ (ss : List Symbol) (n : ℕ) (nodes state symbols sheet goal stack : Li
       ∙ (resolve-bound ss nodes state n i (v .setting .store) small (λ q. z (e ∙ q))
       ∙ ap (λ (x : ℕ). resolve (bindings ss nodes state n) (termAt ss nodes (nodeOf x) (copyOf x))) (sym e))
 
-  pub value-facing : (w ≡ 0 → ⊥) → Facing ss n nodes state symbols sheet goal stack (nodeOf w) (copyOf w) 0
-  value-facing z =
+  pub value-facing : (w ≡ 0 → ⊥) → Ample stack 2 → Facing ss n nodes state symbols sheet goal stack (nodeOf w) (copyOf w) 0
+  value-facing z room =
       let b : cellAt state i ≡ 0 → ⊥ = (λ q. z (e ∙ q)) in
       let o : (j : ℕ) × (j < n) × (trailAt state j ≡ i) = v .setting .store .only i small b in
       let t : Entry ss nodes state (o .0) = v .setting .store .entry (o .0) (o .1) in
@@ -135,7 +135,8 @@ module _ (ss : List Symbol) (n : ℕ) (nodes state symbols sheet goal stack : Li
         setting = v .setting;
         node = subst (λ (x : ℕ). Node ss nodes (nodeOf x)) (ap (cellAt state) (o .2) ∙ sym e) (t .node);
         copy = copy-small w;
-        shallow = (let k : depth (valueIn (bindings ss nodes state n) i) ≤ length stack / 2 = v .shallow in let q : depth (valueIn (bindings ss nodes state n) i) ≡ depth (resolve (bindings ss nodes state n) (termAt ss nodes (nodeOf w) (copyOf w))) = ap depth (value-bound z) in omega arith);
+        shallow = (let k : depth (valueIn (bindings ss nodes state n) i) ≤ 262160 = v .shallow in let q : depth (valueIn (bindings ss nodes state n) i) ≡ depth (resolve (bindings ss nodes state n) (termAt ss nodes (nodeOf w) (copyOf w))) = ap depth (value-bound z) in omega arith);
+        room = room;
       }
 
   -- an unbound variable
@@ -172,12 +173,12 @@ gap-short (suc more) = omega arith
 
 -- ---- between a term and its rows
 
-module _ (nodes state symbols sheet goal stack : List ℕ) (i w : ℕ) (numbers : List ℕ) (at : ℕ) (v : SomeValued nodes state symbols sheet goal stack i) (k : Counting numbers at) (e : w ≡ getD state i 0) (z : w ≡ 0 → ⊥)
+module _ (nodes state symbols sheet goal stack : List ℕ) (i w : ℕ) (numbers : List ℕ) (at : ℕ) (v : SomeValued nodes state symbols sheet goal stack i) (k : Counting numbers at) (e : w ≡ getD state i 0) (z : w ≡ 0 → ⊥) (room : Ample stack 2)
     (out nums after mid : List ℕ) (m rows : ℕ)
     (f : (ss : List Symbol) (n : ℕ) (met : List Variable) (rest : List Piece) → Facing ss n nodes state symbols sheet goal stack (nodeOf w) (copyOf w) 0 → Numbers numbers met
     → Spelling ss nodes (bindings ss nodes state n) (bytesOf met (spelt (resolve (bindings ss nodes state n) (termAt ss nodes (nodeOf w) (copyOf w))) (left ss nodes (bindings ss nodes state n) stack 0 rest))) out at mid nums after m rows rest) where
   first : Spelling (v .ss) nodes (bindings (v .ss) nodes state (v .n)) (bytesOf (k .met) (spelt (resolve (bindings (v .ss) nodes state (v .n)) (termAt (v .ss) nodes (nodeOf w) (copyOf w))) (left (v .ss) nodes (bindings (v .ss) nodes state (v .n)) stack 0 []))) out at mid nums after m rows []
-  first = f (v .ss) (v .n) (k .met) [] (value-facing (v .ss) (v .n) nodes state symbols sheet goal stack i w (v .is) e z) (k .numbers-are)
+  first = f (v .ss) (v .n) (k .met) [] (value-facing (v .ss) (v .n) nodes state symbols sheet goal stack i w (v .is) e z room) (k .numbers-are)
 
   pub value-setting : SomeSetting nodes state symbols sheet goal after rows
   value-setting = record { ss = v .ss; n = v .n; is = record { store = v .is .setting .store; names = v .is .setting .names; rows = first .rows } }
@@ -249,7 +250,7 @@ valued ss n nodes state symbols sheet goal stack₀ stack names count i v e l =
     record {
       setting = record { store = v .setting .store; names = v .setting .names; rows = record { high = omega arith; each = λ j k. absurd (let z : j < 0 = k in omega arith) } };
       low = (let f : count ≤ 32 = v .named .few in omega arith);
-      shallow = rw e (v .shallow i l);
+      shallow = v .shallow i l;
     }
 
 module _ (nodes state symbols sheet goal names : List ℕ) (count : ℕ) (numbers₀ stack₀ out₀ : List ℕ) (at limit : ℕ) where

@@ -24,7 +24,7 @@ use Rattle.layout.proofs.Nodes.{node-inside, node-size, node-end, variable-at, 
 use Rattle.layout.proofs.State.{variable-cell, cell-small, resolve-unbound}
 use Rattle.bindings.specs.Cells.{Derefs}
 use Rattle.spelling.specs.Words.{Placed, nameAt, Names, Numbers, resolvedAll, depth, depthAll, speltRow, rowTerms, left, Standing, Rows}
-use Rattle.spelling.specs.Telling.{separatorOf, Told, Counting, Heading, SomeHeading, Setting, SomeSetting, Facing, SomeFacing, Spelling, Walked}
+use Rattle.spelling.specs.Telling.{separatorOf, Told, Ample, Counting, Heading, SomeHeading, Setting, SomeSetting, Facing, SomeFacing, Spelling, Walked}
 
 -- ---- resolved lists and depths
 
@@ -110,19 +110,19 @@ module _ (ss : List Symbol) (nodes : List ℕ) (b : List Binding) (stack after :
   unfolding left
   left-pushed h v w p rest = let r : left ss nodes b after h rest ≡ left ss nodes b stack h rest = left-same h (p .below) rest in rw (p .first, p .second, r)
 
-  pub rows-pushed : (h v w : ℕ) → Rows ss nodes b stack h → Pushed stack h v w after → h * 2 + 2 ≤ length stack → Standing ss nodes b (length stack / 2) h v w → Rows ss nodes b after (suc h)
+  pub rows-pushed : (h v w : ℕ) → Rows ss nodes b stack h → Pushed stack h v w after → h * 2 + 2 ≤ length stack → Standing ss nodes b h v w → Rows ss nodes b after (suc h)
   rows-pushed h v w r p l s = record { high = (let e : length after ≡ length stack = p .long in omega arith); each = λ i k. go i k (eqb i h) refl }
     where
-      go : (i : ℕ) → i < suc h → (d : Bool) → eqb i h ≡ d → Standing ss nodes b (length after / 2) i (getD after (i * 2) 0) (getD after (i * 2 + 1) 0)
+      go : (i : ℕ) → i < suc h → (d : Bool) → eqb i h ≡ d → Standing ss nodes b i (getD after (i * 2) 0) (getD after (i * 2 + 1) 0)
       go i k true e =
           let q : i ≡ h = eqb-true i h e in
-          subst (λ (j : ℕ). Standing ss nodes b (length after / 2) j (getD after (j * 2) 0) (getD after (j * 2 + 1) 0)) (sym q) (rw (p .first, p .second, p .long) s)
+          subst (λ (j : ℕ). Standing ss nodes b j (getD after (j * 2) 0) (getD after (j * 2 + 1) 0)) (sym q) (rw (p .first, p .second) s)
       go i k false e =
           let d : i ≡ h → ⊥ = eqb-false i h e in
           let x : i < h = omega (arith, d) in
           let f : getD after (i * 2) 0 ≡ getD stack (i * 2) 0 = p .below (i * 2) (omega arith) in
           let g : getD after (i * 2 + 1) 0 ≡ getD stack (i * 2 + 1) 0 = p .below (i * 2 + 1) (omega arith) in
-          rw (f, g, p .long) (r .each i x)
+          rw (f, g) (r .each i x)
 
 -- ---- bytes of pieces
 
@@ -189,10 +189,10 @@ module _ (ss : List Symbol) (b : List Binding) (nodes symbols sheet goal stack :
   unfolding args
   head-is l = ap (resolve b) (compound-at ss nodes p (h .node) c l) ∙ resolved-name b (nameOf ss (getD nodes p 0 - 64)) (termsAt ss nodes (p + 2) (p + getD nodes (p + 1) 0) c)
 
-  args-shallow : 64 ≤ getD nodes p 0 → depthAll (resolvedAll b args) + height ≤ length stack / 2
+  args-shallow : 64 ≤ getD nodes p 0 → depthAll (resolvedAll b args) + height ≤ 262160
   args-shallow l =
       let e : depth (resolve b (termAt ss nodes p c)) ≡ depthAll (resolvedAll b args) = ap depth (head-is l) ∙ depth-name (nameOf ss (getD nodes p 0 - 64)) (resolvedAll b args) in
-      let k : depth (resolve b (termAt ss nodes p c)) + height ≤ length stack / 2 = h .shallow in
+      let k : depth (resolve b (termAt ss nodes p c)) + height ≤ 262160 = h .shallow in
       omega arith
 
   opens : (getD nodes (p + 1) 0 ≡ 2 → ⊥) → p + 2 < p + getD nodes (p + 1) 0
@@ -206,7 +206,8 @@ module _ (ss : List Symbol) (b : List Binding) (nodes symbols sheet goal stack :
       let e : depthAll (resolvedAll b args) ≡ max (suc (depth (resolve b (termAt ss nodes (p + 2) c)))) (depthAll (resolvedAll b (termsAt ss nodes (p + 2 + getD nodes (p + 2 + 1) 0) (p + getD nodes (p + 1) 0) c))) =
       ap (λ (ts : RTerms). depthAll (resolvedAll b ts)) (row-cons ss nodes (p + 2) (p + getD nodes (p + 1) 0) r c o)
       ∙ depth-cons b (termAt ss nodes (p + 2) c) (termsAt ss nodes (p + 2 + getD nodes (p + 2 + 1) 0) (p + getD nodes (p + 1) 0) c) in
-      let k : depthAll (resolvedAll b args) + height ≤ length stack / 2 = args-shallow l in
+      let k : depthAll (resolvedAll b args) + height ≤ 262160 = args-shallow l in
+      let a : Ample stack (height * 2 + 2) = h .room in
       omega arith
 
   -- an unbound variable
@@ -244,7 +245,7 @@ module _ (ss : List Symbol) (b : List Binding) (nodes symbols sheet goal stack :
         rows = h .rows;
       }
 
-  row-standing : 64 ≤ getD nodes p 0 → (getD nodes (p + 1) 0 ≡ 2 → ⊥) → Standing ss nodes b (length stack / 2) height ((p + 2) * 2) ((p + getD nodes (p + 1) 0) * 256 + c)
+  row-standing : 64 ≤ getD nodes p 0 → (getD nodes (p + 1) 0 ≡ 2 → ⊥) → Standing ss nodes b height ((p + 2) * 2) ((p + getD nodes (p + 1) 0) * 256 + c)
   unfolding args
   row-standing l z =
       let x : (p + 2) * 2 / 2 ≡ p + 2 = omega arith in
@@ -288,7 +289,8 @@ module _ (ss : List Symbol) (n : ℕ) (nodes state symbols sheet goal stack : Li
         names = f .setting .names;
         free = λ low. free low;
         rows = f .setting .rows;
-        shallow = (let e : depth (resolve (bindings ss nodes state n) (termAt ss nodes p c)) ≡ depth (resolve (bindings ss nodes state n) (termAt ss nodes q d)) = ap depth (sym (l .leads .means)) in let k : depth (resolve (bindings ss nodes state n) (termAt ss nodes p c)) + height ≤ length stack / 2 = f .shallow in omega arith);
+        shallow = (let e : depth (resolve (bindings ss nodes state n) (termAt ss nodes p c)) ≡ depth (resolve (bindings ss nodes state n) (termAt ss nodes q d)) = ap depth (sym (l .leads .means)) in let k : depth (resolve (bindings ss nodes state n) (termAt ss nodes p c)) + height ≤ 262160 = f .shallow in omega arith);
+        room = f .room;
       }
     where
       free : getD nodes q 0 < 64 → resolve (bindings ss nodes state n) (termAt ss nodes q d) ≡ termAt ss nodes q d
@@ -347,7 +349,7 @@ module _ (ss : List Symbol) (n : ℕ) (nodes state symbols sheet goal stack : Li
   pub top-room : top * 2 + 2 ≤ length stack
   top-room = let h : height * 2 ≤ length stack = s .rows .high in let u : height ≡ suc top = upper in omega arith
 
-  standing : Standing ss nodes (bindings ss nodes state n) (length stack / 2) top (getD stack (top * 2) 0) (getD stack (top * 2 + 1) 0)
+  standing : Standing ss nodes (bindings ss nodes state n) top (getD stack (top * 2) 0) (getD stack (top * 2 + 1) 0)
   standing = s .rows .each top (let u : height ≡ suc top = upper in omega arith)
 
   lower : Rows ss nodes (bindings ss nodes state n) stack top
@@ -394,11 +396,11 @@ module _ (ss : List Symbol) (n : ℕ) (nodes state symbols sheet goal stack : Li
     terms-are : rowTerms ss nodes (getD stack (top * 2) 0) (getD stack (top * 2 + 1) 0) ≡ rcons (termAt ss nodes place copy) (termsAt ss nodes (place + getD nodes (place + 1) 0) last copy)
     terms-are = rw (← ep, ← el, ← ec) (row-cons ss nodes place last row copy before-last)
 
-    deep : max (suc (depth (resolve (bindings ss nodes state n) (termAt ss nodes place copy)))) (depthAll (resolvedAll (bindings ss nodes state n) (termsAt ss nodes (place + getD nodes (place + 1) 0) last copy))) + top ≤ length stack / 2
+    deep : max (suc (depth (resolve (bindings ss nodes state n) (termAt ss nodes place copy)))) (depthAll (resolvedAll (bindings ss nodes state n) (termsAt ss nodes (place + getD nodes (place + 1) 0) last copy))) + top ≤ 262160
     deep =
         let e : depthAll (resolvedAll (bindings ss nodes state n) (rowTerms ss nodes (getD stack (top * 2) 0) (getD stack (top * 2 + 1) 0))) ≡ max (suc (depth (resolve (bindings ss nodes state n) (termAt ss nodes place copy)))) (depthAll (resolvedAll (bindings ss nodes state n) (termsAt ss nodes (place + getD nodes (place + 1) 0) last copy))) =
         ap (λ (ts : RTerms). depthAll (resolvedAll (bindings ss nodes state n) ts)) terms-are ∙ depth-cons (bindings ss nodes state n) (termAt ss nodes place copy) (termsAt ss nodes (place + getD nodes (place + 1) 0) last copy) in
-        let k : depthAll (resolvedAll (bindings ss nodes state n) (rowTerms ss nodes (getD stack (top * 2) 0) (getD stack (top * 2 + 1) 0))) + top ≤ length stack / 2 = standing .shallow in
+        let k : depthAll (resolvedAll (bindings ss nodes state n) (rowTerms ss nodes (getD stack (top * 2) 0) (getD stack (top * 2 + 1) 0))) + top ≤ 262160 = standing .shallow in
         omega arith
 
     module _ (next : ℕ) (after : List ℕ) (en : next ≡ place + getD nodes (place + 1) 0) (ea : after ≡ set stack (top * 2) (next * 2 + 1)) where
@@ -408,21 +410,22 @@ module _ (ss : List Symbol) (n : ℕ) (nodes state symbols sheet goal stack : Li
       half : (next * 2 + 1) / 2 ≡ place + getD nodes (place + 1) 0
       half = omega arith
 
-      moved : Standing ss nodes (bindings ss nodes state n) (length stack / 2) top (next * 2 + 1) (getD stack (top * 2 + 1) 0)
+      moved : Standing ss nodes (bindings ss nodes state n) top (next * 2 + 1) (getD stack (top * 2 + 1) 0)
       moved =
           record {
             row = rw (half, ← el) (row-rest ss nodes place last row before-last);
             opened = λ z. absurd (omega arith);
-            shallow = rw (half, ← el, ← ec) (let k : max (suc (depth (resolve (bindings ss nodes state n) (termAt ss nodes place copy)))) (depthAll (resolvedAll (bindings ss nodes state n) (termsAt ss nodes (place + getD nodes (place + 1) 0) last copy))) + top ≤ length stack / 2 = deep in omega arith);
+            shallow = rw (half, ← el, ← ec) (let k : max (suc (depth (resolve (bindings ss nodes state n) (termAt ss nodes place copy)))) (depthAll (resolvedAll (bindings ss nodes state n) (termsAt ss nodes (place + getD nodes (place + 1) 0) last copy))) + top ≤ 262160 = deep in omega arith);
           }
 
-      pub turn-facing : Facing ss n nodes state symbols sheet goal after place copy height
-      turn-facing =
+      pub turn-facing : Ample stack (height * 2 + 2) → Facing ss n nodes state symbols sheet goal after place copy height
+      turn-facing room =
           record {
             setting = record { store = s .store; names = s .names; rows = rw upper (rows-pushed ss nodes (bindings ss nodes state n) stack after top (next * 2 + 1) (getD stack (top * 2 + 1) 0) lower pushed top-room moved) };
             node = turn-node;
             copy = (omega arith);
-            shallow = (let k : max (suc (depth (resolve (bindings ss nodes state n) (termAt ss nodes place copy)))) (depthAll (resolvedAll (bindings ss nodes state n) (termsAt ss nodes (place + getD nodes (place + 1) 0) last copy))) + top ≤ length stack / 2 = deep in let l : length after ≡ length stack = pushed .long in let u : height ≡ suc top = upper in omega arith);
+            shallow = (let k : max (suc (depth (resolve (bindings ss nodes state n) (termAt ss nodes place copy)))) (depthAll (resolvedAll (bindings ss nodes state n) (termsAt ss nodes (place + getD nodes (place + 1) 0) last copy))) + top ≤ 262160 = deep in let u : height ≡ suc top = upper in omega arith);
+            room = (let l : length after ≡ length stack = pushed .long in let a : Ample stack (height * 2 + 2) = room in omega arith);
           }
 
       left-after : (rest : List Piece) → left ss nodes (bindings ss nodes state n) after height rest ≡ speltMore (resolvedAll (bindings ss nodes state n) (termsAt ss nodes (place + getD nodes (place + 1) 0) last copy)) (left ss nodes (bindings ss nodes state n) stack top rest)

@@ -82,15 +82,15 @@ left ss nodes b stack zero rest = rest
 left ss nodes b stack (suc h) rest =
     speltRow (getD stack (h * 2) 0 % 2) (resolvedAll b (rowTerms ss nodes (getD stack (h * 2) 0) (getD stack (h * 2 + 1) 0))) (left ss nodes b stack h rest)
 
--- A row at height i: some arguments of a node, and brackets enough for them.
-pub record Standing (ss : List Symbol) (nodes : List ℕ) (b : List Binding) (room i v w : ℕ) : Type 0 where
+-- A row at height i: some arguments of a node, which with the rows below open at most 262,160 brackets at once.
+pub record Standing (ss : List Symbol) (nodes : List ℕ) (b : List Binding) (i v w : ℕ) : Type 0 where
   pub row : Row ss nodes (v / 2) (w / 256)
   pub opened : v % 2 ≡ 0 → v / 2 < w / 256
-  pub shallow : depthAll (resolvedAll b (rowTerms ss nodes v w)) + i ≤ room
+  pub shallow : depthAll (resolvedAll b (rowTerms ss nodes v w)) + i ≤ 262160
 
 pub record Rows (ss : List Symbol) (nodes : List ℕ) (b : List Binding) (stack : List ℕ) (h : ℕ) : Type 0 where
   pub high : h * 2 ≤ length stack
-  pub each : (i : ℕ) → i < h → Standing ss nodes b (length stack / 2) i (getD stack (i * 2) 0) (getD stack (i * 2 + 1) 0)
+  pub each : (i : ℕ) → i < h → Standing ss nodes b i (getD stack (i * 2) 0) (getD stack (i * 2 + 1) 0)
 
 -- the names of the goal's variables are parts of its text
 pub record Named (goal names : List ℕ) (count : ℕ) : Type 0 where

@@ -8,7 +8,7 @@ use buffers::append_part;
 ghost use mathlib.Core.Path.{_≡_};
 ghost use mathlib.Core.Logic.{_⊎_};
 ghost use mathlib.Core.List.{List, [], _∷_, _++_};
-ghost use Prim.Native.Nat.{ℕ, suc, _+_, _/_, _%_, _^_, _≤_, _<_};
+ghost use Prim.Native.Nat.{ℕ, suc, _+_, _-_, _*_, _/_, _%_, _^_, _≤_, _<_};
 ghost use lib.ListN.{length};
 ghost use Rattle.syntax.specs.Quote.{bytes};
 ghost use Rattle.buffers.specs.Buffers.{Put};
@@ -17,7 +17,7 @@ ghost use Rattle.machine.specs.Answers.{Piece, spelt, bytesOf, isAnonymous, all
 ghost use Rattle.layout.specs.Nodes.{Symbol};
 ghost use Rattle.layout.specs.State.{bindings};
 ghost use Rattle.spelling.specs.Words.{Numbers, Named, nameIn, namesFrom};
-ghost use Rattle.spelling.specs.Telling.{Counting, Valued, SomeValued, Values, SomeValues, Walked, Lined, valueIn, gap};
+ghost use Rattle.spelling.specs.Telling.{Ample, Counting, Valued, SomeValued, Values, SomeValues, Walked, Lined, valueIn, gap};
 
 // Whether a packed name of the goal is `_` alone.
 pub fn is_anonymous(goal: &[u8], w: usize) -> bool
@@ -64,7 +64,7 @@ pub fn append_value(
     limit: usize,
 ) -> usize
     requires { ⌜ SomeValued (now nodes) (now state) (now symbols) (now sheet) (now goal) (now stack) i ⌝ }
-    requires { ⌜ (Counting (now numbers) at) × ((at + 200 < 2 ^ 64) × (limit + 200 < 2 ^ 64)) ⌝ }
+    requires { ⌜ (Counting (now numbers) at) × ((at + 200 < 2 ^ 64) × ((limit + 200 < 2 ^ 64) × Ample (now stack) ((limit - at) * 2 + 4))) ⌝ }
     ensures told { λ r. ⌜ ((ss : List Symbol) (n : ℕ) (met : List Variable) (rest : List Piece) → Valued ss n (now (nodes .entry)) (now (state .entry)) (now (symbols .entry)) (now (sheet .entry)) (now (goal .entry)) (now (stack .entry)) i → Numbers (now (numbers .entry)) met → Walked limit (bytesOf met (spelt (valueIn (bindings ss (now (nodes .entry)) (now (state .entry)) n) i) rest)) (now (out .entry)) at (now (out .exit)) r (now (numbers .exit)) rest) ⌝ }
     ensures near { λ r. ⌜ (at ≤ r) × ((r ≤ limit + 32) ⊎ (r ≤ at + 31)) ⌝ }
 {
@@ -152,7 +152,7 @@ pub fn append_binding(
     limit: usize,
 ) -> Listed
     requires { ⌜ SomeValued (now nodes) (now state) (now symbols) (now sheet) (now goal) (now stack) i ⌝ }
-    requires { ⌜ (w / 32 + w % 32 ≤ length (now goal)) × ((Counting (now numbers) at) × ((at + 300 < 2 ^ 64) × (limit + 200 < 2 ^ 64))) ⌝ }
+    requires { ⌜ (w / 32 + w % 32 ≤ length (now goal)) × ((Counting (now numbers) at) × ((at + 300 < 2 ^ 64) × ((limit + 200 < 2 ^ 64) × Ample (now stack) ((limit - at) * 2 + 4)))) ⌝ }
     ensures told { λ r. ⌜ ((ss : List Symbol) (n : ℕ) (met : List Variable) (xs : List (List ℕ)) → Valued ss n (now (nodes .entry)) (now (state .entry)) (now (symbols .entry)) (now (sheet .entry)) (now (goal .entry)) (now (stack .entry)) i → Numbers (now (numbers .entry)) met → Walked limit (bytesOf met (valuesFrom (bindings ss (now (nodes .entry)) (now (state .entry)) n) i (gap more) (nameIn (now (goal .entry)) w ∷ xs))) (now (out .entry)) at (now (out .exit)) (r .at) (now (numbers .exit)) (valuesFrom (bindings ss (now (nodes .entry)) (now (state .entry)) n) (suc i) (gap (r .more)) xs)) ⌝ }
     ensures near { λ r. ⌜ (at ≤ r .at) × ((r .at ≤ limit + 32) ⊎ (r .at ≤ at + 67)) ⌝ }
 {
@@ -195,7 +195,7 @@ pub fn append_values(
     limit: usize,
 ) -> usize
     requires { ⌜ SomeValues (now nodes) (now state) (now symbols) (now sheet) (now goal) (now stack) (now names) count ⌝ }
-    requires { ⌜ (Counting (now numbers) at) × ((at + 400 < 2 ^ 64) × (limit + 400 < 2 ^ 64)) ⌝ }
+    requires { ⌜ (Counting (now numbers) at) × ((at + 400 < 2 ^ 64) × ((limit + 400 < 2 ^ 64) × Ample (now stack) ((limit - at) * 2 + 4))) ⌝ }
     ensures { λ r. ⌜ ((ss : List Symbol) (n : ℕ) (met : List Variable) → Values ss n (now (nodes .entry)) (now (state .entry)) (now (symbols .entry)) (now (sheet .entry)) (now (goal .entry)) (now (stack .entry)) (now (names .entry)) count → Numbers (now (numbers .entry)) met → Lined limit (bytesOf met (valuesFrom (bindings ss (now (nodes .entry)) (now (state .entry)) n) 0 [] (namesFrom (now (goal .entry)) (now (names .entry)) 0 count))) (now (out .entry)) at (now (out .exit)) r) ⌝ }
 {
     let mut past = at;

@@ -10,14 +10,14 @@ use buffers::append_byte;
 ghost use mathlib.Core.Path.{_≡_};
 ghost use mathlib.Core.Logic.{_⊎_};
 ghost use mathlib.Core.List.{List};
-ghost use Prim.Native.Nat.{ℕ, _+_, _^_, _≤_, _<_};
+ghost use Prim.Native.Nat.{ℕ, _+_, _-_, _*_, _^_, _≤_, _<_};
 ghost use lib.ListN.{length};
 ghost use Rattle.machine.specs.Substitution.{Variable, Binding, resolve};
 ghost use Rattle.machine.specs.Answers.{Piece, spelt, bytesOf};
 ghost use Rattle.layout.specs.Nodes.{Symbol, termAt};
 ghost use Rattle.layout.specs.State.{bindings};
 ghost use Rattle.spelling.specs.Words.{Numbers, left};
-ghost use Rattle.spelling.specs.Telling.{Counting, Heading, SomeHeading, Setting, SomeSetting, Facing, SomeFacing, Spelling, Walked, separatorOf};
+ghost use Rattle.spelling.specs.Telling.{Ample, Counting, Heading, SomeHeading, Setting, SomeSetting, Facing, SomeFacing, Spelling, Walked, separatorOf};
 
 // The position, and how many rows are on the stack.
 pub struct Walk {
@@ -42,7 +42,7 @@ fn append_head(
     requires { ⌜ SomeHeading (now nodes) (now symbols) (now sheet) (now goal) (now stack) p c height ⌝ }
     requires { ⌜ Counting (now numbers) at ⌝ }
     ensures told { λ r. ⌜ ((ss : List Symbol) (b : List Binding) (met : List Variable) (rest : List Piece) → Heading ss b (now (nodes .entry)) (now (symbols .entry)) (now (sheet .entry)) (now (goal .entry)) (now (stack .entry)) p c height → Numbers (now (numbers .entry)) met → Spelling ss (now (nodes .entry)) b (bytesOf met (spelt (resolve b (termAt ss (now (nodes .entry)) p c)) (left ss (now (nodes .entry)) b (now (stack .entry)) height rest))) (now (out .entry)) at (now (out .exit)) (now (numbers .exit)) (now (stack .exit)) (r .at) (r .height) rest) ⌝ }
-    ensures near { λ r. ⌜ (at ≤ r .at) × (r .at ≤ at + 31) ⌝ }
+    ensures near { λ r. ⌜ (at ≤ r .at) × ((r .at ≤ at + 31) × (r .height ≤ height + 1)) ⌝ }
 {
     let w = word_at(nodes, p);
     if w < 64 {
@@ -84,7 +84,7 @@ pub fn append_term(
     requires { ⌜ SomeFacing (now nodes) (now state) (now symbols) (now sheet) (now goal) (now stack) p c height ⌝ }
     requires { ⌜ Counting (now numbers) at ⌝ }
     ensures told { λ r. ⌜ ((ss : List Symbol) (n : ℕ) (met : List Variable) (rest : List Piece) → Facing ss n (now (nodes .entry)) (now (state .entry)) (now (symbols .entry)) (now (sheet .entry)) (now (goal .entry)) (now (stack .entry)) p c height → Numbers (now (numbers .entry)) met → Spelling ss (now (nodes .entry)) (bindings ss (now (nodes .entry)) (now (state .entry)) n) (bytesOf met (spelt (resolve (bindings ss (now (nodes .entry)) (now (state .entry)) n) (termAt ss (now (nodes .entry)) p c)) (left ss (now (nodes .entry)) (bindings ss (now (nodes .entry)) (now (state .entry)) n) (now (stack .entry)) height rest))) (now (out .entry)) at (now (out .exit)) (now (numbers .exit)) (now (stack .exit)) (r .at) (r .height) rest) ⌝ }
-    ensures near { λ r. ⌜ (at ≤ r .at) × (r .at ≤ at + 31) ⌝ }
+    ensures near { λ r. ⌜ (at ≤ r .at) × ((r .at ≤ at + 31) × (r .height ≤ height + 1)) ⌝ }
 {
     let t = deref(nodes, state, p, c);
     let node = t.node;
@@ -128,9 +128,9 @@ fn turn(
     height: usize,
 ) -> Walk
     requires { ⌜ SomeSetting (now nodes) (now state) (now symbols) (now sheet) (now goal) (now stack) height ⌝ }
-    requires { ⌜ (0 < height) × ((Counting (now numbers) at) × (at + 200 < 2 ^ 64)) ⌝ }
+    requires { ⌜ (0 < height) × ((Counting (now numbers) at) × ((at + 200 < 2 ^ 64) × Ample (now stack) (height * 2 + 2))) ⌝ }
     ensures told { λ r. ⌜ ((ss : List Symbol) (n : ℕ) (met : List Variable) (rest : List Piece) → Setting ss n (now (nodes .entry)) (now (state .entry)) (now (symbols .entry)) (now (sheet .entry)) (now (goal .entry)) (now (stack .entry)) height → Numbers (now (numbers .entry)) met → Spelling ss (now (nodes .entry)) (bindings ss (now (nodes .entry)) (now (state .entry)) n) (bytesOf met (left ss (now (nodes .entry)) (bindings ss (now (nodes .entry)) (now (state .entry)) n) (now (stack .entry)) height rest)) (now (out .entry)) at (now (out .exit)) (now (numbers .exit)) (now (stack .exit)) (r .at) (r .height) rest) ⌝ }
-    ensures near { λ r. ⌜ (at < r .at) × (r .at ≤ at + 32) ⌝ }
+    ensures near { λ r. ⌜ (at < r .at) × ((r .at ≤ at + 32) × (r .height ≤ height + 1)) ⌝ }
 {
     let top = height - 1;
     let row = row_at(stack, top);
@@ -166,7 +166,8 @@ fn turn(
     )
 }
 
-// What the stack has left to spell, unless the limit is passed.
+// What the stack has left to spell, unless the limit is passed. A turn spells a byte or more and adds at most one row, so two words a byte
+// serve.
 pub fn append_rows(
     nodes: &[u32],
     state: &[u32],
@@ -181,7 +182,7 @@ pub fn append_rows(
     limit: usize,
 ) -> usize
     requires { ⌜ SomeSetting (now nodes) (now state) (now symbols) (now sheet) (now goal) (now stack) height ⌝ }
-    requires { ⌜ (Counting (now numbers) at) × (limit + 200 < 2 ^ 64) ⌝ }
+    requires { ⌜ (Counting (now numbers) at) × ((limit + 200 < 2 ^ 64) × Ample (now stack) (height * 2 + (limit + 1 - at) * 2)) ⌝ }
     ensures told { λ r. ⌜ ((ss : List Symbol) (n : ℕ) (met : List Variable) (rest : List Piece) → Setting ss n (now (nodes .entry)) (now (state .entry)) (now (symbols .entry)) (now (sheet .entry)) (now (goal .entry)) (now (stack .entry)) height → Numbers (now (numbers .entry)) met → Walked limit (bytesOf met (left ss (now (nodes .entry)) (bindings ss (now (nodes .entry)) (now (state .entry)) n) (now (stack .entry)) height rest)) (now (out .entry)) at (now (out .exit)) r (now (numbers .exit)) rest) ⌝ }
     ensures near { λ r. ⌜ (at ≤ r) × ((r ≤ limit + 32) ⊎ (r ≡ at)) ⌝ }
 {

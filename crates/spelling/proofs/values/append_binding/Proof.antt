@@ -16,7 +16,7 @@ append-variable-requires : tie.Need-append-variable-requires
 append-variable-requires c κs = search needs
 
 append-value-requires : tie.Need-append-value-requires
-append-value-requires c κs = (c .before .before .before .before .before .before .before .before .before .before .before .before .before .before .before .before .before .pre .0, (counting-on _ _ _ (c .before .before .before .before .before .before .before .before .before .before .before .before .before .before .before .before .before .pre .1 .1 .0) (omega (arith, c .before .before .before .before .before .before .before .before .before .before .before .before .before .before .before .before .before .pre .1 .1 .1)) (c .before .before .before .before .before .append-variable .ensures .1 .0) (omega (arith, c .before .before .before .before .before .append-variable .ensures .1)), (omega (arith, c .before .before .before .before .before .append-variable .ensures .1, c .before .before .before .before .before .before .before .before .before .before .before .before .before .before .before .before .before .pre .1 .1 .1), c .before .before .before .before .before .before .before .before .before .before .before .before .before .before .before .before .before .pre .1 .1 .1 .1)))
+append-value-requires c κs = (c .before .before .before .before .before .before .before .before .before .before .before .before .before .before .before .before .before .pre .0, (counting-on _ _ _ (c .before .before .before .before .before .before .before .before .before .before .before .before .before .before .before .before .before .pre .1 .1 .0) (omega (arith, c .before .before .before .before .before .before .before .before .before .before .before .before .before .before .before .before .before .pre .1 .1 .1 .0)) (c .before .before .before .before .before .append-variable .ensures .1 .0) (omega (arith, c .before .before .before .before .before .append-variable .ensures .1)), (omega (arith, c .before .before .before .before .before .append-variable .ensures .1, c .before .before .before .before .before .before .before .before .before .before .before .before .before .before .before .before .before .pre .1 .1 .1 .0), (c .before .before .before .before .before .before .before .before .before .before .before .before .before .before .before .before .before .pre .1 .1 .1 .1 .0, omega (arith, c .before .before .before .before .before .append-variable .ensures .1 .0, c .before .before .before .before .before .before .before .before .before .before .before .before .before .before .before .before .before .pre .1 .1 .1 .1 .1)))))
 
 same-length : tie.Need-same-length
 same-length c = search needs

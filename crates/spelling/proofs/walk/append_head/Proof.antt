@@ -26,7 +26,7 @@ same-length-2 : tie.Need-same-length-2
 same-length-2 c = search needs
 
 returns : tie.Need-returns
-returns c = ((λ ss b met rest h n. head-variable ss b _ _ _ _ _ _ _ _ h met (c .before .before .before .before .before .before .before .before .word-at .result) (c .before .before .before .before .before .before .before .before .before .before .before .before .before .before .before .before .args .c * 64 + c .before .before .before .before .before .before .before .before .word-at .result) _ _ _ _ _ rest (c .before .before .before .before .before .before .before .before .word-at .ensures) (c .before .before .before .before .before .before .before .if1 .taken) refl (c .before .before .before .before .append-unbound .ensures .0 met n)), c .before .before .before .before .append-unbound .ensures .1)
+returns c = ((λ ss b met rest h n. head-variable ss b _ _ _ _ _ _ _ _ h met (c .before .before .before .before .before .before .before .before .word-at .result) (c .before .before .before .before .before .before .before .before .before .before .before .before .before .before .before .before .args .c * 64 + c .before .before .before .before .before .before .before .before .word-at .result) _ _ _ _ _ rest (c .before .before .before .before .before .before .before .before .word-at .ensures) (c .before .before .before .before .before .before .before .if1 .taken) refl (c .before .before .before .before .append-unbound .ensures .0 met n)), (c .before .before .before .before .append-unbound .ensures .1 .0, (c .before .before .before .before .append-unbound .ensures .1 .1, omega arith)))
 
 append-name-requires : tie.Need-append-name-requires
 append-name-requires c κs = (head-placed _ _ _ _ _ _ _ _ _ _ (c .before .before .before .before .before .before .before .before .before .before .pre .0 .is) _ (omega (arith, c .before .before .word-at .ensures)) (ap (λ (x : ℕ). x - 64) (c .before .before .word-at .ensures)), omega arith)
@@ -41,7 +41,7 @@ same-length-3 : tie.Need-same-length-3
 same-length-3 c = search needs
 
 returns-2 : tie.Need-returns-2
-returns-2 c = ((λ ss b met rest h n. head-leaf ss b _ _ _ _ _ _ _ _ h met _ _ _ _ _ _ rest (omega (arith, c .before .before .before .before .before .before .before .word-at .ensures)) (ap (λ (x : ℕ). x - 64) (c .before .before .before .before .before .before .before .word-at .ensures)) (sym (c .before .word-at2 .ensures) ∙ c .if2 .taken) n (few-met _ _ met (c .before .before .before .before .before .before .before .before .before .before .before .before .before .before .before .pre .1) n) (c .before .before .before .before .append-name .ensures .0)), (omega (arith, c .before .before .before .before .append-name .ensures .0 .past), c .before .before .before .before .append-name .ensures .1))
+returns-2 c = ((λ ss b met rest h n. head-leaf ss b _ _ _ _ _ _ _ _ h met _ _ _ _ _ _ rest (omega (arith, c .before .before .before .before .before .before .before .word-at .ensures)) (ap (λ (x : ℕ). x - 64) (c .before .before .before .before .before .before .before .word-at .ensures)) (sym (c .before .word-at2 .ensures) ∙ c .if2 .taken) n (few-met _ _ met (c .before .before .before .before .before .before .before .before .before .before .before .before .before .before .before .pre .1) n) (c .before .before .before .before .append-name .ensures .0)), (omega (arith, c .before .before .before .before .append-name .ensures .0 .past), (c .before .before .before .before .append-name .ensures .1, omega arith)))
 
 add-first : tie.Need-add-first
 add-first c = omega (arith, head-inside _ _ _ _ _ _ _ _ _ _ (c .before .before .before .before .before .before .before .before .before .before .before .before .before .before .before .pre .0 .is))
@@ -62,7 +62,7 @@ same-length-5 : tie.Need-same-length-5
 same-length-5 c = search needs
 
 returns-3 : tie.Need-returns-3
-returns-3 c = ((λ ss b met rest h n. head-open ss b _ _ _ _ _ _ _ _ h met _ _ _ _ _ _ _ _ rest (omega (arith, c .before .before .before .before .before .before .before .before .before .before .before .word-at .ensures)) (ap (λ (x : ℕ). x - 64) (c .before .before .before .before .before .before .before .before .before .before .before .word-at .ensures)) (λ z. c .before .before .before .before .if2 .left (c .before .before .before .before .before .word-at2 .ensures ∙ z)) n (few-met _ _ met (c .before .before .before .before .before .before .before .before .before .before .before .before .before .before .before .before .before .before .before .pre .1) n) (c .before .before .before .before .before .before .before .before .append-name .ensures .0) (ap (λ (x : ℕ). c .before .before .before .before .before .before .before .before .before .before .before .before .before .before .before .before .before .before .before .args .p + x) (c .before .before .before .before .before .word-at2 .ensures)) (c .before .before .put-row .ensures)), (omega (arith, c .before .before .before .before .before .before .before .before .append-name .ensures .0 .past), c .before .before .before .before .before .before .before .before .append-name .ensures .1))
+returns-3 c = ((λ ss b met rest h n. head-open ss b _ _ _ _ _ _ _ _ h met _ _ _ _ _ _ _ _ rest (omega (arith, c .before .before .before .before .before .before .before .before .before .before .before .word-at .ensures)) (ap (λ (x : ℕ). x - 64) (c .before .before .before .before .before .before .before .before .before .before .before .word-at .ensures)) (λ z. c .before .before .before .before .if2 .left (c .before .before .before .before .before .word-at2 .ensures ∙ z)) n (few-met _ _ met (c .before .before .before .before .before .before .before .before .before .before .before .before .before .before .before .before .before .before .before .pre .1) n) (c .before .before .before .before .before .before .before .before .append-name .ensures .0) (ap (λ (x : ℕ). c .before .before .before .before .before .before .before .before .before .before .before .before .before .before .before .before .before .before .before .args .p + x) (c .before .before .before .before .before .word-at2 .ensures)) (c .before .before .put-row .ensures)), (omega (arith, c .before .before .before .before .before .before .before .before .append-name .ensures .0 .past), (c .before .before .before .before .before .before .before .before .append-name .ensures .1, omega arith)))
 
 pub append-head-spec : {M : Type 1} → statement M
 append-head-spec =
