@@ -12,7 +12,7 @@ use Rattle.buffers.specs.Buffers.{Put}
 use Rattle.machine.specs.Substitution.{Variable, Binding}
 use Rattle.machine.specs.Answers.{placeOf, bytesOf, allAnonymous, valuesFrom, line}
 use Rattle.layout.specs.Nodes.{Symbol}
-use Rattle.layout.specs.State.{variableOf, bindings}
+use Rattle.layout.specs.State.{variableOf}
 use Rattle.spelling.specs.Words.{numberIn, Numbers}
 use Rattle.spelling.specs.Telling.{Counting, Setting, Values, SomeValues, Lined}
 use Rattle.spelling.proofs.ShallowLaws.{shallow-values}
