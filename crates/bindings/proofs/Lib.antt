@@ -1,3 +1,4 @@
 pub mod Deref
 pub mod Scan
 pub mod Remembering
+pub mod Apart

@@ -293,7 +293,7 @@ mutual
       (elim (either (occurs v t) (occursIn v ts) h) [ inl y ↦ or-left (occurs x (resolve b t)) (occursIn x (resolveAll b ts)) (occurs-through b x v t y k) | inr y ↦ or-right (occurs x (resolve b t)) (occursIn x (resolveAll b ts)) (occurs-through-all b x v ts y k) ])
 
 -- what holds of a term's variables, and is kept by each binding, holds of the resolved term's variables
-closed-under : (ss : List Symbol) (nodes state : List ℕ) (P : Variable → Type 0) (n : ℕ) → ((i : ℕ) → i < n → P (variableOf (trailAt state i)) → (v : Variable) → T (occurs v (valueOf ss nodes (cellAt state (trailAt state i)))) → P v)
+pub closed-under : (ss : List Symbol) (nodes state : List ℕ) (P : Variable → Type 0) (n : ℕ) → ((i : ℕ) → i < n → P (variableOf (trailAt state i)) → (v : Variable) → T (occurs v (valueOf ss nodes (cellAt state (trailAt state i)))) → P v)
     → (t : RTerm) → ((v : Variable) → T (occurs v t) → P v) → (v : Variable) → T (occurs v (resolve (bindings ss nodes state n) t)) → P v
 unfolding bindings resolve
 closed-under ss nodes state P zero step t all v h = all v h
@@ -435,7 +435,7 @@ is-true : (b : Bool) → T b → true ≡ b
 is-true true h = refl
 is-true false h = absurd h
 
-is-false : (b : Bool) → (T b → ⊥) → false ≡ b
+pub is-false : (b : Bool) → (T b → ⊥) → false ≡ b
 is-false true h = absurd (h tt)
 is-false false h = refl
 

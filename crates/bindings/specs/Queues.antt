@@ -1,6 +1,6 @@
 -- What the occurs check is given and what it promises. Its marks and its queue of marked cells are laid out as cells and trail are: a marked cell
 -- is "bound" to the one node of a table of its own, so the laws of stores serve for both.
-use Prim.Native.Nat.{ℕ, _+_, _≤_, _<_}
+use Prim.Native.Nat.{ℕ, _+_, _*_, _≤_, _<_}
 use mathlib.Core.Path.{_≡_}
 use mathlib.Core.Bool.{Bool, true, false}
 use mathlib.Core.List.{List, [], _∷_}
@@ -9,7 +9,7 @@ use lib.Dec.{T, ltb, eqb}
 use lib.ListN.{length, getD}
 use Rattle.machine.specs.Substitution.{Variable, var, occurs, resolve}
 use Rattle.layout.specs.Nodes.{Symbol, Node, Row, termAt, termsAt}
-use Rattle.layout.specs.State.{cellOf, variableOf, cellAt, trailAt, valueOf, bindings, Store, Keeps}
+use Rattle.layout.specs.State.{cellOf, variableOf, copyOf, cellAt, trailAt, valueOf, bindings, Store, Keeps}
 use Rattle.bindings.specs.declared.occurrence.Queue.{Queue}
 
 unfoldable pub markSymbols : List Symbol
@@ -112,3 +112,13 @@ pub record Checked (ss : List Symbol) (nodes state : List ℕ) (n : ℕ) (before
   pub answer : r ≡ occurs (variableOf x) (resolve (bindings ss nodes state n) (termAt ss nodes q d))
   pub clean : Clean after
   pub keeps : Keeps 0 before after
+
+-- The cells of copies below k are bound to terms of such copies. So no variable of another copy stands in a term of these, whatever is put in.
+pub record Closed (k : ℕ) (state : List ℕ) : Type 0 where
+  pub few : k ≤ 256
+  pub copy : (y : ℕ) → y < k * 64 → copyOf (cellAt state y) < k
+
+-- Where the copies below k are closed, those below r are, and stay so when cell x is bound to a term of copy d.
+pub record Closing (k x d r : ℕ) : Type 0 where
+  pub closed : (state : List ℕ) → Closed k state → Closed r state
+  pub stays : x < r * 64 → d < r

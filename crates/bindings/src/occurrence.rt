@@ -3,9 +3,10 @@ use crate::store::TRAIL;
 use crate::store::bind;
 use crate::store::undo;
 ghost use mathlib.Core.Path.{_≡_};
-ghost use Prim.Native.Nat.{_+_, _≤_, _<_};
+ghost use mathlib.Core.Bool.{true};
+ghost use Prim.Native.Nat.{_+_, _*_, _≤_, _<_};
 ghost use lib.ListN.{length, getD};
-ghost use Rattle.bindings.specs.Queues.{isCell, Visitable, Visited, Scannable, Scanned, Searchable, Searched, Checkable, Checked};
+ghost use Rattle.bindings.specs.Queues.{isCell, Visitable, Visited, Scannable, Scanned, Searchable, Searched, Checkable, Checked, Closed, Closing};
 
 // Whether a cell was found, and how many are queued.
 pub struct Queue {
@@ -128,4 +129,50 @@ pub fn occurs(
     let s = search(nodes, state, scratch, x, r.n);
     undo(scratch, 0, s.n);
     s.found
+}
+
+// Whether cell x belongs to a copy from k on, and d is a copy below k.
+fn apart(x: usize, d: usize, k: usize) -> bool
+    ensures { λ r. ⌜ (r ≡ true → (k * 64 ≤ x) × (d < k)) ⌝ }
+{
+    if k <= d {
+        return false;
+    }
+    if x / 64 < k {
+        return false;
+    }
+    true
+}
+
+// The same where the copies below k are closed: a variable of another copy is not looked for in a term of these.
+pub fn stands(
+    nodes: &[u32],
+    state: &[u32],
+    scratch: &mut [u32],
+    x: usize,
+    q: usize,
+    d: usize,
+    k: usize,
+) -> bool
+    requires { ⌜ Checkable (now nodes) (now state) (now scratch) x q d ⌝ }
+    requires { ⌜ Closed k (now state) ⌝ }
+    ensures { λ r. ⌜ ((g : Checkable (now (nodes .entry)) (now (state .entry)) (now (scratch .entry)) x q d) → Checked (g .ss) (now (nodes .entry)) (now (state .entry)) (g .n) (now (scratch .entry)) (now (scratch .exit)) x q d r) ⌝ }
+{
+    if apart(x, d, k) {
+        return false;
+    }
+    occurs(nodes, state, scratch, x, q, d)
+}
+
+// Which copies are closed when cell x is bound to a term of copy d: those below k still, or none.
+pub fn closed_to(x: usize, d: usize, k: usize) -> usize
+    ensures { λ r. ⌜ Closing k x d r ⌝ }
+{
+    if d < k {
+        return k;
+    }
+    if k <= x / 64 {
+        return k;
+    }
+    0
 }

@@ -17,6 +17,8 @@ use Rattle.layout.specs.Nodes.{Symbol, Stands}
 use Rattle.layout.specs.State.{copyOf, cellAt, trailAt, bindings, Within}
 use Rattle.layout.specs.Program.{headAt, bodyAt, afterAt, kindAt, placeAt, otherAt, BodyStands}
 use Rattle.layout.specs.Pile.{Calls, restFrom, leftFrom, callsUpTo, copyAt, literalAt, nextAt, markAt, pathAt, alternativeAt, pileOf, NextFor, Piled}
+use Rattle.bindings.specs.Queues.{Closed}
+use Rattle.bindings.proofs.Apart.{closed-within}
 use Rattle.unifier.specs.Turns.{answered, Unifiable, Unifies}
 use Rattle.unifier.specs.declared.solve.Unified.{Unified}
 use Rattle.engine.specs.Words.{nextWords, frameWords}
@@ -76,6 +78,11 @@ module _ (nodes code state scratch : List ℕ) (j k : ℕ) (w : Tryable nodes co
         below = omega arith;
         below-right = omega arith;
       }
+
+  pub try-closed-top : Closed (pathAt state j + 1) state
+  try-closed-top =
+      let p : pathAt state j < 255 = w .low in
+      closed-within ss nodes state (markAt state j) (pathAt state j) (w .piled .store) (top-stacked ss sh g nodes code state j (markAt state j) (w .piled) .within) (omega arith)
 
   module _ (state1 later : List ℕ) (r : Unified)
       (u : (v : Unifiable nodes state scratch (placeAt code (literalAt state j)) (copyAt state j) (headAt code k) (pathAt state j + 1) (markAt state j)) → Unifies (v .ss) nodes state state1 scratch later (v .top) (placeAt code (literalAt state j)) (copyAt state j) (headAt code k) (pathAt state j + 1) (markAt state j) r) where

@@ -7,6 +7,7 @@ use mathlib.Core.List.{List}
 use lib.ListN.{length, getD}
 use Rattle.layout.specs.Program.{headAt, bodyAt, afterAt, kindAt, placeAt, otherAt}
 use Rattle.layout.specs.Pile.{copyAt, literalAt, nextAt, markAt, pathAt}
+use Rattle.bindings.specs.Queues.{Closed}
 use Rattle.unifier.specs.Turns.{Unifiable, Unifies}
 use Rattle.unifier.specs.declared.solve.Unified.{Unified}
 use Rattle.engine.specs.Words.{standAt, nextWords, frameWords}
@@ -18,7 +19,7 @@ use Rattle.layout.proofs.Pile.{clause-low}
 use Rattle.engine.proofs.LayLaws.{LayEnds}
 use Rattle.engine.proofs.TopLaws.{at-top, top-inside, top-low, top-room}
 use Rattle.engine.proofs.WorkLaws.{pops-other, truth-layable-top, truth-core, equation-unifiable-top, equation-fails-top, equation-layable-top, equation-core}
-use Rattle.engine.proofs.CallLaws.{try-unifiable-top, try-fails-top, try-frame-top, try-layable-top, try-core, call-none-top, call-inside-top, call-room-top, call-tryable-top, call-end-top}
+use Rattle.engine.proofs.CallLaws.{try-unifiable-top, try-closed-top, try-fails-top, try-frame-top, try-layable-top, try-core, call-none-top, call-inside-top, call-room-top, call-tryable-top, call-end-top}
 
 -- ---- what a callee promises, of equal numbers
 
@@ -247,6 +248,12 @@ module _ {nodes code state scratch : List ℕ} {h k : ℕ} (w : Tryable nodes co
     t-path : s .path ≡ pathAt state (h - 1)
     t-path = ap (λ (x : Stand). x .path) is
 
+    t-new : s .path + 1 ≡ pathAt state (h - 1) + 1
+    t-new = ap (λ (x : ℕ). x + 1) t-path
+
+    pub try-closed : Closed (s .path + 1) state
+    try-closed = subst⁻¹ (λ (x : ℕ). Closed x state) t-new (at-top (λ (h j : ℕ). Tryable nodes code state scratch h j k → Closed (pathAt state j + 1) state) (λ j w. try-closed-top nodes code state scratch j k w) h filled w)
+
     pub try-facts : (s .literal + 4 ≤ length code) × ((length code ≤ 65536) × ((1028 ≤ length code) × ((k ≤ 256) × ((s .path < 255) × (h ≤ 256)))))
     try-facts =
         let a : s .literal ≡ literalAt state (h - 1) = t-literal in
@@ -258,9 +265,6 @@ module _ {nodes code state scratch : List ℕ} {h k : ℕ} (w : Tryable nodes co
     module _ {p q : ℕ} (pe : p ≡ getD code (s .literal + 1) 0) (qe : q ≡ getD code (k * 4) 0) where
       t-place : p ≡ placeAt code (literalAt state (h - 1))
       t-place = pe ∙ ap (λ (x : ℕ). getD code (x + 1) 0) t-literal
-
-      t-new : s .path + 1 ≡ pathAt state (h - 1) + 1
-      t-new = ap (λ (x : ℕ). x + 1) t-path
 
       pub try-unifiable : Unifiable nodes state scratch p (s .copy) q (s .path + 1) (s .mark)
       try-unifiable =

@@ -10,6 +10,7 @@ use crate::records::put_next;
 use crate::records::stand_at;
 use bindings::occurrence::word_at;
 use unifier::solve::unify;
+use unifier::solve::unify_closed;
 ghost use mathlib.Core.Path.{_≡_};
 ghost use Prim.Native.Nat.{_-_};
 ghost use Rattle.layout.specs.Program.{kindAt};
@@ -39,7 +40,7 @@ fn try_clause(
     let i = k * 4;
     let p = word_at(code, l + 1);
     let q = word_at(code, i);
-    let u = unify(nodes, state, scratch, p, c, q, new, mark);
+    let u = unify_closed(nodes, state, scratch, p, c, q, new, mark, new);
     let trail = u.trail;
     if u.equal {
         let body = word_at(code, i + 1);

@@ -99,7 +99,7 @@ below-resolve n (e ∷ b) h t k w o = go (occurs-replace (e .variable) w (e .ter
     go (inr x) r = r (x .0)
 
 mutual
-  copied-copy : (c : ℕ) (t : Term) (w : Variable) → T (occurs w (copied c t)) → w .copy ≡ c
+  pub copied-copy : (c : ℕ) (t : Term) (w : Variable) → T (occurs w (copied c t)) → w .copy ≡ c
   copied-copy c (variable i at) w o = ap (λ (x : Variable). x .copy) (variable-eq w (record { copy = c; number = i }) o)
   copied-copy c (compound at f ts) w o = copied-copies c ts w o
 

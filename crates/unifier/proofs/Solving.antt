@@ -12,9 +12,10 @@ use Rattle.layout.specs.Nodes.{Symbol, Node, termAt}
 use Rattle.layout.specs.State.{variableOf, wordOf, bindings, Store, Within, Keeps, boundWords}
 use Rattle.layout.proofs.Nodes.{node-inside}
 use Rattle.layout.proofs.State.{bind-store, bind-keeps, bind-means, bind-within, keeps-refl, keeps-trans, room}
-use Rattle.bindings.specs.Queues.{Clean, Checkable, Checked}
+use Rattle.bindings.specs.Queues.{Clean, Checkable, Checked, Closed, Closing}
 use Rattle.bindings.specs.Memos.{Memo}
 use Rattle.bindings.specs.Scratch.{leftAt, rightAt, SameMarks, Roomy}
+use Rattle.bindings.proofs.Apart.{closed-bound}
 use Rattle.bindings.proofs.Remembering.{memo-kept, memo-bound}
 use Rattle.unifier.specs.Rows.{unifyRows, sizeOf}
 use Rattle.unifier.specs.Stacks.{rowsOf, Stack, nothing, Closes}
@@ -178,6 +179,9 @@ module _ (nodes before after scratch later : List ℕ) (n m h : ℕ) (g : Solvab
 
       pub solve-few : m < 16384
       solve-few = room ss nodes after m x (s .store) (binds .cell) (binds .unbound)
+
+      pub solve-closed : (closed r : ℕ) → Closed closed after → Closing closed x d r → (state1 : List ℕ) → state1 ≡ boundWords after m x (wordOf p d) → Closed r state1
+      solve-closed closed r c1 h state1 q = subst⁻¹ (Closed r) q (closed-bound after m x p d closed r (s .store .long) solve-few (binds .cell) (binds .copy) c1 h)
 
       module _ (end : List ℕ) (r : Bool) (c2 : (w : Checkable nodes after next x p d) → Checked (w .ss) nodes after (w .n) next end x p d r) where
         checked : Checked ss nodes after m next end x p d r

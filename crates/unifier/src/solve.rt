@@ -4,8 +4,9 @@ use crate::walk::unify_list;
 use bindings::memo::forget;
 use bindings::memo::known;
 use bindings::memo::remember;
-use bindings::occurrence::occurs;
+use bindings::occurrence::closed_to;
 use bindings::occurrence::size_at;
+use bindings::occurrence::stands;
 use bindings::occurrence::word_at;
 use bindings::stack::PAIR;
 use bindings::stack::STACK;
@@ -15,6 +16,7 @@ use bindings::stack::side_at;
 use bindings::store::bind;
 use bindings::store::deref;
 ghost use mathlib.Core.Path.{_≡_};
+ghost use Rattle.bindings.specs.Queues.{Closed};
 ghost use Rattle.bindings.specs.Scratch.{leftAt, rightAt};
 ghost use Rattle.unifier.specs.declared.solve.Turn.the-variants.{Bind};
 ghost use Rattle.unifier.specs.Turns.{Crossed, Crossable, Crosses, Meetable, Turnable, Turned, Openable, Passable, Ready, Advanced, Solvable, Solved, Unifiable, Unifies};
@@ -205,26 +207,27 @@ fn advance(nodes: &[u32], state: &[u32], scratch: &mut [u32], n: usize, h: usize
     Turn::Go(0)
 }
 
-// The one pair on the stack, with m bindings: turns, and a binding where they ask for one.
-fn solve_pair(nodes: &[u32], state: &mut [u32], scratch: &mut [u32], m: usize) -> Unified
+// The one pair on the stack, with m bindings, the copies below k closed: turns, and a binding where they ask for one.
+fn solve_pair(nodes: &[u32], state: &mut [u32], scratch: &mut [u32], m: usize, k: usize) -> Unified
     requires { ⌜ Solvable (now nodes) (now state) (now scratch) m ⌝ }
+    requires { ⌜ Closed k (now state) ⌝ }
     ensures { λ r. ⌜ ((g : Solvable (now (nodes .entry)) (now (state .entry)) (now (scratch .entry)) m) → Solved (g .work .ss) (now (nodes .entry)) (now (state .entry)) (now (state .exit)) (now (scratch .entry)) (now (scratch .exit)) (g .work .top) m (rowsOf (g .work .ss) (now (nodes .entry)) (leftAt (now (scratch .entry))) 1) (rowsOf (g .work .ss) (now (nodes .entry)) (rightAt (now (scratch .entry))) 1) r) ⌝ }
 {
     let mut n = m;
     let mut h = 1;
+    let mut closed = k;
     loop {
         let t = advance(nodes, state, scratch, n, h);
         match t {
             Turn::Go(_) => {
-                return Unified {
-                    equal: true,
-                    trail: n,
-                };
+                let trail = n;
+                return Unified { equal: true, trail };
             }
             Turn::Clash => {
+                let trail = n;
                 return Unified {
                     equal: false,
-                    trail: n,
+                    trail,
                 };
             }
             Turn::Bind {
@@ -233,18 +236,41 @@ fn solve_pair(nodes: &[u32], state: &mut [u32], scratch: &mut [u32], m: usize) -
                 node,
                 copy,
             } => {
-                if occurs(nodes, state, scratch, cell, node, copy) {
+                if stands(nodes, state, scratch, cell, node, copy, closed) {
+                    let trail = n;
                     return Unified {
                         equal: false,
-                        trail: n,
+                        trail,
                     };
                 }
                 bind(state, n, cell, node, copy);
+                closed = closed_to(cell, copy, closed);
                 n += 1;
                 h = height;
             }
         }
     }
+}
+
+// As `unify`, with the copies below k closed.
+pub fn unify_closed(
+    nodes: &[u32],
+    state: &mut [u32],
+    scratch: &mut [u32],
+    p: usize,
+    c: usize,
+    q: usize,
+    d: usize,
+    n: usize,
+    k: usize,
+) -> Unified
+    requires { ⌜ Unifiable (now nodes) (now state) (now scratch) p c q d n ⌝ }
+    requires { ⌜ Closed k (now state) ⌝ }
+    ensures { λ r. ⌜ ((g : Unifiable (now (nodes .entry)) (now (state .entry)) (now (scratch .entry)) p c q d n) → Unifies (g .ss) (now (nodes .entry)) (now (state .entry)) (now (state .exit)) (now (scratch .entry)) (now (scratch .exit)) (g .top) p c q d n r) ⌝ }
+{
+    forget(scratch);
+    put_pair(scratch, 0, p, p, c, q, q, d);
+    solve_pair(nodes, state, scratch, n, k)
 }
 
 // The term at p in copy c and the term at q in copy d unified, with n bindings. Where they do not unify, the trail is left as it then is.
@@ -261,7 +287,5 @@ pub fn unify(
     requires { ⌜ Unifiable (now nodes) (now state) (now scratch) p c q d n ⌝ }
     ensures { λ r. ⌜ ((g : Unifiable (now (nodes .entry)) (now (state .entry)) (now (scratch .entry)) p c q d n) → Unifies (g .ss) (now (nodes .entry)) (now (state .entry)) (now (state .exit)) (now (scratch .entry)) (now (scratch .exit)) (g .top) p c q d n r) ⌝ }
 {
-    forget(scratch);
-    put_pair(scratch, 0, p, p, c, q, q, d);
-    solve_pair(nodes, state, scratch, n)
+    unify_closed(nodes, state, scratch, p, c, q, d, n, 0)
 }

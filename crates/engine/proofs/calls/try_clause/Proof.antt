@@ -1,5 +1,5 @@
 use native.Mathlib.Omega.{arith}
-use Rattle.engine.proofs.ReadLaws.{try-room, try-facts, try-unifiable, try-fails, try-frame, try-layable, try-end}
+use Rattle.engine.proofs.ReadLaws.{try-room, try-facts, try-unifiable, try-closed, try-fails, try-frame, try-layable, try-end}
 use borrow.Author.Needs.{needs}
 use Rattle.engine.proofs.calls.try_clause.Statement.{statement}
 use Rattle.engine.proofs.calls.try_clause.Tie as tie
@@ -9,7 +9,7 @@ use Rattle.engine.proofs.laying.lay.Reads as lay-reads
 use Rattle.engine.proofs.records.put_frame.Reads as put-frame-reads
 use Rattle.engine.proofs.records.stand_at.Reads as stand-at-reads
 use Rattle.bindings.proofs.occurrence.word_at.Reads as word-at-reads
-use Rattle.unifier.proofs.solve.unify.Reads as unify-reads
+use Rattle.unifier.proofs.solve.unify_closed.Reads as unify-closed-reads
 
 -- src/calls.rt:33:13
 sub-j : tie.Need-sub-j
@@ -40,8 +40,8 @@ word-at-requires-2 : tie.Need-word-at-requires-2
 word-at-requires-2 c κs = omega (arith, try-facts (c .before .before .before .before .before .before .before .before .pre) (c .before .before .stand-at .ensures))
 
 -- src/calls.rt:42:9
-unify-requires : tie.Need-unify-requires
-unify-requires c κs = try-unifiable (c .before .before .before .before .before .before .before .before .before .before .before .pre) (c .before .before .before .before .before .stand-at .ensures) (c .before .before .before .word-at .ensures) (c .before .before .word-at2 .ensures)
+unify-closed-requires : tie.Need-unify-closed-requires
+unify-closed-requires c κs = (try-unifiable (c .before .before .before .before .before .before .before .before .before .before .before .pre) (c .before .before .before .before .before .stand-at .ensures) (c .before .before .before .word-at .ensures) (c .before .before .word-at2 .ensures), try-closed (c .before .before .before .before .before .before .before .before .before .before .before .pre) (c .before .before .before .before .before .stand-at .ensures))
 
 -- src/calls.rt:45:34
 add-word-at-2 : tie.Need-add-word-at-2
@@ -53,11 +53,11 @@ word-at-requires-3 c κs = omega (arith, try-facts (c .before .before .before .b
 
 -- src/calls.rt:46:9
 put-frame-requires : tie.Need-put-frame-requires
-put-frame-requires c κs = try-frame (c .before .before .before .before .before .before .before .before .before .before .before .before .before .before .before .before .before .before .before .pre) (c .before .before .before .before .before .before .before .before .before .before .before .before .before .stand-at .ensures) (c .before .before .before .before .before .before .before .before .before .before .before .word-at .ensures) (c .before .before .before .before .before .before .before .before .before .before .word-at2 .ensures) (c .before .before .before .before .before .before .before .unify .ensures)
+put-frame-requires c κs = try-frame (c .before .before .before .before .before .before .before .before .before .before .before .before .before .before .before .before .before .before .before .pre) (c .before .before .before .before .before .before .before .before .before .before .before .before .before .stand-at .ensures) (c .before .before .before .before .before .before .before .before .before .before .before .word-at .ensures) (c .before .before .before .before .before .before .before .before .before .before .word-at2 .ensures) (c .before .before .before .before .before .before .before .unify-closed .ensures)
 
 -- src/calls.rt:47:9
 lay-requires : tie.Need-lay-requires
-lay-requires c κs = try-layable (c .before .before .before .before .before .before .before .before .before .before .before .before .before .before .before .before .before .before .before .before .before .before .before .pre) (c .before .before .before .before .before .before .before .before .before .before .before .before .before .before .before .before .before .stand-at .ensures) (c .before .before .before .before .before .before .before .before .before .before .before .before .before .before .before .word-at .ensures) (c .before .before .before .before .before .before .before .before .before .before .before .before .before .before .word-at2 .ensures) (c .before .before .before .before .before .before .before .before .before .before .before .unify .ensures) (c .before .before .before .put-frame .ensures) (c .before .before .before .before .before .word-at3 .ensures)
+lay-requires c κs = try-layable (c .before .before .before .before .before .before .before .before .before .before .before .before .before .before .before .before .before .before .before .before .before .before .before .pre) (c .before .before .before .before .before .before .before .before .before .before .before .before .before .before .before .before .before .stand-at .ensures) (c .before .before .before .before .before .before .before .before .before .before .before .before .before .before .before .word-at .ensures) (c .before .before .before .before .before .before .before .before .before .before .before .before .before .before .word-at2 .ensures) (c .before .before .before .before .before .before .before .before .before .before .before .unify-closed .ensures) (c .before .before .before .put-frame .ensures) (c .before .before .before .before .before .word-at3 .ensures)
 
 -- src/calls.rt:49:21
 add-t27 : tie.Need-add-t27
@@ -73,7 +73,7 @@ same-length-2 c = search needs
 
 -- src/calls.rt:48:9
 returns : tie.Need-returns
-returns c = λ w. try-end w (c .before .before .before .before .before .before .before .before .before .before .before .before .before .before .before .before .before .before .before .before .stand-at .ensures) (c .before .before .before .before .before .before .before .before .before .before .before .before .before .before .before .before .before .before .word-at .ensures) (c .before .before .before .before .before .before .before .before .before .before .before .before .before .before .before .before .before .word-at2 .ensures) (c .before .before .before .before .before .before .before .before .before .before .before .before .before .before .unify .ensures) (c .before .before .before .before .before .before .put-frame .ensures) (c .before .before .before .before .before .before .before .before .word-at3 .ensures) (c .before .before .before .before .before .before .before .before .before .if1 .taken) (c .before .before .lay .last .1 .0) (c .before .before .lay .ensures)
+returns c = λ w. try-end w (c .before .before .before .before .before .before .before .before .before .before .before .before .before .before .before .before .before .before .before .before .stand-at .ensures) (c .before .before .before .before .before .before .before .before .before .before .before .before .before .before .before .before .before .before .word-at .ensures) (c .before .before .before .before .before .before .before .before .before .before .before .before .before .before .before .before .before .word-at2 .ensures) (c .before .before .before .before .before .before .before .before .before .before .before .before .before .before .unify-closed .ensures) (c .before .before .before .before .before .before .put-frame .ensures) (c .before .before .before .before .before .before .before .before .word-at3 .ensures) (c .before .before .before .before .before .before .before .before .before .if1 .taken) (c .before .before .lay .last .1 .0) (c .before .before .lay .ensures)
 
 -- src/calls.rt:22:1
 same-length-3 : tie.Need-same-length-3
@@ -85,7 +85,7 @@ same-length-4 c = search needs
 
 -- src/calls.rt:22:1
 returns-2 : tie.Need-returns-2
-returns-2 c = λ w. try-fails w (c .before .before .before .before .before .before .before .before .before .before .before .stand-at .ensures) (c .before .before .before .before .before .before .before .before .before .word-at .ensures) (c .before .before .before .before .before .before .before .before .word-at2 .ensures) (c .before .before .before .before .before .unify .ensures) (c .if1 .left)
+returns-2 c = λ w. try-fails w (c .before .before .before .before .before .before .before .before .before .before .before .stand-at .ensures) (c .before .before .before .before .before .before .before .before .before .word-at .ensures) (c .before .before .before .before .before .before .before .before .word-at2 .ensures) (c .before .before .before .before .before .unify-closed .ensures) (c .if1 .left)
 
 pub try-clause-spec : {M : Type 1} → statement M
 try-clause-spec =
@@ -98,7 +98,7 @@ try-clause-spec =
     add-word-at
     word-at-requires
     word-at-requires-2
-    unify-requires
+    unify-closed-requires
     add-word-at-2
     word-at-requires-3
     put-frame-requires

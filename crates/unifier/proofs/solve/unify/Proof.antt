@@ -1,44 +1,22 @@
-use Rattle.unifier.proofs.Whole.{unify-room, unify-solvable, unify-end}
+use Rattle.bindings.proofs.Apart.{closed-none}
 use borrow.Author.Needs.{needs}
 use Rattle.unifier.proofs.solve.unify.Statement.{statement}
 use Rattle.unifier.proofs.solve.unify.Tie as tie
 use Rattle.unifier.proofs.solve.unify.Reads as reads
 use Rattle.unifier.proofs.solve.unify.Lts as lts
-use Rattle.bindings.proofs.memo.forget.Reads as forget-reads
-use Rattle.unifier.proofs.solve.solve_pair.Reads as solve-pair-reads
-use Rattle.bindings.proofs.stack.put_pair.Reads as put-pair-reads
+use Rattle.unifier.proofs.solve.unify_closed.Reads as unify-closed-reads
 
--- src/solve.rt:269:5
-forget-requires : tie.Need-forget-requires
-forget-requires c κs = search needs
+unify-closed-requires : tie.Need-unify-closed-requires
+unify-closed-requires c κs = (c .before .before .before .before .before .pre, closed-none (c .before .before .before .before .before .args .state .now))
 
--- src/solve.rt:270:5
-put-pair-requires : tie.Need-put-pair-requires
-put-pair-requires c κs = unify-room (c .before .before .before .before .before .before .before .before .args .nodes .now) (c .before .before .before .before .before .before .before .before .args .state .now) (c .before .before .before .before .before .before .before .before .args .scratch .now) (c .before .before .before .before .before .before .before .before .args .p) (c .before .before .before .before .before .before .before .before .args .c) (c .before .before .before .before .before .before .before .before .args .q) (c .before .before .before .before .before .before .before .before .args .d) (c .before .before .before .before .before .before .before .before .args .n) (c .before .before .before .before .before .before .before .before .pre) (c .before .before .before .forget .last .0) (c .before .before .before .forget .ensures)
-
--- src/solve.rt:271:5
-solve-pair-requires : tie.Need-solve-pair-requires
-solve-pair-requires c κs = unify-solvable (c .before .before .before .before .before .before .before .before .before .before .before .before .before .args .nodes .now) (c .before .before .before .before .before .before .before .before .before .before .before .before .before .args .state .now) (c .before .before .before .before .before .before .before .before .before .before .before .before .before .args .scratch .now) (c .before .before .before .before .before .before .before .before .before .before .before .before .before .args .p) (c .before .before .before .before .before .before .before .before .before .before .before .before .before .args .c) (c .before .before .before .before .before .before .before .before .before .before .before .before .before .args .q) (c .before .before .before .before .before .before .before .before .before .before .before .before .before .args .d) (c .before .before .before .before .before .before .before .before .before .before .before .before .before .args .n) (c .before .before .before .before .before .before .before .before .before .before .before .before .before .pre) (c .before .before .before .before .before .before .before .before .forget .last .0) (c .before .before .before .before .put-pair .last .0) (c .before .before .before .before .before .before .before .before .forget .ensures) (c .before .before .before .before .put-pair .ensures)
-
--- src/solve.rt:256:1
 same-length : tie.Need-same-length
 same-length c = search needs
 
--- src/solve.rt:256:1
 same-length-2 : tie.Need-same-length-2
 same-length-2 c = search needs
 
--- src/solve.rt:256:1
 returns : tie.Need-returns
-returns c = λ g. unify-end (c .before .before .before .before .before .before .before .before .before .before .before .before .before .before .before .before .before .before .args .nodes .now) (c .before .before .before .before .before .before .before .before .before .before .before .before .before .before .before .before .before .before .args .state .now) (c .before .before .before .before .before .before .before .before .before .before .before .before .before .before .before .before .before .before .args .scratch .now) (c .before .before .before .before .before .before .before .before .before .before .before .before .before .before .before .before .before .before .args .p) (c .before .before .before .before .before .before .before .before .before .before .before .before .before .before .before .before .before .before .args .c) (c .before .before .before .before .before .before .before .before .before .before .before .before .before .before .before .before .before .before .args .q) (c .before .before .before .before .before .before .before .before .before .before .before .before .before .before .before .before .before .before .args .d) (c .before .before .before .before .before .before .before .before .before .before .before .before .before .before .before .before .before .before .args .n) g (c .before .before .before .before .before .before .before .before .before .before .before .before .before .forget .last .0) (c .before .before .before .before .before .before .before .before .before .put-pair .last .0) (c .before .before .before .before .before .before .before .before .before .before .before .before .before .forget .ensures) (c .before .before .before .before .before .before .before .before .before .put-pair .ensures) (c .before .before .before .before .solve-pair .last .1 .0) (c .before .before .before .before .solve-pair .last .1 .1 .0) (c .before .before .before .before .solve-pair .result) (c .before .before .before .before .solve-pair .ensures)
+returns c = c .before .before .before .before .unify-closed .ensures
 
 pub unify-spec : {M : Type 1} → statement M
-unify-spec =
-    tie.close
-    (tie.spec
-    forget-requires
-    put-pair-requires
-    solve-pair-requires
-    same-length
-    same-length-2
-    returns)
+unify-spec = tie.close (tie.spec unify-closed-requires same-length same-length-2 returns)

@@ -1,0 +1,78 @@
+-- Laws of closed copies. Assumes nothing.
+use Prim.Native.Nat.{ℕ, _+_, _*_, _≤_, _<_}
+use native.Mathlib.Omega.{arith}
+use mathlib.Core.Path.{_≡_, refl, subst, subst⁻¹}
+use mathlib.Core.Bool.{Bool, true, false}
+use mathlib.Core.List.{List}
+use lib.Dec.{T, eqb}
+use lib.ListN.{length}
+use borrow.Author.Tests.{eqb-true, eqb-false}
+use Rattle.machine.specs.Substitution.{Variable, RTerm, occurs, resolve}
+use Rattle.machine.proofs.Reached.{copied-copy}
+use Rattle.layout.specs.Nodes.{Symbol, Node, termAt}
+use Rattle.layout.specs.State.{variableOf, wordOf, nodeOf, copyOf, cellAt, trailAt, valueOf, bindings, Store, Within, boundWords}
+use Rattle.layout.proofs.Nodes.{term-at}
+use Rattle.layout.proofs.State.{copy-word, bound-cell, bound-cells, keeps-refl}
+use Rattle.bindings.specs.Queues.{Checkable, Checked, Closed, Closing}
+use Rattle.bindings.proofs.Scan.{closed-under, is-false}
+
+at-copy : (ss : List Symbol) (nodes : List ℕ) (q d : ℕ) → Node ss nodes q → (v : Variable) → T (occurs v (termAt ss nodes q d)) → v .copy ≡ d
+at-copy ss nodes q d n v h = copied-copy d (n .0) v (subst (λ (t : RTerm). T (occurs v t)) (term-at ss nodes q d (n .0) (n .1)) h)
+
+module _ (ss : List Symbol) (nodes state : List ℕ) (n k : ℕ) (store : Store ss nodes state n) (closed : Closed k state) where
+  value-below : (i : ℕ) → i < n → variableOf (trailAt state i) .copy < k → (v : Variable) → T (occurs v (valueOf ss nodes (cellAt state (trailAt state i)))) → v .copy < k
+  unfolding valueOf
+  value-below i l h v o =
+      subst⁻¹ (λ (y : ℕ). y < k) (at-copy ss nodes (nodeOf (cellAt state (trailAt state i))) (copyOf (cellAt state (trailAt state i))) (store .entry i l .node) v o)
+      (closed .copy (trailAt state i) (omega arith))
+
+  below : (q d : ℕ) → Node ss nodes q → d < k → (v : Variable) → T (occurs v (resolve (bindings ss nodes state n) (termAt ss nodes q d))) → v .copy < k
+  below q d node l =
+      closed-under ss nodes state (λ (v : Variable). v .copy < k) n value-below (termAt ss nodes q d) (λ v o. subst⁻¹ (λ (y : ℕ). y < k) (at-copy ss nodes q d node v o) l)
+
+  apart-free : (x q d : ℕ) → Node ss nodes q → d < k → k * 64 ≤ x → T (occurs (variableOf x) (resolve (bindings ss nodes state n) (termAt ss nodes q d))) → ⊥
+  apart-free x q d node l h o = let z : variableOf x .copy < k = below q d node l (variableOf x) o in let y : k * 64 ≤ x = h in omega arith
+
+pub apart-checked : (nodes state scratch : List ℕ) (x q d k : ℕ) (g : Checkable nodes state scratch x q d) → Closed k state → (k * 64 ≤ x) × (d < k) → Checked (g .ss) nodes state (g .n) scratch scratch x q d false
+apart-checked nodes state scratch x q d k g closed h =
+    record {
+      answer = is-false (occurs (variableOf x) (resolve (bindings (g .ss) nodes state (g .n)) (termAt (g .ss) nodes q d))) (apart-free (g .ss) nodes state (g .n) k (g .store) closed x q d (g .node) (h .1) (h .0));
+      clean = g .clean;
+      keeps = keeps-refl 0 scratch;
+    }
+
+-- ---- which copies are closed
+
+pub closed-none : (state : List ℕ) → Closed 0 state
+closed-none state = record { few = omega arith; copy = λ y l. absurd (let z : y < 0 = l in omega arith) }
+
+pub closes-still : (k x d : ℕ) → (x < k * 64 → d < k) → Closing k x d k
+closes-still k x d h = record { closed = λ state c. c; stays = h }
+
+pub closes-none : (k x d : ℕ) → Closing k x d 0
+closes-none k x d = record { closed = λ state c. closed-none state; stays = λ l. absurd (let z : x < 0 = l in omega arith) }
+
+pub closed-bound : (state : List ℕ) (n x q d k r : ℕ) → 32768 ≤ length state → n < 16384 → x < 16384 → d < 256 → Closed k state → Closing k x d r → Closed r (boundWords state n x (wordOf q d))
+closed-bound state n x q d k r long room small copy c h =
+    record { few = h .closed state c .few; copy = λ y l. at y l (eqb y x) refl }
+  where
+    at : (y : ℕ) → y < r * 64 → (b : Bool) → eqb y x ≡ b → copyOf (cellAt (boundWords state n x (wordOf q d)) y) < r
+    at y l true e =
+        let s : y ≡ x = eqb-true y x e in
+        subst⁻¹ (λ (z : ℕ). copyOf (cellAt (boundWords state n x (wordOf q d)) z) < r) s
+        (subst⁻¹ (λ (z : ℕ). copyOf z < r) (bound-cell state n x (wordOf q d) long room small) (subst⁻¹ (λ (z : ℕ). z < r) (copy-word q d copy) (h .stays (subst (λ (z : ℕ). z < r * 64) s l))))
+    at y l false e =
+        let f : r ≤ 256 = h .closed state c .few in
+        let o : y < r * 64 = l in
+        subst⁻¹ (λ (z : ℕ). copyOf z < r) (bound-cells state n x (wordOf q d) long room small y (omega arith) (eqb-false y x e)) (h .closed state c .copy y l)
+
+-- what belongs to copies up to k is closed
+pub closed-within : (ss : List Symbol) (nodes state : List ℕ) (n k : ℕ) → Store ss nodes state n → Within k state n → k < 256 → Closed (k + 1) state
+closed-within ss nodes state n k store w low =
+    record { few = omega arith; copy = λ y l. at y l (eqb (cellAt state y) 0) refl }
+  where
+    at : (y : ℕ) → y < (k + 1) * 64 → (b : Bool) → eqb (cellAt state y) 0 ≡ b → copyOf (cellAt state y) < k + 1
+    at y l true e = subst⁻¹ (λ (z : ℕ). copyOf z < k + 1) (eqb-true (cellAt state y) 0 e) (omega arith)
+    at y l false e =
+        let o : (i : ℕ) × (i < n) × (trailAt state i ≡ y) = store .only y (omega arith) (eqb-false (cellAt state y) 0 e) in
+        subst (λ (z : ℕ). copyOf (cellAt state z) < k + 1) (o .2) (let z : copyOf (cellAt state (trailAt state (o .0))) ≤ k = w .copy (o .0) (o .1) in omega arith)
