@@ -1,6 +1,6 @@
 // Unification: the outer loop, which takes over where a bound variable is crossed.
 use crate::walk::Walked;
-use crate::walk::unify_list;
+use crate::walk::walk_rows;
 use bindings::memo::forget;
 use bindings::memo::known;
 use bindings::memo::remember;
@@ -183,7 +183,7 @@ fn next_turn(nodes: &[u32], state: &[u32], scratch: &mut [u32], h: usize) -> Tur
     let from = l.at;
     let there = r.at;
     let e = root + size_at(nodes, root);
-    let found = unify_list(nodes, from, e, there);
+    let found = walk_rows(nodes, from, e, there);
     match found {
         Walked::Done => pass(scratch, h, l, r),
         Walked::Clash => Turn::Clash,

@@ -50,3 +50,20 @@ pub fn unify_list(nodes: &[u32], p: usize, e: usize, q: usize) -> Walked
     let j = q + size_at(nodes, q);
     unify_list(nodes, i, e, j)
 }
+
+// The same. Most rows are at their end or begin with a variable, which is seen without a call.
+pub fn walk_rows(nodes: &[u32], p: usize, e: usize, q: usize) -> Walked
+    requires { ⌜ Walkable (now nodes) p e q ⌝ }
+    ensures { λ r. ⌜ ((g : Walkable (now (nodes .entry)) p e q) → Walks (g .ss) (now (nodes .entry)) p e q (g .f) r) ⌝ }
+{
+    if e <= p {
+        return Walked::Done;
+    }
+    if word_at(nodes, p) < 64 {
+        return Walked::Met { left: p, right: q };
+    }
+    if word_at(nodes, q) < 64 {
+        return Walked::Met { left: p, right: q };
+    }
+    unify_list(nodes, p, e, q)
+}

@@ -9,7 +9,7 @@ use Rattle.bindings.proofs.occurrence.size_at.Reads as size-at-reads
 use Rattle.unifier.proofs.solve.meet.Reads as meet-reads
 use Rattle.unifier.proofs.solve.pass.Reads as pass-reads
 use Rattle.bindings.proofs.stack.side_at.Reads as side-at-reads
-use Rattle.unifier.proofs.walk.unify_list.Reads as unify-list-reads
+use Rattle.unifier.proofs.walk.walk_rows.Reads as walk-rows-reads
 
 -- src/solve.rt:181:13
 sub-k : tie.Need-sub-k
@@ -44,8 +44,8 @@ add-e : tie.Need-add-e
 add-e c = omega (arith, c .size-at .ensures, turn-inside (c .before .before .before .before .before .before .before .before .args .nodes .now) (c .before .before .before .before .before .before .before .before .args .state .now) (c .before .before .before .before .before .before .before .before .args .scratch .now) (c .before .before .before .before .before .before .before .before .args .h) (c .before .before .before .before .before .before .before .before .pre) (c .before .before .before .side-at .result) (c .before .side-at2 .result) (c .before .before .before .side-at .ensures) (c .before .side-at2 .ensures))
 
 -- src/solve.rt:189:9
-unify-list-requires : tie.Need-unify-list-requires
-unify-list-requires c κs = turn-walk (c .before .before .before .before .before .before .before .before .args .nodes .now) (c .before .before .before .before .before .before .before .before .args .state .now) (c .before .before .before .before .before .before .before .before .args .scratch .now) (c .before .before .before .before .before .before .before .before .args .h) (c .before .before .before .before .before .before .before .before .pre) (c .before .before .before .side-at .result) (c .before .side-at2 .result) (c .before .before .before .side-at .ensures) (c .before .side-at2 .ensures) (c .size-at .result) (c .size-at .ensures)
+walk-rows-requires : tie.Need-walk-rows-requires
+walk-rows-requires c κs = turn-walk (c .before .before .before .before .before .before .before .before .args .nodes .now) (c .before .before .before .before .before .before .before .before .args .state .now) (c .before .before .before .before .before .before .before .before .args .scratch .now) (c .before .before .before .before .before .before .before .before .args .h) (c .before .before .before .before .before .before .before .before .pre) (c .before .before .before .side-at .result) (c .before .side-at2 .result) (c .before .before .before .side-at .ensures) (c .before .side-at2 .ensures) (c .size-at .result) (c .size-at .ensures)
 
 -- src/solve.rt:191:30
 enum-told : tie.Need-enum-told
@@ -53,7 +53,7 @@ enum-told c = search needs
 
 -- src/solve.rt:191:25
 pass-requires : tie.Need-pass-requires
-pass-requires c κs = turn-pass (c .before .before .before .before .before .before .before .before .before .before .before .before .args .nodes .now) (c .before .before .before .before .before .before .before .before .before .before .before .before .args .state .now) (c .before .before .before .before .before .before .before .before .before .before .before .before .args .scratch .now) (c .before .before .before .before .before .before .before .before .before .before .before .before .args .h) (c .before .before .before .before .before .before .before .before .before .before .before .before .pre) (c .before .before .before .before .before .before .before .side-at .result) (c .before .before .before .before .before .side-at2 .result) (c .before .before .before .before .before .before .before .side-at .ensures) (c .before .before .before .before .before .side-at2 .ensures) (c .before .before .before .before .size-at .result) (c .before .before .before .before .size-at .ensures) (c .before .before .before .unify-list .result) (c .before .before .before .unify-list .ensures) (c .before .enum-told .given .1)
+pass-requires c κs = turn-pass (c .before .before .before .before .before .before .before .before .before .before .before .before .args .nodes .now) (c .before .before .before .before .before .before .before .before .before .before .before .before .args .state .now) (c .before .before .before .before .before .before .before .before .before .before .before .before .args .scratch .now) (c .before .before .before .before .before .before .before .before .before .before .before .before .args .h) (c .before .before .before .before .before .before .before .before .before .before .before .before .pre) (c .before .before .before .before .before .before .before .side-at .result) (c .before .before .before .before .before .side-at2 .result) (c .before .before .before .before .before .before .before .side-at .ensures) (c .before .before .before .before .before .side-at2 .ensures) (c .before .before .before .before .size-at .result) (c .before .before .before .before .size-at .ensures) (c .before .before .before .walk-rows .result) (c .before .before .before .walk-rows .ensures) (c .before .enum-told .given .1)
 
 -- src/solve.rt:192:26
 enum-told-2 : tie.Need-enum-told-2
@@ -65,7 +65,7 @@ enum-known-found c = search needs
 
 -- src/solve.rt:193:40
 meet-requires : tie.Need-meet-requires
-meet-requires c κs = turn-met (c .before .before .before .before .before .before .before .before .before .before .before .before .before .args .nodes .now) (c .before .before .before .before .before .before .before .before .before .before .before .before .before .args .state .now) (c .before .before .before .before .before .before .before .before .before .before .before .before .before .args .scratch .now) (c .before .before .before .before .before .before .before .before .before .before .before .before .before .args .h) (c .before .before .before .before .before .before .before .before .before .before .before .before .before .pre) (c .before .before .before .before .before .before .before .before .side-at .result) (c .before .before .before .before .before .before .side-at2 .result) (c .before .before .before .before .before .before .before .before .side-at .ensures) (c .before .before .before .before .before .before .side-at2 .ensures) (c .before .before .before .before .before .size-at .result) (c .before .before .before .before .before .size-at .ensures) (c .before .before .before .before .unify-list .result) (c .before .before .before .before .unify-list .ensures) (c .before .before .found .given .0 .0) (c .before .before .found .given .0 .1 .0) (c .before .before .found .given .1)
+meet-requires c κs = turn-met (c .before .before .before .before .before .before .before .before .before .before .before .before .before .args .nodes .now) (c .before .before .before .before .before .before .before .before .before .before .before .before .before .args .state .now) (c .before .before .before .before .before .before .before .before .before .before .before .before .before .args .scratch .now) (c .before .before .before .before .before .before .before .before .before .before .before .before .before .args .h) (c .before .before .before .before .before .before .before .before .before .before .before .before .before .pre) (c .before .before .before .before .before .before .before .before .side-at .result) (c .before .before .before .before .before .before .side-at2 .result) (c .before .before .before .before .before .before .before .before .side-at .ensures) (c .before .before .before .before .before .before .side-at2 .ensures) (c .before .before .before .before .before .size-at .result) (c .before .before .before .before .before .size-at .ensures) (c .before .before .before .before .walk-rows .result) (c .before .before .before .before .walk-rows .ensures) (c .before .before .found .given .0 .0) (c .before .before .found .given .0 .1 .0) (c .before .before .found .given .1)
 
 -- src/solve.rt:177:1
 same-length : tie.Need-same-length
@@ -73,7 +73,7 @@ same-length c = search needs
 
 -- src/solve.rt:177:1
 returns : tie.Need-returns
-returns c = λ g. turn-done (c .before .before .before .before .before .before .before .before .before .before .before .before .before .before .before .args .nodes .now) (c .before .before .before .before .before .before .before .before .before .before .before .before .before .before .before .args .state .now) (c .before .before .before .before .before .before .before .before .before .before .before .before .before .before .before .args .scratch .now) (c .before .before .before .before .before .before .before .before .before .before .before .before .before .before .before .args .h) g (c .before .before .before .before .before .before .before .before .before .before .side-at .result) (c .before .before .before .before .before .before .before .before .side-at2 .result) (c .before .before .before .before .before .before .before .before .before .before .side-at .ensures) (c .before .before .before .before .before .before .before .before .side-at2 .ensures) (c .before .before .before .before .before .before .before .size-at .result) (c .before .before .before .before .before .before .before .size-at .ensures) (c .before .before .before .before .before .before .unify-list .result) (c .before .before .before .before .before .before .unify-list .ensures) (c .before .before .before .before .enum-told .given .1) (c .before .before .pass .last .0) (c .before .before .pass .result) (c .before .before .pass .ensures)
+returns c = λ g. turn-done (c .before .before .before .before .before .before .before .before .before .before .before .before .before .before .before .args .nodes .now) (c .before .before .before .before .before .before .before .before .before .before .before .before .before .before .before .args .state .now) (c .before .before .before .before .before .before .before .before .before .before .before .before .before .before .before .args .scratch .now) (c .before .before .before .before .before .before .before .before .before .before .before .before .before .before .before .args .h) g (c .before .before .before .before .before .before .before .before .before .before .side-at .result) (c .before .before .before .before .before .before .before .before .side-at2 .result) (c .before .before .before .before .before .before .before .before .before .before .side-at .ensures) (c .before .before .before .before .before .before .before .before .side-at2 .ensures) (c .before .before .before .before .before .before .before .size-at .result) (c .before .before .before .before .before .before .before .size-at .ensures) (c .before .before .before .before .before .before .walk-rows .result) (c .before .before .before .before .before .before .walk-rows .ensures) (c .before .before .before .before .enum-told .given .1) (c .before .before .pass .last .0) (c .before .before .pass .result) (c .before .before .pass .ensures)
 
 -- src/solve.rt:177:1
 same-length-2 : tie.Need-same-length-2
@@ -81,7 +81,7 @@ same-length-2 c = search needs
 
 -- src/solve.rt:177:1
 returns-2 : tie.Need-returns-2
-returns-2 c = λ g. turn-clash (c .before .before .before .before .before .before .before .before .before .before .before .args .nodes .now) (c .before .before .before .before .before .before .before .before .before .before .before .args .state .now) (c .before .before .before .before .before .before .before .before .before .before .before .args .scratch .now) (c .before .before .before .before .before .before .before .before .before .before .before .args .h) g (c .before .before .before .before .before .before .side-at .result) (c .before .before .before .before .side-at2 .result) (c .before .before .before .before .before .before .side-at .ensures) (c .before .before .before .before .side-at2 .ensures) (c .before .before .before .size-at .result) (c .before .before .before .size-at .ensures) (c .before .before .unify-list .result) (c .before .before .unify-list .ensures) (c .enum-told2 .given .1)
+returns-2 c = λ g. turn-clash (c .before .before .before .before .before .before .before .before .before .before .before .args .nodes .now) (c .before .before .before .before .before .before .before .before .before .before .before .args .state .now) (c .before .before .before .before .before .before .before .before .before .before .before .args .scratch .now) (c .before .before .before .before .before .before .before .before .before .before .before .args .h) g (c .before .before .before .before .before .before .side-at .result) (c .before .before .before .before .side-at2 .result) (c .before .before .before .before .before .before .side-at .ensures) (c .before .before .before .before .side-at2 .ensures) (c .before .before .before .size-at .result) (c .before .before .before .size-at .ensures) (c .before .before .walk-rows .result) (c .before .before .walk-rows .ensures) (c .enum-told2 .given .1)
 
 -- src/solve.rt:177:1
 same-length-3 : tie.Need-same-length-3
@@ -89,7 +89,7 @@ same-length-3 c = search needs
 
 -- src/solve.rt:177:1
 returns-3 : tie.Need-returns-3
-returns-3 c = λ g. turn-end (c .before .before .before .before .before .before .before .before .before .before .before .before .before .before .before .before .args .nodes .now) (c .before .before .before .before .before .before .before .before .before .before .before .before .before .before .before .before .args .state .now) (c .before .before .before .before .before .before .before .before .before .before .before .before .before .before .before .before .args .scratch .now) (c .before .before .before .before .before .before .before .before .before .before .before .before .before .before .before .before .args .h) g (c .before .before .before .before .before .before .before .before .before .before .before .side-at .result) (c .before .before .before .before .before .before .before .before .before .side-at2 .result) (c .before .before .before .before .before .before .before .before .before .before .before .side-at .ensures) (c .before .before .before .before .before .before .before .before .before .side-at2 .ensures) (c .before .before .before .before .before .before .before .before .size-at .result) (c .before .before .before .before .before .before .before .before .size-at .ensures) (c .before .before .before .before .before .before .before .unify-list .result) (c .before .before .before .before .before .before .before .unify-list .ensures) (c .before .before .before .before .before .found .given .0 .0) (c .before .before .before .before .before .found .given .0 .1 .0) (c .before .before .before .before .before .found .given .1) (c .before .before .meet .last .1 .1 .0) (c .before .before .meet .result) (c .before .before .meet .ensures)
+returns-3 c = λ g. turn-end (c .before .before .before .before .before .before .before .before .before .before .before .before .before .before .before .before .args .nodes .now) (c .before .before .before .before .before .before .before .before .before .before .before .before .before .before .before .before .args .state .now) (c .before .before .before .before .before .before .before .before .before .before .before .before .before .before .before .before .args .scratch .now) (c .before .before .before .before .before .before .before .before .before .before .before .before .before .before .before .before .args .h) g (c .before .before .before .before .before .before .before .before .before .before .before .side-at .result) (c .before .before .before .before .before .before .before .before .before .side-at2 .result) (c .before .before .before .before .before .before .before .before .before .before .before .side-at .ensures) (c .before .before .before .before .before .before .before .before .before .side-at2 .ensures) (c .before .before .before .before .before .before .before .before .size-at .result) (c .before .before .before .before .before .before .before .before .size-at .ensures) (c .before .before .before .before .before .before .before .walk-rows .result) (c .before .before .before .before .before .before .before .walk-rows .ensures) (c .before .before .before .before .before .found .given .0 .0) (c .before .before .before .before .before .found .given .0 .1 .0) (c .before .before .before .before .before .found .given .1) (c .before .before .meet .last .1 .1 .0) (c .before .before .meet .result) (c .before .before .meet .ensures)
 
 pub next-turn-spec : {M : Type 1} → statement M
 next-turn-spec =
@@ -103,7 +103,7 @@ next-turn-spec =
     side-at-requires-2
     size-at-requires
     add-e
-    unify-list-requires
+    walk-rows-requires
     enum-told
     pass-requires
     enum-told-2
