@@ -51,8 +51,9 @@ pub fn unify_list(nodes: &[u32], p: usize, e: usize, q: usize) -> Walked
     unify_list(nodes, i, e, j)
 }
 
-// The same. Most rows are at their end or begin with a variable, which is seen without a call.
-pub fn walk_rows(nodes: &[u32], p: usize, e: usize, q: usize) -> Walked
+// The same three steps down without a call of itself: most rows are at their end, begin with a variable, or begin with one name whose first arguments
+// are a variable.
+fn begin_list(nodes: &[u32], p: usize, e: usize, q: usize) -> Walked
     requires { ⌜ Walkable (now nodes) p e q ⌝ }
     ensures { λ r. ⌜ ((g : Walkable (now (nodes .entry)) p e q) → Walks (g .ss) (now (nodes .entry)) p e q (g .f) r) ⌝ }
 {
@@ -66,4 +67,44 @@ pub fn walk_rows(nodes: &[u32], p: usize, e: usize, q: usize) -> Walked
         return Walked::Met { left: p, right: q };
     }
     unify_list(nodes, p, e, q)
+}
+
+fn begin_term(nodes: &[u32], p: usize, q: usize) -> Walked
+    requires { ⌜ Pairable (now nodes) p q ⌝ }
+    ensures { λ r. ⌜ ((g : Pairable (now (nodes .entry)) p q) → Walks (g .ss) (now (nodes .entry)) p (p + getD (now (nodes .entry)) (p + 1) 0) q (q + getD (now (nodes .entry)) (q + 1) 0) r) ⌝ }
+{
+    let w = word_at(nodes, p);
+    let z = word_at(nodes, q);
+    if w < 64 {
+        return Walked::Met { left: p, right: q };
+    }
+    if z < 64 {
+        return Walked::Met { left: p, right: q };
+    }
+    if w != z {
+        return Walked::Clash;
+    }
+    let e = p + size_at(nodes, p);
+    let i = p + 2;
+    let j = q + 2;
+    begin_list(nodes, i, e, j)
+}
+
+pub fn walk_rows(nodes: &[u32], p: usize, e: usize, q: usize) -> Walked
+    requires { ⌜ Walkable (now nodes) p e q ⌝ }
+    ensures { λ r. ⌜ ((g : Walkable (now (nodes .entry)) p e q) → Walks (g .ss) (now (nodes .entry)) p e q (g .f) r) ⌝ }
+{
+    if e <= p {
+        return Walked::Done;
+    }
+    let r = begin_term(nodes, p, q);
+    match r {
+        Walked::Done => {
+            let i = p + size_at(nodes, p);
+            let j = q + size_at(nodes, q);
+            unify_list(nodes, i, e, j)
+        }
+        Walked::Clash => Walked::Clash,
+        Walked::Met { left, right } => Walked::Met { left, right },
+    }
 }
