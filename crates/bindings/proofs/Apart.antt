@@ -1,17 +1,17 @@
--- Laws of closed copies. Assumes nothing.
+-- Laws of what the occurs check need not look at: constants, and terms of closed copies. Assumes nothing.
 use Prim.Native.Nat.{ℕ, _+_, _*_, _≤_, _<_}
 use native.Mathlib.Omega.{arith}
 use mathlib.Core.Path.{_≡_, refl, subst, subst⁻¹}
 use mathlib.Core.Bool.{Bool, true, false}
 use mathlib.Core.List.{List}
 use lib.Dec.{T, eqb}
-use lib.ListN.{length}
+use lib.ListN.{length, getD}
 use borrow.Author.Tests.{eqb-true, eqb-false}
-use Rattle.machine.specs.Substitution.{Variable, RTerm, occurs, resolve}
+use Rattle.machine.specs.Substitution.{Variable, RTerm, RTerms, rnil, occurs, occursIn, resolve}
 use Rattle.machine.proofs.Reached.{copied-copy}
-use Rattle.layout.specs.Nodes.{Symbol, Node, termAt}
+use Rattle.layout.specs.Nodes.{Symbol, Node, termAt, termsAt}
 use Rattle.layout.specs.State.{variableOf, wordOf, nodeOf, copyOf, cellAt, trailAt, valueOf, bindings, Store, Within, boundWords}
-use Rattle.layout.proofs.Nodes.{term-at}
+use Rattle.layout.proofs.Nodes.{node-inside, term-at, compound-at, row-one, row-none, row-open}
 use Rattle.layout.proofs.State.{copy-word, bound-cell, bound-cells, keeps-refl}
 use Rattle.bindings.specs.Queues.{Checkable, Checked, Closed, Closing}
 use Rattle.bindings.proofs.Scan.{closed-under, is-false}
@@ -40,6 +40,27 @@ apart-checked nodes state scratch x q d k g closed h =
       clean = g .clean;
       keeps = keeps-refl 0 scratch;
     }
+
+-- ---- a name without arguments
+
+pub constant-inside : (nodes state scratch : List ℕ) (x q d : ℕ) → Checkable nodes state scratch x q d → q + 1 < length nodes
+constant-inside nodes state scratch x q d g = let a : q + 2 ≤ length nodes = node-inside (g .ss) nodes q (g .node) in omega arith
+
+pub constant-checked : (nodes state scratch : List ℕ) (x q d : ℕ) (g : Checkable nodes state scratch x q d) → (64 ≤ getD nodes q 0) × (getD nodes (q + 1) 0 ≡ 2) → Checked (g .ss) nodes state (g .n) scratch scratch x q d false
+constant-checked nodes state scratch x q d g h =
+    record {
+      answer = is-false (occurs (variableOf x) (resolve (bindings (g .ss) nodes state (g .n)) (termAt (g .ss) nodes q d))) (closed-under (g .ss) nodes state (λ (v : Variable). ⊥) (g .n) (λ i l p v o. p) (termAt (g .ss) nodes q d) bare (variableOf x));
+      clean = g .clean;
+      keeps = keeps-refl 0 scratch;
+    }
+  where
+    none : termsAt (g .ss) nodes (q + 2) (q + getD nodes (q + 1) 0) d ≡ rnil
+    none =
+        let e : getD nodes (q + 1) 0 ≡ 2 = h .1 in
+        row-none (g .ss) nodes (q + 2) (q + getD nodes (q + 1) 0) (row-open (g .ss) nodes q (q + getD nodes (q + 1) 0) (row-one (g .ss) nodes q (g .node)) (omega arith) (h .0)) d (omega arith)
+
+    bare : (v : Variable) → T (occurs v (termAt (g .ss) nodes q d)) → ⊥
+    bare v o = subst (λ (ts : RTerms). T (occursIn v ts)) none (subst (λ (t : RTerm). T (occurs v t)) (compound-at (g .ss) nodes q (g .node) d (h .0)) o)
 
 -- ---- which copies are closed
 

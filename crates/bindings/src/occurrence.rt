@@ -144,7 +144,21 @@ fn apart(x: usize, d: usize, k: usize) -> bool
     true
 }
 
-// The same where the copies below k are closed: a variable of another copy is not looked for in a term of these.
+// Whether a name without arguments stands at q.
+fn is_constant(nodes: &[u32], q: usize) -> bool
+    requires { ⌜ q + 1 < length (now nodes) ⌝ }
+    ensures { λ r. ⌜ (r ≡ true → (64 ≤ getD (now (nodes .entry)) q 0) × (getD (now (nodes .entry)) (q + 1) 0 ≡ 2)) ⌝ }
+{
+    if word_at(nodes, q) < 64 {
+        return false;
+    }
+    if size_at(nodes, q) != 2 {
+        return false;
+    }
+    true
+}
+
+// The same where the copies below k are closed: a variable of another copy is not looked for in a term of these, and none in a constant.
 pub fn stands(
     nodes: &[u32],
     state: &[u32],
@@ -159,6 +173,9 @@ pub fn stands(
     ensures { λ r. ⌜ ((g : Checkable (now (nodes .entry)) (now (state .entry)) (now (scratch .entry)) x q d) → Checked (g .ss) (now (nodes .entry)) (now (state .entry)) (g .n) (now (scratch .entry)) (now (scratch .exit)) x q d r) ⌝ }
 {
     if apart(x, d, k) {
+        return false;
+    }
+    if is_constant(nodes, q) {
         return false;
     }
     occurs(nodes, state, scratch, x, q, d)

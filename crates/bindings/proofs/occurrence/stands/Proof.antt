@@ -1,10 +1,11 @@
-use Rattle.bindings.proofs.Apart.{apart-checked}
+use Rattle.bindings.proofs.Apart.{apart-checked, constant-inside, constant-checked}
 use borrow.Author.Needs.{needs}
 use Rattle.bindings.proofs.occurrence.stands.Statement.{statement}
 use Rattle.bindings.proofs.occurrence.stands.Tie as tie
 use Rattle.bindings.proofs.occurrence.stands.Reads as reads
 use Rattle.bindings.proofs.occurrence.stands.Lts as lts
 use Rattle.bindings.proofs.occurrence.apart.Reads as apart-reads
+use Rattle.bindings.proofs.occurrence.is_constant.Reads as is-constant-reads
 use Rattle.bindings.proofs.occurrence.occurs.Reads as occurs-reads
 
 -- src/occurrence.rt:161:8
@@ -15,7 +16,12 @@ apart-requires c κs = search needs
 returns : tie.Need-returns
 returns c = λ g. apart-checked (c .before .before .before .before .before .args .nodes .now) (c .before .before .before .before .before .args .state .now) (c .before .before .before .before .before .args .scratch .now) (c .before .before .before .before .before .args .x) (c .before .before .before .before .before .args .q) (c .before .before .before .before .before .args .d) (c .before .before .before .before .before .args .k) g (c .before .before .before .before .before .pre .1) (c .before .apart .ensures (c .if1 .taken))
 
--- src/occurrence.rt:164:5
+is-constant-requires : tie.Need-is-constant-requires
+is-constant-requires c κs = constant-inside (c .before .before .before .before .before .args .nodes .now) (c .before .before .before .before .before .args .state .now) (c .before .before .before .before .before .args .scratch .now) (c .before .before .before .before .before .args .x) (c .before .before .before .before .before .args .q) (c .before .before .before .before .before .args .d) (c .before .before .before .before .before .pre .0)
+
+returns-2 : tie.Need-returns-2
+returns-2 c = λ g. constant-checked (c .before .before .before .before .before .before .before .args .nodes .now) (c .before .before .before .before .before .before .before .args .state .now) (c .before .before .before .before .before .before .before .args .scratch .now) (c .before .before .before .before .before .before .before .args .x) (c .before .before .before .before .before .before .before .args .q) (c .before .before .before .before .before .before .before .args .d) g (c .before .is-constant .ensures (c .if2 .taken))
+
 occurs-requires : tie.Need-occurs-requires
 occurs-requires c κs = search needs
 
@@ -24,8 +30,8 @@ same-length : tie.Need-same-length
 same-length c = search needs
 
 -- src/occurrence.rt:148:1
-returns-2 : tie.Need-returns-2
-returns-2 c = search needs
+returns-3 : tie.Need-returns-3
+returns-3 c = search needs
 
 pub stands-spec : {M : Type 1} → statement M
-stands-spec = tie.close (tie.spec apart-requires returns occurs-requires same-length returns-2)
+stands-spec = tie.close (tie.spec apart-requires returns is-constant-requires returns-2 occurs-requires same-length returns-3)
