@@ -293,12 +293,6 @@ module _ (nodes : List ℕ) (p e q : ℕ) (g : Walkable nodes p e q) where
       unfolding list-rest
       list-next o m = further o (m list-rest)
 
--- what the walk over the first terms says ends the walk over the rows, unless they are all the same
-pub list-stop : (nodes : List ℕ) (p e q : ℕ) (g : Walkable nodes p e q) (l : p < e) (o : Walked) → (o ≡ Done → ⊥) → ((h : Pairable nodes p q) → Walks (h .ss) nodes p (p + getD nodes (p + 1) 0) q (q + getD nodes (q + 1) 0) o) → Walks (g .ss) nodes p e q (g .f) o
-list-stop nodes p e q g l Done z k = absurd (z refl)
-list-stop nodes p e q g l Clash z k = list-clash nodes p e q g l k
-list-stop nodes p e q g l (Met i j) z k = list-met nodes p e q g l i j k
-
 -- the same with the sizes as they are read
 pub list-on : (nodes : List ℕ) (p e q : ℕ) (g : Walkable nodes p e q) (l : p < e) (first : Walked) → first ≡ Done → ((h : Pairable nodes p q) → Walks (h .ss) nodes p (p + getD nodes (p + 1) 0) q (q + getD nodes (q + 1) 0) first)
     → (s z : ℕ) → s ≡ getD nodes (p + 1) 0 → z ≡ getD nodes (q + 1) 0 → (o : Walked) → ((h : Walkable nodes (p + s) e (q + z)) → Walks (h .ss) nodes (p + s) e (q + z) (h .f) o) → Walks (g .ss) nodes p e q (g .f) o

@@ -43,12 +43,15 @@ pub fn unify_list(nodes: &[u32], p: usize, e: usize, q: usize) -> Walked
         return Walked::Done;
     }
     let r = unify_term(nodes, p, q);
-    let Walked::Done = r else {
-        return r;
-    };
-    let i = p + size_at(nodes, p);
-    let j = q + size_at(nodes, q);
-    unify_list(nodes, i, e, j)
+    match r {
+        Walked::Done => {
+            let i = p + size_at(nodes, p);
+            let j = q + size_at(nodes, q);
+            unify_list(nodes, i, e, j)
+        }
+        Walked::Clash => Walked::Clash,
+        Walked::Met { left, right } => Walked::Met { left, right },
+    }
 }
 
 // The same three steps down without a call of itself: most rows are at their end, begin with a variable, or begin with one name whose first arguments

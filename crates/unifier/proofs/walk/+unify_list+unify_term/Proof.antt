@@ -1,13 +1,10 @@
 use native.Mathlib.Omega.{arith}
 use borrow.Author.Needs.{needs}
 use mathlib.Core.Path.{_≡_, sym, ap, _∙_, subst, subst⁻¹}
-use mathlib.Core.Logic.{inl, inr, ⊎-elim}
-use denote.Enum.Declared.{tagOf, declared}
+use mathlib.Core.Logic.{inl, inr}
 use Rattle.unifier.specs.Walks.{Walkable, Pairable, Walks}
 use Rattle.unifier.specs.declared.walk.Walked.{Walked}
-use Rattle.unifier.specs.declared.walk.Walked.the-variants.{Done, Clash, Met}
-use Rattle.unifier.proofs.walk.Walked.{enum}
-use Rattle.unifier.proofs.Rowwise.{pair-inside, term-met, term-clash, term-list, term-on, list-on, list-end, list-pair, list-inside, list-stop, list-rest}
+use Rattle.unifier.proofs.Rowwise.{pair-inside, term-met, term-clash, term-list, term-on, list-on, list-end, list-pair, list-inside, list-clash, list-met, list-rest}
 use Prim.Native.Nat.{ℕ, _<_, _≤_, _+_, _-_, _*_}
 use lib.ListN.{getD}
 use borrow.Fn.Kinds.{In}
@@ -77,17 +74,6 @@ unify-list-enum-told : (t : ℕ) → unify-list-lts.Need-enum-told (
 ) (unify-list-at t) unify-list.Post
 unify-list-enum-told t c = search needs
 
--- src/walk.rt:46:9
-unify-list-returns-2 : (t : ℕ) → unify-list-lts.Need-returns-2 (
-  unify-term-below t,
-  unify-term.Post,
-  size-at-reads.Asked,
-  size-at-reads.Learnt,
-  unify-list-below t,
-  unify-list.Post,
-) (unify-list-at t) unify-list.Post
-unify-list-returns-2 t c = λ g. list-stop (c .before .before .before .before .args .nodes .now) (c .before .before .before .before .args .p) (c .before .before .before .before .args .e) (c .before .before .before .before .args .q) g (c .before .before .if1 .left) (c .before .unify-term .result) (λ e. ⊎-elim (λ k. let z : _≡_ {A = ℕ} 1 0 = sym k ∙ ap (tagOf (declared enum)) e in omega arith) (λ k. let z : _≡_ {A = ℕ} 2 0 = sym k ∙ ap (tagOf (declared enum)) e in omega arith) (c .match .keys2)) (c .before .unify-term .ensures)
-
 -- src/walk.rt:48:17
 unify-list-size-at-requires : (t : ℕ) → unify-list-lts.Need-size-at-requires (
   unify-term-below t,
@@ -143,7 +129,36 @@ unify-list-unify-list-requires : (t : ℕ) → unify-list-lts.Need-unify-list-re
 ) (unify-list-at t) unify-list.Post
 unify-list-unify-list-requires t c κs = (omega (arith, c .before .size-at .ensures, list-inside (c .before .before .before .before .before .before .before .args .nodes .now) (c .before .before .before .before .before .before .before .args .p) (c .before .before .before .before .before .before .before .args .e) (c .before .before .before .before .before .before .before .args .q) (c .before .before .before .before .before .before .before .pre .1) (c .before .before .before .before .before .if1 .left)), subst⁻¹ (λ (k : ℕ). Walkable (c .before .before .before .before .before .before .before .args .nodes .now) (c .before .before .before .before .before .before .before .args .p + k) (c .before .before .before .before .before .before .before .args .e) (c .before .before .before .before .before .before .before .args .q + c .size-at2 .result)) (c .before .size-at .ensures) (subst⁻¹ (λ (k : ℕ). Walkable (c .before .before .before .before .before .before .before .args .nodes .now) (c .before .before .before .before .before .before .before .args .p + getD (c .before .before .before .before .before .before .before .args .nodes .now) (c .before .before .before .before .before .before .before .args .p + 1) 0) (c .before .before .before .before .before .before .before .args .e) (c .before .before .before .before .before .before .before .args .q + k)) (c .size-at2 .ensures) (list-rest (c .before .before .before .before .before .before .before .args .nodes .now) (c .before .before .before .before .before .before .before .args .p) (c .before .before .before .before .before .before .before .args .e) (c .before .before .before .before .before .before .before .args .q) (c .before .before .before .before .before .before .before .pre .1) (c .before .before .before .before .before .if1 .left))))
 
--- src/walk.rt:37:1
+unify-list-enum-told-2 : (t : ℕ) → unify-list-lts.Need-enum-told-2 (
+  unify-term-below t,
+  unify-term.Post,
+  size-at-reads.Asked,
+  size-at-reads.Learnt,
+  unify-list-below t,
+  unify-list.Post,
+) (unify-list-at t) unify-list.Post
+unify-list-enum-told-2 t c = search needs
+
+unify-list-enum-known-r : (t : ℕ) → unify-list-lts.Need-enum-known-r (
+  unify-term-below t,
+  unify-term.Post,
+  size-at-reads.Asked,
+  size-at-reads.Learnt,
+  unify-list-below t,
+  unify-list.Post,
+) (unify-list-at t) unify-list.Post
+unify-list-enum-known-r t c = search needs
+
+unify-list-returns-2 : (t : ℕ) → unify-list-lts.Need-returns-2 (
+  unify-term-below t,
+  unify-term.Post,
+  size-at-reads.Asked,
+  size-at-reads.Learnt,
+  unify-list-below t,
+  unify-list.Post,
+) (unify-list-at t) unify-list.Post
+unify-list-returns-2 t c = λ g. list-on (c .before .before .before .before .before .before .before .before .args .nodes .now) (c .before .before .before .before .before .before .before .before .args .p) (c .before .before .before .before .before .before .before .before .args .e) (c .before .before .before .before .before .before .before .before .args .q) g (c .before .before .before .before .before .before .if1 .left) (c .before .before .before .before .before .unify-term .result) (c .before .before .before .enum-told .given .1) (c .before .before .before .before .before .unify-term .ensures) (c .before .before .size-at .result) (c .before .size-at2 .result) (c .before .before .size-at .ensures) (c .before .size-at2 .ensures) (c .unify-list .result) (c .unify-list .ensures)
+
 unify-list-returns-3 : (t : ℕ) → unify-list-lts.Need-returns-3 (
   unify-term-below t,
   unify-term.Post,
@@ -152,7 +167,17 @@ unify-list-returns-3 : (t : ℕ) → unify-list-lts.Need-returns-3 (
   unify-list-below t,
   unify-list.Post,
 ) (unify-list-at t) unify-list.Post
-unify-list-returns-3 t c = λ g. list-on (c .before .before .before .before .before .before .before .before .args .nodes .now) (c .before .before .before .before .before .before .before .before .args .p) (c .before .before .before .before .before .before .before .before .args .e) (c .before .before .before .before .before .before .before .before .args .q) g (c .before .before .before .before .before .before .if1 .left) (c .before .before .before .before .before .unify-term .result) (c .before .before .before .enum-told .given .1) (c .before .before .before .before .before .unify-term .ensures) (c .before .before .size-at .result) (c .before .size-at2 .result) (c .before .before .size-at .ensures) (c .before .size-at2 .ensures) (c .unify-list .result) (c .unify-list .ensures)
+unify-list-returns-3 t c = λ g. list-clash (c .before .before .before .before .before .args .nodes .now) (c .before .before .before .before .before .args .p) (c .before .before .before .before .before .args .e) (c .before .before .before .before .before .args .q) g (c .before .before .before .if1 .left) (λ v. subst (λ (x : Walked). Walks (v .ss) (c .before .before .before .before .before .args .nodes .now) (c .before .before .before .before .before .args .p) (c .before .before .before .before .before .args .p + getD (c .before .before .before .before .before .args .nodes .now) (c .before .before .before .before .before .args .p + 1) 0) (c .before .before .before .before .before .args .q) (c .before .before .before .before .before .args .q + getD (c .before .before .before .before .before .args .nodes .now) (c .before .before .before .before .before .args .q + 1) 0) x) (c .enum-told2 .given .1) (c .before .before .unify-term .ensures v))
+
+unify-list-returns-4 : (t : ℕ) → unify-list-lts.Need-returns-4 (
+  unify-term-below t,
+  unify-term.Post,
+  size-at-reads.Asked,
+  size-at-reads.Learnt,
+  unify-list-below t,
+  unify-list.Post,
+) (unify-list-at t) unify-list.Post
+unify-list-returns-4 t c = λ g. list-met (c .before .before .before .before .before .before .args .nodes .now) (c .before .before .before .before .before .before .args .p) (c .before .before .before .before .before .before .args .e) (c .before .before .before .before .before .before .args .q) g (c .before .before .before .before .if1 .left) (c .before .r .given .0 .0) (c .before .r .given .0 .1 .0) (λ v. subst (λ (x : Walked). Walks (v .ss) (c .before .before .before .before .before .before .args .nodes .now) (c .before .before .before .before .before .before .args .p) (c .before .before .before .before .before .before .args .p + getD (c .before .before .before .before .before .before .args .nodes .now) (c .before .before .before .before .before .before .args .p + 1) 0) (c .before .before .before .before .before .before .args .q) (c .before .before .before .before .before .before .args .q + getD (c .before .before .before .before .before .before .args .nodes .now) (c .before .before .before .before .before .before .args .q + 1) 0) x) (c .before .r .given .1) (c .before .before .before .unify-term .ensures v))
 
 -- src/walk.rt:19:9
 unify-term-word-at-requires : (t : ℕ) → unify-term-lts.Need-word-at-requires (
@@ -289,13 +314,16 @@ pub +unify-list+unify-term-spec : {M : Type 1} → statement M
     (unify-list-returns t)
     (unify-list-unify-term-requires t)
     (unify-list-enum-told t)
-    (unify-list-returns-2 t)
     (unify-list-size-at-requires t)
     (unify-list-add-i t)
     (unify-list-size-at-requires-2 t)
     (unify-list-add-j t)
     (unify-list-unify-list-requires t)
-    (unify-list-returns-3 t))
+    (unify-list-enum-told-2 t)
+    (unify-list-enum-known-r t)
+    (unify-list-returns-2 t)
+    (unify-list-returns-3 t)
+    (unify-list-returns-4 t))
     λ t. unify-term-lts.spec (
       word-at-reads.Asked,
       word-at-reads.Learnt,
