@@ -197,6 +197,49 @@ def large_terms(add):
         add(sheet, goal)
 
 
+def crowded_sheet():
+    """Two layered terms, made differently: nearly every node of a layer of the one meets every node of the other's layer.
+    Around them a term doubles at each level."""
+    wide = 15
+    lower = ["X%d" % n for n in range(wide)]
+    upper = ["Y%d" % n for n in range(wide)]
+    packed = "t(t(%s),t(%s))"
+
+    def pack(terms):
+        return packed % (",".join(terms[:8]), ",".join(terms[8:]))
+
+    def layer(name, term):
+        equations = ",".join("%s=%s" % (upper[n], term(n)) for n in range(wide))
+        return ":-mode %s(+,-). %s(%s,%s) :- %s.\n" % (name, name, pack(lower), pack(upper), equations)
+
+    def met(n, places, spelt):
+        return "g(%s)" % ",".join(spelt % lower[(n + place) % wide] for place in places)
+
+    return (
+        layer("inner", lambda n: met(n, range(8), "h(%s)"))
+        + layer("h", lambda n: "h(%s)" % lower[n])
+        + layer("outer", lambda n: met(n, [place * place for place in range(8)], "%s"))
+        + ":-mode one(+,+,-). one(z,T,T). one(s(N),T,U) :- inner(T,V), one(N,V,U).\n"
+        + ":-mode two(+,+,-). two(z,T,T). two(s(N),T,U) :- h(T,V), outer(V,W), two(N,W,U).\n"
+        + ":-mode top(+,-). top(t(t(A,B,C,D,E,F,G,H),T),A).\n"
+        + ":-mode dbl(+,+,+,-). dbl(z,F,G,e). dbl(s(N),F,G,f(U,F,G,U)) :- dbl(N,F,G,U).\n"
+        + ":-mode all(+,-). all(A,%s).\n" % pack(["A"] * wide)
+        + ":-mode add(+,+,-). add(z,N,N). add(s(M),N,s(P)) :- add(M,N,P).\n"
+        + ":-mode go(+,+,+,+). go(L,D,X,Y) :- all(X,R), all(Y,S), one(L,R,A), two(L,R,B), one(L,S,C), two(L,S,E),"
+        + " top(A,F), top(B,G), top(C,H), top(E,I), dbl(D,F,H,P), dbl(D,G,I,Q), P = Q.\n"
+    )
+
+
+def crowds(add):
+    """Unification in which more pairs of terms meet than any table of pairs could hold."""
+    sheet = crowded_sheet()
+    for levels, doublings in ((2, 3), (9, 12), (14, 28)):
+        low = min(doublings, 14)
+        sides = "s(" * low + "z" + ")" * low, "s(" * (doublings - low) + "z" + ")" * (doublings - low)
+        level = "s(" * levels + "z" + ")" * levels
+        add(sheet, "add(%s,%s,D), go(%s,D,a,b)." % (*sides, level))
+
+
 def rooms(add):
     """A line that does not fit ends the run, though later ones would."""
     sheet = ":-mode p(*). p(a). p(f(f(f(b)))). p(c). p(X). p(d)."
@@ -241,6 +284,7 @@ def make(add, rng):
     steps_and_ends(add)
     path_limit(add)
     large_terms(add)
+    crowds(add)
     rooms(add)
     long_runs(add)
     by_chance(add, rng)
