@@ -158,7 +158,7 @@ fn is_constant(nodes: &[u32], q: usize) -> bool
     true
 }
 
-// The same where the copies below k are closed: a variable of another copy is not looked for in a term of these, and none in a constant.
+// As `occurs`, with the copies below k closed: a variable of another copy is not looked for in a term of these, and none in a constant.
 pub fn stands(
     nodes: &[u32],
     state: &[u32],

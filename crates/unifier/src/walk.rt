@@ -54,8 +54,7 @@ pub fn unify_list(nodes: &[u32], p: usize, e: usize, q: usize) -> Walked
     }
 }
 
-// The same three steps down without a call of itself: most rows are at their end, begin with a variable, or begin with one name whose first arguments
-// are a variable.
+// As `unify_list`, without a call where the rows are at their end or begin with a variable.
 fn begin_list(nodes: &[u32], p: usize, e: usize, q: usize) -> Walked
     requires { ⌜ Walkable (now nodes) p e q ⌝ }
     ensures { λ r. ⌜ ((g : Walkable (now (nodes .entry)) p e q) → Walks (g .ss) (now (nodes .entry)) p e q (g .f) r) ⌝ }
@@ -72,6 +71,7 @@ fn begin_list(nodes: &[u32], p: usize, e: usize, q: usize) -> Walked
     unify_list(nodes, p, e, q)
 }
 
+// As `unify_term`, its arguments by `begin_list`.
 fn begin_term(nodes: &[u32], p: usize, q: usize) -> Walked
     requires { ⌜ Pairable (now nodes) p q ⌝ }
     ensures { λ r. ⌜ ((g : Pairable (now (nodes .entry)) p q) → Walks (g .ss) (now (nodes .entry)) p (p + getD (now (nodes .entry)) (p + 1) 0) q (q + getD (now (nodes .entry)) (q + 1) 0) r) ⌝ }
@@ -93,6 +93,7 @@ fn begin_term(nodes: &[u32], p: usize, q: usize) -> Walked
     begin_list(nodes, i, e, j)
 }
 
+// As `unify_list`, its first terms by `begin_term`: most walks end there, and have called nothing that answers through memory.
 pub fn walk_rows(nodes: &[u32], p: usize, e: usize, q: usize) -> Walked
     requires { ⌜ Walkable (now nodes) p e q ⌝ }
     ensures { λ r. ⌜ ((g : Walkable (now (nodes .entry)) p e q) → Walks (g .ss) (now (nodes .entry)) p e q (g .f) r) ⌝ }
