@@ -14,7 +14,7 @@ use Rattle.machine.specs.Substitution.{RTerm, replace, Binding, resolve}
 use Rattle.layout.specs.Nodes.{Symbol, termAt}
 use Rattle.layout.specs.State.{wordOf, valueOf}
 use Rattle.layout.proofs.State.{node-word, copy-word}
-use Rattle.bindings.specs.Memos.{terms, termOf, linkOf, Numbered, Entered, Same, Links, Memo, Found, Reaches, Adds, Joins, Remembers}
+use Rattle.bindings.specs.Memos.{terms, termOf, linkOf, Numbered, Entered, Same, Links, Memo, Found, Reaches, Adds, Joins, Remembers, Weighed}
 
 -- ---- what its links mean
 
@@ -27,19 +27,20 @@ pub links-none : (meaning : ℕ → RTerm) (scratch : List ℕ) → terms scratc
 links-none meaning scratch e = λ i j n l s. absurd (let a : 32 ≤ i = n .low in let z : i < terms scratch = n .below in omega arith)
 
 -- its words are as they were
-module _ (before after : List ℕ) (w : (j : ℕ) → 229382 ≤ j → getD after j 0 ≡ getD before j 0) where
+module _ (before after : List ℕ) (w : (j : ℕ) → 229382 ≤ j → j < 360455 → getD after j 0 ≡ getD before j 0) where
   numbered-kept : (i : ℕ) → Numbered before i → Numbered after i
-  numbered-kept i n = record { low = n .low; below = (let e : terms after ≡ terms before = w 229382 (omega arith) in let z : i < terms before = n .below in omega arith); small = n .small }
+  numbered-kept i n = record { low = n .low; below = (let e : terms after ≡ terms before = w 229382 (omega arith) (omega arith) in let z : i < terms before = n .below in omega arith); small = n .small }
 
   numbered-back : (i : ℕ) → Numbered after i → Numbered before i
-  numbered-back i n = record { low = n .low; below = (let e : terms after ≡ terms before = w 229382 (omega arith) in let z : i < terms after = n .below in omega arith); small = n .small }
+  numbered-back i n = record { low = n .low; below = (let e : terms after ≡ terms before = w 229382 (omega arith) (omega arith) in let z : i < terms after = n .below in omega arith); small = n .small }
 
   pub links-kept : (meaning : ℕ → RTerm) → Links meaning before → Links meaning after
   links-kept meaning m i j n l s =
-      let x : Same meaning before i j = m i j (numbered-back i n) (sym (ap (λ (k : ℕ). k / 65536) (w (294919 + i * 2 + 1) (omega arith))) ∙ l) s in
+      let o : i < 32768 = n .small in
+      let x : Same meaning before i j = m i j (numbered-back i n) (sym (ap (λ (k : ℕ). k / 65536) (w (294919 + i * 2 + 1) (omega arith) (omega arith))) ∙ l) s in
       record {
         numbered = numbered-kept j (x .numbered);
-        same = ap meaning (w (294919 + i * 2) (omega arith)) ∙ (x .same ∙ sym (ap meaning (w (294919 + j * 2) (omega arith))));
+        same = ap meaning (w (294919 + i * 2) (omega arith) (omega arith)) ∙ (x .same ∙ sym (ap meaning (w (294919 + j * 2) (omega arith) (omega arith))));
       }
 
 pub memo-none : (ss : List Symbol) (nodes : List ℕ) (b : List Binding) (scratch : List ℕ) → terms scratch ≡ 0 → Memo ss nodes b scratch
@@ -47,7 +48,7 @@ memo-none ss nodes b scratch e = record { links = links-none (λ (w : ℕ). reso
 
 module _ (ss : List Symbol) (nodes : List ℕ) (b : List Binding) (before : List ℕ) (m : Memo ss nodes b before) where
   pub memo-kept : (after : List ℕ) → ((j : ℕ) → 229382 ≤ j → getD after j 0 ≡ getD before j 0) → Memo ss nodes b after
-  memo-kept after w = record { links = links-kept before after w (λ (x : ℕ). resolve b (valueOf ss nodes x)) (m .links) }
+  memo-kept after w = record { links = links-kept before after (λ j a b. w j a) (λ (x : ℕ). resolve b (valueOf ss nodes x)) (m .links) }
 
   -- one binding more
   pub memo-bound : (new : Binding) → Memo ss nodes (new ∷ b) before
@@ -66,7 +67,7 @@ module _ (ss : List Symbol) (nodes : List ℕ) (b : List Binding) (before : List
 -- ---- a term more
 
 -- the count alone, so that there is no number
-pub counted : (before : List ℕ) (k left right : ℕ) → 360455 ≤ length before → k ≤ 32 → Remembers before (set before 229382 k) left right
+pub counted : (before : List ℕ) (k left right : ℕ) → 393225 ≤ length before → k ≤ 32 → Remembers before (set before 229382 k) left right
 counted before k left right long few =
     record {
       long = length-set before 229382 k;
@@ -75,7 +76,7 @@ counted before k left right long few =
     }
 
 -- the slot, the term of number m, its slot and no link, the count
-module _ (before : List ℕ) (m s term : ℕ) (long : 360455 ≤ length before) (is : m ≡ terms before) (low : 32 ≤ m) (room : m < 32768) (high : s < 65536) where
+module _ (before : List ℕ) (m s term : ℕ) (long : 393225 ≤ length before) (is : m ≡ terms before) (low : 32 ≤ m) (room : m < 32768) (high : s < 65536) where
   abbrev pub first : List ℕ
   first = set before (229383 + s) m
 
@@ -174,7 +175,7 @@ adds-none before =
 abbrev pub relinked : List ℕ → ℕ → ℕ → List ℕ
 relinked before i link = set before (294919 + i * 2 + 1) (link * 65536 + getD before (294919 + i * 2 + 1) 0 % 65536)
 
-module _ (before : List ℕ) (i link : ℕ) (long : 360455 ≤ length before) (small : i < 32768) where
+module _ (before : List ℕ) (i link : ℕ) (long : 393225 ≤ length before) (small : i < 32768) where
   pub relinked-long : length (relinked before i link) ≡ length before
   relinked-long = length-set before (294919 + i * 2 + 1) (link * 65536 + getD before (294919 + i * 2 + 1) 0 % 65536)
 
@@ -218,7 +219,7 @@ module _ (before : List ℕ) (i link : ℕ) (long : 360455 ≤ length before) (s
 
 -- ---- two classes in one
 
-pub joined-left : (before : List ℕ) (a b : ℕ) → 360455 ≤ length before → a < 32768 → b < 32768 → (after : List ℕ) → after ≡ relinked before a (b + 1) → Joins before after a b
+pub joined-left : (before : List ℕ) (a b : ℕ) → 393225 ≤ length before → a < 32768 → b < 32768 → (after : List ℕ) → after ≡ relinked before a (b + 1) → Joins before after a b
 joined-left before a b long sa sb after e =
     subst⁻¹ (λ (l : List ℕ). Joins before l a b) e
     (record {
@@ -228,7 +229,7 @@ joined-left before a b long sa sb after e =
           relinks before a (b + 1) long sa meaning (λ j l t. subst (Same meaning before a) (let z : b ≡ j = omega arith in z) s) k;
     })
 
-pub joined-right : (before : List ℕ) (a b rank : ℕ) → 360455 ≤ length before → a < 32768 → b < 32768 → 32768 < rank → (mid after : List ℕ) → mid ≡ relinked before b (a + 1)
+pub joined-right : (before : List ℕ) (a b rank : ℕ) → 393225 ≤ length before → a < 32768 → b < 32768 → 32768 < rank → (mid after : List ℕ) → mid ≡ relinked before b (a + 1)
     → after ≡ relinked mid a rank → Joins before after a b
 joined-right before a b rank long sa sb high mid after e f =
     subst⁻¹ (λ (l : List ℕ). Joins before l a b) (f ∙ ap (λ (l : List ℕ). relinked l a rank) e)
@@ -244,7 +245,7 @@ joined-right before a b rank long sa sb high mid after e f =
     first : List ℕ
     first = relinked before b (a + 1)
 
-    first-long : 360455 ≤ length first
+    first-long : 393225 ≤ length first
     first-long = let e1 : length first ≡ length before = relinked-long before b (a + 1) long sb in omega arith
 
 -- ---- looking terms up
@@ -313,3 +314,28 @@ module _ (before first second : List ℕ) (left right i j a b : ℕ) (f : Adds b
             h .links meaning m (x .numbered)
             (record { numbered = y .numbered; same = sym (x .same) ∙ (ap meaning (ei2 .is) ∙ (s ∙ (sym (ap meaning (ej .is)) ∙ y .same))) }));
       }
+
+-- ---- weights
+
+-- one or two words from 360,455 on
+pub weighed-one : (before : List ℕ) (i v : ℕ) → 360455 ≤ i → Weighed before (set before i v)
+weighed-one before i v l = record { long = length-set before i v; words = λ j k. getD-set-other before i j v 0 (λ e. omega arith) }
+
+pub weighed-two : (before : List ℕ) (i v j w : ℕ) → 360455 ≤ i → 360455 ≤ j → Weighed before (set (set before i v) j w)
+weighed-two before i v j w li lj =
+    record {
+      long = length-set (set before i v) j w ∙ length-set before i v;
+      words = λ x k. getD-set-other (set before i v) j x w 0 (λ e. omega arith) ∙ getD-set-other before i x v 0 (λ e. omega arith);
+    }
+
+pub weighed-remembers : (before after : List ℕ) (left right : ℕ) → Weighed before after → Remembers before after left right
+weighed-remembers before after left right k =
+    record { long = k .long; words = λ j l. k .words j (omega arith); links = λ meaning e m. links-kept before after (λ j a b. k .words j b) meaning m }
+
+pub weighed-then : (before mid after : List ℕ) (left right : ℕ) → Weighed before mid → Remembers mid after left right → Remembers before after left right
+weighed-then before mid after left right k r =
+    record {
+      long = r .long ∙ k .long;
+      words = λ j l. r .words j l ∙ k .words j (omega arith);
+      links = λ meaning e m. r .links meaning e (links-kept before mid (λ j a b. k .words j b) meaning m);
+    }

@@ -69,3 +69,8 @@ pub record Remembers (before after : List ℕ) (left right : ℕ) : Type 0 where
   pub long : length after ≡ length before
   pub words : (j : ℕ) → j < 229382 → getD after j 0 ≡ getD before j 0
   pub links : (meaning : ℕ → RTerm) → meaning left ≡ meaning right → Links meaning before → Links meaning after
+
+-- The words before the weights are as they were.
+pub record Weighed (before after : List ℕ) : Type 0 where
+  pub long : length after ≡ length before
+  pub words : (j : ℕ) → j < 360455 → getD after j 0 ≡ getD before j 0

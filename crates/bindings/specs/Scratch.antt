@@ -29,4 +29,4 @@ pub record SameMarks (before after : List ℕ) : Type 0 where
 
 -- Room for marks, queue, 32,769 pairs and the memo.
 abbrev pub Roomy : List ℕ → Type 0
-Roomy scratch = 360455 ≤ length scratch
+Roomy scratch = 393225 ≤ length scratch

@@ -8,7 +8,7 @@ ghost use mathlib.Core.Bool.{true};
 ghost use mathlib.Core.Logic.{_⊎_};
 ghost use Prim.Native.Nat.{_+_, _*_, _%_, _≤_, _<_, _^_};
 ghost use lib.ListN.{length, getD, set};
-ghost use Rattle.bindings.specs.Memos.{terms, linkOf, Entered, Numbered, Found, Adds, Reaches, Joins, Remembers};
+ghost use Rattle.bindings.specs.Memos.{terms, linkOf, Entered, Numbered, Found, Adds, Reaches, Joins, Remembers, Weighed};
 
 // Where the number of terms stands, where the slots and the terms begin, and how many there are of each.
 const MEMO: usize = 229382;
@@ -20,6 +20,13 @@ const SLOT_COUNT: usize = 65536;
 const TERMS: usize = 294919;
 
 const LIMIT: usize = 32768;
+
+// Where the weights of the stack's heights begin, how many there are, and the most that one counts.
+const WEIGHTS: usize = 360455;
+
+const HEIGHTS: usize = 32770;
+
+const HEAVY: usize = 64;
 
 // So many pairs are only counted: most unifications are done before.
 const FEW: usize = 32;
@@ -45,7 +52,7 @@ fn slot_of(term: usize) -> usize
 
 // The number of the term that has a slot, 0 for none.
 fn number_at(scratch: &[u32], slot: usize) -> usize
-    requires { ⌜ (360455 ≤ length (now scratch)) × (slot < 65536) ⌝ }
+    requires { ⌜ (393225 ≤ length (now scratch)) × (slot < 65536) ⌝ }
     ensures { λ r. ⌜ (r ≡ 0) ⊎ Numbered (now (scratch .entry)) r ⌝ }
 {
     let i = word_at(scratch, SLOTS + slot);
@@ -72,7 +79,7 @@ struct Sought {
 }
 
 fn seek(scratch: &[u32], term: usize) -> Sought
-    requires { ⌜ (360455 ≤ length (now scratch)) × (term < 2 ^ 32) ⌝ }
+    requires { ⌜ (393225 ≤ length (now scratch)) × (term < 2 ^ 32) ⌝ }
     ensures slot { λ r. ⌜ r .slot < 65536 ⌝ }
     ensures number { λ r. ⌜ (r .number ≡ 0) ⊎ Entered (now (scratch .entry)) term (r .number) ⌝ }
 {
@@ -94,7 +101,7 @@ fn seek(scratch: &[u32], term: usize) -> Sought
 
 // The link of the term of number i: 0, or the number of another term of its class and 1, or from 32,769 on its rank.
 fn link_at(scratch: &[u32], i: usize) -> usize
-    requires { ⌜ (360455 ≤ length (now scratch)) × (i < 32768) ⌝ }
+    requires { ⌜ (393225 ≤ length (now scratch)) × (i < 32768) ⌝ }
     ensures { λ r. ⌜ r ≡ linkOf (now (scratch .entry)) i ⌝ }
 {
     let at = TERMS + i * 2 + 1;
@@ -103,7 +110,7 @@ fn link_at(scratch: &[u32], i: usize) -> usize
 
 // Where the links lead from the term of number i.
 fn root_of(scratch: &[u32], i: usize) -> usize
-    requires { ⌜ (360455 ≤ length (now scratch)) × (i < 32768) ⌝ }
+    requires { ⌜ (393225 ≤ length (now scratch)) × (i < 32768) ⌝ }
     ensures small { λ r. ⌜ r < 32768 ⌝ }
     ensures leads { λ r. ⌜ Reaches (now (scratch .entry)) i r ⌝ }
 {
@@ -125,7 +132,7 @@ fn root_of(scratch: &[u32], i: usize) -> usize
 
 // Whether the two terms are known to be equal.
 pub fn known(scratch: &[u32], left: usize, right: usize) -> bool
-    requires { ⌜ (360455 ≤ length (now scratch)) × ((left < 2 ^ 32) × (right < 2 ^ 32)) ⌝ }
+    requires { ⌜ (393225 ≤ length (now scratch)) × ((left < 2 ^ 32) × (right < 2 ^ 32)) ⌝ }
     ensures { λ r. ⌜ (r ≡ true → Found (now (scratch .entry)) left right) ⌝ }
 {
     if word_at(scratch, MEMO) <= FEW {
@@ -148,7 +155,7 @@ pub fn known(scratch: &[u32], left: usize, right: usize) -> bool
 
 // The term of number m, and its slot.
 fn put_term(scratch: &mut [u32], m: usize, slot: usize, term: usize)
-    requires { ⌜ (360455 ≤ length (now scratch)) × ((m ≡ terms (now scratch)) × ((32 ≤ m) × ((m < 32768) × ((slot < 65536) × (term < 2 ^ 32))))) ⌝ }
+    requires { ⌜ (393225 ≤ length (now scratch)) × ((m ≡ terms (now scratch)) × ((32 ≤ m) × ((m < 32768) × ((slot < 65536) × (term < 2 ^ 32))))) ⌝ }
     ensures entered { λ _. ⌜ Entered (now (scratch .exit)) term m ⌝ }
     ensures adds { λ _. ⌜ Adds (now (scratch .entry)) (now (scratch .exit)) ⌝ }
 {
@@ -161,7 +168,7 @@ fn put_term(scratch: &mut [u32], m: usize, slot: usize, term: usize)
 
 // The number of a term, which is new where it has none.
 fn number_of(scratch: &mut [u32], term: usize) -> usize
-    requires { ⌜ (360455 ≤ length (now scratch)) × ((32 ≤ terms (now scratch)) × ((terms (now scratch) < 32768) × (term < 2 ^ 32))) ⌝ }
+    requires { ⌜ (393225 ≤ length (now scratch)) × ((32 ≤ terms (now scratch)) × ((terms (now scratch) < 32768) × (term < 2 ^ 32))) ⌝ }
     ensures entered { λ r. ⌜ Entered (now (scratch .exit)) term r ⌝ }
     ensures adds { λ _. ⌜ Adds (now (scratch .entry)) (now (scratch .exit)) ⌝ }
 {
@@ -178,7 +185,7 @@ fn number_of(scratch: &mut [u32], term: usize) -> usize
 
 // A link for the term of number i.
 fn put_link(scratch: &mut [u32], i: usize, link: usize)
-    requires { ⌜ (360455 ≤ length (now scratch)) × ((i < 32768) × (link < 65536)) ⌝ }
+    requires { ⌜ (393225 ≤ length (now scratch)) × ((i < 32768) × (link < 65536)) ⌝ }
     ensures { λ _. ⌜ now (scratch .exit) ≡ set (now (scratch .entry)) (294919 + i * 2 + 1) (link * 65536 + getD (now (scratch .entry)) (294919 + i * 2 + 1) 0 % 65536) ⌝ }
 {
     let at = TERMS + i * 2 + 1;
@@ -204,7 +211,7 @@ fn raised(x: usize, y: usize) -> usize
 
 // The terms of two numbers, to which their classes lead, in one class: the one of lower rank is linked to the other.
 fn join(scratch: &mut [u32], a: usize, b: usize)
-    requires { ⌜ (360455 ≤ length (now scratch)) × ((a < 32768) × (b < 32768)) ⌝ }
+    requires { ⌜ (393225 ≤ length (now scratch)) × ((a < 32768) × (b < 32768)) ⌝ }
     ensures { λ _. ⌜ Joins (now (scratch .entry)) (now (scratch .exit)) a b ⌝ }
 {
     let x = link_at(scratch, a);
@@ -217,9 +224,9 @@ fn join(scratch: &mut [u32], a: usize, b: usize)
     put_link(scratch, a, raised(x, y));
 }
 
-// The two terms are known to be equal from now on, unless they are among the first. Where there is no room left, the memo begins anew.
-pub fn remember(scratch: &mut [u32], left: usize, right: usize)
-    requires { ⌜ (360455 ≤ length (now scratch)) × ((left < 2 ^ 32) × (right < 2 ^ 32)) ⌝ }
+// The two terms, which had their arguments done, in one class, unless they are among the first. Where there is no room left, the memo begins anew.
+fn enter(scratch: &mut [u32], left: usize, right: usize)
+    requires { ⌜ (393225 ≤ length (now scratch)) × ((left < 2 ^ 32) × (right < 2 ^ 32)) ⌝ }
     ensures { λ _. ⌜ Remembers (now (scratch .entry)) (now (scratch .exit)) left right ⌝ }
 {
     let m = word_at(scratch, MEMO);
@@ -239,4 +246,38 @@ pub fn remember(scratch: &mut [u32], left: usize, right: usize)
         return;
     }
     join(scratch, a, b);
+}
+
+// How many pairs were done since a pair was put at height h of the stack, and it; they weigh on the height below.
+fn weigh(scratch: &mut [u32], h: usize) -> usize
+    requires { ⌜ (393225 ≤ length (now scratch)) × (h < 32769) ⌝ }
+    ensures { λ _. ⌜ Weighed (now (scratch .entry)) (now (scratch .exit)) ⌝ }
+{
+    let at = WEIGHTS + h;
+    let inside = word_at(scratch, at + 1);
+    let before = word_at(scratch, at);
+    scratch[at + 1] = 0;
+    if HEAVY <= inside {
+        scratch[at] = HEAVY as u32;
+        return HEAVY;
+    }
+    if HEAVY <= before {
+        return inside + 1;
+    }
+    scratch[at] = (before + inside + 1) as u32;
+    inside + 1
+}
+
+// The two terms, a pair at height h of the stack, are known to be equal from now on, unless this can be found again in a few turns.
+pub fn remember(scratch: &mut [u32], h: usize, left: usize, right: usize)
+    requires { ⌜ (393225 ≤ length (now scratch)) × ((left < 2 ^ 32) × (right < 2 ^ 32)) ⌝ }
+    ensures { λ _. ⌜ Remembers (now (scratch .entry)) (now (scratch .exit)) left right ⌝ }
+{
+    if HEIGHTS - 2 < h {
+        return;
+    }
+    if weigh(scratch, h) < HEAVY {
+        return;
+    }
+    enter(scratch, left, right);
 }

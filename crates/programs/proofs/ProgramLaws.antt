@@ -89,10 +89,10 @@ module _ {sheet table : List ℕ} {clauses : ℕ} {goal goals : List ℕ} {liter
       program-runs q = q linked
 
 module _ {sheet goal names : List ℕ} {count : ℕ} {nodes code symbols : List ℕ} (w : Linked sheet goal names count nodes code symbols) where
-  pub runnable : {state scratch stack text : List ℕ} → Zeros 35328 state → Zeros 360455 scratch → Ample stack (length text * 2 + 4) → Runnable sheet goal names count nodes code symbols state scratch stack text
+  pub runnable : {state scratch stack text : List ℕ} → Zeros 35328 state → Zeros 393225 scratch → Ample stack (length text * 2 + 4) → Runnable sheet goal names count nodes code symbols state scratch stack text
   runnable {state} {scratch} {stack} {text} z y x =
       let a : 35328 ≡ length state = z .long in
-      let b : 360455 ≡ length scratch = y .long in
+      let b : 393225 ≡ length scratch = y .long in
       record {
         ss = w .ss;
         sh = w .sh;
@@ -104,6 +104,6 @@ module _ {sheet goal names : List ℕ} {count : ℕ} {nodes code symbols : List 
         lent = record { roomy = omega arith; clean = record { long = omega arith; zero = λ i l. y .zero-words i }; deep = x };
       }
 
-  pub linked-runs : {state scratch stack text : List ℕ} {allowance wanted : ℕ} {old new : List ℕ} {r : Report} → Zeros 35328 state → Zeros 360455 scratch → Ample stack (length text * 2 + 4) → ((v : Runnable sheet goal names count nodes code symbols state scratch stack text) → Runs (v .sh) (v .g) allowance wanted old new r) → Runs (w .sh) (w .g) allowance wanted old new r
+  pub linked-runs : {state scratch stack text : List ℕ} {allowance wanted : ℕ} {old new : List ℕ} {r : Report} → Zeros 35328 state → Zeros 393225 scratch → Ample stack (length text * 2 + 4) → ((v : Runnable sheet goal names count nodes code symbols state scratch stack text) → Runs (v .sh) (v .g) allowance wanted old new r) → Runs (w .sh) (w .g) allowance wanted old new r
   unfolding runnable
   linked-runs z y x k = k (runnable z y x)

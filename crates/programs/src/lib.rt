@@ -31,10 +31,10 @@ fn state_words() -> [u32; 35328]
 }
 
 // Room for unification.
-fn scratch_words() -> [u32; 360455]
-    ensures { λ r. ⌜ Zeros 360455 r ⌝ }
+fn scratch_words() -> [u32; 393225]
+    ensures { λ r. ⌜ Zeros 393225 r ⌝ }
 {
-    [0; 360455]
+    [0; 393225]
 }
 
 // Room for the open brackets of an answer in a text of at most 16,384 bytes.

@@ -42,7 +42,7 @@ pile-some ss sh g nodes code state zero q = absurd (let y : _≡_ {A = Bool} tru
 pile-some ss sh g nodes code state (suc h) q = omega arith
 
 roomy-same : (a b : List ℕ) → length b ≡ length a → Roomy a → Roomy b
-roomy-same a b e r = subst⁻¹ (λ (k : ℕ). 360455 ≤ k) e r
+roomy-same a b e r = subst⁻¹ (λ (k : ℕ). 393225 ≤ k) e r
 
 lt-or-le : (a b : ℕ) → (a < b) ⊎ (b ≤ a)
 lt-or-le a b = by (ltb a b) refl

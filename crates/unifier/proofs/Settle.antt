@@ -291,7 +291,7 @@ module _ (nodes scratch : List ℕ) (h p c q d : ℕ) (g : Crossed nodes scratch
           r-top false z = absurd (eqb-false h h z refl)
 
       pub settle-room : 32768 + h * 6 + 5 < length scratch
-      settle-room = let k : suc h ≤ 32769 = settle-height in let o : 360455 ≤ length scratch = g .work .roomy in omega arith
+      settle-room = let k : suc h ≤ 32769 = settle-height in let o : 393225 ≤ length scratch = g .work .roomy in omega arith
 
       -- arguments that are equal make the two terms equal
       opens : (newer : List Binding) → resolve (newer ++ bindings (g .work .ss) nodes (g .state) (g .n)) (app [] al) ≡ resolve (newer ++ bindings (g .work .ss) nodes (g .state) (g .n)) (app [] ar)
@@ -374,7 +374,7 @@ module _ (scratch : List ℕ) (h p c q d : ℕ) (g : Openable scratch h p c q d)
   other-name : 64 ≤ getD (g .nodes) q 0
   other-name = subst (λ (k : ℕ). 64 ≤ k) (g .same) (g .name)
 
-  pub open-small : ((p + 2 ≤ 65536) × (q + 2 ≤ 65536)) × (((c < 256) × (d < 256)) × (360455 ≤ length scratch))
+  pub open-small : ((p + 2 ≤ 65536) × (q + 2 ≤ 65536)) × (((c < 256) × (d < 256)) × (393225 ≤ length scratch))
   open-small =
       let a : p + 2 ≤ length (g .nodes) = settle-inside (g .nodes) scratch h p c q d (g .crossed) .0 in
       let b1 : q + 2 ≤ length (g .nodes) = settle-inside (g .nodes) scratch h p c q d (g .crossed) .1 .0 in

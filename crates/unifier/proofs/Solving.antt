@@ -50,7 +50,7 @@ no-rows ss nodes after = (refl, refl)
 
 module _ (nodes state before after : List ℕ) (n h k : ℕ) (g : Work nodes state before n h) (a : Advancing (g .ss) nodes state before after (g .top) n h k) where
   pub advance-work : Work nodes state after n k
-  advance-work = record { ss = g .ss; top = g .top; store = g .store; within = g .within; roomy = (let e : length after ≡ length before = a .marks .long in let o : 360455 ≤ length before = g .roomy in omega arith); stack = a .stack; memo = a .memo }
+  advance-work = record { ss = g .ss; top = g .top; store = g .store; within = g .within; roomy = (let e : length after ≡ length before = a .marks .long in let o : 393225 ≤ length before = g .roomy in omega arith); stack = a .stack; memo = a .memo }
 
   pub advance-turn : 0 < k → Turnable nodes state after k
   unfolding advance-work
@@ -125,7 +125,7 @@ module _ (nodes before after scratch later : List ℕ) (n m h : ℕ) (g : Solvab
   b = bindings ss nodes after m
 
   pub solve-work : Work nodes after later m h
-  solve-work = record { ss = ss; top = g .work .top; store = s .store; within = s .within; roomy = (let e : length later ≡ length scratch = s .long in let o : 360455 ≤ length scratch = g .work .roomy in omega arith); stack = s .stack; memo = s .memo }
+  solve-work = record { ss = ss; top = g .work .top; store = s .store; within = s .within; roomy = (let e : length later ≡ length scratch = s .long in let o : 393225 ≤ length scratch = g .work .roomy in omega arith); stack = s .stack; memo = s .memo }
 
   pub solve-ready : Ready nodes after later m h
   unfolding solve-work

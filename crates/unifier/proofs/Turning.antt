@@ -138,7 +138,7 @@ module _ (nodes state scratch : List ℕ) (n h p q : ℕ) (w : Work nodes state 
   high = height (w .ss) nodes b (w .top) (leftAt scratch) (rightAt scratch) h (w .stack)
 
   fits : 32768 + (h - 1) * 6 + 5 < length scratch
-  fits = let k : h ≤ 32769 = high in let o : 360455 ≤ length scratch = w .roomy in omega arith
+  fits = let k : h ≤ 32769 = high in let o : 393225 ≤ length scratch = w .roomy in omega arith
 
   under : (h - 1) < h
   under = omega arith
@@ -253,7 +253,7 @@ module _ (nodes state scratch : List ℕ) (n h p q : ℕ) (w : Work nodes state 
           top = w .top;
           store = w .store;
           within = w .within;
-          roomy = (let e : length mid ≡ length scratch = pair-long scratch (h - 1) (l0 .root) pa (l0 .copy) (r0 .root) qa (r0 .copy) fits in let o : 360455 ≤ length scratch = w .roomy in omega arith);
+          roomy = (let e : length mid ≡ length scratch = pair-long scratch (h - 1) (l0 .root) pa (l0 .copy) (r0 .root) qa (r0 .copy) fits in let o : 393225 ≤ length scratch = w .roomy in omega arith);
           stack = moved;
           memo = memo-kept (w .ss) nodes b scratch (w .memo) mid (λ j o. pair-others scratch (h - 1) (l0 .root) pa (l0 .copy) (r0 .root) qa (r0 .copy) fits j (inr (let k : h ≤ 32769 = high in omega arith)));
         };
@@ -358,7 +358,7 @@ module _ (nodes state scratch : List ℕ) (n h p q : ℕ) (w : Work nodes state 
 pub turn-room : (nodes state scratch : List ℕ) (h : ℕ) (g : Turnable nodes state scratch h) → (1 ≤ h) × ((h ≤ 32769) × (32768 + (h - 1) * 6 + 5 < length scratch))
 turn-room nodes state scratch h g =
     let k : h ≤ 32769 = height (g .work .ss) nodes (bindings (g .work .ss) nodes state (g .n)) (g .work .top) (leftAt scratch) (rightAt scratch) h (g .work .stack) in
-    let o : 360455 ≤ length scratch = g .work .roomy in
+    let o : 393225 ≤ length scratch = g .work .roomy in
     let s : 1 ≤ h = g .some in
     (s, (k, omega arith))
 
@@ -446,7 +446,7 @@ module _ (scratch : List ℕ) (h : ℕ) (l r : Side) (g : Passable scratch h l r
   right-copy : r .copy < 256
   right-copy = subst⁻¹ (λ (x : Side). x .copy < 256) (g .right-is) (g .work .stack .right .copy (h - 1) top-is)
 
-  pub pass-small : ((l .root < 65536) × (r .root < 65536)) × (((l .copy < 256) × (r .copy < 256)) × ((360455 ≤ length scratch) × (1 ≤ h)))
+  pub pass-small : ((l .root < 65536) × (r .root < 65536)) × (((l .copy < 256) × (r .copy < 256)) × ((393225 ≤ length scratch) × (1 ≤ h)))
   pass-small =
       let a : l .root + 2 ≤ length (g .nodes) = node-inside (g .work .ss) (g .nodes) (l .root) (subst⁻¹ (λ (x : Side). Node (g .work .ss) (g .nodes) (x .root)) (g .left-is) (g .work .stack .left .node (h - 1) top-is)) in
       let b1 : r .root + 2 ≤ length (g .nodes) = node-inside (g .work .ss) (g .nodes) (r .root) (subst⁻¹ (λ (x : Side). Node (g .work .ss) (g .nodes) (x .root)) (g .right-is) (g .work .stack .right .node (h - 1) top-is)) in

@@ -50,14 +50,14 @@ module _ (nodes state scratch : List ℕ) (p c q d n : ℕ) (g : Unifiable nodes
   blank-long = length-set scratch 229382 0
 
   pub unify-forget : 229382 < length scratch
-  unify-forget = let r : 360455 ≤ length scratch = g .roomy in omega arith
+  unify-forget = let r : 393225 ≤ length scratch = g .roomy in omega arith
 
   blank-room : (32768 + 0 * 6 + 5 < length blank) × (((p < 2 ^ 32) × ((p < 2 ^ 32) × (c < 2 ^ 32))) × ((q < 2 ^ 32) × ((q < 2 ^ 32) × (d < 2 ^ 32))))
   blank-room =
       let a : p + 2 ≤ length nodes = node-inside (g .ss) nodes p (g .left) in
       let b : q + 2 ≤ length nodes = node-inside (g .ss) nodes q (g .right) in
       let s : length nodes ≤ 65536 = g .store .small in
-      let r : 360455 ≤ length scratch = g .roomy in
+      let r : 393225 ≤ length scratch = g .roomy in
       let e : length blank ≡ length scratch = blank-long in
       let x : c < 256 = g .copy in
       let y : d < 256 = g .copy-right in
@@ -109,7 +109,7 @@ module _ (nodes state scratch : List ℕ) (p c q d n : ℕ) (g : Unifiable nodes
       let m : SameMarks blank mid = pair-marks blank 0 p p c q q d (blank-room .0) in
       let e : length mid ≡ length blank = m .long in
       let e1 : length blank ≡ length scratch = blank-long in
-      let r : 360455 ≤ length scratch = g .roomy in
+      let r : 393225 ≤ length scratch = g .roomy in
       record {
         work = record { ss = g .ss; top = g .top; store = g .store; within = g .within; roomy = omega arith; stack = first-stack; memo = memo-none (g .ss) nodes (bindings (g .ss) nodes state n) mid no-terms };
         closes = first-closes;

@@ -9,20 +9,20 @@ use Rattle.bindings.specs.Queues.{Clean}
 use Rattle.unifier.specs.Turns.{Unifiable}
 
 unfoldable pub scratch : List ℕ
-scratch = replicate 360455 0
+scratch = replicate 393225 0
 
-scratch-long : length scratch ≡ 360455
+scratch-long : length scratch ≡ 393225
 unfolding scratch
-scratch-long = length-replicate {A = ℕ} 360455 0
+scratch-long = length-replicate {A = ℕ} 393225 0
 
 scratch-zero : (y : ℕ) → y < 16384 → getD scratch y 0 ≡ 0
 unfolding scratch
-scratch-zero y l = getD-replicate {A = ℕ} 360455 y 0 0 (omega arith)
+scratch-zero y l = getD-replicate {A = ℕ} 393225 y 0 0 (omega arith)
 
 -- f(X) of the goal and f(X) of copy 1
 pub witness : Unifiable table state scratch 0 0 0 1 0
 witness =
-    let l : length scratch ≡ 360455 = scratch-long in
+    let l : length scratch ≡ 393225 = scratch-long in
     record {
       ss = symbols;
       top = 1;

@@ -166,7 +166,7 @@ fn pass(scratch: &mut [u32], h: usize, l: Side, r: Side) -> Turn
     let d = r.copy;
     let left = root * 256 + c + 1;
     let right = other * 256 + d + 1;
-    remember(scratch, left, right);
+    remember(scratch, h, left, right);
     Turn::Go(h - 1)
 }
 
