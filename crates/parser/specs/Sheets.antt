@@ -63,7 +63,8 @@ abbrev pub Loads : List ℕ → List ℕ → Loaded → Read Sheet → Type 0
 Loads declared table r (fault k b) = LoadFault declared table r k b
 Loads declared table r (ok sh end) = LoadGiven declared table r sh
 
--- On a fault of a goal: its number and byte. Otherwise the table holds the goal's literals, and the reader has its variables.
+-- On a fault of a goal: its number and byte; the table, written from its first word on, is left free, and its length stays. Otherwise it holds the goal's
+-- literals, and the reader has its variables.
 pub record GoalGiven (table : List ℕ) (r : Parsed) (g : Goal) (end : State) : Type 0 where
   pub number-is : r .number ≡ 0
   pub state-is : r .state ≡ end
