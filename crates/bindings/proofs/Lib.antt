@@ -1,4 +1,3 @@
 pub mod Deref
 pub mod Scan
-pub mod Remembering
 pub mod Apart

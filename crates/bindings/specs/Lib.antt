@@ -1,4 +1,3 @@
 pub mod Cells
 pub mod Queues
 pub mod Scratch
-pub mod Memos

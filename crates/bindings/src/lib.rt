@@ -1,6 +1,5 @@
-// Below unification, over flat words: cells and trail, the occurs check, the work stack, and the memo of pairs made equal.
+// Below unification, over flat words: cells and trail, the occurs check and the work stack.
 
-pub mod memo;
 pub mod occurrence;
 pub mod stack;
 pub mod store;

@@ -16,10 +16,10 @@ use Rattle.layout.specs.Nodes.{Symbol, nameOf, Node, Row, termAt, termsAt, foll
 use Rattle.layout.specs.State.{cellOf, variableOf, wordOf, cellAt, valueOf, bindings, Store}
 use Rattle.layout.proofs.Nodes.{node-inside, node-end, variable-at, compound-at, same-count, other-symbol}
 use Rattle.layout.proofs.State.{variable-cell, cell-eq, cell-small, resolve-unbound}
-use Rattle.bindings.specs.Memos.{Found}
+use Rattle.memos.specs.Memos.{Found}
 use Rattle.bindings.specs.Scratch.{leftAt, rightAt, pairWords, SameMarks, Roomy}
 use Rattle.bindings.specs.declared.stack.Side.{Side}
-use Rattle.bindings.proofs.Remembering.{value-word, memo-kept, memo-found}
+use Rattle.memos.proofs.Remembering.{value-word, memo-kept, memo-found}
 use Rattle.unifier.specs.Rows.{unifyRows, nodesOf, sizeOf}
 use Rattle.unifier.specs.Stacks.{endOf, wholeOf, rowOf, rowsOf, Half, Via, Stack, nothing, Closes}
 use Rattle.unifier.specs.Turns.{Work, Goes, Binds, Turns, Reached, Crossed, Openable, Settled}

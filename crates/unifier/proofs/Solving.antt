@@ -13,10 +13,10 @@ use Rattle.layout.specs.State.{variableOf, wordOf, bindings, Store, Within, Kee
 use Rattle.layout.proofs.Nodes.{node-inside}
 use Rattle.layout.proofs.State.{bind-store, bind-keeps, bind-means, bind-within, keeps-refl, keeps-trans, room}
 use Rattle.bindings.specs.Queues.{Clean, Checkable, Checked, Closed, Closing}
-use Rattle.bindings.specs.Memos.{Memo}
+use Rattle.memos.specs.Memos.{Memo}
 use Rattle.bindings.specs.Scratch.{leftAt, rightAt, SameMarks, Roomy}
 use Rattle.bindings.proofs.Apart.{closed-bound}
-use Rattle.bindings.proofs.Remembering.{memo-kept, memo-bound}
+use Rattle.memos.proofs.Remembering.{memo-kept, memo-bound}
 use Rattle.unifier.specs.Rows.{unifyRows, sizeOf}
 use Rattle.unifier.specs.Stacks.{rowsOf, Stack, nothing, Closes}
 use Rattle.unifier.specs.Turns.{Work, Goes, Binds, Turns, Turned, Turnable, Ready, Ends, Advanced, Solvable, Solved, answered}

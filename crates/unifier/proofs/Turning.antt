@@ -15,10 +15,10 @@ use Rattle.layout.specs.State.{cellOf, variableOf, wordOf, valueOf, bindings, S
 use Rattle.layout.proofs.Nodes.{node-inside, node-end, node-size, variable-at, row-first, row-rest, row-cons, row-order}
 use Rattle.layout.proofs.State.{variable-cell, cell-small}
 use Rattle.bindings.specs.Cells.{Given, Leads, Derefs}
-use Rattle.bindings.specs.Memos.{Remembers}
+use Rattle.memos.specs.Memos.{Remembers}
 use Rattle.bindings.specs.Scratch.{leftAt, rightAt, pairWords, SameMarks, Roomy}
 use Rattle.bindings.specs.declared.stack.Side.{Side}
-use Rattle.bindings.proofs.Remembering.{value-word, memo-kept, memo-remembers}
+use Rattle.memos.proofs.Remembering.{value-word, memo-kept, memo-remembers}
 use Rattle.unifier.specs.Rows.{unifyRows, nodesOf, sizeOf}
 use Rattle.unifier.specs.Walks.{Beside, Walkable, Meets, Walks}
 use Rattle.unifier.specs.Stacks.{endOf, wholeOf, rowOf, rowsOf, Half, Via, Stack, SameRows, nothing, Closes}

@@ -13,10 +13,10 @@ use Rattle.layout.specs.Nodes.{Symbol, Stands, Node, Row, termAt, termsAt, foll
 use Rattle.layout.specs.State.{bindings}
 use Rattle.layout.proofs.Nodes.{node-inside, row-one, row-one-is, term-at}
 use Rattle.bindings.specs.Queues.{Clean}
-use Rattle.bindings.specs.Memos.{terms}
+use Rattle.memos.specs.Memos.{terms}
 use Rattle.bindings.specs.Scratch.{leftAt, rightAt, pairWords, SameMarks}
 use Rattle.bindings.specs.declared.stack.Side.{Side}
-use Rattle.bindings.proofs.Remembering.{memo-none}
+use Rattle.memos.proofs.Remembering.{memo-none}
 use Rattle.unifier.specs.Rows.{unifyRows}
 use Rattle.unifier.specs.Stacks.{endOf, wholeOf, rowOf, rowsOf, Half, Stack, nothing, Closes}
 use Rattle.unifier.specs.Turns.{Work, Solvable, Solved, Unifiable, Unifies, answered}

@@ -13,7 +13,7 @@ use Rattle.machine.specs.Unification.{unify}
 use Rattle.layout.specs.Nodes.{Symbol, Stands, Node, termAt}
 use Rattle.layout.specs.State.{cellOf, variableOf, cellAt, bindings, Store, Within, Keeps}
 use Rattle.bindings.specs.Queues.{Clean}
-use Rattle.bindings.specs.Memos.{Memo}
+use Rattle.memos.specs.Memos.{Memo}
 use Rattle.bindings.specs.Scratch.{leftAt, rightAt, SameMarks, Roomy}
 use Rattle.bindings.specs.declared.stack.Side.{Side}
 use Rattle.unifier.specs.Rows.{unifyRows, nodesOf, sizeOf}

@@ -1,9 +1,6 @@
 // Unification: the outer loop, which takes over where a bound variable is crossed.
 use crate::walk::Walked;
 use crate::walk::walk_rows;
-use bindings::memo::forget;
-use bindings::memo::known;
-use bindings::memo::remember;
 use bindings::occurrence::closed_to;
 use bindings::occurrence::size_at;
 use bindings::occurrence::stands;
@@ -15,6 +12,9 @@ use bindings::stack::put_pair;
 use bindings::stack::side_at;
 use bindings::store::bind;
 use bindings::store::deref;
+use memos::forget;
+use memos::known;
+use memos::remember;
 ghost use mathlib.Core.Path.{_≡_};
 ghost use Rattle.bindings.specs.Queues.{Closed};
 ghost use Rattle.bindings.specs.Scratch.{leftAt, rightAt};

@@ -5,7 +5,7 @@ use Rattle.unifier.proofs.solve.open_pair.Statement.{statement}
 use Rattle.unifier.proofs.solve.open_pair.Tie as tie
 use Rattle.unifier.proofs.solve.open_pair.Reads as reads
 use Rattle.unifier.proofs.solve.open_pair.Lts as lts
-use Rattle.bindings.proofs.memo.known.Reads as known-reads
+use Rattle.memos.proofs.known.Reads as known-reads
 use Rattle.bindings.proofs.stack.put_pair.Reads as put-pair-reads
 
 -- src/solve.rt:44:16

@@ -5,7 +5,7 @@ use Rattle.unifier.proofs.solve.pass.Statement.{statement}
 use Rattle.unifier.proofs.solve.pass.Tie as tie
 use Rattle.unifier.proofs.solve.pass.Reads as reads
 use Rattle.unifier.proofs.solve.pass.Lts as lts
-use Rattle.bindings.proofs.memo.remember.Reads as remember-reads
+use Rattle.memos.proofs.remember.Reads as remember-reads
 
 -- src/solve.rt:170:16
 mul-left : tie.Need-mul-left

@@ -4,7 +4,7 @@ use Rattle.unifier.proofs.solve.unify_closed.Statement.{statement}
 use Rattle.unifier.proofs.solve.unify_closed.Tie as tie
 use Rattle.unifier.proofs.solve.unify_closed.Reads as reads
 use Rattle.unifier.proofs.solve.unify_closed.Lts as lts
-use Rattle.bindings.proofs.memo.forget.Reads as forget-reads
+use Rattle.memos.proofs.forget.Reads as forget-reads
 use Rattle.unifier.proofs.solve.solve_pair.Reads as solve-pair-reads
 use Rattle.bindings.proofs.stack.put_pair.Reads as put-pair-reads
 

@@ -1,13 +1,13 @@
-use Rattle.bindings.proofs.Remembering.{reaches-begin, reaches-on}
+use Rattle.memos.proofs.Remembering.{reaches-begin, reaches-on}
 use native.Mathlib.Omega.{arith}
 use Prim.Native.Nat.{_-_, _<_, _≤_}
 use mathlib.Core.Path.{refl}
-use Rattle.bindings.specs.Memos.{Reaches}
-use Rattle.bindings.proofs.memo.root_of.Statement.{statement}
-use Rattle.bindings.proofs.memo.root_of.Tie as tie
-use Rattle.bindings.proofs.memo.root_of.Reads as reads
-use Rattle.bindings.proofs.memo.root_of.Lts as lts
-use Rattle.bindings.proofs.memo.link_at.Reads as link-at-reads
+use Rattle.memos.specs.Memos.{Reaches}
+use Rattle.memos.proofs.root_of.Statement.{statement}
+use Rattle.memos.proofs.root_of.Tie as tie
+use Rattle.memos.proofs.root_of.Reads as reads
+use Rattle.memos.proofs.root_of.Lts as lts
+use Rattle.memos.proofs.link_at.Reads as link-at-reads
 
 abbrev Inv-loop : tie.InvT-loop
 Inv-loop scratch i r₀ k₀ r k = (r < 32768) × Reaches scratch i r
@@ -15,39 +15,39 @@ Inv-loop scratch i r₀ k₀ r k = (r < 32768) × Reaches scratch i r
 abbrev μ-loop : tie.MeasureT-loop
 μ-loop scratch i r₀ k₀ r k = 32768 - k
 
--- src/memo.rt:112:5
+-- src/lib.rt:112:5
 loop-holds : tie.Need-loop-holds Inv-loop μ-loop
 loop-holds c = (c .before .pre .1, reaches-begin (c .before .args .scratch .now) (c .before .args .i))
 
--- src/memo.rt:113:13
+-- src/lib.rt:113:13
 link-at-requires : tie.Need-link-at-requires Inv-loop μ-loop
 link-at-requires c κs = (c .before .before .before .pre .0, c .before .loop .inv .0)
 
--- src/memo.rt:115:13
+-- src/lib.rt:115:13
 returns : tie.Need-returns Inv-loop μ-loop
 returns c = (c .before .before .before .loop .inv .0, c .before .before .before .loop .inv .1)
 
--- src/memo.rt:118:13
+-- src/lib.rt:118:13
 returns-2 : tie.Need-returns-2 Inv-loop μ-loop
 returns-2 c = (c .before .before .before .before .loop .inv .0, c .before .before .before .before .loop .inv .1)
 
--- src/memo.rt:120:13
+-- src/lib.rt:120:13
 sub-r : tie.Need-sub-r Inv-loop μ-loop
 sub-r c = omega (arith, c .before .if1 .left)
 
--- src/memo.rt:121:9
+-- src/lib.rt:121:9
 add-k : tie.Need-add-k Inv-loop μ-loop
 add-k c = omega (arith, c .before .before .before .loop-test .taken)
 
--- src/memo.rt:112:5
+-- src/lib.rt:112:5
 loop-less : tie.Need-loop-less Inv-loop μ-loop
 loop-less c = omega (arith, c .before .before .before .loop-test .taken)
 
--- src/memo.rt:112:5
+-- src/lib.rt:112:5
 loop-again : tie.Need-loop-again Inv-loop μ-loop
 loop-again c = (omega (arith, c .if2 .left, c .before .if1 .left), reaches-on (c .before .before .before .before .before .before .args .scratch .now) (c .before .before .before .before .before .before .args .i) (c .before .before .before .before .loop .r) (c .before .before .link-at .result) (c .before .before .before .before .loop .inv .1) (c .before .before .link-at .ensures) (c .before .if1 .left) (c .if2 .left) _ refl)
 
--- src/memo.rt:105:1
+-- src/lib.rt:105:1
 returns-3 : tie.Need-returns-3 Inv-loop μ-loop
 returns-3 c = (c .before .loop .inv .0, c .before .loop .inv .1)
 

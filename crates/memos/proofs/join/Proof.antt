@@ -1,58 +1,58 @@
-use Rattle.bindings.proofs.Remembering.{joined-left, joined-right}
+use Rattle.memos.proofs.Remembering.{joined-left, joined-right}
 use borrow.Author.Needs.{needs}
-use Rattle.bindings.proofs.memo.join.Statement.{statement}
-use Rattle.bindings.proofs.memo.join.Tie as tie
-use Rattle.bindings.proofs.memo.join.Reads as reads
-use Rattle.bindings.proofs.memo.join.Lts as lts
-use Rattle.bindings.proofs.memo.link_at.Reads as link-at-reads
-use Rattle.bindings.proofs.memo.put_link.Reads as put-link-reads
-use Rattle.bindings.proofs.memo.raised.Reads as raised-reads
+use Rattle.memos.proofs.join.Statement.{statement}
+use Rattle.memos.proofs.join.Tie as tie
+use Rattle.memos.proofs.join.Reads as reads
+use Rattle.memos.proofs.join.Lts as lts
+use Rattle.memos.proofs.link_at.Reads as link-at-reads
+use Rattle.memos.proofs.put_link.Reads as put-link-reads
+use Rattle.memos.proofs.raised.Reads as raised-reads
 
--- src/memo.rt:210:9
+-- src/lib.rt:210:9
 link-at-requires : tie.Need-link-at-requires
 link-at-requires c κs = search needs
 
--- src/memo.rt:211:9
+-- src/lib.rt:211:9
 link-at-requires-2 : tie.Need-link-at-requires-2
 link-at-requires-2 c κs = search needs
 
--- src/memo.rt:213:30
+-- src/lib.rt:213:30
 add-put-link : tie.Need-add-put-link
 add-put-link c = search needs
 
--- src/memo.rt:213:9
+-- src/lib.rt:213:9
 put-link-requires : tie.Need-put-link-requires
 put-link-requires c κs = search needs
 
--- src/memo.rt:214:9
+-- src/lib.rt:214:9
 same-length : tie.Need-same-length
 same-length c = search needs
 
--- src/memo.rt:214:9
+-- src/lib.rt:214:9
 returns : tie.Need-returns
 returns c = search (joined-left, needs)
 
--- src/memo.rt:216:26
+-- src/lib.rt:216:26
 add-put-link-2 : tie.Need-add-put-link-2
 add-put-link-2 c = search needs
 
--- src/memo.rt:216:5
+-- src/lib.rt:216:5
 put-link-requires-2 : tie.Need-put-link-requires-2
 put-link-requires-2 c κs = search needs
 
--- src/memo.rt:217:26
+-- src/lib.rt:217:26
 raised-requires : tie.Need-raised-requires
 raised-requires c κs = search needs
 
--- src/memo.rt:217:5
+-- src/lib.rt:217:5
 put-link-requires-3 : tie.Need-put-link-requires-3
 put-link-requires-3 c κs = search needs
 
--- src/memo.rt:206:1
+-- src/lib.rt:206:1
 same-length-2 : tie.Need-same-length-2
 same-length-2 c = search needs
 
--- src/memo.rt:206:1
+-- src/lib.rt:206:1
 returns-2 : tie.Need-returns-2
 returns-2 c = search (joined-right, needs)
 

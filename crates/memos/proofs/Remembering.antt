@@ -14,7 +14,7 @@ use Rattle.machine.specs.Substitution.{RTerm, replace, Binding, resolve}
 use Rattle.layout.specs.Nodes.{Symbol, termAt}
 use Rattle.layout.specs.State.{wordOf, valueOf}
 use Rattle.layout.proofs.State.{node-word, copy-word}
-use Rattle.bindings.specs.Memos.{terms, termOf, linkOf, Numbered, Entered, Same, Links, Memo, Found, Reaches, Adds, Joins, Remembers, Weighed}
+use Rattle.memos.specs.Memos.{terms, termOf, linkOf, Numbered, Entered, Same, Links, Memo, Found, Reaches, Adds, Joins, Remembers, Weighed}
 
 -- ---- what its links mean
 

@@ -1,41 +1,41 @@
-use Rattle.bindings.proofs.Remembering.{weighed-remembers, weighed-then}
+use Rattle.memos.proofs.Remembering.{weighed-remembers, weighed-then}
 use borrow.Author.Needs.{needs}
-use Rattle.bindings.proofs.memo.remember.Statement.{statement}
-use Rattle.bindings.proofs.memo.remember.Tie as tie
-use Rattle.bindings.proofs.memo.remember.Reads as reads
-use Rattle.bindings.proofs.memo.remember.Lts as lts
-use Rattle.bindings.proofs.memo.enter.Reads as enter-reads
-use Rattle.bindings.proofs.memo.weigh.Reads as weigh-reads
+use Rattle.memos.proofs.remember.Statement.{statement}
+use Rattle.memos.proofs.remember.Tie as tie
+use Rattle.memos.proofs.remember.Reads as reads
+use Rattle.memos.proofs.remember.Lts as lts
+use Rattle.memos.proofs.enter.Reads as enter-reads
+use Rattle.memos.proofs.weigh.Reads as weigh-reads
 
--- src/memo.rt:276:8
+-- src/lib.rt:276:8
 sub-if1 : tie.Need-sub-if1
 sub-if1 c = search needs
 
--- src/memo.rt:277:9
+-- src/lib.rt:277:9
 returns : tie.Need-returns
 returns c = search needs
 
--- src/memo.rt:279:8
+-- src/lib.rt:279:8
 weigh-requires : tie.Need-weigh-requires
 weigh-requires c κs = search needs
 
--- src/memo.rt:280:9
+-- src/lib.rt:280:9
 same-length : tie.Need-same-length
 same-length c = search needs
 
--- src/memo.rt:280:9
+-- src/lib.rt:280:9
 returns-2 : tie.Need-returns-2
 returns-2 c = weighed-remembers _ _ (c .before .before .before .before .before .before .before .args .left) (c .before .before .before .before .before .before .before .args .right) (c .before .before .before .weigh .ensures)
 
--- src/memo.rt:282:5
+-- src/lib.rt:282:5
 enter-requires : tie.Need-enter-requires
 enter-requires c κs = search needs
 
--- src/memo.rt:272:1
+-- src/lib.rt:272:1
 same-length-2 : tie.Need-same-length-2
 same-length-2 c = search needs
 
--- src/memo.rt:272:1
+-- src/lib.rt:272:1
 returns-3 : tie.Need-returns-3
 returns-3 c = weighed-then _ _ _ (c .before .before .before .before .before .before .before .before .before .before .before .args .left) (c .before .before .before .before .before .before .before .before .before .before .before .args .right) (c .before .before .before .before .before .before .before .weigh .ensures) (c .before .before .enter .ensures)
 

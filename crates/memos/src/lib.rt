@@ -1,14 +1,14 @@
 // The memo of unification: classes of terms that this call has made equal, each term as its word, in the scratch words behind the stack. A term has a
 // number, a slot found by a hash of its word holds this number, and its link leads to the number of another term of its class. Whatever else a slot
-// holds does no harm, for the term of that number names its slot and is compared too; so nothing is cleared, and a call begins with no terms. A call opens
-// no more pairs than there are terms, as long as there is room for all of them.
-use crate::occurrence::word_at;
+// holds does no harm, for the term of that number names its slot and is compared too; so nothing is cleared, and a call begins with no terms. A pair
+// that is done joins two classes; so, while there is room, the pairs of many turns are no more than the terms.
+use bindings::occurrence::word_at;
 ghost use mathlib.Core.Path.{_≡_};
 ghost use mathlib.Core.Bool.{true};
 ghost use mathlib.Core.Logic.{_⊎_};
 ghost use Prim.Native.Nat.{_+_, _*_, _%_, _≤_, _<_, _^_};
 ghost use lib.ListN.{length, getD, set};
-ghost use Rattle.bindings.specs.Memos.{terms, linkOf, Entered, Numbered, Found, Adds, Reaches, Joins, Remembers, Weighed};
+ghost use Rattle.memos.specs.Memos.{terms, linkOf, Entered, Numbered, Found, Adds, Reaches, Joins, Remembers, Weighed};
 
 // Where the number of terms stands, where the slots and the terms begin, and how many there are of each.
 const MEMO: usize = 229382;
