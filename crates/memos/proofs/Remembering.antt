@@ -5,7 +5,6 @@ use mathlib.Core.Path.{_≡_, refl, sym, ap, ap₂, _∙_, subst, subst⁻¹}
 use mathlib.Core.Bool.{Bool, true, false}
 use mathlib.Core.List.{List, _∷_}
 use mathlib.Core.Logic.{_⊎_, inl, inr}
-use lib.Arith.{digits-div}
 use lib.Dec.{T, eqb}
 use lib.ListN.{length, getD, set, length-set}
 use lib.Seq.{getD-set-same, getD-set-other}
@@ -14,49 +13,83 @@ use Rattle.machine.specs.Substitution.{RTerm, replace, Binding, resolve}
 use Rattle.layout.specs.Nodes.{Symbol, termAt}
 use Rattle.layout.specs.State.{wordOf, valueOf}
 use Rattle.layout.proofs.State.{node-word, copy-word}
-use Rattle.memos.specs.Memos.{terms, termOf, linkOf, Numbered, Entered, Same, Links, Memo, Found, Reaches, Adds, Joins, Remembers, Weighed}
+use Rattle.memos.specs.Memos.{terms, rows, keyOf, termOf, linkOf, half, stored, numberIn, Numbered, Rowed, Entered, Same, Belongs, Links, Memo, Found, Reaches, Cleared, Kept, Opens, Assigns, Fresh, Joins, Begins, Remembers, Weighed}
 
--- ---- what its links mean
+-- ---- what its words mean
 
 pub value-word : (ss : List Symbol) (nodes : List ℕ) (p c : ℕ) → c < 256 → valueOf ss nodes (wordOf p c) ≡ termAt ss nodes p c
 unfolding valueOf
 value-word ss nodes p c l = ap₂ (termAt ss nodes) (node-word p c l) (copy-word p c l)
 
--- no number
-pub links-none : (meaning : ℕ → RTerm) (scratch : List ℕ) → terms scratch ≤ 32 → Links meaning scratch
-links-none meaning scratch e = λ i j n l s. absurd (let a : 32 ≤ i = n .low in let z : i < terms scratch = n .below in omega arith)
+-- the memo's words but the weights are as they were, and so is what they mean
+module _ (before after : List ℕ) (low : (j : ℕ) → 229382 ≤ j → j < 283144 → getD after j 0 ≡ getD before j 0) (high : (j : ℕ) → 315914 ≤ j → getD after j 0 ≡ getD before j 0) where
+  terms-kept : terms after ≡ terms before
+  terms-kept = low 229382 (omega arith) (omega arith)
 
--- its words are as they were
-module _ (before after : List ℕ) (w : (j : ℕ) → 229382 ≤ j → j < 360455 → getD after j 0 ≡ getD before j 0) where
   numbered-kept : (i : ℕ) → Numbered before i → Numbered after i
-  numbered-kept i n = record { low = n .low; below = (let e : terms after ≡ terms before = w 229382 (omega arith) (omega arith) in let z : i < terms before = n .below in omega arith); small = n .small }
+  numbered-kept i n = record { low = n .low; below = (let e : terms after ≡ terms before = terms-kept in let z : i < terms before = n .below in omega arith); small = n .small }
 
   numbered-back : (i : ℕ) → Numbered after i → Numbered before i
-  numbered-back i n = record { low = n .low; below = (let e : terms after ≡ terms before = w 229382 (omega arith) (omega arith) in let z : i < terms after = n .below in omega arith); small = n .small }
+  numbered-back i n = record { low = n .low; below = (let e : terms after ≡ terms before = terms-kept in let z : i < terms after = n .below in omega arith); small = n .small }
+
+  term-kept : (i : ℕ) → i < 16640 → termOf after i ≡ termOf before i
+  term-kept i l = low (249864 + i * 2) (omega arith) (omega arith)
+
+  number-kept : (k v : ℕ) → numberIn after k v ≡ numberIn before k v
+  number-kept k v = ap (half (v / 128 % 2)) (high (315914 + k * 128 + v % 128) (omega arith))
+
+  belongs-kept : (meaning : ℕ → RTerm) (term i : ℕ) → Belongs meaning before term i → Belongs meaning after term i
+  belongs-kept meaning term i b = record { numbered = numbered-kept i (b .numbered); same = b .same ∙ sym (ap meaning (term-kept i (b .numbered .small))) }
+
+  entry-kept : (meaning : ℕ → RTerm) (k v : ℕ) → (numberIn before k v ≡ 0) ⊎ Belongs meaning before (v - 255) (numberIn before k v) → (numberIn after k v ≡ 0) ⊎ Belongs meaning after (v - 255) (numberIn after k v)
+  entry-kept meaning k v (inl z) = inl (number-kept k v ∙ z)
+  entry-kept meaning k v (inr b) = inr (subst⁻¹ (Belongs meaning after (v - 255)) (number-kept k v) (belongs-kept meaning (v - 255) (numberIn before k v) b))
 
   pub links-kept : (meaning : ℕ → RTerm) → Links meaning before → Links meaning after
-  links-kept meaning m i j n l s =
-      let o : i < 32768 = n .small in
-      let x : Same meaning before i j = m i j (numbered-back i n) (sym (ap (λ (k : ℕ). k / 65536) (w (294919 + i * 2 + 1) (omega arith) (omega arith))) ∙ l) s in
+  links-kept meaning m =
       record {
-        numbered = numbered-kept j (x .numbered);
-        same = ap meaning (w (294919 + i * 2) (omega arith) (omega arith)) ∙ (x .same ∙ sym (ap meaning (w (294919 + j * 2) (omega arith) (omega arith))));
+        links = λ i j n l s.
+            (let o : i < 16640 = n .small in
+            let x : Same meaning before i j = m .links i j (numbered-back i n) (sym (low (249864 + i * 2 + 1) (omega arith) (omega arith)) ∙ l) s in
+            record { numbered = numbered-kept j (x .numbered); same = ap meaning (term-kept i o) ∙ (x .same ∙ sym (ap meaning (term-kept j s))) });
+        entries = λ k v r s t e.
+            entry-kept meaning k v
+            (m .entries k v (let z : rows after ≡ rows before = low 229383 (omega arith) (omega arith) in omega arith) s (let z : terms after ≡ terms before = terms-kept in omega arith)
+            (e ∙ low (245768 + k) (omega arith) (omega arith)));
       }
 
+-- no number, and no row if there could be one
+pub links-none : (meaning : ℕ → RTerm) (scratch : List ℕ) → terms scratch ≤ 32 → (32 ≤ terms scratch → rows scratch ≡ 0) → Links meaning scratch
+links-none meaning scratch e f =
+    record {
+      links = λ i j n l s. absurd (let a : 32 ≤ i = n .low in let z : i < terms scratch = n .below in omega arith);
+      entries = λ k v r s t d. absurd (let z : rows scratch ≡ 0 = f t in omega arith);
+    }
+
 pub memo-none : (ss : List Symbol) (nodes : List ℕ) (b : List Binding) (scratch : List ℕ) → terms scratch ≡ 0 → Memo ss nodes b scratch
-memo-none ss nodes b scratch e = record { links = links-none (λ (w : ℕ). resolve b (valueOf ss nodes w)) scratch (omega arith) }
+memo-none ss nodes b scratch e = record { links = links-none (λ (w : ℕ). resolve b (valueOf ss nodes w)) scratch (omega arith) (λ l. absurd (omega arith)) }
+
+-- another meaning that follows from the first
+module _ (meaning : ℕ → RTerm) (f : RTerm → RTerm) (scratch : List ℕ) where
+  entry-mapped : (k v : ℕ) → (numberIn scratch k v ≡ 0) ⊎ Belongs meaning scratch (v - 255) (numberIn scratch k v) → (numberIn scratch k v ≡ 0) ⊎ Belongs (λ (w : ℕ). f (meaning w)) scratch (v - 255) (numberIn scratch k v)
+  entry-mapped k v (inl z) = inl z
+  entry-mapped k v (inr b) = inr (record { numbered = b .numbered; same = ap f (b .same) })
+
+  links-mapped : Links meaning scratch → Links (λ (w : ℕ). f (meaning w)) scratch
+  links-mapped m =
+      record {
+        links = λ i j n l s. (let x : Same meaning scratch i j = m .links i j n l s in record { numbered = x .numbered; same = ap f (x .same) });
+        entries = λ k v r s t e. entry-mapped k v (m .entries k v r s t e);
+      }
 
 module _ (ss : List Symbol) (nodes : List ℕ) (b : List Binding) (before : List ℕ) (m : Memo ss nodes b before) where
   pub memo-kept : (after : List ℕ) → ((j : ℕ) → 229382 ≤ j → getD after j 0 ≡ getD before j 0) → Memo ss nodes b after
-  memo-kept after w = record { links = links-kept before after (λ j a b. w j a) (λ (x : ℕ). resolve b (valueOf ss nodes x)) (m .links) }
+  memo-kept after w = record { links = links-kept before after (λ j a b. w j a) (λ j a. w j (omega arith)) (λ (x : ℕ). resolve b (valueOf ss nodes x)) (m .links) }
 
   -- one binding more
   pub memo-bound : (new : Binding) → Memo ss nodes (new ∷ b) before
   unfolding resolve
-  memo-bound new = record {
-    links = λ i j n l s. (let x : Same (λ (w : ℕ). resolve b (valueOf ss nodes w)) before i j = m .links i j n l s in
-        record { numbered = x .numbered; same = ap (replace (new .variable) (new .term)) (x .same) });
-  }
+  memo-bound new = record { links = links-mapped (λ (w : ℕ). resolve b (valueOf ss nodes w)) (replace (new .variable) (new .term)) before (m .links) }
 
   pub memo-found : (left right : ℕ) → Found before left right → resolve b (valueOf ss nodes left) ≡ resolve b (valueOf ss nodes right)
   memo-found left right f = f .is (λ (w : ℕ). resolve b (valueOf ss nodes w)) (m .links)
@@ -64,77 +97,83 @@ module _ (ss : List Symbol) (nodes : List ℕ) (b : List Binding) (before : List
   pub memo-remembers : (after : List ℕ) (left right : ℕ) → Remembers before after left right → resolve b (valueOf ss nodes left) ≡ resolve b (valueOf ss nodes right) → Memo ss nodes b after
   memo-remembers after left right k e = record { links = k .links (λ (w : ℕ). resolve b (valueOf ss nodes w)) e (m .links) }
 
--- ---- a term more
+-- ---- beginning
 
--- the count alone, so that there is no number
-pub counted : (before : List ℕ) (k left right : ℕ) → 393225 ≤ length before → k ≤ 32 → Remembers before (set before 229382 k) left right
-counted before k left right long few =
+pub begins : (before : List ℕ) (k : ℕ) → 393225 ≤ length before → k ≤ 32 → Begins before (set (set before 229383 0) 229382 k)
+begins before k long few =
     record {
-      long = length-set before 229382 k;
-      words = λ j l. getD-set-other before 229382 j k 0 (λ e. omega arith);
-      links = λ meaning e m. links-none meaning (set before 229382 k) (let z : terms (set before 229382 k) ≡ k = getD-set-same before 229382 k 0 (omega arith) in omega arith);
+      long = length-set (set before 229383 0) 229382 k ∙ length-set before 229383 0;
+      words = λ j l. getD-set-other (set before 229383 0) 229382 j k 0 (λ e. omega arith) ∙ getD-set-other before 229383 j 0 0 (λ e. omega arith);
+      links = λ meaning. links-none meaning (set (set before 229383 0) 229382 k)
+          (let e : length (set before 229383 0) ≡ length before = length-set before 229383 0 in
+          let z : terms (set (set before 229383 0) 229382 k) ≡ k = getD-set-same (set before 229383 0) 229382 k 0 (omega arith) in omega arith)
+          (λ l. getD-set-other (set before 229383 0) 229382 229383 k 0 (λ e. omega arith) ∙ getD-set-same before 229383 0 0 (omega arith));
     }
 
--- the slot, the term of number m, its slot and no link, the count
-module _ (before : List ℕ) (m s term : ℕ) (long : 393225 ≤ length before) (is : m ≡ terms before) (low : 32 ≤ m) (room : m < 32768) (high : s < 65536) where
+pub begins-remembers : (before after : List ℕ) (left right : ℕ) → Begins before after → Remembers before after left right
+begins-remembers before after left right b = record { long = b .long; words = b .words; links = λ meaning e m. b .links meaning }
+
+-- ---- a class more
+
+module _ (before : List ℕ) (m term : ℕ) (long : 393225 ≤ length before) (is : m ≡ terms before) (low : 32 ≤ m) (room : m < 16640) where
   abbrev pub first : List ℕ
-  first = set before (229383 + s) m
+  first = set before (249864 + m * 2) term
 
   abbrev pub second : List ℕ
-  second = set first (294919 + m * 2) term
-
-  abbrev pub third : List ℕ
-  third = set second (294919 + m * 2 + 1) s
+  second = set first (249864 + m * 2 + 1) 0
 
   abbrev pub last : List ℕ
-  last = set third 229382 (m + 1)
+  last = set second 229382 (m + 1)
 
   first-long : length first ≡ length before
-  first-long = length-set before (229383 + s) m
+  first-long = length-set before (249864 + m * 2) term
 
   second-long : length second ≡ length before
-  second-long = length-set first (294919 + m * 2) term ∙ first-long
-
-  third-long : length third ≡ length before
-  third-long = length-set second (294919 + m * 2 + 1) s ∙ second-long
+  second-long = length-set first (249864 + m * 2 + 1) 0 ∙ first-long
 
   last-long : length last ≡ length before
-  last-long = length-set third 229382 (m + 1) ∙ third-long
+  last-long = length-set second 229382 (m + 1) ∙ second-long
 
-  -- a word that is none of the four
-  elsewhere : (j : ℕ) → (j ≡ 229383 + s → ⊥) → (j ≡ 294919 + m * 2 → ⊥) → (j ≡ 294919 + m * 2 + 1 → ⊥) → (j ≡ 229382 → ⊥) → getD last j 0 ≡ getD before j 0
-  elsewhere j a b c d =
-      getD-set-other third 229382 j (m + 1) 0 d
-      ∙ (getD-set-other second (294919 + m * 2 + 1) j s 0 c ∙ (getD-set-other first (294919 + m * 2) j term 0 b ∙ getD-set-other before (229383 + s) j m 0 a))
+  -- a word that is none of the three
+  elsewhere : (j : ℕ) → (j ≡ 249864 + m * 2 → ⊥) → (j ≡ 249864 + m * 2 + 1 → ⊥) → (j ≡ 229382 → ⊥) → getD last j 0 ≡ getD before j 0
+  elsewhere j b c d = getD-set-other second 229382 j (m + 1) 0 d ∙ (getD-set-other first (249864 + m * 2 + 1) j 0 0 c ∙ getD-set-other before (249864 + m * 2) j term 0 b)
 
   count-is : terms last ≡ m + 1
-  count-is = getD-set-same third 229382 (m + 1) 0 (let e : length third ≡ length before = third-long in omega arith)
+  count-is = getD-set-same second 229382 (m + 1) 0 (let e : length second ≡ length before = second-long in omega arith)
 
   term-is : termOf last m ≡ term
   term-is =
-      getD-set-other third 229382 (294919 + m * 2) (m + 1) 0 (λ e. omega arith)
-      ∙ (getD-set-other second (294919 + m * 2 + 1) (294919 + m * 2) s 0 (λ e. omega arith) ∙ getD-set-same first (294919 + m * 2) term 0 (let e : length first ≡ length before = first-long in omega arith))
+      getD-set-other second 229382 (249864 + m * 2) (m + 1) 0 (λ e. omega arith)
+      ∙ (getD-set-other first (249864 + m * 2 + 1) (249864 + m * 2) 0 0 (λ e. omega arith) ∙ getD-set-same before (249864 + m * 2) term 0 (omega arith))
 
   link-is : linkOf last m ≡ 0
   link-is =
-      ap (λ (k : ℕ). k / 65536)
-      (getD-set-other third 229382 (294919 + m * 2 + 1) (m + 1) 0 (λ e. omega arith) ∙ getD-set-same second (294919 + m * 2 + 1) s 0 (let e : length second ≡ length before = second-long in omega arith))
-      ∙ (let z : s / 65536 ≡ 0 = omega arith in z)
+      getD-set-other second 229382 (249864 + m * 2 + 1) (m + 1) 0 (λ e. omega arith)
+      ∙ getD-set-same first (249864 + m * 2 + 1) 0 0 (let e : length first ≡ length before = first-long in omega arith)
 
-  pub entered : Entered last term m
-  entered = record { numbered = record { low = low; below = (let e : terms last ≡ m + 1 = count-is in omega arith); small = room }; is = term-is }
-
-  -- the terms before it
+  -- the classes before it
   term-stays : (i : ℕ) → i < m → termOf last i ≡ termOf before i
-  term-stays i l = elsewhere (294919 + i * 2) (λ e. omega arith) (λ e. omega arith) (λ e. omega arith) (λ e. omega arith)
+  term-stays i l = elsewhere (249864 + i * 2) (λ e. omega arith) (λ e. omega arith) (λ e. omega arith)
 
   link-stays : (i : ℕ) → i < m → linkOf last i ≡ linkOf before i
-  link-stays i l = ap (λ (k : ℕ). k / 65536) (elsewhere (294919 + i * 2 + 1) (λ e. omega arith) (λ e. omega arith) (λ e. omega arith) (λ e. omega arith))
+  link-stays i l = elsewhere (249864 + i * 2 + 1) (λ e. omega arith) (λ e. omega arith) (λ e. omega arith)
 
   number-stays : (i : ℕ) → Numbered before i → Numbered last i
   number-stays i n = record { low = n .low; below = (let e : terms last ≡ m + 1 = count-is in let z : i < terms before = n .below in omega arith); small = n .small }
 
-  links-more : (meaning : ℕ → RTerm) → Links meaning before → Links meaning last
+  place-stays : (k v : ℕ) → numberIn last k v ≡ numberIn before k v
+  place-stays k v = ap (half (v / 128 % 2)) (elsewhere (315914 + k * 128 + v % 128) (λ e. omega arith) (λ e. omega arith) (λ e. omega arith))
+
+  belongs-stays : (meaning : ℕ → RTerm) (t i : ℕ) → Belongs meaning before t i → Belongs meaning last t i
+  belongs-stays meaning t i b =
+      let z : i < terms before = b .numbered .below in
+      record { numbered = number-stays i (b .numbered); same = b .same ∙ sym (ap meaning (term-stays i (omega arith))) }
+
+  entry-stays : (meaning : ℕ → RTerm) (k v : ℕ) → (numberIn before k v ≡ 0) ⊎ Belongs meaning before (v - 255) (numberIn before k v) → (numberIn last k v ≡ 0) ⊎ Belongs meaning last (v - 255) (numberIn last k v)
+  entry-stays meaning k v (inl z) = inl (place-stays k v ∙ z)
+  entry-stays meaning k v (inr b) = inr (subst⁻¹ (Belongs meaning last (v - 255)) (place-stays k v) (belongs-stays meaning (v - 255) (numberIn before k v) b))
+
+  links-more : (meaning : ℕ → RTerm) → Links meaning before → (i j : ℕ) → Numbered last i → linkOf last i ≡ j + 1 → j < 16640 → Same meaning last i j
   links-more meaning k i j n l t = go (eqb i m) refl
     where
       go : (z : Bool) → eqb i m ≡ z → Same meaning last i j
@@ -144,43 +183,37 @@ module _ (before : List ℕ) (m s term : ℕ) (long : 393225 ≤ length before) 
           let e : terms last ≡ m + 1 = count-is in
           let u : i < terms last = n .below in
           let y : i < m = omega (arith, d) in
-          let x : Same meaning before i j = k i j (record { low = n .low; below = omega arith; small = n .small }) (sym (link-stays i y) ∙ l) t in
+          let x : Same meaning before i j = k .links i j (record { low = n .low; below = omega arith; small = n .small }) (sym (link-stays i y) ∙ l) t in
           let v : j < terms before = x .numbered .below in
           record { numbered = number-stays j (x .numbered); same = ap meaning (term-stays i y) ∙ (x .same ∙ sym (ap meaning (term-stays j (omega arith)))) }
 
-  pub adds : Adds before last
-  adds =
+  pub fresh-class : Fresh before last term m
+  fresh-class =
       record {
         long = last-long;
-        words = λ j l. elsewhere j (λ e. omega arith) (λ e. omega arith) (λ e. omega arith) (λ e. omega arith);
-        more = (let e : terms last ≡ m + 1 = count-is in omega arith);
-        few = (let e : terms last ≡ m + 1 = count-is in omega arith);
-        stays = λ t i x. record { numbered = number-stays i (x .numbered); is = (let v : i < terms before = x .numbered .below in term-stays i (omega arith) ∙ x .is) };
-        links = links-more;
+        words = λ j l. elsewhere j (λ e. omega arith) (λ e. omega arith) (λ e. omega arith);
+        numbered = record { low = low; below = (let e : terms last ≡ m + 1 = count-is in omega arith); small = room };
+        is = term-is;
+        links = λ meaning k. record {
+            links = links-more meaning k;
+            entries = λ r v b s t e.
+                entry-stays meaning r v
+                (k .entries r v (let z : rows last ≡ rows before = elsewhere 229383 (λ e. omega arith) (λ e. omega arith) (λ e. omega arith) in omega arith) s (omega arith)
+                (e ∙ elsewhere (245768 + r) (λ e. omega arith) (λ e. omega arith) (λ e. omega arith)));
+          };
       }
-
-pub adds-none : (before : List ℕ) → Adds before before
-adds-none before =
-    record {
-      long = refl;
-      words = λ j l. refl;
-      more = omega arith;
-      few = omega arith;
-      stays = λ t i x. x;
-      links = λ meaning k. k;
-    }
 
 -- ---- a link
 
 abbrev pub relinked : List ℕ → ℕ → ℕ → List ℕ
-relinked before i link = set before (294919 + i * 2 + 1) (link * 65536 + getD before (294919 + i * 2 + 1) 0 % 65536)
+relinked before i link = set before (249864 + i * 2 + 1) link
 
-module _ (before : List ℕ) (i link : ℕ) (long : 393225 ≤ length before) (small : i < 32768) where
+module _ (before : List ℕ) (i link : ℕ) (long : 393225 ≤ length before) (small : i < 16640) where
   pub relinked-long : length (relinked before i link) ≡ length before
-  relinked-long = length-set before (294919 + i * 2 + 1) (link * 65536 + getD before (294919 + i * 2 + 1) 0 % 65536)
+  relinked-long = length-set before (249864 + i * 2 + 1) link
 
-  other-word : (j : ℕ) → (j ≡ 294919 + i * 2 + 1 → ⊥) → getD (relinked before i link) j 0 ≡ getD before j 0
-  other-word j d = getD-set-other before (294919 + i * 2 + 1) j (link * 65536 + getD before (294919 + i * 2 + 1) 0 % 65536) 0 d
+  other-word : (j : ℕ) → (j ≡ 249864 + i * 2 + 1 → ⊥) → getD (relinked before i link) j 0 ≡ getD before j 0
+  other-word j d = getD-set-other before (249864 + i * 2 + 1) j link 0 d
 
   pub relinked-words : (j : ℕ) → j < 229382 → getD (relinked before i link) j 0 ≡ getD before j 0
   relinked-words j l = other-word j (λ e. omega arith)
@@ -189,12 +222,10 @@ module _ (before : List ℕ) (i link : ℕ) (long : 393225 ≤ length before) (s
   relinked-count = other-word 229382 (λ e. omega arith)
 
   pub relinked-term : (j : ℕ) → termOf (relinked before i link) j ≡ termOf before j
-  relinked-term j = other-word (294919 + j * 2) (λ e. omega arith)
+  relinked-term j = other-word (249864 + j * 2) (λ e. omega arith)
 
   link-now : linkOf (relinked before i link) i ≡ link
-  link-now =
-      ap (λ (k : ℕ). k / 65536) (getD-set-same before (294919 + i * 2 + 1) (link * 65536 + getD before (294919 + i * 2 + 1) 0 % 65536) 0 (omega arith))
-      ∙ (let z : (link * 65536 + getD before (294919 + i * 2 + 1) 0 % 65536) / 65536 ≡ link = omega arith in z)
+  link-now = getD-set-same before (249864 + i * 2 + 1) link 0 (omega arith)
 
   pub number-on : (j : ℕ) → Numbered before j → Numbered (relinked before i link) j
   number-on j n = record { low = n .low; below = (let e : terms (relinked before i link) ≡ terms before = relinked-count in let z : j < terms before = n .below in omega arith); small = n .small }
@@ -205,21 +236,38 @@ module _ (before : List ℕ) (i link : ℕ) (long : 393225 ≤ length before) (s
   same-on : (meaning : ℕ → RTerm) (j k : ℕ) → Same meaning before j k → Same meaning (relinked before i link) j k
   same-on meaning j k x = record { numbered = number-on k (x .numbered); same = ap meaning (relinked-term j) ∙ (x .same ∙ sym (ap meaning (relinked-term k))) }
 
-  -- where the link leads, if anywhere, is a term of the same meaning
-  pub relinks : (meaning : ℕ → RTerm) → ((j : ℕ) → link ≡ j + 1 → j < 32768 → Same meaning before i j) → Links meaning before → Links meaning (relinked before i link)
-  relinks meaning f k x j n l t = go (eqb x i) refl
+  place-on : (k v : ℕ) → numberIn (relinked before i link) k v ≡ numberIn before k v
+  place-on k v = ap (half (v / 128 % 2)) (other-word (315914 + k * 128 + v % 128) (λ e. omega arith))
+
+  entry-on : (meaning : ℕ → RTerm) (k v : ℕ) → (numberIn before k v ≡ 0) ⊎ Belongs meaning before (v - 255) (numberIn before k v) → (numberIn (relinked before i link) k v ≡ 0) ⊎ Belongs meaning (relinked before i link) (v - 255) (numberIn (relinked before i link) k v)
+  entry-on meaning k v (inl z) = inl (place-on k v ∙ z)
+  entry-on meaning k v (inr b) =
+      inr
+      (subst⁻¹ (Belongs meaning (relinked before i link) (v - 255)) (place-on k v)
+      (record { numbered = number-on (numberIn before k v) (b .numbered); same = b .same ∙ sym (ap meaning (relinked-term (numberIn before k v))) }))
+
+  -- where the link leads, if anywhere, is a class of the same meaning
+  pub relinks : (meaning : ℕ → RTerm) → ((j : ℕ) → link ≡ j + 1 → j < 16640 → Same meaning before i j) → Links meaning before → Links meaning (relinked before i link)
+  relinks meaning f k =
+      record {
+        links = λ x j n l t. go x j n l t (eqb x i) refl;
+        entries = λ r v b s t e.
+            entry-on meaning r v
+            (k .entries r v (let z : rows (relinked before i link) ≡ rows before = other-word 229383 (λ e. omega arith) in omega arith) s
+            (let z : terms (relinked before i link) ≡ terms before = relinked-count in omega arith) (e ∙ other-word (245768 + r) (λ e. omega arith)));
+      }
     where
-      go : (z : Bool) → eqb x i ≡ z → Same meaning (relinked before i link) x j
-      go true z =
+      go : (x j : ℕ) → Numbered (relinked before i link) x → linkOf (relinked before i link) x ≡ j + 1 → j < 16640 → (z : Bool) → eqb x i ≡ z → Same meaning (relinked before i link) x j
+      go x j n l t true z =
           let e : x ≡ i = eqb-true x i z in
           subst⁻¹ (λ (y : ℕ). Same meaning (relinked before i link) y j) e (same-on meaning i j (f j (sym link-now ∙ (subst (λ (y : ℕ). linkOf (relinked before i link) y ≡ j + 1) e l)) t))
-      go false z =
+      go x j n l t false z =
           let d : x ≡ i → ⊥ = eqb-false x i z in
-          same-on meaning x j (k x j (number-back x n) (sym (ap (λ (q : ℕ). q / 65536) (other-word (294919 + x * 2 + 1) (λ e. omega (arith, d)))) ∙ l) t)
+          same-on meaning x j (k .links x j (number-back x n) (sym (other-word (249864 + x * 2 + 1) (λ e. omega (arith, d))) ∙ l) t)
 
 -- ---- two classes in one
 
-pub joined-left : (before : List ℕ) (a b : ℕ) → 393225 ≤ length before → a < 32768 → b < 32768 → (after : List ℕ) → after ≡ relinked before a (b + 1) → Joins before after a b
+pub joined-left : (before : List ℕ) (a b : ℕ) → 393225 ≤ length before → a < 16640 → b < 16640 → (after : List ℕ) → after ≡ relinked before a (b + 1) → Joins before after a b
 joined-left before a b long sa sb after e =
     subst⁻¹ (λ (l : List ℕ). Joins before l a b) e
     (record {
@@ -229,7 +277,7 @@ joined-left before a b long sa sb after e =
           relinks before a (b + 1) long sa meaning (λ j l t. subst (Same meaning before a) (let z : b ≡ j = omega arith in z) s) k;
     })
 
-pub joined-right : (before : List ℕ) (a b rank : ℕ) → 393225 ≤ length before → a < 32768 → b < 32768 → 32768 < rank → (mid after : List ℕ) → mid ≡ relinked before b (a + 1)
+pub joined-right : (before : List ℕ) (a b rank : ℕ) → 393225 ≤ length before → a < 16640 → b < 16640 → 16640 < rank → (mid after : List ℕ) → mid ≡ relinked before b (a + 1)
     → after ≡ relinked mid a rank → Joins before after a b
 joined-right before a b rank long sa sb high mid after e f =
     subst⁻¹ (λ (l : List ℕ). Joins before l a b) (f ∙ ap (λ (l : List ℕ). relinked l a rank) e)
@@ -248,94 +296,421 @@ joined-right before a b rank long sa sb high mid after e f =
     first-long : 393225 ≤ length first
     first-long = let e1 : length first ≡ length before = relinked-long before b (a + 1) long sb in omega arith
 
--- ---- looking terms up
+-- numbers of one meaning lead to numbers of one meaning
+pub merged-one : (before : List ℕ) (i j : ℕ) → Joins before before i j
+merged-one before i j = record { long = refl; words = λ k l. refl; links = λ meaning m n s. m }
 
-pub numbered-at : (scratch : List ℕ) (i m : ℕ) → 32 ≤ i → i < 32768 → m ≡ terms scratch → i < m → (i ≡ 0) ⊎ Numbered scratch i
-numbered-at scratch i m low small e l = inr (record { low = low; below = omega arith; small = small })
-
-pub entered-at : (scratch : List ℕ) (term i w : ℕ) → (i ≡ 0) ⊎ Numbered scratch i → (i ≡ 0 → ⊥) → w ≡ termOf scratch i → w ≡ term → (i ≡ 0) ⊎ Entered scratch term i
-entered-at scratch term i w (inl z) n a b = absurd (n z)
-entered-at scratch term i w (inr k) n a b = inr (record { numbered = k; is = sym a ∙ b })
-
-pub of-sought : (scratch : List ℕ) (term i : ℕ) → (i ≡ 0) ⊎ Entered scratch term i → (i ≡ 0 → ⊥) → Entered scratch term i
-of-sought scratch term i (inl z) n = absurd (n z)
-of-sought scratch term i (inr e) n = e
-
--- a number that is not 0 is a small one
-pub small-number : (scratch : List ℕ) (i : ℕ) → (i ≡ 0) ⊎ Numbered scratch i → i < 32768
-small-number scratch i (inl z) = omega arith
-small-number scratch i (inr k) = k .small
+pub merged : (before after : List ℕ) (i j a b : ℕ) → Reaches before i a → Reaches before j b → Joins before after a b → Joins before after i j
+merged before after i j a b ra rb h =
+    record {
+      long = h .long;
+      words = h .words;
+      links = λ meaning m n s.
+          (let x : Same meaning before i a = ra .is meaning m n in
+          let y : Same meaning before j b = rb .is meaning m (s .numbered) in
+          h .links meaning m (x .numbered) (record { numbered = y .numbered; same = sym (x .same) ∙ (s .same ∙ y .same) }));
+    }
 
 -- links followed so far
 pub reaches-begin : (scratch : List ℕ) (i : ℕ) → Reaches scratch i i
 reaches-begin scratch i = record { is = λ meaning k n. record { numbered = n; same = refl } }
 
-pub reaches-on : (scratch : List ℕ) (i r w : ℕ) → Reaches scratch i r → w ≡ linkOf scratch r → (w ≡ 0 → ⊥) → w ≤ 32768 → (s : ℕ) → s ≡ w - 1 → Reaches scratch i s
+pub reaches-on : (scratch : List ℕ) (i r w : ℕ) → Reaches scratch i r → w ≡ linkOf scratch r → (w ≡ 0 → ⊥) → w ≤ 16640 → (s : ℕ) → s ≡ w - 1 → Reaches scratch i s
 reaches-on scratch i r w h e n l s es =
     record {
       is = λ meaning k x.
           (let a : Same meaning scratch i r = h .is meaning k x in
-          let b : Same meaning scratch r s = k r s (a .numbered) (let z : linkOf scratch r ≡ s + 1 = omega (arith, n) in z) (omega (arith, n)) in
+          let b : Same meaning scratch r s = k .links r s (a .numbered) (let z : linkOf scratch r ≡ s + 1 = omega (arith, n) in z) (omega (arith, n)) in
           record { numbered = b .numbered; same = a .same ∙ b .same });
     }
+
+-- ---- looking terms up
+
+half-low : (h w : ℕ) → h ≡ 0 → w % 65536 ≡ half h w
+unfolding half
+half-low zero w e = refl
+half-low (suc h) w e = absurd (omega arith)
+
+half-high : (h w : ℕ) → (h ≡ 0 → ⊥) → w / 65536 % 65536 ≡ half h w
+unfolding half
+half-high zero w n = absurd (n refl)
+half-high (suc h) w n = refl
+
+pub number-low : (scratch : List ℕ) (k v w : ℕ) → w ≡ getD scratch (315914 + k * 128 + v % 128) 0 → v / 128 % 2 ≡ 0 → w % 65536 ≡ numberIn scratch k v
+number-low scratch k v w e z = half-low (v / 128 % 2) w z ∙ ap (half (v / 128 % 2)) e
+
+pub number-high : (scratch : List ℕ) (k v w : ℕ) → w ≡ getD scratch (315914 + k * 128 + v % 128) 0 → (v / 128 % 2 ≡ 0 → ⊥) → w / 65536 % 65536 ≡ numberIn scratch k v
+number-high scratch k v w e n = half-high (v / 128 % 2) w n ∙ ap (half (v / 128 % 2)) e
+
+pub rowed-at : (scratch : List ℕ) (key k n w : ℕ) → k < 4096 → n ≡ rows scratch → k < n → w ≡ keyOf scratch k → w ≡ key → 315914 + k * 128 + 128 ≤ length scratch → (k + 1 ≡ 0) ⊎ Rowed scratch key (k + 1 - 1)
+rowed-at scratch key k n w small e below f g fits =
+    inr (subst⁻¹ (Rowed scratch key) (let z : k + 1 - 1 ≡ k = omega arith in z) (record { below = omega arith; small = small; fits = fits; names = sym f ∙ g }))
+
+pub entered-at : (scratch : List ℕ) (term row i : ℕ) → (row ≡ 0) ⊎ Rowed scratch ((term + 255) / 256) (row - 1) → (row ≡ 0 → ⊥) → i ≡ numberIn scratch (row - 1) (term + 255) → i < 16640 → (i ≡ 0) ⊎ Entered scratch term i
+entered-at scratch term row i (inl z) n e s = absurd (n z)
+entered-at scratch term row i (inr w) n e s = go (eqb i 0) refl
+  where
+    go : (z : Bool) → eqb i 0 ≡ z → (i ≡ 0) ⊎ Entered scratch term i
+    go true z = inl (eqb-true i 0 z)
+    go false z = inr (record { row = row - 1; rowed = w; is = sym e; some = eqb-false i 0 z; small = s })
+
+pub of-number : (scratch : List ℕ) (term i : ℕ) → (i ≡ 0) ⊎ Entered scratch term i → (i ≡ 0 → ⊥) → Entered scratch term i
+of-number scratch term i (inl z) n = absurd (n z)
+of-number scratch term i (inr e) n = e
+
+pub small-number : (scratch : List ℕ) (term i : ℕ) → (i ≡ 0) ⊎ Entered scratch term i → i < 16640
+small-number scratch term i (inl z) = omega arith
+small-number scratch term i (inr e) = e .small
+
+-- a term has the meaning of its number's class
+pub entered-belongs : (meaning : ℕ → RTerm) (scratch : List ℕ) (term i : ℕ) → Links meaning scratch → 32 ≤ terms scratch → Entered scratch term i → Belongs meaning scratch term i
+entered-belongs meaning scratch term i m t e = go (m .entries (e .row) (term + 255) (e .rowed .below) (e .rowed .small) t (sym (e .rowed .names)))
+  where
+    go : (numberIn scratch (e .row) (term + 255) ≡ 0) ⊎ Belongs meaning scratch (term + 255 - 255) (numberIn scratch (e .row) (term + 255)) → Belongs meaning scratch term i
+    go (inl z) = absurd (e .some (sym (e .is) ∙ z))
+    go (inr b) = subst (λ (x : ℕ). Belongs meaning scratch x i) (let z : term + 255 - 255 ≡ term = omega arith in z) (subst (Belongs meaning scratch (term + 255 - 255)) (e .is) b)
 
 pub not-found : (scratch : List ℕ) (left right : ℕ) → false ≡ true → Found scratch left right
 not-found scratch left right e = absurd (subst T (sym e) tt)
 
-pub found-at : (scratch : List ℕ) (left right i j a b : ℕ) → Entered scratch left i → Entered scratch right j → Reaches scratch i a → Reaches scratch j b → eqb a b ≡ true → Found scratch left right
-found-at scratch left right i j a b ei ej ra rb e =
+pub found-at : (scratch : List ℕ) (left right i j a b : ℕ) → 32 ≤ terms scratch → Entered scratch left i → Entered scratch right j → Reaches scratch i a → Reaches scratch j b → eqb a b ≡ true → Found scratch left right
+found-at scratch left right i j a b t ei ej ra rb e =
     record {
       is = λ meaning k.
-          (let x : Same meaning scratch i a = ra .is meaning k (ei .numbered) in
-          let y : Same meaning scratch j b = rb .is meaning k (ej .numbered) in
-          ap meaning (sym (ei .is)) ∙ (x .same ∙ (ap (λ (z : ℕ). meaning (termOf scratch z)) (eqb-true a b e) ∙ (sym (y .same) ∙ ap meaning (ej .is)))));
+          (let u : Belongs meaning scratch left i = entered-belongs meaning scratch left i k t ei in
+          let v : Belongs meaning scratch right j = entered-belongs meaning scratch right j k t ej in
+          let x : Same meaning scratch i a = ra .is meaning k (u .numbered) in
+          let y : Same meaning scratch j b = rb .is meaning k (v .numbered) in
+          u .same ∙ (x .same ∙ (ap (λ (z : ℕ). meaning (termOf scratch z)) (eqb-true a b e) ∙ (sym (y .same) ∙ sym (v .same)))));
     }
+
+-- ---- a row more
+
+pub cleared-none : (before : List ℕ) (base : ℕ) → Cleared before before base 0
+cleared-none before base = record { long = refl; zero-words = λ j a b. absurd (omega arith); low = λ j l. refl; high = λ j l. refl }
+
+pub cleared-more : (before after : List ℕ) (base k : ℕ) → base + k < length before → Cleared before after base k → Cleared before (set after (base + k) 0) base (k + 1)
+cleared-more before after base k room c =
+    record {
+      long = length-set after (base + k) 0 ∙ c .long;
+      zero-words = λ j a b. go j a b (eqb j (base + k)) refl;
+      low = λ j l. getD-set-other after (base + k) j 0 0 (λ e. omega arith) ∙ c .low j l;
+      high = λ j l. getD-set-other after (base + k) j 0 0 (λ e. omega arith) ∙ c .high j (omega arith);
+    }
+  where
+    go : (j : ℕ) → base ≤ j → j < base + (k + 1) → (z : Bool) → eqb j (base + k) ≡ z → getD (set after (base + k) 0) j 0 ≡ 0
+    go j a b true z = subst⁻¹ (λ (x : ℕ). getD (set after (base + k) 0) x 0 ≡ 0) (eqb-true j (base + k) z) (getD-set-same after (base + k) 0 0 (let e : length after ≡ length before = c .long in omega arith))
+    go j a b false z = let d : j ≡ base + k → ⊥ = eqb-false j (base + k) z in getD-set-other after (base + k) j 0 0 d ∙ c .zero-words j a (omega (arith, d))
+
+pub cleared-all : (before after : List ℕ) (base k : ℕ) → k ≡ 128 → Cleared before after base k → Cleared before after base 128
+cleared-all before after base k e c = subst (Cleared before after base) e c
+
+kept-none : (before : List ℕ) → Kept before before
+kept-none before = record { long = refl; words = λ j l. refl; classes = λ j a b. refl }
+
+pub opens-none : (before : List ℕ) (key : ℕ) → Opens before before key 0
+opens-none before key = record { kept = kept-none before; row = inl refl; links = λ meaning m. m }
+
+pub opens-old : (before : List ℕ) (key r : ℕ) → (r ≡ 0) ⊎ Rowed before key (r - 1) → Opens before before key r
+opens-old before key r w = record { kept = kept-none before; row = w; links = λ meaning m. m }
+
+-- classes that are as they were
+module _ (before after : List ℕ) (w : Kept before after) where
+  pub kept-terms : terms after ≡ terms before
+  kept-terms = w .words 229382 (omega arith)
+
+  pub kept-term : (i : ℕ) → i < 16640 → termOf after i ≡ termOf before i
+  kept-term i l = w .classes (249864 + i * 2) (omega arith) (omega arith)
+
+  pub kept-numbered : (i : ℕ) → Numbered before i → Numbered after i
+  kept-numbered i n = record { low = n .low; below = (let e : terms after ≡ terms before = kept-terms in let z : i < terms before = n .below in omega arith); small = n .small }
+
+  kept-back : (i : ℕ) → Numbered after i → Numbered before i
+  kept-back i n = record { low = n .low; below = (let e : terms after ≡ terms before = kept-terms in let z : i < terms after = n .below in omega arith); small = n .small }
+
+  pub kept-belongs : (meaning : ℕ → RTerm) (term i : ℕ) → Belongs meaning before term i → Belongs meaning after term i
+  kept-belongs meaning term i b = record { numbered = kept-numbered i (b .numbered); same = b .same ∙ sym (ap meaning (kept-term i (b .numbered .small))) }
+
+  pub kept-links : (meaning : ℕ → RTerm) → Links meaning before → (i j : ℕ) → Numbered after i → linkOf after i ≡ j + 1 → j < 16640 → Same meaning after i j
+  kept-links meaning m i j n l s =
+      let o : i < 16640 = n .small in
+      let x : Same meaning before i j = m .links i j (kept-back i n) (sym (w .classes (249864 + i * 2 + 1) (omega arith) (omega arith)) ∙ l) s in
+      record { numbered = kept-numbered j (x .numbered); same = ap meaning (kept-term i o) ∙ (x .same ∙ sym (ap meaning (kept-term j s))) }
+
+  -- a number in a row that is as it was
+  pub kept-entry : (meaning : ℕ → RTerm) (k v : ℕ) → numberIn after k v ≡ numberIn before k v → (numberIn before k v ≡ 0) ⊎ Belongs meaning before (v - 255) (numberIn before k v) → (numberIn after k v ≡ 0) ⊎ Belongs meaning after (v - 255) (numberIn after k v)
+  kept-entry meaning k v e (inl z) = inl (e ∙ z)
+  kept-entry meaning k v e (inr b) = inr (subst⁻¹ (Belongs meaning after (v - 255)) e (kept-belongs meaning (v - 255) (numberIn before k v) b))
+
+half-zero : (h : ℕ) → half h 0 ≡ 0
+unfolding half
+half-zero zero = refl
+half-zero (suc h) = refl
+
+-- row k cleared, its node, a slot, the count
+module _ (before clean : List ℕ) (k s key : ℕ) (is : k ≡ rows before) (small : k < 4096) (slot : s < 16384) (fits : 315914 + k * 128 + 128 ≤ length before) (c : Cleared before clean (315914 + k * 128) 128) where
+  abbrev named : List ℕ
+  named = set clean (245768 + k) key
+
+  abbrev hinted : List ℕ
+  hinted = set named (229384 + s) k
+
+  abbrev pub opened : List ℕ
+  opened = set hinted 229383 (k + 1)
+
+  hinted-long : length hinted ≡ length before
+  hinted-long = length-set named (229384 + s) k ∙ (length-set clean (245768 + k) key ∙ c .long)
+
+  aside : (j : ℕ) → (j ≡ 245768 + k → ⊥) → (j ≡ 229384 + s → ⊥) → (j ≡ 229383 → ⊥) → getD opened j 0 ≡ getD clean j 0
+  aside j a b d = getD-set-other hinted 229383 j (k + 1) 0 d ∙ (getD-set-other named (229384 + s) j k 0 b ∙ getD-set-other clean (245768 + k) j key 0 a)
+
+  opened-count : rows opened ≡ k + 1
+  opened-count = getD-set-same hinted 229383 (k + 1) 0 (let e : length hinted ≡ length before = hinted-long in omega arith)
+
+  opened-key : keyOf opened k ≡ key
+  opened-key =
+      getD-set-other hinted 229383 (245768 + k) (k + 1) 0 (λ e. omega arith)
+      ∙ (getD-set-other named (229384 + s) (245768 + k) k 0 (λ e. omega arith) ∙ getD-set-same clean (245768 + k) key 0 (let e : length clean ≡ length before = c .long in omega arith))
+
+  opened-kept : Kept before opened
+  opened-kept =
+      record {
+        long = length-set hinted 229383 (k + 1) ∙ hinted-long;
+        words = λ j l. aside j (λ e. omega arith) (λ e. omega arith) (λ e. omega arith) ∙ c .low j (omega arith);
+        classes = λ j a b. aside j (λ e. omega arith) (λ e. omega arith) (λ e. omega arith) ∙ c .low j (omega arith);
+      }
+
+  opened-place : (r v : ℕ) → getD opened (315914 + r * 128 + v % 128) 0 ≡ getD clean (315914 + r * 128 + v % 128) 0
+  opened-place r v = aside (315914 + r * 128 + v % 128) (λ e. omega arith) (λ e. omega arith) (λ e. omega arith)
+
+  opened-entry : (meaning : ℕ → RTerm) → Links meaning before → (r v : ℕ) → r < rows opened → r < 4096 → 32 ≤ terms opened → v / 256 ≡ keyOf opened r → (numberIn opened r v ≡ 0) ⊎ Belongs meaning opened (v - 255) (numberIn opened r v)
+  opened-entry meaning m r v b t u e = go (eqb r k) refl
+    where
+      go : (z : Bool) → eqb r k ≡ z → (numberIn opened r v ≡ 0) ⊎ Belongs meaning opened (v - 255) (numberIn opened r v)
+      go true z =
+          let same : r ≡ k = eqb-true r k z in
+          inl (ap (half (v / 128 % 2)) (opened-place r v ∙ c .zero-words (315914 + r * 128 + v % 128) (omega arith) (omega arith)) ∙ half-zero (v / 128 % 2))
+      go false z =
+          let d : r ≡ k → ⊥ = eqb-false r k z in
+          let n : rows opened ≡ k + 1 = opened-count in
+          let l : r < k = omega (arith, d) in
+          kept-entry before opened opened-kept meaning r v (ap (half (v / 128 % 2)) (opened-place r v ∙ c .low (315914 + r * 128 + v % 128) (omega arith)))
+          (m .entries r v (omega arith) t (let q : terms opened ≡ terms before = kept-terms before opened opened-kept in omega arith)
+          (e ∙ (aside (245768 + r) (λ x. omega arith) (λ x. omega arith) (λ x. omega arith) ∙ c .low (245768 + r) (omega arith))))
+
+  pub opens-new : Opens before opened key (k + 1)
+  opens-new =
+      record {
+        kept = opened-kept;
+        row = inr (subst⁻¹ (Rowed opened key) (let z : k + 1 - 1 ≡ k = omega arith in z)
+            (record {
+              below = (let n : rows opened ≡ k + 1 = opened-count in omega arith);
+              small = small;
+              fits = (let n : length opened ≡ length before = opened-kept .long in omega arith);
+              names = opened-key;
+            }));
+        links = λ meaning m. record { links = kept-links before opened opened-kept meaning m; entries = opened-entry meaning m };
+      }
+
+-- ---- a number in a row
+
+pub half-stored : (h w i : ℕ) → i < 65536 → half h (stored h w i) ≡ i
+unfolding half stored
+half-stored zero w i l = omega arith
+half-stored (suc h) w i l = omega arith
+
+half-apart : (h g w i : ℕ) → h < 2 → g < 2 → (g ≡ h → ⊥) → i < 65536 → half g (stored h w i) ≡ half g w
+unfolding half stored
+half-apart zero zero w i a b n l = absurd (n refl)
+half-apart zero (suc g) w i a b n l = omega arith
+half-apart (suc h) zero w i a b n l = omega arith
+half-apart (suc h) (suc g) w i a b n l = absurd (n (let z : suc g ≡ suc h = omega arith in z))
+
+stored-low : (h w i : ℕ) → h ≡ 0 → w / 65536 % 65536 * 65536 + i ≡ stored h w i
+unfolding stored
+stored-low zero w i e = refl
+stored-low (suc h) w i e = absurd (omega arith)
+
+stored-high : (h w i : ℕ) → (h ≡ 0 → ⊥) → i * 65536 + w % 65536 ≡ stored h w i
+unfolding stored
+stored-high zero w i n = absurd (n refl)
+stored-high (suc h) w i n = refl
+
+quarter : (v : ℕ) → v / 128 / 2 ≡ v / 256
+quarter v = omega arith
+
+halves : (v : ℕ) → v ≡ v / 128 * 128 + v % 128
+halves v = omega arith
+
+parts : (a : ℕ) → a ≡ a / 2 * 2 + a % 2
+parts a = omega arith
+
+-- a word is known by its node, its half and its place
+word-same : (u v : ℕ) → u / 256 ≡ v / 256 → u % 128 ≡ v % 128 → u / 128 % 2 ≡ v / 128 % 2 → u ≡ v
+word-same u v e f g =
+    let a : u / 128 / 2 ≡ v / 128 / 2 = quarter u ∙ (e ∙ sym (quarter v)) in
+    let b : u / 128 ≡ v / 128 = parts (u / 128) ∙ (ap₂ (λ (x y : ℕ). x * 2 + y) a g ∙ sym (parts (v / 128))) in
+    halves u ∙ (ap₂ (λ (x y : ℕ). x * 128 + y) b f ∙ sym (halves v))
+
+abbrev pub placed : List ℕ → ℕ → ℕ → ℕ → List ℕ
+placed before k v i = set before (315914 + k * 128 + v % 128) (stored (v / 128 % 2) (getD before (315914 + k * 128 + v % 128) 0) i)
+
+pub placed-low : (before : List ℕ) (k v i w : ℕ) → w ≡ getD before (315914 + k * 128 + v % 128) 0 → v / 128 % 2 ≡ 0 → set before (315914 + k * 128 + v % 128) (w / 65536 % 65536 * 65536 + i) ≡ placed before k v i
+placed-low before k v i w e z = ap (set before (315914 + k * 128 + v % 128)) (stored-low (v / 128 % 2) w i z ∙ ap (λ (x : ℕ). stored (v / 128 % 2) x i) e)
+
+pub placed-high : (before : List ℕ) (k v i w : ℕ) → w ≡ getD before (315914 + k * 128 + v % 128) 0 → (v / 128 % 2 ≡ 0 → ⊥) → set before (315914 + k * 128 + v % 128) (i * 65536 + w % 65536) ≡ placed before k v i
+placed-high before k v i w e n = ap (set before (315914 + k * 128 + v % 128)) (stored-high (v / 128 % 2) w i n ∙ ap (λ (x : ℕ). stored (v / 128 % 2) x i) e)
+
+module _ (before : List ℕ) (k v i : ℕ) (w : Rowed before (v / 256) k) (small : i < 16640) where
+  abbrev at : ℕ
+  at = 315914 + k * 128 + v % 128
+
+  at-fits : at < length before
+  at-fits = let f : 315914 + k * 128 + 128 ≤ length before = w .fits in omega arith
+
+  placed-other : (j : ℕ) → (j ≡ at → ⊥) → getD (placed before k v i) j 0 ≡ getD before j 0
+  placed-other j d = getD-set-other before at j (stored (v / 128 % 2) (getD before at 0) i) 0 d
+
+  placed-at : getD (placed before k v i) at 0 ≡ stored (v / 128 % 2) (getD before at 0) i
+  placed-at = getD-set-same before at (stored (v / 128 % 2) (getD before at 0) i) 0 at-fits
+
+  placed-kept : Kept before (placed before k v i)
+  placed-kept =
+      record {
+        long = length-set before at (stored (v / 128 % 2) (getD before at 0) i);
+        words = λ j l. placed-other j (λ e. omega arith);
+        classes = λ j a b. placed-other j (λ e. omega arith);
+      }
+
+  abbrev after : List ℕ
+  after = placed before k v i
+
+  module _ (meaning : ℕ → RTerm) (m : Links meaning before) (b : Belongs meaning before (v - 255) i) where
+    abbrev Fine : ℕ → ℕ → Type 0
+    Fine r u = (numberIn after r u ≡ 0) ⊎ Belongs meaning after (u - 255) (numberIn after r u)
+
+    -- the number itself
+    fine-now : Fine k v
+    fine-now = inr (subst⁻¹ (Belongs meaning after (v - 255)) (ap (half (v / 128 % 2)) placed-at ∙ half-stored (v / 128 % 2) (getD before at 0) i (omega arith)) (kept-belongs before after placed-kept meaning (v - 255) i b))
+
+    fine-at : (u : ℕ) → u / 256 ≡ v / 256 → u % 128 ≡ v % 128 → (numberIn before k u ≡ 0) ⊎ Belongs meaning before (u - 255) (numberIn before k u) → (z : Bool) → eqb (u / 128 % 2) (v / 128 % 2) ≡ z → Fine k u
+    fine-at u e f o true z =
+        let g : u / 128 % 2 ≡ v / 128 % 2 = eqb-true (u / 128 % 2) (v / 128 % 2) z in
+        subst⁻¹ (Fine k) (word-same u v e f g) fine-now
+    fine-at u e f o false z =
+        let d : u / 128 % 2 ≡ v / 128 % 2 → ⊥ = eqb-false (u / 128 % 2) (v / 128 % 2) z in
+        kept-entry before after placed-kept meaning k u
+        (subst⁻¹ (λ (x : ℕ). half (u / 128 % 2) (getD after (315914 + k * 128 + x) 0) ≡ half (u / 128 % 2) (getD before (315914 + k * 128 + x) 0)) f
+        (ap (half (u / 128 % 2)) placed-at ∙ half-apart (v / 128 % 2) (u / 128 % 2) (getD before at 0) i (omega arith) (omega arith) d (omega arith)))
+        o
+
+    fine : (r u : ℕ) → u / 256 ≡ keyOf before r → (numberIn before r u ≡ 0) ⊎ Belongs meaning before (u - 255) (numberIn before r u) → (z : Bool) → eqb (315914 + r * 128 + u % 128) at ≡ z → Fine r u
+    fine r u e o true z =
+        let g : 315914 + r * 128 + u % 128 ≡ at = eqb-true (315914 + r * 128 + u % 128) at z in
+        let q : r ≡ k = omega arith in
+        let f : u % 128 ≡ v % 128 = omega arith in
+        subst⁻¹ (λ (x : ℕ). Fine x u) q
+        (fine-at u (e ∙ (ap (keyOf before) q ∙ w .names)) f (subst (λ (x : ℕ). (numberIn before x u ≡ 0) ⊎ Belongs meaning before (u - 255) (numberIn before x u)) q o) (eqb (u / 128 % 2) (v / 128 % 2)) refl)
+    fine r u e o false z = kept-entry before after placed-kept meaning r u (ap (half (u / 128 % 2)) (placed-other (315914 + r * 128 + u % 128) (eqb-false (315914 + r * 128 + u % 128) at z))) o
+
+    placed-links : Links meaning after
+    placed-links =
+        record {
+          links = kept-links before after placed-kept meaning m;
+          entries = λ r u l t x e.
+              (let f : u / 256 ≡ keyOf before r = e ∙ placed-other (245768 + r) (λ y. omega arith) in
+              fine r u f
+              (m .entries r u (let n : rows after ≡ rows before = placed-other 229383 (λ y. omega arith) in omega arith) t (let n : terms after ≡ terms before = kept-terms before after placed-kept in omega arith) f)
+              (eqb (315914 + r * 128 + u % 128) at) refl);
+        }
+
+kept-then : (before mid after : List ℕ) → Kept before mid → Kept mid after → Kept before after
+kept-then before mid after f g = record { long = g .long ∙ f .long; words = λ j l. g .words j l ∙ f .words j l; classes = λ j a b. g .classes j a b ∙ f .classes j a b }
+
+pub assigned-none : (before after : List ℕ) (term i key r : ℕ) → Opens before after key r → Assigns before after term i
+assigned-none before after term i key r o = record { kept = o .kept; links = λ meaning m b. o .links meaning m }
+
+pub assigned : (before mid : List ℕ) (term i r : ℕ) → Opens before mid ((term + 255) / 256) r → (r ≡ 0 → ⊥) → i < 16640 → (after : List ℕ) → after ≡ placed mid (r - 1) (term + 255) i → Assigns before after term i
+assigned before mid term i r o n small after e = subst⁻¹ (λ (l : List ℕ). Assigns before l term i) e (go (o .row))
+  where
+    go : (r ≡ 0) ⊎ Rowed mid ((term + 255) / 256) (r - 1) → Assigns before (placed mid (r - 1) (term + 255) i) term i
+    go (inl z) = absurd (n z)
+    go (inr w) =
+        record {
+          kept = kept-then before mid (placed mid (r - 1) (term + 255) i) (o .kept) (placed-kept mid (r - 1) (term + 255) i w small);
+          links = λ meaning m b.
+              placed-links mid (r - 1) (term + 255) i w small meaning (o .links meaning m)
+              (subst⁻¹ (λ (x : ℕ). Belongs meaning mid x i) (let z : term + 255 - 255 ≡ term = omega arith in z) (kept-belongs before mid (o .kept) meaning term i b));
+        }
+
+pub row-fits : (scratch : List ℕ) (key r : ℕ) → (r ≡ 0) ⊎ Rowed scratch key (r - 1) → (r ≡ 0 → ⊥) → (r - 1 < 4096) × (315914 + (r - 1) * 128 + 128 ≤ length scratch)
+row-fits scratch key r (inl z) n = absurd (n z)
+row-fits scratch key r (inr w) n = (w .small, w .fits)
+
+pub row-then : (scratch : List ℕ) (key r i : ℕ) → (r ≡ 0) ⊎ Rowed scratch key (r - 1) → (r ≡ 0 → ⊥) → i < 16640 → (r - 1 < 4096) × ((315914 + (r - 1) * 128 + 128 ≤ length scratch) × (i < 65536))
+row-then scratch key r i (inl z) n l = absurd (n z)
+row-then scratch key r i (inr w) n l = (w .small, (w .fits, omega arith))
 
 -- ---- remembering
 
--- two terms entered: nothing more to do where they lead to one
-module _ (before first second : List ℕ) (left right i j a b : ℕ) (f : Adds before first) (ei : Entered first left i) (g : Adds first second) (ej : Entered second right j) (ra : Reaches second i a) (rb : Reaches second j b) where
-  added-words : (k : ℕ) → k < 229382 → getD second k 0 ≡ getD before k 0
-  added-words k l = g .words k l ∙ f .words k l
+pub paired : (before first second after : List ℕ) (left right m : ℕ) → Fresh before first left m → Assigns first second left m → Assigns second after right m → Remembers before after left right
+paired before first second after left right m f a b =
+    record {
+      long = b .kept .long ∙ (a .kept .long ∙ f .long);
+      words = λ j l. b .kept .words j (omega arith) ∙ (a .kept .words j (omega arith) ∙ f .words j l);
+      links = λ meaning s k.
+          b .links meaning (a .links meaning (f .links meaning k) (mine meaning))
+          (kept-belongs first second (a .kept) meaning right m (record { numbered = f .numbered; same = sym s ∙ mine meaning .same }));
+    }
+  where
+    mine : (meaning : ℕ → RTerm) → Belongs meaning first left m
+    mine meaning = record { numbered = f .numbered; same = sym (ap meaning (f .is)) }
 
-  pub remembered-one : a ≡ b → Remembers before second left right
-  remembered-one e = record { long = g .long ∙ f .long; words = added-words; links = λ meaning s k. g .links meaning (f .links meaning k) }
+pub assigned-left : (before after : List ℕ) (left right j : ℕ) → 32 ≤ terms before → Entered before right j → Assigns before after left j → Remembers before after left right
+assigned-left before after left right j t e a =
+    record {
+      long = a .kept .long;
+      words = λ k l. a .kept .words k (omega arith);
+      links = λ meaning s m. (let b : Belongs meaning before right j = entered-belongs meaning before right j m t e in a .links meaning m (record { numbered = b .numbered; same = s ∙ b .same }));
+    }
 
-  pub remembered-joined : (after : List ℕ) → Joins second after a b → Remembers before after left right
-  remembered-joined after h =
-      record {
-        long = h .long ∙ (g .long ∙ f .long);
-        words = λ k l. h .words k l ∙ added-words k l;
-        links = λ meaning s k.
-            (let m : Links meaning second = g .links meaning (f .links meaning k) in
-            let ei2 : Entered second left i = g .stays left i ei in
-            let x : Same meaning second i a = ra .is meaning m (ei2 .numbered) in
-            let y : Same meaning second j b = rb .is meaning m (ej .numbered) in
-            h .links meaning m (x .numbered)
-            (record { numbered = y .numbered; same = sym (x .same) ∙ (ap meaning (ei2 .is) ∙ (s ∙ (sym (ap meaning (ej .is)) ∙ y .same))) }));
-      }
+pub assigned-right : (before after : List ℕ) (left right i : ℕ) → 32 ≤ terms before → Entered before left i → Assigns before after right i → Remembers before after left right
+assigned-right before after left right i t e a =
+    record {
+      long = a .kept .long;
+      words = λ k l. a .kept .words k (omega arith);
+      links = λ meaning s m. (let b : Belongs meaning before left i = entered-belongs meaning before left i m t e in a .links meaning m (record { numbered = b .numbered; same = sym s ∙ b .same }));
+    }
+
+pub merged-both : (before after : List ℕ) (left right i j : ℕ) → 32 ≤ terms before → Entered before left i → Entered before right j → Joins before after i j → Remembers before after left right
+merged-both before after left right i j t ei ej h =
+    record {
+      long = h .long;
+      words = h .words;
+      links = λ meaning s m.
+          (let u : Belongs meaning before left i = entered-belongs meaning before left i m t ei in
+          let v : Belongs meaning before right j = entered-belongs meaning before right j m t ej in
+          h .links meaning m (u .numbered) (record { numbered = v .numbered; same = sym (u .same) ∙ (s ∙ v .same) }));
+    }
 
 -- ---- weights
 
--- one or two words from 360,455 on
-pub weighed-one : (before : List ℕ) (i v : ℕ) → 360455 ≤ i → Weighed before (set before i v)
-weighed-one before i v l = record { long = length-set before i v; words = λ j k. getD-set-other before i j v 0 (λ e. omega arith) }
-
-pub weighed-two : (before : List ℕ) (i v j w : ℕ) → 360455 ≤ i → 360455 ≤ j → Weighed before (set (set before i v) j w)
-weighed-two before i v j w li lj =
+pub weighed-two : (before : List ℕ) (i v j w : ℕ) → 283144 ≤ i → i < 315914 → 283144 ≤ j → j < 315914 → Weighed before (set (set before i v) j w)
+weighed-two before i v j w li hi lj hj =
     record {
       long = length-set (set before i v) j w ∙ length-set before i v;
-      words = λ x k. getD-set-other (set before i v) j x w 0 (λ e. omega arith) ∙ getD-set-other before i x v 0 (λ e. omega arith);
+      low = λ x k. getD-set-other (set before i v) j x w 0 (λ e. omega arith) ∙ getD-set-other before i x v 0 (λ e. omega arith);
+      high = λ x k. getD-set-other (set before i v) j x w 0 (λ e. omega arith) ∙ getD-set-other before i x v 0 (λ e. omega arith);
     }
 
 pub weighed-remembers : (before after : List ℕ) (left right : ℕ) → Weighed before after → Remembers before after left right
 weighed-remembers before after left right k =
-    record { long = k .long; words = λ j l. k .words j (omega arith); links = λ meaning e m. links-kept before after (λ j a b. k .words j b) meaning m }
+    record { long = k .long; words = λ j l. k .low j (omega arith); links = λ meaning e m. links-kept before after (λ j a b. k .low j b) (k .high) meaning m }
 
 pub weighed-then : (before mid after : List ℕ) (left right : ℕ) → Weighed before mid → Remembers mid after left right → Remembers before after left right
 weighed-then before mid after left right k r =
     record {
       long = r .long ∙ k .long;
-      words = λ j l. r .words j l ∙ k .words j (omega arith);
-      links = λ meaning e m. r .links meaning e (links-kept before mid (λ j a b. k .words j b) meaning m);
+      words = λ j l. r .words j l ∙ k .low j (omega arith);
+      links = λ meaning e m. r .links meaning e (links-kept before mid (λ j a b. k .low j b) (k .high) meaning m);
     }

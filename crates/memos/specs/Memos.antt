@@ -1,47 +1,85 @@
 -- The memo of terms that are equal already: what its words mean, and what its functions promise.
-use Prim.Native.Nat.{ℕ, _+_, _*_, _/_, _≤_, _<_}
+use Prim.Native.Nat.{ℕ, zero, suc, _+_, _-_, _*_, _/_, _%_, _≤_, _<_}
 use mathlib.Core.Path.{_≡_}
 use mathlib.Core.List.{List}
+use mathlib.Core.Logic.{_⊎_}
 use lib.ListN.{length, getD}
 use Rattle.machine.specs.Substitution.{RTerm, Binding, resolve}
 use Rattle.layout.specs.Nodes.{Symbol}
 use Rattle.layout.specs.State.{valueOf}
 
--- how many terms there are; the word and the link of the term of number i
+-- how many classes there are, and how many rows
 abbrev pub terms : List ℕ → ℕ
 terms scratch = getD scratch 229382 0
 
+abbrev pub rows : List ℕ → ℕ
+rows scratch = getD scratch 229383 0
+
+-- the node whose row is that of number k
+abbrev pub keyOf : List ℕ → ℕ → ℕ
+keyOf scratch k = getD scratch (245768 + k) 0
+
+-- the first term and the link of the class of number i
 abbrev pub termOf : List ℕ → ℕ → ℕ
-termOf scratch i = getD scratch (294919 + i * 2) 0
+termOf scratch i = getD scratch (249864 + i * 2) 0
 
 abbrev pub linkOf : List ℕ → ℕ → ℕ
-linkOf scratch i = getD scratch (294919 + i * 2 + 1) 0 / 65536
+linkOf scratch i = getD scratch (249864 + i * 2 + 1) 0
+
+-- a word has two numbers: the lower, for 0, and the higher
+unfoldable pub half : ℕ → ℕ → ℕ
+half zero w = w % 65536
+half (suc n) w = w / 65536 % 65536
+
+unfoldable pub stored : ℕ → ℕ → ℕ → ℕ
+stored zero w i = w / 65536 % 65536 * 65536 + i
+stored (suc n) w i = i * 65536 + w % 65536
+
+-- the number in row k of the term whose word is v less 255
+abbrev pub numberIn : List ℕ → ℕ → ℕ → ℕ
+numberIn scratch k v = half (v / 128 % 2) (getD scratch (315914 + k * 128 + v % 128) 0)
 
 -- The first 32 pairs are only counted, so numbers begin at 32.
 pub record Numbered (scratch : List ℕ) (i : ℕ) : Type 0 where
   pub low : 32 ≤ i
   pub below : i < terms scratch
-  pub small : i < 32768
+  pub small : i < 16640
+
+-- Row k is that of a node.
+pub record Rowed (scratch : List ℕ) (key k : ℕ) : Type 0 where
+  pub below : k < rows scratch
+  pub small : k < 4096
+  pub fits : 315914 + k * 128 + 128 ≤ length scratch
+  pub names : keyOf scratch k ≡ key
 
 -- the number of a term
 pub record Entered (scratch : List ℕ) (term i : ℕ) : Type 0 where
-  pub numbered : Numbered scratch i
-  pub is : termOf scratch i ≡ term
+  pub row : ℕ
+  pub rowed : Rowed scratch ((term + 255) / 256) row
+  pub is : numberIn scratch row (term + 255) ≡ i
+  pub some : i ≡ 0 → ⊥
+  pub small : i < 16640
 
--- The terms of two numbers have one meaning.
+-- The classes of two numbers have one meaning.
 pub record Same (meaning : ℕ → RTerm) (scratch : List ℕ) (i j : ℕ) : Type 0 where
   pub numbered : Numbered scratch j
   pub same : meaning (termOf scratch i) ≡ meaning (termOf scratch j)
 
--- each link below 32,769 leads to a term of the same meaning
-abbrev pub Links : (ℕ → RTerm) → List ℕ → Type 0
-Links meaning scratch = (i j : ℕ) → Numbered scratch i → linkOf scratch i ≡ j + 1 → j < 32768 → Same meaning scratch i j
+-- A term has the meaning of the class of number i.
+pub record Belongs (meaning : ℕ → RTerm) (scratch : List ℕ) (term i : ℕ) : Type 0 where
+  pub numbered : Numbered scratch i
+  pub same : meaning term ≡ meaning (termOf scratch i)
 
--- Terms that are linked are equal with the bindings put in.
+-- Each link below 16,641 leads to a class of the same meaning, and each number in a row stands for a term of its class.
+pub record Links (meaning : ℕ → RTerm) (scratch : List ℕ) : Type 0 where
+  pub links : (i j : ℕ) → Numbered scratch i → linkOf scratch i ≡ j + 1 → j < 16640 → Same meaning scratch i j
+  pub entries : (k v : ℕ) → k < rows scratch → k < 4096 → 32 ≤ terms scratch → v / 256 ≡ keyOf scratch k → (numberIn scratch k v ≡ 0) ⊎ Belongs meaning scratch (v - 255) (numberIn scratch k v)
+
+-- Terms of one class are equal with the bindings put in.
 pub record Memo (ss : List Symbol) (nodes : List ℕ) (b : List Binding) (scratch : List ℕ) : Type 0 where
   pub links : Links (λ w. resolve b (valueOf ss nodes w)) scratch
 
--- Two words have one meaning, if what is linked has.
+-- Two words have one meaning, if what is in one class has.
 pub record Found (scratch : List ℕ) (left right : ℕ) : Type 0 where
   pub is : (meaning : ℕ → RTerm) → Links meaning scratch → meaning left ≡ meaning right
 
@@ -49,13 +87,36 @@ pub record Found (scratch : List ℕ) (left right : ℕ) : Type 0 where
 pub record Reaches (scratch : List ℕ) (i r : ℕ) : Type 0 where
   pub is : (meaning : ℕ → RTerm) → Links meaning scratch → Numbered scratch i → Same meaning scratch i r
 
--- At most one term more; the words before the memo are as they were.
-pub record Adds (before after : List ℕ) : Type 0 where
+-- The k words from base on are 0, and the others as they were.
+pub record Cleared (before after : List ℕ) (base k : ℕ) : Type 0 where
+  pub long : length after ≡ length before
+  pub zero-words : (j : ℕ) → base ≤ j → j < base + k → getD after j 0 ≡ 0
+  pub low : (j : ℕ) → j < base → getD after j 0 ≡ getD before j 0
+  pub high : (j : ℕ) → base + k ≤ j → getD after j 0 ≡ getD before j 0
+
+-- The classes, their number and the words before them are as they were.
+pub record Kept (before after : List ℕ) : Type 0 where
+  pub long : length after ≡ length before
+  pub words : (j : ℕ) → j < 229383 → getD after j 0 ≡ getD before j 0
+  pub classes : (j : ℕ) → 249864 ≤ j → j < 283144 → getD after j 0 ≡ getD before j 0
+
+-- There is a row for the node, or no room for it.
+pub record Opens (before after : List ℕ) (key r : ℕ) : Type 0 where
+  pub kept : Kept before after
+  pub row : (r ≡ 0) ⊎ Rowed after key (r - 1)
+  pub links : (meaning : ℕ → RTerm) → Links meaning before → Links meaning after
+
+-- A term came into a class, where there was room.
+pub record Assigns (before after : List ℕ) (term i : ℕ) : Type 0 where
+  pub kept : Kept before after
+  pub links : (meaning : ℕ → RTerm) → Links meaning before → Belongs meaning before term i → Links meaning after
+
+-- A class more, that of a term.
+pub record Fresh (before after : List ℕ) (term r : ℕ) : Type 0 where
   pub long : length after ≡ length before
   pub words : (j : ℕ) → j < 229382 → getD after j 0 ≡ getD before j 0
-  pub more : terms before ≤ terms after
-  pub few : terms after ≤ terms before + 1
-  pub stays : (term i : ℕ) → Entered before term i → Entered after term i
+  pub numbered : Numbered after r
+  pub is : termOf after r ≡ term
   pub links : (meaning : ℕ → RTerm) → Links meaning before → Links meaning after
 
 -- Two numbers of one meaning are linked.
@@ -64,13 +125,20 @@ pub record Joins (before after : List ℕ) (a b : ℕ) : Type 0 where
   pub words : (j : ℕ) → j < 229382 → getD after j 0 ≡ getD before j 0
   pub links : (meaning : ℕ → RTerm) → Links meaning before → Numbered before a → Same meaning before a b → Links meaning after
 
+-- No number is left.
+pub record Begins (before after : List ℕ) : Type 0 where
+  pub long : length after ≡ length before
+  pub words : (j : ℕ) → j < 229382 → getD after j 0 ≡ getD before j 0
+  pub links : (meaning : ℕ → RTerm) → Links meaning after
+
 -- Two words of one meaning are remembered.
 pub record Remembers (before after : List ℕ) (left right : ℕ) : Type 0 where
   pub long : length after ≡ length before
   pub words : (j : ℕ) → j < 229382 → getD after j 0 ≡ getD before j 0
   pub links : (meaning : ℕ → RTerm) → meaning left ≡ meaning right → Links meaning before → Links meaning after
 
--- The words before the weights are as they were.
+-- The words before the weights and behind them are as they were.
 pub record Weighed (before after : List ℕ) : Type 0 where
   pub long : length after ≡ length before
-  pub words : (j : ℕ) → j < 360455 → getD after j 0 ≡ getD before j 0
+  pub low : (j : ℕ) → j < 283144 → getD after j 0 ≡ getD before j 0
+  pub high : (j : ℕ) → 315914 ≤ j → getD after j 0 ≡ getD before j 0

@@ -1,28 +1,36 @@
-// The memo of unification: classes of terms that this call has made equal, each term as its word, in the scratch words behind the stack. A term has a
-// number, a slot found by a hash of its word holds this number, and its link leads to the number of another term of its class. Whatever else a slot
-// holds does no harm, for the term of that number names its slot and is compared too; so nothing is cleared, and a call begins with no terms. A pair
-// that is done joins two classes; so, while there is room, the pairs of many turns are no more than the terms.
+// The memo of unification: classes of terms that this call has made equal, in the scratch words behind the stack. A node that was met has a row, with a
+// place for each of its copies, where the number of the term's class stands; numbers are linked where their classes became one. A slot, found by the
+// node's place, says which row is the node's; whatever else it holds does no harm, for the row names its node and is compared. A row is cleared when it
+// is taken, so nothing else is cleared, and a call begins with no rows. Of two terms that are equal from now on, one was reached by way of a bound
+// cell; so a number that is new is paid for by a bound cell, and a table of scratch words that has a row for each node holds every term there is.
 use bindings::occurrence::word_at;
 ghost use mathlib.Core.Path.{_≡_};
 ghost use mathlib.Core.Bool.{true};
 ghost use mathlib.Core.Logic.{_⊎_};
-ghost use Prim.Native.Nat.{_+_, _*_, _%_, _≤_, _<_, _^_};
+ghost use Prim.Native.Nat.{_+_, _*_, _/_, _%_, _-_, _≤_, _<_, _^_};
 ghost use lib.ListN.{length, getD, set};
-ghost use Rattle.memos.specs.Memos.{terms, linkOf, Entered, Numbered, Found, Adds, Reaches, Joins, Remembers, Weighed};
+ghost use Rattle.memos.specs.Memos.{terms, linkOf, numberIn, stored, Rowed, Entered, Found, Cleared, Opens, Assigns, Fresh, Reaches, Joins, Begins, Remembers, Weighed};
 
-// Where the number of terms stands, where the slots and the terms begin, and how many there are of each.
+// Where the number of classes and the number of rows stand.
 const MEMO: usize = 229382;
 
-const SLOTS: usize = 229383;
+const ROWS: usize = 229383;
 
-const SLOT_COUNT: usize = 65536;
+// Where the slots begin, the nodes of the rows, the classes, and how many there may be of each.
+const SLOTS: usize = 229384;
 
-const TERMS: usize = 294919;
+const SLOT_COUNT: usize = 16384;
 
-const LIMIT: usize = 32768;
+const KEYS: usize = 245768;
+
+const KEY_COUNT: usize = 4096;
+
+const CLASSES: usize = 249864;
+
+const LIMIT: usize = 16640;
 
 // Where the weights of the stack's heights begin, how many there are, and the most that one counts.
-const WEIGHTS: usize = 360455;
+const WEIGHTS: usize = 283144;
 
 const HEIGHTS: usize = 32770;
 
@@ -31,10 +39,17 @@ const HEAVY: usize = 64;
 // So many pairs are only counted: most unifications are done before.
 const FEW: usize = 32;
 
-// A term's second word: its link times this, and its slot.
-const LINK: usize = 65536;
+// Where the rows begin, and how many words one has. A word has two numbers.
+const TABLE: usize = 315914;
 
-// No terms.
+const ROW: usize = 128;
+
+const HALF: usize = 65536;
+
+// A term's word and this, divided by 256, is the same for each copy of the node.
+const SHIFT: usize = 255;
+
+// No classes.
 pub fn forget(scratch: &mut [u32])
     requires { ⌜ 229382 < length (now scratch) ⌝ }
     ensures { λ _. ⌜ now (scratch .exit) ≡ set (now (scratch .entry)) 229382 0 ⌝ }
@@ -42,76 +57,72 @@ pub fn forget(scratch: &mut [u32])
     scratch[MEMO] = 0;
 }
 
-// The slot where the search for a term begins.
-fn slot_of(term: usize) -> usize
-    requires { ⌜ term < 2 ^ 32 ⌝ }
-    ensures { λ r. ⌜ r < 65536 ⌝ }
+// The row of a node and 1, or 0 where it has none.
+fn row_of(scratch: &[u32], key: usize) -> usize
+    requires { ⌜ (393225 ≤ length (now scratch)) × (key < 2 ^ 32) ⌝ }
+    ensures { λ r. ⌜ (r ≡ 0) ⊎ Rowed (now (scratch .entry)) key (r - 1) ⌝ }
 {
-    term * 2654435761 / 65536 % SLOT_COUNT
+    let slot = key / 2 % SLOT_COUNT;
+    let k = word_at(scratch, SLOTS + slot);
+    if KEY_COUNT <= k {
+        return 0;
+    }
+    if word_at(scratch, ROWS) <= k {
+        return 0;
+    }
+    if word_at(scratch, KEYS + k) != key {
+        return 0;
+    }
+    if scratch.len() < TABLE + k * ROW + ROW {
+        return 0;
+    }
+    k + 1
 }
 
-// The number of the term that has a slot, 0 for none.
-fn number_at(scratch: &[u32], slot: usize) -> usize
-    requires { ⌜ (393225 ≤ length (now scratch)) × (slot < 65536) ⌝ }
-    ensures { λ r. ⌜ (r ≡ 0) ⊎ Numbered (now (scratch .entry)) r ⌝ }
+// The number that stands in row k for the word v.
+fn number_in(scratch: &[u32], k: usize, v: usize) -> usize
+    requires { ⌜ (k < 4096) × (315914 + k * 128 + 128 ≤ length (now scratch)) ⌝ }
+    ensures { λ r. ⌜ r ≡ numberIn (now (scratch .entry)) k v ⌝ }
 {
-    let i = word_at(scratch, SLOTS + slot);
-    if i < FEW {
+    let at = TABLE + k * ROW + v % ROW;
+    let w = word_at(scratch, at);
+    if v / ROW % 2 == 0 {
+        return w % HALF;
+    }
+    w / HALF % HALF
+}
+
+// The number of a term's class, or 0 where it has none.
+fn number_of(scratch: &[u32], term: usize) -> usize
+    requires { ⌜ (393225 ≤ length (now scratch)) × (term < 2 ^ 32) ⌝ }
+    ensures { λ r. ⌜ (r ≡ 0) ⊎ Entered (now (scratch .entry)) term r ⌝ }
+{
+    let v = term + SHIFT;
+    let row = row_of(scratch, v / 256);
+    if row == 0 {
         return 0;
     }
+    let k = row - 1;
+    let i = number_in(scratch, k, v);
     if LIMIT <= i {
-        return 0;
-    }
-    if word_at(scratch, MEMO) <= i {
-        return 0;
-    }
-    let at = TERMS + i * 2 + 1;
-    if word_at(scratch, at) % LINK != slot {
         return 0;
     }
     i
 }
 
-// What a search comes to: the number of the term, or 0 and a slot that is free.
-struct Sought {
-    slot: usize,
-    number: usize,
-}
-
-fn seek(scratch: &[u32], term: usize) -> Sought
-    requires { ⌜ (393225 ≤ length (now scratch)) × (term < 2 ^ 32) ⌝ }
-    ensures slot { λ r. ⌜ r .slot < 65536 ⌝ }
-    ensures number { λ r. ⌜ (r .number ≡ 0) ⊎ Entered (now (scratch .entry)) term (r .number) ⌝ }
-{
-    let mut slot = slot_of(term);
-    let mut k = 0;
-    while k < SLOT_COUNT {
-        let i = number_at(scratch, slot);
-        if i == 0 {
-            return Sought { slot, number: 0 };
-        }
-        if word_at(scratch, TERMS + i * 2) == term {
-            return Sought { slot, number: i };
-        }
-        slot = (slot + 1) % SLOT_COUNT;
-        k += 1;
-    }
-    Sought { slot, number: 0 }
-}
-
-// The link of the term of number i: 0, or the number of another term of its class and 1, or from 32,769 on its rank.
+// The link of number i: 0, or another number of its class and 1, or from 16,641 on its rank.
 fn link_at(scratch: &[u32], i: usize) -> usize
-    requires { ⌜ (393225 ≤ length (now scratch)) × (i < 32768) ⌝ }
+    requires { ⌜ (393225 ≤ length (now scratch)) × (i < 16640) ⌝ }
     ensures { λ r. ⌜ r ≡ linkOf (now (scratch .entry)) i ⌝ }
 {
-    let at = TERMS + i * 2 + 1;
-    word_at(scratch, at) / LINK
+    let at = CLASSES + i * 2 + 1;
+    word_at(scratch, at)
 }
 
-// Where the links lead from the term of number i.
+// Where the links lead from number i.
 fn root_of(scratch: &[u32], i: usize) -> usize
-    requires { ⌜ (393225 ≤ length (now scratch)) × (i < 32768) ⌝ }
-    ensures small { λ r. ⌜ r < 32768 ⌝ }
+    requires { ⌜ (393225 ≤ length (now scratch)) × (i < 16640) ⌝ }
+    ensures small { λ r. ⌜ r < 16640 ⌝ }
     ensures leads { λ r. ⌜ Reaches (now (scratch .entry)) i r ⌝ }
 {
     let mut r = i;
@@ -138,13 +149,11 @@ pub fn known(scratch: &[u32], left: usize, right: usize) -> bool
     if word_at(scratch, MEMO) <= FEW {
         return false;
     }
-    let l = seek(scratch, left);
-    let i = l.number;
+    let i = number_of(scratch, left);
     if i == 0 {
         return false;
     }
-    let r = seek(scratch, right);
-    let j = r.number;
+    let j = number_of(scratch, right);
     if j == 0 {
         return false;
     }
@@ -153,49 +162,114 @@ pub fn known(scratch: &[u32], left: usize, right: usize) -> bool
     a == b
 }
 
-// The term of number m, and its slot.
-fn put_term(scratch: &mut [u32], m: usize, slot: usize, term: usize)
-    requires { ⌜ (393225 ≤ length (now scratch)) × ((m ≡ terms (now scratch)) × ((32 ≤ m) × ((m < 32768) × ((slot < 65536) × (term < 2 ^ 32))))) ⌝ }
-    ensures entered { λ _. ⌜ Entered (now (scratch .exit)) term m ⌝ }
-    ensures adds { λ _. ⌜ Adds (now (scratch .entry)) (now (scratch .exit)) ⌝ }
+// The words of a row.
+fn clear(scratch: &mut [u32], base: usize)
+    requires { ⌜ base + 128 ≤ length (now scratch) ⌝ }
+    ensures { λ _. ⌜ Cleared (now (scratch .entry)) (now (scratch .exit)) base 128 ⌝ }
 {
-    let at = TERMS + m * 2;
-    scratch[SLOTS + slot] = m as u32;
-    scratch[at] = term as u32;
-    scratch[at + 1] = slot as u32;
-    scratch[MEMO] = (m + 1) as u32;
+    let mut k = 0;
+    while k < ROW {
+        scratch[base + k] = 0;
+        k += 1;
+    }
 }
 
-// The number of a term, which is new where it has none.
-fn number_of(scratch: &mut [u32], term: usize) -> usize
-    requires { ⌜ (393225 ≤ length (now scratch)) × ((32 ≤ terms (now scratch)) × ((terms (now scratch) < 32768) × (term < 2 ^ 32))) ⌝ }
-    ensures entered { λ r. ⌜ Entered (now (scratch .exit)) term r ⌝ }
-    ensures adds { λ _. ⌜ Adds (now (scratch .entry)) (now (scratch .exit)) ⌝ }
+// A row for a node: its number and 1, or 0 where there is no room.
+fn new_row(scratch: &mut [u32], key: usize) -> usize
+    requires { ⌜ (393225 ≤ length (now scratch)) × (key < 2 ^ 32) ⌝ }
+    ensures { λ r. ⌜ Opens (now (scratch .entry)) (now (scratch .exit)) key r ⌝ }
 {
-    let sought = seek(scratch, term);
-    let number = sought.number;
-    if number != 0 {
-        return number;
+    let k = word_at(scratch, ROWS);
+    if KEY_COUNT <= k {
+        return 0;
     }
+    let base = TABLE + k * ROW;
+    if scratch.len() < base + ROW {
+        return 0;
+    }
+    clear(scratch, base);
+    let slot = key / 2 % SLOT_COUNT;
+    scratch[KEYS + k] = key as u32;
+    scratch[SLOTS + slot] = k as u32;
+    scratch[ROWS] = (k + 1) as u32;
+    k + 1
+}
+
+// The row of a node, which is new where it has none.
+fn row_for(scratch: &mut [u32], key: usize) -> usize
+    requires { ⌜ (393225 ≤ length (now scratch)) × (key < 2 ^ 32) ⌝ }
+    ensures { λ r. ⌜ Opens (now (scratch .entry)) (now (scratch .exit)) key r ⌝ }
+{
+    let row = row_of(scratch, key);
+    if row != 0 {
+        return row;
+    }
+    new_row(scratch, key)
+}
+
+// The number i in row k for the word v.
+fn put_number(scratch: &mut [u32], k: usize, v: usize, i: usize)
+    requires { ⌜ (k < 4096) × ((315914 + k * 128 + 128 ≤ length (now scratch)) × (i < 65536)) ⌝ }
+    ensures { λ _. ⌜ now (scratch .exit) ≡ set (now (scratch .entry)) (315914 + k * 128 + v % 128) (stored (v / 128 % 2) (getD (now (scratch .entry)) (315914 + k * 128 + v % 128) 0) i) ⌝ }
+{
+    let at = TABLE + k * ROW + v % ROW;
+    let w = word_at(scratch, at);
+    if v / ROW % 2 == 0 {
+        scratch[at] = (w / HALF % HALF * HALF + i) as u32;
+        return;
+    }
+    scratch[at] = (i * HALF + w % HALF) as u32;
+}
+
+// A term into the class of number i, where there is room.
+fn assign(scratch: &mut [u32], term: usize, i: usize)
+    requires { ⌜ (393225 ≤ length (now scratch)) × ((term < 2 ^ 32) × (i < 16640)) ⌝ }
+    ensures { λ _. ⌜ Assigns (now (scratch .entry)) (now (scratch .exit)) term i ⌝ }
+{
+    let v = term + SHIFT;
+    let row = row_for(scratch, v / 256);
+    if row == 0 {
+        return;
+    }
+    let k = row - 1;
+    put_number(scratch, k, v, i);
+}
+
+// A number for the class of a term.
+fn fresh(scratch: &mut [u32], term: usize) -> usize
+    requires { ⌜ (393225 ≤ length (now scratch)) × ((32 ≤ terms (now scratch)) × ((terms (now scratch) < 16640) × (term < 2 ^ 32))) ⌝ }
+    ensures { λ r. ⌜ Fresh (now (scratch .entry)) (now (scratch .exit)) term r ⌝ }
+{
     let m = word_at(scratch, MEMO);
-    let slot = sought.slot;
-    put_term(scratch, m, slot, term);
+    let at = CLASSES + m * 2;
+    scratch[at] = term as u32;
+    scratch[at + 1] = 0;
+    scratch[MEMO] = (m + 1) as u32;
     m
 }
 
-// A link for the term of number i.
-fn put_link(scratch: &mut [u32], i: usize, link: usize)
-    requires { ⌜ (393225 ≤ length (now scratch)) × ((i < 32768) × (link < 65536)) ⌝ }
-    ensures { λ _. ⌜ now (scratch .exit) ≡ set (now (scratch .entry)) (294919 + i * 2 + 1) (link * 65536 + getD (now (scratch .entry)) (294919 + i * 2 + 1) 0 % 65536) ⌝ }
+// A class of two terms.
+fn pair_up(scratch: &mut [u32], left: usize, right: usize)
+    requires { ⌜ (393225 ≤ length (now scratch)) × ((32 ≤ terms (now scratch)) × ((terms (now scratch) < 16640) × ((left < 2 ^ 32) × (right < 2 ^ 32)))) ⌝ }
+    ensures { λ _. ⌜ Remembers (now (scratch .entry)) (now (scratch .exit)) left right ⌝ }
 {
-    let at = TERMS + i * 2 + 1;
-    let slot = word_at(scratch, at) % LINK;
-    scratch[at] = (link * LINK + slot) as u32;
+    let m = fresh(scratch, left);
+    assign(scratch, left, m);
+    assign(scratch, right, m);
 }
 
-// The link of a class's term that had x, once a class whose term had y is linked to it: its rank grows where the two were equal.
+// A link for number i.
+fn put_link(scratch: &mut [u32], i: usize, link: usize)
+    requires { ⌜ (393225 ≤ length (now scratch)) × ((i < 16640) × (link < 65536)) ⌝ }
+    ensures { λ _. ⌜ now (scratch .exit) ≡ set (now (scratch .entry)) (249864 + i * 2 + 1) link ⌝ }
+{
+    let at = CLASSES + i * 2 + 1;
+    scratch[at] = link as u32;
+}
+
+// The link of a class's number that had x, once a class whose number had y is linked to it: its rank grows where the two were equal.
 fn raised(x: usize, y: usize) -> usize
-    ensures { λ r. ⌜ (32768 < r) × (r < 65536) ⌝ }
+    ensures { λ r. ⌜ (16640 < r) × (r < 65536) ⌝ }
 {
     if x <= LIMIT {
         return LIMIT + 1;
@@ -209,9 +283,9 @@ fn raised(x: usize, y: usize) -> usize
     x
 }
 
-// The terms of two numbers, to which their classes lead, in one class: the one of lower rank is linked to the other.
+// Two numbers, to which their classes lead, in one class: the one of lower rank is linked to the other.
 fn join(scratch: &mut [u32], a: usize, b: usize)
-    requires { ⌜ (393225 ≤ length (now scratch)) × ((a < 32768) × (b < 32768)) ⌝ }
+    requires { ⌜ (393225 ≤ length (now scratch)) × ((a < 16640) × (b < 16640)) ⌝ }
     ensures { λ _. ⌜ Joins (now (scratch .entry)) (now (scratch .exit)) a b ⌝ }
 {
     let x = link_at(scratch, a);
@@ -224,22 +298,11 @@ fn join(scratch: &mut [u32], a: usize, b: usize)
     put_link(scratch, a, raised(x, y));
 }
 
-// The two terms, which had their arguments done, in one class, unless they are among the first. Where there is no room left, the memo begins anew.
-fn enter(scratch: &mut [u32], left: usize, right: usize)
-    requires { ⌜ (393225 ≤ length (now scratch)) × ((left < 2 ^ 32) × (right < 2 ^ 32)) ⌝ }
-    ensures { λ _. ⌜ Remembers (now (scratch .entry)) (now (scratch .exit)) left right ⌝ }
+// The classes of two numbers in one.
+fn merge(scratch: &mut [u32], i: usize, j: usize)
+    requires { ⌜ (393225 ≤ length (now scratch)) × ((i < 16640) × (j < 16640)) ⌝ }
+    ensures { λ _. ⌜ Joins (now (scratch .entry)) (now (scratch .exit)) i j ⌝ }
 {
-    let m = word_at(scratch, MEMO);
-    if m < FEW {
-        scratch[MEMO] = (m + 1) as u32;
-        return;
-    }
-    if LIMIT - 2 < m {
-        scratch[MEMO] = FEW as u32;
-        return;
-    }
-    let i = number_of(scratch, left);
-    let j = number_of(scratch, right);
     let a = root_of(scratch, i);
     let b = root_of(scratch, j);
     if a == b {
@@ -248,36 +311,114 @@ fn enter(scratch: &mut [u32], left: usize, right: usize)
     join(scratch, a, b);
 }
 
-// How many pairs were done since a pair was put at height h of the stack, and it; they weigh on the height below.
-fn weigh(scratch: &mut [u32], h: usize) -> usize
+// No rows, and k classes, which have no number.
+fn begin(scratch: &mut [u32], k: usize)
+    requires { ⌜ (393225 ≤ length (now scratch)) × (k ≤ 32) ⌝ }
+    ensures { λ _. ⌜ Begins (now (scratch .entry)) (now (scratch .exit)) ⌝ }
+{
+    scratch[ROWS] = 0;
+    scratch[MEMO] = k as u32;
+}
+
+// Whether there is no room for two rows more.
+fn is_crowded(scratch: &[u32]) -> bool
+    requires { ⌜ 393225 ≤ length (now scratch) ⌝ }
+{
+    let k = word_at(scratch, ROWS);
+    if KEY_COUNT - 2 < k {
+        return true;
+    }
+    scratch.len() < TABLE + k * ROW + 2 * ROW
+}
+
+// The two terms in one class.
+fn place(scratch: &mut [u32], left: usize, right: usize) 
+    requires { ⌜ (393225 ≤ length (now scratch)) × ((32 ≤ terms (now scratch)) × ((terms (now scratch) < 16640) × ((left < 2 ^ 32) × (right < 2 ^ 32)))) ⌝ }
+    ensures { λ _. ⌜ Remembers (now (scratch .entry)) (now (scratch .exit)) left right ⌝ }
+{
+    let i = number_of(scratch, left);
+    let j = number_of(scratch, right);
+    if i == 0 {
+        if j == 0 {
+            pair_up(scratch, left, right);
+            return;
+        }
+        assign(scratch, left, j);
+        return;
+    }
+    if j == 0 {
+        assign(scratch, right, i);
+        return;
+    }
+    merge(scratch, i, j);
+}
+
+// The two terms, which had their arguments done, in one class, unless they are among the first. Where there is no room left, the memo begins anew.
+fn enter(scratch: &mut [u32], left: usize, right: usize)
+    requires { ⌜ (393225 ≤ length (now scratch)) × ((left < 2 ^ 32) × (right < 2 ^ 32)) ⌝ }
+    ensures { λ _. ⌜ Remembers (now (scratch .entry)) (now (scratch .exit)) left right ⌝ }
+{
+    let m = word_at(scratch, MEMO);
+    if m < FEW {
+        begin(scratch, m + 1);
+        return;
+    }
+    if LIMIT <= m {
+        begin(scratch, FEW);
+        return;
+    }
+    if is_crowded(scratch) {
+        begin(scratch, FEW);
+        return;
+    }
+    place(scratch, left, right);
+}
+
+// The sum of two weights, at most 64.
+fn sum(x: usize, y: usize) -> usize
+    ensures { λ r. ⌜ r ≤ 64 ⌝ }
+{
+    if HEAVY <= x {
+        return HEAVY;
+    }
+    if HEAVY <= y {
+        return HEAVY;
+    }
+    let z = x + y;
+    if HEAVY <= z {
+        return HEAVY;
+    }
+    z
+}
+
+// Whether it takes long to find the pair at height h of the stack equal again, which is done: it weighs the size of its terms, and what the pairs
+// weigh that were put upon it. On the height below weighs so much, or 1 where the pair is to be remembered.
+fn weigh(scratch: &mut [u32], h: usize, size: usize) -> bool
     requires { ⌜ (393225 ≤ length (now scratch)) × (h < 32769) ⌝ }
     ensures { λ _. ⌜ Weighed (now (scratch .entry)) (now (scratch .exit)) ⌝ }
 {
     let at = WEIGHTS + h;
-    let inside = word_at(scratch, at + 1);
-    let before = word_at(scratch, at);
+    let weight = sum(word_at(scratch, at + 1), size);
+    let below = word_at(scratch, at);
     scratch[at + 1] = 0;
-    if HEAVY <= inside {
-        scratch[at] = HEAVY as u32;
-        return HEAVY;
+    if weight < HEAVY {
+        scratch[at] = sum(below, weight) as u32;
+        return false;
     }
-    if HEAVY <= before {
-        return inside + 1;
-    }
-    scratch[at] = (before + inside + 1) as u32;
-    inside + 1
+    scratch[at] = sum(below, 1) as u32;
+    true
 }
 
-// The two terms, a pair at height h of the stack, are known to be equal from now on, unless this can be found again in a few turns.
-pub fn remember(scratch: &mut [u32], h: usize, left: usize, right: usize)
+// The two terms, a pair at height h of the stack whose left term has so many words, are known to be equal from now on, unless this can be found again in a
+// few turns.
+pub fn remember(scratch: &mut [u32], h: usize, size: usize, left: usize, right: usize)
     requires { ⌜ (393225 ≤ length (now scratch)) × ((left < 2 ^ 32) × (right < 2 ^ 32)) ⌝ }
     ensures { λ _. ⌜ Remembers (now (scratch .entry)) (now (scratch .exit)) left right ⌝ }
 {
     if HEIGHTS - 2 < h {
         return;
     }
-    if weigh(scratch, h) < HEAVY {
-        return;
+    if weigh(scratch, h, size) {
+        enter(scratch, left, right);
     }
-    enter(scratch, left, right);
 }

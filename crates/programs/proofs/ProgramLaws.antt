@@ -12,7 +12,7 @@ use Rattle.loader.specs.Loading.{Loadable, Loaded}
 use Rattle.linker.specs.Linking.{Linkable}
 use Rattle.syntax.specs.declared.Report.{Report}
 use Rattle.runs.specs.Running.{Spelt, Lent, Runnable, Runs}
-use Rattle.programs.specs.Programs.{Zeros, Programmed, Linked}
+use Rattle.programs.specs.Programs.{Zeros, Blank, Programmed, Linked}
 
 zero-at : (n i : ℕ) → _≡_ {A = ℕ} (getD (replicate n 0) i 0) 0
 zero-at zero i = refl
@@ -21,6 +21,9 @@ zero-at (suc n) (suc i) = zero-at n i
 
 pub zeros : (n : ℕ) → Zeros n (replicate n 0)
 zeros n = record { long = sym (length-replicate n 0); zero-words = zero-at n }
+
+pub blank : (n : ℕ) (scratch : List ℕ) → 393225 ≤ n → Zeros n scratch → Blank scratch
+blank n scratch l z = record { roomy = (let e : n ≡ length scratch = z .long in omega arith); zero-words = z .zero-words }
 
 module _ {sheet table : List ℕ} {clauses : ℕ} {goal goals : List ℕ} {literals : ℕ} {names : List ℕ} {count : ℕ} (w : Programmed sheet table clauses goal goals literals names count) where
   pub loads : {nodes symbols : List ℕ} → Zeros 46428 nodes → Zeros 46428 symbols → Loadable sheet table clauses goal goals literals nodes symbols
@@ -89,10 +92,10 @@ module _ {sheet table : List ℕ} {clauses : ℕ} {goal goals : List ℕ} {liter
       program-runs q = q linked
 
 module _ {sheet goal names : List ℕ} {count : ℕ} {nodes code symbols : List ℕ} (w : Linked sheet goal names count nodes code symbols) where
-  pub runnable : {state scratch stack text : List ℕ} → Zeros 35328 state → Zeros 393225 scratch → Ample stack (length text * 2 + 4) → Runnable sheet goal names count nodes code symbols state scratch stack text
+  pub runnable : {state scratch stack text : List ℕ} → Zeros 35328 state → Blank scratch → Ample stack (length text * 2 + 4) → Runnable sheet goal names count nodes code symbols state scratch stack text
   runnable {state} {scratch} {stack} {text} z y x =
       let a : 35328 ≡ length state = z .long in
-      let b : 393225 ≡ length scratch = y .long in
+      let b : 393225 ≤ length scratch = y .roomy in
       record {
         ss = w .ss;
         sh = w .sh;
@@ -104,6 +107,6 @@ module _ {sheet goal names : List ℕ} {count : ℕ} {nodes code symbols : List 
         lent = record { roomy = omega arith; clean = record { long = omega arith; zero = λ i l. y .zero-words i }; deep = x };
       }
 
-  pub linked-runs : {state scratch stack text : List ℕ} {allowance wanted : ℕ} {old new : List ℕ} {r : Report} → Zeros 35328 state → Zeros 393225 scratch → Ample stack (length text * 2 + 4) → ((v : Runnable sheet goal names count nodes code symbols state scratch stack text) → Runs (v .sh) (v .g) allowance wanted old new r) → Runs (w .sh) (w .g) allowance wanted old new r
+  pub linked-runs : {state scratch stack text : List ℕ} {allowance wanted : ℕ} {old new : List ℕ} {r : Report} → Zeros 35328 state → Blank scratch → Ample stack (length text * 2 + 4) → ((v : Runnable sheet goal names count nodes code symbols state scratch stack text) → Runs (v .sh) (v .g) allowance wanted old new r) → Runs (w .sh) (w .g) allowance wanted old new r
   unfolding runnable
   linked-runs z y x k = k (runnable z y x)

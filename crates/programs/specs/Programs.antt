@@ -18,6 +18,11 @@ pub record Zeros (k : ℕ) (words : List ℕ) : Type 0 where
   pub long : k ≡ length words
   pub zero-words : (i : ℕ) → getD words i 0 ≡ 0
 
+-- Words for unification, all zero.
+pub record Blank (scratch : List ℕ) : Type 0 where
+  pub roomy : 393225 ≤ length scratch
+  pub zero-words : (i : ℕ) → getD scratch i 0 ≡ 0
+
 -- Within document 01's limits, in tables of these sizes; the goal's variables are spelt in it.
 pub record Programmed (sheet table : List ℕ) (clauses : ℕ) (goal goals : List ℕ) (literals : ℕ) (names : List ℕ) (count : ℕ) : Type 0 where
   pub sh : Sheet

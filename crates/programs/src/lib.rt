@@ -7,7 +7,7 @@ ghost use Prim.Native.Nat.{_+_, _*_, _≤_};
 ghost use lib.ListN.{length};
 ghost use Rattle.spelling.specs.Telling.{Ample};
 ghost use Rattle.runs.specs.Running.{Runs};
-ghost use Rattle.programs.specs.Programs.{Zeros, Programmed, Linked};
+ghost use Rattle.programs.specs.Programs.{Zeros, Blank, Programmed, Linked};
 
 // Room for the nodes of both texts, and as much for their symbols.
 fn node_words() -> [u32; 46428]
@@ -30,11 +30,18 @@ fn state_words() -> [u32; 35328]
     [0; 35328]
 }
 
-// Room for unification.
-fn scratch_words() -> [u32; 393225]
-    ensures { λ r. ⌜ Zeros 393225 r ⌝ }
+// Room for unification under a sheet of at most 2,048 bytes: its memo has 617 rows, one for each five bytes of both texts and two.
+fn narrow_words() -> [u32; 394890]
+    ensures { λ r. ⌜ Zeros 394890 r ⌝ }
 {
-    [0; 393225]
+    [0; 394890]
+}
+
+// Room for unification under any sheet: 3,484 rows.
+fn wide_words() -> [u32; 761866]
+    ensures { λ r. ⌜ Zeros 761866 r ⌝ }
+{
+    [0; 761866]
 }
 
 // Room for the open brackets of an answer in a text of at most 16,384 bytes.
@@ -51,7 +58,111 @@ fn stack_words() -> [u32; 524320]
     [0; 524320]
 }
 
-// A loaded and linked program run, with a stack for the brackets of its answers.
+// A loaded and linked program run, with room for unification and a stack for the brackets of its answers.
+fn run_over(
+    sheet: &[u8],
+    goal: &[u8],
+    names: &[u32],
+    count: usize,
+    nodes: &[u32],
+    code: &[u32],
+    symbols: &[u32],
+    scratch: &mut [u32],
+    stack: &mut [u32],
+    text: &mut [u8],
+    allowance: usize,
+    wanted: usize,
+) -> Report
+    requires { ⌜ (Linked (now sheet) (now goal) (now names) count (now nodes) (now code) (now symbols)) × (Blank (now scratch) × Ample (now stack) (length (now text) * 2 + 4)) ⌝ }
+    ensures { λ r. ⌜ ((w : Linked (now (sheet .entry)) (now (goal .entry)) (now (names .entry)) count (now (nodes .entry)) (now (code .entry)) (now (symbols .entry))) → Runs (w .sh) (w .g) allowance wanted (now (text .entry)) (now (text .exit)) r) ⌝ }
+{
+    let mut state = state_words();
+    run(
+        sheet,
+        goal,
+        names,
+        count,
+        nodes,
+        code,
+        symbols,
+        &mut state,
+        scratch,
+        stack,
+        text,
+        allowance,
+        wanted,
+    )
+}
+
+// The run under a sheet of at most 2,048 bytes.
+fn run_narrow(
+    sheet: &[u8],
+    goal: &[u8],
+    names: &[u32],
+    count: usize,
+    nodes: &[u32],
+    code: &[u32],
+    symbols: &[u32],
+    stack: &mut [u32],
+    text: &mut [u8],
+    allowance: usize,
+    wanted: usize,
+) -> Report
+    requires { ⌜ (Linked (now sheet) (now goal) (now names) count (now nodes) (now code) (now symbols)) × Ample (now stack) (length (now text) * 2 + 4) ⌝ }
+    ensures { λ r. ⌜ ((w : Linked (now (sheet .entry)) (now (goal .entry)) (now (names .entry)) count (now (nodes .entry)) (now (code .entry)) (now (symbols .entry))) → Runs (w .sh) (w .g) allowance wanted (now (text .entry)) (now (text .exit)) r) ⌝ }
+{
+    let mut scratch = narrow_words();
+    run_over(
+        sheet,
+        goal,
+        names,
+        count,
+        nodes,
+        code,
+        symbols,
+        &mut scratch,
+        stack,
+        text,
+        allowance,
+        wanted,
+    )
+}
+
+// The run under any sheet.
+fn run_wide(
+    sheet: &[u8],
+    goal: &[u8],
+    names: &[u32],
+    count: usize,
+    nodes: &[u32],
+    code: &[u32],
+    symbols: &[u32],
+    stack: &mut [u32],
+    text: &mut [u8],
+    allowance: usize,
+    wanted: usize,
+) -> Report
+    requires { ⌜ (Linked (now sheet) (now goal) (now names) count (now nodes) (now code) (now symbols)) × Ample (now stack) (length (now text) * 2 + 4) ⌝ }
+    ensures { λ r. ⌜ ((w : Linked (now (sheet .entry)) (now (goal .entry)) (now (names .entry)) count (now (nodes .entry)) (now (code .entry)) (now (symbols .entry))) → Runs (w .sh) (w .g) allowance wanted (now (text .entry)) (now (text .exit)) r) ⌝ }
+{
+    let mut scratch = wide_words();
+    run_over(
+        sheet,
+        goal,
+        names,
+        count,
+        nodes,
+        code,
+        symbols,
+        &mut scratch,
+        stack,
+        text,
+        allowance,
+        wanted,
+    )
+}
+
+// The run with a stack for the brackets of its answers. Only the room that unification needs under this sheet is cleared.
 fn run_with(
     sheet: &[u8],
     goal: &[u8],
@@ -68,9 +179,22 @@ fn run_with(
     requires { ⌜ (Linked (now sheet) (now goal) (now names) count (now nodes) (now code) (now symbols)) × Ample (now stack) (length (now text) * 2 + 4) ⌝ }
     ensures { λ r. ⌜ ((w : Linked (now (sheet .entry)) (now (goal .entry)) (now (names .entry)) count (now (nodes .entry)) (now (code .entry)) (now (symbols .entry))) → Runs (w .sh) (w .g) allowance wanted (now (text .entry)) (now (text .exit)) r) ⌝ }
 {
-    let mut state = state_words();
-    let mut scratch = scratch_words();
-    run(
+    if sheet.len() <= 2048 {
+        return run_narrow(
+            sheet,
+            goal,
+            names,
+            count,
+            nodes,
+            code,
+            symbols,
+            stack,
+            text,
+            allowance,
+            wanted,
+        );
+    }
+    run_wide(
         sheet,
         goal,
         names,
@@ -78,8 +202,6 @@ fn run_with(
         nodes,
         code,
         symbols,
-        &mut state,
-        &mut scratch,
         stack,
         text,
         allowance,

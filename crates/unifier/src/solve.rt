@@ -155,8 +155,8 @@ fn meet(
     cross(nodes, state, scratch, h, p, c, q, d)
 }
 
-// The top pair's rows are done: its two terms are equal from now on.
-fn pass(scratch: &mut [u32], h: usize, l: Side, r: Side) -> Turn
+// The top pair's rows are done: its two terms, the left one of so many words, are equal from now on.
+fn pass(scratch: &mut [u32], h: usize, size: usize, l: Side, r: Side) -> Turn
     requires { ⌜ Passable (now scratch) h l r ⌝ }
     ensures { λ t. ⌜ ((g : Passable (now (scratch .entry)) h l r) → Turned (g .nodes) (g .state) (now (scratch .entry)) (now (scratch .exit)) (g .n) h (g .work) t) ⌝ }
 {
@@ -166,7 +166,7 @@ fn pass(scratch: &mut [u32], h: usize, l: Side, r: Side) -> Turn
     let d = r.copy;
     let left = root * 256 + c + 1;
     let right = other * 256 + d + 1;
-    remember(scratch, h, left, right);
+    remember(scratch, h, size, left, right);
     Turn::Go(h - 1)
 }
 
@@ -182,10 +182,11 @@ fn next_turn(nodes: &[u32], state: &[u32], scratch: &mut [u32], h: usize) -> Tur
     let root = l.root;
     let from = l.at;
     let there = r.at;
-    let e = root + size_at(nodes, root);
+    let size = size_at(nodes, root);
+    let e = root + size;
     let found = walk_rows(nodes, from, e, there);
     match found {
-        Walked::Done => pass(scratch, h, l, r),
+        Walked::Done => pass(scratch, h, size, l, r),
         Walked::Clash => Turn::Clash,
         Walked::Met { left, right } => meet(nodes, state, scratch, h, l, r, left, right),
     }

@@ -7,37 +7,37 @@ use Rattle.memos.proofs.remember.Lts as lts
 use Rattle.memos.proofs.enter.Reads as enter-reads
 use Rattle.memos.proofs.weigh.Reads as weigh-reads
 
--- src/lib.rt:276:8
+-- src/lib.rt:418:8
 sub-if1 : tie.Need-sub-if1
 sub-if1 c = search needs
 
--- src/lib.rt:277:9
+-- src/lib.rt:419:9
 returns : tie.Need-returns
 returns c = search needs
 
--- src/lib.rt:279:8
+-- src/lib.rt:421:8
 weigh-requires : tie.Need-weigh-requires
 weigh-requires c κs = search needs
 
--- src/lib.rt:280:9
-same-length : tie.Need-same-length
-same-length c = search needs
-
--- src/lib.rt:280:9
-returns-2 : tie.Need-returns-2
-returns-2 c = weighed-remembers _ _ (c .before .before .before .before .before .before .before .args .left) (c .before .before .before .before .before .before .before .args .right) (c .before .before .before .weigh .ensures)
-
--- src/lib.rt:282:5
+-- src/lib.rt:422:9
 enter-requires : tie.Need-enter-requires
 enter-requires c κs = search needs
 
--- src/lib.rt:272:1
+-- src/lib.rt:414:1
+same-length : tie.Need-same-length
+same-length c = search needs
+
+-- src/lib.rt:414:1
+returns-2 : tie.Need-returns-2
+returns-2 c = weighed-then _ _ _ (c .before .before .before .before .before .before .before .before .before .before .before .args .left) (c .before .before .before .before .before .before .before .before .before .before .before .args .right) (c .before .before .before .before .before .before .before .weigh .ensures) (c .before .before .enter .ensures)
+
+-- src/lib.rt:414:1
 same-length-2 : tie.Need-same-length-2
 same-length-2 c = search needs
 
--- src/lib.rt:272:1
+-- src/lib.rt:414:1
 returns-3 : tie.Need-returns-3
-returns-3 c = weighed-then _ _ _ (c .before .before .before .before .before .before .before .before .before .before .before .args .left) (c .before .before .before .before .before .before .before .before .before .before .before .args .right) (c .before .before .before .before .before .before .before .weigh .ensures) (c .before .before .enter .ensures)
+returns-3 c = weighed-remembers _ _ (c .before .before .before .before .before .before .before .args .left) (c .before .before .before .before .before .before .before .args .right) (c .before .before .before .weigh .ensures)
 
 pub remember-spec : {M : Type 1} → statement M
 remember-spec =
@@ -46,8 +46,8 @@ remember-spec =
     sub-if1
     returns
     weigh-requires
+    enter-requires
     same-length
     returns-2
-    enter-requires
     same-length-2
     returns-3)

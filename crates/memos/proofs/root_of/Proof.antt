@@ -10,10 +10,10 @@ use Rattle.memos.proofs.root_of.Lts as lts
 use Rattle.memos.proofs.link_at.Reads as link-at-reads
 
 abbrev Inv-loop : tie.InvT-loop
-Inv-loop scratch i r₀ k₀ r k = (r < 32768) × Reaches scratch i r
+Inv-loop scratch i r₀ k₀ r k = (r < 16640) × Reaches scratch i r
 
 abbrev μ-loop : tie.MeasureT-loop
-μ-loop scratch i r₀ k₀ r k = 32768 - k
+μ-loop scratch i r₀ k₀ r k = 16640 - k
 
 -- src/lib.rt:112:5
 loop-holds : tie.Need-loop-holds Inv-loop μ-loop

@@ -36,8 +36,8 @@ remember-requires : tie.Need-remember-requires
 remember-requires c κs = omega (arith, pass-small (c .before .before .args .scratch .now) (c .before .before .args .h) (c .before .before .args .l) (c .before .before .args .r) (c .before .before .pre))
 
 -- src/solve.rt:173:14
-sub-t11 : tie.Need-sub-t11
-sub-t11 c = search needs
+sub-t12 : tie.Need-sub-t12
+sub-t12 c = search needs
 
 -- src/solve.rt:162:1
 same-length : tie.Need-same-length
@@ -58,6 +58,6 @@ pass-spec =
     add-right
     add-right-2
     remember-requires
-    sub-t11
+    sub-t12
     same-length
     returns)

@@ -1,0 +1,48 @@
+use Rattle.memos.proofs.Remembering.{merged, merged-one}
+use borrow.Author.Needs.{needs}
+use Rattle.memos.proofs.merge.Statement.{statement}
+use Rattle.memos.proofs.merge.Tie as tie
+use Rattle.memos.proofs.merge.Reads as reads
+use Rattle.memos.proofs.merge.Lts as lts
+use Rattle.memos.proofs.join.Reads as join-reads
+use Rattle.memos.proofs.root_of.Reads as root-of-reads
+
+-- src/lib.rt:306:9
+root-of-requires : tie.Need-root-of-requires
+root-of-requires c κs = search needs
+
+-- src/lib.rt:307:9
+root-of-requires-2 : tie.Need-root-of-requires-2
+root-of-requires-2 c κs = search needs
+
+-- src/lib.rt:309:9
+same-length : tie.Need-same-length
+same-length c = search needs
+
+-- src/lib.rt:309:9
+returns : tie.Need-returns
+returns c = search needs
+
+-- src/lib.rt:311:5
+join-requires : tie.Need-join-requires
+join-requires c κs = search needs
+
+-- src/lib.rt:302:1
+same-length-2 : tie.Need-same-length-2
+same-length-2 c = search needs
+
+-- src/lib.rt:302:1
+returns-2 : tie.Need-returns-2
+returns-2 c = merged (c .before .before .before .before .before .before .before .before .before .before .args .scratch .now) _ (c .before .before .before .before .before .before .before .before .before .before .args .i) (c .before .before .before .before .before .before .before .before .before .before .args .j) (c .before .before .before .before .before .before .before .root-of .result) (c .before .before .before .before .before .root-of2 .result) (c .before .before .before .before .before .before .before .root-of .ensures .1) (c .before .before .before .before .before .root-of2 .ensures .1) (c .before .before .join .ensures)
+
+pub merge-spec : {M : Type 1} → statement M
+merge-spec =
+    tie.close
+    (tie.spec
+    root-of-requires
+    root-of-requires-2
+    same-length
+    returns
+    join-requires
+    same-length-2
+    returns-2)

@@ -1,0 +1,10 @@
+use Rattle.programs.proofs.ProgramLaws.{zeros}
+use Rattle.programs.proofs.wide_words.Statement.{statement}
+use Rattle.programs.proofs.wide_words.Tie as tie
+
+-- src/lib.rt:31:1
+returns : tie.Need-returns
+returns c = zeros 761866
+
+pub wide-words-spec : {M : Type 1} → statement M
+wide-words-spec = tie.close (tie.spec returns)
