@@ -240,6 +240,42 @@ def crowds(add):
         add(sheet, "add(%s,%s,D), go(%s,D,a,b)." % (*sides, level))
 
 
+def eights(terms):
+    """The terms in one, at most eight in a bracket."""
+    while len(terms) > 1:
+        groups = [terms[n:n + 8] for n in range(0, len(terms), 8)]
+        terms = ["t(%s)" % ",".join(group) if len(group) > 1 else group[0] for group in groups]
+    return terms[0]
+
+
+def filling_sheet(chains, depth, small):
+    """Lists of chains, new in each copy of a clause, and lists of one chain made of bound variables: each node of each chain in each copy
+    meets another term, and with it a small term that is soon found equal. Around the lists a term doubles at each level."""
+    chain = "f(" * depth + "Q" + ",Q)" * depth
+    links = ["V0=Q"] + ["V%d=f(V%d,Q)" % (n + 1, n) for n in range(depth)]
+    return (
+        ":-mode each(+,+,-). each(z,A,e). each(s(N),A,c(%s,L)) :- %s, each(N,A,L).\n" % (eights([chain] * chains), small)
+        + ":-mode one(+,-). one(A,%s) :- %s, %s.\n" % (eights(["V%d" % depth] * chains), small, ", ".join(links))
+        + ":-mode all(+,+,-). all(z,B,e). all(s(N),B,c(B,L)) :- all(N,B,L).\n"
+        + ":-mode dbl(+,+,+,-). dbl(z,F,G,e). dbl(s(N),F,G,f(U,F,G,U)) :- dbl(N,F,G,U).\n"
+        + ":-mode add(+,+,-). add(z,N,N). add(s(M),N,s(P)) :- add(M,N,P).\n"
+        + ":-mode go(+,+). go(L,D) :- A = a, B = b, each(L,A,F), each(L,B,G), one(A,X), one(B,Y), all(L,X,H), all(L,Y,I),"
+        + " dbl(D,F,G,P), dbl(D,H,I,Q), P = Q.\n"
+    )
+
+
+def filled(add):
+    """Unification in which as many different terms meet as a run can have, in a short sheet and in one near the limit."""
+    low, high = "R=m(A,A,A,A,A,A,A,A), Q=k(R,R)", "R=m(A,A,A,A,A,A,A,A), Q=k(R,R,R)"
+    layered = "U=n(A), R=m(U,U,U,U,U,U), Q=k(R,R,R,R,R,R,R,R)"
+    for chains, depth, small in ((22, 10, low), (22, 10, high), (252, 11, high), (1_024, 1, low), (1_024, 1, layered)):
+        sheet = filling_sheet(chains, depth, small)
+        for copies, doublings in ((2, 3), (42, 12)):
+            first, second = min(copies, 14), min(max(copies - 14, 0), 14)
+            parts = [nested(part, "z") for part in (first, second, copies - first - second, doublings)]
+            add(sheet, "add(%s,%s,_K), add(%s,_K,_L), go(_L,%s)." % tuple(parts))
+
+
 def rooms(add):
     """A line that does not fit ends the run, though later ones would."""
     sheet = ":-mode p(*). p(a). p(f(f(f(b)))). p(c). p(X). p(d)."
@@ -285,6 +321,7 @@ def make(add, rng):
     path_limit(add)
     large_terms(add)
     crowds(add)
+    filled(add)
     rooms(add)
     long_runs(add)
     by_chance(add, rng)

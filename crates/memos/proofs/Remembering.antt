@@ -195,12 +195,12 @@ module _ (before : List ℕ) (m term : ℕ) (long : 393225 ≤ length before) (i
         numbered = record { low = low; below = (let e : terms last ≡ m + 1 = count-is in omega arith); small = room };
         is = term-is;
         links = λ meaning k. record {
-            links = links-more meaning k;
-            entries = λ r v b s t e.
-                entry-stays meaning r v
-                (k .entries r v (let z : rows last ≡ rows before = elsewhere 229383 (λ e. omega arith) (λ e. omega arith) (λ e. omega arith) in omega arith) s (omega arith)
-                (e ∙ elsewhere (245768 + r) (λ e. omega arith) (λ e. omega arith) (λ e. omega arith)));
-          };
+          links = links-more meaning k;
+          entries = λ r v b s t e.
+              entry-stays meaning r v
+              (k .entries r v (let z : rows last ≡ rows before = elsewhere 229383 (λ e. omega arith) (λ e. omega arith) (λ e. omega arith) in omega arith) s (omega arith)
+              (e ∙ elsewhere (245768 + r) (λ e. omega arith) (λ e. omega arith) (λ e. omega arith)));
+        };
       }
 
 -- ---- a link

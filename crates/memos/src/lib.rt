@@ -332,7 +332,7 @@ fn is_crowded(scratch: &[u32]) -> bool
 }
 
 // The two terms in one class.
-fn place(scratch: &mut [u32], left: usize, right: usize) 
+fn place(scratch: &mut [u32], left: usize, right: usize)
     requires { ⌜ (393225 ≤ length (now scratch)) × ((32 ≤ terms (now scratch)) × ((terms (now scratch) < 16640) × ((left < 2 ^ 32) × (right < 2 ^ 32)))) ⌝ }
     ensures { λ _. ⌜ Remembers (now (scratch .entry)) (now (scratch .exit)) left right ⌝ }
 {
