@@ -1,6 +1,6 @@
 -- Laws of appending and of decimal digits.
 use Prim.Native.Nat.{ℕ, zero, suc, _+_, _/_, _%_, _^_, _≤_, _<_, zero-le}
-use native.Mathlib.Nat.{div-lt-iff-lt-mul, pow-suc, add-zero, add-suc, suc-add, zero-add}
+use native.Mathlib.Nat.{div-lt-iff-lt-mul, pow-suc, add-zero, add-suc, suc-add}
 use native.Mathlib.Numerals.{add-one}
 use native.Mathlib.Omega.{arith}
 use mathlib.Core.Path.{_≡_, refl, sym, ap, _∙_}
@@ -8,7 +8,7 @@ use mathlib.Core.Bool.{Bool, true, false}
 use mathlib.Core.List.{List, [], _∷_, _++_}
 use lib.Dec.{leb, ltb, lit<}
 use lib.ListN.{length, take, drop, getD, set, length-append, length-drop}
-use lib.Seq.{sets, sets-eq, set-out, take-suc, take-all, getD-drop}
+use lib.Seq.{sets, set-out, take-suc, take-all, getD-drop}
 use borrow.Author.Tests.{ltb-true, ltb-false, lt-ltb, le-ltb, le-leb, lt-leb}
 use Rattle.buffers.specs.Buffers.{Put, digits, decimal, written, fitted}
 
@@ -125,10 +125,3 @@ pub too-long : {line b b′ out : List ℕ} {m : ℕ} → Put b 0 line b′ m �
 too-long {line} {out = out} p h =
     let over : leb (length line) (length out) ≡ false = lt-leb (length line) (length out) (omega (arith, p .past)) in
     (rw over, rw over)
-
--- where it fits, the buffer is the line and then its own bytes
-pub fitted-is : (line out : List ℕ) → length line ≤ length out → fitted line out ≡ line ++ drop (length line) out
-fitted-is line out h =
-    let fits : leb (length line) (length out) ≡ true = le-leb (length line) (length out) h in
-    let e : 0 + length line ≡ length line = zero-add (length line) in
-    rw fits (sets-eq line out 0 (rw e h) ∙ ap (λ (k : ℕ). line ++ drop k out) e)

@@ -1,5 +1,5 @@
 -- Laws of reading literals: one for each way out of the functions that read them. Assumes nothing.
-use Prim.Native.Nat.{ℕ, zero, suc, _+_, _-_, _*_, _≤_, _<_, _^_}
+use Prim.Native.Nat.{ℕ, suc, _+_, _-_, _*_, _≤_, _<_, _^_}
 use native.Mathlib.Numerals.{add-one}
 use native.Mathlib.Omega.{arith}
 use mathlib.Core.Path.{_≡_, refl, sym, ap, ap₂, _∙_, subst, subst⁻¹}
@@ -9,12 +9,12 @@ use lib.ListN.{length, set, take, length-append, length-take, length-set}
 use lib.Seq.{take-set-lt, take-set-le, set-append-left, take-suc-set, take-take, take-all}
 use lib.Dec.{eqb, lit<}
 use borrow.Author.Tests.{eq-eqb, ne-eqb, eqb-true, eqb-false}
-use Rattle.syntax.specs.Terms.{Term, Terms, Atom, variable, compound, nil, cons, arity, termOf, Literal, call, equation, truth, falsity, literalOf, sameName, true-name, fail-name}
+use Rattle.syntax.specs.Terms.{Term, Terms, Atom, nil, cons, arity, termOf, Literal, call, equation, truth, falsity, literalOf, sameName, true-name, fail-name}
 use Rattle.syntax.specs.Tokens.{spelling}
-use Rattle.syntax.specs.Reading.{Read, fault, ok, andThen, next, wrongNumber, wrong, readTerm, readAtom, atomAt, readRight, afterAtom, afterTerm, literalWith, readLiteral, readAtomWith, atomWith, readList}
+use Rattle.syntax.specs.Reading.{Read, fault, ok, andThen, next, wrongNumber, readTerm, readAtom, atomAt, readRight, afterAtom, afterTerm, literalWith, readLiteral, readAtomWith, atomWith, readList}
 use Rattle.syntax.specs.Words.{termWords, termsWords, atomWords, literalWords}
 use Rattle.syntax.specs.declared.State.{State}
-use Rattle.reading.specs.Gives.{Standing, Moved, Ready, Faulted, Given, Gives, GivenWith, GivesWith, Refused, one}
+use Rattle.reading.specs.Gives.{Moved, Ready, Faulted, Given, Gives, GivenWith, GivesWith, Refused, one}
 use Rattle.reading.specs.Atoms.{readAtomAt}
 use Rattle.reading.specs.declared.Parsed.{Parsed}
 use Rattle.reading.proofs.Reading.{refused-wrong-with, moved-next}
@@ -128,10 +128,6 @@ module _ (s : List ℕ) (st : State) (entry : List ℕ) (n : ℕ) (ready : Ready
   n-in : n + 1 ≤ length entry
   n-in = let room : n + 4 * (length s - st .token .at) + 1 ≤ length entry = ready .room in omega arith
 
-  -- what the term's function asks, one word further on
-  pub term-ready : Ready s st entry (n + 1) 0
-  term-ready = let room : n + 4 * (length s - st .token .at) + 1 ≤ length entry = ready .room in record { standing = ready .standing; room = omega arith; small = ready .small }
-
   -- an equation of which the left side was read
   module _ (mid : List ℕ) (r : Parsed) (t : Term) (g : Given s st entry mid (n + 1) r (termWords t) 1 (r .state)) (l : length mid ≡ length entry) where
     pub right-ready : r .state .token .kind ≡ 11 → Ready s (r .state) mid (r .used) 0 × ((r .state .token .kind ≡ 11) × (n < r .used))
@@ -191,9 +187,6 @@ module _ (s : List ℕ) (st : State) (entry : List ℕ) (n : ℕ) (ready : Ready
 
   -- the literal by what stands behind its first term
   module _ (mid : List ℕ) (r : Parsed) (l : length mid ≡ length entry) where
-    equation-test : (b : Bool) → eqb (r .state .token .kind) 11 ≡ b → (b′ : Bool) → b ≡ b′ → eqb (r .state .token .kind) 11 ≡ b′
-    equation-test b e b′ f = e ∙ f
-
     module _ (g : Gives atomWords one s st entry mid (n + 1) r (readAtomAt 16 s st)) where
       pub named-fault : (r .number ≡ 0 → ⊥) → GivesWith 0 literalWords one s st entry mid n r (literalWith s st true)
       unfolding literalWith readAtom readAtomAt
@@ -209,9 +202,6 @@ module _ (s : List ℕ) (st : State) (entry : List ℕ) (n : ℕ) (ready : Ready
 
         pub named-ready : r .state .token .kind ≡ 11 → Ready s (r .state) mid (r .used) 0 × ((r .state .token .kind ≡ 11) × (n < r .used))
         named-ready e = right-ready mid r (termOf (atom-read .0)) (atom-read .2) l e
-
-        pub named-standing : Standing s (r .state)
-        named-standing = atom-read .2 .standing
 
         pub named-equation : (exit : List ℕ) (q : Parsed) → r .state .token .kind ≡ 11 → Gives termWords one s (next s (r .state)) (set mid n 3) exit (r .used) q (readTerm 16 s (next s (r .state))) → GivesWith 0 literalWords one s st entry exit n q (literalWith s st true)
         unfolding afterAtom

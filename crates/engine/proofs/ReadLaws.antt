@@ -229,9 +229,6 @@ module _ {nodes code state scratch : List ℕ} {h k : ℕ} (w : Tryable nodes co
       at-top (λ (h j : ℕ). Tryable nodes code state scratch h j k → (33792 + j * 6 + 5 < length state) × ((literalAt state j + 4 ≤ length code) × ((length code ≤ 65536) × ((1028 ≤ length code) × ((k ≤ 256) × ((pathAt state j < 255) × (h ≤ 256)))))))
       (λ j w. try-facts-top nodes code state scratch j k w) h filled w
 
-  pub try-some : 1 ≤ h
-  try-some = filled
-
   pub try-room : 33792 + (h - 1) * 6 + 5 < length state
   try-room = try-all .0
 

@@ -134,9 +134,6 @@ module _ (nodes code state : List ℕ) (w : Startable nodes code state) where
       }
 
 module _ {nodes code state : List ℕ} (w : Startable nodes code state) where
-  pub start-inside : 1 < length code
-  start-inside = let a : 1028 ≤ length code = w .program .long in omega arith
-
   module _ {f : ℕ} (e : f ≡ getD code 1 0) where
     pub start-layable : Layable code state 0 0 f 0 0
     start-layable = layable-of refl e refl refl (goal-layable nodes code state w)

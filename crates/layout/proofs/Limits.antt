@@ -16,7 +16,7 @@ use Rattle.syntax.specs.declared.State.{State}
 use Rattle.syntax.specs.declared.Refusal.{Refusal}
 use Rattle.syntax.specs.declared.Refusal.the-variants.{TooLong}
 use Rattle.rules.specs.Modes.{sheetFault, goalFault}
-use Rattle.rules.specs.Checking.{faultless, checkedFrom, checkedSheet, checkedGoalFrom, checkedGoal}
+use Rattle.rules.specs.Checking.{faultless, checkedFrom, checkedSheet, checkedGoalFrom}
 use Rattle.layout.specs.Nodes.{bracketsOf, bracketsAll}
 use Rattle.layout.specs.Limits.{LiteralLimited, EachLimited, ClauseLimited, ClausesLimited, SheetLimited, GoalLimited}
 
@@ -342,10 +342,6 @@ goal-fine s = by (leb (length s) 1024)
     by true = goal-from (readGoal s) (goal-good s)
     by false = tt
 
--- a sheet and a goal that reading accepts
-pub sheet-limited : (s : List ℕ) (sh : Sheet) → sheetOf s ≡ accepted sh → SheetLimited sh
-sheet-limited s sh e = accepted-fine SheetLimited (sheetOf s) sh (sheet-fine s) e
-
 pub goal-limited : (s : List ℕ) (g : Goal) → goalOutcome s ≡ accepted g → GoalLimited g
 goal-limited s g e = accepted-fine GoalLimited (goalOutcome s) g (goal-fine s) e
 
@@ -369,7 +365,3 @@ checked-goal-fine sh (accepted g) h = faultless-fine GoalLimited g (goalFault sh
 pub checked-sheet-limited : (s : List ℕ) (sh : Sheet) → checkedSheet s ≡ accepted sh → SheetLimited sh
 unfolding checkedSheet
 checked-sheet-limited s sh e = accepted-fine SheetLimited (checkedFrom (sheetOf s)) sh (checked-fine (sheetOf s) (sheet-fine s)) e
-
-pub checked-goal-limited : (sh : Sheet) (s : List ℕ) (g : Goal) → checkedGoal sh s ≡ accepted g → GoalLimited g
-unfolding checkedGoal
-checked-goal-limited sh s g e = accepted-fine GoalLimited (checkedGoalFrom sh (goalOutcome s)) g (checked-goal-fine sh (goalOutcome s) (goal-fine s)) e

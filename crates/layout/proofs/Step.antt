@@ -4,16 +4,16 @@ use native.Mathlib.Omega.{arith}
 use mathlib.Core.Path.{_≡_, refl, sym, ap, ap₂, _∙_, subst, subst⁻¹}
 use mathlib.Core.List.{List, [], _∷_, _++_}
 use mathlib.Core.Option.{Option, none, some}
-use lib.ListN.{length, getD}
+use lib.ListN.{length}
 use Rattle.syntax.specs.Terms.{Term, termOf, Atom, Literal, call, equation, truth, falsity, Body, done, also, Clause, Sheet, Goal}
 use Rattle.machine.specs.Substitution.{Binding, copied}
 use Rattle.machine.specs.Unification.{unify}
-use Rattle.machine.specs.Machine.{Pending, Alternative, path, pending, nextFor, nextOf, topmost, clauseAt, standing, gone, equated, movedOn, laid, tried, onTop, called, worked, workedOn, outcome, step, start}
+use Rattle.machine.specs.Machine.{Pending, Alternative, path, pending, nextFor, nextOf, topmost, clauseAt, standing, gone, equated, movedOn, laid, tried, onTop, called, worked, workedOn, outcome, step}
 use Rattle.layout.specs.Nodes.{Symbol}
 use Rattle.layout.specs.State.{bindings, Store, Within, Keeps}
 use Rattle.layout.specs.Program.{bodyAt, kindAt, otherAt, BodyStands, Program}
 use Rattle.layout.specs.Pile.{Calls, callerOf, callOf, restFrom, leftBehind, leftFrom, callsUpTo, copyAt, literalAt, nextAt, markAt, pathAt, alternativeAt, pileOf, Place, Frame, NextFor, Piled}
-use Rattle.layout.proofs.Pile.{place-stands, rest-next, left-under, climb, goal-place, goal-rest, next-for, SameFrames, same-left, same-calls, kept-left, Written, Stand, Means, popped, replaced, moved, Pushing, pushed, pushed-left, goal-left, started}
+use Rattle.layout.proofs.Pile.{place-stands, rest-next, left-under, climb, next-for, SameFrames, same-left, same-calls, kept-left, Written, Stand, Means, replaced, moved, Pushing, pushed, pushed-left}
 
 -- ---- the literals left
 
@@ -190,11 +190,6 @@ module _ (ss : List Symbol) (sh : Sheet) (g : Goal) (nodes code state : List ℕ
 
 -- ---- words after a step
 
--- the top goes
-pub top-goes : (ss : List Symbol) (sh : Sheet) (g : Goal) (nodes code state : List ℕ) (h n : ℕ) → Piled ss sh g nodes code state (suc h) n → step sh (pileOf ss sh g nodes code state (suc h)) ≡ pileOf ss sh g nodes code state h
-    → Means ss sh g nodes code state h n (step sh (pileOf ss sh g nodes code state (suc h)))
-top-goes ss sh g nodes code state h n piled e = record { piled = popped ss sh g nodes code state h n piled; is = sym e }
-
 -- The first literal of the top goes: what is left begins at l of copy c, and the trail has n1 entries.
 pub record Going (ss : List Symbol) (sh : Sheet) (g : Goal) (nodes code state state1 state2 : List ℕ) (h n n1 p c l x : ℕ) : Type 0 where
   pub piled : Piled ss sh g nodes code state (suc h) n
@@ -257,11 +252,6 @@ module _ (ss : List Symbol) (sh : Sheet) (g : Goal) (nodes code state after : Li
       moved ss sh g nodes code state after h n (nextFor sh a (nextAt state h)) piled
       (λ o z. subst (λ (y : Atom). NextFor sh y (nextFor sh a (nextAt state h))) (call-eq a o (subst (λ (y : Body). Calls y o) e z)) (next-for sh a (nextAt state h))) w
 
-  -- the head does not unify
-  pub refused-step : unify (bindings ss nodes state (markAt state h)) (copied (copyAt state h) (termOf a)) (copied (suc (pathAt state h)) (termOf (cl .head))) ≡ none
-      → Means ss sh g nodes code after (suc h) n (step sh (pileOf ss sh g nodes code state (suc h)))
-  refused-step u = record { piled = call-moved .piled; is = call-moved .is ∙ sym (step-refused ss sh g nodes code state h (piled .each h (omega arith) .place) r a cl e q u) }
-
   same-after : SameFrames 255 state after
   same-after j l k = w .others j (omega arith)
 
@@ -293,14 +283,3 @@ module _ (ss : List Symbol) (sh : Sheet) (g : Goal) (nodes code state after : Li
         piled = all .piled;
         is = all .is ∙ ((λ i. made i ∷ call-moved .is i) ∙ sym (step-tried ss sh g nodes code state h (piled .each h (omega arith) .place) r a cl e q (bindings ss nodes state1 n1) u));
       }
-
--- the words of the goal alone mean the definition's start
-pub start-is : (ss : List Symbol) (sh : Sheet) (g : Goal) (nodes code state after : List ℕ) (x : ℕ) → Program ss sh g nodes code → 35328 ≤ length state → ((i : ℕ) → getD state i 0 ≡ 0)
-    → (kindAt code (bodyAt code 0) ≡ 2 → x ≡ otherAt code (bodyAt code 0)) → ((kindAt code (bodyAt code 0) ≡ 2 → ⊥) → x ≡ 0) → Written 0 0 (bodyAt code 0) x 0 0 state after → Means ss sh g nodes code after 1 0 (start sh g)
-unfolding start
-start-is ss sh g nodes code state after x program long zeros is-call other w =
-    let f : Fresh sh g code state 0 0 (bodyAt code 0) x = fresh ss sh g nodes code state 0 0 (bodyAt code 0) x program (goal-place sh g code state) (λ e. refl) is-call other in
-    let all : Means ss sh g nodes code after 1 0 (record { literals = pending 0 (g .body) []; bindings = []; next = x; calls = [] } ∷ []) =
-    started ss sh g nodes code state after x program long zeros (λ a h. f .stand .next a (subst⁻¹ (λ (y : Body). Calls y a) (goal-rest sh g code state) h)) w in
-    let next : x ≡ topmost sh (pending 0 (g .body) []) = f .topmost-is ∙ ap (topmost sh) (goal-left sh g code state) in
-    record { piled = all .piled; is = all .is ∙ (λ i. record { literals = pending 0 (g .body) []; bindings = []; next = next i; calls = [] } ∷ []) }

@@ -1,7 +1,7 @@
 -- Laws of the definitions of tokens, over plain variables: a step of the scanner by the byte at a place, a step of a run and of a
 -- comparison, and by cases of a token's first byte where the token lies, how long it is and when it is the end.
 use Prim.Native.Nat.{ℕ, zero, suc, _+_, _-_, _≤_, _<_}
-use native.Mathlib.Nat.{add-zero, sub-zero, le-of-suc-le-suc, not-suc-le-zero}
+use native.Mathlib.Nat.{le-of-suc-le-suc, not-suc-le-zero}
 use native.Mathlib.Numerals.{add-one}
 use native.Mathlib.Omega.{arith}
 use mathlib.Core.Path.{_≡_, refl, sym, ap, _∙_}
@@ -454,9 +454,3 @@ from-end i (b ∷ r) h =
     absurd
     (of-cases (λ t. t .kind ≡ 16 → ⊥) (classOf b) i r (λ k n h m. word-no-end k (leb (suc n) 31) h) (λ t e. colon-no-end t)
     (λ n3 n4 n5 e. omega (arith, class-small b)) h)
-
-pub token-end : (s : List ℕ) (p : ℕ) → (tokenAt s p) .kind ≡ 16 → p ≤ length s → (tokenAt s p) .at ≡ length s
-unfolding tokenAt
-token-end s p e h =
-    let l : length (drop (tokenPlace s p) s) ≡ 0 = from-end (tokenPlace s p) (drop (tokenPlace s p) s) e in
-    omega (arith, from-at (tokenPlace s p) (drop (tokenPlace s p) s), length-drop (tokenPlace s p) s, place-inside s p h)

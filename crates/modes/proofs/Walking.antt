@@ -10,7 +10,7 @@ use lib.ListN.{length, getD, length-append}
 use Rattle.syntax.specs.Terms.{Term, Atom, termOf, Literal, Body, call, equation, truth, falsity, done, also, input, output, Declaration}
 use Rattle.syntax.specs.Words.{termWords, atomWords, literalWords, bodyWords, bodyLength, marksNumber}
 use Rattle.syntax.specs.declared.Refusal.{Refusal}
-use Rattle.rules.specs.Modes.{Known, everything, isGround, marksFor, listOf, firstFaulty, groundMarked, equate, openInput, undeclaredAtom, undeclaredLiteral, undeclaredBody, literalFault, afterLiteral, Walk, faulted, known, walkOn, bodyFault}
+use Rattle.rules.specs.Modes.{Known, everything, isGround, marksFor, listOf, firstFaulty, groundMarked, equate, openInput, undeclaredAtom, undeclaredLiteral, undeclaredBody, literalFault, afterLiteral, Walk, known, walkOn, bodyFault}
 use Rattle.marking.specs.Standing.{Stands, LiteralStands, call-stands, equation-stands, BodyStands, also-stands}
 use Rattle.marking.specs.Tables.{Has, TermAt, PairAt, MarkedAt, JudgedAt, DeclarationsAt, AtomAt, LiteralAt, BodyAt}
 use Rattle.marking.specs.Answers.{checkedOf}
@@ -179,9 +179,6 @@ module _ {g table : List ℕ} {p : ℕ} (kind : ℕ) (e : kind ≡ getD table p 
     module _ (l : 2 ≤ kind) (k : kind ≡ 2 → ⊥) where
       equation-at : (w : LiteralAt g table p) → EquationAt g table p (w .literal)
       equation-at w = equation-is l k w
-
-      right-place : (w : LiteralAt g table p) → next ≡ p + 1 + length (termWords (equation-at w .pair .left))
-      right-place w = n (equation-at w .left) ∙ ap (λ (t : Term). p + 1 + length (termWords t)) (sym (equation-at w .left-is))
 
       pub sides-at : LiteralAt g table p → PairAt g table (p + 1) next
       sides-at w = subst⁻¹ (PairAt g table (p + 1)) (n (equation-at w .left)) (equation-at w .pair)

@@ -32,11 +32,6 @@ past-end s p h = ap (λ (t : Token). t .at + t .len) (sym (token-past s p h)) �
 pub tokens-past : (s : List ℕ) (p n : ℕ) → length s < p → p ≡ pastTokens n s p
 tokens-past s p n h = sym (stays s p n (past-end s p h))
 
--- past one token is where `lexer::past_at` says
-pub past-one : (s : List ℕ) (p : ℕ) → pastTokens 1 s p ≡ (tokenAt s p) .at + (tokenAt s p) .len
-unfolding pastTokens pastToken
-past-one s p = refl
-
 -- A turn: the tokens left from the place reached end where all end.
 pub turn : (s : List ℕ) (p left past x : ℕ) → 0 < left → past ≡ (tokenAt s p) .at + (tokenAt s p) .len
     → pastTokens left s p ≡ x → pastTokens (left - 1) s past ≡ x

@@ -7,7 +7,7 @@ use native.Mathlib.Omega.{arith}
 use lib.ListN.{length, length-set, length-replicate, getD-replicate}
 use Rattle.syntax.specs.Terms.{Term, Terms, variable, compound, nil, cons, arity, Literal, Body, call, equation, truth, falsity, Mark, output, Declaration, samePredicate}
 use Rattle.syntax.specs.Reading.{variables}
-use Rattle.rules.specs.Modes.{Known, knows, nothing, everything, isGround, groundTerm, groundTerms, groundBoth, equateVariable, equateSame, equate, equateAll, sameMark, marksFor, listOf, groundIf, groundMarked, afterLiteral}
+use Rattle.rules.specs.Modes.{Known, knows, everything, isGround, groundTerm, groundTerms, groundBoth, equateVariable, equateSame, equate, equateAll, sameMark, marksFor, listOf, groundIf, groundMarked, afterLiteral}
 use Rattle.rules.specs.Judgment.{BodyModed, no-more, conjunction}
 use Rattle.rules.proofs.Terms.{grounding-keeps}
 use Rattle.rules.proofs.Bodies.{literal-unique}
@@ -97,8 +97,3 @@ body-grown no-more w = stays w
 body-grown {ds} (conjunction {τ₁ = τ} {τ₂ = ρ} {l = l} m r) w =
     let g : Grown τ ρ = subst (λ x. Grown τ x) (sym (literal-unique m)) (literal-grown ds l τ w) in
     grown-on g (body-grown r (g .wide))
-
--- A clause and a goal begin with such flags.
-pub nothing-wide : length nothing ≡ variables
-unfolding nothing
-nothing-wide = refl

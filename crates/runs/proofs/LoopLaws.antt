@@ -4,17 +4,15 @@ use native.Mathlib.Omega.{arith}
 use native.Mathlib.Nat.{zero-add}
 use mathlib.Core.Path.{_≡_, refl, sym, ap, ap₂, _∙_, subst, subst⁻¹}
 use mathlib.Core.Bool.{Bool, true, false}
-use mathlib.Core.List.{List, [], _∷_, _++_}
+use mathlib.Core.List.{List, [], _++_}
 use mathlib.Core.Logic.{_⊎_, inl, inr}
-use lib.Dec.{T, leb, ltb, eqb}
+use lib.Dec.{ltb, eqb}
 use lib.ListN.{length, length-append}
 use borrow.Author.Tests.{ltb-true, ltb-false, lt-ltb, le-ltb}
 use lib.Seq.{sets, length-sets}
 use Rattle.syntax.specs.Terms.{Sheet, Goal}
-use Rattle.syntax.specs.declared.Report.{Report}
 use Rattle.syntax.specs.declared.Kind.{Kind}
 use Rattle.syntax.specs.declared.Kind.the-variants.{Full}
-use Rattle.buffers.specs.Buffers.{Put}
 use Rattle.buffers.proofs.Laws.{sets-append}
 use Rattle.machine.specs.Machine.{Alternative, step, start}
 use Rattle.machine.specs.Answers.{line}
@@ -29,7 +27,7 @@ use Rattle.answers.specs.Fitting.{Fitted}
 use Rattle.runs.specs.declared.Next.{Next}
 use Rattle.runs.specs.declared.Next.the-variants.{End, Answer, Step}
 use Rattle.runs.specs.Running.{nextOf, reportOf, Lent, Under, Ongoing, Runs}
-use Rattle.runs.proofs.EndLaws.{Goes, Answers, run-ends, run-steps, run-answers, answer-flat}
+use Rattle.runs.proofs.EndLaws.{Goes, Answers, run-ends, run-steps, run-answers}
 use Rattle.runs.proofs.LineLaws.{line-some, line-of}
 
 left-some : (left : ℕ) → eqb left 0 ≡ false → 0 < left
@@ -139,9 +137,6 @@ module _ (ss : List Symbol) (sh : Sheet) (g : Goal) (nodes code : List ℕ) (all
       answer-few = let x : 0 < allowance - steps = left-some (allowance - steps) (answers-here .more) in omega arith
 
       module _ (state1 : List ℕ) (m : ℕ) (p : Piled ss sh g nodes code state1 h m) (e : pileOf ss sh g nodes code state1 h ≡ pileOf ss sh g nodes code state h) (mark : markAt state1 (h - 1) ≡ m) where
-        pub answer-goes : goesDeeper sh (pileOf ss sh g nodes code state1 h) ≡ false
-        answer-goes = ap (goesDeeper sh) e ∙ answer-flat sh (pileOf ss sh g nodes code state h) (answers-here .answer)
-
         line-here : (k : ℕ) → h ≡ suc k → nextLine g (pileOf ss sh g nodes code state h) ≡ line g (bindings ss nodes state1 (markAt state1 k))
         line-here k z =
             ap (nextLine g) (sym e ∙ ap (pileOf ss sh g nodes code state1) z)

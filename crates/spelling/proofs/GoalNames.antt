@@ -6,17 +6,16 @@ use mathlib.Core.Path.{_≡_, refl, sym, ap, _∙_, subst, subst⁻¹}
 use mathlib.Core.Bool.{Bool, true, false}
 use mathlib.Core.List.{List, [], _∷_, map}
 use mathlib.Core.Option.{Option, none, some}
-use lib.Dec.{leb, eqb, ltb}
+use lib.Dec.{eqb, ltb}
 use lib.ListN.{length, getD, set, take, length-set}
 use lib.Seq.{getD-set-same, getD-set-other}
 use borrow.Author.Tests.{eqb-true, eqb-false, ltb-true}
 use Rattle.syntax.specs.Tokens.{tokenAt, spelling}
 use Rattle.syntax.specs.Terms.{Term, Terms, variable, cons, Atom, termOf, Literal, Body, equation, also, Goal}
 use Rattle.syntax.specs.Reading.{Read, fault, ok, andThen, kindAt, is, standing, next, wrong, beyond, full, packed, spanned, numberOf, isAnonymous, withNew, newVariable, oldVariable, readVariable, Start, aVariable, aNumeral, aName, startOf, begins, After, more, last, neither, afterOf, atomAt, atomWith, readAtomWith, termWith, readTermWith, argumentsAfter, readArguments, readList, readTerm, readAtom, readRight, afterAtom, afterTerm, literalWith, readLiteral, bodyAfter, readBody, atStart, goalEnd, readGoal}
-use Rattle.syntax.specs.Verdicts.{Outcome, refused, accepted, goalFrom, goalOutcome}
+use Rattle.syntax.specs.Verdicts.{accepted, goalFrom}
 use Rattle.syntax.specs.declared.Token.{Token}
 use Rattle.syntax.specs.declared.State.{State}
-use Rattle.syntax.specs.declared.Refusal.the-variants.{TooLong}
 use Rattle.lexer.proofs.Laws.{token-inside}
 use Rattle.spelling.specs.Words.{namesFrom, Named}
 
@@ -279,16 +278,3 @@ few-from : (r : Read Goal) (g : Goal) → ((st : State) → r ≡ ok g st → le
 unfolding goalFrom
 few-from (fault n b) g h e = let z : _≡_ {A = ℕ} 0 1 = cc in absurd (omega arith)
 few-from (ok x st) g h e = let q : x ≡ g = cc in h st (ap (λ (y : Goal). ok y st) q)
-
--- a goal that reading accepts has at most 32 variables
-pub names-few : (s : List ℕ) (g : Goal) → goalOutcome s ≡ accepted g → length (g .names) ≤ 32
-unfolding goalOutcome
-names-few s g e = by (leb (length s) 1024) e
-  where
-    read : (st : State) → readGoal s ≡ ok g st → length (g .names) ≤ 32
-    read st e1 =
-        omega (arith, ap length (goal-names s g st e1), length-names s (st .first) 0 (st .count), goal-named s g st e1 .few)
-
-    by : (b : Bool) → elim b as (λ _. Outcome Goal) [ true ↦ goalFrom (readGoal s) | false ↦ refused TooLong ] ≡ accepted g → length (g .names) ≤ 32
-    by true e1 = few-from (readGoal s) g read e1
-    by false e1 = let z : _≡_ {A = ℕ} 0 1 = cc in absurd (omega arith)

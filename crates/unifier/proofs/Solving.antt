@@ -1,28 +1,27 @@
 -- Laws of the outer loops. Assumes nothing.
-use Prim.Native.Nat.{ℕ, zero, suc, _+_, _-_, _*_, _≤_, _<_, _^_}
+use Prim.Native.Nat.{ℕ, zero, suc, _+_, _*_, _≤_, _<_, _^_}
 use native.Mathlib.Omega.{arith}
 use mathlib.Core.Path.{_≡_, refl, sym, ap, ap₂, _∙_, subst, subst⁻¹}
 use mathlib.Core.Bool.{Bool, true, false}
-use mathlib.Core.List.{List, [], _∷_, _++_}
-use mathlib.Core.Option.{Option, none, some}
+use mathlib.Core.List.{List, [], _∷_}
+use mathlib.Core.Option.{none, some}
 use lib.Dec.{T}
-use lib.ListN.{length, getD}
-use Rattle.machine.specs.Substitution.{RTerm, RTerms, rnil, rcons, occurs, Binding, resolve}
-use Rattle.layout.specs.Nodes.{Symbol, Node, termAt}
+use lib.ListN.{length}
+use Rattle.machine.specs.Substitution.{rnil, occurs, Binding, resolve}
+use Rattle.layout.specs.Nodes.{Symbol, termAt}
 use Rattle.layout.specs.State.{variableOf, wordOf, bindings, Store, Within, Keeps, boundWords}
 use Rattle.layout.proofs.Nodes.{node-inside}
 use Rattle.layout.proofs.State.{bind-store, bind-keeps, bind-means, bind-within, keeps-refl, keeps-trans, room}
 use Rattle.bindings.specs.Queues.{Clean, Checkable, Checked, Closed, Closing}
 use Rattle.memos.specs.Memos.{Memo}
-use Rattle.bindings.specs.Scratch.{leftAt, rightAt, SameMarks, Roomy}
+use Rattle.bindings.specs.Scratch.{leftAt, rightAt, SameMarks}
 use Rattle.bindings.proofs.Apart.{closed-bound}
 use Rattle.memos.proofs.Remembering.{memo-kept, memo-bound}
 use Rattle.unifier.specs.Rows.{unifyRows, sizeOf}
 use Rattle.unifier.specs.Stacks.{rowsOf, Stack, nothing, Closes}
-use Rattle.unifier.specs.Turns.{Work, Goes, Binds, Turns, Turned, Turnable, Ready, Ends, Advanced, Solvable, Solved, answered}
+use Rattle.unifier.specs.Turns.{Work, Goes, Binds, Turned, Turnable, Ready, Advanced, Solvable, Solved, answered}
 use Rattle.unifier.specs.declared.solve.Turn.{Turn}
 use Rattle.unifier.specs.declared.solve.Turn.the-variants.{Go, Clash, Bind}
-use Rattle.unifier.specs.declared.solve.Unified.{Unified}
 use Rattle.unifier.proofs.Rules.{rows-done}
 use Rattle.unifier.proofs.Closing.{closes-agree}
 use Rattle.unifier.proofs.Stacked.{left-kept, right-kept, rows-agree, stack-agrees, stack-bound}
@@ -145,9 +144,6 @@ module _ (nodes before after scratch later : List ℕ) (n m h : ℕ) (g : Solvab
     long-next : length next ≡ length scratch
     long-next = gave .0 .long ∙ s .long
 
-    pub solve-next-long : length next ≡ length later
-    solve-next-long = gave .0 .long
-
     pub solve-done : (k : ℕ) → t ≡ Go k → Solved ss nodes before after scratch next (g .work .top) n (rowsOf ss nodes (leftAt scratch) 1) (rowsOf ss nodes (rightAt scratch) 1) (record { equal = true; trail = m })
     unfolding solve-work answered
     solve-done k e =
@@ -190,9 +186,6 @@ module _ (nodes before after scratch later : List ℕ) (n m h : ℕ) (g : Solvab
 
         long-end : length end ≡ length scratch
         long-end = checked .keeps .long ∙ long-next
-
-        pub solve-end-long : length end ≡ length next
-        solve-end-long = checked .keeps .long
 
         pub solve-stands : r ≡ true → Solved ss nodes before after scratch end (g .work .top) n (rowsOf ss nodes (leftAt scratch) 1) (rowsOf ss nodes (rightAt scratch) 1) (record { equal = false; trail = m })
         unfolding answered
