@@ -14,7 +14,7 @@ use Rattle.machine.specs.Answers.{placeOf, bytesOf, allAnonymous, valuesFrom, l
 use Rattle.layout.specs.Nodes.{Symbol}
 use Rattle.layout.specs.State.{variableOf}
 use Rattle.spelling.specs.Words.{numberIn, Numbers}
-use Rattle.spelling.specs.Telling.{Counting, Setting, Values, SomeValues, Lined}
+use Rattle.spelling.specs.Telling.{Counting, Counted, Setting, Values, SomeValues, Lined}
 use Rattle.spelling.proofs.ShallowLaws.{shallow-values}
 use Rattle.answers.specs.Fitting.{Answerable, SomeAnswerable, Fitted}
 
@@ -42,13 +42,30 @@ line-values : (g : Goal) (b : List Binding) → allAnonymous (g .names) ≡ fals
 unfolding line
 line-values g b e = rw (e, line)
 
-pub lined-yes : (g : Goal) (b : List Binding) (xs : List (List ℕ)) (r : Bool) (limit : ℕ) (old new : List ℕ) (at next : ℕ) → r ≡ allAnonymous xs → r ≡ true → g .names ≡ xs → Put old at (bytes "yes\n") new next → Lined limit (line g b) old at new next
-lined-yes g b xs r limit old new at next e t q p =
-    let is : line g b ≡ bytes "yes\n" = line-yes g b (ap allAnonymous q ∙ (sym e ∙ t)) in
-    record { done = λ l. rw is p; over = λ l. let a : next ≡ at + length (bytes "yes\n") = p .past in rw is (omega arith) }
+-- a table in which no variable is numbered, again
+no-variables : (met : List Variable) → 0 ≡ length met → met ≡ []
+no-variables [] e = refl
+no-variables (v ∷ met) e = absurd (omega arith)
 
-pub lined-values : (g : Goal) (b : List Binding) (xs : List (List ℕ)) (r : Bool) (limit : ℕ) (old new : List ℕ) (at next : ℕ) → r ≡ allAnonymous xs → r ≡ false → g .names ≡ xs → Lined limit (bytesOf [] (valuesFrom b 0 [] xs)) old at new next → Lined limit (line g b) old at new next
-lined-values g b xs r limit old new at next e t q p =
+pub numbers-again : (numbers : List ℕ) → Counted numbers → getD numbers 16384 0 ≡ 0 → Numbers numbers []
+numbers-again numbers k z = subst (Numbers numbers) (no-variables (k .met) (sym z ∙ k .numbers-are .counted)) (k .numbers-are)
+
+pub counting-again : (numbers : List ℕ) (at : ℕ) → Counted numbers → getD numbers 16384 0 ≡ 0 → at + 400 < 2 ^ 64 → Counting numbers at
+counting-again numbers at k z l = record { met = []; numbers-are = numbers-again numbers k z; few = zero-le; near = omega arith }
+
+-- ---- the line
+
+pub fitted-short : (whole old : List ℕ) (at : ℕ) → length old < at + length whole → Fitted whole old at old 0
+fitted-short whole old at l = record { fits = λ h. absurd (omega arith); full = λ h. (refl, refl) }
+
+pub fitted-yes : (old new : List ℕ) (at r : ℕ) → at + 4 ≤ length old → Put old at (bytes "yes\n") new r → Fitted (bytes "yes\n") old at new r
+fitted-yes old new at r l p = record { fits = λ h. p; full = λ h. absurd (let z : length (bytes "yes\n") ≡ 4 = refl in omega arith) }
+
+pub line-fits-yes : (g : Goal) (b : List Binding) (xs : List (List ℕ)) (r : Bool) (old new : List ℕ) (at next : ℕ) → r ≡ allAnonymous xs → r ≡ true → g .names ≡ xs → Fitted (bytes "yes\n") old at new next → Fitted (line g b) old at new next
+line-fits-yes g b xs r old new at next e t q p = let is : line g b ≡ bytes "yes\n" = line-yes g b (ap allAnonymous q ∙ (sym e ∙ t)) in rw is p
+
+pub line-fits-values : (g : Goal) (b : List Binding) (xs : List (List ℕ)) (r : Bool) (old new : List ℕ) (at next : ℕ) → r ≡ allAnonymous xs → r ≡ false → g .names ≡ xs → Fitted (bytesOf [] (valuesFrom b 0 [] xs)) old at new next → Fitted (line g b) old at new next
+line-fits-values g b xs r old new at next e t q p =
     let is : line g b ≡ bytesOf [] (valuesFrom b 0 [] xs) = line-values g b (ap allAnonymous q ∙ (sym e ∙ t)) ∙ ap (λ (ys : List (List ℕ)). bytesOf [] (valuesFrom b 0 [] ys)) q in
     rw is p
 

@@ -3,19 +3,135 @@ use buffers::append_part;
 use spelling::values::all_anonymous;
 use spelling::values::append_values;
 ghost use mathlib.Core.Path.{_≡_};
-ghost use mathlib.Core.List.{List};
+ghost use mathlib.Core.List.{List, []};
 ghost use Prim.Native.Nat.{ℕ, _+_, _-_, _*_, _^_, _≤_, _<_};
 ghost use lib.ListN.{length};
+ghost use Rattle.syntax.specs.Quote.{bytes};
 ghost use Rattle.syntax.specs.Terms.{Goal};
-ghost use Rattle.machine.specs.Answers.{line};
+ghost use Rattle.machine.specs.Answers.{bytesOf, valuesFrom, line};
 ghost use Rattle.layout.specs.Nodes.{Symbol};
 ghost use Rattle.layout.specs.State.{bindings};
 ghost use Rattle.spelling.specs.Words.{namesFrom};
 ghost use Rattle.spelling.specs.Telling.{Ample, Values, SomeValues, Lined};
 ghost use Rattle.answers.specs.Fitting.{Answerable, SomeAnswerable, Fitted};
 
+// The line of an answer that gives no variable.
+fn put_yes(text: &mut [u8], at: usize) -> usize
+    requires { ⌜ at ≤ length (now text) ⌝ }
+    ensures { λ r. ⌜ Fitted (bytes "yes\n") (now (text .entry)) at (now (text .exit)) r ⌝ }
+{
+    let room = text.len();
+    if room - at < 4 {
+        return 0;
+    }
+    append_part(b"yes\n", 0, 4, text, at)
+}
+
+// The variables that are given, with a table of numbers of its own; left once the limit is passed.
+fn append_afresh(
+    goal: &[u8],
+    names: &[u32],
+    count: usize,
+    nodes: &[u32],
+    state: &[u32],
+    symbols: &[u32],
+    sheet: &[u8],
+    stack: &mut [u32],
+    out: &mut [u8],
+    at: usize,
+    limit: usize,
+) -> usize
+    requires { ⌜ SomeValues (now nodes) (now state) (now symbols) (now sheet) (now goal) (now stack) (now names) count ⌝ }
+    requires { ⌜ (at + 400 < 2 ^ 64) × ((limit + 400 < 2 ^ 64) × Ample (now stack) ((limit - at) * 2 + 4)) ⌝ }
+    ensures { λ r. ⌜ ((ss : List Symbol) (n : ℕ) → Values ss n (now (nodes .entry)) (now (state .entry)) (now (symbols .entry)) (now (sheet .entry)) (now (goal .entry)) (now (stack .entry)) (now (names .entry)) count → Lined limit (bytesOf [] (valuesFrom (bindings ss (now (nodes .entry)) (now (state .entry)) n) 0 [] (namesFrom (now (goal .entry)) (now (names .entry)) 0 count))) (now (out .entry)) at (now (out .exit)) r) ⌝ }
+{
+    let mut numbers = [0usize; 16385];
+    append_values(
+        goal,
+        names,
+        count,
+        nodes,
+        state,
+        symbols,
+        sheet,
+        &mut numbers,
+        stack,
+        out,
+        at,
+        limit,
+    )
+}
+
+// The line of an answer that gives variables. It is measured first; its table of numbers serves again where no variable was unbound.
+fn put_values(
+    goal: &[u8],
+    names: &[u32],
+    count: usize,
+    nodes: &[u32],
+    state: &[u32],
+    symbols: &[u32],
+    sheet: &[u8],
+    stack: &mut [u32],
+    text: &mut [u8],
+    at: usize,
+) -> usize
+    requires { ⌜ SomeAnswerable (now nodes) (now state) (now symbols) (now sheet) (now goal) (now names) count ⌝ }
+    requires { ⌜ (at ≤ length (now text)) × Ample (now stack) ((length (now text) - at) * 2 + 4) ⌝ }
+    ensures { λ r. ⌜ ((ss : List Symbol) (n : ℕ) → Answerable ss n (now (nodes .entry)) (now (state .entry)) (now (symbols .entry)) (now (sheet .entry)) (now (goal .entry)) (now (names .entry)) count → Fitted (bytesOf [] (valuesFrom (bindings ss (now (nodes .entry)) (now (state .entry)) n) 0 [] (namesFrom (now (goal .entry)) (now (names .entry)) 0 count))) (now (text .entry)) at (now (text .exit)) r) ⌝ }
+{
+    let room = text.len();
+    let mut numbers = [0usize; 16385];
+    let mut nothing = [0u8; 0];
+    let past = append_values(
+        goal,
+        names,
+        count,
+        nodes,
+        state,
+        symbols,
+        sheet,
+        &mut numbers,
+        stack,
+        &mut nothing,
+        at,
+        room,
+    );
+    if room < past {
+        return 0;
+    }
+    if numbers[16384] == 0 {
+        return append_values(
+            goal,
+            names,
+            count,
+            nodes,
+            state,
+            symbols,
+            sheet,
+            &mut numbers,
+            stack,
+            text,
+            at,
+            room,
+        );
+    }
+    append_afresh(
+        goal,
+        names,
+        count,
+        nodes,
+        state,
+        symbols,
+        sheet,
+        stack,
+        text,
+        at,
+        room,
+    )
+}
+
 // Writes the line of an answer from at on and returns the position past it; where the whole line does not fit, writes nothing
-// and returns 0. It is measured first. The stack has two words for each bracket that can be open at once: 16 in a term of a clause
+// and returns 0. The stack has two words for each bracket that can be open at once: 16 in a term of a clause
 // or of the goal, and 16 behind each of 16,384 bindings; or, where that is less, two for each byte of room, and four.
 pub fn put_answer(
     goal: &[u8],
@@ -33,62 +149,10 @@ pub fn put_answer(
     requires { ⌜ (at ≤ length (now text)) × Ample (now stack) ((length (now text) - at) * 2 + 4) ⌝ }
     ensures { λ r. ⌜ ((ss : List Symbol) (n : ℕ) (g : Goal) → Answerable ss n (now (nodes .entry)) (now (state .entry)) (now (symbols .entry)) (now (sheet .entry)) (now (goal .entry)) (now (names .entry)) count → g .names ≡ namesFrom (now (goal .entry)) (now (names .entry)) 0 count → Fitted (line g (bindings ss (now (nodes .entry)) (now (state .entry)) n)) (now (text .entry)) at (now (text .exit)) r) ⌝ }
 {
-    let room = text.len();
-    let mut nothing = [0u8; 0];
-    let past = append_answer(
-        goal,
-        names,
-        count,
-        nodes,
-        state,
-        symbols,
-        sheet,
-        stack,
-        &mut nothing,
-        at,
-        room,
-    );
-    if past <= room {
-        return append_answer(
-            goal,
-            names,
-            count,
-            nodes,
-            state,
-            symbols,
-            sheet,
-            stack,
-            text,
-            at,
-            room,
-        );
-    }
-    0
-}
-
-// The line from at on, left once the limit is passed.
-fn append_answer(
-    goal: &[u8],
-    names: &[u32],
-    count: usize,
-    nodes: &[u32],
-    state: &[u32],
-    symbols: &[u32],
-    sheet: &[u8],
-    stack: &mut [u32],
-    out: &mut [u8],
-    at: usize,
-    limit: usize,
-) -> usize
-    requires { ⌜ SomeValues (now nodes) (now state) (now symbols) (now sheet) (now goal) (now stack) (now names) count ⌝ }
-    requires { ⌜ (at + 400 < 2 ^ 64) × ((limit + 400 < 2 ^ 64) × Ample (now stack) ((limit - at) * 2 + 4)) ⌝ }
-    ensures { λ r. ⌜ ((ss : List Symbol) (n : ℕ) (g : Goal) → Values ss n (now (nodes .entry)) (now (state .entry)) (now (symbols .entry)) (now (sheet .entry)) (now (goal .entry)) (now (stack .entry)) (now (names .entry)) count → g .names ≡ namesFrom (now (goal .entry)) (now (names .entry)) 0 count → Lined limit (line g (bindings ss (now (nodes .entry)) (now (state .entry)) n)) (now (out .entry)) at (now (out .exit)) r) ⌝ }
-{
     if all_anonymous(goal, names, count) {
-        return append_part(b"yes\n", 0, 4, out, at);
+        return put_yes(text, at);
     }
-    let mut numbers = [0usize; 16385];
-    append_values(
+    put_values(
         goal,
         names,
         count,
@@ -96,10 +160,8 @@ fn append_answer(
         state,
         symbols,
         sheet,
-        &mut numbers,
         stack,
-        out,
+        text,
         at,
-        limit,
     )
 }

@@ -21,7 +21,7 @@ use Rattle.layout.specs.Nodes.{Symbol, Node, termAt}
 use Rattle.layout.specs.State.{cellOf, variableOf, nodeOf, copyOf, cellAt, trailAt, valueOf, bindings, Entry, Store}
 use Rattle.layout.proofs.State.{copy-small, resolve-bound, resolve-unbound}
 use Rattle.spelling.specs.Words.{Names, Numbers, Rows, left, depth, Named, nameIn, namesFrom}
-use Rattle.spelling.specs.Telling.{Told, Ample, Counting, Setting, SomeSetting, Facing, SomeFacing, Spelling, Walked, Lined, Valued, SomeValued, Values, SomeValues, valueIn, gap}
+use Rattle.spelling.specs.Telling.{Told, Ample, Counting, Counted, Setting, SomeSetting, Facing, SomeFacing, Spelling, Walked, Lined, Valued, SomeValued, Values, SomeValues, valueIn, gap}
 use Rattle.spelling.proofs.WalkLaws.{told-whole, told-words, told-after, told-then, few-met, bytes-written, walked-told}
 
 -- ---- `_`
@@ -268,6 +268,13 @@ module _ (nodes state symbols sheet goal names : List ℕ) (count : ℕ) (number
     listing-counting s k l f =
         let t : Told (bytesOf (k .met) (valuesFrom (bindings (s .ss) nodes state (s .n)) 0 [] (namesFrom goal names 0 count))) out₀ at out past numbers (valuesFrom (bindings (s .ss) nodes state (s .n)) i (gap more) (namesFrom goal names i (count - i))) = g (s .ss) (s .n) (k .met) (s .is) (k .numbers-are) .done l in
         record { met = t .met; numbers-are = t .numbers-are; few = t .few; near = f }
+
+    -- the variables numbered at the end, where the limit is not passed
+    pub listing-counted : (new : List ℕ) (next : ℕ) → SomeValues nodes state symbols sheet goal stack₀ names count → Counting numbers₀ at → past + 100 < 2 ^ 64 → Put out past (10 ∷ []) new next → next ≤ limit → Counted numbers
+    listing-counted new next s k f p l =
+        let a : next ≡ past + 1 = p .past in
+        let t : Counting numbers past = listing-counting s k (omega arith) f in
+        record { met = t .met; numbers-are = t .numbers-are }
 
     pub listing-next : (stack numbers₁ out₁ : List ℕ) (past₁ more₁ w : ℕ) → length stack ≡ length stack₀ → i < count → w ≡ getD names i 0 → past ≤ limit
         → ((ss : List Symbol) (n : ℕ) (met : List Variable) (xs : List (List ℕ)) → Valued ss n nodes state symbols sheet goal stack i → Numbers numbers met

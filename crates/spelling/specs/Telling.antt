@@ -38,6 +38,11 @@ pub record Counting (numbers : List ℕ) (at : ℕ) : Type 0 where
   pub few : length met ≤ at
   pub near : at + 100 < 2 ^ 64
 
+-- The table numbers some variables.
+pub record Counted (numbers : List ℕ) : Type 0 where
+  pub met : List Variable
+  pub numbers-are : Numbers numbers met
+
 -- A stack of so many words, or of two for each of the 262,160 brackets that can be open at once at most.
 abbrev pub Ample : List ℕ → ℕ → Type 0
 Ample stack words = min 524320 words ≤ length stack

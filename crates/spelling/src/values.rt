@@ -17,7 +17,7 @@ ghost use Rattle.machine.specs.Answers.{Piece, spelt, bytesOf, isAnonymous, all
 ghost use Rattle.layout.specs.Nodes.{Symbol};
 ghost use Rattle.layout.specs.State.{bindings};
 ghost use Rattle.spelling.specs.Words.{Numbers, Named, nameIn, namesFrom};
-ghost use Rattle.spelling.specs.Telling.{Ample, Counting, Valued, SomeValued, Values, SomeValues, Walked, Lined, valueIn, gap};
+ghost use Rattle.spelling.specs.Telling.{Ample, Counting, Counted, Valued, SomeValued, Values, SomeValues, Walked, Lined, valueIn, gap};
 
 // Whether a packed name of the goal is `_` alone.
 pub fn is_anonymous(goal: &[u8], w: usize) -> bool
@@ -196,7 +196,8 @@ pub fn append_values(
 ) -> usize
     requires { ⌜ SomeValues (now nodes) (now state) (now symbols) (now sheet) (now goal) (now stack) (now names) count ⌝ }
     requires { ⌜ (Counting (now numbers) at) × ((at + 400 < 2 ^ 64) × ((limit + 400 < 2 ^ 64) × Ample (now stack) ((limit - at) * 2 + 4))) ⌝ }
-    ensures { λ r. ⌜ ((ss : List Symbol) (n : ℕ) (met : List Variable) → Values ss n (now (nodes .entry)) (now (state .entry)) (now (symbols .entry)) (now (sheet .entry)) (now (goal .entry)) (now (stack .entry)) (now (names .entry)) count → Numbers (now (numbers .entry)) met → Lined limit (bytesOf met (valuesFrom (bindings ss (now (nodes .entry)) (now (state .entry)) n) 0 [] (namesFrom (now (goal .entry)) (now (names .entry)) 0 count))) (now (out .entry)) at (now (out .exit)) r) ⌝ }
+    ensures lined { λ r. ⌜ ((ss : List Symbol) (n : ℕ) (met : List Variable) → Values ss n (now (nodes .entry)) (now (state .entry)) (now (symbols .entry)) (now (sheet .entry)) (now (goal .entry)) (now (stack .entry)) (now (names .entry)) count → Numbers (now (numbers .entry)) met → Lined limit (bytesOf met (valuesFrom (bindings ss (now (nodes .entry)) (now (state .entry)) n) 0 [] (namesFrom (now (goal .entry)) (now (names .entry)) 0 count))) (now (out .entry)) at (now (out .exit)) r) ⌝ }
+    ensures counted { λ r. ⌜ (r ≤ limit → Counted (now (numbers .exit))) ⌝ }
 {
     let mut past = at;
     let mut more = 0;

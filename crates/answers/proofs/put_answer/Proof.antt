@@ -1,45 +1,54 @@
-use native.Mathlib.Omega.{arith}
-use mathlib.Core.Path.{refl}
-use Rattle.answers.proofs.LineLaws.{values-of, some-values, fitted-put, fitted-none}
+use Rattle.answers.proofs.LineLaws.{line-fits-yes, line-fits-values}
 use borrow.Author.Needs.{needs}
 use Rattle.answers.proofs.put_answer.Statement.{statement}
 use Rattle.answers.proofs.put_answer.Tie as tie
+use Rattle.answers.proofs.put_answer.Reads as reads
+use Rattle.answers.proofs.put_answer.Lts as lts
+use Rattle.answers.proofs.put_values.Reads as put-values-reads
+use Rattle.answers.proofs.put_yes.Reads as put-yes-reads
+use Rattle.spelling.proofs.values.all_anonymous.Reads as all-anonymous-reads
 
-slice-aggregate-append-answer : tie.Need-slice-aggregate-append-answer
-slice-aggregate-append-answer c = search needs
+-- src/lib.rt:152:8
+all-anonymous-requires : tie.Need-all-anonymous-requires
+all-anonymous-requires c κs = search needs
 
-append-answer-requires : tie.Need-append-answer-requires
-append-answer-requires c κs =
-    (some-values _ _ _ _ _ _ _ _ (c .before .before .before .before .before .before .before .before .before .before .pre .0), (omega (arith, c .before .before .before .before .before .before .before .before .before .before .pre .1 .0, c .before .before .before .before .before .before .before .before .before .before .good .1 .1 .1 .1 .1 .1 .1 .1 .0 .1), (omega (arith, c .before .before .before .before .before .before .before .before .before .before .good .1 .1 .1 .1 .1 .1 .1 .1 .0 .1), c .before .before .before .before .before .before .before .before .before .before .pre .1 .1)))
+-- src/lib.rt:153:9
+put-yes-requires : tie.Need-put-yes-requires
+put-yes-requires c κs = search needs
 
-append-answer-requires-2 : tie.Need-append-answer-requires-2
-append-answer-requires-2 c κs =
-    (some-values _ _ _ _ _ _ _ _ (c .before .before .before .before .before .before .before .before .before .before .before .before .before .before .before .before .before .pre .0), (omega (arith, c .before .before .before .before .before .before .before .before .before .before .before .before .before .before .before .before .before .pre .1 .0, c .before .before .before .before .before .before .before .before .before .before .before .before .before .before .before .before .before .good .1 .1 .1 .1 .1 .1 .1 .1 .0 .1), (omega (arith, c .before .before .before .before .before .before .before .before .before .before .before .before .before .before .before .before .before .good .1 .1 .1 .1 .1 .1 .1 .1 .0 .1), omega (arith, c .before .before .before .before .before .before .append-answer .kept .1 .1 .1 .1 .1 .1 .1 .0, c .before .before .before .before .before .before .before .before .before .before .before .before .before .before .before .before .before .pre .1 .1))))
-
+-- src/lib.rt:153:9
 same-length : tie.Need-same-length
 same-length c = search needs
 
+-- src/lib.rt:153:9
+returns : tie.Need-returns
+returns c = λ ss n g v q. line-fits-yes g _ _ (c .before .before .before .before .before .all-anonymous .result) _ _ _ _ (c .before .before .before .before .before .all-anonymous .ensures) (c .before .before .before .before .if1 .taken) q (c .before .before .put-yes .ensures)
+
+-- src/lib.rt:155:5
+put-values-requires : tie.Need-put-values-requires
+put-values-requires c κs = search needs
+
+-- src/lib.rt:136:1
 same-length-2 : tie.Need-same-length-2
 same-length-2 c = search needs
 
-returns : tie.Need-returns
-returns c = λ ss n g v q. fitted-put _ _ _ _ _ _ (c .before .before .before .before .before .before .before .before .before .before .before .append-answer .result) _ _ refl (omega (arith, c .before .before .before .before .before .before .before .if1 .taken)) (c .before .before .before .before .before .before .before .before .before .before .before .append-answer .ensures ss n g (values-of _ _ _ _ _ _ _ _ _ _ v) q) (c .before .before .before .before .append-answer2 .ensures ss n g (values-of _ _ _ _ _ _ _ _ _ _ v) q)
-
+-- src/lib.rt:136:1
 same-length-3 : tie.Need-same-length-3
 same-length-3 c = search needs
 
+-- src/lib.rt:136:1
 returns-2 : tie.Need-returns-2
-returns-2 c = λ ss n g v q. fitted-none _ _ _ _ _ (c .before .before .before .before .append-answer .result) _ refl (omega (arith, c .if1 .left)) (c .before .before .before .before .append-answer .ensures ss n g (values-of _ _ _ _ _ _ _ _ _ _ v) q)
+returns-2 c = λ ss n g v q. line-fits-values g _ _ (c .before .before .before .before .before .before .before .before .all-anonymous .result) _ _ _ _ (c .before .before .before .before .before .before .before .before .all-anonymous .ensures) (c .before .before .before .before .before .before .before .if1 .left) q (c .before .before .before .before .put-values .ensures ss n v)
 
 pub put-answer-spec : {M : Type 1} → statement M
 put-answer-spec =
     tie.close
     (tie.spec
-    slice-aggregate-append-answer
-    append-answer-requires
-    append-answer-requires-2
+    all-anonymous-requires
+    put-yes-requires
     same-length
-    same-length-2
     returns
+    put-values-requires
+    same-length-2
     same-length-3
     returns-2)

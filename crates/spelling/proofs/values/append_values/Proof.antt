@@ -2,7 +2,7 @@ use native.Mathlib.Omega.{arith}
 use mathlib.Core.Path.{_≡_, refl, _∙_}
 use Prim.Native.Nat.{ℕ, _+_, _-_, _≤_, _<_, _^_}
 use lib.ListN.{length}
-use Rattle.spelling.proofs.ValueLaws.{Listing, listing-none, listing-counting, listing-next, listing-over, listing-end, some-valued, word-inside, near-on}
+use Rattle.spelling.proofs.ValueLaws.{Listing, listing-none, listing-counting, listing-next, listing-over, listing-end, some-valued, word-inside, near-on, listing-counted}
 use Rattle.spelling.proofs.values.append_values.Statement.{statement}
 use Rattle.spelling.proofs.values.append_values.Tie as tie
 
@@ -25,7 +25,7 @@ same-length-3 : tie.Need-same-length-3 Inv-loop μ-loop
 same-length-3 c = c .before .before .loop .inv .2
 
 returns : tie.Need-returns Inv-loop μ-loop
-returns c = listing-over _ _ _ _ _ _ _ _ _ _ _ _ _ _ _ (c .before .before .loop .more) (c .before .before .loop .i) (c .before .before .loop .inv .5) (c .if1 .taken)
+returns c = (listing-over _ _ _ _ _ _ _ _ _ _ _ _ _ _ _ (c .before .before .loop .more) (c .before .before .loop .i) (c .before .before .loop .inv .5) (c .if1 .taken), λ l. absurd (omega (arith, c .if1 .taken, l)))
 
 word-at-requires : tie.Need-word-at-requires Inv-loop μ-loop
 word-at-requires c κs = omega (arith, c .before .before .before .before .before .before .before .before .before .before .before .before .pre .0 .is .named .listed, c .before .loop-test .taken)
@@ -55,7 +55,7 @@ same-length-6 : tie.Need-same-length-6 Inv-loop μ-loop
 same-length-6 c = c .before .before .append-byte .kept .1 .0 ∙ c .before .before .before .before .before .loop .inv .2
 
 returns-2 : tie.Need-returns-2 Inv-loop μ-loop
-returns-2 c = listing-end _ _ _ _ _ _ _ _ _ _ _ _ _ _ _ (c .before .before .before .before .before .loop .more) (c .before .before .before .before .before .loop .i) (c .before .before .before .before .before .loop .inv .5) _ _ (c .before .before .before .before .loop-test .left) (c .before .before .append-byte .ensures)
+returns-2 c = (listing-end _ _ _ _ _ _ _ _ _ _ _ _ _ _ _ (c .before .before .before .before .before .loop .more) (c .before .before .before .before .before .loop .i) (c .before .before .before .before .before .loop .inv .5) _ _ (c .before .before .before .before .loop-test .left) (c .before .before .append-byte .ensures), λ l. listing-counted _ _ _ _ _ _ _ _ _ _ _ _ _ _ _ (c .before .before .before .before .before .loop .more) (c .before .before .before .before .before .loop .i) (c .before .before .before .before .before .loop .inv .5) _ _ (c .before .before .before .before .before .before .before .before .before .before .before .before .before .before .before .pre .0) (c .before .before .before .before .before .before .before .before .before .before .before .before .before .before .before .pre .1 .0) (omega (arith, c .before .before .before .before .before .loop .inv .4)) (c .before .before .append-byte .ensures) l)
 
 pub append-values-spec : {M : Type 1} → statement M
 append-values-spec =

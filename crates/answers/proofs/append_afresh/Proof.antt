@@ -1,0 +1,39 @@
+use mathlib.Core.List.{[]}
+use mathlib.Core.Path.{refl}
+use Rattle.answers.proofs.LineLaws.{numbers-none, counting-none}
+use borrow.Author.Needs.{needs}
+use Rattle.answers.proofs.append_afresh.Statement.{statement}
+use Rattle.answers.proofs.append_afresh.Tie as tie
+use Rattle.answers.proofs.append_afresh.Reads as reads
+use Rattle.answers.proofs.append_afresh.Lts as lts
+use Rattle.spelling.proofs.values.append_values.Reads as append-values-reads
+
+-- src/lib.rt:57:9
+slice-aggregate-append-values : tie.Need-slice-aggregate-append-values
+slice-aggregate-append-values c = search needs
+
+-- src/lib.rt:49:5
+append-values-requires : tie.Need-append-values-requires
+append-values-requires c κs = (c .before .before .before .before .before .before .before .before .before .before .before .pre .0, (counting-none 16385 _ refl (c .before .before .before .before .before .before .before .before .before .before .before .pre .1 .0), c .before .before .before .before .before .before .before .before .before .before .before .pre .1))
+
+-- src/lib.rt:31:1
+same-length : tie.Need-same-length
+same-length c = search needs
+
+-- src/lib.rt:31:1
+same-length-2 : tie.Need-same-length-2
+same-length-2 c = search needs
+
+-- src/lib.rt:31:1
+returns : tie.Need-returns
+returns c = λ ss n v. c .before .before .before .before .before .append-values .ensures .0 ss n [] v (numbers-none 16385 refl)
+
+pub append-afresh-spec : {M : Type 1} → statement M
+append-afresh-spec =
+    tie.close
+    (tie.spec
+    slice-aggregate-append-values
+    append-values-requires
+    same-length
+    same-length-2
+    returns)
