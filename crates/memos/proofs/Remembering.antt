@@ -13,7 +13,7 @@ use Rattle.machine.specs.Substitution.{RTerm, replace, Binding, resolve}
 use Rattle.layout.specs.Nodes.{Symbol, termAt}
 use Rattle.layout.specs.State.{wordOf, valueOf}
 use Rattle.layout.proofs.State.{node-word, copy-word}
-use Rattle.memos.specs.Memos.{terms, rows, keyOf, termOf, linkOf, half, stored, numberIn, Numbered, Rowed, Entered, Same, Belongs, Links, Memo, Found, Reaches, Cleared, Kept, Opens, Assigns, Fresh, Joins, Begins, Remembers, Weighed}
+use Rattle.memos.specs.Memos.{terms, rows, keyOf, termOf, linkOf, half, stored, numberIn, Numbered, Rowed, Entered, Same, Belongs, Shows, Links, Memo, Found, Reaches, Cleared, Kept, Opens, Assigns, Fresh, Joins, Begins, Remembers, Weighed}
 
 -- ---- what its words mean
 
@@ -21,42 +21,37 @@ pub value-word : (ss : List Symbol) (nodes : List ℕ) (p c : ℕ) → c < 256 �
 unfolding valueOf
 value-word ss nodes p c l = ap₂ (termAt ss nodes) (node-word p c l) (copy-word p c l)
 
--- the memo's words but the weights are as they were, and so is what they mean
-module _ (before after : List ℕ) (low : (j : ℕ) → 229382 ≤ j → j < 283144 → getD after j 0 ≡ getD before j 0) (high : (j : ℕ) → 315914 ≤ j → getD after j 0 ≡ getD before j 0) where
-  terms-kept : terms after ≡ terms before
-  terms-kept = low 229382 (omega arith) (omega arith)
+-- classes that are kept, perhaps with more of them
+module _ (before after : List ℕ) (more : terms before ≤ terms after) (kept : (i : ℕ) → Numbered before i → termOf after i ≡ termOf before i) where
+  pub number-on : (i : ℕ) → Numbered before i → Numbered after i
+  number-on i n = record { low = n .low; below = (let z : i < terms before = n .below in omega arith); small = n .small }
 
-  numbered-kept : (i : ℕ) → Numbered before i → Numbered after i
-  numbered-kept i n = record { low = n .low; below = (let e : terms after ≡ terms before = terms-kept in let z : i < terms before = n .below in omega arith); small = n .small }
+  pub same-on : (meaning : ℕ → RTerm) (i j : ℕ) → Numbered before i → Same meaning before i j → Same meaning after i j
+  same-on meaning i j n x = record { numbered = number-on j (x .numbered); same = ap meaning (kept i n) ∙ (x .same ∙ sym (ap meaning (kept j (x .numbered)))) }
 
-  numbered-back : (i : ℕ) → Numbered after i → Numbered before i
-  numbered-back i n = record { low = n .low; below = (let e : terms after ≡ terms before = terms-kept in let z : i < terms after = n .below in omega arith); small = n .small }
+  pub belongs-on : (meaning : ℕ → RTerm) (term i : ℕ) → Belongs meaning before term i → Belongs meaning after term i
+  belongs-on meaning term i b = record { numbered = number-on i (b .numbered); same = b .same ∙ sym (ap meaning (kept i (b .numbered))) }
 
-  term-kept : (i : ℕ) → i < 16640 → termOf after i ≡ termOf before i
-  term-kept i l = low (249864 + i * 2) (omega arith) (omega arith)
+  pub shows-on : (meaning : ℕ → RTerm) (k v : ℕ) → numberIn after k v ≡ numberIn before k v → Shows meaning before k v → Shows meaning after k v
+  shows-on meaning k v e (inl z) = inl (e ∙ z)
+  shows-on meaning k v e (inr b) = inr (subst⁻¹ (Belongs meaning after (v - 255)) e (belongs-on meaning (v - 255) (numberIn before k v) b))
 
-  number-kept : (k v : ℕ) → numberIn after k v ≡ numberIn before k v
-  number-kept k v = ap (half (v / 128 % 2)) (high (315914 + k * 128 + v % 128) (omega arith))
-
-  belongs-kept : (meaning : ℕ → RTerm) (term i : ℕ) → Belongs meaning before term i → Belongs meaning after term i
-  belongs-kept meaning term i b = record { numbered = numbered-kept i (b .numbered); same = b .same ∙ sym (ap meaning (term-kept i (b .numbered .small))) }
-
-  entry-kept : (meaning : ℕ → RTerm) (k v : ℕ) → (numberIn before k v ≡ 0) ⊎ Belongs meaning before (v - 255) (numberIn before k v) → (numberIn after k v ≡ 0) ⊎ Belongs meaning after (v - 255) (numberIn after k v)
-  entry-kept meaning k v (inl z) = inl (number-kept k v ∙ z)
-  entry-kept meaning k v (inr b) = inr (subst⁻¹ (Belongs meaning after (v - 255)) (number-kept k v) (belongs-kept meaning (v - 255) (numberIn before k v) b))
-
-  pub links-kept : (meaning : ℕ → RTerm) → Links meaning before → Links meaning after
-  links-kept meaning m =
+  -- no class more, and the rows are as they were
+  pub links-on : terms after ≡ terms before → rows after ≡ rows before → ((k : ℕ) → k < 4096 → keyOf after k ≡ keyOf before k) → ((k v : ℕ) → numberIn after k v ≡ numberIn before k v)
+      → (meaning : ℕ → RTerm) → ((i j : ℕ) → Numbered before i → linkOf after i ≡ j + 1 → j < 16640 → Same meaning before i j) → Links meaning before → Links meaning after
+  links-on t r keys numbers meaning f m =
       record {
-        links = λ i j n l s.
-            (let o : i < 16640 = n .small in
-            let x : Same meaning before i j = m .links i j (numbered-back i n) (sym (low (249864 + i * 2 + 1) (omega arith) (omega arith)) ∙ l) s in
-            record { numbered = numbered-kept j (x .numbered); same = ap meaning (term-kept i o) ∙ (x .same ∙ sym (ap meaning (term-kept j s))) });
-        entries = λ k v r s t e.
-            entry-kept meaning k v
-            (m .entries k v (let z : rows after ≡ rows before = low 229383 (omega arith) (omega arith) in omega arith) s (let z : terms after ≡ terms before = terms-kept in omega arith)
-            (e ∙ low (245768 + k) (omega arith) (omega arith)));
+        links = λ i j n l s. (let o : Numbered before i = record { low = n .low; below = (let z : i < terms after = n .below in omega arith); small = n .small } in same-on meaning i j o (f i j o l s));
+        entries = λ k v b s x e. shows-on meaning k v (numbers k v) (m .entries k v (omega arith) s (omega arith) (e ∙ keys k s));
       }
+
+-- the memo's words but the weights are as they were
+pub links-kept : (before after : List ℕ) → ((j : ℕ) → 229382 ≤ j → j < 283144 → getD after j 0 ≡ getD before j 0) → ((j : ℕ) → 315914 ≤ j → getD after j 0 ≡ getD before j 0) → (meaning : ℕ → RTerm) → Links meaning before → Links meaning after
+links-kept before after low high meaning m =
+    let t : terms after ≡ terms before = low 229382 (omega arith) (omega arith) in
+    links-on before after (omega arith) (λ i n. (let l : i < 16640 = n .small in low (249864 + i * 2) (omega arith) (omega arith))) t (low 229383 (omega arith) (omega arith)) (λ k l. low (245768 + k) (omega arith) (omega arith))
+    (λ k v. ap (half (v / 128 % 2)) (high (315914 + k * 128 + v % 128) (omega arith))) meaning
+    (λ i j n l s. (let o : i < 16640 = n .small in m .links i j n (sym (low (249864 + i * 2 + 1) (omega arith) (omega arith)) ∙ l) s)) m
 
 -- no number, and no row if there could be one
 pub links-none : (meaning : ℕ → RTerm) (scratch : List ℕ) → terms scratch ≤ 32 → (32 ≤ terms scratch → rows scratch ≡ 0) → Links meaning scratch
@@ -71,15 +66,15 @@ memo-none ss nodes b scratch e = record { links = links-none (λ (w : ℕ). reso
 
 -- another meaning that follows from the first
 module _ (meaning : ℕ → RTerm) (f : RTerm → RTerm) (scratch : List ℕ) where
-  entry-mapped : (k v : ℕ) → (numberIn scratch k v ≡ 0) ⊎ Belongs meaning scratch (v - 255) (numberIn scratch k v) → (numberIn scratch k v ≡ 0) ⊎ Belongs (λ (w : ℕ). f (meaning w)) scratch (v - 255) (numberIn scratch k v)
-  entry-mapped k v (inl z) = inl z
-  entry-mapped k v (inr b) = inr (record { numbered = b .numbered; same = ap f (b .same) })
+  shows-mapped : (k v : ℕ) → Shows meaning scratch k v → Shows (λ (w : ℕ). f (meaning w)) scratch k v
+  shows-mapped k v (inl z) = inl z
+  shows-mapped k v (inr b) = inr (record { numbered = b .numbered; same = ap f (b .same) })
 
   links-mapped : Links meaning scratch → Links (λ (w : ℕ). f (meaning w)) scratch
   links-mapped m =
       record {
         links = λ i j n l s. (let x : Same meaning scratch i j = m .links i j n l s in record { numbered = x .numbered; same = ap f (x .same) });
-        entries = λ k v r s t e. entry-mapped k v (m .entries k v r s t e);
+        entries = λ k v r s t e. shows-mapped k v (m .entries k v r s t e);
       }
 
 module _ (ss : List Symbol) (nodes : List ℕ) (b : List Binding) (before : List ℕ) (m : Memo ss nodes b before) where
@@ -152,26 +147,14 @@ module _ (before : List ℕ) (m term : ℕ) (long : 393225 ≤ length before) (i
       ∙ getD-set-same first (249864 + m * 2 + 1) 0 0 (let e : length first ≡ length before = first-long in omega arith)
 
   -- the classes before it
-  term-stays : (i : ℕ) → i < m → termOf last i ≡ termOf before i
-  term-stays i l = elsewhere (249864 + i * 2) (λ e. omega arith) (λ e. omega arith) (λ e. omega arith)
-
-  link-stays : (i : ℕ) → i < m → linkOf last i ≡ linkOf before i
-  link-stays i l = elsewhere (249864 + i * 2 + 1) (λ e. omega arith) (λ e. omega arith) (λ e. omega arith)
-
-  number-stays : (i : ℕ) → Numbered before i → Numbered last i
-  number-stays i n = record { low = n .low; below = (let e : terms last ≡ m + 1 = count-is in let z : i < terms before = n .below in omega arith); small = n .small }
+  term-stays : (i : ℕ) → Numbered before i → termOf last i ≡ termOf before i
+  term-stays i n = let l : i < terms before = n .below in elsewhere (249864 + i * 2) (λ e. omega arith) (λ e. omega arith) (λ e. omega arith)
 
   place-stays : (k v : ℕ) → numberIn last k v ≡ numberIn before k v
   place-stays k v = ap (half (v / 128 % 2)) (elsewhere (315914 + k * 128 + v % 128) (λ e. omega arith) (λ e. omega arith) (λ e. omega arith))
 
-  belongs-stays : (meaning : ℕ → RTerm) (t i : ℕ) → Belongs meaning before t i → Belongs meaning last t i
-  belongs-stays meaning t i b =
-      let z : i < terms before = b .numbered .below in
-      record { numbered = number-stays i (b .numbered); same = b .same ∙ sym (ap meaning (term-stays i (omega arith))) }
-
-  entry-stays : (meaning : ℕ → RTerm) (k v : ℕ) → (numberIn before k v ≡ 0) ⊎ Belongs meaning before (v - 255) (numberIn before k v) → (numberIn last k v ≡ 0) ⊎ Belongs meaning last (v - 255) (numberIn last k v)
-  entry-stays meaning k v (inl z) = inl (place-stays k v ∙ z)
-  entry-stays meaning k v (inr b) = inr (subst⁻¹ (Belongs meaning last (v - 255)) (place-stays k v) (belongs-stays meaning (v - 255) (numberIn before k v) b))
+  grows : terms before ≤ terms last
+  grows = let e : terms last ≡ m + 1 = count-is in omega arith
 
   links-more : (meaning : ℕ → RTerm) → Links meaning before → (i j : ℕ) → Numbered last i → linkOf last i ≡ j + 1 → j < 16640 → Same meaning last i j
   links-more meaning k i j n l t = go (eqb i m) refl
@@ -183,9 +166,8 @@ module _ (before : List ℕ) (m term : ℕ) (long : 393225 ≤ length before) (i
           let e : terms last ≡ m + 1 = count-is in
           let u : i < terms last = n .below in
           let y : i < m = omega (arith, d) in
-          let x : Same meaning before i j = k .links i j (record { low = n .low; below = omega arith; small = n .small }) (sym (link-stays i y) ∙ l) t in
-          let v : j < terms before = x .numbered .below in
-          record { numbered = number-stays j (x .numbered); same = ap meaning (term-stays i y) ∙ (x .same ∙ sym (ap meaning (term-stays j (omega arith)))) }
+          let o : Numbered before i = record { low = n .low; below = omega arith; small = n .small } in
+          same-on before last grows term-stays meaning i j o (k .links i j o (sym (elsewhere (249864 + i * 2 + 1) (λ e. omega arith) (λ e. omega arith) (λ e. omega arith)) ∙ l) t)
 
   pub fresh-class : Fresh before last term m
   fresh-class =
@@ -197,7 +179,7 @@ module _ (before : List ℕ) (m term : ℕ) (long : 393225 ≤ length before) (i
         links = λ meaning k. record {
           links = links-more meaning k;
           entries = λ r v b s t e.
-              entry-stays meaning r v
+              shows-on before last grows term-stays meaning r v (place-stays r v)
               (k .entries r v (let z : rows last ≡ rows before = elsewhere 229383 (λ e. omega arith) (λ e. omega arith) (λ e. omega arith) in omega arith) s (omega arith)
               (e ∙ elsewhere (245768 + r) (λ e. omega arith) (λ e. omega arith) (λ e. omega arith)));
         };
@@ -218,52 +200,21 @@ module _ (before : List ℕ) (i link : ℕ) (long : 393225 ≤ length before) (s
   pub relinked-words : (j : ℕ) → j < 229382 → getD (relinked before i link) j 0 ≡ getD before j 0
   relinked-words j l = other-word j (λ e. omega arith)
 
-  pub relinked-count : terms (relinked before i link) ≡ terms before
-  relinked-count = other-word 229382 (λ e. omega arith)
-
-  pub relinked-term : (j : ℕ) → termOf (relinked before i link) j ≡ termOf before j
-  relinked-term j = other-word (249864 + j * 2) (λ e. omega arith)
-
   link-now : linkOf (relinked before i link) i ≡ link
   link-now = getD-set-same before (249864 + i * 2 + 1) link 0 (omega arith)
 
-  pub number-on : (j : ℕ) → Numbered before j → Numbered (relinked before i link) j
-  number-on j n = record { low = n .low; below = (let e : terms (relinked before i link) ≡ terms before = relinked-count in let z : j < terms before = n .below in omega arith); small = n .small }
-
-  number-back : (j : ℕ) → Numbered (relinked before i link) j → Numbered before j
-  number-back j n = record { low = n .low; below = (let e : terms (relinked before i link) ≡ terms before = relinked-count in let z : j < terms (relinked before i link) = n .below in omega arith); small = n .small }
-
-  same-on : (meaning : ℕ → RTerm) (j k : ℕ) → Same meaning before j k → Same meaning (relinked before i link) j k
-  same-on meaning j k x = record { numbered = number-on k (x .numbered); same = ap meaning (relinked-term j) ∙ (x .same ∙ sym (ap meaning (relinked-term k))) }
-
-  place-on : (k v : ℕ) → numberIn (relinked before i link) k v ≡ numberIn before k v
-  place-on k v = ap (half (v / 128 % 2)) (other-word (315914 + k * 128 + v % 128) (λ e. omega arith))
-
-  entry-on : (meaning : ℕ → RTerm) (k v : ℕ) → (numberIn before k v ≡ 0) ⊎ Belongs meaning before (v - 255) (numberIn before k v) → (numberIn (relinked before i link) k v ≡ 0) ⊎ Belongs meaning (relinked before i link) (v - 255) (numberIn (relinked before i link) k v)
-  entry-on meaning k v (inl z) = inl (place-on k v ∙ z)
-  entry-on meaning k v (inr b) =
-      inr
-      (subst⁻¹ (Belongs meaning (relinked before i link) (v - 255)) (place-on k v)
-      (record { numbered = number-on (numberIn before k v) (b .numbered); same = b .same ∙ sym (ap meaning (relinked-term (numberIn before k v))) }))
-
   -- where the link leads, if anywhere, is a class of the same meaning
   pub relinks : (meaning : ℕ → RTerm) → ((j : ℕ) → link ≡ j + 1 → j < 16640 → Same meaning before i j) → Links meaning before → Links meaning (relinked before i link)
-  relinks meaning f k =
-      record {
-        links = λ x j n l t. go x j n l t (eqb x i) refl;
-        entries = λ r v b s t e.
-            entry-on meaning r v
-            (k .entries r v (let z : rows (relinked before i link) ≡ rows before = other-word 229383 (λ e. omega arith) in omega arith) s
-            (let z : terms (relinked before i link) ≡ terms before = relinked-count in omega arith) (e ∙ other-word (245768 + r) (λ e. omega arith)));
-      }
+  relinks meaning f m =
+      let t : terms (relinked before i link) ≡ terms before = other-word 229382 (λ e. omega arith) in
+      links-on before (relinked before i link) (omega arith) (λ x n. other-word (249864 + x * 2) (λ e. omega arith)) t (other-word 229383 (λ e. omega arith)) (λ k l. other-word (245768 + k) (λ e. omega arith))
+      (λ k v. ap (half (v / 128 % 2)) (other-word (315914 + k * 128 + v % 128) (λ e. omega arith))) meaning (λ x j n l s. go x j n l s (eqb x i) refl) m
     where
-      go : (x j : ℕ) → Numbered (relinked before i link) x → linkOf (relinked before i link) x ≡ j + 1 → j < 16640 → (z : Bool) → eqb x i ≡ z → Same meaning (relinked before i link) x j
-      go x j n l t true z =
+      go : (x j : ℕ) → Numbered before x → linkOf (relinked before i link) x ≡ j + 1 → j < 16640 → (z : Bool) → eqb x i ≡ z → Same meaning before x j
+      go x j n l s true z =
           let e : x ≡ i = eqb-true x i z in
-          subst⁻¹ (λ (y : ℕ). Same meaning (relinked before i link) y j) e (same-on meaning i j (f j (sym link-now ∙ (subst (λ (y : ℕ). linkOf (relinked before i link) y ≡ j + 1) e l)) t))
-      go x j n l t false z =
-          let d : x ≡ i → ⊥ = eqb-false x i z in
-          same-on meaning x j (k .links x j (number-back x n) (sym (other-word (249864 + x * 2 + 1) (λ e. omega (arith, d))) ∙ l) t)
+          subst⁻¹ (λ (y : ℕ). Same meaning before y j) e (f j (sym link-now ∙ (subst (λ (y : ℕ). linkOf (relinked before i link) y ≡ j + 1) e l)) s)
+      go x j n l s false z = let d : x ≡ i → ⊥ = eqb-false x i z in m .links x j n (sym (other-word (249864 + x * 2 + 1) (λ e. omega (arith, d))) ∙ l) s
 
 -- ---- two classes in one
 
@@ -297,9 +248,6 @@ joined-right before a b rank long sa sb high mid after e f =
     first-long = let e1 : length first ≡ length before = relinked-long before b (a + 1) long sb in omega arith
 
 -- numbers of one meaning lead to numbers of one meaning
-pub merged-one : (before : List ℕ) (i j : ℕ) → Joins before before i j
-merged-one before i j = record { long = refl; words = λ k l. refl; links = λ meaning m n s. m }
-
 pub merged : (before after : List ℕ) (i j a b : ℕ) → Reaches before i a → Reaches before j b → Joins before after a b → Joins before after i j
 merged before after i j a b ra rb h =
     record {
@@ -366,7 +314,7 @@ small-number scratch term i (inr e) = e .small
 pub entered-belongs : (meaning : ℕ → RTerm) (scratch : List ℕ) (term i : ℕ) → Links meaning scratch → 32 ≤ terms scratch → Entered scratch term i → Belongs meaning scratch term i
 entered-belongs meaning scratch term i m t e = go (m .entries (e .row) (term + 255) (e .rowed .below) (e .rowed .small) t (sym (e .rowed .names)))
   where
-    go : (numberIn scratch (e .row) (term + 255) ≡ 0) ⊎ Belongs meaning scratch (term + 255 - 255) (numberIn scratch (e .row) (term + 255)) → Belongs meaning scratch term i
+    go : Shows meaning scratch (e .row) (term + 255) → Belongs meaning scratch term i
     go (inl z) = absurd (e .some (sym (e .is) ∙ z))
     go (inr b) = subst (λ (x : ℕ). Belongs meaning scratch x i) (let z : term + 255 - 255 ≡ term = omega arith in z) (subst (Belongs meaning scratch (term + 255 - 255)) (e .is) b)
 
@@ -411,36 +359,30 @@ kept-none before = record { long = refl; words = λ j l. refl; classes = λ j a 
 pub opens-none : (before : List ℕ) (key : ℕ) → Opens before before key 0
 opens-none before key = record { kept = kept-none before; row = inl refl; links = λ meaning m. m }
 
-pub opens-old : (before : List ℕ) (key r : ℕ) → (r ≡ 0) ⊎ Rowed before key (r - 1) → Opens before before key r
-opens-old before key r w = record { kept = kept-none before; row = w; links = λ meaning m. m }
-
 -- classes that are as they were
 module _ (before after : List ℕ) (w : Kept before after) where
   pub kept-terms : terms after ≡ terms before
   kept-terms = w .words 229382 (omega arith)
 
-  pub kept-term : (i : ℕ) → i < 16640 → termOf after i ≡ termOf before i
-  kept-term i l = w .classes (249864 + i * 2) (omega arith) (omega arith)
+  kept-more : terms before ≤ terms after
+  kept-more = let e : terms after ≡ terms before = kept-terms in omega arith
 
-  pub kept-numbered : (i : ℕ) → Numbered before i → Numbered after i
-  kept-numbered i n = record { low = n .low; below = (let e : terms after ≡ terms before = kept-terms in let z : i < terms before = n .below in omega arith); small = n .small }
-
-  kept-back : (i : ℕ) → Numbered after i → Numbered before i
-  kept-back i n = record { low = n .low; below = (let e : terms after ≡ terms before = kept-terms in let z : i < terms after = n .below in omega arith); small = n .small }
+  kept-term : (i : ℕ) → Numbered before i → termOf after i ≡ termOf before i
+  kept-term i n = let l : i < 16640 = n .small in w .classes (249864 + i * 2) (omega arith) (omega arith)
 
   pub kept-belongs : (meaning : ℕ → RTerm) (term i : ℕ) → Belongs meaning before term i → Belongs meaning after term i
-  kept-belongs meaning term i b = record { numbered = kept-numbered i (b .numbered); same = b .same ∙ sym (ap meaning (kept-term i (b .numbered .small))) }
+  kept-belongs = belongs-on before after kept-more kept-term
+
+  pub kept-shows : (meaning : ℕ → RTerm) (k v : ℕ) → numberIn after k v ≡ numberIn before k v → Shows meaning before k v → Shows meaning after k v
+  kept-shows = shows-on before after kept-more kept-term
 
   pub kept-links : (meaning : ℕ → RTerm) → Links meaning before → (i j : ℕ) → Numbered after i → linkOf after i ≡ j + 1 → j < 16640 → Same meaning after i j
   kept-links meaning m i j n l s =
-      let o : i < 16640 = n .small in
-      let x : Same meaning before i j = m .links i j (kept-back i n) (sym (w .classes (249864 + i * 2 + 1) (omega arith) (omega arith)) ∙ l) s in
-      record { numbered = kept-numbered j (x .numbered); same = ap meaning (kept-term i o) ∙ (x .same ∙ sym (ap meaning (kept-term j s))) }
-
-  -- a number in a row that is as it was
-  pub kept-entry : (meaning : ℕ → RTerm) (k v : ℕ) → numberIn after k v ≡ numberIn before k v → (numberIn before k v ≡ 0) ⊎ Belongs meaning before (v - 255) (numberIn before k v) → (numberIn after k v ≡ 0) ⊎ Belongs meaning after (v - 255) (numberIn after k v)
-  kept-entry meaning k v e (inl z) = inl (e ∙ z)
-  kept-entry meaning k v e (inr b) = inr (subst⁻¹ (Belongs meaning after (v - 255)) e (kept-belongs meaning (v - 255) (numberIn before k v) b))
+      let t : terms after ≡ terms before = kept-terms in
+      let z : i < terms after = n .below in
+      let u : i < 16640 = n .small in
+      let o : Numbered before i = record { low = n .low; below = omega arith; small = n .small } in
+      same-on before after kept-more kept-term meaning i j o (m .links i j o (sym (w .classes (249864 + i * 2 + 1) (omega arith) (omega arith)) ∙ l) s)
 
 half-zero : (h : ℕ) → half h 0 ≡ 0
 unfolding half
@@ -483,10 +425,10 @@ module _ (before clean : List ℕ) (k s key : ℕ) (is : k ≡ rows before) (sma
   opened-place : (r v : ℕ) → getD opened (315914 + r * 128 + v % 128) 0 ≡ getD clean (315914 + r * 128 + v % 128) 0
   opened-place r v = aside (315914 + r * 128 + v % 128) (λ e. omega arith) (λ e. omega arith) (λ e. omega arith)
 
-  opened-entry : (meaning : ℕ → RTerm) → Links meaning before → (r v : ℕ) → r < rows opened → r < 4096 → 32 ≤ terms opened → v / 256 ≡ keyOf opened r → (numberIn opened r v ≡ 0) ⊎ Belongs meaning opened (v - 255) (numberIn opened r v)
+  opened-entry : (meaning : ℕ → RTerm) → Links meaning before → (r v : ℕ) → r < rows opened → r < 4096 → 32 ≤ terms opened → v / 256 ≡ keyOf opened r → Shows meaning opened r v
   opened-entry meaning m r v b t u e = go (eqb r k) refl
     where
-      go : (z : Bool) → eqb r k ≡ z → (numberIn opened r v ≡ 0) ⊎ Belongs meaning opened (v - 255) (numberIn opened r v)
+      go : (z : Bool) → eqb r k ≡ z → Shows meaning opened r v
       go true z =
           let same : r ≡ k = eqb-true r k z in
           inl (ap (half (v / 128 % 2)) (opened-place r v ∙ c .zero-words (315914 + r * 128 + v % 128) (omega arith) (omega arith)) ∙ half-zero (v / 128 % 2))
@@ -494,7 +436,7 @@ module _ (before clean : List ℕ) (k s key : ℕ) (is : k ≡ rows before) (sma
           let d : r ≡ k → ⊥ = eqb-false r k z in
           let n : rows opened ≡ k + 1 = opened-count in
           let l : r < k = omega (arith, d) in
-          kept-entry before opened opened-kept meaning r v (ap (half (v / 128 % 2)) (opened-place r v ∙ c .low (315914 + r * 128 + v % 128) (omega arith)))
+          kept-shows before opened opened-kept meaning r v (ap (half (v / 128 % 2)) (opened-place r v ∙ c .low (315914 + r * 128 + v % 128) (omega arith)))
           (m .entries r v (omega arith) t (let q : terms opened ≡ terms before = kept-terms before opened opened-kept in omega arith)
           (e ∙ (aside (245768 + r) (λ x. omega arith) (λ x. omega arith) (λ x. omega arith) ∙ c .low (245768 + r) (omega arith))))
 
@@ -586,32 +528,29 @@ module _ (before : List ℕ) (k v i : ℕ) (w : Rowed before (v / 256) k) (small
   after = placed before k v i
 
   module _ (meaning : ℕ → RTerm) (m : Links meaning before) (b : Belongs meaning before (v - 255) i) where
-    abbrev Fine : ℕ → ℕ → Type 0
-    Fine r u = (numberIn after r u ≡ 0) ⊎ Belongs meaning after (u - 255) (numberIn after r u)
-
     -- the number itself
-    fine-now : Fine k v
+    fine-now : Shows meaning after k v
     fine-now = inr (subst⁻¹ (Belongs meaning after (v - 255)) (ap (half (v / 128 % 2)) placed-at ∙ half-stored (v / 128 % 2) (getD before at 0) i (omega arith)) (kept-belongs before after placed-kept meaning (v - 255) i b))
 
-    fine-at : (u : ℕ) → u / 256 ≡ v / 256 → u % 128 ≡ v % 128 → (numberIn before k u ≡ 0) ⊎ Belongs meaning before (u - 255) (numberIn before k u) → (z : Bool) → eqb (u / 128 % 2) (v / 128 % 2) ≡ z → Fine k u
+    fine-at : (u : ℕ) → u / 256 ≡ v / 256 → u % 128 ≡ v % 128 → Shows meaning before k u → (z : Bool) → eqb (u / 128 % 2) (v / 128 % 2) ≡ z → Shows meaning after k u
     fine-at u e f o true z =
         let g : u / 128 % 2 ≡ v / 128 % 2 = eqb-true (u / 128 % 2) (v / 128 % 2) z in
-        subst⁻¹ (Fine k) (word-same u v e f g) fine-now
+        subst⁻¹ (Shows meaning after k) (word-same u v e f g) fine-now
     fine-at u e f o false z =
         let d : u / 128 % 2 ≡ v / 128 % 2 → ⊥ = eqb-false (u / 128 % 2) (v / 128 % 2) z in
-        kept-entry before after placed-kept meaning k u
+        kept-shows before after placed-kept meaning k u
         (subst⁻¹ (λ (x : ℕ). half (u / 128 % 2) (getD after (315914 + k * 128 + x) 0) ≡ half (u / 128 % 2) (getD before (315914 + k * 128 + x) 0)) f
         (ap (half (u / 128 % 2)) placed-at ∙ half-apart (v / 128 % 2) (u / 128 % 2) (getD before at 0) i (omega arith) (omega arith) d (omega arith)))
         o
 
-    fine : (r u : ℕ) → u / 256 ≡ keyOf before r → (numberIn before r u ≡ 0) ⊎ Belongs meaning before (u - 255) (numberIn before r u) → (z : Bool) → eqb (315914 + r * 128 + u % 128) at ≡ z → Fine r u
+    fine : (r u : ℕ) → u / 256 ≡ keyOf before r → Shows meaning before r u → (z : Bool) → eqb (315914 + r * 128 + u % 128) at ≡ z → Shows meaning after r u
     fine r u e o true z =
         let g : 315914 + r * 128 + u % 128 ≡ at = eqb-true (315914 + r * 128 + u % 128) at z in
         let q : r ≡ k = omega arith in
         let f : u % 128 ≡ v % 128 = omega arith in
-        subst⁻¹ (λ (x : ℕ). Fine x u) q
-        (fine-at u (e ∙ (ap (keyOf before) q ∙ w .names)) f (subst (λ (x : ℕ). (numberIn before x u ≡ 0) ⊎ Belongs meaning before (u - 255) (numberIn before x u)) q o) (eqb (u / 128 % 2) (v / 128 % 2)) refl)
-    fine r u e o false z = kept-entry before after placed-kept meaning r u (ap (half (u / 128 % 2)) (placed-other (315914 + r * 128 + u % 128) (eqb-false (315914 + r * 128 + u % 128) at z))) o
+        subst⁻¹ (λ (x : ℕ). Shows meaning after x u) q
+        (fine-at u (e ∙ (ap (keyOf before) q ∙ w .names)) f (subst (λ (x : ℕ). Shows meaning before x u) q o) (eqb (u / 128 % 2) (v / 128 % 2)) refl)
+    fine r u e o false z = kept-shows before after placed-kept meaning r u (ap (half (u / 128 % 2)) (placed-other (315914 + r * 128 + u % 128) (eqb-false (315914 + r * 128 + u % 128) at z))) o
 
     placed-links : Links meaning after
     placed-links =
@@ -648,8 +587,7 @@ row-fits scratch key r (inl z) n = absurd (n z)
 row-fits scratch key r (inr w) n = (w .small, w .fits)
 
 pub row-then : (scratch : List ℕ) (key r i : ℕ) → (r ≡ 0) ⊎ Rowed scratch key (r - 1) → (r ≡ 0 → ⊥) → i < 16640 → (r - 1 < 4096) × ((315914 + (r - 1) * 128 + 128 ≤ length scratch) × (i < 65536))
-row-then scratch key r i (inl z) n l = absurd (n z)
-row-then scratch key r i (inr w) n l = (w .small, (w .fits, omega arith))
+row-then scratch key r i w n l = (row-fits scratch key r w n .0, (row-fits scratch key r w n .1, omega arith))
 
 -- ---- remembering
 

@@ -70,10 +70,14 @@ pub record Belongs (meaning : ℕ → RTerm) (scratch : List ℕ) (term i : ℕ)
   pub numbered : Numbered scratch i
   pub same : meaning term ≡ meaning (termOf scratch i)
 
--- Each link below 16,641 leads to a class of the same meaning, and each number in a row stands for a term of its class.
+-- In row k nothing stands for the term whose word is v less 255, or the number of its class.
+abbrev pub Shows : (ℕ → RTerm) → List ℕ → ℕ → ℕ → Type 0
+Shows meaning scratch k v = (numberIn scratch k v ≡ 0) ⊎ Belongs meaning scratch (v - 255) (numberIn scratch k v)
+
+-- Each link below 16,641 leads to a class of the same meaning, and each number in a row is that of its term's class.
 pub record Links (meaning : ℕ → RTerm) (scratch : List ℕ) : Type 0 where
   pub links : (i j : ℕ) → Numbered scratch i → linkOf scratch i ≡ j + 1 → j < 16640 → Same meaning scratch i j
-  pub entries : (k v : ℕ) → k < rows scratch → k < 4096 → 32 ≤ terms scratch → v / 256 ≡ keyOf scratch k → (numberIn scratch k v ≡ 0) ⊎ Belongs meaning scratch (v - 255) (numberIn scratch k v)
+  pub entries : (k v : ℕ) → k < rows scratch → k < 4096 → 32 ≤ terms scratch → v / 256 ≡ keyOf scratch k → Shows meaning scratch k v
 
 -- Terms of one class are equal with the bindings put in.
 pub record Memo (ss : List Symbol) (nodes : List ℕ) (b : List Binding) (scratch : List ℕ) : Type 0 where

@@ -1,4 +1,4 @@
-use Rattle.memos.proofs.Remembering.{merged, merged-one}
+use Rattle.memos.proofs.Remembering.{merged}
 use borrow.Author.Needs.{needs}
 use Rattle.memos.proofs.merge.Statement.{statement}
 use Rattle.memos.proofs.merge.Tie as tie
