@@ -1,5 +1,5 @@
 -- What loading, linking and running ask of each other.
-use Prim.Native.Nat.{ℕ, zero, suc, _+_, _*_, _≤_}
+use Prim.Native.Nat.{ℕ, zero, suc, _≤_}
 use native.Mathlib.Omega.{arith}
 use mathlib.Core.Path.{_≡_, refl, sym}
 use mathlib.Core.List.{List}
@@ -7,7 +7,6 @@ use lib.ListN.{length, getD, replicate, length-replicate}
 use Rattle.syntax.specs.Terms.{Sheet, Goal}
 use Rattle.layout.specs.Program.{Program}
 use Rattle.bindings.specs.Queues.{Clean}
-use Rattle.spelling.specs.Telling.{Ample}
 use Rattle.loader.specs.Loading.{Loadable, Loaded}
 use Rattle.linker.specs.Linking.{Linkable}
 use Rattle.syntax.specs.declared.Report.{Report}
@@ -21,9 +20,6 @@ zero-at (suc n) (suc i) = zero-at n i
 
 pub zeros : (n : ℕ) → Zeros n (replicate n 0)
 zeros n = record { long = sym (length-replicate n 0); zero-words = zero-at n }
-
-pub blank : (n : ℕ) (scratch : List ℕ) → 393225 ≤ n → Zeros n scratch → Blank scratch
-blank n scratch l z = record { roomy = (let e : n ≡ length scratch = z .long in omega arith); zero-words = z .zero-words }
 
 module _ {sheet table : List ℕ} {clauses : ℕ} {goal goals : List ℕ} {literals : ℕ} {names : List ℕ} {count : ℕ} (w : Programmed sheet table clauses goal goals literals names count) where
   pub loads : {nodes symbols : List ℕ} → Zeros 46428 nodes → Zeros 46428 symbols → Loadable sheet table clauses goal goals literals nodes symbols
@@ -92,8 +88,8 @@ module _ {sheet table : List ℕ} {clauses : ℕ} {goal goals : List ℕ} {liter
       program-runs q = q linked
 
 module _ {sheet goal names : List ℕ} {count : ℕ} {nodes code symbols : List ℕ} (w : Linked sheet goal names count nodes code symbols) where
-  pub runnable : {state scratch stack text : List ℕ} → Zeros 35328 state → Blank scratch → Ample stack (length text * 2 + 4) → Runnable sheet goal names count nodes code symbols state scratch stack text
-  runnable {state} {scratch} {stack} {text} z y x =
+  pub runnable : {state scratch text : List ℕ} → Zeros 35328 state → Blank scratch (length text) → Runnable sheet goal names count nodes code symbols state scratch text
+  runnable {state} {scratch} {text} z y =
       let a : 35328 ≡ length state = z .long in
       let b : 393225 ≤ length scratch = y .roomy in
       record {
@@ -104,9 +100,9 @@ module _ {sheet goal names : List ℕ} {count : ℕ} {nodes code symbols : List 
         program = w .program;
         long = omega arith;
         zero-words = z .zero-words;
-        lent = record { roomy = omega arith; clean = record { long = omega arith; zero = λ i l. y .zero-words i }; deep = x };
+        lent = record { roomy = omega arith; clean = record { long = omega arith; zero = λ i l. y .zero-words i }; deep = y .tells };
       }
 
-  pub linked-runs : {state scratch stack text : List ℕ} {allowance wanted : ℕ} {old new : List ℕ} {r : Report} → Zeros 35328 state → Blank scratch → Ample stack (length text * 2 + 4) → ((v : Runnable sheet goal names count nodes code symbols state scratch stack text) → Runs (v .sh) (v .g) allowance wanted old new r) → Runs (w .sh) (w .g) allowance wanted old new r
+  pub linked-runs : {state scratch text : List ℕ} {allowance wanted : ℕ} {old new : List ℕ} {r : Report} → Zeros 35328 state → Blank scratch (length text) → ((v : Runnable sheet goal names count nodes code symbols state scratch text) → Runs (v .sh) (v .g) allowance wanted old new r) → Runs (w .sh) (w .g) allowance wanted old new r
   unfolding runnable
-  linked-runs z y x k = k (runnable z y x)
+  linked-runs z y k = k (runnable z y)

@@ -11,16 +11,17 @@ use Rattle.layout.specs.Nodes.{Symbol}
 use Rattle.layout.specs.Limits.{SheetLimited, GoalLimited}
 use Rattle.layout.specs.Program.{Program}
 use Rattle.spelling.specs.Words.{Named, namesFrom}
-use Rattle.runs.specs.Running.{Spelt}
+use Rattle.runs.specs.Running.{Spelt, Tellable}
 
 -- Words that are all zero, so many.
 pub record Zeros (k : ℕ) (words : List ℕ) : Type 0 where
   pub long : k ≡ length words
   pub zero-words : (i : ℕ) → getD words i 0 ≡ 0
 
--- Words for unification, all zero.
-pub record Blank (scratch : List ℕ) : Type 0 where
+-- Words for unification and for answers in a text of so many bytes, all zero.
+pub record Blank (scratch : List ℕ) (room : ℕ) : Type 0 where
   pub roomy : 393225 ≤ length scratch
+  pub tells : Tellable scratch room
   pub zero-words : (i : ℕ) → getD scratch i 0 ≡ 0
 
 -- Within document 01's limits, in tables of these sizes; the goal's variables are spelt in it.

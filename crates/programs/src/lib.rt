@@ -3,9 +3,8 @@ use linker::link;
 use loader::load_nodes;
 use runs::run;
 use syntax::Report;
-ghost use Prim.Native.Nat.{_+_, _*_, _≤_};
+ghost use Prim.Native.Nat.{_≤_};
 ghost use lib.ListN.{length};
-ghost use Rattle.spelling.specs.Telling.{Ample};
 ghost use Rattle.runs.specs.Running.{Runs};
 ghost use Rattle.programs.specs.Programs.{Zeros, Blank, Programmed, Linked};
 
@@ -44,21 +43,7 @@ fn wide_words() -> [u32; 761866]
     [0; 761866]
 }
 
-// Room for the open brackets of an answer in a text of at most 16,384 bytes.
-fn short_stack_words() -> [u32; 32772]
-    ensures { λ r. ⌜ Zeros 32772 r ⌝ }
-{
-    [0; 32772]
-}
-
-// Room for the open brackets of any answer.
-fn stack_words() -> [u32; 524320]
-    ensures { λ r. ⌜ Zeros 524320 r ⌝ }
-{
-    [0; 524320]
-}
-
-// A loaded and linked program run, with room for unification and a stack for the brackets of its answers.
+// A loaded and linked program run, with room for unification and for the open brackets of an answer.
 fn run_over(
     sheet: &[u8],
     goal: &[u8],
@@ -68,12 +53,11 @@ fn run_over(
     code: &[u32],
     symbols: &[u32],
     scratch: &mut [u32],
-    stack: &mut [u32],
     text: &mut [u8],
     allowance: usize,
     wanted: usize,
 ) -> Report
-    requires { ⌜ (Linked (now sheet) (now goal) (now names) count (now nodes) (now code) (now symbols)) × (Blank (now scratch) × Ample (now stack) (length (now text) * 2 + 4)) ⌝ }
+    requires { ⌜ (Linked (now sheet) (now goal) (now names) count (now nodes) (now code) (now symbols)) × Blank (now scratch) (length (now text)) ⌝ }
     ensures { λ r. ⌜ ((w : Linked (now (sheet .entry)) (now (goal .entry)) (now (names .entry)) count (now (nodes .entry)) (now (code .entry)) (now (symbols .entry))) → Runs (w .sh) (w .g) allowance wanted (now (text .entry)) (now (text .exit)) r) ⌝ }
 {
     let mut state = state_words();
@@ -87,14 +71,13 @@ fn run_over(
         symbols,
         &mut state,
         scratch,
-        stack,
         text,
         allowance,
         wanted,
     )
 }
 
-// The run under a sheet of at most 2,048 bytes.
+// The run under a sheet of at most 2,048 bytes, with a text of at most 131,072.
 fn run_narrow(
     sheet: &[u8],
     goal: &[u8],
@@ -103,12 +86,11 @@ fn run_narrow(
     nodes: &[u32],
     code: &[u32],
     symbols: &[u32],
-    stack: &mut [u32],
     text: &mut [u8],
     allowance: usize,
     wanted: usize,
 ) -> Report
-    requires { ⌜ (Linked (now sheet) (now goal) (now names) count (now nodes) (now code) (now symbols)) × Ample (now stack) (length (now text) * 2 + 4) ⌝ }
+    requires { ⌜ (Linked (now sheet) (now goal) (now names) count (now nodes) (now code) (now symbols)) × (length (now text) ≤ 131072) ⌝ }
     ensures { λ r. ⌜ ((w : Linked (now (sheet .entry)) (now (goal .entry)) (now (names .entry)) count (now (nodes .entry)) (now (code .entry)) (now (symbols .entry))) → Runs (w .sh) (w .g) allowance wanted (now (text .entry)) (now (text .exit)) r) ⌝ }
 {
     let mut scratch = narrow_words();
@@ -121,128 +103,14 @@ fn run_narrow(
         code,
         symbols,
         &mut scratch,
-        stack,
         text,
         allowance,
         wanted,
     )
 }
 
-// The run under any sheet.
+// The run under any sheet, with any text.
 fn run_wide(
-    sheet: &[u8],
-    goal: &[u8],
-    names: &[u32],
-    count: usize,
-    nodes: &[u32],
-    code: &[u32],
-    symbols: &[u32],
-    stack: &mut [u32],
-    text: &mut [u8],
-    allowance: usize,
-    wanted: usize,
-) -> Report
-    requires { ⌜ (Linked (now sheet) (now goal) (now names) count (now nodes) (now code) (now symbols)) × Ample (now stack) (length (now text) * 2 + 4) ⌝ }
-    ensures { λ r. ⌜ ((w : Linked (now (sheet .entry)) (now (goal .entry)) (now (names .entry)) count (now (nodes .entry)) (now (code .entry)) (now (symbols .entry))) → Runs (w .sh) (w .g) allowance wanted (now (text .entry)) (now (text .exit)) r) ⌝ }
-{
-    let mut scratch = wide_words();
-    run_over(
-        sheet,
-        goal,
-        names,
-        count,
-        nodes,
-        code,
-        symbols,
-        &mut scratch,
-        stack,
-        text,
-        allowance,
-        wanted,
-    )
-}
-
-// The run with a stack for the brackets of its answers. Only the room that unification needs under this sheet is cleared.
-fn run_with(
-    sheet: &[u8],
-    goal: &[u8],
-    names: &[u32],
-    count: usize,
-    nodes: &[u32],
-    code: &[u32],
-    symbols: &[u32],
-    stack: &mut [u32],
-    text: &mut [u8],
-    allowance: usize,
-    wanted: usize,
-) -> Report
-    requires { ⌜ (Linked (now sheet) (now goal) (now names) count (now nodes) (now code) (now symbols)) × Ample (now stack) (length (now text) * 2 + 4) ⌝ }
-    ensures { λ r. ⌜ ((w : Linked (now (sheet .entry)) (now (goal .entry)) (now (names .entry)) count (now (nodes .entry)) (now (code .entry)) (now (symbols .entry))) → Runs (w .sh) (w .g) allowance wanted (now (text .entry)) (now (text .exit)) r) ⌝ }
-{
-    if sheet.len() <= 2048 {
-        return run_narrow(
-            sheet,
-            goal,
-            names,
-            count,
-            nodes,
-            code,
-            symbols,
-            stack,
-            text,
-            allowance,
-            wanted,
-        );
-    }
-    run_wide(
-        sheet,
-        goal,
-        names,
-        count,
-        nodes,
-        code,
-        symbols,
-        stack,
-        text,
-        allowance,
-        wanted,
-    )
-}
-
-// The run for a text of at most 16,384 bytes.
-fn run_short(
-    sheet: &[u8],
-    goal: &[u8],
-    names: &[u32],
-    count: usize,
-    nodes: &[u32],
-    code: &[u32],
-    symbols: &[u32],
-    text: &mut [u8],
-    allowance: usize,
-    wanted: usize,
-) -> Report
-    requires { ⌜ (Linked (now sheet) (now goal) (now names) count (now nodes) (now code) (now symbols)) × (length (now text) ≤ 16384) ⌝ }
-    ensures { λ r. ⌜ ((w : Linked (now (sheet .entry)) (now (goal .entry)) (now (names .entry)) count (now (nodes .entry)) (now (code .entry)) (now (symbols .entry))) → Runs (w .sh) (w .g) allowance wanted (now (text .entry)) (now (text .exit)) r) ⌝ }
-{
-    let mut stack = short_stack_words();
-    run_with(
-        sheet,
-        goal,
-        names,
-        count,
-        nodes,
-        code,
-        symbols,
-        &mut stack,
-        text,
-        allowance,
-        wanted,
-    )
-}
-
-// The run for any text.
-fn run_long(
     sheet: &[u8],
     goal: &[u8],
     names: &[u32],
@@ -257,8 +125,8 @@ fn run_long(
     requires { ⌜ Linked (now sheet) (now goal) (now names) count (now nodes) (now code) (now symbols) ⌝ }
     ensures { λ r. ⌜ ((w : Linked (now (sheet .entry)) (now (goal .entry)) (now (names .entry)) count (now (nodes .entry)) (now (code .entry)) (now (symbols .entry))) → Runs (w .sh) (w .g) allowance wanted (now (text .entry)) (now (text .exit)) r) ⌝ }
 {
-    let mut stack = stack_words();
-    run_with(
+    let mut scratch = wide_words();
+    run_over(
         sheet,
         goal,
         names,
@@ -266,14 +134,14 @@ fn run_long(
         nodes,
         code,
         symbols,
-        &mut stack,
+        &mut scratch,
         text,
         allowance,
         wanted,
     )
 }
 
-// A loaded and linked program run. Only the stack that the text needs is cleared.
+// A loaded and linked program run. Only the room that it needs is cleared.
 fn run_linked(
     sheet: &[u8],
     goal: &[u8],
@@ -289,8 +157,8 @@ fn run_linked(
     requires { ⌜ Linked (now sheet) (now goal) (now names) count (now nodes) (now code) (now symbols) ⌝ }
     ensures { λ r. ⌜ ((w : Linked (now (sheet .entry)) (now (goal .entry)) (now (names .entry)) count (now (nodes .entry)) (now (code .entry)) (now (symbols .entry))) → Runs (w .sh) (w .g) allowance wanted (now (text .entry)) (now (text .exit)) r) ⌝ }
 {
-    if text.len() <= 16384 {
-        return run_short(
+    if 2048 < sheet.len() {
+        return run_wide(
             sheet,
             goal,
             names,
@@ -303,7 +171,21 @@ fn run_linked(
             wanted,
         );
     }
-    run_long(
+    if 131072 < text.len() {
+        return run_wide(
+            sheet,
+            goal,
+            names,
+            count,
+            nodes,
+            code,
+            symbols,
+            text,
+            allowance,
+            wanted,
+        );
+    }
+    run_narrow(
         sheet,
         goal,
         names,

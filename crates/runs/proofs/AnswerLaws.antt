@@ -3,9 +3,10 @@ use Prim.Native.Nat.{ℕ, zero, suc, _+_, _-_, _*_, _≤_, _<_}
 use native.Mathlib.Omega.{arith}
 use mathlib.Core.Path.{_≡_, refl, sym, ap, ap₂, _∙_, subst, subst⁻¹}
 use mathlib.Core.Bool.{Bool, true, false, cond}
-use mathlib.Core.List.{List, [], _∷_}
+use mathlib.Core.List.{List, [], _∷_, _++_}
 use lib.Dec.{leb, eqb}
-use lib.ListN.{length, getD}
+use lib.ListN.{length, getD, take, List·getD-append}
+use lib.Seq.{length-take-le, getD-take}
 use borrow.Author.Tests.{le-leb, lt-leb, eq-eqb, ne-eqb}
 use Rattle.syntax.specs.Terms.{Sheet, Goal}
 use Rattle.syntax.specs.declared.Kind.the-variants.{Wanted, Done, Steps, Deep}
@@ -18,13 +19,13 @@ use Rattle.layout.specs.Pile.{pileOf, Piled, markAt}
 use Rattle.layout.proofs.Pile.{height, undone, Means}
 use Rattle.bindings.specs.Cells.{Stored, Undone}
 use Rattle.spelling.specs.Words.{namesFrom}
-use Rattle.spelling.specs.Telling.{Ample}
 use Rattle.answers.specs.Fitting.{Answerable, SomeAnswerable, Fitted}
+use Rattle.bindings.specs.Scratch.{SameMarks, Roomy}
 use Rattle.engine.specs.Steps.{Running, Steppable, Stepped}
 use Rattle.engine.specs.declared.Pile.{Pile}
 use Rattle.runs.specs.declared.Next.{Next}
 use Rattle.runs.specs.declared.Next.the-variants.{End, Answer, Step}
-use Rattle.runs.specs.Running.{nextOf, Spelt, Under, Rewindable, Same, Rewound, Answering, Answered}
+use Rattle.runs.specs.Running.{nextOf, Tellable, Spelt, Under, Rewindable, Same, Rewound, Answering, Answered}
 use Rattle.runs.proofs.EndLaws.{answer-flat}
 
 -- ---- what comes next
@@ -123,9 +124,18 @@ rewind-low {state} {h} {n} {m} w e = subst⁻¹ (λ (x : ℕ). x ≤ n) e (rewin
 pub rewind-ends : {state after : List ℕ} {h n m : ℕ} (w : Rewindable state h n) → m ≡ markAt state (h - 1) → Undone state after m n → Rewound state after h n m
 rewind-ends {state} {after} {h} {n} {m} w e u = subst⁻¹ (Rewound state after h n) e (rewind-end w (subst (λ (x : ℕ). Undone state after x n) e u))
 
+-- ---- the scratch words behind marks and queue
+
+pub part-marks : (xs zs : List ℕ) → 32768 ≤ length xs → length (take 32768 xs ++ zs) ≡ length xs → SameMarks xs (take 32768 xs ++ zs)
+part-marks xs zs l e =
+    record {
+      long = e;
+      words = λ j k. (let m : length (take 32768 xs) ≡ 32768 = length-take-le 32768 xs l in List·getD-append (take 32768 xs) zs 0 j (omega arith)) ∙ getD-take 32768 xs j 0 k;
+    }
+
 -- ---- an answer
 
-module _ {sheet goal names : List ℕ} {count : ℕ} {nodes code symbols state scratch stack text : List ℕ} {h n at : ℕ} (w : Answering sheet goal names count nodes code symbols state scratch stack text h n at) where
+module _ {sheet goal names : List ℕ} {count : ℕ} {nodes code symbols state scratch text : List ℕ} {h n at : ℕ} (w : Answering sheet goal names count nodes code symbols state scratch text h n at) where
   pub answer-rewinds : Rewindable state h n
   answer-rewinds = record { ss = w .ss; sh = w .sh; g = w .g; nodes = nodes; code = code; piled = w .under .piled; some = w .some }
 
@@ -139,47 +149,52 @@ module _ {sheet goal names : List ℕ} {count : ℕ} {nodes code symbols state s
     pub answer-tells : SomeAnswerable nodes mid symbols sheet goal names count
     answer-tells = record { ss = w .ss; n = m; is = tells }
 
-    pub answer-room : (at ≤ length text) × Ample stack ((length text - at) * 2 + 4)
-    answer-room = (w .room, (let x : Ample stack (length text * 2 + 4) = w .under .lent .deep in omega arith))
+    pub answer-room : (at ≤ length text) × Tellable scratch (length text - at)
+    answer-room = (w .room, (let x : Tellable scratch (length text) = w .under .lent .deep in omega arith))
 
-    pub answer-steps : Steppable nodes code mid scratch h m
-    answer-steps =
+    pub answer-steps : {scratch1 : List ℕ} → SameMarks scratch scratch1 → Steppable nodes code mid scratch1 h m
+    answer-steps {scratch1} y =
         record {
           running = record { ss = w .ss; sh = w .sh; g = w .g; piled = same-pile .piled };
           some = w .some;
           goes = ap (goesDeeper (w .sh)) (same-pile .is) ∙ answer-flat (w .sh) (pileOf (w .ss) (w .sh) (w .g) nodes code state h) (w .answer);
-          roomy = w .under .lent .roomy;
-          clean = w .under .lent .clean;
+          roomy = (let r : Roomy scratch = w .under .lent .roomy in let e : length scratch1 ≡ length scratch = y .long in omega arith);
+          clean = record {
+            long = (let r : 32768 ≤ length scratch = w .under .lent .clean .long in let e : length scratch1 ≡ length scratch = y .long in omega arith);
+            zero = λ j l. y .words j (omega arith) ∙ w .under .lent .clean .zero j l;
+          };
         }
 
     module _ {new : List ℕ} {past : ℕ} (f : (ss : List Symbol) (k : ℕ) (g : Goal) → Answerable ss k nodes mid symbols sheet goal names count → g .names ≡ namesFrom goal names 0 count → Fitted (line g (bindings ss nodes mid k)) text at new past) where
       fitted-here : Fitted (line (w .g) (bindings (w .ss) nodes mid m)) text at new past
       fitted-here = f (w .ss) m (w .g) tells (w .spelt .names-are)
 
-      pub answer-full : (stack1 : List ℕ) → length stack1 ≡ length stack → past ≡ 0 → Answered (w .ss) (w .sh) (w .g) nodes code state mid scratch scratch stack stack1 text new h at (record { at = 0; height = h; trail = m })
-      answer-full stack1 l z =
+      pub answer-full : {scratch1 : List ℕ} → SameMarks scratch scratch1 → past ≡ 0 → Answered (w .ss) (w .sh) (w .g) nodes code state mid scratch scratch1 text new h at (record { at = 0; height = h; trail = m })
+      answer-full {scratch1} y z =
           record {
             mid = mid;
+            between = scratch1;
             m = m;
             same = same-pile;
             mark = x .mark;
             fitted = subst (Fitted (line (w .g) (bindings (w .ss) nodes mid m)) text at new) z fitted-here;
             stepped = λ q. absurd (q refl);
             state-long = x .long;
-            stack-long = l;
+            scratch-long = y .long;
           }
 
-      pub answer-on : (stack1 after later : List ℕ) (r : Pile) → length stack1 ≡ length stack → ((v : Steppable nodes code mid scratch h m) → Stepped (v .running .ss) (v .running .sh) (v .running .g) nodes code mid after scratch later h r) → Answered (w .ss) (w .sh) (w .g) nodes code state after scratch later stack stack1 text new h at (record { at = past; height = r .height; trail = r .trail })
+      pub answer-on : {scratch1 : List ℕ} (y : SameMarks scratch scratch1) (after later : List ℕ) (r : Pile) → ((v : Steppable nodes code mid scratch1 h m) → Stepped (v .running .ss) (v .running .sh) (v .running .g) nodes code mid after scratch1 later h r) → Answered (w .ss) (w .sh) (w .g) nodes code state after scratch later text new h at (record { at = past; height = r .height; trail = r .trail })
       unfolding answer-steps
-      answer-on stack1 after later r l k =
-          let s : Stepped (w .ss) (w .sh) (w .g) nodes code mid after scratch later h r = k answer-steps in
+      answer-on {scratch1} y after later r k =
+          let s : Stepped (w .ss) (w .sh) (w .g) nodes code mid after scratch1 later h r = k (answer-steps y) in
           record {
             mid = mid;
+            between = scratch1;
             m = m;
             same = same-pile;
             mark = x .mark;
             fitted = fitted-here;
             stepped = λ q. s;
             state-long = s .state-long ∙ x .long;
-            stack-long = l;
+            scratch-long = y .long;
           }

@@ -22,11 +22,10 @@ use Rattle.layout.specs.State.{bindings}
 use Rattle.layout.specs.Pile.{pileOf, Piled, markAt}
 use Rattle.bindings.specs.Queues.{Clean}
 use Rattle.bindings.specs.Scratch.{Roomy}
-use Rattle.spelling.specs.Telling.{Ample}
 use Rattle.answers.specs.Fitting.{Fitted}
 use Rattle.runs.specs.declared.Next.{Next}
 use Rattle.runs.specs.declared.Next.the-variants.{End, Answer, Step}
-use Rattle.runs.specs.Running.{nextOf, reportOf, Lent, Under, Ongoing, Runs}
+use Rattle.runs.specs.Running.{nextOf, reportOf, Tellable, Lent, Under, Ongoing, Runs}
 use Rattle.runs.proofs.EndLaws.{Goes, Answers, run-ends, run-steps, run-answers}
 use Rattle.runs.proofs.LineLaws.{line-some, line-of}
 
@@ -59,9 +58,9 @@ module _ (ss : List Symbol) (sh : Sheet) (g : Goal) (nodes code : List ℕ) (all
   abbrev progress : List ℕ → ℕ → ℕ → ℕ → List ℕ → Progress
   progress state h answers steps written = record { pile = pileOf ss sh g nodes code state h; answers = answers; steps = steps; text = written }
 
-  pub begins : (state scratch stack : List ℕ) → Piled ss sh g nodes code state 1 0 → pileOf ss sh g nodes code state 1 ≡ start sh g → Lent scratch stack (length old) → Ongoing ss sh g nodes code state scratch stack allowance wanted old old 1 0 0 0 0
+  pub begins : (state scratch : List ℕ) → Piled ss sh g nodes code state 1 0 → pileOf ss sh g nodes code state 1 ≡ start sh g → Lent scratch (length old) → Ongoing ss sh g nodes code state scratch allowance wanted old old 1 0 0 0 0
   unfolding run begun
-  begins state scratch stack p e l =
+  begins state scratch p e l =
       let z : allowance ≡ allowance - 0 = omega arith in
       record {
         under = record { piled = p; lent = l };
@@ -73,7 +72,7 @@ module _ (ss : List Symbol) (sh : Sheet) (g : Goal) (nodes code : List ℕ) (all
         whole = ap₂ (λ (n : ℕ) (q : List Alternative). runFrom sh g wanted (length old) n (record { pile = q; answers = 0; steps = 0; text = [] })) z (sym e);
       }
 
-  module _ (state scratch stack new : List ℕ) (h n answers steps at : ℕ) (o : Ongoing ss sh g nodes code state scratch stack allowance wanted old new h n answers steps at) where
+  module _ (state scratch new : List ℕ) (h n answers steps at : ℕ) (o : Ongoing ss sh g nodes code state scratch allowance wanted old new h n answers steps at) where
     abbrev here : Progress
     here = progress state h answers steps (o .written)
 
@@ -85,11 +84,11 @@ module _ (ss : List Symbol) (sh : Sheet) (g : Goal) (nodes code : List ℕ) (all
     pub ends : (k : Kind) → nextOf wanted answers (allowance - steps) sh (pileOf ss sh g nodes code state h) ≡ End k → Runs sh g allowance wanted old new (record { kind = k; answers = answers; steps = steps })
     ends k q = ended k (run-ends sh g wanted (length old) (allowance - steps) here k q)
 
-    later : (state1 scratch1 stack1 : List ℕ) (h1 n1 : ℕ) → Piled ss sh g nodes code state1 h1 n1 → Clean scratch1 → length scratch1 ≡ length scratch → length stack1 ≡ length stack → Under ss sh g nodes code state1 scratch1 stack1 (length old) h1 n1
-    later state1 scratch1 stack1 h1 n1 p c e f =
+    later : (state1 scratch1 : List ℕ) (h1 n1 : ℕ) → Piled ss sh g nodes code state1 h1 n1 → Clean scratch1 → length scratch1 ≡ length scratch → Under ss sh g nodes code state1 scratch1 (length old) h1 n1
+    later state1 scratch1 h1 n1 p c e =
         record {
           piled = p;
-          lent = record { roomy = roomy-same scratch scratch1 e (o .under .lent .roomy); clean = c; deep = (let x : Ample stack (length old * 2 + 4) = o .under .lent .deep in omega arith) };
+          lent = record { roomy = roomy-same scratch scratch1 e (o .under .lent .roomy); clean = c; deep = (let x : Tellable scratch (length old) = o .under .lent .deep in omega arith) };
         }
 
     -- a step that is no answer
@@ -106,13 +105,13 @@ module _ (ss : List Symbol) (sh : Sheet) (g : Goal) (nodes code : List ℕ) (all
       pub step-few : steps < allowance
       step-few = let x : 0 < allowance - steps = left-some (allowance - steps) (goes .more) in omega arith
 
-      pub steps-on : (state1 scratch1 : List ℕ) (h1 n1 : ℕ) → Piled ss sh g nodes code state1 h1 n1 → pileOf ss sh g nodes code state1 h1 ≡ step sh (pileOf ss sh g nodes code state h) → Clean scratch1 → length scratch1 ≡ length scratch → Ongoing ss sh g nodes code state1 scratch1 stack allowance wanted old new h1 n1 answers (steps + 1) at
+      pub steps-on : (state1 scratch1 : List ℕ) (h1 n1 : ℕ) → Piled ss sh g nodes code state1 h1 n1 → pileOf ss sh g nodes code state1 h1 ≡ step sh (pileOf ss sh g nodes code state h) → Clean scratch1 → length scratch1 ≡ length scratch → Ongoing ss sh g nodes code state1 scratch1 allowance wanted old new h1 n1 answers (steps + 1) at
       steps-on state1 scratch1 h1 n1 p e c l =
           let x : steps < allowance = step-few in
           let z : allowance - steps - 1 ≡ allowance - (steps + 1) = omega arith in
           let y : suc steps ≡ steps + 1 = omega arith in
           record {
-            under = later state1 scratch1 stack h1 n1 p c l refl;
+            under = later state1 scratch1 h1 n1 p c l;
             written = o .written;
             at-is = o .at-is;
             fits = o .fits;
@@ -178,8 +177,8 @@ module _ (ss : List Symbol) (sh : Sheet) (g : Goal) (nodes code : List ℕ) (all
               by (inl l) = absurd (z (f .full l .0))
               by (inr l) = l
 
-          pub answers-on : (r ≡ 0 → ⊥) → (state2 scratch2 stack2 : List ℕ) (h2 n2 : ℕ) → Piled ss sh g nodes code state2 h2 n2 → pileOf ss sh g nodes code state2 h2 ≡ step sh (pileOf ss sh g nodes code state1 h) → Clean scratch2 → length scratch2 ≡ length scratch → length stack2 ≡ length stack → Ongoing ss sh g nodes code state2 scratch2 stack2 allowance wanted old new1 h2 n2 (answers + 1) (steps + 1) r
-          answers-on z state2 scratch2 stack2 h2 n2 p2 e2 c2 l2 l3 =
+          pub answers-on : (r ≡ 0 → ⊥) → (state2 scratch2 : List ℕ) (h2 n2 : ℕ) → Piled ss sh g nodes code state2 h2 n2 → pileOf ss sh g nodes code state2 h2 ≡ step sh (pileOf ss sh g nodes code state1 h) → Clean scratch2 → length scratch2 ≡ length scratch → Ongoing ss sh g nodes code state2 scratch2 allowance wanted old new1 h2 n2 (answers + 1) (steps + 1) r
+          answers-on z state2 scratch2 h2 n2 p2 e2 c2 l2 =
               let x : steps < allowance = answer-few in
               let fit : at + L ≤ length new = fitting z in
               let past : r ≡ at + L = f .fits fit .past in
@@ -188,7 +187,7 @@ module _ (ss : List Symbol) (sh : Sheet) (g : Goal) (nodes code : List ℕ) (all
               let w : allowance - steps - 1 ≡ allowance - (steps + 1) = omega arith in
               let y : suc steps ≡ steps + 1 = omega arith in
               record {
-                under = later state2 scratch2 stack2 h2 n2 p2 c2 l2 l3;
+                under = later state2 scratch2 h2 n2 p2 c2 l2;
                 written = o .written ++ line g (bindings ss nodes state1 m);
                 at-is = past ∙ ap (λ (a : ℕ). a + L) (o .at-is) ∙ sym (length-append (o .written) (line g (bindings ss nodes state1 m)));
                 fits = omega arith;

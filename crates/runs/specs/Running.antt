@@ -1,5 +1,5 @@
 -- What a run over loaded words is given, and what it promises.
-use Prim.Native.Nat.{ℕ, _+_, _-_, _*_, _≤_}
+use Prim.Native.Nat.{ℕ, min, _+_, _-_, _*_, _≤_}
 use mathlib.Core.Path.{_≡_}
 use mathlib.Core.Bool.{Bool, true, cond}
 use mathlib.Core.List.{List}
@@ -19,7 +19,6 @@ use Rattle.layout.specs.Pile.{pileOf, Piled, markAt}
 use Rattle.bindings.specs.Queues.{Clean}
 use Rattle.bindings.specs.Scratch.{Roomy}
 use Rattle.spelling.specs.Words.{Names, Named, namesFrom}
-use Rattle.spelling.specs.Telling.{Ample}
 use Rattle.answers.specs.Fitting.{Fitted}
 use Rattle.engine.specs.Steps.{Stepped}
 use Rattle.runs.specs.declared.Told.{Told}
@@ -45,20 +44,24 @@ pub record Spelt (ss : List Symbol) (g : Goal) (sheet goal names : List ℕ) (co
   pub named : Named goal names count
   pub names-are : g .names ≡ namesFrom goal names 0 count
 
--- what a run is lent: scratch words without a mark, and a stack for the brackets of an answer in a text of so many bytes
-pub record Lent (scratch stack : List ℕ) (room : ℕ) : Type 0 where
+-- scratch words whose part behind marks and queue is an ample stack for the brackets of an answer with so many bytes of room
+abbrev pub Tellable : List ℕ → ℕ → Type 0
+Tellable scratch room = min 524320 (room * 2 + 4) + 32768 ≤ length scratch
+
+-- what a run is lent: scratch words without a mark, for unification and for answers in a text of so many bytes
+pub record Lent (scratch : List ℕ) (room : ℕ) : Type 0 where
   pub roomy : Roomy scratch
   pub clean : Clean scratch
-  pub deep : Ample stack (room * 2 + 4)
+  pub deep : Tellable scratch room
 
 -- words that mean a pile, and what is lent
-pub record Under (ss : List Symbol) (sh : Sheet) (g : Goal) (nodes code state scratch stack : List ℕ) (room h n : ℕ) : Type 0 where
+pub record Under (ss : List Symbol) (sh : Sheet) (g : Goal) (nodes code state scratch : List ℕ) (room h n : ℕ) : Type 0 where
   pub piled : Piled ss sh g nodes code state h n
-  pub lent : Lent scratch stack room
+  pub lent : Lent scratch room
 
 -- Where a run stands: the rest of it is the rest of the whole run.
-pub record Ongoing (ss : List Symbol) (sh : Sheet) (g : Goal) (nodes code state scratch stack : List ℕ) (allowance wanted : ℕ) (old new : List ℕ) (h n answers steps at : ℕ) : Type 0 where
-  pub under : Under ss sh g nodes code state scratch stack (length old) h n
+pub record Ongoing (ss : List Symbol) (sh : Sheet) (g : Goal) (nodes code state scratch : List ℕ) (allowance wanted : ℕ) (old new : List ℕ) (h n answers steps at : ℕ) : Type 0 where
+  pub under : Under ss sh g nodes code state scratch (length old) h n
   pub written : List ℕ
   pub at-is : at ≡ length written
   pub fits : at ≤ length old
@@ -94,38 +97,39 @@ pub record Rewound (before after : List ℕ) (h n m : ℕ) : Type 0 where
   pub same : (ss : List Symbol) (sh : Sheet) (g : Goal) (nodes code : List ℕ) → Piled ss sh g nodes code before h n → Same ss sh g nodes code before after h m
 
 -- an answer is next
-pub record Answering (sheet goal names : List ℕ) (count : ℕ) (nodes code symbols state scratch stack text : List ℕ) (h n at : ℕ) : Type 0 where
+pub record Answering (sheet goal names : List ℕ) (count : ℕ) (nodes code symbols state scratch text : List ℕ) (h n at : ℕ) : Type 0 where
   pub ss : List Symbol
   pub sh : Sheet
   pub g : Goal
   pub spelt : Spelt ss g sheet goal names count symbols
-  pub under : Under ss sh g nodes code state scratch stack (length text) h n
+  pub under : Under ss sh g nodes code state scratch (length text) h n
   pub some : 1 ≤ h
   pub answer : isAnswer (pileOf ss sh g nodes code state h) ≡ true
   pub room : at ≤ length text
 
 -- The line is written and the step taken, or the line does not fit: then the position is 0.
-pub record Answered (ss : List Symbol) (sh : Sheet) (g : Goal) (nodes code before after scratch later stack stack1 old new : List ℕ) (h at : ℕ) (r : Told) : Type 0 where
+pub record Answered (ss : List Symbol) (sh : Sheet) (g : Goal) (nodes code before after scratch later old new : List ℕ) (h at : ℕ) (r : Told) : Type 0 where
   pub mid : List ℕ
+  pub between : List ℕ
   pub m : ℕ
   pub same : Same ss sh g nodes code before mid h m
   pub mark : markAt mid (h - 1) ≡ m
   pub fitted : Fitted (line g (bindings ss nodes mid m)) old at new (r .at)
-  pub stepped : (r .at ≡ 0 → ⊥) → Stepped ss sh g nodes code mid after scratch later h (record { height = r .height; trail = r .trail })
+  pub stepped : (r .at ≡ 0 → ⊥) → Stepped ss sh g nodes code mid after between later h (record { height = r .height; trail = r .trail })
   pub state-long : length after ≡ length before
-  pub stack-long : length stack1 ≡ length stack
+  pub scratch-long : length between ≡ length scratch
 
 -- the goal alone on the pile
-pub record Begun (sheet goal names : List ℕ) (count : ℕ) (nodes code symbols state scratch stack text : List ℕ) : Type 0 where
+pub record Begun (sheet goal names : List ℕ) (count : ℕ) (nodes code symbols state scratch text : List ℕ) : Type 0 where
   pub ss : List Symbol
   pub sh : Sheet
   pub g : Goal
   pub spelt : Spelt ss g sheet goal names count symbols
-  pub under : Under ss sh g nodes code state scratch stack (length text) 1 0
+  pub under : Under ss sh g nodes code state scratch (length text) 1 0
   pub alone : pileOf ss sh g nodes code state 1 ≡ start sh g
 
 -- a loaded program and a state of zeros
-pub record Runnable (sheet goal names : List ℕ) (count : ℕ) (nodes code symbols state scratch stack text : List ℕ) : Type 0 where
+pub record Runnable (sheet goal names : List ℕ) (count : ℕ) (nodes code symbols state scratch text : List ℕ) : Type 0 where
   pub ss : List Symbol
   pub sh : Sheet
   pub g : Goal
@@ -133,4 +137,4 @@ pub record Runnable (sheet goal names : List ℕ) (count : ℕ) (nodes code symb
   pub program : Program ss sh g nodes code
   pub long : 35328 ≤ length state
   pub zero-words : (i : ℕ) → getD state i 0 ≡ 0
-  pub lent : Lent scratch stack (length text)
+  pub lent : Lent scratch (length text)

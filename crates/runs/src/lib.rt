@@ -2,6 +2,7 @@
 // sheets".
 use answers::put_answer;
 use bindings::occurrence::word_at;
+use bindings::stack::STACK;
 use bindings::store::undo;
 use engine::goes_deeper;
 use engine::is_answer;
@@ -12,9 +13,17 @@ use syntax::Report;
 ghost use mathlib.Core.Path.{_≡_};
 ghost use mathlib.Core.List.{List};
 ghost use Prim.Native.Nat.{ℕ, _-_, _≤_};
+ghost use lib.ListN.{length};
+ghost use Rattle.syntax.specs.Terms.{Goal};
+ghost use Rattle.machine.specs.Answers.{line};
+ghost use Rattle.layout.specs.Nodes.{Symbol};
+ghost use Rattle.layout.specs.State.{bindings};
+ghost use Rattle.bindings.specs.Scratch.{SameMarks};
+ghost use Rattle.spelling.specs.Words.{namesFrom};
+ghost use Rattle.answers.specs.Fitting.{Answerable, SomeAnswerable, Fitted};
 ghost use Rattle.layout.specs.Pile.{pileOf};
 ghost use Rattle.engine.specs.Steps.{Running};
-ghost use Rattle.runs.specs.Running.{nextOf, Rewindable, Rewound, Answering, Answered, Begun, Runnable, Runs};
+ghost use Rattle.runs.specs.Running.{nextOf, Tellable, Rewindable, Rewound, Answering, Answered, Begun, Runnable, Runs};
 
 // Where the alternatives begin, how many words one takes, and which of them is the length of its trail.
 const ALTERNATIVES: usize = 33792;
@@ -83,6 +92,39 @@ fn rewind(state: &mut [u32], h: usize, n: usize) -> usize
     mark
 }
 
+// The line of an answer written from at on, the brackets in the scratch words behind marks and queue.
+fn tell(
+    sheet: &[u8],
+    goal: &[u8],
+    names: &[u32],
+    count: usize,
+    nodes: &[u32],
+    symbols: &[u32],
+    state: &[u32],
+    scratch: &mut [u32],
+    text: &mut [u8],
+    at: usize,
+) -> usize
+    requires { ⌜ SomeAnswerable (now nodes) (now state) (now symbols) (now sheet) (now goal) (now names) count ⌝ }
+    requires { ⌜ (at ≤ length (now text)) × Tellable (now scratch) (length (now text) - at) ⌝ }
+    ensures fitted { λ r. ⌜ ((ss : List Symbol) (n : ℕ) (g : Goal) → Answerable ss n (now (nodes .entry)) (now (state .entry)) (now (symbols .entry)) (now (sheet .entry)) (now (goal .entry)) (now (names .entry)) count → g .names ≡ namesFrom (now (goal .entry)) (now (names .entry)) 0 count → Fitted (line g (bindings ss (now (nodes .entry)) (now (state .entry)) n)) (now (text .entry)) at (now (text .exit)) r) ⌝ }
+    ensures marks { λ _. ⌜ SameMarks (now (scratch .entry)) (now (scratch .exit)) ⌝ }
+{
+    let from = STACK;
+    put_answer(
+        goal,
+        names,
+        count,
+        nodes,
+        state,
+        symbols,
+        sheet,
+        &mut scratch[from..],
+        text,
+        at,
+    )
+}
+
 // An answer: its line written from at on, and then the step.
 fn answer(
     sheet: &[u8],
@@ -94,25 +136,24 @@ fn answer(
     symbols: &[u32],
     state: &mut [u32],
     scratch: &mut [u32],
-    stack: &mut [u32],
     text: &mut [u8],
     h: usize,
     n: usize,
     at: usize,
 ) -> Told
-    requires { ⌜ Answering (now sheet) (now goal) (now names) count (now nodes) (now code) (now symbols) (now state) (now scratch) (now stack) (now text) h n at ⌝ }
-    ensures { λ r. ⌜ ((w : Answering (now (sheet .entry)) (now (goal .entry)) (now (names .entry)) count (now (nodes .entry)) (now (code .entry)) (now (symbols .entry)) (now (state .entry)) (now (scratch .entry)) (now (stack .entry)) (now (text .entry)) h n at) → Answered (w .ss) (w .sh) (w .g) (now (nodes .entry)) (now (code .entry)) (now (state .entry)) (now (state .exit)) (now (scratch .entry)) (now (scratch .exit)) (now (stack .entry)) (now (stack .exit)) (now (text .entry)) (now (text .exit)) h at r) ⌝ }
+    requires { ⌜ Answering (now sheet) (now goal) (now names) count (now nodes) (now code) (now symbols) (now state) (now scratch) (now text) h n at ⌝ }
+    ensures { λ r. ⌜ ((w : Answering (now (sheet .entry)) (now (goal .entry)) (now (names .entry)) count (now (nodes .entry)) (now (code .entry)) (now (symbols .entry)) (now (state .entry)) (now (scratch .entry)) (now (text .entry)) h n at) → Answered (w .ss) (w .sh) (w .g) (now (nodes .entry)) (now (code .entry)) (now (state .entry)) (now (state .exit)) (now (scratch .entry)) (now (scratch .exit)) (now (text .entry)) (now (text .exit)) h at r) ⌝ }
 {
     let m = rewind(state, h, n);
-    let past = put_answer(
+    let past = tell(
+        sheet,
         goal,
         names,
         count,
         nodes,
-        state,
         symbols,
-        sheet,
-        stack,
+        state,
+        scratch,
         text,
         at,
     );
@@ -142,13 +183,12 @@ fn run_on(
     symbols: &[u32],
     state: &mut [u32],
     scratch: &mut [u32],
-    stack: &mut [u32],
     text: &mut [u8],
     allowance: usize,
     wanted: usize,
 ) -> Report
-    requires { ⌜ Begun (now sheet) (now goal) (now names) count (now nodes) (now code) (now symbols) (now state) (now scratch) (now stack) (now text) ⌝ }
-    ensures { λ r. ⌜ ((w : Begun (now (sheet .entry)) (now (goal .entry)) (now (names .entry)) count (now (nodes .entry)) (now (code .entry)) (now (symbols .entry)) (now (state .entry)) (now (scratch .entry)) (now (stack .entry)) (now (text .entry))) → Runs (w .sh) (w .g) allowance wanted (now (text .entry)) (now (text .exit)) r) ⌝ }
+    requires { ⌜ Begun (now sheet) (now goal) (now names) count (now nodes) (now code) (now symbols) (now state) (now scratch) (now text) ⌝ }
+    ensures { λ r. ⌜ ((w : Begun (now (sheet .entry)) (now (goal .entry)) (now (names .entry)) count (now (nodes .entry)) (now (code .entry)) (now (symbols .entry)) (now (state .entry)) (now (scratch .entry)) (now (text .entry))) → Runs (w .sh) (w .g) allowance wanted (now (text .entry)) (now (text .exit)) r) ⌝ }
 {
     let mut h = 1;
     let mut n = 0;
@@ -175,7 +215,6 @@ fn run_on(
                     symbols,
                     state,
                     scratch,
-                    stack,
                     text,
                     h,
                     n,
@@ -215,13 +254,12 @@ pub fn run(
     symbols: &[u32],
     state: &mut [u32],
     scratch: &mut [u32],
-    stack: &mut [u32],
     text: &mut [u8],
     allowance: usize,
     wanted: usize,
 ) -> Report
-    requires { ⌜ Runnable (now sheet) (now goal) (now names) count (now nodes) (now code) (now symbols) (now state) (now scratch) (now stack) (now text) ⌝ }
-    ensures { λ r. ⌜ ((w : Runnable (now (sheet .entry)) (now (goal .entry)) (now (names .entry)) count (now (nodes .entry)) (now (code .entry)) (now (symbols .entry)) (now (state .entry)) (now (scratch .entry)) (now (stack .entry)) (now (text .entry))) → Runs (w .sh) (w .g) allowance wanted (now (text .entry)) (now (text .exit)) r) ⌝ }
+    requires { ⌜ Runnable (now sheet) (now goal) (now names) count (now nodes) (now code) (now symbols) (now state) (now scratch) (now text) ⌝ }
+    ensures { λ r. ⌜ ((w : Runnable (now (sheet .entry)) (now (goal .entry)) (now (names .entry)) count (now (nodes .entry)) (now (code .entry)) (now (symbols .entry)) (now (state .entry)) (now (scratch .entry)) (now (text .entry))) → Runs (w .sh) (w .g) allowance wanted (now (text .entry)) (now (text .exit)) r) ⌝ }
 {
     start(code, state);
     run_on(
@@ -234,7 +272,6 @@ pub fn run(
         symbols,
         state,
         scratch,
-        stack,
         text,
         allowance,
         wanted,

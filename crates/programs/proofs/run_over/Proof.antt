@@ -7,33 +7,29 @@ use Rattle.programs.proofs.run_over.Lts as lts
 use Rattle.programs.proofs.state_words.Reads as state-words-reads
 use Rattle.runs.proofs.run.Reads as run-reads
 
--- src/lib.rt:79:21
+-- src/lib.rt:63:21
 state-words-requires : tie.Need-state-words-requires
 state-words-requires c κs = search needs
 
--- src/lib.rt:88:9
+-- src/lib.rt:72:9
 slice-aggregate-run : tie.Need-slice-aggregate-run
 slice-aggregate-run c = search needs
 
--- src/lib.rt:80:5
+-- src/lib.rt:64:5
 run-requires : tie.Need-run-requires
-run-requires c κs = runnable (c .before .before .before .before .before .before .before .before .before .before .before .before .before .before .pre .0) (c .before .before .before .before .state-words .ensures) (c .before .before .before .before .before .before .before .before .before .before .before .before .before .before .pre .1 .0) (c .before .before .before .before .before .before .before .before .before .before .before .before .before .before .pre .1 .1)
+run-requires c κs = runnable (c .before .before .before .before .before .before .before .before .before .before .before .before .pre .0) (c .before .before .before .state-words .ensures) (c .before .before .before .before .before .before .before .before .before .before .before .before .pre .1)
 
--- src/lib.rt:62:1
+-- src/lib.rt:47:1
 same-length : tie.Need-same-length
 same-length c = search needs
 
--- src/lib.rt:62:1
+-- src/lib.rt:47:1
 same-length-2 : tie.Need-same-length-2
 same-length-2 c = search needs
 
--- src/lib.rt:62:1
-same-length-3 : tie.Need-same-length-3
-same-length-3 c = search needs
-
--- src/lib.rt:62:1
+-- src/lib.rt:47:1
 returns : tie.Need-returns
-returns c = λ w. linked-runs w (c .before .before .before .before .before .before .before .before .before .before .before .before .state-words .ensures) (c .before .before .before .before .before .before .before .before .before .before .before .before .before .before .before .before .before .before .before .before .before .before .pre .1 .0) (c .before .before .before .before .before .before .before .before .before .before .before .before .before .before .before .before .before .before .before .before .before .before .pre .1 .1) (c .before .before .before .before .before .before .before .run .ensures)
+returns c = λ w. linked-runs w (c .before .before .before .before .before .before .before .before .before .state-words .ensures) (c .before .before .before .before .before .before .before .before .before .before .before .before .before .before .before .before .before .before .pre .1) (c .before .before .before .before .before .run .ensures)
 
 pub run-over-spec : {M : Type 1} → statement M
 run-over-spec =
@@ -44,5 +40,4 @@ run-over-spec =
     run-requires
     same-length
     same-length-2
-    same-length-3
     returns)

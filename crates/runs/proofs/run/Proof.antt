@@ -9,11 +9,11 @@ use Rattle.runs.proofs.run_on.Reads as run-on-reads
 
 -- src/lib.rt:203:5
 start-requires : tie.Need-start-requires
-start-requires c κs = go-startable (c .before .before .before .before .before .before .before .before .before .before .before .pre)
+start-requires c κs = go-startable (c .before .before .before .before .before .before .before .before .before .before .pre)
 
 -- src/lib.rt:204:5
 run-on-requires : tie.Need-run-on-requires
-run-on-requires c κs = go-begun (c .before .before .before .before .before .before .before .before .before .before .before .before .before .before .before .before .before .before .pre) (c .before .before .before .before .before .before .start .ensures)
+run-on-requires c κs = go-begun (c .before .before .before .before .before .before .before .before .before .before .before .before .before .before .before .before .pre) (c .before .before .before .before .before .start .ensures)
 
 -- src/lib.rt:185:1
 same-length : tie.Need-same-length
@@ -28,12 +28,8 @@ same-length-3 : tie.Need-same-length-3
 same-length-3 c = search needs
 
 -- src/lib.rt:185:1
-same-length-4 : tie.Need-same-length-4
-same-length-4 c = search needs
-
--- src/lib.rt:185:1
 returns : tie.Need-returns
-returns c = λ w. go-runs w (c .before .before .before .before .before .before .before .before .before .before .before .before .before .before .before .start .ensures) (c .before .before .before .before .before .before .before .before .run-on .ensures)
+returns c = λ w. go-runs w (c .before .before .before .before .before .before .before .before .before .before .before .before .start .ensures) (c .before .before .before .before .before .before .run-on .ensures)
 
 pub run-spec : {M : Type 1} → statement M
 run-spec =
@@ -44,5 +40,4 @@ run-spec =
     same-length
     same-length-2
     same-length-3
-    same-length-4
     returns)
