@@ -12,7 +12,7 @@ ghost use Rattle.machine.specs.Answers.{bytesOf, valuesFrom, line};
 ghost use Rattle.layout.specs.Nodes.{Symbol};
 ghost use Rattle.layout.specs.State.{bindings};
 ghost use Rattle.spelling.specs.Words.{namesFrom};
-ghost use Rattle.spelling.specs.Telling.{Ample, Values, SomeValues, Lined};
+ghost use Rattle.spelling.specs.Telling.{Ample, Counted, Values, SomeValues, Lined};
 ghost use Rattle.answers.specs.Fitting.{Answerable, SomeAnswerable, Fitted};
 
 // The line of an answer that gives no variable.
@@ -62,7 +62,57 @@ fn append_afresh(
     )
 }
 
-// The line of an answer that gives variables. It is measured first; its table of numbers serves again where no variable was unbound.
+// The variables that are given, after they were measured with a table of numbers, which serves again where no variable was unbound.
+fn append_again(
+    goal: &[u8],
+    names: &[u32],
+    count: usize,
+    nodes: &[u32],
+    state: &[u32],
+    symbols: &[u32],
+    sheet: &[u8],
+    numbers: &mut [usize],
+    stack: &mut [u32],
+    out: &mut [u8],
+    at: usize,
+    limit: usize,
+) -> usize
+    requires { ⌜ SomeValues (now nodes) (now state) (now symbols) (now sheet) (now goal) (now stack) (now names) count ⌝ }
+    requires { ⌜ (Counted (now numbers)) × ((at + 400 < 2 ^ 64) × ((limit + 400 < 2 ^ 64) × Ample (now stack) ((limit - at) * 2 + 4))) ⌝ }
+    ensures { λ r. ⌜ ((ss : List Symbol) (n : ℕ) → Values ss n (now (nodes .entry)) (now (state .entry)) (now (symbols .entry)) (now (sheet .entry)) (now (goal .entry)) (now (stack .entry)) (now (names .entry)) count → Lined limit (bytesOf [] (valuesFrom (bindings ss (now (nodes .entry)) (now (state .entry)) n) 0 [] (namesFrom (now (goal .entry)) (now (names .entry)) 0 count))) (now (out .entry)) at (now (out .exit)) r) ⌝ }
+{
+    if numbers[16384] == 0 {
+        return append_values(
+            goal,
+            names,
+            count,
+            nodes,
+            state,
+            symbols,
+            sheet,
+            numbers,
+            stack,
+            out,
+            at,
+            limit,
+        );
+    }
+    append_afresh(
+        goal,
+        names,
+        count,
+        nodes,
+        state,
+        symbols,
+        sheet,
+        stack,
+        out,
+        at,
+        limit,
+    )
+}
+
+// The line of an answer that gives variables. It is measured first.
 fn put_values(
     goal: &[u8],
     names: &[u32],
@@ -99,23 +149,7 @@ fn put_values(
     if room < past {
         return 0;
     }
-    if numbers[16384] == 0 {
-        return append_values(
-            goal,
-            names,
-            count,
-            nodes,
-            state,
-            symbols,
-            sheet,
-            &mut numbers,
-            stack,
-            text,
-            at,
-            room,
-        );
-    }
-    append_afresh(
+    append_again(
         goal,
         names,
         count,
@@ -123,6 +157,7 @@ fn put_values(
         state,
         symbols,
         sheet,
+        &mut numbers,
         stack,
         text,
         at,

@@ -1,0 +1,64 @@
+use mathlib.Core.List.{[]}
+use Rattle.answers.proofs.LineLaws.{numbers-again, counting-again}
+use borrow.Author.Needs.{needs}
+use Rattle.answers.proofs.append_again.Statement.{statement}
+use Rattle.answers.proofs.append_again.Tie as tie
+use Rattle.answers.proofs.append_again.Reads as reads
+use Rattle.answers.proofs.append_again.Lts as lts
+use Rattle.answers.proofs.append_afresh.Reads as append-afresh-reads
+use Rattle.spelling.proofs.values.append_values.Reads as append-values-reads
+
+-- src/lib.rt:84:8
+slice-read-if1 : tie.Need-slice-read-if1
+slice-read-if1 c = search needs
+
+-- src/lib.rt:85:9
+append-values-requires : tie.Need-append-values-requires
+append-values-requires c κs = (c .before .before .before .before .before .before .before .before .before .before .before .before .before .before .pre .0, (counting-again _ _ (c .before .before .before .before .before .before .before .before .before .before .before .before .before .before .pre .1 .0) (c .before .before .before .if1 .taken) (c .before .before .before .before .before .before .before .before .before .before .before .before .before .before .pre .1 .1 .0), c .before .before .before .before .before .before .before .before .before .before .before .before .before .before .pre .1 .1))
+
+-- src/lib.rt:85:9
+same-length : tie.Need-same-length
+same-length c = search needs
+
+-- src/lib.rt:85:9
+same-length-2 : tie.Need-same-length-2
+same-length-2 c = search needs
+
+-- src/lib.rt:85:9
+same-length-3 : tie.Need-same-length-3
+same-length-3 c = search needs
+
+-- src/lib.rt:85:9
+returns : tie.Need-returns
+returns c = λ ss n v. c .before .before .before .before .before .before .append-values .ensures .0 ss n [] v (numbers-again _ (c .before .before .before .before .before .before .before .before .before .before .before .before .before .before .before .before .before .before .before .before .before .pre .1 .0) (c .before .before .before .before .before .before .before .before .before .before .if1 .taken))
+
+-- src/lib.rt:100:5
+append-afresh-requires : tie.Need-append-afresh-requires
+append-afresh-requires c κs = search needs
+
+-- src/lib.rt:66:1
+same-length-4 : tie.Need-same-length-4
+same-length-4 c = search needs
+
+-- src/lib.rt:66:1
+same-length-5 : tie.Need-same-length-5
+same-length-5 c = search needs
+
+-- src/lib.rt:66:1
+returns-2 : tie.Need-returns-2
+returns-2 c = search needs
+
+pub append-again-spec : {M : Type 1} → statement M
+append-again-spec =
+    tie.close
+    (tie.spec
+    slice-read-if1
+    append-values-requires
+    same-length
+    same-length-2
+    same-length-3
+    returns
+    append-afresh-requires
+    same-length-4
+    same-length-5
+    returns-2)
