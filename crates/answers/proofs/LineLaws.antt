@@ -1,12 +1,13 @@
 -- Laws of the whole line. Assumes nothing.
-use Prim.Native.Nat.{ℕ, zero, suc, _+_, _≤_, _<_, _^_, zero-le}
+use Prim.Native.Nat.{ℕ, _+_, _≤_, _<_, _^_, zero-le}
 use native.Mathlib.Omega.{arith}
 use mathlib.Core.Path.{_≡_, refl, sym, ap, _∙_, subst}
 use mathlib.Core.Bool.{Bool, true, false}
 use mathlib.Core.List.{List, [], _∷_}
 use lib.ListN.{length, getD, replicate, length-replicate, getD-replicate}
+use Rattle.syntax.specs.Limits.{variables}
+use Rattle.layout.specs.Regions.{cells}
 use Rattle.syntax.specs.Quote.{bytes}
-use Rattle.syntax.specs.Tokens.{spelling}
 use Rattle.syntax.specs.Terms.{Goal}
 use Rattle.buffers.specs.Buffers.{Put}
 use Rattle.machine.specs.Substitution.{Variable, Binding}
@@ -14,7 +15,7 @@ use Rattle.machine.specs.Answers.{placeOf, bytesOf, allAnonymous, valuesFrom, l
 use Rattle.layout.specs.Nodes.{Symbol}
 use Rattle.layout.specs.State.{variableOf}
 use Rattle.spelling.specs.Words.{numberIn, Numbers}
-use Rattle.spelling.specs.Telling.{Counting, Counted, Setting, Values, SomeValues, Lined}
+use Rattle.spelling.specs.Telling.{Counting, Counted, Values, SomeValues, Lined}
 use Rattle.spelling.proofs.ShallowLaws.{shallow-values}
 use Rattle.answers.specs.Fitting.{Answerable, SomeAnswerable, Fitted}
 
@@ -23,16 +24,22 @@ number-zero : (v : Variable) → numberIn v [] ≡ 0
 unfolding numberIn placeOf
 number-zero v = refl
 
-pub numbers-none : (k : ℕ) → k ≡ 16385 → Numbers (replicate k 0) []
+numbers-none : (k : ℕ) → k ≡ cells + 1 → Numbers (replicate k 0) []
 numbers-none k e =
     record {
       long = length-replicate k 0 ∙ e;
-      counted = getD-replicate k 16384 0 0 (omega arith);
+      counted = getD-replicate k cells 0 0 (omega arith);
       number = λ x l. getD-replicate k x 0 0 (omega arith) ∙ sym (number-zero (variableOf x));
     }
 
-pub counting-none : (k at : ℕ) → k ≡ 16385 → at + 400 < 2 ^ 64 → Counting (replicate k 0) at
+counting-none : (k at : ℕ) → k ≡ cells + 1 → at + 400 < 2 ^ 64 → Counting (replicate k 0) at
 counting-none k at e l = record { met = []; numbers-are = numbers-none k e; few = zero-le; near = omega arith }
+
+pub numbers-clear : Numbers (replicate (cells + 1) 0) []
+numbers-clear = numbers-none (cells + 1) refl
+
+pub counting-clear : {at : ℕ} → at + 400 < 2 ^ 64 → Counting (replicate (cells + 1) 0) at
+counting-clear {at} near = counting-none (cells + 1) at refl near
 
 line-yes : (g : Goal) (b : List Binding) → allAnonymous (g .names) ≡ true → line g b ≡ bytes "yes\n"
 unfolding line
@@ -47,10 +54,10 @@ no-variables : (met : List Variable) → 0 ≡ length met → met ≡ []
 no-variables [] e = refl
 no-variables (v ∷ met) e = absurd (omega arith)
 
-pub numbers-again : (numbers : List ℕ) → Counted numbers → getD numbers 16384 0 ≡ 0 → Numbers numbers []
+pub numbers-again : (numbers : List ℕ) → Counted numbers → getD numbers cells 0 ≡ 0 → Numbers numbers []
 numbers-again numbers k z = subst (Numbers numbers) (no-variables (k .met) (sym z ∙ k .numbers-are .counted)) (k .numbers-are)
 
-pub counting-again : (numbers : List ℕ) (at : ℕ) → Counted numbers → getD numbers 16384 0 ≡ 0 → at + 400 < 2 ^ 64 → Counting numbers at
+pub counting-again : (numbers : List ℕ) (at : ℕ) → Counted numbers → getD numbers cells 0 ≡ 0 → at + 400 < 2 ^ 64 → Counting numbers at
 counting-again numbers at k z l = record { met = []; numbers-are = numbers-again numbers k z; few = zero-le; near = omega arith }
 
 -- ---- the line
@@ -94,7 +101,7 @@ values-of ss n nodes state symbols sheet goal stack names count v =
     record {
       setting = record { store = v .store; names = v .symbols-are; rows = record { high = zero-le; each = λ j k. absurd (let z : j < 0 = k in omega arith) } };
       named = v .named;
-      shallow = λ i k. shallow-values ss nodes state n (v .store) i (let few : count ≤ 32 = v .named .few in omega arith);
+      shallow = λ i k. shallow-values ss nodes state n (v .store) i (let few : count ≤ variables = v .named .few in omega arith);
     }
 
 pub some-values : (nodes state symbols sheet goal stack names : List ℕ) (count : ℕ) → SomeAnswerable nodes state symbols sheet goal names count → SomeValues nodes state symbols sheet goal stack names count

@@ -1,19 +1,24 @@
 // The line of an answer, from the words of a run. Document 01 is the paper "Rule sheets".
 use buffers::append_part;
+use layout::CELLS;
 use spelling::values::all_anonymous;
 use spelling::values::append_values;
 ghost use mathlib.Core.Path.{_≡_};
 ghost use mathlib.Core.List.{List, []};
 ghost use Prim.Native.Nat.{ℕ, _+_, _-_, _*_, _^_, _≤_, _<_};
 ghost use lib.ListN.{length};
+ghost use Rattle.syntax.specs.Spans.{namesFrom};
+ghost use Rattle.layout.specs.Regions.{openSize};
 ghost use Rattle.syntax.specs.Quote.{bytes};
 ghost use Rattle.syntax.specs.Terms.{Goal};
 ghost use Rattle.machine.specs.Answers.{bytesOf, valuesFrom, line};
 ghost use Rattle.layout.specs.Nodes.{Symbol};
 ghost use Rattle.layout.specs.State.{bindings};
-ghost use Rattle.spelling.specs.Words.{namesFrom};
 ghost use Rattle.spelling.specs.Telling.{Ample, Counted, Values, SomeValues, Lined};
 ghost use Rattle.answers.specs.Fitting.{Answerable, SomeAnswerable, Fitted};
+
+// The table of numbers: a word for each cell, and their count.
+const NUMBERS: usize = CELLS + 1;
 
 // The line of an answer that gives no variable.
 fn put_yes(text: &mut [u8], at: usize) -> usize
@@ -42,10 +47,10 @@ fn append_afresh(
     limit: usize,
 ) -> usize
     requires { ⌜ SomeValues (now nodes) (now state) (now symbols) (now sheet) (now goal) (now stack) (now names) count ⌝ }
-    requires { ⌜ (at + 400 < 2 ^ 64) × ((limit + 400 < 2 ^ 64) × Ample (now stack) ((limit - at) * 2 + 4)) ⌝ }
+    requires { ⌜ (at + 400 < 2 ^ 64) × ((limit + 400 < 2 ^ 64) × Ample (now stack) ((limit - at) * openSize + 2 * openSize)) ⌝ }
     ensures { λ r. ⌜ ((ss : List Symbol) (n : ℕ) → Values ss n (now (nodes .entry)) (now (state .entry)) (now (symbols .entry)) (now (sheet .entry)) (now (goal .entry)) (now (stack .entry)) (now (names .entry)) count → Lined limit (bytesOf [] (valuesFrom (bindings ss (now (nodes .entry)) (now (state .entry)) n) 0 [] (namesFrom (now (goal .entry)) (now (names .entry)) 0 count))) (now (out .entry)) at (now (out .exit)) r) ⌝ }
 {
-    let mut numbers = [0usize; 16385];
+    let mut numbers = [0usize; NUMBERS];
     append_values(
         goal,
         names,
@@ -78,10 +83,10 @@ fn append_again(
     limit: usize,
 ) -> usize
     requires { ⌜ SomeValues (now nodes) (now state) (now symbols) (now sheet) (now goal) (now stack) (now names) count ⌝ }
-    requires { ⌜ (Counted (now numbers)) × ((at + 400 < 2 ^ 64) × ((limit + 400 < 2 ^ 64) × Ample (now stack) ((limit - at) * 2 + 4))) ⌝ }
+    requires { ⌜ (Counted (now numbers)) × ((at + 400 < 2 ^ 64) × ((limit + 400 < 2 ^ 64) × Ample (now stack) ((limit - at) * openSize + 2 * openSize))) ⌝ }
     ensures { λ r. ⌜ ((ss : List Symbol) (n : ℕ) → Values ss n (now (nodes .entry)) (now (state .entry)) (now (symbols .entry)) (now (sheet .entry)) (now (goal .entry)) (now (stack .entry)) (now (names .entry)) count → Lined limit (bytesOf [] (valuesFrom (bindings ss (now (nodes .entry)) (now (state .entry)) n) 0 [] (namesFrom (now (goal .entry)) (now (names .entry)) 0 count))) (now (out .entry)) at (now (out .exit)) r) ⌝ }
 {
-    if numbers[16384] == 0 {
+    if numbers[CELLS] == 0 {
         return append_values(
             goal,
             names,
@@ -126,11 +131,11 @@ fn put_values(
     at: usize,
 ) -> usize
     requires { ⌜ SomeAnswerable (now nodes) (now state) (now symbols) (now sheet) (now goal) (now names) count ⌝ }
-    requires { ⌜ (at ≤ length (now text)) × Ample (now stack) ((length (now text) - at) * 2 + 4) ⌝ }
+    requires { ⌜ (at ≤ length (now text)) × Ample (now stack) ((length (now text) - at) * openSize + 2 * openSize) ⌝ }
     ensures { λ r. ⌜ ((ss : List Symbol) (n : ℕ) → Answerable ss n (now (nodes .entry)) (now (state .entry)) (now (symbols .entry)) (now (sheet .entry)) (now (goal .entry)) (now (names .entry)) count → Fitted (bytesOf [] (valuesFrom (bindings ss (now (nodes .entry)) (now (state .entry)) n) 0 [] (namesFrom (now (goal .entry)) (now (names .entry)) 0 count))) (now (text .entry)) at (now (text .exit)) r) ⌝ }
 {
     let room = text.len();
-    let mut numbers = [0usize; 16385];
+    let mut numbers = [0usize; NUMBERS];
     let mut nothing = [0u8; 0];
     let past = append_values(
         goal,
@@ -166,8 +171,8 @@ fn put_values(
 }
 
 // Writes the line of an answer from at on and returns the position past it; where the whole line does not fit, writes nothing
-// and returns 0. The stack has two words for each bracket that can be open at once: 16 in a term of a clause
-// or of the goal, and 16 behind each of 16,384 bindings; or, where that is less, two for each byte of room, and four.
+// and returns 0. The stack has a row for each bracket that a value can have open at once (layout's
+// DEEPEST); or, where that is less, a row for each byte of room, and two.
 pub fn put_answer(
     goal: &[u8],
     names: &[u32],
@@ -181,7 +186,7 @@ pub fn put_answer(
     at: usize,
 ) -> usize
     requires { ⌜ SomeAnswerable (now nodes) (now state) (now symbols) (now sheet) (now goal) (now names) count ⌝ }
-    requires { ⌜ (at ≤ length (now text)) × Ample (now stack) ((length (now text) - at) * 2 + 4) ⌝ }
+    requires { ⌜ (at ≤ length (now text)) × Ample (now stack) ((length (now text) - at) * openSize + 2 * openSize) ⌝ }
     ensures { λ r. ⌜ ((ss : List Symbol) (n : ℕ) (g : Goal) → Answerable ss n (now (nodes .entry)) (now (state .entry)) (now (symbols .entry)) (now (sheet .entry)) (now (goal .entry)) (now (names .entry)) count → g .names ≡ namesFrom (now (goal .entry)) (now (names .entry)) 0 count → Fitted (line g (bindings ss (now (nodes .entry)) (now (state .entry)) n)) (now (text .entry)) at (now (text .exit)) r) ⌝ }
 {
     if all_anonymous(goal, names, count) {

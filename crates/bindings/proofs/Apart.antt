@@ -7,8 +7,10 @@ use mathlib.Core.List.{List}
 use lib.Dec.{T, eqb}
 use lib.ListN.{length, getD}
 use borrow.Author.Tests.{eqb-true, eqb-false}
+use Rattle.syntax.specs.Words.{firstName}
 use Rattle.machine.specs.Substitution.{Variable, RTerm, RTerms, rnil, occurs, occursIn, resolve}
 use Rattle.machine.proofs.Reached.{copied-copy}
+use Rattle.layout.specs.Regions.{copies, copyCells, cells, storeWords, loadedNode}
 use Rattle.layout.specs.Nodes.{Symbol, Node, termAt, termsAt}
 use Rattle.layout.specs.State.{variableOf, wordOf, nodeOf, copyOf, cellAt, trailAt, valueOf, bindings, Store, Within, boundWords}
 use Rattle.layout.proofs.Nodes.{node-inside, term-at, compound-at, row-one, row-none, row-open}
@@ -30,10 +32,10 @@ module _ (ss : List Symbol) (nodes state : List ℕ) (n k : ℕ) (store : Store 
   below q d node l =
       closed-under ss nodes state (λ (v : Variable). v .copy < k) n value-below (termAt ss nodes q d) (λ v o. subst⁻¹ (λ (y : ℕ). y < k) (at-copy ss nodes q d node v o) l)
 
-  apart-free : (x q d : ℕ) → Node ss nodes q → d < k → k * 64 ≤ x → T (occurs (variableOf x) (resolve (bindings ss nodes state n) (termAt ss nodes q d))) → ⊥
-  apart-free x q d node l h o = let z : variableOf x .copy < k = below q d node l (variableOf x) o in let y : k * 64 ≤ x = h in omega arith
+  apart-free : (x q d : ℕ) → Node ss nodes q → d < k → k * copyCells ≤ x → T (occurs (variableOf x) (resolve (bindings ss nodes state n) (termAt ss nodes q d))) → ⊥
+  apart-free x q d node l h o = let z : variableOf x .copy < k = below q d node l (variableOf x) o in let y : k * copyCells ≤ x = h in omega arith
 
-pub apart-checked : (nodes state scratch : List ℕ) (x q d k : ℕ) (g : Checkable nodes state scratch x q d) → Closed k state → (k * 64 ≤ x) × (d < k) → Checked (g .ss) nodes state (g .n) scratch scratch x q d false
+pub apart-checked : (nodes state scratch : List ℕ) (x q d k : ℕ) (g : Checkable nodes state scratch x q d) → Closed k state → (k * copyCells ≤ x) × (d < k) → Checked (g .ss) nodes state (g .n) scratch scratch x q d false
 apart-checked nodes state scratch x q d k g closed h =
     record {
       answer = is-false (occurs (variableOf x) (resolve (bindings (g .ss) nodes state (g .n)) (termAt (g .ss) nodes q d))) (apart-free (g .ss) nodes state (g .n) k (g .store) closed x q d (g .node) (h .1) (h .0));
@@ -44,9 +46,9 @@ apart-checked nodes state scratch x q d k g closed h =
 -- ---- a name without arguments
 
 pub constant-inside : (nodes state scratch : List ℕ) (x q d : ℕ) → Checkable nodes state scratch x q d → q + 1 < length nodes
-constant-inside nodes state scratch x q d g = let a : q + 2 ≤ length nodes = node-inside (g .ss) nodes q (g .node) in omega arith
+constant-inside nodes state scratch x q d g = let a : q + loadedNode ≤ length nodes = node-inside (g .ss) nodes q (g .node) in omega arith
 
-pub constant-checked : (nodes state scratch : List ℕ) (x q d : ℕ) (g : Checkable nodes state scratch x q d) → (64 ≤ getD nodes q 0) × (getD nodes (q + 1) 0 ≡ 2) → Checked (g .ss) nodes state (g .n) scratch scratch x q d false
+pub constant-checked : (nodes state scratch : List ℕ) (x q d : ℕ) (g : Checkable nodes state scratch x q d) → (firstName ≤ getD nodes q 0) × (getD nodes (q + 1) 0 ≡ loadedNode) → Checked (g .ss) nodes state (g .n) scratch scratch x q d false
 constant-checked nodes state scratch x q d g h =
     record {
       answer = is-false (occurs (variableOf x) (resolve (bindings (g .ss) nodes state (g .n)) (termAt (g .ss) nodes q d))) (closed-under (g .ss) nodes state (λ (v : Variable). ⊥) (g .n) (λ i l p v o. p) (termAt (g .ss) nodes q d) bare (variableOf x));
@@ -54,10 +56,10 @@ constant-checked nodes state scratch x q d g h =
       keeps = keeps-refl 0 scratch;
     }
   where
-    none : termsAt (g .ss) nodes (q + 2) (q + getD nodes (q + 1) 0) d ≡ rnil
+    none : termsAt (g .ss) nodes (q + loadedNode) (q + getD nodes (q + 1) 0) d ≡ rnil
     none =
-        let e : getD nodes (q + 1) 0 ≡ 2 = h .1 in
-        row-none (g .ss) nodes (q + 2) (q + getD nodes (q + 1) 0) (row-open (g .ss) nodes q (q + getD nodes (q + 1) 0) (row-one (g .ss) nodes q (g .node)) (omega arith) (h .0)) d (omega arith)
+        let e : getD nodes (q + 1) 0 ≡ loadedNode = h .1 in
+        row-none (g .ss) nodes (q + loadedNode) (q + getD nodes (q + 1) 0) (row-open (g .ss) nodes q (q + getD nodes (q + 1) 0) (row-one (g .ss) nodes q (g .node)) (omega arith) (h .0)) d (omega arith)
 
     bare : (v : Variable) → T (occurs v (termAt (g .ss) nodes q d)) → ⊥
     bare v o = subst (λ (ts : RTerms). T (occursIn v ts)) none (subst (λ (t : RTerm). T (occurs v t)) (compound-at (g .ss) nodes q (g .node) d (h .0)) o)
@@ -67,32 +69,32 @@ constant-checked nodes state scratch x q d g h =
 pub closed-none : (state : List ℕ) → Closed 0 state
 closed-none state = record { few = omega arith; copy = λ y l. absurd (let z : y < 0 = l in omega arith) }
 
-pub closes-still : (k x d : ℕ) → (x < k * 64 → d < k) → Closing k x d k
+pub closes-still : (k x d : ℕ) → (x < k * copyCells → d < k) → Closing k x d k
 closes-still k x d h = record { closed = λ state c. c; stays = h }
 
 pub closes-none : (k x d : ℕ) → Closing k x d 0
 closes-none k x d = record { closed = λ state c. closed-none state; stays = λ l. absurd (let z : x < 0 = l in omega arith) }
 
-pub closed-bound : (state : List ℕ) (n x q d k r : ℕ) → 32768 ≤ length state → n < 16384 → x < 16384 → d < 256 → Closed k state → Closing k x d r → Closed r (boundWords state n x (wordOf q d))
+pub closed-bound : (state : List ℕ) (n x q d k r : ℕ) → storeWords ≤ length state → n < cells → x < cells → d < copies → Closed k state → Closing k x d r → Closed r (boundWords state n x (wordOf q d))
 closed-bound state n x q d k r long room small copy c h =
     record { few = h .closed state c .few; copy = λ y l. at y l (eqb y x) refl }
   where
-    at : (y : ℕ) → y < r * 64 → (b : Bool) → eqb y x ≡ b → copyOf (cellAt (boundWords state n x (wordOf q d)) y) < r
+    at : (y : ℕ) → y < r * copyCells → (b : Bool) → eqb y x ≡ b → copyOf (cellAt (boundWords state n x (wordOf q d)) y) < r
     at y l true e =
         let s : y ≡ x = eqb-true y x e in
         subst⁻¹ (λ (z : ℕ). copyOf (cellAt (boundWords state n x (wordOf q d)) z) < r) s
-        (subst⁻¹ (λ (z : ℕ). copyOf z < r) (bound-cell state n x (wordOf q d) long room small) (subst⁻¹ (λ (z : ℕ). z < r) (copy-word q d copy) (h .stays (subst (λ (z : ℕ). z < r * 64) s l))))
+        (subst⁻¹ (λ (z : ℕ). copyOf z < r) (bound-cell state n x (wordOf q d) long room small) (subst⁻¹ (λ (z : ℕ). z < r) (copy-word q d copy) (h .stays (subst (λ (z : ℕ). z < r * copyCells) s l))))
     at y l false e =
-        let f : r ≤ 256 = h .closed state c .few in
-        let o : y < r * 64 = l in
+        let f : r ≤ copies = h .closed state c .few in
+        let o : y < r * copyCells = l in
         subst⁻¹ (λ (z : ℕ). copyOf z < r) (bound-cells state n x (wordOf q d) long room small y (omega arith) (eqb-false y x e)) (h .closed state c .copy y l)
 
 -- what belongs to copies up to k is closed
-pub closed-within : (ss : List Symbol) (nodes state : List ℕ) (n k : ℕ) → Store ss nodes state n → Within k state n → k < 256 → Closed (k + 1) state
+pub closed-within : (ss : List Symbol) (nodes state : List ℕ) (n k : ℕ) → Store ss nodes state n → Within k state n → k < copies → Closed (k + 1) state
 closed-within ss nodes state n k store w low =
     record { few = omega arith; copy = λ y l. at y l (eqb (cellAt state y) 0) refl }
   where
-    at : (y : ℕ) → y < (k + 1) * 64 → (b : Bool) → eqb (cellAt state y) 0 ≡ b → copyOf (cellAt state y) < k + 1
+    at : (y : ℕ) → y < (k + 1) * copyCells → (b : Bool) → eqb (cellAt state y) 0 ≡ b → copyOf (cellAt state y) < k + 1
     at y l true e = subst⁻¹ (λ (z : ℕ). copyOf z < k + 1) (eqb-true (cellAt state y) 0 e) (omega arith)
     at y l false e =
         let o : (i : ℕ) × (i < n) × (trailAt state i ≡ y) = store .only y (omega arith) (eqb-false (cellAt state y) 0 e) in

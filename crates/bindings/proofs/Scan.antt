@@ -8,16 +8,19 @@ use mathlib.Core.Logic.{_⊎_, inl, inr}
 use lib.Dec.{T, ltb, eqb}
 use lib.ListN.{length, getD, set}
 use borrow.Author.Tests.{lt-ltb, le-ltb, ltb-true, ltb-false, eqb-true, eqb-false, eq-eqb}
+use Rattle.syntax.specs.Words.{firstName}
 use Rattle.machine.specs.Substitution.{Variable, sameVariable, RTerm, RTerms, var, app, rnil, rcons, occurs, occursIn, replace, Binding, resolve}
 use Rattle.machine.proofs.Tests.{either, or-left, or-right, variable-eq, variable-refl}
 use Rattle.machine.proofs.Terms.{resolveAll, resolve-app, resolve-nil, resolve-cons, occurs-replace}
+use Rattle.layout.specs.Regions.{places, cells, trail, storeWords, loadedNode}
 use Rattle.layout.specs.Nodes.{Symbol, isSymbol, symbolOf, isListed, nameOf, loadedWords, loadedAll, isLoadable, areLoadable, bracketsOf, Stands, Node, Row, decoded, termAt, termsAt, followed}
 use Rattle.layout.specs.State.{cellOf, variableOf, wordOf, nodeOf, copyOf, cellAt, trailAt, valueOf, bindings, Entry, Store, Within, Keeps, boundWords}
 use Rattle.layout.proofs.Nodes.{node-inside, node-end, node-size, variable-at, variable-size, compound-at, row-one, row-one-is, row-order, row-none, row-first, row-rest, row-cons, row-open, row-opened}
 use Rattle.layout.proofs.State.{replace-away, variable-cell, cell-eq, cell-small, copy-small, resolve-bound, resolve-unbound, room, few, bind-store, bind-keeps, bound-entry, keeps-refl, keeps-trans, keeps-less, no-entries}
 use Rattle.syntax.specs.Terms.{compound, nil, sameBytes}
+use Rattle.bindings.specs.declared.At.{At}
 use Rattle.bindings.specs.declared.occurrence.Queue.{Queue}
-use Rattle.bindings.specs.Cells.{Undone, Stored}
+use Rattle.bindings.specs.Cells.{atOf, Undone, Stored}
 use Rattle.bindings.specs.Queues.{markSymbols, markTable, Queued, Clean, isCell, Visitable, Settled, Visited, Scannable, Dealt, Scanned, Searchable, Searched, Checkable, Checked}
 use Rattle.bindings.proofs.Deref.{BoundCell, bound-cell-is}
 
@@ -34,40 +37,40 @@ mark-term = refl
 mark-free : (v : Variable) (b : List Binding) → T (occurs v (resolve b (termAt markSymbols markTable 0 0))) → ⊥
 mark-free v b h = subst (λ (t : RTerm). T (occurs v t)) (ap (resolve b) mark-term ∙ (resolve-app b [] rnil ∙ ap (app []) (resolve-nil b))) h
 
-mark-high : getD markTable 0 0 ≡ 64
+mark-high : getD markTable 0 0 ≡ firstName
 unfolding markTable
 mark-high = refl
 
 -- ---- visiting a node
 
 module _ (nodes state scratch : List ℕ) (i d m : ℕ) (g : Visitable nodes state scratch i d m) where
-  nothing-new : (j : ℕ) → m ≤ j → j < m → (getD nodes i 0 < 64) × (trailAt scratch j ≡ cellOf d (getD nodes i 0))
+  nothing-new : (j : ℕ) → m ≤ j → j < m → (getD nodes i 0 < firstName) × (trailAt scratch j ≡ cellOf d (getD nodes i 0))
   nothing-new j l h = absurd (let z : m ≤ j = l in omega arith)
 
-  pub visit-name : 64 ≤ getD nodes i 0 → Visited nodes state scratch scratch i d m m
-  visit-name l = record { grows = omega arith; keeps = keeps-refl m scratch; queued = g .queued; new = nothing-new; settled = λ h. absurd (let z : getD nodes i 0 < 64 = h in omega arith) }
+  pub visit-name : firstName ≤ getD nodes i 0 → Visited nodes state scratch scratch i d m m
+  visit-name l = record { grows = omega arith; keeps = keeps-refl m scratch; queued = g .queued; new = nothing-new; settled = λ h. absurd (let z : getD nodes i 0 < firstName = h in omega arith) }
 
   pub visit-unbound : cellAt state (cellOf d (getD nodes i 0)) ≡ 0 → Visited nodes state scratch scratch i d m m
   visit-unbound e = record { grows = omega arith; keeps = keeps-refl m scratch; queued = g .queued; new = nothing-new; settled = λ h. inl e }
 
-  module _ (low : getD nodes i 0 < 64) where
-    pub visit-cell : cellOf d (getD nodes i 0) < 16384
+  module _ (low : getD nodes i 0 < firstName) where
+    pub visit-cell : cellOf d (getD nodes i 0) < cells
     visit-cell = cell-small d (getD nodes i 0) (g .copy) low
 
     pub visit-marked : (getD scratch (cellOf d (getD nodes i 0)) 0 ≡ 0 → ⊥) → Visited nodes state scratch scratch i d m m
     visit-marked z = record { grows = omega arith; keeps = keeps-refl m scratch; queued = g .queued; new = nothing-new; settled = λ h. inr (g .queued .marked .only (cellOf d (getD nodes i 0)) visit-cell z) }
 
-    pub visit-room : getD scratch (cellOf d (getD nodes i 0)) 0 ≡ 0 → (cellOf d (getD nodes i 0) < 16384) × ((16384 + m < length scratch) × (wordOf 0 0 < 2 ^ 32))
+    pub visit-room : getD scratch (cellOf d (getD nodes i 0)) 0 ≡ 0 → (cellOf d (getD nodes i 0) < cells) × ((trail + m < length scratch) × (wordOf 0 0 < 2 ^ 32))
     visit-room z =
-        let a : m < 16384 = room markSymbols markTable scratch m (cellOf d (getD nodes i 0)) (g .queued .marked) visit-cell z in
-        let b : 32768 ≤ length scratch = g .queued .marked .long in
+        let a : m < cells = room markSymbols markTable scratch m (cellOf d (getD nodes i 0)) (g .queued .marked) visit-cell z in
+        let b : storeWords ≤ length scratch = g .queued .marked .long in
         (visit-cell, (omega arith, omega arith))
 
     pub visit-new : (cellAt state (cellOf d (getD nodes i 0)) ≡ 0 → ⊥) → getD scratch (cellOf d (getD nodes i 0)) 0 ≡ 0 → (after : List ℕ) → after ≡ boundWords scratch m (cellOf d (getD nodes i 0)) (wordOf 0 0) → Visited nodes state scratch after i d m (m + 1)
     visit-new b z after e =
         let y : ℕ = cellOf d (getD nodes i 0) in
-        let a : m < 16384 = room markSymbols markTable scratch m y (g .queued .marked) visit-cell z in
-        let store : Store markSymbols markTable (boundWords scratch m y (wordOf 0 0)) (suc m) = bind-store markSymbols markTable scratch m y 0 0 (g .queued .marked) visit-cell z (omega arith) mark-node (λ h. absurd (let k : getD markTable 0 0 ≡ 64 = mark-high in omega arith)) (mark-free (variableOf y) (bindings markSymbols markTable scratch m)) in
+        let a : m < cells = room markSymbols markTable scratch m y (g .queued .marked) visit-cell z in
+        let store : Store markSymbols markTable (boundWords scratch m y (wordOf 0 0)) (suc m) = bind-store markSymbols markTable scratch m y 0 0 (g .queued .marked) visit-cell z (omega arith) mark-node (λ h. absurd (let k : getD markTable 0 0 ≡ firstName = mark-high in omega arith)) (mark-free (variableOf y) (bindings markSymbols markTable scratch m)) in
         let keeps : Keeps m scratch (boundWords scratch m y (wordOf 0 0)) = bind-keeps markSymbols markTable scratch m y 0 0 (g .queued .marked) visit-cell z (omega arith) in
         let last : trailAt (boundWords scratch m y (wordOf 0 0)) m ≡ y = bound-entry scratch m y (wordOf 0 0) (g .queued .marked .long) a visit-cell in
         subst⁻¹ (λ (s : List ℕ). Visited nodes state scratch s i d m (m + 1)) e
@@ -85,25 +88,25 @@ module _ (nodes state scratch : List ℕ) (i d m : ℕ) (g : Visitable nodes sta
 
 -- ---- a node at a time through a row
 
-pub cell-is : (nodes : List ℕ) (i d x : ℕ) → isCell nodes i d x ≡ true → (getD nodes i 0 < 64) × (cellOf d (getD nodes i 0) ≡ x)
+pub cell-is : (nodes : List ℕ) (i d x : ℕ) → isCell nodes i d x ≡ true → (getD nodes i 0 < firstName) × (cellOf d (getD nodes i 0) ≡ x)
 unfolding isCell
-cell-is nodes i d x e = go (ltb (getD nodes i 0) 64) refl e
+cell-is nodes i d x e = go (ltb (getD nodes i 0) firstName) refl e
   where
-    go : (b : Bool) → ltb (getD nodes i 0) 64 ≡ b → elim b [ true ↦ eqb (cellOf d (getD nodes i 0)) x | false ↦ false ] ≡ true → (getD nodes i 0 < 64) × (cellOf d (getD nodes i 0) ≡ x)
-    go true q r = (ltb-true (getD nodes i 0) 64 q, eqb-true (cellOf d (getD nodes i 0)) x r)
+    go : (b : Bool) → ltb (getD nodes i 0) firstName ≡ b → elim b [ true ↦ eqb (cellOf d (getD nodes i 0)) x | false ↦ false ] ≡ true → (getD nodes i 0 < firstName) × (cellOf d (getD nodes i 0) ≡ x)
+    go true q r = (ltb-true (getD nodes i 0) firstName q, eqb-true (cellOf d (getD nodes i 0)) x r)
     go false q r = absurd (subst T (sym r) tt)
 
-pub cell-is-not : (nodes : List ℕ) (i d x : ℕ) → isCell nodes i d x ≡ false → getD nodes i 0 < 64 → cellOf d (getD nodes i 0) ≡ x → ⊥
+pub cell-is-not : (nodes : List ℕ) (i d x : ℕ) → isCell nodes i d x ≡ false → getD nodes i 0 < firstName → cellOf d (getD nodes i 0) ≡ x → ⊥
 unfolding isCell
-cell-is-not nodes i d x e l = eqb-false (cellOf d (getD nodes i 0)) x (sym (ap (λ (b : Bool). elim b [ true ↦ eqb (cellOf d (getD nodes i 0)) x | false ↦ false ]) (lt-ltb (getD nodes i 0) 64 l)) ∙ e)
+cell-is-not nodes i d x e l = eqb-false (cellOf d (getD nodes i 0)) x (sym (ap (λ (b : Bool). elim b [ true ↦ eqb (cellOf d (getD nodes i 0)) x | false ↦ false ]) (lt-ltb (getD nodes i 0) firstName l)) ∙ e)
 
-pub cell-name : (nodes : List ℕ) (i d x : ℕ) → 64 ≤ getD nodes i 0 → false ≡ isCell nodes i d x
+pub cell-name : (nodes : List ℕ) (i d x : ℕ) → firstName ≤ getD nodes i 0 → false ≡ isCell nodes i d x
 unfolding isCell
-cell-name nodes i d x l = sym (ap (λ (b : Bool). elim b [ true ↦ eqb (cellOf d (getD nodes i 0)) x | false ↦ false ]) (le-ltb (getD nodes i 0) 64 l))
+cell-name nodes i d x l = sym (ap (λ (b : Bool). elim b [ true ↦ eqb (cellOf d (getD nodes i 0)) x | false ↦ false ]) (le-ltb (getD nodes i 0) firstName l))
 
-pub cell-variable : (nodes : List ℕ) (i d x : ℕ) → getD nodes i 0 < 64 → eqb (cellOf d (getD nodes i 0)) x ≡ isCell nodes i d x
+pub cell-variable : (nodes : List ℕ) (i d x : ℕ) → getD nodes i 0 < firstName → eqb (cellOf d (getD nodes i 0)) x ≡ isCell nodes i d x
 unfolding isCell
-cell-variable nodes i d x l = sym (ap (λ (b : Bool). elim b [ true ↦ eqb (cellOf d (getD nodes i 0)) x | false ↦ false ]) (lt-ltb (getD nodes i 0) 64 l))
+cell-variable nodes i d x l = sym (ap (λ (b : Bool). elim b [ true ↦ eqb (cellOf d (getD nodes i 0)) x | false ↦ false ]) (lt-ltb (getD nodes i 0) firstName l))
 
 occurs-followed : (v : Variable) (ts us : RTerms) → occursIn v (followed ts us) ≡ occursIn v ts || occursIn v us
 unfolding followed
@@ -115,52 +118,52 @@ occurs-followed v (rcons t ts) us = ap (λ (b : Bool). occurs v t || b) (occurs-
     or-assoc false b c = refl
 
 record NodeStep (ss : List Symbol) (nodes : List ℕ) (i e d : ℕ) : Type 0 where
-  row : Row ss nodes (i + 2) e
-  down : (v : Variable) → T (occursIn v (termsAt ss nodes (i + 2) e d)) → T (occursIn v (termsAt ss nodes i e d))
-  here : getD nodes i 0 < 64 → T (occursIn (record { copy = d; number = getD nodes i 0 }) (termsAt ss nodes i e d))
-  split : (v : Variable) → T (occursIn v (termsAt ss nodes i e d)) → ((getD nodes i 0 < 64) × (v ≡ record { copy = d; number = getD nodes i 0 })) ⊎ T (occursIn v (termsAt ss nodes (i + 2) e d))
+  row : Row ss nodes (i + loadedNode) e
+  down : (v : Variable) → T (occursIn v (termsAt ss nodes (i + loadedNode) e d)) → T (occursIn v (termsAt ss nodes i e d))
+  here : getD nodes i 0 < firstName → T (occursIn (record { copy = d; number = getD nodes i 0 }) (termsAt ss nodes i e d))
+  split : (v : Variable) → T (occursIn v (termsAt ss nodes i e d)) → ((getD nodes i 0 < firstName) × (v ≡ record { copy = d; number = getD nodes i 0 })) ⊎ T (occursIn v (termsAt ss nodes (i + loadedNode) e d))
 
 node-step : (ss : List Symbol) (nodes : List ℕ) (i e d : ℕ) → Row ss nodes i e → i < e → NodeStep ss nodes i e d
-node-step ss nodes i e d r l = go (ltb (getD nodes i 0) 64) refl
+node-step ss nodes i e d r l = go (ltb (getD nodes i 0) firstName) refl
   where
     node : Node ss nodes i
     node = row-first ss nodes i e r l
 
-    go : (b : Bool) → ltb (getD nodes i 0) 64 ≡ b → NodeStep ss nodes i e d
+    go : (b : Bool) → ltb (getD nodes i 0) firstName ≡ b → NodeStep ss nodes i e d
     go true q =
-        let low : getD nodes i 0 < 64 = ltb-true (getD nodes i 0) 64 q in
+        let low : getD nodes i 0 < firstName = ltb-true (getD nodes i 0) firstName q in
         let size : i + getD nodes (i + 1) 0 ≡ i + 2 = ap (λ (k : ℕ). i + k) (variable-size ss nodes i node low) in
         let v0 : Variable = record { copy = d; number = getD nodes i 0 } in
-        let is : termsAt ss nodes i e d ≡ rcons (var v0) (termsAt ss nodes (i + 2) e d) = row-cons ss nodes i e r d l ∙ ap₂ rcons (variable-at ss nodes i node d low) (ap (λ (k : ℕ). termsAt ss nodes k e d) size) in
+        let is : termsAt ss nodes i e d ≡ rcons (var v0) (termsAt ss nodes (i + loadedNode) e d) = row-cons ss nodes i e r d l ∙ ap₂ rcons (variable-at ss nodes i node d low) (ap (λ (k : ℕ). termsAt ss nodes k e d) size) in
         record {
           row = subst (λ (k : ℕ). Row ss nodes k e) size (row-rest ss nodes i e r l);
-          down = λ v h. subst⁻¹ (λ (ts : RTerms). T (occursIn v ts)) is (or-right (sameVariable v v0) (occursIn v (termsAt ss nodes (i + 2) e d)) h);
-          here = λ k. subst⁻¹ (λ (ts : RTerms). T (occursIn v0 ts)) is (or-left (sameVariable v0 v0) (occursIn v0 (termsAt ss nodes (i + 2) e d)) (variable-refl v0));
-          split = λ v h. elim (either (sameVariable v v0) (occursIn v (termsAt ss nodes (i + 2) e d)) (subst (λ (ts : RTerms). T (occursIn v ts)) is h)) [ inl k ↦ inl (low, variable-eq v v0 k) | inr k ↦ inr k ];
+          down = λ v h. subst⁻¹ (λ (ts : RTerms). T (occursIn v ts)) is (or-right (sameVariable v v0) (occursIn v (termsAt ss nodes (i + loadedNode) e d)) h);
+          here = λ k. subst⁻¹ (λ (ts : RTerms). T (occursIn v0 ts)) is (or-left (sameVariable v0 v0) (occursIn v0 (termsAt ss nodes (i + loadedNode) e d)) (variable-refl v0));
+          split = λ v h. elim (either (sameVariable v v0) (occursIn v (termsAt ss nodes (i + loadedNode) e d)) (subst (λ (ts : RTerms). T (occursIn v ts)) is h)) [ inl k ↦ inl (low, variable-eq v v0 k) | inr k ↦ inr k ];
         }
     go false q =
-        let high : 64 ≤ getD nodes i 0 = ltb-false (getD nodes i 0) 64 q in
-        let same : (v : Variable) → occursIn v (termsAt ss nodes i e d) ≡ occursIn v (termsAt ss nodes (i + 2) e d) =
+        let high : firstName ≤ getD nodes i 0 = ltb-false (getD nodes i 0) firstName q in
+        let same : (v : Variable) → occursIn v (termsAt ss nodes i e d) ≡ occursIn v (termsAt ss nodes (i + loadedNode) e d) =
         (λ v. ap (occursIn v) (row-cons ss nodes i e r d l)
         ∙ (ap (λ (t : RTerm). occurs v t || occursIn v (termsAt ss nodes (i + getD nodes (i + 1) 0) e d)) (compound-at ss nodes i node d high)
-        ∙ (sym (occurs-followed v (termsAt ss nodes (i + 2) (i + getD nodes (i + 1) 0) d) (termsAt ss nodes (i + getD nodes (i + 1) 0) e d)) ∙ ap (occursIn v) (sym (row-opened ss nodes i e r d l high))))) in
+        ∙ (sym (occurs-followed v (termsAt ss nodes (i + loadedNode) (i + getD nodes (i + 1) 0) d) (termsAt ss nodes (i + getD nodes (i + 1) 0) e d)) ∙ ap (occursIn v) (sym (row-opened ss nodes i e r d l high))))) in
         record {
           row = row-open ss nodes i e r l high;
           down = λ v h. subst⁻¹ T (same v) h;
-          here = λ k. absurd (let z : getD nodes i 0 < 64 = k in omega arith);
+          here = λ k. absurd (let z : getD nodes i 0 < firstName = k in omega arith);
           split = λ v h. inr (subst T (same v) h);
         }
 
 -- the same, over the words as they are read
 module _ (nodes state scratch : List ℕ) (i d m w : ℕ) (g : Visitable nodes state scratch i d m) (e : w ≡ getD nodes i 0) where
-  pub read-name : 64 ≤ w → Visited nodes state scratch scratch i d m m
-  read-name l = visit-name nodes state scratch i d m g (subst (λ (k : ℕ). 64 ≤ k) e l)
+  pub read-name : firstName ≤ w → Visited nodes state scratch scratch i d m m
+  read-name l = visit-name nodes state scratch i d m g (subst (λ (k : ℕ). firstName ≤ k) e l)
 
-  pub read-cell : w < 64 → cellOf d w < 16384
+  pub read-cell : w < firstName → cellOf d w < cells
   read-cell l = cell-small d w (g .copy) l
 
-  pub read-inside : w < 64 → (cellOf d w < length state) × (cellOf d w < length scratch)
-  read-inside l = let a : cellOf d w < 16384 = read-cell l in let b : 32768 ≤ length scratch = g .queued .marked .long in let c : 16384 ≤ length state = g .long in (omega arith, omega arith)
+  pub read-inside : w < firstName → (cellOf d w < length state) × (cellOf d w < length scratch)
+  read-inside l = let a : cellOf d w < cells = read-cell l in let b : storeWords ≤ length scratch = g .queued .marked .long in let c : cells ≤ length state = g .long in (omega arith, omega arith)
 
   module _ (z : ℕ) (f : z ≡ getD state (cellOf d w) 0) where
     here : z ≡ cellAt state (cellOf d (getD nodes i 0))
@@ -169,18 +172,18 @@ module _ (nodes state scratch : List ℕ) (i d m w : ℕ) (g : Visitable nodes s
     pub read-unbound : z ≡ 0 → Visited nodes state scratch scratch i d m m
     read-unbound h = visit-unbound nodes state scratch i d m g (sym here ∙ h)
 
-    module _ (l : w < 64) (k : ℕ) (s : k ≡ getD scratch (cellOf d w) 0) where
+    module _ (l : w < firstName) (k : ℕ) (s : k ≡ getD scratch (cellOf d w) 0) where
       mark : k ≡ getD scratch (cellOf d (getD nodes i 0)) 0
       mark = s ∙ ap (λ (j : ℕ). getD scratch (cellOf d j) 0) e
 
       pub read-marked : (k ≡ 0 → ⊥) → Visited nodes state scratch scratch i d m m
-      read-marked h = visit-marked nodes state scratch i d m g (subst (λ (j : ℕ). j < 64) e l) (λ q. h (mark ∙ q))
+      read-marked h = visit-marked nodes state scratch i d m g (subst (λ (j : ℕ). j < firstName) e l) (λ q. h (mark ∙ q))
 
-      pub read-room : k ≡ 0 → (cellOf d w < 16384) × ((16384 + m < length scratch) × (wordOf 0 0 < 2 ^ 32))
-      read-room h = subst⁻¹ (λ (j : ℕ). (cellOf d j < 16384) × ((16384 + m < length scratch) × (wordOf 0 0 < 2 ^ 32))) e (visit-room nodes state scratch i d m g (subst (λ (j : ℕ). j < 64) e l) (sym mark ∙ h))
+      pub read-room : k ≡ 0 → (cellOf d w < cells) × ((trail + m < length scratch) × (wordOf 0 0 < 2 ^ 32))
+      read-room h = subst⁻¹ (λ (j : ℕ). (cellOf d j < cells) × ((trail + m < length scratch) × (wordOf 0 0 < 2 ^ 32))) e (visit-room nodes state scratch i d m g (subst (λ (j : ℕ). j < firstName) e l) (sym mark ∙ h))
 
       pub read-new : (z ≡ 0 → ⊥) → k ≡ 0 → (after : List ℕ) → after ≡ boundWords scratch m (cellOf d w) (wordOf 0 0) → Visited nodes state scratch after i d m (m + 1)
-      read-new h q after x = visit-new nodes state scratch i d m g (subst (λ (j : ℕ). j < 64) e l) (λ y. h (here ∙ y)) (sym mark ∙ q) after (x ∙ ap (λ (j : ℕ). boundWords scratch m (cellOf d j) (wordOf 0 0)) e)
+      read-new h q after x = visit-new nodes state scratch i d m g (subst (λ (j : ℕ). j < firstName) e l) (λ y. h (here ∙ y)) (sym mark ∙ q) after (x ∙ ap (λ (j : ℕ). boundWords scratch m (cellOf d j) (wordOf 0 0)) e)
 
 -- ---- scanning
 
@@ -201,7 +204,7 @@ pub record Scanning (ss : List Symbol) (nodes state before after : List ℕ) (q 
   pub clear : (v : Variable) → T (occurs v (termAt ss nodes q d)) → Dealt state after x n v ⊎ T (occursIn v (termsAt ss nodes i e d))
 
 pub scan-inside : (nodes state scratch : List ℕ) (q d m : ℕ) → Scannable nodes state scratch q d m → (q + 1 < length nodes) × (q + getD nodes (q + 1) 0 ≤ length nodes)
-scan-inside nodes state scratch q d m g = let a : q + 2 ≤ length nodes = node-inside (g .ss) nodes q (g .node) in let b : q + getD nodes (q + 1) 0 ≤ length nodes = node-end (g .ss) nodes q (g .node) in (omega arith, b)
+scan-inside nodes state scratch q d m g = let a : q + loadedNode ≤ length nodes = node-inside (g .ss) nodes q (g .node) in let b : q + getD nodes (q + 1) 0 ≤ length nodes = node-end (g .ss) nodes q (g .node) in (omega arith, b)
 
 pub scan-begin : (nodes state scratch : List ℕ) (q d x m s : ℕ) (g : Scannable nodes state scratch q d m) → s ≡ getD nodes (q + 1) 0 → Scanning (g .ss) nodes state scratch scratch q (q + s) d x m q m
 scan-begin nodes state scratch q d x m s g e =
@@ -223,14 +226,14 @@ module _ (nodes state before after : List ℕ) (q e d x m i n : ℕ) (g : Scanna
     step = node-step (g .ss) nodes i e d (s .row) l
 
     pub scan-place : i < length nodes
-    scan-place = let a : i + 2 ≤ length nodes = node-inside (g .ss) nodes i (row-first (g .ss) nodes i e (s .row) l) in omega arith
+    scan-place = let a : i + loadedNode ≤ length nodes = node-inside (g .ss) nodes i (row-first (g .ss) nodes i e (s .row) l) in omega arith
 
     pub scan-visit : Visitable nodes state after i d n
     scan-visit = record { inside = scan-place; copy = g .copy; long = g .long; queued = s .queued }
 
     pub scan-found : (b : Bool) → b ≡ isCell nodes i d x → b ≡ true → Scanned (g .ss) nodes state before after q d x m (record { found = true; n = n })
     scan-found b f t =
-        let h : (getD nodes i 0 < 64) × (cellOf d (getD nodes i 0) ≡ x) = cell-is nodes i d x (sym f ∙ t) in
+        let h : (getD nodes i 0 < firstName) × (cellOf d (getD nodes i 0) ≡ x) = cell-is nodes i d x (sym f ∙ t) in
         record {
           grows = s .grows;
           keeps = s .keeps;
@@ -240,7 +243,7 @@ module _ (nodes state before after : List ℕ) (q e d x m i n : ℕ) (g : Scanna
           clear = λ k. absurd (subst T k tt);
         }
 
-    pub scan-next : (b : Bool) → b ≡ isCell nodes i d x → b ≡ false → (later : List ℕ) (k : ℕ) → Visited nodes state after later i d n k → Scanning (g .ss) nodes state before later q e d x m (i + 2) k
+    pub scan-next : (b : Bool) → b ≡ isCell nodes i d x → b ≡ false → (later : List ℕ) (k : ℕ) → Visited nodes state after later i d n k → Scanning (g .ss) nodes state before later q e d x m (i + loadedNode) k
     scan-next b f t later k v =
         let a : m ≤ n = s .grows in
         let c : n ≤ k = v .grows in
@@ -257,10 +260,10 @@ module _ (nodes state before after : List ℕ) (q e d x m i n : ℕ) (g : Scanna
         newer : (j : ℕ) → m ≤ j → j < k → (t : Bool) → ltb j n ≡ t → T (occurs (variableOf (trailAt later j)) (termAt (g .ss) nodes q d))
         newer j h r true z = let y : j < n = ltb-true j n z in subst⁻¹ (λ (u : ℕ). T (occurs (variableOf u) (termAt (g .ss) nodes q d))) (v .keeps .entry j y) (s .new j h y)
         newer j h r false z =
-            let w : (getD nodes i 0 < 64) × (trailAt later j ≡ cellOf d (getD nodes i 0)) = v .new j (ltb-false j n z) r in
+            let w : (getD nodes i 0 < firstName) × (trailAt later j ≡ cellOf d (getD nodes i 0)) = v .new j (ltb-false j n z) r in
             subst⁻¹ (λ (u : Variable). T (occurs u (termAt (g .ss) nodes q d))) (ap variableOf (w .1) ∙ variable-cell d (getD nodes i 0) (w .0)) (s .inside (record { copy = d; number = getD nodes i 0 }) (step .here (w .0)))
 
-        cleared : (w : Variable) → Dealt state after x n w ⊎ T (occursIn w (termsAt (g .ss) nodes i e d)) → Dealt state later x k w ⊎ T (occursIn w (termsAt (g .ss) nodes (i + 2) e d))
+        cleared : (w : Variable) → Dealt state after x n w ⊎ T (occursIn w (termsAt (g .ss) nodes i e d)) → Dealt state later x k w ⊎ T (occursIn w (termsAt (g .ss) nodes (i + loadedNode) e d))
         cleared w (inl y) = inl (dealt-on state after later x n k w (v .grows) (v .keeps) y)
         cleared w (inr y) = elim (step .split w y) [
           | inl z ↦ inl (record { cell = cellOf d (getD nodes i 0); is = z .1 ∙ sym (variable-cell d (getD nodes i 0) (z .0)); small = cell-small d (getD nodes i 0) (g .copy) (z .0); other = cell-is-not nodes i d x (sym f ∙ t) (z .0); settled = v .settled (z .0) })
@@ -333,20 +336,27 @@ search-begin nodes state scratch x m g =
     record { grows = omega arith; head = omega arith; keeps = keeps-refl m scratch; queued = g .queued; back = λ i l h. (i, l, h); clear = λ i l. absurd (let z : i < 0 = l in omega arith) }
 
 -- a variable stands in itself
-itself : (ss : List Symbol) (nodes state : List ℕ) (n x : ℕ) → Store ss nodes state n → x < 16384 → cellAt state x ≡ 0 → T (occurs (variableOf x) (resolve (bindings ss nodes state n) (var (variableOf x))))
+itself : (ss : List Symbol) (nodes state : List ℕ) (n x : ℕ) → Store ss nodes state n → x < cells → cellAt state x ≡ 0 → T (occurs (variableOf x) (resolve (bindings ss nodes state n) (var (variableOf x))))
 itself ss nodes state n x store l z = subst⁻¹ (λ (t : RTerm). T (occurs (variableOf x) t)) (resolve-unbound ss nodes state n x store l z) (variable-refl (variableOf x))
 
+-- a term that was unpacked from a word is scanned
+pub scanned-at : (w : ℕ) {nodes state after later : List ℕ} {x j : ℕ} {r : Queue} {a : At} → a ≡ atOf w
+    → ((h : Scannable nodes state after (a .node) (a .copy) j) → Scanned (h .ss) nodes state after later (a .node) (a .copy) x j r)
+    → (h : Scannable nodes state after (nodeOf w) (copyOf w) j) → Scanned (h .ss) nodes state after later (nodeOf w) (copyOf w) x j r
+scanned-at w {nodes} {state} {after} {later} {x} {j} {r} e k =
+    subst (λ (a : At). (h : Scannable nodes state after (a .node) (a .copy) j) → Scanned (h .ss) nodes state after later (a .node) (a .copy) x j r) e k
+
 module _ (nodes state before after : List ℕ) (x m k j : ℕ) (g : Searchable nodes state before x m) (s : Searching (g .ss) nodes state (g .n) before after x m k j) where
-  pub queue-few : j ≤ 16384
+  pub queue-few : j ≤ cells
   queue-few = few markSymbols markTable after j (s .queued .marked)
 
   module _ (l : k < j) where
-    pub search-place : (16384 + k < length after) × (trailAt after k < length state)
+    pub search-place : (trail + k < length after) × (trailAt after k < length state)
     search-place =
-        let a : j ≤ 16384 = queue-few in
-        let b : 32768 ≤ length after = s .queued .marked .long in
-        let c : trailAt after k < 16384 = s .queued .marked .entry k l .cell in
-        let d : 32768 ≤ length state = g .store .long in
+        let a : j ≤ cells = queue-few in
+        let b : storeWords ≤ length after = s .queued .marked .long in
+        let c : trailAt after k < cells = s .queued .marked .entry k l .cell in
+        let d : storeWords ≤ length state = g .store .long in
         (omega arith, omega arith)
 
     bound-here : BoundCell (g .ss) nodes state (g .n) (trailAt after k)
@@ -365,9 +375,12 @@ module _ (nodes state before after : List ℕ) (x m k j : ℕ) (g : Searchable n
             ss = g .ss;
             node = subst⁻¹ (λ (u : ℕ). Node (g .ss) nodes (nodeOf u)) word (bound-here .node);
             copy = copy-small w;
-            long = (let d : 32768 ≤ length state = g .store .long in omega arith);
+            long = (let d : storeWords ≤ length state = g .store .long in omega arith);
             queued = s .queued;
           }
+
+      pub search-scan-at : {a : At} → a ≡ atOf w → Scannable nodes state after (a .node) (a .copy) j
+      search-scan-at e = subst⁻¹ (λ (a : At). Scannable nodes state after (a .node) (a .copy) j) e search-scan
 
       means : resolve (bindings (g .ss) nodes state (g .n)) (termAt (g .ss) nodes (nodeOf w) (copyOf w)) ≡ resolve (bindings (g .ss) nodes state (g .n)) (var (variableOf (trailAt after k)))
       means = subst⁻¹ (λ (u : ℕ). resolve (bindings (g .ss) nodes state (g .n)) (termAt (g .ss) nodes (nodeOf u) (copyOf u)) ≡ resolve (bindings (g .ss) nodes state (g .n)) (var (variableOf (trailAt after k)))) word (bound-here .means)
@@ -439,7 +452,7 @@ pub is-false : (b : Bool) → (T b → ⊥) → false ≡ b
 is-false true h = absurd (h tt)
 is-false false h = refl
 
-mark-short : length markTable ≤ 65536
+mark-short : length markTable ≤ places
 unfolding markTable
 mark-short = omega arith
 
@@ -448,7 +461,7 @@ clean-after mid after n store u =
     let s : Store markSymbols markTable after 0 = u .store markSymbols markTable store in
     record { long = s .long; zero = λ y l. go s y l (eqb (getD after y 0) 0) refl }
   where
-    go : Store markSymbols markTable after 0 → (y : ℕ) → y < 16384 → (b : Bool) → eqb (getD after y 0) 0 ≡ b → getD after y 0 ≡ 0
+    go : Store markSymbols markTable after 0 → (y : ℕ) → y < cells → (b : Bool) → eqb (getD after y 0) 0 ≡ b → getD after y 0 ≡ 0
     go s y l true e = eqb-true (getD after y 0) 0 e
     go s y l false e = absurd (let o : (i : ℕ) × (i < 0) × (trailAt after i ≡ y) = s .only y l (eqb-false (getD after y 0) 0 e) in let z : o .0 < 0 = o .1 in omega arith)
 
@@ -459,7 +472,7 @@ module _ (nodes state scratch : List ℕ) (x q d : ℕ) (g : Checkable nodes sta
         ss = g .ss;
         node = g .node;
         copy = g .copy;
-        long = (let l : 32768 ≤ length state = g .store .long in omega arith);
+        long = (let l : storeWords ≤ length state = g .store .long in omega arith);
         queued = record { marked = no-entries markSymbols markTable scratch (g .clean .long) mark-short (g .clean .zero); bound = λ i l. absurd (let z : i < 0 = l in omega arith) };
       }
 

@@ -6,13 +6,20 @@ use mathlib.Core.Bool.{true, false}
 use mathlib.Core.List.{List}
 use lib.Dec.{ltb}
 use lib.ListN.{length, getD}
+use Rattle.syntax.specs.Words.{firstName}
 use Rattle.machine.specs.Substitution.{resolve}
+use Rattle.layout.specs.Regions.{copies}
 use Rattle.layout.specs.Nodes.{Symbol, Node, termAt}
-use Rattle.layout.specs.State.{cellOf, cellAt, bindings, Store, Within, Keeps}
+use Rattle.layout.specs.State.{cellOf, nodeOf, copyOf, cellAt, bindings, Store, Within, Keeps}
+use Rattle.bindings.specs.declared.At.{At}
+
+-- the run-time term of a cell's word
+abbrev pub atOf : ℕ → At
+atOf w = record { node = nodeOf w; copy = copyOf w }
 
 -- the word of the cell of the variable at a place; 0 where a name stands there
 unfoldable pub boundAt : List ℕ → List ℕ → ℕ → ℕ → ℕ
-boundAt nodes state p c = elim (ltb (getD nodes p 0) 64) [ true ↦ cellAt state (cellOf c (getD nodes p 0)) | false ↦ 0 ]
+boundAt nodes state p c = elim (ltb (getD nodes p 0) firstName) [ true ↦ cellAt state (cellOf c (getD nodes p 0)) | false ↦ 0 ]
 
 -- A store, and a run-time term in it.
 pub record Given (nodes state : List ℕ) (p c : ℕ) : Type 0 where
@@ -20,19 +27,19 @@ pub record Given (nodes state : List ℕ) (p c : ℕ) : Type 0 where
   pub n : ℕ
   pub store : Store ss nodes state n
   pub node : Node ss nodes p
-  pub copy : c < 256
+  pub copy : c < copies
 
 -- One run-time term leads to another: with the bindings put in they are the same.
 pub record Leads (ss : List Symbol) (nodes state : List ℕ) (n p c q d : ℕ) : Type 0 where
   pub node : Node ss nodes q
-  pub copy : d < 256
+  pub copy : d < copies
   pub means : resolve (bindings ss nodes state n) (termAt ss nodes q d) ≡ resolve (bindings ss nodes state n) (termAt ss nodes p c)
   pub within : (k : ℕ) → Within k state n → c ≤ k → d ≤ k
 
 -- It leads to a name or to an unbound variable.
 pub record Derefs (ss : List Symbol) (nodes state : List ℕ) (n p c q d : ℕ) : Type 0 where
   pub leads : Leads ss nodes state n p c q d
-  pub stops : getD nodes q 0 < 64 → cellAt state (cellOf d (getD nodes q 0)) ≡ 0
+  pub stops : getD nodes q 0 < firstName → cellAt state (cellOf d (getD nodes q 0)) ≡ 0
 
 -- A store of n entries, for some symbols and some table.
 pub record Stored (state : List ℕ) (n : ℕ) : Type 0 where

@@ -7,7 +7,10 @@ use mathlib.Core.List.{List, [], _∷_}
 use mathlib.Core.Logic.{_⊎_}
 use lib.Dec.{T, ltb, eqb}
 use lib.ListN.{length, getD}
+use Rattle.syntax.specs.Words.{firstName}
+use Rattle.syntax.specs.Limits.{arguments}
 use Rattle.machine.specs.Substitution.{Variable, var, occurs, resolve}
+use Rattle.layout.specs.Regions.{copies, copyCells, cells, storeWords, loadedNode}
 use Rattle.layout.specs.Nodes.{Symbol, Node, Row, termAt, termsAt}
 use Rattle.layout.specs.State.{cellOf, variableOf, copyOf, cellAt, trailAt, valueOf, bindings, Store, Keeps}
 use Rattle.bindings.specs.declared.occurrence.Queue.{Queue}
@@ -16,7 +19,7 @@ unfoldable pub markSymbols : List Symbol
 markSymbols = record { name = []; arguments = 0 } ∷ []
 
 unfoldable pub markTable : List ℕ
-markTable = 64 ∷ 2 ∷ []
+markTable = firstName ∷ loadedNode ∷ []
 
 -- The first m of the queue are the marked cells, and they are bound in the state.
 pub record Queued (state scratch : List ℕ) (m : ℕ) : Type 0 where
@@ -25,19 +28,19 @@ pub record Queued (state scratch : List ℕ) (m : ℕ) : Type 0 where
 
 -- No cell is marked.
 pub record Clean (scratch : List ℕ) : Type 0 where
-  pub long : 32768 ≤ length scratch
-  pub zero : (y : ℕ) → y < 16384 → getD scratch y 0 ≡ 0
+  pub long : storeWords ≤ length scratch
+  pub zero : (y : ℕ) → y < cells → getD scratch y 0 ≡ 0
 
 -- the node at i, in copy d, is the variable of cell x
 unfoldable pub isCell : List ℕ → ℕ → ℕ → ℕ → Bool
-isCell nodes i d x = elim (ltb (getD nodes i 0) 64) [ true ↦ eqb (cellOf d (getD nodes i 0)) x | false ↦ false ]
+isCell nodes i d x = elim (ltb (getD nodes i 0) firstName) [ true ↦ eqb (cellOf d (getD nodes i 0)) x | false ↦ false ]
 
 -- ---- visiting a node
 
 pub record Visitable (nodes state scratch : List ℕ) (i d m : ℕ) : Type 0 where
   pub inside : i < length nodes
-  pub copy : d < 256
-  pub long : 16384 ≤ length state
+  pub copy : d < copies
+  pub long : cells ≤ length state
   pub queued : Queued state scratch m
 
 -- the cell of a variable is unbound or queued
@@ -48,23 +51,23 @@ pub record Visited (nodes state before after : List ℕ) (i d m n : ℕ) : Type 
   pub grows : m ≤ n
   pub keeps : Keeps m before after
   pub queued : Queued state after n
-  pub new : (j : ℕ) → m ≤ j → j < n → (getD nodes i 0 < 64) × (trailAt after j ≡ cellOf d (getD nodes i 0))
-  pub settled : getD nodes i 0 < 64 → Settled state after n (cellOf d (getD nodes i 0))
+  pub new : (j : ℕ) → m ≤ j → j < n → (getD nodes i 0 < firstName) × (trailAt after j ≡ cellOf d (getD nodes i 0))
+  pub settled : getD nodes i 0 < firstName → Settled state after n (cellOf d (getD nodes i 0))
 
 -- ---- scanning a term
 
 pub record Scannable (nodes state scratch : List ℕ) (q d m : ℕ) : Type 0 where
   pub ss : List Symbol
   pub node : Node ss nodes q
-  pub copy : d < 256
-  pub long : 16384 ≤ length state
+  pub copy : d < copies
+  pub long : cells ≤ length state
   pub queued : Queued state scratch m
 
 -- a variable is not that of cell x, and its cell is unbound or queued
 pub record Dealt (state scratch : List ℕ) (x n : ℕ) (v : Variable) : Type 0 where
   pub cell : ℕ
   pub is : v ≡ variableOf cell
-  pub small : cell < 16384
+  pub small : cell < cells
   pub other : cell ≡ x → ⊥
   pub settled : Settled state scratch n cell
 
@@ -83,7 +86,7 @@ pub record Searchable (nodes state scratch : List ℕ) (x m : ℕ) : Type 0 wher
   pub ss : List Symbol
   pub n : ℕ
   pub store : Store ss nodes state n
-  pub cell : x < 16384
+  pub cell : x < cells
   pub unbound : cellAt state x ≡ 0
   pub queued : Queued state scratch m
 
@@ -102,8 +105,8 @@ pub record Checkable (nodes state scratch : List ℕ) (x q d : ℕ) : Type 0 whe
   pub n : ℕ
   pub store : Store ss nodes state n
   pub node : Node ss nodes q
-  pub copy : d < 256
-  pub cell : x < 16384
+  pub copy : d < copies
+  pub cell : x < cells
   pub unbound : cellAt state x ≡ 0
   pub clean : Clean scratch
 
@@ -115,10 +118,10 @@ pub record Checked (ss : List Symbol) (nodes state : List ℕ) (n : ℕ) (before
 
 -- The cells of copies below k are bound to terms of such copies. So no variable of another copy stands in a term of these, whatever is put in.
 pub record Closed (k : ℕ) (state : List ℕ) : Type 0 where
-  pub few : k ≤ 256
-  pub copy : (y : ℕ) → y < k * 64 → copyOf (cellAt state y) < k
+  pub few : k ≤ copies
+  pub copy : (y : ℕ) → y < k * copyCells → copyOf (cellAt state y) < k
 
 -- Where the copies below k are closed, those below r are, and stay so when cell x is bound to a term of copy d.
 pub record Closing (k x d r : ℕ) : Type 0 where
   pub closed : (state : List ℕ) → Closed k state → Closed r state
-  pub stays : x < r * 64 → d < r
+  pub stays : x < r * copyCells → d < r

@@ -3,9 +3,10 @@ use Prim.Native.Nat.{ℕ, _+_, _*_, _≤_, _<_}
 use mathlib.Core.Path.{_≡_}
 use mathlib.Core.List.{List}
 use lib.ListN.{length, getD, set}
+use Rattle.layout.specs.Regions.{storeWords, pairOf, rows, sideSize}
 use Rattle.bindings.specs.declared.stack.Side.{Side}
 
--- three words: the root, the place reached, the copy
+-- a side's words: the root, the place reached, the copy
 abbrev pub sideAt : List ℕ → ℕ → Side
 sideAt words i = record { root = getD words i 0; at = getD words (i + 1) 0; copy = getD words (i + 2) 0 }
 
@@ -14,19 +15,19 @@ sideWords words i root at copy = set (set (set words i root) (i + 1) at) (i + 2)
 
 -- the two sides of the pair of number k
 abbrev pub leftAt : List ℕ → ℕ → Side
-leftAt scratch k = sideAt scratch (32768 + k * 6)
+leftAt scratch k = sideAt scratch (pairOf k)
 
 abbrev pub rightAt : List ℕ → ℕ → Side
-rightAt scratch k = sideAt scratch (32768 + k * 6 + 3)
+rightAt scratch k = sideAt scratch (pairOf k + sideSize)
 
 unfoldable pub pairWords : List ℕ → ℕ → ℕ → ℕ → ℕ → ℕ → ℕ → ℕ → List ℕ
-pairWords scratch k root at copy other there second = sideWords (sideWords scratch (32768 + k * 6) root at copy) (32768 + k * 6 + 3) other there second
+pairWords scratch k root at copy other there second = sideWords (sideWords scratch (pairOf k) root at copy) (pairOf k + sideSize) other there second
 
 -- marks and queue are as they were, and so is the length
 pub record SameMarks (before after : List ℕ) : Type 0 where
   pub long : length after ≡ length before
-  pub words : (j : ℕ) → j < 32768 → getD after j 0 ≡ getD before j 0
+  pub words : (j : ℕ) → j < storeWords → getD after j 0 ≡ getD before j 0
 
--- Room for marks, queue, 32,769 pairs and the memo.
+-- Room for marks, queue, pairs and the memo up to its rows; a row is taken only where it fits.
 abbrev pub Roomy : List ℕ → Type 0
-Roomy scratch = 393225 ≤ length scratch
+Roomy scratch = rows ≤ length scratch

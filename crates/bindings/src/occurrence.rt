@@ -1,24 +1,24 @@
 // The occurs check. The scratch words begin with a mark for each cell and a queue of the marked cells, laid out as cells and trail are.
-use crate::store::TRAIL;
 use crate::store::bind;
 use crate::store::undo;
+use crate::store::unpack;
+use layout::COPY_CELLS;
+use layout::LOADED_NODE;
+use layout::TRAIL;
+use syntax::FIRST_NAME;
+use words::word_at;
 ghost use mathlib.Core.Path.{_≡_};
 ghost use mathlib.Core.Bool.{true};
 ghost use Prim.Native.Nat.{_+_, _*_, _≤_, _<_};
 ghost use lib.ListN.{length, getD};
+ghost use Rattle.syntax.specs.Words.{firstName};
+ghost use Rattle.layout.specs.Regions.{copies, copyCells, loadedNode};
 ghost use Rattle.bindings.specs.Queues.{isCell, Visitable, Visited, Scannable, Scanned, Searchable, Searched, Checkable, Checked, Closed, Closing};
 
 // Whether a cell was found, and how many are queued.
 pub struct Queue {
     pub found: bool,
     pub n: usize,
-}
-
-pub fn word_at(words: &[u32], i: usize) -> usize
-    requires { ⌜ i < length (now words) ⌝ }
-    ensures { λ r. ⌜ r ≡ getD (now (words .entry)) i 0 ⌝ }
-{
-    words[i] as usize
 }
 
 // How many words the node at p takes with its arguments.
@@ -31,14 +31,14 @@ pub fn size_at(nodes: &[u32], p: usize) -> usize
 
 // Whether the node at i, in copy d, is the variable of cell x.
 fn is_cell(nodes: &[u32], i: usize, d: usize, x: usize) -> bool
-    requires { ⌜ (i < length (now nodes)) × (d < 256) ⌝ }
+    requires { ⌜ (i < length (now nodes)) × (d < copies) ⌝ }
     ensures { λ r. ⌜ r ≡ isCell (now (nodes .entry)) i d x ⌝ }
 {
     let w = word_at(nodes, i);
-    if 64 <= w {
+    if FIRST_NAME <= w {
         return false;
     }
-    d * 64 + w == x
+    d * COPY_CELLS + w == x
 }
 
 // The cell of the variable at i, in copy d, queued where it is bound and not yet marked.
@@ -47,10 +47,10 @@ fn visit(nodes: &[u32], state: &[u32], scratch: &mut [u32], i: usize, d: usize, 
     ensures { λ r. ⌜ Visited (now (nodes .entry)) (now (state .entry)) (now (scratch .entry)) (now (scratch .exit)) i d m r ⌝ }
 {
     let w = word_at(nodes, i);
-    if 64 <= w {
+    if FIRST_NAME <= w {
         return m;
     }
-    let y = d * 64 + w;
+    let y = d * COPY_CELLS + w;
     if word_at(state, y) == 0 {
         return m;
     }
@@ -82,7 +82,7 @@ fn scan(
             return Queue { found: true, n };
         }
         n = visit(nodes, state, scratch, i, d, n);
-        i += 2;
+        i += LOADED_NODE;
     }
     Queue { found: false, n }
 }
@@ -97,8 +97,9 @@ fn search(nodes: &[u32], state: &[u32], scratch: &mut [u32], x: usize, m: usize)
     while k < n {
         let y = word_at(scratch, TRAIL + k);
         let w = word_at(state, y);
-        let q = (w - 1) / 256;
-        let d = (w - 1) % 256;
+        let at = unpack(w);
+        let q = at.node;
+        let d = at.copy;
         let r = scan(nodes, state, scratch, q, d, x, n);
         if r.found {
             return r;
@@ -133,12 +134,12 @@ pub fn occurs(
 
 // Whether cell x belongs to a copy from k on, and d is a copy below k.
 fn apart(x: usize, d: usize, k: usize) -> bool
-    ensures { λ r. ⌜ (r ≡ true → (k * 64 ≤ x) × (d < k)) ⌝ }
+    ensures { λ r. ⌜ (r ≡ true → (k * copyCells ≤ x) × (d < k)) ⌝ }
 {
     if k <= d {
         return false;
     }
-    if x / 64 < k {
+    if x / COPY_CELLS < k {
         return false;
     }
     true
@@ -147,12 +148,12 @@ fn apart(x: usize, d: usize, k: usize) -> bool
 // Whether a name without arguments stands at q.
 fn is_constant(nodes: &[u32], q: usize) -> bool
     requires { ⌜ q + 1 < length (now nodes) ⌝ }
-    ensures { λ r. ⌜ (r ≡ true → (64 ≤ getD (now (nodes .entry)) q 0) × (getD (now (nodes .entry)) (q + 1) 0 ≡ 2)) ⌝ }
+    ensures { λ r. ⌜ (r ≡ true → (firstName ≤ getD (now (nodes .entry)) q 0) × (getD (now (nodes .entry)) (q + 1) 0 ≡ loadedNode)) ⌝ }
 {
-    if word_at(nodes, q) < 64 {
+    if word_at(nodes, q) < FIRST_NAME {
         return false;
     }
-    if size_at(nodes, q) != 2 {
+    if size_at(nodes, q) != LOADED_NODE {
         return false;
     }
     true
@@ -188,7 +189,7 @@ pub fn closed_to(x: usize, d: usize, k: usize) -> usize
     if d < k {
         return k;
     }
-    if k <= x / 64 {
+    if k <= x / COPY_CELLS {
         return k;
     }
     0

@@ -1,14 +1,13 @@
 // The work stack: pairs of rows, of which the top is looked at first.
-use crate::occurrence::word_at;
+use layout::PAIR_SIZE;
+use layout::SIDE_SIZE;
+use layout::STACK;
+use words::word_at;
 ghost use mathlib.Core.Path.{_≡_};
-ghost use Prim.Native.Nat.{_+_, _*_, _<_, _^_};
+ghost use Prim.Native.Nat.{_+_, _*_, _≤_, _<_, _^_};
 ghost use lib.ListN.{length};
+ghost use Rattle.layout.specs.Regions.{pairOf, pairSize, sideSize};
 ghost use Rattle.bindings.specs.Scratch.{sideAt, sideWords, pairWords};
-
-// Where it begins in the scratch words, and how many words a pair takes.
-pub const STACK: usize = 32768;
-
-pub const PAIR: usize = 6;
 
 // A row: the node whose row it is, the place reached, the copy.
 pub struct Side {
@@ -18,7 +17,7 @@ pub struct Side {
 }
 
 pub fn side_at(scratch: &[u32], i: usize) -> Side
-    requires { ⌜ i + 2 < length (now scratch) ⌝ }
+    requires { ⌜ i + sideSize ≤ length (now scratch) ⌝ }
     ensures { λ r. ⌜ r ≡ sideAt (now (scratch .entry)) i ⌝ }
 {
     let root = word_at(scratch, i);
@@ -28,7 +27,7 @@ pub fn side_at(scratch: &[u32], i: usize) -> Side
 }
 
 pub fn put_side(scratch: &mut [u32], i: usize, root: usize, at: usize, copy: usize)
-    requires { ⌜ (i + 2 < length (now scratch)) × ((root < 2 ^ 32) × ((at < 2 ^ 32) × (copy < 2 ^ 32))) ⌝ }
+    requires { ⌜ (i + sideSize ≤ length (now scratch)) × ((root < 2 ^ 32) × ((at < 2 ^ 32) × (copy < 2 ^ 32))) ⌝ }
     ensures { λ _. ⌜ now (scratch .exit) ≡ sideWords (now (scratch .entry)) i root at copy ⌝ }
 {
     scratch[i] = root as u32;
@@ -47,10 +46,10 @@ pub fn put_pair(
     there: usize,
     second: usize,
 )
-    requires { ⌜ (32768 + k * 6 + 5 < length (now scratch)) × (((root < 2 ^ 32) × ((at < 2 ^ 32) × (copy < 2 ^ 32))) × ((other < 2 ^ 32) × ((there < 2 ^ 32) × (second < 2 ^ 32)))) ⌝ }
+    requires { ⌜ (pairOf k + pairSize ≤ length (now scratch)) × (((root < 2 ^ 32) × ((at < 2 ^ 32) × (copy < 2 ^ 32))) × ((other < 2 ^ 32) × ((there < 2 ^ 32) × (second < 2 ^ 32)))) ⌝ }
     ensures { λ _. ⌜ now (scratch .exit) ≡ pairWords (now (scratch .entry)) k root at copy other there second ⌝ }
 {
-    let i = STACK + k * PAIR;
+    let i = STACK + k * PAIR_SIZE;
     put_side(scratch, i, root, at, copy);
-    put_side(scratch, i + 3, other, there, second);
+    put_side(scratch, i + SIDE_SIZE, other, there, second);
 }

@@ -1,24 +1,45 @@
 // Cells and the trail.
 use crate::At;
+use layout::COPIES;
+use layout::COPY_CELLS;
+use layout::TRAIL;
+use syntax::FIRST_NAME;
 ghost use mathlib.Core.Path.{_≡_};
 ghost use Prim.Native.Nat.{_+_, _*_, _≤_, _<_, _^_};
 ghost use lib.ListN.{length};
+ghost use Rattle.layout.specs.Regions.{copies, cells, trail};
 ghost use Rattle.layout.specs.State.{boundWords, wordOf};
-ghost use Rattle.bindings.specs.Cells.{boundAt, Given, Derefs, Stored, Undone};
+ghost use Rattle.bindings.specs.Cells.{atOf, boundAt, Given, Derefs, Stored, Undone};
 
-// Where the trail begins.
-pub const TRAIL: usize = 16384;
+// A run-time term as a cell's word.
+pub fn pack(node: usize, copy: usize) -> usize
+    requires { ⌜ wordOf node copy < 2 ^ 32 ⌝ }
+    ensures { λ r. ⌜ r ≡ wordOf node copy ⌝ }
+{
+    node * COPIES + copy + 1
+}
+
+// The run-time term of a cell's word.
+pub fn unpack(w: usize) -> At
+    requires { ⌜ 1 ≤ w ⌝ }
+    ensures { λ r. ⌜ r ≡ atOf w ⌝ }
+{
+    let v = w - 1;
+    let node = v / COPIES;
+    let copy = v % COPIES;
+    At { node, copy }
+}
 
 // The word of the cell of the variable at a place; 0 where it is unbound, or a name stands there.
 pub fn bound_at(nodes: &[u32], state: &[u32], p: usize, c: usize) -> usize
-    requires { ⌜ (p < length (now nodes)) × ((16384 ≤ length (now state)) × (c < 256)) ⌝ }
+    requires { ⌜ (p < length (now nodes)) × ((cells ≤ length (now state)) × (c < copies)) ⌝ }
     ensures { λ r. ⌜ r ≡ boundAt (now (nodes .entry)) (now (state .entry)) p c ⌝ }
 {
     let w = nodes[p] as usize;
-    if 64 <= w {
+    if FIRST_NAME <= w {
         return 0;
     }
-    let x = c * 64 + w;
+    let x = c * COPY_CELLS + w;
     state[x] as usize
 }
 
@@ -31,8 +52,9 @@ pub fn deref(nodes: &[u32], state: &[u32], p: usize, c: usize) -> At
     let mut copy = c;
     let mut w = bound_at(nodes, state, p, c);
     while w != 0 {
-        node = (w - 1) / 256;
-        copy = (w - 1) % 256;
+        let at = unpack(w);
+        node = at.node;
+        copy = at.copy;
         w = bound_at(nodes, state, node, copy);
     }
     At { node, copy }
@@ -40,10 +62,10 @@ pub fn deref(nodes: &[u32], state: &[u32], p: usize, c: usize) -> At
 
 // A cell bound to a term, as entry n of the trail.
 pub fn bind(state: &mut [u32], n: usize, x: usize, q: usize, d: usize)
-    requires { ⌜ (x < 16384) × ((16384 + n < length (now state)) × (wordOf q d < 2 ^ 32)) ⌝ }
+    requires { ⌜ (x < cells) × ((trail + n < length (now state)) × (wordOf q d < 2 ^ 32)) ⌝ }
     ensures { λ _. ⌜ now (state .exit) ≡ boundWords (now (state .entry)) n x (wordOf q d) ⌝ }
 {
-    let w = q * 256 + d + 1;
+    let w = pack(q, d);
     let at = TRAIL + n;
     state[x] = w as u32;
     state[at] = x as u32;

@@ -3,6 +3,14 @@
 ghost use mathlib.Core.Path.{_≡_};
 ghost use Prim.Native.Nat.{_≤_, _<_};
 ghost use lib.ListN.{length};
+ghost use Rattle.cases.specs.Rooms.{byteValues, fileRoom};
+
+// The values of a byte and of two, and the bytes that a file may have.
+pub const BYTE: usize = 256;
+
+pub const TWO_BYTES: usize = BYTE * BYTE;
+
+pub const ROOM: usize = 900000;
 
 // A text of the file.
 pub struct Part {
@@ -23,7 +31,7 @@ pub fn text_at(cases: &[u8], at: usize) -> Part
         };
     }
     let start = at + 3;
-    let len = wide(cases[at]) + 256 * wide(cases[at + 1]) + 65536 * wide(cases[at + 2]);
+    let len = wide(cases[at]) + BYTE * wide(cases[at + 1]) + TWO_BYTES * wide(cases[at + 2]);
     if all - start < len {
         return Part {
             start: all,
@@ -37,14 +45,14 @@ pub fn text_at(cases: &[u8], at: usize) -> Part
 }
 
 pub fn wide(byte: u8) -> usize
-    ensures { λ r. ⌜ r < 256 ⌝ }
+    ensures { λ r. ⌜ r < byteValues ⌝ }
 {
     byte as usize
 }
 
 // Room for a file. The contract gives the length alone, which is all that lending the array needs.
-pub fn room() -> [u8; 900000]
-    ensures { λ r. ⌜ 900000 ≡ length r ⌝ }
+pub fn room() -> [u8; ROOM]
+    ensures { λ r. ⌜ fileRoom ≡ length r ⌝ }
 {
-    [0; 900000]
+    [0; ROOM]
 }

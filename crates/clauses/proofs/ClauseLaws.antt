@@ -8,13 +8,16 @@ use lib.ListN.{length, set, take, length-append}
 use lib.Dec.{eqb, lit<}
 use borrow.Author.Tests.{eq-eqb, ne-eqb}
 use Rattle.syntax.specs.Terms.{Atom, Body, done, also, Clause}
-use Rattle.syntax.specs.Reading.{Read, fault, ok, andThen, next, fresh, wrongNumber, readAtom, readBody, readClause, clauseAfter, clauseOf, Tail, tailOf, fact, rule, other}
-use Rattle.syntax.specs.Words.{termWords, atomWords, bodyWords, bodyLength, clauseWords}
+use Rattle.syntax.specs.Reading.{Cursor, begin, Read, fault, ok, andThen, next, wrongNumber, readAtom, readBody, readClause, clauseAfter, clauseOf, Tail, tailOf, fact, rule, other}
+use Rattle.syntax.specs.Limits.{variables}
+use Rattle.syntax.specs.Spans.{namesFrom, met, Held}
+use Rattle.syntax.proofs.Spans.{names-length, met-three}
+use Rattle.syntax.specs.Words.{nodeWords, termWords, atomWords, bodyWords, bodyLength, clauseWords}
 use Rattle.syntax.specs.declared.State.{State}
 use Rattle.reading.specs.Atoms.{readAtomAt}
-use Rattle.reading.specs.Gives.{Standing, Moved, Ready, Faulted, Given, Gives, GivenWith, GivesWith, Refused, one}
+use Rattle.reading.specs.Gives.{cursorOf, onward, fresh, left, Standing, Moved, Ready, Faulted, Given, Gives, GivenWith, GivesWith, Refused, one}
 use Rattle.reading.specs.declared.Parsed.{Parsed}
-use Rattle.reading.proofs.Reading.{refused-wrong, moved-next}
+use Rattle.reading.proofs.Reading.{refused-wrong, moved-onward, next-of, held-of, cursor-kept, held-kept}
 use Rattle.reading.proofs.Sequence.{seq-fault, seq-ok, shorter, kept-before, joined, header}
 use Rattle.clauses.specs.Rules.{Ruled}
 use Rattle.clauses.proofs.BodyLaws.{body-words}
@@ -30,114 +33,111 @@ tail-other k f e = simp (ne-eqb k 10 f, ne-eqb k 6 e)
 
 -- ---- the body of a clause
 
-module _ (s : List ℕ) (st past : State) (entry mid : List ℕ) (n used : ℕ) (r : Parsed) (ready : Ready s st entry used 1) (low : n + 3 ≤ used) (m : Moved s st past) (g : Gives bodyWords bodyLength s past entry mid used r (readBody s 16 past)) where
-  given-next : Gives bodyWords bodyLength s (next s st) entry mid used r (readBody s 16 (next s st))
-  given-next = subst (λ (x : State). Gives bodyWords bodyLength s x entry mid used r (readBody s 16 x)) (m .is) g
+module _ (s : List ℕ) (st past : State) (entry mid : List ℕ) (n used : ℕ) (r : Parsed) (ready : Ready s st entry used 1) (low : n + 3 ≤ used) (m : Moved s st past) (long : length mid ≡ length entry) (g : Gives bodyWords bodyLength s past entry mid used r (readBody s 16 (cursorOf s entry past))) where
+  given-next : Gives bodyWords bodyLength s (onward s st) entry mid used r (readBody s 16 (cursorOf s entry (onward s st)))
+  given-next = subst (λ (x : State). Gives bodyWords bodyLength s x entry mid used r (readBody s 16 (cursorOf s entry x))) (m .is) g
 
   pub ruled-fault : (r .number ≡ 0 → ⊥) → Ruled s st entry mid n used r
-  ruled-fault z = record { mid = mid; body = r; given = given-next; faulted = λ q. (refl, refl); stored = λ e. absurd (z e) }
+  ruled-fault z = record { mid = mid; body = r; long = long; given = given-next; faulted = λ q. (refl, refl); stored = λ e. absurd (z e) }
 
   pub ruled-stored : r .number ≡ 0 → (exit : List ℕ) (q : Parsed) → exit ≡ set (set (set mid n (r .used - n)) (n + 1) (r .state .count)) (n + 2) (r .items) → q ≡ record { number = r .number; used = r .used; items = 1; state = r .state } → Ruled s st entry exit n used q
-  ruled-stored z exit q e f = record { mid = mid; body = r; given = given-next; faulted = λ no-zero. absurd (no-zero z); stored = λ zero-is. (f, e) }
+  ruled-stored z exit q e f = record { mid = mid; body = r; long = long; given = given-next; faulted = λ no-zero. absurd (no-zero z); stored = λ zero-is. (f, e) }
 
-  pub ruled-asked : r .number ≡ 0 → length mid ≡ length entry → (n ≤ r .used) × ((n + 3 ≤ length mid) × ((r .used - n < 2 ^ 32) × ((r .state .count < 2 ^ 32) × (r .items < 2 ^ 32))))
-  ruled-asked z l =
-      let o : (b : Body) × (readBody s 16 past ≡ ok b (r .state)) × Given s past entry mid used r (bodyWords b) (bodyLength b) (r .state) = seq-ok 1 bodyWords bodyLength s past entry mid used r (readBody s 16 past) g z in
+  pub ruled-asked : r .number ≡ 0 → (n ≤ r .used) × ((n + 3 ≤ length mid) × ((r .used - n < 2 ^ 32) × ((r .state .count < 2 ^ 32) × (r .items < 2 ^ 32))))
+  ruled-asked z =
+      let o : (b : Body) × (readBody s 16 (cursorOf s entry past) ≡ ok b (cursorOf s mid (r .state))) × Given s past entry mid used r (bodyWords b) (bodyLength b) (cursorOf s mid (r .state)) = seq-ok 1 bodyWords bodyLength s past entry mid used r (readBody s 16 (cursorOf s entry past)) g z in
       let u : r .used ≡ used + length (bodyWords (o .0)) = o .2 .used-is in
       let i : r .items ≡ bodyLength (o .0) = o .2 .items-is in
       let b : bodyLength (o .0) ≤ length (bodyWords (o .0)) = body-words (o .0) in
-      let fits : length (bodyWords (o .0)) + 4 * (length s - r .state .token .at) + 1 ≤ 4 * (length s - past .token .at) = o .2 .room in
-      let few : r .state .count ≤ 32 = o .2 .standing .few in
-      let room : used + 4 * (length s - st .token .at) + 1 ≤ length entry = ready .room in
+      let fits : length (bodyWords (o .0)) + nodeWords * left s (r .state) + 1 ≤ nodeWords * left s past + 1 = o .2 .room in
+      let few : r .state .count ≤ variables = o .2 .standing .few in
+      let room : used + nodeWords * left s st + 1 + variables ≤ length entry = ready .room in
       let small : length entry < 2 ^ 31 = ready .small in
       let f : st .token .at + st .token .len ≤ past .token .at = m .forward in
       (omega arith, (omega arith, (omega arith, (omega arith, omega arith))))
 
 -- ---- clauses
 
-module _ (s : List ℕ) (st begin : State) (entry : List ℕ) (n : ℕ) (ready : Ready s st entry n 4) (name : st .token .kind ≡ 3) (eb : begin ≡ fresh st) where
-  pub head-ready : Ready s begin entry (n + 3) 0 × (begin .token .kind ≡ 3)
-  unfolding fresh
+module _ (s : List ℕ) (st start : State) (entry : List ℕ) (n : ℕ) (ready : Ready s (fresh st) entry n 4) (name : st .token .kind ≡ 3) (eb : start ≡ fresh st) where
+  pub head-ready : Ready s start entry (n + 3) 0 × (start .token .kind ≡ 3)
   head-ready =
-      let room : n + 4 * (length s - st .token .at) + 4 ≤ length entry = ready .room in (
-        subst⁻¹ (λ (x : State). Ready s x entry (n + 3) 0) eb (record {
-          standing = record { inside = ready .standing .inside; some = ready .standing .some; few = omega arith; short = ready .standing .short };
-          room = omega arith;
-          small = ready .small;
-        }),
+      let room : n + nodeWords * left s (fresh st) + 4 + variables ≤ length entry = ready .room in (
+        subst⁻¹ (λ (x : State). Ready s x entry (n + 3) 0) eb (record { standing = ready .standing; held = ready .held; room = omega arith; small = ready .small }),
         subst⁻¹ (λ (x : State). x .token .kind ≡ 3) eb name,
       )
 
-  module _ (mid : List ℕ) (r : Parsed) (l : length mid ≡ length entry) (g : Gives atomWords one s begin entry mid (n + 3) r (readAtomAt 16 s begin)) where
-    given-fresh : Gives atomWords one s (fresh st) entry mid (n + 3) r (readAtomAt 16 s (fresh st))
-    given-fresh = subst (λ (x : State). Gives atomWords one s x entry mid (n + 3) r (readAtomAt 16 s x)) eb g
+  module _ (mid : List ℕ) (r : Parsed) (l : length mid ≡ length entry) (g : Gives atomWords one s start entry mid (n + 3) r (readAtomAt 16 s (cursorOf s entry start))) where
+    given-fresh : Gives atomWords one s (fresh st) entry mid (n + 3) r (readAtomAt 16 s (cursorOf s entry (fresh st)))
+    given-fresh = subst (λ (x : State). Gives atomWords one s x entry mid (n + 3) r (readAtomAt 16 s (cursorOf s entry x))) eb g
 
-    pub clause-fault : (r .number ≡ 0 → ⊥) → Gives clauseWords one s st entry mid n r (readClause s st)
-    unfolding readClause readAtom readAtomAt
-    clause-fault z = seq-fault 1 1 atomWords one clauseWords one s st (fresh st) entry mid n (n + 3) r (readAtomAt 16 s (fresh st)) (λ h after. clauseAfter s h after (tailOf (after .token .kind))) (omega arith) given-fresh z
+    pub clause-fault : (r .number ≡ 0 → ⊥) → Gives clauseWords one s st entry mid n r (readClause s (begin (st .token)))
+    unfolding readClause readAtom readAtomAt namesFrom
+    clause-fault z = seq-fault 1 1 atomWords one clauseWords one s st (fresh st) entry mid n (n + 3) r (readAtomAt 16 s (cursorOf s entry (fresh st))) (λ h after. clauseAfter s h after (tailOf (after .token .kind))) (omega arith) given-fresh z
 
     module _ (z : r .number ≡ 0) where
-      read : (a : Atom) × (readAtomAt 16 s (fresh st) ≡ ok a (r .state)) × Given s (fresh st) entry mid (n + 3) r (atomWords a) 1 (r .state)
-      read = seq-ok 1 atomWords one s (fresh st) entry mid (n + 3) r (readAtomAt 16 s (fresh st)) given-fresh z
+      read : (a : Atom) × (readAtomAt 16 s (cursorOf s entry (fresh st)) ≡ ok a (cursorOf s mid (r .state))) × Given s (fresh st) entry mid (n + 3) r (atomWords a) 1 (cursorOf s mid (r .state))
+      read = seq-ok 1 atomWords one s (fresh st) entry mid (n + 3) r (readAtomAt 16 s (cursorOf s entry (fresh st))) given-fresh z
 
-      behind : (x : Tail) → tailOf (r .state .token .kind) ≡ x → readClause s st ≡ clauseAfter s (read .0) (r .state) x
-      unfolding readClause readAtom readAtomAt andThen
-      behind x e = ap (λ (d : Read Atom). andThen d (λ h after. clauseAfter s h after (tailOf (after .token .kind)))) (read .1) ∙ ap (clauseAfter s (read .0) (r .state)) e
+      behind : (x : Tail) → tailOf (r .state .token .kind) ≡ x → readClause s (begin (st .token)) ≡ clauseAfter s (read .0) (cursorOf s mid (r .state)) x
+      unfolding readClause readAtom readAtomAt andThen namesFrom
+      behind x e = ap (λ (d : Read Atom). andThen d (λ h after. clauseAfter s h after (tailOf (after .token .kind)))) (read .1) ∙ ap (clauseAfter s (read .0) (cursorOf s mid (r .state))) e
 
       pub clause-standing : Standing s (r .state)
       clause-standing = read .2 .standing
 
-      head-room : length (atomWords (read .0)) + 4 * (length s - r .state .token .at) + 1 ≤ 4 * (length s - st .token .at)
-      unfolding fresh
+      head-room : length (atomWords (read .0)) + nodeWords * left s (r .state) + 1 ≤ nodeWords * left s st + 1
       head-room = read .2 .room
 
       pub fact-asked : (n ≤ r .used) × ((n + 3 ≤ length mid) × ((r .used - n < 2 ^ 32) × ((r .state .count < 2 ^ 32) × (0 < 2 ^ 32))))
       fact-asked =
           let used : r .used ≡ (n + 3) + length (atomWords (read .0)) = read .2 .used-is in
-          let room : n + 4 * (length s - st .token .at) + 4 ≤ length entry = ready .room in
+          let room : n + nodeWords * left s st + 4 + variables ≤ length entry = ready .room in
           let small : length entry < 2 ^ 31 = ready .small in
-          let fits : length (atomWords (read .0)) + 4 * (length s - r .state .token .at) + 1 ≤ 4 * (length s - st .token .at) = head-room in
-          let few : r .state .count ≤ 32 = read .2 .standing .few in
+          let fits : length (atomWords (read .0)) + nodeWords * left s (r .state) + 1 ≤ nodeWords * left s st + 1 = head-room in
+          let few : r .state .count ≤ variables = read .2 .standing .few in
           (omega arith, (omega arith, (omega arith, (omega arith, lit< tt))))
 
       kept : take n mid ≡ take n entry
-      kept = let room : n + 4 * (length s - st .token .at) + 4 ≤ length entry = ready .room in kept-before n (n + 3) (length (atomWords (read .0))) entry mid (atomWords (read .0)) (omega arith) (omega arith) (read .2 .table-is)
+      kept = let room : n + nodeWords * left s st + 4 + variables ≤ length entry = ready .room in kept-before n (n + 3) (length (atomWords (read .0))) entry mid (atomWords (read .0)) (omega arith) (omega arith) (read .2 .table-is)
 
-      pub clause-fact : (past : State) (exit : List ℕ) → r .state .token .kind ≡ 10 → Moved s (r .state) past → exit ≡ set (set (set mid n (r .used - n)) (n + 1) (r .state .count)) (n + 2) 0 → Gives clauseWords one s st entry exit n (record { number = 0; used = r .used; items = 1; state = past }) (readClause s st)
+      pub clause-fact : (past : State) (exit : List ℕ) → r .state .token .kind ≡ 10 → Moved s (r .state) past → exit ≡ set (set (set mid n (r .used - n)) (n + 1) (r .state .count)) (n + 2) 0 → Gives clauseWords one s st entry exit n (record { number = 0; used = r .used; items = 1; state = past }) (readClause s (begin (st .token)))
       unfolding clauseAfter clauseWords bodyWords
       clause-fact past exit e m ex =
           let aw : List ℕ = atomWords (read .0) in
           let used : r .used ≡ (n + 3) + length (atomWords (read .0)) = read .2 .used-is in
-          let room : n + 4 * (length s - st .token .at) + 4 ≤ length entry = ready .room in
-          let fits : length (atomWords (read .0)) + 4 * (length s - r .state .token .at) + 1 ≤ 4 * (length s - st .token .at) = head-room in
+          let room : n + nodeWords * left s st + 4 + variables ≤ length entry = ready .room in
+          let fits : length (atomWords (read .0)) + nodeWords * left s (r .state) + 1 ≤ nodeWords * left s st + 1 = head-room in
           let some : 0 < r .state .token .len = read .2 .standing .some (λ q. let e10 : r .state .token .kind ≡ 10 = e in omega arith) in
           let inside : r .state .token .at + r .state .token .len ≤ length s = read .2 .standing .inside in
           let f : r .state .token .at + r .state .token .len ≤ past .token .at = m .forward in
           let size : r .used - n ≡ 3 + length (atomWords (read .0)) = omega arith in
-          let result : Given s st entry exit n (record { number = 0; used = r .used; items = 1; state = past }) ((3 + length (atomWords (read .0))) ∷ (r .state .count) ∷ 0 ∷ atomWords (read .0)) 1 past = record {
+          let same : met exit ≡ met mid = ap met ex ∙ met-three mid n (r .used - n) (r .state .count) 0 (omega arith) in
+          let count : length (namesFrom s (met mid) 0 (r .state .count)) ≡ r .state .count = names-length s (met mid) 0 (r .state .count) in
+          let result : Given s st entry exit n (record { number = 0; used = r .used; items = 1; state = past }) ((3 + length (atomWords (read .0))) ∷ (r .state .count) ∷ 0 ∷ atomWords (read .0)) 1 (next s (cursorOf s mid (r .state))) = record {
             number-is = refl;
-            state-is = refl;
+            state-is = cursor-kept s mid exit past same ∙ next-of mid m;
             items-is = refl;
             used-is = omega arith;
             table-is = header entry mid exit (atomWords (read .0)) n (3 + length (atomWords (read .0))) (r .state .count) 0 (omega arith) (read .2 .table-is) (ex ∙ ap (λ (k : ℕ). set (set (set mid n k) (n + 1) (r .state .count)) (n + 2) 0) size);
             standing = m .standing;
+            held = held-kept same (held-of m (read .2 .held));
             room = omega arith;
           } in
           subst⁻¹ (Gives clauseWords one s st entry exit n (record { number = 0; used = r .used; items = 1; state = past })) (behind fact (tail-fact (r .state .token .kind) e))
-          (subst (λ (x : State). Given s st entry exit n (record { number = 0; used = r .used; items = 1; state = past }) (clauseWords (clauseOf (read .0) done (r .state))) 1 x) (m .is)
-          (subst⁻¹ (λ (w : List ℕ). Given s st entry exit n (record { number = 0; used = r .used; items = 1; state = past }) ((3 + length w) ∷ (r .state .count) ∷ 0 ∷ w) 1 past) (append-nil (atomWords (read .0))) result))
+          (subst⁻¹ (λ (v : ℕ). Given s st entry exit n (record { number = 0; used = r .used; items = 1; state = past }) ((3 + length (atomWords (read .0) ++ [])) ∷ v ∷ 0 ∷ (atomWords (read .0) ++ [])) 1 (next s (cursorOf s mid (r .state)))) count
+          (subst⁻¹ (λ (w : List ℕ). Given s st entry exit n (record { number = 0; used = r .used; items = 1; state = past }) ((3 + length w) ∷ (r .state .count) ∷ 0 ∷ w) 1 (next s (cursorOf s mid (r .state)))) (append-nil (atomWords (read .0))) result))
 
-      pub clause-wrong : (q : Parsed) → (r .state .token .kind ≡ 10 → ⊥) → (r .state .token .kind ≡ 6 → ⊥) → Refused (r .state) (wrongNumber (r .state .token .kind)) q → Gives clauseWords one s st entry mid n q (readClause s st)
+      pub clause-wrong : (q : Parsed) → (r .state .token .kind ≡ 10 → ⊥) → (r .state .token .kind ≡ 6 → ⊥) → Refused (r .state) (wrongNumber (r .state .token .kind)) q → Gives clauseWords one s st entry mid n q (readClause s (begin (st .token)))
       unfolding clauseAfter
-      clause-wrong q f e h = subst⁻¹ (Gives clauseWords one s st entry mid n q) (behind other (tail-other (r .state .token .kind) f e)) (refused-wrong clauseWords one s st (r .state) entry mid n q h kept)
+      clause-wrong q f e h = subst⁻¹ (Gives clauseWords one s st entry mid n q) (behind other (tail-other (r .state .token .kind) f e)) (refused-wrong clauseWords one s st (r .state) entry mid n q (namesFrom s (met mid) 0 (r .state .count)) h kept)
 
       pub rule-asked : r .state .token .kind ≡ 6 → Ready s (r .state) mid (r .used) 1 × (n + 3 ≤ r .used)
       rule-asked e =
           let used : r .used ≡ (n + 3) + length (atomWords (read .0)) = read .2 .used-is in
-          let room : n + 4 * (length s - st .token .at) + 4 ≤ length entry = ready .room in
+          let room : n + nodeWords * left s st + 4 + variables ≤ length entry = ready .room in
           let small : length entry < 2 ^ 31 = ready .small in
-          let fits : length (atomWords (read .0)) + 4 * (length s - r .state .token .at) + 1 ≤ 4 * (length s - st .token .at) = head-room in
-          (record { standing = read .2 .standing; room = omega arith; small = omega arith }, omega arith)
+          let fits : length (atomWords (read .0)) + nodeWords * left s (r .state) + 1 ≤ nodeWords * left s st + 1 = head-room in
+          (record { standing = read .2 .standing; held = read .2 .held; room = omega arith; small = omega arith }, omega arith)
 
       module _ (e : r .state .token .kind ≡ 6) where
         rule-fault : (exit : List ℕ) (q : Parsed) (k b : ℕ) → Faulted mid exit (r .used) q k b → Faulted entry exit n q k b
@@ -145,46 +145,50 @@ module _ (s : List ℕ) (st begin : State) (entry : List ℕ) (n : ℕ) (ready :
             let used : r .used ≡ (n + 3) + length (atomWords (read .0)) = read .2 .used-is in
             record { number-is = h .number-is; some = h .some; byte-is = h .byte-is; kept = shorter n (r .used) mid exit (omega arith) (h .kept) ∙ kept }
 
-        rule-words : (mid2 exit : List ℕ) (q : Parsed) (b : Body) (end : State) → Given s (next s (r .state)) mid mid2 (r .used) q (bodyWords b) (bodyLength b) end → exit ≡ set (set (set mid2 n (q .used - n)) (n + 1) (q .state .count)) (n + 2) (q .items) → Given s st entry exit n (record { number = q .number; used = q .used; items = 1; state = q .state }) (clauseWords (clauseOf (read .0) b end)) 1 end
+        rule-words : (mid2 exit : List ℕ) (q : Parsed) (b : Body) (end : Cursor) → length mid2 ≡ length mid → Given s (onward s (r .state)) mid mid2 (r .used) q (bodyWords b) (bodyLength b) end → exit ≡ set (set (set mid2 n (q .used - n)) (n + 1) (q .state .count)) (n + 2) (q .items) → Given s st entry exit n (record { number = q .number; used = q .used; items = 1; state = q .state }) (clauseWords (clauseOf (read .0) b end)) 1 end
         unfolding clauseWords
-        rule-words mid2 exit q b end h ex =
+        rule-words mid2 exit q b end long h ex =
             let aw : List ℕ = atomWords (read .0) in
-            let m : Moved s (r .state) (next s (r .state)) = moved-next s (r .state) (read .2 .standing) in
+            let m : Moved s (r .state) (onward s (r .state)) = moved-onward s (r .state) (read .2 .standing) in
             let used : r .used ≡ (n + 3) + length (atomWords (read .0)) = read .2 .used-is in
             let used′ : q .used ≡ r .used + length (bodyWords b) = h .used-is in
-            let room : n + 4 * (length s - st .token .at) + 4 ≤ length entry = ready .room in
-            let fits : length (atomWords (read .0)) + 4 * (length s - r .state .token .at) + 1 ≤ 4 * (length s - st .token .at) = head-room in
-            let fits′ : length (bodyWords b) + 4 * (length s - end .token .at) + 1 ≤ 4 * (length s - next s (r .state) .token .at) = h .room in
+            let room : n + nodeWords * left s st + 4 + variables ≤ length entry = ready .room in
+            let fits : length (atomWords (read .0)) + nodeWords * left s (r .state) + 1 ≤ nodeWords * left s st + 1 = head-room in
+            let fits′ : length (bodyWords b) + nodeWords * left s (q .state) + 1 ≤ nodeWords * left s (onward s (r .state)) + 1 = h .room in
             let some : 0 < r .state .token .len = read .2 .standing .some (λ x. let e6 : r .state .token .kind ≡ 6 = e in omega arith) in
-            let inside : next s (r .state) .token .at + next s (r .state) .token .len ≤ length s = m .standing .inside in
-            let f : r .state .token .at + r .state .token .len ≤ next s (r .state) .token .at = m .forward in
+            let inside : onward s (r .state) .token .at + onward s (r .state) .token .len ≤ length s = m .standing .inside in
+            let f : r .state .token .at + r .state .token .len ≤ onward s (r .state) .token .at = m .forward in
             let both : length (atomWords (read .0) ++ bodyWords b) ≡ length (atomWords (read .0)) + length (bodyWords b) = length-append (atomWords (read .0)) (bodyWords b) in
             let ends : take (((n + 3) + length (atomWords (read .0))) + length (bodyWords b)) mid2 ≡ take ((n + 3) + length (atomWords (read .0))) mid ++ bodyWords b = subst (λ (x : ℕ). take (x + length (bodyWords b)) mid2 ≡ take x mid ++ bodyWords b) used (h .table-is) in
             let size : q .used - n ≡ 3 + length (atomWords (read .0) ++ bodyWords b) = omega arith in
-            let counts : q .state .count ≡ end .count = ap (λ (x : State). x .count) (h .state-is) in
-            let stored : exit ≡ set (set (set mid2 n (3 + length (atomWords (read .0) ++ bodyWords b))) (n + 1) (end .count)) (n + 2) (bodyLength b) =
+            let counts : q .state .count ≡ length (end .names) = sym (names-length s (met mid2) 0 (q .state .count)) ∙ ap (λ (x : Cursor). length (x .names)) (h .state-is) in
+            let same : met exit ≡ met mid2 = ap met ex ∙ met-three mid2 n (q .used - n) (q .state .count) (q .items) (omega arith) in
+            let stored : exit ≡ set (set (set mid2 n (3 + length (atomWords (read .0) ++ bodyWords b))) (n + 1) (length (end .names))) (n + 2) (bodyLength b) =
             ex ∙ ap (λ (k : ℕ). set (set (set mid2 n k) (n + 1) (q .state .count)) (n + 2) (q .items)) size ∙ ap₂ (λ (k i : ℕ). set (set (set mid2 n (3 + length (atomWords (read .0) ++ bodyWords b))) (n + 1) k) (n + 2) i) counts (h .items-is) in
             record {
               number-is = h .number-is;
-              state-is = h .state-is;
+              state-is = cursor-kept s mid2 exit (q .state) same ∙ h .state-is;
               items-is = refl;
               used-is = omega arith;
-              table-is = header entry mid2 exit (atomWords (read .0) ++ bodyWords b) n (3 + length (atomWords (read .0) ++ bodyWords b)) (end .count) (bodyLength b) (omega arith) (joined entry mid mid2 (atomWords (read .0)) (bodyWords b) (n + 3) (read .2 .table-is) ends) stored;
+              table-is = header entry mid2 exit (atomWords (read .0) ++ bodyWords b) n (3 + length (atomWords (read .0) ++ bodyWords b)) (length (end .names)) (bodyLength b) (omega arith) (joined entry mid mid2 (atomWords (read .0)) (bodyWords b) (n + 3) (read .2 .table-is) ends) stored;
               standing = h .standing;
+              held = held-kept same (h .held);
               room = omega arith;
             }
 
-        rule-by : (exit : List ℕ) (q : Parsed) (d : Read Body) (mid2 : List ℕ) (p : Parsed) → Gives bodyWords bodyLength s (next s (r .state)) mid mid2 (r .used) p d → ((p .number ≡ 0 → ⊥) → (q ≡ p) × (exit ≡ mid2)) → (p .number ≡ 0 → (q ≡ record { number = p .number; used = p .used; items = 1; state = p .state }) × (exit ≡ set (set (set mid2 n (p .used - n)) (n + 1) (p .state .count)) (n + 2) (p .items))) → Gives clauseWords one s st entry exit n q (andThen d (λ b after. ok (clauseOf (read .0) b after) after))
+        rule-by : (exit : List ℕ) (q : Parsed) (d : Read Body) (mid2 : List ℕ) (p : Parsed) → length mid2 ≡ length mid → Gives bodyWords bodyLength s (onward s (r .state)) mid mid2 (r .used) p d → ((p .number ≡ 0 → ⊥) → (q ≡ p) × (exit ≡ mid2)) → (p .number ≡ 0 → (q ≡ record { number = p .number; used = p .used; items = 1; state = p .state }) × (exit ≡ set (set (set mid2 n (p .used - n)) (n + 1) (p .state .count)) (n + 2) (p .items))) → Gives clauseWords one s st entry exit n q (andThen d (λ b after. ok (clauseOf (read .0) b after) after))
         unfolding andThen
-        rule-by exit q (fault k b) mid2 p h no-zero zero-is =
+        rule-by exit q (fault k b) mid2 p long h no-zero zero-is =
             let kn : p .number ≡ k = h .number-is in
             let ks : 0 < k = h .some in
             let o : (q ≡ p) × (exit ≡ mid2) = no-zero (λ x. omega arith) in
             subst⁻¹ (λ (x : Parsed). Faulted entry exit n x k b) (o .0) (subst⁻¹ (λ (x : List ℕ). Faulted entry x n p k b) (o .1) (rule-fault mid2 p k b h))
-        rule-by exit q (ok b end) mid2 p h no-zero zero-is =
+        rule-by exit q (ok b end) mid2 p long h no-zero zero-is =
             let o : (q ≡ record { number = p .number; used = p .used; items = 1; state = p .state }) × (exit ≡ set (set (set mid2 n (p .used - n)) (n + 1) (p .state .count)) (n + 2) (p .items)) = zero-is (h .number-is) in
-            subst⁻¹ (λ (x : Parsed). Given s st entry exit n x (clauseWords (clauseOf (read .0) b end)) 1 end) (o .0) (rule-words mid2 exit p b end h (o .1))
+            subst⁻¹ (λ (x : Parsed). Given s st entry exit n x (clauseWords (clauseOf (read .0) b end)) 1 end) (o .0) (rule-words mid2 exit p b end long h (o .1))
 
-        pub clause-rule : (exit : List ℕ) (q : Parsed) → (r .state .token .kind ≡ 10 → ⊥) → Ruled s (r .state) mid exit n (r .used) q → Gives clauseWords one s st entry exit n q (readClause s st)
+        pub clause-rule : (exit : List ℕ) (q : Parsed) → (r .state .token .kind ≡ 10 → ⊥) → Ruled s (r .state) mid exit n (r .used) q → Gives clauseWords one s st entry exit n q (readClause s (begin (st .token)))
         unfolding clauseAfter
-        clause-rule exit q f h = subst⁻¹ (Gives clauseWords one s st entry exit n q) (behind rule (tail-rule (r .state .token .kind) f e)) (rule-by exit q (readBody s 16 (next s (r .state))) (h .mid) (h .body) (h .given) (h .faulted) (h .stored))
+        clause-rule exit q f h =
+            let given : Gives bodyWords bodyLength s (onward s (r .state)) mid (h .mid) (r .used) (h .body) (readBody s 16 (next s (cursorOf s mid (r .state)))) = subst (λ (x : Cursor). Gives bodyWords bodyLength s (onward s (r .state)) mid (h .mid) (r .used) (h .body) (readBody s 16 x)) (next-of mid (moved-onward s (r .state) (read .2 .standing))) (h .given) in
+            subst⁻¹ (Gives clauseWords one s st entry exit n q) (behind rule (tail-rule (r .state .token .kind) f e)) (rule-by exit q (readBody s 16 (next s (cursorOf s mid (r .state)))) (h .mid) (h .body) (h .long) given (h .faulted) (h .stored))

@@ -10,14 +10,17 @@ use lib.Seq.{take-set-lt, take-set-le, set-append-left, take-suc-set, take-take,
 use lib.Dec.{eqb, lit<}
 use borrow.Author.Tests.{eq-eqb, ne-eqb, eqb-true, eqb-false}
 use Rattle.syntax.specs.Terms.{Term, Terms, Atom, nil, cons, arity, termOf, Literal, call, equation, truth, falsity, literalOf, sameName, true-name, fail-name}
-use Rattle.syntax.specs.Tokens.{spelling}
-use Rattle.syntax.specs.Reading.{Read, fault, ok, andThen, next, wrongNumber, readTerm, readAtom, atomAt, readRight, afterAtom, afterTerm, literalWith, readLiteral, readAtomWith, atomWith, readList}
-use Rattle.syntax.specs.Words.{termWords, termsWords, atomWords, literalWords}
+use Rattle.syntax.specs.Limits.{variables}
+use Rattle.syntax.specs.Spans.{namesFrom, met, Held}
+use Rattle.syntax.proofs.Spans.{met-kept}
+use Rattle.syntax.specs.Tokens.{spelling, equalsKind, endKind}
+use Rattle.syntax.specs.Reading.{Cursor, Read, fault, ok, andThen, next, wrongNumber, readTerm, readAtom, atomAt, readRight, afterAtom, afterTerm, literalWith, readLiteral, readAtomWith, atomWith, readList}
+use Rattle.syntax.specs.Words.{nodeWords, termWords, termsWords, atomWords, literalWords}
 use Rattle.syntax.specs.declared.State.{State}
-use Rattle.reading.specs.Gives.{Moved, Ready, Faulted, Given, Gives, GivenWith, GivesWith, Refused, one}
+use Rattle.reading.specs.Gives.{cursorOf, onward, left, Standing, Moved, Ready, Faulted, Given, Gives, GivenWith, GivesWith, Refused, one}
 use Rattle.reading.specs.Atoms.{readAtomAt}
 use Rattle.reading.specs.declared.Parsed.{Parsed}
-use Rattle.reading.proofs.Reading.{refused-wrong-with, moved-next}
+use Rattle.reading.proofs.Reading.{refused-wrong-with, moved-onward, next-of, held-of, cursor-kept, held-kept}
 use Rattle.reading.proofs.TermLaws.{term-some}
 use Rattle.reading.proofs.Sequence.{seq-fault, seq-ok, shorter, kept-before, joined}
 use Rattle.clauses.specs.Atoms.{atomNumber, aloneNumber, Alone}
@@ -41,10 +44,20 @@ front entry mid exit w n a h e f =
 
 -- ---- the right side of an equation
 
-pub right-given : (s : List ℕ) (st past : State) (entry mid exit : List ℕ) (n used : ℕ) (r : Parsed) → Moved s st past → mid ≡ set entry n 3 → Gives termWords one s past mid exit used r (readTerm 16 s past) → Gives termWords one s (next s st) (set entry n 3) exit used r (readTerm 16 s (next s st))
+pub right-given : (s : List ℕ) (st past : State) (entry mid exit : List ℕ) (n used : ℕ) (r : Parsed) → Moved s st past → mid ≡ set entry n 3 → Gives termWords one s past mid exit used r (readTerm 16 s (cursorOf s mid past)) → Gives termWords one s (onward s st) (set entry n 3) exit used r (readTerm 16 s (cursorOf s (set entry n 3) (onward s st)))
 right-given s st past entry mid exit n used r m e g =
-    subst (λ (x : State). Gives termWords one s x (set entry n 3) exit used r (readTerm 16 s x)) (m .is)
-    (subst (λ (x : List ℕ). Gives termWords one s past x exit used r (readTerm 16 s past)) e g)
+    subst (λ (x : State). Gives termWords one s x (set entry n 3) exit used r (readTerm 16 s (cursorOf s (set entry n 3) x))) (m .is)
+    (subst (λ (x : List ℕ). Gives termWords one s past x exit used r (readTerm 16 s (cursorOf s x past))) e g)
+
+-- its first word is stored before the words of the variables
+pub right-asked : {s : List ℕ} {st past : State} {entry mid : List ℕ} {n used : ℕ} → Ready s st entry used 0 → n < used → mid ≡ set entry n 3 → Moved s st past → Ready s past mid used 0
+right-asked {s} {st} {past} {entry} {mid} {n} {used} ready low e m =
+    let room : used + nodeWords * left s st + 0 + variables ≤ length entry = ready .room in
+    let small : length entry < 2 ^ 31 = ready .small in
+    let l : length mid ≡ length entry = ap length e ∙ length-set entry n 3 in
+    let f : st .token .at + st .token .len ≤ past .token .at = m .forward in
+    let same : met mid ≡ met entry = ap met e ∙ met-kept entry n 3 (omega arith) in
+    record { standing = m .standing; held = held-kept same (held-of m (ready .held)); room = omega arith; small = omega arith }
 
 -- ---- what an atom alone stands for
 
@@ -105,12 +118,12 @@ AllOk : {A : Type 0} → (A → Type 0) → Read A → Type 0
 AllOk P (fault k b) = Unit {0}
 AllOk P (ok a st) = P a
 
-named-list : (s : List ℕ) (st : State) (d : Read Terms) → AllOk (λ (a : Atom). a .name ≡ spelling s (st .token .at) (st .token .len)) (andThen d (λ ts after. ok (atomAt s st ts) after))
+named-list : (s : List ℕ) (st : Cursor) (d : Read Terms) → AllOk (λ (a : Atom). a .name ≡ spelling s (st .token .at) (st .token .len)) (andThen d (λ ts after. ok (atomAt s st ts) after))
 unfolding AllOk andThen
 named-list s st (fault k b) = tt
 named-list s st (ok ts after) = refl
 
-named-all : (left : ℕ) (s : List ℕ) (st : State) → AllOk (λ (a : Atom). a .name ≡ spelling s (st .token .at) (st .token .len)) (readAtomAt left s st)
+named-all : (left : ℕ) (s : List ℕ) (st : Cursor) → AllOk (λ (a : Atom). a .name ≡ spelling s (st .token .at) (st .token .len)) (readAtomAt left s st)
 unfolding AllOk readAtomAt readAtomWith atomWith
 named-all left s st = by (eqb (next s st .token .kind) 7)
   where
@@ -118,7 +131,7 @@ named-all left s st = by (eqb (next s st .token .kind) 7)
     by true = named-list s st (readList left s (next s st))
     by false = refl
 
-atom-named : (left : ℕ) (s : List ℕ) (st end : State) (a : Atom) → readAtomAt left s st ≡ ok a end → a .name ≡ spelling s (st .token .at) (st .token .len)
+atom-named : (left : ℕ) (s : List ℕ) (st end : Cursor) (a : Atom) → readAtomAt left s st ≡ ok a end → a .name ≡ spelling s (st .token .at) (st .token .len)
 unfolding AllOk
 atom-named left s st end a e = subst (AllOk (λ (a : Atom). a .name ≡ spelling s (st .token .at) (st .token .len))) e (named-all left s st)
 
@@ -126,17 +139,17 @@ atom-named left s st end a e = subst (AllOk (λ (a : Atom). a .name ≡ spelling
 
 module _ (s : List ℕ) (st : State) (entry : List ℕ) (n : ℕ) (ready : Ready s st entry n 1) where
   n-in : n + 1 ≤ length entry
-  n-in = let room : n + 4 * (length s - st .token .at) + 1 ≤ length entry = ready .room in omega arith
+  n-in = let room : n + nodeWords * left s st + 1 + variables ≤ length entry = ready .room in omega arith
 
   -- an equation of which the left side was read
-  module _ (mid : List ℕ) (r : Parsed) (t : Term) (g : Given s st entry mid (n + 1) r (termWords t) 1 (r .state)) (l : length mid ≡ length entry) where
+  module _ (mid : List ℕ) (r : Parsed) (t : Term) (g : Given s st entry mid (n + 1) r (termWords t) 1 (cursorOf s mid (r .state))) (l : length mid ≡ length entry) where
     pub right-ready : r .state .token .kind ≡ 11 → Ready s (r .state) mid (r .used) 0 × ((r .state .token .kind ≡ 11) × (n < r .used))
     right-ready e =
-        let room : n + 4 * (length s - st .token .at) + 1 ≤ length entry = ready .room in
+        let room : n + nodeWords * left s st + 1 + variables ≤ length entry = ready .room in
         let small : length entry < 2 ^ 31 = ready .small in
         let used : r .used ≡ (n + 1) + length (termWords t) = g .used-is in
-        let fits : length (termWords t) + 4 * (length s - r .state .token .at) + 1 ≤ 4 * (length s - st .token .at) = g .room in
-        (record { standing = g .standing; room = omega arith; small = omega arith }, (e, omega arith))
+        let fits : length (termWords t) + nodeWords * left s (r .state) + 1 ≤ nodeWords * left s st + 1 = g .room in
+        (record { standing = g .standing; held = g .held; room = omega arith; small = omega arith }, (e, omega arith))
 
     right-fault : (exit : List ℕ) (q : Parsed) (k b : ℕ) → Faulted (set mid n 3) exit (r .used) q k b → Faulted entry exit n q k b
     right-fault exit q k b h =
@@ -149,18 +162,19 @@ module _ (s : List ℕ) (st : State) (entry : List ℕ) (n : ℕ) (ready : Ready
           kept = shorter n (r .used) (set mid n 3) exit (omega arith) (h .kept) ∙ take-set-le n mid n 3 (omega arith) ∙ kept-before n (n + 1) (length (termWords t)) entry mid (termWords t) (omega arith) inn (g .table-is);
         }
 
-    right-words : (exit : List ℕ) (q : Parsed) (u : Term) (end : State) → r .state .token .kind ≡ 11 → Moved s (r .state) (next s (r .state)) → Given s (next s (r .state)) (set mid n 3) exit (r .used) q (termWords u) 1 end → GivenWith 0 s st entry exit n q (literalWords (equation t u)) 1 end
+    right-words : (exit : List ℕ) (q : Parsed) (u : Term) (end : Cursor) → r .state .token .kind ≡ equalsKind → Given s (onward s (r .state)) (set mid n 3) exit (r .used) q (termWords u) 1 end → GivenWith 0 s st entry exit n q (literalWords (equation t u)) 1 end
     unfolding literalWords
-    right-words exit q u end e m h =
-        let tw : List ℕ = termWords t in
-        let uw : List ℕ = termWords u in
+    right-words exit q u end e h =
+        let m : Moved s (r .state) (onward s (r .state)) = moved-onward s (r .state) (g .standing) in
+        let some : 0 < r .state .token .len = g .standing .some (λ x. let k : r .state .token .kind ≡ equalsKind = e in omega arith) in
+        let inside : r .state .token .at + r .state .token .len ≤ length s = g .standing .inside in
         let used : r .used ≡ (n + 1) + length (termWords t) = g .used-is in
         let used′ : q .used ≡ r .used + length (termWords u) = h .used-is in
-        let fits : length (termWords t) + 4 * (length s - r .state .token .at) + 1 ≤ 4 * (length s - st .token .at) = g .room in
-        let fits′ : length (termWords u) + 4 * (length s - end .token .at) + 1 ≤ 4 * (length s - next s (r .state) .token .at) = h .room in
-        let f : r .state .token .at + r .state .token .len ≤ next s (r .state) .token .at = m .forward in
+        let fits : length (termWords t) + nodeWords * left s (r .state) + 1 ≤ nodeWords * left s st + 1 = g .room in
+        let fits′ : length (termWords u) + nodeWords * left s (q .state) + 1 ≤ nodeWords * left s (onward s (r .state)) + 1 = h .room in
+        let f : r .state .token .at + r .state .token .len ≤ onward s (r .state) .token .at = m .forward in
         let both : length (termWords t ++ termWords u) ≡ length (termWords t) + length (termWords u) = length-append (termWords t) (termWords u) in
-        let left : take (n + length (3 ∷ termWords t)) (set mid n 3) ≡ take n entry ++ (3 ∷ termWords t) = front entry mid (set mid n 3) (termWords t) n 3 n-in (g .table-is) refl in
+        let left′ : take (n + length (3 ∷ termWords t)) (set mid n 3) ≡ take n entry ++ (3 ∷ termWords t) = front entry mid (set mid n 3) (termWords t) n 3 n-in (g .table-is) refl in
         let k : r .used ≡ n + length (3 ∷ termWords t) = omega arith in
         let ends : take ((n + length (3 ∷ termWords t)) + length (termWords u)) exit ≡ take (n + length (3 ∷ termWords t)) (set mid n 3) ++ termWords u = subst (λ (x : ℕ). take (x + length (termWords u)) exit ≡ take x (set mid n 3) ++ termWords u) k (h .table-is) in
         record {
@@ -168,42 +182,49 @@ module _ (s : List ℕ) (st : State) (entry : List ℕ) (n : ℕ) (ready : Ready
           state-is = h .state-is;
           items-is = h .items-is;
           used-is = omega arith;
-          table-is = joined entry (set mid n 3) exit (3 ∷ termWords t) (termWords u) n left ends;
+          table-is = joined entry (set mid n 3) exit (3 ∷ termWords t) (termWords u) n left′ ends;
           standing = h .standing;
+          held = h .held;
           room = omega arith;
         }
 
-    right-by : (exit : List ℕ) (q : Parsed) (d : Read Term) → r .state .token .kind ≡ 11 → Moved s (r .state) (next s (r .state)) → Gives termWords one s (next s (r .state)) (set mid n 3) exit (r .used) q d → GivesWith 0 literalWords one s st entry exit n q (andThen d (λ u after. ok (equation t u) after))
+    right-by : (exit : List ℕ) (q : Parsed) (d : Read Term) → r .state .token .kind ≡ equalsKind → Gives termWords one s (onward s (r .state)) (set mid n 3) exit (r .used) q d → GivesWith 0 literalWords one s st entry exit n q (andThen d (λ u after. ok (equation t u) after))
     unfolding andThen
-    right-by exit q (fault k b) e m h = right-fault exit q k b h
-    right-by exit q (ok u end) e m h = right-words exit q u end e m h
+    right-by exit q (fault k b) e h = right-fault exit q k b h
+    right-by exit q (ok u end) e h = right-words exit q u end e h
 
-    pub equation-given : (exit : List ℕ) (q : Parsed) → r .state .token .kind ≡ 11 → Gives termWords one s (next s (r .state)) (set mid n 3) exit (r .used) q (readTerm 16 s (next s (r .state))) → GivesWith 0 literalWords one s st entry exit n q (readRight s t (r .state))
+    -- the reader past the equals sign, over the table with the literal's first word
+    behind-equals : cursorOf s (set mid n 3) (onward s (r .state)) ≡ next s (cursorOf s mid (r .state))
+    behind-equals =
+        let room : n + nodeWords * left s st + 1 + variables ≤ length entry = ready .room in
+        cursor-kept s mid (set mid n 3) (onward s (r .state)) (met-kept mid n 3 (omega arith)) ∙ next-of mid (moved-onward s (r .state) (g .standing))
+
+    pub equation-given : (exit : List ℕ) (q : Parsed) → r .state .token .kind ≡ equalsKind → Gives termWords one s (onward s (r .state)) (set mid n 3) exit (r .used) q (readTerm 16 s (cursorOf s (set mid n 3) (onward s (r .state)))) → GivesWith 0 literalWords one s st entry exit n q (readRight s t (cursorOf s mid (r .state)))
     unfolding readRight
-    equation-given exit q e h = right-by exit q (readTerm 16 s (next s (r .state))) e (moved-next s (r .state) (g .standing)) h
+    equation-given exit q e h = right-by exit q (readTerm 16 s (next s (cursorOf s mid (r .state)))) e (subst (λ (x : Cursor). Gives termWords one s (onward s (r .state)) (set mid n 3) exit (r .used) q (readTerm 16 s x)) behind-equals h)
 
     pub left-kept : take n mid ≡ take n entry
     left-kept = kept-before n (n + 1) (length (termWords t)) entry mid (termWords t) (omega arith) n-in (g .table-is)
 
   -- the literal by what stands behind its first term
   module _ (mid : List ℕ) (r : Parsed) (l : length mid ≡ length entry) where
-    module _ (g : Gives atomWords one s st entry mid (n + 1) r (readAtomAt 16 s st)) where
-      pub named-fault : (r .number ≡ 0 → ⊥) → GivesWith 0 literalWords one s st entry mid n r (literalWith s st true)
+    module _ (g : Gives atomWords one s st entry mid (n + 1) r (readAtomAt 16 s (cursorOf s entry st))) where
+      pub named-fault : (r .number ≡ 0 → ⊥) → GivesWith 0 literalWords one s st entry mid n r (literalWith s (cursorOf s entry st) true)
       unfolding literalWith readAtom readAtomAt
-      named-fault z = seq-fault 1 0 atomWords one literalWords one s st st entry mid n (n + 1) r (readAtomAt 16 s st) (λ a after. afterAtom s a after (eqb (after .token .kind) 11)) (omega arith) g z
+      named-fault z = seq-fault 1 0 atomWords one literalWords one s st st entry mid n (n + 1) r (readAtomAt 16 s (cursorOf s entry st)) (λ a after. afterAtom s a after (eqb (after .token .kind) 11)) (omega arith) g z
 
       module _ (z : r .number ≡ 0) where
-        atom-read : (a : Atom) × (readAtomAt 16 s st ≡ ok a (r .state)) × Given s st entry mid (n + 1) r (atomWords a) 1 (r .state)
-        atom-read = seq-ok 1 atomWords one s st entry mid (n + 1) r (readAtomAt 16 s st) g z
+        atom-read : (a : Atom) × (readAtomAt 16 s (cursorOf s entry st) ≡ ok a (cursorOf s mid (r .state))) × Given s st entry mid (n + 1) r (atomWords a) 1 (cursorOf s mid (r .state))
+        atom-read = seq-ok 1 atomWords one s st entry mid (n + 1) r (readAtomAt 16 s (cursorOf s entry st)) g z
 
-        named-by : (b : Bool) → eqb (r .state .token .kind) 11 ≡ b → literalWith s st true ≡ afterAtom s (atom-read .0) (r .state) b
+        named-by : (b : Bool) → eqb (r .state .token .kind) 11 ≡ b → literalWith s (cursorOf s entry st) true ≡ afterAtom s (atom-read .0) (cursorOf s mid (r .state)) b
         unfolding literalWith readAtom readAtomAt andThen
-        named-by b e = ap (λ (d : Read Atom). andThen d (λ a after. afterAtom s a after (eqb (after .token .kind) 11))) (atom-read .1) ∙ ap (afterAtom s (atom-read .0) (r .state)) e
+        named-by b e = ap (λ (d : Read Atom). andThen d (λ a after. afterAtom s a after (eqb (after .token .kind) 11))) (atom-read .1) ∙ ap (afterAtom s (atom-read .0) (cursorOf s mid (r .state))) e
 
         pub named-ready : r .state .token .kind ≡ 11 → Ready s (r .state) mid (r .used) 0 × ((r .state .token .kind ≡ 11) × (n < r .used))
         named-ready e = right-ready mid r (termOf (atom-read .0)) (atom-read .2) l e
 
-        pub named-equation : (exit : List ℕ) (q : Parsed) → r .state .token .kind ≡ 11 → Gives termWords one s (next s (r .state)) (set mid n 3) exit (r .used) q (readTerm 16 s (next s (r .state))) → GivesWith 0 literalWords one s st entry exit n q (literalWith s st true)
+        pub named-equation : (exit : List ℕ) (q : Parsed) → r .state .token .kind ≡ 11 → Gives termWords one s (onward s (r .state)) (set mid n 3) exit (r .used) q (readTerm 16 s (cursorOf s (set mid n 3) (onward s (r .state)))) → GivesWith 0 literalWords one s st entry exit n q (literalWith s (cursorOf s entry st) true)
         unfolding afterAtom
         named-equation exit q e h = subst⁻¹ (GivesWith 0 literalWords one s st entry exit n q) (named-by true (eq-eqb (r .state .token .kind) 11 e)) (equation-given mid r (termOf (atom-read .0)) (atom-read .2) l exit q e h)
 
@@ -212,80 +233,87 @@ module _ (s : List ℕ) (st : State) (entry : List ℕ) (n : ℕ) (ready : Ready
         size-is = let used : r .used ≡ (n + 1) + length (atomWords (atom-read .0)) = atom-read .2 .used-is in let k : length (atomWords (atom-read .0)) ≡ 3 + length (termsWords (atom-read .0 .args)) = atom-length (atom-read .0) in omega arith
 
         number-is : atomNumber (eqb (r .used - (n + 1)) 3) (spelling s (st .token .at) (st .token .len)) ≡ atomNumber (eqb (arity (atom-read .0 .args)) 0) (atom-read .0 .name)
-        number-is = ap₂ (λ (b : Bool) (x : List ℕ). atomNumber b x) (ap (λ (k : ℕ). eqb k 3) size-is ∙ bare-test (atom-read .0 .args)) (sym (atom-named 16 s st (r .state) (atom-read .0) (atom-read .1)))
+        number-is = ap₂ (λ (b : Bool) (x : List ℕ). atomNumber b x) (ap (λ (k : ℕ). eqb k 3) size-is ∙ bare-test (atom-read .0 .args)) (sym (atom-named 16 s (cursorOf s entry st) (cursorOf s mid (r .state)) (atom-read .0) (atom-read .1)))
 
         module _ (number : ℕ) (en : number ≡ atomNumber (eqb (r .used - (n + 1)) 3) (spelling s (st .token .at) (st .token .len))) (exit : List ℕ) (ex : exit ≡ set mid n number) (ne : r .state .token .kind ≡ 11 → ⊥) where
-          pub named-call : number ≡ 2 → GivesWith 0 literalWords one s st entry exit n (record { number = 0; used = r .used; items = 1; state = r .state }) (literalWith s st true)
+          same : met exit ≡ met mid
+          same =
+              let room : n + nodeWords * left s st + 1 + variables ≤ length entry = ready .room in
+              ap met ex ∙ met-kept mid n number (omega arith)
+
+          pub named-call : number ≡ 2 → GivesWith 0 literalWords one s st entry exit n (record { number = 0; used = r .used; items = 1; state = r .state }) (literalWith s (cursorOf s entry st) true)
           unfolding afterAtom literalOf literalWords
           named-call two =
               let a : Atom = atom-read .0 in
               let is-call : literalOf (atom-read .0) ≡ call (atom-read .0) = call-by (atom-read .0) (sym number-is ∙ sym en ∙ two) in
               let used : r .used ≡ (n + 1) + length (atomWords (atom-read .0)) = atom-read .2 .used-is in
-              let fits : length (atomWords (atom-read .0)) + 4 * (length s - r .state .token .at) + 1 ≤ 4 * (length s - st .token .at) = atom-read .2 .room in
-              let result : GivenWith 0 s st entry exit n (record { number = 0; used = r .used; items = 1; state = r .state }) (2 ∷ atomWords (atom-read .0)) 1 (r .state) = record {
+              let fits : length (atomWords (atom-read .0)) + nodeWords * left s (r .state) + 1 ≤ nodeWords * left s st + 1 = atom-read .2 .room in
+              let result : GivenWith 0 s st entry exit n (record { number = 0; used = r .used; items = 1; state = r .state }) (2 ∷ atomWords (atom-read .0)) 1 (cursorOf s mid (r .state)) = record {
                 number-is = refl;
-                state-is = refl;
+                state-is = cursor-kept s mid exit (r .state) same;
                 items-is = refl;
                 used-is = omega arith;
                 table-is = front entry mid exit (atomWords (atom-read .0)) n 2 n-in (atom-read .2 .table-is) (ex ∙ ap (set mid n) two);
                 standing = atom-read .2 .standing;
+                held = held-kept same (atom-read .2 .held);
                 room = omega arith;
               } in
               subst⁻¹ (GivesWith 0 literalWords one s st entry exit n (record { number = 0; used = r .used; items = 1; state = r .state })) (named-by false (ne-eqb (r .state .token .kind) 11 ne))
-              (subst⁻¹ (λ (x : Literal). GivenWith 0 s st entry exit n (record { number = 0; used = r .used; items = 1; state = r .state }) (literalWords x) 1 (r .state)) is-call result)
+              (subst⁻¹ (λ (x : Literal). GivenWith 0 s st entry exit n (record { number = 0; used = r .used; items = 1; state = r .state }) (literalWords x) 1 (cursorOf s mid (r .state))) is-call result)
 
-          pub named-other : (number ≡ 2 → ⊥) → GivesWith 0 literalWords one s st entry exit n (record { number = 0; used = n + 1; items = 1; state = r .state }) (literalWith s st true)
+          pub named-other : (number ≡ 2 → ⊥) → GivesWith 0 literalWords one s st entry exit n (record { number = 0; used = n + 1; items = 1; state = r .state }) (literalWith s (cursorOf s entry st) true)
           unfolding afterAtom
           named-other two =
               let words : literalWords (literalOf (atom-read .0)) ≡ number ∷ [] = other-by (atom-read .0) number (en ∙ number-is) two in
               let inn : n + 1 ≤ length entry = n-in in
-              let fits : length (atomWords (atom-read .0)) + 4 * (length s - r .state .token .at) + 1 ≤ 4 * (length s - st .token .at) = atom-read .2 .room in
-              let result : GivenWith 0 s st entry exit n (record { number = 0; used = n + 1; items = 1; state = r .state }) (number ∷ []) 1 (r .state) = record {
+              let fits : length (atomWords (atom-read .0)) + nodeWords * left s (r .state) + 1 ≤ nodeWords * left s st + 1 = atom-read .2 .room in
+              let result : GivenWith 0 s st entry exit n (record { number = 0; used = n + 1; items = 1; state = r .state }) (number ∷ []) 1 (cursorOf s mid (r .state)) = record {
                 number-is = refl;
-                state-is = refl;
+                state-is = cursor-kept s mid exit (r .state) same;
                 items-is = refl;
                 used-is = refl;
                 table-is = ap (take (n + 1)) ex ∙ ap (λ (j : ℕ). take j (set mid n number)) (add-one n) ∙ take-suc-set mid n number (omega arith) ∙ ap (λ (x : List ℕ). x ++ (number ∷ [])) (left-kept mid r (termOf (atom-read .0)) (atom-read .2) l);
                 standing = atom-read .2 .standing;
+                held = held-kept same (atom-read .2 .held);
                 room = omega arith;
               } in
               subst⁻¹ (GivesWith 0 literalWords one s st entry exit n (record { number = 0; used = n + 1; items = 1; state = r .state })) (named-by false (ne-eqb (r .state .token .kind) 11 ne))
-              (subst⁻¹ (λ (w : List ℕ). GivenWith 0 s st entry exit n (record { number = 0; used = n + 1; items = 1; state = r .state }) w 1 (r .state)) words result)
+              (subst⁻¹ (λ (w : List ℕ). GivenWith 0 s st entry exit n (record { number = 0; used = n + 1; items = 1; state = r .state }) w 1 (cursorOf s mid (r .state))) words result)
 
     -- ---- a literal that begins with something else
-    module _ (g : Gives termWords one s st entry mid (n + 1) r (readTerm 16 s st)) where
-      pub equation-fault : (r .number ≡ 0 → ⊥) → GivesWith 0 literalWords one s st entry mid n r (literalWith s st false)
+    module _ (g : Gives termWords one s st entry mid (n + 1) r (readTerm 16 s (cursorOf s entry st))) where
+      pub equation-fault : (r .number ≡ 0 → ⊥) → GivesWith 0 literalWords one s st entry mid n r (literalWith s (cursorOf s entry st) false)
       unfolding literalWith
-      equation-fault z = seq-fault 1 0 termWords one literalWords one s st st entry mid n (n + 1) r (readTerm 16 s st) (λ t after. afterTerm s t after (eqb (after .token .kind) 11)) (omega arith) g z
+      equation-fault z = seq-fault 1 0 termWords one literalWords one s st st entry mid n (n + 1) r (readTerm 16 s (cursorOf s entry st)) (λ t after. afterTerm s t after (eqb (after .token .kind) 11)) (omega arith) g z
 
       module _ (z : r .number ≡ 0) where
-        term-read : (t : Term) × (readTerm 16 s st ≡ ok t (r .state)) × Given s st entry mid (n + 1) r (termWords t) 1 (r .state)
-        term-read = seq-ok 1 termWords one s st entry mid (n + 1) r (readTerm 16 s st) g z
+        term-read : (t : Term) × (readTerm 16 s (cursorOf s entry st) ≡ ok t (cursorOf s mid (r .state))) × Given s st entry mid (n + 1) r (termWords t) 1 (cursorOf s mid (r .state))
+        term-read = seq-ok 1 termWords one s st entry mid (n + 1) r (readTerm 16 s (cursorOf s entry st)) g z
 
-        unnamed-by : (b : Bool) → eqb (r .state .token .kind) 11 ≡ b → literalWith s st false ≡ afterTerm s (term-read .0) (r .state) b
+        unnamed-by : (b : Bool) → eqb (r .state .token .kind) 11 ≡ b → literalWith s (cursorOf s entry st) false ≡ afterTerm s (term-read .0) (cursorOf s mid (r .state)) b
         unfolding literalWith andThen
-        unnamed-by b e = ap (λ (d : Read Term). andThen d (λ t after. afterTerm s t after (eqb (after .token .kind) 11))) (term-read .1) ∙ ap (afterTerm s (term-read .0) (r .state)) e
+        unnamed-by b e = ap (λ (d : Read Term). andThen d (λ t after. afterTerm s t after (eqb (after .token .kind) 11))) (term-read .1) ∙ ap (afterTerm s (term-read .0) (cursorOf s mid (r .state))) e
 
         pub equation-ready : r .state .token .kind ≡ 11 → Ready s (r .state) mid (r .used) 0 × ((r .state .token .kind ≡ 11) × (n < r .used))
         equation-ready e = right-ready mid r (term-read .0) (term-read .2) l e
 
-        pub equation-read : (exit : List ℕ) (q : Parsed) → r .state .token .kind ≡ 11 → Gives termWords one s (next s (r .state)) (set mid n 3) exit (r .used) q (readTerm 16 s (next s (r .state))) → GivesWith 0 literalWords one s st entry exit n q (literalWith s st false)
+        pub equation-read : (exit : List ℕ) (q : Parsed) → r .state .token .kind ≡ 11 → Gives termWords one s (onward s (r .state)) (set mid n 3) exit (r .used) q (readTerm 16 s (cursorOf s (set mid n 3) (onward s (r .state)))) → GivesWith 0 literalWords one s st entry exit n q (literalWith s (cursorOf s entry st) false)
         unfolding afterTerm
         equation-read exit q e h = subst⁻¹ (GivesWith 0 literalWords one s st entry exit n q) (unnamed-by true (eq-eqb (r .state .token .kind) 11 e)) (equation-given mid r (term-read .0) (term-read .2) l exit q e h)
 
-        pub equation-wrong : (q : Parsed) → (r .state .token .kind ≡ 11 → ⊥) → Refused (r .state) (wrongNumber (r .state .token .kind)) q → GivesWith 0 literalWords one s st entry mid n q (literalWith s st false)
+        pub equation-wrong : (q : Parsed) → (r .state .token .kind ≡ 11 → ⊥) → Refused (r .state) (wrongNumber (r .state .token .kind)) q → GivesWith 0 literalWords one s st entry mid n q (literalWith s (cursorOf s entry st) false)
         unfolding afterTerm
-        equation-wrong q ne f = subst⁻¹ (GivesWith 0 literalWords one s st entry mid n q) (unnamed-by false (ne-eqb (r .state .token .kind) 11 ne)) (refused-wrong-with 0 literalWords one s st (r .state) entry mid n q f (left-kept mid r (term-read .0) (term-read .2) l))
+        equation-wrong q ne f = subst⁻¹ (GivesWith 0 literalWords one s st entry mid n q) (unnamed-by false (ne-eqb (r .state .token .kind) 11 ne)) (refused-wrong-with 0 literalWords one s st (r .state) entry mid n q (namesFrom s (met mid) 0 (r .state .count)) f (left-kept mid r (term-read .0) (term-read .2) l))
 
 -- ---- by what begins it
 
-pub literal-named : (s : List ℕ) (st : State) (entry exit : List ℕ) (n : ℕ) (r : Parsed) → st .token .kind ≡ 3 → GivesWith 0 literalWords one s st entry exit n r (literalWith s st true) → GivesWith 0 literalWords one s st entry exit n r (readLiteral s st)
+pub literal-named : (s : List ℕ) (st : State) (entry exit : List ℕ) (n : ℕ) (r : Parsed) → st .token .kind ≡ 3 → GivesWith 0 literalWords one s st entry exit n r (literalWith s (cursorOf s entry st) true) → GivesWith 0 literalWords one s st entry exit n r (readLiteral s (cursorOf s entry st))
 unfolding readLiteral
-literal-named s st entry exit n r e g = subst⁻¹ (λ (b : Bool). GivesWith 0 literalWords one s st entry exit n r (literalWith s st b)) (eq-eqb (st .token .kind) 3 e) g
+literal-named s st entry exit n r e g = subst⁻¹ (λ (b : Bool). GivesWith 0 literalWords one s st entry exit n r (literalWith s (cursorOf s entry st) b)) (eq-eqb (st .token .kind) 3 e) g
 
-pub literal-other : (s : List ℕ) (st : State) (entry exit : List ℕ) (n : ℕ) (r : Parsed) → (st .token .kind ≡ 3 → ⊥) → GivesWith 0 literalWords one s st entry exit n r (literalWith s st false) → GivesWith 0 literalWords one s st entry exit n r (readLiteral s st)
+pub literal-other : (s : List ℕ) (st : State) (entry exit : List ℕ) (n : ℕ) (r : Parsed) → (st .token .kind ≡ 3 → ⊥) → GivesWith 0 literalWords one s st entry exit n r (literalWith s (cursorOf s entry st) false) → GivesWith 0 literalWords one s st entry exit n r (readLiteral s (cursorOf s entry st))
 unfolding readLiteral
-literal-other s st entry exit n r e g = subst⁻¹ (λ (b : Bool). GivesWith 0 literalWords one s st entry exit n r (literalWith s st b)) (ne-eqb (st .token .kind) 3 e) g
+literal-other s st entry exit n r e g = subst⁻¹ (λ (b : Bool). GivesWith 0 literalWords one s st entry exit n r (literalWith s (cursorOf s entry st) b)) (ne-eqb (st .token .kind) 3 e) g
 
 -- ---- an atom alone, stored
 
@@ -310,20 +338,20 @@ module _ (s : List ℕ) (st : State) (r : Parsed) (entry exit : List ℕ) (n num
     stored = ex ∙ ap (set entry n) en;
   }
 
-module _ (s : List ℕ) (st : State) (entry : List ℕ) (n : ℕ) (ready : Ready s st entry n 1) (mid : List ℕ) (r : Parsed) (l : length mid ≡ length entry) (g : Gives atomWords one s st entry mid (n + 1) r (readAtomAt 16 s st)) (z : r .number ≡ 0) where
+module _ (s : List ℕ) (st : State) (entry : List ℕ) (n : ℕ) (ready : Ready s st entry n 1) (mid : List ℕ) (r : Parsed) (l : length mid ≡ length entry) (g : Gives atomWords one s st entry mid (n + 1) r (readAtomAt 16 s (cursorOf s entry st))) (z : r .number ≡ 0) where
   pub alone-asked : (n + 1 ≤ r .used) × (n + 1 ≤ length mid)
   alone-asked =
-      let o : (a : Atom) × (readAtomAt 16 s st ≡ ok a (r .state)) × Given s st entry mid (n + 1) r (atomWords a) 1 (r .state) = seq-ok 1 atomWords one s st entry mid (n + 1) r (readAtomAt 16 s st) g z in
+      let o : (a : Atom) × (readAtomAt 16 s (cursorOf s entry st) ≡ ok a (cursorOf s mid (r .state))) × Given s st entry mid (n + 1) r (atomWords a) 1 (cursorOf s mid (r .state)) = seq-ok 1 atomWords one s st entry mid (n + 1) r (readAtomAt 16 s (cursorOf s entry st)) g z in
       let used : r .used ≡ (n + 1) + length (atomWords (o .0)) = o .2 .used-is in
-      let room : n + 4 * (length s - st .token .at) + 1 ≤ length entry = ready .room in
+      let room : n + nodeWords * left s st + 1 + variables ≤ length entry = ready .room in
       (omega arith, omega arith)
 
-  alone-by : (exit : List ℕ) (q : Parsed) (b : Bool) → eqb (aloneNumber s st r n) 2 ≡ b → (r .state .token .kind ≡ 11 → ⊥) → exit ≡ set mid n (aloneNumber s st r n) → GivesWith 0 literalWords one s st entry exit n (record { number = 0; used = cond b (r .used) (n + 1); items = 1; state = r .state }) (literalWith s st true)
+  alone-by : (exit : List ℕ) (q : Parsed) (b : Bool) → eqb (aloneNumber s st r n) 2 ≡ b → (r .state .token .kind ≡ 11 → ⊥) → exit ≡ set mid n (aloneNumber s st r n) → GivesWith 0 literalWords one s st entry exit n (record { number = 0; used = cond b (r .used) (n + 1); items = 1; state = r .state }) (literalWith s (cursorOf s entry st) true)
   alone-by exit q true e ne ex = named-call s st entry n ready mid r l g z (aloneNumber s st r n) refl exit ex ne (eqb-true (aloneNumber s st r n) 2 e)
   alone-by exit q false e ne ex = named-other s st entry n ready mid r l g z (aloneNumber s st r n) refl exit ex ne (eqb-false (aloneNumber s st r n) 2 e)
 
-  pub named-alone : (exit : List ℕ) (q : Parsed) → (r .state .token .kind ≡ 11 → ⊥) → Alone s st r mid exit n q → GivesWith 0 literalWords one s st entry exit n q (literalWith s st true)
-  named-alone exit q ne a = subst⁻¹ (λ (x : Parsed). GivesWith 0 literalWords one s st entry exit n x (literalWith s st true)) (a .is) (alone-by exit q (eqb (aloneNumber s st r n) 2) refl ne (a .stored))
+  pub named-alone : (exit : List ℕ) (q : Parsed) → (r .state .token .kind ≡ 11 → ⊥) → Alone s st r mid exit n q → GivesWith 0 literalWords one s st entry exit n q (literalWith s (cursorOf s entry st) true)
+  named-alone exit q ne a = subst⁻¹ (λ (x : Parsed). GivesWith 0 literalWords one s st entry exit n x (literalWith s (cursorOf s entry st) true)) (a .is) (alone-by exit q (eqb (aloneNumber s st r n) 2) refl ne (a .stored))
 
 pub number-asked : (b : Bool) (name : List ℕ) (k : ℕ) → k ≡ atomNumber b name → k < 2 ^ 32
 number-asked b name k e = subst⁻¹ (λ (x : ℕ). x < 2 ^ 32) e (number-small b name)

@@ -10,63 +10,66 @@ use reading::terms::counted;
 use reading::terms::full;
 use reading::terms::read_atom;
 use reading::terms::read_term;
+use syntax::BRACKETS;
+use syntax::CALL_KIND;
+use syntax::CLAUSE_START;
 use syntax::COMMA;
 use syntax::EQUALS;
+use syntax::EQUATION_KIND;
+use syntax::FALSITY_KIND;
+use syntax::LITERALS;
 use syntax::NAME;
 use syntax::NECK;
+use syntax::NODE_WORDS;
 use syntax::STOP;
 use syntax::State;
+use syntax::TRUTH_KIND;
 ghost use mathlib.Core.Path.{_≡_};
 ghost use Prim.Native.Nat.{_+_, _*_, _-_, _≤_, _<_, _^_};
 ghost use lib.ListN.{length, set, take};
 ghost use lib.Dec.{eqb};
 ghost use mathlib.Core.Bool.{true, false};
-ghost use Rattle.syntax.specs.Tokens.{spelling};
-ghost use Rattle.syntax.specs.Reading.{readTerm, literalWith, readLiteral, readBody, readClause};
-ghost use Rattle.syntax.specs.Words.{termWords, literalWords, bodyWords, bodyLength, clauseWords};
-ghost use Rattle.reading.specs.Gives.{Standing, Ready, Given, Gives, GivesWith, one};
+ghost use Rattle.syntax.specs.Limits.{brackets};
+ghost use Rattle.syntax.specs.Tokens.{spelling, nameKind, equalsKind};
+ghost use Rattle.syntax.specs.Reading.{begin, readTerm, literalWith, readLiteral, readBody, readClause};
+ghost use Rattle.syntax.specs.Words.{nodeWords, clauseStart, equationKind, termWords, literalWords, bodyWords, bodyLength, clauseWords};
+ghost use Rattle.reading.specs.Gives.{cursorOf, onward, Standing, Ready, Given, Gives, GivesWith, one};
 ghost use Rattle.clauses.specs.Atoms.{atomNumber, Alone};
 ghost use Rattle.clauses.specs.Rules.{Ruled};
-
-// The most brackets open at once.
-const BRACKETS: usize = 16;
-
-// The most literals in a body or goal.
-pub const LITERALS: usize = 16;
 
 // An equation whose left side was read: its first word, at n, and its right side, behind the = at hand.
 fn read_right(s: &[u8], st: State, table: &mut [u32], n: usize, used: usize) -> Parsed
     requires { ⌜ Ready (now s) st (now table) used 0 ⌝ }
-    requires { ⌜ (st .token .kind ≡ 11) × (n < used) ⌝ }
-    ensures { λ r. ⌜ Gives termWords one (now (s .entry)) (Rattle.syntax.specs.Reading.next (now (s .entry)) st) (set (now (table .entry)) n 3) (now (table .exit)) used r (readTerm 16 (now (s .entry)) (Rattle.syntax.specs.Reading.next (now (s .entry)) st)) ⌝ }
+    requires { ⌜ (st .token .kind ≡ equalsKind) × (n < used) ⌝ }
+    ensures { λ r. ⌜ Gives termWords one (now (s .entry)) (onward (now (s .entry)) st) (set (now (table .entry)) n equationKind) (now (table .exit)) used r (readTerm brackets (now (s .entry)) (cursorOf (now (s .entry)) (set (now (table .entry)) n equationKind) (onward (now (s .entry)) st))) ⌝ }
 {
-    put(table, n, 3);
+    put(table, n, EQUATION_KIND);
     let past = next(s, st);
     read_term(s, BRACKETS, past, table, used)
 }
 
-// What an atom alone stands for: 0 truth, 1 falsehood, 2 a call.
+// What an atom alone stands for: truth, falsehood or a call.
 fn atom_number(s: &[u8], at: usize, len: usize, size: usize) -> usize
     requires { ⌜ at + len ≤ length (now s) ⌝ }
-    ensures { λ r. ⌜ r ≡ atomNumber (eqb size 3) (spelling (now (s .entry)) at len) ⌝ }
+    ensures { λ r. ⌜ r ≡ atomNumber (eqb size nodeWords) (spelling (now (s .entry)) at len) ⌝ }
 {
-    if size != 3 {
-        return 2;
+    if size != NODE_WORDS {
+        return CALL_KIND;
     }
     if is_true(s, at, len) {
-        return 0;
+        return TRUTH_KIND;
     }
     if is_fail(s, at, len) {
-        return 1;
+        return FALSITY_KIND;
     }
-    2
+    CALL_KIND
 }
 
 // A literal that begins with a name.
 fn read_named(s: &[u8], st: State, table: &mut [u32], n: usize) -> Parsed
     requires { ⌜ Ready (now s) st (now table) n 1 ⌝ }
-    requires { ⌜ st .token .kind ≡ 3 ⌝ }
-    ensures { λ r. ⌜ GivesWith 0 literalWords one (now (s .entry)) st (now (table .entry)) (now (table .exit)) n r (literalWith (now (s .entry)) st true) ⌝ }
+    requires { ⌜ st .token .kind ≡ nameKind ⌝ }
+    ensures { λ r. ⌜ GivesWith 0 literalWords one (now (s .entry)) st (now (table .entry)) (now (table .exit)) n r (literalWith (now (s .entry)) (cursorOf (now (s .entry)) (now (table .entry)) st) true) ⌝ }
 {
     let m = n + 1;
     let r = read_atom(s, BRACKETS, st, table, m);
@@ -98,7 +101,7 @@ fn alone(s: &[u8], st: State, r: Parsed, table: &mut [u32], n: usize) -> Parsed
     let number = atom_number(s, at, len, size);
     put(table, n, number);
     let after = r.state;
-    if number == 2 {
+    if number == CALL_KIND {
         return Parsed {
             number: 0,
             used,
@@ -117,7 +120,7 @@ fn alone(s: &[u8], st: State, r: Parsed, table: &mut [u32], n: usize) -> Parsed
 // A literal that begins with a variable or a numeral is an equation.
 fn read_equation(s: &[u8], st: State, table: &mut [u32], n: usize) -> Parsed
     requires { ⌜ Ready (now s) st (now table) n 1 ⌝ }
-    ensures { λ r. ⌜ GivesWith 0 literalWords one (now (s .entry)) st (now (table .entry)) (now (table .exit)) n r (literalWith (now (s .entry)) st false) ⌝ }
+    ensures { λ r. ⌜ GivesWith 0 literalWords one (now (s .entry)) st (now (table .entry)) (now (table .exit)) n r (literalWith (now (s .entry)) (cursorOf (now (s .entry)) (now (table .entry)) st) false) ⌝ }
 {
     let m = n + 1;
     let r = read_term(s, BRACKETS, st, table, m);
@@ -136,7 +139,7 @@ fn read_equation(s: &[u8], st: State, table: &mut [u32], n: usize) -> Parsed
 
 pub fn read_literal(s: &[u8], st: State, table: &mut [u32], n: usize) -> Parsed
     requires { ⌜ Ready (now s) st (now table) n 1 ⌝ }
-    ensures { λ r. ⌜ GivesWith 0 literalWords one (now (s .entry)) st (now (table .entry)) (now (table .exit)) n r (readLiteral (now (s .entry)) st) ⌝ }
+    ensures { λ r. ⌜ GivesWith 0 literalWords one (now (s .entry)) st (now (table .entry)) (now (table .exit)) n r (readLiteral (now (s .entry)) (cursorOf (now (s .entry)) (now (table .entry)) st)) ⌝ }
 {
     let t = st.token;
     let kind = t.kind;
@@ -149,7 +152,7 @@ pub fn read_literal(s: &[u8], st: State, table: &mut [u32], n: usize) -> Parsed
 // Literals up to the full stop, at most k.
 pub fn read_body(s: &[u8], k: usize, st: State, table: &mut [u32], n: usize) -> Parsed
     requires { ⌜ Ready (now s) st (now table) n 1 ⌝ }
-    ensures { λ r. ⌜ Gives bodyWords bodyLength (now (s .entry)) st (now (table .entry)) (now (table .exit)) n r (readBody (now (s .entry)) k st) ⌝ }
+    ensures { λ r. ⌜ Gives bodyWords bodyLength (now (s .entry)) st (now (table .entry)) (now (table .exit)) n r (readBody (now (s .entry)) k (cursorOf (now (s .entry)) (now (table .entry)) st)) ⌝ }
 {
     if k == 0 {
         return full(st);
@@ -182,17 +185,16 @@ pub fn read_body(s: &[u8], k: usize, st: State, table: &mut [u32], n: usize) -> 
 
 // The reader with no variable met.
 fn fresh(st: State) -> State
-    ensures { λ r. ⌜ r ≡ Rattle.syntax.specs.Reading.fresh st ⌝ }
+    ensures { λ r. ⌜ r ≡ Rattle.reading.specs.Gives.fresh st ⌝ }
 {
-    let mut new = st;
-    new.count = 0;
-    new
+    let token = st.token;
+    State { token, count: 0 }
 }
 
 // The body of a clause whose head was read, and then the clause's first words, at n; the :- is at hand.
 fn read_rule(s: &[u8], st: State, table: &mut [u32], n: usize, used: usize) -> Parsed
     requires { ⌜ Ready (now s) st (now table) used 1 ⌝ }
-    requires { ⌜ n + 3 ≤ used ⌝ }
+    requires { ⌜ n + clauseStart ≤ used ⌝ }
     ensures { λ r. ⌜ Ruled (now (s .entry)) st (now (table .entry)) (now (table .exit)) n used r ⌝ }
 {
     let past = next(s, st);
@@ -218,12 +220,12 @@ fn one_item(r: Parsed) -> Parsed
 
 // A clause, of which the head's name is at hand.
 pub fn read_clause(s: &[u8], st: State, table: &mut [u32], n: usize) -> Parsed
-    requires { ⌜ Ready (now s) st (now table) n 4 ⌝ }
-    requires { ⌜ st .token .kind ≡ 3 ⌝ }
-    ensures { λ r. ⌜ Gives clauseWords one (now (s .entry)) st (now (table .entry)) (now (table .exit)) n r (readClause (now (s .entry)) st) ⌝ }
+    requires { ⌜ Ready (now s) (Rattle.reading.specs.Gives.fresh st) (now table) n 4 ⌝ }
+    requires { ⌜ st .token .kind ≡ nameKind ⌝ }
+    ensures { λ r. ⌜ Gives clauseWords one (now (s .entry)) st (now (table .entry)) (now (table .exit)) n r (readClause (now (s .entry)) (begin (st .token))) ⌝ }
 {
     let begin = fresh(st);
-    let m = n + 3;
+    let m = n + CLAUSE_START;
     let r = read_atom(s, BRACKETS, begin, table, m);
     if r.number != 0 {
         return r;

@@ -8,11 +8,14 @@ use mathlib.Core.Option.{Option, none, some}
 use lib.Dec.{T, leb}
 use lib.ListN.{length}
 use borrow.Author.Tests.{leb-false}
+use Rattle.syntax.specs.Words.{callKind}
+use Rattle.syntax.specs.Limits.{clauses, longestPath, literals}
 use Rattle.syntax.specs.Terms.{termOf, Atom, call, Body, also, Clause, Sheet, Goal}
 use Rattle.machine.specs.Substitution.{copied, Binding}
 use Rattle.machine.specs.Unification.{unify}
 use Rattle.machine.specs.Machine.{Pending, Alternative, pending, isFor, nextFor, topmost, clauseAt, movedOn, laid, tried, onTop, called, worked, step}
 use Rattle.machine.specs.Runs.{isThere, triesWith, triesFirst, goesDeeper}
+use Rattle.layout.specs.Regions.{copyCells, places, bodies, trail, alternatives, stateWords, frameOf, alternativeOf, literalSize, nextLiteral, frameSize, alternativeSize, clauseRecord, frames}
 use Rattle.layout.specs.Nodes.{Symbol, Stands}
 use Rattle.layout.specs.State.{copyOf, cellAt, trailAt, bindings, Within}
 use Rattle.layout.specs.Program.{headAt, bodyAt, afterAt, kindAt, placeAt, otherAt, BodyStands}
@@ -35,7 +38,7 @@ use Rattle.layout.proofs.Pile.{SameFrames, path-high, calls-also, clause-low, k
 within-more : (k n : ℕ) (state : List ℕ) → Within k state n → Within (k + 1) state n
 within-more k n state w =
     record {
-      cell = λ i l. (let z : trailAt state i < (k + 1) * 64 = w .cell i l in omega arith);
+      cell = λ i l. (let z : trailAt state i < (k + 1) * copyCells = w .cell i l in omega arith);
       copy = λ i l. (let z : copyOf (cellAt state (trailAt state i)) ≤ k = w .copy i l in omega arith);
     }
 
@@ -62,7 +65,7 @@ module _ (nodes code state scratch : List ℕ) (j k : ℕ) (w : Tryable nodes co
 
   pub try-unifiable-top : Unifiable nodes state scratch (placeAt code (literalAt state j)) (copyAt state j) (headAt code k) (pathAt state j + 1) (markAt state j)
   try-unifiable-top =
-      let p : pathAt state j < 255 = w .low in
+      let p : pathAt state j < longestPath = w .low in
       let c : copyAt state j ≤ pathAt state j = top-stacked ss sh g nodes code state j (markAt state j) (w .piled) .copy in
       record {
         ss = ss;
@@ -81,7 +84,7 @@ module _ (nodes code state scratch : List ℕ) (j k : ℕ) (w : Tryable nodes co
 
   pub try-closed-top : Closed (pathAt state j + 1) state
   try-closed-top =
-      let p : pathAt state j < 255 = w .low in
+      let p : pathAt state j < longestPath = w .low in
       closed-within ss nodes state (markAt state j) (pathAt state j) (w .piled .store) (top-stacked ss sh g nodes code state j (markAt state j) (w .piled) .within) (omega arith)
 
   module _ (state1 later : List ℕ) (r : Unified)
@@ -113,28 +116,28 @@ module _ (nodes code state scratch : List ℕ) (j k : ℕ) (w : Tryable nodes co
           scratch-long = unifies .long;
         }
 
-    clause-small : k ≤ 256
-    clause-small = let a : k ≤ length (sh .clauses) = clause-low sh k (w .clause) (w .there) in let b : length (sh .clauses) ≤ 256 = w .piled .program .few in omega arith
+    clause-small : k ≤ clauses
+    clause-small = let a : k ≤ length (sh .clauses) = clause-low sh k (w .clause) (w .there) in let b : length (sh .clauses) ≤ clauses = w .piled .program .few in omega arith
 
-    pub try-frame-top : (32768 + (pathAt state j + 1) * 4 + 3 < length state1) × ((k < 2 ^ 32) × ((copyAt state j < 2 ^ 32) × (literalAt state j < 2 ^ 32)))
+    pub try-frame-top : (frameOf (pathAt state j + 1) + frameSize ≤ length state1) × ((k < 2 ^ 32) × ((copyAt state j < 2 ^ 32) × (literalAt state j < 2 ^ 32)))
     try-frame-top =
-        let p : pathAt state j < 255 = w .low in
+        let p : pathAt state j < longestPath = w .low in
         let c : copyAt state j ≤ pathAt state j = top-stacked ss sh g nodes code state j (markAt state j) (w .piled) .copy in
-        let l : 35328 ≤ length state = w .piled .long in
+        let l : stateWords ≤ length state = w .piled .long in
         let e : length state1 ≡ length state = unifies .keeps .long in
-        let q : k ≤ 256 = clause-small in
-        let i : literalAt state j + 4 ≤ length code = top-inside ss sh g nodes code state j (markAt state j) (w .piled) in
-        let s : length code ≤ 65536 = w .piled .program .short in
+        let q : k ≤ clauses = clause-small in
+        let i : literalAt state j + literalSize ≤ length code = top-inside ss sh g nodes code state j (markAt state j) (w .piled) in
+        let s : length code ≤ places = w .piled .program .short in
         (omega arith, (omega arith, (omega arith, omega arith)))
 
     -- the frame of the new copy is written
     module _ (state2 : List ℕ) (is : state2 ≡ frameWords state1 (pathAt state j + 1) k (copyAt state j) (literalAt state j)) where
-      frame-room : 32768 + (pathAt state j + 1) * 4 + 3 < length state1
+      frame-room : frameOf (pathAt state j + 1) + frameSize ≤ length state1
       frame-room = try-frame-top .0
 
       pushing : Pushing ss sh g nodes code state state1 state2 j (markAt state j) (r .trail) (pathAt state j + 1) k (w .atom) (w .clause)
       pushing =
-          let p : pathAt state j < 255 = w .low in
+          let p : pathAt state j < longestPath = w .low in
           record {
             piled = w .piled;
             mark = refl;
@@ -152,19 +155,19 @@ module _ (nodes code state scratch : List ℕ) (j k : ℕ) (w : Tryable nodes co
       state2-long : length state2 ≡ length state
       state2-long = pushing .framed .long ∙ unifies .keeps .long
 
-      room2 : 33792 + suc j * 6 + 5 < length state2
+      room2 : alternativeOf (suc j) + alternativeSize ≤ length state2
       room2 =
-          let p : pathAt state j < 255 = w .low in
+          let p : pathAt state j < longestPath = w .low in
           let a : j ≤ pathAt state j = path-high ss sh g nodes code state (suc j) (markAt state j) (w .piled) j (omega arith) in
-          let l : 35328 ≤ length state = w .piled .long in
+          let l : stateWords ≤ length state = w .piled .long in
           let e : length state2 ≡ length state = state2-long in
           omega arith
 
       pub try-layable-top : Layable code state2 (suc j) (pathAt state j + 1) (bodyAt code k) (r .trail) (pathAt state j + 1)
       try-layable-top =
-          let p : pathAt state j < 255 = w .low in
+          let p : pathAt state j < longestPath = w .low in
           let a : j ≤ pathAt state j = path-high ss sh g nodes code state (suc j) (markAt state j) (w .piled) j (omega arith) in
-          let l : 35328 ≤ length state = w .piled .long in
+          let l : stateWords ≤ length state = w .piled .long in
           let e : length state2 ≡ length state = state2-long in
           record {
             ss = ss;
@@ -194,8 +197,8 @@ module _ (nodes code state scratch : List ℕ) (j k : ℕ) (w : Tryable nodes co
       laid-on after e q =
           let a : q .spot .copy ≤ pathAt state j + 1 = q .climbs .copy in
           let b : j ≤ pathAt state j = path-high ss sh g nodes code state (suc j) (markAt state j) (w .piled) j (omega arith) in
-          let p : pathAt state j < 255 = w .low in
-          let l : 35328 ≤ length state = w .piled .long in
+          let p : pathAt state j < longestPath = w .low in
+          let l : stateWords ≤ length state = w .piled .long in
           let s : length state2 ≡ length state = state2-long in
           let written : Written (suc j) (q .spot .copy) (q .spot .literal) (q .next) (r .trail) (pathAt state j + 1) state2 after =
           subst⁻¹ (λ (x : List ℕ). Written (suc j) (q .spot .copy) (q .spot .literal) (q .next) (r .trail) (pathAt state j + 1) state2 x) (q .words) (stand-written state2 (suc j) (q .spot .copy) (q .spot .literal) (q .next) (r .trail) (pathAt state j + 1) room2) in
@@ -232,7 +235,7 @@ tried-moved : (sh : Sheet) (a : Alternative) (c : ℕ) (at : Atom) (rest : List 
 unfolding tried movedOn
 tried-moved sh a c at rest cl = laid-moved sh a c at rest cl (unify (a .bindings) (copied c (termOf at)) (copied (suc (length (a .calls))) (termOf (cl .head))))
 
-module _ (nodes code state scratch : List ℕ) (j : ℕ) (w : Steppable nodes code state scratch (suc j) (markAt state j)) (kind : kindAt code (literalAt state j) ≡ 2) where
+module _ (nodes code state scratch : List ℕ) (j : ℕ) (w : Steppable nodes code state scratch (suc j) (markAt state j)) (kind : kindAt code (literalAt state j) ≡ callKind) where
   abbrev ss₁ : List Symbol
   ss₁ = w .running .ss
 
@@ -279,17 +282,17 @@ module _ (nodes code state scratch : List ℕ) (j : ℕ) (w : Steppable nodes co
     unfolding clause
     there = clause-of (calling .0) is-calling .1
 
-    pub call-inside-top : nextAt state j * 4 + 2 < length code
+    pub call-inside-top : clauseRecord (nextAt state j) + 2 < length code
     call-inside-top =
         let a : nextAt state j ≤ length (sh₁ .clauses) = clause-low sh₁ (nextAt state j) clause there in
-        let b : length (sh₁ .clauses) ≤ 256 = piled .program .few in
-        let c : 1028 ≤ length code = piled .program .long in
+        let b : length (sh₁ .clauses) ≤ clauses = piled .program .few in
+        let c : bodies ≤ length code = piled .program .long in
         omega arith
 
-    pub call-room-top : (33792 + j * 6 + 5 < length state) × (afterAt code (nextAt state j) < 2 ^ 32)
+    pub call-room-top : (alternativeOf j + alternativeSize ≤ length state) × (afterAt code (nextAt state j) < 2 ^ 32)
     call-room-top =
         let a : afterAt code (nextAt state j) ≤ length (sh₁ .clauses) = next-low sh₁ (calling .0) (afterAt code (nextAt state j)) (after-for (calling .0) is-calling) in
-        let b : length (sh₁ .clauses) ≤ 256 = piled .program .few in
+        let b : length (sh₁ .clauses) ≤ clauses = piled .program .few in
         (top-room ss₁ sh₁ g₁ nodes code state j (markAt state j) piled, omega arith)
 
     tries : triesFirst sh₁ (alternativeAt ss₁ sh₁ g₁ nodes code state j) (leftFrom sh₁ g₁ code state (pathAt state j) (copyAt state j) (literalAt state j)) ≡ true
@@ -298,13 +301,13 @@ module _ (nodes code state scratch : List ℕ) (j : ℕ) (w : Steppable nodes co
         ap (triesFirst sh₁ (alternativeAt ss₁ sh₁ g₁ nodes code state j)) (left-also sh₁ g₁ code state (pathAt state j) (copyAt state j) (literalAt state j) (top-stacked ss₁ sh₁ g₁ nodes code state j (markAt state j) piled .place) (call (calling .0)) (calling .1) (calling .2))
         ∙ ap isThere there
 
-    deep : leb 255 (length (callsUpTo sh₁ g₁ code state (pathAt state j))) ≡ false
+    deep : leb longestPath (length (callsUpTo sh₁ g₁ code state (pathAt state j))) ≡ false
     unfolding goesDeeper pileOf alternativeAt
-    deep = sym (ap (λ (t : Bool). t && leb 255 (length (callsUpTo sh₁ g₁ code state (pathAt state j)))) tries) ∙ w .goes
+    deep = sym (ap (λ (t : Bool). t && leb longestPath (length (callsUpTo sh₁ g₁ code state (pathAt state j)))) tries) ∙ w .goes
 
-    path-low : pathAt state j < 255
+    path-low : pathAt state j < longestPath
     path-low =
-        let a : length (callsUpTo sh₁ g₁ code state (pathAt state j)) < 255 = leb-false 255 (length (callsUpTo sh₁ g₁ code state (pathAt state j))) deep in
+        let a : length (callsUpTo sh₁ g₁ code state (pathAt state j)) < longestPath = leb-false longestPath (length (callsUpTo sh₁ g₁ code state (pathAt state j))) deep in
         let b : length (callsUpTo sh₁ g₁ code state (pathAt state j)) ≡ pathAt state j = calls-count sh₁ g₁ code state (pathAt state j) in
         omega arith
 
@@ -312,13 +315,13 @@ module _ (nodes code state scratch : List ℕ) (j : ℕ) (w : Steppable nodes co
       written : Written j (copyAt state j) (literalAt state j) (afterAt code (nextAt state j)) (markAt state j) (pathAt state j) state state1
       written = subst⁻¹ (λ (x : List ℕ). Written j (copyAt state j) (literalAt state j) (afterAt code (nextAt state j)) (markAt state j) (pathAt state j) state x) is (next-written state j (afterAt code (nextAt state j)) (top-room ss₁ sh₁ g₁ nodes code state j (markAt state j) piled))
 
-      frames : SameFrames 255 state state1
-      frames i a b = written .others i (omega arith)
+      framed-same : SameFrames longestPath state state1
+      framed-same i a b = written .others i (omega arith)
 
       means : Means ss₁ sh₁ g₁ nodes code state1 (suc j) (markAt state j) (record { literals = leftFrom sh₁ g₁ code state (pathAt state j) (copyAt state j) (literalAt state j); bindings = bindings ss₁ nodes state (markAt state j); next = afterAt code (nextAt state j); calls = callsUpTo sh₁ g₁ code state (pathAt state j) } ∷ pileOf ss₁ sh₁ g₁ nodes code state j)
       means = moved ss₁ sh₁ g₁ nodes code state state1 j (markAt state j) (afterAt code (nextAt state j)) piled after-for written
 
-      low-path : pathAt state j ≤ 255
+      low-path : pathAt state j ≤ longestPath
       low-path = top-stacked ss₁ sh₁ g₁ nodes code state j (markAt state j) piled .low
 
       low-copy : copyAt state j ≤ pathAt state j
@@ -326,18 +329,18 @@ module _ (nodes code state scratch : List ℕ) (j : ℕ) (w : Steppable nodes co
 
       same-here : restFrom sh₁ g₁ code state1 (copyAt state1 j) (literalAt state1 j) ≡ restFrom sh₁ g₁ code state (copyAt state j) (literalAt state j)
       same-here =
-          let a : pathAt state j ≤ 255 = low-path in
+          let a : pathAt state j ≤ longestPath = low-path in
           let b : copyAt state j ≤ pathAt state j = low-copy in
-          ap₂ (restFrom sh₁ g₁ code state1) (written .copy) (written .literal) ∙ same-rest sh₁ g₁ code state state1 255 frames (copyAt state j) (literalAt state j) (omega arith)
+          ap₂ (restFrom sh₁ g₁ code state1) (written .copy) (written .literal) ∙ same-rest sh₁ g₁ code state state1 longestPath framed-same (copyAt state j) (literalAt state j) (omega arith)
 
       same-behind-it : restAt sh₁ g₁ code state1 j ≡ restAt sh₁ g₁ code state j
       same-behind-it =
-          (λ i. leftFrom sh₁ g₁ code state1 (written .path i) (written .copy i) (written .literal i + 4))
-          ∙ same-left sh₁ g₁ code state state1 255 frames (pathAt state j) (copyAt state j) (literalAt state j + 4) low-path low-copy (top-stacked ss₁ sh₁ g₁ nodes code state j (markAt state j) piled .frame)
+          (λ i. leftFrom sh₁ g₁ code state1 (written .path i) (written .copy i) (nextLiteral (written .literal i)))
+          ∙ same-left sh₁ g₁ code state state1 longestPath framed-same (pathAt state j) (copyAt state j) (nextLiteral (literalAt state j)) low-path low-copy (top-stacked ss₁ sh₁ g₁ nodes code state j (markAt state j) piled .frame)
 
       pub call-tryable-top : Tryable nodes code state1 scratch (suc j) j (nextAt state j)
       call-tryable-top =
-          let a : pathAt state j < 255 = path-low in
+          let a : pathAt state j < longestPath = path-low in
           let b : pathAt state1 j ≡ pathAt state j = written .path in
           record {
             ss = ss₁;

@@ -4,8 +4,11 @@ use native.Mathlib.Omega.{arith}
 use mathlib.Core.Path.{_≡_, refl, sym, ap, _∙_, subst, subst⁻¹}
 use mathlib.Core.List.{List}
 use lib.ListN.{length}
+use Rattle.syntax.specs.Words.{truthKind, falsityKind, equationKind}
+use Rattle.syntax.specs.Limits.{clauses, longestPath}
 use Rattle.syntax.specs.Terms.{call, equation, truth, falsity, Body, done, also, Sheet, Goal}
 use Rattle.machine.specs.Machine.{nextFor, topmost}
+use Rattle.layout.specs.Regions.{places, cells, stateWords, frameOf, alternativeOf, literalSize, endKind, nextLiteral, frameSize, alternativeSize, mostAlternatives}
 use Rattle.layout.specs.Nodes.{Symbol}
 use Rattle.layout.specs.Program.{kindAt, BodyStands}
 use Rattle.layout.specs.Pile.{callerOf, callOf, restFrom, leftFrom, Place}
@@ -31,24 +34,24 @@ module _ {code state : List ℕ} {c l : ℕ} (w : Climbable code state c l) wher
     stands : BodyStands (w .ss) (w .sh) (w .nodes) code literal (restFrom (w .sh) (w .g) code state copy literal)
     stands = place-stands (w .ss) (w .sh) (w .g) (w .nodes) code state copy literal (w .climbing .program) (a .place)
 
-    room : literal + 4 ≤ length code
+    room : literal + literalSize ≤ length code
     room = kind-room (w .ss) (w .sh) (w .nodes) code literal (restFrom (w .sh) (w .g) code state copy literal) stands
 
     pub along-inside : literal < length code
-    along-inside = let r : literal + 4 ≤ length code = room in omega arith
+    along-inside = let r : literal + literalSize ≤ length code = room in omega arith
 
     high : copy ≤ w .path
     high = let x : copy ≤ c = a .low in let y : c ≤ w .path = w .climbing .copy in omega arith
 
-    pub along-frame : 32768 + copy * 4 + 3 < length state
+    pub along-frame : frameOf copy + frameSize ≤ length state
     along-frame =
         let x : copy ≤ w .path = high in
-        let y : w .path ≤ 255 = w .climbing .low in
-        let z : 35328 ≤ length state = w .climbing .long in
+        let y : w .path ≤ longestPath = w .climbing .low in
+        let z : stateWords ≤ length state = w .climbing .long in
         omega arith
 
     -- a literal stands here
-    pub along-stops : (v : ℕ) → v ≡ kindAt code literal → (v ≡ 4 → ⊥) → Climbs (w .sh) (w .g) code state (w .path) c l (record { copy = copy; literal = literal })
+    pub along-stops : (v : ℕ) → v ≡ kindAt code literal → (v ≡ endKind → ⊥) → Climbs (w .sh) (w .g) code state (w .path) c l (record { copy = copy; literal = literal })
     along-stops v e z =
         record {
           copy = a .low;
@@ -64,14 +67,14 @@ module _ {code state : List ℕ} {c l : ℕ} (w : Climbable code state c l) wher
         record { copy = a .low; here = a .here; place = a .place; ends = λ q. (let e : copy ≡ 0 = omega arith in e); same = a .same }
 
     -- the body has ended
-    at-end : (v : ℕ) → v ≡ kindAt code literal → v ≡ 4 → restFrom (w .sh) (w .g) code state copy literal ≡ done
+    at-end : (v : ℕ) → v ≡ kindAt code literal → v ≡ endKind → restFrom (w .sh) (w .g) code state copy literal ≡ done
     at-end v e q = kind-done (w .ss) (w .sh) (w .nodes) code literal (restFrom (w .sh) (w .g) code state copy literal) stands (sym e ∙ q)
 
 module _ {code state : List ℕ} {c l : ℕ} (w : Climbable code state c l) {copy literal : ℕ} (a : Along (w .sh) (w .g) code state (w .path) c l copy literal) (z : 0 < copy) (v : ℕ) (e : v ≡ kindAt code literal) (q : v ≡ 4) where
   rising : Rising (w .sh) (w .g) code state (w .path) copy literal
   rising = rise (w .sh) (w .g) code state (w .path) copy literal (w .climbing .frame) (let y : 0 < copy = z in omega arith) (high w a) (at-end w a v e q)
 
-  risen : Along (w .sh) (w .g) code state (w .path) c l (callerOf state copy) (callOf state copy + 4)
+  risen : Along (w .sh) (w .g) code state (w .path) c l (callerOf state copy) (nextLiteral (callOf state copy))
   risen =
       let x : callerOf state copy < copy = rising .below in
       let y : copy ≤ c = a .low in
@@ -92,24 +95,27 @@ module _ {code state : List ℕ} {c l : ℕ} (w : Climbable code state c l) {cop
     pub along-less : s .copy < copy
     along-less = let x : callerOf state copy < copy = rising .below in let y : s .copy ≡ callerOf state copy = copy-is in omega arith
 
-    pub along-next : Along (w .sh) (w .g) code state (w .path) c l (s .copy) (s .literal + 4)
-    along-next = subst⁻¹ (λ (x : Spot). Along (w .sh) (w .g) code state (w .path) c l (x .copy) (x .literal + 4)) is risen
+    along-here : Along (w .sh) (w .g) code state (w .path) c l (s .copy) (nextLiteral (s .literal))
+    along-here = subst⁻¹ (λ (x : Spot). Along (w .sh) (w .g) code state (w .path) c l (x .copy) (nextLiteral (x .literal))) is risen
+
+    pub along-next : {i : ℕ} → i ≡ nextLiteral (s .literal) → Along (w .sh) (w .g) code state (w .path) c l (s .copy) i
+    along-next e = subst⁻¹ (Along (w .sh) (w .g) code state (w .path) c l (s .copy)) e along-here
 
     -- the sum is no larger than the table
-    pub along-fits : s .literal + 4 ≤ 65536
+    pub along-fits : s .literal + literalSize ≤ places
     along-fits =
-        let x : s .literal + 4 < length code = along-inside w along-next in
-        let y : length code ≤ 65536 = w .climbing .program .short in
+        let x : nextLiteral (s .literal) < length code = along-inside w along-here in
+        let y : length code ≤ places = w .climbing .program .short in
         omega arith
 
 -- ---- laying
 
 topmost-low : (ss : List Symbol) (sh : Sheet) (nodes code : List ℕ) (l : ℕ) (b : Body) → BodyStands ss sh nodes code l b → topmostAt code l ≤ length (sh .clauses)
-topmost-low ss sh nodes code l done s = let z : 0 ≡ topmostAt code l = topmost-other code l (λ q. (let x : kindAt code l ≡ 4 = s .1 in omega arith)) in omega arith
+topmost-low ss sh nodes code l done s = let z : 0 ≡ topmostAt code l = topmost-other code l (λ q. (let x : kindAt code l ≡ endKind = s .1 in omega arith)) in omega arith
 topmost-low ss sh nodes code l (also (call a) b) s = subst (λ (y : ℕ). y ≤ length (sh .clauses)) (sym (s .1 .2) ∙ topmost-call code l (s .1 .0)) (next-low sh a (nextFor sh a 0) (next-for sh a 0))
-topmost-low ss sh nodes code l (also (equation t u) b) s = let z : 0 ≡ topmostAt code l = topmost-other code l (λ q. (let x : kindAt code l ≡ 3 = s .1 .0 in omega arith)) in omega arith
-topmost-low ss sh nodes code l (also truth b) s = let z : 0 ≡ topmostAt code l = topmost-other code l (λ q. (let x : kindAt code l ≡ 0 = s .1 in omega arith)) in omega arith
-topmost-low ss sh nodes code l (also falsity b) s = let z : 0 ≡ topmostAt code l = topmost-other code l (λ q. (let x : kindAt code l ≡ 1 = s .1 in omega arith)) in omega arith
+topmost-low ss sh nodes code l (also (equation t u) b) s = let z : 0 ≡ topmostAt code l = topmost-other code l (λ q. (let x : kindAt code l ≡ equationKind = s .1 .0 in omega arith)) in omega arith
+topmost-low ss sh nodes code l (also truth b) s = let z : 0 ≡ topmostAt code l = topmost-other code l (λ q. (let x : kindAt code l ≡ truthKind = s .1 in omega arith)) in omega arith
+topmost-low ss sh nodes code l (also falsity b) s = let z : 0 ≡ topmostAt code l = topmost-other code l (λ q. (let x : kindAt code l ≡ falsityKind = s .1 in omega arith)) in omega arith
 
 module _ {code state : List ℕ} {j c l mark path : ℕ} (w : Layable code state j c l mark path) (s : Spot) (k : (v : Climbable code state c l) → Climbs (v .sh) (v .g) code state (v .path) c l s) where
   spot-climbs : Climbs (w .sh) (w .g) code state path c l s
@@ -118,25 +124,25 @@ module _ {code state : List ℕ} {j c l mark path : ℕ} (w : Layable code state
   spot-stands : BodyStands (w .ss) (w .sh) (w .nodes) code (s .literal) (restFrom (w .sh) (w .g) code state (s .copy) (s .literal))
   spot-stands = place-stands (w .ss) (w .sh) (w .g) (w .nodes) code state (s .copy) (s .literal) (w .climbing .program) (spot-climbs .place)
 
-  spot-room : s .literal + 4 ≤ length code
+  spot-room : s .literal + literalSize ≤ length code
   spot-room = kind-room (w .ss) (w .sh) (w .nodes) code (s .literal) (restFrom (w .sh) (w .g) code state (s .copy) (s .literal)) spot-stands
 
-  pub lay-inside : s .literal + 3 < length code
-  lay-inside = let r : s .literal + 4 ≤ length code = spot-room in omega arith
+  pub lay-inside : s .literal + literalSize ≤ length code
+  lay-inside = let r : s .literal + literalSize ≤ length code = spot-room in omega arith
 
   module _ (next : ℕ) (is : next ≡ topmostAt code (s .literal)) where
-    pub lay-room : (33792 + j * 6 + 5 < length state) × (((s .copy < 2 ^ 32) × (s .literal < 2 ^ 32)) × ((next < 2 ^ 32) × ((mark < 2 ^ 32) × (path < 2 ^ 32))))
+    pub lay-room : (alternativeOf j + alternativeSize ≤ length state) × (((s .copy < 2 ^ 32) × (s .literal < 2 ^ 32)) × ((next < 2 ^ 32) × ((mark < 2 ^ 32) × (path < 2 ^ 32))))
     lay-room =
-        let r : s .literal + 4 ≤ length code = spot-room in
-        let a : length code ≤ 65536 = w .climbing .program .short in
+        let r : s .literal + literalSize ≤ length code = spot-room in
+        let a : length code ≤ places = w .climbing .program .short in
         let b : s .copy ≤ c = spot-climbs .copy in
         let d : c ≤ path = w .climbing .copy in
-        let e : path ≤ 255 = w .climbing .low in
-        let f : mark ≤ 16384 = w .small in
-        let h : j ≤ 255 = w .room in
-        let i : 35328 ≤ length state = w .climbing .long in
+        let e : path ≤ longestPath = w .climbing .low in
+        let f : mark ≤ cells = w .small in
+        let h : j < mostAlternatives = w .room in
+        let i : stateWords ≤ length state = w .climbing .long in
         let m : topmostAt code (s .literal) ≤ length (w .sh .clauses) = topmost-low (w .ss) (w .sh) (w .nodes) code (s .literal) (restFrom (w .sh) (w .g) code state (s .copy) (s .literal)) spot-stands in
-        let n : length (w .sh .clauses) ≤ 256 = w .climbing .program .few in
+        let n : length (w .sh .clauses) ≤ clauses = w .climbing .program .few in
         (omega arith, ((omega arith, omega arith), (omega arith, (omega arith, omega arith))))
 
     new : Fresh (w .sh) (w .g) code state path (s .copy) (s .literal) next
@@ -153,7 +159,7 @@ module _ {code state : List ℕ} {j c l mark path : ℕ} (w : Layable code state
           words = e;
         }
 
-pub lays-long : {sh : Sheet} {g : Goal} {code before after : List ℕ} {j c l mark path : ℕ} → 33792 + j * 6 + 5 < length before → Lays sh g code before after j c l mark path → length after ≡ length before
+pub lays-long : {sh : Sheet} {g : Goal} {code before after : List ℕ} {j c l mark path : ℕ} → alternativeOf j + alternativeSize ≤ length before → Lays sh g code before after j c l mark path → length after ≡ length before
 lays-long {sh} {g} {code} {before} {after} {j} {c} {l} {mark} {path} room k = ap length (k .words) ∙ stand-long before j (k .spot .copy) (k .spot .literal) (k .next) mark path room
 
 -- what `lay` promises

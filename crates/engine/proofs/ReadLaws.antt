@@ -5,6 +5,9 @@ use mathlib.Core.Path.{_≡_, refl, sym, ap, _∙_, subst, subst⁻¹}
 use mathlib.Core.Bool.{true, false}
 use mathlib.Core.List.{List}
 use lib.ListN.{length, getD}
+use Rattle.syntax.specs.Words.{truthKind, callKind, equationKind}
+use Rattle.syntax.specs.Limits.{clauses, longestPath}
+use Rattle.layout.specs.Regions.{places, bodies, trail, mostAlternatives, frameOf, alternativeOf, literalSize, nextLiteral, frameSize, alternativeSize, clauseRecord}
 use Rattle.layout.specs.Program.{headAt, bodyAt, afterAt, kindAt, placeAt, otherAt}
 use Rattle.layout.specs.Pile.{copyAt, literalAt, nextAt, markAt, pathAt}
 use Rattle.bindings.specs.Queues.{Closed}
@@ -57,7 +60,7 @@ module _ {code state : List ℕ} {j c c2 l l2 mark mark2 path path2 : ℕ} (ce :
 -- ---- the top
 
 module _ (nodes code state scratch : List ℕ) (j : ℕ) (w : Steppable nodes code state scratch (suc j) (markAt state j)) where
-  top-facts : (33792 + j * 6 + 5 < length state) × ((literalAt state j + 4 ≤ length code) × (length code ≤ 65536))
+  top-facts : (alternativeOf j + alternativeSize ≤ length state) × ((literalAt state j + literalSize ≤ length code) × (length code ≤ places))
   top-facts = (
     top-room (w .running .ss) (w .running .sh) (w .running .g) nodes code state j (markAt state j) (w .running .piled),
     (top-inside (w .running .ss) (w .running .sh) (w .running .g) nodes code state j (markAt state j) (w .running .piled), w .running .piled .program .short),
@@ -66,12 +69,12 @@ module _ (nodes code state scratch : List ℕ) (j : ℕ) (w : Steppable nodes co
 -- ---- below `step`
 
 module _ {nodes code state scratch : List ℕ} {h : ℕ} (w : Steppable nodes code state scratch h (markAt state (h - 1))) where
-  facts : (33792 + (h - 1) * 6 + 5 < length state) × ((literalAt state (h - 1) + 4 ≤ length code) × (length code ≤ 65536))
+  facts : (alternativeOf (h - 1) + alternativeSize ≤ length state) × ((literalAt state (h - 1) + literalSize ≤ length code) × (length code ≤ places))
   facts =
-      at-top (λ (h j : ℕ). Steppable nodes code state scratch h (markAt state j) → (33792 + j * 6 + 5 < length state) × ((literalAt state j + 4 ≤ length code) × (length code ≤ 65536)))
+      at-top (λ (h j : ℕ). Steppable nodes code state scratch h (markAt state j) → (alternativeOf j + alternativeSize ≤ length state) × ((literalAt state j + literalSize ≤ length code) × (length code ≤ places)))
       (λ j w. top-facts nodes code state scratch j w) h (w .some) w
 
-  pub work-room : 33792 + (h - 1) * 6 + 5 < length state
+  pub work-room : alternativeOf (h - 1) + alternativeSize ≤ length state
   work-room = facts .0
 
   module _ {s : Stand} (is : s ≡ standAt state (h - 1)) where
@@ -90,9 +93,9 @@ module _ {nodes code state scratch : List ℕ} {h : ℕ} (w : Steppable nodes co
     path-is : s .path ≡ pathAt state (h - 1)
     path-is = ap (λ (x : Stand). x .path) is
 
-    pub work-inside : (s .literal + 4 ≤ length code) × (length code ≤ 65536)
+    pub work-inside : (s .literal + literalSize ≤ length code) × (length code ≤ places)
     work-inside =
-        let a : literalAt state (h - 1) + 4 ≤ length code = facts .1 .0 in
+        let a : literalAt state (h - 1) + literalSize ≤ length code = facts .1 .0 in
         let b : s .literal ≡ literalAt state (h - 1) = literal-is in
         (omega arith, facts .1 .1)
 
@@ -103,28 +106,28 @@ module _ {nodes code state scratch : List ℕ} {h : ℕ} (w : Steppable nodes co
     other-read : {v k : ℕ} → v ≡ getD code (s .literal) 0 → (v ≡ k → ⊥) → kindAt code (literalAt state (h - 1)) ≡ k → ⊥
     other-read {v} {k} e z q = z (e ∙ (ap (λ (x : ℕ). getD code x 0) literal-is ∙ q))
 
-    pub work-pops : {v : ℕ} → v ≡ getD code (s .literal) 0 → (v ≡ 2 → ⊥) → (v ≡ 3 → ⊥) → (v ≡ 0 → ⊥)
+    pub work-pops : {v : ℕ} → v ≡ getD code (s .literal) 0 → (v ≡ callKind → ⊥) → (v ≡ equationKind → ⊥) → (v ≡ truthKind → ⊥)
         → Stepped (w .running .ss) (w .running .sh) (w .running .g) nodes code state state scratch scratch h (record { height = h - 1; trail = s .mark })
     work-pops e a b c =
         subst⁻¹ (λ (x : ℕ). Stepped (w .running .ss) (w .running .sh) (w .running .g) nodes code state state scratch scratch h (record { height = h - 1; trail = x })) mark-is
-        (at-top (λ (h j : ℕ). (w : Steppable nodes code state scratch h (markAt state j)) → (kindAt code (literalAt state j) ≡ 2 → ⊥) → (kindAt code (literalAt state j) ≡ 3 → ⊥) → (kindAt code (literalAt state j) ≡ 0 → ⊥) → Stepped (w .running .ss) (w .running .sh) (w .running .g) nodes code state state scratch scratch h (record { height = j; trail = markAt state j }))
+        (at-top (λ (h j : ℕ). (w : Steppable nodes code state scratch h (markAt state j)) → (kindAt code (literalAt state j) ≡ callKind → ⊥) → (kindAt code (literalAt state j) ≡ equationKind → ⊥) → (kindAt code (literalAt state j) ≡ truthKind → ⊥) → Stepped (w .running .ss) (w .running .sh) (w .running .g) nodes code state state scratch scratch h (record { height = j; trail = markAt state j }))
         (λ j w x y z. pops-other nodes code state scratch j w x y z) h (w .some) w (other-read e a) (other-read e b) (other-read e c))
 
-    pub truth-layable : {v : ℕ} → v ≡ getD code (s .literal) 0 → v ≡ 0 → Layable code state (h - 1) (s .copy) (s .literal + 4) (s .mark) (s .path)
-    truth-layable e q =
-        layable-of copy-is (ap (λ (x : ℕ). x + 4) literal-is) mark-is path-is
-        (at-top (λ (h j : ℕ). Steppable nodes code state scratch h (markAt state j) → kindAt code (literalAt state j) ≡ 0 → Layable code state j (copyAt state j) (literalAt state j + 4) (markAt state j) (pathAt state j))
+    pub truth-layable : {v i : ℕ} → v ≡ getD code (s .literal) 0 → v ≡ truthKind → i ≡ nextLiteral (s .literal) → Layable code state (h - 1) (s .copy) i (s .mark) (s .path)
+    truth-layable e q n =
+        layable-of copy-is (n ∙ ap (λ (x : ℕ). nextLiteral x) literal-is) mark-is path-is
+        (at-top (λ (h j : ℕ). Steppable nodes code state scratch h (markAt state j) → kindAt code (literalAt state j) ≡ truthKind → Layable code state j (copyAt state j) (nextLiteral (literalAt state j)) (markAt state j) (pathAt state j))
         (λ j w x. truth-layable-top nodes code state scratch j w x) h (w .some) w (kind-read e q))
 
-    pub truth-end : {v : ℕ} → v ≡ getD code (s .literal) 0 → v ≡ 0 → (after : List ℕ) → LayEnds code state after (h - 1) (s .copy) (s .literal + 4) (s .mark) (s .path)
+    pub truth-end : {v i : ℕ} → v ≡ getD code (s .literal) 0 → v ≡ truthKind → i ≡ nextLiteral (s .literal) → (after : List ℕ) → LayEnds code state after (h - 1) (s .copy) i (s .mark) (s .path)
         → Stepped (w .running .ss) (w .running .sh) (w .running .g) nodes code state after scratch scratch h (record { height = h; trail = s .mark })
-    truth-end e q after k =
+    truth-end e q n after k =
         subst⁻¹ (λ (x : ℕ). Stepped (w .running .ss) (w .running .sh) (w .running .g) nodes code state after scratch scratch h (record { height = h; trail = x })) mark-is
-        (at-top (λ (h j : ℕ). (w : Steppable nodes code state scratch h (markAt state j)) → kindAt code (literalAt state j) ≡ 0 → LayEnds code state after j (copyAt state j) (literalAt state j + 4) (markAt state j) (pathAt state j) → Stepped (w .running .ss) (w .running .sh) (w .running .g) nodes code state after scratch scratch h (record { height = h; trail = markAt state j }))
-        (λ j w x y. truth-core nodes code state scratch j w x after y) h (w .some) w (kind-read e q) (lay-ends copy-is (ap (λ (x : ℕ). x + 4) literal-is) mark-is path-is after k))
+        (at-top (λ (h j : ℕ). (w : Steppable nodes code state scratch h (markAt state j)) → kindAt code (literalAt state j) ≡ truthKind → LayEnds code state after j (copyAt state j) (nextLiteral (literalAt state j)) (markAt state j) (pathAt state j) → Stepped (w .running .ss) (w .running .sh) (w .running .g) nodes code state after scratch scratch h (record { height = h; trail = markAt state j }))
+        (λ j w x y. truth-core nodes code state scratch j w x after y) h (w .some) w (kind-read e q) (lay-ends copy-is (n ∙ ap (λ (x : ℕ). nextLiteral x) literal-is) mark-is path-is after k))
 
     -- an equation
-    module _ (kind : kindAt code (literalAt state (h - 1)) ≡ 3) {p q : ℕ} (pe : p ≡ getD code (s .literal + 1) 0) (qe : q ≡ getD code (s .literal + 2) 0) where
+    module _ (kind : kindAt code (literalAt state (h - 1)) ≡ equationKind) {p q : ℕ} (pe : p ≡ getD code (s .literal + 1) 0) (qe : q ≡ getD code (s .literal + 2) 0) where
       place-is : p ≡ placeAt code (literalAt state (h - 1))
       place-is = pe ∙ ap (λ (x : ℕ). getD code (x + 1) 0) literal-is
 
@@ -134,7 +137,7 @@ module _ {nodes code state scratch : List ℕ} {h : ℕ} (w : Steppable nodes co
       pub equation-unifiable : Unifiable nodes state scratch p (s .copy) q (s .copy) (s .mark)
       equation-unifiable =
           unifiable-of place-is copy-is other-is copy-is mark-is
-          (at-top (λ (h j : ℕ). Steppable nodes code state scratch h (markAt state j) → kindAt code (literalAt state j) ≡ 3 → Unifiable nodes state scratch (placeAt code (literalAt state j)) (copyAt state j) (otherAt code (literalAt state j)) (copyAt state j) (markAt state j))
+          (at-top (λ (h j : ℕ). Steppable nodes code state scratch h (markAt state j) → kindAt code (literalAt state j) ≡ equationKind → Unifiable nodes state scratch (placeAt code (literalAt state j)) (copyAt state j) (otherAt code (literalAt state j)) (copyAt state j) (markAt state j))
           (λ j w x. equation-unifiable-top nodes code state scratch j w x) h (w .some) w kind)
 
       module _ {state1 later : List ℕ} {r : Unified} (k : UnifyEnds nodes state state1 scratch later p (s .copy) q (s .copy) (s .mark) r) where
@@ -143,49 +146,49 @@ module _ {nodes code state scratch : List ℕ} {h : ℕ} (w : Steppable nodes co
 
         pub equation-fails : r .equal ≡ false → Stepped (w .running .ss) (w .running .sh) (w .running .g) nodes code state state1 scratch later h (record { height = h - 1; trail = r .trail })
         equation-fails e =
-            at-top (λ (h j : ℕ). (w : Steppable nodes code state scratch h (markAt state j)) → kindAt code (literalAt state j) ≡ 3 → UnifyEnds nodes state state1 scratch later (placeAt code (literalAt state j)) (copyAt state j) (otherAt code (literalAt state j)) (copyAt state j) (markAt state j) r → Stepped (w .running .ss) (w .running .sh) (w .running .g) nodes code state state1 scratch later h (record { height = j; trail = r .trail }))
+            at-top (λ (h j : ℕ). (w : Steppable nodes code state scratch h (markAt state j)) → kindAt code (literalAt state j) ≡ equationKind → UnifyEnds nodes state state1 scratch later (placeAt code (literalAt state j)) (copyAt state j) (otherAt code (literalAt state j)) (copyAt state j) (markAt state j) r → Stepped (w .running .ss) (w .running .sh) (w .running .g) nodes code state state1 scratch later h (record { height = j; trail = r .trail }))
             (λ j w x u. equation-fails-top nodes code state scratch j w x state1 later r u e) h (w .some) w kind ends-is
 
-        pub equation-layable : r .equal ≡ true → Layable code state1 (h - 1) (s .copy) (s .literal + 4) (r .trail) (s .path)
-        equation-layable e =
-            layable-of copy-is (ap (λ (x : ℕ). x + 4) literal-is) refl path-is
-            (at-top (λ (h j : ℕ). Steppable nodes code state scratch h (markAt state j) → kindAt code (literalAt state j) ≡ 3 → UnifyEnds nodes state state1 scratch later (placeAt code (literalAt state j)) (copyAt state j) (otherAt code (literalAt state j)) (copyAt state j) (markAt state j) r → Layable code state1 j (copyAt state j) (literalAt state j + 4) (r .trail) (pathAt state j))
+        pub equation-layable : {i : ℕ} → r .equal ≡ true → i ≡ nextLiteral (s .literal) → Layable code state1 (h - 1) (s .copy) i (r .trail) (s .path)
+        equation-layable e n =
+            layable-of copy-is (n ∙ ap (λ (x : ℕ). nextLiteral x) literal-is) refl path-is
+            (at-top (λ (h j : ℕ). Steppable nodes code state scratch h (markAt state j) → kindAt code (literalAt state j) ≡ equationKind → UnifyEnds nodes state state1 scratch later (placeAt code (literalAt state j)) (copyAt state j) (otherAt code (literalAt state j)) (copyAt state j) (markAt state j) r → Layable code state1 j (copyAt state j) (nextLiteral (literalAt state j)) (r .trail) (pathAt state j))
             (λ j w x u. equation-layable-top nodes code state scratch j w x state1 later r u e) h (w .some) w kind ends-is)
 
-        pub equation-end : r .equal ≡ true → (after : List ℕ) → LayEnds code state1 after (h - 1) (s .copy) (s .literal + 4) (r .trail) (s .path)
+        pub equation-end : {i : ℕ} → r .equal ≡ true → i ≡ nextLiteral (s .literal) → (after : List ℕ) → LayEnds code state1 after (h - 1) (s .copy) i (r .trail) (s .path)
             → Stepped (w .running .ss) (w .running .sh) (w .running .g) nodes code state after scratch later h (record { height = h; trail = r .trail })
-        equation-end e after y =
-            at-top (λ (h j : ℕ). (w : Steppable nodes code state scratch h (markAt state j)) → kindAt code (literalAt state j) ≡ 3 → UnifyEnds nodes state state1 scratch later (placeAt code (literalAt state j)) (copyAt state j) (otherAt code (literalAt state j)) (copyAt state j) (markAt state j) r → LayEnds code state1 after j (copyAt state j) (literalAt state j + 4) (r .trail) (pathAt state j) → Stepped (w .running .ss) (w .running .sh) (w .running .g) nodes code state after scratch later h (record { height = h; trail = r .trail }))
-            (λ j w x u z. equation-core nodes code state scratch j w x state1 later r u e after z) h (w .some) w kind ends-is (lay-ends copy-is (ap (λ (x : ℕ). x + 4) literal-is) refl path-is after y)
+        equation-end e n after y =
+            at-top (λ (h j : ℕ). (w : Steppable nodes code state scratch h (markAt state j)) → kindAt code (literalAt state j) ≡ equationKind → UnifyEnds nodes state state1 scratch later (placeAt code (literalAt state j)) (copyAt state j) (otherAt code (literalAt state j)) (copyAt state j) (markAt state j) r → LayEnds code state1 after j (copyAt state j) (nextLiteral (literalAt state j)) (r .trail) (pathAt state j) → Stepped (w .running .ss) (w .running .sh) (w .running .g) nodes code state after scratch later h (record { height = h; trail = r .trail }))
+            (λ j w x u z. equation-core nodes code state scratch j w x state1 later r u e after z) h (w .some) w kind ends-is (lay-ends copy-is (n ∙ ap (λ (x : ℕ). nextLiteral x) literal-is) refl path-is after y)
 
     -- a call
-    module _ (kind : kindAt code (literalAt state (h - 1)) ≡ 2) where
+    module _ (kind : kindAt code (literalAt state (h - 1)) ≡ callKind) where
       pub call-none : s .next ≡ 0 → Stepped (w .running .ss) (w .running .sh) (w .running .g) nodes code state state scratch scratch h (record { height = h - 1; trail = s .mark })
       call-none e =
           subst⁻¹ (λ (x : ℕ). Stepped (w .running .ss) (w .running .sh) (w .running .g) nodes code state state scratch scratch h (record { height = h - 1; trail = x })) mark-is
-          (at-top (λ (h j : ℕ). (w : Steppable nodes code state scratch h (markAt state j)) → kindAt code (literalAt state j) ≡ 2 → nextAt state j ≡ 0 → Stepped (w .running .ss) (w .running .sh) (w .running .g) nodes code state state scratch scratch h (record { height = j; trail = markAt state j }))
+          (at-top (λ (h j : ℕ). (w : Steppable nodes code state scratch h (markAt state j)) → kindAt code (literalAt state j) ≡ callKind → nextAt state j ≡ 0 → Stepped (w .running .ss) (w .running .sh) (w .running .g) nodes code state state scratch scratch h (record { height = j; trail = markAt state j }))
           (λ j w x z. call-none-top nodes code state scratch j w x z) h (w .some) w kind (sym next-is ∙ e))
 
       module _ (z : s .next ≡ 0 → ⊥) where
         some-next : 1 ≤ nextAt state (h - 1)
         some-next = let a : s .next ≡ nextAt state (h - 1) = next-is in let b : s .next ≡ 0 → ⊥ = z in omega (arith, b)
 
-        pub call-inside : s .next * 4 + 2 < length code
+        pub call-inside : clauseRecord (s .next) + 2 < length code
         call-inside =
-            let a : nextAt state (h - 1) * 4 + 2 < length code =
-            at-top (λ (h j : ℕ). Steppable nodes code state scratch h (markAt state j) → kindAt code (literalAt state j) ≡ 2 → 1 ≤ nextAt state j → nextAt state j * 4 + 2 < length code)
+            let a : clauseRecord (nextAt state (h - 1)) + 2 < length code =
+            at-top (λ (h j : ℕ). Steppable nodes code state scratch h (markAt state j) → kindAt code (literalAt state j) ≡ callKind → 1 ≤ nextAt state j → clauseRecord (nextAt state j) + 2 < length code)
             (λ j w x y. call-inside-top nodes code state scratch j w x y) h (w .some) w kind some-next in
             let b : s .next ≡ nextAt state (h - 1) = next-is in
             omega arith
 
-        module _ {after : ℕ} (ae : after ≡ getD code (s .next * 4 + 2) 0) where
+        module _ {after : ℕ} (ae : after ≡ getD code (clauseRecord (s .next) + 2) 0) where
           after-is : after ≡ afterAt code (nextAt state (h - 1))
-          after-is = ae ∙ ap (λ (x : ℕ). getD code (x * 4 + 2) 0) next-is
+          after-is = ae ∙ ap (λ (x : ℕ). getD code (clauseRecord x + 2) 0) next-is
 
-          pub call-room : (33792 + (h - 1) * 6 + 5 < length state) × (after < 2 ^ 32)
+          pub call-room : (alternativeOf (h - 1) + alternativeSize ≤ length state) × (after < 2 ^ 32)
           call-room =
-              let a : (33792 + (h - 1) * 6 + 5 < length state) × (afterAt code (nextAt state (h - 1)) < 2 ^ 32) =
-              at-top (λ (h j : ℕ). Steppable nodes code state scratch h (markAt state j) → kindAt code (literalAt state j) ≡ 2 → 1 ≤ nextAt state j → (33792 + j * 6 + 5 < length state) × (afterAt code (nextAt state j) < 2 ^ 32))
+              let a : (alternativeOf (h - 1) + alternativeSize ≤ length state) × (afterAt code (nextAt state (h - 1)) < 2 ^ 32) =
+              at-top (λ (h j : ℕ). Steppable nodes code state scratch h (markAt state j) → kindAt code (literalAt state j) ≡ callKind → 1 ≤ nextAt state j → (alternativeOf j + alternativeSize ≤ length state) × (afterAt code (nextAt state j) < 2 ^ 32))
               (λ j w x y. call-room-top nodes code state scratch j w x y) h (w .some) w kind some-next in
               (a .0, subst⁻¹ (λ (x : ℕ). x < 2 ^ 32) after-is (a .1))
 
@@ -196,13 +199,13 @@ module _ {nodes code state scratch : List ℕ} {h : ℕ} (w : Steppable nodes co
             pub call-tryable : Tryable nodes code state1 scratch h (h - 1) (s .next)
             call-tryable =
                 subst⁻¹ (Tryable nodes code state1 scratch h (h - 1)) next-is
-                (at-top (λ (h j : ℕ). Steppable nodes code state scratch h (markAt state j) → kindAt code (literalAt state j) ≡ 2 → 1 ≤ nextAt state j → state1 ≡ nextWords state j (afterAt code (nextAt state j)) → Tryable nodes code state1 scratch h j (nextAt state j))
+                (at-top (λ (h j : ℕ). Steppable nodes code state scratch h (markAt state j) → kindAt code (literalAt state j) ≡ callKind → 1 ≤ nextAt state j → state1 ≡ nextWords state j (afterAt code (nextAt state j)) → Tryable nodes code state1 scratch h j (nextAt state j))
                 (λ j w x y u. call-tryable-top nodes code state scratch j w x y state1 u) h (w .some) w kind some-next words-is)
 
             pub call-end : (final later : List ℕ) (r : Pile) → ((v : Tryable nodes code state1 scratch h (h - 1) (s .next)) → Comes (v .ss) (v .sh) (v .g) nodes code state1 final scratch later (triedOn (v .ss) (v .sh) (v .g) nodes code state1 (h - 1) (v .atom) (v .clause)) r)
                 → Stepped (w .running .ss) (w .running .sh) (w .running .g) nodes code state final scratch later h r
             call-end final later r k =
-                at-top (λ (h j : ℕ). (w : Steppable nodes code state scratch h (markAt state j)) → kindAt code (literalAt state j) ≡ 2 → 1 ≤ nextAt state j → state1 ≡ nextWords state j (afterAt code (nextAt state j))
+                at-top (λ (h j : ℕ). (w : Steppable nodes code state scratch h (markAt state j)) → kindAt code (literalAt state j) ≡ callKind → 1 ≤ nextAt state j → state1 ≡ nextWords state j (afterAt code (nextAt state j))
                 → ((v : Tryable nodes code state1 scratch h j (nextAt state j)) → Comes (v .ss) (v .sh) (v .g) nodes code state1 final scratch later (triedOn (v .ss) (v .sh) (v .g) nodes code state1 j (v .atom) (v .clause)) r)
                 → Stepped (w .running .ss) (w .running .sh) (w .running .g) nodes code state final scratch later h r)
                 (λ j w x y u v. call-end-top nodes code state scratch j w x y state1 u final later r v) h (w .some) w kind some-next words-is
@@ -211,11 +214,11 @@ module _ {nodes code state scratch : List ℕ} {h : ℕ} (w : Steppable nodes co
 -- ---- trying a clause
 
 try-facts-top : (nodes code state scratch : List ℕ) (j k : ℕ) → Tryable nodes code state scratch (suc j) j k
-    → (33792 + j * 6 + 5 < length state) × ((literalAt state j + 4 ≤ length code) × ((length code ≤ 65536) × ((1028 ≤ length code) × ((k ≤ 256) × ((pathAt state j < 255) × (suc j ≤ 256))))))
+    → (alternativeOf j + alternativeSize ≤ length state) × ((literalAt state j + literalSize ≤ length code) × ((length code ≤ places) × ((bodies ≤ length code) × ((k ≤ clauses) × ((pathAt state j < longestPath) × (suc j ≤ mostAlternatives))))))
 try-facts-top nodes code state scratch j k w =
-    let a : j ≤ 255 = top-low (w .ss) (w .sh) (w .g) nodes code state j (markAt state j) (w .piled) in
+    let a : j < mostAlternatives = top-low (w .ss) (w .sh) (w .g) nodes code state j (markAt state j) (w .piled) in
     let b : k ≤ length (w .sh .clauses) = clause-low (w .sh) k (w .clause) (w .there) in
-    let c : length (w .sh .clauses) ≤ 256 = w .piled .program .few in (
+    let c : length (w .sh .clauses) ≤ clauses = w .piled .program .few in (
       top-room (w .ss) (w .sh) (w .g) nodes code state j (markAt state j) (w .piled),
       (top-inside (w .ss) (w .sh) (w .g) nodes code state j (markAt state j) (w .piled), (w .piled .program .short, (w .piled .program .long, (omega arith, (w .low, omega arith))))),
     )
@@ -224,12 +227,12 @@ module _ {nodes code state scratch : List ℕ} {h k : ℕ} (w : Tryable nodes co
   filled : 1 ≤ h
   filled = let e : h ≡ suc (h - 1) = w .filled in omega arith
 
-  try-all : (33792 + (h - 1) * 6 + 5 < length state) × ((literalAt state (h - 1) + 4 ≤ length code) × ((length code ≤ 65536) × ((1028 ≤ length code) × ((k ≤ 256) × ((pathAt state (h - 1) < 255) × (h ≤ 256))))))
+  try-all : (alternativeOf (h - 1) + alternativeSize ≤ length state) × ((literalAt state (h - 1) + literalSize ≤ length code) × ((length code ≤ places) × ((bodies ≤ length code) × ((k ≤ clauses) × ((pathAt state (h - 1) < longestPath) × (h ≤ mostAlternatives))))))
   try-all =
-      at-top (λ (h j : ℕ). Tryable nodes code state scratch h j k → (33792 + j * 6 + 5 < length state) × ((literalAt state j + 4 ≤ length code) × ((length code ≤ 65536) × ((1028 ≤ length code) × ((k ≤ 256) × ((pathAt state j < 255) × (h ≤ 256)))))))
+      at-top (λ (h j : ℕ). Tryable nodes code state scratch h j k → (alternativeOf j + alternativeSize ≤ length state) × ((literalAt state j + literalSize ≤ length code) × ((length code ≤ places) × ((bodies ≤ length code) × ((k ≤ clauses) × ((pathAt state j < longestPath) × (h ≤ mostAlternatives)))))))
       (λ j w. try-facts-top nodes code state scratch j k w) h filled w
 
-  pub try-room : 33792 + (h - 1) * 6 + 5 < length state
+  pub try-room : alternativeOf (h - 1) + alternativeSize ≤ length state
   try-room = try-all .0
 
   module _ {s : Stand} (is : s ≡ standAt state (h - 1)) where
@@ -251,15 +254,15 @@ module _ {nodes code state scratch : List ℕ} {h k : ℕ} (w : Tryable nodes co
     pub try-closed : Closed (s .path + 1) state
     try-closed = subst⁻¹ (λ (x : ℕ). Closed x state) t-new (at-top (λ (h j : ℕ). Tryable nodes code state scratch h j k → Closed (pathAt state j + 1) state) (λ j w. try-closed-top nodes code state scratch j k w) h filled w)
 
-    pub try-facts : (s .literal + 4 ≤ length code) × ((length code ≤ 65536) × ((1028 ≤ length code) × ((k ≤ 256) × ((s .path < 255) × (h ≤ 256)))))
+    pub try-facts : (s .literal + literalSize ≤ length code) × ((length code ≤ places) × ((bodies ≤ length code) × ((k ≤ clauses) × ((s .path < longestPath) × (h ≤ mostAlternatives)))))
     try-facts =
         let a : s .literal ≡ literalAt state (h - 1) = t-literal in
         let b : s .path ≡ pathAt state (h - 1) = t-path in
-        let c : literalAt state (h - 1) + 4 ≤ length code = try-all .1 .0 in
-        let d : pathAt state (h - 1) < 255 = try-all .1 .1 .1 .1 .1 .0 in
+        let c : literalAt state (h - 1) + literalSize ≤ length code = try-all .1 .0 in
+        let d : pathAt state (h - 1) < longestPath = try-all .1 .1 .1 .1 .1 .0 in
         (omega arith, (try-all .1 .1 .0, (try-all .1 .1 .1 .0, (try-all .1 .1 .1 .1 .0, (omega arith, try-all .1 .1 .1 .1 .1 .1)))))
 
-    module _ {p q : ℕ} (pe : p ≡ getD code (s .literal + 1) 0) (qe : q ≡ getD code (k * 4) 0) where
+    module _ {p q : ℕ} (pe : p ≡ getD code (s .literal + 1) 0) (qe : q ≡ getD code (clauseRecord k) 0) where
       t-place : p ≡ placeAt code (literalAt state (h - 1))
       t-place = pe ∙ ap (λ (x : ℕ). getD code (x + 1) 0) t-literal
 
@@ -279,15 +282,15 @@ module _ {nodes code state scratch : List ℕ} {h k : ℕ} (w : Tryable nodes co
             → Comes (w .ss) (w .sh) (w .g) nodes code state state1 scratch later (triedOn (w .ss) (w .sh) (w .g) nodes code state j (w .atom) (w .clause)) (record { height = h; trail = r .trail }))
             (λ j w u. try-fails-top nodes code state scratch j k w state1 later r u e) h filled w t-ends
 
-        pub try-frame : (32768 + (s .path + 1) * 4 + 3 < length state1) × ((k < 2 ^ 32) × ((s .copy < 2 ^ 32) × (s .literal < 2 ^ 32)))
+        pub try-frame : (frameOf (s .path + 1) + frameSize ≤ length state1) × ((k < 2 ^ 32) × ((s .copy < 2 ^ 32) × (s .literal < 2 ^ 32)))
         try-frame =
-            let a : (32768 + (pathAt state (h - 1) + 1) * 4 + 3 < length state1) × ((k < 2 ^ 32) × ((copyAt state (h - 1) < 2 ^ 32) × (literalAt state (h - 1) < 2 ^ 32))) =
+            let a : (frameOf (pathAt state (h - 1) + 1) + frameSize ≤ length state1) × ((k < 2 ^ 32) × ((copyAt state (h - 1) < 2 ^ 32) × (literalAt state (h - 1) < 2 ^ 32))) =
             at-top (λ (h j : ℕ). Tryable nodes code state scratch h j k → UnifyEnds nodes state state1 scratch later (placeAt code (literalAt state j)) (copyAt state j) (headAt code k) (pathAt state j + 1) (markAt state j) r
-            → (32768 + (pathAt state j + 1) * 4 + 3 < length state1) × ((k < 2 ^ 32) × ((copyAt state j < 2 ^ 32) × (literalAt state j < 2 ^ 32))))
+            → (frameOf (pathAt state j + 1) + frameSize ≤ length state1) × ((k < 2 ^ 32) × ((copyAt state j < 2 ^ 32) × (literalAt state j < 2 ^ 32))))
             (λ j w u. try-frame-top nodes code state scratch j k w state1 later r u) h filled w t-ends in
-            (subst⁻¹ (λ (x : ℕ). 32768 + (x + 1) * 4 + 3 < length state1) t-path (a .0), (a .1 .0, (subst⁻¹ (λ (x : ℕ). x < 2 ^ 32) t-copy (a .1 .1 .0), subst⁻¹ (λ (x : ℕ). x < 2 ^ 32) t-literal (a .1 .1 .1))))
+            (subst⁻¹ (λ (x : ℕ). frameOf (x + 1) + frameSize ≤ length state1) t-path (a .0), (a .1 .0, (subst⁻¹ (λ (x : ℕ). x < 2 ^ 32) t-copy (a .1 .1 .0), subst⁻¹ (λ (x : ℕ). x < 2 ^ 32) t-literal (a .1 .1 .1))))
 
-        module _ {state2 : List ℕ} (words : state2 ≡ frameWords state1 (s .path + 1) k (s .copy) (s .literal)) {body : ℕ} (be : body ≡ getD code (k * 4 + 1) 0) where
+        module _ {state2 : List ℕ} (words : state2 ≡ frameWords state1 (s .path + 1) k (s .copy) (s .literal)) {body : ℕ} (be : body ≡ getD code (clauseRecord k + 1) 0) where
           t-words : state2 ≡ frameWords state1 (pathAt state (h - 1) + 1) k (copyAt state (h - 1)) (literalAt state (h - 1))
           t-words = words ∙ (λ i. frameWords state1 (t-path i + 1) k (t-copy i) (t-literal i))
 

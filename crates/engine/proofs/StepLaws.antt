@@ -8,9 +8,12 @@ use mathlib.Core.Option.{some}
 use lib.Dec.{eqb, leb}
 use lib.ListN.{length, getD}
 use borrow.Author.Tests.{eq-eqb, ne-eqb}
+use Rattle.syntax.specs.Words.{truthKind, falsityKind, callKind, equationKind}
+use Rattle.syntax.specs.Limits.{longestPath, literals}
 use Rattle.syntax.specs.Terms.{Atom, Literal, call, equation, truth, falsity, Body, done, also, Clause, Sheet}
 use Rattle.machine.specs.Machine.{Pending, Alternative, pending, topmost, clauseAt, step, start}
 use Rattle.machine.specs.Runs.{isEmpty, isAnswer, isThere, triesWith, triesFirst, goesDeeper}
+use Rattle.layout.specs.Regions.{stateWords, alternativeOf, literalSize, endKind, nextLiteral, alternativeSize}
 use Rattle.layout.specs.Nodes.{Symbol}
 use Rattle.layout.specs.Program.{bodyAt, kindAt, LiteralStands, BodyStands}
 use Rattle.layout.specs.Pile.{Calls, restFrom, leftFrom, copyAt, literalAt, nextAt, markAt, pathAt, alternativeAt, pileOf, NextFor, Piled}
@@ -34,7 +37,7 @@ module _ (nodes code state scratch : List ℕ) (j n : ℕ) (w : Steppable nodes 
   undo-means = undone (w .running .ss) (w .running .sh) (w .running .g) nodes code state mid j n (markAt state j) (w .running .piled) refl (u .keeps) (u .store (w .running .ss) nodes (w .running .piled .store))
 
   same-mark : markAt mid j ≡ markAt state j
-  same-mark = u .keeps .others (33792 + j * 6 + 3) (omega arith)
+  same-mark = u .keeps .others (alternativeOf j + 3) (omega arith)
 
   undo-steppable : Steppable nodes code mid scratch (suc j) (markAt mid j)
   undo-steppable =
@@ -54,9 +57,9 @@ module _ (nodes code state scratch : List ℕ) (j n : ℕ) (w : Steppable nodes 
       record { is = m .is ∙ ap (step (w .running .sh)) (undo-means .is); piled = m .piled; state-long = m .state-long ∙ u .keeps .long; clean = m .clean; scratch-long = m .scratch-long }
 
 module _ {nodes code state scratch : List ℕ} {h n : ℕ} (w : Steppable nodes code state scratch h n) where
-  pub step-room : 33792 + (h - 1) * 6 + 5 < length state
+  pub step-room : alternativeOf (h - 1) + alternativeSize ≤ length state
   step-room =
-      at-top (λ (h j : ℕ). Steppable nodes code state scratch h n → 33792 + j * 6 + 5 < length state)
+      at-top (λ (h j : ℕ). Steppable nodes code state scratch h n → alternativeOf j + alternativeSize ≤ length state)
       (λ j w. top-room (w .running .ss) (w .running .sh) (w .running .g) nodes code state j n (w .running .piled)) h (w .some) w
 
   module _ {s : Stand} (is : s ≡ standAt state (h - 1)) where
@@ -109,8 +112,8 @@ module _ (nodes code state : List ℕ) (w : Startable nodes code state) where
         small = omega arith;
       }
 
-  goal-room : 33792 + 0 * 6 + 5 < length state
-  goal-room = let a : 35328 ≤ length state = w .long in omega arith
+  goal-room : alternativeOf 0 + alternativeSize ≤ length state
+  goal-room = let a : stateWords ≤ length state = w .long in omega arith
 
   goal-end : (after : List ℕ) → LayEnds code state after 0 0 (bodyAt code 0) 0 0 → Started (w .ss) (w .sh) (w .g) nodes code state after
   unfolding goal-layable start
@@ -143,14 +146,14 @@ module _ {nodes code state : List ℕ} (w : Startable nodes code state) where
 
 -- ---- what the next step would be
 
-literal-kind : (ss : List Symbol) (sh : Sheet) (nodes code : List ℕ) (l : ℕ) (x : Literal) → LiteralStands ss sh nodes code l x → kindAt code l ≡ 4 → ⊥
-literal-kind ss sh nodes code l (call a) s e = let z : kindAt code l ≡ 2 = s .0 in omega arith
-literal-kind ss sh nodes code l (equation t u) s e = let z : kindAt code l ≡ 3 = s .0 in omega arith
-literal-kind ss sh nodes code l truth s e = let z : kindAt code l ≡ 0 = s in omega arith
-literal-kind ss sh nodes code l falsity s e = let z : kindAt code l ≡ 1 = s in omega arith
+literal-kind : (ss : List Symbol) (sh : Sheet) (nodes code : List ℕ) (l : ℕ) (x : Literal) → LiteralStands ss sh nodes code l x → kindAt code l ≡ endKind → ⊥
+literal-kind ss sh nodes code l (call a) s e = let z : kindAt code l ≡ callKind = s .0 in omega arith
+literal-kind ss sh nodes code l (equation t u) s e = let z : kindAt code l ≡ equationKind = s .0 in omega arith
+literal-kind ss sh nodes code l truth s e = let z : kindAt code l ≡ truthKind = s in omega arith
+literal-kind ss sh nodes code l falsity s e = let z : kindAt code l ≡ falsityKind = s in omega arith
 
 -- no call stands there, or it has no clause
-tries-none : (ss : List Symbol) (sh : Sheet) (nodes code : List ℕ) (l : ℕ) (a : Alternative) (x : Literal) → LiteralStands ss sh nodes code l x → (kindAt code l ≡ 2 → ⊥) → triesWith sh a x ≡ false
+tries-none : (ss : List Symbol) (sh : Sheet) (nodes code : List ℕ) (l : ℕ) (a : Alternative) (x : Literal) → LiteralStands ss sh nodes code l x → (kindAt code l ≡ callKind → ⊥) → triesWith sh a x ≡ false
 unfolding triesWith
 tries-none ss sh nodes code l a (call at) s z = absurd (z (s .0))
 tries-none ss sh nodes code l a (equation t u) s z = refl
@@ -177,26 +180,26 @@ module _ (nodes code state : List ℕ) (j n : ℕ) (w : Running nodes code state
   stands : BodyStands (w .ss) (w .sh) nodes code (literalAt state j) body
   stands = top-stands (w .ss) (w .sh) (w .g) nodes code state j n (w .piled)
 
-  left-of : (x : Literal) (b : Body) → body ≡ also x b → left ≡ record { copy = copyAt state j; literal = x } ∷ leftFrom (w .sh) (w .g) code state (pathAt state j) (copyAt state j) (literalAt state j + 4)
+  left-of : (x : Literal) (b : Body) → body ≡ also x b → left ≡ record { copy = copyAt state j; literal = x } ∷ leftFrom (w .sh) (w .g) code state (pathAt state j) (copyAt state j) (nextLiteral (literalAt state j))
   left-of x b e = left-also (w .sh) (w .g) code state (pathAt state j) (copyAt state j) (literalAt state j) (top-stacked (w .ss) (w .sh) (w .g) nodes code state j n (w .piled) .place) x b e
 
   left-end : body ≡ done → left ≡ []
   left-end e = left-done (w .sh) (w .g) code state (pathAt state j) (copyAt state j) (literalAt state j) (top-stacked (w .ss) (w .sh) (w .g) nodes code state j n (w .piled) .ends e) e
 
-  empty-is : (b : Body) → body ≡ b → eqb (kindAt code (literalAt state j)) 4 ≡ isEmpty left
+  empty-is : (b : Body) → body ≡ b → eqb (kindAt code (literalAt state j)) endKind ≡ isEmpty left
   unfolding isEmpty
   empty-is done e =
-      eq-eqb (kindAt code (literalAt state j)) 4 (subst (BodyStands (w .ss) (w .sh) nodes code (literalAt state j)) e stands .1)
+      eq-eqb (kindAt code (literalAt state j)) endKind (subst (BodyStands (w .ss) (w .sh) nodes code (literalAt state j)) e stands .1)
       ∙ sym (ap (λ (ls : List Pending). isEmpty ls) (left-end e))
   empty-is (also x b) e =
-      ne-eqb (kindAt code (literalAt state j)) 4 (literal-kind (w .ss) (w .sh) nodes code (literalAt state j) x (subst (BodyStands (w .ss) (w .sh) nodes code (literalAt state j)) e stands .1))
+      ne-eqb (kindAt code (literalAt state j)) endKind (literal-kind (w .ss) (w .sh) nodes code (literalAt state j) x (subst (BodyStands (w .ss) (w .sh) nodes code (literalAt state j)) e stands .1))
       ∙ sym (ap (λ (ls : List Pending). isEmpty ls) (left-of x b e))
 
-  answer-top : eqb (kindAt code (literalAt state j)) 4 ≡ isAnswer (pileOf (w .ss) (w .sh) (w .g) nodes code state (suc j))
+  answer-top : eqb (kindAt code (literalAt state j)) endKind ≡ isAnswer (pileOf (w .ss) (w .sh) (w .g) nodes code state (suc j))
   unfolding isAnswer pileOf alternativeAt
   answer-top = empty-is body refl
 
-  first-other : (b : Body) → body ≡ b → (kindAt code (literalAt state j) ≡ 2 → ⊥) → triesFirst (w .sh) top left ≡ false
+  first-other : (b : Body) → body ≡ b → (kindAt code (literalAt state j) ≡ callKind → ⊥) → triesFirst (w .sh) top left ≡ false
   unfolding triesFirst
   first-other done e z = ap (triesFirst (w .sh) top) (left-end e)
   first-other (also x b) e z = ap (triesFirst (w .sh) top) (left-of x b e) ∙ tries-none (w .ss) (w .sh) nodes code (literalAt state j) top x (subst (BodyStands (w .ss) (w .sh) nodes code (literalAt state j)) e stands .1) z
@@ -214,28 +217,28 @@ module _ (nodes code state : List ℕ) (j n : ℕ) (w : Running nodes code state
       let c : (cl : Clause) × (clauseAt (w .sh) (nextAt state j) ≡ some cl) = clause-some (w .sh) (nextAt state j) (omega (arith, z)) a in
       ap isThere (c .1)
 
-  first-call : (b : Body) → body ≡ b → kindAt code (literalAt state j) ≡ 2 → (nextAt state j ≡ 0 → ⊥) → triesFirst (w .sh) top left ≡ true
+  first-call : (b : Body) → body ≡ b → kindAt code (literalAt state j) ≡ callKind → (nextAt state j ≡ 0 → ⊥) → triesFirst (w .sh) top left ≡ true
   unfolding triesFirst
-  first-call done e k z = absurd (let q : kindAt code (literalAt state j) ≡ 4 = subst (BodyStands (w .ss) (w .sh) nodes code (literalAt state j)) e stands .1 in omega arith)
+  first-call done e k z = absurd (let q : kindAt code (literalAt state j) ≡ endKind = subst (BodyStands (w .ss) (w .sh) nodes code (literalAt state j)) e stands .1 in omega arith)
   first-call (also (call at) b) e k z =
       ap (triesFirst (w .sh) top) (left-of (call at) b e)
       ∙ tries-some at (top-stacked (w .ss) (w .sh) (w .g) nodes code state j n (w .piled) .next at (subst⁻¹ (λ (y : Body). Calls y at) e refl)) z
-  first-call (also (equation t u) b) e k z = absurd (let q : kindAt code (literalAt state j) ≡ 3 = subst (BodyStands (w .ss) (w .sh) nodes code (literalAt state j)) e stands .1 .0 in omega arith)
-  first-call (also truth b) e k z = absurd (let q : kindAt code (literalAt state j) ≡ 0 = subst (BodyStands (w .ss) (w .sh) nodes code (literalAt state j)) e stands .1 in omega arith)
-  first-call (also falsity b) e k z = absurd (let q : kindAt code (literalAt state j) ≡ 1 = subst (BodyStands (w .ss) (w .sh) nodes code (literalAt state j)) e stands .1 in omega arith)
+  first-call (also (equation t u) b) e k z = absurd (let q : kindAt code (literalAt state j) ≡ equationKind = subst (BodyStands (w .ss) (w .sh) nodes code (literalAt state j)) e stands .1 .0 in omega arith)
+  first-call (also truth b) e k z = absurd (let q : kindAt code (literalAt state j) ≡ truthKind = subst (BodyStands (w .ss) (w .sh) nodes code (literalAt state j)) e stands .1 in omega arith)
+  first-call (also falsity b) e k z = absurd (let q : kindAt code (literalAt state j) ≡ falsityKind = subst (BodyStands (w .ss) (w .sh) nodes code (literalAt state j)) e stands .1 in omega arith)
 
-  deeper-is : (t : Bool) → triesFirst (w .sh) top left ≡ t → goesDeeper (w .sh) (pileOf (w .ss) (w .sh) (w .g) nodes code state (suc j)) ≡ t && leb 255 (pathAt state j)
+  deeper-is : (t : Bool) → triesFirst (w .sh) top left ≡ t → goesDeeper (w .sh) (pileOf (w .ss) (w .sh) (w .g) nodes code state (suc j)) ≡ t && leb longestPath (pathAt state j)
   unfolding goesDeeper pileOf alternativeAt
-  deeper-is t e = ap₂ (λ (x : Bool) (y : ℕ). x && leb 255 y) e (calls-count (w .sh) (w .g) code state (pathAt state j))
+  deeper-is t e = ap₂ (λ (x : Bool) (y : ℕ). x && leb longestPath y) e (calls-count (w .sh) (w .g) code state (pathAt state j))
 
-  deeper-other-top : (kindAt code (literalAt state j) ≡ 2 → ⊥) → false ≡ goesDeeper (w .sh) (pileOf (w .ss) (w .sh) (w .g) nodes code state (suc j))
+  deeper-other-top : (kindAt code (literalAt state j) ≡ callKind → ⊥) → false ≡ goesDeeper (w .sh) (pileOf (w .ss) (w .sh) (w .g) nodes code state (suc j))
   deeper-other-top z = sym (deeper-is false (first-other body refl z))
 
   deeper-last-top : nextAt state j ≡ 0 → false ≡ goesDeeper (w .sh) (pileOf (w .ss) (w .sh) (w .g) nodes code state (suc j))
   unfolding alternativeAt
   deeper-last-top z = sym (deeper-is false (first-last body refl z))
 
-  deeper-call-top : kindAt code (literalAt state j) ≡ 2 → (nextAt state j ≡ 0 → ⊥) → leb 255 (pathAt state j) ≡ goesDeeper (w .sh) (pileOf (w .ss) (w .sh) (w .g) nodes code state (suc j))
+  deeper-call-top : kindAt code (literalAt state j) ≡ callKind → (nextAt state j ≡ 0 → ⊥) → leb longestPath (pathAt state j) ≡ goesDeeper (w .sh) (pileOf (w .ss) (w .sh) (w .g) nodes code state (suc j))
   deeper-call-top k z = sym (deeper-is true (first-call body refl k z))
 
 module _ {nodes code state : List ℕ} {h n : ℕ} (w : Running nodes code state h n) where
@@ -251,9 +254,9 @@ module _ {nodes code state : List ℕ} {h n : ℕ} (w : Running nodes code state
     filled : 1 ≤ h
     filled = let b : h ≡ 0 → ⊥ = z in omega (arith, b)
 
-    pub run-room : 33792 + (h - 1) * 6 + 5 < length state
+    pub run-room : alternativeOf (h - 1) + alternativeSize ≤ length state
     run-room =
-        at-top (λ (h j : ℕ). Running nodes code state h n → 33792 + j * 6 + 5 < length state) (λ j w. top-room (w .ss) (w .sh) (w .g) nodes code state j n (w .piled)) h filled w
+        at-top (λ (h j : ℕ). Running nodes code state h n → alternativeOf j + alternativeSize ≤ length state) (λ j w. top-room (w .ss) (w .sh) (w .g) nodes code state j n (w .piled)) h filled w
 
     module _ {s : Stand} (is : s ≡ standAt state (h - 1)) where
       literal-is : s .literal ≡ literalAt state (h - 1)
@@ -267,8 +270,8 @@ module _ {nodes code state : List ℕ} {h n : ℕ} (w : Running nodes code state
 
       pub run-inside : s .literal < length code
       run-inside =
-          let a : literalAt state (h - 1) + 4 ≤ length code =
-          at-top (λ (h j : ℕ). Running nodes code state h n → literalAt state j + 4 ≤ length code) (λ j w. top-inside (w .ss) (w .sh) (w .g) nodes code state j n (w .piled)) h filled w in
+          let a : literalAt state (h - 1) + literalSize ≤ length code =
+          at-top (λ (h j : ℕ). Running nodes code state h n → literalAt state j + literalSize ≤ length code) (λ j w. top-inside (w .ss) (w .sh) (w .g) nodes code state j n (w .piled)) h filled w in
           let b : s .literal ≡ literalAt state (h - 1) = literal-is in
           omega arith
 
@@ -276,14 +279,14 @@ module _ {nodes code state : List ℕ} {h n : ℕ} (w : Running nodes code state
         kind-is : v ≡ kindAt code (literalAt state (h - 1))
         kind-is = e ∙ ap (λ (x : ℕ). getD code x 0) literal-is
 
-        pub answer-end : eqb v 4 ≡ isAnswer (pileOf (w .ss) (w .sh) (w .g) nodes code state h)
+        pub answer-end : eqb v endKind ≡ isAnswer (pileOf (w .ss) (w .sh) (w .g) nodes code state h)
         answer-end =
-            ap (λ (x : ℕ). eqb x 4) kind-is
-            ∙ at-top (λ (h j : ℕ). (w : Running nodes code state h n) → eqb (kindAt code (literalAt state j)) 4 ≡ isAnswer (pileOf (w .ss) (w .sh) (w .g) nodes code state h)) (λ j w. answer-top nodes code state j n w) h filled w
+            ap (λ (x : ℕ). eqb x endKind) kind-is
+            ∙ at-top (λ (h j : ℕ). (w : Running nodes code state h n) → eqb (kindAt code (literalAt state j)) endKind ≡ isAnswer (pileOf (w .ss) (w .sh) (w .g) nodes code state h)) (λ j w. answer-top nodes code state j n w) h filled w
 
-        pub deeper-other : (v ≡ 2 → ⊥) → false ≡ goesDeeper (w .sh) (pileOf (w .ss) (w .sh) (w .g) nodes code state h)
+        pub deeper-other : (v ≡ callKind → ⊥) → false ≡ goesDeeper (w .sh) (pileOf (w .ss) (w .sh) (w .g) nodes code state h)
         deeper-other y =
-            at-top (λ (h j : ℕ). (w : Running nodes code state h n) → (kindAt code (literalAt state j) ≡ 2 → ⊥) → false ≡ goesDeeper (w .sh) (pileOf (w .ss) (w .sh) (w .g) nodes code state h))
+            at-top (λ (h j : ℕ). (w : Running nodes code state h n) → (kindAt code (literalAt state j) ≡ callKind → ⊥) → false ≡ goesDeeper (w .sh) (pileOf (w .ss) (w .sh) (w .g) nodes code state h))
             (λ j w x. deeper-other-top nodes code state j n w x) h filled w (λ q. y (kind-is ∙ q))
 
         pub deeper-last : s .next ≡ 0 → false ≡ goesDeeper (w .sh) (pileOf (w .ss) (w .sh) (w .g) nodes code state h)
@@ -291,8 +294,8 @@ module _ {nodes code state : List ℕ} {h n : ℕ} (w : Running nodes code state
             at-top (λ (h j : ℕ). (w : Running nodes code state h n) → nextAt state j ≡ 0 → false ≡ goesDeeper (w .sh) (pileOf (w .ss) (w .sh) (w .g) nodes code state h))
             (λ j w x. deeper-last-top nodes code state j n w x) h filled w (sym next-is ∙ y)
 
-        pub deeper-end : v ≡ 2 → (s .next ≡ 0 → ⊥) → leb 255 (s .path) ≡ goesDeeper (w .sh) (pileOf (w .ss) (w .sh) (w .g) nodes code state h)
+        pub deeper-end : v ≡ 2 → (s .next ≡ 0 → ⊥) → leb longestPath (s .path) ≡ goesDeeper (w .sh) (pileOf (w .ss) (w .sh) (w .g) nodes code state h)
         deeper-end k y =
-            ap (leb 255) path-is
-            ∙ at-top (λ (h j : ℕ). (w : Running nodes code state h n) → kindAt code (literalAt state j) ≡ 2 → (nextAt state j ≡ 0 → ⊥) → leb 255 (pathAt state j) ≡ goesDeeper (w .sh) (pileOf (w .ss) (w .sh) (w .g) nodes code state h))
+            ap (leb longestPath) path-is
+            ∙ at-top (λ (h j : ℕ). (w : Running nodes code state h n) → kindAt code (literalAt state j) ≡ callKind → (nextAt state j ≡ 0 → ⊥) → leb longestPath (pathAt state j) ≡ goesDeeper (w .sh) (pileOf (w .ss) (w .sh) (w .g) nodes code state h))
             (λ j w x u. deeper-call-top nodes code state j n w x u) h filled w (sym kind-is ∙ k) (λ q. y (next-is ∙ q))

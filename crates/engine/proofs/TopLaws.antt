@@ -4,8 +4,10 @@ use native.Mathlib.Omega.{arith}
 use mathlib.Core.Path.{_≡_, refl, sym, ap, _∙_, subst, subst⁻¹}
 use mathlib.Core.List.{List, _∷_, _++_}
 use lib.ListN.{length}
+use Rattle.syntax.specs.Limits.{longestPath}
 use Rattle.syntax.specs.Terms.{Literal, Body, also, Sheet, Goal}
 use Rattle.machine.specs.Machine.{Pending, Alternative, topmost, worked, workedOn, outcome, step}
+use Rattle.layout.specs.Regions.{cells, stateWords, alternativeOf, literalSize, nextLiteral, alternativeSize, mostAlternatives}
 use Rattle.layout.specs.Nodes.{Symbol}
 use Rattle.layout.specs.State.{trailAt, Store, Within, Keeps}
 use Rattle.layout.specs.Program.{BodyStands}
@@ -22,8 +24,8 @@ at-top P f zero l = absurd (let z : 1 ≤ 0 = l in omega arith)
 at-top P f (suc j) l = subst⁻¹ (P (suc j)) (less-one j) (f j)
 
 -- a trail's entries are distinct cells
-pub trail-low : (ss : List Symbol) (nodes state : List ℕ) (n : ℕ) → Store ss nodes state n → n ≤ 16384
-trail-low ss nodes state n s = pigeonhole 16384 n (trailAt state) (λ i l. s .entry i l .cell) same-entry
+pub trail-low : (ss : List Symbol) (nodes state : List ℕ) (n : ℕ) → Store ss nodes state n → n ≤ cells
+trail-low ss nodes state n s = pigeonhole cells n (trailAt state) (λ i l. s .entry i l .cell) same-entry
   where
     same-entry : (i j : ℕ) → i < n → j < n → trailAt state i ≡ trailAt state j → i ≡ j
     same-entry i j l h e = let a : i < j → ⊥ = (λ q. s .apart i j q h e) in let b : j < i → ⊥ = (λ q. s .apart j i q l (sym e)) in omega (arith, a, b)
@@ -46,17 +48,17 @@ module _ (ss : List Symbol) (sh : Sheet) (g : Goal) (nodes code state : List ℕ
   pub top-stands : BodyStands ss sh nodes code (literalAt state j) (restFrom sh g code state (copyAt state j) (literalAt state j))
   top-stands = place-stands ss sh g nodes code state (copyAt state j) (literalAt state j) (piled .program) (top-stacked .place)
 
-  pub top-inside : literalAt state j + 4 ≤ length code
+  pub top-inside : literalAt state j + literalSize ≤ length code
   top-inside = kind-room ss sh nodes code (literalAt state j) (restFrom sh g code state (copyAt state j) (literalAt state j)) top-stands
 
-  pub top-low : j ≤ 255
+  pub top-low : j < mostAlternatives
   top-low =
       let a : j ≤ pathAt state j = path-high ss sh g nodes code state (suc j) n piled j (omega arith) in
-      let b : pathAt state j ≤ 255 = top-stacked .low in
+      let b : pathAt state j ≤ longestPath = top-stacked .low in
       omega arith
 
-  pub top-room : 33792 + j * 6 + 5 < length state
-  top-room = let a : j ≤ 255 = top-low in let b : 35328 ≤ length state = piled .long in omega arith
+  pub top-room : alternativeOf j + alternativeSize ≤ length state
+  top-room = let a : j < mostAlternatives = top-low in let b : stateWords ≤ length state = piled .long in omega arith
 
   -- a step, where the top stands at a literal
   pub step-also : (x : Literal) (b : Body) → restFrom sh g code state (copyAt state j) (literalAt state j) ≡ also x b
@@ -66,8 +68,8 @@ module _ (ss : List Symbol) (sh : Sheet) (g : Goal) (nodes code state : List ℕ
 
   -- More bindings, and the words behind the trail as they were: the pile is the same.
   module _ (mark : markAt state j ≡ n) (state1 : List ℕ) (n1 : ℕ) (keeps : Keeps n state state1) (store1 : Store ss nodes state1 n1) (more : n ≤ n1) where
-    same : SameUpTo (suc j) 255 n state state1
-    same = keeps-same (suc j) 255 n state state1 keeps
+    same : SameUpTo (suc j) longestPath n state state1
+    same = keeps-same (suc j) longestPath n state state1 keeps
 
     mark-low : (i : ℕ) → i < suc j → markAt state i ≤ n
     mark-low i l = let z : markAt state i ≤ markAt state j = mark-top ss sh g nodes code state j n piled i l in omega arith
@@ -78,38 +80,38 @@ module _ (ss : List Symbol) (sh : Sheet) (g : Goal) (nodes code state : List ℕ
           piled = record {
             program = piled .program;
             store = store1;
-            long = (let z : 35328 ≤ length state = piled .long in let e : length state1 ≡ length state = keeps .long in let y : 35328 ≤ length state1 = omega arith in y);
-            each = λ i l. same-stacked ss sh g nodes code state state1 (suc j) 255 n same i n l (piled .each i l .low) (mark-low i l) (piled .each i l) n1 (let z : markAt state i ≤ n = mark-low i l in omega arith);
-            longer = λ i k l q. (let a : pathAt state1 i ≡ pathAt state i = same-pathAt state state1 (suc j) 255 n same i (omega arith) in let b : pathAt state1 k ≡ pathAt state k = same-pathAt state state1 (suc j) 255 n same k q in
-                let d : pathAt state i < pathAt state k = piled .longer i k l q in let y : pathAt state1 i < pathAt state1 k = omega arith in y);
-            later = λ i k l q. (let a : markAt state1 i ≡ markAt state i = same-markAt state state1 (suc j) 255 n same i (omega arith) in let b : markAt state1 k ≡ markAt state k = same-markAt state state1 (suc j) 255 n same k q in
+            long = (let z : stateWords ≤ length state = piled .long in let e : length state1 ≡ length state = keeps .long in let y : stateWords ≤ length state1 = omega arith in y);
+            each = λ i l. same-stacked ss sh g nodes code state state1 (suc j) longestPath n same i n l (piled .each i l .low) (mark-low i l) (piled .each i l) n1 (let z : markAt state i ≤ n = mark-low i l in omega arith);
+            longer = λ i k l q. (let a : pathAt state1 i ≡ pathAt state i = same-pathAt state state1 (suc j) longestPath n same i (omega arith) in let b : pathAt state1 k ≡ pathAt state k = same-pathAt state state1 (suc j) longestPath n same k q in
+                let d : pathAt state i ≤ pathAt state k = piled .longer i k l q in let y : pathAt state1 i ≤ pathAt state1 k = omega arith in y);
+            later = λ i k l q. (let a : markAt state1 i ≡ markAt state i = same-markAt state state1 (suc j) longestPath n same i (omega arith) in let b : markAt state1 k ≡ markAt state k = same-markAt state state1 (suc j) longestPath n same k q in
                 let d : markAt state i ≤ markAt state k = piled .later i k l q in let y : markAt state1 i ≤ markAt state1 k = omega arith in y);
           };
-          is = same-pile ss sh g nodes code state state1 (suc j) 255 n n same (λ i l. (piled .each i l, piled .each i l .low, mark-low i l));
+          is = same-pile ss sh g nodes code state state1 (suc j) longestPath n n same (λ i l. (piled .each i l, piled .each i l .low, mark-low i l));
         }
 
     -- The literal goes: an alternative with these bindings is laid in the top's place.
     module _ (within1 : Within (pathAt state j) state1 n1) (x : Literal) (b : Body) (is : restFrom sh g code state (copyAt state j) (literalAt state j) ≡ also x b) where
-      pub gone-climbing : Climbing ss sh g nodes code state1 (pathAt state j) (copyAt state j) (literalAt state j + 4)
+      pub gone-climbing : Climbing ss sh g nodes code state1 (pathAt state j) (copyAt state j) (nextLiteral (literalAt state j))
       gone-climbing =
-          let p : pathAt state j ≤ 255 = top-stacked .low in
+          let p : pathAt state j ≤ longestPath = top-stacked .low in
           let c : copyAt state j ≤ pathAt state j = top-stacked .copy in
           record {
             program = piled .program;
             long = kept .piled .long;
             low = p;
-            frame = λ i l. same-frame sh g code state state1 255 (same .frame) i (omega arith) (top-stacked .frame i l);
+            frame = λ i l. same-frame sh g code state state1 longestPath (same .frame) i (omega arith) (top-stacked .frame i l);
             copy = c;
-            place = same-place sh g code state state1 255 (same .frame) (copyAt state j) (literalAt state j + 4) (omega arith) (place-next sh g code state (copyAt state j) (literalAt state j) (top-stacked .place) x b is);
+            place = same-place sh g code state state1 longestPath (same .frame) (copyAt state j) (nextLiteral (literalAt state j)) (omega arith) (place-next sh g code state (copyAt state j) (literalAt state j) (top-stacked .place) x b is);
           }
 
-      pub going : (after : List ℕ) (k : Lays sh g code state1 after j (copyAt state j) (literalAt state j + 4) n1 (pathAt state j))
+      pub going : (after : List ℕ) (k : Lays sh g code state1 after j (copyAt state j) (nextLiteral (literalAt state j)) n1 (pathAt state j))
           → Going ss sh g nodes code state state1 after j n n1 (pathAt state j) (k .spot .copy) (k .spot .literal) (k .next)
       going after k =
           let a : k .spot .copy ≤ copyAt state j = k .climbs .copy in
           let c : copyAt state j ≤ pathAt state j = top-stacked .copy in
-          let l : j ≤ 255 = top-low in
-          let long : 35328 ≤ length state1 = kept .piled .long in
+          let l : j < mostAlternatives = top-low in
+          let long : stateWords ≤ length state1 = kept .piled .long in
           record {
             piled = piled;
             mark = mark;

@@ -9,27 +9,28 @@ use lib.ListN.{length, getD, length-replicate, getD-replicate, List·getD-eq-def
 use borrow.Author.Tests.{ltb-true, ltb-false}
 use Rattle.machine.specs.Machine.{pending}
 use Rattle.machine.specs.Runs.{triesWith, triesFirst, goesDeeper}
+use Rattle.layout.specs.Regions.{stateWords}
 use Rattle.layout.specs.Pile.{pileOf}
 use Rattle.layout.proofs.Witness.{sheet, goal, code, program, zeros, words, pile}
 use Rattle.unifier.proofs.Witness.{scratch, witness as unifiable}
 use Rattle.engine.specs.Steps.{Steppable, Startable}
 
-zeros-long : length zeros ≡ 35328
+zeros-long : length zeros ≡ stateWords
 unfolding zeros
-zeros-long = length-replicate {A = ℕ} 35328 0
+zeros-long = length-replicate {A = ℕ} stateWords 0
 
 zeros-words : (i : ℕ) → getD zeros i 0 ≡ 0
 unfolding zeros
-zeros-words i = go (ltb i 35328) refl
+zeros-words i = go (ltb i stateWords) refl
   where
-    go : (b : Bool) → ltb i 35328 ≡ b → getD zeros i 0 ≡ 0
-    go true e = getD-replicate {A = ℕ} 35328 i 0 0 (ltb-true i 35328 e)
-    go false e = List·getD-eq-default {A = ℕ} zeros 0 {n = i} (let l : length zeros ≡ 35328 = zeros-long in let q : 35328 ≤ i = ltb-false i 35328 e in omega arith)
+    go : (b : Bool) → ltb i stateWords ≡ b → getD zeros i 0 ≡ 0
+    go true e = getD-replicate {A = ℕ} stateWords i 0 0 (ltb-true i stateWords e)
+    go false e = List·getD-eq-default {A = ℕ} zeros 0 {n = i} (let l : length zeros ≡ stateWords = zeros-long in let q : stateWords ≤ i = ltb-false i stateWords e in omega arith)
 
 -- no clauses, and the goal `true.`
 pub startable : Startable [] code zeros
 startable =
-    let l : length zeros ≡ 35328 = zeros-long in
+    let l : length zeros ≡ stateWords = zeros-long in
     record { ss = []; sh = sheet; g = goal; program = program; long = omega arith; zero-words = zeros-words }
 
 not-deeper : goesDeeper sheet (pileOf [] sheet goal [] code words 1) ≡ false

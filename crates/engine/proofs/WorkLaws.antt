@@ -7,10 +7,13 @@ use mathlib.Core.List.{List}
 use lib.Dec.{eqb}
 use lib.ListN.{length}
 use borrow.Author.Tests.{eqb-true, eqb-false}
+use Rattle.syntax.specs.Words.{truthKind, falsityKind, callKind, equationKind}
+use Rattle.syntax.specs.Limits.{longestPath}
 use Rattle.syntax.specs.Terms.{Term, equation, truth, falsity, Body, also, Sheet, Goal}
 use Rattle.machine.specs.Substitution.{copied}
 use Rattle.machine.specs.Unification.{unify}
 use Rattle.machine.specs.Machine.{step}
+use Rattle.layout.specs.Regions.{trail, alternativeOf, endKind, nextLiteral, alternativeSize}
 use Rattle.layout.specs.Nodes.{Symbol, Stands}
 use Rattle.layout.specs.State.{bindings}
 use Rattle.layout.specs.Program.{kindAt, placeAt, otherAt}
@@ -26,7 +29,7 @@ use Rattle.engine.proofs.TopLaws.{trail-low, top-stacked, top-stands, t
 use Rattle.layout.proofs.Step.{step-answer, step-falsity, step-unequal, truth-step, equal-step}
 use Rattle.layout.proofs.Pile.{kind-small, kind-done, kind-truth, kind-falsity, kind-equation, Means, popped}
 
-kind-one : (k : ℕ) → k ≤ 4 → (k ≡ 2 → ⊥) → (k ≡ 3 → ⊥) → (k ≡ 0 → ⊥) → (k ≡ 4 → ⊥) → k ≡ 1
+kind-one : (k : ℕ) → k ≤ endKind → (k ≡ callKind → ⊥) → (k ≡ equationKind → ⊥) → (k ≡ truthKind → ⊥) → (k ≡ endKind → ⊥) → k ≡ falsityKind
 kind-one zero l a b c d = absurd (c refl)
 kind-one (suc zero) l a b c d = refl
 kind-one (suc (suc zero)) l a b c d = absurd (a refl)
@@ -65,26 +68,26 @@ module _ (nodes code state scratch : List ℕ) (j : ℕ) (w : Steppable nodes co
   pops-here s = pops state scratch (markAt state j) (record { piled = piled-top; is = refl }) refl (w .clean) refl s refl
 
   -- at `fail`, and at the goal's end
-  pub pops-other : (kindAt code (literalAt state j) ≡ 2 → ⊥) → (kindAt code (literalAt state j) ≡ 3 → ⊥) → (kindAt code (literalAt state j) ≡ 0 → ⊥)
+  pub pops-other : (kindAt code (literalAt state j) ≡ callKind → ⊥) → (kindAt code (literalAt state j) ≡ equationKind → ⊥) → (kindAt code (literalAt state j) ≡ truthKind → ⊥)
       → Stepped ss sh g nodes code state state scratch scratch (suc j) (record { height = j; trail = markAt state j })
-  pops-other a b c = pops-here (go (eqb (kindAt code (literalAt state j)) 4) refl)
+  pops-other a b c = pops-here (go (eqb (kindAt code (literalAt state j)) endKind) refl)
     where
-      go : (t : Bool) → eqb (kindAt code (literalAt state j)) 4 ≡ t → step sh (pileOf ss sh g nodes code state (suc j)) ≡ pileOf ss sh g nodes code state j
+      go : (t : Bool) → eqb (kindAt code (literalAt state j)) endKind ≡ t → step sh (pileOf ss sh g nodes code state (suc j)) ≡ pileOf ss sh g nodes code state j
       go true e =
           step-answer ss sh g nodes code state j (top-stacked ss sh g nodes code state j (markAt state j) piled-top .ends)
-          (kind-done ss sh nodes code (literalAt state j) rest (top-stands ss sh g nodes code state j (markAt state j) piled-top) (eqb-true (kindAt code (literalAt state j)) 4 e))
+          (kind-done ss sh nodes code (literalAt state j) rest (top-stands ss sh g nodes code state j (markAt state j) piled-top) (eqb-true (kindAt code (literalAt state j)) endKind e))
       go false e =
-          let z : kindAt code (literalAt state j) ≡ 4 → ⊥ = eqb-false (kindAt code (literalAt state j)) 4 e in
-          let q : kindAt code (literalAt state j) ≤ 4 = kind-small ss sh nodes code (literalAt state j) rest (top-stands ss sh g nodes code state j (markAt state j) piled-top) in
+          let z : kindAt code (literalAt state j) ≡ endKind → ⊥ = eqb-false (kindAt code (literalAt state j)) endKind e in
+          let q : kindAt code (literalAt state j) ≤ endKind = kind-small ss sh nodes code (literalAt state j) rest (top-stands ss sh g nodes code state j (markAt state j) piled-top) in
           let k : (r : Body) × (rest ≡ also falsity r) = kind-falsity ss sh nodes code (literalAt state j) rest (top-stands ss sh g nodes code state j (markAt state j) piled-top) (kind-one (kindAt code (literalAt state j)) q a b c z) in
           step-falsity ss sh g nodes code state j (top-stacked ss sh g nodes code state j (markAt state j) piled-top .place) (k .0) (k .1)
 
   -- at `true`
-  module _ (kind : kindAt code (literalAt state j) ≡ 0) where
+  module _ (kind : kindAt code (literalAt state j) ≡ truthKind) where
     truth-first : (r : Body) × (rest ≡ also truth r)
     truth-first = kind-truth ss sh nodes code (literalAt state j) rest (top-stands ss sh g nodes code state j (markAt state j) piled-top) kind
 
-    pub truth-layable-top : Layable code state j (copyAt state j) (literalAt state j + 4) (markAt state j) (pathAt state j)
+    pub truth-layable-top : Layable code state j (copyAt state j) (nextLiteral (literalAt state j)) (markAt state j) (pathAt state j)
     truth-layable-top =
         record {
           ss = ss;
@@ -96,7 +99,7 @@ module _ (nodes code state scratch : List ℕ) (j : ℕ) (w : Steppable nodes co
           small = trail-low ss nodes state (markAt state j) (piled-top .store);
         }
 
-    truth-end-top : (after : List ℕ) → Lays sh g code state after j (copyAt state j) (literalAt state j + 4) (markAt state j) (pathAt state j)
+    truth-end-top : (after : List ℕ) → Lays sh g code state after j (copyAt state j) (nextLiteral (literalAt state j)) (markAt state j) (pathAt state j)
         → Stepped ss sh g nodes code state after scratch scratch (suc j) (record { height = suc j; trail = markAt state j })
     truth-end-top after k =
         let m : Means ss sh g nodes code after (suc j) (markAt state j) (step sh (pileOf ss sh g nodes code state (suc j))) =
@@ -104,19 +107,19 @@ module _ (nodes code state scratch : List ℕ) (j : ℕ) (w : Steppable nodes co
         (going ss sh g nodes code state j (markAt state j) piled-top refl state (markAt state j) (keeps-refl (markAt state j) state) (piled-top .store) (omega arith) (top-stacked ss sh g nodes code state j (markAt state j) piled-top .within) truth (truth-first .0) (truth-first .1) after k) (truth-first .1) in
         record { is = m .is; piled = m .piled; state-long = lays-long (top-room ss sh g nodes code state j (markAt state j) piled-top) k; clean = w .clean; scratch-long = refl }
 
-    pub truth-core : (after : List ℕ) → LayEnds code state after j (copyAt state j) (literalAt state j + 4) (markAt state j) (pathAt state j)
+    pub truth-core : (after : List ℕ) → LayEnds code state after j (copyAt state j) (nextLiteral (literalAt state j)) (markAt state j) (pathAt state j)
         → Stepped ss sh g nodes code state after scratch scratch (suc j) (record { height = suc j; trail = markAt state j })
     unfolding truth-layable-top
     truth-core after k = truth-end-top after (k truth-layable-top)
 
   -- at an equation
-  module _ (kind : kindAt code (literalAt state j) ≡ 3) where
+  module _ (kind : kindAt code (literalAt state j) ≡ equationKind) where
     sides : (t : Term) × (u : Term) × (r : Body) × (rest ≡ also (equation t u) r) × Stands ss nodes (placeAt code (literalAt state j)) t × Stands ss nodes (otherAt code (literalAt state j)) u
     sides = kind-equation ss sh nodes code (literalAt state j) rest (top-stands ss sh g nodes code state j (markAt state j) piled-top) kind
 
     pub equation-unifiable-top : Unifiable nodes state scratch (placeAt code (literalAt state j)) (copyAt state j) (otherAt code (literalAt state j)) (copyAt state j) (markAt state j)
     equation-unifiable-top =
-        let p : pathAt state j ≤ 255 = top-stacked ss sh g nodes code state j (markAt state j) piled-top .low in
+        let p : pathAt state j ≤ longestPath = top-stacked ss sh g nodes code state j (markAt state j) piled-top .low in
         let c : copyAt state j ≤ pathAt state j = top-stacked ss sh g nodes code state j (markAt state j) piled-top .copy in
         record {
           ss = ss;
@@ -150,7 +153,7 @@ module _ (nodes code state scratch : List ℕ) (j : ℕ) (w : Steppable nodes co
           (step-unequal ss sh g nodes code state j (top-stacked ss sh g nodes code state j (markAt state j) piled-top .place) (sides .2) (sides .0) (sides .1) (sides .3) (equation-answer false e))
           (pile-tail ss sh g nodes code state1 state j (m .is))
 
-      pub equation-layable-top : r .equal ≡ true → Layable code state1 j (copyAt state j) (literalAt state j + 4) (r .trail) (pathAt state j)
+      pub equation-layable-top : r .equal ≡ true → Layable code state1 j (copyAt state j) (nextLiteral (literalAt state j)) (r .trail) (pathAt state j)
       equation-layable-top e =
           record {
             ss = ss;
@@ -162,7 +165,7 @@ module _ (nodes code state scratch : List ℕ) (j : ℕ) (w : Steppable nodes co
             small = trail-low ss nodes state1 (r .trail) (unifies .store);
           }
 
-      equation-end-top : r .equal ≡ true → (after : List ℕ) → Lays sh g code state1 after j (copyAt state j) (literalAt state j + 4) (r .trail) (pathAt state j)
+      equation-end-top : r .equal ≡ true → (after : List ℕ) → Lays sh g code state1 after j (copyAt state j) (nextLiteral (literalAt state j)) (r .trail) (pathAt state j)
           → Stepped ss sh g nodes code state after scratch later (suc j) (record { height = suc j; trail = r .trail })
       unfolding answered
       equation-end-top e after k =
@@ -170,10 +173,10 @@ module _ (nodes code state scratch : List ℕ) (j : ℕ) (w : Steppable nodes co
           equal-step ss sh g nodes code state state1 after j (markAt state j) (r .trail) (pathAt state j) (k .spot .copy) (k .spot .literal) (k .next) (sides .2) (sides .0) (sides .1)
           (going ss sh g nodes code state j (markAt state j) piled-top refl state1 (r .trail) (unifies .keeps) (unifies .store) (unifies .grows) (unifies .within) (equation (sides .0) (sides .1)) (sides .2) (sides .3) after k) (sides .3) (equation-answer true e) in
           let a : length state1 ≡ length state = unifies .keeps .long in
-          let b : 33792 + j * 6 + 5 < length state = top-room ss sh g nodes code state j (markAt state j) piled-top in
-          record { is = m .is; piled = m .piled; state-long = lays-long (let c : 33792 + j * 6 + 5 < length state1 = omega arith in c) k ∙ a; clean = unifies .clean; scratch-long = unifies .long }
+          let b : alternativeOf j + alternativeSize ≤ length state = top-room ss sh g nodes code state j (markAt state j) piled-top in
+          record { is = m .is; piled = m .piled; state-long = lays-long (let c : alternativeOf j + alternativeSize ≤ length state1 = omega arith in c) k ∙ a; clean = unifies .clean; scratch-long = unifies .long }
 
-      pub equation-core : r .equal ≡ true → (after : List ℕ) → LayEnds code state1 after j (copyAt state j) (literalAt state j + 4) (r .trail) (pathAt state j)
+      pub equation-core : r .equal ≡ true → (after : List ℕ) → LayEnds code state1 after j (copyAt state j) (nextLiteral (literalAt state j)) (r .trail) (pathAt state j)
           → Stepped ss sh g nodes code state after scratch later (suc j) (record { height = suc j; trail = r .trail })
       unfolding equation-layable-top
       equation-core e after k = equation-end-top e after (k (equation-layable-top e))

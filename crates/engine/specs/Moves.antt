@@ -4,8 +4,10 @@ use mathlib.Core.Path.{_≡_}
 use mathlib.Core.List.{List, _++_}
 use mathlib.Core.Option.{some}
 use lib.ListN.{length}
+use Rattle.syntax.specs.Limits.{longestPath}
 use Rattle.syntax.specs.Terms.{Atom, done, Clause, Sheet, Goal}
 use Rattle.machine.specs.Machine.{Pending, Alternative, topmost, clauseAt, tried, onTop}
+use Rattle.layout.specs.Regions.{cells, stateWords, nextLiteral, mostAlternatives}
 use Rattle.layout.specs.Nodes.{Symbol}
 use Rattle.layout.specs.Program.{Program}
 use Rattle.layout.specs.Pile.{Calls, restFrom, leftFrom, copyAt, literalAt, markAt, pathAt, alternativeAt, pileOf, Place, Frame, NextFor, Piled}
@@ -20,8 +22,8 @@ use Rattle.engine.specs.declared.records.Spot.{Spot}
 -- The copies 1 to path were made for calls of lower ones, and l is a literal of copy c, one of them or the goal, or the end of its body.
 pub record Climbing (ss : List Symbol) (sh : Sheet) (g : Goal) (nodes code state : List ℕ) (path c l : ℕ) : Type 0 where
   pub program : Program ss sh g nodes code
-  pub long : 35328 ≤ length state
-  pub low : path ≤ 255
+  pub long : stateWords ≤ length state
+  pub low : path ≤ longestPath
   pub frame : (k : ℕ) → k < path → Frame sh g code state (suc k)
   pub copy : c ≤ path
   pub place : Place sh g code state c l
@@ -50,8 +52,8 @@ pub record Layable (code state : List ℕ) (j c l mark path : ℕ) : Type 0 wher
   pub g : Goal
   pub nodes : List ℕ
   pub climbing : Climbing ss sh g nodes code state path c l
-  pub room : j ≤ 255
-  pub small : mark ≤ 16384
+  pub room : j < mostAlternatives
+  pub small : mark ≤ cells
 
 -- Alternative j stands at the first of the literals left from l of copy c on, which is new.
 pub record Lays (sh : Sheet) (g : Goal) (code before after : List ℕ) (j c l mark path : ℕ) : Type 0 where
@@ -71,7 +73,7 @@ pub record Tryable (nodes code state scratch : List ℕ) (h j k : ℕ) : Type 0 
   pub g : Goal
   pub piled : Piled ss sh g nodes code state h (markAt state j)
   pub filled : h ≡ suc j
-  pub low : pathAt state j < 255
+  pub low : pathAt state j < longestPath
   pub atom : Atom
   pub calls : Calls (restFrom sh g code state (copyAt state j) (literalAt state j)) atom
   pub clause : Clause
@@ -89,7 +91,7 @@ pub record Comes (ss : List Symbol) (sh : Sheet) (g : Goal) (nodes code before a
 
 -- the literals behind the one that alternative j stands at
 abbrev pub restAt : Sheet → Goal → List ℕ → List ℕ → ℕ → List Pending
-restAt sh g code state j = leftFrom sh g code state (pathAt state j) (copyAt state j) (literalAt state j + 4)
+restAt sh g code state j = leftFrom sh g code state (pathAt state j) (copyAt state j) (nextLiteral (literalAt state j))
 
 -- what comes of the top alternative j when the clause is tried, and the pile below it
 abbrev pub triedOn : List Symbol → Sheet → Goal → List ℕ → List ℕ → List ℕ → ℕ → Atom → Clause → List Alternative

@@ -7,6 +7,7 @@ use lib.ListN.{length, getD}
 use Rattle.syntax.specs.Terms.{Sheet, Goal}
 use Rattle.machine.specs.Machine.{step, start}
 use Rattle.machine.specs.Runs.{goesDeeper}
+use Rattle.layout.specs.Regions.{stateWords}
 use Rattle.layout.specs.Nodes.{Symbol}
 use Rattle.layout.specs.Program.{Program}
 use Rattle.layout.specs.Pile.{pileOf, Piled}
@@ -21,7 +22,7 @@ pub record Running (nodes code state : List ℕ) (h n : ℕ) : Type 0 where
   pub g : Goal
   pub piled : Piled ss sh g nodes code state h n
 
--- The pile is not empty, and the step would not try a clause at path 255. Scratch words have room, and no cell is marked.
+-- The pile is not empty, and the step would not try a clause at the longest path. Scratch words have room, and no cell is marked.
 pub record Steppable (nodes code state scratch : List ℕ) (h n : ℕ) : Type 0 where
   pub running : Running nodes code state h n
   pub some : 1 ≤ h
@@ -43,7 +44,7 @@ pub record Startable (nodes code state : List ℕ) : Type 0 where
   pub sh : Sheet
   pub g : Goal
   pub program : Program ss sh g nodes code
-  pub long : 35328 ≤ length state
+  pub long : stateWords ≤ length state
   pub zero-words : (i : ℕ) → getD state i 0 ≡ 0
 
 -- "At first there is one, the goal, path 0."

@@ -4,6 +4,8 @@ use mathlib.Core.Bool.{true, false}
 use mathlib.Core.List.{List}
 use lib.Dec.{eqb}
 use lib.ListN.{set}
+use Rattle.syntax.specs.Words.{callKind}
+use Rattle.layout.specs.Regions.{frameOf, alternativeOf}
 use Rattle.layout.specs.Program.{kindAt, otherAt}
 use Rattle.layout.specs.Pile.{callerOf, callOf, copyAt, literalAt, nextAt, markAt, pathAt}
 use Rattle.engine.specs.declared.records.Stand.{Stand}
@@ -18,16 +20,16 @@ callerAt state k = record { copy = callerOf state k; literal = callOf state k }
 -- the words of alternative j; the last of them is free
 unfoldable pub standWords : List ℕ → ℕ → ℕ → ℕ → ℕ → ℕ → ℕ → List ℕ
 standWords state j copy literal next mark path =
-    set (set (set (set (set state (33792 + j * 6) copy) (33792 + j * 6 + 1) literal) (33792 + j * 6 + 2) next) (33792 + j * 6 + 3) mark) (33792 + j * 6 + 4) path
+    set (set (set (set (set state (alternativeOf j) copy) (alternativeOf j + 1) literal) (alternativeOf j + 2) next) (alternativeOf j + 3) mark) (alternativeOf j + 4) path
 
 -- the next clause of alternative j
 unfoldable pub nextWords : List ℕ → ℕ → ℕ → List ℕ
-nextWords state j next = set state (33792 + j * 6 + 2) next
+nextWords state j next = set state (alternativeOf j + 2) next
 
 -- the words of copy k; the last of them is free
 unfoldable pub frameWords : List ℕ → ℕ → ℕ → ℕ → ℕ → List ℕ
-frameWords state k clause copy literal = set (set (set state (32768 + k * 4) clause) (32768 + k * 4 + 1) copy) (32768 + k * 4 + 2) literal
+frameWords state k clause copy literal = set (set (set state (frameOf k) clause) (frameOf k + 1) copy) (frameOf k + 2) literal
 
 -- the topmost clause for the literal at l; 0 where it is no call
 unfoldable pub topmostAt : List ℕ → ℕ → ℕ
-topmostAt code l = elim (eqb (kindAt code l) 2) [ true ↦ otherAt code l | false ↦ 0 ]
+topmostAt code l = elim (eqb (kindAt code l) callKind) [ true ↦ otherAt code l | false ↦ 0 ]

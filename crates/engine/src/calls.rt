@@ -1,18 +1,21 @@
 // What comes of the top alternative, by the literal it stands at. The trail is as long as the top's.
 use crate::Pile;
-use crate::laying::CALL;
-use crate::laying::EQUATION;
-use crate::laying::TRUTH;
 use crate::laying::lay;
+use crate::laying::next_literal;
 use crate::records::Stand;
 use crate::records::put_frame;
 use crate::records::put_next;
 use crate::records::stand_at;
-use bindings::occurrence::word_at;
+use layout::CLAUSE_SIZE;
+use syntax::CALL_KIND;
+use syntax::EQUATION_KIND;
+use syntax::TRUTH_KIND;
 use unifier::solve::unify;
 use unifier::solve::unify_closed;
+use words::word_at;
 ghost use mathlib.Core.Path.{_≡_};
 ghost use Prim.Native.Nat.{_-_};
+ghost use Rattle.syntax.specs.Words.{callKind, equationKind};
 ghost use Rattle.layout.specs.Program.{kindAt};
 ghost use Rattle.layout.specs.Pile.{literalAt, nextAt, markAt};
 ghost use Rattle.engine.specs.Words.{standAt};
@@ -37,7 +40,7 @@ fn try_clause(
     let l = s.literal;
     let mark = s.mark;
     let new = s.path + 1;
-    let i = k * 4;
+    let i = k * CLAUSE_SIZE;
     let p = word_at(code, l + 1);
     let q = word_at(code, i);
     let u = unify_closed(nodes, state, scratch, p, c, q, new, mark, new);
@@ -65,7 +68,7 @@ fn work_call(
 ) -> Pile
     requires { ⌜ Steppable (now nodes) (now code) (now state) (now scratch) h (markAt (now state) (h - 1)) ⌝ }
     requires { ⌜ s ≡ standAt (now state) (h - 1) ⌝ }
-    requires { ⌜ kindAt (now code) (literalAt (now state) (h - 1)) ≡ 2 ⌝ }
+    requires { ⌜ kindAt (now code) (literalAt (now state) (h - 1)) ≡ callKind ⌝ }
     ensures { λ r. ⌜ ((w : Steppable (now (nodes .entry)) (now (code .entry)) (now (state .entry)) (now (scratch .entry)) h (markAt (now (state .entry)) (h - 1))) → Stepped (w .running .ss) (w .running .sh) (w .running .g) (now (nodes .entry)) (now (code .entry)) (now (state .entry)) (now (state .exit)) (now (scratch .entry)) (now (scratch .exit)) h r) ⌝ }
 {
     let j = h - 1;
@@ -76,7 +79,7 @@ fn work_call(
             trail: s.mark,
         };
     }
-    let i = next * 4 + 2;
+    let i = next * CLAUSE_SIZE + 2;
     let after = word_at(code, i);
     put_next(state, j, after);
     try_clause(nodes, code, state, scratch, h, next)
@@ -93,7 +96,7 @@ fn work_equation(
 ) -> Pile
     requires { ⌜ Steppable (now nodes) (now code) (now state) (now scratch) h (markAt (now state) (h - 1)) ⌝ }
     requires { ⌜ s ≡ standAt (now state) (h - 1) ⌝ }
-    requires { ⌜ kindAt (now code) (literalAt (now state) (h - 1)) ≡ 3 ⌝ }
+    requires { ⌜ kindAt (now code) (literalAt (now state) (h - 1)) ≡ equationKind ⌝ }
     ensures { λ r. ⌜ ((w : Steppable (now (nodes .entry)) (now (code .entry)) (now (state .entry)) (now (scratch .entry)) h (markAt (now (state .entry)) (h - 1))) → Stepped (w .running .ss) (w .running .sh) (w .running .g) (now (nodes .entry)) (now (code .entry)) (now (state .entry)) (now (state .exit)) (now (scratch .entry)) (now (scratch .exit)) h r) ⌝ }
 {
     let j = h - 1;
@@ -104,7 +107,7 @@ fn work_equation(
     let u = unify(nodes, state, scratch, p, c, q, c, s.mark);
     let trail = u.trail;
     if u.equal {
-        let rest = l + 4;
+        let rest = next_literal(l);
         lay(code, state, j, c, rest, trail, s.path);
         return Pile { height: h, trail };
     }
@@ -120,15 +123,15 @@ pub fn work(nodes: &[u32], code: &[u32], state: &mut [u32], scratch: &mut [u32],
     let s = stand_at(state, j);
     let l = s.literal;
     let kind = word_at(code, l);
-    if kind == CALL {
+    if kind == CALL_KIND {
         return work_call(nodes, code, state, scratch, h, s);
     }
-    if kind == EQUATION {
+    if kind == EQUATION_KIND {
         return work_equation(nodes, code, state, scratch, h, s);
     }
     let trail = s.mark;
-    if kind == TRUTH {
-        let rest = l + 4;
+    if kind == TRUTH_KIND {
+        let rest = next_literal(l);
         lay(code, state, j, s.copy, rest, trail, s.path);
         return Pile { height: h, trail };
     }

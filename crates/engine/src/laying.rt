@@ -2,21 +2,24 @@
 use crate::records::Spot;
 use crate::records::caller_at;
 use crate::records::put_stand;
-use bindings::occurrence::word_at;
+use layout::END_KIND;
+use layout::LITERAL_SIZE;
+use syntax::CALL_KIND;
+use words::word_at;
 ghost use mathlib.Core.Path.{_≡_};
-ghost use Prim.Native.Nat.{_+_, _<_};
+ghost use Prim.Native.Nat.{_+_, _≤_, _<_, _^_};
 ghost use lib.ListN.{length};
+ghost use Rattle.layout.specs.Regions.{literalSize, nextLiteral};
 ghost use Rattle.engine.specs.Words.{topmostAt};
 ghost use Rattle.engine.specs.Moves.{Climbable, Climbs, Layable, Lays};
 
-// What stands at a literal.
-pub const TRUTH: usize = 0;
-
-pub const CALL: usize = 2;
-
-pub const EQUATION: usize = 3;
-
-pub const END: usize = 4;
+// The record behind a literal's.
+pub fn next_literal(l: usize) -> usize
+    requires { ⌜ l < 2 ^ 32 ⌝ }
+    ensures { λ r. ⌜ r ≡ nextLiteral l ⌝ }
+{
+    l + LITERAL_SIZE
+}
 
 // The first literal left from l of copy c on. Where a body has ended, the caller goes on behind its call.
 fn first_literal(code: &[u32], state: &[u32], c: usize, l: usize) -> Spot
@@ -26,22 +29,22 @@ fn first_literal(code: &[u32], state: &[u32], c: usize, l: usize) -> Spot
     let mut copy = c;
     let mut literal = l;
     while 0 < copy {
-        if word_at(code, literal) != END {
+        if word_at(code, literal) != END_KIND {
             return Spot { copy, literal };
         }
         let s = caller_at(state, copy);
         copy = s.copy;
-        literal = s.literal + 4;
+        literal = next_literal(s.literal);
     }
     Spot { copy, literal }
 }
 
 // The topmost clause for the literal at l; 0 where it is no call.
 fn topmost(code: &[u32], l: usize) -> usize
-    requires { ⌜ l + 3 < length (now code) ⌝ }
+    requires { ⌜ l + literalSize ≤ length (now code) ⌝ }
     ensures { λ r. ⌜ r ≡ topmostAt (now (code .entry)) l ⌝ }
 {
-    if word_at(code, l) != CALL {
+    if word_at(code, l) != CALL_KIND {
         return 0;
     }
     word_at(code, l + 2)

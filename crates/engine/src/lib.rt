@@ -3,13 +3,14 @@ mod calls;
 mod laying;
 mod records;
 
-use bindings::occurrence::word_at;
 use bindings::store::undo;
 use calls::work;
-use laying::CALL;
-use laying::END;
 use laying::lay;
+use layout::END_KIND;
 use records::stand_at;
+use syntax::CALL_KIND;
+use syntax::LONGEST_PATH;
+use words::word_at;
 ghost use mathlib.Core.Path.{_≡_};
 ghost use mathlib.Core.List.{List};
 ghost use Prim.Native.Nat.{ℕ};
@@ -60,10 +61,10 @@ pub fn is_answer(code: &[u32], state: &[u32], h: usize, n: usize) -> bool
     }
     let j = h - 1;
     let s = stand_at(state, j);
-    word_at(code, s.literal) == END
+    word_at(code, s.literal) == END_KIND
 }
 
-// The next step would try a clause at path 255.
+// The next step would try a clause at the longest path.
 pub fn goes_deeper(code: &[u32], state: &[u32], h: usize, n: usize) -> bool
     requires { ⌜ ((nodes : List ℕ) × Running nodes (now code) (now state) h n) ⌝ }
     ensures { λ r. ⌜ ((nodes : List ℕ) (w : Running nodes (now (code .entry)) (now (state .entry)) h n) → r ≡ goesDeeper (w .sh) (pileOf (w .ss) (w .sh) (w .g) nodes (now (code .entry)) (now (state .entry)) h)) ⌝ }
@@ -73,11 +74,11 @@ pub fn goes_deeper(code: &[u32], state: &[u32], h: usize, n: usize) -> bool
     }
     let j = h - 1;
     let s = stand_at(state, j);
-    if word_at(code, s.literal) != CALL {
+    if word_at(code, s.literal) != CALL_KIND {
         return false;
     }
     if s.next == 0 {
         return false;
     }
-    255 <= s.path
+    LONGEST_PATH <= s.path
 }

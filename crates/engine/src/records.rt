@@ -1,18 +1,14 @@
 // Words of the state: frames and alternatives, by their fields.
-use bindings::occurrence::word_at;
+use layout::ALTERNATIVE_SIZE;
+use layout::ALTERNATIVES;
+use layout::FRAME_SIZE;
+use layout::FRAMES;
+use words::word_at;
 ghost use mathlib.Core.Path.{_≡_};
-ghost use Prim.Native.Nat.{_+_, _*_, _<_, _^_};
+ghost use Prim.Native.Nat.{_+_, _≤_, _<_, _^_};
 ghost use lib.ListN.{length};
+ghost use Rattle.layout.specs.Regions.{frameOf, alternativeOf, frameSize, alternativeSize};
 ghost use Rattle.engine.specs.Words.{standAt, callerAt, standWords, nextWords, frameWords};
-
-// Where frames and alternatives begin, and how many words one takes.
-pub const FRAMES: usize = 32768;
-
-pub const FRAME: usize = 4;
-
-pub const ALTERNATIVES: usize = 33792;
-
-pub const ALTERNATIVE: usize = 6;
 
 // The words of an alternative.
 pub struct Stand {
@@ -30,10 +26,10 @@ pub struct Spot {
 }
 
 pub fn stand_at(state: &[u32], j: usize) -> Stand
-    requires { ⌜ 33792 + j * 6 + 5 < length (now state) ⌝ }
+    requires { ⌜ alternativeOf j + alternativeSize ≤ length (now state) ⌝ }
     ensures { λ r. ⌜ r ≡ standAt (now (state .entry)) j ⌝ }
 {
-    let i = ALTERNATIVES + j * ALTERNATIVE;
+    let i = ALTERNATIVES + j * ALTERNATIVE_SIZE;
     let copy = word_at(state, i);
     let literal = word_at(state, i + 1);
     let next = word_at(state, i + 2);
@@ -50,10 +46,10 @@ pub fn stand_at(state: &[u32], j: usize) -> Stand
 
 // The call that copy k was made for.
 pub fn caller_at(state: &[u32], k: usize) -> Spot
-    requires { ⌜ 32768 + k * 4 + 3 < length (now state) ⌝ }
+    requires { ⌜ frameOf k + frameSize ≤ length (now state) ⌝ }
     ensures { λ r. ⌜ r ≡ callerAt (now (state .entry)) k ⌝ }
 {
-    let i = FRAMES + k * FRAME;
+    let i = FRAMES + k * FRAME_SIZE;
     let copy = word_at(state, i + 1);
     let literal = word_at(state, i + 2);
     Spot { copy, literal }
@@ -68,10 +64,10 @@ pub fn put_stand(
     mark: usize,
     path: usize,
 )
-    requires { ⌜ (33792 + j * 6 + 5 < length (now state)) × (((copy < 2 ^ 32) × (literal < 2 ^ 32)) × ((next < 2 ^ 32) × ((mark < 2 ^ 32) × (path < 2 ^ 32)))) ⌝ }
+    requires { ⌜ (alternativeOf j + alternativeSize ≤ length (now state)) × (((copy < 2 ^ 32) × (literal < 2 ^ 32)) × ((next < 2 ^ 32) × ((mark < 2 ^ 32) × (path < 2 ^ 32)))) ⌝ }
     ensures { λ _. ⌜ now (state .exit) ≡ standWords (now (state .entry)) j copy literal next mark path ⌝ }
 {
-    let i = ALTERNATIVES + j * ALTERNATIVE;
+    let i = ALTERNATIVES + j * ALTERNATIVE_SIZE;
     state[i] = copy as u32;
     state[i + 1] = literal as u32;
     state[i + 2] = next as u32;
@@ -81,19 +77,19 @@ pub fn put_stand(
 
 // The next clause of alternative j.
 pub fn put_next(state: &mut [u32], j: usize, next: usize)
-    requires { ⌜ (33792 + j * 6 + 5 < length (now state)) × (next < 2 ^ 32) ⌝ }
+    requires { ⌜ (alternativeOf j + alternativeSize ≤ length (now state)) × (next < 2 ^ 32) ⌝ }
     ensures { λ _. ⌜ now (state .exit) ≡ nextWords (now (state .entry)) j next ⌝ }
 {
-    let i = ALTERNATIVES + j * ALTERNATIVE + 2;
+    let i = ALTERNATIVES + j * ALTERNATIVE_SIZE + 2;
     state[i] = next as u32;
 }
 
 // Copy k: its clause, and the call it was made for.
 pub fn put_frame(state: &mut [u32], k: usize, clause: usize, copy: usize, literal: usize)
-    requires { ⌜ (32768 + k * 4 + 3 < length (now state)) × ((clause < 2 ^ 32) × ((copy < 2 ^ 32) × (literal < 2 ^ 32))) ⌝ }
+    requires { ⌜ (frameOf k + frameSize ≤ length (now state)) × ((clause < 2 ^ 32) × ((copy < 2 ^ 32) × (literal < 2 ^ 32))) ⌝ }
     ensures { λ _. ⌜ now (state .exit) ≡ frameWords (now (state .entry)) k clause copy literal ⌝ }
 {
-    let i = FRAMES + k * FRAME;
+    let i = FRAMES + k * FRAME_SIZE;
     state[i] = clause as u32;
     state[i + 1] = copy as u32;
     state[i + 2] = literal as u32;

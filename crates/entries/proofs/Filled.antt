@@ -7,11 +7,12 @@ use mathlib.Core.Path.{_≡_, refl, sym, ap, ap₂, _∙_}
 use mathlib.Core.List.{List, [], _∷_}
 use lib.Dec.{lit<}
 use lib.ListN.{length, getD, set, length-set}
+use Rattle.syntax.specs.Limits.{declarations}
 use Rattle.syntax.specs.Verdicts.{sheetOf, sheetVerdict, readVerdict}
 use Rattle.syntax.specs.declared.Entry.{Entry}
 use Rattle.syntax.specs.declared.Verdict.{Verdict}
 use Rattle.rules.specs.Checking.{checkedSheet, checkVerdict}
-use Rattle.pilvaust.specs.Listings.{entryFrom, pasted}
+use Rattle.listings.specs.Listings.{entryFrom, pasted}
 
 pub pasted-none : (f : ℕ → Entry) (es : List Entry) → es ≡ pasted f 0 es
 unfolding pasted
@@ -26,7 +27,7 @@ unfolding pasted
 pasted-long f zero es = refl
 pasted-long f (suc i) es = length-set (pasted f i es) i (f i) ∙ pasted-long f i es
 
-pub bytes-fit : (i n : ℕ) → i < n → n ≤ 64 → i * 24 < 2 ^ 64
+pub bytes-fit : (i n : ℕ) → i < n → n ≤ declarations → i * 24 < 2 ^ 64
 bytes-fit i n h l =
     let few : i * 24 ≤ 1536 = omega arith in
     lt-of-le-of-lt few (lit< tt)

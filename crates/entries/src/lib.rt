@@ -1,24 +1,27 @@
 // The entries of a sheet's declarations, for a caller who lends a list of them. The functions that take the list are proved by walks of their code.
-use marking::table::word_at;
-use pilvaust::Listing;
+use listings::Listing;
 use pilvaust::check_listing;
 use pilvaust::read_listing;
+use syntax::DECLARATION_SIZE;
 use syntax::Entry;
 use syntax::Verdict;
+use words::word_at;
 ghost use mathlib.Core.Path.{_≡_};
 ghost use Prim.Native.Nat.{_≤_, _<_};
 ghost use lib.ListN.{length};
+ghost use Rattle.syntax.specs.Limits.{declarations};
+ghost use Rattle.syntax.specs.Words.{declaredWords};
 ghost use Rattle.syntax.specs.Verdicts.{sheetOf, readVerdict};
 ghost use Rattle.rules.specs.Checking.{checkedSheet, checkVerdict};
-ghost use Rattle.pilvaust.specs.Listings.{overlay, declaredOf, entryFrom, pasted};
+ghost use Rattle.listings.specs.Listings.{overlay, declaredOf, entryFrom, pasted};
 
 // The i-th entry of a listing.
 fn entry_in(listing: Listing, i: usize) -> Entry
-    requires { ⌜ (256 ≡ length (listing .words)) × (i < 64) ⌝ }
+    requires { ⌜ (declaredWords ≡ length (listing .words)) × (i < declarations) ⌝ }
     ensures { λ r. ⌜ r ≡ entryFrom (listing .words) i ⌝ }
 {
     let words = listing.words;
-    let p = 4 * i;
+    let p = DECLARATION_SIZE * i;
     let at = word_at(&words, p);
     let len = word_at(&words, p + 1);
     let arguments = word_at(&words, p + 2);
@@ -27,7 +30,7 @@ fn entry_in(listing: Listing, i: usize) -> Entry
 
 // A listing's entries into the list.
 fn fill(found: Listing, entries: &mut [Entry])
-    requires { ⌜ (256 ≡ length (found .words)) × ((found .count ≤ 64) × (found .count ≤ length (now entries))) ⌝ }
+    requires { ⌜ (declaredWords ≡ length (found .words)) × ((found .count ≤ declarations) × (found .count ≤ length (now entries))) ⌝ }
     ensures { λ _. ⌜ now (entries .exit) ≡ pasted (entryFrom (found .words)) (found .count) (now (entries .entry)) ⌝ }
 {
     let n = found.count;

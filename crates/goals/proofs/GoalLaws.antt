@@ -1,12 +1,17 @@
 -- Laws of a goal over a sheet that stands in its tables: one for each way out of `run_goal`. Assumes nothing.
-use Prim.Native.Nat.{ℕ, _≤_}
-use mathlib.Core.Path.{_≡_, refl, sym, ap, _∙_}
+use Prim.Native.Nat.{ℕ, _-_, _≤_}
+use native.Mathlib.Omega.{arith}
+use mathlib.Core.Path.{_≡_, refl, sym, ap, _∙_, subst⁻¹}
 use mathlib.Core.Bool.{Bool, true, false}
 use mathlib.Core.List.{List}
 use lib.Dec.{leb}
-use lib.ListN.{length}
-use lib.Seq.{sets}
+use lib.ListN.{length, take, drop, length-drop}
+use lib.Seq.{sets, take-all}
 use borrow.Author.Tests.{leb-true}
+use Rattle.syntax.specs.Words.{goalWords}
+use Rattle.syntax.specs.Spans.{namesFrom, met}
+use Rattle.syntax.specs.Limits.{goalBytes, variables}
+use Rattle.spelling.specs.Words.{Named}
 use Rattle.syntax.specs.Terms.{Goal}
 use Rattle.syntax.specs.Reading.{readGoal}
 use Rattle.syntax.specs.Verdicts.{Outcome, refused, accepted, goalFrom, goalOutcome}
@@ -34,14 +39,49 @@ use Rattle.tables.specs.declared.GoalRead.{GoalRead}
 use Rattle.tables.proofs.Laws.{never}
 use Rattle.tables.proofs.Checking.{fine-none, fault-some, goal-refused-by, goal-of, standing, goal-stands-at, checked-over}
 
+-- ---- the words of a goal's variables
+
+-- as a part of the goal's table
+abbrev last-words : List ℕ → List ℕ
+last-words goals = take (length goals - (length goals - variables)) (drop (length goals - variables) goals)
+
+last-met : (goals : List ℕ) → last-words goals ≡ met goals
+last-met goals = take-all (length goals - (length goals - variables)) (met goals) (simp length-drop (omega arith))
+
+module _ {sheet table : List ℕ} {k : ℕ} {goal goals : List ℕ} {literals count : ℕ} where
+  pub part-programmed : Programmed sheet table k goal goals literals (met goals) count → Programmed sheet table k goal goals literals (last-words goals) count
+  part-programmed w = record {
+    sh = w .sh;
+    g = w .g;
+    has-clauses = w .has-clauses;
+    clauses-count = w .clauses-count;
+    clauses-stand = w .clauses-stand;
+    has-goal = w .has-goal;
+    literals-count = w .literals-count;
+    goal-stands = w .goal-stands;
+    limits = w .limits;
+    goal-limits = w .goal-limits;
+    named = subst⁻¹ (λ (l : List ℕ). Named goal l count) (last-met goals) (w .named);
+    names-are = w .names-are ∙ ap (λ (l : List ℕ). namesFrom goal l 0 count) (sym (last-met goals));
+    sheet-short = w .sheet-short;
+    goal-short = w .goal-short;
+    table-short = w .table-short;
+    goals-short = w .goals-short;
+  }
+
+  pub part-runs : {allowance wanted : ℕ} {old new : List ℕ} {r : Report} → ((w : Programmed sheet table k goal goals literals (last-words goals) count) → Runs (w .sh) (w .g) allowance wanted old new r)
+      → (w : Programmed sheet table k goal goals literals (met goals) count) → Runs (w .sh) (w .g) allowance wanted old new r
+  unfolding part-programmed
+  part-runs f w = f (part-programmed w)
+
 -- ---- the length of a goal that is accepted
 
-goal-short : (s : List ℕ) (g : Goal) → goalOutcome s ≡ accepted g → length s ≤ 1024
+goal-short : (s : List ℕ) (g : Goal) → goalOutcome s ≡ accepted g → length s ≤ goalBytes
 unfolding goalOutcome
-goal-short s g e = by (leb (length s) 1024) refl e
+goal-short s g e = by (leb (length s) goalBytes) refl e
   where
-    by : (b : Bool) → leb (length s) 1024 ≡ b → elim b as (λ _. Outcome Goal) [ true ↦ goalFrom (readGoal s) | false ↦ refused TooLong ] ≡ accepted g → length s ≤ 1024
-    by true t e1 = leb-true (length s) 1024 t
+    by : (b : Bool) → leb (length s) goalBytes ≡ b → elim b as (λ _. Outcome Goal) [ true ↦ goalFrom (readGoal s) | false ↦ refused TooLong ] ≡ accepted g → length s ≤ goalBytes
+    by true t e1 = leb-true (length s) goalBytes t
     by false t e1 = absurd (never TooLong g e1)
 
 -- ---- a goal over a sheet
@@ -75,9 +115,9 @@ module _ (s declared : List ℕ) (n : ℕ) (table : List ℕ) (k : ℕ) where
       pub goal-at : Ready s declared n table k → GoalAt s declared n g goals (r .literals)
       goal-at w = goal-stands-at s declared n k g goals r t a b e (over-of w)
 
-      pub goal-programmed : length goals ≤ 4100 → Ready s declared n table k → Programmed s table k g goals (r .literals) (r .names) (r .count)
+      pub goal-programmed : length goals ≤ goalWords → Ready s declared n table k → Programmed s table k g goals (r .literals) (met goals) (r .count)
       goal-programmed short w =
-          let x : GoalStanding g goals (r .literals) (r .names) (r .count) the-goal = standing s declared n k g goals r t a b e in
+          let x : GoalStanding g goals (r .literals) (r .count) the-goal = standing s declared n k g goals r t a b e in
           let y : goalOutcome g ≡ accepted the-goal = goal-of s declared n k g goals r t a b e .1 in
           record {
             sh = w .stands .sheet;
@@ -109,8 +149,8 @@ module _ (s declared : List ℕ) (n : ℕ) (table : List ℕ) (k : ℕ) where
             let o : checkedGoal (w .stands .sheet) g ≡ refused q = ap (checkedGoalFrom (w .stands .sheet)) (goal-of s declared n k g goals r t a b e .1) ∙ ap (faultless the-goal) (fault-some (goalFault (w .stands .sheet) the-goal) q (sym h ∙ goal-checked w)) in
             stopped-answers (outcome w old) inGoal q (ap (overGoal (w .stands .sheet) allowance wanted (length old)) o) u eu old
 
-        pub goal-runs : ck ≡ Fine → length goals ≤ 4100 → (x : Report) (old new : List ℕ)
-            → ((p : Programmed s table k g goals (r .literals) (r .names) (r .count)) → Runs (p .sh) (p .g) allowance wanted old new x)
+        pub goal-runs : ck ≡ Fine → length goals ≤ goalWords → (x : Report) (old new : List ℕ)
+            → ((p : Programmed s table k g goals (r .literals) (met goals) (r .count)) → Runs (p .sh) (p .g) allowance wanted old new x)
             → (w : Ready s declared n table k)
             → Answers (outcome w old) old new (ended-by x)
         unfolding checkedGoal checkedGoalFrom faultless overGoal reported runAnswer runText goal-programmed

@@ -4,17 +4,21 @@ use mathlib.Core.Path.{_≡_}
 use mathlib.Core.List.{List}
 use lib.ListN.{length}
 use lib.Seq.{sets}
+use Rattle.syntax.specs.Limits.{sheetBytes}
+use Rattle.syntax.specs.Words.{sheetWords}
 use Rattle.syntax.specs.declared.Run.{Run}
 use Rattle.marking.specs.Tables.{SheetAt}
 use Rattle.machine.specs.Runs.{RunOutcome, runAnswer, runText}
+use Rattle.syntax.specs.Limits.{sheetBytes}
+use Rattle.syntax.specs.Words.{sheetWords}
 use Rattle.layout.specs.Limits.{SheetLimited}
 
 -- a sheet of which the n declarations and k clauses stand in tables, within document 01's limits
 pub record Ready (s declared : List ℕ) (n : ℕ) (table : List ℕ) (k : ℕ) : Type 0 where
   pub stands : SheetAt s declared n table k
   pub limits : SheetLimited (stands .sheet)
-  pub short : length s ≤ 16384
-  pub table-short : length table ≤ 65540
+  pub short : length s ≤ sheetBytes
+  pub table-short : length table ≤ sheetWords
 
 -- what a run gives, and what it writes over a text
 pub record Answers (o : RunOutcome) (old new : List ℕ) (r : Run) : Type 0 where

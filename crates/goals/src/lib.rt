@@ -2,16 +2,23 @@
 use marking::Checked;
 use programs::run_program;
 use syntax::Refusal;
+use syntax::Report;
 use syntax::Run;
 use syntax::Text;
+use syntax::VARIABLES;
 use syntax::Verdict;
 use tables::goal_room;
 use tables::load_goal;
 ghost use mathlib.Core.Path.{_≡_};
 ghost use Prim.Native.Nat.{_≤_, _<_, _^_};
 ghost use lib.ListN.{length};
+ghost use Rattle.syntax.specs.Limits.{variables};
+ghost use Rattle.syntax.specs.Spans.{met};
+ghost use Rattle.syntax.specs.Words.{sheetWords};
 ghost use Rattle.rules.specs.Checking.{checkedGoal, goalAnswer};
 ghost use Rattle.machine.specs.Runs.{overGoal};
+ghost use Rattle.runs.specs.Running.{Runs};
+ghost use Rattle.programs.specs.Programs.{Programmed};
 ghost use Rattle.tables.specs.Tables.{Over};
 ghost use Rattle.goals.specs.Goals.{Ready, Answers};
 
@@ -25,7 +32,7 @@ pub fn goal_over(
     table: &mut [u32],
 ) -> Verdict
     requires { ⌜ Over (now sheet) (now declared) n k ⌝ }
-    requires { ⌜ (65540 ≤ length (now table)) × (length (now table) < 2 ^ 31) ⌝ }
+    requires { ⌜ (sheetWords ≤ length (now table)) × (length (now table) < 2 ^ 31) ⌝ }
     ensures { λ r. ⌜ ((w : Over (now (sheet .entry)) (now (declared .entry)) n k) → r ≡ goalAnswer (w .sheet) (checkedGoal (w .sheet) (now (goal .entry)))) ⌝ }
 {
     let r = load_goal(goal, table);
@@ -62,6 +69,39 @@ pub fn run_refused(text: Text, refusal: Refusal) -> Run
     Run::Refused { text, refusal }
 }
 
+// A goal that was read into its table, with the words of its variables last, run over a sheet that stands in another.
+fn run_read(
+    sheet: &[u8],
+    table: &[u32],
+    k: usize,
+    goal: &[u8],
+    goals: &[u32],
+    literals: usize,
+    count: usize,
+    text: &mut [u8],
+    allowance: usize,
+    wanted: usize,
+) -> Report
+    requires { ⌜ variables ≤ length (now goals) ⌝ }
+    requires { ⌜ Programmed (now sheet) (now table) k (now goal) (now goals) literals (met (now goals)) count ⌝ }
+    ensures { λ r. ⌜ ((w : Programmed (now (sheet .entry)) (now (table .entry)) k (now (goal .entry)) (now (goals .entry)) literals (met (now (goals .entry))) count) → Runs (w .sh) (w .g) allowance wanted (now (text .entry)) (now (text .exit)) r) ⌝ }
+{
+    let from = goals.len() - VARIABLES;
+    run_program(
+        sheet,
+        table,
+        k,
+        goal,
+        goals,
+        literals,
+        &goals[from..],
+        count,
+        text,
+        allowance,
+        wanted,
+    )
+}
+
 // A goal run over a checked sheet that stands in its tables.
 pub fn run_goal(
     sheet: &[u8],
@@ -82,7 +122,6 @@ pub fn run_goal(
     let v = r.verdict;
     let literals = r.literals;
     let count = r.count;
-    let names = r.names;
     match v {
         Verdict::Refused {
             text: at_fault,
@@ -94,14 +133,13 @@ pub fn run_goal(
         } => {
             let fault = modes::check_goal(sheet, declared, n, goal, &goals, literals);
             match fault {
-                Checked::Fine => Run::Ended(run_program(
+                Checked::Fine => Run::Ended(run_read(
                     sheet,
                     table,
                     k,
                     goal,
                     &goals,
                     literals,
-                    &names,
                     count,
                     text,
                     allowance,

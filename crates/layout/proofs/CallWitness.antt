@@ -1,14 +1,17 @@
 -- A clause `p.` and the goal `p`: a pile of two alternatives with a frame, so the laws of frames and of a clause laid on top are not empty. Assumes nothing.
-use Prim.Native.Nat.{ℕ, zero, suc, _+_, _*_, _<_, _≤_}
+use Prim.Native.Nat.{ℕ, zero, suc, _+_, _*_, _<_, _≤_, _-_}
 use native.Mathlib.Omega.{arith}
 use mathlib.Core.Path.{_≡_, refl, sym, ap₂, _∙_, subst, subst⁻¹}
 use mathlib.Core.List.{List, [], _∷_}
 use mathlib.Core.Option.{some}
 use lib.ListN.{length, set, replicate, length-replicate}
+use Rattle.syntax.specs.Words.{firstName}
+use Rattle.syntax.specs.Limits.{clauses, literals, arguments, variables, declarations}
 use Rattle.syntax.specs.Quote.{bytes}
 use Rattle.syntax.specs.Terms.{nil, Atom, termOf, call, Body, done, also, sameBytes, Clause, Sheet, Goal}
 use Rattle.machine.specs.Machine.{pending, firstFor, nextFor, nth, clauseAt}
 use Rattle.machine.proofs.Tests.{some-eq, some-none}
+use Rattle.layout.specs.Regions.{places, bodies, stateWords, frameOf, alternativeOf, literalSize, nextLiteral, frameSize, alternativeSize}
 use Rattle.layout.specs.Nodes.{Symbol, isSymbol, symbolOf, isListed, loadedWords, isLoadable, bracketsOf, Stands}
 use Rattle.layout.specs.State.{bindings}
 use Rattle.layout.specs.Program.{bodyAt, BodyStands, ClauseStands, Program}
@@ -21,7 +24,7 @@ unfoldable pub symbols : List Symbol
 symbols = record { name = bytes "p"; arguments = 0 } ∷ []
 
 unfoldable pub table : List ℕ
-table = 64 ∷ 2 ∷ []
+table = firstName ∷ 2 ∷ []
 
 unfoldable pub atom : Atom
 atom = record { at = 0; name = bytes "p"; args = nil }
@@ -36,19 +39,19 @@ unfoldable pub goal : Goal
 goal = record { body = also (call atom) done; names = [] }
 
 unfoldable pub unused : List ℕ
-unused = replicate 1008 0
+unused = replicate (bodies - 20) 0
 
 -- four words for the goal and for the clause; the goal's call and its end from 8 on, the clause's end at 16
 unfoldable pub code : List ℕ
 code = 0 ∷ 8 ∷ 0 ∷ 0 ∷ 0 ∷ 16 ∷ 0 ∷ 0 ∷ 2 ∷ 0 ∷ 1 ∷ 0 ∷ 4 ∷ 0 ∷ 0 ∷ 0 ∷ 4 ∷ 0 ∷ 0 ∷ 0 ∷ unused
 
-unused-long : length unused ≡ 1008
+unused-long : length unused ≡ (bodies - 20)
 unfolding unused
-unused-long = length-replicate {A = ℕ} 1008 0
+unused-long = length-replicate {A = ℕ} (bodies - 20) 0
 
-code-long : length code ≡ 1028
+code-long : length code ≡ bodies
 unfolding code
-code-long = let e : length unused ≡ 1008 = unused-long in omega arith
+code-long = let e : length unused ≡ (bodies - 20) = unused-long in omega arith
 
 stands : Stands symbols table 0 (termOf atom)
 unfolding symbols table atom loadedWords symbolOf isSymbol isLoadable isListed bracketsOf sameBytes
@@ -65,14 +68,14 @@ no-other = refl
 goal-stands : BodyStands symbols sheet table code (bodyAt code 0) (goal .body)
 unfolding goal code
 goal-stands =
-    let l : length code ≡ 1028 = code-long in
-    ((let q : 8 + 4 ≤ length code = omega arith in q), (refl, stands, sym topmost-clause), ((let q : (8 + 4) + 4 ≤ length code = omega arith in q), refl))
+    let l : length code ≡ bodies = code-long in
+    ((let q : 8 + literalSize ≤ length code = omega arith in q), (refl, stands, sym topmost-clause), ((let q : (8 + 4) + literalSize ≤ length code = omega arith in q), refl))
 
 clause-stands : ClauseStands symbols sheet table code 1 clause
 unfolding clause code
 clause-stands =
-    let l : length code ≡ 1028 = code-long in
-    record { head = stands; body = ((let q : 16 + 4 ≤ length code = omega arith in q), refl); after = sym no-other }
+    let l : length code ≡ bodies = code-long in
+    record { head = stands; body = ((let q : 16 + literalSize ≤ length code = omega arith in q), refl); after = sym no-other }
 
 clauses-stand : (k : ℕ) (cl : Clause) → clauseAt sheet k ≡ some cl → ClauseStands symbols sheet table code k cl
 unfolding sheet clauseAt nth
@@ -80,29 +83,29 @@ clauses-stand zero cl e = absurd (some-none cl (sym e))
 clauses-stand (suc zero) cl e = subst (ClauseStands symbols sheet table code 1) (some-eq clause cl e) clause-stands
 clauses-stand (suc (suc k)) cl e = absurd (some-none cl (sym e))
 
-few-clauses : length (sheet .clauses) ≤ 256
+few-clauses : length (sheet .clauses) ≤ clauses
 unfolding sheet
 few-clauses = omega arith
 
-small-table : length table ≤ 65536
+small-table : length table ≤ places
 unfolding table
 small-table = omega arith
 
 pub program : Program symbols sheet goal table code
 program =
-    let l : length code ≡ 1028 = code-long in
+    let l : length code ≡ bodies = code-long in
     record { small = small-table; long = omega arith; short = omega arith; few = few-clauses; goal = goal-stands; clause = clauses-stand }
 
 -- ---- the goal alone
 
 unfoldable pub words : List ℕ
-words = set (set (set (set (set (set zeros (33792 + 0 * 6) 0) (33792 + 0 * 6 + 1) (bodyAt code 0)) (33792 + 0 * 6 + 2) 1) (33792 + 0 * 6 + 3) 0) (33792 + 0 * 6 + 4) 0) (33792 + 0 * 6 + 5) 0
+words = set (set (set (set (set (set zeros (alternativeOf 0) 0) (alternativeOf 0 + 1) (bodyAt code 0)) (alternativeOf 0 + 2) 1) (alternativeOf 0 + 3) 0) (alternativeOf 0 + 4) 0) (alternativeOf 0 + 5) 0
 
 words-written : Written 0 0 (bodyAt code 0) 1 0 0 zeros words
 unfolding words
-words-written = let l : length zeros ≡ 35328 = zeros-long in written zeros 0 0 (bodyAt code 0) 1 0 0 0 (let q : 33792 + 0 * 6 + 6 ≤ length zeros = omega arith in q)
+words-written = let l : length zeros ≡ stateWords = zeros-long in written zeros 0 0 (bodyAt code 0) 1 0 0 0 (let q : alternativeOf 0 + alternativeSize ≤ length zeros = omega arith in q)
 
-words-long : length words ≡ 35328
+words-long : length words ≡ stateWords
 words-long = words-written .long ∙ zeros-long
 
 call-eq : (a b : Atom) → call a ≡ call b → a ≡ b
@@ -113,7 +116,7 @@ unfolding goal
 first-clause a h = subst (λ (y : Atom). NextFor sheet y 1) (call-eq atom a h) (subst (NextFor sheet atom) topmost-clause (next-for sheet atom 0))
 
 pub pile : Means symbols sheet goal table code words 1 0 (record { literals = pending 0 (goal .body) []; bindings = []; next = 1; calls = [] } ∷ [])
-pile = started symbols sheet goal table code zeros words 1 program (let l : length zeros ≡ 35328 = zeros-long in omega arith) zeros-words first-clause words-written
+pile = started symbols sheet goal table code zeros words 1 program (let l : length zeros ≡ stateWords = zeros-long in omega arith) zeros-words first-clause words-written
 
 -- ---- the clause laid on top
 
@@ -128,11 +131,11 @@ top-calls : Calls (restFrom sheet goal code words (copyAt words 0) (literalAt wo
 top-calls = subst⁻¹ (λ (y : Body). Calls y atom) top-rest goal-calls
 
 unfoldable pub framed-words : List ℕ
-framed-words = set (set (set words (32768 + 1 * 4) 1) (32768 + 1 * 4 + 1) (copyAt words 0)) (32768 + 1 * 4 + 2) (literalAt words 0)
+framed-words = set (set (set words (frameOf 1) 1) (frameOf 1 + 1) (copyAt words 0)) (frameOf 1 + 2) (literalAt words 0)
 
 words-framed : Framed 1 1 (copyAt words 0) (literalAt words 0) words framed-words
 unfolding framed-words
-words-framed = let l : length words ≡ 35328 = words-long in framed words 1 1 (copyAt words 0) (literalAt words 0) (let q : 32768 + 1 * 4 + 4 ≤ length words = omega arith in q)
+words-framed = let l : length words ≡ stateWords = words-long in framed words 1 1 (copyAt words 0) (literalAt words 0) (let q : frameOf 1 + frameSize ≤ length words = omega arith in q)
 
 clause-one : clauseAt sheet 1 ≡ some clause
 unfolding sheet clauseAt nth
@@ -159,10 +162,10 @@ goal-is : restFrom sheet goal code framed-words 0 (bodyAt code 0) ≡ also (call
 unfolding goal
 goal-is = goal-rest sheet goal code framed-words
 
-end-rest : restFrom sheet goal code framed-words 0 (bodyAt code 0 + 4) ≡ done
+end-rest : restFrom sheet goal code framed-words 0 (nextLiteral (bodyAt code 0)) ≡ done
 end-rest = rest-next sheet goal code framed-words 0 (bodyAt code 0) (goal-place sheet goal code framed-words) (call atom) done goal-is
 
-end-stand : Stand sheet goal code framed-words 0 (bodyAt code 0 + 4) 0
+end-stand : Stand sheet goal code framed-words 0 (nextLiteral (bodyAt code 0)) 0
 end-stand =
     record {
       place = place-next sheet goal code framed-words 0 (bodyAt code 0) (goal-place sheet goal code framed-words) (call atom) done goal-is;
@@ -171,14 +174,14 @@ end-stand =
     }
 
 unfoldable pub two-words : List ℕ
-two-words = set (set (set (set (set (set framed-words (33792 + 1 * 6) 0) (33792 + 1 * 6 + 1) (bodyAt code 0 + 4)) (33792 + 1 * 6 + 2) 0) (33792 + 1 * 6 + 3) 0) (33792 + 1 * 6 + 4) 1) (33792 + 1 * 6 + 5) 0
+two-words = set (set (set (set (set (set framed-words (alternativeOf 1) 0) (alternativeOf 1 + 1) (nextLiteral (bodyAt code 0))) (alternativeOf 1 + 2) 0) (alternativeOf 1 + 3) 0) (alternativeOf 1 + 4) 1) (alternativeOf 1 + 5) 0
 
-two-written : Written 1 0 (bodyAt code 0 + 4) 0 0 1 framed-words two-words
+two-written : Written 1 0 (nextLiteral (bodyAt code 0)) 0 0 1 framed-words two-words
 unfolding two-words
 two-written =
-    let l : length framed-words ≡ 35328 = words-framed .long ∙ words-long in
-    written framed-words 1 0 (bodyAt code 0 + 4) 0 0 1 0 (let q : 33792 + 1 * 6 + 6 ≤ length framed-words = omega arith in q)
+    let l : length framed-words ≡ stateWords = words-framed .long ∙ words-long in
+    written framed-words 1 0 (nextLiteral (bodyAt code 0)) 0 0 1 0 (let q : alternativeOf 1 + alternativeSize ≤ length framed-words = omega arith in q)
 
 -- two alternatives, the upper with a copy made
 pub piled : Piled symbols sheet goal table code two-words 2 0
-piled = pushed symbols sheet goal table code words words framed-words 0 0 0 1 1 atom clause pushing two-words 0 (bodyAt code 0 + 4) 0 (omega arith) end-stand two-written .piled
+piled = pushed symbols sheet goal table code words words framed-words 0 0 0 1 1 atom clause pushing two-words 0 (nextLiteral (bodyAt code 0)) 0 (omega arith) end-stand two-written .piled

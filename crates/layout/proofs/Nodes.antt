@@ -9,36 +9,15 @@ use mathlib.Core.Logic.{_⊎_, inl, inr}
 use lib.Dec.{T, ltb, eqb, eqb→eq, ltb→lt}
 use lib.ListN.{length, getD, length-append}
 use borrow.Author.Tests.{lt-ltb, le-ltb}
+use Rattle.words.proofs.Laws.{has-end, has-append, has-left, has-right}
+use Rattle.syntax.specs.Limits.{brackets}
+use Rattle.syntax.specs.Words.{firstName}
 use Rattle.syntax.specs.Terms.{Term, Terms, variable, compound, nil, cons, arity, sameName, samePredicate}
 use Rattle.machine.specs.Substitution.{RTerm, RTerms, var, app, rnil, rcons, copied, copiedAll}
 use Rattle.machine.proofs.Tests.{both, and, either, name-eq}
-use Rattle.layout.specs.Nodes.{Symbol, isSymbol, symbolOf, isListed, nameOf, Has, loadedWords, loadedAll, isLoadable, areLoadable, bracketsOf, bracketsAll, Stands, StandAll, Node, Row, decoded, decodedAll, termAt, termsAt, followed, count}
-
--- ---- words that stand in a table
-
-not-nil : (v : ℕ) (ws : List ℕ) → v ∷ ws ≡ [] → ⊥
-not-nil v ws e = let z : _≡_ {A = ℕ} 0 1 = cc in omega arith
-
-pub has-end : (table : List ℕ) (p : ℕ) (ws : List ℕ) → Has table p ws → (ws ≡ [] → ⊥) → p + length ws ≤ length table
-has-end table p [] h z = absurd (z refl)
-has-end table p (w ∷ []) h z = let k : p < length table = h .0 in omega arith
-has-end table p (w ∷ v ∷ ws) h z =
-    let k : (p + 1) + length (v ∷ ws) ≤ length table = has-end table (p + 1) (v ∷ ws) (h .2) (not-nil v ws) in
-    omega arith
-
-pub has-append : (table : List ℕ) (p : ℕ) (xs ys : List ℕ) → Has table p xs → Has table (p + length xs) ys → Has table p (xs ++ ys)
-has-append table p [] ys h k = subst (λ (q : ℕ). Has table q ys) (let e : p + 0 ≡ p = omega arith in e) k
-has-append table p (x ∷ xs) ys h k =
-    (h .0, h .1, has-append table (p + 1) xs ys (h .2) (subst (λ (q : ℕ). Has table q ys) (let e : p + length (x ∷ xs) ≡ (p + 1) + length xs = omega arith in e) k))
-
-pub has-left : (table : List ℕ) (p : ℕ) (xs ys : List ℕ) → Has table p (xs ++ ys) → Has table p xs
-has-left table p [] ys h = tt
-has-left table p (x ∷ xs) ys h = (h .0, h .1, has-left table (p + 1) xs ys (h .2))
-
-pub has-right : (table : List ℕ) (p : ℕ) (xs ys : List ℕ) → Has table p (xs ++ ys) → Has table (p + length xs) ys
-has-right table p [] ys h = subst (λ (q : ℕ). Has table q ys) (let e : p ≡ p + 0 = omega arith in e) h
-has-right table p (x ∷ xs) ys h =
-    subst (λ (q : ℕ). Has table q ys) (let e : (p + 1) + length xs ≡ p + length (x ∷ xs) = omega arith in e) (has-right table (p + 1) xs ys (h .2))
+use Rattle.layout.specs.Regions.{loadedNode}
+use Rattle.words.specs.Tables.{Has}
+use Rattle.layout.specs.Nodes.{Symbol, isSymbol, symbolOf, isListed, nameOf, loadedWords, loadedAll, isLoadable, areLoadable, bracketsOf, bracketsAll, Stands, StandAll, Node, Row, decoded, decodedAll, termAt, termsAt, followed, count}
 
 -- ---- symbols
 
@@ -69,34 +48,34 @@ arguments-of (s ∷ ss) f g n m h k e = go (isSymbol f n s) refl (isSymbol g m s
 
 -- ---- a term's words
 
-pub words-some : (ss : List Symbol) (t : Term) → 2 ≤ length (loadedWords ss t)
+pub words-some : (ss : List Symbol) (t : Term) → loadedNode ≤ length (loadedWords ss t)
 unfolding loadedWords
 words-some ss (variable n b) = omega arith
 words-some ss (compound b f ts) = omega arith
 
 words-not-nil : (ss : List Symbol) (t : Term) → loadedWords ss t ≡ [] → ⊥
-words-not-nil ss t e = let k : 2 ≤ length (loadedWords ss t) = words-some ss t in let z : length (loadedWords ss t) ≡ 0 = ap length e in omega arith
+words-not-nil ss t e = let k : loadedNode ≤ length (loadedWords ss t) = words-some ss t in let z : length (loadedWords ss t) ≡ 0 = ap length e in omega arith
 
 -- the second word is how many there are
 pub size-word : (ss : List Symbol) (nodes : List ℕ) (p : ℕ) (t : Term) → Has nodes p (loadedWords ss t) → getD nodes (p + 1) 0 ≡ length (loadedWords ss t)
 unfolding loadedWords
 size-word ss nodes p (variable n b) h = h .2 .1
-size-word ss nodes p (compound b f ts) h = h .2 .1 ∙ (let e : 2 + length (loadedAll ss ts) ≡ suc (suc (length (loadedAll ss ts))) = omega arith in e)
+size-word ss nodes p (compound b f ts) h = h .2 .1 ∙ (let e : loadedNode + length (loadedAll ss ts) ≡ suc (suc (length (loadedAll ss ts))) = omega arith in e)
 
 -- the brackets of a name's arguments, of a list's first term and of its others
-brackets-name : (b : ℕ) (f : List ℕ) (ts : Terms) → bracketsOf (compound b f ts) ≤ 16 → bracketsAll ts ≤ 17
+brackets-name : (b : ℕ) (f : List ℕ) (ts : Terms) → bracketsOf (compound b f ts) ≤ brackets → bracketsAll ts ≤ brackets + 1
 unfolding bracketsOf
-brackets-name b f ts l = let k : bracketsAll ts ≤ 16 = l in omega arith
+brackets-name b f ts l = let k : bracketsAll ts ≤ brackets = l in omega arith
 
-brackets-cons : (t : Term) (ts : Terms) → bracketsAll (cons t ts) ≤ 17 → (bracketsOf t ≤ 16) × (bracketsAll ts ≤ 17)
+brackets-cons : (t : Term) (ts : Terms) → bracketsAll (cons t ts) ≤ brackets + 1 → (bracketsOf t ≤ brackets) × (bracketsAll ts ≤ brackets + 1)
 unfolding bracketsAll
-brackets-cons t ts l = let k : max (suc (bracketsOf t)) (bracketsAll ts) ≤ 17 = l in (omega arith, omega arith)
+brackets-cons t ts l = let k : max (suc (bracketsOf t)) (bracketsAll ts) ≤ brackets + 1 = l in (omega arith, omega arith)
 
-brackets-one : (t : Term) → bracketsOf t ≤ 16 → bracketsAll (cons t nil) ≤ 17
+brackets-one : (t : Term) → bracketsOf t ≤ brackets → bracketsAll (cons t nil) ≤ brackets + 1
 unfolding bracketsAll
 brackets-one t l = omega arith
 
-two : (p : ℕ) → (p + 1) + 1 ≡ p + 2
+two : (p : ℕ) → (p + 1) + 1 ≡ p + loadedNode
 two p = omega arith
 
 -- ---- what is read back is the term in its copy
@@ -105,7 +84,7 @@ abbrev node-choice : List Symbol → List ℕ → ℕ → ℕ → ℕ → Bool �
 node-choice ss nodes c k p b =
     elim b [
       | true ↦ var (record { copy = c; number = getD nodes p 0 })
-      | false ↦ app (nameOf ss (getD nodes p 0 - 64)) (decodedAll ss nodes c k (p + 2) (p + getD nodes (p + 1) 0))
+      | false ↦ app (nameOf ss (getD nodes p 0 - firstName)) (decodedAll ss nodes c k (p + loadedNode) (p + getD nodes (p + 1) 0))
     ]
 
 abbrev row-choice : List Symbol → List ℕ → ℕ → ℕ → ℕ → ℕ → Bool → RTerms
@@ -117,35 +96,35 @@ module _ (ss : List Symbol) (nodes : List ℕ) (c : ℕ) where
     unfolding decoded loadedWords isLoadable
 
     pub decoded-is : (k p : ℕ) (t : Term) → Stands ss nodes p t → length (loadedWords ss t) ≤ suc k → decoded ss nodes c k p ≡ copied c t
-    decoded-is zero p t s l = absurd (let m : 2 ≤ length (loadedWords ss t) = words-some ss t in let z : length (loadedWords ss t) ≤ 1 = l in omega arith)
+    decoded-is zero p t s l = absurd (let m : loadedNode ≤ length (loadedWords ss t) = words-some ss t in let z : length (loadedWords ss t) ≤ 1 = l in omega arith)
     decoded-is (suc k) p (variable n b) s l =
         let e : getD nodes p 0 ≡ n = s .words .1 in
-        let small : n < 64 = ltb→lt n 64 (s .loadable) in
-        ap (node-choice ss nodes c k p) (lt-ltb (getD nodes p 0) 64 (let r : getD nodes p 0 < 64 = omega arith in r)) ∙ ap (λ (i : ℕ). var (record { copy = c; number = i })) e
+        let small : n < firstName = ltb→lt n firstName (s .loadable) in
+        ap (node-choice ss nodes c k p) (lt-ltb (getD nodes p 0) firstName (let r : getD nodes p 0 < firstName = omega arith in r)) ∙ ap (λ (i : ℕ). var (record { copy = c; number = i })) e
     decoded-is (suc k) p (compound b f ts) s l =
-        let w : getD nodes p 0 ≡ 64 + symbolOf ss f (arity ts) = s .words .1 in
-        let z : getD nodes (p + 1) 0 ≡ 2 + length (loadedAll ss ts) = s .words .2 .1 in
+        let w : getD nodes p 0 ≡ firstName + symbolOf ss f (arity ts) = s .words .1 in
+        let z : getD nodes (p + 1) 0 ≡ loadedNode + length (loadedAll ss ts) = s .words .2 .1 in
         let ok : T (isListed ss f (arity ts)) × T (areLoadable ss ts) = both (isListed ss f (arity ts)) (areLoadable ss ts) (s .loadable) in
-        let inner : Has nodes (p + 2) (loadedAll ss ts) = subst (λ (q : ℕ). Has nodes q (loadedAll ss ts)) (two p) (s .words .2 .2) in
-        let ends : p + getD nodes (p + 1) 0 ≡ (p + 2) + length (loadedAll ss ts) = omega arith in
+        let inner : Has nodes (p + loadedNode) (loadedAll ss ts) = subst (λ (q : ℕ). Has nodes q (loadedAll ss ts)) (two p) (s .words .2 .2) in
+        let ends : p + getD nodes (p + 1) 0 ≡ (p + loadedNode) + length (loadedAll ss ts) = omega arith in
         let short : length (loadedAll ss ts) ≤ k = omega arith in
-        let args : decodedAll ss nodes c k (p + 2) ((p + 2) + length (loadedAll ss ts)) ≡ copiedAll c ts = decoded-all k (p + 2) ts (record { words = inner; loadable = ok .1; shallow = brackets-name b f ts (s .shallow) }) short in
-        let number : getD nodes p 0 - 64 ≡ symbolOf ss f (arity ts) = omega arith in
-        ap (node-choice ss nodes c k p) (le-ltb (getD nodes p 0) 64 (let r : 64 ≤ getD nodes p 0 = omega arith in r))
-        ∙ ap₂ app (ap (nameOf ss) number ∙ name-of ss f (arity ts) (ok .0)) (ap (λ (e : ℕ). decodedAll ss nodes c k (p + 2) e) ends ∙ args)
+        let args : decodedAll ss nodes c k (p + loadedNode) ((p + loadedNode) + length (loadedAll ss ts)) ≡ copiedAll c ts = decoded-all k (p + loadedNode) ts (record { words = inner; loadable = ok .1; shallow = brackets-name b f ts (s .shallow) }) short in
+        let number : getD nodes p 0 - firstName ≡ symbolOf ss f (arity ts) = omega arith in
+        ap (node-choice ss nodes c k p) (le-ltb (getD nodes p 0) firstName (let r : firstName ≤ getD nodes p 0 = omega arith in r))
+        ∙ ap₂ app (ap (nameOf ss) number ∙ name-of ss f (arity ts) (ok .0)) (ap (λ (e : ℕ). decodedAll ss nodes c k (p + loadedNode) e) ends ∙ args)
 
     pub decoded-all : (k p : ℕ) (ts : Terms) → StandAll ss nodes p ts → length (loadedAll ss ts) ≤ k → decodedAll ss nodes c k p (p + length (loadedAll ss ts)) ≡ copiedAll c ts
     decoded-all zero p nil s l = refl
     decoded-all (suc k) p nil s l =
         ap (row-choice ss nodes c k p (p + 0)) (le-ltb p (p + 0) (let r : p + 0 ≤ p = omega arith in r))
     decoded-all zero p (cons t ts) s l =
-        absurd (let m : 2 ≤ length (loadedWords ss t) = words-some ss t in let e : length (loadedWords ss t ++ loadedAll ss ts) ≡ length (loadedWords ss t) + length (loadedAll ss ts) = length-append (loadedWords ss t) (loadedAll ss ts) in let z : length (loadedWords ss t ++ loadedAll ss ts) ≤ 0 = l in omega arith)
+        absurd (let m : loadedNode ≤ length (loadedWords ss t) = words-some ss t in let e : length (loadedWords ss t ++ loadedAll ss ts) ≡ length (loadedWords ss t) + length (loadedAll ss ts) = length-append (loadedWords ss t) (loadedAll ss ts) in let z : length (loadedWords ss t ++ loadedAll ss ts) ≤ 0 = l in omega arith)
     decoded-all (suc k) p (cons t ts) s l =
-        let m : 2 ≤ length (loadedWords ss t) = words-some ss t in
+        let m : loadedNode ≤ length (loadedWords ss t) = words-some ss t in
         let e : length (loadedWords ss t ++ loadedAll ss ts) ≡ length (loadedWords ss t) + length (loadedAll ss ts) = length-append (loadedWords ss t) (loadedAll ss ts) in
         let short : length (loadedWords ss t ++ loadedAll ss ts) ≤ suc k = l in
         let ok : T (isLoadable ss t) × T (areLoadable ss ts) = both (isLoadable ss t) (areLoadable ss ts) (s .loadable) in
-        let few : (bracketsOf t ≤ 16) × (bracketsAll ts ≤ 17) = brackets-cons t ts (s .shallow) in
+        let few : (bracketsOf t ≤ brackets) × (bracketsAll ts ≤ brackets + 1) = brackets-cons t ts (s .shallow) in
         let first : Has nodes p (loadedWords ss t) = has-left nodes p (loadedWords ss t) (loadedAll ss ts) (s .words) in
         let rest : Has nodes (p + length (loadedWords ss t)) (loadedAll ss ts) = has-right nodes p (loadedWords ss t) (loadedAll ss ts) (s .words) in
         let size : getD nodes (p + 1) 0 ≡ length (loadedWords ss t) = size-word ss nodes p t first in
@@ -167,7 +146,7 @@ all-end : (ss : List Symbol) (nodes : List ℕ) (p : ℕ) (ts : Terms) → Has n
 unfolding loadedAll
 all-end ss nodes p nil h = omega arith
 all-end ss nodes p (cons t ts) h =
-    let k : p + length (loadedWords ss t ++ loadedAll ss ts) ≤ length nodes = has-end nodes p (loadedWords ss t ++ loadedAll ss ts) h (λ e. let m : 2 ≤ length (loadedWords ss t) = words-some ss t in let z : length (loadedWords ss t ++ loadedAll ss ts) ≡ 0 = ap length e in let y : length (loadedWords ss t ++ loadedAll ss ts) ≡ length (loadedWords ss t) + length (loadedAll ss ts) = length-append (loadedWords ss t) (loadedAll ss ts) in omega arith) in
+    let k : p + length (loadedWords ss t ++ loadedAll ss ts) ≤ length nodes = has-end nodes p (loadedWords ss t ++ loadedAll ss ts) h (λ e. let m : loadedNode ≤ length (loadedWords ss t) = words-some ss t in let z : length (loadedWords ss t ++ loadedAll ss ts) ≡ 0 = ap length e in let y : length (loadedWords ss t ++ loadedAll ss ts) ≡ length (loadedWords ss t) + length (loadedAll ss ts) = length-append (loadedWords ss t) (loadedAll ss ts) in omega arith) in
     omega arith
 
 pub terms-at : (ss : List Symbol) (nodes : List ℕ) (p e c : ℕ) (ts : Terms) → StandAll ss nodes p ts → e ≡ p + length (loadedAll ss ts) → termsAt ss nodes p e c ≡ copiedAll c ts
@@ -178,8 +157,8 @@ terms-at ss nodes p e c ts s q =
 -- ---- nodes, as code meets them
 
 module _ (ss : List Symbol) (nodes : List ℕ) (p : ℕ) where
-  pub node-size : Node ss nodes p → 2 ≤ getD nodes (p + 1) 0
-  node-size n = let e : getD nodes (p + 1) 0 ≡ length (loadedWords ss (n .0)) = size-word ss nodes p (n .0) (n .1 .words) in let k : 2 ≤ length (loadedWords ss (n .0)) = words-some ss (n .0) in omega arith
+  pub node-size : Node ss nodes p → loadedNode ≤ getD nodes (p + 1) 0
+  node-size n = let e : getD nodes (p + 1) 0 ≡ length (loadedWords ss (n .0)) = size-word ss nodes p (n .0) (n .1 .words) in let k : loadedNode ≤ length (loadedWords ss (n .0)) = words-some ss (n .0) in omega arith
 
   pub node-end : Node ss nodes p → p + getD nodes (p + 1) 0 ≤ length nodes
   node-end n =
@@ -187,29 +166,29 @@ module _ (ss : List Symbol) (nodes : List ℕ) (p : ℕ) where
       let k : p + length (loadedWords ss (n .0)) ≤ length nodes = has-end nodes p (loadedWords ss (n .0)) (n .1 .words) (words-not-nil ss (n .0)) in
       omega arith
 
-  pub node-inside : Node ss nodes p → p + 2 ≤ length nodes
-  node-inside n = let a : 2 ≤ getD nodes (p + 1) 0 = node-size n in let b : p + getD nodes (p + 1) 0 ≤ length nodes = node-end n in omega arith
+  pub node-inside : Node ss nodes p → p + loadedNode ≤ length nodes
+  node-inside n = let a : loadedNode ≤ getD nodes (p + 1) 0 = node-size n in let b : p + getD nodes (p + 1) 0 ≤ length nodes = node-end n in omega arith
 
 -- what a node is: a variable, or a name with its arguments
 record VariableNode (ss : List Symbol) (nodes : List ℕ) (p : ℕ) : Type 0 where
-  low : getD nodes p 0 < 64
-  size : getD nodes (p + 1) 0 ≡ 2
+  low : getD nodes p 0 < firstName
+  size : getD nodes (p + 1) 0 ≡ loadedNode
   means : (c : ℕ) → termAt ss nodes p c ≡ var (record { copy = c; number = getD nodes p 0 })
 
 record CompoundNode (ss : List Symbol) (nodes : List ℕ) (p : ℕ) : Type 0 where
   name : List ℕ
   args : Terms
-  word : getD nodes p 0 ≡ 64 + symbolOf ss name (arity args)
-  size : getD nodes (p + 1) 0 ≡ 2 + length (loadedAll ss args)
+  word : getD nodes p 0 ≡ firstName + symbolOf ss name (arity args)
+  size : getD nodes (p + 1) 0 ≡ loadedNode + length (loadedAll ss args)
   listed : T (isListed ss name (arity args))
-  stand : StandAll ss nodes (p + 2) args
+  stand : StandAll ss nodes (p + loadedNode) args
   means : (c : ℕ) → termAt ss nodes p c ≡ app name (copiedAll c args)
 
 view : (ss : List Symbol) (nodes : List ℕ) (p : ℕ) (t : Term) → Stands ss nodes p t → VariableNode ss nodes p ⊎ CompoundNode ss nodes p
 unfolding loadedWords isLoadable
 view ss nodes p (variable n b) s =
     let e : getD nodes p 0 ≡ n = s .words .1 in
-    let k : n < 64 = ltb→lt n 64 (s .loadable) in
+    let k : n < firstName = ltb→lt n firstName (s .loadable) in
     inl (record { low = omega arith; size = s .words .2 .1; means = λ c. term-at ss nodes p c (variable n b) s ∙ ap (λ (i : ℕ). var (record { copy = c; number = i })) (sym e) })
 view ss nodes p (compound b f ts) s =
     let ok : T (isListed ss f (arity ts)) × T (areLoadable ss ts) = both (isListed ss f (arity ts)) (areLoadable ss ts) (s .loadable) in
@@ -224,38 +203,38 @@ view ss nodes p (compound b f ts) s =
     })
 
 module _ (ss : List Symbol) (nodes : List ℕ) (p : ℕ) (n : Node ss nodes p) where
-  variable-node : getD nodes p 0 < 64 → VariableNode ss nodes p
+  variable-node : getD nodes p 0 < firstName → VariableNode ss nodes p
   variable-node l = go (view ss nodes p (n .0) (n .1))
     where
       go : VariableNode ss nodes p ⊎ CompoundNode ss nodes p → VariableNode ss nodes p
       go (inl v) = v
-      go (inr k) = absurd (let e : getD nodes p 0 ≡ 64 + symbolOf ss (k .name) (arity (k .args)) = k .word in omega arith)
+      go (inr k) = absurd (let e : getD nodes p 0 ≡ firstName + symbolOf ss (k .name) (arity (k .args)) = k .word in omega arith)
 
-  compound-node : 64 ≤ getD nodes p 0 → CompoundNode ss nodes p
+  compound-node : firstName ≤ getD nodes p 0 → CompoundNode ss nodes p
   compound-node l = go (view ss nodes p (n .0) (n .1))
     where
       go : VariableNode ss nodes p ⊎ CompoundNode ss nodes p → CompoundNode ss nodes p
-      go (inl v) = absurd (let e : getD nodes p 0 < 64 = v .low in omega arith)
+      go (inl v) = absurd (let e : getD nodes p 0 < firstName = v .low in omega arith)
       go (inr k) = k
 
-  pub variable-at : (c : ℕ) → getD nodes p 0 < 64 → termAt ss nodes p c ≡ var (record { copy = c; number = getD nodes p 0 })
+  pub variable-at : (c : ℕ) → getD nodes p 0 < firstName → termAt ss nodes p c ≡ var (record { copy = c; number = getD nodes p 0 })
   variable-at c l = variable-node l .means c
 
-  pub variable-size : getD nodes p 0 < 64 → getD nodes (p + 1) 0 ≡ 2
+  pub variable-size : getD nodes p 0 < firstName → getD nodes (p + 1) 0 ≡ loadedNode
   variable-size l = variable-node l .size
 
-  pub compound-row : 64 ≤ getD nodes p 0 → Row ss nodes (p + 2) (p + getD nodes (p + 1) 0)
+  pub compound-row : firstName ≤ getD nodes p 0 → Row ss nodes (p + loadedNode) (p + getD nodes (p + 1) 0)
   compound-row l =
       let k : CompoundNode ss nodes p = compound-node l in
-      record { terms = k .args; stand = k .stand; ends = (let e : getD nodes (p + 1) 0 ≡ 2 + length (loadedAll ss (k .args)) = k .size in omega arith) }
+      record { terms = k .args; stand = k .stand; ends = (let e : getD nodes (p + 1) 0 ≡ loadedNode + length (loadedAll ss (k .args)) = k .size in omega arith) }
 
-  pub compound-at : (c : ℕ) → 64 ≤ getD nodes p 0 → termAt ss nodes p c ≡ app (nameOf ss (getD nodes p 0 - 64)) (termsAt ss nodes (p + 2) (p + getD nodes (p + 1) 0) c)
+  pub compound-at : (c : ℕ) → firstName ≤ getD nodes p 0 → termAt ss nodes p c ≡ app (nameOf ss (getD nodes p 0 - firstName)) (termsAt ss nodes (p + loadedNode) (p + getD nodes (p + 1) 0) c)
   compound-at c l =
       let k : CompoundNode ss nodes p = compound-node l in
-      let ends : p + getD nodes (p + 1) 0 ≡ (p + 2) + length (loadedAll ss (k .args)) = (let e : getD nodes (p + 1) 0 ≡ 2 + length (loadedAll ss (k .args)) = k .size in omega arith) in
-      let w : getD nodes p 0 ≡ 64 + symbolOf ss (k .name) (arity (k .args)) = k .word in
-      let e : getD nodes p 0 - 64 ≡ symbolOf ss (k .name) (arity (k .args)) = omega arith in
-      k .means c ∙ sym (ap₂ app (ap (nameOf ss) e ∙ name-of ss (k .name) (arity (k .args)) (k .listed)) (terms-at ss nodes (p + 2) (p + getD nodes (p + 1) 0) c (k .args) (k .stand) ends))
+      let ends : p + getD nodes (p + 1) 0 ≡ (p + loadedNode) + length (loadedAll ss (k .args)) = (let e : getD nodes (p + 1) 0 ≡ loadedNode + length (loadedAll ss (k .args)) = k .size in omega arith) in
+      let w : getD nodes p 0 ≡ firstName + symbolOf ss (k .name) (arity (k .args)) = k .word in
+      let e : getD nodes p 0 - firstName ≡ symbolOf ss (k .name) (arity (k .args)) = omega arith in
+      k .means c ∙ sym (ap₂ app (ap (nameOf ss) e ∙ name-of ss (k .name) (arity (k .args)) (k .listed)) (terms-at ss nodes (p + loadedNode) (p + getD nodes (p + 1) 0) c (k .args) (k .stand) ends))
 
 -- the row of one node
 pub row-one : (ss : List Symbol) (nodes : List ℕ) (p : ℕ) → Node ss nodes p → Row ss nodes p (p + getD nodes (p + 1) 0)
@@ -271,9 +250,9 @@ row-one ss nodes p n =
 
 -- ---- rows
 
-all-some : (ss : List Symbol) (t : Term) (ts : Terms) → 2 ≤ length (loadedAll ss (cons t ts))
+all-some : (ss : List Symbol) (t : Term) (ts : Terms) → loadedNode ≤ length (loadedAll ss (cons t ts))
 unfolding loadedAll
-all-some ss t ts = let m : 2 ≤ length (loadedWords ss t) = words-some ss t in let e : length (loadedWords ss t ++ loadedAll ss ts) ≡ length (loadedWords ss t) + length (loadedAll ss ts) = length-append (loadedWords ss t) (loadedAll ss ts) in omega arith
+all-some ss t ts = let m : loadedNode ≤ length (loadedWords ss t) = words-some ss t in let e : length (loadedWords ss t ++ loadedAll ss ts) ≡ length (loadedWords ss t) + length (loadedAll ss ts) = length-append (loadedWords ss t) (loadedAll ss ts) in omega arith
 
 record FirstOf (ss : List Symbol) (nodes : List ℕ) (p e : ℕ) : Type 0 where
   node : Node ss nodes p
@@ -285,7 +264,7 @@ unfolding loadedAll areLoadable
 row-view ss nodes p e nil s q l = absurd (let z : e ≡ p + 0 = q in omega arith)
 row-view ss nodes p e (cons t ts) s q l =
     let ok : T (isLoadable ss t) × T (areLoadable ss ts) = both (isLoadable ss t) (areLoadable ss ts) (s .loadable) in
-    let few : (bracketsOf t ≤ 16) × (bracketsAll ts ≤ 17) = brackets-cons t ts (s .shallow) in
+    let few : (bracketsOf t ≤ brackets) × (bracketsAll ts ≤ brackets + 1) = brackets-cons t ts (s .shallow) in
     let one : Stands ss nodes p t = record { words = has-left nodes p (loadedWords ss t) (loadedAll ss ts) (s .words); loadable = ok .0; shallow = few .0 } in
     let size : getD nodes (p + 1) 0 ≡ length (loadedWords ss t) = size-word ss nodes p t (one .words) in
     let at : p + length (loadedWords ss t) ≡ p + getD nodes (p + 1) 0 = omega arith in
@@ -316,13 +295,13 @@ loadable-join ss (cons t ts) us h k =
     let ok : T (isLoadable ss t) × T (areLoadable ss ts) = both (isLoadable ss t) (areLoadable ss ts) h in
     and (isLoadable ss t) (areLoadable ss (joinTerms ts us)) (ok .0) (loadable-join ss ts us (ok .1) k)
 
-brackets-join : (ts us : Terms) → bracketsAll ts ≤ 17 → bracketsAll us ≤ 17 → bracketsAll (joinTerms ts us) ≤ 17
+brackets-join : (ts us : Terms) → bracketsAll ts ≤ brackets + 1 → bracketsAll us ≤ brackets + 1 → bracketsAll (joinTerms ts us) ≤ brackets + 1
 unfolding bracketsAll joinTerms
 brackets-join nil us h k = k
 brackets-join (cons t ts) us h k =
-    let few : (bracketsOf t ≤ 16) × (bracketsAll ts ≤ 17) = brackets-cons t ts h in
-    let first : bracketsOf t ≤ 16 = few .0 in
-    let rest : bracketsAll (joinTerms ts us) ≤ 17 = brackets-join ts us (few .1) k in
+    let few : (bracketsOf t ≤ brackets) × (bracketsAll ts ≤ brackets + 1) = brackets-cons t ts h in
+    let first : bracketsOf t ≤ brackets = few .0 in
+    let rest : bracketsAll (joinTerms ts us) ≤ brackets + 1 = brackets-join ts us (few .1) k in
     omega arith
 
 copied-join : (c : ℕ) (ts us : Terms) → copiedAll c (joinTerms ts us) ≡ followed (copiedAll c ts) (copiedAll c us)
@@ -363,7 +342,7 @@ module _ (ss : List Symbol) (nodes : List ℕ) (p e : ℕ) (r : Row ss nodes p e
     where
       go : (ts : Terms) → e ≡ p + length (loadedAll ss ts) → copiedAll c ts ≡ rnil
       go nil q = refl
-      go (cons t ts) q = absurd (let k : 2 ≤ length (loadedAll ss (cons t ts)) = all-some ss t ts in omega arith)
+      go (cons t ts) q = absurd (let k : loadedNode ≤ length (loadedAll ss (cons t ts)) = all-some ss t ts in omega arith)
 
   pub row-first : p < e → Node ss nodes p
   row-first l = first-of l .node
@@ -375,16 +354,16 @@ module _ (ss : List Symbol) (nodes : List ℕ) (p e : ℕ) (r : Row ss nodes p e
   row-cons c l = first-of l .means c
 
   -- a name's arguments, and then what stands behind them
-  pub row-open : p < e → 64 ≤ getD nodes p 0 → Row ss nodes (p + 2) e
-  row-open l h = join-rows ss nodes (p + 2) (p + getD nodes (p + 1) 0) e (compound-row ss nodes p (row-first l) h) (row-rest l) .row
+  pub row-open : p < e → firstName ≤ getD nodes p 0 → Row ss nodes (p + loadedNode) e
+  row-open l h = join-rows ss nodes (p + loadedNode) (p + getD nodes (p + 1) 0) e (compound-row ss nodes p (row-first l) h) (row-rest l) .row
 
-  pub row-opened : (c : ℕ) → p < e → 64 ≤ getD nodes p 0 → termsAt ss nodes (p + 2) e c ≡ followed (termsAt ss nodes (p + 2) (p + getD nodes (p + 1) 0) c) (termsAt ss nodes (p + getD nodes (p + 1) 0) e c)
-  row-opened c l h = join-rows ss nodes (p + 2) (p + getD nodes (p + 1) 0) e (compound-row ss nodes p (row-first l) h) (row-rest l) .means c
+  pub row-opened : (c : ℕ) → p < e → firstName ≤ getD nodes p 0 → termsAt ss nodes (p + loadedNode) e c ≡ followed (termsAt ss nodes (p + loadedNode) (p + getD nodes (p + 1) 0) c) (termsAt ss nodes (p + getD nodes (p + 1) 0) e c)
+  row-opened c l h = join-rows ss nodes (p + loadedNode) (p + getD nodes (p + 1) 0) e (compound-row ss nodes p (row-first l) h) (row-rest l) .means c
 
 pub row-one-is : (ss : List Symbol) (nodes : List ℕ) (p c : ℕ) (n : Node ss nodes p) → termsAt ss nodes p (p + getD nodes (p + 1) 0) c ≡ rcons (termAt ss nodes p c) rnil
 row-one-is ss nodes p c n =
     let r : Row ss nodes p (p + getD nodes (p + 1) 0) = row-one ss nodes p n in
-    let k : 2 ≤ getD nodes (p + 1) 0 = node-size ss nodes p n in
+    let k : loadedNode ≤ getD nodes (p + 1) 0 = node-size ss nodes p n in
     let l : p < p + getD nodes (p + 1) 0 = omega arith in
     row-cons ss nodes p (p + getD nodes (p + 1) 0) r c l ∙ ap (rcons (termAt ss nodes p c)) (row-none ss nodes (p + getD nodes (p + 1) 0) (p + getD nodes (p + 1) 0) (row-rest ss nodes p (p + getD nodes (p + 1) 0) r l) c (omega arith))
 
@@ -395,34 +374,34 @@ unfolding count
 count-copied c nil = refl
 count-copied c (cons t ts) = ap suc (count-copied c ts)
 
-module _ (ss : List Symbol) (nodes : List ℕ) (p q c d : ℕ) (n : Node ss nodes p) (m : Node ss nodes q) (h : 64 ≤ getD nodes p 0) (k : 64 ≤ getD nodes q 0) where
+module _ (ss : List Symbol) (nodes : List ℕ) (p q c d : ℕ) (n : Node ss nodes p) (m : Node ss nodes q) (h : firstName ≤ getD nodes p 0) (k : firstName ≤ getD nodes q 0) where
   left : CompoundNode ss nodes p
   left = compound-node ss nodes p n h
 
   right : CompoundNode ss nodes q
   right = compound-node ss nodes q m k
 
-  counts : count (termsAt ss nodes (p + 2) (p + getD nodes (p + 1) 0) c) ≡ arity (left .args)
-  counts = ap count (terms-at ss nodes (p + 2) (p + getD nodes (p + 1) 0) c (left .args) (left .stand) (let e : getD nodes (p + 1) 0 ≡ 2 + length (loadedAll ss (left .args)) = left .size in omega arith)) ∙ count-copied c (left .args)
+  counts : count (termsAt ss nodes (p + loadedNode) (p + getD nodes (p + 1) 0) c) ≡ arity (left .args)
+  counts = ap count (terms-at ss nodes (p + loadedNode) (p + getD nodes (p + 1) 0) c (left .args) (left .stand) (let e : getD nodes (p + 1) 0 ≡ loadedNode + length (loadedAll ss (left .args)) = left .size in omega arith)) ∙ count-copied c (left .args)
 
-  counts-right : count (termsAt ss nodes (q + 2) (q + getD nodes (q + 1) 0) d) ≡ arity (right .args)
-  counts-right = ap count (terms-at ss nodes (q + 2) (q + getD nodes (q + 1) 0) d (right .args) (right .stand) (let e : getD nodes (q + 1) 0 ≡ 2 + length (loadedAll ss (right .args)) = right .size in omega arith)) ∙ count-copied d (right .args)
+  counts-right : count (termsAt ss nodes (q + loadedNode) (q + getD nodes (q + 1) 0) d) ≡ arity (right .args)
+  counts-right = ap count (terms-at ss nodes (q + loadedNode) (q + getD nodes (q + 1) 0) d (right .args) (right .stand) (let e : getD nodes (q + 1) 0 ≡ loadedNode + length (loadedAll ss (right .args)) = right .size in omega arith)) ∙ count-copied d (right .args)
 
   -- the same word: as many arguments
-  pub same-count : getD nodes p 0 ≡ getD nodes q 0 → count (termsAt ss nodes (p + 2) (p + getD nodes (p + 1) 0) c) ≡ count (termsAt ss nodes (q + 2) (q + getD nodes (q + 1) 0) d)
+  pub same-count : getD nodes p 0 ≡ getD nodes q 0 → count (termsAt ss nodes (p + loadedNode) (p + getD nodes (p + 1) 0) c) ≡ count (termsAt ss nodes (q + loadedNode) (q + getD nodes (q + 1) 0) d)
   same-count e =
-      let a : getD nodes p 0 ≡ 64 + symbolOf ss (left .name) (arity (left .args)) = left .word in
-      let b : getD nodes q 0 ≡ 64 + symbolOf ss (right .name) (arity (right .args)) = right .word in
+      let a : getD nodes p 0 ≡ firstName + symbolOf ss (left .name) (arity (left .args)) = left .word in
+      let b : getD nodes q 0 ≡ firstName + symbolOf ss (right .name) (arity (right .args)) = right .word in
       let z : symbolOf ss (left .name) (arity (left .args)) ≡ symbolOf ss (right .name) (arity (right .args)) = omega arith in
       counts ∙ (arguments-of ss (left .name) (right .name) (arity (left .args)) (arity (right .args)) (left .listed) (right .listed) z ∙ sym counts-right)
 
   -- another word: another name or another number of arguments
-  pub other-symbol : (getD nodes p 0 ≡ getD nodes q 0 → ⊥) → nameOf ss (getD nodes p 0 - 64) ≡ nameOf ss (getD nodes q 0 - 64) → count (termsAt ss nodes (p + 2) (p + getD nodes (p + 1) 0) c) ≡ count (termsAt ss nodes (q + 2) (q + getD nodes (q + 1) 0) d) → ⊥
+  pub other-symbol : (getD nodes p 0 ≡ getD nodes q 0 → ⊥) → nameOf ss (getD nodes p 0 - firstName) ≡ nameOf ss (getD nodes q 0 - firstName) → count (termsAt ss nodes (p + loadedNode) (p + getD nodes (p + 1) 0) c) ≡ count (termsAt ss nodes (q + loadedNode) (q + getD nodes (q + 1) 0) d) → ⊥
   other-symbol z e f =
-      let a : getD nodes p 0 ≡ 64 + symbolOf ss (left .name) (arity (left .args)) = left .word in
-      let b : getD nodes q 0 ≡ 64 + symbolOf ss (right .name) (arity (right .args)) = right .word in
-      let i : getD nodes p 0 - 64 ≡ symbolOf ss (left .name) (arity (left .args)) = omega arith in
-      let j : getD nodes q 0 - 64 ≡ symbolOf ss (right .name) (arity (right .args)) = omega arith in
+      let a : getD nodes p 0 ≡ firstName + symbolOf ss (left .name) (arity (left .args)) = left .word in
+      let b : getD nodes q 0 ≡ firstName + symbolOf ss (right .name) (arity (right .args)) = right .word in
+      let i : getD nodes p 0 - firstName ≡ symbolOf ss (left .name) (arity (left .args)) = omega arith in
+      let j : getD nodes q 0 - firstName ≡ symbolOf ss (right .name) (arity (right .args)) = omega arith in
       let names : left .name ≡ right .name = sym (name-of ss (left .name) (arity (left .args)) (left .listed)) ∙ (sym (ap (nameOf ss) i) ∙ (e ∙ (ap (nameOf ss) j ∙ name-of ss (right .name) (arity (right .args)) (right .listed)))) in
       let arities : arity (left .args) ≡ arity (right .args) = sym counts ∙ (f ∙ counts-right) in
       let y : symbolOf ss (left .name) (arity (left .args)) ≡ symbolOf ss (right .name) (arity (right .args)) = ap₂ (symbolOf ss) names arities in

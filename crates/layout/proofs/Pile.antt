@@ -9,10 +9,12 @@ use lib.Dec.{T, eqb, eqb→eq}
 use lib.ListN.{length, getD, drop, set, length-set}
 use lib.Seq.{getD-set-same, getD-set-other}
 use borrow.Author.Tests.{eqb-true, eqb-false, eq-eqb, ne-eqb}
+use Rattle.syntax.specs.Limits.{longestPath, literals}
 use Rattle.syntax.specs.Terms.{Term, termOf, Atom, Literal, call, equation, truth, falsity, Body, done, also, Clause, Sheet, Goal, arity, sameName, samePredicate}
-use Rattle.syntax.specs.Words.{bodyLength}
+use Rattle.syntax.specs.Words.{bodyLength, truthKind, falsityKind, callKind, equationKind}
 use Rattle.machine.specs.Machine.{Pending, Alternative, pending, isFor, firstFor, nextFor, nth, clauseAt}
 use Rattle.machine.proofs.Tests.{some-none, both, name-eq}
+use Rattle.layout.specs.Regions.{storeWords, frames, alternatives, mostAlternatives, stateWords, frameOf, alternativeOf, literalSize, endKind, nextLiteral, frameSize, alternativeSize, literalFrom}
 use Rattle.layout.specs.Nodes.{Symbol, Stands}
 use Rattle.layout.specs.State.{bindings, Store, Within, Agrees, Keeps}
 use Rattle.layout.specs.Program.{bodyAt, kindAt, placeAt, otherAt, BodyStands, Program}
@@ -72,13 +74,13 @@ clause-body sh g (suc k) cl e = ap bodyIn e
 
 module _ (ss : List Symbol) (sh : Sheet) (nodes code : List ℕ) where
   -- behind i literals stands the rest
-  stand-from : (i l : ℕ) (b : Body) → BodyStands ss sh nodes code l b → i ≤ bodyLength b → BodyStands ss sh nodes code (l + i * 4) (dropBody i b)
+  stand-from : (i l : ℕ) (b : Body) → BodyStands ss sh nodes code l b → i ≤ bodyLength b → BodyStands ss sh nodes code (literalFrom l i) (dropBody i b)
   unfolding dropBody
-  stand-from zero l b h q = subst (λ (y : ℕ). BodyStands ss sh nodes code y b) (let e : l ≡ l + 0 * 4 = omega arith in e) h
+  stand-from zero l b h q = subst (λ (y : ℕ). BodyStands ss sh nodes code y b) (let e : l ≡ l + 0 * literalSize = omega arith in e) h
   stand-from (suc i) l done h q = absurd (let z : suc i ≤ 0 = q in omega arith)
   stand-from (suc i) l (also x b) h q =
       let z : suc i ≤ suc (bodyLength b) = q in
-      subst (λ (y : ℕ). BodyStands ss sh nodes code y (dropBody i b)) (let e : (l + 4) + i * 4 ≡ l + suc i * 4 = omega arith in e) (stand-from i (l + 4) b (h .2) (omega arith))
+      subst (λ (y : ℕ). BodyStands ss sh nodes code y (dropBody i b)) (let e : (nextLiteral l) + i * literalSize ≡ l + suc i * literalSize = omega arith in e) (stand-from i (nextLiteral l) b (h .2) (omega arith))
 
   -- the body of a number stands where its word says
   body-stands : (g : Goal) (m : ℕ) → Program ss sh g nodes code → m ≤ length (sh .clauses) → BodyStands ss sh nodes code (bodyAt code m) (bodyOf sh g m)
@@ -92,8 +94,8 @@ module _ (sh : Sheet) (g : Goal) (code state : List ℕ) (c l : ℕ) (at : Place
   rest-is : restFrom sh g code state c l ≡ dropBody (at .index) (bodyOf sh g (clauseIn state c))
   unfolding restFrom
   rest-is =
-      let q : l ≡ bodyAt code (clauseIn state c) + at .index * 4 = at .is in
-      let e : (l - bodyAt code (clauseIn state c)) / 4 ≡ at .index = omega arith in
+      let q : l ≡ literalFrom (bodyAt code (clauseIn state c)) (at .index) = at .is in
+      let e : (l - bodyAt code (clauseIn state c)) / literalSize ≡ at .index = omega arith in
       ap (λ (i : ℕ). dropBody i (bodyOf sh g (clauseIn state c))) e
 
   -- behind a literal is a place, and what follows it
@@ -101,16 +103,16 @@ module _ (sh : Sheet) (g : Goal) (code state : List ℕ) (c l : ℕ) (at : Place
     next-drop : (suc (at .index) ≤ bodyLength (bodyOf sh g (clauseIn state c))) × (dropBody (suc (at .index)) (bodyOf sh g (clauseIn state c)) ≡ b)
     next-drop = drop-also (at .index) (bodyOf sh g (clauseIn state c)) x b (sym rest-is ∙ e)
 
-    pub place-next : Place sh g code state c (l + 4)
+    pub place-next : Place sh g code state c (nextLiteral l)
     place-next =
-        let q : l ≡ bodyAt code (clauseIn state c) + at .index * 4 = at .is in
-        record { clause = at .clause; index = suc (at .index); is = (let z : l + 4 ≡ bodyAt code (clauseIn state c) + suc (at .index) * 4 = omega arith in z); low = next-drop .0 }
+        let q : l ≡ literalFrom (bodyAt code (clauseIn state c)) (at .index) = at .is in
+        record { clause = at .clause; index = suc (at .index); is = (let z : nextLiteral l ≡ bodyAt code (clauseIn state c) + suc (at .index) * literalSize = omega arith in z); low = next-drop .0 }
 
-    pub rest-next : restFrom sh g code state c (l + 4) ≡ b
+    pub rest-next : restFrom sh g code state c (nextLiteral l) ≡ b
     unfolding restFrom
     rest-next =
-        let q : l ≡ bodyAt code (clauseIn state c) + at .index * 4 = at .is in
-        let z : ((l + 4) - bodyAt code (clauseIn state c)) / 4 ≡ suc (at .index) = omega arith in
+        let q : l ≡ literalFrom (bodyAt code (clauseIn state c)) (at .index) = at .is in
+        let z : ((nextLiteral l) - bodyAt code (clauseIn state c)) / literalSize ≡ suc (at .index) = omega arith in
         ap (λ (i : ℕ). dropBody i (bodyOf sh g (clauseIn state c))) z ∙ next-drop .1
 
 -- What is left of a copy's body from a place on stands there in the table.
@@ -123,52 +125,52 @@ place-stands ss sh g nodes code state c l pr at =
 -- ---- what a literal's kind tells
 
 module _ (ss : List Symbol) (sh : Sheet) (nodes code : List ℕ) (l : ℕ) where
-  pub kind-room : (b : Body) → BodyStands ss sh nodes code l b → l + 4 ≤ length code
+  pub kind-room : (b : Body) → BodyStands ss sh nodes code l b → l + literalSize ≤ length code
   kind-room done h = h .0
   kind-room (also x b) h = h .0
 
-  pub kind-small : (b : Body) → BodyStands ss sh nodes code l b → kindAt code l ≤ 4
-  kind-small done h = let e : kindAt code l ≡ 4 = h .1 in omega arith
-  kind-small (also (call a) b) h = let e : kindAt code l ≡ 2 = h .1 .0 in omega arith
-  kind-small (also (equation t u) b) h = let e : kindAt code l ≡ 3 = h .1 .0 in omega arith
-  kind-small (also truth b) h = let e : kindAt code l ≡ 0 = h .1 in omega arith
-  kind-small (also falsity b) h = let e : kindAt code l ≡ 1 = h .1 in omega arith
+  pub kind-small : (b : Body) → BodyStands ss sh nodes code l b → kindAt code l ≤ endKind
+  kind-small done h = let e : kindAt code l ≡ endKind = h .1 in omega arith
+  kind-small (also (call a) b) h = let e : kindAt code l ≡ callKind = h .1 .0 in omega arith
+  kind-small (also (equation t u) b) h = let e : kindAt code l ≡ equationKind = h .1 .0 in omega arith
+  kind-small (also truth b) h = let e : kindAt code l ≡ truthKind = h .1 in omega arith
+  kind-small (also falsity b) h = let e : kindAt code l ≡ falsityKind = h .1 in omega arith
 
-  pub kind-done : (b : Body) → BodyStands ss sh nodes code l b → kindAt code l ≡ 4 → b ≡ done
+  pub kind-done : (b : Body) → BodyStands ss sh nodes code l b → kindAt code l ≡ endKind → b ≡ done
   kind-done done h k = refl
-  kind-done (also (call a) b) h k = absurd (let e : kindAt code l ≡ 2 = h .1 .0 in omega arith)
-  kind-done (also (equation t u) b) h k = absurd (let e : kindAt code l ≡ 3 = h .1 .0 in omega arith)
-  kind-done (also truth b) h k = absurd (let e : kindAt code l ≡ 0 = h .1 in omega arith)
-  kind-done (also falsity b) h k = absurd (let e : kindAt code l ≡ 1 = h .1 in omega arith)
+  kind-done (also (call a) b) h k = absurd (let e : kindAt code l ≡ callKind = h .1 .0 in omega arith)
+  kind-done (also (equation t u) b) h k = absurd (let e : kindAt code l ≡ equationKind = h .1 .0 in omega arith)
+  kind-done (also truth b) h k = absurd (let e : kindAt code l ≡ truthKind = h .1 in omega arith)
+  kind-done (also falsity b) h k = absurd (let e : kindAt code l ≡ falsityKind = h .1 in omega arith)
 
-  pub kind-truth : (b : Body) → BodyStands ss sh nodes code l b → kindAt code l ≡ 0 → (r : Body) × (b ≡ also truth r)
-  kind-truth done h k = absurd (let e : kindAt code l ≡ 4 = h .1 in omega arith)
-  kind-truth (also (call a) b) h k = absurd (let e : kindAt code l ≡ 2 = h .1 .0 in omega arith)
-  kind-truth (also (equation t u) b) h k = absurd (let e : kindAt code l ≡ 3 = h .1 .0 in omega arith)
+  pub kind-truth : (b : Body) → BodyStands ss sh nodes code l b → kindAt code l ≡ truthKind → (r : Body) × (b ≡ also truth r)
+  kind-truth done h k = absurd (let e : kindAt code l ≡ endKind = h .1 in omega arith)
+  kind-truth (also (call a) b) h k = absurd (let e : kindAt code l ≡ callKind = h .1 .0 in omega arith)
+  kind-truth (also (equation t u) b) h k = absurd (let e : kindAt code l ≡ equationKind = h .1 .0 in omega arith)
   kind-truth (also truth b) h k = (b, refl)
-  kind-truth (also falsity b) h k = absurd (let e : kindAt code l ≡ 1 = h .1 in omega arith)
+  kind-truth (also falsity b) h k = absurd (let e : kindAt code l ≡ falsityKind = h .1 in omega arith)
 
-  pub kind-falsity : (b : Body) → BodyStands ss sh nodes code l b → kindAt code l ≡ 1 → (r : Body) × (b ≡ also falsity r)
-  kind-falsity done h k = absurd (let e : kindAt code l ≡ 4 = h .1 in omega arith)
-  kind-falsity (also (call a) b) h k = absurd (let e : kindAt code l ≡ 2 = h .1 .0 in omega arith)
-  kind-falsity (also (equation t u) b) h k = absurd (let e : kindAt code l ≡ 3 = h .1 .0 in omega arith)
-  kind-falsity (also truth b) h k = absurd (let e : kindAt code l ≡ 0 = h .1 in omega arith)
+  pub kind-falsity : (b : Body) → BodyStands ss sh nodes code l b → kindAt code l ≡ falsityKind → (r : Body) × (b ≡ also falsity r)
+  kind-falsity done h k = absurd (let e : kindAt code l ≡ endKind = h .1 in omega arith)
+  kind-falsity (also (call a) b) h k = absurd (let e : kindAt code l ≡ callKind = h .1 .0 in omega arith)
+  kind-falsity (also (equation t u) b) h k = absurd (let e : kindAt code l ≡ equationKind = h .1 .0 in omega arith)
+  kind-falsity (also truth b) h k = absurd (let e : kindAt code l ≡ truthKind = h .1 in omega arith)
   kind-falsity (also falsity b) h k = (b, refl)
 
   -- a call: its atom stands at its place, and its other word is the topmost clause
-  pub kind-call : (b : Body) → BodyStands ss sh nodes code l b → kindAt code l ≡ 2 → (a : Atom) × (r : Body) × (b ≡ also (call a) r) × Stands ss nodes (placeAt code l) (termOf a) × (otherAt code l ≡ nextFor sh a 0)
-  kind-call done h k = absurd (let e : kindAt code l ≡ 4 = h .1 in omega arith)
+  pub kind-call : (b : Body) → BodyStands ss sh nodes code l b → kindAt code l ≡ callKind → (a : Atom) × (r : Body) × (b ≡ also (call a) r) × Stands ss nodes (placeAt code l) (termOf a) × (otherAt code l ≡ nextFor sh a 0)
+  kind-call done h k = absurd (let e : kindAt code l ≡ endKind = h .1 in omega arith)
   kind-call (also (call a) b) h k = (a, b, refl, h .1 .1, h .1 .2)
-  kind-call (also (equation t u) b) h k = absurd (let e : kindAt code l ≡ 3 = h .1 .0 in omega arith)
-  kind-call (also truth b) h k = absurd (let e : kindAt code l ≡ 0 = h .1 in omega arith)
-  kind-call (also falsity b) h k = absurd (let e : kindAt code l ≡ 1 = h .1 in omega arith)
+  kind-call (also (equation t u) b) h k = absurd (let e : kindAt code l ≡ equationKind = h .1 .0 in omega arith)
+  kind-call (also truth b) h k = absurd (let e : kindAt code l ≡ truthKind = h .1 in omega arith)
+  kind-call (also falsity b) h k = absurd (let e : kindAt code l ≡ falsityKind = h .1 in omega arith)
 
-  pub kind-equation : (b : Body) → BodyStands ss sh nodes code l b → kindAt code l ≡ 3 → (t : Term) × (u : Term) × (r : Body) × (b ≡ also (equation t u) r) × Stands ss nodes (placeAt code l) t × Stands ss nodes (otherAt code l) u
-  kind-equation done h k = absurd (let e : kindAt code l ≡ 4 = h .1 in omega arith)
-  kind-equation (also (call a) b) h k = absurd (let e : kindAt code l ≡ 2 = h .1 .0 in omega arith)
+  pub kind-equation : (b : Body) → BodyStands ss sh nodes code l b → kindAt code l ≡ equationKind → (t : Term) × (u : Term) × (r : Body) × (b ≡ also (equation t u) r) × Stands ss nodes (placeAt code l) t × Stands ss nodes (otherAt code l) u
+  kind-equation done h k = absurd (let e : kindAt code l ≡ endKind = h .1 in omega arith)
+  kind-equation (also (call a) b) h k = absurd (let e : kindAt code l ≡ callKind = h .1 .0 in omega arith)
   kind-equation (also (equation t u) b) h k = (t, u, b, refl, h .1 .1, h .1 .2)
-  kind-equation (also truth b) h k = absurd (let e : kindAt code l ≡ 0 = h .1 in omega arith)
-  kind-equation (also falsity b) h k = absurd (let e : kindAt code l ≡ 1 = h .1 in omega arith)
+  kind-equation (also truth b) h k = absurd (let e : kindAt code l ≡ truthKind = h .1 in omega arith)
+  kind-equation (also falsity b) h k = absurd (let e : kindAt code l ≡ falsityKind = h .1 in omega arith)
 
 -- ---- what is left behind a copy
 
@@ -177,11 +179,11 @@ module _ (sh : Sheet) (g : Goal) (code state : List ℕ) where
   abbrev behind : ℕ → ℕ → Bool → List Pending
   behind k c b =
       elim b [
-        | true ↦ pending (callerOf state (suc k)) (restFrom sh g code state (callerOf state (suc k)) (callOf state (suc k) + 4)) (leftBehind sh g code state k (callerOf state (suc k)))
+        | true ↦ pending (callerOf state (suc k)) (restFrom sh g code state (callerOf state (suc k)) (nextLiteral (callOf state (suc k)))) (leftBehind sh g code state k (callerOf state (suc k)))
         | false ↦ leftBehind sh g code state k c
       ]
 
-  pub left-here : (k : ℕ) → leftBehind sh g code state (suc k) (suc k) ≡ pending (callerOf state (suc k)) (restFrom sh g code state (callerOf state (suc k)) (callOf state (suc k) + 4)) (leftBehind sh g code state k (callerOf state (suc k)))
+  pub left-here : (k : ℕ) → leftBehind sh g code state (suc k) (suc k) ≡ pending (callerOf state (suc k)) (restFrom sh g code state (callerOf state (suc k)) (nextLiteral (callOf state (suc k)))) (leftBehind sh g code state k (callerOf state (suc k)))
   unfolding leftBehind
   left-here k = ap (behind k (suc k)) (eq-eqb (suc k) (suc k) refl)
 
@@ -200,11 +202,11 @@ module _ (sh : Sheet) (g : Goal) (code state : List ℕ) where
 
 -- copy suc c is at its end: its caller goes on behind the call
 pub record Climbed (sh : Sheet) (g : Goal) (code state : List ℕ) (k c l : ℕ) : Type 0 where
-  pub left : leftFrom sh g code state k (suc c) l ≡ leftFrom sh g code state k (callerOf state (suc c)) (callOf state (suc c) + 4)
-  pub place : Place sh g code state (callerOf state (suc c)) (callOf state (suc c) + 4)
+  pub left : leftFrom sh g code state k (suc c) l ≡ leftFrom sh g code state k (callerOf state (suc c)) (nextLiteral (callOf state (suc c)))
+  pub place : Place sh g code state (callerOf state (suc c)) (nextLiteral (callOf state (suc c)))
   pub below : callerOf state (suc c) < suc c
 
-pub frame-next : (sh : Sheet) (g : Goal) (code state : List ℕ) (k : ℕ) → Frame sh g code state k → Place sh g code state (callerOf state k) (callOf state k + 4)
+pub frame-next : (sh : Sheet) (g : Goal) (code state : List ℕ) (k : ℕ) → Frame sh g code state k → Place sh g code state (callerOf state k) (nextLiteral (callOf state k))
 frame-next sh g code state k f =
     let r : (r : Body) × (restFrom sh g code state (callerOf state k) (callOf state k) ≡ also (call (f .atom)) r) = calls-also (restFrom sh g code state (callerOf state k) (callOf state k)) (f .atom) (f .calls) in
     place-next sh g code state (callerOf state k) (callOf state k) (f .place) (call (f .atom)) (r .0) (r .1)
@@ -220,7 +222,7 @@ climb sh g code state k c l frames low e =
       left = ap (λ (y : Body). pending (suc c) y (leftBehind sh g code state k (suc c))) e
           ∙ (left-same-top sh g code state k (suc c) low
           ∙ (left-here sh g code state c
-          ∙ ap (pending (callerOf state (suc c)) (restFrom sh g code state (callerOf state (suc c)) (callOf state (suc c) + 4))) up));
+          ∙ ap (pending (callerOf state (suc c)) (restFrom sh g code state (callerOf state (suc c)) (nextLiteral (callOf state (suc c))))) up));
       place = frame-next sh g code state (suc c) f;
       below = b;
     }
@@ -229,12 +231,12 @@ climb sh g code state k c l frames low e =
 
 -- the frames of copies 0 to k
 abbrev pub SameFrames : ℕ → List ℕ → List ℕ → Type 0
-SameFrames k before after = (j : ℕ) → 32768 ≤ j → j < 32768 + (k + 1) * 4 → getD after j 0 ≡ getD before j 0
+SameFrames k before after = (j : ℕ) → storeWords ≤ j → j < frameOf (k + 1) → getD after j 0 ≡ getD before j 0
 
 -- the first h alternatives, the frames of copies 0 to k, and the first n entries of the trail
 pub record SameUpTo (h k n : ℕ) (before after : List ℕ) : Type 0 where
   pub frame : SameFrames k before after
-  pub alternative : (j : ℕ) → 33792 ≤ j → j < 33792 + h * 6 → getD after j 0 ≡ getD before j 0
+  pub alternative : (j : ℕ) → alternatives ≤ j → j < alternativeOf h → getD after j 0 ≡ getD before j 0
   pub agree : Agrees n before after
 
 agrees-less : (m n : ℕ) (before after : List ℕ) → m ≤ n → Agrees n before after → Agrees m before after
@@ -246,18 +248,18 @@ keeps-same h k n before after s = record { frame = λ j l q. s .others j l; alte
 pub same-clause : (before after : List ℕ) (k : ℕ) → SameFrames k before after → (c : ℕ) → c ≤ k → clauseIn after c ≡ clauseIn before c
 unfolding clauseIn
 same-clause before after k s zero l = refl
-same-clause before after k s (suc c) l = s (32768 + suc c * 4) (omega arith) (omega arith)
+same-clause before after k s (suc c) l = s (frameOf (suc c)) (omega arith) (omega arith)
 
 same-caller : (before after : List ℕ) (k : ℕ) → SameFrames k before after → (c : ℕ) → c ≤ k → callerOf after c ≡ callerOf before c
-same-caller before after k s c l = s (32768 + c * 4 + 1) (omega arith) (omega arith)
+same-caller before after k s c l = s (frameOf c + 1) (omega arith) (omega arith)
 
 same-call : (before after : List ℕ) (k : ℕ) → SameFrames k before after → (c : ℕ) → c ≤ k → callOf after c ≡ callOf before c
-same-call before after k s c l = s (32768 + c * 4 + 2) (omega arith) (omega arith)
+same-call before after k s c l = s (frameOf c + 2) (omega arith) (omega arith)
 
 module _ (sh : Sheet) (g : Goal) (code before after : List ℕ) (k : ℕ) (same : SameFrames k before after) where
   pub same-rest : (c l : ℕ) → c ≤ k → restFrom sh g code after c l ≡ restFrom sh g code before c l
   unfolding restFrom
-  same-rest c l q = ap (λ (m : ℕ). dropBody ((l - bodyAt code m) / 4) (bodyOf sh g m)) (same-clause before after k same c q)
+  same-rest c l q = ap (λ (m : ℕ). dropBody ((l - bodyAt code m) / literalSize) (bodyOf sh g m)) (same-clause before after k same c q)
 
   pub same-place : (c l : ℕ) → c ≤ k → Place sh g code before c l → Place sh g code after c l
   same-place c l q p =
@@ -265,7 +267,7 @@ module _ (sh : Sheet) (g : Goal) (code before after : List ℕ) (k : ℕ) (same 
       record {
         clause = subst⁻¹ (λ (m : ℕ). m ≤ length (sh .clauses)) e (p .clause);
         index = p .index;
-        is = subst⁻¹ (λ (m : ℕ). l ≡ bodyAt code m + p .index * 4) e (p .is);
+        is = subst⁻¹ (λ (m : ℕ). l ≡ literalFrom (bodyAt code m) (p .index)) e (p .is);
         low = subst⁻¹ (λ (m : ℕ). p .index ≤ bodyLength (bodyOf sh g m)) e (p .low);
       }
 
@@ -291,14 +293,14 @@ module _ (sh : Sheet) (g : Goal) (code before after : List ℕ) (k : ℕ) (same 
       let b : callerOf before (suc p) < suc p = f .below in
       let e : callerOf after (suc p) ≡ callerOf before (suc p) = same-caller before after k same (suc p) q in
       let d : callOf after (suc p) ≡ callOf before (suc p) = same-call before after k same (suc p) q in
-      let r : restFrom sh g code after (callerOf after (suc p)) (callOf after (suc p) + 4) ≡ restFrom sh g code before (callerOf before (suc p)) (callOf before (suc p) + 4) =
-      ap₂ (λ (x y : ℕ). restFrom sh g code after x (y + 4)) e d ∙ same-rest (callerOf before (suc p)) (callOf before (suc p) + 4) (omega arith) in
+      let r : restFrom sh g code after (callerOf after (suc p)) (nextLiteral (callOf after (suc p))) ≡ restFrom sh g code before (callerOf before (suc p)) (nextLiteral (callOf before (suc p))) =
+      ap₂ (λ (x y : ℕ). restFrom sh g code after x (nextLiteral y)) e d ∙ same-rest (callerOf before (suc p)) (nextLiteral (callOf before (suc p))) (omega arith) in
       let t : leftBehind sh g code after p (callerOf after (suc p)) ≡ leftBehind sh g code before p (callerOf before (suc p)) =
       ap (leftBehind sh g code after p) e ∙ same-behind p (callerOf before (suc p)) (omega arith) (omega arith) (λ i z. frames i (omega arith)) in
       go (eqb c (suc p)) refl e r t (λ z. same-behind p c (omega arith) z (λ i y. frames i (omega arith)))
     where
       go : (b : Bool) → eqb c (suc p) ≡ b → callerOf after (suc p) ≡ callerOf before (suc p)
-          → restFrom sh g code after (callerOf after (suc p)) (callOf after (suc p) + 4) ≡ restFrom sh g code before (callerOf before (suc p)) (callOf before (suc p) + 4)
+          → restFrom sh g code after (callerOf after (suc p)) (nextLiteral (callOf after (suc p))) ≡ restFrom sh g code before (callerOf before (suc p)) (nextLiteral (callOf before (suc p)))
           → leftBehind sh g code after p (callerOf after (suc p)) ≡ leftBehind sh g code before p (callerOf before (suc p))
           → (c ≤ p → leftBehind sh g code after p c ≡ leftBehind sh g code before p c)
           → behind sh g code after p c b ≡ behind sh g code before p c b
@@ -325,19 +327,19 @@ module _ (sh : Sheet) (g : Goal) (code before after : List ℕ) (k : ℕ) (same 
 -- alternatives whose words are as they were
 module _ (before after : List ℕ) (h k n : ℕ) (same : SameUpTo h k n before after) (j : ℕ) (low : j < h) where
   pub same-copyAt : copyAt after j ≡ copyAt before j
-  same-copyAt = same .alternative (33792 + j * 6) (omega arith) (omega arith)
+  same-copyAt = same .alternative (alternativeOf j) (omega arith) (omega arith)
 
   pub same-literalAt : literalAt after j ≡ literalAt before j
-  same-literalAt = same .alternative (33792 + j * 6 + 1) (omega arith) (omega arith)
+  same-literalAt = same .alternative (alternativeOf j + 1) (omega arith) (omega arith)
 
   pub same-nextAt : nextAt after j ≡ nextAt before j
-  same-nextAt = same .alternative (33792 + j * 6 + 2) (omega arith) (omega arith)
+  same-nextAt = same .alternative (alternativeOf j + 2) (omega arith) (omega arith)
 
   pub same-markAt : markAt after j ≡ markAt before j
-  same-markAt = same .alternative (33792 + j * 6 + 3) (omega arith) (omega arith)
+  same-markAt = same .alternative (alternativeOf j + 3) (omega arith) (omega arith)
 
   pub same-pathAt : pathAt after j ≡ pathAt before j
-  same-pathAt = same .alternative (33792 + j * 6 + 4) (omega arith) (omega arith)
+  same-pathAt = same .alternative (alternativeOf j + 4) (omega arith) (omega arith)
 
 module _ (ss : List Symbol) (sh : Sheet) (g : Goal) (nodes code before after : List ℕ) (h k n : ℕ) (same : SameUpTo h k n before after) (j n0 : ℕ) (low : j < h) (path : pathAt before j ≤ k) (mark : markAt before j ≤ n) (s : Stacked sh g code before n0 j) where
   pub same-alternative : alternativeAt ss sh g nodes code after j ≡ alternativeAt ss sh g nodes code before j
@@ -364,13 +366,15 @@ module _ (ss : List Symbol) (sh : Sheet) (g : Goal) (nodes code before after : L
       let m : markAt after j ≡ markAt before j = same-markAt before after h k n same j low in
       let x : nextAt after j ≡ nextAt before j = same-nextAt before after h k n same j low in
       let cp : copyAt before j ≤ pathAt before j = s .copy in
-      let pl : pathAt before j ≤ 255 = s .low in
+      let pl : pathAt before j ≤ longestPath = s .low in
+      let ph : j ≤ pathAt before j = s .high in
       let cl : copyAt before j ≤ k = omega arith in
       let r : restFrom sh g code after (copyAt after j) (literalAt after j) ≡ restFrom sh g code before (copyAt before j) (literalAt before j) =
       ap₂ (restFrom sh g code after) c l ∙ same-rest sh g code before after k (same .frame) (copyAt before j) (literalAt before j) cl in
       let ag : Agrees (markAt before j) before after = agrees-less (markAt before j) n before after mark (same .agree) in
       record {
-        low = (let z : pathAt after j ≤ 255 = omega arith in z);
+        low = (let z : pathAt after j ≤ longestPath = omega arith in z);
+        high = (let z : j ≤ pathAt after j = omega arith in z);
         copy = (let z : copyAt after j ≤ pathAt after j = omega arith in z);
         mark = (let z : markAt after j ≤ n1 = omega arith in z);
         within = subst⁻¹ (λ (y : ℕ). Within y after (markAt after j)) p (subst⁻¹ (Within (pathAt before j) after) m (within-agrees (pathAt before j) (markAt before j) (markAt before j) before after (omega arith) ag (s .within)));
@@ -397,15 +401,15 @@ body-place sh g code state c m e l =
     record {
       clause = subst⁻¹ (λ (y : ℕ). y ≤ length (sh .clauses)) e l;
       index = 0;
-      is = subst⁻¹ (λ (y : ℕ). bodyAt code m ≡ bodyAt code y + 0 * 4) e (let z : bodyAt code m ≡ bodyAt code m + 0 * 4 = omega arith in z);
+      is = subst⁻¹ (λ (y : ℕ). bodyAt code m ≡ literalFrom (bodyAt code y) 0) e (let z : bodyAt code m ≡ literalFrom (bodyAt code m) 0 = omega arith in z);
       low = omega arith;
     }
 
 body-rest : (sh : Sheet) (g : Goal) (code state : List ℕ) (c m : ℕ) → clauseIn state c ≡ m → restFrom sh g code state c (bodyAt code m) ≡ bodyOf sh g m
 unfolding restFrom dropBody
 body-rest sh g code state c m e =
-    let z : (bodyAt code m - bodyAt code m) / 4 ≡ 0 = omega arith in
-    ap (λ (y : ℕ). dropBody ((bodyAt code m - bodyAt code y) / 4) (bodyOf sh g y)) e ∙ ap (λ (i : ℕ). dropBody i (bodyOf sh g m)) z
+    let z : (bodyAt code m - bodyAt code m) / literalSize ≡ 0 = omega arith in
+    ap (λ (y : ℕ). dropBody ((bodyAt code m - bodyAt code y) / literalSize) (bodyOf sh g y)) e ∙ ap (λ (i : ℕ). dropBody i (bodyOf sh g m)) z
 
 pub entered-place : (sh : Sheet) (g : Goal) (code state : List ℕ) (k m : ℕ) (cl : Clause) → clauseAt sh m ≡ some cl → clauseIn state (suc k) ≡ m → Place sh g code state (suc k) (bodyAt code m)
 entered-place sh g code state k m cl q e = body-place sh g code state (suc k) m e (clause-low sh m cl q)
@@ -470,17 +474,13 @@ next-head sh a cl k h =
 
 module _ (ss : List Symbol) (sh : Sheet) (g : Goal) (nodes code state : List ℕ) (h n : ℕ) (piled : Piled ss sh g nodes code state h n) where
   pub path-high : (j : ℕ) → j < h → j ≤ pathAt state j
-  path-high zero l = omega arith
-  path-high (suc j) l =
-      let a : j ≤ pathAt state j = path-high j (omega arith) in
-      let b : pathAt state j < pathAt state (suc j) = piled .longer j (suc j) (omega arith) l in
-      omega arith
+  path-high j l = piled .each j l .high
 
-pub height : (ss : List Symbol) (sh : Sheet) (g : Goal) (nodes code state : List ℕ) (h n : ℕ) → Piled ss sh g nodes code state h n → h ≤ 256
+pub height : (ss : List Symbol) (sh : Sheet) (g : Goal) (nodes code state : List ℕ) (h n : ℕ) → Piled ss sh g nodes code state h n → h ≤ mostAlternatives
 height ss sh g nodes code state zero n piled = omega arith
 height ss sh g nodes code state (suc h) n piled =
     let a : h ≤ pathAt state h = path-high ss sh g nodes code state (suc h) n piled h (omega arith) in
-    let b : pathAt state h ≤ 255 = piled .each h (omega arith) .low in
+    let b : pathAt state h ≤ longestPath = piled .each h (omega arith) .low in
     omega arith
 
 -- paths and trails of the lower alternatives are no longer than those of the top
@@ -497,7 +497,7 @@ module _ (ss : List Symbol) (sh : Sheet) (g : Goal) (nodes code state : List ℕ
     where
       go : (b : Bool) → eqb j h ≡ b → pathAt state j ≤ pathAt state h
       go true e = subst⁻¹ (λ (y : ℕ). pathAt state y ≤ pathAt state h) (eqb-true j h e) (omega arith)
-      go false e = let q : pathAt state j < pathAt state h = piled .longer j h (let z : j ≡ h → ⊥ = eqb-false j h e in omega (arith, z)) (omega arith) in omega arith
+      go false e = piled .longer j h (let z : j ≡ h → ⊥ = eqb-false j h e in omega (arith, z)) (omega arith)
 
 -- ---- changes of the words
 
@@ -509,16 +509,16 @@ pub record Written (h c l x m p : ℕ) (before after : List ℕ) : Type 0 where
   pub next : nextAt after h ≡ x
   pub mark : markAt after h ≡ m
   pub path : pathAt after h ≡ p
-  pub others : (j : ℕ) → j < 33792 + h * 6 → getD after j 0 ≡ getD before j 0
+  pub others : (j : ℕ) → j < alternativeOf h → getD after j 0 ≡ getD before j 0
 
 -- The frame of copy k is written; its fourth word is of no account.
 pub record Framed (k m c l : ℕ) (before after : List ℕ) : Type 0 where
   pub long : length after ≡ length before
-  pub clause : getD after (32768 + k * 4) 0 ≡ m
+  pub clause : getD after (frameOf k) 0 ≡ m
   pub caller : callerOf after k ≡ c
   pub call : callOf after k ≡ l
-  pub under : (j : ℕ) → j < 32768 + k * 4 → getD after j 0 ≡ getD before j 0
-  pub over : (j : ℕ) → 32768 + k * 4 + 4 ≤ j → getD after j 0 ≡ getD before j 0
+  pub under : (j : ℕ) → j < frameOf k → getD after j 0 ≡ getD before j 0
+  pub over : (j : ℕ) → frameOf k + frameSize ≤ j → getD after j 0 ≡ getD before j 0
 
 -- an alternative can stand at l of copy c, with x for its next clause
 pub record Stand (sh : Sheet) (g : Goal) (code state : List ℕ) (c l x : ℕ) : Type 0 where
@@ -551,10 +551,10 @@ carried ss sh g nodes code before after h k n n0 n1 p same path mark q store e =
       piled = record {
         program = p .program;
         store = store;
-        long = (let z : 35328 ≤ length before = p .long in let y : 35328 ≤ length after = omega arith in y);
+        long = (let z : stateWords ≤ length before = p .long in let y : stateWords ≤ length after = omega arith in y);
         each = λ j l. same-stacked ss sh g nodes code before after h k n same j n0 l (path j l) (mark j l) (p .each j l) n1 (let z : markAt before j ≤ n = mark j l in omega arith);
         longer = λ i j l r. (let a : pathAt after i ≡ pathAt before i = same-pathAt before after h k n same i (omega arith) in let b : pathAt after j ≡ pathAt before j = same-pathAt before after h k n same j r in
-            let c : pathAt before i < pathAt before j = p .longer i j l r in let y : pathAt after i < pathAt after j = omega arith in y);
+            let c : pathAt before i ≤ pathAt before j = p .longer i j l r in let y : pathAt after i ≤ pathAt after j = omega arith in y);
         later = λ i j l r. (let a : markAt after i ≡ markAt before i = same-markAt before after h k n same i (omega arith) in let b : markAt after j ≡ markAt before j = same-markAt before after h k n same j r in
             let c : markAt before i ≤ markAt before j = p .later i j l r in let y : markAt after i ≤ markAt after j = omega arith in y);
       };
@@ -565,28 +565,28 @@ carried ss sh g nodes code before after h k n n0 n1 p same path mark q store e =
 pub undone : (ss : List Symbol) (sh : Sheet) (g : Goal) (nodes code state after : List ℕ) (h n m : ℕ) → Piled ss sh g nodes code state (suc h) n → markAt state h ≡ m → Keeps m state after → Store ss nodes after m
     → Means ss sh g nodes code after (suc h) m (pileOf ss sh g nodes code state (suc h))
 undone ss sh g nodes code state after h n m p e k store =
-    carried ss sh g nodes code state after (suc h) 255 m n m p (keeps-same (suc h) 255 m state after k) (λ j l. p .each j l .low)
+    carried ss sh g nodes code state after (suc h) longestPath m n m p (keeps-same (suc h) longestPath m state after k) (λ j l. p .each j l .low)
     (λ j l. let z : markAt state j ≤ markAt state h = mark-top ss sh g nodes code state h n p j l in let y : markAt state j ≤ m = omega arith in y)
     (omega arith) store (k .long)
 
 -- an alternative is written on top of h others
 module _ (ss : List Symbol) (sh : Sheet) (g : Goal) (nodes code before after : List ℕ) (h n m p c l x : ℕ)
-    (piled : Piled ss sh g nodes code before h n) (mark-low : m ≤ n) (path-low : p ≤ 255) (copy-low : c ≤ p)
-    (paths : (j : ℕ) → j < h → pathAt before j < p) (marks : (j : ℕ) → j < h → markAt before j ≤ m)
+    (piled : Piled ss sh g nodes code before h n) (mark-low : m ≤ n) (path-low : p ≤ longestPath) (enough : h ≤ p) (copy-low : c ≤ p)
+    (paths : (j : ℕ) → j < h → pathAt before j ≤ p) (marks : (j : ℕ) → j < h → markAt before j ≤ m)
     (within : Within p before m) (frames : (i : ℕ) → i < p → Frame sh g code before (suc i)) (stand : Stand sh g code before c l x) (w : Written h c l x m p before after) where
   same-words : SameStore before after
   same-words = (w .long, λ j q. w .others j (omega arith))
 
-  same-below : SameUpTo h 255 n before after
+  same-below : SameUpTo h longestPath n before after
   same-below = record { frame = λ j q r. w .others j (omega arith); alternative = λ j q r. w .others j r; agree = same-agrees ss nodes before after n (piled .store) same-words }
 
   below : Means ss sh g nodes code after h n (pileOf ss sh g nodes code before h)
   below =
-      carried ss sh g nodes code before after h 255 n n n piled same-below (λ j q. piled .each j q .low) (λ j q. piled .each j q .mark) (omega arith)
+      carried ss sh g nodes code before after h longestPath n n n piled same-below (λ j q. piled .each j q .low) (λ j q. piled .each j q .mark) (omega arith)
       (store-same ss nodes before after n (piled .store) same-words) (w .long)
 
   rest-after : restFrom sh g code after (copyAt after h) (literalAt after h) ≡ restFrom sh g code before c l
-  rest-after = ap₂ (restFrom sh g code after) (w .copy) (w .literal) ∙ same-rest sh g code before after 255 (same-below .frame) c l (omega arith)
+  rest-after = ap₂ (restFrom sh g code after) (w .copy) (w .literal) ∙ same-rest sh g code before after longestPath (same-below .frame) c l (omega arith)
 
   top-stacked : Stacked sh g code after n h
   top-stacked =
@@ -594,12 +594,13 @@ module _ (ss : List Symbol) (sh : Sheet) (g : Goal) (nodes code before after : L
       let ec : copyAt after h ≡ c = w .copy in
       let em : markAt after h ≡ m = w .mark in
       record {
-        low = (let y : pathAt after h ≤ 255 = omega arith in y);
+        low = (let y : pathAt after h ≤ longestPath = omega arith in y);
+        high = (let y : h ≤ pathAt after h = omega arith in y);
         copy = (let y : copyAt after h ≤ pathAt after h = omega arith in y);
         mark = (let y : markAt after h ≤ n = omega arith in y);
         within = subst⁻¹ (λ (y : ℕ). Within y after (markAt after h)) ep (subst⁻¹ (Within p after) em (within-agrees p m m before after (omega arith) (agrees-less m n before after mark-low (same-below .agree)) within));
-        frame = λ i q. (let y : i < pathAt after h = q in same-frame sh g code before after 255 (same-below .frame) i (omega arith) (frames i (omega arith)));
-        place = subst⁻¹ (λ (y : ℕ). Place sh g code after y (literalAt after h)) ec (subst⁻¹ (Place sh g code after c) (w .literal) (same-place sh g code before after 255 (same-below .frame) c l (omega arith) (stand .place)));
+        frame = λ i q. (let y : i < pathAt after h = q in same-frame sh g code before after longestPath (same-below .frame) i (omega arith) (frames i (omega arith)));
+        place = subst⁻¹ (λ (y : ℕ). Place sh g code after y (literalAt after h)) ec (subst⁻¹ (Place sh g code after c) (w .literal) (same-place sh g code before after longestPath (same-below .frame) c l (omega arith) (stand .place)));
         ends = λ e. ec ∙ stand .ends (sym rest-after ∙ e);
         next = λ a q. subst⁻¹ (NextFor sh a) (w .next) (stand .next a (subst (λ (y : Body). Calls y a) rest-after q));
       }
@@ -608,11 +609,11 @@ module _ (ss : List Symbol) (sh : Sheet) (g : Goal) (nodes code before after : L
   unfolding alternativeAt
   top-is =
       let lits : leftFrom sh g code after (pathAt after h) (copyAt after h) (literalAt after h) ≡ leftFrom sh g code before p c l =
-      (λ i. leftFrom sh g code after (w .path i) (w .copy i) (w .literal i)) ∙ same-left sh g code before after 255 (same-below .frame) p c l path-low copy-low frames in
+      (λ i. leftFrom sh g code after (w .path i) (w .copy i) (w .literal i)) ∙ same-left sh g code before after longestPath (same-below .frame) p c l path-low copy-low frames in
       let binds : bindings ss nodes after (markAt after h) ≡ bindings ss nodes before m =
       ap (bindings ss nodes after) (w .mark) ∙ bindings-agree ss nodes before after m n mark-low (same-below .agree) in
       let cs : callsUpTo sh g code after (pathAt after h) ≡ callsUpTo sh g code before p =
-      ap (callsUpTo sh g code after) (w .path) ∙ same-calls sh g code before after 255 (same-below .frame) p path-low frames in
+      ap (callsUpTo sh g code after) (w .path) ∙ same-calls sh g code before after longestPath (same-below .frame) p path-low frames in
       λ i. record { literals = lits i; bindings = binds i; next = w .next i; calls = cs i }
 
   pub topped : Means ss sh g nodes code after (suc h) n (record { literals = leftFrom sh g code before p c l; bindings = bindings ss nodes before m; next = x; calls = callsUpTo sh g code before p } ∷ pileOf ss sh g nodes code before h)
@@ -637,13 +638,13 @@ module _ (ss : List Symbol) (sh : Sheet) (g : Goal) (nodes code before after : L
       each-at j q true e = subst⁻¹ (Stacked sh g code after n) (eqb-true j h e) top-stacked
       each-at j q false e = below .piled .each j (under j q e)
 
-      longer-at : (i j : ℕ) → i < j → j < suc h → (b : Bool) → eqb j h ≡ b → pathAt after i < pathAt after j
+      longer-at : (i j : ℕ) → i < j → j < suc h → (b : Bool) → eqb j h ≡ b → pathAt after i ≤ pathAt after j
       longer-at i j q r true e =
           let ej : j ≡ h = eqb-true j h e in
           let a : pathAt after j ≡ p = ap (pathAt after) ej ∙ w .path in
-          let b : pathAt after i ≡ pathAt before i = same-pathAt before after h 255 n same-below i (omega arith) in
-          let d : pathAt before i < p = paths i (omega arith) in
-          let y : pathAt after i < pathAt after j = omega arith in
+          let b : pathAt after i ≡ pathAt before i = same-pathAt before after h longestPath n same-below i (omega arith) in
+          let d : pathAt before i ≤ p = paths i (omega arith) in
+          let y : pathAt after i ≤ pathAt after j = omega arith in
           y
       longer-at i j q r false e = below .piled .longer i j q (under j r e)
 
@@ -651,7 +652,7 @@ module _ (ss : List Symbol) (sh : Sheet) (g : Goal) (nodes code before after : L
       later-at i j q r true e =
           let ej : j ≡ h = eqb-true j h e in
           let a : markAt after j ≡ m = ap (markAt after) ej ∙ w .mark in
-          let b : markAt after i ≡ markAt before i = same-markAt before after h 255 n same-below i (omega arith) in
+          let b : markAt after i ≡ markAt before i = same-markAt before after h longestPath n same-below i (omega arith) in
           let d : markAt before i ≤ m = marks i (omega arith) in
           let y : markAt after i ≤ markAt after j = omega arith in
           y
@@ -661,14 +662,14 @@ module _ (ss : List Symbol) (sh : Sheet) (g : Goal) (nodes code before after : L
 module _ (ss : List Symbol) (sh : Sheet) (g : Goal) (nodes code state after : List ℕ) (h n m : ℕ) (piled : Piled ss sh g nodes code state (suc h) n) (keeps : Keeps m state after) where
   pub kept-frames : (i : ℕ) → i < pathAt state h → Frame sh g code after (suc i)
   kept-frames i l =
-      let z : pathAt state h ≤ 255 = piled .each h (omega arith) .low in
-      same-frame sh g code state after 255 (λ j q r. keeps .others j q) i (omega arith) (piled .each h (omega arith) .frame i l)
+      let z : pathAt state h ≤ longestPath = piled .each h (omega arith) .low in
+      same-frame sh g code state after longestPath (λ j q r. keeps .others j q) i (omega arith) (piled .each h (omega arith) .frame i l)
 
   pub kept-calls : callsUpTo sh g code after (pathAt state h) ≡ callsUpTo sh g code state (pathAt state h)
-  kept-calls = same-calls sh g code state after 255 (λ j q r. keeps .others j q) (pathAt state h) (piled .each h (omega arith) .low) (piled .each h (omega arith) .frame)
+  kept-calls = same-calls sh g code state after longestPath (λ j q r. keeps .others j q) (pathAt state h) (piled .each h (omega arith) .low) (piled .each h (omega arith) .frame)
 
   pub kept-left : (c l : ℕ) → c ≤ pathAt state h → leftFrom sh g code after (pathAt state h) c l ≡ leftFrom sh g code state (pathAt state h) c l
-  kept-left c l q = same-left sh g code state after 255 (λ j r s. keeps .others j r) (pathAt state h) c l (piled .each h (omega arith) .low) q (piled .each h (omega arith) .frame)
+  kept-left c l q = same-left sh g code state after longestPath (λ j r s. keeps .others j r) (pathAt state h) c l (piled .each h (omega arith) .low) q (piled .each h (omega arith) .frame)
 
 -- The top, whose trail ends at its mark, gets another place and more bindings.
 pub replaced : (ss : List Symbol) (sh : Sheet) (g : Goal) (nodes code state state1 state2 : List ℕ) (h n n1 p c l x : ℕ) → Piled ss sh g nodes code state (suc h) n → markAt state h ≡ n → pathAt state h ≡ p
@@ -676,11 +677,11 @@ pub replaced : (ss : List Symbol) (sh : Sheet) (g : Goal) (nodes code state stat
     → Means ss sh g nodes code state2 (suc h) n1 (record { literals = leftFrom sh g code state1 p c l; bindings = bindings ss nodes state1 n1; next = x; calls = callsUpTo sh g code state p } ∷ pileOf ss sh g nodes code state h)
 replaced ss sh g nodes code state state1 state2 h n n1 p c l x piled em ep keeps store within more low stand w =
     let lower : Means ss sh g nodes code state1 h n1 (pileOf ss sh g nodes code state h) =
-    carried ss sh g nodes code state state1 h 255 n n n1 (popped ss sh g nodes code state h n piled) (keeps-same h 255 n state state1 keeps) (λ j q. piled .each j (omega arith) .low) (λ j q. piled .each j (omega arith) .mark) more store (keeps .long) in
-    let path-low : pathAt state h ≤ 255 = piled .each h (omega arith) .low in
+    carried ss sh g nodes code state state1 h longestPath n n n1 (popped ss sh g nodes code state h n piled) (keeps-same h longestPath n state state1 keeps) (λ j q. piled .each j (omega arith) .low) (λ j q. piled .each j (omega arith) .mark) more store (keeps .long) in
+    let path-low : pathAt state h ≤ longestPath = piled .each h (omega arith) .low in
     let all : Means ss sh g nodes code state2 (suc h) n1 (record { literals = leftFrom sh g code state1 p c l; bindings = bindings ss nodes state1 n1; next = x; calls = callsUpTo sh g code state1 p } ∷ pileOf ss sh g nodes code state1 h) =
-    topped ss sh g nodes code state1 state2 h n1 n1 p c l x (lower .piled) (omega arith) (omega arith) low
-    (λ j q. let a : pathAt state1 j ≡ pathAt state j = keeps .others (33792 + j * 6 + 4) (omega arith) in let b : pathAt state j < pathAt state h = piled .longer j h q (omega arith) in let y : pathAt state1 j < p = omega arith in y)
+    topped ss sh g nodes code state1 state2 h n1 n1 p c l x (lower .piled) (omega arith) (omega arith) (let a : h ≤ pathAt state h = piled .each h (omega arith) .high in omega arith) low
+    (λ j q. let a : pathAt state1 j ≡ pathAt state j = keeps .others (alternativeOf j + 4) (omega arith) in let b : pathAt state j ≤ pathAt state h = piled .longer j h q (omega arith) in let y : pathAt state1 j ≤ p = omega arith in y)
     (λ j q. lower .piled .each j q .mark) within (λ i q. kept-frames ss sh g nodes code state state1 h n n piled keeps i (omega arith)) stand w in
     let calls : callsUpTo sh g code state1 p ≡ callsUpTo sh g code state p = subst (λ (y : ℕ). callsUpTo sh g code state1 y ≡ callsUpTo sh g code state y) ep (kept-calls ss sh g nodes code state state1 h n n piled keeps) in
     record {
@@ -695,7 +696,7 @@ pub moved : (ss : List Symbol) (sh : Sheet) (g : Goal) (nodes code state after :
     → Means ss sh g nodes code after (suc h) n (record { literals = leftFrom sh g code state (pathAt state h) (copyAt state h) (literalAt state h); bindings = bindings ss nodes state (markAt state h); next = x; calls = callsUpTo sh g code state (pathAt state h) } ∷ pileOf ss sh g nodes code state h)
 moved ss sh g nodes code state after h n x piled next w =
     let top : Stacked sh g code state n h = piled .each h (omega arith) in
-    topped ss sh g nodes code state after h n (markAt state h) (pathAt state h) (copyAt state h) (literalAt state h) x (popped ss sh g nodes code state h n piled) (top .mark) (top .low) (top .copy)
+    topped ss sh g nodes code state after h n (markAt state h) (pathAt state h) (copyAt state h) (literalAt state h) x (popped ss sh g nodes code state h n piled) (top .mark) (top .low) (top .high) (top .copy)
     (λ j q. piled .longer j h q (omega arith)) (λ j q. piled .later j h q (omega arith)) (top .within) (top .frame) (record { place = top .place; ends = top .ends; next = next }) w
 
 -- ---- a clause's body is laid on top
@@ -705,7 +706,7 @@ pub record Pushing (ss : List Symbol) (sh : Sheet) (g : Goal) (nodes code state 
   pub piled : Piled ss sh g nodes code state (suc h) n
   pub mark : markAt state h ≡ n
   pub path : p ≡ pathAt state h + 1
-  pub low : p ≤ 255
+  pub low : p ≤ longestPath
   pub calls : Calls (restFrom sh g code state (copyAt state h) (literalAt state h)) a
   pub keeps : Keeps n state state1
   pub store : Store ss nodes state1 n1
@@ -738,18 +739,18 @@ module _ (ss : List Symbol) (sh : Sheet) (g : Goal) (nodes code state state1 sta
   pushed-below : Means ss sh g nodes code state2 (suc h) n1 (pileOf ss sh g nodes code state (suc h))
   pushed-below =
       let one : Means ss sh g nodes code state1 (suc h) n1 (pileOf ss sh g nodes code state (suc h)) =
-      carried ss sh g nodes code state state1 (suc h) 255 n n n1 (t .piled) (keeps-same (suc h) 255 n state state1 (t .keeps)) (λ j q. t .piled .each j q .low) (λ j q. t .piled .each j q .mark) (t .more) (t .store) (t .keeps .long) in
+      carried ss sh g nodes code state state1 (suc h) longestPath n n n1 (t .piled) (keeps-same (suc h) longestPath n state state1 (t .keeps)) (λ j q. t .piled .each j q .low) (λ j q. t .piled .each j q .mark) (t .more) (t .store) (t .keeps .long) in
       let same : SameUpTo (suc h) (pathAt state h) n1 state1 state2 =
-      record { frame = frames-first; alternative = λ j q r. t .framed .over j (let e : p ≤ 255 = t .low in omega arith); agree = same-agrees ss nodes state1 state2 n1 (t .store) pushed-store } in
+      record { frame = frames-first; alternative = λ j q r. t .framed .over j (let e : p ≤ longestPath = t .low in omega arith); agree = same-agrees ss nodes state1 state2 n1 (t .store) pushed-store } in
       let two : Means ss sh g nodes code state2 (suc h) n1 (pileOf ss sh g nodes code state1 (suc h)) =
       carried ss sh g nodes code state1 state2 (suc h) (pathAt state h) n1 n1 n1 (one .piled) same
-      (λ j q. let e : pathAt state1 j ≡ pathAt state j = t .keeps .others (33792 + j * 6 + 4) (omega arith) in let z : pathAt state j ≤ pathAt state h = path-top ss sh g nodes code state h n (t .piled) j q in let y : pathAt state1 j ≤ pathAt state h = omega arith in y)
+      (λ j q. let e : pathAt state1 j ≡ pathAt state j = t .keeps .others (alternativeOf j + 4) (omega arith) in let z : pathAt state j ≤ pathAt state h = path-top ss sh g nodes code state h n (t .piled) j q in let y : pathAt state1 j ≤ pathAt state h = omega arith in y)
       (λ j q. one .piled .each j q .mark) (omega arith) (store-same ss nodes state1 state2 n1 (t .store) pushed-store) (t .framed .long) in
       record { piled = two .piled; is = two .is ∙ one .is }
 
   new-clause : clauseIn state2 (suc (pathAt state h)) ≡ m
   unfolding clauseIn
-  new-clause = ap (λ (y : ℕ). getD state2 (32768 + y * 4) 0) one-more ∙ t .framed .clause
+  new-clause = ap (λ (y : ℕ). getD state2 (frameOf y) 0) one-more ∙ t .framed .clause
 
   new-caller : callerOf state2 (suc (pathAt state h)) ≡ copyAt state h
   new-caller = ap (callerOf state2) one-more ∙ t .framed .caller
@@ -799,13 +800,13 @@ module _ (ss : List Symbol) (sh : Sheet) (g : Goal) (nodes code state state1 sta
   pushed-rest = ap (λ (y : ℕ). restFrom sh g code state2 y (bodyAt code m)) (sym one-more) ∙ entered-rest sh g code state2 (pathAt state h) m cl (t .clause) new-clause
 
   -- what is left from the clause's body on: the body, and what is left behind the call
-  pub pushed-left : leftFrom sh g code state2 p p (bodyAt code m) ≡ pending p (cl .body) (leftFrom sh g code state (pathAt state h) (copyAt state h) (literalAt state h + 4))
+  pub pushed-left : leftFrom sh g code state2 p p (bodyAt code m) ≡ pending p (cl .body) (leftFrom sh g code state (pathAt state h) (copyAt state h) (nextLiteral (literalAt state h)))
   unfolding leftFrom
   pushed-left =
-      let caller : leftBehind sh g code state2 (suc (pathAt state h)) (suc (pathAt state h)) ≡ leftFrom sh g code state2 (pathAt state h) (copyAt state h) (literalAt state h + 4) =
-      left-here sh g code state2 (pathAt state h) ∙ ap₂ (λ (x y : ℕ). pending x (restFrom sh g code state2 x (y + 4)) (leftBehind sh g code state2 (pathAt state h) x)) new-caller new-call in
-      let same : leftFrom sh g code state2 (pathAt state h) (copyAt state h) (literalAt state h + 4) ≡ leftFrom sh g code state (pathAt state h) (copyAt state h) (literalAt state h + 4) =
-      same-left sh g code state state2 (pathAt state h) frames-both (pathAt state h) (copyAt state h) (literalAt state h + 4) (omega arith) (top-of .copy) (top-of .frame) in
+      let caller : leftBehind sh g code state2 (suc (pathAt state h)) (suc (pathAt state h)) ≡ leftFrom sh g code state2 (pathAt state h) (copyAt state h) (nextLiteral (literalAt state h)) =
+      left-here sh g code state2 (pathAt state h) ∙ ap₂ (λ (x y : ℕ). pending x (restFrom sh g code state2 x (nextLiteral y)) (leftBehind sh g code state2 (pathAt state h) x)) new-caller new-call in
+      let same : leftFrom sh g code state2 (pathAt state h) (copyAt state h) (nextLiteral (literalAt state h)) ≡ leftFrom sh g code state (pathAt state h) (copyAt state h) (nextLiteral (literalAt state h)) =
+      same-left sh g code state state2 (pathAt state h) frames-both (pathAt state h) (copyAt state h) (nextLiteral (literalAt state h)) (omega arith) (top-of .copy) (top-of .frame) in
       ap₂ (pending p) pushed-rest (ap (λ (y : ℕ). leftBehind sh g code state2 y y) (sym one-more) ∙ (caller ∙ same))
 
   -- A new alternative lies on top, at a place of the copies made.
@@ -814,7 +815,7 @@ module _ (ss : List Symbol) (sh : Sheet) (g : Goal) (nodes code state state1 sta
   pushed state3 c l x low stand w =
       let agree : Agrees n1 state1 state2 = same-agrees ss nodes state1 state2 n1 (t .store) pushed-store in
       let all : Means ss sh g nodes code state3 (suc (suc h)) n1 (record { literals = leftFrom sh g code state2 p c l; bindings = bindings ss nodes state2 n1; next = x; calls = callsUpTo sh g code state2 p } ∷ pileOf ss sh g nodes code state2 (suc h)) =
-      topped ss sh g nodes code state2 state3 (suc h) n1 n1 p c l x (pushed-below .piled) (omega arith) (t .low) low paths (λ j q. pushed-below .piled .each j q .mark)
+      topped ss sh g nodes code state2 state3 (suc h) n1 n1 p c l x (pushed-below .piled) (omega arith) (t .low) (let a : h ≤ pathAt state h = t .piled .each h (omega arith) .high in let r : p ≡ pathAt state h + 1 = t .path in omega arith) low paths (λ j q. pushed-below .piled .each j q .mark)
       (within-agrees p n1 n1 state1 state2 (omega arith) agree (t .within)) pushed-frames stand w in
       let binds : bindings ss nodes state2 n1 ≡ bindings ss nodes state1 n1 = bindings-same ss nodes state1 state2 n1 (t .store) pushed-store in
       record {
@@ -822,13 +823,13 @@ module _ (ss : List Symbol) (sh : Sheet) (g : Goal) (nodes code state state1 sta
         is = all .is ∙ (λ i. record { literals = leftFrom sh g code state2 p c l; bindings = binds i; next = x; calls = pushed-calls i } ∷ pushed-below .is i);
       }
     where
-      paths : (j : ℕ) → j < suc h → pathAt state2 j < p
+      paths : (j : ℕ) → j < suc h → pathAt state2 j ≤ p
       paths j q =
-          let d : pathAt state2 j ≡ pathAt state1 j = t .framed .over (33792 + j * 6 + 4) (let r : p ≤ 255 = t .low in omega arith) in
-          let e : pathAt state1 j ≡ pathAt state j = t .keeps .others (33792 + j * 6 + 4) (omega arith) in
+          let d : pathAt state2 j ≡ pathAt state1 j = t .framed .over (alternativeOf j + 4) (let r : p ≤ longestPath = t .low in omega arith) in
+          let e : pathAt state1 j ≡ pathAt state j = t .keeps .others (alternativeOf j + 4) (omega arith) in
           let z : pathAt state j ≤ pathAt state h = path-top ss sh g nodes code state h n (t .piled) j q in
           let r : p ≡ pathAt state h + 1 = t .path in
-          let y : pathAt state2 j < p = omega arith in
+          let y : pathAt state2 j ≤ p = omega arith in
           y
 
 -- ---- the goal alone
@@ -838,7 +839,7 @@ pub goal-left : (sh : Sheet) (g : Goal) (code state : List ℕ) → leftFrom sh 
 unfolding leftFrom leftBehind
 goal-left sh g code state = ap (λ (y : Body). pending 0 y []) (goal-rest sh g code state)
 
-pub started : (ss : List Symbol) (sh : Sheet) (g : Goal) (nodes code state after : List ℕ) (x : ℕ) → Program ss sh g nodes code → 35328 ≤ length state → ((i : ℕ) → getD state i 0 ≡ 0)
+pub started : (ss : List Symbol) (sh : Sheet) (g : Goal) (nodes code state after : List ℕ) (x : ℕ) → Program ss sh g nodes code → stateWords ≤ length state → ((i : ℕ) → getD state i 0 ≡ 0)
     → ((a : Atom) → Calls (g .body) a → NextFor sh a x) → Written 0 0 (bodyAt code 0) x 0 0 state after
     → Means ss sh g nodes code after 1 0 (record { literals = pending 0 (g .body) []; bindings = []; next = x; calls = [] } ∷ [])
 unfolding pileOf bindings callsUpTo
@@ -853,7 +854,7 @@ started ss sh g nodes code state after x program long zeros next w =
       later = λ i j q r. absurd (let z : j < 0 = r in omega arith);
     } in
     let all : Means ss sh g nodes code after 1 0 (record { literals = leftFrom sh g code state 0 0 (bodyAt code 0); bindings = bindings ss nodes state 0; next = x; calls = callsUpTo sh g code state 0 } ∷ pileOf ss sh g nodes code state 0) =
-    topped ss sh g nodes code state after 0 0 0 0 0 (bodyAt code 0) x empty (omega arith) (omega arith) (omega arith)
+    topped ss sh g nodes code state after 0 0 0 0 0 (bodyAt code 0) x empty (omega arith) (omega arith) (omega arith) (omega arith)
     (λ j q. absurd (let z : j < 0 = q in omega arith)) (λ j q. absurd (let z : j < 0 = q in omega arith))
     (record { cell = λ i q. absurd (let z : i < 0 = q in omega arith); copy = λ i q. absurd (let z : i < 0 = q in omega arith) })
     (λ i q. absurd (let z : i < 0 = q in omega arith))
@@ -865,7 +866,7 @@ started ss sh g nodes code state after x program long zeros next w =
 
 -- ---- the same changes, as words set one after the other
 
-module _ (state : List ℕ) (at v0 v1 v2 v3 v4 v5 : ℕ) (room : at + 6 ≤ length state) where
+module _ (state : List ℕ) (at v0 v1 v2 v3 v4 v5 : ℕ) (room : at + alternativeSize ≤ length state) where
   abbrev s0 : List ℕ
   s0 = set state at v0
 
@@ -928,44 +929,44 @@ module _ (state : List ℕ) (at v0 v1 v2 v3 v4 v5 : ℕ) (room : at + 6 ≤ leng
       getD-set-other s4 (at + 5) j v5 0 (λ e. omega arith) ∙ (getD-set-other s3 (at + 4) j v4 0 (λ e. omega arith) ∙ (getD-set-other s2 (at + 3) j v3 0 (λ e. omega arith)
       ∙ (getD-set-other s1 (at + 2) j v2 0 (λ e. omega arith) ∙ (getD-set-other s0 (at + 1) j v1 0 (λ e. omega arith) ∙ getD-set-other state at j v0 0 (λ e. omega arith)))))
 
-pub written : (state : List ℕ) (h c l x m p y : ℕ) → 33792 + h * 6 + 6 ≤ length state
-    → Written h c l x m p state (set (set (set (set (set (set state (33792 + h * 6) c) (33792 + h * 6 + 1) l) (33792 + h * 6 + 2) x) (33792 + h * 6 + 3) m) (33792 + h * 6 + 4) p) (33792 + h * 6 + 5) y)
+pub written : (state : List ℕ) (h c l x m p y : ℕ) → alternativeOf h + alternativeSize ≤ length state
+    → Written h c l x m p state (set (set (set (set (set (set state (alternativeOf h) c) (alternativeOf h + 1) l) (alternativeOf h + 2) x) (alternativeOf h + 3) m) (alternativeOf h + 4) p) (alternativeOf h + 5) y)
 written state h c l x m p y room =
     record {
-      long = l5 state (33792 + h * 6) c l x m p y room;
-      copy = g0 state (33792 + h * 6) c l x m p y room;
-      literal = g1 state (33792 + h * 6) c l x m p y room;
-      next = g2 state (33792 + h * 6) c l x m p y room;
-      mark = g3 state (33792 + h * 6) c l x m p y room;
-      path = g4 state (33792 + h * 6) c l x m p y room;
-      others = under-six state (33792 + h * 6) c l x m p y room;
+      long = l5 state (alternativeOf h) c l x m p y room;
+      copy = g0 state (alternativeOf h) c l x m p y room;
+      literal = g1 state (alternativeOf h) c l x m p y room;
+      next = g2 state (alternativeOf h) c l x m p y room;
+      mark = g3 state (alternativeOf h) c l x m p y room;
+      path = g4 state (alternativeOf h) c l x m p y room;
+      others = under-six state (alternativeOf h) c l x m p y room;
     }
 
 -- the next clause alone
-pub written-next : (state : List ℕ) (h x : ℕ) → 33792 + h * 6 + 6 ≤ length state → Written h (copyAt state h) (literalAt state h) x (markAt state h) (pathAt state h) state (set state (33792 + h * 6 + 2) x)
+pub written-next : (state : List ℕ) (h x : ℕ) → alternativeOf h + alternativeSize ≤ length state → Written h (copyAt state h) (literalAt state h) x (markAt state h) (pathAt state h) state (set state (alternativeOf h + 2) x)
 written-next state h x room =
     record {
-      long = length-set state (33792 + h * 6 + 2) x;
-      copy = getD-set-other state (33792 + h * 6 + 2) (33792 + h * 6) x 0 (λ e. omega arith);
-      literal = getD-set-other state (33792 + h * 6 + 2) (33792 + h * 6 + 1) x 0 (λ e. omega arith);
-      next = getD-set-same state (33792 + h * 6 + 2) x 0 (omega arith);
-      mark = getD-set-other state (33792 + h * 6 + 2) (33792 + h * 6 + 3) x 0 (λ e. omega arith);
-      path = getD-set-other state (33792 + h * 6 + 2) (33792 + h * 6 + 4) x 0 (λ e. omega arith);
-      others = λ j q. getD-set-other state (33792 + h * 6 + 2) j x 0 (λ e. omega arith);
+      long = length-set state (alternativeOf h + 2) x;
+      copy = getD-set-other state (alternativeOf h + 2) (alternativeOf h) x 0 (λ e. omega arith);
+      literal = getD-set-other state (alternativeOf h + 2) (alternativeOf h + 1) x 0 (λ e. omega arith);
+      next = getD-set-same state (alternativeOf h + 2) x 0 (omega arith);
+      mark = getD-set-other state (alternativeOf h + 2) (alternativeOf h + 3) x 0 (λ e. omega arith);
+      path = getD-set-other state (alternativeOf h + 2) (alternativeOf h + 4) x 0 (λ e. omega arith);
+      others = λ j q. getD-set-other state (alternativeOf h + 2) j x 0 (λ e. omega arith);
     }
 
-pub framed : (state : List ℕ) (k m c l : ℕ) → 32768 + k * 4 + 4 ≤ length state → Framed k m c l state (set (set (set state (32768 + k * 4) m) (32768 + k * 4 + 1) c) (32768 + k * 4 + 2) l)
+pub framed : (state : List ℕ) (k m c l : ℕ) → frameOf k + frameSize ≤ length state → Framed k m c l state (set (set (set state (frameOf k) m) (frameOf k + 1) c) (frameOf k + 2) l)
 framed state k m c l room =
-    let e0 : length (set state (32768 + k * 4) m) ≡ length state = length-set state (32768 + k * 4) m in
-    let e1 : length (set (set state (32768 + k * 4) m) (32768 + k * 4 + 1) c) ≡ length state = length-set (set state (32768 + k * 4) m) (32768 + k * 4 + 1) c ∙ e0 in
+    let e0 : length (set state (frameOf k) m) ≡ length state = length-set state (frameOf k) m in
+    let e1 : length (set (set state (frameOf k) m) (frameOf k + 1) c) ≡ length state = length-set (set state (frameOf k) m) (frameOf k + 1) c ∙ e0 in
     record {
-      long = length-set (set (set state (32768 + k * 4) m) (32768 + k * 4 + 1) c) (32768 + k * 4 + 2) l ∙ e1;
-      clause = past (32768 + k * 4) (λ e. omega arith) ∙ (getD-set-other (set state (32768 + k * 4) m) (32768 + k * 4 + 1) (32768 + k * 4) c 0 (λ e. omega arith) ∙ getD-set-same state (32768 + k * 4) m 0 (omega arith));
-      caller = past (32768 + k * 4 + 1) (λ e. omega arith) ∙ getD-set-same (set state (32768 + k * 4) m) (32768 + k * 4 + 1) c 0 (omega arith);
-      call = getD-set-same (set (set state (32768 + k * 4) m) (32768 + k * 4 + 1) c) (32768 + k * 4 + 2) l 0 (omega arith);
-      under = λ j q. past j (λ e. omega arith) ∙ (getD-set-other (set state (32768 + k * 4) m) (32768 + k * 4 + 1) j c 0 (λ e. omega arith) ∙ getD-set-other state (32768 + k * 4) j m 0 (λ e. omega arith));
-      over = λ j q. past j (λ e. omega arith) ∙ (getD-set-other (set state (32768 + k * 4) m) (32768 + k * 4 + 1) j c 0 (λ e. omega arith) ∙ getD-set-other state (32768 + k * 4) j m 0 (λ e. omega arith));
+      long = length-set (set (set state (frameOf k) m) (frameOf k + 1) c) (frameOf k + 2) l ∙ e1;
+      clause = past (frameOf k) (λ e. omega arith) ∙ (getD-set-other (set state (frameOf k) m) (frameOf k + 1) (frameOf k) c 0 (λ e. omega arith) ∙ getD-set-same state (frameOf k) m 0 (omega arith));
+      caller = past (frameOf k + 1) (λ e. omega arith) ∙ getD-set-same (set state (frameOf k) m) (frameOf k + 1) c 0 (omega arith);
+      call = getD-set-same (set (set state (frameOf k) m) (frameOf k + 1) c) (frameOf k + 2) l 0 (omega arith);
+      under = λ j q. past j (λ e. omega arith) ∙ (getD-set-other (set state (frameOf k) m) (frameOf k + 1) j c 0 (λ e. omega arith) ∙ getD-set-other state (frameOf k) j m 0 (λ e. omega arith));
+      over = λ j q. past j (λ e. omega arith) ∙ (getD-set-other (set state (frameOf k) m) (frameOf k + 1) j c 0 (λ e. omega arith) ∙ getD-set-other state (frameOf k) j m 0 (λ e. omega arith));
     }
   where
-    past : (j : ℕ) → (j ≡ 32768 + k * 4 + 2 → ⊥) → getD (set (set (set state (32768 + k * 4) m) (32768 + k * 4 + 1) c) (32768 + k * 4 + 2) l) j 0 ≡ getD (set (set state (32768 + k * 4) m) (32768 + k * 4 + 1) c) j 0
-    past j z = getD-set-other (set (set state (32768 + k * 4) m) (32768 + k * 4 + 1) c) (32768 + k * 4 + 2) j l 0 z
+    past : (j : ℕ) → (j ≡ frameOf k + 2 → ⊥) → getD (set (set (set state (frameOf k) m) (frameOf k + 1) c) (frameOf k + 2) l) j 0 ≡ getD (set (set state (frameOf k) m) (frameOf k + 1) c) j 0
+    past j z = getD-set-other (set (set state (frameOf k) m) (frameOf k + 1) c) (frameOf k + 2) j l 0 z

@@ -9,39 +9,41 @@ use lib.Dec.{T, eqb}
 use lib.ListN.{length, getD, set, length-set}
 use lib.Seq.{getD-set-same, getD-set-other}
 use borrow.Author.Tests.{eqb-true, eqb-false, eq-eqb}
+use Rattle.syntax.specs.Words.{firstName}
 use Rattle.machine.specs.Substitution.{Variable, sameVariable, RTerm, RTerms, var, app, rnil, rcons, occurs, occursIn, replace, replaceAll, Binding, resolve}
 use Rattle.machine.proofs.Tests.{variable-eq, variable-refl, either, or-left, or-right}
+use Rattle.layout.specs.Regions.{copies, copyCells, places, cells, trail, storeWords}
 use Rattle.layout.specs.Nodes.{Symbol, Node, termAt}
 use Rattle.layout.specs.State.{cellOf, variableOf, wordOf, nodeOf, copyOf, cellAt, trailAt, valueOf, bindings, Entry, Store, Within, Agrees, Keeps, boundWords}
 use Rattle.layout.proofs.Pigeonhole.{pigeonhole, find}
 
 -- ---- cells and their words
 
-pub variable-cell : (c v : ℕ) → v < 64 → variableOf (cellOf c v) ≡ record { copy = c; number = v }
+pub variable-cell : (c v : ℕ) → v < firstName → variableOf (cellOf c v) ≡ record { copy = c; number = v }
 variable-cell c v l =
-    let a : (c * 64 + v) / 64 ≡ c = omega arith in
-    let b : (c * 64 + v) % 64 ≡ v = omega arith in
+    let a : (c * copyCells + v) / copyCells ≡ c = omega arith in
+    let b : (c * copyCells + v) % copyCells ≡ v = omega arith in
     λ i. record { copy = a i; number = b i }
 
 pub cell-eq : (x y : ℕ) → variableOf x ≡ variableOf y → x ≡ y
 cell-eq x y e =
-    let a : x / 64 ≡ y / 64 = ap (λ (v : Variable). v .copy) e in
-    let b : x % 64 ≡ y % 64 = ap (λ (v : Variable). v .number) e in
+    let a : x / copyCells ≡ y / copyCells = ap (λ (v : Variable). v .copy) e in
+    let b : x % copyCells ≡ y % copyCells = ap (λ (v : Variable). v .number) e in
     omega arith
 
-pub cell-small : (c v : ℕ) → c < 256 → v < 64 → cellOf c v < 16384
+pub cell-small : (c v : ℕ) → c < copies → v < firstName → cellOf c v < cells
 cell-small c v l h = omega arith
 
-pub node-word : (p c : ℕ) → c < 256 → nodeOf (wordOf p c) ≡ p
+pub node-word : (p c : ℕ) → c < copies → nodeOf (wordOf p c) ≡ p
 node-word p c l = omega arith
 
-pub copy-word : (p c : ℕ) → c < 256 → copyOf (wordOf p c) ≡ c
+pub copy-word : (p c : ℕ) → c < copies → copyOf (wordOf p c) ≡ c
 copy-word p c l = omega arith
 
 pub word-some : (p c : ℕ) → wordOf p c ≡ 0 → ⊥
 word-some p c e = omega arith
 
-pub copy-small : (w : ℕ) → copyOf w < 256
+pub copy-small : (w : ℕ) → copyOf w < copies
 copy-small w = omega arith
 
 -- ---- the bindings depend only on the first n entries and their cells
@@ -81,7 +83,7 @@ keeps-less m n a b l k =
 pub within-agrees : (k m n : ℕ) (a b : List ℕ) → m ≤ n → Agrees m a b → Within k a n → Within k b m
 within-agrees k m n a b l h w =
     record {
-      cell = λ i q. (let e : trailAt b i ≡ trailAt a i = h .entry i q in let z : trailAt a i < (k + 1) * 64 = w .cell i (omega arith) in omega arith);
+      cell = λ i q. (let e : trailAt b i ≡ trailAt a i = h .entry i q in let z : trailAt a i < (k + 1) * copyCells = w .cell i (omega arith) in omega arith);
       copy = λ i q. (let e : cellAt b (trailAt b i) ≡ cellAt a (trailAt a i) = ap (cellAt b) (h .entry i q) ∙ h .cell i q in
           let z : copyOf (cellAt a (trailAt a i)) ≤ k = w .copy i (omega arith) in subst⁻¹ (λ (x : ℕ). copyOf x ≤ k) e z);
     }
@@ -140,7 +142,7 @@ module _ (ss : List Symbol) (nodes state : List ℕ) where
       go true e ih = subst (λ (k : ℕ). put (resolve (bindings ss nodes state n) (var (variableOf (trailAt state k)))) ≡ put (resolve (bindings ss nodes state n) (valueOf ss nodes (cellAt state (trailAt state k))))) (sym (eqb-true i n e)) here
       go false e ih = ap put (ih (let z : i ≡ n → ⊥ = eqb-false i n e in omega (arith, z)))
 
-module _ (ss : List Symbol) (nodes state : List ℕ) (n x : ℕ) (store : Store ss nodes state n) (small : x < 16384) where
+module _ (ss : List Symbol) (nodes state : List ℕ) (n x : ℕ) (store : Store ss nodes state n) (small : x < cells) where
   -- dereferencing keeps the resolved term
   pub resolve-bound : (cellAt state x ≡ 0 → ⊥) → resolve (bindings ss nodes state n) (var (variableOf x)) ≡ resolve (bindings ss nodes state n) (valueOf ss nodes (cellAt state x))
   resolve-bound z =
@@ -155,8 +157,8 @@ module _ (ss : List Symbol) (nodes state : List ℕ) (n x : ℕ) (store : Store 
   resolve-unbound z = none-of ss nodes state n x (unbound-apart z)
 
   -- while a cell is unbound there is room on the trail
-  pub room : cellAt state x ≡ 0 → n < 16384
-  room z = let k : suc n ≤ 16384 = pigeonhole 16384 (suc n) at at-small at-apart in omega arith
+  pub room : cellAt state x ≡ 0 → n < cells
+  room z = let k : suc n ≤ cells = pigeonhole cells (suc n) at at-small at-apart in omega arith
     where
       pick : Bool → ℕ → ℕ
       pick true i = x
@@ -165,10 +167,10 @@ module _ (ss : List Symbol) (nodes state : List ℕ) (n x : ℕ) (store : Store 
       at : ℕ → ℕ
       at i = pick (eqb i n) i
 
-      at-small : (i : ℕ) → i < suc n → at i < 16384
+      at-small : (i : ℕ) → i < suc n → at i < cells
       at-small i l = go (eqb i n) refl
         where
-          go : (b : Bool) → eqb i n ≡ b → pick b i < 16384
+          go : (b : Bool) → eqb i n ≡ b → pick b i < cells
           go true e = small
           go false e = store .entry i (let q : i ≡ n → ⊥ = eqb-false i n e in omega (arith, q)) .cell
 
@@ -189,33 +191,33 @@ module _ (ss : List Symbol) (nodes state : List ℕ) (n x : ℕ) (store : Store 
 
 -- ---- binding a cell is one binding more
 
-module _ (state : List ℕ) (n x w : ℕ) (long : 32768 ≤ length state) (space : n < 16384) (small : x < 16384) where
+module _ (state : List ℕ) (n x w : ℕ) (long : storeWords ≤ length state) (space : n < cells) (small : x < cells) where
   first-long : length (set state x w) ≡ length state
   first-long = length-set state x w
 
   pub bound-entry : trailAt (boundWords state n x w) n ≡ x
   unfolding boundWords
-  bound-entry = getD-set-same (set state x w) (16384 + n) x 0 (let e : length (set state x w) ≡ length state = first-long in omega arith)
+  bound-entry = getD-set-same (set state x w) (trail + n) x 0 (let e : length (set state x w) ≡ length state = first-long in omega arith)
 
   pub bound-entries : (i : ℕ) → i < n → trailAt (boundWords state n x w) i ≡ trailAt state i
   unfolding boundWords
-  bound-entries i l = getD-set-other (set state x w) (16384 + n) (16384 + i) x 0 (λ e. omega arith) ∙ getD-set-other state x (16384 + i) w 0 (λ e. omega arith)
+  bound-entries i l = getD-set-other (set state x w) (trail + n) (trail + i) x 0 (λ e. omega arith) ∙ getD-set-other state x (trail + i) w 0 (λ e. omega arith)
 
   pub bound-cell : cellAt (boundWords state n x w) x ≡ w
   unfolding boundWords
-  bound-cell = getD-set-other (set state x w) (16384 + n) x x 0 (λ e. omega arith) ∙ getD-set-same state x w 0 (omega arith)
+  bound-cell = getD-set-other (set state x w) (trail + n) x x 0 (λ e. omega arith) ∙ getD-set-same state x w 0 (omega arith)
 
-  pub bound-cells : (y : ℕ) → y < 16384 → (y ≡ x → ⊥) → cellAt (boundWords state n x w) y ≡ cellAt state y
+  pub bound-cells : (y : ℕ) → y < cells → (y ≡ x → ⊥) → cellAt (boundWords state n x w) y ≡ cellAt state y
   unfolding boundWords
-  bound-cells y l z = getD-set-other (set state x w) (16384 + n) y x 0 (λ e. omega arith) ∙ getD-set-other state x y w 0 z
+  bound-cells y l z = getD-set-other (set state x w) (trail + n) y x 0 (λ e. omega arith) ∙ getD-set-other state x y w 0 z
 
-  pub bound-others : (j : ℕ) → 32768 ≤ j → getD (boundWords state n x w) j 0 ≡ getD state j 0
+  pub bound-others : (j : ℕ) → storeWords ≤ j → getD (boundWords state n x w) j 0 ≡ getD state j 0
   unfolding boundWords
-  bound-others j l = getD-set-other (set state x w) (16384 + n) j x 0 (λ e. omega arith) ∙ getD-set-other state x j w 0 (λ e. omega arith)
+  bound-others j l = getD-set-other (set state x w) (trail + n) j x 0 (λ e. omega arith) ∙ getD-set-other state x j w 0 (λ e. omega arith)
 
   pub bound-long : length (boundWords state n x w) ≡ length state
   unfolding boundWords
-  bound-long = length-set (set state x w) (16384 + n) x ∙ first-long
+  bound-long = length-set (set state x w) (trail + n) x ∙ first-long
 
 -- an entry that stays: its words and the bindings before it are as they were
 entry-agrees : (ss : List Symbol) (nodes before after : List ℕ) (i n : ℕ) → i < n → Agrees n before after → Entry ss nodes before i → Entry ss nodes after i
@@ -224,15 +226,15 @@ entry-agrees ss nodes before after i n l k e =
     let c : cellAt after (trailAt after i) ≡ cellAt before (trailAt before i) = ap (cellAt after) t ∙ k .cell i l in
     let b : bindings ss nodes after i ≡ bindings ss nodes before i = bindings-agree ss nodes before after i n (omega arith) k in
     record {
-      cell = subst⁻¹ (λ (y : ℕ). y < 16384) t (e .cell);
+      cell = subst⁻¹ (λ (y : ℕ). y < cells) t (e .cell);
       bound = λ z. e .bound (sym c ∙ z);
       node = subst⁻¹ (λ (y : ℕ). Node ss nodes (nodeOf y)) c (e .node);
-      down = subst⁻¹ (λ (y : ℕ). getD nodes (nodeOf y) 0 < 64 → cellOf (copyOf y) (getD nodes (nodeOf y) 0) < trailAt after i) c (subst⁻¹ (λ (y : ℕ). getD nodes (nodeOf (cellAt before (trailAt before i))) 0 < 64 → cellOf (copyOf (cellAt before (trailAt before i))) (getD nodes (nodeOf (cellAt before (trailAt before i))) 0) < y) t (e .down));
+      down = subst⁻¹ (λ (y : ℕ). getD nodes (nodeOf y) 0 < firstName → cellOf (copyOf y) (getD nodes (nodeOf y) 0) < trailAt after i) c (subst⁻¹ (λ (y : ℕ). getD nodes (nodeOf (cellAt before (trailAt before i))) 0 < firstName → cellOf (copyOf (cellAt before (trailAt before i))) (getD nodes (nodeOf (cellAt before (trailAt before i))) 0) < y) t (e .down));
       free = λ h. e .free (subst (λ (o : RTerm). T (occurs (variableOf (trailAt before i)) o)) (ap₂ (λ (x : List Binding) (y : ℕ). resolve x (valueOf ss nodes y)) b c) (subst (λ (y : ℕ). T (occurs (variableOf y) (resolve (bindings ss nodes after i) (valueOf ss nodes (cellAt after (trailAt after i)))))) t h));
     }
 
-module _ (ss : List Symbol) (nodes state : List ℕ) (n x q d : ℕ) (store : Store ss nodes state n) (small : x < 16384) (unbound : cellAt state x ≡ 0) (copy : d < 256) where
-  space : n < 16384
+module _ (ss : List Symbol) (nodes state : List ℕ) (n x q d : ℕ) (store : Store ss nodes state n) (small : x < cells) (unbound : cellAt state x ≡ 0) (copy : d < copies) where
+  space : n < cells
   space = room ss nodes state n x store small unbound
 
   other : (i : ℕ) → i < n → trailAt state i ≡ x → ⊥
@@ -262,7 +264,7 @@ module _ (ss : List Symbol) (nodes state : List ℕ) (n x q d : ℕ) (store : St
       let c : valueOf ss nodes (cellAt (boundWords state n x (wordOf q d)) (trailAt (boundWords state n x (wordOf q d)) n)) ≡ termAt ss nodes q d = ap (valueOf ss nodes) new-cell ∙ value in
       λ i. record { variable = variableOf (t i); term = resolve (b i) (c i) } ∷ b i
 
-  module _ (node : Node ss nodes q) (down : getD nodes q 0 < 64 → cellOf d (getD nodes q 0) < x) (free : T (occurs (variableOf x) (resolve (bindings ss nodes state n) (termAt ss nodes q d))) → ⊥) where
+  module _ (node : Node ss nodes q) (down : getD nodes q 0 < firstName → cellOf d (getD nodes q 0) < x) (free : T (occurs (variableOf x) (resolve (bindings ss nodes state n) (termAt ss nodes q d))) → ⊥) where
     new-entry : Entry ss nodes (boundWords state n x (wordOf q d)) n
     new-entry =
         let t : trailAt (boundWords state n x (wordOf q d)) n ≡ x = bound-entry state n x (wordOf q d) (store .long) space small in
@@ -271,19 +273,19 @@ module _ (ss : List Symbol) (nodes state : List ℕ) (n x q d : ℕ) (store : St
         let nd : nodeOf (cellAt (boundWords state n x (wordOf q d)) (trailAt (boundWords state n x (wordOf q d)) n)) ≡ q = ap nodeOf c ∙ node-word q d copy in
         let cp : copyOf (cellAt (boundWords state n x (wordOf q d)) (trailAt (boundWords state n x (wordOf q d)) n)) ≡ d = ap copyOf c ∙ copy-word q d copy in
         record {
-          cell = subst⁻¹ (λ (y : ℕ). y < 16384) t small;
+          cell = subst⁻¹ (λ (y : ℕ). y < cells) t small;
           bound = λ z. word-some q d (sym c ∙ z);
           node = subst⁻¹ (Node ss nodes) nd node;
-          down = subst⁻¹ (λ (y : ℕ). getD nodes y 0 < 64 → cellOf (copyOf (cellAt (boundWords state n x (wordOf q d)) (trailAt (boundWords state n x (wordOf q d)) n))) (getD nodes y 0) < trailAt (boundWords state n x (wordOf q d)) n) nd
-              (subst⁻¹ (λ (y : ℕ). getD nodes q 0 < 64 → cellOf y (getD nodes q 0) < trailAt (boundWords state n x (wordOf q d)) n) cp
-              (subst⁻¹ (λ (y : ℕ). getD nodes q 0 < 64 → cellOf d (getD nodes q 0) < y) t down));
+          down = subst⁻¹ (λ (y : ℕ). getD nodes y 0 < firstName → cellOf (copyOf (cellAt (boundWords state n x (wordOf q d)) (trailAt (boundWords state n x (wordOf q d)) n))) (getD nodes y 0) < trailAt (boundWords state n x (wordOf q d)) n) nd
+              (subst⁻¹ (λ (y : ℕ). getD nodes q 0 < firstName → cellOf y (getD nodes q 0) < trailAt (boundWords state n x (wordOf q d)) n) cp
+              (subst⁻¹ (λ (y : ℕ). getD nodes q 0 < firstName → cellOf d (getD nodes q 0) < y) t down));
           free = λ h. free (subst (λ (o : RTerm). T (occurs (variableOf x) o)) (ap₂ resolve b (ap (valueOf ss nodes) c ∙ value)) (subst (λ (y : ℕ). T (occurs (variableOf y) (resolve (bindings ss nodes (boundWords state n x (wordOf q d)) n) (valueOf ss nodes (cellAt (boundWords state n x (wordOf q d)) (trailAt (boundWords state n x (wordOf q d)) n)))))) t h));
         }
 
     pub bind-store : Store ss nodes (boundWords state n x (wordOf q d)) (suc n)
     bind-store =
         record {
-          long = (let e : length (boundWords state n x (wordOf q d)) ≡ length state = bound-long state n x (wordOf q d) (store .long) space small in let l : 32768 ≤ length state = store .long in omega arith);
+          long = (let e : length (boundWords state n x (wordOf q d)) ≡ length state = bound-long state n x (wordOf q d) (store .long) space small in let l : storeWords ≤ length state = store .long in omega arith);
           small = store .small;
           entry = λ i l. entry-at i l (eqb i n) refl;
           apart = λ i j l h e. apart-at i j l h e (eqb j n) refl;
@@ -302,19 +304,19 @@ module _ (ss : List Symbol) (nodes state : List ℕ) (n x q d : ℕ) (store : St
             let k : j < n = (let z : j ≡ n → ⊥ = eqb-false j n w in omega (arith, z)) in
             store .apart i j l k (sym (bind-keeps .entry i (omega arith)) ∙ (e ∙ bind-keeps .entry j k))
 
-        only-at : (y : ℕ) → y < 16384 → (cellAt (boundWords state n x (wordOf q d)) y ≡ 0 → ⊥) → (b : Bool) → eqb y x ≡ b → (i : ℕ) × (i < suc n) × (trailAt (boundWords state n x (wordOf q d)) i ≡ y)
+        only-at : (y : ℕ) → y < cells → (cellAt (boundWords state n x (wordOf q d)) y ≡ 0 → ⊥) → (b : Bool) → eqb y x ≡ b → (i : ℕ) × (i < suc n) × (trailAt (boundWords state n x (wordOf q d)) i ≡ y)
         only-at y l z true e = (n, omega arith, bound-entry state n x (wordOf q d) (store .long) space small ∙ sym (eqb-true y x e))
         only-at y l z false e =
             let o : (i : ℕ) × (i < n) × (trailAt state i ≡ y) = store .only y l (λ h. z (bound-cells state n x (wordOf q d) (store .long) space small y l (eqb-false y x e) ∙ h)) in
             (o .0, (let h : o .0 < n = o .1 in omega arith), bind-keeps .entry (o .0) (o .1) ∙ o .2)
 
-  pub bind-within : (k : ℕ) → Within k state n → x < (k + 1) * 64 → d ≤ k → Within k (boundWords state n x (wordOf q d)) (suc n)
+  pub bind-within : (k : ℕ) → Within k state n → x < (k + 1) * copyCells → d ≤ k → Within k (boundWords state n x (wordOf q d)) (suc n)
   bind-within k w l h =
       record { cell = λ i q1. cell-at i q1 (eqb i n) refl; copy = λ i q1. copy-at i q1 (eqb i n) refl }
     where
-      cell-at : (i : ℕ) → i < suc n → (b : Bool) → eqb i n ≡ b → trailAt (boundWords state n x (wordOf q d)) i < (k + 1) * 64
-      cell-at i q1 true e = subst⁻¹ (λ (y : ℕ). trailAt (boundWords state n x (wordOf q d)) y < (k + 1) * 64) (eqb-true i n e) (subst⁻¹ (λ (y : ℕ). y < (k + 1) * 64) (bound-entry state n x (wordOf q d) (store .long) space small) l)
-      cell-at i q1 false e = let r : i < n = (let z : i ≡ n → ⊥ = eqb-false i n e in omega (arith, z)) in subst⁻¹ (λ (y : ℕ). y < (k + 1) * 64) (bind-keeps .entry i r) (w .cell i r)
+      cell-at : (i : ℕ) → i < suc n → (b : Bool) → eqb i n ≡ b → trailAt (boundWords state n x (wordOf q d)) i < (k + 1) * copyCells
+      cell-at i q1 true e = subst⁻¹ (λ (y : ℕ). trailAt (boundWords state n x (wordOf q d)) y < (k + 1) * copyCells) (eqb-true i n e) (subst⁻¹ (λ (y : ℕ). y < (k + 1) * copyCells) (bound-entry state n x (wordOf q d) (store .long) space small) l)
+      cell-at i q1 false e = let r : i < n = (let z : i ≡ n → ⊥ = eqb-false i n e in omega (arith, z)) in subst⁻¹ (λ (y : ℕ). y < (k + 1) * copyCells) (bind-keeps .entry i r) (w .cell i r)
 
       copy-at : (i : ℕ) → i < suc n → (b : Bool) → eqb i n ≡ b → copyOf (cellAt (boundWords state n x (wordOf q d)) (trailAt (boundWords state n x (wordOf q d)) i)) ≤ k
       copy-at i q1 true e = subst⁻¹ (λ (y : ℕ). copyOf (cellAt (boundWords state n x (wordOf q d)) (trailAt (boundWords state n x (wordOf q d)) y)) ≤ k) (eqb-true i n e) (subst⁻¹ (λ (y : ℕ). y ≤ k) (ap copyOf new-cell ∙ copy-word q d copy) h)
@@ -323,15 +325,15 @@ module _ (ss : List Symbol) (nodes state : List ℕ) (n x q d : ℕ) (store : St
 -- ---- undoing is the newest dropped
 
 module _ (ss : List Symbol) (nodes state : List ℕ) (n : ℕ) (store : Store ss nodes state (suc n)) where
-  last-cell : trailAt state n < 16384
+  last-cell : trailAt state n < cells
   last-cell = store .entry n (omega arith) .cell
 
   pub undo-keeps : Keeps n state (set state (trailAt state n) 0)
   undo-keeps =
-      let small : trailAt state n < 16384 = last-cell in
+      let small : trailAt state n < cells = last-cell in
       record {
         long = length-set state (trailAt state n) 0;
-        entry = λ i l. getD-set-other state (trailAt state n) (16384 + i) 0 0 (λ e. omega arith);
+        entry = λ i l. getD-set-other state (trailAt state n) (trail + i) 0 0 (λ e. omega arith);
         cell = λ i l. getD-set-other state (trailAt state n) (trailAt state i) 0 0 (λ e. store .apart i n l (omega arith) e);
         others = λ j l. getD-set-other state (trailAt state n) j 0 0 (λ e. omega arith);
       }
@@ -339,15 +341,15 @@ module _ (ss : List Symbol) (nodes state : List ℕ) (n : ℕ) (store : Store ss
   pub undo-store : Store ss nodes (set state (trailAt state n) 0) n
   undo-store =
       record {
-        long = (let e : length (set state (trailAt state n) 0) ≡ length state = length-set state (trailAt state n) 0 in let l : 32768 ≤ length state = store .long in omega arith);
+        long = (let e : length (set state (trailAt state n) 0) ≡ length state = length-set state (trailAt state n) 0 in let l : storeWords ≤ length state = store .long in omega arith);
         small = store .small;
         entry = λ i l. entry-agrees ss nodes state (set state (trailAt state n) 0) i n l (agrees n state (set state (trailAt state n) 0) undo-keeps) (store .entry i (omega arith));
         apart = λ i j l h e. store .apart i j l (omega arith) (sym (undo-keeps .entry i (omega arith)) ∙ (e ∙ undo-keeps .entry j h));
         only = λ y l z. only-at y l z (eqb y (trailAt state n)) refl;
       }
     where
-      only-at : (y : ℕ) → y < 16384 → (cellAt (set state (trailAt state n) 0) y ≡ 0 → ⊥) → (b : Bool) → eqb y (trailAt state n) ≡ b → (i : ℕ) × (i < n) × (trailAt (set state (trailAt state n) 0) i ≡ y)
-      only-at y l z true e = absurd (z (ap (cellAt (set state (trailAt state n) 0)) (eqb-true y (trailAt state n) e) ∙ getD-set-same state (trailAt state n) 0 0 (let s : trailAt state n < 16384 = last-cell in let h : 32768 ≤ length state = store .long in omega arith)))
+      only-at : (y : ℕ) → y < cells → (cellAt (set state (trailAt state n) 0) y ≡ 0 → ⊥) → (b : Bool) → eqb y (trailAt state n) ≡ b → (i : ℕ) × (i < n) × (trailAt (set state (trailAt state n) 0) i ≡ y)
+      only-at y l z true e = absurd (z (ap (cellAt (set state (trailAt state n) 0)) (eqb-true y (trailAt state n) e) ∙ getD-set-same state (trailAt state n) 0 0 (let s : trailAt state n < cells = last-cell in let h : storeWords ≤ length state = store .long in omega arith)))
       only-at y l z false e =
           let o : (i : ℕ) × (i < suc n) × (trailAt state i ≡ y) = store .only y l (λ h. z (getD-set-other state (trailAt state n) y 0 0 (eqb-false y (trailAt state n) e) ∙ h)) in
           let r : o .0 < n = (let q : o .0 < suc n = o .1 in let d : o .0 ≡ n → ⊥ = (λ w. eqb-false y (trailAt state n) e (sym (o .2) ∙ ap (trailAt state) w)) in omega (arith, d)) in
@@ -356,31 +358,31 @@ module _ (ss : List Symbol) (nodes state : List ℕ) (n : ℕ) (store : Store ss
 -- ---- stores elsewhere
 
 -- n entries are no more than there are cells
-pub few : (ss : List Symbol) (nodes state : List ℕ) (n : ℕ) → Store ss nodes state n → n ≤ 16384
-few ss nodes state n store = pigeonhole 16384 n (trailAt state) (λ i l. store .entry i l .cell) same-entry
+pub few : (ss : List Symbol) (nodes state : List ℕ) (n : ℕ) → Store ss nodes state n → n ≤ cells
+few ss nodes state n store = pigeonhole cells n (trailAt state) (λ i l. store .entry i l .cell) same-entry
   where
     same-entry : (i j : ℕ) → i < n → j < n → trailAt state i ≡ trailAt state j → i ≡ j
     same-entry i j l h e = let a : i < j → ⊥ = (λ q. store .apart i j q h e) in let b : j < i → ⊥ = (λ q. store .apart j i q l (sym e)) in omega (arith, a, b)
 
 -- two states with the same cells and the same trail
 abbrev pub SameStore : List ℕ → List ℕ → Type 0
-SameStore before after = (length after ≡ length before) × ((j : ℕ) → j < 32768 → getD after j 0 ≡ getD before j 0)
+SameStore before after = (length after ≡ length before) × ((j : ℕ) → j < storeWords → getD after j 0 ≡ getD before j 0)
 
-pub elsewhere : (state : List ℕ) (j v : ℕ) → 32768 ≤ j → SameStore state (set state j v)
+pub elsewhere : (state : List ℕ) (j v : ℕ) → storeWords ≤ j → SameStore state (set state j v)
 elsewhere state j v l = (length-set state j v, λ i h. getD-set-other state j i v 0 (λ e. omega arith))
 
 module _ (ss : List Symbol) (nodes before after : List ℕ) (n : ℕ) (store : Store ss nodes before n) (same : SameStore before after) where
   pub same-agrees : Agrees n before after
   same-agrees =
       record {
-        entry = λ i l. same .1 (16384 + i) (let k : n ≤ 16384 = few ss nodes before n store in omega arith);
-        cell = λ i l. same .1 (trailAt before i) (let k : trailAt before i < 16384 = store .entry i l .cell in omega arith);
+        entry = λ i l. same .1 (trail + i) (let k : n ≤ cells = few ss nodes before n store in omega arith);
+        cell = λ i l. same .1 (trailAt before i) (let k : trailAt before i < cells = store .entry i l .cell in omega arith);
       }
 
   pub store-same : Store ss nodes after n
   store-same =
       record {
-        long = (let e : length after ≡ length before = same .0 in let l : 32768 ≤ length before = store .long in omega arith);
+        long = (let e : length after ≡ length before = same .0 in let l : storeWords ≤ length before = store .long in omega arith);
         small = store .small;
         entry = λ i l. entry-agrees ss nodes before after i n l same-agrees (store .entry i l);
         apart = λ i j l h e. store .apart i j l h (sym (same-agrees .entry i (omega arith)) ∙ (e ∙ same-agrees .entry j h));
@@ -395,6 +397,6 @@ module _ (ss : List Symbol) (nodes before after : List ℕ) (n : ℕ) (store : S
 
 -- ---- a store without entries
 
-pub no-entries : (ss : List Symbol) (nodes state : List ℕ) → 32768 ≤ length state → length nodes ≤ 65536 → ((x : ℕ) → x < 16384 → cellAt state x ≡ 0) → Store ss nodes state 0
+pub no-entries : (ss : List Symbol) (nodes state : List ℕ) → storeWords ≤ length state → length nodes ≤ places → ((x : ℕ) → x < cells → cellAt state x ≡ 0) → Store ss nodes state 0
 no-entries ss nodes state l h z =
     record { long = l; small = h; entry = λ i q. absurd (let k : i < 0 = q in omega arith); apart = λ i j a b e. absurd (let k : j < 0 = b in omega arith); only = λ x q k. absurd (k (z x q)) }

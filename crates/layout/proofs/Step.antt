@@ -5,10 +5,13 @@ use mathlib.Core.Path.{_≡_, refl, sym, ap, ap₂, _∙_, subst, subst⁻¹}
 use mathlib.Core.List.{List, [], _∷_, _++_}
 use mathlib.Core.Option.{Option, none, some}
 use lib.ListN.{length}
+use Rattle.syntax.specs.Words.{truthKind, falsityKind, callKind, equationKind}
+use Rattle.syntax.specs.Limits.{longestPath, literals}
 use Rattle.syntax.specs.Terms.{Term, termOf, Atom, Literal, call, equation, truth, falsity, Body, done, also, Clause, Sheet, Goal}
 use Rattle.machine.specs.Substitution.{Binding, copied}
 use Rattle.machine.specs.Unification.{unify}
 use Rattle.machine.specs.Machine.{Pending, Alternative, path, pending, nextFor, nextOf, topmost, clauseAt, standing, gone, equated, movedOn, laid, tried, onTop, called, worked, workedOn, outcome, step}
+use Rattle.layout.specs.Regions.{frames, endKind, nextLiteral}
 use Rattle.layout.specs.Nodes.{Symbol}
 use Rattle.layout.specs.State.{bindings, Store, Within, Keeps}
 use Rattle.layout.specs.Program.{bodyAt, kindAt, otherAt, BodyStands, Program}
@@ -34,7 +37,7 @@ module _ (sh : Sheet) (g : Goal) (code state : List ℕ) where
   unfolding leftFrom pending
   left-done k c l z e = ap₂ (λ (b : Body) (y : ℕ). pending c b (leftBehind sh g code state k y)) e z ∙ left-goal k
 
-  pub left-also : (k c l : ℕ) → Place sh g code state c l → (x : Literal) (b : Body) → restFrom sh g code state c l ≡ also x b → leftFrom sh g code state k c l ≡ record { copy = c; literal = x } ∷ leftFrom sh g code state k c (l + 4)
+  pub left-also : (k c l : ℕ) → Place sh g code state c l → (x : Literal) (b : Body) → restFrom sh g code state c l ≡ also x b → leftFrom sh g code state k c l ≡ record { copy = c; literal = x } ∷ leftFrom sh g code state k c (nextLiteral l)
   unfolding leftFrom pending
   left-also k c l at x b e =
       ap (λ (y : Body). pending c y (leftBehind sh g code state k c)) e
@@ -42,8 +45,8 @@ module _ (sh : Sheet) (g : Goal) (code state : List ℕ) where
 
 -- a copy other than the goal is at its end
 pub record Rising (sh : Sheet) (g : Goal) (code state : List ℕ) (k c l : ℕ) : Type 0 where
-  pub left : leftFrom sh g code state k c l ≡ leftFrom sh g code state k (callerOf state c) (callOf state c + 4)
-  pub place : Place sh g code state (callerOf state c) (callOf state c + 4)
+  pub left : leftFrom sh g code state k c l ≡ leftFrom sh g code state k (callerOf state c) (nextLiteral (callOf state c))
+  pub place : Place sh g code state (callerOf state c) (nextLiteral (callOf state c))
   pub below : callerOf state c < c
 
 pub rise : (sh : Sheet) (g : Goal) (code state : List ℕ) (k c l : ℕ) → ((i : ℕ) → i < k → Frame sh g code state (suc i)) → 1 ≤ c → c ≤ k → restFrom sh g code state c l ≡ done → Rising sh g code state k c l
@@ -62,7 +65,7 @@ pub record Fresh (sh : Sheet) (g : Goal) (code state : List ℕ) (k c l x : ℕ)
   pub topmost-is : x ≡ topmost sh (leftFrom sh g code state k c l)
 
 pub fresh : (ss : List Symbol) (sh : Sheet) (g : Goal) (nodes code state : List ℕ) (k c l x : ℕ) → Program ss sh g nodes code → Place sh g code state c l → (restFrom sh g code state c l ≡ done → c ≡ 0)
-    → (kindAt code l ≡ 2 → x ≡ otherAt code l) → ((kindAt code l ≡ 2 → ⊥) → x ≡ 0) → Fresh sh g code state k c l x
+    → (kindAt code l ≡ callKind → x ≡ otherAt code l) → ((kindAt code l ≡ callKind → ⊥) → x ≡ 0) → Fresh sh g code state k c l x
 unfolding topmost nextOf
 fresh ss sh g nodes code state k c l x pr at ends is-call other = go (restFrom sh g code state c l) refl (place-stands ss sh g nodes code state c l pr at)
   where
@@ -74,7 +77,7 @@ fresh ss sh g nodes code state k c l x pr at ends is-call other = go (restFrom s
 
     go : (b : Body) → restFrom sh g code state c l ≡ b → BodyStands ss sh nodes code l b → Fresh sh g code state k c l x
     go done e s =
-        let kind : kindAt code l ≡ 4 = s .1 in
+        let kind : kindAt code l ≡ endKind = s .1 in
         let z : x ≡ 0 = other (λ q. omega arith) in
         record { stand = none-next z; topmost-is = z ∙ sym (ap (topmost sh) (left-done sh g code state k c l (ends e) e)) }
     go (also (call a) b) e s =
@@ -84,15 +87,15 @@ fresh ss sh g nodes code state k c l x pr at ends is-call other = go (restFrom s
           topmost-is = first (call a) b e q;
         }
     go (also (equation t u) b) e s =
-        let kind : kindAt code l ≡ 3 = s .1 .0 in
+        let kind : kindAt code l ≡ equationKind = s .1 .0 in
         let z : x ≡ 0 = other (λ q. omega arith) in
         record { stand = none-next z; topmost-is = first (equation t u) b e z }
     go (also truth b) e s =
-        let kind : kindAt code l ≡ 0 = s .1 in
+        let kind : kindAt code l ≡ truthKind = s .1 in
         let z : x ≡ 0 = other (λ q. omega arith) in
         record { stand = none-next z; topmost-is = first truth b e z }
     go (also falsity b) e s =
-        let kind : kindAt code l ≡ 1 = s .1 in
+        let kind : kindAt code l ≡ falsityKind = s .1 in
         let z : x ≡ 0 = other (λ q. omega arith) in
         record { stand = none-next z; topmost-is = first falsity b e z }
 
@@ -112,17 +115,17 @@ module _ (ss : List Symbol) (sh : Sheet) (g : Goal) (nodes code state : List ℕ
 
   module _ (at : Place sh g code state (copyAt state h) (literalAt state h)) (r : Body) where
     step-literal : (y : Literal) → restFrom sh g code state (copyAt state h) (literalAt state h) ≡ also y r
-        → step sh (pileOf ss sh g nodes code state (suc h)) ≡ worked sh (alternativeAt ss sh g nodes code state h) (copyAt state h) (leftFrom sh g code state (pathAt state h) (copyAt state h) (literalAt state h + 4)) y ++ pileOf ss sh g nodes code state h
+        → step sh (pileOf ss sh g nodes code state (suc h)) ≡ worked sh (alternativeAt ss sh g nodes code state h) (copyAt state h) (leftFrom sh g code state (pathAt state h) (copyAt state h) (nextLiteral (literalAt state h))) y ++ pileOf ss sh g nodes code state h
     unfolding workedOn
     step-literal y e =
-        step-on (record { copy = copyAt state h; literal = y } ∷ leftFrom sh g code state (pathAt state h) (copyAt state h) (literalAt state h + 4)) (left-also sh g code state (pathAt state h) (copyAt state h) (literalAt state h) at y r e)
+        step-on (record { copy = copyAt state h; literal = y } ∷ leftFrom sh g code state (pathAt state h) (copyAt state h) (nextLiteral (literalAt state h))) (left-also sh g code state (pathAt state h) (copyAt state h) (literalAt state h) at y r e)
 
     pub step-falsity : restFrom sh g code state (copyAt state h) (literalAt state h) ≡ also falsity r → step sh (pileOf ss sh g nodes code state (suc h)) ≡ pileOf ss sh g nodes code state h
     unfolding worked
     step-falsity e = step-literal falsity e
 
     pub step-truth : restFrom sh g code state (copyAt state h) (literalAt state h) ≡ also truth r
-        → step sh (pileOf ss sh g nodes code state (suc h)) ≡ standing sh (leftFrom sh g code state (pathAt state h) (copyAt state h) (literalAt state h + 4)) (bindings ss nodes state (markAt state h)) (callsUpTo sh g code state (pathAt state h)) ∷ pileOf ss sh g nodes code state h
+        → step sh (pileOf ss sh g nodes code state (suc h)) ≡ standing sh (leftFrom sh g code state (pathAt state h) (copyAt state h) (nextLiteral (literalAt state h))) (bindings ss nodes state (markAt state h)) (callsUpTo sh g code state (pathAt state h)) ∷ pileOf ss sh g nodes code state h
     unfolding worked gone alternativeAt
     step-truth e = step-literal truth e
 
@@ -132,15 +135,15 @@ module _ (ss : List Symbol) (sh : Sheet) (g : Goal) (nodes code state : List ℕ
     unfolding worked equated alternativeAt
     step-unequal t u e q =
         step-literal (equation t u) e
-        ∙ ap (λ (o : Option (List Binding)). equated sh (alternativeAt ss sh g nodes code state h) (leftFrom sh g code state (pathAt state h) (copyAt state h) (literalAt state h + 4)) o ++ pileOf ss sh g nodes code state h) q
+        ∙ ap (λ (o : Option (List Binding)). equated sh (alternativeAt ss sh g nodes code state h) (leftFrom sh g code state (pathAt state h) (copyAt state h) (nextLiteral (literalAt state h))) o ++ pileOf ss sh g nodes code state h) q
 
     pub step-equal : (t u : Term) (b : List Binding) → restFrom sh g code state (copyAt state h) (literalAt state h) ≡ also (equation t u) r
         → unify (bindings ss nodes state (markAt state h)) (copied (copyAt state h) t) (copied (copyAt state h) u) ≡ some b
-        → step sh (pileOf ss sh g nodes code state (suc h)) ≡ standing sh (leftFrom sh g code state (pathAt state h) (copyAt state h) (literalAt state h + 4)) b (callsUpTo sh g code state (pathAt state h)) ∷ pileOf ss sh g nodes code state h
+        → step sh (pileOf ss sh g nodes code state (suc h)) ≡ standing sh (leftFrom sh g code state (pathAt state h) (copyAt state h) (nextLiteral (literalAt state h))) b (callsUpTo sh g code state (pathAt state h)) ∷ pileOf ss sh g nodes code state h
     unfolding worked equated gone alternativeAt
     step-equal t u b e q =
         step-literal (equation t u) e
-        ∙ ap (λ (o : Option (List Binding)). equated sh (alternativeAt ss sh g nodes code state h) (leftFrom sh g code state (pathAt state h) (copyAt state h) (literalAt state h + 4)) o ++ pileOf ss sh g nodes code state h) q
+        ∙ ap (λ (o : Option (List Binding)). equated sh (alternativeAt ss sh g nodes code state h) (leftFrom sh g code state (pathAt state h) (copyAt state h) (nextLiteral (literalAt state h))) o ++ pileOf ss sh g nodes code state h) q
 
     -- a call without a further clause
     pub step-exhausted : (a : Atom) → restFrom sh g code state (copyAt state h) (literalAt state h) ≡ also (call a) r → nextAt state h ≡ 0
@@ -148,7 +151,7 @@ module _ (ss : List Symbol) (sh : Sheet) (g : Goal) (nodes code state : List ℕ
     unfolding worked called clauseAt alternativeAt
     step-exhausted a e q =
         step-literal (call a) e
-        ∙ ap (λ (m : ℕ). called sh (alternativeAt ss sh g nodes code state h) (copyAt state h) a (leftFrom sh g code state (pathAt state h) (copyAt state h) (literalAt state h + 4)) (clauseAt sh m) ++ pileOf ss sh g nodes code state h) q
+        ∙ ap (λ (m : ℕ). called sh (alternativeAt ss sh g nodes code state h) (copyAt state h) a (leftFrom sh g code state (pathAt state h) (copyAt state h) (nextLiteral (literalAt state h))) (clauseAt sh m) ++ pileOf ss sh g nodes code state h) q
 
     module _ (a : Atom) (cl : Clause) (e : restFrom sh g code state (copyAt state h) (literalAt state h) ≡ also (call a) r) (q : clauseAt sh (nextAt state h) ≡ some cl) where
       path-is : length (alternativeAt ss sh g nodes code state h .calls) ≡ pathAt state h
@@ -156,13 +159,13 @@ module _ (ss : List Symbol) (sh : Sheet) (g : Goal) (nodes code state : List ℕ
       path-is = calls-count sh g code state (pathAt state h)
 
       step-called : step sh (pileOf ss sh g nodes code state (suc h))
-          ≡ onTop (laid sh (alternativeAt ss sh g nodes code state h) (copyAt state h) a (leftFrom sh g code state (pathAt state h) (copyAt state h) (literalAt state h + 4)) cl
+          ≡ onTop (laid sh (alternativeAt ss sh g nodes code state h) (copyAt state h) a (leftFrom sh g code state (pathAt state h) (copyAt state h) (nextLiteral (literalAt state h))) cl
           (unify (bindings ss nodes state (markAt state h)) (copied (copyAt state h) (termOf a)) (copied (suc (pathAt state h)) (termOf (cl .head))))) (movedOn sh (alternativeAt ss sh g nodes code state h) a) ++ pileOf ss sh g nodes code state h
       unfolding worked called tried alternativeAt
       step-called =
           step-literal (call a) e
-          ∙ (ap (λ (o : Option Clause). called sh (alternativeAt ss sh g nodes code state h) (copyAt state h) a (leftFrom sh g code state (pathAt state h) (copyAt state h) (literalAt state h + 4)) o ++ pileOf ss sh g nodes code state h) q
-          ∙ ap (λ (k : ℕ). onTop (laid sh (alternativeAt ss sh g nodes code state h) (copyAt state h) a (leftFrom sh g code state (pathAt state h) (copyAt state h) (literalAt state h + 4)) cl
+          ∙ (ap (λ (o : Option Clause). called sh (alternativeAt ss sh g nodes code state h) (copyAt state h) a (leftFrom sh g code state (pathAt state h) (copyAt state h) (nextLiteral (literalAt state h))) o ++ pileOf ss sh g nodes code state h) q
+          ∙ ap (λ (k : ℕ). onTop (laid sh (alternativeAt ss sh g nodes code state h) (copyAt state h) a (leftFrom sh g code state (pathAt state h) (copyAt state h) (nextLiteral (literalAt state h))) cl
           (unify (bindings ss nodes state (markAt state h)) (copied (copyAt state h) (termOf a)) (copied (suc k) (termOf (cl .head))))) (movedOn sh (alternativeAt ss sh g nodes code state h) a) ++ pileOf ss sh g nodes code state h) path-is)
 
       -- the head does not unify
@@ -172,19 +175,19 @@ module _ (ss : List Symbol) (sh : Sheet) (g : Goal) (nodes code state : List ℕ
       unfolding laid onTop movedOn alternativeAt
       step-refused u =
           step-called
-          ∙ ap (λ (o : Option (List Binding)). onTop (laid sh (alternativeAt ss sh g nodes code state h) (copyAt state h) a (leftFrom sh g code state (pathAt state h) (copyAt state h) (literalAt state h + 4)) cl o) (movedOn sh (alternativeAt ss sh g nodes code state h) a) ++ pileOf ss sh g nodes code state h) u
+          ∙ ap (λ (o : Option (List Binding)). onTop (laid sh (alternativeAt ss sh g nodes code state h) (copyAt state h) a (leftFrom sh g code state (pathAt state h) (copyAt state h) (nextLiteral (literalAt state h))) cl o) (movedOn sh (alternativeAt ss sh g nodes code state h) a) ++ pileOf ss sh g nodes code state h) u
 
       -- it does
       pub step-tried : (b : List Binding) → unify (bindings ss nodes state (markAt state h)) (copied (copyAt state h) (termOf a)) (copied (suc (pathAt state h)) (termOf (cl .head))) ≡ some b
           → step sh (pileOf ss sh g nodes code state (suc h))
-          ≡ standing sh (pending (suc (pathAt state h)) (cl .body) (leftFrom sh g code state (pathAt state h) (copyAt state h) (literalAt state h + 4))) b (record { copy = copyAt state h; atom = a } ∷ callsUpTo sh g code state (pathAt state h))
+          ≡ standing sh (pending (suc (pathAt state h)) (cl .body) (leftFrom sh g code state (pathAt state h) (copyAt state h) (nextLiteral (literalAt state h)))) b (record { copy = copyAt state h; atom = a } ∷ callsUpTo sh g code state (pathAt state h))
           ∷ record { literals = leftFrom sh g code state (pathAt state h) (copyAt state h) (literalAt state h); bindings = bindings ss nodes state (markAt state h); next = nextFor sh a (nextAt state h); calls = callsUpTo sh g code state (pathAt state h) }
           ∷ pileOf ss sh g nodes code state h
       unfolding laid onTop movedOn alternativeAt
       step-tried b u =
           step-called
-          ∙ (ap (λ (o : Option (List Binding)). onTop (laid sh (alternativeAt ss sh g nodes code state h) (copyAt state h) a (leftFrom sh g code state (pathAt state h) (copyAt state h) (literalAt state h + 4)) cl o) (movedOn sh (alternativeAt ss sh g nodes code state h) a) ++ pileOf ss sh g nodes code state h) u
-          ∙ ap (λ (k : ℕ). standing sh (pending (suc k) (cl .body) (leftFrom sh g code state (pathAt state h) (copyAt state h) (literalAt state h + 4))) b (record { copy = copyAt state h; atom = a } ∷ callsUpTo sh g code state (pathAt state h))
+          ∙ (ap (λ (o : Option (List Binding)). onTop (laid sh (alternativeAt ss sh g nodes code state h) (copyAt state h) a (leftFrom sh g code state (pathAt state h) (copyAt state h) (nextLiteral (literalAt state h))) cl o) (movedOn sh (alternativeAt ss sh g nodes code state h) a) ++ pileOf ss sh g nodes code state h) u
+          ∙ ap (λ (k : ℕ). standing sh (pending (suc k) (cl .body) (leftFrom sh g code state (pathAt state h) (copyAt state h) (nextLiteral (literalAt state h)))) b (record { copy = copyAt state h; atom = a } ∷ callsUpTo sh g code state (pathAt state h))
           ∷ record { literals = leftFrom sh g code state (pathAt state h) (copyAt state h) (literalAt state h); bindings = bindings ss nodes state (markAt state h); next = nextFor sh a (nextAt state h); calls = callsUpTo sh g code state (pathAt state h) }
           ∷ pileOf ss sh g nodes code state h) path-is)
 
@@ -200,18 +203,18 @@ pub record Going (ss : List Symbol) (sh : Sheet) (g : Goal) (nodes code state st
   pub within : Within p state1 n1
   pub more : n ≤ n1
   pub copy : c ≤ p
-  pub left : leftFrom sh g code state1 p c l ≡ leftFrom sh g code state1 p (copyAt state h) (literalAt state h + 4)
+  pub left : leftFrom sh g code state1 p c l ≡ leftFrom sh g code state1 p (copyAt state h) (nextLiteral (literalAt state h))
   pub fresh : Fresh sh g code state1 p c l x
   pub written : Written h c l x n1 p state1 state2
 
 pub literal-goes : (ss : List Symbol) (sh : Sheet) (g : Goal) (nodes code state state1 state2 : List ℕ) (h n n1 p c l x : ℕ) → Going ss sh g nodes code state state1 state2 h n n1 p c l x
-    → Means ss sh g nodes code state2 (suc h) n1 (standing sh (leftFrom sh g code state (pathAt state h) (copyAt state h) (literalAt state h + 4)) (bindings ss nodes state1 n1) (callsUpTo sh g code state (pathAt state h)) ∷ pileOf ss sh g nodes code state h)
+    → Means ss sh g nodes code state2 (suc h) n1 (standing sh (leftFrom sh g code state (pathAt state h) (copyAt state h) (nextLiteral (literalAt state h))) (bindings ss nodes state1 n1) (callsUpTo sh g code state (pathAt state h)) ∷ pileOf ss sh g nodes code state h)
 literal-goes ss sh g nodes code state state1 state2 h n n1 p c l x t =
     let all : Means ss sh g nodes code state2 (suc h) n1 (record { literals = leftFrom sh g code state1 p c l; bindings = bindings ss nodes state1 n1; next = x; calls = callsUpTo sh g code state p } ∷ pileOf ss sh g nodes code state h) =
     replaced ss sh g nodes code state state1 state2 h n n1 p c l x (t .piled) (t .mark) (t .path) (t .keeps) (t .store) (t .within) (t .more) (t .copy) (t .fresh .stand) (t .written) in
-    let lits : leftFrom sh g code state1 p c l ≡ leftFrom sh g code state (pathAt state h) (copyAt state h) (literalAt state h + 4) =
-    t .left ∙ (ap (λ (y : ℕ). leftFrom sh g code state1 y (copyAt state h) (literalAt state h + 4)) (sym (t .path)) ∙ kept-left ss sh g nodes code state state1 h n n (t .piled) (t .keeps) (copyAt state h) (literalAt state h + 4) (t .piled .each h (omega arith) .copy)) in
-    let next : x ≡ topmost sh (leftFrom sh g code state (pathAt state h) (copyAt state h) (literalAt state h + 4)) = t .fresh .topmost-is ∙ ap (topmost sh) lits in
+    let lits : leftFrom sh g code state1 p c l ≡ leftFrom sh g code state (pathAt state h) (copyAt state h) (nextLiteral (literalAt state h)) =
+    t .left ∙ (ap (λ (y : ℕ). leftFrom sh g code state1 y (copyAt state h) (nextLiteral (literalAt state h))) (sym (t .path)) ∙ kept-left ss sh g nodes code state state1 h n n (t .piled) (t .keeps) (copyAt state h) (nextLiteral (literalAt state h)) (t .piled .each h (omega arith) .copy)) in
+    let next : x ≡ topmost sh (leftFrom sh g code state (pathAt state h) (copyAt state h) (nextLiteral (literalAt state h))) = t .fresh .topmost-is ∙ ap (topmost sh) lits in
     let calls : callsUpTo sh g code state p ≡ callsUpTo sh g code state (pathAt state h) = ap (callsUpTo sh g code state) (sym (t .path)) in
     record {
       piled = all .piled;
@@ -222,12 +225,12 @@ literal-goes ss sh g nodes code state state1 state2 h n n1 p c l x t =
 pub truth-step : (ss : List Symbol) (sh : Sheet) (g : Goal) (nodes code state after : List ℕ) (h n p c l x : ℕ) (r : Body) → Going ss sh g nodes code state state after h n n p c l x
     → restFrom sh g code state (copyAt state h) (literalAt state h) ≡ also truth r → Means ss sh g nodes code after (suc h) n (step sh (pileOf ss sh g nodes code state (suc h)))
 truth-step ss sh g nodes code state after h n p c l x r t e =
-    let all : Means ss sh g nodes code after (suc h) n (standing sh (leftFrom sh g code state (pathAt state h) (copyAt state h) (literalAt state h + 4)) (bindings ss nodes state n) (callsUpTo sh g code state (pathAt state h)) ∷ pileOf ss sh g nodes code state h) =
+    let all : Means ss sh g nodes code after (suc h) n (standing sh (leftFrom sh g code state (pathAt state h) (copyAt state h) (nextLiteral (literalAt state h))) (bindings ss nodes state n) (callsUpTo sh g code state (pathAt state h)) ∷ pileOf ss sh g nodes code state h) =
     literal-goes ss sh g nodes code state state after h n n p c l x t in
     record {
       piled = all .piled;
       is = all .is
-          ∙ (ap (λ (y : ℕ). standing sh (leftFrom sh g code state (pathAt state h) (copyAt state h) (literalAt state h + 4)) (bindings ss nodes state y) (callsUpTo sh g code state (pathAt state h)) ∷ pileOf ss sh g nodes code state h) (sym (t .mark))
+          ∙ (ap (λ (y : ℕ). standing sh (leftFrom sh g code state (pathAt state h) (copyAt state h) (nextLiteral (literalAt state h))) (bindings ss nodes state y) (callsUpTo sh g code state (pathAt state h)) ∷ pileOf ss sh g nodes code state h) (sym (t .mark))
           ∙ sym (step-truth ss sh g nodes code state h (t .piled .each h (omega arith) .place) r e));
     }
 
@@ -237,7 +240,7 @@ pub equal-step : (ss : List Symbol) (sh : Sheet) (g : Goal) (nodes code state st
     → unify (bindings ss nodes state n) (copied (copyAt state h) t) (copied (copyAt state h) u) ≡ some (bindings ss nodes state1 n1)
     → Means ss sh g nodes code state2 (suc h) n1 (step sh (pileOf ss sh g nodes code state (suc h)))
 equal-step ss sh g nodes code state state1 state2 h n n1 p c l x r t u w e q =
-    let all : Means ss sh g nodes code state2 (suc h) n1 (standing sh (leftFrom sh g code state (pathAt state h) (copyAt state h) (literalAt state h + 4)) (bindings ss nodes state1 n1) (callsUpTo sh g code state (pathAt state h)) ∷ pileOf ss sh g nodes code state h) =
+    let all : Means ss sh g nodes code state2 (suc h) n1 (standing sh (leftFrom sh g code state (pathAt state h) (copyAt state h) (nextLiteral (literalAt state h))) (bindings ss nodes state1 n1) (callsUpTo sh g code state (pathAt state h)) ∷ pileOf ss sh g nodes code state h) =
     literal-goes ss sh g nodes code state state1 state2 h n n1 p c l x w in
     let unified : unify (bindings ss nodes state (markAt state h)) (copied (copyAt state h) t) (copied (copyAt state h) u) ≡ some (bindings ss nodes state1 n1) =
     ap (λ (y : ℕ). unify (bindings ss nodes state y) (copied (copyAt state h) t) (copied (copyAt state h) u)) (w .mark) ∙ q in
@@ -252,16 +255,16 @@ module _ (ss : List Symbol) (sh : Sheet) (g : Goal) (nodes code state after : Li
       moved ss sh g nodes code state after h n (nextFor sh a (nextAt state h)) piled
       (λ o z. subst (λ (y : Atom). NextFor sh y (nextFor sh a (nextAt state h))) (call-eq a o (subst (λ (y : Body). Calls y o) e z)) (next-for sh a (nextAt state h))) w
 
-  same-after : SameFrames 255 state after
+  same-after : SameFrames longestPath state after
   same-after j l k = w .others j (omega arith)
 
   after-calls : callsUpTo sh g code after (pathAt after h) ≡ callsUpTo sh g code state (pathAt state h)
-  after-calls = ap (callsUpTo sh g code after) (w .path) ∙ same-calls sh g code state after 255 same-after (pathAt state h) (piled .each h (omega arith) .low) (piled .each h (omega arith) .frame)
+  after-calls = ap (callsUpTo sh g code after) (w .path) ∙ same-calls sh g code state after longestPath same-after (pathAt state h) (piled .each h (omega arith) .low) (piled .each h (omega arith) .frame)
 
-  after-left : leftFrom sh g code after (pathAt after h) (copyAt after h) (literalAt after h + 4) ≡ leftFrom sh g code state (pathAt state h) (copyAt state h) (literalAt state h + 4)
+  after-left : leftFrom sh g code after (pathAt after h) (copyAt after h) (nextLiteral (literalAt after h)) ≡ leftFrom sh g code state (pathAt state h) (copyAt state h) (nextLiteral (literalAt state h))
   after-left =
-      (λ i. leftFrom sh g code after (w .path i) (w .copy i) (w .literal i + 4))
-      ∙ same-left sh g code state after 255 same-after (pathAt state h) (copyAt state h) (literalAt state h + 4) (piled .each h (omega arith) .low) (piled .each h (omega arith) .copy) (piled .each h (omega arith) .frame)
+      (λ i. leftFrom sh g code after (w .path i) (w .copy i) (nextLiteral (w .literal i)))
+      ∙ same-left sh g code state after longestPath same-after (pathAt state h) (copyAt state h) (nextLiteral (literalAt state h)) (piled .each h (omega arith) .low) (piled .each h (omega arith) .copy) (piled .each h (omega arith) .frame)
 
   -- the head unifies: the clause's body is laid on top of the alternative that has moved on
   pub tried-step : (state1 state2 state3 : List ℕ) (n1 p m c l x : ℕ) → Pushing ss sh g nodes code after state1 state2 h n n1 p m a cl
@@ -272,12 +275,12 @@ module _ (ss : List Symbol) (sh : Sheet) (g : Goal) (nodes code state after : Li
       let all : Means ss sh g nodes code state3 (suc (suc h)) n1 (record { literals = leftFrom sh g code state2 p c l; bindings = bindings ss nodes state1 n1; next = x; calls = record { copy = copyAt after h; atom = a } ∷ callsUpTo sh g code after (pathAt after h) } ∷ pileOf ss sh g nodes code after (suc h)) =
       pushed ss sh g nodes code after state1 state2 h n n1 p m a cl t state3 c l x low (f .stand) v in
       let path : p ≡ suc (pathAt state h) = (let y : p ≡ pathAt after h + 1 = t .path in let z : pathAt after h ≡ pathAt state h = w .path in omega arith) in
-      let lits : leftFrom sh g code state2 p c l ≡ pending (suc (pathAt state h)) (cl .body) (leftFrom sh g code state (pathAt state h) (copyAt state h) (literalAt state h + 4)) =
+      let lits : leftFrom sh g code state2 p c l ≡ pending (suc (pathAt state h)) (cl .body) (leftFrom sh g code state (pathAt state h) (copyAt state h) (nextLiteral (literalAt state h))) =
       left ∙ (pushed-left ss sh g nodes code after state1 state2 h n n1 p m a cl t ∙ ap₂ (λ (y : ℕ) (o : List Pending). pending y (cl .body) o) path after-left) in
-      let next : x ≡ topmost sh (pending (suc (pathAt state h)) (cl .body) (leftFrom sh g code state (pathAt state h) (copyAt state h) (literalAt state h + 4))) = f .topmost-is ∙ ap (topmost sh) lits in
+      let next : x ≡ topmost sh (pending (suc (pathAt state h)) (cl .body) (leftFrom sh g code state (pathAt state h) (copyAt state h) (nextLiteral (literalAt state h)))) = f .topmost-is ∙ ap (topmost sh) lits in
       let made : _≡_ {A = Alternative}
       (record { literals = leftFrom sh g code state2 p c l; bindings = bindings ss nodes state1 n1; next = x; calls = record { copy = copyAt after h; atom = a } ∷ callsUpTo sh g code after (pathAt after h) })
-      (standing sh (pending (suc (pathAt state h)) (cl .body) (leftFrom sh g code state (pathAt state h) (copyAt state h) (literalAt state h + 4))) (bindings ss nodes state1 n1) (record { copy = copyAt state h; atom = a } ∷ callsUpTo sh g code state (pathAt state h))) =
+      (standing sh (pending (suc (pathAt state h)) (cl .body) (leftFrom sh g code state (pathAt state h) (copyAt state h) (nextLiteral (literalAt state h)))) (bindings ss nodes state1 n1) (record { copy = copyAt state h; atom = a } ∷ callsUpTo sh g code state (pathAt state h))) =
       (λ i. record { literals = lits i; bindings = bindings ss nodes state1 n1; next = next i; calls = record { copy = w .copy i; atom = a } ∷ after-calls i }) in
       record {
         piled = all .piled;

@@ -1,3 +1,4 @@
+pub mod Regions
 pub mod Nodes
 pub mod State
 pub mod Limits

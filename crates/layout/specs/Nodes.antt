@@ -5,8 +5,12 @@ use mathlib.Core.Bool.{Bool, true, false, _&&_, _||_}
 use mathlib.Core.List.{List, [], _∷_, _++_}
 use lib.Dec.{T, ltb}
 use lib.ListN.{length, getD}
+use Rattle.words.specs.Tables.{Has}
+use Rattle.syntax.specs.Words.{firstName}
+use Rattle.syntax.specs.Limits.{arguments, brackets}
 use Rattle.syntax.specs.Terms.{Term, Terms, variable, compound, nil, cons, arity, samePredicate}
 use Rattle.machine.specs.Substitution.{RTerm, RTerms, var, app, rnil, rcons}
+use Rattle.layout.specs.Regions.{loadedNode}
 
 -- ---- symbols
 
@@ -35,33 +39,28 @@ nameOf ss k = getD ss k (record { name = []; arguments = 0 }) .name
 
 -- ---- the table
 
--- These words stand in a table from p on.
-abbrev pub Has : List ℕ → ℕ → List ℕ → Type 0
-Has table p [] = Unit {0}
-Has table p (w ∷ ws) = (p < length table) × (getD table p 0 ≡ w) × Has table (p + 1) ws
-
--- A node: a variable's number (below 64), or 64 and the symbol's number; then how many words it and its arguments take. The arguments follow.
+-- A node: a variable's number, below `firstName`, or the symbol's number from there on; then how many words it and its arguments take. The arguments follow.
 unfoldable mutual
   pub loadedWords : List Symbol → Term → List ℕ
-  loadedWords ss (variable n b) = n ∷ 2 ∷ []
-  loadedWords ss (compound b f ts) = (64 + symbolOf ss f (arity ts)) ∷ (2 + length (loadedAll ss ts)) ∷ loadedAll ss ts
+  loadedWords ss (variable n b) = n ∷ loadedNode ∷ []
+  loadedWords ss (compound b f ts) = (firstName + symbolOf ss f (arity ts)) ∷ (loadedNode + length (loadedAll ss ts)) ∷ loadedAll ss ts
 
   pub loadedAll : List Symbol → Terms → List ℕ
   loadedAll ss nil = []
   loadedAll ss (cons t ts) = loadedWords ss t ++ loadedAll ss ts
 
--- A term that can stand in the table: its variables are numbered below 64, and its names are among the symbols.
+-- A term that can stand in the table: its variables are numbered below `firstName`, and its names are among the symbols.
 unfoldable mutual
   pub isLoadable : List Symbol → Term → Bool
-  isLoadable ss (variable n b) = ltb n 64
+  isLoadable ss (variable n b) = ltb n firstName
   isLoadable ss (compound b f ts) = isListed ss f (arity ts) && areLoadable ss ts
 
   pub areLoadable : List Symbol → Terms → Bool
   areLoadable ss nil = true
   areLoadable ss (cons t ts) = isLoadable ss t && areLoadable ss ts
 
--- How many brackets are open at once in a term, and in a bracketed list of terms. Document 01 allows a term 16; a list of such terms in a bracket
--- of its own then has at most 17.
+-- How many brackets are open at once in a term, and in a bracketed list of terms. A list of terms in a bracket of
+-- its own has one more than the terms.
 unfoldable mutual
   pub bracketsOf : Term → ℕ
   bracketsOf (variable n b) = 0
@@ -75,12 +74,12 @@ unfoldable mutual
 pub record Stands (ss : List Symbol) (nodes : List ℕ) (p : ℕ) (t : Term) : Type 0 where
   pub words : Has nodes p (loadedWords ss t)
   pub loadable : T (isLoadable ss t)
-  pub shallow : bracketsOf t ≤ 16
+  pub shallow : bracketsOf t ≤ brackets
 
 pub record StandAll (ss : List Symbol) (nodes : List ℕ) (p : ℕ) (ts : Terms) : Type 0 where
   pub words : Has nodes p (loadedAll ss ts)
   pub loadable : T (areLoadable ss ts)
-  pub shallow : bracketsAll ts ≤ 17
+  pub shallow : bracketsAll ts ≤ brackets + 1
 
 -- p is a node: some term stands there
 abbrev pub Node : List Symbol → List ℕ → ℕ → Type 0
@@ -99,9 +98,9 @@ unfoldable mutual
   pub decoded : List Symbol → List ℕ → ℕ → ℕ → ℕ → RTerm
   decoded ss nodes c zero p = var (record { copy = c; number = 0 })
   decoded ss nodes c (suc k) p =
-      elim (ltb (getD nodes p 0) 64) [
+      elim (ltb (getD nodes p 0) firstName) [
         | true ↦ var (record { copy = c; number = getD nodes p 0 })
-        | false ↦ app (nameOf ss (getD nodes p 0 - 64)) (decodedAll ss nodes c k (p + 2) (p + getD nodes (p + 1) 0))
+        | false ↦ app (nameOf ss (getD nodes p 0 - firstName)) (decodedAll ss nodes c k (p + loadedNode) (p + getD nodes (p + 1) 0))
       ]
 
   pub decodedAll : List Symbol → List ℕ → ℕ → ℕ → ℕ → ℕ → RTerms

@@ -7,9 +7,11 @@ use mathlib.Core.List.{List, [], _∷_}
 use mathlib.Core.Option.{Option, none, some}
 use lib.Dec.{T, eqb}
 use lib.ListN.{length, getD}
+use Rattle.syntax.specs.Limits.{longestPath, literals}
 use Rattle.syntax.specs.Terms.{Atom, nil, Literal, call, equation, truth, falsity, Body, done, also, Clause, Sheet, Goal}
 use Rattle.syntax.specs.Words.{bodyLength}
 use Rattle.machine.specs.Machine.{Pending, Call, Alternative, pending, isFor, clauseAt}
+use Rattle.layout.specs.Regions.{storeWords, stateWords, frameOf, alternativeOf, literalSize, nextLiteral, literalFrom}
 use Rattle.layout.specs.Nodes.{Symbol}
 use Rattle.layout.specs.State.{bindings, Store, Within}
 use Rattle.layout.specs.Program.{bodyAt, Program}
@@ -52,25 +54,25 @@ Calls (also x b) a = x ≡ call a
 -- the clause of a copy; the goal is copy 0
 unfoldable pub clauseIn : List ℕ → ℕ → ℕ
 clauseIn state zero = 0
-clauseIn state (suc k) = getD state (32768 + suc k * 4) 0
+clauseIn state (suc k) = getD state (frameOf (suc k)) 0
 
 -- the calling copy, and where the call stands
 abbrev pub callerOf : List ℕ → ℕ → ℕ
-callerOf state k = getD state (32768 + k * 4 + 1) 0
+callerOf state k = getD state (frameOf k + 1) 0
 
 abbrev pub callOf : List ℕ → ℕ → ℕ
-callOf state k = getD state (32768 + k * 4 + 2) 0
+callOf state k = getD state (frameOf k + 2) 0
 
 -- the literals of copy c from l on
 unfoldable pub restFrom : Sheet → Goal → List ℕ → List ℕ → ℕ → ℕ → Body
-restFrom sh g code state c l = dropBody ((l - bodyAt code (clauseIn state c)) / 4) (bodyOf sh g (clauseIn state c))
+restFrom sh g code state c l = dropBody ((l - bodyAt code (clauseIn state c)) / literalSize) (bodyOf sh g (clauseIn state c))
 
 -- The literals left behind copy c, of the copies 1 to k: those of its caller behind the call, and then those behind the caller.
 unfoldable pub leftBehind : Sheet → Goal → List ℕ → List ℕ → ℕ → ℕ → List Pending
 leftBehind sh g code state zero c = []
 leftBehind sh g code state (suc k) c =
     elim (eqb c (suc k)) [
-      | true ↦ pending (callerOf state (suc k)) (restFrom sh g code state (callerOf state (suc k)) (callOf state (suc k) + 4)) (leftBehind sh g code state k (callerOf state (suc k)))
+      | true ↦ pending (callerOf state (suc k)) (restFrom sh g code state (callerOf state (suc k)) (nextLiteral (callOf state (suc k)))) (leftBehind sh g code state k (callerOf state (suc k)))
       | false ↦ leftBehind sh g code state k c
     ]
 
@@ -88,21 +90,21 @@ callsUpTo sh g code state (suc k) =
 
 -- where it stands: a copy and a literal
 abbrev pub copyAt : List ℕ → ℕ → ℕ
-copyAt state j = getD state (33792 + j * 6) 0
+copyAt state j = getD state (alternativeOf j) 0
 
 abbrev pub literalAt : List ℕ → ℕ → ℕ
-literalAt state j = getD state (33792 + j * 6 + 1) 0
+literalAt state j = getD state (alternativeOf j + 1) 0
 
 -- the next clause for its first literal
 abbrev pub nextAt : List ℕ → ℕ → ℕ
-nextAt state j = getD state (33792 + j * 6 + 2) 0
+nextAt state j = getD state (alternativeOf j + 2) 0
 
 -- the length of its trail
 abbrev pub markAt : List ℕ → ℕ → ℕ
-markAt state j = getD state (33792 + j * 6 + 3) 0
+markAt state j = getD state (alternativeOf j + 3) 0
 
 abbrev pub pathAt : List ℕ → ℕ → ℕ
-pathAt state j = getD state (33792 + j * 6 + 4) 0
+pathAt state j = getD state (alternativeOf j + 4) 0
 
 unfoldable pub alternativeAt : List Symbol → Sheet → Goal → List ℕ → List ℕ → List ℕ → ℕ → Alternative
 alternativeAt ss sh g nodes code state j =
@@ -119,7 +121,7 @@ pileOf ss sh g nodes code state (suc h) = alternativeAt ss sh g nodes code state
 pub record Place (sh : Sheet) (g : Goal) (code state : List ℕ) (c l : ℕ) : Type 0 where
   pub clause : clauseIn state c ≤ length (sh .clauses)
   pub index : ℕ
-  pub is : l ≡ bodyAt code (clauseIn state c) + index * 4
+  pub is : l ≡ literalFrom (bodyAt code (clauseIn state c)) index
   pub low : index ≤ bodyLength (bodyOf sh g (clauseIn state c))
 
 -- copy k was made for a call of a lower copy
@@ -135,9 +137,10 @@ abbrev pub NextFor : Sheet → Atom → ℕ → Type 0
 NextFor sh a zero = Unit {0}
 NextFor sh a (suc k) = (cl : Clause) × (clauseAt sh (suc k) ≡ some cl) × T (isFor a cl)
 
--- alternative j, of a trail of n entries
+-- Alternative j, of a trail of n entries. Its path is not shorter than j, which bounds the height of the pile.
 pub record Stacked (sh : Sheet) (g : Goal) (code state : List ℕ) (n j : ℕ) : Type 0 where
-  pub low : pathAt state j ≤ 255
+  pub low : pathAt state j ≤ longestPath
+  pub high : j ≤ pathAt state j
   pub copy : copyAt state j ≤ pathAt state j
   pub mark : markAt state j ≤ n
   pub within : Within (pathAt state j) state (markAt state j)
@@ -146,11 +149,11 @@ pub record Stacked (sh : Sheet) (g : Goal) (code state : List ℕ) (n j : ℕ) :
   pub ends : restFrom sh g code state (copyAt state j) (literalAt state j) ≡ done → copyAt state j ≡ 0
   pub next : (a : Atom) → Calls (restFrom sh g code state (copyAt state j) (literalAt state j)) a → NextFor sh a (nextAt state j)
 
--- The words mean a pile of h alternatives, and the trail has n entries. Going up the pile each path is longer, and no trail is shorter.
+-- The words mean a pile of h alternatives, and the trail has n entries. Going up the pile no path is shorter, and no trail.
 pub record Piled (ss : List Symbol) (sh : Sheet) (g : Goal) (nodes code state : List ℕ) (h n : ℕ) : Type 0 where
   pub program : Program ss sh g nodes code
   pub store : Store ss nodes state n
-  pub long : 35328 ≤ length state
+  pub long : stateWords ≤ length state
   pub each : (j : ℕ) → j < h → Stacked sh g code state n j
-  pub longer : (i j : ℕ) → i < j → j < h → pathAt state i < pathAt state j
+  pub longer : (i j : ℕ) → i < j → j < h → pathAt state i ≤ pathAt state j
   pub later : (i j : ℕ) → i < j → j < h → markAt state i ≤ markAt state j

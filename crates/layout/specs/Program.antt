@@ -5,8 +5,11 @@ use mathlib.Core.Bool.{Bool, true, _&&_}
 use mathlib.Core.List.{List, [], _∷_, _++_}
 use mathlib.Core.Option.{Option, none, some}
 use lib.ListN.{length, getD}
+use Rattle.syntax.specs.Words.{truthKind, falsityKind, callKind, equationKind}
+use Rattle.syntax.specs.Limits.{clauses}
 use Rattle.syntax.specs.Terms.{termOf, Literal, call, equation, truth, falsity, Body, done, also, Clause, Sheet, Goal}
 use Rattle.machine.specs.Machine.{nextFor, clauseAt}
+use Rattle.layout.specs.Regions.{places, bodies, literalSize, endKind, nextLiteral, clauseRecord}
 use Rattle.layout.specs.Nodes.{Symbol, loadedWords, isLoadable, Stands}
 
 -- ---- nodes
@@ -50,19 +53,19 @@ clausesLoadable ss (cl ∷ cls) = (isLoadable ss (termOf (cl .head)) && bodyLoad
 
 -- ---- clauses and literals
 
--- Four words for the goal, which has the number 0, and for each clause by its number: the place of its head, where its first literal stands, the
--- next clause of its predicate (0 for none), and a word that is free.
+-- A record for the goal, which has the number 0, and for each clause by its number: the place of its head, where its first literal stands, the next
+-- clause of its predicate (0 for none). The fourth word is not used.
 abbrev pub headAt : List ℕ → ℕ → ℕ
-headAt code k = getD code (k * 4) 0
+headAt code k = getD code (clauseRecord k) 0
 
 abbrev pub bodyAt : List ℕ → ℕ → ℕ
-bodyAt code k = getD code (k * 4 + 1) 0
+bodyAt code k = getD code (clauseRecord k + 1) 0
 
 abbrev pub afterAt : List ℕ → ℕ → ℕ
-afterAt code k = getD code (k * 4 + 2) 0
+afterAt code k = getD code (clauseRecord k + 2) 0
 
--- Four words for a literal: 0 for truth, 1 for falsehood, 2 for a call, 3 for an equation, 4 for a body's end; the place of the atom or of the left
--- term; the topmost clause for the call (0 for none) or the place of the right term; and a word that is free.
+-- A literal's record: its kind, or that of a body's end; the place of the atom or of the left term; the topmost clause for the call (0 for none) or
+-- the place of the right term. The fourth word is not used.
 abbrev pub kindAt : List ℕ → ℕ → ℕ
 kindAt code l = getD code l 0
 
@@ -74,15 +77,15 @@ otherAt code l = getD code (l + 2) 0
 
 -- a literal stands at l
 abbrev pub LiteralStands : List Symbol → Sheet → List ℕ → List ℕ → ℕ → Literal → Type 0
-LiteralStands ss sh nodes code l (call a) = (kindAt code l ≡ 2) × Stands ss nodes (placeAt code l) (termOf a) × (otherAt code l ≡ nextFor sh a 0)
-LiteralStands ss sh nodes code l (equation t u) = (kindAt code l ≡ 3) × Stands ss nodes (placeAt code l) t × Stands ss nodes (otherAt code l) u
-LiteralStands ss sh nodes code l truth = kindAt code l ≡ 0
-LiteralStands ss sh nodes code l falsity = kindAt code l ≡ 1
+LiteralStands ss sh nodes code l (call a) = (kindAt code l ≡ callKind) × Stands ss nodes (placeAt code l) (termOf a) × (otherAt code l ≡ nextFor sh a 0)
+LiteralStands ss sh nodes code l (equation t u) = (kindAt code l ≡ equationKind) × Stands ss nodes (placeAt code l) t × Stands ss nodes (otherAt code l) u
+LiteralStands ss sh nodes code l truth = kindAt code l ≡ truthKind
+LiteralStands ss sh nodes code l falsity = kindAt code l ≡ falsityKind
 
 -- the literals of a body stand from l on, one behind the other, and then its end
 abbrev pub BodyStands : List Symbol → Sheet → List ℕ → List ℕ → ℕ → Body → Type 0
-BodyStands ss sh nodes code l done = (l + 4 ≤ length code) × (kindAt code l ≡ 4)
-BodyStands ss sh nodes code l (also x b) = (l + 4 ≤ length code) × LiteralStands ss sh nodes code l x × BodyStands ss sh nodes code (l + 4) b
+BodyStands ss sh nodes code l done = (l + literalSize ≤ length code) × (kindAt code l ≡ endKind)
+BodyStands ss sh nodes code l (also x b) = (l + literalSize ≤ length code) × LiteralStands ss sh nodes code l x × BodyStands ss sh nodes code (nextLiteral l) b
 
 -- the clause of number k
 pub record ClauseStands (ss : List Symbol) (sh : Sheet) (nodes code : List ℕ) (k : ℕ) (cl : Clause) : Type 0 where
@@ -92,9 +95,9 @@ pub record ClauseStands (ss : List Symbol) (sh : Sheet) (nodes code : List ℕ) 
 
 -- A sheet and a goal are loaded.
 pub record Program (ss : List Symbol) (sh : Sheet) (g : Goal) (nodes code : List ℕ) : Type 0 where
-  pub small : length nodes ≤ 65536
-  pub long : 1028 ≤ length code
-  pub short : length code ≤ 65536
-  pub few : length (sh .clauses) ≤ 256
+  pub small : length nodes ≤ places
+  pub long : bodies ≤ length code
+  pub short : length code ≤ places
+  pub few : length (sh .clauses) ≤ clauses
   pub goal : BodyStands ss sh nodes code (bodyAt code 0) (g .body)
   pub clause : (k : ℕ) (cl : Clause) → clauseAt sh k ≡ some cl → ClauseStands ss sh nodes code k cl

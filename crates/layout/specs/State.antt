@@ -4,51 +4,35 @@ use mathlib.Core.Path.{_≡_}
 use mathlib.Core.List.{List, [], _∷_}
 use lib.Dec.{T}
 use lib.ListN.{length, getD, set}
+use Rattle.syntax.specs.Words.{firstName}
 use Rattle.machine.specs.Substitution.{Variable, RTerm, occurs, Binding, resolve}
+use Rattle.layout.specs.Regions.{copies, copyCells, cells, trail, places, storeWords}
 use Rattle.layout.specs.Nodes.{Symbol, Node, termAt}
-
--- ---- regions of the state: cells, trail, frames, alternatives
-
--- A cell for each of 64 variables of each of 256 copies.
-abbrev pub cells : ℕ
-cells = 16384
-
--- The cells that are bound, in order.
-abbrev pub trail : ℕ
-trail = 16384
-
--- For each copy four words: its clause, the calling copy, the calling literal, where its caller goes on.
-abbrev pub frames : ℕ
-frames = 32768
-
--- Six words for each alternative: copy, literal, next clause, trail mark, path, symbol of the call's first argument.
-abbrev pub alternatives : ℕ
-alternatives = 33792
 
 -- ---- cells
 
 -- the cell of a copy's variable, and the variable of a cell
 abbrev pub cellOf : ℕ → ℕ → ℕ
-cellOf copy number = copy * 64 + number
+cellOf copy number = copy * copyCells + number
 
 abbrev pub variableOf : ℕ → Variable
-variableOf x = record { copy = x / 64; number = x % 64 }
+variableOf x = record { copy = x / copyCells; number = x % copyCells }
 
 -- A cell's word is 0 while its variable is unbound; else it gives the place and the copy of the term that the variable is bound to.
 abbrev pub wordOf : ℕ → ℕ → ℕ
-wordOf node copy = node * 256 + copy + 1
+wordOf node copy = node * copies + copy + 1
 
 abbrev pub nodeOf : ℕ → ℕ
-nodeOf w = (w - 1) / 256
+nodeOf w = (w - 1) / copies
 
 abbrev pub copyOf : ℕ → ℕ
-copyOf w = (w - 1) % 256
+copyOf w = (w - 1) % copies
 
 abbrev pub cellAt : List ℕ → ℕ → ℕ
 cellAt state x = getD state x 0
 
 abbrev pub trailAt : List ℕ → ℕ → ℕ
-trailAt state i = getD state (16384 + i) 0
+trailAt state i = getD state (trail + i) 0
 
 -- the term that a cell's word gives
 unfoldable pub valueOf : List Symbol → List ℕ → ℕ → RTerm
@@ -65,23 +49,23 @@ bindings ss nodes state (suc n) =
 -- One entry of the trail: a bound cell, whose word gives a node. A variable is bound to an earlier one, or to a term in which it does not
 -- stand once the bindings before it are put in.
 pub record Entry (ss : List Symbol) (nodes state : List ℕ) (i : ℕ) : Type 0 where
-  pub cell : trailAt state i < 16384
+  pub cell : trailAt state i < cells
   pub bound : cellAt state (trailAt state i) ≡ 0 → ⊥
   pub node : Node ss nodes (nodeOf (cellAt state (trailAt state i)))
-  pub down : getD nodes (nodeOf (cellAt state (trailAt state i))) 0 < 64 → cellOf (copyOf (cellAt state (trailAt state i))) (getD nodes (nodeOf (cellAt state (trailAt state i))) 0) < trailAt state i
+  pub down : getD nodes (nodeOf (cellAt state (trailAt state i))) 0 < firstName → cellOf (copyOf (cellAt state (trailAt state i))) (getD nodes (nodeOf (cellAt state (trailAt state i))) 0) < trailAt state i
   pub free : T (occurs (variableOf (trailAt state i)) (resolve (bindings ss nodes state i) (valueOf ss nodes (cellAt state (trailAt state i))))) → ⊥
 
 -- The store: the first n entries of the trail are distinct, and they are exactly the bound cells.
 pub record Store (ss : List Symbol) (nodes state : List ℕ) (n : ℕ) : Type 0 where
-  pub long : 32768 ≤ length state
-  pub small : length nodes ≤ 65536
+  pub long : storeWords ≤ length state
+  pub small : length nodes ≤ places
   pub entry : (i : ℕ) → i < n → Entry ss nodes state i
   pub apart : (i j : ℕ) → i < j → j < n → trailAt state i ≡ trailAt state j → ⊥
-  pub only : (x : ℕ) → x < 16384 → (cellAt state x ≡ 0 → ⊥) → (i : ℕ) × (i < n) × (trailAt state i ≡ x)
+  pub only : (x : ℕ) → x < cells → (cellAt state x ≡ 0 → ⊥) → (i : ℕ) × (i < n) × (trailAt state i ≡ x)
 
 -- The entries and their terms belong to copies 0 to k.
 pub record Within (k : ℕ) (state : List ℕ) (n : ℕ) : Type 0 where
-  pub cell : (i : ℕ) → i < n → trailAt state i < (k + 1) * 64
+  pub cell : (i : ℕ) → i < n → trailAt state i < (k + 1) * copyCells
   pub copy : (i : ℕ) → i < n → copyOf (cellAt state (trailAt state i)) ≤ k
 
 -- The first n entries of the trail and their cells are as they were.
@@ -94,8 +78,8 @@ pub record Keeps (n : ℕ) (before after : List ℕ) : Type 0 where
   pub long : length after ≡ length before
   pub entry : (i : ℕ) → i < n → trailAt after i ≡ trailAt before i
   pub cell : (i : ℕ) → i < n → cellAt after (trailAt before i) ≡ cellAt before (trailAt before i)
-  pub others : (j : ℕ) → 32768 ≤ j → getD after j 0 ≡ getD before j 0
+  pub others : (j : ℕ) → storeWords ≤ j → getD after j 0 ≡ getD before j 0
 
 -- a cell bound, as entry n of the trail
 unfoldable pub boundWords : List ℕ → ℕ → ℕ → ℕ → List ℕ
-boundWords state n x w = set (set state x w) (16384 + n) x
+boundWords state n x w = set (set state x w) (trail + n) x

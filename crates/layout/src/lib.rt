@@ -1,1 +1,102 @@
-// What the engine's words mean is defined in specs/; there is no code here.
+// The regions of a run's tables (specs/Regions); what their words mean is defined in specs/.
+use syntax::BRACKETS;
+use syntax::CLAUSES;
+use syntax::FIRST_NAME;
+use syntax::GOAL_BYTES;
+use syntax::GOAL_WORDS;
+use syntax::LITERALS;
+use syntax::LONGEST_PATH;
+use syntax::NODE_WORDS;
+use syntax::SHEET_BYTES;
+use syntax::SHEET_WORDS;
+
+pub const COPIES: usize = LONGEST_PATH + 1;
+
+pub const COPY_CELLS: usize = FIRST_NAME;
+
+// Loaded nodes.
+pub const LOADED_NODE: usize = 2;
+
+pub const MOST_NODES: usize = (SHEET_WORDS + GOAL_WORDS) / NODE_WORDS + 1;
+
+pub const NODES_WORDS: usize = MOST_NODES * LOADED_NODE;
+
+// Code.
+pub const CLAUSE_SIZE: usize = 4;
+
+pub const LITERAL_SIZE: usize = 4;
+
+pub const END_KIND: usize = 4;
+
+pub const BODIES: usize = (CLAUSES + 1) * CLAUSE_SIZE;
+
+pub const BODY_SIZE: usize = (LITERALS + 1) * LITERAL_SIZE;
+
+pub const CODE_WORDS: usize = BODIES + (CLAUSES + 1) * BODY_SIZE;
+
+// State.
+pub const CELLS: usize = COPIES * COPY_CELLS;
+
+pub const TRAIL: usize = CELLS;
+
+pub const STORE_WORDS: usize = TRAIL + CELLS;
+
+pub const FRAMES: usize = STORE_WORDS;
+
+pub const FRAME_SIZE: usize = 4;
+
+pub const ALTERNATIVES: usize = FRAMES + COPIES * FRAME_SIZE;
+
+pub const ALTERNATIVE_SIZE: usize = 6;
+
+pub const MOST_ALTERNATIVES: usize = COPIES;
+
+pub const STATE_WORDS: usize = ALTERNATIVES + MOST_ALTERNATIVES * ALTERNATIVE_SIZE;
+
+// Scratch.
+pub const STACK: usize = STORE_WORDS;
+
+pub const SIDE_SIZE: usize = 3;
+
+pub const PAIR_SIZE: usize = 2 * SIDE_SIZE;
+
+pub const PAIRS: usize = 2 * CELLS + 1;
+
+pub const MEMO: usize = STACK + PAIRS * PAIR_SIZE;
+
+pub const ROWS_WORD: usize = MEMO + 1;
+
+pub const SLOTS: usize = ROWS_WORD + 1;
+
+pub const SLOT_COUNT: usize = 16384;
+
+pub const KEYS: usize = SLOTS + SLOT_COUNT;
+
+pub const KEY_COUNT: usize = 4096;
+
+pub const CLASSES: usize = KEYS + KEY_COUNT;
+
+pub const CLASS_SIZE: usize = 2;
+
+pub const CLASS_COUNT: usize = CELLS + COPIES;
+
+pub const WEIGHTS: usize = CLASSES + CLASS_COUNT * CLASS_SIZE;
+
+pub const HEIGHTS: usize = PAIRS + 1;
+
+pub const ROWS: usize = WEIGHTS + HEIGHTS;
+
+pub const ROW_WORDS: usize = COPIES / 2;
+
+pub const HALF_WORD: usize = 65536;
+
+pub const SHORT_SHEET: usize = 2048;
+
+pub const NARROW_WORDS: usize = ROWS + ((SHORT_SHEET + GOAL_BYTES + 4) / 5 + 2) * ROW_WORDS;
+
+pub const WIDE_WORDS: usize = ROWS + ((SHEET_BYTES + GOAL_BYTES + 4) / 5 + 2) * ROW_WORDS;
+
+// Answers.
+pub const DEEPEST: usize = (CELLS + 1) * BRACKETS;
+
+pub const OPEN_SIZE: usize = 2;

@@ -8,10 +8,13 @@ use mathlib.Core.List.{List, [], _∷_}
 use mathlib.Core.Option.{some}
 use lib.Dec.{T, eqb, eqb→eq, eqb-refl}
 use lib.ListN.{length, getD, drop, length-drop}
+use Rattle.syntax.specs.Words.{firstName}
 use Rattle.syntax.specs.Terms.{arity, Atom, termOf, sameName, samePredicate, Clause, Sheet}
+use Rattle.layout.specs.Regions.{codeWords}
 use Rattle.machine.specs.Machine.{isFor, firstFor, nextFor, nth}
 use Rattle.machine.proofs.Tests.{both, and, name-eq, name-refl, some-eq, some-none}
-use Rattle.layout.specs.Nodes.{Symbol, symbolOf, isListed, nameOf, loadedWords, isLoadable, areLoadable, Stands, Has as HasNodes}
+use Rattle.words.specs.Tables.{Has}
+use Rattle.layout.specs.Nodes.{Symbol, symbolOf, isListed, nameOf, loadedWords, isLoadable, areLoadable, Stands}
 use Rattle.layout.specs.Program.{headAt}
 use Rattle.layout.proofs.Nodes.{name-of, arguments-of}
 use Rattle.linker.specs.Records.{sought}
@@ -64,11 +67,11 @@ module _ (nodes code : List ℕ) (word : ℕ) where
 
 -- two listed names have the same number exactly if they are the same predicate
 same-symbol : (ss : List Symbol) (f g : List ℕ) (n m : ℕ) → T (isListed ss f n) → T (isListed ss g m)
-    → eqb (64 + symbolOf ss f n) (64 + symbolOf ss g m) ≡ samePredicate f n g m
+    → eqb (firstName + symbolOf ss f n) (firstName + symbolOf ss g m) ≡ samePredicate f n g m
 same-symbol ss f g n m h k =
-    bool-eq (eqb (64 + symbolOf ss f n) (64 + symbolOf ss g m)) (samePredicate f n g m)
+    bool-eq (eqb (firstName + symbolOf ss f n) (firstName + symbolOf ss g m)) (samePredicate f n g m)
     (λ t.
-    let z : 64 + symbolOf ss f n ≡ 64 + symbolOf ss g m = eqb→eq (64 + symbolOf ss f n) (64 + symbolOf ss g m) t in
+    let z : firstName + symbolOf ss f n ≡ firstName + symbolOf ss g m = eqb→eq (firstName + symbolOf ss f n) (firstName + symbolOf ss g m) t in
     let y : symbolOf ss f n ≡ symbolOf ss g m = omega arith in
     let arities : n ≡ m = arguments-of ss f g n m h k y in
     let names : f ≡ g = sym (name-of ss f n h) ∙ (ap (nameOf ss) y ∙ name-of ss g m k) in
@@ -77,16 +80,16 @@ same-symbol ss f g n m h k =
     let o : T (eqb n m) × T (sameName f g) = both (eqb n m) (sameName f g) t in
     let arities : n ≡ m = eqb→eq n m (o .0) in
     let names : f ≡ g = name-eq f g (o .1) in
-    subst (λ (i : ℕ). T (eqb (64 + symbolOf ss f n) i)) (ap (λ (i : ℕ). 64 + i) (ap₂ (symbolOf ss) names arities)) (eqb-refl (64 + symbolOf ss f n)))
+    subst (λ (i : ℕ). T (eqb (firstName + symbolOf ss f n) i)) (ap (λ (i : ℕ). firstName + i) (ap₂ (symbolOf ss) names arities)) (eqb-refl (firstName + symbolOf ss f n)))
 
 -- the first word of an atom's node
 abbrev pub wordOf : List Symbol → Atom → ℕ
-wordOf ss a = 64 + symbolOf ss (a .name) (arity (a .args))
+wordOf ss a = firstName + symbolOf ss (a .name) (arity (a .args))
 
 abbrev pub Listed : List Symbol → Atom → Type 0
 Listed ss a = T (isListed ss (a .name) (arity (a .args)))
 
-pub atom-word : (ss : List Symbol) (nodes : List ℕ) (p : ℕ) (a : Atom) → HasNodes nodes p (loadedWords ss (termOf a)) → (p < length nodes) × (getD nodes p 0 ≡ wordOf ss a)
+pub atom-word : (ss : List Symbol) (nodes : List ℕ) (p : ℕ) (a : Atom) → Has nodes p (loadedWords ss (termOf a)) → (p < length nodes) × (getD nodes p 0 ≡ wordOf ss a)
 unfolding loadedWords
 atom-word ss nodes p a h = (h .0, h .1)
 
@@ -131,7 +134,7 @@ module _ (ss : List Symbol) (sh : Sheet) (nodes : List ℕ) (clauses : ℕ) (cod
   pub searchable : Searchable nodes code clauses
   searchable =
       let e : clauses ≡ length (sh .clauses) = w .count in
-      let r : 18504 ≤ length code = w .room in
+      let r : codeWords ≤ length code = w .room in
       record {
         few = w .few;
         long = omega arith;

@@ -6,19 +6,21 @@ use mathlib.Core.Bool.{_&&_}
 use mathlib.Core.List.{List, [], _∷_}
 use lib.Dec.{T}
 use lib.ListN.{length, getD, set, length-set, length-append}
+use Rattle.syntax.specs.Limits.{clauses as mostClauses, literals as mostLiterals}
 use Rattle.syntax.specs.Terms.{termOf, Body, Clause, Sheet}
 use Rattle.syntax.specs.Words.{atomWords, bodyWords, bodyLength, clauseWords, clausesWords}
 use Rattle.machine.specs.Machine.{nextFor}
 use Rattle.machine.proofs.Tests.{both}
-use Rattle.marking.specs.Tables.{Has}
-use Rattle.marking.proofs.Places.{has-left, has-right, size-is}
-use Rattle.layout.specs.Nodes.{Symbol, loadedWords, isLoadable, Has as HasNodes}
+use Rattle.words.specs.Tables.{Has, Inside}
+use Rattle.words.proofs.Laws.{has-left, has-right, size-is, term-inside}
+use Rattle.layout.specs.Regions.{places, bodies, codeWords, clauseRecord}
+use Rattle.layout.specs.Nodes.{Symbol, loadedWords, isLoadable}
 use Rattle.layout.specs.Limits.{ClausesLimited}
 use Rattle.layout.specs.Program.{bodyNodes, clauseNodes, clausesNodes, bodyLoadable, clausesLoadable}
-use Rattle.layout.proofs.Nodes.{size-word, has-left as nodes-left, has-right as nodes-right}
-use Rattle.linker.specs.Records.{putPair, putBody, putHeads, putClause, putClauses, sought}
+use Rattle.layout.proofs.Nodes.{size-word}
+use Rattle.linker.specs.Records.{putPair, putBody, putHeads, putClause, putClauses, sought, bodyPlace}
 use Rattle.linker.specs.Places.{Searchable, BodyTo, HeadsTo, ClauseTo, ClausesTo}
-use Rattle.linker.proofs.Sizes.{Fits, term-fits, Says, says}
+use Rattle.linker.proofs.Sizes.{Says, says}
 use Rattle.linker.proofs.Seeking.{atom-word, atom-listed, searchable, next-is}
 use Rattle.linker.proofs.Writing.{SameHeads, pair-long, pair-heads, heads-long, headed-kept, Kept, clause-kept, clauses-kept}
 use Rattle.linker.proofs.Turns.{end-inside, loaded-fits, next-bound}
@@ -68,36 +70,36 @@ module _ (table : List ℕ) (at node clauses : ℕ) (code : List ℕ) (k : ℕ) 
   pub heads-clause : (ss : List Symbol) (whole : List ℕ) → HeadsAhead ss whole table at node clauses code k → (cl : Clause) × Has table at (clauseWords cl)
   heads-clause ss whole w = clause-in ss (w .rest) (w .ready)
 
-  pub heads-room : (ss : List Symbol) (whole : List ℕ) → HeadsAhead ss whole table at node clauses code k → (k ≤ 256) × ((k * 4 < length code) × (node ≤ 65536))
+  pub heads-room : (ss : List Symbol) (whole : List ℕ) → HeadsAhead ss whole table at node clauses code k → (k ≤ mostClauses) × ((clauseRecord k < length code) × (node ≤ places))
   heads-room ss whole w =
-      let a : clauses ≤ 256 = w .ready .few in
-      let b : 1028 ≤ length code = w .ready .long in
-      let c : node + length (clausesNodes ss (w .rest)) ≤ 65536 = w .ready .node in
+      let a : clauses ≤ mostClauses = w .ready .few in
+      let b : bodies ≤ length code = w .ready .long in
+      let c : node + length (clausesNodes ss (w .rest)) ≤ places = w .ready .node in
       (omega arith, (omega arith, omega arith))
 
   module _ (size : ℕ) (z : (ss : List Symbol) (cl : Clause) → Has table at (clauseWords cl) → size ≡ length (clauseNodes ss cl)) where
-    size-fits : (ss : List Symbol) (cls : List Clause) → HeadsTo ss cls table at node clauses code k → node + size ≤ 65536
+    size-fits : (ss : List Symbol) (cls : List Clause) → HeadsTo ss cls table at node clauses code k → node + size ≤ places
     size-fits ss [] w = absurd (let y : k + 0 ≡ suc clauses = w .count in omega arith)
     size-fits ss (cl ∷ cls) w =
         let e : size ≡ length (clauseNodes ss cl) = z ss cl (first-words table at cl cls (w .has)) in
         let s : length (clausesNodes ss (cl ∷ cls)) ≡ length (clauseNodes ss cl) + length (clausesNodes ss cls) = clauses-sum ss cl cls in
-        let n : node + length (clausesNodes ss (cl ∷ cls)) ≤ 65536 = w .node in
+        let n : node + length (clausesNodes ss (cl ∷ cls)) ≤ places = w .node in
         omega arith
 
-    pub heads-size : (ss : List Symbol) (whole : List ℕ) → HeadsAhead ss whole table at node clauses code k → node + size ≤ 65536
+    pub heads-size : (ss : List Symbol) (whole : List ℕ) → HeadsAhead ss whole table at node clauses code k → node + size ≤ places
     heads-size ss whole w = size-fits ss (w .rest) (w .ready)
 
-    module _ (new : List ℕ) (n : new ≡ set code (k * 4) node) (words : ℕ) (m : words ≡ getD table at 0) where
+    module _ (new : List ℕ) (n : new ≡ set code (clauseRecord k) node) (words : ℕ) (m : words ≡ getD table at 0) where
       next-in : (ss : List Symbol) (whole : List ℕ) (cls : List Clause) → HeadsTo ss cls table at node clauses code k → putHeads ss node cls code k ≡ whole → HeadsAhead ss whole table (at + words) (node + size) clauses new (k + 1)
       unfolding putHeads
       next-in ss whole [] w g = absurd (let y : k + 0 ≡ suc clauses = w .count in omega arith)
       next-in ss whole (cl ∷ cls) w g =
           let f : node + size ≡ node + length (clauseNodes ss cl) = ap (λ (i : ℕ). node + i) (z ss cl (first-words table at cl cls (w .has))) in
           let s : length (clausesNodes ss (cl ∷ cls)) ≡ length (clauseNodes ss cl) + length (clausesNodes ss cls) = clauses-sum ss cl cls in
-          let o : node + length (clausesNodes ss (cl ∷ cls)) ≤ 65536 = w .node in
+          let o : node + length (clausesNodes ss (cl ∷ cls)) ≤ places = w .node in
           let many : k + suc (length cls) ≡ suc clauses = w .count in
           let long : length new ≡ length code = ap length n ∙ simp length-set in
-          let b : 1028 ≤ length code = w .long in
+          let b : bodies ≤ length code = w .long in
           record {
             rest = cls;
             ready = record {
@@ -124,13 +126,13 @@ heads-end ss whole table at node clauses code k l w = go (w .rest) (w .ready .co
 
 -- ---- one clause
 
-head-stands : (ss : List Symbol) (nodes : List ℕ) (q : ℕ) (cl : Clause) → HasNodes nodes q (clauseNodes ss cl) → HasNodes nodes q (loadedWords ss (termOf (cl .head)))
+head-stands : (ss : List Symbol) (nodes : List ℕ) (q : ℕ) (cl : Clause) → Has nodes q (clauseNodes ss cl) → Has nodes q (loadedWords ss (termOf (cl .head)))
 unfolding clauseNodes
-head-stands ss nodes q cl h = nodes-left nodes q (loadedWords ss (termOf (cl .head))) (bodyNodes ss (cl .body)) h
+head-stands ss nodes q cl h = has-left nodes q (loadedWords ss (termOf (cl .head))) (bodyNodes ss (cl .body)) h
 
-body-stand : (ss : List Symbol) (nodes : List ℕ) (q : ℕ) (cl : Clause) → HasNodes nodes q (clauseNodes ss cl) → HasNodes nodes (q + length (loadedWords ss (termOf (cl .head)))) (bodyNodes ss (cl .body))
+body-stand : (ss : List Symbol) (nodes : List ℕ) (q : ℕ) (cl : Clause) → Has nodes q (clauseNodes ss cl) → Has nodes (q + length (loadedWords ss (termOf (cl .head)))) (bodyNodes ss (cl .body))
 unfolding clauseNodes
-body-stand ss nodes q cl h = nodes-right nodes q (loadedWords ss (termOf (cl .head))) (bodyNodes ss (cl .body)) h
+body-stand ss nodes q cl h = has-right nodes q (loadedWords ss (termOf (cl .head))) (bodyNodes ss (cl .body)) h
 
 module _ (table : List ℕ) (p : ℕ) (nodes : List ℕ) (q clauses : ℕ) (code : List ℕ) (k : ℕ) where
   module _ (ss : List Symbol) (sh : Sheet) (cl : Clause) (w : ClauseTo ss sh cl table p nodes q clauses code k) where
@@ -140,16 +142,16 @@ module _ (table : List ℕ) (p : ℕ) (nodes : List ℕ) (q clauses : ℕ) (code
     pub clause-search : Searchable nodes code clauses × (k ≤ clauses)
     clause-search = (searchable ss sh nodes clauses code (w .headed), w .high)
 
-    pub clause-small : k ≤ 256
-    clause-small = let a : clauses ≤ 256 = w .headed .few in let b : k ≤ clauses = w .high in omega arith
+    pub clause-small : k ≤ mostClauses
+    clause-small = let a : clauses ≤ mostClauses = w .headed .few in let b : k ≤ clauses = w .high in omega arith
 
     pub clause-inside : p + 3 ≤ length table
     clause-inside = let a : p + 2 < length table = says ss table p cl (w .has) .inside in omega arith
 
-    pub head-fits : Fits table (p + 3)
-    head-fits = term-fits table (p + 3) (termOf (cl .head)) (says ss table p cl (w .has) .head)
+    pub head-fits : Inside table (p + 3)
+    head-fits = term-inside table (p + 3) (termOf (cl .head)) (says ss table p cl (w .has) .head)
 
-    pub head-node-fits : Fits nodes q
+    pub head-node-fits : Inside nodes q
     head-node-fits = loaded-fits ss nodes q (termOf (cl .head)) (head-stands ss nodes q cl (w .stand))
 
   module _ (word after : ℕ) (v : word ≡ getD nodes q 0) (s : after ≡ sought nodes code word (k + 1) (clauses - k)) where
@@ -157,46 +159,46 @@ module _ (table : List ℕ) (p : ℕ) (nodes : List ℕ) (q clauses : ℕ) (code
     after-is ss sh cl w = next-is ss sh nodes clauses code (w .headed) (cl .head) (atom-listed ss (cl .head) (w .head-loadable)) word k after (v ∙ atom-word ss nodes q (cl .head) (head-stands ss nodes q cl (w .stand)) .1) s
 
     pub pair-ready : (ss : List Symbol) (sh : Sheet) (cl : Clause) → ClauseTo ss sh cl table p nodes q clauses code k
-        → (k * 4 + 1 + 1 < length code) × ((1028 + k * 68 < 4294967296) × (after < 4294967296))
+        → (clauseRecord k + 1 + 1 < length code) × ((bodyPlace k < 4294967296) × (after < 4294967296))
     pair-ready ss sh cl w =
         let a : after ≡ nextFor sh (cl .head) k = after-is ss sh cl w in
         let b : nextFor sh (cl .head) k ≤ 257 = next-bound ss sh nodes clauses code (w .headed) (cl .head) k (w .high) in
-        let c : k ≤ 256 = clause-small ss sh cl w in
-        let d : 18504 ≤ length code = w .headed .room in
+        let c : k ≤ mostClauses = clause-small ss sh cl w in
+        let d : codeWords ≤ length code = w .headed .room in
         (omega arith, (omega arith, omega arith))
 
-    module _ (new : List ℕ) (n : new ≡ putPair code (k * 4 + 1) (1028 + k * 68) after) (literals first node : ℕ)
+    module _ (new : List ℕ) (n : new ≡ putPair code (clauseRecord k + 1) (bodyPlace k) after) (literals first node : ℕ)
         (m : literals ≡ getD table (p + 2) 0) (f : first ≡ p + 3 + getD table (p + 3 + 1) 0) (o : node ≡ q + getD nodes (q + 1) 0) where
       node-is : (ss : List Symbol) (sh : Sheet) (cl : Clause) → ClauseTo ss sh cl table p nodes q clauses code k → node ≡ q + length (loadedWords ss (termOf (cl .head)))
       node-is ss sh cl w = o ∙ ap (λ (i : ℕ). q + i) (size-word ss nodes q (termOf (cl .head)) (head-stands ss nodes q cl (w .stand)))
 
-      pub body-ready : (ss : List Symbol) (sh : Sheet) (cl : Clause) → ClauseTo ss sh cl table p nodes q clauses code k → BodyTo ss sh (cl .body) table first literals nodes node clauses new (1028 + k * 68)
+      pub body-ready : (ss : List Symbol) (sh : Sheet) (cl : Clause) → ClauseTo ss sh cl table p nodes q clauses code k → BodyTo ss sh (cl .body) table first literals nodes node clauses new (bodyPlace k)
       body-ready ss sh cl w =
           let said : Says ss table p cl = says ss table p cl (w .has) in
           let z : getD table (p + 3 + 1) 0 ≡ length (atomWords (cl .head)) = size-is table (p + 3) (termOf (cl .head)) (said .head) in
-          let long : length new ≡ length code = ap length n ∙ pair-long code (k * 4 + 1) (1028 + k * 68) after in
+          let long : length new ≡ length code = ap length n ∙ pair-long code (clauseRecord k + 1) (bodyPlace k) after in
           let many : literals ≡ bodyLength (cl .body) = m ∙ said .literals in
-          let few : bodyLength (cl .body) ≤ 16 = w .short in
-          let small : k ≤ 256 = clause-small ss sh cl w in
-          let room : 18504 ≤ length code = w .headed .room in
+          let few : bodyLength (cl .body) ≤ mostLiterals = w .short in
+          let small : k ≤ mostClauses = clause-small ss sh cl w in
+          let room : codeWords ≤ length code = w .headed .room in
           let fits : q + getD nodes (q + 1) 0 ≤ length nodes = head-node-fits ss sh cl w .1 in
           record {
-            headed = headed-kept ss sh nodes clauses code new long (subst⁻¹ (SameHeads code) n (pair-heads code k (1028 + k * 68) after)) (w .headed);
+            headed = headed-kept ss sh nodes clauses code new long (subst⁻¹ (SameHeads code) n (pair-heads code k (bodyPlace k) after)) (w .headed);
             has = subst⁻¹ (λ (i : ℕ). Has table i (bodyWords (cl .body))) (f ∙ ap (λ (i : ℕ). p + 3 + i) z) (said .body);
             count = many;
-            stand = subst⁻¹ (λ (i : ℕ). HasNodes nodes i (bodyNodes ss (cl .body))) (node-is ss sh cl w) (body-stand ss nodes q cl (w .stand));
+            stand = subst⁻¹ (λ (i : ℕ). Has nodes i (bodyNodes ss (cl .body))) (node-is ss sh cl w) (body-stand ss nodes q cl (w .stand));
             loadable = w .body-loadable;
             node = omega arith;
             low = omega arith;
             high = omega arith;
           }
 
-      pub clause-put : (exit : List ℕ) → ((ss : List Symbol) (sh : Sheet) (b : Body) → BodyTo ss sh b table first literals nodes node clauses new (1028 + k * 68) → exit ≡ putBody ss sh node b new (1028 + k * 68))
+      pub clause-put : (exit : List ℕ) → ((ss : List Symbol) (sh : Sheet) (b : Body) → BodyTo ss sh b table first literals nodes node clauses new (bodyPlace k) → exit ≡ putBody ss sh node b new (bodyPlace k))
           → (ss : List Symbol) (sh : Sheet) (cl : Clause) → ClauseTo ss sh cl table p nodes q clauses code k → exit ≡ putClause ss sh q cl code k
       unfolding putClause
       clause-put exit x ss sh cl w =
           x ss sh (cl .body) (body-ready ss sh cl w)
-          ∙ ap₂ (λ (i : ℕ) (c : List ℕ). putBody ss sh i (cl .body) c (1028 + k * 68)) (node-is ss sh cl w) (n ∙ ap (λ (i : ℕ). putPair code (k * 4 + 1) (1028 + k * 68) i) (after-is ss sh cl w))
+          ∙ ap₂ (λ (i : ℕ) (c : List ℕ). putBody ss sh i (cl .body) c (bodyPlace k)) (node-is ss sh cl w) (n ∙ ap (λ (i : ℕ). putPair code (clauseRecord k + 1) (bodyPlace k) i) (after-is ss sh cl w))
 
 -- ---- all clauses
 
@@ -213,13 +215,13 @@ clauses-begin ss sh cls table nodes q clauses code w = record { rest = cls; read
 pub clauses-length : (ss : List Symbol) (sh : Sheet) (whole table : List ℕ) (at : ℕ) (nodes : List ℕ) (node clauses : ℕ) (code : List ℕ) (k : ℕ) → ClausesAhead ss sh whole table at nodes node clauses code k → length whole ≡ length code
 clauses-length ss sh whole table at nodes node clauses code k w =
     let a : k + length (w .rest) ≡ suc clauses = w .ready .count in
-    let b : clauses ≤ 256 = w .ready .headed .few in
+    let b : clauses ≤ mostClauses = w .ready .headed .few in
     sym (ap length (w .gives)) ∙ clauses-kept ss sh node (w .rest) code k (omega arith) .long
 
 -- the first clause and the rest
 record Split (ss : List Symbol) (sh : Sheet) (table : List ℕ) (at : ℕ) (nodes : List ℕ) (node clauses : ℕ) (code : List ℕ) (k : ℕ) (cl : Clause) (cls : List Clause) : Type 0 where
   clause : ClauseTo ss sh cl table at nodes node clauses code k
-  stand : HasNodes nodes (node + length (clauseNodes ss cl)) (clausesNodes ss cls)
+  stand : Has nodes (node + length (clauseNodes ss cl)) (clausesNodes ss cls)
   loadable : T (clausesLoadable ss cls)
   limited : ClausesLimited cls
   inside : node + length (clauseNodes ss cl) ≤ length nodes
@@ -230,11 +232,11 @@ unfolding clausesNodes clausesLoadable
 split table at nodes node clauses code k l ss sh cl cls w =
     let oks : T (isLoadable ss (termOf (cl .head)) && bodyLoadable ss (cl .body)) × T (clausesLoadable ss cls) = both (isLoadable ss (termOf (cl .head)) && bodyLoadable ss (cl .body)) (clausesLoadable ss cls) (w .loadable) in
     let ok : T (isLoadable ss (termOf (cl .head))) × T (bodyLoadable ss (cl .body)) = both (isLoadable ss (termOf (cl .head))) (bodyLoadable ss (cl .body)) (oks .0) in
-    let first : HasNodes nodes node (clauseNodes ss cl) = nodes-left nodes node (clauseNodes ss cl) (clausesNodes ss cls) (w .stand) in
+    let first : Has nodes node (clauseNodes ss cl) = has-left nodes node (clauseNodes ss cl) (clausesNodes ss cls) (w .stand) in
     let inside : node < length nodes = atom-word ss nodes node (cl .head) (head-stands ss nodes node cl first) .0 in
     record {
       clause = record { headed = w .headed; has = first-words table at cl cls (w .has); stand = first; head-loadable = ok .0; body-loadable = ok .1; short = w .limited .0 .body .few; low = w .low; high = l };
-      stand = nodes-right nodes node (clauseNodes ss cl) (clausesNodes ss cls) (w .stand);
+      stand = has-right nodes node (clauseNodes ss cl) (clausesNodes ss cls) (w .stand);
       loadable = oks .1;
       limited = w .limited .1;
       inside = end-inside nodes node (clauseNodes ss cl) (omega arith) first;
@@ -250,16 +252,16 @@ module _ (table : List ℕ) (at : ℕ) (nodes : List ℕ) (node clauses : ℕ) (
 
   module _ (new : List ℕ) (n : (ss : List Symbol) (sh : Sheet) (cl : Clause) → ClauseTo ss sh cl table at nodes node clauses code k → new ≡ putClause ss sh node cl code k)
       (size : ℕ) (z : (ss : List Symbol) (cl : Clause) → Has table at (clauseWords cl) → size ≡ length (clauseNodes ss cl)) where
-    pub node-fits : (ss : List Symbol) (sh : Sheet) (whole : List ℕ) → ClausesAhead ss sh whole table at nodes node clauses code k → node + size ≤ 65536
+    pub node-fits : (ss : List Symbol) (sh : Sheet) (whole : List ℕ) → ClausesAhead ss sh whole table at nodes node clauses code k → node + size ≤ places
     node-fits ss sh whole w = go (w .rest) (w .ready)
       where
-        go : (cls : List Clause) → ClausesTo ss sh cls table at nodes node clauses code k → node + size ≤ 65536
+        go : (cls : List Clause) → ClausesTo ss sh cls table at nodes node clauses code k → node + size ≤ places
         go [] v = absurd (let y : k + 0 ≡ suc clauses = v .count in omega arith)
         go (cl ∷ cls) v =
             let o : Split ss sh table at nodes node clauses code k cl cls = split table at nodes node clauses code k l ss sh cl cls v in
             let e : size ≡ length (clauseNodes ss cl) = z ss cl (o .clause .has) in
             let i : node + length (clauseNodes ss cl) ≤ length nodes = o .inside in
-            let s : length nodes ≤ 65536 = v .headed .nodes-short in
+            let s : length nodes ≤ places = v .headed .nodes-short in
             omega arith
 
     module _ (words : ℕ) (m : words ≡ getD table at 0) where
@@ -271,7 +273,7 @@ module _ (table : List ℕ) (at : ℕ) (nodes : List ℕ) (node clauses : ℕ) (
           let o : Split ss sh table at nodes node clauses code k cl cls = split table at nodes node clauses code k l ss sh cl cls w in
           let f : node + size ≡ node + length (clauseNodes ss cl) = ap (λ (i : ℕ). node + i) (z ss cl (o .clause .has)) in
           let new-is : new ≡ putClause ss sh node cl code k = n ss sh cl (o .clause) in
-          let few : clauses ≤ 256 = w .headed .few in
+          let few : clauses ≤ mostClauses = w .headed .few in
           let kept : Kept code (putClause ss sh node cl code k) k = clause-kept ss sh node cl code k (omega arith) in
           let many : k + suc (length cls) ≡ suc clauses = w .count in
           record {
@@ -279,7 +281,7 @@ module _ (table : List ℕ) (at : ℕ) (nodes : List ℕ) (node clauses : ℕ) (
             ready = record {
               headed = headed-kept ss sh nodes clauses code new (ap length new-is ∙ kept .long) (subst⁻¹ (SameHeads code) new-is (kept .heads)) (w .headed);
               has = rest-words table at words cl cls m (w .has);
-              stand = subst⁻¹ (λ (i : ℕ). HasNodes nodes i (clausesNodes ss cls)) f (o .stand);
+              stand = subst⁻¹ (λ (i : ℕ). Has nodes i (clausesNodes ss cls)) f (o .stand);
               loadable = o .loadable;
               limited = o .limited;
               low = omega arith;

@@ -1,15 +1,14 @@
 -- Laws of literals and clauses as they were read: how many words they take, and how many their nodes take. Assumes nothing.
 use Prim.Native.Nat.{ℕ, zero, suc, _+_, _-_, _*_, _/_, _≤_, _<_}
-use native.Mathlib.Numerals.{add-one}
 use native.Mathlib.Omega.{arith}
 use mathlib.Core.Path.{_≡_, refl, sym, ap, _∙_, subst, subst⁻¹}
-use mathlib.Core.List.{List, [], _∷_, _++_}
+use mathlib.Core.List.{List, _∷_, _++_}
 use lib.Arith.{digits-div}
 use lib.ListN.{length, getD, length-append}
-use Rattle.syntax.specs.Terms.{Term, Terms, variable, compound, nil, cons, Atom, termOf, Literal, call, equation, truth, falsity, Body, done, also, Clause}
+use Rattle.syntax.specs.Terms.{Term, Terms, variable, compound, nil, cons, termOf, Literal, call, equation, truth, falsity, Body, done, also, Clause}
 use Rattle.syntax.specs.Words.{termWords, termsWords, atomWords, literalWords, bodyWords, bodyLength, clauseWords}
-use Rattle.marking.specs.Tables.{Has}
-use Rattle.marking.proofs.Places.{has-left, has-right, has-inside, Node, node, long-term, size-is}
+use Rattle.words.specs.Tables.{Has}
+use Rattle.words.proofs.Laws.{has-left, has-right, clause-says}
 use Rattle.layout.specs.Nodes.{Symbol, loadedWords, loadedAll}
 use Rattle.layout.specs.Program.{literalNodes, bodyNodes, clauseNodes}
 use Rattle.linker.specs.Places.{BodyAt}
@@ -31,111 +30,6 @@ pub nodes-of-is : (words marks n : ℕ) → n * 3 + marks * 2 ≡ words * 2 → 
 nodes-of-is words marks n e =
     let o : (k : ℕ) × ((words - marks ≡ k * 3 + 0) × (n ≡ k * 2)) = halves n (words - marks) (omega arith) in
     ap (λ (d : ℕ). d / 3 * 2) (o .1 .0) ∙ (ap (λ (d : ℕ). d * 2) (digits-div (o .0) (omega arith)) ∙ sym (o .1 .1))
-
--- ---- terms
-
-abbrev pub Fits : List ℕ → ℕ → Type 0
-Fits table p = (p + 1 < length table) × (p + getD table (p + 1) 0 ≤ length table)
-
-pub term-fits : (table : List ℕ) (p : ℕ) (t : Term) → Has table p (termWords t) → Fits table p
-term-fits table p t h =
-    let long : 3 ≤ length (termWords t) = long-term t in
-    let size : getD table (p + 1) 0 ≡ length (termWords t) = size-is table p t h in
-    let inside : p + length (termWords t) ≤ length table = has-inside table p (termWords t) h (omega arith) in
-    (omega arith, omega arith)
-
--- ---- literals
-
-record First (table : List ℕ) (p w : ℕ) (ws : List ℕ) : Type 0 where
-  inside : p < length table
-  first : getD table p 0 ≡ w
-  rest : Has table (p + 1) ws
-
-first-of : (table : List ℕ) (p w : ℕ) (ws : List ℕ) → Has table p (w ∷ ws) → First table p w ws
-unfolding Has
-first-of table p w ws h = record { inside = h .0; first = h .1 .0; rest = subst⁻¹ (λ (k : ℕ). Has table k ws) (add-one p) (h .1 .1) }
-
--- a literal by its first word
-pub data View (table : List ℕ) (p : ℕ) : Literal → Type 0 where
-  view-truth : getD table p 0 ≡ 0 → View table p truth
-  view-falsity : getD table p 0 ≡ 1 → View table p falsity
-  view-call : {a : Atom} → getD table p 0 ≡ 2 → Has table (p + 1) (atomWords a) → View table p (call a)
-  view-equation : {t u : Term} → getD table p 0 ≡ 3 → Has table (p + 1) (termWords t) → Has table (p + 1 + length (termWords t)) (termWords u) → View table p (equation t u)
-
-pub view : (table : List ℕ) (p : ℕ) (x : Literal) → Has table p (literalWords x) → View table p x
-unfolding literalWords
-view table p truth h = view-truth (first-of table p 0 [] h .first)
-view table p falsity h = view-falsity (first-of table p 1 [] h .first)
-view table p (call a) h = view-call (first-of table p 2 (atomWords a) h .first) (first-of table p 2 (atomWords a) h .rest)
-view table p (equation t u) h =
-    let o : First table p 3 (termWords t ++ termWords u) = first-of table p 3 (termWords t ++ termWords u) h in
-    view-equation (o .first) (has-left table (p + 1) (termWords t) (termWords u) (o .rest)) (has-right table (p + 1) (termWords t) (termWords u) (o .rest))
-
-pub literal-room : (table : List ℕ) (p : ℕ) (x : Literal) → Has table p (literalWords x) → p < length table
-unfolding literalWords
-literal-room table p truth h = first-of table p 0 [] h .inside
-literal-room table p falsity h = first-of table p 1 [] h .inside
-literal-room table p (call a) h = first-of table p 2 (atomWords a) h .inside
-literal-room table p (equation t u) h = first-of table p 3 (termWords t ++ termWords u) h .inside
-
-module _ (table : List ℕ) (p kind : ℕ) (e : kind ≡ getD table p 0) where
-  none-by : {x : Literal} → kind < 2 → View table p x → length (literalWords x) ≡ 1
-  unfolding literalWords
-  none-by k (view-truth q) = refl
-  none-by k (view-falsity q) = refl
-  none-by k (view-call q h) = absurd (omega arith)
-  none-by k (view-equation q h r) = absurd (omega arith)
-
-  pub past-none : kind < 2 → (x : Literal) → Has table p (literalWords x) → p + 1 ≡ p + length (literalWords x)
-  past-none k x h = let z : length (literalWords x) ≡ 1 = none-by k (view table p x h) in omega arith
-
-  first-by : {x : Literal} → 2 ≤ kind → View table p x → Fits table (p + 1)
-  first-by k (view-truth q) = absurd (omega arith)
-  first-by k (view-falsity q) = absurd (omega arith)
-  first-by k (view-call {a} q h) = term-fits table (p + 1) (termOf a) h
-  first-by k (view-equation {t} {u} q h r) = term-fits table (p + 1) t h
-
-  pub first-fits : 2 ≤ kind → (x : Literal) → Has table p (literalWords x) → Fits table (p + 1)
-  first-fits k x h = first-by k (view table p x h)
-
-  module _ (next : ℕ) (n : next ≡ p + 1 + getD table (p + 1 + 1) 0) where
-    call-by : {x : Literal} → kind ≡ 2 → View table p x → next ≡ p + length (literalWords x)
-    unfolding literalWords
-    call-by k (view-truth q) = absurd (omega arith)
-    call-by k (view-falsity q) = absurd (omega arith)
-    call-by k (view-call {a} q h) = let z : getD table (p + 1 + 1) 0 ≡ length (atomWords a) = size-is table (p + 1) (termOf a) h in omega arith
-    call-by k (view-equation q h r) = absurd (omega arith)
-
-    pub past-call : kind ≡ 2 → (x : Literal) → Has table p (literalWords x) → next ≡ p + length (literalWords x)
-    past-call k x h = call-by k (view table p x h)
-
-    module _ (l : 2 ≤ kind) (d : kind ≡ 2 → ⊥) where
-      right-by : {x : Literal} → View table p x → Fits table next
-      right-by (view-truth q) = absurd (omega arith)
-      right-by (view-falsity q) = absurd (omega arith)
-      right-by (view-call q h) = absurd (d (omega arith))
-      right-by (view-equation {t} {u} q h r) =
-          let z : getD table (p + 1 + 1) 0 ≡ length (termWords t) = size-is table (p + 1) t h in
-          let y : p + 1 + length (termWords t) ≡ next = omega arith in
-          term-fits table next u (subst (λ (i : ℕ). Has table i (termWords u)) y r)
-
-      pub right-fits : (x : Literal) → Has table p (literalWords x) → Fits table next
-      right-fits x h = right-by (view table p x h)
-
-      equation-by : {x : Literal} → View table p x → next + getD table (next + 1) 0 ≡ p + length (literalWords x)
-      unfolding literalWords
-      equation-by (view-truth q) = absurd (omega arith)
-      equation-by (view-falsity q) = absurd (omega arith)
-      equation-by (view-call q h) = absurd (d (omega arith))
-      equation-by (view-equation {t} {u} q h r) =
-          let z : getD table (p + 1 + 1) 0 ≡ length (termWords t) = size-is table (p + 1) t h in
-          let y : p + 1 + length (termWords t) ≡ next = omega arith in
-          let v : getD table (next + 1) 0 ≡ length (termWords u) = size-is table next u (subst (λ (i : ℕ). Has table i (termWords u)) y r) in
-          let s : length (termWords t ++ termWords u) ≡ length (termWords t) + length (termWords u) = length-append (termWords t) (termWords u) in
-          omega arith
-
-      pub past-equation : (stop : ℕ) → stop ≡ next + getD table (next + 1) 0 → (x : Literal) → Has table p (literalWords x) → stop ≡ p + length (literalWords x)
-      past-equation stop s x h = s ∙ equation-by (view table p x h)
 
 -- ---- bodies
 
@@ -236,19 +130,17 @@ pub record Says (ss : List Symbol) (table : List ℕ) (p : ℕ) (cl : Clause) : 
 pub says : (ss : List Symbol) (table : List ℕ) (p : ℕ) (cl : Clause) → Has table p (clauseWords cl) → Says ss table p cl
 unfolding clauseWords clauseNodes
 says ss table p cl h =
-    let o : Node table p (3 + length (atomWords (cl .head) ++ bodyWords (cl .body))) (cl .variables) (bodyLength (cl .body)) (atomWords (cl .head) ++ bodyWords (cl .body)) = node table p _ _ _ _ h in
-    let size : getD table p 0 ≡ 3 + length (atomWords (cl .head) ++ bodyWords (cl .body)) = o .first in
+    let o = clause-says table p cl h in
     let e : length (loadedWords ss (termOf (cl .head))) * 3 ≡ length (termWords (termOf (cl .head))) * 2 = term-nodes ss (termOf (cl .head)) in
     let es : length (bodyNodes ss (cl .body)) * 3 + bodyLength (cl .body) * 2 ≡ length (bodyWords (cl .body)) * 2 = body-nodes ss (cl .body) in
     let a : length (loadedWords ss (termOf (cl .head)) ++ bodyNodes ss (cl .body)) ≡ length (loadedWords ss (termOf (cl .head))) + length (bodyNodes ss (cl .body)) = length-append (loadedWords ss (termOf (cl .head))) (bodyNodes ss (cl .body)) in
     let c : length (atomWords (cl .head) ++ bodyWords (cl .body)) ≡ length (atomWords (cl .head)) + length (bodyWords (cl .body)) = length-append (atomWords (cl .head)) (bodyWords (cl .body)) in
-    let inside : p + length (clauseWords cl) ≤ length table = has-inside table p (clauseWords cl) h (omega arith) in
     record {
-      inside = o .inside;
-      size = omega arith;
-      fits = omega arith;
-      literals = o .third;
-      head = has-left table (p + 3) (atomWords (cl .head)) (bodyWords (cl .body)) (o .rest);
-      body = has-right table (p + 3) (atomWords (cl .head)) (bodyWords (cl .body)) (o .rest);
+      inside = o .words .inside;
+      size = o .size;
+      fits = o .inside;
+      literals = o .words .third;
+      head = has-left table (p + 3) (atomWords (cl .head)) (bodyWords (cl .body)) (o .words .rest);
+      body = has-right table (p + 3) (atomWords (cl .head)) (bodyWords (cl .body)) (o .words .rest);
       nodes = omega arith;
     }

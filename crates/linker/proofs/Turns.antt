@@ -6,18 +6,20 @@ use mathlib.Core.Bool.{Bool, true, false}
 use mathlib.Core.List.{List, [], _∷_}
 use lib.Dec.{T}
 use lib.ListN.{length, getD, set, drop, length-drop}
+use Rattle.syntax.specs.Limits.{clauses as mostClauses}
 use Rattle.syntax.specs.Terms.{Term, Atom, Literal, call, equation, truth, falsity, Body, done, also, Clause, Sheet}
-use Rattle.syntax.specs.Words.{literalWords, bodyWords, bodyLength, clauseWords}
+use Rattle.syntax.specs.Words.{literalWords, bodyWords, bodyLength, clauseWords, truthKind, falsityKind, callKind}
 use Rattle.machine.specs.Machine.{isFor, firstFor, nextFor}
 use Rattle.machine.proofs.Tests.{both}
-use Rattle.marking.specs.Tables.{Has}
-use Rattle.marking.proofs.Places.{has-left, has-right}
-use Rattle.layout.specs.Nodes.{Symbol, loadedWords, Has as HasNodes}
+use Rattle.words.specs.Tables.{Has, Inside}
+use Rattle.words.proofs.Laws.{has-left, has-right, View, view-truth, view-falsity, view-call, view-equation, view, has-end}
+use Rattle.layout.specs.Regions.{places, endKind, bodies, nextLiteral, literalFrom}
+use Rattle.layout.specs.Nodes.{Symbol, loadedWords}
 use Rattle.layout.specs.Program.{literalNodes, bodyNodes, clauseNodes, literalLoadable, bodyLoadable}
-use Rattle.layout.proofs.Nodes.{has-end, size-word, words-some, has-left as nodes-left, has-right as nodes-right}
+use Rattle.layout.proofs.Nodes.{size-word, words-some}
 use Rattle.linker.specs.Records.{putRecord, kindOf, otherOf, putBody, sought}
 use Rattle.linker.specs.Places.{Headed, LiteralIn, LiteralTo, BodyTo}
-use Rattle.linker.proofs.Sizes.{Fits, View, view-truth, view-falsity, view-call, view-equation, view, literal-nodes, Says, says}
+use Rattle.linker.proofs.Sizes.{literal-nodes, Says, says}
 use Rattle.linker.proofs.Seeking.{atom-word, atom-listed, next-is}
 use Rattle.linker.proofs.Writing.{SameHeads, record-long, body-long, headed-kept, record-heads}
 
@@ -47,11 +49,11 @@ pub some-words : (ws : List ℕ) (n : ℕ) → n < length ws → ws ≡ [] → �
 some-words ws n l e = let z : length ws ≡ 0 = ap length e in omega arith
 
 -- words that stand from a place inside end inside
-pub end-inside : (nodes : List ℕ) (q : ℕ) (ws : List ℕ) → q ≤ length nodes → HasNodes nodes q ws → q + length ws ≤ length nodes
+pub end-inside : (nodes : List ℕ) (q : ℕ) (ws : List ℕ) → q ≤ length nodes → Has nodes q ws → q + length ws ≤ length nodes
 end-inside nodes q [] l h = let z : q + 0 ≤ length nodes = omega arith in z
 end-inside nodes q (w ∷ ws) l h = has-end nodes q (w ∷ ws) h (some-words (w ∷ ws) 0 (omega arith))
 
-pub loaded-fits : (ss : List Symbol) (nodes : List ℕ) (q : ℕ) (t : Term) → HasNodes nodes q (loadedWords ss t) → Fits nodes q
+pub loaded-fits : (ss : List Symbol) (nodes : List ℕ) (q : ℕ) (t : Term) → Has nodes q (loadedWords ss t) → Inside nodes q
 loaded-fits ss nodes q t h =
     let e : getD nodes (q + 1) 0 ≡ length (loadedWords ss t) = size-word ss nodes q t h in
     let m : 2 ≤ length (loadedWords ss t) = words-some ss t in
@@ -77,7 +79,7 @@ next-bound ss sh nodes clauses code w a k l =
     let b : firstFor a (suc k) (drop k (sh .clauses)) ≤ suc k + length (drop k (sh .clauses)) = first-bound a (suc k) (drop k (sh .clauses)) in
     let n : length (drop k (sh .clauses)) ≡ length (sh .clauses) - k = length-drop k (sh .clauses) in
     let c : clauses ≡ length (sh .clauses) = w .count in
-    let f : clauses ≤ 256 = w .few in
+    let f : clauses ≤ mostClauses = w .few in
     omega arith
 
 -- ---- one literal
@@ -95,50 +97,50 @@ module _ (table : List ℕ) (p : ℕ) (nodes : List ℕ) (q clauses : ℕ) (code
   is-kind : (ss : List Symbol) (sh : Sheet) (x : Literal) → LiteralIn ss sh x table p nodes q clauses code → kind ≡ kindOf x
   is-kind ss sh x w = e ∙ kind-is table p x (w .has)
 
-  pub other-none : kind < 2 → (ss : List Symbol) (sh : Sheet) (x : Literal) → LiteralIn ss sh x table p nodes q clauses code → 0 ≡ otherOf ss sh q x
+  pub other-none : kind < callKind → (ss : List Symbol) (sh : Sheet) (x : Literal) → LiteralIn ss sh x table p nodes q clauses code → 0 ≡ otherOf ss sh q x
   unfolding otherOf
   other-none k ss sh truth w = refl
   other-none k ss sh falsity w = refl
-  other-none k ss sh (call a) w = absurd (let z : kind ≡ 2 = is-kind ss sh (call a) w in omega arith)
+  other-none k ss sh (call a) w = absurd (let z : kind ≡ callKind = is-kind ss sh (call a) w in omega arith)
   other-none k ss sh (equation t u) w = absurd (let z : kind ≡ 3 = is-kind ss sh (equation t u) w in omega arith)
 
-  pub call-inside : kind ≡ 2 → (ss : List Symbol) (sh : Sheet) (x : Literal) → LiteralIn ss sh x table p nodes q clauses code → q < length nodes
+  pub call-inside : kind ≡ callKind → (ss : List Symbol) (sh : Sheet) (x : Literal) → LiteralIn ss sh x table p nodes q clauses code → q < length nodes
   unfolding literalNodes
-  call-inside k ss sh truth w = absurd (let z : kind ≡ 0 = is-kind ss sh truth w in omega arith)
-  call-inside k ss sh falsity w = absurd (let z : kind ≡ 1 = is-kind ss sh falsity w in omega arith)
+  call-inside k ss sh truth w = absurd (let z : kind ≡ truthKind = is-kind ss sh truth w in omega arith)
+  call-inside k ss sh falsity w = absurd (let z : kind ≡ falsityKind = is-kind ss sh falsity w in omega arith)
   call-inside k ss sh (call a) w = atom-word ss nodes q a (w .stand) .0
   call-inside k ss sh (equation t u) w = absurd (let z : kind ≡ 3 = is-kind ss sh (equation t u) w in omega arith)
 
-  pub other-call : kind ≡ 2 → (word r : ℕ) → word ≡ getD nodes q 0 → r ≡ sought nodes code word (0 + 1) (clauses - 0) → (ss : List Symbol) (sh : Sheet) (x : Literal) → LiteralIn ss sh x table p nodes q clauses code → r ≡ otherOf ss sh q x
+  pub other-call : kind ≡ callKind → (word r : ℕ) → word ≡ getD nodes q 0 → r ≡ sought nodes code word (0 + 1) (clauses - 0) → (ss : List Symbol) (sh : Sheet) (x : Literal) → LiteralIn ss sh x table p nodes q clauses code → r ≡ otherOf ss sh q x
   unfolding otherOf literalNodes literalLoadable
-  other-call k word r v s ss sh truth w = absurd (let z : kind ≡ 0 = is-kind ss sh truth w in omega arith)
-  other-call k word r v s ss sh falsity w = absurd (let z : kind ≡ 1 = is-kind ss sh falsity w in omega arith)
+  other-call k word r v s ss sh truth w = absurd (let z : kind ≡ truthKind = is-kind ss sh truth w in omega arith)
+  other-call k word r v s ss sh falsity w = absurd (let z : kind ≡ falsityKind = is-kind ss sh falsity w in omega arith)
   other-call k word r v s ss sh (call a) w = next-is ss sh nodes clauses code (w .headed) a (atom-listed ss a (w .loadable)) word 0 r (v ∙ atom-word ss nodes q a (w .stand) .1) s
   other-call k word r v s ss sh (equation t u) w = absurd (let z : kind ≡ 3 = is-kind ss sh (equation t u) w in omega arith)
 
-  module _ (k : 2 ≤ kind) (d : kind ≡ 2 → ⊥) where
-    pub equation-inside : (ss : List Symbol) (sh : Sheet) (x : Literal) → LiteralIn ss sh x table p nodes q clauses code → Fits nodes q
+  module _ (k : callKind ≤ kind) (d : kind ≡ callKind → ⊥) where
+    pub equation-inside : (ss : List Symbol) (sh : Sheet) (x : Literal) → LiteralIn ss sh x table p nodes q clauses code → Inside nodes q
     unfolding literalNodes
-    equation-inside ss sh truth w = absurd (let z : kind ≡ 0 = is-kind ss sh truth w in omega arith)
-    equation-inside ss sh falsity w = absurd (let z : kind ≡ 1 = is-kind ss sh falsity w in omega arith)
+    equation-inside ss sh truth w = absurd (let z : kind ≡ truthKind = is-kind ss sh truth w in omega arith)
+    equation-inside ss sh falsity w = absurd (let z : kind ≡ falsityKind = is-kind ss sh falsity w in omega arith)
     equation-inside ss sh (call a) w = absurd (d (is-kind ss sh (call a) w))
-    equation-inside ss sh (equation t u) w = loaded-fits ss nodes q t (nodes-left nodes q (loadedWords ss t) (loadedWords ss u) (w .stand))
+    equation-inside ss sh (equation t u) w = loaded-fits ss nodes q t (has-left nodes q (loadedWords ss t) (loadedWords ss u) (w .stand))
 
     pub other-equation : (r : ℕ) → r ≡ q + getD nodes (q + 1) 0 → (ss : List Symbol) (sh : Sheet) (x : Literal) → LiteralIn ss sh x table p nodes q clauses code → r ≡ otherOf ss sh q x
     unfolding otherOf literalNodes
-    other-equation r s ss sh truth w = absurd (let z : kind ≡ 0 = is-kind ss sh truth w in omega arith)
-    other-equation r s ss sh falsity w = absurd (let z : kind ≡ 1 = is-kind ss sh falsity w in omega arith)
+    other-equation r s ss sh truth w = absurd (let z : kind ≡ truthKind = is-kind ss sh truth w in omega arith)
+    other-equation r s ss sh falsity w = absurd (let z : kind ≡ falsityKind = is-kind ss sh falsity w in omega arith)
     other-equation r s ss sh (call a) w = absurd (d (is-kind ss sh (call a) w))
-    other-equation r s ss sh (equation t u) w = s ∙ ap (λ (i : ℕ). q + i) (size-word ss nodes q t (nodes-left nodes q (loadedWords ss t) (loadedWords ss u) (w .stand)))
+    other-equation r s ss sh (equation t u) w = s ∙ ap (λ (i : ℕ). q + i) (size-word ss nodes q t (has-left nodes q (loadedWords ss t) (loadedWords ss u) (w .stand)))
 
-  other-bound : (ss : List Symbol) (sh : Sheet) (x : Literal) → LiteralIn ss sh x table p nodes q clauses code → otherOf ss sh q x ≤ 65536
+  other-bound : (ss : List Symbol) (sh : Sheet) (x : Literal) → LiteralIn ss sh x table p nodes q clauses code → otherOf ss sh q x ≤ places
   unfolding otherOf literalNodes
   other-bound ss sh truth w = omega arith
   other-bound ss sh falsity w = omega arith
   other-bound ss sh (call a) w = let z : nextFor sh a 0 ≤ 257 = next-bound ss sh nodes clauses code (w .headed) a 0 (omega arith) in omega arith
   other-bound ss sh (equation t u) w =
-      let z : q + length (loadedWords ss t) ≤ length nodes = end-inside nodes q (loadedWords ss t) (w .node) (nodes-left nodes q (loadedWords ss t) (loadedWords ss u) (w .stand)) in
-      let y : length nodes ≤ 65536 = w .headed .nodes-short in
+      let z : q + length (loadedWords ss t) ≤ length nodes = end-inside nodes q (loadedWords ss t) (w .node) (has-left nodes q (loadedWords ss t) (loadedWords ss u) (w .stand)) in
+      let y : length nodes ≤ places = w .headed .nodes-short in
       omega arith
 
   kind-bound : (x : Literal) → kindOf x ≤ 3
@@ -151,13 +153,13 @@ module _ (table : List ℕ) (p : ℕ) (nodes : List ℕ) (q clauses : ℕ) (code
     pub record-ready : (ss : List Symbol) (sh : Sheet) (x : Literal) → LiteralTo ss sh x table p nodes q clauses code l
         → (l + 2 < length code) × ((kind < 4294967296) × ((q < 4294967296) × (other < 4294967296)))
     record-ready ss sh x w =
-        let a : l + 4 ≤ length code = w .high in
+        let a : nextLiteral l ≤ length code = w .high in
         let b : kind ≡ kindOf x = is-kind ss sh x (w .given) in
         let c : kindOf x ≤ 3 = kind-bound x in
         let d : q ≤ length nodes = w .given .node in
-        let f : length nodes ≤ 65536 = w .given .headed .nodes-short in
+        let f : length nodes ≤ places = w .given .headed .nodes-short in
         let g : other ≡ otherOf ss sh q x = o ss sh x (w .given) in
-        let h : otherOf ss sh q x ≤ 65536 = other-bound ss sh x (w .given) in
+        let h : otherOf ss sh q x ≤ places = other-bound ss sh x (w .given) in
         (omega arith, (omega arith, (omega arith, omega arith)))
 
     pub literal-put : (new : List ℕ) → new ≡ putRecord code l kind q other → (ss : List Symbol) (sh : Sheet) (x : Literal) → LiteralTo ss sh x table p nodes q clauses code l
@@ -182,23 +184,23 @@ body-begin ss sh b table p literals nodes q clauses code l w = record { rest = b
 record Split (ss : List Symbol) (sh : Sheet) (table : List ℕ) (p : ℕ) (nodes : List ℕ) (q clauses : ℕ) (code : List ℕ) (l : ℕ) (x : Literal) (b : Body) : Type 0 where
   literal : LiteralTo ss sh x table p nodes q clauses code l
   has : Has table (p + length (literalWords x)) (bodyWords b)
-  stand : HasNodes nodes (q + length (literalNodes ss x)) (bodyNodes ss b)
+  stand : Has nodes (q + length (literalNodes ss x)) (bodyNodes ss b)
   loadable : T (bodyLoadable ss b)
   inside : q + length (literalNodes ss x) ≤ length nodes
-  room : l + suc (bodyLength b) * 4 + 4 ≤ length code
+  room : nextLiteral (literalFrom l (suc (bodyLength b))) ≤ length code
 
 split : (ss : List Symbol) (sh : Sheet) (x : Literal) (b : Body) (table : List ℕ) (p literals : ℕ) (nodes : List ℕ) (q clauses : ℕ) (code : List ℕ) (l : ℕ) → BodyTo ss sh (also x b) table p literals nodes q clauses code l
     → Split ss sh table p nodes q clauses code l x b
 unfolding bodyWords bodyNodes bodyLoadable
 split ss sh x b table p literals nodes q clauses code l w =
     let ok : T (literalLoadable ss x) × T (bodyLoadable ss b) = both (literalLoadable ss x) (bodyLoadable ss b) (w .loadable) in
-    let h : l + literals * 4 + 4 ≤ length code = w .high in
+    let h : nextLiteral (literalFrom l (literals)) ≤ length code = w .high in
     let n : literals ≡ suc (bodyLength b) = w .count in
-    let first : HasNodes nodes q (literalNodes ss x) = nodes-left nodes q (literalNodes ss x) (bodyNodes ss b) (w .stand) in
+    let first : Has nodes q (literalNodes ss x) = has-left nodes q (literalNodes ss x) (bodyNodes ss b) (w .stand) in
     record {
       literal = record { given = record { headed = w .headed; has = has-left table p (literalWords x) (bodyWords b) (w .has); stand = first; loadable = ok .0; node = w .node }; low = w .low; high = omega arith };
       has = has-right table p (literalWords x) (bodyWords b) (w .has);
-      stand = nodes-right nodes q (literalNodes ss x) (bodyNodes ss b) (w .stand);
+      stand = has-right nodes q (literalNodes ss x) (bodyNodes ss b) (w .stand);
       loadable = ok .1;
       inside = end-inside nodes q (literalNodes ss x) (w .node) first;
       room = omega arith;
@@ -228,20 +230,20 @@ module _ (table : List ℕ) (at i literals : ℕ) (nodes : List ℕ) (node claus
           let m : length (literalNodes ss x) * 3 + 1 * 2 ≡ length (literalWords x) * 2 = literal-nodes ss x in
           z (length (literalNodes ss x)) (omega arith)
 
-      size-in : (ss : List Symbol) (sh : Sheet) (b : Body) (left : ℕ) → BodyTo ss sh b table at left nodes node clauses code to → i + left ≡ literals → node + size ≤ 65536
+      size-in : (ss : List Symbol) (sh : Sheet) (b : Body) (left : ℕ) → BodyTo ss sh b table at left nodes node clauses code to → i + left ≡ literals → node + size ≤ places
       size-in ss sh done left w c = absurd (let y : left ≡ 0 = w .count in omega arith)
       size-in ss sh (also x b) left w c =
           let o : Split ss sh table at nodes node clauses code to x b = split ss sh x b table at left nodes node clauses code to w in
           let e : size ≡ length (literalNodes ss x) = size-is ss x (o .literal .given .has) in
           let a : node + length (literalNodes ss x) ≤ length nodes = o .inside in
-          let d : length nodes ≤ 65536 = w .headed .nodes-short in
+          let d : length nodes ≤ places = w .headed .nodes-short in
           omega arith
 
-      pub ahead-size : (ss : List Symbol) (sh : Sheet) (whole : List ℕ) → BodyAhead ss sh whole table at i literals nodes node clauses code to → node + size ≤ 65536
+      pub ahead-size : (ss : List Symbol) (sh : Sheet) (whole : List ℕ) → BodyAhead ss sh whole table at i literals nodes node clauses code to → node + size ≤ places
       ahead-size ss sh whole w = size-in ss sh (w .rest) (w .left) (w .ready) (w .count)
 
       next-in : (ss : List Symbol) (sh : Sheet) (whole : List ℕ) (b : Body) (left : ℕ) → BodyTo ss sh b table at left nodes node clauses code to → i + left ≡ literals → putBody ss sh node b code to ≡ whole
-          → BodyAhead ss sh whole table next (i + 1) literals nodes (node + size) clauses new (to + 4)
+          → BodyAhead ss sh whole table next (i + 1) literals nodes (node + size) clauses new (nextLiteral to)
       unfolding putBody
       next-in ss sh whole done left w c g = absurd (let y : left ≡ 0 = w .count in omega arith)
       next-in ss sh whole (also x b) left w c g =
@@ -251,9 +253,9 @@ module _ (table : List ℕ) (at i literals : ℕ) (nodes : List ℕ) (node claus
           let new-is : new ≡ putRecord code to (kindOf x) node (otherOf ss sh node x) = n ss sh x (o .literal) in
           let long : length new ≡ length code = ap length new-is ∙ record-long code to (kindOf x) node (otherOf ss sh node x) in
           let many : left ≡ suc (bodyLength b) = w .count in
-          let room : to + suc (bodyLength b) * 4 + 4 ≤ length code = o .room in
+          let room : nextLiteral (literalFrom to (suc (bodyLength b))) ≤ length code = o .room in
           let inside : node + length (literalNodes ss x) ≤ length nodes = o .inside in
-          let low : 1028 ≤ to = w .low in
+          let low : bodies ≤ to = w .low in
           record {
             rest = b;
             left = bodyLength b;
@@ -261,34 +263,35 @@ module _ (table : List ℕ) (at i literals : ℕ) (nodes : List ℕ) (node claus
               headed = headed-kept ss sh nodes clauses code new long (subst⁻¹ (SameHeads code) new-is (record-heads code to (kindOf x) node (otherOf ss sh node x) (w .low))) (w .headed);
               has = subst⁻¹ (λ (k : ℕ). Has table k (bodyWords b)) e (o .has);
               count = refl;
-              stand = subst⁻¹ (λ (k : ℕ). HasNodes nodes k (bodyNodes ss b)) f (o .stand);
+              stand = subst⁻¹ (λ (k : ℕ). Has nodes k (bodyNodes ss b)) f (o .stand);
               loadable = o .loadable;
               node = omega arith;
               low = omega arith;
               high = omega arith;
             };
             count = omega arith;
-            gives = ap₂ (λ (k : ℕ) (c : List ℕ). putBody ss sh k b c (to + 4)) f new-is ∙ g;
+            gives = ap₂ (λ (k : ℕ) (c : List ℕ). putBody ss sh k b c (nextLiteral to)) f new-is ∙ g;
           }
 
-      pub ahead-next : (ss : List Symbol) (sh : Sheet) (whole : List ℕ) → BodyAhead ss sh whole table at i literals nodes node clauses code to
-          → BodyAhead ss sh whole table next (i + 1) literals nodes (node + size) clauses new (to + 4)
-      ahead-next ss sh whole w = next-in ss sh whole (w .rest) (w .left) (w .ready) (w .count) (w .gives)
+      pub ahead-next : (ss : List Symbol) (sh : Sheet) (whole : List ℕ) (after : ℕ) → after ≡ nextLiteral to → BodyAhead ss sh whole table at i literals nodes node clauses code to
+          → BodyAhead ss sh whole table next (i + 1) literals nodes (node + size) clauses new after
+      ahead-next ss sh whole after e w =
+          subst⁻¹ (BodyAhead ss sh whole table next (i + 1) literals nodes (node + size) clauses new) e (next-in ss sh whole (w .rest) (w .left) (w .ready) (w .count) (w .gives))
 
 -- where the cursors are
-pub ahead-bounds : (ss : List Symbol) (sh : Sheet) (whole table : List ℕ) (at i literals : ℕ) (nodes : List ℕ) (node clauses : ℕ) (code : List ℕ) (to : ℕ) → BodyAhead ss sh whole table at i literals nodes node clauses code to
-    → (to + 4 ≤ length code) × ((length code ≤ 65536) × ((node ≤ 65536) × (length whole ≡ length code)))
-ahead-bounds ss sh whole table at i literals nodes node clauses code to w =
-    let a : to + w .left * 4 + 4 ≤ length code = w .ready .high in
-    let b : length code ≤ 65536 = w .ready .headed .short in
+pub ahead-bounds : {ss : List Symbol} {sh : Sheet} {whole table : List ℕ} {at i literals : ℕ} {nodes : List ℕ} {node clauses : ℕ} {code : List ℕ} {to : ℕ} → BodyAhead ss sh whole table at i literals nodes node clauses code to
+    → (nextLiteral to ≤ length code) × ((length code ≤ places) × ((node ≤ places) × (length whole ≡ length code)))
+ahead-bounds {ss} {sh} {whole} {table} {at} {i} {literals} {nodes} {node} {clauses} {code} {to} w =
+    let a : nextLiteral (literalFrom to (w .left)) ≤ length code = w .ready .high in
+    let b : length code ≤ places = w .ready .headed .short in
     let c : node ≤ length nodes = w .ready .node in
-    let d : length nodes ≤ 65536 = w .ready .headed .nodes-short in
+    let d : length nodes ≤ places = w .ready .headed .nodes-short in
     (omega arith, (omega arith, (omega arith, sym (ap length (w .gives)) ∙ body-long ss sh node (w .rest) code to)))
 
-pub ahead-end : (ss : List Symbol) (sh : Sheet) (whole table : List ℕ) (at i literals : ℕ) (nodes : List ℕ) (node clauses : ℕ) (code : List ℕ) (to : ℕ) → literals ≤ i → (new : List ℕ) → new ≡ set code to 4
+pub ahead-end : {ss : List Symbol} {sh : Sheet} {whole table : List ℕ} {at i literals : ℕ} {nodes : List ℕ} {node clauses : ℕ} {code : List ℕ} {to : ℕ} → literals ≤ i → (new : List ℕ) → new ≡ set code to endKind
     → BodyAhead ss sh whole table at i literals nodes node clauses code to → new ≡ whole
 unfolding putBody
-ahead-end ss sh whole table at i literals nodes node clauses code to l new e w = go (w .rest) (w .ready .count) (w .gives)
+ahead-end {ss} {sh} {whole} {table} {at} {i} {literals} {nodes} {node} {clauses} {code} {to} l new e w = go (w .rest) (w .ready .count) (w .gives)
   where
     go : (b : Body) → w .left ≡ bodyLength b → putBody ss sh node b code to ≡ whole → new ≡ whole
     go done c g = e ∙ g

@@ -5,13 +5,16 @@ use mathlib.Core.Path.{_≡_, sym, ap, _∙_, subst, subst⁻¹}
 use mathlib.Core.List.{List, _++_}
 use mathlib.Core.Option.{some}
 use lib.ListN.{length, getD, length-append}
+use Rattle.syntax.specs.Limits.{clauses as mostClauses, literals as mostLiterals}
 use Rattle.syntax.specs.Terms.{termOf, Body, Clause, Sheet}
 use Rattle.syntax.specs.Words.{bodyWords, bodyLength}
+use Rattle.layout.specs.Regions.{places, bodies, codeWords, nextLiteral, literalFrom}
 use Rattle.machine.specs.Machine.{clauseAt}
 use Rattle.machine.proofs.Tests.{some-none}
-use Rattle.layout.specs.Nodes.{Symbol, Stands, Has as HasNodes}
+use Rattle.words.specs.Tables.{Has}
+use Rattle.layout.specs.Nodes.{Symbol, Stands}
 use Rattle.layout.specs.Program.{bodyNodes, clausesNodes, programNodes, headAt, bodyAt, BodyStands, ClauseStands, Program}
-use Rattle.layout.proofs.Nodes.{has-left as nodes-left, has-right as nodes-right}
+use Rattle.words.proofs.Laws.{has-left, has-right}
 use Rattle.linker.specs.Linking.{Linkable}
 use Rattle.linker.specs.Records.{putPair, putBody, putHeads, putClauses}
 use Rattle.linker.specs.Places.{BodyAt, HeadsStand, Headed, BodyTo, HeadsTo, ClausesTo}
@@ -20,13 +23,13 @@ use Rattle.linker.proofs.Seeking.{heads-at}
 use Rattle.linker.proofs.Writing.{SameHeads, pair-long, pair-first, pair-heads, body-long, body-below, body-heads, body-written, body-kept, heads-long, heads-written, headed-kept, BodyPart, Kept, clauses-kept, clauses-written}
 use Rattle.linker.proofs.Turns.{end-inside}
 
-program-nodes : (ss : List Symbol) (nodes : List ℕ) (b : Body) (cls : List Clause) → HasNodes nodes 0 (bodyNodes ss b ++ clausesNodes ss cls)
-    → HasNodes nodes 0 (bodyNodes ss b) × HasNodes nodes (length (bodyNodes ss b)) (clausesNodes ss cls) × (length (bodyNodes ss b) + length (clausesNodes ss cls) ≤ length nodes)
+program-nodes : (ss : List Symbol) (nodes : List ℕ) (b : Body) (cls : List Clause) → Has nodes 0 (bodyNodes ss b ++ clausesNodes ss cls)
+    → Has nodes 0 (bodyNodes ss b) × Has nodes (length (bodyNodes ss b)) (clausesNodes ss cls) × (length (bodyNodes ss b) + length (clausesNodes ss cls) ≤ length nodes)
 program-nodes ss nodes b cls h =
     let e : length (bodyNodes ss b ++ clausesNodes ss cls) ≡ length (bodyNodes ss b) + length (clausesNodes ss cls) = length-append (bodyNodes ss b) (clausesNodes ss cls) in
     let l : 0 + length (bodyNodes ss b ++ clausesNodes ss cls) ≤ length nodes = end-inside nodes 0 (bodyNodes ss b ++ clausesNodes ss cls) (omega arith) h in (
-      nodes-left nodes 0 (bodyNodes ss b) (clausesNodes ss cls) h,
-      subst (λ (i : ℕ). HasNodes nodes i (clausesNodes ss cls)) (let z : 0 + length (bodyNodes ss b) ≡ length (bodyNodes ss b) = omega arith in z) (nodes-right nodes 0 (bodyNodes ss b) (clausesNodes ss cls) h),
+      has-left nodes 0 (bodyNodes ss b) (clausesNodes ss cls) h,
+      subst (λ (i : ℕ). Has nodes i (clausesNodes ss cls)) (let z : 0 + length (bodyNodes ss b) ≡ length (bodyNodes ss b) = omega arith in z) (has-right nodes 0 (bodyNodes ss b) (clausesNodes ss cls) h),
       omega arith,
     )
 
@@ -34,7 +37,7 @@ module _ (table : List ℕ) (clauses : ℕ) (goals : List ℕ) (literals : ℕ) 
   pub goal-at : (w : Linkable table clauses goals literals nodes code) → BodyAt goals 0 literals (w .g .body)
   goal-at w = record { has = w .has-goal; count = w .literals-count }
 
-  parts : (w : Linkable table clauses goals literals nodes code) → HasNodes nodes 0 (bodyNodes (w .ss) (w .g .body)) × HasNodes nodes (length (bodyNodes (w .ss) (w .g .body))) (clausesNodes (w .ss) (w .sh .clauses)) × (length (bodyNodes (w .ss) (w .g .body)) + length (clausesNodes (w .ss) (w .sh .clauses)) ≤ length nodes)
+  parts : (w : Linkable table clauses goals literals nodes code) → Has nodes 0 (bodyNodes (w .ss) (w .g .body)) × Has nodes (length (bodyNodes (w .ss) (w .g .body))) (clausesNodes (w .ss) (w .sh .clauses)) × (length (bodyNodes (w .ss) (w .g .body)) + length (clausesNodes (w .ss) (w .sh .clauses)) ≤ length nodes)
   unfolding programNodes
   parts w = program-nodes (w .ss) nodes (w .g .body) (w .sh .clauses) (w .nodes-stand)
 
@@ -54,17 +57,17 @@ module _ (table : List ℕ) (clauses : ℕ) (goals : List ℕ) (literals : ℕ) 
           let c : literals ≡ bodyLength (w .g .body) = w .literals-count in
           z (length (bodyNodes (w .ss) (w .g .body))) (omega arith)
 
-      clauses-stand : (w : Linkable table clauses goals literals nodes code) → HasNodes nodes node (clausesNodes (w .ss) (w .sh .clauses))
-      clauses-stand w = subst⁻¹ (λ (i : ℕ). HasNodes nodes i (clausesNodes (w .ss) (w .sh .clauses))) (node-is w) (parts w .1)
+      clauses-stand : (w : Linkable table clauses goals literals nodes code) → Has nodes node (clausesNodes (w .ss) (w .sh .clauses))
+      clauses-stand w = subst⁻¹ (λ (i : ℕ). Has nodes i (clausesNodes (w .ss) (w .sh .clauses))) (node-is w) (parts w .1)
 
       pub heads-ready : (w : Linkable table clauses goals literals nodes code) → HeadsTo (w .ss) (w .sh .clauses) table 0 node clauses code 1
       heads-ready w =
           let a : clauses ≡ length (w .sh .clauses) = w .clauses-count in
-          let b : length (w .sh .clauses) ≤ 256 = w .limits .few in
-          let c : 18504 ≤ length code = w .code-room in
+          let b : length (w .sh .clauses) ≤ mostClauses = w .limits .few in
+          let c : codeWords ≤ length code = w .code-room in
           let d : length (bodyNodes (w .ss) (w .g .body)) + length (clausesNodes (w .ss) (w .sh .clauses)) ≤ length nodes = parts w .2 in
           let e : node ≡ length (bodyNodes (w .ss) (w .g .body)) = node-is w in
-          let f : length nodes ≤ 65536 = w .nodes-short in
+          let f : length nodes ≤ places = w .nodes-short in
           record { has = w .has-clauses; few = omega arith; low = omega arith; count = omega arith; long = omega arith; node = omega arith }
 
       module _ (c1 : List ℕ) (e1 : (ss : List Symbol) (cls : List Clause) → HeadsTo ss cls table 0 node clauses code 1 → c1 ≡ putHeads ss node cls code 1) where
@@ -77,9 +80,9 @@ module _ (table : List ℕ) (clauses : ℕ) (goals : List ℕ) (literals : ℕ) 
         headed : (w : Linkable table clauses goals literals nodes code) → Headed (w .ss) (w .sh) nodes clauses c1
         headed w =
             let a : clauses ≡ length (w .sh .clauses) = w .clauses-count in
-            let b : length (w .sh .clauses) ≤ 256 = w .limits .few in
-            let c : 18504 ≤ length code = w .code-room in
-            let d : length code ≤ 65536 = w .code-short in
+            let b : length (w .sh .clauses) ≤ mostClauses = w .limits .few in
+            let c : codeWords ≤ length code = w .code-room in
+            let d : length code ≤ places = w .code-short in
             let n : length c1 ≡ length code = heads-length w in
             record {
               count = a;
@@ -90,19 +93,19 @@ module _ (table : List ℕ) (clauses : ℕ) (goals : List ℕ) (literals : ℕ) 
               nodes-short = w .nodes-short;
             }
 
-        pub pair-ready : Linkable table clauses goals literals nodes code → (1 + 1 < length c1) × ((1028 < 4294967296) × (0 < 4294967296))
-        pair-ready w = let n : length c1 ≡ length code = heads-length w in let c : 18504 ≤ length code = w .code-room in (omega arith, (omega arith, omega arith))
+        pub pair-ready : Linkable table clauses goals literals nodes code → (1 + 1 < length c1) × ((bodies < 4294967296) × (0 < 4294967296))
+        pair-ready w = let n : length c1 ≡ length code = heads-length w in let c : codeWords ≤ length code = w .code-room in (omega arith, (omega arith, omega arith))
 
-        module _ (c2 : List ℕ) (e2 : c2 ≡ putPair c1 1 1028 0) where
-          pub goal-ready : (w : Linkable table clauses goals literals nodes code) → BodyTo (w .ss) (w .sh) (w .g .body) goals 0 literals nodes 0 clauses c2 1028
+        module _ (c2 : List ℕ) (e2 : c2 ≡ putPair c1 1 bodies 0) where
+          pub goal-ready : (w : Linkable table clauses goals literals nodes code) → BodyTo (w .ss) (w .sh) (w .g .body) goals 0 literals nodes 0 clauses c2 bodies
           goal-ready w =
-              let n : length c2 ≡ length c1 = ap length e2 ∙ pair-long c1 1 1028 0 in
+              let n : length c2 ≡ length c1 = ap length e2 ∙ pair-long c1 1 bodies 0 in
               let m : length c1 ≡ length code = heads-length w in
-              let c : 18504 ≤ length code = w .code-room in
+              let c : codeWords ≤ length code = w .code-room in
               let a : literals ≡ bodyLength (w .g .body) = w .literals-count in
-              let b : bodyLength (w .g .body) ≤ 16 = w .goal-limits .few in
+              let b : bodyLength (w .g .body) ≤ mostLiterals = w .goal-limits .few in
               record {
-                headed = headed-kept (w .ss) (w .sh) nodes clauses c1 c2 n (subst⁻¹ (SameHeads c1) e2 (pair-heads c1 0 1028 0)) (headed w);
+                headed = headed-kept (w .ss) (w .sh) nodes clauses c1 c2 n (subst⁻¹ (SameHeads c1) e2 (pair-heads c1 0 bodies 0)) (headed w);
                 has = w .has-goal;
                 count = a;
                 stand = parts w .0;
@@ -112,18 +115,18 @@ module _ (table : List ℕ) (clauses : ℕ) (goals : List ℕ) (literals : ℕ) 
                 high = omega arith;
               }
 
-          module _ (c3 : List ℕ) (e3 : (ss : List Symbol) (sh : Sheet) (b : Body) → BodyTo ss sh b goals 0 literals nodes 0 clauses c2 1028 → c3 ≡ putBody ss sh 0 b c2 1028) where
-            body-is : (w : Linkable table clauses goals literals nodes code) → c3 ≡ putBody (w .ss) (w .sh) 0 (w .g .body) c2 1028
+          module _ (c3 : List ℕ) (e3 : (ss : List Symbol) (sh : Sheet) (b : Body) → BodyTo ss sh b goals 0 literals nodes 0 clauses c2 bodies → c3 ≡ putBody ss sh 0 b c2 bodies) where
+            body-is : (w : Linkable table clauses goals literals nodes code) → c3 ≡ putBody (w .ss) (w .sh) 0 (w .g .body) c2 bodies
             body-is w = e3 (w .ss) (w .sh) (w .g .body) (goal-ready w)
 
             body-length : (w : Linkable table clauses goals literals nodes code) → length c3 ≡ length c2
-            body-length w = ap length (body-is w) ∙ body-long (w .ss) (w .sh) 0 (w .g .body) c2 1028
+            body-length w = ap length (body-is w) ∙ body-long (w .ss) (w .sh) 0 (w .g .body) c2 bodies
 
             pub clauses-ready : (w : Linkable table clauses goals literals nodes code) → ClausesTo (w .ss) (w .sh) (w .sh .clauses) table 0 nodes node clauses c3 1
             clauses-ready w =
                 let a : clauses ≡ length (w .sh .clauses) = w .clauses-count in
                 record {
-                  headed = headed-kept (w .ss) (w .sh) nodes clauses c2 c3 (body-length w) (subst⁻¹ (SameHeads c2) (body-is w) (body-heads (w .ss) (w .sh) 0 (w .g .body) c2 1028 (omega arith))) (goal-ready w .headed);
+                  headed = headed-kept (w .ss) (w .sh) nodes clauses c2 c3 (body-length w) (subst⁻¹ (SameHeads c2) (body-is w) (body-heads (w .ss) (w .sh) 0 (w .g .body) c2 bodies (omega arith))) (goal-ready w .headed);
                   has = w .has-clauses;
                   stand = clauses-stand w;
                   loadable = w .clauses-loadable;
@@ -132,17 +135,17 @@ module _ (table : List ℕ) (clauses : ℕ) (goals : List ℕ) (literals : ℕ) 
                   count = omega arith;
                 }
 
-            goal-stands : (w : Linkable table clauses goals literals nodes code) → BodyStands (w .ss) (w .sh) nodes c3 1028 (w .g .body)
+            goal-stands : (w : Linkable table clauses goals literals nodes code) → BodyStands (w .ss) (w .sh) nodes c3 bodies (w .g .body)
             goal-stands w =
-                let h : 1028 + literals * 4 + 4 ≤ length c2 = goal-ready w .high in
+                let h : nextLiteral (literalFrom bodies literals) ≤ length c2 = goal-ready w .high in
                 let a : literals ≡ bodyLength (w .g .body) = w .literals-count in
-                subst⁻¹ (λ (i : List ℕ). BodyStands (w .ss) (w .sh) nodes i 1028 (w .g .body)) (body-is w) (body-written (w .ss) (w .sh) nodes 0 (w .g .body) c2 1028 (parts w .0) (w .goal-loadable) (w .goal-limits .each) (omega arith))
+                subst⁻¹ (λ (i : List ℕ). BodyStands (w .ss) (w .sh) nodes i bodies (w .g .body)) (body-is w) (body-written (w .ss) (w .sh) nodes 0 (w .g .body) c2 bodies (parts w .0) (w .goal-loadable) (w .goal-limits .each) (omega arith))
 
-            goal-place : (w : Linkable table clauses goals literals nodes code) → getD c3 1 0 ≡ 1028
+            goal-place : (w : Linkable table clauses goals literals nodes code) → getD c3 1 0 ≡ bodies
             goal-place w =
                 let m : length c1 ≡ length code = heads-length w in
-                let c : 18504 ≤ length code = w .code-room in
-                ap (λ (i : List ℕ). getD i 1 0) (body-is w) ∙ (body-below (w .ss) (w .sh) 0 (w .g .body) c2 1028 1 (omega arith) ∙ (ap (λ (i : List ℕ). getD i 1 0) e2 ∙ pair-first c1 1 1028 0 (omega arith)))
+                let c : codeWords ≤ length code = w .code-room in
+                ap (λ (i : List ℕ). getD i 1 0) (body-is w) ∙ (body-below (w .ss) (w .sh) 0 (w .g .body) c2 bodies 1 (omega arith) ∙ (ap (λ (i : List ℕ). getD i 1 0) e2 ∙ pair-first c1 1 bodies 0 (omega arith)))
 
             module _ (c4 : List ℕ) (e4 : (ss : List Symbol) (sh : Sheet) (cls : List Clause) → ClausesTo ss sh cls table 0 nodes node clauses c3 1 → c4 ≡ putClauses ss sh node cls c3 1) where
               clauses-is : (w : Linkable table clauses goals literals nodes code) → c4 ≡ putClauses (w .ss) (w .sh) node (w .sh .clauses) c3 1
@@ -150,15 +153,15 @@ module _ (table : List ℕ) (clauses : ℕ) (goals : List ℕ) (literals : ℕ) 
 
               kept : (w : Linkable table clauses goals literals nodes code) → Kept c3 c4 1
               kept w =
-                  let b : length (w .sh .clauses) ≤ 256 = w .limits .few in
+                  let b : length (w .sh .clauses) ≤ mostClauses = w .limits .few in
                   subst⁻¹ (λ (i : List ℕ). Kept c3 i 1) (clauses-is w) (clauses-kept (w .ss) (w .sh) node (w .sh .clauses) c3 1 (omega arith))
 
               clause-stands : (w : Linkable table clauses goals literals nodes code) (k : ℕ) (cl : Clause) → clauseAt (w .sh) k ≡ some cl → ClauseStands (w .ss) (w .sh) nodes c4 k cl
               unfolding clauseAt
               clause-stands w zero cl e = absurd (some-none cl (sym e))
               clause-stands w (suc n) cl e =
-                  let b : length (w .sh .clauses) ≤ 256 = w .limits .few in
-                  let r : 18504 ≤ length c3 = clauses-ready w .headed .room in
+                  let b : length (w .sh .clauses) ≤ mostClauses = w .limits .few in
+                  let r : codeWords ≤ length c3 = clauses-ready w .headed .room in
                   let part : BodyPart (w .ss) (w .sh) nodes c4 (suc n) cl =
                   subst (λ (i : ℕ). BodyPart (w .ss) (w .sh) nodes c4 i cl) (let q : 1 + n ≡ suc n = omega arith in q)
                   (subst⁻¹ (λ (i : List ℕ). BodyPart (w .ss) (w .sh) nodes i (1 + n) cl) (clauses-is w) (clauses-written (w .ss) (w .sh) nodes node (w .sh .clauses) c3 1 (clauses-stand w) (w .clauses-loadable) (w .limits .clauses) (omega arith) r n cl e)) in
@@ -172,15 +175,15 @@ module _ (table : List ℕ) (clauses : ℕ) (goals : List ℕ) (literals : ℕ) 
               pub program : (w : Linkable table clauses goals literals nodes code) → Program (w .ss) (w .sh) (w .g) nodes c4
               program w =
                   let a : length c4 ≡ length c3 = kept w .long in
-                  let r : 18504 ≤ length c3 = clauses-ready w .headed .room in
-                  let s3 : length c3 ≤ 65536 = clauses-ready w .headed .short in
-                  let b : bodyLength (w .g .body) ≤ 16 = w .goal-limits .few in
-                  let place : bodyAt c4 0 ≡ 1028 = kept w .records 1 (omega arith) ∙ goal-place w in
+                  let r : codeWords ≤ length c3 = clauses-ready w .headed .room in
+                  let s3 : length c3 ≤ places = clauses-ready w .headed .short in
+                  let b : bodyLength (w .g .body) ≤ mostLiterals = w .goal-limits .few in
+                  let place : bodyAt c4 0 ≡ bodies = kept w .records 1 (omega arith) ∙ goal-place w in
                   record {
                     small = w .nodes-short;
                     long = omega arith;
                     short = omega arith;
                     few = w .limits .few;
-                    goal = subst⁻¹ (λ (i : ℕ). BodyStands (w .ss) (w .sh) nodes c4 i (w .g .body)) place (body-kept (w .ss) (w .sh) nodes c3 c4 1028 (w .g .body) a (λ i u v. kept w .bodies i u (omega arith)) (goal-stands w));
+                    goal = subst⁻¹ (λ (i : ℕ). BodyStands (w .ss) (w .sh) nodes c4 i (w .g .body)) place (body-kept (w .ss) (w .sh) nodes c3 c4 bodies (w .g .body) a (λ i u v. kept w .bodies i u (omega arith)) (goal-stands w));
                     clause = clause-stands w;
                   }

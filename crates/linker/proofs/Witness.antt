@@ -4,10 +4,11 @@ use native.Mathlib.Omega.{arith}
 use mathlib.Core.Path.{_≡_, refl}
 use mathlib.Core.List.{List, [], _∷_}
 use lib.ListN.{length, replicate, length-replicate}
+use Rattle.syntax.specs.Limits.{arguments, variables, declarations}
 use Rattle.syntax.specs.Quote.{bytes}
 use Rattle.syntax.specs.Terms.{Atom, nil, call, done, also, Sheet, Goal, sameBytes}
-use Rattle.syntax.specs.Words.{termWords, literalWords, bodyWords, clauseWords, clausesWords}
-use Rattle.marking.specs.Tables.{Has}
+use Rattle.syntax.specs.Words.{termWords, literalWords, bodyWords, clauseWords, clausesWords, firstName}
+use Rattle.layout.specs.Regions.{codeWords}
 use Rattle.layout.specs.Nodes.{Symbol, symbolOf, isSymbol, isListed, loadedWords, isLoadable, bracketsOf}
 use Rattle.layout.specs.Program.{literalNodes, bodyNodes, clauseNodes, clausesNodes, programNodes, literalLoadable, bodyLoadable, clausesLoadable}
 use Rattle.linker.specs.Linking.{Linkable}
@@ -32,26 +33,26 @@ abbrev goals : List ℕ
 goals = 2 ∷ 65 ∷ 3 ∷ 0 ∷ []
 
 abbrev nodes : List ℕ
-nodes = 64 ∷ 2 ∷ 64 ∷ 2 ∷ []
+nodes = firstName ∷ 2 ∷ firstName ∷ 2 ∷ []
 
 unfoldable pub code : List ℕ
-code = replicate 18504 0
+code = replicate codeWords 0
 
-code-long : length code ≡ 18504
+code-long : length code ≡ codeWords
 unfolding code
-code-long = length-replicate {A = ℕ} 18504 0
+code-long = length-replicate {A = ℕ} codeWords 0
 
 pub witness : Linkable table 1 goals 1 nodes code
-unfolding Has clausesWords clauseWords termWords bodyWords literalWords loadedWords symbolOf isSymbol isListed isLoadable bracketsOf sameBytes literalNodes bodyNodes clauseNodes clausesNodes programNodes literalLoadable bodyLoadable clausesLoadable
+unfolding clausesWords clauseWords termWords bodyWords literalWords loadedWords symbolOf isSymbol isListed isLoadable bracketsOf sameBytes literalNodes bodyNodes clauseNodes clausesNodes programNodes literalLoadable bodyLoadable clausesLoadable
 witness =
-    let l : length code ≡ 18504 = code-long in
+    let l : length code ≡ codeWords = code-long in
     record {
       ss = symbols;
       sh = sheet;
       g = goal;
-      has-clauses = (omega arith, (refl, (omega arith, (refl, (omega arith, (refl, (omega arith, (refl, (omega arith, (refl, (omega arith, (refl, tt))))))))))));
+      has-clauses = (omega arith, refl, (omega arith, refl, (omega arith, refl, (omega arith, refl, (omega arith, refl, (omega arith, refl, tt))))));
       clauses-count = refl;
-      has-goal = (omega arith, (refl, (omega arith, (refl, (omega arith, (refl, (omega arith, (refl, tt))))))));
+      has-goal = (omega arith, refl, (omega arith, refl, (omega arith, refl, (omega arith, refl, tt))));
       literals-count = refl;
       limits = record { clauses = (record { head = omega arith; body = record { each = tt; few = omega arith } }, tt); few = omega arith };
       goal-limits = record { each = (omega arith, tt); few = omega arith };

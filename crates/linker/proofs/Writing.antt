@@ -8,14 +8,17 @@ use mathlib.Core.Option.{some}
 use lib.Dec.{T}
 use lib.ListN.{length, getD, set, length-set}
 use lib.Seq.{getD-set-same, getD-set-other}
+use Rattle.syntax.specs.Limits.{clauses as mostClauses, literals as mostLiterals}
 use Rattle.syntax.specs.Terms.{termOf, Literal, call, equation, truth, falsity, Body, done, also, Clause, Sheet}
 use Rattle.syntax.specs.Words.{bodyLength}
+use Rattle.layout.specs.Regions.{places, endKind, bodies, codeWords, nextLiteral, clauseRecord, literalFrom}
 use Rattle.machine.specs.Machine.{nextFor, nth}
 use Rattle.machine.proofs.Tests.{both, some-eq, some-none}
-use Rattle.layout.specs.Nodes.{Symbol, loadedWords, isLoadable, Stands, Has}
+use Rattle.words.specs.Tables.{Has}
+use Rattle.layout.specs.Nodes.{Symbol, loadedWords, isLoadable, Stands}
 use Rattle.layout.specs.Limits.{LiteralLimited, EachLimited, ClauseLimited, ClausesLimited}
 use Rattle.layout.specs.Program.{literalNodes, bodyNodes, clauseNodes, clausesNodes, literalLoadable, bodyLoadable, clausesLoadable, headAt, bodyAt, afterAt, kindAt, placeAt, otherAt, LiteralStands, BodyStands}
-use Rattle.layout.proofs.Nodes.{has-left, has-right}
+use Rattle.words.proofs.Laws.{has-left, has-right}
 use Rattle.linker.specs.Records.{putPair, putRecord, kindOf, otherOf, putBody, bodyPlace, putHeads, putClause, putClauses}
 use Rattle.linker.specs.Places.{HeadsStand, Headed}
 
@@ -47,11 +50,11 @@ module _ (code : List ℕ) (l kind place other : ℕ) where
   unfolding putRecord
   record-below i k = pair-other (set code l kind) (l + 1) place other i (λ e. omega arith) (λ e. omega arith) ∙ getD-set-other code l i kind 0 (λ e. omega arith)
 
-  pub record-above : (i : ℕ) → l + 4 ≤ i → getD (putRecord code l kind place other) i 0 ≡ getD code i 0
+  pub record-above : (i : ℕ) → nextLiteral l ≤ i → getD (putRecord code l kind place other) i 0 ≡ getD code i 0
   unfolding putRecord
   record-above i k = pair-other (set code l kind) (l + 1) place other i (λ e. omega arith) (λ e. omega arith) ∙ getD-set-other code l i kind 0 (λ e. omega arith)
 
-  module _ (room : l + 4 ≤ length code) where
+  module _ (room : nextLiteral l ≤ length code) where
     long : length (set code l kind) ≡ length code
     long = simp length-set
 
@@ -76,23 +79,23 @@ module _ (ss : List Symbol) (sh : Sheet) where
   unfolding putBody
   body-long q done code l = simp length-set
   body-long q (also x b) code l =
-      body-long (q + length (literalNodes ss x)) b (putRecord code l (kindOf x) q (otherOf ss sh q x)) (l + 4) ∙ record-long code l (kindOf x) q (otherOf ss sh q x)
+      body-long (q + length (literalNodes ss x)) b (putRecord code l (kindOf x) q (otherOf ss sh q x)) (nextLiteral l) ∙ record-long code l (kindOf x) q (otherOf ss sh q x)
 
   pub body-below : (q : ℕ) (b : Body) (code : List ℕ) (l i : ℕ) → i < l → getD (putBody ss sh q b code l) i 0 ≡ getD code i 0
   unfolding putBody
-  body-below q done code l i k = getD-set-other code l i 4 0 (λ e. omega arith)
+  body-below q done code l i k = getD-set-other code l i endKind 0 (λ e. omega arith)
   body-below q (also x b) code l i k =
-      body-below (q + length (literalNodes ss x)) b (putRecord code l (kindOf x) q (otherOf ss sh q x)) (l + 4) i (omega arith) ∙ record-below code l (kindOf x) q (otherOf ss sh q x) i k
+      body-below (q + length (literalNodes ss x)) b (putRecord code l (kindOf x) q (otherOf ss sh q x)) (nextLiteral l) i (omega arith) ∙ record-below code l (kindOf x) q (otherOf ss sh q x) i k
 
-  pub body-above : (q : ℕ) (b : Body) (code : List ℕ) (l i : ℕ) → l + bodyLength b * 4 + 4 ≤ i → getD (putBody ss sh q b code l) i 0 ≡ getD code i 0
+  pub body-above : (q : ℕ) (b : Body) (code : List ℕ) (l i : ℕ) → nextLiteral (literalFrom l (bodyLength b)) ≤ i → getD (putBody ss sh q b code l) i 0 ≡ getD code i 0
   unfolding putBody
-  body-above q done code l i k = let z : l + 0 * 4 + 4 ≤ i = k in getD-set-other code l i 4 0 (λ e. omega arith)
+  body-above q done code l i k = let z : nextLiteral (literalFrom l 0) ≤ i = k in getD-set-other code l i endKind 0 (λ e. omega arith)
   body-above q (also x b) code l i k =
-      let z : l + suc (bodyLength b) * 4 + 4 ≤ i = k in
-      body-above (q + length (literalNodes ss x)) b (putRecord code l (kindOf x) q (otherOf ss sh q x)) (l + 4) i (omega arith) ∙ record-above code l (kindOf x) q (otherOf ss sh q x) i (omega arith)
+      let z : nextLiteral (literalFrom l (suc (bodyLength b))) ≤ i = k in
+      body-above (q + length (literalNodes ss x)) b (putRecord code l (kindOf x) q (otherOf ss sh q x)) (nextLiteral l) i (omega arith) ∙ record-above code l (kindOf x) q (otherOf ss sh q x) i (omega arith)
 
 module _ (ss : List Symbol) (sh : Sheet) (nodes : List ℕ) where
-  literal-written : (q : ℕ) (x : Literal) (code : List ℕ) (l : ℕ) → Has nodes q (literalNodes ss x) → T (literalLoadable ss x) → LiteralLimited x → l + 4 ≤ length code
+  literal-written : (q : ℕ) (x : Literal) (code : List ℕ) (l : ℕ) → Has nodes q (literalNodes ss x) → T (literalLoadable ss x) → LiteralLimited x → nextLiteral l ≤ length code
       → LiteralStands ss sh nodes (putRecord code l (kindOf x) q (otherOf ss sh q x)) l x
   unfolding literalNodes literalLoadable otherOf
   literal-written q truth code l h k s r = record-kind code l 0 q 0 r
@@ -109,7 +112,7 @@ module _ (ss : List Symbol) (sh : Sheet) (nodes : List ℕ) where
         subst⁻¹ (λ (i : ℕ). Stands ss nodes i u) (record-other code l 3 q (q + length (loadedWords ss t)) r) (record { words = has-right nodes q (loadedWords ss t) (loadedWords ss u) h; loadable = ok .1; shallow = s .1 }),
       )
 
-  literal-kept : (code new : List ℕ) (l : ℕ) (x : Literal) → ((i : ℕ) → l ≤ i → i < l + 4 → getD new i 0 ≡ getD code i 0) → LiteralStands ss sh nodes code l x
+  literal-kept : (code new : List ℕ) (l : ℕ) (x : Literal) → ((i : ℕ) → l ≤ i → i < nextLiteral l → getD new i 0 ≡ getD code i 0) → LiteralStands ss sh nodes code l x
       → LiteralStands ss sh nodes new l x
   literal-kept code new l truth f h = f l (omega arith) (omega arith) ∙ h
   literal-kept code new l falsity f h = f l (omega arith) (omega arith) ∙ h
@@ -125,42 +128,42 @@ module _ (ss : List Symbol) (sh : Sheet) (nodes : List ℕ) where
   )
 
   -- what was written is the body
-  pub body-written : (q : ℕ) (b : Body) (code : List ℕ) (l : ℕ) → Has nodes q (bodyNodes ss b) → T (bodyLoadable ss b) → EachLimited b → l + bodyLength b * 4 + 4 ≤ length code
+  pub body-written : (q : ℕ) (b : Body) (code : List ℕ) (l : ℕ) → Has nodes q (bodyNodes ss b) → T (bodyLoadable ss b) → EachLimited b → nextLiteral (literalFrom l (bodyLength b)) ≤ length code
       → BodyStands ss sh nodes (putBody ss sh q b code l) l b
   unfolding putBody bodyNodes bodyLoadable
   body-written q done code l h k s r =
-      let z : l + 0 * 4 + 4 ≤ length code = r in
-      let n : length (set code l 4) ≡ length code = simp length-set in
+      let z : nextLiteral (literalFrom l 0) ≤ length code = r in
+      let n : length (set code l endKind) ≡ length code = simp length-set in
       (omega arith, getD-set-same code l 4 0 (omega arith))
   body-written q (also x b) code l h k s r =
-      let z : l + suc (bodyLength b) * 4 + 4 ≤ length code = r in
+      let z : nextLiteral (literalFrom l (suc (bodyLength b))) ≤ length code = r in
       let ok : T (literalLoadable ss x) × T (bodyLoadable ss b) = both (literalLoadable ss x) (bodyLoadable ss b) k in
       let n : length (putRecord code l (kindOf x) q (otherOf ss sh q x)) ≡ length code = record-long code l (kindOf x) q (otherOf ss sh q x) in
-      let m : length (putBody ss sh (q + length (literalNodes ss x)) b (putRecord code l (kindOf x) q (otherOf ss sh q x)) (l + 4)) ≡ length (putRecord code l (kindOf x) q (otherOf ss sh q x)) =
-      body-long ss sh (q + length (literalNodes ss x)) b (putRecord code l (kindOf x) q (otherOf ss sh q x)) (l + 4) in (
+      let m : length (putBody ss sh (q + length (literalNodes ss x)) b (putRecord code l (kindOf x) q (otherOf ss sh q x)) (nextLiteral l)) ≡ length (putRecord code l (kindOf x) q (otherOf ss sh q x)) =
+      body-long ss sh (q + length (literalNodes ss x)) b (putRecord code l (kindOf x) q (otherOf ss sh q x)) (nextLiteral l) in (
         omega arith,
-        literal-kept (putRecord code l (kindOf x) q (otherOf ss sh q x)) (putBody ss sh (q + length (literalNodes ss x)) b (putRecord code l (kindOf x) q (otherOf ss sh q x)) (l + 4)) l x
-            (λ i a u. body-below ss sh (q + length (literalNodes ss x)) b (putRecord code l (kindOf x) q (otherOf ss sh q x)) (l + 4) i u)
+        literal-kept (putRecord code l (kindOf x) q (otherOf ss sh q x)) (putBody ss sh (q + length (literalNodes ss x)) b (putRecord code l (kindOf x) q (otherOf ss sh q x)) (nextLiteral l)) l x
+            (λ i a u. body-below ss sh (q + length (literalNodes ss x)) b (putRecord code l (kindOf x) q (otherOf ss sh q x)) (nextLiteral l) i u)
             (literal-written q x code l (has-left nodes q (literalNodes ss x) (bodyNodes ss b) h) (ok .0) (s .0) (omega arith)),
-        body-written (q + length (literalNodes ss x)) b (putRecord code l (kindOf x) q (otherOf ss sh q x)) (l + 4) (has-right nodes q (literalNodes ss x) (bodyNodes ss b) h) (ok .1) (s .1) (omega arith),
+        body-written (q + length (literalNodes ss x)) b (putRecord code l (kindOf x) q (otherOf ss sh q x)) (nextLiteral l) (has-right nodes q (literalNodes ss x) (bodyNodes ss b) h) (ok .1) (s .1) (omega arith),
       )
 
   -- it stays where its words stay
-  pub body-kept : (code new : List ℕ) (l : ℕ) (b : Body) → length new ≡ length code → ((i : ℕ) → l ≤ i → i < l + bodyLength b * 4 + 4 → getD new i 0 ≡ getD code i 0)
+  pub body-kept : (code new : List ℕ) (l : ℕ) (b : Body) → length new ≡ length code → ((i : ℕ) → l ≤ i → i < nextLiteral (literalFrom l (bodyLength b)) → getD new i 0 ≡ getD code i 0)
       → BodyStands ss sh nodes code l b → BodyStands ss sh nodes new l b
-  body-kept code new l done n f h = let z : l + 4 ≤ length code = h .0 in (omega arith, f l (omega arith) (omega arith) ∙ h .1)
+  body-kept code new l done n f h = let z : nextLiteral l ≤ length code = h .0 in (omega arith, f l (omega arith) (omega arith) ∙ h .1)
   body-kept code new l (also x b) n f h =
-      let z : l + 4 ≤ length code = h .0 in (
+      let z : nextLiteral l ≤ length code = h .0 in (
         omega arith,
-        literal-kept code new l x (λ i a u. f i a (let k : i < l + suc (bodyLength b) * 4 + 4 = omega arith in k)) (h .1),
-        body-kept code new (l + 4) b n (λ i a u. f i (omega arith) (let k : i < l + suc (bodyLength b) * 4 + 4 = omega arith in k)) (h .2),
+        literal-kept code new l x (λ i a u. f i a (let k : i < nextLiteral (literalFrom l (suc (bodyLength b))) = omega arith in k)) (h .1),
+        body-kept code new (nextLiteral l) b n (λ i a u. f i (omega arith) (let k : i < nextLiteral (literalFrom l (suc (bodyLength b))) = omega arith in k)) (h .2),
       )
 
 -- ---- heads
 
 -- the places of the heads stay
 abbrev pub SameHeads : List ℕ → List ℕ → Type 0
-SameHeads code new = (j : ℕ) → j ≤ 256 → headAt new j ≡ headAt code j
+SameHeads code new = (j : ℕ) → j ≤ mostClauses → headAt new j ≡ headAt code j
 
 module _ (ss : List Symbol) (nodes : List ℕ) where
   pub heads-kept : (code new : List ℕ) → SameHeads code new → (k : ℕ) (cls : List Clause) → k + length cls ≤ 257 → HeadsStand ss nodes code k cls → HeadsStand ss nodes new k cls
@@ -172,9 +175,9 @@ module _ (ss : List Symbol) (nodes : List ℕ) where
 pub headed-kept : (ss : List Symbol) (sh : Sheet) (nodes : List ℕ) (clauses : ℕ) (code new : List ℕ) → length new ≡ length code → SameHeads code new → Headed ss sh nodes clauses code → Headed ss sh nodes clauses new
 headed-kept ss sh nodes clauses code new n f w =
     let e : clauses ≡ length (sh .clauses) = w .count in
-    let few : clauses ≤ 256 = w .few in
-    let room : 18504 ≤ length code = w .room in
-    let short : length code ≤ 65536 = w .short in
+    let few : clauses ≤ mostClauses = w .few in
+    let room : codeWords ≤ length code = w .room in
+    let short : length code ≤ places = w .short in
     record {
       count = w .count;
       few = w .few;
@@ -185,41 +188,41 @@ headed-kept ss sh nodes clauses code new n f w =
     }
 
 -- a record or a body behind the clauses leaves the heads
-pub record-heads : (code : List ℕ) (l kind place other : ℕ) → 1028 ≤ l → SameHeads code (putRecord code l kind place other)
-record-heads code l kind place other r j k = record-below code l kind place other (j * 4) (omega arith)
+pub record-heads : (code : List ℕ) (l kind place other : ℕ) → bodies ≤ l → SameHeads code (putRecord code l kind place other)
+record-heads code l kind place other r j k = record-below code l kind place other (clauseRecord j) (omega arith)
 
-pub body-heads : (ss : List Symbol) (sh : Sheet) (q : ℕ) (b : Body) (code : List ℕ) (l : ℕ) → 1028 ≤ l → SameHeads code (putBody ss sh q b code l)
-body-heads ss sh q b code l r j k = body-below ss sh q b code l (j * 4) (omega arith)
+pub body-heads : (ss : List Symbol) (sh : Sheet) (q : ℕ) (b : Body) (code : List ℕ) (l : ℕ) → bodies ≤ l → SameHeads code (putBody ss sh q b code l)
+body-heads ss sh q b code l r j k = body-below ss sh q b code l (clauseRecord j) (omega arith)
 
-pub pair-heads : (code : List ℕ) (k a b : ℕ) → SameHeads code (putPair code (k * 4 + 1) a b)
-pair-heads code k a b j l = pair-other code (k * 4 + 1) a b (j * 4) (λ e. omega arith) (λ e. omega arith)
+pub pair-heads : (code : List ℕ) (k a b : ℕ) → SameHeads code (putPair code (clauseRecord k + 1) a b)
+pair-heads code k a b j l = pair-other code (clauseRecord k + 1) a b (clauseRecord j) (λ e. omega arith) (λ e. omega arith)
 
 module _ (ss : List Symbol) where
   pub heads-long : (q : ℕ) (cls : List Clause) (code : List ℕ) (k : ℕ) → length (putHeads ss q cls code k) ≡ length code
   unfolding putHeads
   heads-long q [] code k = refl
-  heads-long q (cl ∷ cls) code k = heads-long (q + length (clauseNodes ss cl)) cls (set code (k * 4) q) (k + 1) ∙ simp length-set
+  heads-long q (cl ∷ cls) code k = heads-long (q + length (clauseNodes ss cl)) cls (set code (clauseRecord k) q) (k + 1) ∙ simp length-set
 
-  heads-below : (q : ℕ) (cls : List Clause) (code : List ℕ) (k i : ℕ) → i < k * 4 → getD (putHeads ss q cls code k) i 0 ≡ getD code i 0
+  heads-below : (q : ℕ) (cls : List Clause) (code : List ℕ) (k i : ℕ) → i < clauseRecord k → getD (putHeads ss q cls code k) i 0 ≡ getD code i 0
   unfolding putHeads
   heads-below q [] code k i l = refl
   heads-below q (cl ∷ cls) code k i l =
-      heads-below (q + length (clauseNodes ss cl)) cls (set code (k * 4) q) (k + 1) i (omega arith) ∙ getD-set-other code (k * 4) i q 0 (λ e. omega arith)
+      heads-below (q + length (clauseNodes ss cl)) cls (set code (clauseRecord k) q) (k + 1) i (omega arith) ∙ getD-set-other code (clauseRecord k) i q 0 (λ e. omega arith)
 
   pub heads-written : (nodes : List ℕ) (q : ℕ) (cls : List Clause) (code : List ℕ) (k : ℕ) → Has nodes q (clausesNodes ss cls) → T (clausesLoadable ss cls) → ClausesLimited cls
-      → k + length cls ≤ 257 → 1028 ≤ length code → HeadsStand ss nodes (putHeads ss q cls code k) k cls
+      → k + length cls ≤ 257 → bodies ≤ length code → HeadsStand ss nodes (putHeads ss q cls code k) k cls
   unfolding putHeads clausesNodes clausesLoadable clauseNodes
   heads-written nodes q [] code k h t s l r = tt
   heads-written nodes q (cl ∷ cls) code k h t s l r =
       let z : k + suc (length cls) ≤ 257 = l in
-      let n : length (set code (k * 4) q) ≡ length code = simp length-set in
+      let n : length (set code (clauseRecord k) q) ≡ length code = simp length-set in
       let oks : T (isLoadable ss (termOf (cl .head)) && bodyLoadable ss (cl .body)) × T (clausesLoadable ss cls) = both (isLoadable ss (termOf (cl .head)) && bodyLoadable ss (cl .body)) (clausesLoadable ss cls) t in
       let ok : T (isLoadable ss (termOf (cl .head))) × T (bodyLoadable ss (cl .body)) = both (isLoadable ss (termOf (cl .head))) (bodyLoadable ss (cl .body)) (oks .0) in
       let first : Has nodes q (clauseNodes ss cl) = has-left nodes q (clauseNodes ss cl) (clausesNodes ss cls) h in
-      let e : getD (putHeads ss (q + length (clauseNodes ss cl)) cls (set code (k * 4) q) (k + 1)) (k * 4) 0 ≡ q =
-      heads-below (q + length (clauseNodes ss cl)) cls (set code (k * 4) q) (k + 1) (k * 4) (omega arith) ∙ getD-set-same code (k * 4) q 0 (omega arith) in (
+      let e : getD (putHeads ss (q + length (clauseNodes ss cl)) cls (set code (clauseRecord k) q) (k + 1)) (clauseRecord k) 0 ≡ q =
+      heads-below (q + length (clauseNodes ss cl)) cls (set code (clauseRecord k) q) (k + 1) (clauseRecord k) (omega arith) ∙ getD-set-same code (clauseRecord k) q 0 (omega arith) in (
         subst⁻¹ (λ (i : ℕ). Stands ss nodes i (termOf (cl .head))) e (record { words = has-left nodes q (loadedWords ss (termOf (cl .head))) (bodyNodes ss (cl .body)) first; loadable = ok .0; shallow = s .0 .head }),
-        heads-written nodes (q + length (clauseNodes ss cl)) cls (set code (k * 4) q) (k + 1) (has-right nodes q (clauseNodes ss cl) (clausesNodes ss cls) h) (oks .1) (s .1) (omega arith) (omega arith),
+        heads-written nodes (q + length (clauseNodes ss cl)) cls (set code (clauseRecord k) q) (k + 1) (has-right nodes q (clauseNodes ss cl) (clausesNodes ss cls) h) (oks .1) (s .1) (omega arith) (omega arith),
       )
 
 -- ---- clauses
@@ -233,20 +236,20 @@ pub record BodyPart (ss : List Symbol) (sh : Sheet) (nodes code : List ℕ) (k :
 -- The clauses from number k on leave the words of those before: their records, and their bodies; and the places of all heads.
 pub record Kept (code new : List ℕ) (k : ℕ) : Type 0 where
   pub long : length new ≡ length code
-  pub records : (i : ℕ) → i < k * 4 → getD new i 0 ≡ getD code i 0
-  pub bodies : (i : ℕ) → 1028 ≤ i → i < bodyPlace k → getD new i 0 ≡ getD code i 0
+  pub records : (i : ℕ) → i < clauseRecord k → getD new i 0 ≡ getD code i 0
+  pub bodies : (i : ℕ) → bodies ≤ i → i < bodyPlace k → getD new i 0 ≡ getD code i 0
   pub heads : SameHeads code new
 
 module _ (ss : List Symbol) (sh : Sheet) where
-  pub clause-kept : (q : ℕ) (cl : Clause) (code : List ℕ) (k : ℕ) → k ≤ 256 → Kept code (putClause ss sh q cl code k) k
+  pub clause-kept : (q : ℕ) (cl : Clause) (code : List ℕ) (k : ℕ) → k ≤ mostClauses → Kept code (putClause ss sh q cl code k) k
   unfolding putClause
   clause-kept q cl code k l = record {
-    long = body-long ss sh (q + length (loadedWords ss (termOf (cl .head)))) (cl .body) (putPair code (k * 4 + 1) (bodyPlace k) (nextFor sh (cl .head) k)) (bodyPlace k) ∙ pair-long code (k * 4 + 1) (bodyPlace k) (nextFor sh (cl .head) k);
-    records = λ i u. body-below ss sh (q + length (loadedWords ss (termOf (cl .head)))) (cl .body) (putPair code (k * 4 + 1) (bodyPlace k) (nextFor sh (cl .head) k)) (bodyPlace k) i (omega arith)
-        ∙ pair-other code (k * 4 + 1) (bodyPlace k) (nextFor sh (cl .head) k) i (λ e. omega arith) (λ e. omega arith);
-    bodies = λ i a u. body-below ss sh (q + length (loadedWords ss (termOf (cl .head)))) (cl .body) (putPair code (k * 4 + 1) (bodyPlace k) (nextFor sh (cl .head) k)) (bodyPlace k) i u
-        ∙ pair-other code (k * 4 + 1) (bodyPlace k) (nextFor sh (cl .head) k) i (λ e. omega arith) (λ e. omega arith);
-    heads = λ j u. body-heads ss sh (q + length (loadedWords ss (termOf (cl .head)))) (cl .body) (putPair code (k * 4 + 1) (bodyPlace k) (nextFor sh (cl .head) k)) (bodyPlace k) (omega arith) j u
+    long = body-long ss sh (q + length (loadedWords ss (termOf (cl .head)))) (cl .body) (putPair code (clauseRecord k + 1) (bodyPlace k) (nextFor sh (cl .head) k)) (bodyPlace k) ∙ pair-long code (clauseRecord k + 1) (bodyPlace k) (nextFor sh (cl .head) k);
+    records = λ i u. body-below ss sh (q + length (loadedWords ss (termOf (cl .head)))) (cl .body) (putPair code (clauseRecord k + 1) (bodyPlace k) (nextFor sh (cl .head) k)) (bodyPlace k) i (omega arith)
+        ∙ pair-other code (clauseRecord k + 1) (bodyPlace k) (nextFor sh (cl .head) k) i (λ e. omega arith) (λ e. omega arith);
+    bodies = λ i a u. body-below ss sh (q + length (loadedWords ss (termOf (cl .head)))) (cl .body) (putPair code (clauseRecord k + 1) (bodyPlace k) (nextFor sh (cl .head) k)) (bodyPlace k) i u
+        ∙ pair-other code (clauseRecord k + 1) (bodyPlace k) (nextFor sh (cl .head) k) i (λ e. omega arith) (λ e. omega arith);
+    heads = λ j u. body-heads ss sh (q + length (loadedWords ss (termOf (cl .head)))) (cl .body) (putPair code (clauseRecord k + 1) (bodyPlace k) (nextFor sh (cl .head) k)) (bodyPlace k) (omega arith) j u
         ∙ pair-heads code k (bodyPlace k) (nextFor sh (cl .head) k) j u;
   }
 
@@ -265,35 +268,35 @@ module _ (ss : List Symbol) (sh : Sheet) where
       }
 
   module _ (nodes : List ℕ) where
-    clause-written : (q : ℕ) (cl : Clause) (code : List ℕ) (k : ℕ) → k ≤ 256 → Has nodes q (clauseNodes ss cl) → T (bodyLoadable ss (cl .body)) → ClauseLimited cl → 18504 ≤ length code
+    clause-written : (q : ℕ) (cl : Clause) (code : List ℕ) (k : ℕ) → k ≤ mostClauses → Has nodes q (clauseNodes ss cl) → T (bodyLoadable ss (cl .body)) → ClauseLimited cl → codeWords ≤ length code
         → BodyPart ss sh nodes (putClause ss sh q cl code k) k cl
     unfolding putClause clauseNodes
     clause-written q cl code k l h t s r =
-        let few : bodyLength (cl .body) ≤ 16 = s .body .few in
-        let n : length (putPair code (k * 4 + 1) (bodyPlace k) (nextFor sh (cl .head) k)) ≡ length code = pair-long code (k * 4 + 1) (bodyPlace k) (nextFor sh (cl .head) k) in
+        let few : bodyLength (cl .body) ≤ mostLiterals = s .body .few in
+        let n : length (putPair code (clauseRecord k + 1) (bodyPlace k) (nextFor sh (cl .head) k)) ≡ length code = pair-long code (clauseRecord k + 1) (bodyPlace k) (nextFor sh (cl .head) k) in
         record {
-          at = body-below ss sh (q + length (loadedWords ss (termOf (cl .head)))) (cl .body) (putPair code (k * 4 + 1) (bodyPlace k) (nextFor sh (cl .head) k)) (bodyPlace k) (k * 4 + 1) (omega arith)
-              ∙ pair-first code (k * 4 + 1) (bodyPlace k) (nextFor sh (cl .head) k) (omega arith);
-          body = body-written ss sh nodes (q + length (loadedWords ss (termOf (cl .head)))) (cl .body) (putPair code (k * 4 + 1) (bodyPlace k) (nextFor sh (cl .head) k)) (bodyPlace k) (has-right nodes q (loadedWords ss (termOf (cl .head))) (bodyNodes ss (cl .body)) h) t (s .body .each) (omega arith);
-          after = body-below ss sh (q + length (loadedWords ss (termOf (cl .head)))) (cl .body) (putPair code (k * 4 + 1) (bodyPlace k) (nextFor sh (cl .head) k)) (bodyPlace k) (k * 4 + 2) (omega arith)
-              ∙ subst (λ (i : ℕ). getD (putPair code (k * 4 + 1) (bodyPlace k) (nextFor sh (cl .head) k)) i 0 ≡ nextFor sh (cl .head) k) (let e : k * 4 + 1 + 1 ≡ k * 4 + 2 = omega arith in e) (pair-second code (k * 4 + 1) (bodyPlace k) (nextFor sh (cl .head) k) (omega arith));
+          at = body-below ss sh (q + length (loadedWords ss (termOf (cl .head)))) (cl .body) (putPair code (clauseRecord k + 1) (bodyPlace k) (nextFor sh (cl .head) k)) (bodyPlace k) (clauseRecord k + 1) (omega arith)
+              ∙ pair-first code (clauseRecord k + 1) (bodyPlace k) (nextFor sh (cl .head) k) (omega arith);
+          body = body-written ss sh nodes (q + length (loadedWords ss (termOf (cl .head)))) (cl .body) (putPair code (clauseRecord k + 1) (bodyPlace k) (nextFor sh (cl .head) k)) (bodyPlace k) (has-right nodes q (loadedWords ss (termOf (cl .head))) (bodyNodes ss (cl .body)) h) t (s .body .each) (omega arith);
+          after = body-below ss sh (q + length (loadedWords ss (termOf (cl .head)))) (cl .body) (putPair code (clauseRecord k + 1) (bodyPlace k) (nextFor sh (cl .head) k)) (bodyPlace k) (clauseRecord k + 2) (omega arith)
+              ∙ subst (λ (i : ℕ). getD (putPair code (clauseRecord k + 1) (bodyPlace k) (nextFor sh (cl .head) k)) i 0 ≡ nextFor sh (cl .head) k) (let e : clauseRecord k + 1 + 1 ≡ clauseRecord k + 2 = omega arith in e) (pair-second code (clauseRecord k + 1) (bodyPlace k) (nextFor sh (cl .head) k) (omega arith));
         }
 
-    part-kept : (code new : List ℕ) (k : ℕ) (cl : Clause) → k ≤ 256 → bodyLength (cl .body) ≤ 16 → Kept code new (k + 1) → BodyPart ss sh nodes code k cl → BodyPart ss sh nodes new k cl
+    part-kept : (code new : List ℕ) (k : ℕ) (cl : Clause) → k ≤ mostClauses → bodyLength (cl .body) ≤ mostLiterals → Kept code new (k + 1) → BodyPart ss sh nodes code k cl → BodyPart ss sh nodes new k cl
     part-kept code new k cl l few s w = record {
-      at = s .records (k * 4 + 1) (omega arith) ∙ w .at;
+      at = s .records (clauseRecord k + 1) (omega arith) ∙ w .at;
       body = body-kept ss sh nodes code new (bodyPlace k) (cl .body) (s .long) (λ i a u. s .bodies i (omega arith) (omega arith)) (w .body);
-      after = s .records (k * 4 + 2) (omega arith) ∙ w .after;
+      after = s .records (clauseRecord k + 2) (omega arith) ∙ w .after;
     }
 
     -- every clause stands, all but its head
-    pub clauses-written : (q : ℕ) (cls : List Clause) (code : List ℕ) (k : ℕ) → Has nodes q (clausesNodes ss cls) → T (clausesLoadable ss cls) → ClausesLimited cls → k + length cls ≤ 257 → 18504 ≤ length code
+    pub clauses-written : (q : ℕ) (cls : List Clause) (code : List ℕ) (k : ℕ) → Has nodes q (clausesNodes ss cls) → T (clausesLoadable ss cls) → ClausesLimited cls → k + length cls ≤ 257 → codeWords ≤ length code
         → (n : ℕ) (cl : Clause) → nth cls n ≡ some cl → BodyPart ss sh nodes (putClauses ss sh q cls code k) (k + n) cl
     unfolding putClauses clausesNodes clausesLoadable nth
     clauses-written q [] code k h t s l r n cl e = absurd (some-none cl (sym e))
     clauses-written q (c ∷ cls) code k h t s l r zero cl e =
         let z : k + suc (length cls) ≤ 257 = l in
-        let few : bodyLength (c .body) ≤ 16 = s .0 .body .few in
+        let few : bodyLength (c .body) ≤ mostLiterals = s .0 .body .few in
         let oks : T (isLoadable ss (termOf (c .head)) && bodyLoadable ss (c .body)) × T (clausesLoadable ss cls) = both (isLoadable ss (termOf (c .head)) && bodyLoadable ss (c .body)) (clausesLoadable ss cls) t in
         let ok : T (isLoadable ss (termOf (c .head))) × T (bodyLoadable ss (c .body)) = both (isLoadable ss (termOf (c .head))) (bodyLoadable ss (c .body)) (oks .0) in
         let first : BodyPart ss sh nodes (putClause ss sh q c code k) k c = clause-written q c code k (omega arith) (has-left nodes q (clauseNodes ss c) (clausesNodes ss cls) h) (ok .1) (s .0) r in

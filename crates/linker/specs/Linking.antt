@@ -5,9 +5,10 @@ use mathlib.Core.List.{List}
 use lib.Dec.{T}
 use lib.ListN.{length}
 use Rattle.syntax.specs.Terms.{Sheet, Goal}
-use Rattle.syntax.specs.Words.{bodyWords, bodyLength, clausesWords}
-use Rattle.marking.specs.Tables.{Has}
-use Rattle.layout.specs.Nodes.{Symbol, Has as HasNodes}
+use Rattle.syntax.specs.Words.{sheetWords, bodyWords, bodyLength, clausesWords}
+use Rattle.words.specs.Tables.{Has}
+use Rattle.layout.specs.Regions.{codeWords, places}
+use Rattle.layout.specs.Nodes.{Symbol}
 use Rattle.layout.specs.Limits.{SheetLimited, GoalLimited}
 use Rattle.layout.specs.Program.{programNodes, bodyLoadable, clausesLoadable}
 
@@ -21,11 +22,11 @@ pub record Linkable (table : List ℕ) (clauses : ℕ) (goals : List ℕ) (liter
   pub literals-count : literals ≡ bodyLength (g .body)
   pub limits : SheetLimited sh
   pub goal-limits : GoalLimited g
-  pub nodes-stand : HasNodes nodes 0 (programNodes ss sh g)
+  pub nodes-stand : Has nodes 0 (programNodes ss sh g)
   pub goal-loadable : T (bodyLoadable ss (g .body))
   pub clauses-loadable : T (clausesLoadable ss (sh .clauses))
-  pub nodes-short : length nodes ≤ 65536
-  pub table-short : length table ≤ 65540
-  pub goals-short : length goals ≤ 65540
-  pub code-room : 18504 ≤ length code
-  pub code-short : length code ≤ 65536
+  pub nodes-short : length nodes ≤ places
+  pub table-short : length table ≤ sheetWords
+  pub goals-short : length goals ≤ sheetWords
+  pub code-room : codeWords ≤ length code
+  pub code-short : length code ≤ places

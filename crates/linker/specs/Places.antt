@@ -6,15 +6,17 @@ use lib.Dec.{T}
 use lib.ListN.{length}
 use Rattle.syntax.specs.Terms.{termOf, Literal, Body, Clause, Sheet}
 use Rattle.syntax.specs.Words.{literalWords, bodyWords, bodyLength, clauseWords, clausesWords}
-use Rattle.marking.specs.Tables.{Has}
-use Rattle.layout.specs.Nodes.{Symbol, Stands, isLoadable, Has as HasNodes}
+use Rattle.words.specs.Tables.{Has}
+use Rattle.syntax.specs.Limits.{clauses as mostClauses, literals as mostLiterals}
+use Rattle.layout.specs.Regions.{bodies, codeWords, places, nextLiteral, literalFrom}
+use Rattle.layout.specs.Nodes.{Symbol, Stands, isLoadable}
 use Rattle.layout.specs.Limits.{ClausesLimited}
 use Rattle.layout.specs.Program.{literalNodes, bodyNodes, clauseNodes, clausesNodes, literalLoadable, bodyLoadable, clausesLoadable, headAt}
 
 -- every clause has its head's place
 pub record Searchable (nodes code : List ℕ) (clauses : ℕ) : Type 0 where
-  pub few : clauses ≤ 256
-  pub long : 1028 ≤ length code
+  pub few : clauses ≤ mostClauses
+  pub long : bodies ≤ length code
   pub inside : (j : ℕ) → 1 ≤ j → j ≤ clauses → headAt code j < length nodes
 
 -- so many literals stand from p on
@@ -30,45 +32,45 @@ HeadsStand ss nodes code k (cl ∷ cls) = Stands ss nodes (headAt code k) (termO
 -- the heads of a sheet's clauses have their places
 pub record Headed (ss : List Symbol) (sh : Sheet) (nodes : List ℕ) (clauses : ℕ) (code : List ℕ) : Type 0 where
   pub count : clauses ≡ length (sh .clauses)
-  pub few : clauses ≤ 256
+  pub few : clauses ≤ mostClauses
   pub heads : HeadsStand ss nodes code 1 (sh .clauses)
-  pub room : 18504 ≤ length code
-  pub short : length code ≤ 65536
-  pub nodes-short : length nodes ≤ 65536
+  pub room : codeWords ≤ length code
+  pub short : length code ≤ places
+  pub nodes-short : length nodes ≤ places
 
 -- a literal whose nodes stand at q
 pub record LiteralIn (ss : List Symbol) (sh : Sheet) (x : Literal) (table : List ℕ) (p : ℕ) (nodes : List ℕ) (q clauses : ℕ) (code : List ℕ) : Type 0 where
   pub headed : Headed ss sh nodes clauses code
   pub has : Has table p (literalWords x)
-  pub stand : HasNodes nodes q (literalNodes ss x)
+  pub stand : Has nodes q (literalNodes ss x)
   pub loadable : T (literalLoadable ss x)
   pub node : q ≤ length nodes
 
 -- and there is room for its record at l
 pub record LiteralTo (ss : List Symbol) (sh : Sheet) (x : Literal) (table : List ℕ) (p : ℕ) (nodes : List ℕ) (q clauses : ℕ) (code : List ℕ) (l : ℕ) : Type 0 where
   pub given : LiteralIn ss sh x table p nodes q clauses code
-  pub low : 1028 ≤ l
-  pub high : l + 4 ≤ length code
+  pub low : bodies ≤ l
+  pub high : nextLiteral l ≤ length code
 
 -- a body of so many literals
 pub record BodyTo (ss : List Symbol) (sh : Sheet) (b : Body) (table : List ℕ) (p literals : ℕ) (nodes : List ℕ) (q clauses : ℕ) (code : List ℕ) (l : ℕ) : Type 0 where
   pub headed : Headed ss sh nodes clauses code
   pub has : Has table p (bodyWords b)
   pub count : literals ≡ bodyLength b
-  pub stand : HasNodes nodes q (bodyNodes ss b)
+  pub stand : Has nodes q (bodyNodes ss b)
   pub loadable : T (bodyLoadable ss b)
   pub node : q ≤ length nodes
-  pub low : 1028 ≤ l
-  pub high : l + literals * 4 + 4 ≤ length code
+  pub low : bodies ≤ l
+  pub high : nextLiteral (literalFrom l literals) ≤ length code
 
 -- a clause of number k
 pub record ClauseTo (ss : List Symbol) (sh : Sheet) (cl : Clause) (table : List ℕ) (p : ℕ) (nodes : List ℕ) (q clauses : ℕ) (code : List ℕ) (k : ℕ) : Type 0 where
   pub headed : Headed ss sh nodes clauses code
   pub has : Has table p (clauseWords cl)
-  pub stand : HasNodes nodes q (clauseNodes ss cl)
+  pub stand : Has nodes q (clauseNodes ss cl)
   pub head-loadable : T (isLoadable ss (termOf (cl .head)))
   pub body-loadable : T (bodyLoadable ss (cl .body))
-  pub short : bodyLength (cl .body) ≤ 16
+  pub short : bodyLength (cl .body) ≤ mostLiterals
   pub low : 1 ≤ k
   pub high : k ≤ clauses
 
@@ -76,7 +78,7 @@ pub record ClauseTo (ss : List Symbol) (sh : Sheet) (cl : Clause) (table : List 
 pub record ClausesTo (ss : List Symbol) (sh : Sheet) (cls : List Clause) (table : List ℕ) (p : ℕ) (nodes : List ℕ) (q clauses : ℕ) (code : List ℕ) (k : ℕ) : Type 0 where
   pub headed : Headed ss sh nodes clauses code
   pub has : Has table p (clausesWords cls)
-  pub stand : HasNodes nodes q (clausesNodes ss cls)
+  pub stand : Has nodes q (clausesNodes ss cls)
   pub loadable : T (clausesLoadable ss cls)
   pub limited : ClausesLimited cls
   pub low : 1 ≤ k
@@ -85,8 +87,8 @@ pub record ClausesTo (ss : List Symbol) (sh : Sheet) (cls : List Clause) (table 
 -- the clauses from number k on, whose nodes are to stand from q on, before their heads' places are written
 pub record HeadsTo (ss : List Symbol) (cls : List Clause) (table : List ℕ) (p q clauses : ℕ) (code : List ℕ) (k : ℕ) : Type 0 where
   pub has : Has table p (clausesWords cls)
-  pub few : clauses ≤ 256
+  pub few : clauses ≤ mostClauses
   pub low : 1 ≤ k
   pub count : k + length cls ≡ suc clauses
-  pub long : 1028 ≤ length code
-  pub node : q + length (clausesNodes ss cls) ≤ 65536
+  pub long : bodies ≤ length code
+  pub node : q + length (clausesNodes ss cls) ≤ places

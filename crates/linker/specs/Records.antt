@@ -6,6 +6,8 @@ use lib.Dec.{eqb}
 use lib.ListN.{length, getD, set}
 use Rattle.syntax.specs.Terms.{termOf, Literal, call, equation, truth, falsity, Body, done, also, Clause, Sheet}
 use Rattle.machine.specs.Machine.{nextFor}
+use Rattle.syntax.specs.Words.{truthKind, falsityKind, callKind, equationKind}
+use Rattle.layout.specs.Regions.{endKind, nextLiteral, bodies, bodySize, clauseRecord}
 use Rattle.layout.specs.Nodes.{Symbol, loadedWords}
 use Rattle.layout.specs.Program.{literalNodes, clauseNodes, headAt}
 
@@ -19,10 +21,10 @@ putRecord code l kind place other = putPair (set code l kind) (l + 1) place othe
 
 -- a literal's kind
 abbrev pub kindOf : Literal → ℕ
-kindOf truth = 0
-kindOf falsity = 1
-kindOf (call a) = 2
-kindOf (equation t u) = 3
+kindOf truth = truthKind
+kindOf falsity = falsityKind
+kindOf (call a) = callKind
+kindOf (equation t u) = equationKind
 
 -- its third word, where its nodes stand at q: the topmost clause for a call, the place of the right term of an equation
 unfoldable pub otherOf : List Symbol → Sheet → ℕ → Literal → ℕ
@@ -33,23 +35,23 @@ otherOf ss sh q (equation t u) = q + length (loadedWords ss t)
 
 -- the records of a body from l on, and its end, where its nodes stand from q on
 unfoldable pub putBody : List Symbol → Sheet → ℕ → Body → List ℕ → ℕ → List ℕ
-putBody ss sh q done code l = set code l 4
+putBody ss sh q done code l = set code l endKind
 putBody ss sh q (also x b) code l =
-    putBody ss sh (q + length (literalNodes ss x)) b (putRecord code l (kindOf x) q (otherOf ss sh q x)) (l + 4)
+    putBody ss sh (q + length (literalNodes ss x)) b (putRecord code l (kindOf x) q (otherOf ss sh q x)) (nextLiteral l)
 
--- where the body of number k stands: each has room for 17 records
+-- where the body of clause k begins; the goal's has the number 0
 abbrev pub bodyPlace : ℕ → ℕ
-bodyPlace k = 1028 + k * 68
+bodyPlace k = bodies + k * bodySize
 
 -- the heads of clauses whose nodes stand from q on, the first of number k
 unfoldable pub putHeads : List Symbol → ℕ → List Clause → List ℕ → ℕ → List ℕ
 putHeads ss q [] code k = code
-putHeads ss q (cl ∷ cls) code k = putHeads ss (q + length (clauseNodes ss cl)) cls (set code (k * 4) q) (k + 1)
+putHeads ss q (cl ∷ cls) code k = putHeads ss (q + length (clauseNodes ss cl)) cls (set code (clauseRecord k) q) (k + 1)
 
 -- a clause of number k, all but its head's place
 unfoldable pub putClause : List Symbol → Sheet → ℕ → Clause → List ℕ → ℕ → List ℕ
 putClause ss sh q cl code k =
-    putBody ss sh (q + length (loadedWords ss (termOf (cl .head)))) (cl .body) (putPair code (k * 4 + 1) (bodyPlace k) (nextFor sh (cl .head) k)) (bodyPlace k)
+    putBody ss sh (q + length (loadedWords ss (termOf (cl .head)))) (cl .body) (putPair code (clauseRecord k + 1) (bodyPlace k) (nextFor sh (cl .head) k)) (bodyPlace k)
 
 unfoldable pub putClauses : List Symbol → Sheet → ℕ → List Clause → List ℕ → ℕ → List ℕ
 putClauses ss sh q [] code k = code

@@ -1,13 +1,14 @@
-// Records of literals. The nodes of a literal at p of the table stand at q.
-use crate::records::RECORD;
-use crate::records::put;
+// Records of literals. A literal stands at p of the table that it was read into, and its loaded nodes stand at q.
+use crate::records::next_literal;
 use crate::records::put_record;
 use crate::search::next_for;
-use crate::walk::CALL;
 use crate::walk::nodes_of;
-use crate::walk::past;
-use crate::walk::past_literal;
-use marking::table::word_at;
+use layout::END_KIND;
+use syntax::CALL_KIND;
+use words::past;
+use words::past_literal;
+use words::put;
+use words::word_at;
 ghost use mathlib.Core.Path.{_≡_};
 ghost use mathlib.Core.List.{List};
 ghost use Rattle.syntax.specs.Terms.{Literal, Body, Sheet};
@@ -15,19 +16,16 @@ ghost use Rattle.layout.specs.Nodes.{Symbol};
 ghost use Rattle.linker.specs.Records.{putRecord, kindOf, otherOf, putBody};
 ghost use Rattle.linker.specs.Places.{LiteralIn, LiteralTo, BodyTo};
 
-// The kind of a body's end.
-const END: usize = 4;
-
-// The third word of a literal's record.
+// The third word of a literal's record: the topmost clause for a call, the place of the right term of an equation.
 fn other_of(table: &[u32], p: usize, nodes: &[u32], q: usize, clauses: usize, code: &[u32]) -> usize
     requires { ⌜ ((ss : List Symbol) × ((sh : Sheet) × ((x : Literal) × LiteralIn ss sh x (now table) p (now nodes) q clauses (now code)))) ⌝ }
     ensures { λ r. ⌜ ((ss : List Symbol) (sh : Sheet) (x : Literal) → LiteralIn ss sh x (now (table .entry)) p (now (nodes .entry)) q clauses (now (code .entry)) → r ≡ otherOf ss sh q x) ⌝ }
 {
     let kind = word_at(table, p);
-    if kind < CALL {
+    if kind < CALL_KIND {
         return 0;
     }
-    if kind == CALL {
+    if kind == CALL_KIND {
         let word = word_at(nodes, q);
         return next_for(nodes, code, clauses, word, 0);
     }
@@ -77,8 +75,8 @@ pub fn put_body(
         let size = nodes_of(words, 1);
         at = next;
         node += size;
-        to += RECORD;
+        to = next_literal(to);
         i += 1;
     }
-    put(code, to, END);
+    put(code, to, END_KIND);
 }

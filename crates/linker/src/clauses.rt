@@ -1,41 +1,38 @@
-// Records of clauses. The nodes of a clause at p of the table stand at q.
+// Records of clauses. A clause stands at p of the table that it was read into, and its loaded nodes stand at q.
 use crate::bodies::put_body;
-use crate::records::BODIES;
-use crate::records::BODY;
-use crate::records::RECORD;
-use crate::records::put;
 use crate::records::put_pair;
 use crate::search::next_for;
 use crate::walk::nodes_of;
-use crate::walk::past;
-use marking::table::word_at;
+use layout::BODIES;
+use layout::BODY_SIZE;
+use layout::CLAUSE_SIZE;
+use syntax::CLAUSE_START;
+use words::CLAUSE_LITERALS;
+use words::past;
+use words::put;
+use words::word_at;
 ghost use mathlib.Core.Path.{_≡_};
 ghost use mathlib.Core.List.{List};
 ghost use lib.ListN.{length};
 ghost use Rattle.syntax.specs.Terms.{Clause, Sheet};
 ghost use Rattle.syntax.specs.Words.{clauseWords};
-ghost use Rattle.marking.specs.Tables.{Has};
+ghost use Rattle.words.specs.Tables.{Has};
 ghost use Rattle.layout.specs.Nodes.{Symbol};
 ghost use Rattle.layout.specs.Program.{clauseNodes};
 ghost use Rattle.linker.specs.Records.{putHeads, putClause, putClauses};
 ghost use Rattle.linker.specs.Places.{HeadsTo, ClauseTo, ClausesTo};
 
-// Where a clause's number of literals stands, and its head: behind its length and its number of variables.
-const LITERALS: usize = 2;
-
-const HEAD: usize = 3;
-
-// How many words the nodes of the clause at p take.
+// How many words the loaded nodes of the clause at p take.
 fn clause_nodes(table: &[u32], p: usize) -> usize
     requires { ⌜ ((cl : Clause) × Has (now table) p (clauseWords cl)) ⌝ }
     ensures { λ r. ⌜ ((ss : List Symbol) (cl : Clause) → Has (now (table .entry)) p (clauseWords cl) → r ≡ length (clauseNodes ss cl)) ⌝ }
 {
     let size = word_at(table, p);
-    let literals = word_at(table, p + LITERALS);
-    nodes_of(size, literals + HEAD)
+    let literals = word_at(table, p + CLAUSE_LITERALS);
+    nodes_of(size, literals + CLAUSE_START)
 }
 
-// The places of the heads of clauses.
+// The places of the heads, written into the records of the clauses.
 pub fn put_heads(table: &[u32], clauses: usize, q: usize, code: &mut [u32])
     requires { ⌜ ((ss : List Symbol) × ((cls : List Clause) × HeadsTo ss cls (now table) 0 q clauses (now code) 1)) ⌝ }
     ensures { λ _. ⌜ ((ss : List Symbol) (cls : List Clause) → HeadsTo ss cls (now (table .entry)) 0 q clauses (now (code .entry)) 1 → now (code .exit) ≡ putHeads ss q cls (now (code .entry)) 1) ⌝ }
@@ -44,7 +41,7 @@ pub fn put_heads(table: &[u32], clauses: usize, q: usize, code: &mut [u32])
     let mut node = q;
     let mut k = 1;
     while k <= clauses {
-        put(code, k * RECORD, node);
+        put(code, k * CLAUSE_SIZE, node);
         let size = clause_nodes(table, at);
         let words = word_at(table, at);
         at += words;
@@ -53,7 +50,7 @@ pub fn put_heads(table: &[u32], clauses: usize, q: usize, code: &mut [u32])
     }
 }
 
-// The body of clause k and the next clause of its predicate.
+// The record of clause k but for its head's place, and the records of its body: where the body begins, and the next clause of the same predicate.
 fn put_clause(
     table: &[u32],
     p: usize,
@@ -68,15 +65,15 @@ fn put_clause(
 {
     let word = word_at(nodes, q);
     let after = next_for(nodes, code, clauses, word, k);
-    let l = BODIES + k * BODY;
-    put_pair(code, k * RECORD + 1, l, after);
-    let literals = word_at(table, p + LITERALS);
-    let first = past(table, p + HEAD);
+    let l = BODIES + k * BODY_SIZE;
+    put_pair(code, k * CLAUSE_SIZE + 1, l, after);
+    let literals = word_at(table, p + CLAUSE_LITERALS);
+    let first = past(table, p + CLAUSE_START);
     let node = past(nodes, q);
     put_body(table, first, literals, nodes, node, clauses, code, l);
 }
 
-// The bodies of all clauses and the next clauses of their predicates.
+// The same for all clauses.
 pub fn put_clauses(table: &[u32], clauses: usize, nodes: &[u32], q: usize, code: &mut [u32])
     requires { ⌜ ((ss : List Symbol) × ((sh : Sheet) × ((cls : List Clause) × ClausesTo ss sh cls (now table) 0 (now nodes) q clauses (now code) 1))) ⌝ }
     ensures { λ _. ⌜ ((ss : List Symbol) (sh : Sheet) (cls : List Clause) → ClausesTo ss sh cls (now (table .entry)) 0 (now (nodes .entry)) q clauses (now (code .entry)) 1 → now (code .exit) ≡ putClauses ss sh q cls (now (code .entry)) 1) ⌝ }

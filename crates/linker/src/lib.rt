@@ -8,14 +8,14 @@ mod walk;
 use bodies::put_body;
 use clauses::put_clauses;
 use clauses::put_heads;
-use records::BODIES;
+use layout::BODIES;
 use records::put_pair;
 use walk::nodes_of;
 use walk::past_body;
 ghost use Rattle.layout.specs.Program.{Program};
 ghost use Rattle.linker.specs.Linking.{Linkable};
 
-// The records of a sheet's clauses and of a goal, whose nodes are loaded.
+// The records of a sheet's clauses and of a goal whose nodes are loaded: the goal's nodes come first, then those of the clauses in their order.
 pub fn link(
     table: &[u32],
     clauses: usize,

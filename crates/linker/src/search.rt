@@ -1,19 +1,21 @@
-// Clauses sought by predicate: the first word of a head's node says which it is.
-use crate::records::RECORD;
-use marking::table::word_at;
+// The search for the clauses of a predicate: a head's first word tells its predicate.
+use layout::CLAUSE_SIZE;
+use words::word_at;
 ghost use mathlib.Core.Path.{_≡_};
 ghost use Prim.Native.Nat.{_+_, _-_, _*_, _≤_, _<_};
 ghost use lib.ListN.{length, getD};
+ghost use Rattle.syntax.specs.Limits.{clauses as mostClauses};
+ghost use Rattle.layout.specs.Regions.{clauseRecord};
 ghost use Rattle.layout.specs.Program.{headAt};
 ghost use Rattle.linker.specs.Records.{sought};
 ghost use Rattle.linker.specs.Places.{Searchable};
 
 // The first word of the head of clause j.
 fn head_word(nodes: &[u32], code: &[u32], j: usize) -> usize
-    requires { ⌜ (j ≤ 256) × ((j * 4 < length (now code)) × (headAt (now code) j < length (now nodes))) ⌝ }
+    requires { ⌜ (j ≤ mostClauses) × ((clauseRecord j < length (now code)) × (headAt (now code) j < length (now nodes))) ⌝ }
     ensures { λ r. ⌜ r ≡ getD (now (nodes .entry)) (headAt (now (code .entry)) j) 0 ⌝ }
 {
-    let at = j * RECORD;
+    let at = j * CLAUSE_SIZE;
     let head = word_at(code, at);
     word_at(nodes, head)
 }

@@ -1,52 +1,25 @@
-// Places in the tables.
-use marking::table::word_at;
+// Places and sizes of what was read.
+use layout::LOADED_NODE;
+use syntax::NODE_WORDS;
+use words::past_literal;
 ghost use mathlib.Core.Path.{_≡_};
 ghost use Prim.Native.Nat.{ℕ, _+_, _*_, _≤_, _<_};
-ghost use lib.ListN.{length, getD};
-ghost use Rattle.syntax.specs.Terms.{Literal, Body};
-ghost use Rattle.syntax.specs.Words.{literalWords, bodyWords};
-ghost use Rattle.marking.specs.Tables.{Has};
+ghost use lib.ListN.{length};
+ghost use Rattle.syntax.specs.Terms.{Body};
+ghost use Rattle.syntax.specs.Words.{nodeWords, bodyWords};
+ghost use Rattle.layout.specs.Regions.{loadedNode};
 ghost use Rattle.linker.specs.Places.{BodyAt};
 
-// The kind of a call. Truth and falsehood have the kinds below it, an equation has the one above.
-pub const CALL: usize = 2;
-
-// The place past a node and its arguments: its second word is how many words they take.
-pub fn past(words: &[u32], p: usize) -> usize
-    requires { ⌜ (p + 1 < length (now words)) × (p + getD (now words) (p + 1) 0 ≤ length (now words)) ⌝ }
-    ensures { λ r. ⌜ r ≡ p + getD (now (words .entry)) (p + 1) 0 ⌝ }
+// How many words some nodes take once they are loaded, by how many they take as read. `words` is the number of words as read, `others` the number
+// of those that belong to no node: a literal's kind, a clause's length and its two counts.
+pub fn nodes_of(words: usize, others: usize) -> usize
+    requires { ⌜ others ≤ words ⌝ }
+    ensures { λ r. ⌜ ((n : ℕ) → n * nodeWords + others * loadedNode ≡ words * loadedNode → r ≡ n) ⌝ }
 {
-    let size = word_at(words, p + 1);
-    p + size
+    (words - others) / NODE_WORDS * LOADED_NODE
 }
 
-// How many words the loaded nodes take that take so many words as read, with so many words that are no node's.
-// A node takes three words as read, and two loaded.
-pub fn nodes_of(words: usize, marks: usize) -> usize
-    requires { ⌜ marks ≤ words ⌝ }
-    ensures { λ r. ⌜ ((n : ℕ) → n * 3 + marks * 2 ≡ words * 2 → r ≡ n) ⌝ }
-{
-    (words - marks) / 3 * 2
-}
-
-// The place past a literal.
-pub fn past_literal(table: &[u32], p: usize) -> usize
-    requires { ⌜ ((x : Literal) × Has (now table) p (literalWords x)) ⌝ }
-    ensures { λ r. ⌜ ((x : Literal) → Has (now (table .entry)) p (literalWords x) → r ≡ p + length (literalWords x)) ⌝ }
-{
-    let kind = word_at(table, p);
-    let q = p + 1;
-    if kind < CALL {
-        return q;
-    }
-    let next = past(table, q);
-    if kind == CALL {
-        return next;
-    }
-    past(table, next)
-}
-
-// The place past a body.
+// The place past a body of so many literals.
 pub fn past_body(table: &[u32], p: usize, literals: usize) -> usize
     requires { ⌜ ((b : Body) × BodyAt (now table) p literals b) ⌝ }
     ensures { λ r. ⌜ ((b : Body) → BodyAt (now (table .entry)) p literals b → r ≡ p + length (bodyWords b)) ⌝ }

@@ -9,20 +9,27 @@ ghost use lib.ListN.{length};
 
 const READ: u8 = b'L';
 
+// Places that no sheet has.
+const FIRST_PLACE: usize = 20001;
+
+const SECOND_PLACE: usize = 20002;
+
+const THIRD_PLACE: usize = 20003;
+
 // The list as it is lent: entries that no sheet has.
 fn held() -> [Entry; 3] {
     let first = Entry {
-        at: 20001,
+        at: FIRST_PLACE,
         len: 41,
         arguments: 11,
     };
     let second = Entry {
-        at: 20002,
+        at: SECOND_PLACE,
         len: 42,
         arguments: 12,
     };
     let third = Entry {
-        at: 20003,
+        at: THIRD_PLACE,
         len: 43,
         arguments: 13,
     };

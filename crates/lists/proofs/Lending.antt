@@ -50,7 +50,7 @@ use Rattle.syntax.proofs.Entry as E
 use Rattle.syntax.proofs.Entry.Laws as E′
 use Rattle.syntax.proofs.Verdict as V′
 use Rattle.syntax.proofs.Verdict.Laws as V″
-use Rattle.pilvaust.specs.Listings.{overlay}
+use Rattle.listings.specs.Listings.{overlay}
 use Rattle.entries.proofs.read_entries as entries
 use Rattle.lists.specs.declared.Lent.{Lent}
 use Rattle.lists.proofs.Lent as L

@@ -7,7 +7,7 @@ ghost use mathlib.Core.Path.{_≡_};
 ghost use lib.ListN.{length};
 ghost use Rattle.syntax.specs.Verdicts.{sheetOf, readVerdict};
 ghost use Rattle.rules.specs.Checking.{checkedSheet, checkVerdict};
-ghost use Rattle.pilvaust.specs.Listings.{overlay, declaredOf};
+ghost use Rattle.listings.specs.Listings.{overlay, declaredOf};
 
 // A verdict, and the list after it.
 pub struct Lent {

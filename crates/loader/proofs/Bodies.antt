@@ -4,11 +4,13 @@ use native.Mathlib.Omega.{arith}
 use mathlib.Core.Path.{_≡_, refl, sym, ap, ap₂, _∙_, subst}
 use mathlib.Core.List.{List, [], _∷_, _++_}
 use lib.ListN.{length, length-append}
+use Rattle.syntax.specs.Limits.{sheetBytes, wordBytes, arguments, variables}
 use Rattle.syntax.specs.Terms.{Term, Terms, variable, compound, nil, cons, arity, termOf, Literal, Body, call, equation, truth, falsity, done, also}
-use Rattle.syntax.specs.Words.{functor, termWords, termsWords, literalWords, bodyWords, bodyLength}
+use Rattle.syntax.specs.Words.{truthKind, falsityKind, callKind, equationKind, functor, termWords, termsWords, literalWords, bodyWords, bodyLength, nodeWords, goalWords}
 use Rattle.marking.specs.Standing.{Stands, AllStand, stands-variable, stands-compound, stand-nil, stand-cons, LiteralStands, call-stands, equation-stands, truth-stands, falsity-stands, BodyStands, also-stands}
-use Rattle.marking.specs.Tables.{Has, LiteralAt}
-use Rattle.marking.proofs.Places.{has-left, has-right}
+use Rattle.words.specs.Tables.{Has}
+use Rattle.words.proofs.Laws.{has-left, has-right, literal-room}
+use Rattle.layout.specs.Regions.{loadedNode}
 use Rattle.loader.specs.Flat.{Parsed, parsedWords, termParsed, termsParsed, literalParsed, bodyParsed, flatWords, flatWhat, flatAll, AllFit, written, RunAt, BodyHere}
 use Rattle.loader.proofs.Writing.{written-nil, written-append}
 
@@ -47,14 +49,14 @@ mutual
   terms-words nil = refl
   terms-words (cons t ts) = ap₂ (λ (a b : List ℕ). a ++ b) (term-words t) (terms-words ts) ∙ sym (parsed-append (termParsed t) (termsParsed ts))
 
-module _ (s : List ℕ) (short : length s ≤ 16384) where
+module _ (s : List ℕ) (short : length s ≤ sheetBytes) where
   mutual
     unfolding termParsed
 
     pub term-fits : (t : Term) → Stands s t → AllFit (termParsed t)
-    term-fits (variable n b) (stands-variable k) = (λ l. absurd (let z : n < 32 = k in omega arith), tt)
+    term-fits (variable n b) (stands-variable k) = (λ l. absurd (let z : n < variables = k in omega arith), tt)
     term-fits (compound b f ts) (stands-compound n k a) =
-        (λ l. (let i : b + length f ≤ length s = n .inside in omega arith, let j : length f ≤ 31 = n .short in let m : arity ts ≤ 8 = k in omega arith), terms-fit ts a)
+        (λ l. (let i : b + length f ≤ length s = n .inside in omega arith, let j : length f ≤ wordBytes = n .short in let m : arity ts ≤ arguments = k in omega arith), terms-fit ts a)
 
     pub terms-fit : (ts : Terms) → AllStand s ts → AllFit (termsParsed ts)
     terms-fit nil stand-nil = tt
@@ -70,34 +72,26 @@ module _ (s : List ℕ) (short : length s ≤ 16384) where
 -- ---- a literal: its kind, and then its nodes
 
 kindOf : Literal → ℕ
-kindOf truth = 0
-kindOf falsity = 1
-kindOf (call a) = 2
-kindOf (equation t u) = 3
+kindOf truth = truthKind
+kindOf falsity = falsityKind
+kindOf (call a) = callKind
+kindOf (equation t u) = equationKind
 
 literal-words : (l : Literal) → literalWords l ≡ kindOf l ∷ parsedWords (literalParsed l)
 unfolding literalWords literalParsed parsedWords kindOf
 literal-words truth = refl
 literal-words falsity = refl
-literal-words (call a) = ap (λ (x : List ℕ). 2 ∷ x) (term-words (termOf a))
-literal-words (equation t u) = ap (λ (x : List ℕ). 3 ∷ x) (ap₂ (λ (a b : List ℕ). a ++ b) (term-words t) (term-words u) ∙ sym (parsed-append (termParsed t) (termParsed u)))
+literal-words (call a) = ap (λ (x : List ℕ). callKind ∷ x) (term-words (termOf a))
+literal-words (equation t u) = ap (λ (x : List ℕ). equationKind ∷ x) (ap₂ (λ (a b : List ℕ). a ++ b) (term-words t) (term-words u) ∙ sym (parsed-append (termParsed t) (termParsed u)))
 
 pub literal-long : (l : Literal) → length (literalWords l) ≡ suc (length (parsedWords (literalParsed l)))
 literal-long l = ap length (literal-words l)
 
-has-rest : (table : List ℕ) (p w : ℕ) (ws : List ℕ) → Has table p (w ∷ ws) → Has table (p + 1) ws
-unfolding Has
-has-rest table p w ws h = subst (λ (k : ℕ). Has table k ws) (let e : suc p ≡ p + 1 = omega arith in e) (h .1 .1)
-
-has-first : (table : List ℕ) (p w : ℕ) (ws : List ℕ) → Has table p (w ∷ ws) → p < length table
-unfolding Has
-has-first table p w ws h = h .0
-
-abbrev literal-run : (s : List ℕ) → length s ≤ 16384 → (table : List ℕ) (p : ℕ) (l : Literal) → Has table p (literalWords l) → LiteralStands s l
+abbrev literal-run : (s : List ℕ) → length s ≤ sheetBytes → (table : List ℕ) (p : ℕ) (l : Literal) → Has table p (literalWords l) → LiteralStands s l
     → (next : ℕ) → next ≡ p + length (literalWords l) → RunAt table (p + 1) next
 literal-run s short table p l h k next e = record {
   run = literalParsed l;
-  has = has-rest table p (kindOf l) (parsedWords (literalParsed l)) (subst (Has table p) (literal-words l) h);
+  has = subst (Has table p) (literal-words l) h .2;
   ends = (let z : length (literalWords l) ≡ suc (length (parsedWords (literalParsed l))) = literal-long l in let y : next ≡ (p + 1) + length (parsedWords (literalParsed l)) = omega arith in y);
   fit = literal-fits s short l k;
 }
@@ -107,16 +101,16 @@ literal-run s short table p l h k next e = record {
 -- What is left of a body, written behind what is copied so far, gives the whole.
 pub record Going (table : List ℕ) (literals text : ℕ) (before : List ℕ) (at : ℕ) (whole nodes : List ℕ) (p q i : ℕ) : Type 0 where
   pub source : List ℕ
-  pub short : length source ≤ 16384
+  pub short : length source ≤ sheetBytes
   pub rest : Body
   pub has : Has table p (bodyWords rest)
   pub count : literals ≡ i + bodyLength rest
   pub stands : BodyStands source rest
   pub same : written nodes q (flatWords (flatAll text (bodyParsed rest))) ≡ written before at whole
   pub past : q + length (flatWords (flatAll text (bodyParsed rest))) ≡ at + length whole
-  pub near : q * 3 ≤ p * 2 + 8200
+  pub near : q * nodeWords ≤ p * loadedNode + goalWords * loadedNode
 
-pub body-begin : (table : List ℕ) (from literals text : ℕ) (nodes : List ℕ) (at : ℕ) → at * 3 ≤ from * 2 + 8200 → (w : BodyHere table from literals)
+pub body-begin : (table : List ℕ) (from literals text : ℕ) (nodes : List ℕ) (at : ℕ) → at * nodeWords ≤ from * loadedNode + goalWords * loadedNode → (w : BodyHere table from literals)
     → Going table literals text nodes at (flatWords (flatAll text (bodyParsed (w .body)))) nodes from at 0
 body-begin table from literals text nodes at l w = record {
   source = w .text;
@@ -132,20 +126,27 @@ body-begin table from literals text nodes at l w = record {
 
 -- a turn: the literal, its nodes, and the body after it
 pub record BodyTurn (table : List ℕ) (literals text : ℕ) (before : List ℕ) (at : ℕ) (whole nodes : List ℕ) (p q i : ℕ) : Type 0 where
-  pub source : List ℕ
-  pub literal : LiteralAt source table p
+  pub literal : Literal
+  pub has : Has table p (literalWords literal)
   pub inside : p < length table
-  pub near : q * 3 ≤ (p + 1) * 2 + 8200
-  pub run : (next : ℕ) → next ≡ p + length (literalWords (literal .literal)) → RunAt table (p + 1) next
-  pub on : (next : ℕ) (after : List ℕ) (r : ℕ) (e : next ≡ p + length (literalWords (literal .literal)))
+  pub near : q * nodeWords ≤ (p + 1) * loadedNode + goalWords * loadedNode
+  pub run : (next : ℕ) → next ≡ p + length (literalWords literal) → RunAt table (p + 1) next
+  pub on : (next : ℕ) (after : List ℕ) (r : ℕ) (e : next ≡ p + length (literalWords literal))
       → (after ≡ written nodes q (flatWords (flatAll text (run next e .run)))) × (r ≡ q + length (flatWords (flatAll text (run next e .run))))
       → Going table literals text before at whole after next r (i + 1)
 
-module _ (table : List ℕ) (literals text : ℕ) (before : List ℕ) (at : ℕ) (whole nodes : List ℕ) (p q i : ℕ) where
-  turn-by : (source : List ℕ) → length source ≤ 16384 → (b : Body) → Has table p (bodyWords b) → literals ≡ i + bodyLength b → BodyStands source b
+module _ (literals text : ℕ) (before : List ℕ) (at : ℕ) (whole nodes : List ℕ) (q i : ℕ) where
+  end-by : (b : Body) → literals ≡ i + bodyLength b → written nodes q (flatWords (flatAll text (bodyParsed b))) ≡ written before at whole
+      → q + length (flatWords (flatAll text (bodyParsed b))) ≡ at + length whole → literals ≤ i → (nodes ≡ written before at whole) × (q ≡ at + length whole)
+  unfolding bodyParsed flatWords flatAll
+  end-by done c s g l = (sym (written-nil nodes q) ∙ s, let z : q + 0 ≡ at + length whole = g in let y : q ≡ at + length whole = omega arith in y)
+  end-by (also x b) c s g l = absurd (let z : literals ≡ i + suc (bodyLength b) = c in omega arith)
+
+module _ {table : List ℕ} {literals text : ℕ} {before : List ℕ} {at : ℕ} {whole nodes : List ℕ} {p q i : ℕ} where
+  turn-by : (source : List ℕ) → length source ≤ sheetBytes → (b : Body) → Has table p (bodyWords b) → literals ≡ i + bodyLength b → BodyStands source b
       → written nodes q (flatWords (flatAll text (bodyParsed b))) ≡ written before at whole
       → q + length (flatWords (flatAll text (bodyParsed b))) ≡ at + length whole
-      → q * 3 ≤ p * 2 + 8200 → i < literals → BodyTurn table literals text before at whole nodes p q i
+      → q * nodeWords ≤ p * loadedNode + goalWords * loadedNode → i < literals → BodyTurn table literals text before at whole nodes p q i
   unfolding bodyWords bodyParsed
   turn-by source short done h c k s g n l = absurd (let z : literals ≡ i + 0 = c in omega arith)
   turn-by source short (also x b) h c (also-stands kx kb) s g n l =
@@ -158,9 +159,9 @@ module _ (table : List ℕ) (literals text : ℕ) (before : List ℕ) (at : ℕ)
       let size : length (literalWords x) ≡ suc (length (parsedWords (literalParsed x))) = literal-long x in
       let g1 : q + length (flatWords (flatAll text (literalParsed x ++ bodyParsed b))) ≡ at + length whole = g in
       record {
-        source = source;
-        literal = record { literal = x; has = hx; stands = kx };
-        inside = has-first table p (kindOf x) (parsedWords (literalParsed x)) (subst (Has table p) (literal-words x) hx);
+        literal = x;
+        has = hx;
+        inside = literal-room table p x hx;
         near = omega arith;
         run = λ next e. literal-run source short table p x hx kx next e;
         on = λ next after r e m. record {
@@ -174,18 +175,12 @@ module _ (table : List ℕ) (literals text : ℕ) (before : List ℕ) (at : ℕ)
               ∙ (sym (written-append nodes q (flatWords (flatAll text (literalParsed x))) (flatWords (flatAll text (bodyParsed b))))
               ∙ (ap (written nodes q) (sym whole-is) ∙ s));
           past = (let z : r ≡ q + length (flatWords (flatAll text (literalParsed x))) = m .1 in let y : r + length (flatWords (flatAll text (bodyParsed b))) ≡ at + length whole = omega arith in y);
-          near = (let z : r ≡ q + length (flatWords (flatAll text (literalParsed x))) = m .1 in let y : r * 3 ≤ next * 2 + 8200 = omega arith in y);
+          near = (let z : r ≡ q + length (flatWords (flatAll text (literalParsed x))) = m .1 in let y : r * nodeWords ≤ next * loadedNode + goalWords * loadedNode = omega arith in y);
         };
       }
 
   pub body-turn : i < literals → Going table literals text before at whole nodes p q i → BodyTurn table literals text before at whole nodes p q i
   body-turn l r = turn-by (r .source) (r .short) (r .rest) (r .has) (r .count) (r .stands) (r .same) (r .past) (r .near) l
 
-  end-by : (b : Body) → literals ≡ i + bodyLength b → written nodes q (flatWords (flatAll text (bodyParsed b))) ≡ written before at whole
-      → q + length (flatWords (flatAll text (bodyParsed b))) ≡ at + length whole → literals ≤ i → (nodes ≡ written before at whole) × (q ≡ at + length whole)
-  unfolding bodyParsed flatWords flatAll
-  end-by done c s g l = (sym (written-nil nodes q) ∙ s, let z : q + 0 ≡ at + length whole = g in let y : q ≡ at + length whole = omega arith in y)
-  end-by (also x b) c s g l = absurd (let z : literals ≡ i + suc (bodyLength b) = c in omega arith)
-
   pub body-end : literals ≤ i → Going table literals text before at whole nodes p q i → (nodes ≡ written before at whole) × (q ≡ at + length whole)
-  body-end l r = end-by (r .rest) (r .count) (r .same) (r .past) l
+  body-end l r = end-by literals text before at whole nodes q i (r .rest) (r .count) (r .same) (r .past) l

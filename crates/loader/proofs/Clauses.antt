@@ -4,35 +4,30 @@ use native.Mathlib.Omega.{arith}
 use mathlib.Core.Path.{_≡_, refl, sym, ap, ap₂, _∙_, subst}
 use mathlib.Core.List.{List, [], _∷_, _++_}
 use lib.ListN.{length, getD, length-append}
+use Rattle.syntax.specs.Limits.{sheetBytes}
 use Rattle.syntax.specs.Terms.{termOf, Body, done, also, Clause}
-use Rattle.syntax.specs.Words.{termWords, atomWords, literalWords, bodyWords, bodyLength, clauseWords, clausesWords}
+use Rattle.syntax.specs.Words.{clauseStart, termWords, atomWords, literalWords, bodyWords, bodyLength, clauseWords, clausesWords, nodeWords, goalWords}
 use Rattle.marking.specs.Standing.{ClausesStand, clause-stands}
-use Rattle.marking.specs.Tables.{Has, TermAt, ClauseAt}
-use Rattle.marking.proofs.Places.{has-left, has-right, Node, node}
-use Rattle.marking.proofs.Equating.{numbered}
+use Rattle.words.specs.Tables.{Has, Inside}
+use Rattle.words.proofs.Laws.{has-left, has-right, Node, size-is, term-inside, clause-says}
+use Rattle.layout.specs.Regions.{loadedNode}
 use Rattle.loader.specs.Flat.{parsedWords, termParsed, literalParsed, bodyParsed, clauseParsed, clausesParsed, flatWords, flatAll, written, RunAt, BodyHere, ClauseHere, ClausesHere}
 use Rattle.loader.proofs.Writing.{written-nil, written-append}
 use Rattle.loader.proofs.Bodies.{parsed-append, flat-append, flat-length, term-words, term-fits, literal-long}
 
 -- ---- a clause
 
--- its words: three, the head, the body
-clause-node : (table : List ℕ) (p : ℕ) (c : Clause) → Has table p (clauseWords c)
-    → Node table p (3 + length (atomWords (c .head) ++ bodyWords (c .body))) (c .variables) (bodyLength (c .body)) (atomWords (c .head) ++ bodyWords (c .body))
-unfolding clauseWords
-clause-node table p c h = node table p (3 + length (atomWords (c .head) ++ bodyWords (c .body))) (c .variables) (bodyLength (c .body)) (atomWords (c .head) ++ bodyWords (c .body)) h
-
 head-long : (c : Clause) → length (termWords (termOf (c .head))) ≡ length (parsedWords (termParsed (termOf (c .head))))
 head-long c = ap length (term-words (termOf (c .head)))
 
 pub record ClauseParts (table : List ℕ) (p : ℕ) (w : ClauseHere table p) : Type 0 where
   pub inside : p + 3 ≤ length table
-  pub head : TermAt table (p + 3)
-  pub run : (stop : ℕ) → stop ≡ p + 3 + length (termWords (head .term)) → RunAt table (p + 3) stop
-  pub here : (stop literals : ℕ) → stop ≡ p + 3 + length (termWords (head .term)) → literals ≡ getD table (p + 2) 0 → BodyHere table stop literals
-  pub near : (stop at q : ℕ) (e : stop ≡ p + 3 + length (termWords (head .term))) → at * 3 ≤ p * 2 + 8200
-      → q ≡ at + length (flatWords (flatAll 0 (run stop e .run))) → q * 3 ≤ stop * 2 + 8200
-  pub joined : (stop literals at q r : ℕ) (nodes middle after : List ℕ) (e : stop ≡ p + 3 + length (termWords (head .term))) (l : literals ≡ getD table (p + 2) 0)
+  pub fits : Inside table (p + clauseStart)
+  pub run : (stop : ℕ) → stop ≡ p + 3 + getD table (p + 3 + 1) 0 → RunAt table (p + 3) stop
+  pub here : (stop literals : ℕ) → stop ≡ p + 3 + getD table (p + 3 + 1) 0 → literals ≡ getD table (p + 2) 0 → BodyHere table stop literals
+  pub near : (stop at q : ℕ) (e : stop ≡ p + 3 + getD table (p + 3 + 1) 0) → at * nodeWords ≤ p * loadedNode + goalWords * loadedNode
+      → q ≡ at + length (flatWords (flatAll 0 (run stop e .run))) → q * nodeWords ≤ stop * loadedNode + goalWords * loadedNode
+  pub joined : (stop literals at q r : ℕ) (nodes middle after : List ℕ) (e : stop ≡ p + 3 + getD table (p + 3 + 1) 0) (l : literals ≡ getD table (p + 2) 0)
       → (middle ≡ written nodes at (flatWords (flatAll 0 (run stop e .run)))) × (q ≡ at + length (flatWords (flatAll 0 (run stop e .run))))
       → (after ≡ written middle q (flatWords (flatAll 0 (bodyParsed (here stop literals e l .body))))) × (r ≡ q + length (flatWords (flatAll 0 (bodyParsed (here stop literals e l .body)))))
       → (after ≡ written nodes at (flatWords (flatAll 0 (clauseParsed (w .clause))))) × (r ≡ at + length (flatWords (flatAll 0 (clauseParsed (w .clause)))))
@@ -44,18 +39,19 @@ flat-clause c = flat-append 0 (termParsed (termOf (c .head))) (bodyParsed (c .bo
 flat-clause-long : (c : Clause) → length (flatWords (flatAll 0 (clauseParsed c))) ≡ length (flatWords (flatAll 0 (termParsed (termOf (c .head))))) + length (flatWords (flatAll 0 (bodyParsed (c .body))))
 flat-clause-long c = ap length (flat-clause c) ∙ length-append (flatWords (flatAll 0 (termParsed (termOf (c .head))))) (flatWords (flatAll 0 (bodyParsed (c .body))))
 
-pub clause-parts : (table : List ℕ) (p : ℕ) (w : ClauseHere table p) → ClauseParts table p w
-clause-parts table p w =
-    let o : Node table p (3 + length (atomWords (w .clause .head) ++ bodyWords (w .clause .body))) (w .clause .variables) (bodyLength (w .clause .body)) (atomWords (w .clause .head) ++ bodyWords (w .clause .body)) = clause-node table p (w .clause) (w .has) in
+pub clause-parts : {table : List ℕ} {p : ℕ} (w : ClauseHere table p) → ClauseParts table p w
+clause-parts {table} {p} w =
+    let o : Node table p (3 + length (atomWords (w .clause .head) ++ bodyWords (w .clause .body))) (w .clause .variables) (bodyLength (w .clause .body)) (atomWords (w .clause .head) ++ bodyWords (w .clause .body)) = clause-says table p (w .clause) (w .has) .words in
     let i : p + 2 < length table = o .inside in
     let hh : Has table (p + 3) (termWords (termOf (w .clause .head))) = has-left table (p + 3) (termWords (termOf (w .clause .head))) (bodyWords (w .clause .body)) (o .rest) in
     let hb : Has table (p + 3 + length (termWords (termOf (w .clause .head)))) (bodyWords (w .clause .body)) = has-right table (p + 3) (termWords (termOf (w .clause .head))) (bodyWords (w .clause .body)) (o .rest) in
     let z : length (termWords (termOf (w .clause .head))) ≡ length (parsedWords (termParsed (termOf (w .clause .head)))) = head-long (w .clause) in
+    let size : getD table (p + 3 + 1) 0 ≡ length (termWords (termOf (w .clause .head))) = size-is table (p + 3) (termOf (w .clause .head)) hh in
     let third : length (flatWords (flatAll 0 (termParsed (termOf (w .clause .head))))) * 3 ≡ length (parsedWords (termParsed (termOf (w .clause .head)))) * 2 = flat-length 0 (termParsed (termOf (w .clause .head))) in
     let long : length (flatWords (flatAll 0 (clauseParsed (w .clause)))) ≡ length (flatWords (flatAll 0 (termParsed (termOf (w .clause .head))))) + length (flatWords (flatAll 0 (bodyParsed (w .clause .body)))) = flat-clause-long (w .clause) in
     record {
       inside = omega arith;
-      head = record { term = termOf (w .clause .head); has = hh; numbered = numbered (w .stands .head) };
+      fits = term-inside table (p + clauseStart) (termOf (w .clause .head)) hh;
       run = λ stop e. record {
         run = termParsed (termOf (w .clause .head));
         has = subst (Has table (p + 3)) (term-words (termOf (w .clause .head))) hh;
@@ -66,11 +62,11 @@ clause-parts table p w =
         text = w .text;
         short = w .short;
         body = w .clause .body;
-        has = subst (λ (k : ℕ). Has table k (bodyWords (w .clause .body))) (sym e) hb;
+        has = subst (λ (k : ℕ). Has table k (bodyWords (w .clause .body))) (let y : p + 3 + length (termWords (termOf (w .clause .head))) ≡ stop = omega arith in y) hb;
         count = l ∙ o .third;
         stands = w .stands .body;
       };
-      near = λ stop at q e n m. (let m1 : q ≡ at + length (flatWords (flatAll 0 (termParsed (termOf (w .clause .head))))) = m in let y : q * 3 ≤ stop * 2 + 8200 = omega arith in y);
+      near = λ stop at q e n m. (let m1 : q ≡ at + length (flatWords (flatAll 0 (termParsed (termOf (w .clause .head))))) = m in let y : q * nodeWords ≤ stop * loadedNode + goalWords * loadedNode = omega arith in y);
       joined = λ stop literals at q r nodes middle after e l m n. (
         n .0
             ∙ (ap₂ (λ (a : List ℕ) (k : ℕ). written a k (flatWords (flatAll 0 (bodyParsed (w .clause .body))))) (m .0) (m .1)
@@ -121,16 +117,16 @@ clauses-long (c ∷ cs) =
 -- What is left of the clauses, written behind what is copied so far, gives the whole.
 pub record Clausing (table : List ℕ) (clauses : ℕ) (before : List ℕ) (at : ℕ) (whole nodes : List ℕ) (p q i : ℕ) : Type 0 where
   pub source : List ℕ
-  pub short : length source ≤ 16384
+  pub short : length source ≤ sheetBytes
   pub rest : List Clause
   pub has : Has table p (clausesWords rest)
   pub count : clauses ≡ i + length rest
   pub stand : ClausesStand source rest
   pub same : written nodes q (flatWords (flatAll 0 (clausesParsed rest))) ≡ written before at whole
   pub past : q + length (flatWords (flatAll 0 (clausesParsed rest))) ≡ at + length whole
-  pub near : q * 3 ≤ p * 2 + 8200
+  pub near : q * nodeWords ≤ p * loadedNode + goalWords * loadedNode
 
-pub clauses-begin : (table : List ℕ) (clauses : ℕ) (nodes : List ℕ) (at : ℕ) → at * 3 ≤ 8200 → (w : ClausesHere table 0 clauses)
+pub clauses-begin : (table : List ℕ) (clauses : ℕ) (nodes : List ℕ) (at : ℕ) → at * 3 ≤ goalWords * loadedNode → (w : ClausesHere table 0 clauses)
     → Clausing table clauses nodes at (flatWords (flatAll 0 (clausesParsed (w .list)))) nodes 0 at 0
 clauses-begin table clauses nodes at l w = record {
   source = w .text;
@@ -141,24 +137,28 @@ clauses-begin table clauses nodes at l w = record {
   stand = w .stand;
   same = refl;
   past = refl;
-  near = (let y : at * 3 ≤ 0 * 2 + 8200 = omega arith in y);
+  near = (let y : at * nodeWords ≤ 0 * loadedNode + goalWords * loadedNode = omega arith in y);
 }
 
 pub record ClausesTurn (table : List ℕ) (clauses : ℕ) (before : List ℕ) (at : ℕ) (whole nodes : List ℕ) (p q i : ℕ) : Type 0 where
   pub clause : ClauseHere table p
-  pub near : q * 3 ≤ p * 2 + 8200
+  pub near : q * nodeWords ≤ p * loadedNode + goalWords * loadedNode
   pub on : (next : ℕ) (after : List ℕ) (r : ℕ) → next ≡ p + length (clauseWords (clause .clause))
       → (after ≡ written nodes q (flatWords (flatAll 0 (clauseParsed (clause .clause))))) × (r ≡ q + length (flatWords (flatAll 0 (clauseParsed (clause .clause)))))
       → Clausing table clauses before at whole after next r (i + 1)
 
-abbrev pub clause-at : (table : List ℕ) (p : ℕ) (w : ClauseHere table p) → ClauseAt (w .text) table p
-clause-at table p w = record { clause = w .clause; has = w .has; stands = w .stands }
+module _ (clauses : ℕ) (before : List ℕ) (at : ℕ) (whole nodes : List ℕ) (q i : ℕ) where
+  end-by : (cs : List Clause) → clauses ≡ i + length cs → written nodes q (flatWords (flatAll 0 (clausesParsed cs))) ≡ written before at whole
+      → q + length (flatWords (flatAll 0 (clausesParsed cs))) ≡ at + length whole → clauses ≤ i → (nodes ≡ written before at whole) × (q ≡ at + length whole)
+  unfolding clausesParsed flatWords flatAll
+  end-by [] c s g l = (sym (written-nil nodes q) ∙ s, let z : q + 0 ≡ at + length whole = g in let y : q ≡ at + length whole = omega arith in y)
+  end-by (x ∷ b) c s g l = absurd (let z : clauses ≡ i + suc (length b) = c in omega arith)
 
-module _ (table : List ℕ) (clauses : ℕ) (before : List ℕ) (at : ℕ) (whole nodes : List ℕ) (p q i : ℕ) where
-  turn-by : (source : List ℕ) → length source ≤ 16384 → (cs : List Clause) → Has table p (clausesWords cs) → clauses ≡ i + length cs → ClausesStand source cs
+module _ {table : List ℕ} {clauses : ℕ} {before : List ℕ} {at : ℕ} {whole nodes : List ℕ} {p q i : ℕ} where
+  turn-by : (source : List ℕ) → length source ≤ sheetBytes → (cs : List Clause) → Has table p (clausesWords cs) → clauses ≡ i + length cs → ClausesStand source cs
       → written nodes q (flatWords (flatAll 0 (clausesParsed cs))) ≡ written before at whole
       → q + length (flatWords (flatAll 0 (clausesParsed cs))) ≡ at + length whole
-      → q * 3 ≤ p * 2 + 8200 → i < clauses → ClausesTurn table clauses before at whole nodes p q i
+      → q * nodeWords ≤ p * loadedNode + goalWords * loadedNode → i < clauses → ClausesTurn table clauses before at whole nodes p q i
   unfolding clausesWords clausesParsed
   turn-by source short [] h c k s g n l = absurd (let z : clauses ≡ i + 0 = c in omega arith)
   turn-by source short (x ∷ b) h c (clause-stands kx kb) s g n l =
@@ -184,18 +184,12 @@ module _ (table : List ℕ) (clauses : ℕ) (before : List ℕ) (at : ℕ) (whol
               ∙ (sym (written-append nodes q (flatWords (flatAll 0 (clauseParsed x))) (flatWords (flatAll 0 (clausesParsed b))))
               ∙ (ap (written nodes q) (sym whole-is) ∙ s));
           past = (let z : r ≡ q + length (flatWords (flatAll 0 (clauseParsed x))) = m .1 in let y : r + length (flatWords (flatAll 0 (clausesParsed b))) ≡ at + length whole = omega arith in y);
-          near = (let z : r ≡ q + length (flatWords (flatAll 0 (clauseParsed x))) = m .1 in let y : r * 3 ≤ next * 2 + 8200 = omega arith in y);
+          near = (let z : r ≡ q + length (flatWords (flatAll 0 (clauseParsed x))) = m .1 in let y : r * nodeWords ≤ next * loadedNode + goalWords * loadedNode = omega arith in y);
         };
       }
 
   pub clauses-turn : i < clauses → Clausing table clauses before at whole nodes p q i → ClausesTurn table clauses before at whole nodes p q i
   clauses-turn l r = turn-by (r .source) (r .short) (r .rest) (r .has) (r .count) (r .stand) (r .same) (r .past) (r .near) l
 
-  end-by : (cs : List Clause) → clauses ≡ i + length cs → written nodes q (flatWords (flatAll 0 (clausesParsed cs))) ≡ written before at whole
-      → q + length (flatWords (flatAll 0 (clausesParsed cs))) ≡ at + length whole → clauses ≤ i → (nodes ≡ written before at whole) × (q ≡ at + length whole)
-  unfolding clausesParsed flatWords flatAll
-  end-by [] c s g l = (sym (written-nil nodes q) ∙ s, let z : q + 0 ≡ at + length whole = g in let y : q ≡ at + length whole = omega arith in y)
-  end-by (x ∷ b) c s g l = absurd (let z : clauses ≡ i + suc (length b) = c in omega arith)
-
   pub clauses-end : clauses ≤ i → Clausing table clauses before at whole nodes p q i → (nodes ≡ written before at whole) × (q ≡ at + length whole)
-  clauses-end l r = end-by (r .rest) (r .count) (r .same) (r .past) l
+  clauses-end l r = end-by clauses before at whole nodes q i (r .rest) (r .count) (r .same) (r .past) l

@@ -9,8 +9,10 @@ use mathlib.Core.Logic.{_⊎_, inl, inr}
 use lib.Dec.{T, eqb, ltb, eqb-refl, ltb→lt, nltb→le}
 use lib.ListN.{length, getD, set, length-set, length-append}
 use lib.Seq.{getD-at, getD-set-same, getD-set-other}
+use Rattle.syntax.specs.Limits.{arguments}
 use Rattle.machine.proofs.Tests.{and, or-left, or-right}
 use Rattle.syntax.specs.Terms.{sameBytes}
+use Rattle.layout.specs.Regions.{mostNodes, nodesWords}
 use Rattle.layout.specs.Nodes.{Symbol, isSymbol, symbolOf, isListed}
 use Rattle.loader.specs.Listing.{wordName, Inside, symbolAt, symbolsOf, Listed, withSymbol, Interned}
 
@@ -184,15 +186,15 @@ pub with-new : (ss : List Symbol) (f : List ℕ) (n : ℕ) → isListed ss f n �
 unfolding withSymbol
 with-new ss f n h = ap (with-choice ss f n) h
 
-symbol-at : (sheet goal symbols : List ℕ) (k w n : ℕ) → getD symbols k 0 ≡ w → getD symbols (23214 + k) 0 ≡ n → symbolAt sheet goal symbols k ≡ record { name = wordName sheet goal w; arguments = n }
+symbol-at : (sheet goal symbols : List ℕ) (k w n : ℕ) → getD symbols k 0 ≡ w → getD symbols (mostNodes + k) 0 ≡ n → symbolAt sheet goal symbols k ≡ record { name = wordName sheet goal w; arguments = n }
 unfolding symbolAt
 symbol-at sheet goal symbols k w n e q = ap₂ (λ (x m : ℕ). record { name = wordName sheet goal x; arguments = m }) e q
 
-same-symbol : (sheet goal after symbols : List ℕ) (k : ℕ) → getD after k 0 ≡ getD symbols k 0 → getD after (23214 + k) 0 ≡ getD symbols (23214 + k) 0 → symbolAt sheet goal after k ≡ symbolAt sheet goal symbols k
+same-symbol : (sheet goal after symbols : List ℕ) (k : ℕ) → getD after k 0 ≡ getD symbols k 0 → getD after (mostNodes + k) 0 ≡ getD symbols (mostNodes + k) 0 → symbolAt sheet goal after k ≡ symbolAt sheet goal symbols k
 unfolding symbolAt
 same-symbol sheet goal after symbols k e q = ap₂ (λ (x m : ℕ). record { name = wordName sheet goal x; arguments = m }) e q
 
-same-symbols : (sheet goal after symbols : List ℕ) (k : ℕ) → ((j : ℕ) → j < k → getD after j 0 ≡ getD symbols j 0) → ((j : ℕ) → j < k → getD after (23214 + j) 0 ≡ getD symbols (23214 + j) 0)
+same-symbols : (sheet goal after symbols : List ℕ) (k : ℕ) → ((j : ℕ) → j < k → getD after j 0 ≡ getD symbols j 0) → ((j : ℕ) → j < k → getD after (mostNodes + j) 0 ≡ getD symbols (mostNodes + j) 0)
     → symbolsOf sheet goal after k ≡ symbolsOf sheet goal symbols k
 unfolding symbolsOf
 same-symbols sheet goal after symbols zero e q = refl
@@ -229,35 +231,35 @@ module _ (sheet goal symbols : List ℕ) (count w n k : ℕ) (listed : Listed sh
         symbols-are = λ r c. ap (symbolsOf sheet goal symbols) (c .old l) ∙ sym same;
       }
 
-  module _ (few : count < 23214) (room : 46428 ≤ length symbols) (inside : Inside sheet goal w) where
+  module _ (few : count < mostNodes) (room : nodesWords ≤ length symbols) (inside : Inside sheet goal w) where
     after : List ℕ
-    after = set (set symbols count w) (23214 + count) n
+    after = set (set symbols count w) (mostNodes + count) n
 
     after-word : (j : ℕ) → j < count → getD after j 0 ≡ getD symbols j 0
     unfolding after
     after-word j l =
-        getD-set-other (set symbols count w) (23214 + count) j n 0 (λ e. let z : j ≡ 23214 + count = e in omega arith)
+        getD-set-other (set symbols count w) (mostNodes + count) j n 0 (λ e. let z : j ≡ mostNodes + count = e in omega arith)
         ∙ getD-set-other symbols count j w 0 (λ e. let z : j ≡ count = e in omega arith)
 
-    after-arguments : (j : ℕ) → j < count → getD after (23214 + j) 0 ≡ getD symbols (23214 + j) 0
+    after-arguments : (j : ℕ) → j < count → getD after (mostNodes + j) 0 ≡ getD symbols (mostNodes + j) 0
     unfolding after
     after-arguments j l =
-        getD-set-other (set symbols count w) (23214 + count) (23214 + j) n 0 (λ e. let z : 23214 + j ≡ 23214 + count = e in omega arith)
-        ∙ getD-set-other symbols count (23214 + j) w 0 (λ e. let z : 23214 + j ≡ count = e in omega arith)
+        getD-set-other (set symbols count w) (mostNodes + count) (mostNodes + j) n 0 (λ e. let z : mostNodes + j ≡ mostNodes + count = e in omega arith)
+        ∙ getD-set-other symbols count (mostNodes + j) w 0 (λ e. let z : mostNodes + j ≡ count = e in omega arith)
 
     last-word : getD after count 0 ≡ w
     unfolding after
     last-word =
-        getD-set-other (set symbols count w) (23214 + count) count n 0 (λ e. let z : count ≡ 23214 + count = e in omega arith)
+        getD-set-other (set symbols count w) (mostNodes + count) count n 0 (λ e. let z : count ≡ mostNodes + count = e in omega arith)
         ∙ getD-set-same symbols count w 0 (omega arith)
 
-    last-arguments : getD after (23214 + count) 0 ≡ n
+    last-arguments : getD after (mostNodes + count) 0 ≡ n
     unfolding after
-    last-arguments = getD-set-same (set symbols count w) (23214 + count) n 0 (let z : length (set symbols count w) ≡ length symbols = length-set symbols count w in omega arith)
+    last-arguments = getD-set-same (set symbols count w) (mostNodes + count) n 0 (let z : length (set symbols count w) ≡ length symbols = length-set symbols count w in omega arith)
 
     after-long : length after ≡ length symbols
     unfolding after
-    after-long = length-set (set symbols count w) (23214 + count) n ∙ length-set symbols count w
+    after-long = length-set (set symbols count w) (mostNodes + count) n ∙ length-set symbols count w
 
     after-inside : (j : ℕ) → j < count + 1 → Inside sheet goal (getD after j 0)
     after-inside j l = go (below-or j count)
@@ -272,7 +274,7 @@ module _ (sheet goal symbols : List ℕ) (count w n k : ℕ) (listed : Listed sh
         ∙ (snoc sheet goal after count
         ∙ ap₂ (λ (l : List Symbol) (s : Symbol). l ++ (s ∷ [])) (same-symbols sheet goal after symbols count after-word after-arguments) (symbol-at sheet goal after count w n last-word last-arguments))
 
-    pub intern-new : count ≤ k → Interned sheet goal symbols count w n (set (set symbols count w) (23214 + count) n) count
+    pub intern-new : count ≤ k → Interned sheet goal symbols count w n (set (set symbols count w) (mostNodes + count) n) count
     unfolding after
     intern-new l =
         let fresh : isListed (symbolsOf sheet goal symbols count) (wordName sheet goal w) n ≡ false = new-listed l in

@@ -9,9 +9,13 @@ use lib.Dec.{T}
 use lib.ListN.{length, getD, set, length-set}
 use lib.Seq.{getD-set-other, set-getD}
 use borrow.Author.Tests.{lt-ltb, le-ltb}
+use Rattle.syntax.specs.Words.{firstName}
+use Rattle.syntax.specs.Limits.{arguments}
+use Rattle.layout.specs.Regions.{nodesWords}
 use Rattle.machine.proofs.Tests.{or-right}
-use Rattle.layout.specs.Nodes.{Symbol, symbolOf, isListed, Has}
-use Rattle.loader.specs.Flat.{Flat, flatWords, written}
+use Rattle.words.specs.Tables.{Has}
+use Rattle.layout.specs.Nodes.{Symbol, symbolOf, isListed}
+use Rattle.loader.specs.Flat.{Flat, flatWords, written, arities}
 use Rattle.loader.specs.Listing.{wordName, symbolsOf, Listed, withSymbol, Counted, Interned, withNode, withAll, numberedWhat, numberedAll, NodeInside, AllInside, Copied, NodeNumbered, NodesNumbered}
 use Rattle.loader.proofs.Writing.{written-nil, written-two}
 use Rattle.loader.proofs.Finding.{decide, below-or, listed-append, listed-one, self-symbol, symbol-stays, with-old, with-new}
@@ -20,26 +24,26 @@ module _ (sheet goal : List ℕ) where
   -- ---- one node
 
   abbrev with-choice : List Symbol → ℕ → Bool → List Symbol
-  with-choice ss v b = cond b ss (withSymbol ss (wordName sheet goal ((v - 64) / 32)) ((v - 64) % 32))
+  with-choice ss v b = cond b ss (withSymbol ss (wordName sheet goal ((v - firstName) / arities)) ((v - firstName) % arities))
 
-  pub with-variable : (ss : List Symbol) (v : ℕ) → v < 64 → withNode sheet goal ss v ≡ ss
+  pub with-variable : (ss : List Symbol) (v : ℕ) → v < firstName → withNode sheet goal ss v ≡ ss
   unfolding withNode
-  with-variable ss v l = ap (with-choice ss v) (lt-ltb v 64 l)
+  with-variable ss v l = ap (with-choice ss v) (lt-ltb v firstName l)
 
-  pub with-name : (ss : List Symbol) (v : ℕ) → 64 ≤ v → withNode sheet goal ss v ≡ withSymbol ss (wordName sheet goal ((v - 64) / 32)) ((v - 64) % 32)
+  pub with-name : (ss : List Symbol) (v : ℕ) → firstName ≤ v → withNode sheet goal ss v ≡ withSymbol ss (wordName sheet goal ((v - firstName) / arities)) ((v - firstName) % arities)
   unfolding withNode
-  with-name ss v l = ap (with-choice ss v) (le-ltb v 64 l)
+  with-name ss v l = ap (with-choice ss v) (le-ltb v firstName l)
 
   abbrev number-choice : List Symbol → ℕ → Bool → ℕ
-  number-choice ss v b = cond b v (64 + symbolOf ss (wordName sheet goal ((v - 64) / 32)) ((v - 64) % 32))
+  number-choice ss v b = cond b v (firstName + symbolOf ss (wordName sheet goal ((v - firstName) / arities)) ((v - firstName) % arities))
 
-  pub number-variable : (ss : List Symbol) (v : ℕ) → v < 64 → numberedWhat sheet goal ss v ≡ v
+  pub number-variable : (ss : List Symbol) (v : ℕ) → v < firstName → numberedWhat sheet goal ss v ≡ v
   unfolding numberedWhat
-  number-variable ss v l = ap (number-choice ss v) (lt-ltb v 64 l)
+  number-variable ss v l = ap (number-choice ss v) (lt-ltb v firstName l)
 
-  pub number-name : (ss : List Symbol) (v : ℕ) → 64 ≤ v → numberedWhat sheet goal ss v ≡ 64 + symbolOf ss (wordName sheet goal ((v - 64) / 32)) ((v - 64) % 32)
+  pub number-name : (ss : List Symbol) (v : ℕ) → firstName ≤ v → numberedWhat sheet goal ss v ≡ firstName + symbolOf ss (wordName sheet goal ((v - firstName) / arities)) ((v - firstName) % arities)
   unfolding numberedWhat
-  number-name ss v l = ap (number-choice ss v) (le-ltb v 64 l)
+  number-name ss v l = ap (number-choice ss v) (le-ltb v firstName l)
 
   -- ---- the symbols only grow
 
@@ -51,11 +55,11 @@ module _ (sheet goal : List ℕ) where
       go (inr e) = (record { name = f; arguments = n } ∷ [], with-new ss f n e)
 
   with-node-more : (ss : List Symbol) (v : ℕ) → (more : List Symbol) × (withNode sheet goal ss v ≡ ss ++ more)
-  with-node-more ss v = go (below-or v 64)
+  with-node-more ss v = go (below-or v firstName)
     where
-      go : (v < 64) ⊎ (64 ≤ v) → (more : List Symbol) × (withNode sheet goal ss v ≡ ss ++ more)
+      go : (v < firstName) ⊎ (firstName ≤ v) → (more : List Symbol) × (withNode sheet goal ss v ≡ ss ++ more)
       go (inl l) = ([], with-variable ss v l ∙ sym (append-nil ss))
-      go (inr l) = (with-symbol-more ss (wordName sheet goal ((v - 64) / 32)) ((v - 64) % 32) .0, with-name ss v l ∙ with-symbol-more ss (wordName sheet goal ((v - 64) / 32)) ((v - 64) % 32) .1)
+      go (inr l) = (with-symbol-more ss (wordName sheet goal ((v - firstName) / arities)) ((v - firstName) % arities) .0, with-name ss v l ∙ with-symbol-more ss (wordName sheet goal ((v - firstName) / arities)) ((v - firstName) % arities) .1)
 
   pub with-all-more : (ss : List Symbol) (xs : List Flat) → (more : List Symbol) × (withAll sheet goal ss xs ≡ ss ++ more)
   unfolding withAll
@@ -76,25 +80,25 @@ module _ (sheet goal : List ℕ) where
           (or-right (isListed ss f n) (isListed (record { name = f; arguments = n } ∷ []) f n)
           (subst T (sym (listed-one (record { name = f; arguments = n }) f n ∙ ap (λ (b : Bool). b || false) (self-symbol f n))) tt)))
 
-  pub name-listed : (ss : List Symbol) (v : ℕ) → 64 ≤ v → T (isListed (withNode sheet goal ss v) (wordName sheet goal ((v - 64) / 32)) ((v - 64) % 32))
+  pub name-listed : (ss : List Symbol) (v : ℕ) → firstName ≤ v → T (isListed (withNode sheet goal ss v) (wordName sheet goal ((v - firstName) / arities)) ((v - firstName) % arities))
   name-listed ss v l =
-      subst (λ (k : List Symbol). T (isListed k (wordName sheet goal ((v - 64) / 32)) ((v - 64) % 32))) (sym (with-name ss v l))
-      (symbol-listed ss (wordName sheet goal ((v - 64) / 32)) ((v - 64) % 32))
+      subst (λ (k : List Symbol). T (isListed k (wordName sheet goal ((v - firstName) / arities)) ((v - firstName) % arities))) (sym (with-name ss v l))
+      (symbol-listed ss (wordName sheet goal ((v - firstName) / arities)) ((v - firstName) % arities))
 
   number-stays : (ss : List Symbol) (xs : List Flat) (v : ℕ) → numberedWhat sheet goal (withAll sheet goal (withNode sheet goal ss v) xs) v ≡ numberedWhat sheet goal (withNode sheet goal ss v) v
-  number-stays ss xs v = go (below-or v 64)
+  number-stays ss xs v = go (below-or v firstName)
     where
-      go : (v < 64) ⊎ (64 ≤ v) → numberedWhat sheet goal (withAll sheet goal (withNode sheet goal ss v) xs) v ≡ numberedWhat sheet goal (withNode sheet goal ss v) v
+      go : (v < firstName) ⊎ (firstName ≤ v) → numberedWhat sheet goal (withAll sheet goal (withNode sheet goal ss v) xs) v ≡ numberedWhat sheet goal (withNode sheet goal ss v) v
       go (inl l) = number-variable (withAll sheet goal (withNode sheet goal ss v) xs) v l ∙ sym (number-variable (withNode sheet goal ss v) v l)
       go (inr l) =
           number-name (withAll sheet goal (withNode sheet goal ss v) xs) v l
-          ∙ (ap (λ (k : List Symbol). 64 + symbolOf k (wordName sheet goal ((v - 64) / 32)) ((v - 64) % 32)) (with-all-more (withNode sheet goal ss v) xs .1)
-          ∙ (ap (λ (k : ℕ). 64 + k) (symbol-stays (withNode sheet goal ss v) (with-all-more (withNode sheet goal ss v) xs .0) (wordName sheet goal ((v - 64) / 32)) ((v - 64) % 32) (name-listed ss v l))
+          ∙ (ap (λ (k : List Symbol). firstName + symbolOf k (wordName sheet goal ((v - firstName) / arities)) ((v - firstName) % arities)) (with-all-more (withNode sheet goal ss v) xs .1)
+          ∙ (ap (λ (k : ℕ). firstName + k) (symbol-stays (withNode sheet goal ss v) (with-all-more (withNode sheet goal ss v) xs .0) (wordName sheet goal ((v - firstName) / arities)) ((v - firstName) % arities) (name-listed ss v l))
           ∙ sym (number-name (withNode sheet goal ss v) v l)))
 
   -- ---- a node's turn
 
-  pub node-variable : (nodes : List ℕ) (p : ℕ) (symbols : List ℕ) (count : ℕ) → getD nodes p 0 < 64 → Listed sheet goal symbols count → NodeNumbered sheet goal nodes p symbols count nodes symbols count
+  pub node-variable : (nodes : List ℕ) (p : ℕ) (symbols : List ℕ) (count : ℕ) → getD nodes p 0 < firstName → Listed sheet goal symbols count → NodeNumbered sheet goal nodes p symbols count nodes symbols count
   node-variable nodes p symbols count l h =
       let same : withNode sheet goal (symbolsOf sheet goal symbols count) (getD nodes p 0) ≡ symbolsOf sheet goal symbols count = with-variable (symbolsOf sheet goal symbols count) (getD nodes p 0) l in
       let is : numberedWhat sheet goal (withNode sheet goal (symbolsOf sheet goal symbols count) (getD nodes p 0)) (getD nodes p 0) ≡ getD nodes p 0 = number-variable (withNode sheet goal (symbolsOf sheet goal symbols count) (getD nodes p 0)) (getD nodes p 0) l in
@@ -105,16 +109,16 @@ module _ (sheet goal : List ℕ) where
         few = omega arith;
       }
 
-  pub node-name : (nodes : List ℕ) (p : ℕ) (symbols : List ℕ) (count k r : ℕ) (after : List ℕ) → 64 ≤ getD nodes p 0
-      → Interned sheet goal symbols count ((getD nodes p 0 - 64) / 32) ((getD nodes p 0 - 64) % 32) after k → Counted count k r
-      → NodeNumbered sheet goal nodes p symbols count (set nodes p (k + 64)) after r
+  pub node-name : (nodes : List ℕ) (p : ℕ) (symbols : List ℕ) (count k r : ℕ) (after : List ℕ) → firstName ≤ getD nodes p 0
+      → Interned sheet goal symbols count ((getD nodes p 0 - firstName) / arities) ((getD nodes p 0 - firstName) % arities) after k → Counted count k r
+      → NodeNumbered sheet goal nodes p symbols count (set nodes p (k + firstName)) after r
   node-name nodes p symbols count k r after l i c =
-      let same : withNode sheet goal (symbolsOf sheet goal symbols count) (getD nodes p 0) ≡ withSymbol (symbolsOf sheet goal symbols count) (wordName sheet goal ((getD nodes p 0 - 64) / 32)) ((getD nodes p 0 - 64) % 32) = with-name (symbolsOf sheet goal symbols count) (getD nodes p 0) l in
-      let n : k ≡ symbolOf (withSymbol (symbolsOf sheet goal symbols count) (wordName sheet goal ((getD nodes p 0 - 64) / 32)) ((getD nodes p 0 - 64) % 32)) (wordName sheet goal ((getD nodes p 0 - 64) / 32)) ((getD nodes p 0 - 64) % 32) = i .number in
-      let e : k + 64 ≡ 64 + symbolOf (withSymbol (symbolsOf sheet goal symbols count) (wordName sheet goal ((getD nodes p 0 - 64) / 32)) ((getD nodes p 0 - 64) % 32)) (wordName sheet goal ((getD nodes p 0 - 64) / 32)) ((getD nodes p 0 - 64) % 32) = omega arith in
+      let same : withNode sheet goal (symbolsOf sheet goal symbols count) (getD nodes p 0) ≡ withSymbol (symbolsOf sheet goal symbols count) (wordName sheet goal ((getD nodes p 0 - firstName) / arities)) ((getD nodes p 0 - firstName) % arities) = with-name (symbolsOf sheet goal symbols count) (getD nodes p 0) l in
+      let n : k ≡ symbolOf (withSymbol (symbolsOf sheet goal symbols count) (wordName sheet goal ((getD nodes p 0 - firstName) / arities)) ((getD nodes p 0 - firstName) % arities)) (wordName sheet goal ((getD nodes p 0 - firstName) / arities)) ((getD nodes p 0 - firstName) % arities) = i .number in
+      let e : k + firstName ≡ firstName + symbolOf (withSymbol (symbolsOf sheet goal symbols count) (wordName sheet goal ((getD nodes p 0 - firstName) / arities)) ((getD nodes p 0 - firstName) % arities)) (wordName sheet goal ((getD nodes p 0 - firstName) / arities)) ((getD nodes p 0 - firstName) % arities) = omega arith in
       record {
         nodes-are = ap (set nodes p)
-            (e ∙ (ap (λ (ss : List Symbol). 64 + symbolOf ss (wordName sheet goal ((getD nodes p 0 - 64) / 32)) ((getD nodes p 0 - 64) % 32)) (sym same)
+            (e ∙ (ap (λ (ss : List Symbol). firstName + symbolOf ss (wordName sheet goal ((getD nodes p 0 - firstName) / arities)) ((getD nodes p 0 - firstName) % arities)) (sym same)
             ∙ sym (number-name (withNode sheet goal (symbolsOf sheet goal symbols count) (getD nodes p 0)) (getD nodes p 0) l)));
         symbols-are = i .symbols-are r c ∙ sym same;
         listed = i .listed r c;
@@ -136,7 +140,7 @@ module _ (sheet goal : List ℕ) where
     pub all : withAll sheet goal ss rest ≡ withAll sheet goal [] flats
     pub same : written nodes p (flatWords (numberedAll sheet goal (withAll sheet goal [] flats) rest)) ≡ written before 0 (flatWords (numberedAll sheet goal (withAll sheet goal [] flats) flats))
 
-  pub none-listed : (symbols : List ℕ) → 46428 ≤ length symbols → Listed sheet goal symbols 0
+  pub none-listed : (symbols : List ℕ) → nodesWords ≤ length symbols → Listed sheet goal symbols 0
   none-listed symbols l = record { room = omega arith; inside = λ k z. absurd (let y : k < 0 = z in omega arith) }
 
   pub number-begin : (nodes symbols : List ℕ) (stop : ℕ) (w : Copied sheet goal nodes stop) → Numbering (w .flats) nodes nodes stop 0 (symbolsOf sheet goal symbols 0)

@@ -6,23 +6,27 @@ use mathlib.Core.Bool.{Bool, cond}
 use mathlib.Core.List.{List, [], _∷_}
 use lib.ListN.{length, getD, set}
 use borrow.Author.Tests.{lt-ltb, le-ltb}
-use Rattle.marking.specs.Tables.{Has}
-use Rattle.marking.proofs.Places.{Node, node}
-use Rattle.loader.specs.Flat.{Parsed, parsedWords, flatWords, flatWhat, flatAll, Fits, AllFit, written, RunAt}
+use Rattle.spelling.specs.Words.{symbolWord}
+use Rattle.syntax.specs.Limits.{lengths}
+use Rattle.syntax.specs.Words.{firstName, nodeWords, goalWords}
+use Rattle.words.specs.Tables.{Has}
+use Rattle.words.proofs.Laws.{Node, node}
+use Rattle.layout.specs.Regions.{loadedNode}
+use Rattle.loader.specs.Flat.{Parsed, parsedWords, flatWords, flatWhat, flatAll, Fits, AllFit, written, RunAt, arities}
 use Rattle.loader.proofs.Writing.{written-nil, written-two}
 
 -- ---- the first word of a copy
 
 abbrev what-choice : ℕ → ℕ → ℕ → Bool → ℕ
-what-choice text what byte b = cond b what (64 + (byte * 64 + text * 32 + (what - 64) % 32) * 32 + (what - 64) / 32)
+what-choice text what byte b = cond b what (firstName + symbolWord byte text ((what - firstName) % lengths) * arities + (what - firstName) / lengths)
 
-pub flat-variable : (text what byte : ℕ) → what < 64 → what ≡ flatWhat text what byte
+pub flat-variable : (text what byte : ℕ) → what < firstName → what ≡ flatWhat text what byte
 unfolding flatWhat
-flat-variable text what byte l = sym (ap (what-choice text what byte) (lt-ltb what 64 l))
+flat-variable text what byte l = sym (ap (what-choice text what byte) (lt-ltb what firstName l))
 
-pub flat-name : (text what byte : ℕ) → 64 ≤ what → 64 + (byte * 64 + text * 32 + (what - 64) % 32) * 32 + (what - 64) / 32 ≡ flatWhat text what byte
+pub flat-name : (text what byte : ℕ) → firstName ≤ what → firstName + symbolWord byte text ((what - firstName) % lengths) * arities + (what - firstName) / lengths ≡ flatWhat text what byte
 unfolding flatWhat
-flat-name text what byte l = sym (ap (what-choice text what byte) (le-ltb what 64 l))
+flat-name text what byte l = sym (ap (what-choice text what byte) (le-ltb what firstName l))
 
 -- ---- the loop
 
@@ -34,9 +38,9 @@ pub record Running (table : List ℕ) (stop text : ℕ) (before : List ℕ) (at 
   pub fit : AllFit run
   pub same : written nodes q (flatWords (flatAll text run)) ≡ written before at whole
   pub past : q + length (flatWords (flatAll text run)) ≡ at + length whole
-  pub near : q * 3 ≤ p * 2 + 8200
+  pub near : q * nodeWords ≤ p * loadedNode + goalWords * loadedNode
 
-pub run-begin : (table : List ℕ) (from stop text : ℕ) (nodes : List ℕ) (at : ℕ) → at * 3 ≤ from * 2 + 8200 → (w : RunAt table from stop)
+pub run-begin : (table : List ℕ) (from stop text : ℕ) (nodes : List ℕ) (at : ℕ) → at * nodeWords ≤ from * loadedNode + goalWords * loadedNode → (w : RunAt table from stop)
     → Running table stop text nodes at (flatWords (flatAll text (w .run))) nodes from at
 run-begin table from stop text nodes at l w = record { run = w .run; has = w .has; ends = w .ends; fit = w .fit; same = refl; past = refl; near = l }
 
@@ -51,7 +55,7 @@ pub record Turn (table : List ℕ) (stop text : ℕ) (before : List ℕ) (at : �
 module _ (table : List ℕ) (stop text : ℕ) (before : List ℕ) (at : ℕ) (whole nodes : List ℕ) (p q : ℕ) where
   turn-by : (run : List Parsed) → Has table p (parsedWords run) → stop ≡ p + length (parsedWords run) → AllFit run
       → written nodes q (flatWords (flatAll text run)) ≡ written before at whole → q + length (flatWords (flatAll text run)) ≡ at + length whole
-      → q * 3 ≤ p * 2 + 8200 → p < stop → Turn table stop text before at whole nodes p q
+      → q * nodeWords ≤ p * loadedNode + goalWords * loadedNode → p < stop → Turn table stop text before at whole nodes p q
   unfolding parsedWords flatWords flatAll
   turn-by [] h e f s g n l = absurd (let z : stop ≡ p + 0 = e in omega arith)
   turn-by (x ∷ xs) h e f s g n l =

@@ -7,28 +7,29 @@ use mathlib.Core.List.{List}
 use lib.Dec.{T, eqb, eqb→eq, eqb-refl}
 use lib.ListN.{length, getD, take, drop, length-take, length-drop}
 use Rattle.syntax.specs.Terms.{sameBytes}
+use Rattle.layout.specs.Regions.{mostNodes}
 use Rattle.machine.proofs.Tests.{name-eq}
 use Rattle.layout.specs.Nodes.{isSymbol}
-use Rattle.spelling.specs.Words.{textOf}
+use Rattle.spelling.specs.Words.{textOf, symbolPlace, symbolLength, symbolText}
 use Rattle.loader.specs.Listing.{wordName, Inside, symbolAt}
 
 -- ---- a word's text
 
-pub sheet-text : (sheet goal : List ℕ) (w : ℕ) → w / 32 % 2 ≡ 0 → textOf w sheet goal ≡ sheet
+pub sheet-text : (sheet goal : List ℕ) (w : ℕ) → symbolText w ≡ 0 → textOf w sheet goal ≡ sheet
 sheet-text sheet goal w e = ap (λ (k : ℕ). cond (eqb k 0) sheet goal) e
 
-pub goal-text : (sheet goal : List ℕ) (w : ℕ) → (w / 32 % 2 ≡ 0 → ⊥) → textOf w sheet goal ≡ goal
-goal-text sheet goal w n = ap (λ (k : ℕ). cond (eqb k 0) sheet goal) (let e : w / 32 % 2 ≡ 1 = omega (arith, n) in e)
+pub goal-text : (sheet goal : List ℕ) (w : ℕ) → (symbolText w ≡ 0 → ⊥) → textOf w sheet goal ≡ goal
+goal-text sheet goal w n = ap (λ (k : ℕ). cond (eqb k 0) sheet goal) (let e : symbolText w ≡ 1 = omega (arith, n) in e)
 
-module _ (s sheet goal : List ℕ) (w at len : ℕ) (text : textOf w sheet goal ≡ s) (place : at ≡ w / 64) (long : len ≡ w % 32) where
+module _ (s sheet goal : List ℕ) (w at len : ℕ) (text : textOf w sheet goal ≡ s) (place : at ≡ symbolPlace w) (long : len ≡ symbolLength w) where
   pub word-name : take len (drop at s) ≡ wordName sheet goal w
   unfolding wordName
-  word-name = ap (λ (n : ℕ). take n (drop at s)) long ∙ ap₂ (λ (a : ℕ) (l : List ℕ). take (w % 32) (drop a l)) place (sym text)
+  word-name = ap (λ (n : ℕ). take n (drop at s)) long ∙ ap₂ (λ (a : ℕ) (l : List ℕ). take (symbolLength w) (drop a l)) place (sym text)
 
   pub inside-text : Inside sheet goal w → at + len ≤ length s
   unfolding Inside
   inside-text h =
-      let i : w / 64 + w % 32 ≤ length (textOf w sheet goal) = h in
+      let i : symbolPlace w + symbolLength w ≤ length (textOf w sheet goal) = h in
       let e : length (textOf w sheet goal) ≡ length s = ap length text in
       omega arith
 
@@ -40,12 +41,12 @@ module _ (s sheet goal : List ℕ) (w at len : ℕ) (text : textOf w sheet goal 
 
 -- ---- words of other names
 
-pub name-long : (sheet goal : List ℕ) (w : ℕ) → Inside sheet goal w → length (wordName sheet goal w) ≡ w % 32
+pub name-long : (sheet goal : List ℕ) (w : ℕ) → Inside sheet goal w → length (wordName sheet goal w) ≡ symbolLength w
 unfolding wordName Inside
 name-long sheet goal w h =
-    let i : w / 64 + w % 32 ≤ length (textOf w sheet goal) = h in
-    let d : length (drop (w / 64) (textOf w sheet goal)) ≡ length (textOf w sheet goal) - w / 64 = length-drop (w / 64) (textOf w sheet goal) in
-    let t : length (take (w % 32) (drop (w / 64) (textOf w sheet goal))) ≡ min (w % 32) (length (drop (w / 64) (textOf w sheet goal))) = length-take (w % 32) (drop (w / 64) (textOf w sheet goal)) in
+    let i : symbolPlace w + symbolLength w ≤ length (textOf w sheet goal) = h in
+    let d : length (drop (symbolPlace w) (textOf w sheet goal)) ≡ length (textOf w sheet goal) - symbolPlace w = length-drop (symbolPlace w) (textOf w sheet goal) in
+    let t : length (take (symbolLength w) (drop (symbolPlace w) (textOf w sheet goal))) ≡ min (symbolLength w) (length (drop (symbolPlace w) (textOf w sheet goal))) = length-take (symbolLength w) (drop (symbolPlace w) (textOf w sheet goal)) in
     omega arith
 
 not-same : (a b : List ℕ) → (length a ≡ length b → ⊥) → false ≡ sameBytes a b
@@ -55,7 +56,7 @@ not-same a b n = go (sameBytes a b) refl
     go false e = refl
     go true e = absurd (n (ap length (name-eq a b (subst T (sym e) tt))))
 
-pub other-length : (sheet goal : List ℕ) (v w : ℕ) → Inside sheet goal v → Inside sheet goal w → (v % 32 ≡ w % 32 → ⊥) → false ≡ sameBytes (wordName sheet goal v) (wordName sheet goal w)
+pub other-length : (sheet goal : List ℕ) (v w : ℕ) → Inside sheet goal v → Inside sheet goal w → (symbolLength v ≡ symbolLength w → ⊥) → false ≡ sameBytes (wordName sheet goal v) (wordName sheet goal w)
 other-length sheet goal v w h k n =
     not-same (wordName sheet goal v) (wordName sheet goal w) (λ e. n (sym (name-long sheet goal v h) ∙ (e ∙ name-long sheet goal w k)))
 
@@ -75,11 +76,11 @@ same-arguments m n x r k e = go (eqb m n) refl
     go true q = e
     go false q = absurd (subst T q (subst (λ (j : ℕ). T (eqb m j)) k (eqb-refl m)))
 
-pub symbol-not : (sheet goal symbols : List ℕ) (k w n : ℕ) → (getD symbols (23214 + k) 0 ≡ n → ⊥) → false ≡ isSymbol (wordName sheet goal w) n (symbolAt sheet goal symbols k)
+pub symbol-not : (sheet goal symbols : List ℕ) (k w n : ℕ) → (getD symbols (mostNodes + k) 0 ≡ n → ⊥) → false ≡ isSymbol (wordName sheet goal w) n (symbolAt sheet goal symbols k)
 unfolding isSymbol symbolAt
-symbol-not sheet goal symbols k w n h = other-arguments (getD symbols (23214 + k) 0) n (sameBytes (wordName sheet goal (getD symbols k 0)) (wordName sheet goal w)) h
+symbol-not sheet goal symbols k w n h = other-arguments (getD symbols (mostNodes + k) 0) n (sameBytes (wordName sheet goal (getD symbols k 0)) (wordName sheet goal w)) h
 
-pub symbol-is : (sheet goal symbols : List ℕ) (k w n : ℕ) (r : Bool) → getD symbols (23214 + k) 0 ≡ n
+pub symbol-is : (sheet goal symbols : List ℕ) (k w n : ℕ) (r : Bool) → getD symbols (mostNodes + k) 0 ≡ n
     → r ≡ sameBytes (wordName sheet goal (getD symbols k 0)) (wordName sheet goal w) → r ≡ isSymbol (wordName sheet goal w) n (symbolAt sheet goal symbols k)
 unfolding isSymbol symbolAt
-symbol-is sheet goal symbols k w n r h e = same-arguments (getD symbols (23214 + k) 0) n (sameBytes (wordName sheet goal (getD symbols k 0)) (wordName sheet goal w)) r h e
+symbol-is sheet goal symbols k w n r h e = same-arguments (getD symbols (mostNodes + k) 0) n (sameBytes (wordName sheet goal (getD symbols k 0)) (wordName sheet goal w)) r h e

@@ -6,14 +6,15 @@ use mathlib.Core.Bool.{Bool, _&&_}
 use mathlib.Core.List.{List, [], _∷_, _++_}
 use lib.Dec.{T, lt→ltb}
 use lib.ListN.{length}
+use Rattle.syntax.specs.Limits.{wordBytes, lengths, arguments, variables}
 use Rattle.syntax.specs.Terms.{Term, Terms, variable, compound, nil, cons, arity, termOf, Literal, Body, call, equation, truth, falsity, done, also, Clause}
-use Rattle.syntax.specs.Words.{functor, termsWords}
+use Rattle.syntax.specs.Words.{functor, termsWords, firstName}
 use Rattle.marking.specs.Standing.{NameAt, Stands, AllStand, stands-variable, stands-compound, stand-nil, stand-cons, LiteralStands, call-stands, equation-stands, truth-stands, falsity-stands, BodyStands, done-stands, also-stands, ClauseStands, ClausesStand, no-clauses, clause-stands}
 use Rattle.machine.proofs.Tests.{and}
 use Rattle.layout.specs.Nodes.{Symbol, symbolOf, isListed, loadedWords, loadedAll, isLoadable, areLoadable}
 use Rattle.layout.specs.Program.{literalNodes, bodyNodes, clauseNodes, clausesNodes, literalLoadable, bodyLoadable, clausesLoadable}
-use Rattle.spelling.specs.Words.{textOf}
-use Rattle.loader.specs.Flat.{Parsed, parsedWords, termParsed, termsParsed, literalParsed, bodyParsed, clauseParsed, clausesParsed, Flat, flatWords, flatWhat, flatAll}
+use Rattle.spelling.specs.Words.{textOf, symbolWord, symbolPlace, symbolLength, symbolText, texts}
+use Rattle.loader.specs.Flat.{Parsed, parsedWords, termParsed, termsParsed, literalParsed, bodyParsed, clauseParsed, clausesParsed, Flat, flatWords, flatWhat, flatAll, arities}
 use Rattle.loader.specs.Listing.{wordName, Inside, withNode, withAll, numberedWhat, numberedAll, AllInside}
 use Rattle.loader.proofs.Runs.{flat-variable, flat-name}
 use Rattle.loader.proofs.Bodies.{terms-words}
@@ -51,14 +52,14 @@ module _ (sheet goal : List ℕ) where
   -- every name of the nodes is among the symbols
   abbrev pub AllListed : List Symbol → List Flat → Type 0
   AllListed ss [] = Unit {0}
-  AllListed ss (x ∷ xs) = (64 ≤ x .what → T (isListed ss (wordName sheet goal ((x .what - 64) / 32)) ((x .what - 64) % 32))) × AllListed ss xs
+  AllListed ss (x ∷ xs) = (firstName ≤ x .what → T (isListed ss (wordName sheet goal ((x .what - firstName) / arities)) ((x .what - firstName) % arities))) × AllListed ss xs
 
   pub all-listed : (ss : List Symbol) (xs : List Flat) → AllListed (withAll sheet goal ss xs) xs
   unfolding withAll
   all-listed ss [] = tt
   all-listed ss (x ∷ xs) = (
-    λ l. subst (λ (k : List Symbol). T (isListed k (wordName sheet goal ((x .what - 64) / 32)) ((x .what - 64) % 32))) (sym (with-all-more sheet goal (withNode sheet goal ss (x .what)) xs .1))
-        (stays-listed (withNode sheet goal ss (x .what)) (with-all-more sheet goal (withNode sheet goal ss (x .what)) xs .0) (wordName sheet goal ((x .what - 64) / 32)) ((x .what - 64) % 32) (name-listed sheet goal ss (x .what) l)),
+    λ l. subst (λ (k : List Symbol). T (isListed k (wordName sheet goal ((x .what - firstName) / arities)) ((x .what - firstName) % arities))) (sym (with-all-more sheet goal (withNode sheet goal ss (x .what)) xs .1))
+        (stays-listed (withNode sheet goal ss (x .what)) (with-all-more sheet goal (withNode sheet goal ss (x .what)) xs .0) (wordName sheet goal ((x .what - firstName) / arities)) ((x .what - firstName) % arities) (name-listed sheet goal ss (x .what) l)),
     all-listed (withNode sheet goal ss (x .what)) xs,
   )
 
@@ -86,56 +87,56 @@ module _ (sheet goal : List ℕ) where
 
   -- ---- a name of a text
 
-  module _ (ss : List Symbol) (text : ℕ) (s : List ℕ) (one : text ≤ 1) (reads : (w : ℕ) → w / 32 % 2 ≡ text → textOf w sheet goal ≡ s) where
+  module _ (ss : List Symbol) (text : ℕ) (s : List ℕ) (one : text ≤ 1) (reads : (w : ℕ) → symbolText w ≡ text → textOf w sheet goal ≡ s) where
     -- what the word of a name says
     record Word (b n : ℕ) (f : List ℕ) (v : ℕ) : Type 0 where
-      high : 64 ≤ v
-      name : wordName sheet goal ((v - 64) / 32) ≡ f
-      arguments : (v - 64) % 32 ≡ n
-      inside : Inside sheet goal ((v - 64) / 32)
+      high : firstName ≤ v
+      name : wordName sheet goal ((v - firstName) / arities) ≡ f
+      arguments : (v - firstName) % arities ≡ n
+      inside : Inside sheet goal ((v - firstName) / arities)
 
-    word : (b n : ℕ) (f : List ℕ) → NameAt s b f → n ≤ 8 → Word b n f (flatWhat text (functor n (length f)) b)
+    word : (b n : ℕ) (f : List ℕ) → NameAt s b f → n ≤ arguments → Word b n f (flatWhat text (functor n (length f)) b)
     unfolding Inside
     word b n f k m =
-        let short : length f ≤ 31 = k .short in
-        let v : 64 + (b * 64 + text * 32 + (functor n (length f) - 64) % 32) * 32 + (functor n (length f) - 64) / 32 ≡ flatWhat text (functor n (length f)) b = flat-name text (functor n (length f)) b (omega arith) in
-        let low : (functor n (length f) - 64) % 32 ≡ length f = low-is n (length f) short in
-        let few : (functor n (length f) - 64) / 32 ≡ n = high-is n (length f) short in
-        let is : flatWhat text (functor n (length f)) b ≡ 64 + (b * 64 + text * 32 + length f) * 32 + n = omega arith in
-        let at : (flatWhat text (functor n (length f)) b - 64) / 32 ≡ b * 64 + text * 32 + length f = ap (λ (y : ℕ). (y - 64) / 32) is ∙ word-is (b * 64 + text * 32 + length f) n m in
-        let place : b ≡ (flatWhat text (functor n (length f)) b - 64) / 32 / 64 = sym (ap (λ (y : ℕ). y / 64) at ∙ place-is b text (length f) one short) in
-        let long : length f ≡ (flatWhat text (functor n (length f)) b - 64) / 32 % 32 = sym (ap (λ (y : ℕ). y % 32) at ∙ long-is b text (length f) short) in
-        let which : (flatWhat text (functor n (length f)) b - 64) / 32 / 32 % 2 ≡ text = ap (λ (y : ℕ). y / 32 % 2) at ∙ text-is b text (length f) one short in
-        let source : textOf ((flatWhat text (functor n (length f)) b - 64) / 32) sheet goal ≡ s = reads ((flatWhat text (functor n (length f)) b - 64) / 32) which in
-        let e : length (textOf ((flatWhat text (functor n (length f)) b - 64) / 32) sheet goal) ≡ length s = ap length source in
+        let short : length f ≤ wordBytes = k .short in
+        let v : firstName + symbolWord b text ((functor n (length f) - firstName) % lengths) * arities + (functor n (length f) - firstName) / lengths ≡ flatWhat text (functor n (length f)) b = flat-name text (functor n (length f)) b (omega arith) in
+        let low : (functor n (length f) - firstName) % lengths ≡ length f = low-is n (length f) short in
+        let few : (functor n (length f) - firstName) / lengths ≡ n = high-is n (length f) short in
+        let is : flatWhat text (functor n (length f)) b ≡ firstName + symbolWord b text (length f) * arities + n = omega arith in
+        let at : (flatWhat text (functor n (length f)) b - firstName) / arities ≡ symbolWord b text (length f) = ap (λ (y : ℕ). (y - firstName) / arities) is ∙ word-is (symbolWord b text (length f)) n m in
+        let place : b ≡ (flatWhat text (functor n (length f)) b - firstName) / arities / (texts * lengths) = sym (ap (λ (y : ℕ). symbolPlace y) at ∙ place-is b text (length f) one short) in
+        let long : length f ≡ (flatWhat text (functor n (length f)) b - firstName) / arities % lengths = sym (ap (λ (y : ℕ). symbolLength y) at ∙ long-is b text (length f) short) in
+        let which : (flatWhat text (functor n (length f)) b - firstName) / arities / lengths % texts ≡ text = ap (λ (y : ℕ). symbolText y) at ∙ text-is b text (length f) one short in
+        let source : textOf ((flatWhat text (functor n (length f)) b - firstName) / arities) sheet goal ≡ s = reads ((flatWhat text (functor n (length f)) b - firstName) / arities) which in
+        let e : length (textOf ((flatWhat text (functor n (length f)) b - firstName) / arities) sheet goal) ≡ length s = ap length source in
         let i : b + length f ≤ length s = k .inside in
-        let z : (flatWhat text (functor n (length f)) b - 64) / 32 / 64 + (flatWhat text (functor n (length f)) b - 64) / 32 % 32 ≤ length (textOf ((flatWhat text (functor n (length f)) b - 64) / 32) sheet goal) = omega arith in
+        let z : (flatWhat text (functor n (length f)) b - firstName) / arities / (texts * lengths) + (flatWhat text (functor n (length f)) b - firstName) / arities % lengths ≤ length (textOf ((flatWhat text (functor n (length f)) b - firstName) / arities) sheet goal) = omega arith in
         record {
           high = omega arith;
-          name = sym (word-name s sheet goal ((flatWhat text (functor n (length f)) b - 64) / 32) b (length f) source place long) ∙ sym (k .spelt);
-          arguments = ap (λ (y : ℕ). (y - 64) % 32) is ∙ arguments-is (b * 64 + text * 32 + length f) n m;
+          name = sym (word-name s sheet goal ((flatWhat text (functor n (length f)) b - firstName) / arities) b (length f) source place long) ∙ sym (k .spelt);
+          arguments = ap (λ (y : ℕ). (y - firstName) % arities) is ∙ arguments-is (symbolWord b text (length f)) n m;
           inside = z;
         }
       where
-        low-is : (n l : ℕ) → l ≤ 31 → (64 + n * 32 + l - 64) % 32 ≡ l
+        low-is : (n l : ℕ) → l ≤ wordBytes → (functor n l - firstName) % lengths ≡ l
         low-is n l h = omega arith
 
-        high-is : (n l : ℕ) → l ≤ 31 → (64 + n * 32 + l - 64) / 32 ≡ n
+        high-is : (n l : ℕ) → l ≤ wordBytes → (functor n l - firstName) / lengths ≡ n
         high-is n l h = omega arith
 
-        word-is : (x n : ℕ) → n ≤ 8 → (64 + x * 32 + n - 64) / 32 ≡ x
+        word-is : (x n : ℕ) → n ≤ arguments → (firstName + x * arities + n - firstName) / arities ≡ x
         word-is x n h = omega arith
 
-        arguments-is : (x n : ℕ) → n ≤ 8 → (64 + x * 32 + n - 64) % 32 ≡ n
+        arguments-is : (x n : ℕ) → n ≤ arguments → (firstName + x * arities + n - firstName) % arities ≡ n
         arguments-is x n h = omega arith
 
-        place-is : (b t l : ℕ) → t ≤ 1 → l ≤ 31 → (b * 64 + t * 32 + l) / 64 ≡ b
+        place-is : (b t l : ℕ) → t ≤ 1 → l ≤ wordBytes → symbolPlace (symbolWord b t l) ≡ b
         place-is b t l h k = omega arith
 
-        long-is : (b t l : ℕ) → l ≤ 31 → (b * 64 + t * 32 + l) % 32 ≡ l
+        long-is : (b t l : ℕ) → l ≤ wordBytes → symbolLength (symbolWord b t l) ≡ l
         long-is b t l k = omega arith
 
-        text-is : (b t l : ℕ) → t ≤ 1 → l ≤ 31 → (b * 64 + t * 32 + l) / 32 % 2 ≡ t
+        text-is : (b t l : ℕ) → t ≤ 1 → l ≤ wordBytes → symbolText (symbolWord b t l) ≡ t
         text-is b t l h k = omega arith
 
     -- ---- the names are in the text
@@ -145,7 +146,7 @@ module _ (sheet goal : List ℕ) where
 
       pub term-inside : (t : Term) → Stands s t → AllInside sheet goal (flatAll text (termParsed t))
       term-inside (variable n b) (stands-variable k) =
-          (λ l. absurd (let z : n < 32 = k in let e : n ≡ flatWhat text n b = flat-variable text n b (omega arith) in omega arith), tt)
+          (λ l. absurd (let z : n < variables = k in let e : n ≡ flatWhat text n b = flat-variable text n b (omega arith) in omega arith), tt)
       term-inside (compound b f ts) (stands-compound n k a) = (λ l. word b (arity ts) f n k .inside, terms-inside ts a)
 
       pub terms-inside : (ts : Terms) → AllStand s ts → AllInside sheet goal (flatAll text (termsParsed ts))
@@ -205,9 +206,9 @@ module _ (sheet goal : List ℕ) where
 
       pub term-fine : (t : Term) → Stands s t → AllListed ss (flatAll text (termParsed t)) → Fine (isLoadable ss t) (loadedWords ss t) (termParsed t)
       term-fine (variable n b) (stands-variable k) h =
-          let small : n < 64 = (let z : n < 32 = k in omega arith) in
+          let small : n < firstName = (let z : n < variables = k in omega arith) in
           let e : flatWhat text n b ≡ n = sym (flat-variable text n b small) in (
-            lt→ltb n 64 small,
+            lt→ltb n firstName small,
             ap (λ (v : ℕ). v ∷ 2 ∷ []) (sym (ap (numberedWhat sheet goal ss) e ∙ number-variable sheet goal ss n small)),
           )
       term-fine (compound b f ts) (stands-compound n k a) h =
@@ -215,9 +216,9 @@ module _ (sheet goal : List ℕ) where
           let inner : Fine (areLoadable ss ts) (loadedAll ss ts) (termsParsed ts) = terms-fine ts a (h .1) in
           let listed : T (isListed ss f (arity ts)) =
           subst (λ (g : List ℕ). T (isListed ss g (arity ts))) (w .name)
-          (subst (λ (m : ℕ). T (isListed ss (wordName sheet goal ((flatWhat text (functor (arity ts) (length f)) b - 64) / 32)) m)) (w .arguments) (h .0 (w .high))) in
-          let number : 64 + symbolOf ss f (arity ts) ≡ numberedWhat sheet goal ss (flatWhat text (functor (arity ts) (length f)) b) =
-          sym (number-name sheet goal ss (flatWhat text (functor (arity ts) (length f)) b) (w .high) ∙ ap₂ (λ (g : List ℕ) (m : ℕ). 64 + symbolOf ss g m) (w .name) (w .arguments)) in (
+          (subst (λ (m : ℕ). T (isListed ss (wordName sheet goal ((flatWhat text (functor (arity ts) (length f)) b - firstName) / arities)) m)) (w .arguments) (h .0 (w .high))) in
+          let number : firstName + symbolOf ss f (arity ts) ≡ numberedWhat sheet goal ss (flatWhat text (functor (arity ts) (length f)) b) =
+          sym (number-name sheet goal ss (flatWhat text (functor (arity ts) (length f)) b) (w .high) ∙ ap₂ (λ (g : List ℕ) (m : ℕ). firstName + symbolOf ss g m) (w .name) (w .arguments)) in (
             and (isListed ss f (arity ts)) (areLoadable ss ts) listed (inner .0),
             (ap₂ (λ (x y : ℕ). x ∷ y ∷ loadedAll ss ts) number (size-is ts (loadedAll ss ts) (inner .1))
                 ∙ ap (λ (l : List ℕ). numberedWhat sheet goal ss (flatWhat text (functor (arity ts) (length f)) b) ∷ ((3 + length (termsWords ts)) / 3 * 2) ∷ l) (inner .1)),

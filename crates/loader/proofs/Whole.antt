@@ -5,12 +5,14 @@ use mathlib.Core.Path.{_≡_, refl, sym, ap, ap₂, _∙_, subst}
 use mathlib.Core.List.{List, [], _∷_, _++_}
 use lib.Dec.{T}
 use lib.ListN.{length, length-append}
-use Rattle.syntax.specs.Words.{bodyWords, clausesWords}
-use Rattle.marking.specs.Tables.{Has}
-use Rattle.marking.proofs.Places.{has-inside}
-use Rattle.layout.specs.Nodes.{Symbol, nameOf, Has as HasNodes}
+use Rattle.syntax.specs.Limits.{sheetBytes, goalBytes, arguments}
+use Rattle.syntax.specs.Words.{bodyWords, clausesWords, sheetWords, goalWords}
+use Rattle.words.specs.Tables.{Has}
+use Rattle.words.proofs.Laws.{has-inside}
+use Rattle.layout.specs.Regions.{loadedNode, mostNodes, nodesWords}
+use Rattle.layout.specs.Nodes.{Symbol, nameOf}
 use Rattle.layout.specs.Program.{bodyNodes, clausesNodes, programNodes, bodyLoadable, clausesLoadable}
-use Rattle.spelling.specs.Words.{textOf, nameAt, Placed, Names}
+use Rattle.spelling.specs.Words.{textOf, nameAt, Placed, Names, symbolText}
 use Rattle.loader.specs.Flat.{parsedWords, bodyParsed, clausesParsed, Flat, flatWords, flatAll, written, BodyHere, ClausesHere}
 use Rattle.loader.specs.Listing.{wordName, Inside, symbolAt, symbolsOf, Listed, withAll, numberedAll, Copied, NodesNumbered}
 use Rattle.loader.specs.Loading.{Loadable, Loaded}
@@ -40,7 +42,7 @@ name-at sheet goal symbols k r l = sym (ap (λ (s : Symbol). s .name) (symbols-a
 
 placed : (sheet goal symbols : List ℕ) (r : ℕ) → Listed sheet goal symbols r → (k : ℕ) → k < r → Placed symbols sheet goal k
 unfolding Inside
-placed sheet goal symbols r h k l = record { listed = (let z : 23214 + r ≤ length symbols = h .room in omega arith); inside = h .inside k l }
+placed sheet goal symbols r h k l = record { listed = (let z : mostNodes + r ≤ length symbols = h .room in omega arith); inside = h .inside k l }
 
 names : (sheet goal symbols : List ℕ) (r : ℕ) (ss : List Symbol) → symbolsOf sheet goal symbols r ≡ ss → Listed sheet goal symbols r → Names ss symbols sheet goal
 names sheet goal symbols r ss e h =
@@ -56,7 +58,7 @@ module _ (sheet table : List ℕ) (clauses : ℕ) (goal goals : List ℕ) (liter
   abbrev pub goal-here : Loadable sheet table clauses goal goals literals nodes symbols → BodyHere goals 0 literals
   goal-here w = record {
     text = goal;
-    short = (let z : length goal ≤ 1024 = w .goal-short in let y : length goal ≤ 16384 = omega arith in y);
+    short = (let z : length goal ≤ goalBytes = w .goal-short in let y : length goal ≤ sheetBytes = omega arith in y);
     body = w .g .body;
     has = w .has-goal;
     count = w .literals-count;
@@ -80,12 +82,12 @@ module _ (sheet table : List ℕ) (clauses : ℕ) (goal goals : List ℕ) (liter
     abbrev clauses-words : List ℕ
     clauses-words = flatWords (flatAll 0 (clausesParsed (w .sh .clauses)))
 
-    goal-few : length goal-words * 3 ≤ 8200
+    goal-few : length goal-words * 3 ≤ goalWords * loadedNode
     goal-few =
         let a : length goal-words * 3 ≡ length (parsedWords (bodyParsed (w .g .body))) * 2 = flat-length 1 (bodyParsed (w .g .body)) in
         let b : length (parsedWords (bodyParsed (w .g .body))) ≤ length (bodyWords (w .g .body)) = body-long (w .g .body) in
         let c : length (bodyWords (w .g .body)) ≤ length goals = has-within goals (bodyWords (w .g .body)) (w .has-goal) in
-        let d : length goals ≤ 4100 = w .goals-short in
+        let d : length goals ≤ goalWords = w .goals-short in
         omega arith
 
     clauses-few : length clauses-words * 3 ≤ 131080
@@ -93,10 +95,10 @@ module _ (sheet table : List ℕ) (clauses : ℕ) (goal goals : List ℕ) (liter
         let a : length clauses-words * 3 ≡ length (parsedWords (clausesParsed (w .sh .clauses))) * 2 = flat-length 0 (clausesParsed (w .sh .clauses)) in
         let b : length (parsedWords (clausesParsed (w .sh .clauses))) ≤ length (clausesWords (w .sh .clauses)) = clauses-long (w .sh .clauses) in
         let c : length (clausesWords (w .sh .clauses)) ≤ length table = has-within table (clausesWords (w .sh .clauses)) (w .has-clauses) in
-        let d : length table ≤ 65540 = w .table-short in
+        let d : length table ≤ sheetWords = w .table-short in
         omega arith
 
-    pub middle-near : (m : ℕ) → m ≡ 0 + length goal-words → m * 3 ≤ 8200
+    pub middle-near : (m : ℕ) → m ≡ 0 + length goal-words → m * 3 ≤ goalWords * loadedNode
     middle-near m e = omega (arith, goal-few)
 
     -- the goal's nodes and then the clauses'
@@ -119,7 +121,7 @@ module _ (sheet table : List ℕ) (clauses : ℕ) (goal goals : List ℕ) (liter
           let g : length (flatWords all-flats) ≡ length goal-words + length clauses-words = ap length all-words ∙ length-append goal-words clauses-words in
           let z : stop ≡ length (flatWords all-flats) = omega arith in z
 
-      pub stop-few : stop ≤ 46428
+      pub stop-few : stop ≤ nodesWords
       stop-few =
           let e : m ≡ 0 + length goal-words = a .1 in
           let f : stop ≡ m + length clauses-words = b .1 in
@@ -128,13 +130,13 @@ module _ (sheet table : List ℕ) (clauses : ℕ) (goal goals : List ℕ) (liter
       second-long : length second ≡ length nodes
       second-long = ap length second-is ∙ length-written nodes 0 (flatWords all-flats)
 
-      pub reads-goal : (x : ℕ) → x / 32 % 2 ≡ 1 → textOf x sheet goal ≡ goal
-      reads-goal x e = goal-text sheet goal x (λ q. let z : x / 32 % 2 ≡ 0 = q in omega arith)
+      pub reads-goal : (x : ℕ) → symbolText x ≡ 1 → textOf x sheet goal ≡ goal
+      reads-goal x e = goal-text sheet goal x (λ q. let z : symbolText x ≡ 0 = q in omega arith)
 
       abbrev pub copied : Copied sheet goal second stop
       copied = record {
         flats = flatAll 1 (bodyParsed (w .g .body)) ++ flatAll 0 (clausesParsed (w .sh .clauses));
-        has = subst (λ (l : List ℕ). HasNodes l 0 (flatWords all-flats)) (sym second-is) (has-written nodes 0 (flatWords all-flats) (omega (arith, stop-is, stop-few, w .nodes-room)));
+        has = subst (λ (l : List ℕ). Has l 0 (flatWords all-flats)) (sym second-is) (has-written nodes 0 (flatWords all-flats) (omega (arith, stop-is, stop-few, w .nodes-room)));
         ends = stop-is;
         inside = inside-append sheet goal (flatAll 1 (bodyParsed (w .g .body))) (flatAll 0 (clausesParsed (w .sh .clauses)))
             (body-inside sheet goal [] 1 goal (let z : 1 ≤ 1 = omega arith in z) reads-goal (w .g .body) (w .goal-stands))
@@ -169,8 +171,8 @@ module _ (sheet table : List ℕ) (clauses : ℕ) (goal goals : List ℕ) (liter
       loaded third after r n = record {
         ss = all-symbols;
         names = names sheet goal after r all-symbols (n .symbols-are) (n .listed);
-        nodes-stand = subst (HasNodes third 0) (sym program-is)
-            (subst (λ (l : List ℕ). HasNodes l 0 (flatWords (numberedAll sheet goal all-symbols all-flats))) (sym (n .nodes-are))
+        nodes-stand = subst (Has third 0) (sym program-is)
+            (subst (λ (l : List ℕ). Has l 0 (flatWords (numberedAll sheet goal all-symbols all-flats))) (sym (n .nodes-are))
             (has-written second 0 (flatWords (numberedAll sheet goal all-symbols all-flats)) (omega (arith, numbered-long sheet goal all-symbols all-flats, stop-is, stop-few, second-long, w .nodes-room))));
         goal-loadable = goal-fine .0;
         clauses-loadable = clauses-are-fine .0;

@@ -4,32 +4,34 @@ use native.Mathlib.Omega.{arith}
 use mathlib.Core.Path.{_≡_, refl}
 use mathlib.Core.List.{List, [], _∷_}
 use lib.ListN.{length, replicate, length-replicate}
+use Rattle.syntax.specs.Limits.{sheetBytes, goalBytes, declarations}
 use Rattle.syntax.specs.Terms.{truth, done, also}
-use Rattle.syntax.specs.Words.{literalWords, bodyWords, clausesWords}
+use Rattle.syntax.specs.Words.{literalWords, bodyWords, clausesWords, sheetWords, goalWords}
 use Rattle.marking.specs.Standing.{no-clauses, truth-stands, done-stands, also-stands}
-use Rattle.marking.specs.Tables.{Has}
+use Rattle.words.specs.Tables.{Has}
+use Rattle.layout.specs.Regions.{nodesWords}
 use Rattle.loader.specs.Loading.{Loadable}
 
 -- room for the nodes, and for the symbols
 unfoldable pub room : List ℕ
-room = replicate 46428 0
+room = replicate nodesWords 0
 
-room-long : length room ≡ 46428
+room-long : length room ≡ nodesWords
 unfolding room
-room-long = length-replicate {A = ℕ} 46428 0
+room-long = length-replicate {A = ℕ} nodesWords 0
 
 has-none : Has [] 0 (clausesWords [])
-unfolding Has clausesWords
+unfolding clausesWords
 has-none = tt
 
 has-truth : Has (0 ∷ []) 0 (bodyWords (also truth done))
-unfolding Has bodyWords literalWords
-has-truth = (let l : 0 < 1 = omega arith in l, (refl, tt))
+unfolding bodyWords literalWords
+has-truth = (let l : 0 < 1 = omega arith in l, refl, tt)
 
 -- a sheet without clauses, and the goal `true`
 pub witness : Loadable [] [] 0 [] (0 ∷ []) 1 room room
 witness =
-    let l : length room ≡ 46428 = room-long in
+    let l : length room ≡ nodesWords = room-long in
     record {
       sh = record { declarations = []; clauses = [] };
       g = record { body = also truth done; names = [] };
@@ -39,10 +41,10 @@ witness =
       has-goal = has-truth;
       literals-count = refl;
       goal-stands = also-stands truth-stands done-stands;
-      sheet-short = (let z : 0 ≤ 16384 = omega arith in z);
-      goal-short = (let z : 0 ≤ 1024 = omega arith in z);
-      table-short = (let z : 0 ≤ 65540 = omega arith in z);
-      goals-short = (let z : 1 ≤ 4100 = omega arith in z);
+      sheet-short = (let z : 0 ≤ sheetBytes = omega arith in z);
+      goal-short = (let z : 0 ≤ goalBytes = omega arith in z);
+      table-short = (let z : 0 ≤ sheetWords = omega arith in z);
+      goals-short = (let z : 1 ≤ goalWords = omega arith in z);
       nodes-room = omega arith;
       nodes-short = omega arith;
       symbols-room = omega arith;

@@ -5,7 +5,7 @@ use mathlib.Core.Path.{_≡_, refl, ap, _∙_}
 use mathlib.Core.List.{List, [], _∷_, _++_}
 use lib.ListN.{length, getD, set, length-set}
 use lib.Seq.{getD-set-same, getD-set-other}
-use Rattle.layout.specs.Nodes.{Has}
+use Rattle.words.specs.Tables.{Has}
 use Rattle.loader.specs.Flat.{written}
 
 pub length-written : (l : List ℕ) (q : ℕ) (ws : List ℕ) → length (written l q ws) ≡ length l

@@ -5,10 +5,13 @@ use mathlib.Core.Bool.{cond}
 use mathlib.Core.List.{List, [], _∷_, _++_}
 use lib.Dec.{ltb}
 use lib.ListN.{length, set}
+use Rattle.spelling.specs.Words.{symbolWord}
+use Rattle.syntax.specs.Limits.{sheetBytes, wordBytes, lengths, arguments}
 use Rattle.syntax.specs.Terms.{Term, Terms, variable, compound, nil, cons, arity, termOf, Literal, Body, call, equation, truth, falsity, done, also, Clause}
-use Rattle.syntax.specs.Words.{functor, termsWords, bodyWords, bodyLength, clauseWords, clausesWords}
+use Rattle.syntax.specs.Words.{functor, termsWords, bodyWords, bodyLength, clauseWords, clausesWords, firstName, nodeWords}
 use Rattle.marking.specs.Standing.{BodyStands, ClauseStands, ClausesStand}
-use Rattle.marking.specs.Tables.{Has}
+use Rattle.words.specs.Tables.{Has}
+use Rattle.layout.specs.Regions.{loadedNode}
 
 -- ---- nodes as they were read
 
@@ -25,8 +28,8 @@ parsedWords (x ∷ xs) = (x .what) ∷ (x .size) ∷ (x .byte) ∷ parsedWords x
 -- the nodes of a term, of terms, of a literal's terms, of a body's, of a clause's and of all clauses'
 unfoldable mutual
   pub termParsed : Term → List Parsed
-  termParsed (variable n b) = record { what = n; size = 3; byte = b } ∷ []
-  termParsed (compound b f ts) = record { what = functor (arity ts) (length f); size = 3 + length (termsWords ts); byte = b } ∷ termsParsed ts
+  termParsed (variable n b) = record { what = n; size = nodeWords; byte = b } ∷ []
+  termParsed (compound b f ts) = record { what = functor (arity ts) (length f); size = nodeWords + length (termsWords ts); byte = b } ∷ termsParsed ts
 
   pub termsParsed : Terms → List Parsed
   termsParsed nil = []
@@ -51,7 +54,7 @@ clausesParsed (cl ∷ cls) = clauseParsed cl ++ clausesParsed cls
 
 -- ---- nodes as they are copied
 
--- The two words of a copy: a variable's number, or 64 and the name; how many words the copies of it and of its arguments take.
+-- The two words of a copy: a variable's number, or the name from `firstName` on; how many words the copies of it and of its arguments take.
 pub record Flat : Type 0 where
   pub what : ℕ
   pub size : ℕ
@@ -60,17 +63,21 @@ unfoldable pub flatWords : List Flat → List ℕ
 flatWords [] = []
 flatWords (x ∷ xs) = (x .what) ∷ (x .size) ∷ flatWords xs
 
--- The name's place, its text (0 for the sheet, 1 for the goal), its length, and the number of arguments, in one number.
+-- room for the number of arguments, where it is packed with a symbol's word
+abbrev pub arities : ℕ
+arities = 32
+
+-- The first word of a copy: a variable's number; or, from `firstName` on, the symbol's word and the number of arguments in one number.
 unfoldable pub flatWhat : ℕ → ℕ → ℕ → ℕ
-flatWhat text what byte = cond (ltb what 64) what (64 + (byte * 64 + text * 32 + (what - 64) % 32) * 32 + (what - 64) / 32)
+flatWhat text what byte = cond (ltb what firstName) what (firstName + symbolWord byte text ((what - firstName) % lengths) * arities + (what - firstName) / lengths)
 
 unfoldable pub flatAll : ℕ → List Parsed → List Flat
 flatAll text [] = []
-flatAll text (x ∷ xs) = record { what = flatWhat text (x .what) (x .byte); size = x .size / 3 * 2 } ∷ flatAll text xs
+flatAll text (x ∷ xs) = record { what = flatWhat text (x .what) (x .byte); size = x .size / nodeWords * loadedNode } ∷ flatAll text xs
 
--- a name within the limits of document 01: at most 8 arguments, at most 31 bytes, in a text of at most 16,384
+-- a name within the limits of document 01
 abbrev pub Fits : ℕ → ℕ → Type 0
-Fits what byte = 64 ≤ what → (byte ≤ 16384) × (what ≤ 351)
+Fits what byte = firstName ≤ what → (byte ≤ sheetBytes) × (what ≤ functor arguments wordBytes)
 
 abbrev pub AllFit : List Parsed → Type 0
 AllFit [] = Unit {0}
@@ -93,7 +100,7 @@ pub record RunAt (table : List ℕ) (from stop : ℕ) : Type 0 where
 -- so many literals of a text stand from p on
 pub record BodyHere (table : List ℕ) (p literals : ℕ) : Type 0 where
   pub text : List ℕ
-  pub short : length text ≤ 16384
+  pub short : length text ≤ sheetBytes
   pub body : Body
   pub has : Has table p (bodyWords body)
   pub count : literals ≡ bodyLength body
@@ -102,7 +109,7 @@ pub record BodyHere (table : List ℕ) (p literals : ℕ) : Type 0 where
 -- a clause of a text stands at p
 pub record ClauseHere (table : List ℕ) (p : ℕ) : Type 0 where
   pub text : List ℕ
-  pub short : length text ≤ 16384
+  pub short : length text ≤ sheetBytes
   pub clause : Clause
   pub has : Has table p (clauseWords clause)
   pub stands : ClauseStands text clause
@@ -110,7 +117,7 @@ pub record ClauseHere (table : List ℕ) (p : ℕ) : Type 0 where
 -- so many clauses of a text stand from p on
 pub record ClausesHere (table : List ℕ) (p clauses : ℕ) : Type 0 where
   pub text : List ℕ
-  pub short : length text ≤ 16384
+  pub short : length text ≤ sheetBytes
   pub list : List Clause
   pub has : Has table p (clausesWords list)
   pub count : clauses ≡ length list

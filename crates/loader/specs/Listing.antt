@@ -5,24 +5,27 @@ use mathlib.Core.Bool.{cond}
 use mathlib.Core.List.{List, [], _∷_, _++_}
 use lib.Dec.{ltb}
 use lib.ListN.{length, getD, set}
-use Rattle.syntax.specs.Tokens.{spelling}
-use Rattle.layout.specs.Nodes.{Symbol, symbolOf, isListed, Has}
-use Rattle.spelling.specs.Words.{textOf}
-use Rattle.loader.specs.Flat.{Flat, flatWords, written}
+use Rattle.syntax.specs.Words.{firstName}
+use Rattle.syntax.specs.Limits.{arguments}
+use Rattle.layout.specs.Regions.{mostNodes}
+use Rattle.words.specs.Tables.{Has}
+use Rattle.layout.specs.Nodes.{Symbol, symbolOf, isListed}
+use Rattle.spelling.specs.Words.{textOf, symbolPlace, symbolLength, symbolName}
+use Rattle.loader.specs.Flat.{Flat, flatWords, written, arities}
 
 -- ---- symbols
 
 -- the name that a word gives: its place, its text and its length
 unfoldable pub wordName : List ℕ → List ℕ → ℕ → List ℕ
-wordName sheet goal w = spelling (textOf w sheet goal) (w / 64) (w % 32)
+wordName sheet goal w = symbolName sheet goal w
 
 -- it is a part of its text
 unfoldable pub Inside : List ℕ → List ℕ → ℕ → Type 0
-Inside sheet goal w = w / 64 + w % 32 ≤ length (textOf w sheet goal)
+Inside sheet goal w = symbolPlace w + symbolLength w ≤ length (textOf w sheet goal)
 
--- Symbol k: the name of word k, and the number of arguments 23,214 words on.
+-- Symbol k: the name of word k, and the number of arguments, behind room for as many names as there are nodes.
 unfoldable pub symbolAt : List ℕ → List ℕ → List ℕ → ℕ → Symbol
-symbolAt sheet goal symbols k = record { name = wordName sheet goal (getD symbols k 0); arguments = getD symbols (23214 + k) 0 }
+symbolAt sheet goal symbols k = record { name = wordName sheet goal (getD symbols k 0); arguments = getD symbols (mostNodes + k) 0 }
 
 -- the first so many
 unfoldable pub symbolsOf : List ℕ → List ℕ → List ℕ → ℕ → List Symbol
@@ -31,7 +34,7 @@ symbolsOf sheet goal symbols (suc k) = symbolsOf sheet goal symbols k ++ (symbol
 
 -- their words are in the table, and their names in the texts
 pub record Listed (sheet goal symbols : List ℕ) (count : ℕ) : Type 0 where
-  pub room : 23214 + count ≤ length symbols
+  pub room : mostNodes + count ≤ length symbols
   pub inside : (k : ℕ) → k < count → Inside sheet goal (getD symbols k 0)
 
 -- a symbol added at the end where it is not listed
@@ -54,7 +57,7 @@ pub record Interned (sheet goal symbols : List ℕ) (count w arguments : ℕ) (a
 
 -- the symbols once the name of a copied node is listed, and once all names are
 unfoldable pub withNode : List ℕ → List ℕ → List Symbol → ℕ → List Symbol
-withNode sheet goal ss v = cond (ltb v 64) ss (withSymbol ss (wordName sheet goal ((v - 64) / 32)) ((v - 64) % 32))
+withNode sheet goal ss v = cond (ltb v firstName) ss (withSymbol ss (wordName sheet goal ((v - firstName) / arities)) ((v - firstName) % arities))
 
 unfoldable pub withAll : List ℕ → List ℕ → List Symbol → List Flat → List Symbol
 withAll sheet goal ss [] = ss
@@ -62,7 +65,7 @@ withAll sheet goal ss (x ∷ xs) = withAll sheet goal (withNode sheet goal ss (x
 
 -- the node with its symbol's number, and all of them
 unfoldable pub numberedWhat : List ℕ → List ℕ → List Symbol → ℕ → ℕ
-numberedWhat sheet goal ss v = cond (ltb v 64) v (64 + symbolOf ss (wordName sheet goal ((v - 64) / 32)) ((v - 64) % 32))
+numberedWhat sheet goal ss v = cond (ltb v firstName) v (firstName + symbolOf ss (wordName sheet goal ((v - firstName) / arities)) ((v - firstName) % arities))
 
 unfoldable pub numberedAll : List ℕ → List ℕ → List Symbol → List Flat → List Flat
 numberedAll sheet goal ss [] = []
@@ -70,7 +73,7 @@ numberedAll sheet goal ss (x ∷ xs) = record { what = numberedWhat sheet goal s
 
 -- the names of copied nodes are in the texts
 abbrev pub NodeInside : List ℕ → List ℕ → ℕ → Type 0
-NodeInside sheet goal v = 64 ≤ v → Inside sheet goal ((v - 64) / 32)
+NodeInside sheet goal v = firstName ≤ v → Inside sheet goal ((v - firstName) / arities)
 
 abbrev pub AllInside : List ℕ → List ℕ → List Flat → Type 0
 AllInside sheet goal [] = Unit {0}

@@ -4,11 +4,13 @@ use mathlib.Core.Path.{_≡_}
 use mathlib.Core.List.{List}
 use lib.Dec.{T}
 use lib.ListN.{length}
+use Rattle.syntax.specs.Limits.{sheetBytes, goalBytes}
 use Rattle.syntax.specs.Terms.{Sheet, Goal}
-use Rattle.syntax.specs.Words.{bodyWords, bodyLength, clausesWords}
+use Rattle.syntax.specs.Words.{bodyWords, bodyLength, clausesWords, sheetWords, goalWords}
 use Rattle.marking.specs.Standing.{BodyStands, ClausesStand}
-use Rattle.marking.specs.Tables.{Has}
-use Rattle.layout.specs.Nodes.{Symbol, Has as HasNodes}
+use Rattle.words.specs.Tables.{Has}
+use Rattle.layout.specs.Regions.{nodesWords, places}
+use Rattle.layout.specs.Nodes.{Symbol}
 use Rattle.layout.specs.Program.{programNodes, bodyLoadable, clausesLoadable}
 use Rattle.spelling.specs.Words.{Names}
 
@@ -22,19 +24,19 @@ pub record Loadable (sheet table : List ℕ) (clauses : ℕ) (goal goals : List 
   pub has-goal : Has goals 0 (bodyWords (g .body))
   pub literals-count : literals ≡ bodyLength (g .body)
   pub goal-stands : BodyStands goal (g .body)
-  pub sheet-short : length sheet ≤ 16384
-  pub goal-short : length goal ≤ 1024
-  pub table-short : length table ≤ 65540
-  pub goals-short : length goals ≤ 4100
-  pub nodes-room : 46428 ≤ length nodes
-  pub nodes-short : length nodes ≤ 65536
-  pub symbols-room : 46428 ≤ length symbols
-  pub symbols-short : length symbols ≤ 65536
+  pub sheet-short : length sheet ≤ sheetBytes
+  pub goal-short : length goal ≤ goalBytes
+  pub table-short : length table ≤ sheetWords
+  pub goals-short : length goals ≤ goalWords
+  pub nodes-room : nodesWords ≤ length nodes
+  pub nodes-short : length nodes ≤ places
+  pub symbols-room : nodesWords ≤ length symbols
+  pub symbols-short : length symbols ≤ places
 
 -- The symbols of both texts are listed and spelt, and the nodes stand.
 pub record Loaded (sheet goal : List ℕ) (sh : Sheet) (g : Goal) (nodes symbols : List ℕ) : Type 0 where
   pub ss : List Symbol
   pub names : Names ss symbols sheet goal
-  pub nodes-stand : HasNodes nodes 0 (programNodes ss sh g)
+  pub nodes-stand : Has nodes 0 (programNodes ss sh g)
   pub goal-loadable : T (bodyLoadable ss (g .body))
   pub clauses-loadable : T (clausesLoadable ss (sh .clauses))

@@ -1,17 +1,31 @@
 // The nodes of terms copied one behind the other, a name by its place.
-use marking::table::past;
-use marking::table::word_at;
-use modes::bodies::past_literal;
-use modes::clauses::past_clause;
+use crate::symbols::LENGTHS;
+use crate::symbols::SYMBOL_PLACES;
+use layout::LOADED_NODE;
+use syntax::CLAUSE_START;
+use syntax::FIRST_NAME;
+use syntax::NODE_WORDS;
+use words::CLAUSE_LITERALS;
+use words::past;
+use words::past_clause;
+use words::past_literal;
+use words::word_at;
 ghost use mathlib.Core.Path.{_≡_};
 ghost use Prim.Native.Nat.{_+_, _*_, _/_, _≤_, _<_};
 ghost use lib.ListN.{length};
+ghost use Rattle.syntax.specs.Words.{nodeWords, sheetWords, goalWords};
+ghost use Rattle.syntax.specs.Limits.{arguments};
+ghost use Rattle.layout.specs.Regions.{loadedNode, nodesWords, copies};
 ghost use Rattle.loader.specs.Flat.{flatWhat, Fits, flatWords, flatAll, bodyParsed, clauseParsed, clausesParsed, written, RunAt, BodyHere, ClauseHere, ClausesHere};
 
 // From this word on a node is a name.
-pub const NAMED: u32 = 64;
+pub const NAMED: u32 = FIRST_NAME as u32;
 
-// The first word of a copied node: a variable's number; or 64, and the name's place, its text and its length, and its number of arguments.
+// The room for a number of arguments behind a symbol's word.
+pub const ARITIES: u32 = 32;
+
+// The first word of a copied node: a variable's number; or, from `NAMED` on, the symbol's word, which is the name's place, its text and its length,
+// and the number of arguments.
 fn name_word(what: u32, byte: u32, text: u32) -> u32
     requires { ⌜ (text ≤ 1) × Fits what byte ⌝ }
     ensures { λ r. ⌜ r ≡ flatWhat text what byte ⌝ }
@@ -20,15 +34,20 @@ fn name_word(what: u32, byte: u32, text: u32) -> u32
         return what;
     }
     let named = what - NAMED;
-    let word = byte * 64 + text * 32 + named % 32;
-    NAMED + word * 32 + named / 32
+    let word = byte * SYMBOL_PLACES + text * LENGTHS + named % LENGTHS;
+    NAMED + word * ARITIES + named / LENGTHS
 }
 
-// How many words a copied node takes with its arguments: two where three were read.
+// The words of a node without its arguments: as read, and as copied.
+const READ_NODE: u32 = NODE_WORDS as u32;
+
+const COPIED_NODE: u32 = LOADED_NODE as u32;
+
+// How many words a copied node takes with its arguments, by how many it takes as read.
 fn two_of_three(size: u32) -> u32
-    ensures { λ r. ⌜ r ≡ size / 3 * 2 ⌝ }
+    ensures { λ r. ⌜ r ≡ size / nodeWords * loadedNode ⌝ }
 {
-    size / 3 * 2
+    size / READ_NODE * COPIED_NODE
 }
 
 // The nodes from one place up to another, copied to `at`; the place past the copies.
@@ -40,7 +59,7 @@ fn copy_nodes(
     nodes: &mut [u32],
     at: usize,
 ) -> usize
-    requires { ⌜ (text ≤ 1) × ((length (now table) ≤ 65540) × ((46428 ≤ length (now nodes)) × (at * 3 ≤ from * 2 + 8200))) ⌝ }
+    requires { ⌜ (text ≤ 1) × ((length (now table) ≤ sheetWords) × ((nodesWords ≤ length (now nodes)) × (at * nodeWords ≤ from * loadedNode + goalWords * loadedNode))) ⌝ }
     requires { ⌜ RunAt (now table) from stop ⌝ }
     ensures { λ r. ⌜ ((w : RunAt (now (table .entry)) from stop) → (now (nodes .exit) ≡ written (now (nodes .entry)) at (flatWords (flatAll text (w .run)))) × (r ≡ at + length (flatWords (flatAll text (w .run))))) ⌝ }
 {
@@ -52,8 +71,8 @@ fn copy_nodes(
         let d = q + 1;
         nodes[q] = name_word(table[p], table[c], text);
         nodes[d] = two_of_three(table[b]);
-        p += 3;
-        q += 2;
+        p += NODE_WORDS;
+        q += LOADED_NODE;
     }
     q
 }
@@ -67,7 +86,7 @@ pub fn copy_body(
     nodes: &mut [u32],
     at: usize,
 ) -> usize
-    requires { ⌜ (text ≤ 1) × ((length (now table) ≤ 65540) × ((46428 ≤ length (now nodes)) × (at * 3 ≤ from * 2 + 8200))) ⌝ }
+    requires { ⌜ (text ≤ 1) × ((length (now table) ≤ sheetWords) × ((nodesWords ≤ length (now nodes)) × (at * nodeWords ≤ from * loadedNode + goalWords * loadedNode))) ⌝ }
     requires { ⌜ BodyHere (now table) from literals ⌝ }
     ensures { λ r. ⌜ ((w : BodyHere (now (table .entry)) from literals) → (now (nodes .exit) ≡ written (now (nodes .entry)) at (flatWords (flatAll text (bodyParsed (w .body))))) × (r ≡ at + length (flatWords (flatAll text (bodyParsed (w .body)))))) ⌝ }
 {
@@ -86,12 +105,12 @@ pub fn copy_body(
 
 // The nodes of the clause at a place: its head's, then its body's.
 fn copy_clause(table: &[u32], p: usize, nodes: &mut [u32], at: usize) -> usize
-    requires { ⌜ (length (now table) ≤ 65540) × ((46428 ≤ length (now nodes)) × (at * 3 ≤ p * 2 + 8200)) ⌝ }
+    requires { ⌜ (length (now table) ≤ sheetWords) × ((nodesWords ≤ length (now nodes)) × (at * nodeWords ≤ p * loadedNode + goalWords * loadedNode)) ⌝ }
     requires { ⌜ ClauseHere (now table) p ⌝ }
     ensures { λ r. ⌜ ((w : ClauseHere (now (table .entry)) p) → (now (nodes .exit) ≡ written (now (nodes .entry)) at (flatWords (flatAll 0 (clauseParsed (w .clause))))) × (r ≡ at + length (flatWords (flatAll 0 (clauseParsed (w .clause)))))) ⌝ }
 {
-    let literals = word_at(table, p + 2);
-    let head = p + 3;
+    let literals = word_at(table, p + CLAUSE_LITERALS);
+    let head = p + CLAUSE_START;
     let body = past(table, head);
     let q = copy_nodes(table, head, body, 0, nodes, at);
     copy_body(table, body, literals, 0, nodes, q)
@@ -99,7 +118,7 @@ fn copy_clause(table: &[u32], p: usize, nodes: &mut [u32], at: usize) -> usize
 
 // The nodes of so many clauses.
 pub fn copy_clauses(table: &[u32], clauses: usize, nodes: &mut [u32], at: usize) -> usize
-    requires { ⌜ (length (now table) ≤ 65540) × ((46428 ≤ length (now nodes)) × (at * 3 ≤ 8200)) ⌝ }
+    requires { ⌜ (length (now table) ≤ sheetWords) × ((nodesWords ≤ length (now nodes)) × (at * nodeWords ≤ goalWords * loadedNode)) ⌝ }
     requires { ⌜ ClausesHere (now table) 0 clauses ⌝ }
     ensures { λ r. ⌜ ((w : ClausesHere (now (table .entry)) 0 clauses) → (now (nodes .exit) ≡ written (now (nodes .entry)) at (flatWords (flatAll 0 (clausesParsed (w .list))))) × (r ≡ at + length (flatWords (flatAll 0 (clausesParsed (w .list)))))) ⌝ }
 {

@@ -1,9 +1,14 @@
 // Each name of the copied nodes replaced by its symbol's number.
+use crate::copying::ARITIES;
 use crate::copying::NAMED;
-use crate::symbols::HALF;
 use crate::symbols::find_symbol;
+use layout::LOADED_NODE;
+use layout::MOST_NODES;
+use syntax::FIRST_NAME;
 ghost use Prim.Native.Nat.{_≤_, _<_};
 ghost use lib.ListN.{length, getD};
+ghost use Rattle.syntax.specs.Limits.{arguments};
+ghost use Rattle.layout.specs.Regions.{mostNodes, nodesWords};
 ghost use Rattle.loader.specs.Listing.{Inside, Listed, Interned, Counted, NodeInside, Copied, NodeNumbered, NodesNumbered};
 
 // The number of the symbol with the name of a word and so many arguments, which is listed where it is new.
@@ -15,14 +20,14 @@ fn intern(
     w: u32,
     arguments: u32,
 ) -> usize
-    requires { ⌜ (Listed (now sheet) (now goal) (now symbols) count × (count < 23214)) × ((46428 ≤ length (now symbols)) × Inside (now sheet) (now goal) w) ⌝ }
+    requires { ⌜ (Listed (now sheet) (now goal) (now symbols) count × (count < mostNodes)) × ((nodesWords ≤ length (now symbols)) × Inside (now sheet) (now goal) w) ⌝ }
     ensures { λ r. ⌜ Interned (now (sheet .entry)) (now (goal .entry)) (now (symbols .entry)) count w arguments (now (symbols .exit)) r ⌝ }
 {
     let k = find_symbol(sheet, goal, symbols, count, w, arguments);
     if k < count {
         return k;
     }
-    let j = HALF + count;
+    let j = MOST_NODES + count;
     symbols[count] = w;
     symbols[j] = arguments;
     count
@@ -30,7 +35,7 @@ fn intern(
 
 // How many symbols there are once number k is among them.
 fn counted(count: usize, k: usize) -> usize
-    requires { ⌜ (count < 23214) × (k ≤ count) ⌝ }
+    requires { ⌜ (count < mostNodes) × (k ≤ count) ⌝ }
     ensures { λ r. ⌜ Counted count k r ⌝ }
 {
     if k < count {
@@ -48,7 +53,7 @@ fn number_node(
     symbols: &mut [u32],
     count: usize,
 ) -> usize
-    requires { ⌜ (Listed (now sheet) (now goal) (now symbols) count × (count < 23214)) × ((46428 ≤ length (now symbols)) × (p < length (now nodes))) ⌝ }
+    requires { ⌜ (Listed (now sheet) (now goal) (now symbols) count × (count < mostNodes)) × ((nodesWords ≤ length (now symbols)) × (p < length (now nodes))) ⌝ }
     requires { ⌜ NodeInside (now sheet) (now goal) (getD (now nodes) p 0) ⌝ }
     ensures { λ r. ⌜ NodeNumbered (now (sheet .entry)) (now (goal .entry)) (now (nodes .entry)) p (now (symbols .entry)) count (now (nodes .exit)) (now (symbols .exit)) r ⌝ }
 {
@@ -57,8 +62,15 @@ fn number_node(
         return count;
     }
     let named = v - NAMED;
-    let k = intern(sheet, goal, symbols, count, named / 32, named % 32);
-    let number = k + 64;
+    let k = intern(
+        sheet,
+        goal,
+        symbols,
+        count,
+        named / ARITIES,
+        named % ARITIES,
+    );
+    let number = k + FIRST_NAME;
     nodes[p] = number as u32;
     counted(count, k)
 }
@@ -71,7 +83,7 @@ pub fn number_nodes(
     stop: usize,
     symbols: &mut [u32],
 ) -> usize
-    requires { ⌜ (46428 ≤ length (now symbols)) × (stop ≤ 46428) ⌝ }
+    requires { ⌜ (nodesWords ≤ length (now symbols)) × (stop ≤ nodesWords) ⌝ }
     requires { ⌜ Copied (now sheet) (now goal) (now nodes) stop ⌝ }
     ensures { λ r. ⌜ ((w : Copied (now (sheet .entry)) (now (goal .entry)) (now (nodes .entry)) stop) → NodesNumbered (now (sheet .entry)) (now (goal .entry)) (w .flats) (now (nodes .entry)) (now (nodes .exit)) (now (symbols .exit)) r) ⌝ }
 {
@@ -79,7 +91,7 @@ pub fn number_nodes(
     let mut count = 0;
     while p < stop {
         count = number_node(sheet, goal, nodes, p, symbols, count);
-        p += 2;
+        p += LOADED_NODE;
     }
     count
 }

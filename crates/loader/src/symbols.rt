@@ -1,14 +1,22 @@
-// Symbols: for number k, a word with the place, the text and the length of its name, and HALF words on its number of arguments.
+// Symbols: for number k, the word with the place, the text and the length of its name, and `MOST_NODES` words on its number of arguments.
+use layout::MOST_NODES;
 ghost use mathlib.Core.Path.{_≡_};
 ghost use Prim.Native.Nat.{_+_, _%_, _≤_, _<_};
 ghost use lib.ListN.{length, getD};
+ghost use Rattle.spelling.specs.Words.{symbolLength, texts};
+ghost use Rattle.syntax.specs.Limits.{lengths, arguments};
 ghost use Rattle.syntax.specs.Terms.{sameBytes};
 ghost use Rattle.syntax.specs.Tokens.{spelling};
+ghost use Rattle.layout.specs.Regions.{mostNodes};
 ghost use Rattle.layout.specs.Nodes.{isSymbol, symbolOf};
 ghost use Rattle.loader.specs.Listing.{wordName, Inside, Listed, symbolAt, symbolsOf};
 
-// Where the numbers of arguments begin.
-pub const HALF: usize = 23214;
+// How many lengths a name can have, how many texts it can stand in, and room for both behind its place.
+pub const LENGTHS: u32 = syntax::LENGTHS as u32;
+
+const TEXTS: u32 = 2;
+
+pub const SYMBOL_PLACES: u32 = TEXTS * LENGTHS;
 
 fn wide(x: u32) -> usize
     ensures { λ r. ⌜ r ≡ x ⌝ }
@@ -18,11 +26,11 @@ fn wide(x: u32) -> usize
 
 // Whether the name of a word is the part of a text at a place.
 fn same_part(text: &[u8], at: usize, len: usize, sheet: &[u8], goal: &[u8], w: u32) -> bool
-    requires { ⌜ (at + len ≤ length (now text)) × (Inside (now sheet) (now goal) w × (len ≡ w % 32)) ⌝ }
+    requires { ⌜ (at + len ≤ length (now text)) × (Inside (now sheet) (now goal) w × (len ≡ symbolLength w)) ⌝ }
     ensures { λ r. ⌜ r ≡ sameBytes (wordName (now (sheet .entry)) (now (goal .entry)) w) (spelling (now (text .entry)) at len) ⌝ }
 {
-    let place = wide(w / 64);
-    if w / 32 % 2 == 0 {
+    let place = wide(w / SYMBOL_PLACES);
+    if w / LENGTHS % TEXTS == 0 {
         return lexer::same_bytes(sheet, place, text, at, len);
     }
     lexer::same_bytes(goal, place, text, at, len)
@@ -33,12 +41,12 @@ fn same_name(sheet: &[u8], goal: &[u8], v: u32, w: u32) -> bool
     requires { ⌜ Inside (now sheet) (now goal) v × Inside (now sheet) (now goal) w ⌝ }
     ensures { λ r. ⌜ r ≡ sameBytes (wordName (now (sheet .entry)) (now (goal .entry)) v) (wordName (now (sheet .entry)) (now (goal .entry)) w) ⌝ }
 {
-    let len = wide(w % 32);
-    if v % 32 != w % 32 {
+    let len = wide(w % LENGTHS);
+    if v % LENGTHS != w % LENGTHS {
         return false;
     }
-    let at = wide(w / 64);
-    if w / 32 % 2 == 0 {
+    let at = wide(w / SYMBOL_PLACES);
+    if w / LENGTHS % TEXTS == 0 {
         return same_part(sheet, at, len, sheet, goal, v);
     }
     same_part(goal, at, len, sheet, goal, v)
@@ -46,10 +54,10 @@ fn same_name(sheet: &[u8], goal: &[u8], v: u32, w: u32) -> bool
 
 // Whether the symbol of a number has the name of a word and so many arguments.
 fn is_symbol(sheet: &[u8], goal: &[u8], symbols: &[u32], k: usize, w: u32, arguments: u32) -> bool
-    requires { ⌜ (23214 + k < length (now symbols)) × (Inside (now sheet) (now goal) (getD (now symbols) k 0) × Inside (now sheet) (now goal) w) ⌝ }
+    requires { ⌜ (mostNodes + k < length (now symbols)) × (Inside (now sheet) (now goal) (getD (now symbols) k 0) × Inside (now sheet) (now goal) w) ⌝ }
     ensures { λ r. ⌜ r ≡ isSymbol (wordName (now (sheet .entry)) (now (goal .entry)) w) arguments (symbolAt (now (sheet .entry)) (now (goal .entry)) (now (symbols .entry)) k) ⌝ }
 {
-    let j = HALF + k;
+    let j = MOST_NODES + k;
     if symbols[j] != arguments {
         return false;
     }

@@ -9,6 +9,7 @@ use mathlib.Core.Option.{Option, none, some}
 use mathlib.Core.Logic.{_⊎_, inl, inr}
 use lib.Dec.{T, eqb, eqb-refl}
 use lib.ListN.{length, set, replicate}
+use Rattle.syntax.specs.Limits.{variables}
 use Rattle.syntax.specs.Terms.{Term, Terms, variable, compound, nil, cons, arity, Atom, termOf, Mark, Declaration, samePredicate, sameName}
 use Rattle.rules.specs.Modes.{Known, knows, nothing, isGround, areGround, groundTerm, groundTerms, groundBoth, equateVariable, equateSame, equate, equateAll, marksOf, orNoMarks, marksFor, sameMark, listOf, faulty, firstFaulty, oneMore, countFaulty, groundIf, groundMarked}
 use Rattle.machine.specs.Substitution.{RTerm, RTerms, var, app, rnil, rcons, copied, copiedAll, closed, closedAll, Binding, resolve}
@@ -103,7 +104,7 @@ replicate-false (suc n) (suc i) h = replicate-false n i h
 
 pub sound-nothing : (c : ℕ) (b : List Binding) → Sound nothing c b
 unfolding nothing
-sound-nothing c b = λ i h. absurd (replicate-false 32 i h)
+sound-nothing c b = λ i h. absurd (replicate-false variables i h)
 
 set-known : (τ : Known) (i j : ℕ) → T (knows (set τ i true) j) → (j ≡ i) ⊎ T (knows τ j)
 set-known [] i j h = inr h

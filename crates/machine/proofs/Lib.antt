@@ -11,4 +11,5 @@ pub mod Demand3
 pub mod Reached
 pub mod Next
 pub mod EveryRun
+pub mod Turns
 pub mod Witness

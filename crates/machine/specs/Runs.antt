@@ -5,6 +5,7 @@ use mathlib.Core.List.{List, [], _∷_, _++_}
 use mathlib.Core.Option.{Option, none, some}
 use lib.Dec.{leb, ltb, eqb}
 use lib.ListN.{length}
+use Rattle.syntax.specs.Limits.{longestPath, mostSteps, mostAnswers}
 use Rattle.syntax.specs.Terms.{Literal, call, equation, truth, falsity, Clause, Sheet, Goal}
 use Rattle.syntax.specs.Verdicts.{Outcome, refused, accepted}
 use Rattle.syntax.specs.declared.Text.{Text}
@@ -65,7 +66,7 @@ triesFirst sh a (p ∷ ps) = triesWith sh a (p .literal)
 -- "this step would try a clause at path 255"
 unfoldable pub goesDeeper : Sheet → List Alternative → Bool
 goesDeeper sh [] = false
-goesDeeper sh (a ∷ below) = triesFirst sh a (a .literals) && leb 255 (path a)
+goesDeeper sh (a ∷ below) = triesFirst sh a (a .literals) && leb longestPath (path a)
 
 -- ---- the ends
 
@@ -128,6 +129,12 @@ begun sh g = record { pile = start sh g; answers = 0; steps = 0; text = [] }
 unfoldable pub run : Sheet → Goal → ℕ → ℕ → ℕ → Ended
 run sh g allowance wanted room = runFrom sh g wanted room allowance (begun sh g)
 
+-- ---- a run in turns
+
+-- how a run that ended so goes on if it is given n steps more: only one that had used up its steps does
+unfoldable pub onward : Sheet → Goal → ℕ → ℕ → ℕ → Ended → Ended
+onward sh g wanted room n e = elim (e .kind) [ Wanted ↦ e | Done ↦ e | Steps ↦ runFrom sh g wanted room n (e .at) | Full ↦ e | Deep ↦ e ]
+
 -- ---- over texts
 
 -- a refusal with the text at fault, or the report ("the kind, the answers written and the steps") and the answer text
@@ -151,7 +158,7 @@ overSheet goal allowance wanted room (accepted sh) = overGoal sh allowance wante
 
 -- 1 to 65,536 steps, 1 to 64 answers
 unfoldable pub inRange : ℕ → ℕ → Bool
-inRange allowance wanted = (leb 1 allowance && leb allowance 65536) && (leb 1 wanted && leb wanted 64)
+inRange allowance wanted = (leb 1 allowance && leb allowance mostSteps) && (leb 1 wanted && leb wanted mostAnswers)
 
 -- "A run tests 1, then the sheet, then the goal": sheet, goal, allowance, wanted answers, room for text.
 unfoldable pub runOutcome : List ℕ → List ℕ → ℕ → ℕ → ℕ → RunOutcome

@@ -7,13 +7,16 @@ use mathlib.Core.List.{List, [], _∷_}
 use lib.Dec.{eqb}
 use lib.ListN.{length, getD, take, drop, length-append}
 use borrow.Author.Tests.{eq-eqb, eqb-true}
+use Rattle.syntax.specs.Limits.{lengths}
 use Rattle.syntax.specs.Terms.{Term, Terms, variable, compound, nil, cons, arity, sameBytes, samePredicate}
-use Rattle.syntax.specs.Words.{termWords, termsWords}
+use Rattle.syntax.specs.Words.{termWords, termsWords, firstName, functor}
 use Rattle.rules.specs.Modes.{Known, everything, equateVariable, equateSame, equate, equateAll}
 use Rattle.marking.specs.Functors.{sameFunctor}
-use Rattle.marking.specs.Tables.{Has, TermAt, PairAt, PairsAt}
+use Rattle.words.specs.Tables.{Has}
+use Rattle.marking.specs.Tables.{TermAt, PairAt, PairsAt}
 use Rattle.marking.specs.Standing.{NameAt, Numbered, AllNumbered, numbered-variable, numbered-compound, numbered-nil, numbered-cons, Stands, AllStand, stands-variable, stands-compound, stand-nil, stand-cons}
-use Rattle.marking.proofs.Places.{Node, node, has-left, has-right, cons-long, sized}
+use Rattle.words.proofs.Laws.{Node, node, has-left, has-right}
+use Rattle.marking.proofs.Places.{cons-long, sized}
 
 -- ---- what stands in a text has numbered variables
 
@@ -41,15 +44,15 @@ pub record Named (s table : List ℕ) (p : ℕ) (t : Term) : Type 0 where
   pub args : Terms
   pub is : t ≡ compound at name args
   pub inside : p + 2 < length table
-  pub what : getD table p 0 ≡ 64 + arity args * 32 + length name
+  pub what : getD table p 0 ≡ functor (arity args) (length name)
   pub place : getD table (p + 2) 0 ≡ at
   pub name-at : NameAt s at name
   pub has : Has table (p + 3) (termsWords args)
   pub stand : AllStand s args
 
-pub named : (s table : List ℕ) (p : ℕ) (t : Term) → Has table p (termWords t) → Stands s t → 64 ≤ getD table p 0 → Named s table p t
+pub named : (s table : List ℕ) (p : ℕ) (t : Term) → Has table p (termWords t) → Stands s t → firstName ≤ getD table p 0 → Named s table p t
 unfolding termWords
-named s table p (variable n at) h (stands-variable k) l = absurd (omega (arith, node table p _ _ _ _ h .first))
+named s table p (variable n at) h (stands-variable k) l = absurd (omega (arith, h .1))
 named s table p (compound at f ts) h (stands-compound n a k) l =
     let o : Node table p _ _ at (termsWords ts) = node table p _ _ _ _ h in
     record {
@@ -66,18 +69,18 @@ named s table p (compound at f ts) h (stands-compound n a k) l =
     }
 
 -- the length of the name
-pub len-is : {s table : List ℕ} {p : ℕ} {t : Term} (v : ℕ) → v ≡ getD table p 0 → (n : Named s table p t) → (v - 64) % 32 ≡ length (n .name)
+pub len-is : {s table : List ℕ} {p : ℕ} {t : Term} (v : ℕ) → v ≡ getD table p 0 → (n : Named s table p t) → (v - firstName) % lengths ≡ length (n .name)
 len-is v e n = omega (arith, n .what, n .name-at .short)
 
 -- the number of arguments
-pub arity-is : {s table : List ℕ} {p : ℕ} {t : Term} (v : ℕ) → v ≡ getD table p 0 → (n : Named s table p t) → (v - 64) / 32 ≡ arity (n .args)
+pub arity-is : {s table : List ℕ} {p : ℕ} {t : Term} (v : ℕ) → v ≡ getD table p 0 → (n : Named s table p t) → (v - firstName) / lengths ≡ arity (n .args)
 arity-is v e n = omega (arith, n .what, n .name-at .short)
 
-pub name-inside : {s table : List ℕ} {p : ℕ} {t : Term} (v a : ℕ) → v ≡ getD table p 0 → a ≡ getD table (p + 2) 0 → (n : Named s table p t) → a + (v - 64) % 32 ≤ length s
+pub name-inside : {s table : List ℕ} {p : ℕ} {t : Term} (v a : ℕ) → v ≡ getD table p 0 → a ≡ getD table (p + 2) 0 → (n : Named s table p t) → a + (v - firstName) % lengths ≤ length s
 name-inside v a e f n = omega (arith, len-is v e n, n .place, n .name-at .inside)
 
 pub name-is : {s table : List ℕ} {p : ℕ} {t : Term} (v a : ℕ) → v ≡ getD table p 0 → a ≡ getD table (p + 2) 0 → (n : Named s table p t)
-    → take ((v - 64) % 32) (drop a s) ≡ n .name
+    → take ((v - firstName) % lengths) (drop a s) ≡ n .name
 name-is {s} v a e f n = ap₂ (λ (l k : ℕ). take l (drop k s)) (len-is v e n) (f ∙ n .place) ∙ sym (n .name-at .spelt)
 
 -- names of different lengths differ
@@ -93,13 +96,13 @@ lengths-differ (x ∷ a) (y ∷ b) n =
     and-false true = refl
     and-false false = refl
 
-differ : (f : List ℕ) (m : ℕ) (g : List ℕ) (n : ℕ) (t : Bool) → eqb m n ≡ t → (64 + m * 32 + length f ≡ 64 + n * 32 + length g → ⊥) → samePredicate f m g n ≡ false
+differ : (f : List ℕ) (m : ℕ) (g : List ℕ) (n : ℕ) (t : Bool) → eqb m n ≡ t → (functor m (length f) ≡ functor n (length g) → ⊥) → samePredicate f m g n ≡ false
 differ f m g n true e h =
     let same : m ≡ n = eqb-true m n e in
     ap₂ (λ (x y : Bool). x && y) e (lengths-differ f g (λ l. h (omega arith)))
 differ f m g n false e h = ap (λ (x : Bool). x && sameBytes f g) e
 
-module _ (s table : List ℕ) (p q v x : ℕ) (ev : v ≡ getD table p 0) (ex : x ≡ getD table q 0) (l : (64 ≤ getD table p 0) × (64 ≤ getD table q 0)) where
+module _ (s table : List ℕ) (p q v x : ℕ) (ev : v ≡ getD table p 0) (ex : x ≡ getD table q 0) (l : (firstName ≤ getD table p 0) × (firstName ≤ getD table q 0)) where
   left-named : (w : PairAt s table p q) → Named s table p (w .left)
   left-named w = named s table p (w .left) (w .has-left) (w .left-stands) (l .0)
 
@@ -113,11 +116,11 @@ module _ (s table : List ℕ) (p q v x : ℕ) (ev : v ≡ getD table p 0) (ex : 
       sym (ap₂ sameFunctor (a .is) (b .is) ∙ differ (a .name) (arity (a .args)) (b .name) (arity (b .args)) _ refl (λ e. d (ev ∙ a .what ∙ e ∙ sym (b .what) ∙ sym ex)))
 
   module _ (e : v ≡ x) (a b : ℕ) (ea : a ≡ getD table (p + 2) 0) (eb : b ≡ getD table (q + 2) 0) where
-    pub functors-inside : PairAt s table p q → (a + (v - 64) % 32 ≤ length s) × (b + (v - 64) % 32 ≤ length s)
+    pub functors-inside : PairAt s table p q → (a + (v - firstName) % lengths ≤ length s) × (b + (v - firstName) % lengths ≤ length s)
     functors-inside w =
         (name-inside v a ev ea (left-named w), name-inside v b (e ∙ ex) eb (right-named w))
 
-    pub functors-same : (r : Bool) → r ≡ sameBytes (take ((v - 64) % 32) (drop a s)) (take ((v - 64) % 32) (drop b s)) → (w : PairAt s table p q) → r ≡ sameFunctor (w .left) (w .right)
+    pub functors-same : (r : Bool) → r ≡ sameBytes (take ((v - firstName) % lengths) (drop a s)) (take ((v - firstName) % lengths) (drop b s)) → (w : PairAt s table p q) → r ≡ sameFunctor (w .left) (w .right)
     functors-same r h w =
         let m : Named s table p (w .left) = left-named w in
         let n : Named s table q (w .right) = right-named w in
@@ -127,22 +130,22 @@ module _ (s table : List ℕ) (p q v x : ℕ) (ev : v ≡ getD table p 0) (ex : 
 
 -- ---- equations
 
-open-left : (table : List ℕ) (p : ℕ) (τ : Known) (t u : Term) → Has table p (termWords t) → getD table p 0 < 64 → equateVariable t u τ ≡ equate t u τ
+open-left : (table : List ℕ) (p : ℕ) (τ : Known) (t u : Term) → Has table p (termWords t) → getD table p 0 < firstName → equateVariable t u τ ≡ equate t u τ
 unfolding termWords equate
 open-left table p τ (variable n at) u h l = refl
-open-left table p τ (compound at f ts) u h l = absurd (omega (arith, node table p _ _ _ _ h .first))
+open-left table p τ (compound at f ts) u h l = absurd (omega (arith, h .1))
 
-open-right : (table : List ℕ) (q : ℕ) (τ : Known) (t u : Term) → Has table q (termWords u) → getD table q 0 < 64 → equateVariable t u τ ≡ equate t u τ
+open-right : (table : List ℕ) (q : ℕ) (τ : Known) (t u : Term) → Has table q (termWords u) → getD table q 0 < firstName → equateVariable t u τ ≡ equate t u τ
 unfolding termWords equate
 open-right table q τ (variable n at) u h l = refl
 open-right table q τ (compound at f ts) (variable m bt) h l = refl
-open-right table q τ (compound at f ts) (compound bt g us) h l = absurd (omega (arith, node table q _ _ _ _ h .first))
+open-right table q τ (compound at f ts) (compound bt g us) h l = absurd (omega (arith, h .1))
 
 module _ (s table : List ℕ) (p q : ℕ) (τ : Known) (v : ℕ) where
-  pub equated-left : v ≡ getD table p 0 → v < 64 → (r : Known) → ((t : TermAt table p) (u : TermAt table q) → r ≡ equateVariable (t .term) (u .term) τ) → (w : PairAt s table p q) → r ≡ equate (w .left) (w .right) τ
+  pub equated-left : v ≡ getD table p 0 → v < firstName → (r : Known) → ((t : TermAt table p) (u : TermAt table q) → r ≡ equateVariable (t .term) (u .term) τ) → (w : PairAt s table p q) → r ≡ equate (w .left) (w .right) τ
   equated-left e l r h w = h (left-at w) (right-at w) ∙ open-left table p τ (w .left) (w .right) (w .has-left) (omega arith)
 
-  pub equated-right : v ≡ getD table q 0 → v < 64 → (r : Known) → ((t : TermAt table p) (u : TermAt table q) → r ≡ equateVariable (t .term) (u .term) τ) → (w : PairAt s table p q) → r ≡ equate (w .left) (w .right) τ
+  pub equated-right : v ≡ getD table q 0 → v < firstName → (r : Known) → ((t : TermAt table p) (u : TermAt table q) → r ≡ equateVariable (t .term) (u .term) τ) → (w : PairAt s table p q) → r ≡ equate (w .left) (w .right) τ
   equated-right e l r h w = h (left-at w) (right-at w) ∙ open-right table q τ (w .left) (w .right) (w .has-right) (omega arith)
 
 -- two names: what their equation does, by whether they are the same
@@ -164,7 +167,7 @@ pub record Descent (s table : List ℕ) (p stop q : ℕ) (t u : Term) (τ : Know
   pub pairs : PairsAt s table (p + 3) stop (q + 3)
   pub is : equate t u τ ≡ equateAll (pairs .left) (pairs .right) τ
 
-module _ (s table : List ℕ) (p q : ℕ) (τ : Known) (v x : ℕ) (ev : v ≡ getD table p 0) (ex : x ≡ getD table q 0) (lv : 64 ≤ v) (lx : 64 ≤ x) (b : Bool) (eb : (w : PairAt s table p q) → b ≡ sameFunctor (w .left) (w .right)) where
+module _ (s table : List ℕ) (p q : ℕ) (τ : Known) (v x : ℕ) (ev : v ≡ getD table p 0) (ex : x ≡ getD table q 0) (lv : firstName ≤ v) (lx : firstName ≤ x) (b : Bool) (eb : (w : PairAt s table p q) → b ≡ sameFunctor (w .left) (w .right)) where
   pub clashed : b ≡ false → (w : PairAt s table p q) → everything ≡ equate (w .left) (w .right) τ
   unfolding equateSame
   clashed h w =

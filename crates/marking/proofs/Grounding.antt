@@ -6,31 +6,32 @@ use mathlib.Core.Bool.{Bool, true, false, _&&_, _||_}
 use mathlib.Core.List.{List}
 use lib.ListN.{length, getD, set}
 use Rattle.syntax.specs.Terms.{Term, Terms, variable, compound}
-use Rattle.syntax.specs.Words.{termWords}
+use Rattle.syntax.specs.Words.{termWords, firstName}
 use Rattle.rules.specs.Modes.{Known, isGround, areGround, groundTerm, groundTerms, groundBoth, equateVariable}
-use Rattle.marking.specs.Tables.{Has, TermAt, TermsAt}
-use Rattle.marking.proofs.Places.{node, Opened, opened, none-left, Parted, parted}
+use Rattle.words.specs.Tables.{Has}
+use Rattle.marking.specs.Tables.{TermAt, TermsAt}
+use Rattle.marking.proofs.Places.{Opened, opened, none-left, Parted, parted}
 
 -- ---- one term
 
-flag-by : (table : List ℕ) (p : ℕ) (τ : Known) (t : Term) → Has table p (termWords t) → getD table p 0 < 64 → getD τ (getD table p 0) false ≡ isGround τ t
+flag-by : (table : List ℕ) (p : ℕ) (τ : Known) (t : Term) → Has table p (termWords t) → getD table p 0 < firstName → getD τ (getD table p 0) false ≡ isGround τ t
 unfolding termWords isGround
-flag-by table p τ (variable n at) h l = ap (λ (k : ℕ). getD τ k false) (node table p _ _ _ _ h .first)
-flag-by table p τ (compound at f ts) h l = absurd (omega (arith, node table p _ _ _ _ h .first))
+flag-by table p τ (variable n at) h l = ap (λ (k : ℕ). getD τ k false) (h .1)
+flag-by table p τ (compound at f ts) h l = absurd (omega (arith, h .1))
 
-stored-by : (table : List ℕ) (p : ℕ) (τ : Known) (t : Term) → Has table p (termWords t) → getD table p 0 < 64 → set τ (getD table p 0) true ≡ groundTerm t τ
+stored-by : (table : List ℕ) (p : ℕ) (τ : Known) (t : Term) → Has table p (termWords t) → getD table p 0 < firstName → set τ (getD table p 0) true ≡ groundTerm t τ
 unfolding termWords groundTerm
-stored-by table p τ (variable n at) h l = ap (λ (k : ℕ). set τ k true) (node table p _ _ _ _ h .first)
-stored-by table p τ (compound at f ts) h l = absurd (omega (arith, node table p _ _ _ _ h .first))
+stored-by table p τ (variable n at) h l = ap (λ (k : ℕ). set τ k true) (h .1)
+stored-by table p τ (compound at f ts) h l = absurd (omega (arith, h .1))
 
 module _ (table : List ℕ) (p : ℕ) (τ : Known) (v : ℕ) (e : v ≡ getD table p 0) where
-  pub flag : v < 64 → (w : TermAt table p) → getD τ v false ≡ isGround τ (w .term)
+  pub flag : v < firstName → (w : TermAt table p) → getD τ v false ≡ isGround τ (w .term)
   flag l w = ap (λ (k : ℕ). getD τ k false) e ∙ flag-by table p τ (w .term) (w .has) (omega arith)
 
-  pub stored : v < 64 → (w : TermAt table p) → set τ v true ≡ groundTerm (w .term) τ
+  pub stored : v < firstName → (w : TermAt table p) → set τ v true ≡ groundTerm (w .term) τ
   stored l w = ap (λ (k : ℕ). set τ k true) e ∙ stored-by table p τ (w .term) (w .has) (omega arith)
 
-  module _ (stop : ℕ) (l : 64 ≤ v) (s : (w : TermAt table p) → stop ≡ p + length (termWords (w .term))) where
+  module _ (stop : ℕ) (l : firstName ≤ v) (s : (w : TermAt table p) → stop ≡ p + length (termWords (w .term))) where
     pub ground-inner : (b : Bool) → ((u : TermsAt table (p + 3) stop) → b ≡ areGround τ (u .terms)) → (w : TermAt table p) → b ≡ isGround τ (w .term)
     unfolding isGround
     ground-inner b h w =

@@ -1,12 +1,12 @@
 -- Laws of the faults of a call and of a head, one for each way out of the functions. Assumes nothing.
-use Prim.Native.Nat.{ℕ, zero, suc, _+_, _≤_, _<_}
+use Prim.Native.Nat.{ℕ, suc, _+_, _≤_, _<_}
 use native.Mathlib.Omega.{arith}
 use mathlib.Core.Path.{_≡_, refl, sym, ap, ap₂, _∙_}
 use mathlib.Core.Bool.{Bool, true, false}
 use mathlib.Core.List.{List, [], _∷_}
 use mathlib.Core.Option.{Option, none, some}
 use lib.ListN.{length}
-use Rattle.syntax.specs.Terms.{compound, termOf, Mark}
+use Rattle.syntax.specs.Terms.{termOf, Mark}
 use Rattle.syntax.specs.Words.{termWords, markNumber}
 use Rattle.syntax.specs.declared.Refusal.the-variants.{OpenInput, OpenOutput}
 use Rattle.rules.specs.Modes.{Known, isGround, listOf, faulty, firstFaulty, openInput, openOutput}

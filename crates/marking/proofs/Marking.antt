@@ -10,17 +10,20 @@ use lib.Dec.{eqb}
 use lib.ListN.{length, getD, take, drop, length-append, length-drop}
 use lib.Seq.{length-take-le}
 use borrow.Author.Tests.{eq-eqb, ne-eqb}
-use Rattle.syntax.specs.Terms.{Term, Terms, compound, nil, cons, arity, Atom, termOf, Mark, input, output, free, Declaration, sameBytes, samePredicate}
+use Rattle.syntax.specs.Limits.{arguments, lengths}
+use Rattle.syntax.specs.Terms.{Term, Terms, nil, cons, arity, Atom, termOf, Mark, input, output, free, Declaration, sameBytes, samePredicate}
 use Rattle.syntax.specs.Tokens.{spelling}
-use Rattle.syntax.specs.Words.{termWords, termsWords, declarationWords, declarationsWords, markNumber, marksNumber}
+use Rattle.syntax.specs.Words.{termWords, termsWords, declarationWords, declarationsWords, markNumber, marksNumber, firstName, markNumbers, declarationSize}
 use Rattle.syntax.specs.declared.Refusal.the-variants.{Undeclared}
 use Rattle.rules.specs.Modes.{Known, isGround, marksOf, orNoMarks, marksFor, sameMark, listOf, faulty, firstFaulty, groundIf, groundMarked, groundTerm, undeclared, undeclaredAtom}
 use Rattle.marking.specs.Standing.{NameAt, AllNumbered, numbered-cons, Stands, AllStand, stands-compound, DeclarationsStand, declaration-stands}
-use Rattle.marking.specs.Tables.{Has, TermAt, DeclarationAt, DeclarationsAt, AtomAt, NamedAt, MarkedAt}
+use Rattle.words.specs.Tables.{Has}
+use Rattle.marking.specs.Tables.{TermAt, DeclarationAt, DeclarationsAt, AtomAt, NamedAt, MarkedAt}
 use Rattle.marking.specs.Answers.{checkedOf, nameOf, numberOr0, position}
 use Rattle.marking.specs.declared.marks.Name.{Name}
 use Rattle.marking.specs.declared.Checked.the-variants.{Fine, Fault}
-use Rattle.marking.proofs.Places.{Says, says as atom-words, Node, node, has-left, has-right, has-inside, sized, cons-long}
+use Rattle.words.proofs.Laws.{Node, node, has-left, has-right, has-inside}
+use Rattle.marking.proofs.Places.{Says, says as atom-words, sized, cons-long}
 use Rattle.marking.proofs.Equating.{lengths-differ}
 
 -- ---- one declaration
@@ -80,28 +83,28 @@ position-none name n = refl
 -- what is left of the search from the i-th declaration on
 pub record Rest (s declared : List ℕ) (n i : ℕ) (all : List Declaration) (name : List ℕ) (arguments : ℕ) : Type 0 where
   pub list : List Declaration
-  pub has : Has declared (i * 4) (declarationsWords list)
+  pub has : Has declared (i * declarationSize) (declarationsWords list)
   pub count : n ≡ i + length list
   pub stand : DeclarationsStand s list
   pub same : position all name arguments ≡ i + position list name arguments
 
 -- the first of them and the others
 pub record Turn (s declared : List ℕ) (n i : ℕ) (all : List Declaration) (name : List ℕ) (arguments : ℕ) : Type 0 where
-  pub first : DeclarationAt s declared (i * 4)
+  pub first : DeclarationAt s declared (i * declarationSize)
   pub found : samePredicate (first .declaration .name) (length (first .declaration .marks)) name arguments ≡ true → position all name arguments ≡ i
   pub on : samePredicate (first .declaration .name) (length (first .declaration .marks)) name arguments ≡ false → Rest s declared n (i + 1) all name arguments
 
 turn-by : (s declared : List ℕ) (n i : ℕ) (all : List Declaration) (name : List ℕ) (arguments : ℕ) (ds : List Declaration) → i < n
-    → Has declared (i * 4) (declarationsWords ds) → n ≡ i + length ds → DeclarationsStand s ds → position all name arguments ≡ i + position ds name arguments
+    → Has declared (i * declarationSize) (declarationsWords ds) → n ≡ i + length ds → DeclarationsStand s ds → position all name arguments ≡ i + position ds name arguments
     → Turn s declared n i all name arguments
 unfolding declarationsWords declarationWords
 turn-by s declared n i all name arguments [] l h c k e = absurd (omega arith)
 turn-by s declared n i all name arguments (d ∷ ds) l h c (declaration-stands k ks) e = record {
-  first = record { declaration = d; has = has-left declared (i * 4) (declarationWords d) (declarationsWords ds) h; stands = k };
+  first = record { declaration = d; has = has-left declared (i * declarationSize) (declarationWords d) (declarationsWords ds) h; stands = k };
   found = λ b. omega (arith, e, position-by true d ds name arguments b);
   on = λ b. record {
     list = ds;
-    has = (let p : i * 4 + 4 ≡ (i + 1) * 4 = omega arith in subst (λ (j : ℕ). Has declared j (declarationsWords ds)) p (has-right declared (i * 4) (declarationWords d) (declarationsWords ds) h));
+    has = (let p : i * declarationSize + declarationSize ≡ (i + 1) * declarationSize = omega arith in subst (λ (j : ℕ). Has declared j (declarationsWords ds)) p (has-right declared (i * declarationSize) (declarationWords d) (declarationsWords ds) h));
     count = omega arith;
     stand = ks;
     same = omega (arith, e, position-by false d ds name arguments b);
@@ -112,7 +115,7 @@ module _ (s declared : List ℕ) (n : ℕ) (name : List ℕ) (arguments i : ℕ)
   pub searched-first : i ≡ 0 → (w : DeclarationsAt s declared n) → Rest s declared n i (w .list) name arguments
   searched-first z w = record {
     list = w .list;
-    has = (let p : i * 4 ≡ 0 = omega arith in subst⁻¹ (λ (j : ℕ). Has declared j (declarationsWords (w .list))) p (w .has));
+    has = (let p : i * declarationSize ≡ 0 = omega arith in subst⁻¹ (λ (j : ℕ). Has declared j (declarationsWords (w .list))) p (w .has));
     count = omega (arith, w .count);
     stand = w .stand;
     same = omega arith;
@@ -130,10 +133,10 @@ module _ (s declared : List ℕ) (n : ℕ) (name : List ℕ) (arguments i : ℕ)
     turn : (w : DeclarationsAt s declared n) → Turn s declared n i (w .list) name arguments
     turn w = turn-by s declared n i (w .list) name arguments (inv w .list) l (inv w .has) (inv w .count) (inv w .stand) (inv w .same)
 
-    pub declaration-at : DeclarationsAt s declared n → DeclarationAt s declared (i * 4)
+    pub declaration-at : DeclarationsAt s declared n → DeclarationAt s declared (i * declarationSize)
     declaration-at w = turn w .first
 
-    module _ (b : Bool) (eb : (w : DeclarationAt s declared (i * 4)) → b ≡ samePredicate (w .declaration .name) (length (w .declaration .marks)) name arguments) where
+    module _ (b : Bool) (eb : (w : DeclarationAt s declared (i * declarationSize)) → b ≡ samePredicate (w .declaration .name) (length (w .declaration .marks)) name arguments) where
       pub searched-found : b ≡ true → (w : DeclarationsAt s declared n) → i ≡ position (w .list) name arguments
       searched-found t w = sym (turn w .found (sym (eb (turn w .first)) ∙ t))
 
@@ -145,16 +148,16 @@ module _ (s declared : List ℕ) (n : ℕ) (name : List ℕ) (arguments i : ℕ)
 pub name-room : {table : List ℕ} {p : ℕ} → NamedAt table p → p + 2 < length table
 name-room {table} {p} w = atom-words table p (w .atom) (w .has) .inside
 
-pub name-least : {table : List ℕ} {p : ℕ} (v : ℕ) → v ≡ getD table p 0 → NamedAt table p → 64 ≤ v
+pub name-least : {table : List ℕ} {p : ℕ} (v : ℕ) → v ≡ getD table p 0 → NamedAt table p → firstName ≤ v
 name-least {table} {p} v e w = omega (arith, atom-words table p (w .atom) (w .has) .what)
 
 pub name-is : {table : List ℕ} {p : ℕ} (v at : ℕ) → v ≡ getD table p 0 → at ≡ getD table (p + 2) 0 → (w : NamedAt table p)
-    → record { at = at; len = (v - 64) % 32; arguments = (v - 64) / 32 } ≡ nameOf (w .atom)
+    → record { at = at; len = (v - firstName) % lengths; arguments = (v - firstName) / lengths } ≡ nameOf (w .atom)
 name-is {table} {p} v at ev ea w =
     let o : Says table p (w .atom) = atom-words table p (w .atom) (w .has) in
     let place : at ≡ w .atom .at = ea ∙ o .place in
-    let long : (v - 64) % 32 ≡ length (w .atom .name) = omega (arith, o .what, w .short) in
-    let count : (v - 64) / 32 ≡ arity (w .atom .args) = omega (arith, o .what, w .short) in
+    let long : (v - firstName) % lengths ≡ length (w .atom .name) = omega (arith, o .what, w .short) in
+    let count : (v - firstName) / lengths ≡ arity (w .atom .args) = omega (arith, o .what, w .short) in
     cc
 
 -- an atom of a text has a short name, and arguments that stand in the text
@@ -213,33 +216,33 @@ later-by true d ds name n e l = omega (arith, position-by true d ds name n e)
 later-by false d ds name n e l = omega (arith, position-by false d ds name n e)
 
 near-by : (s declared : List ℕ) (p : ℕ) (ds : List Declaration) (i : ℕ) (name : List ℕ) (arguments : ℕ) → i < length ds
-    → Has declared p (declarationsWords ds) → DeclarationsStand s ds → Near s declared (p + i * 4) ds name arguments
+    → Has declared p (declarationsWords ds) → DeclarationsStand s ds → Near s declared (p + i * declarationSize) ds name arguments
 unfolding declarationsWords declarationWords
 near-by s declared p [] i name arguments l h k = absurd (omega arith)
 near-by s declared p (d ∷ ds) zero name arguments l h (declaration-stands k ks) =
-    let e : p ≡ p + 0 * 4 = omega arith in
+    let e : p ≡ p + 0 * declarationSize = omega arith in
     subst (λ (j : ℕ). Near s declared j (d ∷ ds) name arguments) e record {
       it = record { declaration = d; has = has-left declared p (declarationWords d) (declarationsWords ds) h; stands = k };
       found = λ b. omega (arith, position-by true d ds name arguments b);
     }
 near-by s declared p (d ∷ ds) (suc i) name arguments l h (declaration-stands k ks) =
-    let e : p + 4 + i * 4 ≡ p + suc i * 4 = omega arith in
-    let o : Near s declared (p + suc i * 4) ds name arguments =
+    let e : p + declarationSize + i * declarationSize ≡ p + suc i * declarationSize = omega arith in
+    let o : Near s declared (p + suc i * declarationSize) ds name arguments =
     subst (λ (j : ℕ). Near s declared j ds name arguments) e
-    (near-by s declared (p + 4) ds i name arguments (omega arith) (has-right declared p (declarationWords d) (declarationsWords ds) h) ks) in
+    (near-by s declared (p + declarationSize) ds i name arguments (omega arith) (has-right declared p (declarationWords d) (declarationsWords ds) h) ks) in
     record { it = o .it; found = λ b. later-by _ d ds name arguments refl (o .found b) }
 
 module _ (s declared : List ℕ) (n near : ℕ) (l : near < n) where
-  near-of : (name : List ℕ) (arguments : ℕ) (d : DeclarationsAt s declared n) → Near s declared (near * 4) (d .list) name arguments
+  near-of : (name : List ℕ) (arguments : ℕ) (d : DeclarationsAt s declared n) → Near s declared (near * declarationSize) (d .list) name arguments
   near-of name arguments d =
-      let e : 0 + near * 4 ≡ near * 4 = omega arith in
+      let e : 0 + near * declarationSize ≡ near * declarationSize = omega arith in
       subst (λ (j : ℕ). Near s declared j (d .list) name arguments) e
       (near-by s declared 0 (d .list) near name arguments (omega (arith, d .count)) (d .has) (d .stand))
 
-  pub near-at : DeclarationsAt s declared n → DeclarationAt s declared (near * 4)
+  pub near-at : DeclarationsAt s declared n → DeclarationAt s declared (near * declarationSize)
   near-at d = near-of [] 0 d .it
 
-  pub near-declares : (g table : List ℕ) (p : ℕ) (name : Name) → ((w : NamedAt table p) → name ≡ nameOf (w .atom)) → (q : ℕ) → q ≡ near * 4 → (b : Bool)
+  pub near-declares : (g table : List ℕ) (p : ℕ) (name : Name) → ((w : NamedAt table p) → name ≡ nameOf (w .atom)) → (q : ℕ) → q ≡ near * declarationSize → (b : Bool)
       → ((w : DeclarationAt s declared q) → b ≡ samePredicate (w .declaration .name) (length (w .declaration .marks)) (spelling g (name .at) (name .len)) (name .arguments))
       → b ≡ true → (d : DeclarationsAt s declared n) (w : AtomAt g table p) → position (d .list) (w .atom .name) (arity (w .atom .args)) < n
   near-declares g table p name en q eq b eb t d w =
@@ -256,8 +259,8 @@ module _ (s declared : List ℕ) (n near : ℕ) (l : near < n) where
 pub record MarksFound (declared : List ℕ) (p : ℕ) (ds : List Declaration) (a : Atom) (i : ℕ) : Type 0 where
   pub marks : List Mark
   pub is : marksOf ds a ≡ some marks
-  pub inside : p + i * 4 + 3 < length declared
-  pub word : getD declared (p + i * 4 + 3) 0 ≡ marksNumber marks
+  pub inside : p + i * declarationSize + 3 < length declared
+  pub word : getD declared (p + i * declarationSize + 3) 0 ≡ marksNumber marks
 
 marks-by : (b : Bool) (d : Declaration) (ds : List Declaration) (a : Atom) → samePredicate (d .name) (length (d .marks)) (a .name) (arity (a .args)) ≡ b
     → marksOf (d ∷ ds) a ≡ elim b as (λ _. Option (List Mark)) [ true ↦ some (d .marks) | false ↦ marksOf ds a ]
@@ -265,22 +268,20 @@ unfolding marksOf
 marks-by b d ds a e = ap (λ (t : Bool). elim t as (λ _. Option (List Mark)) [ true ↦ some (d .marks) | false ↦ marksOf ds a ]) e
 
 four : (declared : List ℕ) (p a b c m : ℕ) → Has declared p (a ∷ b ∷ c ∷ m ∷ []) → (p + 3 < length declared) × (getD declared (p + 3) 0 ≡ m)
-unfolding Has
 four declared p a b c m h =
-    let o : Node declared p a b c (m ∷ []) = node declared p a b c (m ∷ []) h in
-    let r : (p + 3 < length declared) × ((getD declared (p + 3) 0 ≡ m) × Unit) = o .rest in
-    (r .0, r .1 .0)
+    let r : Has declared (p + 3) (m ∷ []) = node declared p a b c (m ∷ []) h .rest in
+    (r .0, r .1)
 
 found-by : (declared : List ℕ) (p : ℕ) (d : Declaration) (ds : List Declaration) (a : Atom) (b : Bool)
     → samePredicate (d .name) (length (d .marks)) (a .name) (arity (a .args)) ≡ b → Has declared p (declarationsWords (d ∷ ds))
     → position (d ∷ ds) (a .name) (arity (a .args)) < suc (length ds)
-    → (Has declared (p + 4) (declarationsWords ds) → position ds (a .name) (arity (a .args)) < length ds → MarksFound declared (p + 4) ds a (position ds (a .name) (arity (a .args))))
+    → (Has declared (p + declarationSize) (declarationsWords ds) → position ds (a .name) (arity (a .args)) < length ds → MarksFound declared (p + declarationSize) ds a (position ds (a .name) (arity (a .args))))
     → MarksFound declared p (d ∷ ds) a (position (d ∷ ds) (a .name) (arity (a .args)))
 unfolding declarationsWords declarationWords
 found-by declared p d ds a true e h l more =
     let q : (p + 3 < length declared) × (getD declared (p + 3) 0 ≡ marksNumber (d .marks)) = four declared p _ _ _ _ (has-left declared p (declarationWords d) (declarationsWords ds) h) in
     let z : position (d ∷ ds) (a .name) (arity (a .args)) ≡ 0 = position-by true d ds (a .name) (arity (a .args)) e in
-    let k : p + 3 ≡ p + position (d ∷ ds) (a .name) (arity (a .args)) * 4 + 3 = omega arith in
+    let k : p + 3 ≡ p + position (d ∷ ds) (a .name) (arity (a .args)) * declarationSize + 3 = omega arith in
     record {
       marks = d .marks;
       is = marks-by true d ds a e;
@@ -289,8 +290,8 @@ found-by declared p d ds a true e h l more =
     }
 found-by declared p d ds a false e h l more =
     let z : position (d ∷ ds) (a .name) (arity (a .args)) ≡ suc (position ds (a .name) (arity (a .args))) = position-by false d ds (a .name) (arity (a .args)) e in
-    let q : MarksFound declared (p + 4) ds a (position ds (a .name) (arity (a .args))) = more (has-right declared p (declarationWords d) (declarationsWords ds) h) (omega arith) in
-    let k : p + 4 + position ds (a .name) (arity (a .args)) * 4 + 3 ≡ p + position (d ∷ ds) (a .name) (arity (a .args)) * 4 + 3 = omega arith in
+    let q : MarksFound declared (p + declarationSize) ds a (position ds (a .name) (arity (a .args))) = more (has-right declared p (declarationWords d) (declarationsWords ds) h) (omega arith) in
+    let k : p + declarationSize + position ds (a .name) (arity (a .args)) * declarationSize + 3 ≡ p + position (d ∷ ds) (a .name) (arity (a .args)) * declarationSize + 3 = omega arith in
     record {
       marks = q .marks;
       is = marks-by false d ds a e ∙ q .is;
@@ -301,7 +302,7 @@ found-by declared p d ds a false e h l more =
 found-at : (declared : List ℕ) (p : ℕ) (ds : List Declaration) (a : Atom) → Has declared p (declarationsWords ds)
     → position ds (a .name) (arity (a .args)) < length ds → MarksFound declared p ds a (position ds (a .name) (arity (a .args)))
 found-at declared p [] a h l = absurd (omega arith)
-found-at declared p (d ∷ ds) a h l = found-by declared p d ds a _ refl h l (λ h1 l1. found-at declared (p + 4) ds a h1 l1)
+found-at declared p (d ∷ ds) a h l = found-by declared p d ds a _ refl h l (λ h1 l1. found-at declared (p + declarationSize) ds a h1 l1)
 
 marks-empty : (a : Atom) → marksOf [] a ≡ none
 unfolding marksOf
@@ -332,13 +333,13 @@ module _ (s declared : List ℕ) (n : ℕ) (g table : List ℕ) (p i : ℕ)
     found d w =
         subst⁻¹ (MarksFound declared 0 (d .list) (w .atom)) (ei d w) (found-at declared 0 (d .list) (w .atom) (d .has) (omega (arith, ei d w, d .count)))
 
-    pub marks-inside : DeclarationsAt s declared n → AtomAt g table p → i * 4 + 3 < length declared
+    pub marks-inside : DeclarationsAt s declared n → AtomAt g table p → i * declarationSize + 3 < length declared
     marks-inside d w = omega (arith, found d w .inside)
 
-    pub marks-word : (q r : ℕ) → q ≡ i * 4 + 3 → r ≡ getD declared q 0 → (d : DeclarationsAt s declared n) (w : AtomAt g table p) → r ≡ marksNumber (marksFor (d .list) (w .atom))
+    pub marks-word : (q r : ℕ) → q ≡ i * declarationSize + 3 → r ≡ getD declared q 0 → (d : DeclarationsAt s declared n) (w : AtomAt g table p) → r ≡ marksNumber (marksFor (d .list) (w .atom))
     unfolding marksFor orNoMarks
     marks-word q r e h d w =
-        let k : q ≡ 0 + i * 4 + 3 = omega arith in
+        let k : q ≡ 0 + i * declarationSize + 3 = omega arith in
         h ∙ ap (λ (j : ℕ). getD declared j 0) k ∙ found d w .word ∙ sym (ap (λ (o : Option (List Mark)). marksNumber (orNoMarks o)) (found d w .is))
 
     pub declared-fine : (c k : ℕ) (d : DeclarationsAt s declared n) (w : AtomAt g table p) → Fine ≡ checkedOf (undeclaredAtom (d .list) c k (w .atom))
@@ -372,7 +373,7 @@ same-number free input = refl
 same-number free output = refl
 same-number free free = refl
 
-lowest : (k : Mark) (ks : List Mark) → (marksNumber (k ∷ ks) % 4 ≡ markNumber k) × (marksNumber (k ∷ ks) / 4 ≡ marksNumber ks)
+lowest : (k : Mark) (ks : List Mark) → (marksNumber (k ∷ ks) % markNumbers ≡ markNumber k) × (marksNumber (k ∷ ks) / markNumbers ≡ marksNumber ks)
 unfolding marksNumber
 lowest input ks = omega arith
 lowest output ks = omega arith
@@ -381,23 +382,23 @@ lowest free ks = omega arith
 -- the first argument and the others, with their marks
 pub record Marked (table : List ℕ) (p stop marks mark : ℕ) (m : Mark) (ms : List Mark) (ts : Terms) : Type 0 where
   pub first : TermAt table p
-  pub rest : MarkedAt table (p + length (termWords (first .term))) stop (marks / 4) mark
+  pub rest : MarkedAt table (p + length (termWords (first .term))) stop (marks / markNumbers) mark
   pub fault-is : (test : Term → Bool) (n : ℕ)
-      → firstFaulty m test ms (listOf ts) n ≡ elim (eqb (marks % 4) mark && not (test (first .term))) as (λ _. Option ℕ) [ true ↦ some n | false ↦ firstFaulty (rest .wanted) test (rest .listed) (listOf (rest .terms)) (suc n) ]
-  pub ground-is : (τ : Known) → groundMarked m ms (listOf ts) τ ≡ groundMarked (rest .wanted) (rest .listed) (listOf (rest .terms)) (groundIf (eqb (marks % 4) mark) (first .term) τ)
+      → firstFaulty m test ms (listOf ts) n ≡ elim (eqb (marks % markNumbers) mark && not (test (first .term))) as (λ _. Option ℕ) [ true ↦ some n | false ↦ firstFaulty (rest .wanted) test (rest .listed) (listOf (rest .terms)) (suc n) ]
+  pub ground-is : (τ : Known) → groundMarked m ms (listOf ts) τ ≡ groundMarked (rest .wanted) (rest .listed) (listOf (rest .terms)) (groundIf (eqb (marks % markNumbers) mark) (first .term) τ)
 
 -- the mark of the first argument, and what is left of the marks
 record Lowest (marks mark : ℕ) (m : Mark) (ms : List Mark) (t : Term) (ts : Terms) : Type 0 where
   left : List Mark
-  number : marks / 4 ≡ marksNumber left
+  number : marks / markNumbers ≡ marksNumber left
   fault-is : (test : Term → Bool) (n : ℕ)
-      → firstFaulty m test ms (t ∷ listOf ts) n ≡ elim (eqb (marks % 4) mark && not (test t)) as (λ _. Option ℕ) [ true ↦ some n | false ↦ firstFaulty m test left (listOf ts) (suc n) ]
-  ground-is : (τ : Known) → groundMarked m ms (t ∷ listOf ts) τ ≡ groundMarked m left (listOf ts) (groundIf (eqb (marks % 4) mark) t τ)
+      → firstFaulty m test ms (t ∷ listOf ts) n ≡ elim (eqb (marks % markNumbers) mark && not (test t)) as (λ _. Option ℕ) [ true ↦ some n | false ↦ firstFaulty m test left (listOf ts) (suc n) ]
+  ground-is : (τ : Known) → groundMarked m ms (t ∷ listOf ts) τ ≡ groundMarked m left (listOf ts) (groundIf (eqb (marks % markNumbers) mark) t τ)
 
 no-marks : (marks mark : ℕ) (m : Mark) (t : Term) (ts : Terms) → marks ≡ marksNumber [] → mark ≡ markNumber m → Lowest marks mark m [] t ts
 unfolding marksNumber firstFaulty groundMarked groundIf
 no-marks marks mark m t ts em ew =
-    let no : eqb (marks % 4) mark ≡ false = ne-eqb (marks % 4) mark (λ e. omega (arith, mark-some m)) in
+    let no : eqb (marks % markNumbers) mark ≡ false = ne-eqb (marks % markNumbers) mark (λ e. omega (arith, mark-some m)) in
     record {
       left = [];
       number = omega arith;
@@ -408,10 +409,10 @@ no-marks marks mark m t ts em ew =
 one-mark : (marks mark : ℕ) (m k : Mark) (ks : List Mark) (t : Term) (ts : Terms) → marks ≡ marksNumber (k ∷ ks) → mark ≡ markNumber m → Lowest marks mark m (k ∷ ks) t ts
 unfolding firstFaulty groundMarked groundIf faulty
 one-mark marks mark m k ks t ts em ew =
-    let is : eqb (marks % 4) mark ≡ sameMark m k = ap₂ eqb (ap (λ (x : ℕ). x % 4) em ∙ lowest k ks .0) ew ∙ same-number m k in
+    let is : eqb (marks % markNumbers) mark ≡ sameMark m k = ap₂ eqb (ap (λ (x : ℕ). x % markNumbers) em ∙ lowest k ks .0) ew ∙ same-number m k in
     record {
       left = ks;
-      number = ap (λ (x : ℕ). x / 4) em ∙ lowest k ks .1;
+      number = ap (λ (x : ℕ). x / markNumbers) em ∙ lowest k ks .1;
       fault-is = λ test n. sym (ap (λ (b : Bool). elim (b && not (test t)) as (λ _. Option ℕ) [ true ↦ some n | false ↦ firstFaulty m test ks (listOf ts) (suc n) ]) is);
       ground-is = λ τ. sym (ap (λ (b : Bool). groundMarked m ks (listOf ts) (groundIf b t τ)) is);
     }
@@ -449,12 +450,12 @@ none-marked [] m ts p stop l e = ((λ test n. refl), (λ τ. refl))
 none-marked (k ∷ ks) m nil p stop l e = ((λ test n. refl), (λ τ. refl))
 none-marked (k ∷ ks) m (cons t ts) p stop l e = absurd (omega (arith, cons-long t ts))
 
-pub open-other : (table : List ℕ) (p marks mark : ℕ) (τ : Known) → (marks % 4 ≡ mark → ⊥) → (w : TermAt table p) → false ≡ (eqb (marks % 4) mark && not (isGround τ (w .term)))
-open-other table p marks mark τ n w = sym (ap (λ (b : Bool). b && not (isGround τ (w .term))) (ne-eqb (marks % 4) mark n))
+pub open-other : (table : List ℕ) (p marks mark : ℕ) (τ : Known) → (marks % markNumbers ≡ mark → ⊥) → (w : TermAt table p) → false ≡ (eqb (marks % markNumbers) mark && not (isGround τ (w .term)))
+open-other table p marks mark τ n w = sym (ap (λ (b : Bool). b && not (isGround τ (w .term))) (ne-eqb (marks % markNumbers) mark n))
 
-pub open-same : (table : List ℕ) (p marks mark : ℕ) (τ : Known) → marks % 4 ≡ mark → (b : Bool) → ((w : TermAt table p) → b ≡ isGround τ (w .term))
-    → (w : TermAt table p) → not b ≡ (eqb (marks % 4) mark && not (isGround τ (w .term)))
-open-same table p marks mark τ e b h w = ap not (h w) ∙ sym (ap (λ (x : Bool). x && not (isGround τ (w .term))) (eq-eqb (marks % 4) mark e))
+pub open-same : (table : List ℕ) (p marks mark : ℕ) (τ : Known) → marks % markNumbers ≡ mark → (b : Bool) → ((w : TermAt table p) → b ≡ isGround τ (w .term))
+    → (w : TermAt table p) → not b ≡ (eqb (marks % markNumbers) mark && not (isGround τ (w .term)))
+open-same table p marks mark τ e b h w = ap not (h w) ∙ sym (ap (λ (x : Bool). x && not (isGround τ (w .term))) (eq-eqb (marks % markNumbers) mark e))
 
 ends-inside : (table : List ℕ) (p : ℕ) (ts : Terms) → Has table p (termsWords ts) → 0 < length (termsWords ts) → p + length (termsWords ts) ≤ length table
 ends-inside table p ts h l = has-inside table p (termsWords ts) h l
@@ -473,7 +474,7 @@ module _ (table : List ℕ) (p stop marks mark : ℕ) (τ : Known) where
     pub marked-first : MarkedAt table p stop marks mark → TermAt table p
     marked-first w = marked w .first
 
-    pub found-open : (number : ℕ) (b : Bool) → ((w : TermAt table p) → b ≡ (eqb (marks % 4) mark && not (isGround τ (w .term)))) → b ≡ true
+    pub found-open : (number : ℕ) (b : Bool) → ((w : TermAt table p) → b ≡ (eqb (marks % markNumbers) mark && not (isGround τ (w .term)))) → b ≡ true
         → (w : MarkedAt table p stop marks mark) → number ≡ numberOr0 (firstFaulty (w .wanted) (isGround τ) (w .listed) (listOf (w .terms)) number)
     found-open number b h e w =
         sym
@@ -487,16 +488,16 @@ module _ (table : List ℕ) (p stop marks mark : ℕ) (τ : Known) where
           omega
           (arith, n (marked w .first), sized table p (marked w .first) .long, marked w .rest .ends, ends-inside table p (w .terms) (w .has) (omega (arith, w .ends)), w .ends)
 
-      pub marked-rest : MarkedAt table p stop marks mark → MarkedAt table next stop (marks / 4) mark
-      marked-rest w = subst⁻¹ (λ (k : ℕ). MarkedAt table k stop (marks / 4) mark) (n (marked w .first)) (marked w .rest)
+      pub marked-rest : MarkedAt table p stop marks mark → MarkedAt table next stop (marks / markNumbers) mark
+      marked-rest w = subst⁻¹ (λ (k : ℕ). MarkedAt table k stop (marks / markNumbers) mark) (n (marked w .first)) (marked w .rest)
 
-      pub open-on : (number more : ℕ) (b : Bool) → ((w : TermAt table p) → b ≡ (eqb (marks % 4) mark && not (isGround τ (w .term)))) → b ≡ false → more ≡ number + 1
-          → (r : ℕ) → ((w : MarkedAt table next stop (marks / 4) mark) → r ≡ numberOr0 (firstFaulty (w .wanted) (isGround τ) (w .listed) (listOf (w .terms)) more))
+      pub open-on : (number more : ℕ) (b : Bool) → ((w : TermAt table p) → b ≡ (eqb (marks % markNumbers) mark && not (isGround τ (w .term)))) → b ≡ false → more ≡ number + 1
+          → (r : ℕ) → ((w : MarkedAt table next stop (marks / markNumbers) mark) → r ≡ numberOr0 (firstFaulty (w .wanted) (isGround τ) (w .listed) (listOf (w .terms)) more))
           → (w : MarkedAt table p stop marks mark) → r ≡ numberOr0 (firstFaulty (w .wanted) (isGround τ) (w .listed) (listOf (w .terms)) number)
       open-on number more b h e em r k w =
           let q : Marked table p stop marks mark (w .wanted) (w .listed) (w .terms) = marked w in
-          let k1 : (u : MarkedAt table (p + length (termWords (q .first .term))) stop (marks / 4) mark) → r ≡ numberOr0 (firstFaulty (u .wanted) (isGround τ) (u .listed) (listOf (u .terms)) more) =
-          subst (λ (j : ℕ). (u : MarkedAt table j stop (marks / 4) mark) → r ≡ numberOr0 (firstFaulty (u .wanted) (isGround τ) (u .listed) (listOf (u .terms)) more)) (n (q .first)) k in
+          let k1 : (u : MarkedAt table (p + length (termWords (q .first .term))) stop (marks / markNumbers) mark) → r ≡ numberOr0 (firstFaulty (u .wanted) (isGround τ) (u .listed) (listOf (u .terms)) more) =
+          subst (λ (j : ℕ). (u : MarkedAt table j stop (marks / markNumbers) mark) → r ≡ numberOr0 (firstFaulty (u .wanted) (isGround τ) (u .listed) (listOf (u .terms)) more)) (n (q .first)) k in
           k1 (q .rest)
           ∙ ap (λ (j : ℕ). numberOr0 (firstFaulty (q .rest .wanted) (isGround τ) (q .rest .listed) (listOf (q .rest .terms)) j)) (em ∙ add-one number)
           ∙ sym
@@ -504,25 +505,25 @@ module _ (table : List ℕ) (p stop marks mark : ℕ) (τ : Known) where
           (q .fault-is (isGround τ) number
           ∙ ap (λ (x : Bool). elim x as (λ _. Option ℕ) [ true ↦ some number | false ↦ firstFaulty (q .rest .wanted) (isGround τ) (q .rest .listed) (listOf (q .rest .terms)) (suc number) ]) (sym (h (q .first)) ∙ e)))
 
-      given-on : (b : Bool) (σ r : Known) (w : MarkedAt table p stop marks mark) → eqb (marks % 4) mark ≡ b → σ ≡ groundIf b (marked w .first .term) τ
-          → ((u : MarkedAt table next stop (marks / 4) mark) → r ≡ groundMarked (u .wanted) (u .listed) (listOf (u .terms)) σ)
+      given-on : (b : Bool) (σ r : Known) (w : MarkedAt table p stop marks mark) → eqb (marks % markNumbers) mark ≡ b → σ ≡ groundIf b (marked w .first .term) τ
+          → ((u : MarkedAt table next stop (marks / markNumbers) mark) → r ≡ groundMarked (u .wanted) (u .listed) (listOf (u .terms)) σ)
           → r ≡ groundMarked (w .wanted) (w .listed) (listOf (w .terms)) τ
       given-on b σ r w e es k =
           let q : Marked table p stop marks mark (w .wanted) (w .listed) (w .terms) = marked w in
-          let k1 : (u : MarkedAt table (p + length (termWords (q .first .term))) stop (marks / 4) mark) → r ≡ groundMarked (u .wanted) (u .listed) (listOf (u .terms)) σ =
-          subst (λ (j : ℕ). (u : MarkedAt table j stop (marks / 4) mark) → r ≡ groundMarked (u .wanted) (u .listed) (listOf (u .terms)) σ) (n (q .first)) k in
+          let k1 : (u : MarkedAt table (p + length (termWords (q .first .term))) stop (marks / markNumbers) mark) → r ≡ groundMarked (u .wanted) (u .listed) (listOf (u .terms)) σ =
+          subst (λ (j : ℕ). (u : MarkedAt table j stop (marks / markNumbers) mark) → r ≡ groundMarked (u .wanted) (u .listed) (listOf (u .terms)) σ) (n (q .first)) k in
           k1 (q .rest)
           ∙ ap (groundMarked (q .rest .wanted) (q .rest .listed) (listOf (q .rest .terms))) (es ∙ ap (λ (x : Bool). groundIf x (q .first .term) τ) (sym e))
           ∙ sym (q .ground-is τ)
 
-      pub given-same : marks % 4 ≡ mark → (σ r : Known) → ((u : TermAt table p) → σ ≡ groundTerm (u .term) τ)
-          → ((u : MarkedAt table next stop (marks / 4) mark) → r ≡ groundMarked (u .wanted) (u .listed) (listOf (u .terms)) σ)
+      pub given-same : marks % markNumbers ≡ mark → (σ r : Known) → ((u : TermAt table p) → σ ≡ groundTerm (u .term) τ)
+          → ((u : MarkedAt table next stop (marks / markNumbers) mark) → r ≡ groundMarked (u .wanted) (u .listed) (listOf (u .terms)) σ)
           → (w : MarkedAt table p stop marks mark) → r ≡ groundMarked (w .wanted) (w .listed) (listOf (w .terms)) τ
       unfolding groundIf
-      given-same e σ r h k w = given-on true σ r w (eq-eqb (marks % 4) mark e) (h (marked w .first)) k
+      given-same e σ r h k w = given-on true σ r w (eq-eqb (marks % markNumbers) mark e) (h (marked w .first)) k
 
-      pub given-other : (marks % 4 ≡ mark → ⊥) → (r : Known)
-          → ((u : MarkedAt table next stop (marks / 4) mark) → r ≡ groundMarked (u .wanted) (u .listed) (listOf (u .terms)) τ)
+      pub given-other : (marks % markNumbers ≡ mark → ⊥) → (r : Known)
+          → ((u : MarkedAt table next stop (marks / markNumbers) mark) → r ≡ groundMarked (u .wanted) (u .listed) (listOf (u .terms)) τ)
           → (w : MarkedAt table p stop marks mark) → r ≡ groundMarked (w .wanted) (w .listed) (listOf (w .terms)) τ
       unfolding groundIf
-      given-other e r k w = given-on false τ r w (ne-eqb (marks % 4) mark e) refl k
+      given-other e r k w = given-on false τ r w (ne-eqb (marks % markNumbers) mark e) refl k

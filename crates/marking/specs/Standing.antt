@@ -5,13 +5,13 @@ use mathlib.Core.List.{List, [], _∷_}
 use lib.ListN.{length}
 use Rattle.syntax.specs.Terms.{Term, Terms, variable, compound, nil, cons, arity, Atom, termOf, Literal, Body, call, equation, truth, falsity, done, also, Declaration, Clause, Sheet, Goal}
 use Rattle.syntax.specs.Tokens.{spelling}
-use Rattle.syntax.specs.Reading.{variables, arguments}
+use Rattle.syntax.specs.Limits.{variables, arguments, wordBytes, declarations}
 
--- a name is the text's bytes at its place, at most 31 of them
+-- a name is the text's bytes at its place, no more of them than a name may have
 pub record NameAt (s : List ℕ) (at : ℕ) (name : List ℕ) : Type 0 where
   pub spelt : name ≡ spelling s at (length name)
   pub inside : at + length name ≤ length s
-  pub short : length name ≤ 31
+  pub short : length name ≤ wordBytes
 
 -- the numbers of a term's variables are below the most that a clause has
 mutual

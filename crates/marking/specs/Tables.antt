@@ -1,17 +1,14 @@
 -- What stands in a table of words. A function on a table asks for a record of something that stands there, and answers for every such
 -- record.
-use Prim.Native.Nat.{ℕ, suc, _+_, _≤_, _<_}
+use Prim.Native.Nat.{ℕ, _+_, _≤_, _<_}
 use mathlib.Core.Path.{_≡_}
-use mathlib.Core.List.{List, [], _∷_}
-use lib.ListN.{length, getD}
+use mathlib.Core.List.{List, _∷_}
+use lib.ListN.{length}
+use Rattle.syntax.specs.Limits.{wordBytes}
 use Rattle.syntax.specs.Terms.{Term, Terms, arity, Atom, termOf, Literal, Body, Mark, Declaration, Clause, Sheet, Goal}
 use Rattle.syntax.specs.Words.{termWords, termsWords, atomWords, literalWords, bodyWords, bodyLength, clauseWords, clausesWords, markNumber, marksNumber, declarationWords, declarationsWords}
+use Rattle.words.specs.Tables.{Has}
 use Rattle.marking.specs.Standing.{Numbered, AllNumbered, Stands, AllStand, LiteralStands, BodyStands, ClauseStands, ClausesStand, DeclarationStands, DeclarationsStand, SheetStands, GoalStands}
-
--- these words stand from p on
-unfoldable pub Has : List ℕ → ℕ → List ℕ → Type 0
-Has table p [] = Unit
-Has table p (w ∷ ws) = (p < length table) × ((getD table p 0 ≡ w) × Has table (suc p) ws)
 
 -- a term stands at p
 pub record TermAt (table : List ℕ) (p : ℕ) : Type 0 where
@@ -76,18 +73,18 @@ pub record AtomAt (g table : List ℕ) (p : ℕ) : Type 0 where
   pub has : Has table p (atomWords atom)
   pub stands : Stands g (termOf atom)
 
--- an atom with a name of at most 31 bytes stands at p
+-- an atom stands at p, whose name is no longer than a name may be
 pub record NamedAt (table : List ℕ) (p : ℕ) : Type 0 where
   pub atom : Atom
   pub has : Has table p (atomWords atom)
-  pub short : length (atom .name) ≤ 31
+  pub short : length (atom .name) ≤ wordBytes
 
 -- an atom stands at p, and the marks for its arguments in one number
 pub record JudgedAt (table : List ℕ) (p marks : ℕ) : Type 0 where
   pub atom : Atom
   pub has : Has table p (atomWords atom)
   pub numbered : AllNumbered (atom .args)
-  pub short : length (atom .name) ≤ 31
+  pub short : length (atom .name) ≤ wordBytes
   pub listed : List Mark
   pub number : marks ≡ marksNumber listed
 

@@ -1,12 +1,18 @@
 // The marks of a predicate, and the arguments that have one of them.
 use crate::Checked;
 use crate::Known;
-use crate::table::past;
-use crate::table::word_at;
-use crate::terms::NAMED;
 use crate::terms::ground_term;
 use crate::terms::is_ground;
+use syntax::DECLARATION_SIZE;
+use syntax::FIRST_NAME;
+use syntax::INPUT;
+use syntax::LENGTHS;
+use syntax::MARK_NUMBERS;
+use syntax::NODE_WORDS;
+use syntax::OUTPUT;
 use syntax::Refusal;
+use words::past;
+use words::word_at;
 ghost use mathlib.Core.Path.{_≡_};
 ghost use mathlib.Core.Bool.{true, not, _&&_};
 ghost use Prim.Native.Nat.{_+_, _%_, _≤_, _<_};
@@ -14,18 +20,10 @@ ghost use lib.Dec.{eqb};
 ghost use lib.ListN.{length};
 ghost use Rattle.syntax.specs.Tokens.{spelling};
 ghost use Rattle.syntax.specs.Terms.{arity, samePredicate, input, output};
-ghost use Rattle.syntax.specs.Words.{marksNumber};
+ghost use Rattle.syntax.specs.Words.{markNumbers, marksNumber};
 ghost use Rattle.rules.specs.Modes.{isGround, marksFor, listOf, firstFaulty, groundMarked, undeclaredAtom, openInput, openOutput};
 ghost use Rattle.marking.specs.Tables.{TermAt, DeclarationAt, DeclarationsAt, AtomAt, NamedAt, MarkedAt, JudgedAt};
 ghost use Rattle.marking.specs.Answers.{checkedOf, nameOf, numberOr0, position};
-
-// The numbers of the marks + and -.
-pub const INPUT: usize = 1;
-
-pub const OUTPUT: usize = 2;
-
-// The words of a declaration: place and length of its name, number of marks, the marks.
-const ENTRY: usize = 4;
 
 // The name of an atom: its byte, its length, and the number of arguments behind it.
 pub struct Name {
@@ -39,12 +37,12 @@ fn name_at(table: &[u32], p: usize) -> Name
     requires { ⌜ NamedAt (now table) p ⌝ }
     ensures { λ r. ⌜ ((w : NamedAt (now (table .entry)) p) → r ≡ nameOf (w .atom)) ⌝ }
 {
-    let what = word_at(table, p) - NAMED;
+    let what = word_at(table, p) - FIRST_NAME;
     let at = word_at(table, p + 2);
     Name {
         at,
-        len: what % 32,
-        arguments: what / 32,
+        len: what % LENGTHS,
+        arguments: what / LENGTHS,
     }
 }
 
@@ -90,7 +88,7 @@ pub fn find(
 {
     let mut i = 0;
     while i < n {
-        let p = i * ENTRY;
+        let p = i * DECLARATION_SIZE;
         if declares(s, declared, p, g, at, len, arguments) {
             return i;
         }
@@ -134,7 +132,7 @@ pub fn is_near(
     let at = name.at;
     let len = name.len;
     let arguments = name.arguments;
-    let q = near * ENTRY;
+    let q = near * DECLARATION_SIZE;
     declares(s, declared, q, g, at, len, arguments)
 }
 
@@ -146,7 +144,7 @@ pub fn marks_of(s: &[u8], declared: &[u32], n: usize, g: &[u8], table: &[u32], p
 {
     let i = find_atom(s, declared, n, g, table, p);
     if i < n {
-        let q = i * ENTRY + 3;
+        let q = i * DECLARATION_SIZE + 3;
         return word_at(declared, q);
     }
     0
@@ -189,9 +187,9 @@ pub fn undeclared_atom(
 // Whether a term, whose mark is the lowest of `marks`, has the mark and is not ground.
 fn is_open(table: &[u32], p: usize, marks: usize, mark: usize, known: Known) -> bool
     requires { ⌜ TermAt (now table) p ⌝ }
-    ensures { λ r. ⌜ ((w : TermAt (now (table .entry)) p) → r ≡ (eqb (marks % 4) mark && not (isGround known (w .term)))) ⌝ }
+    ensures { λ r. ⌜ ((w : TermAt (now (table .entry)) p) → r ≡ (eqb (marks % markNumbers) mark && not (isGround known (w .term)))) ⌝ }
 {
-    if marks % 4 != mark {
+    if marks % MARK_NUMBERS != mark {
         return false;
     }
     !is_ground(table, p, known)
@@ -218,7 +216,7 @@ fn first_open(
         return number;
     }
     let next = past(table, p);
-    let rest = marks / 4;
+    let rest = marks / MARK_NUMBERS;
     let more = number + 1;
     first_open(table, next, stop, rest, mark, known, more)
 }
@@ -239,8 +237,8 @@ pub fn ground_marked(
         return known;
     }
     let next = past(table, p);
-    let rest = marks / 4;
-    if marks % 4 == mark {
+    let rest = marks / MARK_NUMBERS;
+    if marks % MARK_NUMBERS == mark {
         let after = ground_term(table, p, known);
         return ground_marked(table, next, stop, rest, mark, after);
     }
@@ -259,7 +257,7 @@ pub fn call_fault(
     requires { ⌜ JudgedAt (now table) p marks ⌝ }
     ensures { λ r. ⌜ ((w : JudgedAt (now (table .entry)) p marks) → r ≡ checkedOf (openInput clause literal (w .atom) (firstFaulty input (isGround known) (w .listed) (listOf (w .atom .args)) 1))) ⌝ }
 {
-    let from = p + 3;
+    let from = p + NODE_WORDS;
     let stop = past(table, p);
     let argument = first_open(table, from, stop, marks, INPUT, known, 1);
     if argument == 0 {
@@ -282,7 +280,7 @@ pub fn head_fault(table: &[u32], p: usize, marks: usize, known: Known, clause: u
     requires { ⌜ JudgedAt (now table) p marks ⌝ }
     ensures { λ r. ⌜ ((w : JudgedAt (now (table .entry)) p marks) → r ≡ checkedOf (openOutput clause (w .atom) (firstFaulty output (isGround known) (w .listed) (listOf (w .atom .args)) 1))) ⌝ }
 {
-    let from = p + 3;
+    let from = p + NODE_WORDS;
     let stop = past(table, p);
     let argument = first_open(table, from, stop, marks, OUTPUT, known, 1);
     if argument == 0 {

@@ -1,18 +1,19 @@
 // What is known ground of terms in a node table: each function on a term and the one on a list of terms call each other, as far as the
 // brackets go.
 use crate::Known;
-use crate::VARIABLES;
-use crate::table::past;
-use crate::table::word_at;
+use syntax::FIRST_NAME;
+use syntax::LENGTHS;
+use syntax::NODE_WORDS;
+use syntax::VARIABLES;
+use words::past;
+use words::word_at;
 ghost use mathlib.Core.Path.{_≡_};
 ghost use Prim.Native.Nat.{_≤_};
 ghost use lib.ListN.{getD};
+ghost use Rattle.syntax.specs.Words.{firstName};
 ghost use Rattle.rules.specs.Modes.{isGround, areGround, groundTerm, groundTerms, equateVariable, equate, equateAll};
 ghost use Rattle.marking.specs.Tables.{TermAt, TermsAt, PairAt, PairsAt};
 ghost use Rattle.marking.specs.Functors.{sameFunctor};
-
-// From this word on a node is a name, with 32 more for each argument and its length added; below it is a variable's number.
-pub const NAMED: usize = 64;
 
 // Whether a term is ground.
 pub fn is_ground(table: &[u32], p: usize, known: Known) -> bool
@@ -20,10 +21,10 @@ pub fn is_ground(table: &[u32], p: usize, known: Known) -> bool
     ensures { λ r. ⌜ ((w : TermAt (now (table .entry)) p) → r ≡ isGround known (w .term)) ⌝ }
 {
     let v = word_at(table, p);
-    if v < NAMED {
+    if v < FIRST_NAME {
         return known[v];
     }
-    let from = p + 3;
+    let from = p + NODE_WORDS;
     let stop = past(table, p);
     are_ground(table, from, stop, known)
 }
@@ -49,12 +50,12 @@ pub fn ground_term(table: &[u32], p: usize, known: Known) -> Known
     ensures { λ r. ⌜ ((w : TermAt (now (table .entry)) p) → r ≡ groundTerm (w .term) known) ⌝ }
 {
     let v = word_at(table, p);
-    if v < NAMED {
+    if v < FIRST_NAME {
         let mut after = known;
         after[v] = true;
         return after;
     }
-    let from = p + 3;
+    let from = p + NODE_WORDS;
     let stop = past(table, p);
     ground_terms(table, from, stop, known)
 }
@@ -92,7 +93,7 @@ fn equate_variable(table: &[u32], p: usize, q: usize, known: Known) -> Known
 // Whether two terms that are no variables have the same name and number of arguments.
 fn same_functor(s: &[u8], table: &[u32], p: usize, q: usize) -> bool
     requires { ⌜ PairAt (now s) (now table) p q ⌝ }
-    requires { ⌜ (64 ≤ getD (now table) p 0) × (64 ≤ getD (now table) q 0) ⌝ }
+    requires { ⌜ (firstName ≤ getD (now table) p 0) × (firstName ≤ getD (now table) q 0) ⌝ }
     ensures { λ r. ⌜ ((w : PairAt (now (s .entry)) (now (table .entry)) p q) → r ≡ sameFunctor (w .left) (w .right)) ⌝ }
 {
     let v = word_at(table, p);
@@ -102,7 +103,7 @@ fn same_functor(s: &[u8], table: &[u32], p: usize, q: usize) -> bool
     }
     let a = word_at(table, p + 2);
     let b = word_at(table, q + 2);
-    let len = (v - NAMED) % 32;
+    let len = (v - FIRST_NAME) % LENGTHS;
     lexer::same_bytes(s, a, s, b, len)
 }
 
@@ -111,18 +112,18 @@ pub fn equate(s: &[u8], table: &[u32], p: usize, q: usize, known: Known) -> Know
     requires { ⌜ PairAt (now s) (now table) p q ⌝ }
     ensures { λ r. ⌜ ((w : PairAt (now (s .entry)) (now (table .entry)) p q) → r ≡ equate (w .left) (w .right) known) ⌝ }
 {
-    if word_at(table, p) < NAMED {
+    if word_at(table, p) < FIRST_NAME {
         return equate_variable(table, p, q, known);
     }
-    if word_at(table, q) < NAMED {
+    if word_at(table, q) < FIRST_NAME {
         return equate_variable(table, p, q, known);
     }
     if !same_functor(s, table, p, q) {
         return [true; VARIABLES];
     }
-    let from = p + 3;
+    let from = p + NODE_WORDS;
     let stop = past(table, p);
-    let other = q + 3;
+    let other = q + NODE_WORDS;
     equate_all(s, table, from, stop, other, known)
 }
 

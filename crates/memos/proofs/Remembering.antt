@@ -10,21 +10,22 @@ use lib.ListN.{length, getD, set, length-set}
 use lib.Seq.{getD-set-same, getD-set-other}
 use borrow.Author.Tests.{eqb-true, eqb-false}
 use Rattle.machine.specs.Substitution.{RTerm, replace, Binding, resolve}
+use Rattle.layout.specs.Regions.{copies, memo, rowsWord, slots, slotCount, keys, keyCount, classCount, classOf, weights, rows, rowWords, halfWord, memoRow}
 use Rattle.layout.specs.Nodes.{Symbol, termAt}
 use Rattle.layout.specs.State.{wordOf, valueOf}
 use Rattle.layout.proofs.State.{node-word, copy-word}
-use Rattle.memos.specs.Memos.{terms, rows, keyOf, termOf, linkOf, half, stored, numberIn, Numbered, Rowed, Entered, Same, Belongs, Shows, Links, Memo, Found, Reaches, Cleared, Kept, Opens, Assigns, Fresh, Joins, Begins, Remembers, Weighed}
+use Rattle.memos.specs.Memos.{classesMade, rowsMade, keyOf, termOf, linkOf, half, stored, numberIn, Numbered, Rowed, Entered, Same, Belongs, Shows, Links, Memo, Found, Reaches, Cleared, Kept, Opens, Assigns, Fresh, Joins, Begins, Remembers, Weighed, counted, shift}
 
 -- ---- what its words mean
 
-pub value-word : (ss : List Symbol) (nodes : List ℕ) (p c : ℕ) → c < 256 → valueOf ss nodes (wordOf p c) ≡ termAt ss nodes p c
+pub value-word : (ss : List Symbol) (nodes : List ℕ) (p c : ℕ) → c < copies → valueOf ss nodes (wordOf p c) ≡ termAt ss nodes p c
 unfolding valueOf
 value-word ss nodes p c l = ap₂ (termAt ss nodes) (node-word p c l) (copy-word p c l)
 
 -- classes that are kept, perhaps with more of them
-module _ (before after : List ℕ) (more : terms before ≤ terms after) (kept : (i : ℕ) → Numbered before i → termOf after i ≡ termOf before i) where
+module _ (before after : List ℕ) (more : classesMade before ≤ classesMade after) (kept : (i : ℕ) → Numbered before i → termOf after i ≡ termOf before i) where
   pub number-on : (i : ℕ) → Numbered before i → Numbered after i
-  number-on i n = record { low = n .low; below = (let z : i < terms before = n .below in omega arith); small = n .small }
+  number-on i n = record { low = n .low; below = (let z : i < classesMade before = n .below in omega arith); small = n .small }
 
   pub same-on : (meaning : ℕ → RTerm) (i j : ℕ) → Numbered before i → Same meaning before i j → Same meaning after i j
   same-on meaning i j n x = record { numbered = number-on j (x .numbered); same = ap meaning (kept i n) ∙ (x .same ∙ sym (ap meaning (kept j (x .numbered)))) }
@@ -34,34 +35,34 @@ module _ (before after : List ℕ) (more : terms before ≤ terms after) (kept :
 
   pub shows-on : (meaning : ℕ → RTerm) (k v : ℕ) → numberIn after k v ≡ numberIn before k v → Shows meaning before k v → Shows meaning after k v
   shows-on meaning k v e (inl z) = inl (e ∙ z)
-  shows-on meaning k v e (inr b) = inr (subst⁻¹ (Belongs meaning after (v - 255)) e (belongs-on meaning (v - 255) (numberIn before k v) b))
+  shows-on meaning k v e (inr b) = inr (subst⁻¹ (Belongs meaning after (v - shift)) e (belongs-on meaning (v - shift) (numberIn before k v) b))
 
   -- no class more, and the rows are as they were
-  pub links-on : terms after ≡ terms before → rows after ≡ rows before → ((k : ℕ) → k < 4096 → keyOf after k ≡ keyOf before k) → ((k v : ℕ) → numberIn after k v ≡ numberIn before k v)
-      → (meaning : ℕ → RTerm) → ((i j : ℕ) → Numbered before i → linkOf after i ≡ j + 1 → j < 16640 → Same meaning before i j) → Links meaning before → Links meaning after
-  links-on t r keys numbers meaning f m =
+  pub links-on : classesMade after ≡ classesMade before → rowsMade after ≡ rowsMade before → ((k : ℕ) → k < keyCount → keyOf after k ≡ keyOf before k) → ((k v : ℕ) → numberIn after k v ≡ numberIn before k v)
+      → (meaning : ℕ → RTerm) → ((i j : ℕ) → Numbered before i → linkOf after i ≡ j + 1 → j < classCount → Same meaning before i j) → Links meaning before → Links meaning after
+  links-on t r same-keys numbers meaning f m =
       record {
-        links = λ i j n l s. (let o : Numbered before i = record { low = n .low; below = (let z : i < terms after = n .below in omega arith); small = n .small } in same-on meaning i j o (f i j o l s));
-        entries = λ k v b s x e. shows-on meaning k v (numbers k v) (m .entries k v (omega arith) s (omega arith) (e ∙ keys k s));
+        links = λ i j n l s. (let o : Numbered before i = record { low = n .low; below = (let z : i < classesMade after = n .below in omega arith); small = n .small } in same-on meaning i j o (f i j o l s));
+        entries = λ k v b s x e. shows-on meaning k v (numbers k v) (m .entries k v (omega arith) s (omega arith) (e ∙ same-keys k s));
       }
 
 -- the memo's words but the weights are as they were
-pub links-kept : (before after : List ℕ) → ((j : ℕ) → 229382 ≤ j → j < 283144 → getD after j 0 ≡ getD before j 0) → ((j : ℕ) → 315914 ≤ j → getD after j 0 ≡ getD before j 0) → (meaning : ℕ → RTerm) → Links meaning before → Links meaning after
+pub links-kept : (before after : List ℕ) → ((j : ℕ) → memo ≤ j → j < weights → getD after j 0 ≡ getD before j 0) → ((j : ℕ) → rows ≤ j → getD after j 0 ≡ getD before j 0) → (meaning : ℕ → RTerm) → Links meaning before → Links meaning after
 links-kept before after low high meaning m =
-    let t : terms after ≡ terms before = low 229382 (omega arith) (omega arith) in
-    links-on before after (omega arith) (λ i n. (let l : i < 16640 = n .small in low (249864 + i * 2) (omega arith) (omega arith))) t (low 229383 (omega arith) (omega arith)) (λ k l. low (245768 + k) (omega arith) (omega arith))
-    (λ k v. ap (half (v / 128 % 2)) (high (315914 + k * 128 + v % 128) (omega arith))) meaning
-    (λ i j n l s. (let o : i < 16640 = n .small in m .links i j n (sym (low (249864 + i * 2 + 1) (omega arith) (omega arith)) ∙ l) s)) m
+    let t : classesMade after ≡ classesMade before = low memo (omega arith) (omega arith) in
+    links-on before after (omega arith) (λ i n. (let l : i < classCount = n .small in low (classOf i) (omega arith) (omega arith))) t (low rowsWord (omega arith) (omega arith)) (λ k l. low (keys + k) (omega arith) (omega arith))
+    (λ k v. ap (half (v / rowWords % 2)) (high (memoRow k + v % rowWords) (omega arith))) meaning
+    (λ i j n l s. (let o : i < classCount = n .small in m .links i j n (sym (low (classOf i + 1) (omega arith) (omega arith)) ∙ l) s)) m
 
 -- no number, and no row if there could be one
-pub links-none : (meaning : ℕ → RTerm) (scratch : List ℕ) → terms scratch ≤ 32 → (32 ≤ terms scratch → rows scratch ≡ 0) → Links meaning scratch
+pub links-none : (meaning : ℕ → RTerm) (scratch : List ℕ) → classesMade scratch ≤ counted → (counted ≤ classesMade scratch → rowsMade scratch ≡ 0) → Links meaning scratch
 links-none meaning scratch e f =
     record {
-      links = λ i j n l s. absurd (let a : 32 ≤ i = n .low in let z : i < terms scratch = n .below in omega arith);
-      entries = λ k v r s t d. absurd (let z : rows scratch ≡ 0 = f t in omega arith);
+      links = λ i j n l s. absurd (let a : counted ≤ i = n .low in let z : i < classesMade scratch = n .below in omega arith);
+      entries = λ k v r s t d. absurd (let z : rowsMade scratch ≡ 0 = f t in omega arith);
     }
 
-pub memo-none : (ss : List Symbol) (nodes : List ℕ) (b : List Binding) (scratch : List ℕ) → terms scratch ≡ 0 → Memo ss nodes b scratch
+pub memo-none : (ss : List Symbol) (nodes : List ℕ) (b : List Binding) (scratch : List ℕ) → classesMade scratch ≡ 0 → Memo ss nodes b scratch
 memo-none ss nodes b scratch e = record { links = links-none (λ (w : ℕ). resolve b (valueOf ss nodes w)) scratch (omega arith) (λ l. absurd (omega arith)) }
 
 -- another meaning that follows from the first
@@ -78,7 +79,7 @@ module _ (meaning : ℕ → RTerm) (f : RTerm → RTerm) (scratch : List ℕ) wh
       }
 
 module _ (ss : List Symbol) (nodes : List ℕ) (b : List Binding) (before : List ℕ) (m : Memo ss nodes b before) where
-  pub memo-kept : (after : List ℕ) → ((j : ℕ) → 229382 ≤ j → getD after j 0 ≡ getD before j 0) → Memo ss nodes b after
+  pub memo-kept : (after : List ℕ) → ((j : ℕ) → memo ≤ j → getD after j 0 ≡ getD before j 0) → Memo ss nodes b after
   memo-kept after w = record { links = links-kept before after (λ j a b. w j a) (λ j a. w j (omega arith)) (λ (x : ℕ). resolve b (valueOf ss nodes x)) (m .links) }
 
   -- one binding more
@@ -94,15 +95,15 @@ module _ (ss : List Symbol) (nodes : List ℕ) (b : List Binding) (before : List
 
 -- ---- beginning
 
-pub begins : (before : List ℕ) (k : ℕ) → 393225 ≤ length before → k ≤ 32 → Begins before (set (set before 229383 0) 229382 k)
+pub begins : (before : List ℕ) (k : ℕ) → rows ≤ length before → k ≤ counted → Begins before (set (set before rowsWord 0) memo k)
 begins before k long few =
     record {
-      long = length-set (set before 229383 0) 229382 k ∙ length-set before 229383 0;
-      words = λ j l. getD-set-other (set before 229383 0) 229382 j k 0 (λ e. omega arith) ∙ getD-set-other before 229383 j 0 0 (λ e. omega arith);
-      links = λ meaning. links-none meaning (set (set before 229383 0) 229382 k)
-          (let e : length (set before 229383 0) ≡ length before = length-set before 229383 0 in
-          let z : terms (set (set before 229383 0) 229382 k) ≡ k = getD-set-same (set before 229383 0) 229382 k 0 (omega arith) in omega arith)
-          (λ l. getD-set-other (set before 229383 0) 229382 229383 k 0 (λ e. omega arith) ∙ getD-set-same before 229383 0 0 (omega arith));
+      long = length-set (set before rowsWord 0) memo k ∙ length-set before rowsWord 0;
+      words = λ j l. getD-set-other (set before rowsWord 0) memo j k 0 (λ e. omega arith) ∙ getD-set-other before rowsWord j 0 0 (λ e. omega arith);
+      links = λ meaning. links-none meaning (set (set before rowsWord 0) memo k)
+          (let e : length (set before rowsWord 0) ≡ length before = length-set before rowsWord 0 in
+          let z : classesMade (set (set before rowsWord 0) memo k) ≡ k = getD-set-same (set before rowsWord 0) memo k 0 (omega arith) in omega arith)
+          (λ l. getD-set-other (set before rowsWord 0) memo rowsWord k 0 (λ e. omega arith) ∙ getD-set-same before rowsWord 0 0 (omega arith));
     }
 
 pub begins-remembers : (before after : List ℕ) (left right : ℕ) → Begins before after → Remembers before after left right
@@ -110,115 +111,115 @@ begins-remembers before after left right b = record { long = b .long; words = b 
 
 -- ---- a class more
 
-module _ (before : List ℕ) (m term : ℕ) (long : 393225 ≤ length before) (is : m ≡ terms before) (low : 32 ≤ m) (room : m < 16640) where
+module _ (before : List ℕ) (m term : ℕ) (long : rows ≤ length before) (is : m ≡ classesMade before) (low : counted ≤ m) (room : m < classCount) where
   abbrev pub first : List ℕ
-  first = set before (249864 + m * 2) term
+  first = set before (classOf m) term
 
   abbrev pub second : List ℕ
-  second = set first (249864 + m * 2 + 1) 0
+  second = set first (classOf m + 1) 0
 
   abbrev pub last : List ℕ
-  last = set second 229382 (m + 1)
+  last = set second memo (m + 1)
 
   first-long : length first ≡ length before
-  first-long = length-set before (249864 + m * 2) term
+  first-long = length-set before (classOf m) term
 
   second-long : length second ≡ length before
-  second-long = length-set first (249864 + m * 2 + 1) 0 ∙ first-long
+  second-long = length-set first (classOf m + 1) 0 ∙ first-long
 
   last-long : length last ≡ length before
-  last-long = length-set second 229382 (m + 1) ∙ second-long
+  last-long = length-set second memo (m + 1) ∙ second-long
 
   -- a word that is none of the three
-  elsewhere : (j : ℕ) → (j ≡ 249864 + m * 2 → ⊥) → (j ≡ 249864 + m * 2 + 1 → ⊥) → (j ≡ 229382 → ⊥) → getD last j 0 ≡ getD before j 0
-  elsewhere j b c d = getD-set-other second 229382 j (m + 1) 0 d ∙ (getD-set-other first (249864 + m * 2 + 1) j 0 0 c ∙ getD-set-other before (249864 + m * 2) j term 0 b)
+  elsewhere : (j : ℕ) → (j ≡ classOf m → ⊥) → (j ≡ classOf m + 1 → ⊥) → (j ≡ memo → ⊥) → getD last j 0 ≡ getD before j 0
+  elsewhere j b c d = getD-set-other second memo j (m + 1) 0 d ∙ (getD-set-other first (classOf m + 1) j 0 0 c ∙ getD-set-other before (classOf m) j term 0 b)
 
-  count-is : terms last ≡ m + 1
-  count-is = getD-set-same second 229382 (m + 1) 0 (let e : length second ≡ length before = second-long in omega arith)
+  count-is : classesMade last ≡ m + 1
+  count-is = getD-set-same second memo (m + 1) 0 (let e : length second ≡ length before = second-long in omega arith)
 
   term-is : termOf last m ≡ term
   term-is =
-      getD-set-other second 229382 (249864 + m * 2) (m + 1) 0 (λ e. omega arith)
-      ∙ (getD-set-other first (249864 + m * 2 + 1) (249864 + m * 2) 0 0 (λ e. omega arith) ∙ getD-set-same before (249864 + m * 2) term 0 (omega arith))
+      getD-set-other second memo (classOf m) (m + 1) 0 (λ e. omega arith)
+      ∙ (getD-set-other first (classOf m + 1) (classOf m) 0 0 (λ e. omega arith) ∙ getD-set-same before (classOf m) term 0 (omega arith))
 
   link-is : linkOf last m ≡ 0
   link-is =
-      getD-set-other second 229382 (249864 + m * 2 + 1) (m + 1) 0 (λ e. omega arith)
-      ∙ getD-set-same first (249864 + m * 2 + 1) 0 0 (let e : length first ≡ length before = first-long in omega arith)
+      getD-set-other second memo (classOf m + 1) (m + 1) 0 (λ e. omega arith)
+      ∙ getD-set-same first (classOf m + 1) 0 0 (let e : length first ≡ length before = first-long in omega arith)
 
   -- the classes before it
   term-stays : (i : ℕ) → Numbered before i → termOf last i ≡ termOf before i
-  term-stays i n = let l : i < terms before = n .below in elsewhere (249864 + i * 2) (λ e. omega arith) (λ e. omega arith) (λ e. omega arith)
+  term-stays i n = let l : i < classesMade before = n .below in elsewhere (classOf i) (λ e. omega arith) (λ e. omega arith) (λ e. omega arith)
 
   place-stays : (k v : ℕ) → numberIn last k v ≡ numberIn before k v
-  place-stays k v = ap (half (v / 128 % 2)) (elsewhere (315914 + k * 128 + v % 128) (λ e. omega arith) (λ e. omega arith) (λ e. omega arith))
+  place-stays k v = ap (half (v / rowWords % 2)) (elsewhere (memoRow k + v % rowWords) (λ e. omega arith) (λ e. omega arith) (λ e. omega arith))
 
-  grows : terms before ≤ terms last
-  grows = let e : terms last ≡ m + 1 = count-is in omega arith
+  grows : classesMade before ≤ classesMade last
+  grows = let e : classesMade last ≡ m + 1 = count-is in omega arith
 
-  links-more : (meaning : ℕ → RTerm) → Links meaning before → (i j : ℕ) → Numbered last i → linkOf last i ≡ j + 1 → j < 16640 → Same meaning last i j
+  links-more : (meaning : ℕ → RTerm) → Links meaning before → (i j : ℕ) → Numbered last i → linkOf last i ≡ j + 1 → j < classCount → Same meaning last i j
   links-more meaning k i j n l t = go (eqb i m) refl
     where
       go : (z : Bool) → eqb i m ≡ z → Same meaning last i j
       go true z = absurd (let q : linkOf last i ≡ 0 = subst⁻¹ (λ (x : ℕ). linkOf last x ≡ 0) (eqb-true i m z) link-is in let r : j + 1 ≡ 0 = sym l ∙ q in omega arith)
       go false z =
           let d : i ≡ m → ⊥ = eqb-false i m z in
-          let e : terms last ≡ m + 1 = count-is in
-          let u : i < terms last = n .below in
+          let e : classesMade last ≡ m + 1 = count-is in
+          let u : i < classesMade last = n .below in
           let y : i < m = omega (arith, d) in
           let o : Numbered before i = record { low = n .low; below = omega arith; small = n .small } in
-          same-on before last grows term-stays meaning i j o (k .links i j o (sym (elsewhere (249864 + i * 2 + 1) (λ e. omega arith) (λ e. omega arith) (λ e. omega arith)) ∙ l) t)
+          same-on before last grows term-stays meaning i j o (k .links i j o (sym (elsewhere (classOf i + 1) (λ e. omega arith) (λ e. omega arith) (λ e. omega arith)) ∙ l) t)
 
   pub fresh-class : Fresh before last term m
   fresh-class =
       record {
         long = last-long;
         words = λ j l. elsewhere j (λ e. omega arith) (λ e. omega arith) (λ e. omega arith);
-        numbered = record { low = low; below = (let e : terms last ≡ m + 1 = count-is in omega arith); small = room };
+        numbered = record { low = low; below = (let e : classesMade last ≡ m + 1 = count-is in omega arith); small = room };
         is = term-is;
         links = λ meaning k. record {
           links = links-more meaning k;
           entries = λ r v b s t e.
               shows-on before last grows term-stays meaning r v (place-stays r v)
-              (k .entries r v (let z : rows last ≡ rows before = elsewhere 229383 (λ e. omega arith) (λ e. omega arith) (λ e. omega arith) in omega arith) s (omega arith)
-              (e ∙ elsewhere (245768 + r) (λ e. omega arith) (λ e. omega arith) (λ e. omega arith)));
+              (k .entries r v (let z : rowsMade last ≡ rowsMade before = elsewhere rowsWord (λ e. omega arith) (λ e. omega arith) (λ e. omega arith) in omega arith) s (omega arith)
+              (e ∙ elsewhere (keys + r) (λ e. omega arith) (λ e. omega arith) (λ e. omega arith)));
         };
       }
 
 -- ---- a link
 
 abbrev pub relinked : List ℕ → ℕ → ℕ → List ℕ
-relinked before i link = set before (249864 + i * 2 + 1) link
+relinked before i link = set before (classOf i + 1) link
 
-module _ (before : List ℕ) (i link : ℕ) (long : 393225 ≤ length before) (small : i < 16640) where
+module _ (before : List ℕ) (i link : ℕ) (long : rows ≤ length before) (small : i < classCount) where
   pub relinked-long : length (relinked before i link) ≡ length before
-  relinked-long = length-set before (249864 + i * 2 + 1) link
+  relinked-long = length-set before (classOf i + 1) link
 
-  other-word : (j : ℕ) → (j ≡ 249864 + i * 2 + 1 → ⊥) → getD (relinked before i link) j 0 ≡ getD before j 0
-  other-word j d = getD-set-other before (249864 + i * 2 + 1) j link 0 d
+  other-word : (j : ℕ) → (j ≡ classOf i + 1 → ⊥) → getD (relinked before i link) j 0 ≡ getD before j 0
+  other-word j d = getD-set-other before (classOf i + 1) j link 0 d
 
-  pub relinked-words : (j : ℕ) → j < 229382 → getD (relinked before i link) j 0 ≡ getD before j 0
+  pub relinked-words : (j : ℕ) → j < memo → getD (relinked before i link) j 0 ≡ getD before j 0
   relinked-words j l = other-word j (λ e. omega arith)
 
   link-now : linkOf (relinked before i link) i ≡ link
-  link-now = getD-set-same before (249864 + i * 2 + 1) link 0 (omega arith)
+  link-now = getD-set-same before (classOf i + 1) link 0 (omega arith)
 
   -- where the link leads, if anywhere, is a class of the same meaning
-  pub relinks : (meaning : ℕ → RTerm) → ((j : ℕ) → link ≡ j + 1 → j < 16640 → Same meaning before i j) → Links meaning before → Links meaning (relinked before i link)
+  pub relinks : (meaning : ℕ → RTerm) → ((j : ℕ) → link ≡ j + 1 → j < classCount → Same meaning before i j) → Links meaning before → Links meaning (relinked before i link)
   relinks meaning f m =
-      let t : terms (relinked before i link) ≡ terms before = other-word 229382 (λ e. omega arith) in
-      links-on before (relinked before i link) (omega arith) (λ x n. other-word (249864 + x * 2) (λ e. omega arith)) t (other-word 229383 (λ e. omega arith)) (λ k l. other-word (245768 + k) (λ e. omega arith))
-      (λ k v. ap (half (v / 128 % 2)) (other-word (315914 + k * 128 + v % 128) (λ e. omega arith))) meaning (λ x j n l s. go x j n l s (eqb x i) refl) m
+      let t : classesMade (relinked before i link) ≡ classesMade before = other-word memo (λ e. omega arith) in
+      links-on before (relinked before i link) (omega arith) (λ x n. other-word (classOf x) (λ e. omega arith)) t (other-word rowsWord (λ e. omega arith)) (λ k l. other-word (keys + k) (λ e. omega arith))
+      (λ k v. ap (half (v / rowWords % 2)) (other-word (memoRow k + v % rowWords) (λ e. omega arith))) meaning (λ x j n l s. go x j n l s (eqb x i) refl) m
     where
-      go : (x j : ℕ) → Numbered before x → linkOf (relinked before i link) x ≡ j + 1 → j < 16640 → (z : Bool) → eqb x i ≡ z → Same meaning before x j
+      go : (x j : ℕ) → Numbered before x → linkOf (relinked before i link) x ≡ j + 1 → j < classCount → (z : Bool) → eqb x i ≡ z → Same meaning before x j
       go x j n l s true z =
           let e : x ≡ i = eqb-true x i z in
           subst⁻¹ (λ (y : ℕ). Same meaning before y j) e (f j (sym link-now ∙ (subst (λ (y : ℕ). linkOf (relinked before i link) y ≡ j + 1) e l)) s)
-      go x j n l s false z = let d : x ≡ i → ⊥ = eqb-false x i z in m .links x j n (sym (other-word (249864 + x * 2 + 1) (λ e. omega (arith, d))) ∙ l) s
+      go x j n l s false z = let d : x ≡ i → ⊥ = eqb-false x i z in m .links x j n (sym (other-word (classOf x + 1) (λ e. omega (arith, d))) ∙ l) s
 
 -- ---- two classes in one
 
-pub joined-left : (before : List ℕ) (a b : ℕ) → 393225 ≤ length before → a < 16640 → b < 16640 → (after : List ℕ) → after ≡ relinked before a (b + 1) → Joins before after a b
+pub joined-left : (before : List ℕ) (a b : ℕ) → rows ≤ length before → a < classCount → b < classCount → (after : List ℕ) → after ≡ relinked before a (b + 1) → Joins before after a b
 joined-left before a b long sa sb after e =
     subst⁻¹ (λ (l : List ℕ). Joins before l a b) e
     (record {
@@ -228,7 +229,7 @@ joined-left before a b long sa sb after e =
           relinks before a (b + 1) long sa meaning (λ j l t. subst (Same meaning before a) (let z : b ≡ j = omega arith in z) s) k;
     })
 
-pub joined-right : (before : List ℕ) (a b rank : ℕ) → 393225 ≤ length before → a < 16640 → b < 16640 → 16640 < rank → (mid after : List ℕ) → mid ≡ relinked before b (a + 1)
+pub joined-right : (before : List ℕ) (a b rank : ℕ) → rows ≤ length before → a < classCount → b < classCount → classCount < rank → (mid after : List ℕ) → mid ≡ relinked before b (a + 1)
     → after ≡ relinked mid a rank → Joins before after a b
 joined-right before a b rank long sa sb high mid after e f =
     subst⁻¹ (λ (l : List ℕ). Joins before l a b) (f ∙ ap (λ (l : List ℕ). relinked l a rank) e)
@@ -244,7 +245,7 @@ joined-right before a b rank long sa sb high mid after e f =
     first : List ℕ
     first = relinked before b (a + 1)
 
-    first-long : 393225 ≤ length first
+    first-long : rows ≤ length first
     first-long = let e1 : length first ≡ length before = relinked-long before b (a + 1) long sb in omega arith
 
 -- numbers of one meaning lead to numbers of one meaning
@@ -263,7 +264,7 @@ merged before after i j a b ra rb h =
 pub reaches-begin : (scratch : List ℕ) (i : ℕ) → Reaches scratch i i
 reaches-begin scratch i = record { is = λ meaning k n. record { numbered = n; same = refl } }
 
-pub reaches-on : (scratch : List ℕ) (i r w : ℕ) → Reaches scratch i r → w ≡ linkOf scratch r → (w ≡ 0 → ⊥) → w ≤ 16640 → (s : ℕ) → s ≡ w - 1 → Reaches scratch i s
+pub reaches-on : (scratch : List ℕ) (i r w : ℕ) → Reaches scratch i r → w ≡ linkOf scratch r → (w ≡ 0 → ⊥) → w ≤ classCount → (s : ℕ) → s ≡ w - 1 → Reaches scratch i s
 reaches-on scratch i r w h e n l s es =
     record {
       is = λ meaning k x.
@@ -274,27 +275,27 @@ reaches-on scratch i r w h e n l s es =
 
 -- ---- looking terms up
 
-half-low : (h w : ℕ) → h ≡ 0 → w % 65536 ≡ half h w
+half-low : (h w : ℕ) → h ≡ 0 → w % halfWord ≡ half h w
 unfolding half
 half-low zero w e = refl
 half-low (suc h) w e = absurd (omega arith)
 
-half-high : (h w : ℕ) → (h ≡ 0 → ⊥) → w / 65536 % 65536 ≡ half h w
+half-high : (h w : ℕ) → (h ≡ 0 → ⊥) → w / halfWord % halfWord ≡ half h w
 unfolding half
 half-high zero w n = absurd (n refl)
 half-high (suc h) w n = refl
 
-pub number-low : (scratch : List ℕ) (k v w : ℕ) → w ≡ getD scratch (315914 + k * 128 + v % 128) 0 → v / 128 % 2 ≡ 0 → w % 65536 ≡ numberIn scratch k v
-number-low scratch k v w e z = half-low (v / 128 % 2) w z ∙ ap (half (v / 128 % 2)) e
+pub number-low : (scratch : List ℕ) (k v w : ℕ) → w ≡ getD scratch (memoRow k + v % rowWords) 0 → v / rowWords % 2 ≡ 0 → w % halfWord ≡ numberIn scratch k v
+number-low scratch k v w e z = half-low (v / rowWords % 2) w z ∙ ap (half (v / rowWords % 2)) e
 
-pub number-high : (scratch : List ℕ) (k v w : ℕ) → w ≡ getD scratch (315914 + k * 128 + v % 128) 0 → (v / 128 % 2 ≡ 0 → ⊥) → w / 65536 % 65536 ≡ numberIn scratch k v
-number-high scratch k v w e n = half-high (v / 128 % 2) w n ∙ ap (half (v / 128 % 2)) e
+pub number-high : (scratch : List ℕ) (k v w : ℕ) → w ≡ getD scratch (memoRow k + v % rowWords) 0 → (v / rowWords % 2 ≡ 0 → ⊥) → w / halfWord % halfWord ≡ numberIn scratch k v
+number-high scratch k v w e n = half-high (v / rowWords % 2) w n ∙ ap (half (v / rowWords % 2)) e
 
-pub rowed-at : (scratch : List ℕ) (key k n w : ℕ) → k < 4096 → n ≡ rows scratch → k < n → w ≡ keyOf scratch k → w ≡ key → 315914 + k * 128 + 128 ≤ length scratch → (k + 1 ≡ 0) ⊎ Rowed scratch key (k + 1 - 1)
+pub rowed-at : (scratch : List ℕ) (key k n w : ℕ) → k < keyCount → n ≡ rowsMade scratch → k < n → w ≡ keyOf scratch k → w ≡ key → memoRow k + rowWords ≤ length scratch → (k + 1 ≡ 0) ⊎ Rowed scratch key (k + 1 - 1)
 rowed-at scratch key k n w small e below f g fits =
     inr (subst⁻¹ (Rowed scratch key) (let z : k + 1 - 1 ≡ k = omega arith in z) (record { below = omega arith; small = small; fits = fits; names = sym f ∙ g }))
 
-pub entered-at : (scratch : List ℕ) (term row i : ℕ) → (row ≡ 0) ⊎ Rowed scratch ((term + 255) / 256) (row - 1) → (row ≡ 0 → ⊥) → i ≡ numberIn scratch (row - 1) (term + 255) → i < 16640 → (i ≡ 0) ⊎ Entered scratch term i
+pub entered-at : (scratch : List ℕ) (term row i : ℕ) → (row ≡ 0) ⊎ Rowed scratch ((term + shift) / copies) (row - 1) → (row ≡ 0 → ⊥) → i ≡ numberIn scratch (row - 1) (term + shift) → i < classCount → (i ≡ 0) ⊎ Entered scratch term i
 entered-at scratch term row i (inl z) n e s = absurd (n z)
 entered-at scratch term row i (inr w) n e s = go (eqb i 0) refl
   where
@@ -306,22 +307,22 @@ pub of-number : (scratch : List ℕ) (term i : ℕ) → (i ≡ 0) ⊎ Entered sc
 of-number scratch term i (inl z) n = absurd (n z)
 of-number scratch term i (inr e) n = e
 
-pub small-number : (scratch : List ℕ) (term i : ℕ) → (i ≡ 0) ⊎ Entered scratch term i → i < 16640
+pub small-number : (scratch : List ℕ) (term i : ℕ) → (i ≡ 0) ⊎ Entered scratch term i → i < classCount
 small-number scratch term i (inl z) = omega arith
 small-number scratch term i (inr e) = e .small
 
 -- a term has the meaning of its number's class
-pub entered-belongs : (meaning : ℕ → RTerm) (scratch : List ℕ) (term i : ℕ) → Links meaning scratch → 32 ≤ terms scratch → Entered scratch term i → Belongs meaning scratch term i
-entered-belongs meaning scratch term i m t e = go (m .entries (e .row) (term + 255) (e .rowed .below) (e .rowed .small) t (sym (e .rowed .names)))
+pub entered-belongs : (meaning : ℕ → RTerm) (scratch : List ℕ) (term i : ℕ) → Links meaning scratch → counted ≤ classesMade scratch → Entered scratch term i → Belongs meaning scratch term i
+entered-belongs meaning scratch term i m t e = go (m .entries (e .row) (term + shift) (e .rowed .below) (e .rowed .small) t (sym (e .rowed .names)))
   where
-    go : Shows meaning scratch (e .row) (term + 255) → Belongs meaning scratch term i
+    go : Shows meaning scratch (e .row) (term + shift) → Belongs meaning scratch term i
     go (inl z) = absurd (e .some (sym (e .is) ∙ z))
-    go (inr b) = subst (λ (x : ℕ). Belongs meaning scratch x i) (let z : term + 255 - 255 ≡ term = omega arith in z) (subst (Belongs meaning scratch (term + 255 - 255)) (e .is) b)
+    go (inr b) = subst (λ (x : ℕ). Belongs meaning scratch x i) (let z : term + shift - shift ≡ term = omega arith in z) (subst (Belongs meaning scratch (term + shift - shift)) (e .is) b)
 
 pub not-found : (scratch : List ℕ) (left right : ℕ) → false ≡ true → Found scratch left right
 not-found scratch left right e = absurd (subst T (sym e) tt)
 
-pub found-at : (scratch : List ℕ) (left right i j a b : ℕ) → 32 ≤ terms scratch → Entered scratch left i → Entered scratch right j → Reaches scratch i a → Reaches scratch j b → eqb a b ≡ true → Found scratch left right
+pub found-at : (scratch : List ℕ) (left right i j a b : ℕ) → counted ≤ classesMade scratch → Entered scratch left i → Entered scratch right j → Reaches scratch i a → Reaches scratch j b → eqb a b ≡ true → Found scratch left right
 found-at scratch left right i j a b t ei ej ra rb e =
     record {
       is = λ meaning k.
@@ -350,25 +351,25 @@ cleared-more before after base k room c =
     go j a b true z = subst⁻¹ (λ (x : ℕ). getD (set after (base + k) 0) x 0 ≡ 0) (eqb-true j (base + k) z) (getD-set-same after (base + k) 0 0 (let e : length after ≡ length before = c .long in omega arith))
     go j a b false z = let d : j ≡ base + k → ⊥ = eqb-false j (base + k) z in getD-set-other after (base + k) j 0 0 d ∙ c .zero-words j a (omega (arith, d))
 
-pub cleared-all : (before after : List ℕ) (base k : ℕ) → k ≡ 128 → Cleared before after base k → Cleared before after base 128
+pub cleared-all : (before after : List ℕ) (base k : ℕ) → k ≡ rowWords → Cleared before after base k → Cleared before after base rowWords
 cleared-all before after base k e c = subst (Cleared before after base) e c
 
 kept-none : (before : List ℕ) → Kept before before
-kept-none before = record { long = refl; words = λ j l. refl; classes = λ j a b. refl }
+kept-none before = record { long = refl; words = λ j l. refl; same-classes = λ j a b. refl }
 
 pub opens-none : (before : List ℕ) (key : ℕ) → Opens before before key 0
 opens-none before key = record { kept = kept-none before; row = inl refl; links = λ meaning m. m }
 
 -- classes that are as they were
 module _ (before after : List ℕ) (w : Kept before after) where
-  pub kept-terms : terms after ≡ terms before
-  kept-terms = w .words 229382 (omega arith)
+  pub kept-terms : classesMade after ≡ classesMade before
+  kept-terms = w .words memo (omega arith)
 
-  kept-more : terms before ≤ terms after
-  kept-more = let e : terms after ≡ terms before = kept-terms in omega arith
+  kept-more : classesMade before ≤ classesMade after
+  kept-more = let e : classesMade after ≡ classesMade before = kept-terms in omega arith
 
   kept-term : (i : ℕ) → Numbered before i → termOf after i ≡ termOf before i
-  kept-term i n = let l : i < 16640 = n .small in w .classes (249864 + i * 2) (omega arith) (omega arith)
+  kept-term i n = let l : i < classCount = n .small in w .same-classes (classOf i) (omega arith) (omega arith)
 
   pub kept-belongs : (meaning : ℕ → RTerm) (term i : ℕ) → Belongs meaning before term i → Belongs meaning after term i
   kept-belongs = belongs-on before after kept-more kept-term
@@ -376,13 +377,13 @@ module _ (before after : List ℕ) (w : Kept before after) where
   pub kept-shows : (meaning : ℕ → RTerm) (k v : ℕ) → numberIn after k v ≡ numberIn before k v → Shows meaning before k v → Shows meaning after k v
   kept-shows = shows-on before after kept-more kept-term
 
-  pub kept-links : (meaning : ℕ → RTerm) → Links meaning before → (i j : ℕ) → Numbered after i → linkOf after i ≡ j + 1 → j < 16640 → Same meaning after i j
+  pub kept-links : (meaning : ℕ → RTerm) → Links meaning before → (i j : ℕ) → Numbered after i → linkOf after i ≡ j + 1 → j < classCount → Same meaning after i j
   kept-links meaning m i j n l s =
-      let t : terms after ≡ terms before = kept-terms in
-      let z : i < terms after = n .below in
-      let u : i < 16640 = n .small in
+      let t : classesMade after ≡ classesMade before = kept-terms in
+      let z : i < classesMade after = n .below in
+      let u : i < classCount = n .small in
       let o : Numbered before i = record { low = n .low; below = omega arith; small = n .small } in
-      same-on before after kept-more kept-term meaning i j o (m .links i j o (sym (w .classes (249864 + i * 2 + 1) (omega arith) (omega arith)) ∙ l) s)
+      same-on before after kept-more kept-term meaning i j o (m .links i j o (sym (w .same-classes (classOf i + 1) (omega arith) (omega arith)) ∙ l) s)
 
 half-zero : (h : ℕ) → half h 0 ≡ 0
 unfolding half
@@ -390,55 +391,55 @@ half-zero zero = refl
 half-zero (suc h) = refl
 
 -- row k cleared, its node, a slot, the count
-module _ (before clean : List ℕ) (k s key : ℕ) (is : k ≡ rows before) (small : k < 4096) (slot : s < 16384) (fits : 315914 + k * 128 + 128 ≤ length before) (c : Cleared before clean (315914 + k * 128) 128) where
+module _ (before clean : List ℕ) (k s key : ℕ) (is : k ≡ rowsMade before) (small : k < keyCount) (slot : s < slotCount) (fits : memoRow k + rowWords ≤ length before) (c : Cleared before clean (memoRow k) rowWords) where
   abbrev named : List ℕ
-  named = set clean (245768 + k) key
+  named = set clean (keys + k) key
 
   abbrev hinted : List ℕ
-  hinted = set named (229384 + s) k
+  hinted = set named (slots + s) k
 
   abbrev pub opened : List ℕ
-  opened = set hinted 229383 (k + 1)
+  opened = set hinted rowsWord (k + 1)
 
   hinted-long : length hinted ≡ length before
-  hinted-long = length-set named (229384 + s) k ∙ (length-set clean (245768 + k) key ∙ c .long)
+  hinted-long = length-set named (slots + s) k ∙ (length-set clean (keys + k) key ∙ c .long)
 
-  aside : (j : ℕ) → (j ≡ 245768 + k → ⊥) → (j ≡ 229384 + s → ⊥) → (j ≡ 229383 → ⊥) → getD opened j 0 ≡ getD clean j 0
-  aside j a b d = getD-set-other hinted 229383 j (k + 1) 0 d ∙ (getD-set-other named (229384 + s) j k 0 b ∙ getD-set-other clean (245768 + k) j key 0 a)
+  aside : (j : ℕ) → (j ≡ keys + k → ⊥) → (j ≡ slots + s → ⊥) → (j ≡ rowsWord → ⊥) → getD opened j 0 ≡ getD clean j 0
+  aside j a b d = getD-set-other hinted rowsWord j (k + 1) 0 d ∙ (getD-set-other named (slots + s) j k 0 b ∙ getD-set-other clean (keys + k) j key 0 a)
 
-  opened-count : rows opened ≡ k + 1
-  opened-count = getD-set-same hinted 229383 (k + 1) 0 (let e : length hinted ≡ length before = hinted-long in omega arith)
+  opened-count : rowsMade opened ≡ k + 1
+  opened-count = getD-set-same hinted rowsWord (k + 1) 0 (let e : length hinted ≡ length before = hinted-long in omega arith)
 
   opened-key : keyOf opened k ≡ key
   opened-key =
-      getD-set-other hinted 229383 (245768 + k) (k + 1) 0 (λ e. omega arith)
-      ∙ (getD-set-other named (229384 + s) (245768 + k) k 0 (λ e. omega arith) ∙ getD-set-same clean (245768 + k) key 0 (let e : length clean ≡ length before = c .long in omega arith))
+      getD-set-other hinted rowsWord (keys + k) (k + 1) 0 (λ e. omega arith)
+      ∙ (getD-set-other named (slots + s) (keys + k) k 0 (λ e. omega arith) ∙ getD-set-same clean (keys + k) key 0 (let e : length clean ≡ length before = c .long in omega arith))
 
   opened-kept : Kept before opened
   opened-kept =
       record {
-        long = length-set hinted 229383 (k + 1) ∙ hinted-long;
+        long = length-set hinted rowsWord (k + 1) ∙ hinted-long;
         words = λ j l. aside j (λ e. omega arith) (λ e. omega arith) (λ e. omega arith) ∙ c .low j (omega arith);
-        classes = λ j a b. aside j (λ e. omega arith) (λ e. omega arith) (λ e. omega arith) ∙ c .low j (omega arith);
+        same-classes = λ j a b. aside j (λ e. omega arith) (λ e. omega arith) (λ e. omega arith) ∙ c .low j (omega arith);
       }
 
-  opened-place : (r v : ℕ) → getD opened (315914 + r * 128 + v % 128) 0 ≡ getD clean (315914 + r * 128 + v % 128) 0
-  opened-place r v = aside (315914 + r * 128 + v % 128) (λ e. omega arith) (λ e. omega arith) (λ e. omega arith)
+  opened-place : (r v : ℕ) → getD opened (memoRow r + v % rowWords) 0 ≡ getD clean (memoRow r + v % rowWords) 0
+  opened-place r v = aside (memoRow r + v % rowWords) (λ e. omega arith) (λ e. omega arith) (λ e. omega arith)
 
-  opened-entry : (meaning : ℕ → RTerm) → Links meaning before → (r v : ℕ) → r < rows opened → r < 4096 → 32 ≤ terms opened → v / 256 ≡ keyOf opened r → Shows meaning opened r v
+  opened-entry : (meaning : ℕ → RTerm) → Links meaning before → (r v : ℕ) → r < rowsMade opened → r < keyCount → counted ≤ classesMade opened → v / copies ≡ keyOf opened r → Shows meaning opened r v
   opened-entry meaning m r v b t u e = go (eqb r k) refl
     where
       go : (z : Bool) → eqb r k ≡ z → Shows meaning opened r v
       go true z =
           let same : r ≡ k = eqb-true r k z in
-          inl (ap (half (v / 128 % 2)) (opened-place r v ∙ c .zero-words (315914 + r * 128 + v % 128) (omega arith) (omega arith)) ∙ half-zero (v / 128 % 2))
+          inl (ap (half (v / rowWords % 2)) (opened-place r v ∙ c .zero-words (memoRow r + v % rowWords) (omega arith) (omega arith)) ∙ half-zero (v / rowWords % 2))
       go false z =
           let d : r ≡ k → ⊥ = eqb-false r k z in
-          let n : rows opened ≡ k + 1 = opened-count in
+          let n : rowsMade opened ≡ k + 1 = opened-count in
           let l : r < k = omega (arith, d) in
-          kept-shows before opened opened-kept meaning r v (ap (half (v / 128 % 2)) (opened-place r v ∙ c .low (315914 + r * 128 + v % 128) (omega arith)))
-          (m .entries r v (omega arith) t (let q : terms opened ≡ terms before = kept-terms before opened opened-kept in omega arith)
-          (e ∙ (aside (245768 + r) (λ x. omega arith) (λ x. omega arith) (λ x. omega arith) ∙ c .low (245768 + r) (omega arith))))
+          kept-shows before opened opened-kept meaning r v (ap (half (v / rowWords % 2)) (opened-place r v ∙ c .low (memoRow r + v % rowWords) (omega arith)))
+          (m .entries r v (omega arith) t (let q : classesMade opened ≡ classesMade before = kept-terms before opened opened-kept in omega arith)
+          (e ∙ (aside (keys + r) (λ x. omega arith) (λ x. omega arith) (λ x. omega arith) ∙ c .low (keys + r) (omega arith))))
 
   pub opens-new : Opens before opened key (k + 1)
   opens-new =
@@ -446,7 +447,7 @@ module _ (before clean : List ℕ) (k s key : ℕ) (is : k ≡ rows before) (sma
         kept = opened-kept;
         row = inr (subst⁻¹ (Rowed opened key) (let z : k + 1 - 1 ≡ k = omega arith in z)
             (record {
-              below = (let n : rows opened ≡ k + 1 = opened-count in omega arith);
+              below = (let n : rowsMade opened ≡ k + 1 = opened-count in omega arith);
               small = small;
               fits = (let n : length opened ≡ length before = opened-kept .long in omega arith);
               names = opened-key;
@@ -456,137 +457,137 @@ module _ (before clean : List ℕ) (k s key : ℕ) (is : k ≡ rows before) (sma
 
 -- ---- a number in a row
 
-pub half-stored : (h w i : ℕ) → i < 65536 → half h (stored h w i) ≡ i
+pub half-stored : (h w i : ℕ) → i < halfWord → half h (stored h w i) ≡ i
 unfolding half stored
 half-stored zero w i l = omega arith
 half-stored (suc h) w i l = omega arith
 
-half-apart : (h g w i : ℕ) → h < 2 → g < 2 → (g ≡ h → ⊥) → i < 65536 → half g (stored h w i) ≡ half g w
+half-apart : (h g w i : ℕ) → h < 2 → g < 2 → (g ≡ h → ⊥) → i < halfWord → half g (stored h w i) ≡ half g w
 unfolding half stored
 half-apart zero zero w i a b n l = absurd (n refl)
 half-apart zero (suc g) w i a b n l = omega arith
 half-apart (suc h) zero w i a b n l = omega arith
 half-apart (suc h) (suc g) w i a b n l = absurd (n (let z : suc g ≡ suc h = omega arith in z))
 
-stored-low : (h w i : ℕ) → h ≡ 0 → w / 65536 % 65536 * 65536 + i ≡ stored h w i
+stored-low : (h w i : ℕ) → h ≡ 0 → w / halfWord % halfWord * halfWord + i ≡ stored h w i
 unfolding stored
 stored-low zero w i e = refl
 stored-low (suc h) w i e = absurd (omega arith)
 
-stored-high : (h w i : ℕ) → (h ≡ 0 → ⊥) → i * 65536 + w % 65536 ≡ stored h w i
+stored-high : (h w i : ℕ) → (h ≡ 0 → ⊥) → i * halfWord + w % halfWord ≡ stored h w i
 unfolding stored
 stored-high zero w i n = absurd (n refl)
 stored-high (suc h) w i n = refl
 
-quarter : (v : ℕ) → v / 128 / 2 ≡ v / 256
+quarter : (v : ℕ) → v / rowWords / 2 ≡ v / copies
 quarter v = omega arith
 
-halves : (v : ℕ) → v ≡ v / 128 * 128 + v % 128
+halves : (v : ℕ) → v ≡ v / rowWords * rowWords + v % rowWords
 halves v = omega arith
 
 parts : (a : ℕ) → a ≡ a / 2 * 2 + a % 2
 parts a = omega arith
 
 -- a word is known by its node, its half and its place
-word-same : (u v : ℕ) → u / 256 ≡ v / 256 → u % 128 ≡ v % 128 → u / 128 % 2 ≡ v / 128 % 2 → u ≡ v
+word-same : (u v : ℕ) → u / copies ≡ v / copies → u % rowWords ≡ v % rowWords → u / rowWords % 2 ≡ v / rowWords % 2 → u ≡ v
 word-same u v e f g =
-    let a : u / 128 / 2 ≡ v / 128 / 2 = quarter u ∙ (e ∙ sym (quarter v)) in
-    let b : u / 128 ≡ v / 128 = parts (u / 128) ∙ (ap₂ (λ (x y : ℕ). x * 2 + y) a g ∙ sym (parts (v / 128))) in
-    halves u ∙ (ap₂ (λ (x y : ℕ). x * 128 + y) b f ∙ sym (halves v))
+    let a : u / rowWords / 2 ≡ v / rowWords / 2 = quarter u ∙ (e ∙ sym (quarter v)) in
+    let b : u / rowWords ≡ v / rowWords = parts (u / rowWords) ∙ (ap₂ (λ (x y : ℕ). x * 2 + y) a g ∙ sym (parts (v / rowWords))) in
+    halves u ∙ (ap₂ (λ (x y : ℕ). x * rowWords + y) b f ∙ sym (halves v))
 
 abbrev pub placed : List ℕ → ℕ → ℕ → ℕ → List ℕ
-placed before k v i = set before (315914 + k * 128 + v % 128) (stored (v / 128 % 2) (getD before (315914 + k * 128 + v % 128) 0) i)
+placed before k v i = set before (memoRow k + v % rowWords) (stored (v / rowWords % 2) (getD before (memoRow k + v % rowWords) 0) i)
 
-pub placed-low : (before : List ℕ) (k v i w : ℕ) → w ≡ getD before (315914 + k * 128 + v % 128) 0 → v / 128 % 2 ≡ 0 → set before (315914 + k * 128 + v % 128) (w / 65536 % 65536 * 65536 + i) ≡ placed before k v i
-placed-low before k v i w e z = ap (set before (315914 + k * 128 + v % 128)) (stored-low (v / 128 % 2) w i z ∙ ap (λ (x : ℕ). stored (v / 128 % 2) x i) e)
+pub placed-low : (before : List ℕ) (k v i w : ℕ) → w ≡ getD before (memoRow k + v % rowWords) 0 → v / rowWords % 2 ≡ 0 → set before (memoRow k + v % rowWords) (w / halfWord % halfWord * halfWord + i) ≡ placed before k v i
+placed-low before k v i w e z = ap (set before (memoRow k + v % rowWords)) (stored-low (v / rowWords % 2) w i z ∙ ap (λ (x : ℕ). stored (v / rowWords % 2) x i) e)
 
-pub placed-high : (before : List ℕ) (k v i w : ℕ) → w ≡ getD before (315914 + k * 128 + v % 128) 0 → (v / 128 % 2 ≡ 0 → ⊥) → set before (315914 + k * 128 + v % 128) (i * 65536 + w % 65536) ≡ placed before k v i
-placed-high before k v i w e n = ap (set before (315914 + k * 128 + v % 128)) (stored-high (v / 128 % 2) w i n ∙ ap (λ (x : ℕ). stored (v / 128 % 2) x i) e)
+pub placed-high : (before : List ℕ) (k v i w : ℕ) → w ≡ getD before (memoRow k + v % rowWords) 0 → (v / rowWords % 2 ≡ 0 → ⊥) → set before (memoRow k + v % rowWords) (i * halfWord + w % halfWord) ≡ placed before k v i
+placed-high before k v i w e n = ap (set before (memoRow k + v % rowWords)) (stored-high (v / rowWords % 2) w i n ∙ ap (λ (x : ℕ). stored (v / rowWords % 2) x i) e)
 
-module _ (before : List ℕ) (k v i : ℕ) (w : Rowed before (v / 256) k) (small : i < 16640) where
+module _ (before : List ℕ) (k v i : ℕ) (w : Rowed before (v / copies) k) (small : i < classCount) where
   abbrev at : ℕ
-  at = 315914 + k * 128 + v % 128
+  at = memoRow k + v % rowWords
 
   at-fits : at < length before
-  at-fits = let f : 315914 + k * 128 + 128 ≤ length before = w .fits in omega arith
+  at-fits = let f : memoRow k + rowWords ≤ length before = w .fits in omega arith
 
   placed-other : (j : ℕ) → (j ≡ at → ⊥) → getD (placed before k v i) j 0 ≡ getD before j 0
-  placed-other j d = getD-set-other before at j (stored (v / 128 % 2) (getD before at 0) i) 0 d
+  placed-other j d = getD-set-other before at j (stored (v / rowWords % 2) (getD before at 0) i) 0 d
 
-  placed-at : getD (placed before k v i) at 0 ≡ stored (v / 128 % 2) (getD before at 0) i
-  placed-at = getD-set-same before at (stored (v / 128 % 2) (getD before at 0) i) 0 at-fits
+  placed-at : getD (placed before k v i) at 0 ≡ stored (v / rowWords % 2) (getD before at 0) i
+  placed-at = getD-set-same before at (stored (v / rowWords % 2) (getD before at 0) i) 0 at-fits
 
   placed-kept : Kept before (placed before k v i)
   placed-kept =
       record {
-        long = length-set before at (stored (v / 128 % 2) (getD before at 0) i);
+        long = length-set before at (stored (v / rowWords % 2) (getD before at 0) i);
         words = λ j l. placed-other j (λ e. omega arith);
-        classes = λ j a b. placed-other j (λ e. omega arith);
+        same-classes = λ j a b. placed-other j (λ e. omega arith);
       }
 
   abbrev after : List ℕ
   after = placed before k v i
 
-  module _ (meaning : ℕ → RTerm) (m : Links meaning before) (b : Belongs meaning before (v - 255) i) where
+  module _ (meaning : ℕ → RTerm) (m : Links meaning before) (b : Belongs meaning before (v - shift) i) where
     -- the number itself
     fine-now : Shows meaning after k v
-    fine-now = inr (subst⁻¹ (Belongs meaning after (v - 255)) (ap (half (v / 128 % 2)) placed-at ∙ half-stored (v / 128 % 2) (getD before at 0) i (omega arith)) (kept-belongs before after placed-kept meaning (v - 255) i b))
+    fine-now = inr (subst⁻¹ (Belongs meaning after (v - shift)) (ap (half (v / rowWords % 2)) placed-at ∙ half-stored (v / rowWords % 2) (getD before at 0) i (omega arith)) (kept-belongs before after placed-kept meaning (v - shift) i b))
 
-    fine-at : (u : ℕ) → u / 256 ≡ v / 256 → u % 128 ≡ v % 128 → Shows meaning before k u → (z : Bool) → eqb (u / 128 % 2) (v / 128 % 2) ≡ z → Shows meaning after k u
+    fine-at : (u : ℕ) → u / copies ≡ v / copies → u % rowWords ≡ v % rowWords → Shows meaning before k u → (z : Bool) → eqb (u / rowWords % 2) (v / rowWords % 2) ≡ z → Shows meaning after k u
     fine-at u e f o true z =
-        let g : u / 128 % 2 ≡ v / 128 % 2 = eqb-true (u / 128 % 2) (v / 128 % 2) z in
+        let g : u / rowWords % 2 ≡ v / rowWords % 2 = eqb-true (u / rowWords % 2) (v / rowWords % 2) z in
         subst⁻¹ (Shows meaning after k) (word-same u v e f g) fine-now
     fine-at u e f o false z =
-        let d : u / 128 % 2 ≡ v / 128 % 2 → ⊥ = eqb-false (u / 128 % 2) (v / 128 % 2) z in
+        let d : u / rowWords % 2 ≡ v / rowWords % 2 → ⊥ = eqb-false (u / rowWords % 2) (v / rowWords % 2) z in
         kept-shows before after placed-kept meaning k u
-        (subst⁻¹ (λ (x : ℕ). half (u / 128 % 2) (getD after (315914 + k * 128 + x) 0) ≡ half (u / 128 % 2) (getD before (315914 + k * 128 + x) 0)) f
-        (ap (half (u / 128 % 2)) placed-at ∙ half-apart (v / 128 % 2) (u / 128 % 2) (getD before at 0) i (omega arith) (omega arith) d (omega arith)))
+        (subst⁻¹ (λ (x : ℕ). half (u / rowWords % 2) (getD after (memoRow k + x) 0) ≡ half (u / rowWords % 2) (getD before (memoRow k + x) 0)) f
+        (ap (half (u / rowWords % 2)) placed-at ∙ half-apart (v / rowWords % 2) (u / rowWords % 2) (getD before at 0) i (omega arith) (omega arith) d (omega arith)))
         o
 
-    fine : (r u : ℕ) → u / 256 ≡ keyOf before r → Shows meaning before r u → (z : Bool) → eqb (315914 + r * 128 + u % 128) at ≡ z → Shows meaning after r u
+    fine : (r u : ℕ) → u / copies ≡ keyOf before r → Shows meaning before r u → (z : Bool) → eqb (memoRow r + u % rowWords) at ≡ z → Shows meaning after r u
     fine r u e o true z =
-        let g : 315914 + r * 128 + u % 128 ≡ at = eqb-true (315914 + r * 128 + u % 128) at z in
+        let g : memoRow r + u % rowWords ≡ at = eqb-true (memoRow r + u % rowWords) at z in
         let q : r ≡ k = omega arith in
-        let f : u % 128 ≡ v % 128 = omega arith in
+        let f : u % rowWords ≡ v % rowWords = omega arith in
         subst⁻¹ (λ (x : ℕ). Shows meaning after x u) q
-        (fine-at u (e ∙ (ap (keyOf before) q ∙ w .names)) f (subst (λ (x : ℕ). Shows meaning before x u) q o) (eqb (u / 128 % 2) (v / 128 % 2)) refl)
-    fine r u e o false z = kept-shows before after placed-kept meaning r u (ap (half (u / 128 % 2)) (placed-other (315914 + r * 128 + u % 128) (eqb-false (315914 + r * 128 + u % 128) at z))) o
+        (fine-at u (e ∙ (ap (keyOf before) q ∙ w .names)) f (subst (λ (x : ℕ). Shows meaning before x u) q o) (eqb (u / rowWords % 2) (v / rowWords % 2)) refl)
+    fine r u e o false z = kept-shows before after placed-kept meaning r u (ap (half (u / rowWords % 2)) (placed-other (memoRow r + u % rowWords) (eqb-false (memoRow r + u % rowWords) at z))) o
 
     placed-links : Links meaning after
     placed-links =
         record {
           links = kept-links before after placed-kept meaning m;
           entries = λ r u l t x e.
-              (let f : u / 256 ≡ keyOf before r = e ∙ placed-other (245768 + r) (λ y. omega arith) in
+              (let f : u / copies ≡ keyOf before r = e ∙ placed-other (keys + r) (λ y. omega arith) in
               fine r u f
-              (m .entries r u (let n : rows after ≡ rows before = placed-other 229383 (λ y. omega arith) in omega arith) t (let n : terms after ≡ terms before = kept-terms before after placed-kept in omega arith) f)
-              (eqb (315914 + r * 128 + u % 128) at) refl);
+              (m .entries r u (let n : rowsMade after ≡ rowsMade before = placed-other rowsWord (λ y. omega arith) in omega arith) t (let n : classesMade after ≡ classesMade before = kept-terms before after placed-kept in omega arith) f)
+              (eqb (memoRow r + u % rowWords) at) refl);
         }
 
 kept-then : (before mid after : List ℕ) → Kept before mid → Kept mid after → Kept before after
-kept-then before mid after f g = record { long = g .long ∙ f .long; words = λ j l. g .words j l ∙ f .words j l; classes = λ j a b. g .classes j a b ∙ f .classes j a b }
+kept-then before mid after f g = record { long = g .long ∙ f .long; words = λ j l. g .words j l ∙ f .words j l; same-classes = λ j a b. g .same-classes j a b ∙ f .same-classes j a b }
 
 pub assigned-none : (before after : List ℕ) (term i key r : ℕ) → Opens before after key r → Assigns before after term i
 assigned-none before after term i key r o = record { kept = o .kept; links = λ meaning m b. o .links meaning m }
 
-pub assigned : (before mid : List ℕ) (term i r : ℕ) → Opens before mid ((term + 255) / 256) r → (r ≡ 0 → ⊥) → i < 16640 → (after : List ℕ) → after ≡ placed mid (r - 1) (term + 255) i → Assigns before after term i
+pub assigned : (before mid : List ℕ) (term i r : ℕ) → Opens before mid ((term + shift) / copies) r → (r ≡ 0 → ⊥) → i < classCount → (after : List ℕ) → after ≡ placed mid (r - 1) (term + shift) i → Assigns before after term i
 assigned before mid term i r o n small after e = subst⁻¹ (λ (l : List ℕ). Assigns before l term i) e (go (o .row))
   where
-    go : (r ≡ 0) ⊎ Rowed mid ((term + 255) / 256) (r - 1) → Assigns before (placed mid (r - 1) (term + 255) i) term i
+    go : (r ≡ 0) ⊎ Rowed mid ((term + shift) / copies) (r - 1) → Assigns before (placed mid (r - 1) (term + shift) i) term i
     go (inl z) = absurd (n z)
     go (inr w) =
         record {
-          kept = kept-then before mid (placed mid (r - 1) (term + 255) i) (o .kept) (placed-kept mid (r - 1) (term + 255) i w small);
+          kept = kept-then before mid (placed mid (r - 1) (term + shift) i) (o .kept) (placed-kept mid (r - 1) (term + shift) i w small);
           links = λ meaning m b.
-              placed-links mid (r - 1) (term + 255) i w small meaning (o .links meaning m)
-              (subst⁻¹ (λ (x : ℕ). Belongs meaning mid x i) (let z : term + 255 - 255 ≡ term = omega arith in z) (kept-belongs before mid (o .kept) meaning term i b));
+              placed-links mid (r - 1) (term + shift) i w small meaning (o .links meaning m)
+              (subst⁻¹ (λ (x : ℕ). Belongs meaning mid x i) (let z : term + shift - shift ≡ term = omega arith in z) (kept-belongs before mid (o .kept) meaning term i b));
         }
 
-pub row-fits : (scratch : List ℕ) (key r : ℕ) → (r ≡ 0) ⊎ Rowed scratch key (r - 1) → (r ≡ 0 → ⊥) → (r - 1 < 4096) × (315914 + (r - 1) * 128 + 128 ≤ length scratch)
+pub row-fits : (scratch : List ℕ) (key r : ℕ) → (r ≡ 0) ⊎ Rowed scratch key (r - 1) → (r ≡ 0 → ⊥) → (r - 1 < keyCount) × (memoRow (r - 1) + rowWords ≤ length scratch)
 row-fits scratch key r (inl z) n = absurd (n z)
 row-fits scratch key r (inr w) n = (w .small, w .fits)
 
-pub row-then : (scratch : List ℕ) (key r i : ℕ) → (r ≡ 0) ⊎ Rowed scratch key (r - 1) → (r ≡ 0 → ⊥) → i < 16640 → (r - 1 < 4096) × ((315914 + (r - 1) * 128 + 128 ≤ length scratch) × (i < 65536))
+pub row-then : (scratch : List ℕ) (key r i : ℕ) → (r ≡ 0) ⊎ Rowed scratch key (r - 1) → (r ≡ 0 → ⊥) → i < classCount → (r - 1 < keyCount) × ((memoRow (r - 1) + rowWords ≤ length scratch) × (i < halfWord))
 row-then scratch key r i w n l = (row-fits scratch key r w n .0, (row-fits scratch key r w n .1, omega arith))
 
 -- ---- remembering
@@ -604,7 +605,7 @@ paired before first second after left right m f a b =
     mine : (meaning : ℕ → RTerm) → Belongs meaning first left m
     mine meaning = record { numbered = f .numbered; same = sym (ap meaning (f .is)) }
 
-pub assigned-left : (before after : List ℕ) (left right j : ℕ) → 32 ≤ terms before → Entered before right j → Assigns before after left j → Remembers before after left right
+pub assigned-left : (before after : List ℕ) (left right j : ℕ) → counted ≤ classesMade before → Entered before right j → Assigns before after left j → Remembers before after left right
 assigned-left before after left right j t e a =
     record {
       long = a .kept .long;
@@ -612,7 +613,7 @@ assigned-left before after left right j t e a =
       links = λ meaning s m. (let b : Belongs meaning before right j = entered-belongs meaning before right j m t e in a .links meaning m (record { numbered = b .numbered; same = s ∙ b .same }));
     }
 
-pub assigned-right : (before after : List ℕ) (left right i : ℕ) → 32 ≤ terms before → Entered before left i → Assigns before after right i → Remembers before after left right
+pub assigned-right : (before after : List ℕ) (left right i : ℕ) → counted ≤ classesMade before → Entered before left i → Assigns before after right i → Remembers before after left right
 assigned-right before after left right i t e a =
     record {
       long = a .kept .long;
@@ -620,7 +621,7 @@ assigned-right before after left right i t e a =
       links = λ meaning s m. (let b : Belongs meaning before left i = entered-belongs meaning before left i m t e in a .links meaning m (record { numbered = b .numbered; same = sym s ∙ b .same }));
     }
 
-pub merged-both : (before after : List ℕ) (left right i j : ℕ) → 32 ≤ terms before → Entered before left i → Entered before right j → Joins before after i j → Remembers before after left right
+pub merged-both : (before after : List ℕ) (left right i j : ℕ) → counted ≤ classesMade before → Entered before left i → Entered before right j → Joins before after i j → Remembers before after left right
 merged-both before after left right i j t ei ej h =
     record {
       long = h .long;
@@ -633,7 +634,7 @@ merged-both before after left right i j t ei ej h =
 
 -- ---- weights
 
-pub weighed-two : (before : List ℕ) (i v j w : ℕ) → 283144 ≤ i → i < 315914 → 283144 ≤ j → j < 315914 → Weighed before (set (set before i v) j w)
+pub weighed-two : (before : List ℕ) (i v j w : ℕ) → weights ≤ i → i < rows → weights ≤ j → j < rows → Weighed before (set (set before i v) j w)
 weighed-two before i v j w li hi lj hj =
     record {
       long = length-set (set before i v) j w ∙ length-set before i v;

@@ -4,61 +4,75 @@ use mathlib.Core.Path.{_≡_}
 use mathlib.Core.List.{List}
 use mathlib.Core.Logic.{_⊎_}
 use lib.ListN.{length, getD}
+use Rattle.syntax.specs.Limits.{longestPath}
 use Rattle.machine.specs.Substitution.{RTerm, Binding, resolve}
+use Rattle.layout.specs.Regions.{copies, memo, rowsWord, keys, keyCount, classes, classCount, classOf, weights, rows, rowWords, halfWord, memoRow}
 use Rattle.layout.specs.Nodes.{Symbol}
 use Rattle.layout.specs.State.{valueOf}
 
--- how many classes there are, and how many rows
-abbrev pub terms : List ℕ → ℕ
-terms scratch = getD scratch 229382 0
+-- So many pairs are only counted, not remembered: most unifications are done before. The numbers of classes begin here.
+abbrev pub counted : ℕ
+counted = 32
 
-abbrev pub rows : List ℕ → ℕ
-rows scratch = getD scratch 229383 0
+-- the most that the weight of a height counts
+abbrev pub heavy : ℕ
+heavy = 64
+
+-- A term's word and this, divided by the number of copies, is the same for every copy of the node; the rest tells the copy.
+abbrev pub shift : ℕ
+shift = longestPath
+
+-- how many classes there are, and how many rows
+abbrev pub classesMade : List ℕ → ℕ
+classesMade scratch = getD scratch memo 0
+
+abbrev pub rowsMade : List ℕ → ℕ
+rowsMade scratch = getD scratch rowsWord 0
 
 -- the node whose row is that of number k
 abbrev pub keyOf : List ℕ → ℕ → ℕ
-keyOf scratch k = getD scratch (245768 + k) 0
+keyOf scratch k = getD scratch (keys + k) 0
 
 -- the first term and the link of the class of number i
 abbrev pub termOf : List ℕ → ℕ → ℕ
-termOf scratch i = getD scratch (249864 + i * 2) 0
+termOf scratch i = getD scratch (classOf i) 0
 
 abbrev pub linkOf : List ℕ → ℕ → ℕ
-linkOf scratch i = getD scratch (249864 + i * 2 + 1) 0
+linkOf scratch i = getD scratch (classOf i + 1) 0
 
--- a word has two numbers: the lower, for 0, and the higher
+-- A word has two numbers, each in one half: the lower, for 0, and the higher.
 unfoldable pub half : ℕ → ℕ → ℕ
-half zero w = w % 65536
-half (suc n) w = w / 65536 % 65536
+half zero w = w % halfWord
+half (suc n) w = w / halfWord % halfWord
 
 unfoldable pub stored : ℕ → ℕ → ℕ → ℕ
-stored zero w i = w / 65536 % 65536 * 65536 + i
-stored (suc n) w i = i * 65536 + w % 65536
+stored zero w i = w / halfWord % halfWord * halfWord + i
+stored (suc n) w i = i * halfWord + w % halfWord
 
--- the number in row k of the term whose word is v less 255
+-- the number in row k of the term whose word is v less the shift
 abbrev pub numberIn : List ℕ → ℕ → ℕ → ℕ
-numberIn scratch k v = half (v / 128 % 2) (getD scratch (315914 + k * 128 + v % 128) 0)
+numberIn scratch k v = half (v / rowWords % 2) (getD scratch (memoRow k + v % rowWords) 0)
 
--- The first 32 pairs are only counted, so numbers begin at 32.
+-- i is the number of a class.
 pub record Numbered (scratch : List ℕ) (i : ℕ) : Type 0 where
-  pub low : 32 ≤ i
-  pub below : i < terms scratch
-  pub small : i < 16640
+  pub low : counted ≤ i
+  pub below : i < classesMade scratch
+  pub small : i < classCount
 
 -- Row k is that of a node.
 pub record Rowed (scratch : List ℕ) (key k : ℕ) : Type 0 where
-  pub below : k < rows scratch
-  pub small : k < 4096
-  pub fits : 315914 + k * 128 + 128 ≤ length scratch
+  pub below : k < rowsMade scratch
+  pub small : k < keyCount
+  pub fits : memoRow k + rowWords ≤ length scratch
   pub names : keyOf scratch k ≡ key
 
 -- the number of a term
 pub record Entered (scratch : List ℕ) (term i : ℕ) : Type 0 where
   pub row : ℕ
-  pub rowed : Rowed scratch ((term + 255) / 256) row
-  pub is : numberIn scratch row (term + 255) ≡ i
+  pub rowed : Rowed scratch ((term + shift) / copies) row
+  pub is : numberIn scratch row (term + shift) ≡ i
   pub some : i ≡ 0 → ⊥
-  pub small : i < 16640
+  pub small : i < classCount
 
 -- The classes of two numbers have one meaning.
 pub record Same (meaning : ℕ → RTerm) (scratch : List ℕ) (i j : ℕ) : Type 0 where
@@ -70,14 +84,15 @@ pub record Belongs (meaning : ℕ → RTerm) (scratch : List ℕ) (term i : ℕ)
   pub numbered : Numbered scratch i
   pub same : meaning term ≡ meaning (termOf scratch i)
 
--- In row k nothing stands for the term whose word is v less 255, or the number of its class.
+-- Row k has no number for the term whose word is v less the shift, or that of its class.
 abbrev pub Shows : (ℕ → RTerm) → List ℕ → ℕ → ℕ → Type 0
-Shows meaning scratch k v = (numberIn scratch k v ≡ 0) ⊎ Belongs meaning scratch (v - 255) (numberIn scratch k v)
+Shows meaning scratch k v = (numberIn scratch k v ≡ 0) ⊎ Belongs meaning scratch (v - shift) (numberIn scratch k v)
 
--- Each link below 16,641 leads to a class of the same meaning, and each number in a row is that of its term's class.
+-- A link is 0, a number and 1, or, from there on, a rank. Each that is a number and 1 leads to a class of the same meaning; each number in a row is
+-- that of its term's class.
 pub record Links (meaning : ℕ → RTerm) (scratch : List ℕ) : Type 0 where
-  pub links : (i j : ℕ) → Numbered scratch i → linkOf scratch i ≡ j + 1 → j < 16640 → Same meaning scratch i j
-  pub entries : (k v : ℕ) → k < rows scratch → k < 4096 → 32 ≤ terms scratch → v / 256 ≡ keyOf scratch k → Shows meaning scratch k v
+  pub links : (i j : ℕ) → Numbered scratch i → linkOf scratch i ≡ j + 1 → j < classCount → Same meaning scratch i j
+  pub entries : (k v : ℕ) → k < rowsMade scratch → k < keyCount → counted ≤ classesMade scratch → v / copies ≡ keyOf scratch k → Shows meaning scratch k v
 
 -- Terms of one class are equal with the bindings put in.
 pub record Memo (ss : List Symbol) (nodes : List ℕ) (b : List Binding) (scratch : List ℕ) : Type 0 where
@@ -101,8 +116,8 @@ pub record Cleared (before after : List ℕ) (base k : ℕ) : Type 0 where
 -- The classes, their number and the words before them are as they were.
 pub record Kept (before after : List ℕ) : Type 0 where
   pub long : length after ≡ length before
-  pub words : (j : ℕ) → j < 229383 → getD after j 0 ≡ getD before j 0
-  pub classes : (j : ℕ) → 249864 ≤ j → j < 283144 → getD after j 0 ≡ getD before j 0
+  pub words : (j : ℕ) → j < rowsWord → getD after j 0 ≡ getD before j 0
+  pub same-classes : (j : ℕ) → classes ≤ j → j < weights → getD after j 0 ≡ getD before j 0
 
 -- There is a row for the node, or no room for it.
 pub record Opens (before after : List ℕ) (key r : ℕ) : Type 0 where
@@ -118,7 +133,7 @@ pub record Assigns (before after : List ℕ) (term i : ℕ) : Type 0 where
 -- A class more, that of a term.
 pub record Fresh (before after : List ℕ) (term r : ℕ) : Type 0 where
   pub long : length after ≡ length before
-  pub words : (j : ℕ) → j < 229382 → getD after j 0 ≡ getD before j 0
+  pub words : (j : ℕ) → j < memo → getD after j 0 ≡ getD before j 0
   pub numbered : Numbered after r
   pub is : termOf after r ≡ term
   pub links : (meaning : ℕ → RTerm) → Links meaning before → Links meaning after
@@ -126,23 +141,23 @@ pub record Fresh (before after : List ℕ) (term r : ℕ) : Type 0 where
 -- Two numbers of one meaning are linked.
 pub record Joins (before after : List ℕ) (a b : ℕ) : Type 0 where
   pub long : length after ≡ length before
-  pub words : (j : ℕ) → j < 229382 → getD after j 0 ≡ getD before j 0
+  pub words : (j : ℕ) → j < memo → getD after j 0 ≡ getD before j 0
   pub links : (meaning : ℕ → RTerm) → Links meaning before → Numbered before a → Same meaning before a b → Links meaning after
 
 -- No number is left.
 pub record Begins (before after : List ℕ) : Type 0 where
   pub long : length after ≡ length before
-  pub words : (j : ℕ) → j < 229382 → getD after j 0 ≡ getD before j 0
+  pub words : (j : ℕ) → j < memo → getD after j 0 ≡ getD before j 0
   pub links : (meaning : ℕ → RTerm) → Links meaning after
 
 -- Two words of one meaning are remembered.
 pub record Remembers (before after : List ℕ) (left right : ℕ) : Type 0 where
   pub long : length after ≡ length before
-  pub words : (j : ℕ) → j < 229382 → getD after j 0 ≡ getD before j 0
+  pub words : (j : ℕ) → j < memo → getD after j 0 ≡ getD before j 0
   pub links : (meaning : ℕ → RTerm) → meaning left ≡ meaning right → Links meaning before → Links meaning after
 
 -- The words before the weights and behind them are as they were.
 pub record Weighed (before after : List ℕ) : Type 0 where
   pub long : length after ≡ length before
-  pub low : (j : ℕ) → j < 283144 → getD after j 0 ≡ getD before j 0
-  pub high : (j : ℕ) → 315914 ≤ j → getD after j 0 ≡ getD before j 0
+  pub low : (j : ℕ) → j < weights → getD after j 0 ≡ getD before j 0
+  pub high : (j : ℕ) → rows ≤ j → getD after j 0 ≡ getD before j 0

@@ -8,17 +8,18 @@ use mathlib.Core.List.{List, [], _∷_, _++_}
 use mathlib.Core.Option.{Option, none, some}
 use lib.ListN.{length, getD}
 use Rattle.syntax.specs.Terms.{Atom, termOf, Mark, input, output, Declaration, Clause}
-use Rattle.syntax.specs.Words.{termWords, atomWords, bodyWords, bodyLength, clauseWords, clausesWords, markNumber, marksNumber}
+use Rattle.syntax.specs.Words.{clauseStart, termWords, atomWords, bodyWords, bodyLength, clauseWords, clausesWords, markNumber, marksNumber}
 use Rattle.syntax.specs.declared.Refusal.{Refusal}
 use Rattle.rules.specs.Modes.{Known, nothing, isGround, marksFor, listOf, firstFaulty, groundMarked, openOutput, undeclaredAtom, undeclaredBody, undeclaredClause, undeclaredClauses, undeclaredInSheet, undeclaredInGoal, startKnown, headFault, clauseFault, clausesFault, sheetFault, goalFault, walkFault, Walk, bodyFault}
 use Rattle.marking.specs.Standing.{ClausesStand, clause-stands}
-use Rattle.marking.specs.Tables.{Has, TermAt, MarkedAt, JudgedAt, DeclarationsAt, AtomAt, BodyAt, ClauseAt, ClausesAt, SheetAt, GoalAt}
+use Rattle.words.specs.Tables.{Has}
+use Rattle.marking.specs.Tables.{TermAt, MarkedAt, JudgedAt, DeclarationsAt, AtomAt, BodyAt, ClauseAt, ClausesAt, SheetAt, GoalAt}
 use Rattle.marking.specs.Answers.{checkedOf}
 use Rattle.modes.specs.Answers.{isFault, walkBy, walkOf}
 use Rattle.marking.specs.declared.Checked.{Checked}
 use Rattle.marking.specs.declared.Checked.the-variants.{Fine, Fault}
 use Rattle.modes.specs.declared.Walked.{Walked}
-use Rattle.marking.proofs.Places.{Node, node, has-left, has-right, has-inside}
+use Rattle.words.proofs.Laws.{Node, has-left, has-right, clause-says}
 use Rattle.marking.proofs.Equating.{numbered}
 use Rattle.marking.proofs.Judging.{judged-marked}
 use Rattle.modes.proofs.Walking.{judged-at, fault-stays, fine-goes}
@@ -26,24 +27,14 @@ use Rattle.modes.proofs.Walking.{judged-at, fault-stays, fine-goes}
 -- ---- one clause
 
 pub says : {s table : List ℕ} {p : ℕ} (w : ClauseAt s table p)
-    → Node table p (3 + length (atomWords (w .clause .head) ++ bodyWords (w .clause .body))) (w .clause .variables) (bodyLength (w .clause .body)) (atomWords (w .clause .head) ++ bodyWords (w .clause .body))
-unfolding clauseWords
-says {s} {table} {p} w = node table p _ _ _ _ (w .has)
+    → Node table p (clauseStart + length (atomWords (w .clause .head) ++ bodyWords (w .clause .body))) (w .clause .variables) (bodyLength (w .clause .body)) (atomWords (w .clause .head) ++ bodyWords (w .clause .body))
+says {s} {table} {p} w = clause-says table p (w .clause) (w .has) .words
 
 pub clause-room : {s table : List ℕ} {p : ℕ} → ClauseAt s table p → p + 2 < length table
 clause-room w = says w .inside
 
-size-is : {s table : List ℕ} {p : ℕ} (w : ClauseAt s table p) → getD table p 0 ≡ length (clauseWords (w .clause))
-unfolding clauseWords
-size-is w = omega (arith, says w .first)
-
-pub clause-inside : {s table : List ℕ} {p : ℕ} → ClauseAt s table p → p + getD table p 0 ≤ length table
-clause-inside {s} {table} {p} w =
-    let l : 0 < length (clauseWords (w .clause)) = omega (arith, size-is w, says w .first) in
-    omega (arith, size-is w, has-inside table p (clauseWords (w .clause)) (w .has) l)
-
-pub past-clause : {s table : List ℕ} {p : ℕ} (size : ℕ) → size ≡ getD table p 0 → (w : ClauseAt s table p) → p + size ≡ p + length (clauseWords (w .clause))
-past-clause {s} {table} {p} size e w = ap (λ (k : ℕ). p + k) (e ∙ size-is w)
+pub clause-words : {s table : List ℕ} {p : ℕ} → ClauseAt s table p → (c : Clause) × Has table p (clauseWords c)
+clause-words w = (w .clause, w .has)
 
 abbrev pub head-at : {s table : List ℕ} {p : ℕ} → ClauseAt s table p → AtomAt s table (p + 3)
 head-at {s} {table} {p} w = record {

@@ -4,22 +4,23 @@ use native.Mathlib.Numerals.{add-one}
 use native.Mathlib.Omega.{arith}
 use mathlib.Core.Path.{_≡_, refl, sym, ap, ap₂, _∙_, subst, subst⁻¹}
 use mathlib.Core.Bool.{Bool, true, false}
-use mathlib.Core.List.{List, [], _∷_, _++_}
+use mathlib.Core.List.{List, _∷_, _++_}
 use mathlib.Core.Option.{Option, none, some}
-use lib.ListN.{length, getD, length-append}
+use lib.ListN.{length, getD}
 use Rattle.syntax.specs.Terms.{Term, Atom, termOf, Literal, Body, call, equation, truth, falsity, done, also, input, output, Declaration}
-use Rattle.syntax.specs.Words.{termWords, atomWords, literalWords, bodyWords, bodyLength, marksNumber}
+use Rattle.syntax.specs.Words.{termWords, atomWords, literalWords, bodyWords, bodyLength, marksNumber, truthKind, falsityKind, callKind, equationKind}
 use Rattle.syntax.specs.declared.Refusal.{Refusal}
 use Rattle.rules.specs.Modes.{Known, everything, isGround, marksFor, listOf, firstFaulty, groundMarked, equate, openInput, undeclaredAtom, undeclaredLiteral, undeclaredBody, literalFault, afterLiteral, Walk, known, walkOn, bodyFault}
 use Rattle.marking.specs.Standing.{Stands, LiteralStands, call-stands, equation-stands, BodyStands, also-stands}
-use Rattle.marking.specs.Tables.{Has, TermAt, PairAt, MarkedAt, JudgedAt, DeclarationsAt, AtomAt, LiteralAt, BodyAt}
+use Rattle.words.specs.Tables.{Has}
+use Rattle.marking.specs.Tables.{TermAt, PairAt, MarkedAt, JudgedAt, DeclarationsAt, AtomAt, LiteralAt, BodyAt}
 use Rattle.marking.specs.Answers.{checkedOf}
 use Rattle.modes.specs.Answers.{isFault, walkBy, walkOf, literalWalk}
 use Rattle.marking.specs.declared.Checked.{Checked}
 use Rattle.marking.specs.declared.Checked.the-variants.{Fine, Fault}
 use Rattle.modes.specs.declared.Walked.{Walked}
-use Rattle.marking.proofs.Places.{has-left, has-right}
-use Rattle.marking.proofs.Equating.{numbered, all-numbered, right-at}
+use Rattle.words.proofs.Laws.{has-left, has-right, literal-room as room-of}
+use Rattle.marking.proofs.Equating.{numbered, all-numbered}
 use Rattle.marking.proofs.Marking.{in-text}
 use Rattle.marking.proofs.Judging.{judged-marked}
 
@@ -55,44 +56,30 @@ goes-by Fine τ none σ rest e t = let y : σ ≡ τ = cc in ap rest y
 
 -- ---- literals
 
-record First (table : List ℕ) (p w : ℕ) (ws : List ℕ) : Type 0 where
-  inside : p < length table
-  first : getD table p 0 ≡ w
-  rest : Has table (p + 1) ws
-
-first-of : (table : List ℕ) (p w : ℕ) (ws : List ℕ) → Has table p (w ∷ ws) → First table p w ws
-unfolding Has
-first-of table p w ws h = record { inside = h .0; first = h .1 .0; rest = subst⁻¹ (λ (k : ℕ). Has table k ws) (add-one p) (h .1 .1) }
-
 -- a literal by its first word
 pub data View (g table : List ℕ) (p : ℕ) : Literal → Type 0 where
-  view-truth : getD table p 0 ≡ 0 → View g table p truth
-  view-falsity : getD table p 0 ≡ 1 → View g table p falsity
-  view-call : {a : Atom} → getD table p 0 ≡ 2 → Has table (p + 1) (atomWords a) → Stands g (termOf a) → View g table p (call a)
-  view-equation : {t u : Term} → getD table p 0 ≡ 3 → Has table (p + 1) (termWords t) → Has table (p + 1 + length (termWords t)) (termWords u) → Stands g t → Stands g u
+  view-truth : getD table p 0 ≡ truthKind → View g table p truth
+  view-falsity : getD table p 0 ≡ falsityKind → View g table p falsity
+  view-call : {a : Atom} → getD table p 0 ≡ callKind → Has table (p + 1) (atomWords a) → Stands g (termOf a) → View g table p (call a)
+  view-equation : {t u : Term} → getD table p 0 ≡ equationKind → Has table (p + 1) (termWords t) → Has table (p + 1 + length (termWords t)) (termWords u) → Stands g t → Stands g u
       → View g table p (equation t u)
 
 view-by : (g table : List ℕ) (p : ℕ) (l : Literal) → Has table p (literalWords l) → LiteralStands g l → View g table p l
 unfolding literalWords
-view-by g table p truth h k = view-truth (first-of table p 0 [] h .first)
-view-by g table p falsity h k = view-falsity (first-of table p 1 [] h .first)
-view-by g table p (call a) h (call-stands k) = view-call (first-of table p 2 (atomWords a) h .first) (first-of table p 2 (atomWords a) h .rest) k
+view-by g table p truth h k = view-truth (h .1)
+view-by g table p falsity h k = view-falsity (h .1)
+view-by g table p (call a) h (call-stands k) = view-call (h .1) (h .2) k
 view-by g table p (equation t u) h (equation-stands kt ku) =
-    let o : First table p 3 (termWords t ++ termWords u) = first-of table p 3 (termWords t ++ termWords u) h in
-    view-equation (o .first) (has-left table (p + 1) (termWords t) (termWords u) (o .rest)) (has-right table (p + 1) (termWords t) (termWords u) (o .rest)) kt ku
+    view-equation (h .1) (has-left table (p + 1) (termWords t) (termWords u) (h .2)) (has-right table (p + 1) (termWords t) (termWords u) (h .2)) kt ku
 
 pub view : {g table : List ℕ} {p : ℕ} (w : LiteralAt g table p) → View g table p (w .literal)
 view {g} {table} {p} w = view-by g table p (w .literal) (w .has) (w .stands)
 
-room-by : (table : List ℕ) (p : ℕ) (l : Literal) → Has table p (literalWords l) → p < length table
-unfolding literalWords
-room-by table p truth h = first-of table p 0 [] h .inside
-room-by table p falsity h = first-of table p 1 [] h .inside
-room-by table p (call a) h = first-of table p 2 (atomWords a) h .inside
-room-by table p (equation t u) h = first-of table p 3 (termWords t ++ termWords u) h .inside
+pub literal-words : {g table : List ℕ} {p : ℕ} → LiteralAt g table p → (l : Literal) × Has table p (literalWords l)
+literal-words w = (w .literal, w .has)
 
 pub literal-room : {g table : List ℕ} {p : ℕ} → LiteralAt g table p → p < length table
-literal-room {g} {table} {p} w = room-by table p (w .literal) (w .has)
+literal-room {g} {table} {p} w = room-of table p (w .literal) (w .has)
 
 -- the literal at p is a call
 pub record CallAt (g table : List ℕ) (p : ℕ) (l : Literal) : Type 0 where
@@ -107,34 +94,34 @@ pub record EquationAt (g table : List ℕ) (p : ℕ) (l : Literal) : Type 0 wher
   pub is : l ≡ equation (pair .left) (pair .right)
 
 module _ {g table : List ℕ} {p : ℕ} (kind : ℕ) (e : kind ≡ getD table p 0) where
-  truth-by : {l : Literal} → kind ≡ 0 → View g table p l → l ≡ truth
+  truth-by : {l : Literal} → kind ≡ truthKind → View g table p l → l ≡ truth
   truth-by k (view-truth q) = refl
   truth-by k (view-falsity q) = absurd (omega arith)
   truth-by k (view-call q h s) = absurd (omega arith)
   truth-by k (view-equation q ht hu st su) = absurd (omega arith)
 
-  pub truth-is : kind ≡ 0 → (w : LiteralAt g table p) → w .literal ≡ truth
+  pub truth-is : kind ≡ truthKind → (w : LiteralAt g table p) → w .literal ≡ truth
   truth-is k w = truth-by k (view w)
 
-  falsity-by : {l : Literal} → kind ≡ 1 → View g table p l → l ≡ falsity
+  falsity-by : {l : Literal} → kind ≡ falsityKind → View g table p l → l ≡ falsity
   falsity-by k (view-truth q) = absurd (omega arith)
   falsity-by k (view-falsity q) = refl
   falsity-by k (view-call q h s) = absurd (omega arith)
   falsity-by k (view-equation q ht hu st su) = absurd (omega arith)
 
-  pub falsity-is : kind ≡ 1 → (w : LiteralAt g table p) → w .literal ≡ falsity
+  pub falsity-is : kind ≡ falsityKind → (w : LiteralAt g table p) → w .literal ≡ falsity
   falsity-is k w = falsity-by k (view w)
 
-  call-by : {l : Literal} → kind ≡ 2 → View g table p l → CallAt g table p l
+  call-by : {l : Literal} → kind ≡ callKind → View g table p l → CallAt g table p l
   call-by k (view-truth q) = absurd (omega arith)
   call-by k (view-falsity q) = absurd (omega arith)
   call-by k (view-call {a} q h s) = record { atom = record { atom = a; has = h; stands = s }; is = refl }
   call-by k (view-equation q ht hu st su) = absurd (omega arith)
 
-  pub call-is : kind ≡ 2 → (w : LiteralAt g table p) → CallAt g table p (w .literal)
+  pub call-is : kind ≡ callKind → (w : LiteralAt g table p) → CallAt g table p (w .literal)
   call-is k w = call-by k (view w)
 
-  equation-by : {l : Literal} → 2 ≤ kind → (kind ≡ 2 → ⊥) → View g table p l → EquationAt g table p l
+  equation-by : {l : Literal} → callKind ≤ kind → (kind ≡ callKind → ⊥) → View g table p l → EquationAt g table p l
   equation-by k n (view-truth q) = absurd (omega arith)
   equation-by k n (view-falsity q) = absurd (omega arith)
   equation-by k n (view-call q h s) = absurd (n (e ∙ q))
@@ -145,57 +132,25 @@ module _ {g table : List ℕ} {p : ℕ} (kind : ℕ) (e : kind ≡ getD table p 
     is = refl;
   }
 
-  pub equation-is : 2 ≤ kind → (kind ≡ 2 → ⊥) → (w : LiteralAt g table p) → EquationAt g table p (w .literal)
+  pub equation-is : callKind ≤ kind → (kind ≡ callKind → ⊥) → (w : LiteralAt g table p) → EquationAt g table p (w .literal)
   equation-is k n w = equation-by k n (view w)
 
-  no-atom-by : {l : Literal} → kind < 2 → View g table p l → length (literalWords l) ≡ 1
-  unfolding literalWords
-  no-atom-by k (view-truth q) = refl
-  no-atom-by k (view-falsity q) = refl
-  no-atom-by k (view-call q h s) = absurd (omega arith)
-  no-atom-by k (view-equation q ht hu st su) = absurd (omega arith)
-
-  term-by : {l : Literal} → 2 ≤ kind → View g table p l → TermAt table (p + 1)
+  term-by : {l : Literal} → callKind ≤ kind → View g table p l → TermAt table (p + 1)
   term-by k (view-truth q) = absurd (omega arith)
   term-by k (view-falsity q) = absurd (omega arith)
   term-by k (view-call {a} q h s) = record { term = termOf a; has = h; numbered = numbered s }
   term-by k (view-equation {t} q ht hu st su) = record { term = t; has = ht; numbered = numbered st }
 
-  -- the place past a literal
-  pub past-none : kind < 2 → (w : LiteralAt g table p) → p + 1 ≡ p + length (literalWords (w .literal))
-  past-none k w = omega (arith, no-atom-by k (view w))
-
-  pub first-term : 2 ≤ kind → LiteralAt g table p → TermAt table (p + 1)
+  pub first-term : callKind ≤ kind → LiteralAt g table p → TermAt table (p + 1)
   first-term k w = term-by k (view w)
 
   module _ (next : ℕ) (n : (u : TermAt table (p + 1)) → next ≡ p + 1 + length (termWords (u .term))) where
-    pub past-call : kind ≡ 2 → (w : LiteralAt g table p) → next ≡ p + length (literalWords (w .literal))
-    unfolding literalWords
-    past-call k w =
-        let c : CallAt g table p (w .literal) = call-is k w in
-        let q : length (literalWords (w .literal)) ≡ suc (length (atomWords (c .atom .atom))) = ap (λ (l : Literal). length (literalWords l)) (c .is) in
-        omega (arith, n (record { term = termOf (c .atom .atom); has = c .atom .has; numbered = numbered (c .atom .stands) }))
-
-    module _ (l : 2 ≤ kind) (k : kind ≡ 2 → ⊥) where
+    module _ (l : callKind ≤ kind) (k : kind ≡ callKind → ⊥) where
       equation-at : (w : LiteralAt g table p) → EquationAt g table p (w .literal)
       equation-at w = equation-is l k w
 
       pub sides-at : LiteralAt g table p → PairAt g table (p + 1) next
       sides-at w = subst⁻¹ (PairAt g table (p + 1)) (n (equation-at w .left)) (equation-at w .pair)
-
-      pub right-term : LiteralAt g table p → TermAt table next
-      right-term w = right-at (sides-at w)
-
-      pub past-equation : (end : ℕ) → ((u : TermAt table next) → end ≡ next + length (termWords (u .term))) → (w : LiteralAt g table p)
-          → end ≡ p + length (literalWords (w .literal))
-      unfolding literalWords
-      past-equation end h w =
-          let q : EquationAt g table p (w .literal) = equation-at w in
-          let z : length (literalWords (w .literal)) ≡ suc (length (termWords (q .pair .left) ++ termWords (q .pair .right))) = ap (λ (l : Literal). length (literalWords l)) (q .is) in
-          let r : (u : TermAt table (p + 1 + length (termWords (q .left .term)))) → end ≡ p + 1 + length (termWords (q .left .term)) + length (termWords (u .term)) =
-          subst (λ (j : ℕ). (u : TermAt table j) → end ≡ j + length (termWords (u .term))) (n (q .left)) h in
-          let y : length (termWords (q .pair .left)) ≡ length (termWords (q .left .term)) = ap (λ (t : Term). length (termWords t)) (q .left-is) in
-          omega (arith, length-append (termWords (q .pair .left)) (termWords (q .pair .right)), r (right-at (q .pair)))
 
       pub walked-equation : (ds : List Declaration) (c m : ℕ) (τ after : Known) → ((u : PairAt g table (p + 1) next) → after ≡ equate (u .left) (u .right) τ)
           → (w : LiteralAt g table p) → walkBy Fine after ≡ literalWalk ds c m τ (w .literal)
@@ -207,34 +162,34 @@ module _ {g table : List ℕ} {p : ℕ} (kind : ℕ) (e : kind ≡ getD table p 
           ap known (r (q .pair)) ∙ sym (ap (literalWalk ds c m τ) (q .is))
 
   -- ---- refusal 8
-  undeclared-by : {l : Literal} → (kind ≡ 2 → ⊥) → View g table p l → (ds : List Declaration) (c m : ℕ) → Fine ≡ checkedOf (undeclaredLiteral ds c m l)
+  undeclared-by : {l : Literal} → (kind ≡ callKind → ⊥) → View g table p l → (ds : List Declaration) (c m : ℕ) → Fine ≡ checkedOf (undeclaredLiteral ds c m l)
   unfolding undeclaredLiteral
   undeclared-by k (view-truth q) ds c m = refl
   undeclared-by k (view-falsity q) ds c m = refl
   undeclared-by k (view-call q h s) ds c m = absurd (k (e ∙ q))
   undeclared-by k (view-equation q ht hu st su) ds c m = refl
 
-  pub no-call : (kind ≡ 2 → ⊥) → (ds : List Declaration) (c m : ℕ) (w : LiteralAt g table p) → Fine ≡ checkedOf (undeclaredLiteral ds c m (w .literal))
+  pub no-call : (kind ≡ callKind → ⊥) → (ds : List Declaration) (c m : ℕ) (w : LiteralAt g table p) → Fine ≡ checkedOf (undeclaredLiteral ds c m (w .literal))
   no-call k ds c m w = undeclared-by k (view w) ds c m
 
-  pub atom-at : kind ≡ 2 → LiteralAt g table p → AtomAt g table (p + 1)
+  pub atom-at : kind ≡ callKind → LiteralAt g table p → AtomAt g table (p + 1)
   atom-at k w = call-is k w .atom
 
-  pub called : kind ≡ 2 → (ds : List Declaration) (c m : ℕ) (f : Checked) → ((a : AtomAt g table (p + 1)) → f ≡ checkedOf (undeclaredAtom ds c m (a .atom)))
+  pub called : kind ≡ callKind → (ds : List Declaration) (c m : ℕ) (f : Checked) → ((a : AtomAt g table (p + 1)) → f ≡ checkedOf (undeclaredAtom ds c m (a .atom)))
       → (w : LiteralAt g table p) → f ≡ checkedOf (undeclaredLiteral ds c m (w .literal))
   unfolding undeclaredLiteral
   called k ds c m f h w = h (call-is k w .atom) ∙ sym (ap (λ (l : Literal). checkedOf (undeclaredLiteral ds c m l)) (call-is k w .is))
 
   -- ---- the walk past one literal
-  pub walked-truth : kind ≡ 0 → (ds : List Declaration) (c m : ℕ) (τ : Known) (w : LiteralAt g table p) → walkBy Fine τ ≡ literalWalk ds c m τ (w .literal)
+  pub walked-truth : kind ≡ truthKind → (ds : List Declaration) (c m : ℕ) (τ : Known) (w : LiteralAt g table p) → walkBy Fine τ ≡ literalWalk ds c m τ (w .literal)
   unfolding literalFault afterLiteral walkOn
   walked-truth k ds c m τ w = sym (ap (literalWalk ds c m τ) (truth-is k w))
 
-  pub walked-falsity : kind ≡ 1 → (ds : List Declaration) (c m : ℕ) (τ : Known) (w : LiteralAt g table p) → walkBy Fine everything ≡ literalWalk ds c m τ (w .literal)
+  pub walked-falsity : kind ≡ falsityKind → (ds : List Declaration) (c m : ℕ) (τ : Known) (w : LiteralAt g table p) → walkBy Fine everything ≡ literalWalk ds c m τ (w .literal)
   unfolding literalFault afterLiteral walkOn
   walked-falsity k ds c m τ w = sym (ap (literalWalk ds c m τ) (falsity-is k w))
 
-  pub walked-call : kind ≡ 2 → (ds : List Declaration) (c m : ℕ) (τ : Known) (x : Walk) → ((a : AtomAt g table (p + 1)) → x ≡ literalWalk ds c m τ (call (a .atom)))
+  pub walked-call : kind ≡ callKind → (ds : List Declaration) (c m : ℕ) (τ : Known) (x : Walk) → ((a : AtomAt g table (p + 1)) → x ≡ literalWalk ds c m τ (call (a .atom)))
       → (w : LiteralAt g table p) → x ≡ literalWalk ds c m τ (w .literal)
   walked-call k ds c m τ x h w = h (call-is k w .atom) ∙ sym (ap (literalWalk ds c m τ) (call-is k w .is))
 
@@ -376,7 +331,7 @@ module _ (ds : List Declaration) (c : ℕ) (g table : List ℕ) (at i literals :
         (goes-by (w .fault) (w .known) (literalFault ds c (suc i) τ (turn l a .literal .literal)) (afterLiteral ds (turn l a .literal .literal) τ) (λ σ. bodyFault ds c (suc (suc i)) σ (turn l a .left)) (there a) t)
 
 -- a first word that is neither 0 nor 1
-pub at-least : (kind : ℕ) → (kind ≡ 0 → ⊥) → (kind ≡ 1 → ⊥) → 2 ≤ kind
+pub at-least : (kind : ℕ) → (kind ≡ truthKind → ⊥) → (kind ≡ falsityKind → ⊥) → callKind ≤ kind
 at-least zero a b = absurd (a refl)
 at-least (suc zero) a b = absurd (b refl)
 at-least (suc (suc k)) a b = omega arith

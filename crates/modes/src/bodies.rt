@@ -3,49 +3,27 @@ use crate::Walked;
 use crate::is_fault;
 use marking::Checked;
 use marking::Known;
-use marking::VARIABLES;
-use marking::marks::OUTPUT;
 use marking::marks::call_fault;
 use marking::marks::ground_marked;
 use marking::marks::marks_of;
 use marking::marks::undeclared_atom;
-use marking::table::past;
-use marking::table::word_at;
 use marking::terms::equate;
+use syntax::CALL_KIND;
+use syntax::FALSITY_KIND;
+use syntax::NODE_WORDS;
+use syntax::OUTPUT;
+use syntax::TRUTH_KIND;
+use syntax::VARIABLES;
+use words::past;
+use words::past_literal;
+use words::word_at;
 ghost use mathlib.Core.Path.{_≡_};
-ghost use mathlib.Core.List.{List};
-ghost use Prim.Native.Nat.{ℕ, _+_};
-ghost use lib.ListN.{length};
+ghost use Prim.Native.Nat.{_+_};
 ghost use Rattle.syntax.specs.Terms.{call};
-ghost use Rattle.syntax.specs.Words.{literalWords};
 ghost use Rattle.rules.specs.Modes.{undeclaredLiteral, undeclaredBody, bodyFault};
 ghost use Rattle.marking.specs.Tables.{DeclarationsAt, AtomAt, LiteralAt, BodyAt};
 ghost use Rattle.marking.specs.Answers.{checkedOf};
 ghost use Rattle.modes.specs.Answers.{walkOf, literalWalk};
-
-// The first words of literals.
-const TRUTH: usize = 0;
-
-const FALSITY: usize = 1;
-
-const CALL: usize = 2;
-
-// The place past a literal.
-pub fn past_literal(table: &[u32], p: usize) -> usize
-    requires { ⌜ ((g : List ℕ) × LiteralAt g (now table) p) ⌝ }
-    ensures { λ r. ⌜ ((g : List ℕ) (w : LiteralAt g (now (table .entry)) p) → r ≡ p + length (literalWords (w .literal))) ⌝ }
-{
-    let kind = word_at(table, p);
-    let q = p + 1;
-    if kind < CALL {
-        return q;
-    }
-    let next = past(table, q);
-    if kind == CALL {
-        return next;
-    }
-    past(table, next)
-}
 
 // The fault of a literal that is a call without declaration.
 fn undeclared_literal(
@@ -63,7 +41,7 @@ fn undeclared_literal(
     requires { ⌜ LiteralAt (now g) (now table) p ⌝ }
     ensures { λ r. ⌜ ((d : DeclarationsAt (now (s .entry)) (now (declared .entry)) n) (w : LiteralAt (now (g .entry)) (now (table .entry)) p) → r ≡ checkedOf (undeclaredLiteral (d .list) clause literal (w .literal))) ⌝ }
 {
-    if word_at(table, p) != CALL {
+    if word_at(table, p) != CALL_KIND {
         return Checked::Fine;
     }
     let q = p + 1;
@@ -117,7 +95,7 @@ fn call_walk(
     ensures { λ r. ⌜ ((d : DeclarationsAt (now (s .entry)) (now (declared .entry)) n) (w : AtomAt (now (g .entry)) (now (table .entry)) p) → walkOf r ≡ literalWalk (d .list) clause literal known (call (w .atom))) ⌝ }
 {
     let marks = marks_of(s, declared, n, g, table, p);
-    let from = p + 3;
+    let from = p + NODE_WORDS;
     let stop = past(table, p);
     let after = ground_marked(table, from, stop, marks, OUTPUT, known);
     let fault = call_fault(table, p, marks, known, clause, literal);
@@ -144,20 +122,20 @@ fn literal_walk(
     ensures { λ r. ⌜ ((d : DeclarationsAt (now (s .entry)) (now (declared .entry)) n) (w : LiteralAt (now (g .entry)) (now (table .entry)) p) → walkOf r ≡ literalWalk (d .list) clause literal known (w .literal)) ⌝ }
 {
     let kind = word_at(table, p);
-    if kind == TRUTH {
+    if kind == TRUTH_KIND {
         return Walked {
             fault: Checked::Fine,
             known,
         };
     }
-    if kind == FALSITY {
+    if kind == FALSITY_KIND {
         return Walked {
             fault: Checked::Fine,
             known: [true; VARIABLES],
         };
     }
     let q = p + 1;
-    if kind == CALL {
+    if kind == CALL_KIND {
         return call_walk(s, declared, n, g, table, q, clause, literal, known);
     }
     let right = past(table, q);

@@ -3,40 +3,31 @@ use crate::bodies::body_walk;
 use crate::bodies::undeclared_body;
 use crate::is_fault;
 use marking::Checked;
-use marking::VARIABLES;
-use marking::marks::INPUT;
 use marking::marks::find_atom;
 use marking::marks::ground_marked;
 use marking::marks::head_fault;
 use marking::marks::is_near;
 use marking::marks::marks_of;
 use marking::marks::undeclared_atom;
-use marking::table::past;
-use marking::table::word_at;
+use syntax::CLAUSE_START;
+use syntax::INPUT;
+use syntax::NODE_WORDS;
+use syntax::VARIABLES;
+use words::past;
+use words::past_clause;
+use words::word_at;
 ghost use mathlib.Core.Path.{_≡_};
-ghost use mathlib.Core.List.{List};
-ghost use Prim.Native.Nat.{ℕ, _+_};
-ghost use lib.ListN.{length};
-ghost use Rattle.syntax.specs.Words.{clauseWords};
+ghost use Prim.Native.Nat.{_+_};
 ghost use Rattle.rules.specs.Modes.{undeclaredClause, undeclaredClauses, clauseFault, clausesFault};
 ghost use Rattle.marking.specs.Tables.{DeclarationsAt, ClauseAt, ClausesAt};
 ghost use Rattle.marking.specs.Answers.{checkedOf};
-
-// The place past a clause.
-pub fn past_clause(table: &[u32], p: usize) -> usize
-    requires { ⌜ ((s : List ℕ) × ClauseAt s (now table) p) ⌝ }
-    ensures { λ r. ⌜ ((s : List ℕ) (w : ClauseAt s (now (table .entry)) p) → r ≡ p + length (clauseWords (w .clause))) ⌝ }
-{
-    let size = word_at(table, p);
-    p + size
-}
 
 // The number of the declaration of a clause's head, of which `near` is tried first. It only says where to look first, so any number would do.
 fn head_near(s: &[u8], declared: &[u32], n: usize, table: &[u32], p: usize, near: usize) -> usize
     requires { ⌜ DeclarationsAt (now s) (now declared) n ⌝ }
     requires { ⌜ ClauseAt (now s) (now table) p ⌝ }
 {
-    let head = p + 3;
+    let head = p + CLAUSE_START;
     if is_near(s, declared, n, s, table, head, near) {
         return near;
     }
@@ -58,7 +49,7 @@ fn undeclared_clause(
     ensures { λ r. ⌜ ((d : DeclarationsAt (now (s .entry)) (now (declared .entry)) n) (w : ClauseAt (now (s .entry)) (now (table .entry)) p) → r ≡ checkedOf (undeclaredClause (d .list) clause (w .clause))) ⌝ }
 {
     let literals = word_at(table, p + 2);
-    let head = p + 3;
+    let head = p + CLAUSE_START;
     let fault = undeclared_atom(s, declared, n, s, table, head, clause, 0, near);
     if is_fault(fault) {
         return fault;
@@ -109,9 +100,9 @@ fn clause_fault(
     ensures { λ r. ⌜ ((d : DeclarationsAt (now (s .entry)) (now (declared .entry)) n) (w : ClauseAt (now (s .entry)) (now (table .entry)) p) → r ≡ checkedOf (clauseFault (d .list) clause (w .clause))) ⌝ }
 {
     let literals = word_at(table, p + 2);
-    let head = p + 3;
+    let head = p + CLAUSE_START;
     let marks = marks_of(s, declared, n, s, table, head);
-    let from = head + 3;
+    let from = head + NODE_WORDS;
     let first = past(table, head);
     let start = ground_marked(table, from, first, marks, INPUT, [false; VARIABLES]);
     let w = body_walk(s, declared, n, s, table, first, literals, clause, start);

@@ -8,7 +8,7 @@ use clauses::clauses_fault;
 use clauses::undeclared_clauses;
 use marking::Checked;
 use marking::Known;
-use marking::VARIABLES;
+use syntax::VARIABLES;
 ghost use mathlib.Core.Path.{_≡_};
 ghost use Rattle.rules.specs.Modes.{sheetFault, goalFault};
 ghost use Rattle.marking.specs.Tables.{SheetAt, GoalAt};

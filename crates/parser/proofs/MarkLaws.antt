@@ -13,15 +13,15 @@ use lib.Pow.{pow-add}
 use borrow.Author.Tests.{eq-eqb, ne-eqb}
 use Rattle.syntax.specs.Terms.{Mark, input, output, free, Declaration, sameName, mode-name}
 use Rattle.syntax.specs.Tokens.{spelling}
-use Rattle.syntax.specs.Reading.{Read, fault, ok, andThen, next, wrong, wrongNumber, beyond, full, Sign, mark, noMark, signOf, isMark, readMarks, marksWith, marksAfter, marksOf, After, more, last, neither, afterOf, declarationOf, declarationEnd, declarationFrom, isMode, afterNeck, readDeclaration}
+use Rattle.syntax.specs.Reading.{Cursor, begin, standing, Read, fault, ok, andThen, next, wrong, wrongNumber, beyond, full, Sign, mark, noMark, signOf, isMark, readMarks, marksWith, marksAfter, marksOf, After, more, last, neither, afterOf, declarationOf, declarationEnd, declarationFrom, isMode, afterNeck, readDeclaration}
 use Rattle.syntax.specs.Words.{markNumber, marksNumber, declarationWords}
 use Rattle.syntax.specs.declared.State.{State}
-use Rattle.reading.specs.Gives.{Standing, Moved, Faulted, Given, Gives, Refused, one}
+use Rattle.reading.specs.Gives.{left, Standing, Moved, Faulted, Refused}
 use Rattle.reading.specs.declared.Parsed.{Parsed}
 use Rattle.reading.proofs.Laws.{length-spelling}
-use Rattle.reading.proofs.Reading.{three, refused-wrong, wrong-positive}
+use Rattle.reading.proofs.Reading.{three, wrong-positive}
 use Rattle.reading.proofs.Starts.{after-more, after-last, after-neither}
-use Rattle.parser.specs.Marks.{signNumber, Stopped, Marked, MarksGive}
+use Rattle.parser.specs.Marks.{signNumber, Stopped, Marked, MarksGive, DeclarationGiven, DeclarationGives}
 
 -- ---- the number of a mark
 
@@ -69,17 +69,22 @@ four-most d k e = let p : 4 ^ (k + d) ≡ 4 ^ k * 4 ^ d = pow-add 4 k d in let q
 
 -- ---- lists of marks
 
+-- the reader past a token, where no variable is met
+pub next-begin : {s : List ℕ} {st r : State} → Moved s st r → begin (r .token) ≡ next s (begin (st .token))
+unfolding next standing
+next-begin m = ap (λ (x : State). begin (x .token)) (m .is)
+
 module _ (s : List ℕ) (k : ℕ) (st : State) (m : ℕ) (em : m ≡ signNumber (signOf (st .token .kind))) where
-  stopped-wrong : (x : State) (r : Parsed) → Refused x (wrongNumber (x .token .kind)) r → MarksGive s st k r (wrong x)
+  stopped-wrong : (x : State) (r : Parsed) → Refused x (wrongNumber (x .token .kind)) r → MarksGive s st k r (wrong (begin (x .token)))
   unfolding wrong
   stopped-wrong x r f = record { number-is = f .number-is; some = wrong-positive (x .token .kind); byte-is = ap (λ (y : State). y .token .at) (f .state-is) }
 
-  none-by : (j : ℕ) (r : Parsed) → signOf (st .token .kind) ≡ noMark → Refused st (wrongNumber (st .token .kind)) r → MarksGive s st k r (readMarks s j st)
+  none-by : (j : ℕ) (r : Parsed) → signOf (st .token .kind) ≡ noMark → Refused st (wrongNumber (st .token .kind)) r → MarksGive s st k r (readMarks s j (begin (st .token)))
   unfolding readMarks full marksWith
-  none-by zero r e f = subst⁻¹ (λ (x : Sign). MarksGive s st k r (full (isMark x) st)) e (stopped-wrong st r f)
-  none-by (suc j) r e f = subst⁻¹ (λ (x : Sign). MarksGive s st k r (marksWith (λ st1. readMarks s j st1) s st x)) e (stopped-wrong st r f)
+  none-by zero r e f = subst⁻¹ (λ (x : Sign). MarksGive s st k r (full (isMark x) (begin (st .token)))) e (stopped-wrong st r f)
+  none-by (suc j) r e f = subst⁻¹ (λ (x : Sign). MarksGive s st k r (marksWith (λ st1. readMarks s j st1) s (begin (st .token)) x)) e (stopped-wrong st r f)
 
-  pub marks-none : (r : Parsed) → m ≡ 0 → Refused st (wrongNumber (st .token .kind)) r → MarksGive s st k r (readMarks s k st)
+  pub marks-none : (r : Parsed) → m ≡ 0 → Refused st (wrongNumber (st .token .kind)) r → MarksGive s st k r (readMarks s k (begin (st .token)))
   marks-none r z f = none-by k r (no-sign (signOf (st .token .kind)) (sym em ∙ z)) f
 
   module _ (z : m ≡ 0 → ⊥) where
@@ -92,28 +97,28 @@ module _ (s : List ℕ) (k : ℕ) (st : State) (m : ℕ) (em : m ≡ signNumber 
     pub mark-small : m < 4
     mark-small = subst⁻¹ (λ (x : ℕ). x < 4) mark-is (mark-range (sign .0) .1)
 
-    pub marks-full : (r : Parsed) → k ≡ 0 → Refused st 6 r → MarksGive s st k r (readMarks s k st)
+    pub marks-full : (r : Parsed) → k ≡ 0 → Refused st 6 r → MarksGive s st k r (readMarks s k (begin (st .token)))
     unfolding readMarks full beyond
     marks-full r e f =
-        subst⁻¹ (λ (j : ℕ). MarksGive s st k r (readMarks s j st)) e
-        (subst⁻¹ (λ (x : Sign). MarksGive s st k r (full (isMark x) st)) (sign .1)
+        subst⁻¹ (λ (j : ℕ). MarksGive s st k r (readMarks s j (begin (st .token)))) e
+        (subst⁻¹ (λ (x : Sign). MarksGive s st k r (full (isMark x) (begin (st .token)))) (sign .1)
         (record { number-is = f .number-is; some = lit< tt; byte-is = ap (λ (y : State). y .token .at) (f .state-is) }))
 
     module _ (nz : k ≡ 0 → ⊥) (after : State) (stands : Standing s st) (mv : Moved s st after) where
-      behind : (x : After) → afterOf 8 (after .token .kind) ≡ x → readMarks s k st ≡ marksAfter (λ st1. readMarks s (k - 1) st1) s (sign .0) after x
+      behind : (x : After) → afterOf 8 (after .token .kind) ≡ x → readMarks s k (begin (st .token)) ≡ marksAfter (λ st1. readMarks s (k - 1) st1) s (sign .0) (begin (after .token)) x
       unfolding readMarks marksWith
       behind x e =
           let d : k ≡ suc (k - 1) = omega (arith, nz) in
-          ap (λ (j : ℕ). readMarks s j st) d
-          ∙ ap (marksWith (λ st1. readMarks s (k - 1) st1) s st) (sign .1)
-          ∙ ap (λ (y : State). marksAfter (λ st1. readMarks s (k - 1) st1) s (sign .0) y (afterOf 8 (y .token .kind))) (sym (mv .is))
-          ∙ ap (marksAfter (λ st1. readMarks s (k - 1) st1) s (sign .0) after) e
+          ap (λ (j : ℕ). readMarks s j (begin (st .token))) d
+          ∙ ap (marksWith (λ st1. readMarks s (k - 1) st1) s (begin (st .token))) (sign .1)
+          ∙ ap (λ (y : Cursor). marksAfter (λ st1. readMarks s (k - 1) st1) s (sign .0) y (afterOf 8 (y .token .kind))) (sym (next-begin mv))
+          ∙ ap (marksAfter (λ st1. readMarks s (k - 1) st1) s (sign .0) (begin (after .token))) e
 
-      pub marks-wrong : (r : Parsed) → (after .token .kind ≡ 9 → ⊥) → (after .token .kind ≡ 8 → ⊥) → Refused after (wrongNumber (after .token .kind)) r → MarksGive s st k r (readMarks s k st)
+      pub marks-wrong : (r : Parsed) → (after .token .kind ≡ 9 → ⊥) → (after .token .kind ≡ 8 → ⊥) → Refused after (wrongNumber (after .token .kind)) r → MarksGive s st k r (readMarks s k (begin (st .token)))
       unfolding marksAfter
       marks-wrong r f e g = subst⁻¹ (MarksGive s st k r) (behind neither (after-neither 8 (after .token .kind) f e)) (stopped-wrong after r g)
 
-      pub marks-last : (past : State) → (after .token .kind ≡ 9 → ⊥) → after .token .kind ≡ 8 → Moved s after past → MarksGive s st k (record { number = 0; used = m; items = 1; state = past }) (readMarks s k st)
+      pub marks-last : (past : State) → (after .token .kind ≡ 9 → ⊥) → after .token .kind ≡ 8 → Moved s after past → MarksGive s st k (record { number = 0; used = m; items = 1; state = past }) (readMarks s k (begin (st .token)))
       unfolding marksAfter marksNumber
       marks-last past f e p =
           let four : 4 ^ k ≡ 4 * 4 ^ (k - 1) = four-more k nz in
@@ -123,10 +128,10 @@ module _ (s : List ℕ) (k : ℕ) (st : State) (m : ℕ) (em : m ≡ signNumber 
           let a : st .token .at + st .token .len ≤ after .token .at = mv .forward in
           let b : after .token .at + after .token .len ≤ past .token .at = p .forward in
           subst⁻¹ (MarksGive s st k (record { number = 0; used = m; items = 1; state = past })) (behind last (after-last 8 (after .token .kind) f e))
-          (subst (λ (y : State). Marked s st k (record { number = 0; used = m; items = 1; state = past }) (sign .0 ∷ []) y) (p .is)
+          (subst (λ (y : Cursor). Marked s st k (record { number = 0; used = m; items = 1; state = past }) (sign .0 ∷ []) y) (next-begin p)
           (record { number-is = refl; state-is = refl; items-is = refl; used-is = omega arith; few = omega (arith, nz); small = omega arith; standing = p .standing; forward = omega arith }))
 
-      module _ (past : State) (q : Parsed) (eight : k ≤ 8) (comma : after .token .kind ≡ 9) (p : Moved s after past) (h : MarksGive s past (k - 1) q (readMarks s (k - 1) past)) where
+      module _ (past : State) (q : Parsed) (eight : k ≤ 8) (comma : after .token .kind ≡ 9) (p : Moved s after past) (h : MarksGive s past (k - 1) q (readMarks s (k - 1) (begin (past .token)))) where
         marks-small-by : (d : Read (List Mark)) → MarksGive s past (k - 1) q d → q .number ≡ 0 → (q .used < 2 ^ 20) × (q .items < 2 ^ 20)
         marks-small-by (fault f b) g e = let x : q .number ≡ f = g .number-is in let y : 0 < f = g .some in absurd (omega arith)
         marks-small-by (ok ms end) g e =
@@ -138,7 +143,7 @@ module _ (s : List ℕ) (k : ℕ) (st : State) (m : ℕ) (em : m ≡ signNumber 
             (omega arith, omega arith)
 
         pub marks-small : q .number ≡ 0 → (q .used < 2 ^ 20) × (q .items < 2 ^ 20)
-        marks-small e = marks-small-by (readMarks s (k - 1) past) h e
+        marks-small e = marks-small-by (readMarks s (k - 1) (begin (past .token))) h e
 
         more-by : (d : Read (List Mark)) (r : Parsed) → MarksGive s past (k - 1) q d → (r .number ≡ q .number) × ((r .state ≡ q .state) × (q .number ≡ 0 → (r .used ≡ m + 4 * q .used) × (r .items ≡ q .items + 1))) → MarksGive s st k r (andThen d (λ ms end. ok (sign .0 ∷ ms) end))
         unfolding andThen marksNumber
@@ -156,21 +161,21 @@ module _ (s : List ℕ) (k : ℕ) (st : State) (m : ℕ) (em : m ≡ signNumber 
             let is : m ≡ markNumber (sign .0) = mark-is in
             let a : st .token .at + st .token .len ≤ after .token .at = mv .forward in
             let b : after .token .at + after .token .len ≤ past .token .at = p .forward in
-            let c : past .token .at ≤ end .token .at = g .forward in
+            let c : past .token .at ≤ q .state .token .at = g .forward in
             record {
               number-is = e .0 ∙ g .number-is;
-              state-is = e .1 .0 ∙ g .state-is;
+              state-is = ap (λ (y : State). begin (y .token)) (e .1 .0) ∙ g .state-is;
               items-is = omega arith;
               used-is = omega arith;
               few = omega (arith, nz);
               small = omega arith;
-              standing = g .standing;
-              forward = omega arith;
+              standing = subst⁻¹ (Standing s) (e .1 .0) (g .standing);
+              forward = subst⁻¹ (λ (y : State). st .token .at ≤ y .token .at) (e .1 .0) (omega arith);
             }
 
-        pub marks-more : (r : Parsed) → (r .number ≡ q .number) × ((r .state ≡ q .state) × (q .number ≡ 0 → (r .used ≡ m + 4 * q .used) × (r .items ≡ q .items + 1))) → MarksGive s st k r (readMarks s k st)
+        pub marks-more : (r : Parsed) → (r .number ≡ q .number) × ((r .state ≡ q .state) × (q .number ≡ 0 → (r .used ≡ m + 4 * q .used) × (r .items ≡ q .items + 1))) → MarksGive s st k r (readMarks s k (begin (st .token)))
         unfolding marksAfter
-        marks-more r e = subst⁻¹ (MarksGive s st k r) (behind more (after-more 8 (after .token .kind) comma) ∙ ap (λ (y : State). andThen (readMarks s (k - 1) y) (λ ms end. ok (sign .0 ∷ ms) end)) (sym (p .is))) (more-by (readMarks s (k - 1) past) r h e)
+        marks-more r e = subst⁻¹ (MarksGive s st k r) (behind more (after-more 8 (after .token .kind) comma) ∙ ap (λ (y : Cursor). andThen (readMarks s (k - 1) y) (λ ms end. ok (sign .0 ∷ ms) end)) (sym (next-begin p))) (more-by (readMarks s (k - 1) (begin (past .token))) r h e)
 
 -- ---- the marks behind a name, or none
 
@@ -178,19 +183,19 @@ some-by : (s : List ℕ) (st inner : State) (r : Parsed) (d : Read (List Mark)) 
 some-by s st inner r (fault f b) m g = g
 some-by s st inner r (ok ms after) m g =
     let a : st .token .at + st .token .len ≤ inner .token .at = m .forward in
-    let b : inner .token .at ≤ after .token .at = g .forward in
+    let b : inner .token .at ≤ r .state .token .at = g .forward in
     record { number-is = g .number-is; state-is = g .state-is; items-is = g .items-is; used-is = g .used-is; few = g .few; small = g .small; standing = g .standing; forward = omega arith }
 
-pub some-open : (s : List ℕ) (st inner : State) (r : Parsed) → st .token .kind ≡ 7 → Moved s st inner → MarksGive s inner 8 r (readMarks s 8 inner) → MarksGive s st 8 r (marksOf s st (eqb (st .token .kind) 7))
+pub some-open : (s : List ℕ) (st inner : State) (r : Parsed) → st .token .kind ≡ 7 → Moved s st inner → MarksGive s inner 8 r (readMarks s 8 (begin (inner .token))) → MarksGive s st 8 r (marksOf s (begin (st .token)) (eqb (st .token .kind) 7))
 unfolding marksOf
 some-open s st inner r e m g =
-    subst⁻¹ (λ (b : Bool). MarksGive s st 8 r (marksOf s st b)) (eq-eqb (st .token .kind) 7 e)
-    (subst (λ (y : State). MarksGive s st 8 r (readMarks s 8 y)) (m .is) (some-by s st inner r (readMarks s 8 inner) m g))
+    subst⁻¹ (λ (b : Bool). MarksGive s st 8 r (marksOf s (begin (st .token)) b)) (eq-eqb (st .token .kind) 7 e)
+    (subst (λ (y : Cursor). MarksGive s st 8 r (readMarks s 8 y)) (next-begin m) (some-by s st inner r (readMarks s 8 (begin (inner .token))) m g))
 
-pub some-none : (s : List ℕ) (st : State) → Standing s st → (st .token .kind ≡ 7 → ⊥) → MarksGive s st 8 (record { number = 0; used = 0; items = 0; state = st }) (marksOf s st (eqb (st .token .kind) 7))
+pub some-none : (s : List ℕ) (st : State) → Standing s st → (st .token .kind ≡ 7 → ⊥) → MarksGive s st 8 (record { number = 0; used = 0; items = 0; state = st }) (marksOf s (begin (st .token)) (eqb (st .token .kind) 7))
 unfolding marksOf marksNumber
 some-none s st h e =
-    subst⁻¹ (λ (b : Bool). MarksGive s st 8 (record { number = 0; used = 0; items = 0; state = st }) (marksOf s st b)) (ne-eqb (st .token .kind) 7 e)
+    subst⁻¹ (λ (b : Bool). MarksGive s st 8 (record { number = 0; used = 0; items = 0; state = st }) (marksOf s (begin (st .token)) b)) (ne-eqb (st .token .kind) 7 e)
     (record { number-is = refl; state-is = refl; items-is = refl; used-is = refl; few = lit≤ tt; small = lit≤ tt; standing = h; forward = omega arith })
 
 -- ---- declarations
@@ -204,45 +209,50 @@ four l n a b c d h =
     ∙ ap (λ (x : List ℕ). x ++ (d ∷ [])) (three l n a b c (omega arith))
     ∙ append-assoc (take n l) (a ∷ b ∷ c ∷ []) (d ∷ [])
 
+-- a token that cannot stand, or goes past a limit
+pub declaration-refused : (s : List ℕ) (from st : State) (entry : List ℕ) (n : ℕ) (r : Parsed) → Refused st (wrongNumber (st .token .kind)) r → DeclarationGives s from entry entry n r (wrong (begin (st .token)))
+unfolding wrong
+declaration-refused s from st entry n r f = record { number-is = f .number-is; some = wrong-positive (st .token .kind); byte-is = ap (λ (x : State). x .token .at) (f .state-is); kept = refl }
+
 module _ (s : List ℕ) (st : State) (entry : List ℕ) (n : ℕ) (stands : Standing s st) where
-  pub declared-wrong : (r : Parsed) → (st .token .kind ≡ 3 → ⊥) → Refused st (wrongNumber (st .token .kind)) r → Gives declarationWords one s st entry entry n r (declarationFrom s st (eqb (st .token .kind) 3))
+  pub declared-wrong : (r : Parsed) → (st .token .kind ≡ 3 → ⊥) → Refused st (wrongNumber (st .token .kind)) r → DeclarationGives s st entry entry n r (declarationFrom s (begin (st .token)) (eqb (st .token .kind) 3))
   unfolding declarationFrom
-  declared-wrong r e f = subst⁻¹ (λ (b : Bool). Gives declarationWords one s st entry entry n r (declarationFrom s st b)) (ne-eqb (st .token .kind) 3 e) (refused-wrong declarationWords one s st st entry entry n r f refl)
+  declared-wrong r e f = subst⁻¹ (λ (b : Bool). DeclarationGives s st entry entry n r (declarationFrom s (begin (st .token)) b)) (ne-eqb (st .token .kind) 3 e) (declaration-refused s st st entry n r f)
 
-  module _ (past : State) (r : Parsed) (name : st .token .kind ≡ 3) (m : Moved s st past) (g : MarksGive s past 8 r (marksOf s past (eqb (past .token .kind) 7))) where
-    abbrev ended : List Mark → State → Read Declaration
-    ended ms after = declarationEnd s (declarationOf s st ms) after (eqb (after .token .kind) 10)
+  module _ (past : State) (r : Parsed) (name : st .token .kind ≡ 3) (m : Moved s st past) (g : MarksGive s past 8 r (marksOf s (begin (past .token)) (eqb (past .token .kind) 7))) where
+    abbrev ended : List Mark → Cursor → Read Declaration
+    ended ms after = declarationEnd s (declarationOf s (begin (st .token)) ms) after (eqb (after .token .kind) 10)
 
-    whole : declarationFrom s st (eqb (st .token .kind) 3) ≡ andThen (marksOf s past (eqb (past .token .kind) 7)) ended
+    whole : declarationFrom s (begin (st .token)) (eqb (st .token .kind) 3) ≡ andThen (marksOf s (begin (past .token)) (eqb (past .token .kind) 7)) ended
     unfolding declarationFrom
-    whole = ap (declarationFrom s st) (eq-eqb (st .token .kind) 3 name) ∙ ap (λ (y : State). andThen (marksOf s y (eqb (y .token .kind) 7)) ended) (sym (m .is))
+    whole = ap (declarationFrom s (begin (st .token))) (eq-eqb (st .token .kind) 3 name) ∙ ap (λ (y : Cursor). andThen (marksOf s y (eqb (y .token .kind) 7)) ended) (sym (next-begin m))
 
-    fault-by : (d : Read (List Mark)) → MarksGive s past 8 r d → (r .number ≡ 0 → ⊥) → Gives declarationWords one s st entry entry n r (andThen d ended)
+    fault-by : (d : Read (List Mark)) → MarksGive s past 8 r d → (r .number ≡ 0 → ⊥) → DeclarationGives s st entry entry n r (andThen d ended)
     unfolding andThen
     fault-by (fault k b) h z = record { number-is = h .number-is; some = h .some; byte-is = h .byte-is; kept = refl }
     fault-by (ok ms after) h z = absurd (z (h .number-is))
 
-    pub declared-fault : (r .number ≡ 0 → ⊥) → Gives declarationWords one s st entry entry n r (declarationFrom s st (eqb (st .token .kind) 3))
-    declared-fault z = subst⁻¹ (Gives declarationWords one s st entry entry n r) whole (fault-by (marksOf s past (eqb (past .token .kind) 7)) g z)
+    pub declared-fault : (r .number ≡ 0 → ⊥) → DeclarationGives s st entry entry n r (declarationFrom s (begin (st .token)) (eqb (st .token .kind) 3))
+    declared-fault z = subst⁻¹ (DeclarationGives s st entry entry n r) whole (fault-by (marksOf s (begin (past .token)) (eqb (past .token .kind) 7)) g z)
 
     module _ (z : r .number ≡ 0) where
-      read-by : (d : Read (List Mark)) → MarksGive s past 8 r d → (ms : List Mark) × (d ≡ ok ms (r .state)) × Marked s past 8 r ms (r .state)
+      read-by : (d : Read (List Mark)) → MarksGive s past 8 r d → (ms : List Mark) × (d ≡ ok ms (begin (r .state .token))) × Marked s past 8 r ms (begin (r .state .token))
       read-by (fault k b) h = let x : r .number ≡ k = h .number-is in let y : 0 < k = h .some in absurd (omega arith)
       read-by (ok ms after) h = (ms, ap (ok ms) (sym (h .state-is)), subst⁻¹ (Marked s past 8 r ms) (h .state-is) h)
 
-      read : (ms : List Mark) × (marksOf s past (eqb (past .token .kind) 7) ≡ ok ms (r .state)) × Marked s past 8 r ms (r .state)
-      read = read-by (marksOf s past (eqb (past .token .kind) 7)) g
+      read : (ms : List Mark) × (marksOf s (begin (past .token)) (eqb (past .token .kind) 7) ≡ ok ms (begin (r .state .token))) × Marked s past 8 r ms (begin (r .state .token))
+      read = read-by (marksOf s (begin (past .token)) (eqb (past .token .kind) 7)) g
 
       pub declared-standing : Standing s (r .state)
       declared-standing = read .2 .standing
 
-      by-stop : (b : Bool) → eqb (r .state .token .kind) 10 ≡ b → declarationFrom s st (eqb (st .token .kind) 3) ≡ declarationEnd s (declarationOf s st (read .0)) (r .state) b
+      by-stop : (b : Bool) → eqb (r .state .token .kind) 10 ≡ b → declarationFrom s (begin (st .token)) (eqb (st .token .kind) 3) ≡ declarationEnd s (declarationOf s (begin (st .token)) (read .0)) (begin (r .state .token)) b
       unfolding andThen
-      by-stop b e = whole ∙ ap (λ (d : Read (List Mark)). andThen d ended) (read .1) ∙ ap (declarationEnd s (declarationOf s st (read .0)) (r .state)) e
+      by-stop b e = whole ∙ ap (λ (d : Read (List Mark)). andThen d ended) (read .1) ∙ ap (declarationEnd s (declarationOf s (begin (st .token)) (read .0)) (begin (r .state .token))) e
 
-      pub declared-stop : (q : Parsed) → (r .state .token .kind ≡ 10 → ⊥) → Refused (r .state) (wrongNumber (r .state .token .kind)) q → Gives declarationWords one s st entry entry n q (declarationFrom s st (eqb (st .token .kind) 3))
+      pub declared-stop : (q : Parsed) → (r .state .token .kind ≡ 10 → ⊥) → Refused (r .state) (wrongNumber (r .state .token .kind)) q → DeclarationGives s st entry entry n q (declarationFrom s (begin (st .token)) (eqb (st .token .kind) 3))
       unfolding declarationEnd
-      declared-stop q e f = subst⁻¹ (Gives declarationWords one s st entry entry n q) (by-stop false (ne-eqb (r .state .token .kind) 10 e)) (refused-wrong declarationWords one s st (r .state) entry entry n q f refl)
+      declared-stop q e f = subst⁻¹ (DeclarationGives s st entry entry n q) (by-stop false (ne-eqb (r .state .token .kind) 10 e)) (declaration-refused s st (r .state) entry n q f)
 
       pub declared-asked : n + 4 ≤ length entry → ((n + 3 ≤ length entry) × ((st .token .at < 2 ^ 32) × ((st .token .len < 2 ^ 32) × (r .items < 2 ^ 32)))) × (r .used < 2 ^ 32)
       declared-asked h =
@@ -254,7 +264,7 @@ module _ (s : List ℕ) (st : State) (entry : List ℕ) (n : ℕ) (stands : Stan
           let small : marksNumber (read .0) + 1 ≤ 4 ^ 8 = read .2 .small in
           ((omega arith, (omega arith, (omega arith, omega arith))), omega arith)
 
-      pub declared-end : (end : State) (mid exit : List ℕ) → n + 4 ≤ length entry → r .state .token .kind ≡ 10 → Moved s (r .state) end → mid ≡ set (set (set entry n (st .token .at)) (n + 1) (st .token .len)) (n + 2) (r .items) → exit ≡ set mid (n + 3) (r .used) → Gives declarationWords one s st entry exit n (record { number = 0; used = n + 4; items = 1; state = end }) (declarationFrom s st (eqb (st .token .kind) 3))
+      pub declared-end : (end : State) (mid exit : List ℕ) → n + 4 ≤ length entry → r .state .token .kind ≡ 10 → Moved s (r .state) end → mid ≡ set (set (set entry n (st .token .at)) (n + 1) (st .token .len)) (n + 2) (r .items) → exit ≡ set mid (n + 3) (r .used) → DeclarationGives s st entry exit n (record { number = 0; used = n + 4; items = 1; state = end }) (declarationFrom s (begin (st .token)) (eqb (st .token .kind) 3))
       unfolding declarationEnd declarationWords
       declared-end end mid exit h e p em ex =
           let a : 0 < st .token .len = stands .some (λ x. let e3 : st .token .kind ≡ 3 = name in omega arith) in
@@ -266,43 +276,40 @@ module _ (s : List ℕ) (st : State) (entry : List ℕ) (n : ℕ) (stands : Stan
           let lens : length (spelling s (st .token .at) (st .token .len)) ≡ st .token .len = length-spelling s (st .token .at) (st .token .len) (stands .inside) in
           let stored : exit ≡ set (set (set (set entry n (st .token .at)) (n + 1) (length (spelling s (st .token .at) (st .token .len)))) (n + 2) (length (read .0))) (n + 3) (marksNumber (read .0)) =
           ex ∙ ap₂ (λ (x : List ℕ) (u : ℕ). set x (n + 3) u) em (read .2 .used-is) ∙ ap₂ (λ (x i : ℕ). set (set (set (set entry n (st .token .at)) (n + 1) x) (n + 2) i) (n + 3) (marksNumber (read .0))) (sym lens) (read .2 .items-is) in
-          subst⁻¹ (Gives declarationWords one s st entry exit n (record { number = 0; used = n + 4; items = 1; state = end })) (by-stop true (eq-eqb (r .state .token .kind) 10 e))
-          (subst (λ (y : State). Given s st entry exit n (record { number = 0; used = n + 4; items = 1; state = end }) (declarationWords (declarationOf s st (read .0))) 1 y) (p .is)
+          subst⁻¹ (DeclarationGives s st entry exit n (record { number = 0; used = n + 4; items = 1; state = end })) (by-stop true (eq-eqb (r .state .token .kind) 10 e))
           (record {
             number-is = refl;
-            state-is = refl;
-            items-is = refl;
-            used-is = refl;
+            state-is = next-begin p;
             table-is = ap (take (n + 4)) stored ∙ four entry n (st .token .at) (length (spelling s (st .token .at) (st .token .len))) (length (read .0)) (marksNumber (read .0)) h;
             standing = p .standing;
-            room = omega arith;
-          }))
+            less = omega arith;
+          })
 
 -- a declaration from its :- on
 module _ (s : List ℕ) (st past : State) (entry : List ℕ) (n : ℕ) (m : Moved s st past) where
-  by-mode : (b : Bool) → isMode s past ≡ b → readDeclaration s st ≡ afterNeck s past b
+  by-mode : (b : Bool) → isMode s (begin (past .token)) ≡ b → readDeclaration s (begin (st .token)) ≡ afterNeck s (begin (past .token)) b
   unfolding readDeclaration
-  by-mode b e = ap (λ (y : State). afterNeck s y (isMode s y)) (sym (m .is)) ∙ ap (afterNeck s past) e
+  by-mode b e = ap (λ (y : Cursor). afterNeck s y (isMode s y)) (sym (next-begin m)) ∙ ap (afterNeck s (begin (past .token))) e
 
-  pub declaration-wrong : (r : Parsed) → (past .token .kind ≡ 3 → ⊥) → Refused past (wrongNumber (past .token .kind)) r → Gives declarationWords one s st entry entry n r (readDeclaration s st)
+  pub declaration-wrong : (r : Parsed) → (past .token .kind ≡ 3 → ⊥) → Refused past (wrongNumber (past .token .kind)) r → DeclarationGives s st entry entry n r (readDeclaration s (begin (st .token)))
   unfolding afterNeck isMode
-  declaration-wrong r e f = subst⁻¹ (Gives declarationWords one s st entry entry n r) (by-mode false (simp (ne-eqb (past .token .kind) 3 e))) (refused-wrong declarationWords one s st past entry entry n r f refl)
+  declaration-wrong r e f = subst⁻¹ (DeclarationGives s st entry entry n r) (by-mode false (simp (ne-eqb (past .token .kind) 3 e))) (declaration-refused s st past entry n r f)
 
   module _ (name : past .token .kind ≡ 3) (b : Bool) (eb : b ≡ sameName (spelling s (past .token .at) (past .token .len)) mode-name) where
-    pub declaration-other : (r : Parsed) → b ≡ false → Refused past (wrongNumber (past .token .kind)) r → Gives declarationWords one s st entry entry n r (readDeclaration s st)
+    pub declaration-other : (r : Parsed) → b ≡ false → Refused past (wrongNumber (past .token .kind)) r → DeclarationGives s st entry entry n r (readDeclaration s (begin (st .token)))
     unfolding afterNeck isMode
-    declaration-other r e f = subst⁻¹ (Gives declarationWords one s st entry entry n r) (by-mode false (simp (eq-eqb (past .token .kind) 3 name, sym eb ∙ e))) (refused-wrong declarationWords one s st past entry entry n r f refl)
+    declaration-other r e f = subst⁻¹ (DeclarationGives s st entry entry n r) (by-mode false (simp (eq-eqb (past .token .kind) 3 name, sym eb ∙ e))) (declaration-refused s st past entry n r f)
 
-    further : (behind : State) (exit : List ℕ) (r : Parsed) (d : Read Declaration) → Moved s past behind → Gives declarationWords one s behind entry exit n r d → Gives declarationWords one s st entry exit n r d
+    further : (behind : State) (exit : List ℕ) (r : Parsed) (d : Read Declaration) → Moved s past behind → DeclarationGives s behind entry exit n r d → DeclarationGives s st entry exit n r d
     further behind exit r (fault k x) p g = g
     further behind exit r (ok d after) p g =
         let f1 : st .token .at + st .token .len ≤ past .token .at = m .forward in
         let f2 : past .token .at + past .token .len ≤ behind .token .at = p .forward in
-        let room : length (declarationWords d) + 4 * (length s - after .token .at) + 1 ≤ 4 * (length s - behind .token .at) = g .room in
-        record { number-is = g .number-is; state-is = g .state-is; items-is = g .items-is; used-is = g .used-is; table-is = g .table-is; standing = g .standing; room = omega arith }
+        let less : left s (r .state) < left s behind = g .less in
+        record { number-is = g .number-is; state-is = g .state-is; table-is = g .table-is; standing = g .standing; less = omega arith }
 
-    pub declaration-mode : (behind : State) (exit : List ℕ) (r : Parsed) → b ≡ true → Moved s past behind → Gives declarationWords one s behind entry exit n r (declarationFrom s behind (eqb (behind .token .kind) 3)) → Gives declarationWords one s st entry exit n r (readDeclaration s st)
+    pub declaration-mode : (behind : State) (exit : List ℕ) (r : Parsed) → b ≡ true → Moved s past behind → DeclarationGives s behind entry exit n r (declarationFrom s (begin (behind .token)) (eqb (behind .token .kind) 3)) → DeclarationGives s st entry exit n r (readDeclaration s (begin (st .token)))
     unfolding afterNeck isMode
     declaration-mode behind exit r e p g =
-        subst⁻¹ (Gives declarationWords one s st entry exit n r) (by-mode true (simp (eq-eqb (past .token .kind) 3 name, sym eb ∙ e)) ∙ ap (λ (y : State). declarationFrom s y (eqb (y .token .kind) 3)) (sym (p .is)))
-        (further behind exit r (declarationFrom s behind (eqb (behind .token .kind) 3)) p g)
+        subst⁻¹ (DeclarationGives s st entry exit n r) (by-mode true (simp (eq-eqb (past .token .kind) 3 name, sym eb ∙ e)) ∙ ap (λ (y : Cursor). declarationFrom s y (eqb (y .token .kind) 3)) (sym (next-begin p)))
+        (further behind exit r (declarationFrom s (begin (behind .token)) (eqb (behind .token .kind) 3)) p g)

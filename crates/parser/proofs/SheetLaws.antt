@@ -4,32 +4,36 @@ use native.Mathlib.Omega.{arith}
 use mathlib.Core.Path.{_≡_, refl, sym, ap, ap₂, _∙_, subst, subst⁻¹}
 use mathlib.Core.Bool.{Bool, true, false, cond}
 use mathlib.Core.List.{List, [], _∷_, _++_, append-assoc, append-nil}
-use lib.ListN.{length, set, take, replicate, length-append}
+use lib.ListN.{length, set, take, length-append}
 use lib.Dec.{eqb, lit<}
 use borrow.Author.Tests.{eq-eqb, ne-eqb, eqb-false}
-use Rattle.syntax.specs.Tokens.{tokenAt}
+use Rattle.syntax.specs.Limits.{wordBytes, variables}
+use Rattle.syntax.specs.Spans.{namesFrom, met, Held}
+use Rattle.syntax.proofs.Spans.{held-none}
+use Rattle.syntax.specs.Tokens.{tokenAt, variableKind}
 use Rattle.syntax.specs.Terms.{Declaration, Clause, Sheet, Body, Goal}
-use Rattle.syntax.specs.Reading.{Read, fault, ok, andThen, next, wrong, wrongNumber, beyond, readDeclaration, readClause, withDeclaration, withClause, itemWith, itemOf, Item, noItem, aDeclaration, aClause, pastLimit, misplaced, readItems, readSheet, atStart, readBody, readGoal, goalEnd}
-use Rattle.syntax.specs.Words.{declarationWords, declarationsWords, clauseWords, clausesWords, bodyWords, bodyLength}
+use Rattle.syntax.specs.Reading.{Cursor, begin, fresh, Read, fault, ok, andThen, next, wrong, wrongNumber, beyond, readDeclaration, readClause, withDeclaration, withClause, itemWith, itemOf, Item, noItem, aDeclaration, aClause, pastLimit, misplaced, readItems, readSheet, atStart, readBody, readGoal, goalEnd}
+use Rattle.syntax.specs.Words.{nodeWords, declarationWords, declarationsWords, clauseWords, clausesWords, bodyWords, bodyLength}
 use Rattle.syntax.specs.declared.State.{State}
 use Rattle.syntax.specs.declared.Token.{Token}
-use Rattle.lexer.proofs.Laws.{token-inside, token-some}
-use Rattle.reading.specs.Gives.{Standing, Ready, Faulted, Given, Gives, Refused, one}
+use Rattle.lexer.proofs.Laws.{token-inside, token-some, token-word-short}
+use Rattle.reading.specs.Gives.{cursorOf, left, Standing, Ready, Faulted, Given, Gives, Refused, one}
 use Rattle.reading.specs.declared.Parsed.{Parsed}
 use Rattle.reading.proofs.Reading.{refused-beyond, wrong-positive}
 use Rattle.reading.proofs.Sequence.{seq-ok}
+use Rattle.parser.specs.Marks.{DeclarationGiven, DeclarationGives}
 use Rattle.parser.specs.Sheets.{declarationNext, clauseNext, before, Holds, Loading, LoadFault, LoadGiven, Loads, GoalLoads}
 use Rattle.parser.specs.declared.Loaded.{Loaded}
 
 -- ---- the first token
 
-pub started : (s : List ℕ) (t : Token) → length s ≤ 16384 → t ≡ tokenAt s 0 → (record { token = t; count = 0; first = replicate 32 0 } ≡ atStart s) × Standing s (record { token = t; count = 0; first = replicate 32 0 })
-unfolding atStart
+pub started : (s : List ℕ) (t : Token) → length s ≤ 16384 → t ≡ tokenAt s 0 → (_≡_ {A = State} (record { token = t; count = 0 }) (record { token = tokenAt s 0; count = 0 })) × Standing s (record { token = t; count = 0 })
 started s t h e = (
-  ap (λ (x : Token). record { token = x; count = 0; first = replicate 32 0 }) e,
+  ap (λ (x : Token). record { token = x; count = 0 }) e,
   record {
     inside = subst⁻¹ (λ (x : Token). x .at + x .len ≤ length s) e (token-inside s 0 (omega arith));
     some = subst⁻¹ (λ (x : Token). (x .kind ≡ 16 → ⊥) → 0 < x .len) e (token-some s 0);
+    brief = subst⁻¹ (λ (x : Token). x .kind ≡ variableKind → x .len ≤ wordBytes) e (λ k. token-word-short s 0 variableKind k tt);
     few = omega arith;
     short = h;
   },
@@ -38,21 +42,21 @@ started s t h e = (
 -- ---- one more, with so many left
 
 module _ (s : List ℕ) (st : State) (entry exit : List ℕ) (n : ℕ) (r : Parsed) where
-  pub declaration-full : (ds : ℕ) → ds ≡ 64 → Refused st 6 r → Gives declarationWords one s st entry entry n r (declarationNext s (64 - ds) st)
+  pub declaration-full : (ds : ℕ) → ds ≡ 64 → Refused st 6 r → DeclarationGives s st entry entry n r (declarationNext s (64 - ds) (begin (st .token)))
+  unfolding declarationNext beyond
+  declaration-full ds e f = subst⁻¹ (λ (b : Bool). DeclarationGives s st entry entry n r (elim b as (λ _. Read Declaration) [ true ↦ beyond (begin (st .token)) | false ↦ readDeclaration s (begin (st .token)) ])) (eq-eqb (64 - ds) 0 (omega arith)) (record { number-is = f .number-is; some = lit< tt; byte-is = ap (λ (x : State). x .token .at) (f .state-is); kept = refl })
+
+  pub declaration-one : (ds : ℕ) → ds ≤ 64 → (ds ≡ 64 → ⊥) → DeclarationGives s st entry exit n r (readDeclaration s (begin (st .token))) → DeclarationGives s st entry exit n r (declarationNext s (64 - ds) (begin (st .token)))
   unfolding declarationNext
-  declaration-full ds e f = subst⁻¹ (λ (b : Bool). Gives declarationWords one s st entry entry n r (elim b as (λ _. Read Declaration) [ true ↦ beyond st | false ↦ readDeclaration s st ])) (eq-eqb (64 - ds) 0 (omega arith)) (refused-beyond declarationWords one s st st entry entry n r f refl)
+  declaration-one ds m e g = subst⁻¹ (λ (b : Bool). DeclarationGives s st entry exit n r (elim b as (λ _. Read Declaration) [ true ↦ beyond (begin (st .token)) | false ↦ readDeclaration s (begin (st .token)) ])) (ne-eqb (64 - ds) 0 (λ z. e (omega arith))) g
 
-  pub declaration-one : (ds : ℕ) → ds ≤ 64 → (ds ≡ 64 → ⊥) → Gives declarationWords one s st entry exit n r (readDeclaration s st) → Gives declarationWords one s st entry exit n r (declarationNext s (64 - ds) st)
-  unfolding declarationNext
-  declaration-one ds m e g = subst⁻¹ (λ (b : Bool). Gives declarationWords one s st entry exit n r (elim b as (λ _. Read Declaration) [ true ↦ beyond st | false ↦ readDeclaration s st ])) (ne-eqb (64 - ds) 0 (λ z. e (omega arith))) g
-
-  pub clause-full : (cs : ℕ) → cs ≡ 256 → Refused st 6 r → Gives clauseWords one s st entry entry n r (clauseNext s (256 - cs) st)
+  pub clause-full : (cs : ℕ) → cs ≡ 256 → Refused st 6 r → Gives clauseWords one s st entry entry n r (clauseNext s (256 - cs) (begin (st .token)))
   unfolding clauseNext
-  clause-full cs e f = subst⁻¹ (λ (b : Bool). Gives clauseWords one s st entry entry n r (elim b as (λ _. Read Clause) [ true ↦ beyond st | false ↦ readClause s st ])) (eq-eqb (256 - cs) 0 (omega arith)) (refused-beyond clauseWords one s st st entry entry n r f refl)
+  clause-full cs e f = subst⁻¹ (λ (b : Bool). Gives clauseWords one s st entry entry n r (elim b as (λ _. Read Clause) [ true ↦ beyond (begin (st .token)) | false ↦ readClause s (begin (st .token)) ])) (eq-eqb (256 - cs) 0 (omega arith)) (refused-beyond clauseWords one s st st entry entry n r [] f refl)
 
-  pub clause-one : (cs : ℕ) → cs ≤ 256 → (cs ≡ 256 → ⊥) → Gives clauseWords one s st entry exit n r (readClause s st) → Gives clauseWords one s st entry exit n r (clauseNext s (256 - cs) st)
+  pub clause-one : (cs : ℕ) → cs ≤ 256 → (cs ≡ 256 → ⊥) → Gives clauseWords one s st entry exit n r (readClause s (begin (st .token))) → Gives clauseWords one s st entry exit n r (clauseNext s (256 - cs) (begin (st .token)))
   unfolding clauseNext
-  clause-one cs m e g = subst⁻¹ (λ (b : Bool). Gives clauseWords one s st entry exit n r (elim b as (λ _. Read Clause) [ true ↦ beyond st | false ↦ readClause s st ])) (ne-eqb (256 - cs) 0 (λ z. e (omega arith))) g
+  clause-one cs m e g = subst⁻¹ (λ (b : Bool). Gives clauseWords one s st entry exit n r (elim b as (λ _. Read Clause) [ true ↦ beyond (begin (st .token)) | false ↦ readClause s (begin (st .token)) ])) (ne-eqb (256 - cs) 0 (λ z. e (omega arith))) g
 
 below : {a most : ℕ} → (most - a ≡ 0 → ⊥) → a ≤ most → a < most
 below {a = a} {most = most} n m = omega (arith, n)
@@ -60,8 +64,8 @@ below {a = a} {most = most} n m = omega (arith, n)
 -- ---- items
 
 -- the definition, by what the token at hand begins
-module _ (s : List ℕ) (n ds cs : ℕ) (st : State) where
-  abbrev rest : ℕ → ℕ → State → Read Sheet
+module _ (s : List ℕ) (n ds cs : ℕ) (st : Cursor) where
+  abbrev rest : ℕ → ℕ → Cursor → Read Sheet
   rest ds1 cs1 st1 = readItems s n ds1 cs1 st1
 
   items-end : st .token .kind ≡ 16 → readItems s (suc n) ds cs st ≡ ok (record { declarations = []; clauses = [] }) st
@@ -81,12 +85,12 @@ module _ (s : List ℕ) (n ds cs : ℕ) (st : State) where
   unfolding readItems declarationNext
   items-declaration e f = ap (itemWith rest s ds cs st) (simp (ne-eqb (st .token .kind) 16 e, eq-eqb (st .token .kind) 6 f)) ∙ by-declaration (eqb ds 0)
 
-  by-clause : (b : Bool) → itemWith rest s ds cs st (cond b pastLimit aClause) ≡ andThen (elim b as (λ _. Read Clause) [ true ↦ beyond st | false ↦ readClause s st ]) (λ c after. andThen (rest ds (cs - 1) after) (λ sh end. ok (withClause c sh) end))
+  by-clause : (b : Bool) → itemWith rest s ds cs st (cond b pastLimit aClause) ≡ andThen (elim b as (λ _. Read Clause) [ true ↦ beyond st | false ↦ readClause s st ]) (λ c after. andThen (rest ds (cs - 1) (fresh after)) (λ sh end. ok (withClause c sh) end))
   unfolding itemWith andThen beyond
   by-clause true = refl
   by-clause false = refl
 
-  items-clause : (st .token .kind ≡ 16 → ⊥) → (st .token .kind ≡ 6 → ⊥) → st .token .kind ≡ 3 → readItems s (suc n) ds cs st ≡ andThen (clauseNext s cs st) (λ c after. andThen (rest ds (cs - 1) after) (λ sh end. ok (withClause c sh) end))
+  items-clause : (st .token .kind ≡ 16 → ⊥) → (st .token .kind ≡ 6 → ⊥) → st .token .kind ≡ 3 → readItems s (suc n) ds cs st ≡ andThen (clauseNext s cs st) (λ c after. andThen (rest ds (cs - 1) (fresh after)) (λ sh end. ok (withClause c sh) end))
   unfolding readItems clauseNext
   items-clause e f g = ap (itemWith rest s ds cs st) (simp (ne-eqb (st .token .kind) 16 e, ne-eqb (st .token .kind) 6 f, eq-eqb (st .token .kind) 3 g)) ∙ by-clause (eqb cs 0)
 
@@ -118,13 +122,13 @@ clauses-more (c ∷ cl) x = ap (λ (w : List ℕ). clauseWords c ++ w) (clauses-
 
 -- ---- the loop
 
-pub loading-start : (s declared table : List ℕ) (st : State) → length s ≤ 16384 → 65540 ≤ length table → st ≡ atStart s → Standing s st → Loading s declared table 0 0 0 st
-unfolding readSheet declarationsWords clausesWords
+pub loading-start : (s declared table : List ℕ) (st : State) → length s ≤ 16384 → 65540 ≤ length table → st ≡ record { token = tokenAt s 0; count = 0 } → Standing s st → Loading s declared table 0 0 0 st
+unfolding readSheet declarationsWords clausesWords atStart
 loading-start s declared table st short long e stands = record {
   dl = [];
   cl = [];
   holds = record { ds-is = refl; cs-is = refl; used-is = refl; declared-is = refl; table-is = refl };
-  whole = before-nothing (readItems s 321 64 256 (atStart s)) ∙ ap (λ (x : State). before [] [] (readItems s 321 64 256 x)) (sym e);
+  whole = before-nothing (readItems s 321 64 256 (atStart s)) ∙ ap (λ (x : State). before [] [] (readItems s 321 64 256 (begin (x .token)))) (sym e);
   ds-most = omega arith;
   cs-most = omega arith;
   standing = stands;
@@ -135,14 +139,14 @@ module _ (s declared table : List ℕ) (ds cs used : ℕ) (st : State) (l : Load
   more : 321 - (ds + cs) ≡ suc (321 - (ds + cs) - 1)
   more = let a : ds ≤ 64 = l .ds-most in let b : cs ≤ 256 = l .cs-most in omega arith
 
-  whole-suc : readSheet s ≡ before (l .dl) (l .cl) (readItems s (suc (321 - (ds + cs) - 1)) (64 - ds) (256 - cs) st)
-  whole-suc = l .whole ∙ ap (λ (k : ℕ). before (l .dl) (l .cl) (readItems s k (64 - ds) (256 - cs) st)) more
+  whole-suc : readSheet s ≡ before (l .dl) (l .cl) (readItems s (suc (321 - (ds + cs) - 1)) (64 - ds) (256 - cs) (begin (st .token)))
+  whole-suc = l .whole ∙ ap (λ (k : ℕ). before (l .dl) (l .cl) (readItems s k (64 - ds) (256 - cs) (begin (st .token)))) more
 
   pub loading-end : st .token .kind ≡ 16 → Loads declared table (record { number = 0; byte = 0; declarations = ds; clauses = cs; used = used }) (readSheet s)
   unfolding before
   loading-end e =
       subst⁻¹ (Loads declared table (record { number = 0; byte = 0; declarations = ds; clauses = cs; used = used }))
-      (whole-suc ∙ ap (before (l .dl) (l .cl)) (items-end s (321 - (ds + cs) - 1) (64 - ds) (256 - cs) st e) ∙ ap₂ (λ (a : List Declaration) (b : List Clause). ok (record { declarations = a; clauses = b }) st) (append-nil (l .dl)) (append-nil (l .cl)))
+      (whole-suc ∙ ap (before (l .dl) (l .cl)) (items-end s (321 - (ds + cs) - 1) (64 - ds) (256 - cs) (begin (st .token)) e) ∙ ap₂ (λ (a : List Declaration) (b : List Clause). ok (record { declarations = a; clauses = b }) (begin (st .token))) (append-nil (l .dl)) (append-nil (l .cl)))
       (record { number-is = refl; holds = l .holds; few = l .ds-most })
 
   -- a fault of the rest is the whole's
@@ -153,14 +157,14 @@ module _ (s declared table : List ℕ) (ds cs used : ℕ) (st : State) (l : Load
 
   pub loading-wrong : (r : Parsed) (q : Loaded) → (st .token .kind ≡ 16 → ⊥) → (st .token .kind ≡ 6 → ⊥) → (st .token .kind ≡ 3 → ⊥) → Refused st (wrongNumber (st .token .kind)) r → q ≡ record { number = r .number; byte = r .state .token .at; declarations = ds; clauses = cs; used = used } → Loads declared table q (readSheet s)
   unfolding before wrong
-  loading-wrong r q e f g h eq = halt (wrongNumber (st .token .kind)) (st .token .at) r q (whole-suc ∙ ap (before (l .dl) (l .cl)) (items-misplaced s (321 - (ds + cs) - 1) (64 - ds) (256 - cs) st e f g)) (h .number-is) (wrong-positive (st .token .kind)) (ap (λ (x : State). x .token .at) (h .state-is)) declared table (l .holds) eq
+  loading-wrong r q e f g h eq = halt (wrongNumber (st .token .kind)) (st .token .at) r q (whole-suc ∙ ap (before (l .dl) (l .cl)) (items-misplaced s (321 - (ds + cs) - 1) (64 - ds) (256 - cs) (begin (st .token)) e f g)) (h .number-is) (wrong-positive (st .token .kind)) (ap (λ (x : State). x .token .at) (h .state-is)) declared table (l .holds) eq
 
   -- ---- a declaration
-  module _ (e : st .token .kind ≡ 16 → ⊥) (f : st .token .kind ≡ 6) (declared2 : List ℕ) (r : Parsed) (g : Gives declarationWords one s st declared declared2 (4 * ds) r (declarationNext s (64 - ds) st)) where
-    at-declaration : readSheet s ≡ before (l .dl) (l .cl) (andThen (declarationNext s (64 - ds) st) (λ d after. andThen (readItems s (321 - (ds + cs) - 1) (64 - ds - 1) (256 - cs) after) (λ sh end. ok (withDeclaration d sh) end)))
-    at-declaration = whole-suc ∙ ap (before (l .dl) (l .cl)) (items-declaration s (321 - (ds + cs) - 1) (64 - ds) (256 - cs) st e f)
+  module _ (e : st .token .kind ≡ 16 → ⊥) (f : st .token .kind ≡ 6) (declared2 : List ℕ) (r : Parsed) (g : DeclarationGives s st declared declared2 (4 * ds) r (declarationNext s (64 - ds) (begin (st .token)))) where
+    at-declaration : readSheet s ≡ before (l .dl) (l .cl) (andThen (declarationNext s (64 - ds) (begin (st .token))) (λ d after. andThen (readItems s (321 - (ds + cs) - 1) (64 - ds - 1) (256 - cs) after) (λ sh end. ok (withDeclaration d sh) end)))
+    at-declaration = whole-suc ∙ ap (before (l .dl) (l .cl)) (items-declaration s (321 - (ds + cs) - 1) (64 - ds) (256 - cs) (begin (st .token)) e f)
 
-    declaration-fault-by : (d : Read Declaration) (q : Loaded) → Gives declarationWords one s st declared declared2 (4 * ds) r d → declarationNext s (64 - ds) st ≡ d → (r .number ≡ 0 → ⊥) → q ≡ record { number = r .number; byte = r .state .token .at; declarations = ds; clauses = cs; used = used } → Loads declared2 table q (readSheet s)
+    declaration-fault-by : (d : Read Declaration) (q : Loaded) → DeclarationGives s st declared declared2 (4 * ds) r d → declarationNext s (64 - ds) (begin (st .token)) ≡ d → (r .number ≡ 0 → ⊥) → q ≡ record { number = r .number; byte = r .state .token .at; declarations = ds; clauses = cs; used = used } → Loads declared2 table q (readSheet s)
     unfolding before andThen
     declaration-fault-by (fault k b) q h ed z eq =
         halt k b r q (at-declaration ∙ ap (λ (d : Read Declaration). before (l .dl) (l .cl) (andThen d (λ d after. andThen (readItems s (321 - (ds + cs) - 1) (64 - ds - 1) (256 - cs) after) (λ sh end. ok (withDeclaration d sh) end)))) ed) (h .number-is) (h .some) (h .byte-is) declared2 table
@@ -168,17 +172,17 @@ module _ (s declared table : List ℕ) (ds cs used : ℕ) (st : State) (l : Load
     declaration-fault-by (ok d after) q h ed z eq = absurd (z (h .number-is))
 
     pub loading-declaration-fault : (q : Loaded) → (r .number ≡ 0 → ⊥) → q ≡ record { number = r .number; byte = r .state .token .at; declarations = ds; clauses = cs; used = used } → Loads declared2 table q (readSheet s)
-    loading-declaration-fault q z eq = declaration-fault-by (declarationNext s (64 - ds) st) q g refl z eq
+    loading-declaration-fault q z eq = declaration-fault-by (declarationNext s (64 - ds) (begin (st .token))) q g refl z eq
 
     module _ (z : r .number ≡ 0) where
-      one-read : (d : Declaration) × (declarationNext s (64 - ds) st ≡ ok d (r .state)) × Given s st declared declared2 (4 * ds) r (declarationWords d) 1 (r .state)
-      one-read = seq-ok 1 declarationWords one s st declared declared2 (4 * ds) r (declarationNext s (64 - ds) st) g z
+      one-by : (d : Read Declaration) → DeclarationGives s st declared declared2 (4 * ds) r d → (x : Declaration) × (d ≡ ok x (begin (r .state .token))) × DeclarationGiven s st declared declared2 (4 * ds) r x (begin (r .state .token))
+      one-by (fault k b) h = let x : r .number ≡ k = h .number-is in let y : 0 < k = h .some in absurd (omega arith)
+      one-by (ok d after) h = (d, ap (ok d) (sym (h .state-is)), subst⁻¹ (DeclarationGiven s st declared declared2 (4 * ds) r d) (h .state-is) h)
 
-      four-words : (d : Declaration) → length (declarationWords d) ≡ 4
-      unfolding declarationWords
-      four-words d = refl
+      one-read : (d : Declaration) × (declarationNext s (64 - ds) (begin (st .token)) ≡ ok d (begin (r .state .token))) × DeclarationGiven s st declared declared2 (4 * ds) r d (begin (r .state .token))
+      one-read = one-by (declarationNext s (64 - ds) (begin (st .token))) g
 
-      fault-ok : (k b : ℕ) (d : Declaration) (x : State) → _≡_ {A = Read Declaration} (fault k b) (ok d x) → ⊥
+      fault-ok : (k b : ℕ) (d : Declaration) (x : Cursor) → _≡_ {A = Read Declaration} (fault k b) (ok d x) → ⊥
       fault-ok k b d x p = subst (λ (y : Read Declaration). elim y as (λ _. Type 0) [ fault k b ↦ Unit {0} | ok d x ↦ ⊥ ]) p tt
 
       some-left : ds < 64
@@ -186,22 +190,21 @@ module _ (s declared table : List ℕ) (ds cs used : ℕ) (st : State) (l : Load
       some-left = by (eqb (64 - ds) 0) refl
         where
           by : (b : Bool) → eqb (64 - ds) 0 ≡ b → ds < 64
-          by true q = absurd (fault-ok 6 (st .token .at) (one-read .0) (r .state) (sym (ap (λ (b : Bool). elim b as (λ _. Read Declaration) [ true ↦ beyond st | false ↦ readDeclaration s st ]) q) ∙ one-read .1))
+          by true q = absurd (fault-ok 6 (st .token .at) (one-read .0) (begin (r .state .token)) (sym (ap (λ (b : Bool). elim b as (λ _. Read Declaration) [ true ↦ beyond (begin (st .token)) | false ↦ readDeclaration s (begin (st .token)) ]) q) ∙ one-read .1))
           by false q = let n : 64 - ds ≡ 0 → ⊥ = eqb-false (64 - ds) 0 q in let m : ds ≤ 64 = l .ds-most in below n m
 
-      pub declaration-less : 4 * (length s - r .state .token .at) < 4 * (length s - st .token .at)
-      declaration-less = let room : length (declarationWords (one-read .0)) + 4 * (length s - r .state .token .at) + 1 ≤ 4 * (length s - st .token .at) = one-read .2 .room in omega arith
+      pub declaration-less : left s (r .state) < left s st
+      declaration-less = one-read .2 .less
 
       pub loading-declaration : Loading s declared2 table (ds + 1) cs used (r .state)
       unfolding andThen
       loading-declaration =
           let low : ds < 64 = some-left in
-          let d4 : length (declarationWords (one-read .0)) ≡ 4 = four-words (one-read .0) in
-          let k4 : 4 * (ds + 1) ≡ 4 * ds + length (declarationWords (one-read .0)) = omega arith in
+          let k4 : 4 * (ds + 1) ≡ 4 * ds + 4 = omega arith in
           let n1 : 321 - (ds + cs) - 1 ≡ 321 - ((ds + 1) + cs) = omega arith in
           let n2 : 64 - ds - 1 ≡ 64 - (ds + 1) = omega arith in
-          let room : length (declarationWords (one-read .0)) + 4 * (length s - r .state .token .at) + 1 ≤ 4 * (length s - st .token .at) = one-read .2 .room in
-          let room′ : used + 4 * (length s - st .token .at) + 4 ≤ length table = l .room in
+          let less : left s (r .state) < left s st = one-read .2 .less in
+          let room′ : used + nodeWords * left s st + 4 + variables ≤ length table = l .room in
           let ds-is : ds ≡ length (l .dl) = l .holds .ds-is in
           record {
             dl = l .dl ++ (one-read .0 ∷ []);
@@ -215,8 +218,8 @@ module _ (s declared table : List ℕ) (ds cs used : ℕ) (st : State) (l : Load
             };
             whole = at-declaration
                 ∙ ap (λ (d : Read Declaration). before (l .dl) (l .cl) (andThen d (λ d after. andThen (readItems s (321 - (ds + cs) - 1) (64 - ds - 1) (256 - cs) after) (λ sh end. ok (withDeclaration d sh) end)))) (one-read .1)
-                ∙ before-declaration (l .dl) (l .cl) (one-read .0) (readItems s (321 - (ds + cs) - 1) (64 - ds - 1) (256 - cs) (r .state))
-                ∙ ap₂ (λ (a b : ℕ). before (l .dl ++ (one-read .0 ∷ [])) (l .cl) (readItems s a b (256 - cs) (r .state))) n1 n2;
+                ∙ before-declaration (l .dl) (l .cl) (one-read .0) (readItems s (321 - (ds + cs) - 1) (64 - ds - 1) (256 - cs) (begin (r .state .token)))
+                ∙ ap₂ (λ (a b : ℕ). before (l .dl ++ (one-read .0 ∷ [])) (l .cl) (readItems s a b (256 - cs) (begin (r .state .token)))) n1 n2;
             ds-most = omega arith;
             cs-most = l .cs-most;
             standing = one-read .2 .standing;
@@ -224,28 +227,28 @@ module _ (s declared table : List ℕ) (ds cs used : ℕ) (st : State) (l : Load
           }
 
   -- ---- a clause
-  pub clause-ready : length table < 2 ^ 31 → (st .token .kind ≡ 16 → ⊥) → Ready s st table used 4
-  clause-ready small e = record { standing = l .standing; room = l .room; small = small }
+  pub clause-ready : length table < 2 ^ 31 → (st .token .kind ≡ 16 → ⊥) → Ready s (Rattle.reading.specs.Gives.fresh st) table used 4
+  clause-ready small e = record { standing = record { inside = l .standing .inside; some = l .standing .some; brief = l .standing .brief; few = omega arith; short = l .standing .short }; held = held-none s (met table); room = l .room; small = small }
 
-  module _ (e : st .token .kind ≡ 16 → ⊥) (f : st .token .kind ≡ 6 → ⊥) (c : st .token .kind ≡ 3) (table2 : List ℕ) (r : Parsed) (same : length table2 ≡ length table) (g : Gives clauseWords one s st table table2 used r (clauseNext s (256 - cs) st)) where
-    at-clause : readSheet s ≡ before (l .dl) (l .cl) (andThen (clauseNext s (256 - cs) st) (λ x after. andThen (readItems s (321 - (ds + cs) - 1) (64 - ds) (256 - cs - 1) after) (λ sh end. ok (withClause x sh) end)))
-    at-clause = whole-suc ∙ ap (before (l .dl) (l .cl)) (items-clause s (321 - (ds + cs) - 1) (64 - ds) (256 - cs) st e f c)
+  module _ (e : st .token .kind ≡ 16 → ⊥) (f : st .token .kind ≡ 6 → ⊥) (c : st .token .kind ≡ 3) (table2 : List ℕ) (r : Parsed) (same : length table2 ≡ length table) (g : Gives clauseWords one s st table table2 used r (clauseNext s (256 - cs) (begin (st .token)))) where
+    at-clause : readSheet s ≡ before (l .dl) (l .cl) (andThen (clauseNext s (256 - cs) (begin (st .token))) (λ x after. andThen (readItems s (321 - (ds + cs) - 1) (64 - ds) (256 - cs - 1) (fresh after)) (λ sh end. ok (withClause x sh) end)))
+    at-clause = whole-suc ∙ ap (before (l .dl) (l .cl)) (items-clause s (321 - (ds + cs) - 1) (64 - ds) (256 - cs) (begin (st .token)) e f c)
 
-    clause-fault-by : (d : Read Clause) (q : Loaded) → Gives clauseWords one s st table table2 used r d → clauseNext s (256 - cs) st ≡ d → (r .number ≡ 0 → ⊥) → q ≡ record { number = r .number; byte = r .state .token .at; declarations = ds; clauses = cs; used = used } → Loads declared table2 q (readSheet s)
+    clause-fault-by : (d : Read Clause) (q : Loaded) → Gives clauseWords one s st table table2 used r d → clauseNext s (256 - cs) (begin (st .token)) ≡ d → (r .number ≡ 0 → ⊥) → q ≡ record { number = r .number; byte = r .state .token .at; declarations = ds; clauses = cs; used = used } → Loads declared table2 q (readSheet s)
     unfolding before andThen
     clause-fault-by (fault k b) q h ed z eq =
-        halt k b r q (at-clause ∙ ap (λ (d : Read Clause). before (l .dl) (l .cl) (andThen d (λ x after. andThen (readItems s (321 - (ds + cs) - 1) (64 - ds) (256 - cs - 1) after) (λ sh end. ok (withClause x sh) end)))) ed) (h .number-is) (h .some) (h .byte-is) declared table2
+        halt k b r q (at-clause ∙ ap (λ (d : Read Clause). before (l .dl) (l .cl) (andThen d (λ x after. andThen (readItems s (321 - (ds + cs) - 1) (64 - ds) (256 - cs - 1) (fresh after)) (λ sh end. ok (withClause x sh) end)))) ed) (h .number-is) (h .some) (h .byte-is) declared table2
         (record { ds-is = l .holds .ds-is; cs-is = l .holds .cs-is; used-is = l .holds .used-is; declared-is = l .holds .declared-is; table-is = h .kept ∙ l .holds .table-is }) eq
     clause-fault-by (ok x after) q h ed z eq = absurd (z (h .number-is))
 
     pub loading-clause-fault : (q : Loaded) → (r .number ≡ 0 → ⊥) → q ≡ record { number = r .number; byte = r .state .token .at; declarations = ds; clauses = cs; used = used } → Loads declared table2 q (readSheet s)
-    loading-clause-fault q z eq = clause-fault-by (clauseNext s (256 - cs) st) q g refl z eq
+    loading-clause-fault q z eq = clause-fault-by (clauseNext s (256 - cs) (begin (st .token))) q g refl z eq
 
     module _ (z : r .number ≡ 0) where
-      clause-read : (x : Clause) × (clauseNext s (256 - cs) st ≡ ok x (r .state)) × Given s st table table2 used r (clauseWords x) 1 (r .state)
-      clause-read = seq-ok 1 clauseWords one s st table table2 used r (clauseNext s (256 - cs) st) g z
+      clause-read : (x : Clause) × (clauseNext s (256 - cs) (begin (st .token)) ≡ ok x (cursorOf s table2 (r .state))) × Given s st table table2 used r (clauseWords x) 1 (cursorOf s table2 (r .state))
+      clause-read = seq-ok 1 clauseWords one s st table table2 used r (clauseNext s (256 - cs) (begin (st .token))) g z
 
-      no-clause : (k b : ℕ) (x : Clause) (y : State) → _≡_ {A = Read Clause} (fault k b) (ok x y) → ⊥
+      no-clause : (k b : ℕ) (x : Clause) (y : Cursor) → _≡_ {A = Read Clause} (fault k b) (ok x y) → ⊥
       no-clause k b x y p = subst (λ (d : Read Clause). elim d as (λ _. Type 0) [ fault k b ↦ Unit {0} | ok x y ↦ ⊥ ]) p tt
 
       clause-left : cs < 256
@@ -253,11 +256,12 @@ module _ (s declared table : List ℕ) (ds cs used : ℕ) (st : State) (l : Load
       clause-left = by (eqb (256 - cs) 0) refl
         where
           by : (b : Bool) → eqb (256 - cs) 0 ≡ b → cs < 256
-          by true q = absurd (no-clause 6 (st .token .at) (clause-read .0) (r .state) (sym (ap (λ (b : Bool). elim b as (λ _. Read Clause) [ true ↦ beyond st | false ↦ readClause s st ]) q) ∙ clause-read .1))
+          by true q = absurd (no-clause 6 (st .token .at) (clause-read .0) (cursorOf s table2 (r .state)) (sym (ap (λ (b : Bool). elim b as (λ _. Read Clause) [ true ↦ beyond (begin (st .token)) | false ↦ readClause s (begin (st .token)) ]) q) ∙ clause-read .1))
           by false q = let n : 256 - cs ≡ 0 → ⊥ = eqb-false (256 - cs) 0 q in let m : cs ≤ 256 = l .cs-most in below n m
 
-      pub clause-less : 4 * (length s - r .state .token .at) < 4 * (length s - st .token .at)
-      clause-less = let room : length (clauseWords (clause-read .0)) + 4 * (length s - r .state .token .at) + 1 ≤ 4 * (length s - st .token .at) = clause-read .2 .room in omega arith
+      pub clause-less : left s (r .state) < left s st
+      unfolding clauseWords
+      clause-less = let room : length (clauseWords (clause-read .0)) + nodeWords * left s (r .state) + 1 ≤ nodeWords * left s st + 1 = clause-read .2 .room in omega arith
 
       pub loading-clause : Loading s declared table2 ds (cs + 1) (r .used) (r .state)
       unfolding andThen
@@ -266,8 +270,8 @@ module _ (s declared table : List ℕ) (ds cs used : ℕ) (st : State) (l : Load
           let ul : r .used ≡ used + length (clauseWords (clause-read .0)) = clause-read .2 .used-is in
           let n1 : 321 - (ds + cs) - 1 ≡ 321 - (ds + (cs + 1)) = omega arith in
           let n2 : 256 - cs - 1 ≡ 256 - (cs + 1) = omega arith in
-          let room : length (clauseWords (clause-read .0)) + 4 * (length s - r .state .token .at) + 1 ≤ 4 * (length s - st .token .at) = clause-read .2 .room in
-          let room′ : used + 4 * (length s - st .token .at) + 4 ≤ length table = l .room in
+          let room : length (clauseWords (clause-read .0)) + nodeWords * left s (r .state) + 1 ≤ nodeWords * left s st + 1 = clause-read .2 .room in
+          let room′ : used + nodeWords * left s st + 4 + variables ≤ length table = l .room in
           let cs-is : cs ≡ length (l .cl) = l .holds .cs-is in
           let words : clausesWords (l .cl ++ (clause-read .0 ∷ [])) ≡ clausesWords (l .cl) ++ clauseWords (clause-read .0) = clauses-more (l .cl) (clause-read .0) in
           let lw : length (clausesWords (l .cl) ++ clauseWords (clause-read .0)) ≡ length (clausesWords (l .cl)) + length (clauseWords (clause-read .0)) = length-append (clausesWords (l .cl)) (clauseWords (clause-read .0)) in
@@ -283,9 +287,9 @@ module _ (s declared table : List ℕ) (ds cs used : ℕ) (st : State) (l : Load
               table-is = ap (λ (k : ℕ). take k table2) ul ∙ clause-read .2 .table-is ∙ ap (λ (w : List ℕ). w ++ clauseWords (clause-read .0)) (l .holds .table-is) ∙ sym words;
             };
             whole = at-clause
-                ∙ ap (λ (d : Read Clause). before (l .dl) (l .cl) (andThen d (λ x after. andThen (readItems s (321 - (ds + cs) - 1) (64 - ds) (256 - cs - 1) after) (λ sh end. ok (withClause x sh) end)))) (clause-read .1)
-                ∙ before-clause (l .dl) (l .cl) (clause-read .0) (readItems s (321 - (ds + cs) - 1) (64 - ds) (256 - cs - 1) (r .state))
-                ∙ ap₂ (λ (a b : ℕ). before (l .dl) (l .cl ++ (clause-read .0 ∷ [])) (readItems s a (64 - ds) b (r .state))) n1 n2;
+                ∙ ap (λ (d : Read Clause). before (l .dl) (l .cl) (andThen d (λ x after. andThen (readItems s (321 - (ds + cs) - 1) (64 - ds) (256 - cs - 1) (fresh after)) (λ sh end. ok (withClause x sh) end)))) (clause-read .1)
+                ∙ before-clause (l .dl) (l .cl) (clause-read .0) (readItems s (321 - (ds + cs) - 1) (64 - ds) (256 - cs - 1) (begin (r .state .token)))
+                ∙ ap₂ (λ (a b : ℕ). before (l .dl) (l .cl ++ (clause-read .0 ∷ [])) (readItems s a (64 - ds) b (begin (r .state .token)))) n1 n2;
             ds-most = l .ds-most;
             cs-most = omega arith;
             standing = clause-read .2 .standing;
@@ -294,40 +298,40 @@ module _ (s declared table : List ℕ) (ds cs used : ℕ) (st : State) (l : Load
 
 -- ---- goals
 
-pub goal-ready : (s table : List ℕ) (st : State) → Standing s st → 4 * length s + 4 ≤ length table → length table < 2 ^ 31 → Ready s st table 0 1
-goal-ready s table st stands long small = record { standing = stands; room = omega arith; small = small }
+pub goal-ready : (s table : List ℕ) (st : State) → st ≡ record { token = tokenAt s 0; count = 0 } → Standing s st → nodeWords * length s + 1 + variables ≤ length table → length table < 2 ^ 31 → Ready s st table 0 1
+goal-ready s table st e stands long small = record { standing = stands; held = subst⁻¹ (λ (x : State). Held s (met table) (x .count)) e (held-none s (met table)); room = omega arith; small = small }
 
-module _ (s : List ℕ) (entry exit : List ℕ) (st : State) (is : st ≡ atStart s) (r : Parsed) (g : Gives bodyWords bodyLength s st entry exit 0 r (readBody s 16 st)) where
-  goal-whole : readGoal s ≡ andThen (readBody s 16 st) (λ b after. goalEnd s b after (eqb (after .token .kind) 16))
-  unfolding readGoal
-  goal-whole = ap (λ (x : State). andThen (readBody s 16 x) (λ b after. goalEnd s b after (eqb (after .token .kind) 16))) (sym is)
+module _ (s : List ℕ) (entry exit : List ℕ) (st : State) (is : st ≡ record { token = tokenAt s 0; count = 0 }) (r : Parsed) (g : Gives bodyWords bodyLength s st entry exit 0 r (readBody s 16 (cursorOf s entry st))) where
+  goal-whole : readGoal s ≡ andThen (readBody s 16 (cursorOf s entry st)) (λ b after. goalEnd s b after (eqb (after .token .kind) 16))
+  unfolding readGoal atStart namesFrom
+  goal-whole = ap (λ (x : State). andThen (readBody s 16 (cursorOf s entry x)) (λ b after. goalEnd s b after (eqb (after .token .kind) 16))) (sym is)
 
-  goal-fault-by : (d : Read Body) → Gives bodyWords bodyLength s st entry exit 0 r d → (r .number ≡ 0 → ⊥) → GoalLoads exit r (andThen d (λ b after. goalEnd s b after (eqb (after .token .kind) 16)))
+  goal-fault-by : (d : Read Body) → Gives bodyWords bodyLength s st entry exit 0 r d → (r .number ≡ 0 → ⊥) → GoalLoads s exit r (andThen d (λ b after. goalEnd s b after (eqb (after .token .kind) 16)))
   unfolding andThen
   goal-fault-by (fault k b) h z = record { number-is = h .number-is; some = h .some; byte-is = h .byte-is }
   goal-fault-by (ok b after) h z = absurd (z (h .number-is))
 
-  pub goal-fault : (r .number ≡ 0 → ⊥) → GoalLoads exit r (readGoal s)
-  goal-fault z = subst⁻¹ (GoalLoads exit r) goal-whole (goal-fault-by (readBody s 16 st) g z)
+  pub goal-fault : (r .number ≡ 0 → ⊥) → GoalLoads s exit r (readGoal s)
+  goal-fault z = subst⁻¹ (GoalLoads s exit r) goal-whole (goal-fault-by (readBody s 16 (cursorOf s entry st)) g z)
 
   module _ (z : r .number ≡ 0) where
-    goal-read : (b : Body) × (readBody s 16 st ≡ ok b (r .state)) × Given s st entry exit 0 r (bodyWords b) (bodyLength b) (r .state)
-    goal-read = seq-ok 1 bodyWords bodyLength s st entry exit 0 r (readBody s 16 st) g z
+    goal-read : (b : Body) × (readBody s 16 (cursorOf s entry st) ≡ ok b (cursorOf s exit (r .state))) × Given s st entry exit 0 r (bodyWords b) (bodyLength b) (cursorOf s exit (r .state))
+    goal-read = seq-ok 1 bodyWords bodyLength s st entry exit 0 r (readBody s 16 (cursorOf s entry st)) g z
 
-    goal-by : (b : Bool) → eqb (r .state .token .kind) 16 ≡ b → readGoal s ≡ goalEnd s (goal-read .0) (r .state) b
+    goal-by : (b : Bool) → eqb (r .state .token .kind) 16 ≡ b → readGoal s ≡ goalEnd s (goal-read .0) (cursorOf s exit (r .state)) b
     unfolding andThen
-    goal-by b e = goal-whole ∙ ap (λ (d : Read Body). andThen d (λ b after. goalEnd s b after (eqb (after .token .kind) 16))) (goal-read .1) ∙ ap (goalEnd s (goal-read .0) (r .state)) e
+    goal-by b e = goal-whole ∙ ap (λ (d : Read Body). andThen d (λ b after. goalEnd s b after (eqb (after .token .kind) 16))) (goal-read .1) ∙ ap (goalEnd s (goal-read .0) (cursorOf s exit (r .state))) e
 
-    pub goal-end : r .state .token .kind ≡ 16 → GoalLoads exit r (readGoal s)
+    pub goal-end : r .state .token .kind ≡ 16 → GoalLoads s exit r (readGoal s)
     unfolding goalEnd
     goal-end e =
         let u : r .used ≡ 0 + length (bodyWords (goal-read .0)) = goal-read .2 .used-is in
         let v : 0 + length (bodyWords (goal-read .0)) ≡ length (bodyWords (goal-read .0)) = omega arith in
-        subst⁻¹ (GoalLoads exit r) (goal-by true (eq-eqb (r .state .token .kind) 16 e))
-        (record { number-is = z; state-is = refl; items-is = goal-read .2 .items-is; used-is = u ∙ v; table-is = ap (λ (k : ℕ). take k exit) u ∙ goal-read .2 .table-is })
+        subst⁻¹ (GoalLoads s exit r) (goal-by true (eq-eqb (r .state .token .kind) 16 e))
+        (record { number-is = z; few = goal-read .2 .standing .few; held = goal-read .2 .held; names-are = refl; items-is = goal-read .2 .items-is; used-is = u ∙ v; table-is = ap (λ (k : ℕ). take k exit) u ∙ goal-read .2 .table-is })
 
-    pub goal-wrong : (q : Parsed) → (r .state .token .kind ≡ 16 → ⊥) → Refused (r .state) (wrongNumber (r .state .token .kind)) q → GoalLoads exit q (readGoal s)
+    pub goal-wrong : (q : Parsed) → (r .state .token .kind ≡ 16 → ⊥) → Refused (r .state) (wrongNumber (r .state .token .kind)) q → GoalLoads s exit q (readGoal s)
     unfolding goalEnd wrong
     goal-wrong q e f =
-        subst⁻¹ (GoalLoads exit q) (goal-by false (ne-eqb (r .state .token .kind) 16 e))
+        subst⁻¹ (GoalLoads s exit q) (goal-by false (ne-eqb (r .state .token .kind) 16 e))
         (record { number-is = f .number-is; some = wrong-positive (r .state .token .kind); byte-is = ap (λ (x : State). x .token .at) (f .state-is) })

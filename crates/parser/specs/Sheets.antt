@@ -5,9 +5,11 @@ use mathlib.Core.Bool.{Bool, true, false, cond}
 use mathlib.Core.List.{List, _++_}
 use lib.Dec.{eqb}
 use lib.ListN.{length, take}
+use Rattle.syntax.specs.Limits.{variables, declarations, clauses}
+use Rattle.syntax.specs.Spans.{namesFrom, met, Held}
 use Rattle.syntax.specs.Terms.{Declaration, Clause, Sheet, Goal}
-use Rattle.syntax.specs.Reading.{Read, fault, ok, beyond, readDeclaration, readClause, readItems, readSheet}
-use Rattle.syntax.specs.Words.{declarationsWords, clausesWords, bodyWords, bodyLength}
+use Rattle.syntax.specs.Reading.{Cursor, begin, Read, fault, ok, beyond, readDeclaration, readClause, readItems, readSheet}
+use Rattle.syntax.specs.Words.{nodeWords, declarationSize, declarationsWords, clausesWords, bodyWords, bodyLength}
 use Rattle.syntax.specs.declared.State.{State}
 use Rattle.reading.specs.Gives.{Standing, left}
 use Rattle.reading.specs.declared.Parsed.{Parsed}
@@ -15,10 +17,10 @@ use Rattle.parser.specs.Marks.{Stopped}
 use Rattle.parser.specs.declared.Loaded.{Loaded}
 
 -- one declaration or clause more, with so many left
-unfoldable pub declarationNext : List ℕ → ℕ → State → Read Declaration
+unfoldable pub declarationNext : List ℕ → ℕ → Cursor → Read Declaration
 declarationNext s more st = elim (eqb more 0) [ true ↦ beyond st | false ↦ readDeclaration s st ]
 
-unfoldable pub clauseNext : List ℕ → ℕ → State → Read Clause
+unfoldable pub clauseNext : List ℕ → ℕ → Cursor → Read Clause
 clauseNext s more st = elim (eqb more 0) [ true ↦ beyond st | false ↦ readClause s st ]
 
 -- items that were read before others
@@ -31,7 +33,7 @@ pub record Holds (declared table : List ℕ) (ds cs used : ℕ) (dl : List Decla
   pub ds-is : ds ≡ length dl
   pub cs-is : cs ≡ length cl
   pub used-is : used ≡ length (clausesWords cl)
-  pub declared-is : take (4 * ds) declared ≡ declarationsWords dl
+  pub declared-is : take (declarationSize * ds) declared ≡ declarationsWords dl
   pub table-is : take used table ≡ clausesWords cl
 
 -- Where the reading of a sheet stands: the tables hold what was read, and the whole is that and what is read from here on.
@@ -39,11 +41,11 @@ pub record Loading (s declared table : List ℕ) (ds cs used : ℕ) (st : State)
   pub dl : List Declaration
   pub cl : List Clause
   pub holds : Holds declared table ds cs used dl cl
-  pub whole : readSheet s ≡ before dl cl (readItems s (321 - (ds + cs)) (64 - ds) (256 - cs) st)
-  pub ds-most : ds ≤ 64
-  pub cs-most : cs ≤ 256
+  pub whole : readSheet s ≡ before dl cl (readItems s (declarations + clauses + 1 - (ds + cs)) (declarations - ds) (clauses - cs) (begin (st .token)))
+  pub ds-most : ds ≤ declarations
+  pub cs-most : cs ≤ clauses
   pub standing : Standing s st
-  pub room : used + 4 * left s st + 4 ≤ length table
+  pub room : used + nodeWords * left s st + 4 + variables ≤ length table
 
 -- On a fault: its number and byte, and the tables hold the items before it. Otherwise the tables hold the sheet.
 pub record LoadFault (declared table : List ℕ) (r : Loaded) (k b : ℕ) : Type 0 where
@@ -57,21 +59,23 @@ pub record LoadFault (declared table : List ℕ) (r : Loaded) (k b : ℕ) : Type
 pub record LoadGiven (declared table : List ℕ) (r : Loaded) (sh : Sheet) : Type 0 where
   pub number-is : r .number ≡ 0
   pub holds : Holds declared table (r .declarations) (r .clauses) (r .used) (sh .declarations) (sh .clauses)
-  pub few : r .declarations ≤ 64
+  pub few : r .declarations ≤ declarations
 
 abbrev pub Loads : List ℕ → List ℕ → Loaded → Read Sheet → Type 0
 Loads declared table r (fault k b) = LoadFault declared table r k b
 Loads declared table r (ok sh end) = LoadGiven declared table r sh
 
 -- On a fault of a goal: its number and byte; the table, written from its first word on, is left free, and its length stays. Otherwise it holds the goal's
--- literals, and the reader has its variables.
-pub record GoalGiven (table : List ℕ) (r : Parsed) (g : Goal) (end : State) : Type 0 where
+-- literals, and in its last words the spellings of its variables.
+pub record GoalGiven (s table : List ℕ) (r : Parsed) (g : Goal) : Type 0 where
   pub number-is : r .number ≡ 0
-  pub state-is : r .state ≡ end
   pub items-is : r .items ≡ bodyLength (g .body)
   pub used-is : r .used ≡ length (bodyWords (g .body))
   pub table-is : take (r .used) table ≡ bodyWords (g .body)
+  pub few : r .state .count ≤ variables
+  pub held : Held s (met table) (r .state .count)
+  pub names-are : g .names ≡ namesFrom s (met table) 0 (r .state .count)
 
-abbrev pub GoalLoads : List ℕ → Parsed → Read Goal → Type 0
-GoalLoads table r (fault k b) = Stopped r k b
-GoalLoads table r (ok g end) = GoalGiven table r g end
+abbrev pub GoalLoads : List ℕ → List ℕ → Parsed → Read Goal → Type 0
+GoalLoads s table r (fault k b) = Stopped r k b
+GoalLoads s table r (ok g end) = GoalGiven s table r g

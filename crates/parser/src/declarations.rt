@@ -1,4 +1,4 @@
-// Declarations into their table, four words each.
+// Declarations into their table.
 use reading::Parsed;
 use reading::cursor::is_mode;
 use reading::cursor::next;
@@ -6,12 +6,18 @@ use reading::cursor::put;
 use reading::cursor::put_node;
 use reading::cursor::refuse;
 use reading::cursor::wrong;
-use reading::terms::ARGUMENTS;
+use syntax::ARGUMENTS;
 use syntax::CLOSE;
 use syntax::COMMA;
+use syntax::DECLARATION_SIZE;
+use syntax::FREE;
+use syntax::INPUT;
+use syntax::MARK_NUMBERS;
 use syntax::MINUS;
 use syntax::NAME;
+use syntax::NODE_WORDS;
 use syntax::OPEN;
+use syntax::OUTPUT;
 use syntax::PLUS;
 use syntax::STAR;
 use syntax::STOP;
@@ -20,23 +26,25 @@ ghost use mathlib.Core.Path.{_≡_};
 ghost use Prim.Native.Nat.{_+_, _*_, _≤_, _<_, _^_};
 ghost use lib.ListN.{length};
 ghost use lib.Dec.{eqb};
-ghost use Rattle.syntax.specs.Reading.{signOf, readMarks, marksOf, declarationFrom, readDeclaration};
-ghost use Rattle.syntax.specs.Words.{declarationWords};
-ghost use Rattle.reading.specs.Gives.{Standing, Gives, one};
-ghost use Rattle.parser.specs.Marks.{signNumber, MarksGive};
+ghost use Rattle.syntax.specs.Limits.{arguments};
+ghost use Rattle.syntax.specs.Tokens.{nameKind, openKind};
+ghost use Rattle.syntax.specs.Words.{markNumbers, declarationSize};
+ghost use Rattle.syntax.specs.Reading.{begin, signOf, readMarks, marksOf, declarationFrom, readDeclaration};
+ghost use Rattle.reading.specs.Gives.{Standing};
+ghost use Rattle.parser.specs.Marks.{signNumber, MarksGive, DeclarationGives};
 
 // The number of a mark, 0 for none.
 fn mark_number(kind: usize) -> usize
     ensures { λ r. ⌜ r ≡ signNumber (signOf kind) ⌝ }
 {
     if kind == PLUS {
-        return 1;
+        return INPUT;
     }
     if kind == MINUS {
-        return 2;
+        return OUTPUT;
     }
     if kind == STAR {
-        return 3;
+        return FREE;
     }
     0
 }
@@ -44,8 +52,8 @@ fn mark_number(kind: usize) -> usize
 // A list of marks after its opening bracket, at most k: `used` is their number, the first mark lowest.
 fn read_marks(s: &[u8], k: usize, st: State) -> Parsed
     requires { ⌜ Standing (now s) st ⌝ }
-    requires { ⌜ k ≤ 8 ⌝ }
-    ensures { λ r. ⌜ MarksGive (now (s .entry)) st k r (readMarks (now (s .entry)) k st) ⌝ }
+    requires { ⌜ k ≤ arguments ⌝ }
+    ensures { λ r. ⌜ MarksGive (now (s .entry)) st k r (readMarks (now (s .entry)) k (begin (st .token))) ⌝ }
 {
     let t = st.token;
     let m = mark_number(t.kind);
@@ -79,13 +87,13 @@ fn read_marks(s: &[u8], k: usize, st: State) -> Parsed
 // The marks behind a comma, and the one before it.
 fn marked(m: usize, more: Parsed) -> Parsed
     requires { ⌜ (more .number ≡ 0 → (more .used < 2 ^ 20) × (more .items < 2 ^ 20)) ⌝ }
-    requires { ⌜ m < 4 ⌝ }
-    ensures { λ r. ⌜ (r .number ≡ more .number) × ((r .state ≡ more .state) × (more .number ≡ 0 → (r .used ≡ m + 4 * more .used) × (r .items ≡ more .items + 1))) ⌝ }
+    requires { ⌜ m < markNumbers ⌝ }
+    ensures { λ r. ⌜ (r .number ≡ more .number) × ((r .state ≡ more .state) × (more .number ≡ 0 → (r .used ≡ m + markNumbers * more .used) × (r .items ≡ more .items + 1))) ⌝ }
 {
     if more.number != 0 {
         return more;
     }
-    let used = m + 4 * more.used;
+    let used = m + MARK_NUMBERS * more.used;
     let items = more.items + 1;
     let state = more.state;
     Parsed {
@@ -99,7 +107,7 @@ fn marked(m: usize, more: Parsed) -> Parsed
 // The marks behind a declaration's name, or none.
 fn read_some_marks(s: &[u8], st: State) -> Parsed
     requires { ⌜ Standing (now s) st ⌝ }
-    ensures { λ r. ⌜ MarksGive (now (s .entry)) st 8 r (marksOf (now (s .entry)) st (eqb (st .token .kind) 7)) ⌝ }
+    ensures { λ r. ⌜ MarksGive (now (s .entry)) st arguments r (marksOf (now (s .entry)) (begin (st .token)) (eqb (st .token .kind) openKind)) ⌝ }
 {
     let t = st.token;
     let kind = t.kind;
@@ -118,8 +126,8 @@ fn read_some_marks(s: &[u8], st: State) -> Parsed
 // A declaration's name, marks and full stop.
 fn read_declared(s: &[u8], st: State, table: &mut [u32], n: usize) -> Parsed
     requires { ⌜ Standing (now s) st ⌝ }
-    requires { ⌜ n + 4 ≤ length (now table) ⌝ }
-    ensures { λ r. ⌜ Gives declarationWords one (now (s .entry)) st (now (table .entry)) (now (table .exit)) n r (declarationFrom (now (s .entry)) st (eqb (st .token .kind) 3)) ⌝ }
+    requires { ⌜ n + declarationSize ≤ length (now table) ⌝ }
+    ensures { λ r. ⌜ DeclarationGives (now (s .entry)) st (now (table .entry)) (now (table .exit)) n r (declarationFrom (now (s .entry)) (begin (st .token)) (eqb (st .token .kind) nameKind)) ⌝ }
 {
     let t = st.token;
     let kind = t.kind;
@@ -138,9 +146,9 @@ fn read_declared(s: &[u8], st: State, table: &mut [u32], n: usize) -> Parsed
     }
     let end = next(s, after);
     put_node(table, n, t.at, t.len, r.items);
-    let m = n + 3;
+    let m = n + NODE_WORDS;
     put(table, m, r.used);
-    let used = n + 4;
+    let used = n + DECLARATION_SIZE;
     Parsed {
         number: 0,
         used,
@@ -152,8 +160,8 @@ fn read_declared(s: &[u8], st: State, table: &mut [u32], n: usize) -> Parsed
 // A declaration, of which the :- is at hand.
 pub fn read_declaration(s: &[u8], st: State, table: &mut [u32], n: usize) -> Parsed
     requires { ⌜ Standing (now s) st ⌝ }
-    requires { ⌜ n + 4 ≤ length (now table) ⌝ }
-    ensures { λ r. ⌜ Gives declarationWords one (now (s .entry)) st (now (table .entry)) (now (table .exit)) n r (readDeclaration (now (s .entry)) st) ⌝ }
+    requires { ⌜ n + declarationSize ≤ length (now table) ⌝ }
+    ensures { λ r. ⌜ DeclarationGives (now (s .entry)) st (now (table .entry)) (now (table .exit)) n r (readDeclaration (now (s .entry)) (begin (st .token))) ⌝ }
 {
     let past = next(s, st);
     let t = past.token;

@@ -1,4 +1,3 @@
 pub mod Demand3
 pub mod RunLaws
-pub mod Starred
 pub mod Listings

@@ -5,7 +5,10 @@ use mathlib.Core.Path.{_≡_, refl, sym}
 use mathlib.Core.List.{List}
 use lib.ListN.{length, getD, replicate, length-replicate}
 use Rattle.syntax.specs.Terms.{Sheet, Goal}
+use Rattle.syntax.specs.Words.{goalWords}
+use Rattle.layout.specs.Regions.{nodesWords, codeWords, stateWords}
 use Rattle.layout.specs.Program.{Program}
+use Rattle.bindings.specs.Scratch.{Roomy}
 use Rattle.bindings.specs.Queues.{Clean}
 use Rattle.loader.specs.Loading.{Loadable, Loaded}
 use Rattle.linker.specs.Linking.{Linkable}
@@ -22,10 +25,10 @@ pub zeros : (n : ℕ) → Zeros n (replicate n 0)
 zeros n = record { long = sym (length-replicate n 0); zero-words = zero-at n }
 
 module _ {sheet table : List ℕ} {clauses : ℕ} {goal goals : List ℕ} {literals : ℕ} {names : List ℕ} {count : ℕ} (w : Programmed sheet table clauses goal goals literals names count) where
-  pub loads : {nodes symbols : List ℕ} → Zeros 46428 nodes → Zeros 46428 symbols → Loadable sheet table clauses goal goals literals nodes symbols
+  pub loads : {nodes symbols : List ℕ} → Zeros nodesWords nodes → Zeros nodesWords symbols → Loadable sheet table clauses goal goals literals nodes symbols
   loads {nodes} {symbols} z y =
-      let a : 46428 ≡ length nodes = z .long in
-      let b : 46428 ≡ length symbols = y .long in
+      let a : nodesWords ≡ length nodes = z .long in
+      let b : nodesWords ≡ length symbols = y .long in
       record {
         sh = w .sh;
         g = w .g;
@@ -45,16 +48,16 @@ module _ {sheet table : List ℕ} {clauses : ℕ} {goal goals : List ℕ} {liter
         symbols-short = omega arith;
       }
 
-  module _ {nodes0 symbols0 nodes symbols : List ℕ} (z : Zeros 46428 nodes0) (y : Zeros 46428 symbols0) (a : length nodes ≡ length nodes0) (k : (v : Loadable sheet table clauses goal goals literals nodes0 symbols0) → Loaded sheet goal (v .sh) (v .g) nodes symbols) where
+  module _ {nodes0 symbols0 nodes symbols : List ℕ} (z : Zeros nodesWords nodes0) (y : Zeros nodesWords symbols0) (a : length nodes ≡ length nodes0) (k : (v : Loadable sheet table clauses goal goals literals nodes0 symbols0) → Loaded sheet goal (v .sh) (v .g) nodes symbols) where
     loaded : Loaded sheet goal (w .sh) (w .g) nodes symbols
     unfolding loads
     loaded = k (loads z y)
 
-    pub links : {code0 : List ℕ} → Zeros 18504 code0 → Linkable table clauses goals literals nodes code0
+    pub links : {code0 : List ℕ} → Zeros codeWords code0 → Linkable table clauses goals literals nodes code0
     links {code0} x =
-        let b : 18504 ≡ length code0 = x .long in
-        let c : length goals ≤ 4100 = w .goals-short in
-        let d : 46428 ≡ length nodes0 = z .long in
+        let b : codeWords ≡ length code0 = x .long in
+        let c : length goals ≤ goalWords = w .goals-short in
+        let d : nodesWords ≡ length nodes0 = z .long in
         record {
           ss = loaded .ss;
           sh = w .sh;
@@ -75,7 +78,7 @@ module _ {sheet table : List ℕ} {clauses : ℕ} {goal goals : List ℕ} {liter
           code-short = omega arith;
         }
 
-    module _ {code0 code : List ℕ} (x : Zeros 18504 code0) (p : (v : Linkable table clauses goals literals nodes code0) → Program (v .ss) (v .sh) (v .g) nodes code) where
+    module _ {code0 code : List ℕ} (x : Zeros codeWords code0) (p : (v : Linkable table clauses goals literals nodes code0) → Program (v .ss) (v .sh) (v .g) nodes code) where
       program : Program (loaded .ss) (w .sh) (w .g) nodes code
       unfolding links
       program = p (links x)
@@ -88,10 +91,10 @@ module _ {sheet table : List ℕ} {clauses : ℕ} {goal goals : List ℕ} {liter
       program-runs q = q linked
 
 module _ {sheet goal names : List ℕ} {count : ℕ} {nodes code symbols : List ℕ} (w : Linked sheet goal names count nodes code symbols) where
-  pub runnable : {state scratch text : List ℕ} → Zeros 35328 state → Blank scratch (length text) → Runnable sheet goal names count nodes code symbols state scratch text
+  pub runnable : {state scratch text : List ℕ} → Zeros stateWords state → Blank scratch (length text) → Runnable sheet goal names count nodes code symbols state scratch text
   runnable {state} {scratch} {text} z y =
-      let a : 35328 ≡ length state = z .long in
-      let b : 393225 ≤ length scratch = y .roomy in
+      let a : stateWords ≡ length state = z .long in
+      let b : Roomy scratch = y .roomy in
       record {
         ss = w .ss;
         sh = w .sh;
@@ -103,6 +106,6 @@ module _ {sheet goal names : List ℕ} {count : ℕ} {nodes code symbols : List 
         lent = record { roomy = omega arith; clean = record { long = omega arith; zero = λ i l. y .zero-words i }; deep = y .tells };
       }
 
-  pub linked-runs : {state scratch text : List ℕ} {allowance wanted : ℕ} {old new : List ℕ} {r : Report} → Zeros 35328 state → Blank scratch (length text) → ((v : Runnable sheet goal names count nodes code symbols state scratch text) → Runs (v .sh) (v .g) allowance wanted old new r) → Runs (w .sh) (w .g) allowance wanted old new r
+  pub linked-runs : {state scratch text : List ℕ} {allowance wanted : ℕ} {old new : List ℕ} {r : Report} → Zeros stateWords state → Blank scratch (length text) → ((v : Runnable sheet goal names count nodes code symbols state scratch text) → Runs (v .sh) (v .g) allowance wanted old new r) → Runs (w .sh) (w .g) allowance wanted old new r
   unfolding runnable
   linked-runs z y k = k (runnable z y)

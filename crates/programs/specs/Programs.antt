@@ -4,14 +4,21 @@ use mathlib.Core.Path.{_≡_}
 use mathlib.Core.List.{List}
 use lib.ListN.{length, getD}
 use Rattle.syntax.specs.Terms.{Sheet, Goal}
-use Rattle.syntax.specs.Words.{bodyWords, bodyLength, clausesWords}
+use Rattle.syntax.specs.Limits.{sheetBytes, goalBytes}
+use Rattle.bindings.specs.Scratch.{Roomy}
+use Rattle.syntax.specs.Words.{sheetWords, goalWords, bodyWords, bodyLength, clausesWords}
 use Rattle.marking.specs.Standing.{BodyStands, ClausesStand}
-use Rattle.marking.specs.Tables.{Has}
+use Rattle.words.specs.Tables.{Has}
 use Rattle.layout.specs.Nodes.{Symbol}
 use Rattle.layout.specs.Limits.{SheetLimited, GoalLimited}
 use Rattle.layout.specs.Program.{Program}
-use Rattle.spelling.specs.Words.{Named, namesFrom}
+use Rattle.syntax.specs.Spans.{namesFrom}
+use Rattle.spelling.specs.Words.{Named}
 use Rattle.runs.specs.Running.{Spelt, Tellable}
+
+-- a text that is not long, for which less scratch is cleared
+abbrev pub shortText : ℕ
+shortText = 131072
 
 -- Words that are all zero, so many.
 pub record Zeros (k : ℕ) (words : List ℕ) : Type 0 where
@@ -20,7 +27,7 @@ pub record Zeros (k : ℕ) (words : List ℕ) : Type 0 where
 
 -- Words for unification and for answers in a text of so many bytes, all zero.
 pub record Blank (scratch : List ℕ) (room : ℕ) : Type 0 where
-  pub roomy : 393225 ≤ length scratch
+  pub roomy : Roomy scratch
   pub tells : Tellable scratch room
   pub zero-words : (i : ℕ) → getD scratch i 0 ≡ 0
 
@@ -38,10 +45,10 @@ pub record Programmed (sheet table : List ℕ) (clauses : ℕ) (goal goals : Lis
   pub goal-limits : GoalLimited g
   pub named : Named goal names count
   pub names-are : g .names ≡ namesFrom goal names 0 count
-  pub sheet-short : length sheet ≤ 16384
-  pub goal-short : length goal ≤ 1024
-  pub table-short : length table ≤ 65540
-  pub goals-short : length goals ≤ 4100
+  pub sheet-short : length sheet ≤ sheetBytes
+  pub goal-short : length goal ≤ goalBytes
+  pub table-short : length table ≤ sheetWords
+  pub goals-short : length goals ≤ goalWords
 
 -- loaded and linked
 pub record Linked (sheet goal names : List ℕ) (count : ℕ) (nodes code symbols : List ℕ) : Type 0 where

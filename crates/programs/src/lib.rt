@@ -1,46 +1,57 @@
 // A sheet and a goal as they were read into their tables: loaded, linked and run. The tables of a run are its own.
+use layout::CODE_WORDS;
+use layout::NARROW_WORDS;
+use layout::NODES_WORDS;
+use layout::SHORT_SHEET;
+use layout::STATE_WORDS;
+use layout::WIDE_WORDS;
 use linker::link;
 use loader::load_nodes;
 use runs::run;
 use syntax::Report;
-ghost use Prim.Native.Nat.{_≤_};
+ghost use Prim.Native.Nat.{_+_, _≤_};
 ghost use lib.ListN.{length};
+ghost use Rattle.syntax.specs.Limits.{sheetBytes, goalBytes};
+ghost use Rattle.layout.specs.Regions.{nodesWords, codeWords, stateWords, scratchFor, shortSheet};
 ghost use Rattle.runs.specs.Running.{Runs};
-ghost use Rattle.programs.specs.Programs.{Zeros, Blank, Programmed, Linked};
+ghost use Rattle.programs.specs.Programs.{shortText, Zeros, Blank, Programmed, Linked};
+
+// A text that is not long: the room for unification under a short sheet is enough for the brackets of its answers.
+const SHORT_TEXT: usize = 131072;
 
 // Room for the nodes of both texts, and as much for their symbols.
-fn node_words() -> [u32; 46428]
-    ensures { λ r. ⌜ Zeros 46428 r ⌝ }
+fn node_words() -> [u32; NODES_WORDS]
+    ensures { λ r. ⌜ Zeros nodesWords r ⌝ }
 {
-    [0; 46428]
+    [0; NODES_WORDS]
 }
 
 // Room for the records of clauses and literals.
-fn code_words() -> [u32; 18504]
-    ensures { λ r. ⌜ Zeros 18504 r ⌝ }
+fn code_words() -> [u32; CODE_WORDS]
+    ensures { λ r. ⌜ Zeros codeWords r ⌝ }
 {
-    [0; 18504]
+    [0; CODE_WORDS]
 }
 
 // Room for a run's state.
-fn state_words() -> [u32; 35328]
-    ensures { λ r. ⌜ Zeros 35328 r ⌝ }
+fn state_words() -> [u32; STATE_WORDS]
+    ensures { λ r. ⌜ Zeros stateWords r ⌝ }
 {
-    [0; 35328]
+    [0; STATE_WORDS]
 }
 
-// Room for unification under a sheet of at most 2,048 bytes: its memo has 617 rows, one for each five bytes of both texts and two.
-fn narrow_words() -> [u32; 394890]
-    ensures { λ r. ⌜ Zeros 394890 r ⌝ }
+// Room for unification under a short sheet.
+fn narrow_words() -> [u32; NARROW_WORDS]
+    ensures { λ r. ⌜ Zeros (scratchFor (shortSheet + goalBytes)) r ⌝ }
 {
-    [0; 394890]
+    [0; NARROW_WORDS]
 }
 
-// Room for unification under any sheet: 3,484 rows.
-fn wide_words() -> [u32; 761866]
-    ensures { λ r. ⌜ Zeros 761866 r ⌝ }
+// Room for unification under any sheet.
+fn wide_words() -> [u32; WIDE_WORDS]
+    ensures { λ r. ⌜ Zeros (scratchFor (sheetBytes + goalBytes)) r ⌝ }
 {
-    [0; 761866]
+    [0; WIDE_WORDS]
 }
 
 // A loaded and linked program run, with room for unification and for the open brackets of an answer.
@@ -77,7 +88,7 @@ fn run_over(
     )
 }
 
-// The run under a sheet of at most 2,048 bytes, with a text of at most 131,072.
+// The run under a short sheet, with a short text.
 fn run_narrow(
     sheet: &[u8],
     goal: &[u8],
@@ -90,7 +101,7 @@ fn run_narrow(
     allowance: usize,
     wanted: usize,
 ) -> Report
-    requires { ⌜ (Linked (now sheet) (now goal) (now names) count (now nodes) (now code) (now symbols)) × (length (now text) ≤ 131072) ⌝ }
+    requires { ⌜ (Linked (now sheet) (now goal) (now names) count (now nodes) (now code) (now symbols)) × (length (now text) ≤ shortText) ⌝ }
     ensures { λ r. ⌜ ((w : Linked (now (sheet .entry)) (now (goal .entry)) (now (names .entry)) count (now (nodes .entry)) (now (code .entry)) (now (symbols .entry))) → Runs (w .sh) (w .g) allowance wanted (now (text .entry)) (now (text .exit)) r) ⌝ }
 {
     let mut scratch = narrow_words();
@@ -157,7 +168,7 @@ fn run_linked(
     requires { ⌜ Linked (now sheet) (now goal) (now names) count (now nodes) (now code) (now symbols) ⌝ }
     ensures { λ r. ⌜ ((w : Linked (now (sheet .entry)) (now (goal .entry)) (now (names .entry)) count (now (nodes .entry)) (now (code .entry)) (now (symbols .entry))) → Runs (w .sh) (w .g) allowance wanted (now (text .entry)) (now (text .exit)) r) ⌝ }
 {
-    if 2048 < sheet.len() {
+    if SHORT_SHEET < sheet.len() {
         return run_wide(
             sheet,
             goal,
@@ -171,7 +182,7 @@ fn run_linked(
             wanted,
         );
     }
-    if 131072 < text.len() {
+    if SHORT_TEXT < text.len() {
         return run_wide(
             sheet,
             goal,

@@ -12,7 +12,8 @@ use lib.Dec.{eqb}
 use borrow.Author.Tests.{eq-eqb, ne-eqb}
 use Rattle.syntax.specs.Terms.{sameBytes, sameName}
 use Rattle.syntax.specs.Tokens.{spelling}
-use Rattle.syntax.specs.Reading.{wrongNumber, sameRun, sameSpan}
+use Rattle.syntax.specs.Reading.{wrongNumber}
+use Rattle.syntax.specs.Spans.{spanAt, spanLength, spanned, Inside}
 use Rattle.syntax.specs.declared.Token.{Token}
 
 -- ---- the number of a token that cannot stand
@@ -29,38 +30,7 @@ pub wrong-other : {r k : ℕ} → r ≡ 5 → (k ≡ 0 → ⊥) → (k ≡ 15 �
 unfolding wrongNumber
 wrong-other {r} {k} e z f = e ∙ rw (ne-eqb k 0 z, ne-eqb k 15 f)
 
--- ---- the same run of bytes
-
-sub-suc : (n i : ℕ) → i < n → n - i ≡ suc (n - (i + 1))
-sub-suc n i h = omega arith
-
-run-unfold : (s : List ℕ) (a b n i : ℕ) → i < n → sameRun s (a + i) (b + i) (n - i) ≡ (eqb (getD s (a + i) 0) (getD s (b + i) 0) && sameRun s (a + (i + 1)) (b + (i + 1)) (n - (i + 1)))
-unfolding sameRun
-run-unfold s a b n i h = rw (sub-suc n i h, add-one i, add-suc a i, add-suc b i)
-
-module _ (s : List ℕ) (a b n i : ℕ) (so-far : sameRun s (a + i) (b + i) (n - i) ≡ sameRun s a b n) where
-  module _ (x y : ℕ) (h : i < n) (ex : x ≡ getD s (a + i) 0) (ey : y ≡ getD s (b + i) 0) where
-    pub run-step : x ≡ y → sameRun s (a + (i + 1)) (b + (i + 1)) (n - (i + 1)) ≡ sameRun s a b n
-    run-step e = sym (run-unfold s a b n i h ∙ simp (eq-eqb (getD s (a + i) 0) (getD s (b + i) 0) (sym ex ∙ e ∙ ey))) ∙ so-far
-
-    pub run-stop : (x ≡ y → ⊥) → false ≡ sameRun s a b n
-    run-stop d = sym (run-unfold s a b n i h ∙ simp (ne-eqb (getD s (a + i) 0) (getD s (b + i) 0) (λ e. d (ex ∙ e ∙ sym ey)))) ∙ so-far
-
-  pub run-end : n ≤ i → true ≡ sameRun s a b n
-  unfolding sameRun
-  run-end h = (let z : n - i ≡ 0 = omega arith in rw z) ∙ so-far
-
-pub run-start : (s : List ℕ) (a b n : ℕ) → sameRun s (a + 0) (b + 0) (n - 0) ≡ sameRun s a b n
-run-start s a b n = let z : n - 0 ≡ n = omega arith in rw (z, add-zero a, add-zero b)
-
--- the same span, by the test of the lengths
-pub span-same : (s : List ℕ) (t : Token) (w : ℕ) (r : Bool) → w % 32 ≡ t .len → r ≡ sameRun s (w / 32) (t .at) (t .len) → r ≡ sameSpan s t w
-span-same s t w r e h = h ∙ simp (eq-eqb (w % 32) (t .len) e)
-
-pub span-other : (s : List ℕ) (t : Token) (w : ℕ) → (w % 32 ≡ t .len → ⊥) → false ≡ sameSpan s t w
-span-other s t w n = simp (ne-eqb (w % 32) (t .len) n)
-
--- ---- a name of four bytes
+-- ---- the same bytes
 
 false-and : (t u : Bool) → u ≡ false → (t && u) ≡ false
 false-and true u e = e
@@ -75,6 +45,16 @@ same-length (a ∷ q) (b ∷ r) h = false-and (eqb a b) (sameBytes q r) (same-le
 
 pub length-spelling : (s : List ℕ) (at len : ℕ) → at + len ≤ length s → length (spelling s at len) ≡ len
 length-spelling s at len h = simp (length-take, length-drop) (omega arith)
+
+-- the same part of a text, by the test of the lengths
+pub span-same : (s : List ℕ) (t : Token) (w a m : ℕ) (r : Bool) → a ≡ spanAt w → m ≡ spanLength w → m ≡ t .len → r ≡ sameBytes (take (t .len) (drop a s)) (take (t .len) (drop (t .at) s)) → r ≡ sameName (spanned s w) (spelling s (t .at) (t .len))
+span-same s t w a m r ea em e h = h ∙ ap₂ (λ (i n : ℕ). sameBytes (take n (drop i s)) (take (t .len) (drop (t .at) s))) ea (sym e ∙ em)
+
+pub span-other : (s : List ℕ) (t : Token) (w m : ℕ) → t .at + t .len ≤ length s → Inside s w → m ≡ spanLength w → (m ≡ t .len → ⊥) → false ≡ sameName (spanned s w) (spelling s (t .at) (t .len))
+span-other s t w m h inside em n =
+    sym (same-length (spanned s w) (spelling s (t .at) (t .len)) (λ e. n (em ∙ sym (length-spelling s (spanAt w) (spanLength w) inside) ∙ e ∙ length-spelling s (t .at) (t .len) h)))
+
+-- ---- a name of four bytes
 
 pub four-short : (s : List ℕ) (at len a b c d : ℕ) → at + len ≤ length s → (len ≡ 4 → ⊥) → sameName (spelling s at len) (a ∷ b ∷ c ∷ d ∷ []) ≡ false
 four-short s at len a b c d h n = same-length (spelling s at len) (a ∷ b ∷ c ∷ d ∷ []) (λ e. n (sym (length-spelling s at len h) ∙ e))

@@ -8,38 +8,62 @@ use mathlib.Core.Bool.{Bool, true, false, cond, _&&_}
 use mathlib.Core.List.{List, [], _∷_, _++_, append-assoc}
 use mathlib.Core.Option.{Option, none, some}
 use lib.ListN.{length, getD, set, take, drop, length-take, length-drop, length-set}
-use lib.Seq.{drop-cons, getD-take, take-suc-set, take-length, drop-length}
+use lib.Seq.{take-suc-set, take-set-le}
 use lib.Dec.{eqb, lit<}
 use borrow.Author.Tests.{eq-eqb, ne-eqb, lt-ltb, le-ltb}
-use Rattle.syntax.specs.Tokens.{tokenAt}
-use Rattle.syntax.specs.Reading.{Read, fault, ok, standing, next, numberOf, sameSpan, isAnonymous, withNew, newVariable, oldVariable, readVariable, wrong, wrongNumber, beyond}
-use Rattle.syntax.specs.Terms.{Term, Terms, Atom, variable, compound, nil, cons, arity, termOf}
+use Rattle.syntax.specs.Tokens.{tokenAt, spelling, variableKind, endKind}
+use Rattle.syntax.specs.Limits.{sheetBytes, wordBytes, lengths, variables}
+use Rattle.syntax.specs.Spans.{packed, spanned, Inside, namesFrom, met, Held}
+use Rattle.syntax.proofs.Spans.{packed-inside, packed-spelt, names-length, names-new, held-new, met-three, met-new, met-length}
+use Rattle.syntax.specs.Reading.{Cursor, Read, fault, ok, standing, next, numberOf, isAnonymous, withNew, newVariable, oldVariable, readVariable, wrong, wrongNumber, beyond}
+use Rattle.syntax.specs.Terms.{Term, Terms, Atom, variable, compound, nil, cons, arity, termOf, sameName}
 use Rattle.syntax.specs.declared.Token.{Token}
 use Rattle.syntax.specs.declared.State.{State}
-use Rattle.reading.specs.Gives.{Standing, Moved, FoundAs, MetAs, Ready, Faulted, Given, Gives, GivesWith, left, one, Refused, fullNumber}
-use Rattle.syntax.specs.Words.{termWords, termsWords, atomWords}
+use Rattle.reading.specs.Gives.{cursorOf, onward, found, Standing, Moved, FoundAs, MetAs, Ready, Faulted, Given, Gives, GivesWith, left, one, Refused, fullNumber}
+use Rattle.syntax.specs.Words.{nodeWords, termWords, termsWords, atomWords}
 use Rattle.reading.specs.declared.Parsed.{Parsed}
-use Rattle.lexer.proofs.Laws.{token-inside, token-at-from, token-some}
+use Rattle.lexer.proofs.Laws.{token-inside, token-at-from, token-some, token-word-short}
 
 -- ---- the reader past a token
 
-pub moved : (s : List ℕ) (st : State) (t : Token) → Standing s st → t ≡ tokenAt s (st .token .at + st .token .len) → Moved s st (record { token = t; count = st .count; first = st .first })
-unfolding next standing
+pub moved : (s : List ℕ) (st : State) (t : Token) → Standing s st → t ≡ tokenAt s (st .token .at + st .token .len) → Moved s st (record { token = t; count = st .count })
 moved s st t h e = record {
-  is = ap (λ (u : Token). record { token = u; count = st .count; first = st .first }) e;
+  is = ap (λ (u : Token). record { token = u; count = st .count }) e;
   standing = record {
     inside = subst⁻¹ (λ (u : Token). u .at + u .len ≤ length s) e (token-inside s (st .token .at + st .token .len) (h .inside));
-    some = subst⁻¹ (λ (u : Token). (u .kind ≡ 16 → ⊥) → 0 < u .len) e (token-some s (st .token .at + st .token .len));
+    some = subst⁻¹ (λ (u : Token). (u .kind ≡ endKind → ⊥) → 0 < u .len) e (token-some s (st .token .at + st .token .len));
+    brief = subst⁻¹ (λ (u : Token). u .kind ≡ variableKind → u .len ≤ wordBytes) e (λ k. token-word-short s (st .token .at + st .token .len) variableKind k tt);
     few = h .few;
     short = h .short;
   };
   forward = subst⁻¹ (λ (u : Token). st .token .at + st .token .len ≤ u .at) e (token-at-from s (st .token .at + st .token .len));
 }
 
--- the same of the definition's own reader
-pub moved-next : (s : List ℕ) (st : State) → Standing s st → Moved s st (next s st)
-moved-next s st h = let m : Moved s st (record { token = tokenAt s (st .token .at + st .token .len); count = st .count; first = st .first }) = moved s st (tokenAt s (st .token .at + st .token .len)) h refl in
-    subst (Moved s st) (m .is) m
+-- the same of the state past the token
+pub moved-onward : (s : List ℕ) (st : State) → Standing s st → Moved s st (onward s st)
+moved-onward s st h = moved s st (tokenAt s (st .token .at + st .token .len)) h refl
+
+-- the reader that it stands for
+pub next-of : {s : List ℕ} {st r : State} (table : List ℕ) → Moved s st r → cursorOf s table r ≡ next s (cursorOf s table st)
+unfolding next standing
+next-of {s} table m = ap (cursorOf s table) (m .is)
+
+-- the words of the variables met stay where a state has moved, and where only words before them were stored
+pub held-of : {s : List ℕ} {st r : State} {words : List ℕ} → Moved s st r → Held s words (st .count) → Held s words (r .count)
+held-of {s} {st} {r} {words} m h = subst⁻¹ (λ (x : State). Held s words (x .count)) (m .is) h
+
+pub cursor-kept : (s entry exit : List ℕ) (st : State) → met exit ≡ met entry → cursorOf s exit st ≡ cursorOf s entry st
+cursor-kept s entry exit st e = ap (λ (m : List ℕ). record { token = st .token; names = namesFrom s m 0 (st .count) }) e
+
+pub held-kept : {s a b : List ℕ} {k : ℕ} → b ≡ a → Held s a k → Held s b k
+held-kept {s} {k = k} e h = subst⁻¹ (λ (m : List ℕ). Held s m k) e h
+
+-- there is room past a token too
+pub past-ready : {s : List ℕ} {st past : State} {table : List ℕ} {n spare : ℕ} → Ready s st table n spare → Moved s st past → Ready s past table n spare
+past-ready {s} {st} {past} {table} {n} {spare} ready m =
+    let room : n + nodeWords * left s st + spare + variables ≤ length table = ready .room in
+    let forward : st .token .at + st .token .len ≤ past .token .at = m .forward in
+    record { standing = m .standing; held = held-of m (ready .held); room = omega arith; small = ready .small }
 
 -- ---- the number of a variable
 
@@ -51,30 +75,53 @@ pub anonymous-one : (s : List ℕ) (t : Token) (b : ℕ) → t .len ≡ 1 → b 
 unfolding isAnonymous
 anonymous-one s t b e eb = simp (eq-eqb (t .len) 1 e, ← eb)
 
-drop-past : (i : ℕ) (l : List ℕ) → length l ≤ i → drop i l ≡ []
-drop-past zero [] h = refl
-drop-past zero (x ∷ l) h = absurd (omega arith)
-drop-past (suc i) [] h = refl
-drop-past (suc i) (x ∷ l) h = drop-past i l (le-of-suc-le-suc h)
+-- a word of the last ones
+getD-drop : (k : ℕ) (l : List ℕ) (i : ℕ) → getD l (k + i) 0 ≡ getD (drop k l) i 0
+getD-drop zero l i = let e : 0 + i ≡ i = omega arith in ap (λ (j : ℕ). getD l j 0) e
+getD-drop (suc k) [] i = refl
+getD-drop (suc k) (x ∷ l) i = let e : suc k + i ≡ suc (k + i) = omega arith in ap (λ (j : ℕ). getD (x ∷ l) j 0) e ∙ getD-drop k l i
 
-module _ (s : List ℕ) (t : Token) (count : ℕ) (first : List ℕ) (i : ℕ) (h : i < count) (few : count ≤ 32) (long : length first ≡ 32) (w : ℕ) (ew : w ≡ getD first i 0) where
-  number-unfold : numberOf s t i (drop i (take count first)) ≡ numberOf s t i (w ∷ drop (i + 1) (take count first))
+-- the search for a variable, from number i on
+abbrev pub searched : List ℕ → Token → ℕ → List ℕ → ℕ → Option ℕ
+searched s t count table i = numberOf (spelling s (t .at) (t .len)) i (namesFrom s (met table) i (count - i))
+
+number-start : (s : List ℕ) (t : Token) (count : ℕ) (table : List ℕ) → numberOf (spelling s (t .at) (t .len)) 0 (namesFrom s (met table) 0 count) ≡ searched s t count table 0
+number-start s t count table = let z : count - 0 ≡ count = omega arith in ap (λ (k : ℕ). numberOf (spelling s (t .at) (t .len)) 0 (namesFrom s (met table) 0 k)) (sym z)
+
+module _ (s : List ℕ) (t : Token) (count : ℕ) (table : List ℕ) (from i w : ℕ) (h : i < count) (ef : from ≡ length table - variables) (ew : w ≡ getD table (from + i) 0) where
+  word-is : w ≡ getD (met table) i 0
+  word-is = ew ∙ ap (λ (k : ℕ). getD table (k + i) 0) ef ∙ getD-drop (length table - variables) table i
+
+  pub span-inside : Held s (met table) count → Inside s w
+  span-inside held = subst⁻¹ (Inside s) word-is (held .inside i h)
+
+  rest : List (List ℕ)
+  rest = namesFrom s (met table) (i + 1) (count - (i + 1))
+
+  by-same : Bool → Option ℕ
+  by-same u = elim u as (λ _. Option ℕ) [ true ↦ some i | false ↦ numberOf (spelling s (t .at) (t .len)) (suc i) rest ]
+
+  number-unfold : searched s t count table i ≡ by-same (sameName (spanned s w) (spelling s (t .at) (t .len)))
+  unfolding namesFrom numberOf by-same rest
   number-unfold =
-      ap (numberOf s t i)
-      (drop-cons (take count first) i 0 (simp length-take (omega arith)) ∙ ap₂ (λ (x n : ℕ). x ∷ drop n (take count first)) (getD-take count first i 0 h ∙ sym ew) (sym (add-one i)))
+      let k : count - i ≡ suc (count - (i + 1)) = omega arith in
+      ap (λ (j : ℕ). numberOf (spelling s (t .at) (t .len)) i (namesFrom s (met table) i j)) k
+      ∙ ap₂ (λ (x j : ℕ). numberOf (spelling s (t .at) (t .len)) i (spanned s x ∷ namesFrom s (met table) j (count - (i + 1)))) (sym word-is) (sym (add-one i))
 
-  module _ (b : Bool) (eb : b ≡ sameSpan s t w) (so-far : numberOf s t 0 (take count first) ≡ numberOf s t i (drop i (take count first))) where
-    pub number-found : b ≡ true → FoundAs (numberOf s t 0 (take count first)) count i
-    unfolding numberOf
-    number-found e = subst⁻¹ (λ (o : Option ℕ). FoundAs o count i) (so-far ∙ number-unfold ∙ ap (λ (u : Bool). elim u as (λ _. Option ℕ) [ true ↦ some i | false ↦ numberOf s t (suc i) (drop (i + 1) (take count first)) ]) (sym eb ∙ e)) (refl, h)
+  module _ (b : Bool) (eb : b ≡ sameName (spanned s w) (spelling s (t .at) (t .len))) (so-far : searched s t count table 0 ≡ searched s t count table i) where
+    pub number-found : b ≡ true → FoundAs (numberOf (spelling s (t .at) (t .len)) 0 (namesFrom s (met table) 0 count)) count i
+    unfolding by-same
+    number-found e = subst⁻¹ (λ (o : Option ℕ). FoundAs o count i) (number-start s t count table ∙ so-far ∙ number-unfold ∙ ap by-same (sym eb ∙ e)) (refl, h)
 
-    pub number-step : b ≡ false → numberOf s t 0 (take count first) ≡ numberOf s t (i + 1) (drop (i + 1) (take count first))
-    unfolding numberOf
-    number-step e = so-far ∙ number-unfold ∙ ap (λ (u : Bool). elim u as (λ _. Option ℕ) [ true ↦ some i | false ↦ numberOf s t (suc i) (drop (i + 1) (take count first)) ]) (sym eb ∙ e) ∙ ap (λ (n : ℕ). numberOf s t n (drop (i + 1) (take count first))) (sym (add-one i))
+    pub number-step : b ≡ false → searched s t count table 0 ≡ searched s t count table (i + 1)
+    unfolding by-same rest
+    number-step e = so-far ∙ number-unfold ∙ ap by-same (sym eb ∙ e) ∙ ap (λ (n : ℕ). numberOf (spelling s (t .at) (t .len)) n (namesFrom s (met table) (i + 1) (count - (i + 1)))) (sym (add-one i))
 
-pub number-none : (s : List ℕ) (t : Token) (count : ℕ) (first : List ℕ) (i : ℕ) → count ≤ i → numberOf s t 0 (take count first) ≡ numberOf s t i (drop i (take count first)) → FoundAs (numberOf s t 0 (take count first)) count count
-unfolding numberOf
-number-none s t count first i h so-far = subst⁻¹ (λ (o : Option ℕ). FoundAs o count count) (so-far ∙ ap (numberOf s t i) (drop-past i (take count first) (simp length-take (omega arith)))) refl
+pub number-none : (s : List ℕ) (t : Token) (count : ℕ) (table : List ℕ) (i : ℕ) → count ≤ i → searched s t count table 0 ≡ searched s t count table i → FoundAs (numberOf (spelling s (t .at) (t .len)) 0 (namesFrom s (met table) 0 count)) count count
+unfolding numberOf namesFrom
+number-none s t count table i h so-far =
+    let z : count - i ≡ 0 = omega arith in
+    subst⁻¹ (λ (o : Option ℕ). FoundAs o count count) (number-start s t count table ∙ so-far ∙ ap (λ (k : ℕ). numberOf (spelling s (t .at) (t .len)) i (namesFrom s (met table) i k)) z) refl
 
 -- ---- words
 
@@ -93,20 +140,22 @@ three l n a b c h =
     e2 : n + 2 ≡ suc (n + 1)
     e2 = omega arith
 
-pub leaf-given : (s : List ℕ) (st : State) (entry exit : List ℕ) (n what : ℕ) (after : State) → Ready s st entry n 0 → (st .token .kind ≡ 16 → ⊥) → exit ≡ set (set (set entry n what) (n + 1) 3) (n + 2) (st .token .at) → Moved s st after → Given s st entry exit n (record { number = 0; used = n + 3; items = 1; state = after }) (what ∷ 3 ∷ (st .token .at) ∷ []) 1 (next s st)
+pub leaf-given : (s : List ℕ) (st : State) (entry exit : List ℕ) (n what : ℕ) (after : State) → Ready s st entry n 0 → (st .token .kind ≡ 16 → ⊥) → exit ≡ set (set (set entry n what) (n + 1) 3) (n + 2) (st .token .at) → Moved s st after → Given s st entry exit n (record { number = 0; used = n + 3; items = 1; state = after }) (what ∷ 3 ∷ (st .token .at) ∷ []) 1 (next s (cursorOf s entry st))
 leaf-given s st entry exit n what after ready k e m =
     let some : 0 < st .token .len = ready .standing .some k in
     let inside : st .token .at + st .token .len ≤ length s = ready .standing .inside in
-    let room : n + 4 * (length s - st .token .at) + 0 ≤ length entry = ready .room in
+    let room : n + nodeWords * left s st + 0 + variables ≤ length entry = ready .room in
     let forward : st .token .at + st .token .len ≤ after .token .at = m .forward in
+    let kept : met exit ≡ met entry = ap met e ∙ met-three entry n what 3 (st .token .at) (omega arith) in
     record {
       number-is = refl;
-      state-is = m .is;
+      state-is = cursor-kept s entry exit after kept ∙ next-of entry m;
       items-is = refl;
       used-is = refl;
       table-is = ap (take (n + 3)) e ∙ three entry n what 3 (st .token .at) (omega arith);
-      standing = subst (Standing s) (m .is) (m .standing);
-      room = subst (λ (x : State). 3 + 4 * (length s - x .token .at) + 1 ≤ 4 * (length s - st .token .at)) (m .is) (omega arith);
+      standing = m .standing;
+      held = held-kept kept (held-of m (ready .held));
+      room = omega arith;
     }
 
 -- a token's node has room, and its place fits a word
@@ -115,14 +164,14 @@ node-room s st table n ready k =
     let some : 0 < st .token .len = ready .standing .some k in
     let inside : st .token .at + st .token .len ≤ length s = ready .standing .inside in
     let short : length s ≤ 16384 = ready .standing .short in
-    let room : n + 4 * (length s - st .token .at) + 0 ≤ length table = ready .room in
+    let room : n + nodeWords * left s st + 0 + variables ≤ length table = ready .room in
     omega arith
 
 -- ---- faults
 
-pub refused-beyond : {A : Type 0} (words : A → List ℕ) (items : A → ℕ) (s : List ℕ) (from st : State) (entry exit : List ℕ) (n : ℕ) (r : Parsed) → Refused st 6 r → take n exit ≡ take n entry → Gives words items s from entry exit n r (beyond st)
+pub refused-beyond : {A : Type 0} (words : A → List ℕ) (items : A → ℕ) (s : List ℕ) (from st : State) (entry exit : List ℕ) (n : ℕ) (r : Parsed) (names : List (List ℕ)) → Refused st 6 r → take n exit ≡ take n entry → Gives words items s from entry exit n r (beyond (record { token = st .token; names = names }))
 unfolding beyond
-refused-beyond words items s from st entry exit n r f k = record { number-is = f .number-is; some = lit< tt; byte-is = ap (λ (x : State). x .token .at) (f .state-is); kept = k }
+refused-beyond words items s from st entry exit n r names f k = record { number-is = f .number-is; some = lit< tt; byte-is = ap (λ (x : State). x .token .at) (f .state-is); kept = k }
 
 pub wrong-positive : (k : ℕ) → 0 < wrongNumber k
 unfolding wrongNumber
@@ -133,97 +182,135 @@ wrong-positive k = by-cases (eqb k 0) (eqb k 15)
     by-cases false true = lit< tt
     by-cases false false = lit< tt
 
-pub refused-wrong-with : {A : Type 0} (spare : ℕ) (words : A → List ℕ) (items : A → ℕ) (s : List ℕ) (from st : State) (entry exit : List ℕ) (n : ℕ) (r : Parsed) → Refused st (wrongNumber (st .token .kind)) r → take n exit ≡ take n entry → GivesWith spare words items s from entry exit n r (wrong st)
+pub refused-wrong-with : {A : Type 0} (spare : ℕ) (words : A → List ℕ) (items : A → ℕ) (s : List ℕ) (from st : State) (entry exit : List ℕ) (n : ℕ) (r : Parsed) (names : List (List ℕ)) → Refused st (wrongNumber (st .token .kind)) r → take n exit ≡ take n entry → GivesWith spare words items s from entry exit n r (wrong (record { token = st .token; names = names }))
 unfolding wrong
-refused-wrong-with spare words items s from st entry exit n r f k = record { number-is = f .number-is; some = wrong-positive (st .token .kind); byte-is = ap (λ (x : State). x .token .at) (f .state-is); kept = k }
+refused-wrong-with spare words items s from st entry exit n r names f k = record { number-is = f .number-is; some = wrong-positive (st .token .kind); byte-is = ap (λ (x : State). x .token .at) (f .state-is); kept = k }
 
-pub refused-wrong : {A : Type 0} (words : A → List ℕ) (items : A → ℕ) (s : List ℕ) (from st : State) (entry exit : List ℕ) (n : ℕ) (r : Parsed) → Refused st (wrongNumber (st .token .kind)) r → take n exit ≡ take n entry → Gives words items s from entry exit n r (wrong st)
-refused-wrong words items s from st entry exit n r f k = refused-wrong-with 1 words items s from st entry exit n r f k
+pub refused-wrong : {A : Type 0} (words : A → List ℕ) (items : A → ℕ) (s : List ℕ) (from st : State) (entry exit : List ℕ) (n : ℕ) (r : Parsed) (names : List (List ℕ)) → Refused st (wrongNumber (st .token .kind)) r → take n exit ≡ take n entry → Gives words items s from entry exit n r (wrong (record { token = st .token; names = names }))
+refused-wrong words items s from st entry exit n r names f k = refused-wrong-with 1 words items s from st entry exit n r names f k
 
 -- ---- variables
 
-new-ok : (s : List ℕ) (st : State) → st .count < 32 → newVariable s st ≡ ok (variable (st .count) (st .token .at)) (next s (withNew st))
+new-ok : (s : List ℕ) (c : Cursor) → length (c .names) < variables → newVariable s c ≡ ok (variable (length (c .names)) (c .token .at)) (next s (withNew s c))
 unfolding newVariable
-new-ok s st h = rw (lt-ltb (st .count) 32 h, newVariable)
+new-ok s c h = rw (lt-ltb (length (c .names)) variables h, newVariable)
 
-new-beyond : (s : List ℕ) (st : State) → 32 ≤ st .count → newVariable s st ≡ beyond st
+new-beyond : (s : List ℕ) (c : Cursor) → variables ≤ length (c .names) → newVariable s c ≡ beyond c
 unfolding newVariable
-new-beyond s st h = rw (le-ltb (st .count) 32 h, newVariable)
+new-beyond s c h = rw (le-ltb (length (c .names)) variables h, newVariable)
 
-not-end : {k : ℕ} → k ≡ 4 → k ≡ 16 → ⊥
+not-end : {k : ℕ} → k ≡ variableKind → k ≡ endKind → ⊥
 not-end e f = omega arith
 
-pub new-ready : (s : List ℕ) (st new : State) (table : List ℕ) (n : ℕ) → new ≡ withNew st → st .count < 32 → st .token .kind ≡ 4 → Ready s st table n 0 → Ready s new table n 0 × ((st .count < 2 ^ 32) × (new .token .kind ≡ 16 → ⊥))
-unfolding withNew
-new-ready s st new table n e h k ready = (
-  subst⁻¹ (λ (x : State). Ready s x table n 0) e (record {
-    standing = record { inside = ready .standing .inside; some = ready .standing .some; few = omega arith; short = ready .standing .short };
-    room = ready .room;
-    small = ready .small;
-  }),
-  (omega arith, subst⁻¹ (λ (x : State). x .token .kind ≡ 16 → ⊥) e (not-end k)),
-)
+pub new-stored : (table : List ℕ) (p w at len : ℕ) → w ≡ packed at len → set table p w ≡ set table p (packed at len)
+new-stored table p w at len e = ap (set table p) e
 
-pub leaf-ready : (s : List ℕ) (st : State) (table : List ℕ) (n v : ℕ) → Ready s st table n 0 → v < st .count → st .token .kind ≡ 4 → Ready s st table n 0 × ((v < 2 ^ 32) × (st .token .kind ≡ 16 → ⊥))
-leaf-ready s st table n v ready h k = let few : st .count ≤ 32 = ready .standing .few in (ready, (omega arith, not-end k))
+-- one variable more: the state and the table with its word
+module _ (s : List ℕ) (st new : State) (entry mid : List ℕ) (n : ℕ) (e : new ≡ record { token = st .token; count = st .count + 1 }) (em : mid ≡ set entry (length entry - variables + st .count) (packed (st .token .at) (st .token .len))) (h : st .count < variables) (k : st .token .kind ≡ variableKind) (ready : Ready s st entry n 0) where
+  long : length mid ≡ length entry
+  long = ap length em ∙ length-set entry (length entry - variables + st .count) (packed (st .token .at) (st .token .len))
 
-module _ (s : List ℕ) (st : State) (entry exit : List ℕ) (n : ℕ) (r : Parsed) where
-  pub new-given : (new : State) → new ≡ withNew st → st .count < 32 → Given s new entry exit n r ((st .count) ∷ 3 ∷ (new .token .at) ∷ []) 1 (next s new) → Gives termWords one s st entry exit n r (newVariable s st)
-  unfolding withNew termWords
-  new-given new e h g =
-      let g′ : Given s (withNew st) entry exit n r ((st .count) ∷ 3 ∷ (st .token .at) ∷ []) 1 (next s (withNew st)) =
-      subst (λ (x : State). Given s x entry exit n r ((st .count) ∷ 3 ∷ (x .token .at) ∷ []) 1 (next s x)) e g in
-      subst⁻¹ (Gives termWords one s st entry exit n r) (new-ok s st h)
+  table-room : n + nodeWords * left s st + 0 + variables ≤ length entry
+  table-room = ready .room
+
+  met-is : met mid ≡ set (met entry) (st .count) (packed (st .token .at) (st .token .len))
+  met-is = ap met em ∙ met-new entry (st .count) (packed (st .token .at) (st .token .len))
+
+  count-in : st .count < length (met entry)
+  count-in = let room : n + nodeWords * left s st + 0 + variables ≤ length entry = table-room in let l : length (met entry) ≡ variables = met-length entry (omega arith) in omega arith
+
+  pub new-ready : Ready s new mid n 0 × ((st .count < 2 ^ 32) × (new .token .kind ≡ endKind → ⊥))
+  new-ready =
+      let room : n + nodeWords * left s st + 0 + variables ≤ length entry = table-room in
+      let small : length entry < 2 ^ 31 = ready .small in
+      let l : length mid ≡ length entry = long in (
+        subst⁻¹ (λ (x : State). Ready s x mid n 0) e (record {
+          standing = record { inside = ready .standing .inside; some = ready .standing .some; brief = ready .standing .brief; few = omega arith; short = ready .standing .short };
+          held = subst⁻¹ (λ (m : List ℕ). Held s m (st .count + 1)) met-is (held-new s (met entry) (st .count) (packed (st .token .at) (st .token .len)) count-in (packed-inside s (st .token .at) (st .token .len) (ready .standing .inside)) (ready .held));
+          room = omega arith;
+          small = omega arith;
+        }),
+        (omega arith, subst⁻¹ (λ (x : State). x .token .kind ≡ endKind → ⊥) e (not-end k)),
+      )
+
+  cursor-new : cursorOf s mid new ≡ withNew s (cursorOf s entry st)
+  unfolding withNew
+  cursor-new =
+      let brief : st .token .len ≤ wordBytes = ready .standing .brief k in
+      ap (cursorOf s mid) e
+      ∙ ap (λ (l : List (List ℕ)). record { token = st .token; names = l })
+      (ap (λ (m : List ℕ). namesFrom s m 0 (st .count + 1)) met-is
+      ∙ names-new s (met entry) (st .count) (packed (st .token .at) (st .token .len)) count-in
+      ∙ ap (λ (x : List ℕ). namesFrom s (met entry) 0 (st .count) ++ (x ∷ [])) (packed-spelt s (st .token .at) (st .token .len) (omega arith)))
+
+  pub new-given : (exit : List ℕ) (r : Parsed) → Given s new mid exit n r ((st .count) ∷ 3 ∷ (new .token .at) ∷ []) 1 (next s (cursorOf s mid new)) → Gives termWords one s st entry exit n r (newVariable s (cursorOf s entry st))
+  unfolding termWords
+  new-given exit r g =
+      let room : n + nodeWords * left s st + 0 + variables ≤ length entry = table-room in
+      let c : Cursor = cursorOf s entry st in
+      let count : length (namesFrom s (met entry) 0 (st .count)) ≡ st .count = names-length s (met entry) 0 (st .count) in
+      let token : new .token ≡ st .token = ap (λ (x : State). x .token) e in
+      let words : (st .count) ∷ 3 ∷ (new .token .at) ∷ [] ≡ length (namesFrom s (met entry) 0 (st .count)) ∷ 3 ∷ (st .token .at) ∷ [] = ap₂ (λ (x : ℕ) (t : Token). x ∷ 3 ∷ (t .at) ∷ []) (sym count) token in
+      let front : take n mid ≡ take n entry = ap (take n) em ∙ take-set-le n entry (length entry - variables + st .count) (packed (st .token .at) (st .token .len)) (omega arith) in
+      let room′ : 3 + nodeWords * left s (r .state) + 1 ≤ nodeWords * (length s - st .token .at) + 1 = subst (λ (t : Token). 3 + nodeWords * left s (r .state) + 1 ≤ nodeWords * (length s - t .at) + 1) token (g .room) in
+      subst⁻¹ (Gives termWords one s st entry exit n r) (new-ok s (cursorOf s entry st) (omega arith))
       (record {
-        number-is = g′ .number-is;
-        state-is = g′ .state-is;
-        items-is = g′ .items-is;
-        used-is = g′ .used-is;
-        table-is = g′ .table-is;
-        standing = g′ .standing;
-        room = g′ .room;
+        number-is = g .number-is;
+        state-is = g .state-is ∙ ap (next s) cursor-new;
+        items-is = g .items-is;
+        used-is = g .used-is;
+        table-is = g .table-is ∙ ap₂ (λ (a b : List ℕ). a ++ b) front words;
+        standing = g .standing;
+        held = g .held;
+        room = room′;
       })
 
-  pub new-refused : 32 ≤ st .count → Refused st 6 r → Gives termWords one s st entry entry n r (newVariable s st)
-  new-refused h f = subst⁻¹ (Gives termWords one s st entry entry n r) (new-beyond s st h) (refused-beyond termWords one s st st entry entry n r f refl)
+pub leaf-ready : (s : List ℕ) (st : State) (table : List ℕ) (n v : ℕ) → Ready s st table n 0 → v < st .count → st .token .kind ≡ 4 → Ready s st table n 0 × ((v < 2 ^ 32) × (st .token .kind ≡ 16 → ⊥))
+leaf-ready s st table n v ready h k = let few : st .count ≤ variables = ready .standing .few in (ready, (omega arith, not-end k))
+
+module _ (s : List ℕ) (st : State) (entry exit : List ℕ) (n : ℕ) (r : Parsed) where
+  pub new-refused : variables ≤ st .count → Refused st 6 r → Gives termWords one s st entry entry n r (newVariable s (cursorOf s entry st))
+  new-refused h f =
+      let count : length (namesFrom s (met entry) 0 (st .count)) ≡ st .count = names-length s (met entry) 0 (st .count) in
+      subst⁻¹ (Gives termWords one s st entry entry n r) (new-beyond s (cursorOf s entry st) (omega arith)) (refused-beyond termWords one s st st entry entry n r (namesFrom s (met entry) 0 (st .count)) f refl)
 
   module _ (b : Bool) (eb : b ≡ isAnonymous s (st .token)) where
-    pub variable-anonymous : b ≡ true → Gives termWords one s st entry exit n r (newVariable s st) → Gives termWords one s st entry exit n r (readVariable s st)
+    pub variable-anonymous : b ≡ true → Gives termWords one s st entry exit n r (newVariable s (cursorOf s entry st)) → Gives termWords one s st entry exit n r (readVariable s (cursorOf s entry st))
     unfolding readVariable
-    variable-anonymous e g = subst (λ (u : Bool). Gives termWords one s st entry exit n r (elim u as (λ _. Read Term) [ true ↦ newVariable s st | false ↦ oldVariable s st (numberOf s (st .token) 0 (take (st .count) (st .first))) ])) (sym e ∙ eb) g
+    variable-anonymous e g = subst (λ (u : Bool). Gives termWords one s st entry exit n r (elim u as (λ _. Read Term) [ true ↦ newVariable s (cursorOf s entry st) | false ↦ oldVariable s (cursorOf s entry st) (found s entry st) ])) (sym e ∙ eb) g
 
-    named-old : b ≡ false → Gives termWords one s st entry exit n r (oldVariable s st (numberOf s (st .token) 0 (take (st .count) (st .first)))) → Gives termWords one s st entry exit n r (readVariable s st)
+    named-old : b ≡ false → Gives termWords one s st entry exit n r (oldVariable s (cursorOf s entry st) (found s entry st)) → Gives termWords one s st entry exit n r (readVariable s (cursorOf s entry st))
     unfolding readVariable
-    named-old e g = subst (λ (u : Bool). Gives termWords one s st entry exit n r (elim u as (λ _. Read Term) [ true ↦ newVariable s st | false ↦ oldVariable s st (numberOf s (st .token) 0 (take (st .count) (st .first))) ])) (sym e ∙ eb) g
+    named-old e g = subst (λ (u : Bool). Gives termWords one s st entry exit n r (elim u as (λ _. Read Term) [ true ↦ newVariable s (cursorOf s entry st) | false ↦ oldVariable s (cursorOf s entry st) (found s entry st) ])) (sym e ∙ eb) g
 
-    old-by : (o : Option ℕ) (v : ℕ) → FoundAs o (st .count) v → v < st .count → Given s st entry exit n r (v ∷ 3 ∷ (st .token .at) ∷ []) 1 (next s st) → Gives termWords one s st entry exit n r (oldVariable s st o)
+    old-by : (o : Option ℕ) (v : ℕ) → FoundAs o (st .count) v → v < st .count → Given s st entry exit n r (v ∷ 3 ∷ (st .token .at) ∷ []) 1 (next s (cursorOf s entry st)) → Gives termWords one s st entry exit n r (oldVariable s (cursorOf s entry st) o)
     unfolding oldVariable termWords
     old-by none v e h g = absurd (omega (arith, e))
-    old-by (some i) v e h g = subst (λ (x : ℕ). Given s st entry exit n r (x ∷ 3 ∷ (st .token .at) ∷ []) 1 (next s st)) (e .0) g
+    old-by (some i) v e h g = subst (λ (x : ℕ). Given s st entry exit n r (x ∷ 3 ∷ (st .token .at) ∷ []) 1 (next s (cursorOf s entry st))) (e .0) g
 
-    new-by : (o : Option ℕ) (v : ℕ) → FoundAs o (st .count) v → st .count ≤ v → Gives termWords one s st entry exit n r (newVariable s st) → Gives termWords one s st entry exit n r (oldVariable s st o)
+    new-by : (o : Option ℕ) (v : ℕ) → FoundAs o (st .count) v → st .count ≤ v → Gives termWords one s st entry exit n r (newVariable s (cursorOf s entry st)) → Gives termWords one s st entry exit n r (oldVariable s (cursorOf s entry st) o)
     unfolding oldVariable
     new-by none v e h g = g
     new-by (some i) v e h g = absurd (omega (arith, e .0, e .1))
 
-    pub variable-old : b ≡ false → (v : ℕ) → FoundAs (numberOf s (st .token) 0 (take (st .count) (st .first))) (st .count) v → v < st .count → Given s st entry exit n r (v ∷ 3 ∷ (st .token .at) ∷ []) 1 (next s st) → Gives termWords one s st entry exit n r (readVariable s st)
-    variable-old e v f h g = named-old e (old-by (numberOf s (st .token) 0 (take (st .count) (st .first))) v f h g)
+    pub variable-old : b ≡ false → (v : ℕ) → FoundAs (found s entry st) (st .count) v → v < st .count → Given s st entry exit n r (v ∷ 3 ∷ (st .token .at) ∷ []) 1 (next s (cursorOf s entry st)) → Gives termWords one s st entry exit n r (readVariable s (cursorOf s entry st))
+    variable-old e v f h g = named-old e (old-by (found s entry st) v f h g)
 
-    pub variable-new : b ≡ false → (v : ℕ) → FoundAs (numberOf s (st .token) 0 (take (st .count) (st .first))) (st .count) v → st .count ≤ v → Gives termWords one s st entry exit n r (newVariable s st) → Gives termWords one s st entry exit n r (readVariable s st)
-    variable-new e v f h g = named-old e (new-by (numberOf s (st .token) 0 (take (st .count) (st .first))) v f h g)
+    pub variable-new : b ≡ false → (v : ℕ) → FoundAs (found s entry st) (st .count) v → st .count ≤ v → Gives termWords one s st entry exit n r (newVariable s (cursorOf s entry st)) → Gives termWords one s st entry exit n r (readVariable s (cursorOf s entry st))
+    variable-new e v f h g = named-old e (new-by (found s entry st) v f h g)
 
-  module _ (v : ℕ) (f : MetAs (isAnonymous s (st .token)) (numberOf s (st .token) 0 (take (st .count) (st .first))) (st .count) v) where
-    pub variable-met : v < st .count → Given s st entry exit n r (v ∷ 3 ∷ (st .token .at) ∷ []) 1 (next s st) → Gives termWords one s st entry exit n r (readVariable s st)
+  module _ (v : ℕ) (f : MetAs (isAnonymous s (st .token)) (found s entry st) (st .count) v) where
+    pub variable-met : v < st .count → Given s st entry exit n r (v ∷ 3 ∷ (st .token .at) ∷ []) 1 (next s (cursorOf s entry st)) → Gives termWords one s st entry exit n r (readVariable s (cursorOf s entry st))
     variable-met h g = by (isAnonymous s (st .token)) refl f
       where
-        by : (b : Bool) → b ≡ isAnonymous s (st .token) → MetAs b (numberOf s (st .token) 0 (take (st .count) (st .first))) (st .count) v → Gives termWords one s st entry exit n r (readVariable s st)
+        by : (b : Bool) → b ≡ isAnonymous s (st .token) → MetAs b (found s entry st) (st .count) v → Gives termWords one s st entry exit n r (readVariable s (cursorOf s entry st))
         by true e k = absurd (omega (arith, k))
         by false e k = variable-old false e refl v k h g
 
-    pub variable-unmet : st .count ≤ v → Gives termWords one s st entry exit n r (newVariable s st) → Gives termWords one s st entry exit n r (readVariable s st)
+    pub variable-unmet : st .count ≤ v → Gives termWords one s st entry exit n r (newVariable s (cursorOf s entry st)) → Gives termWords one s st entry exit n r (readVariable s (cursorOf s entry st))
     variable-unmet h g = by (isAnonymous s (st .token)) refl f
       where
-        by : (b : Bool) → b ≡ isAnonymous s (st .token) → MetAs b (numberOf s (st .token) 0 (take (st .count) (st .first))) (st .count) v → Gives termWords one s st entry exit n r (readVariable s st)
+        by : (b : Bool) → b ≡ isAnonymous s (st .token) → MetAs b (found s entry st) (st .count) v → Gives termWords one s st entry exit n r (readVariable s (cursorOf s entry st))
         by true e k = variable-anonymous true e refl g
         by false e k = variable-new false e refl v k h g
 

@@ -9,9 +9,9 @@ use mathlib.Core.List.{List, [], _∷_, _++_, append-assoc}
 use lib.ListN.{length, set, take, drop, length-take, length-set, length-append}
 use lib.Seq.{take-take, take-append-le, take-set-lt, set-append-left, take-all}
 use lib.Dec.{eqb}
-use Rattle.syntax.specs.Reading.{Read, fault, ok, andThen, next, wrongNumber, wrong, beyond, full}
+use Rattle.syntax.specs.Reading.{Cursor, Read, fault, ok, andThen, next, wrongNumber, wrong, beyond, full}
 use Rattle.syntax.specs.declared.State.{State}
-use Rattle.reading.specs.Gives.{Standing, Moved, Ready, Faulted, GivenWith, GivesWith}
+use Rattle.reading.specs.Gives.{cursorOf, Standing, Moved, Ready, Faulted, GivenWith, GivesWith}
 use Rattle.reading.specs.declared.Parsed.{Parsed}
 use Rattle.reading.proofs.Reading.{three, refused-beyond, refused-wrong}
 
@@ -58,7 +58,7 @@ header entry mid exit w n a b c h e f =
 
 module _ {A B : Type 0} (spare spare′ : ℕ) (wa : A → List ℕ) (ia : A → ℕ) (wb : B → List ℕ) (ib : B → ℕ) (s : List ℕ) where
   -- a fault of the part is the whole's
-  pub seq-fault : (from st : State) (entry exit : List ℕ) (n m : ℕ) (r : Parsed) (d : Read A) (k : A → State → Read B) → n ≤ m → GivesWith spare wa ia s st entry exit m r d → (r .number ≡ 0 → ⊥) → GivesWith spare′ wb ib s from entry exit n r (andThen d k)
+  pub seq-fault : (from st : State) (entry exit : List ℕ) (n m : ℕ) (r : Parsed) (d : Read A) (k : A → Cursor → Read B) → n ≤ m → GivesWith spare wa ia s st entry exit m r d → (r .number ≡ 0 → ⊥) → GivesWith spare′ wb ib s from entry exit n r (andThen d k)
   unfolding andThen
   seq-fault from st entry exit n m r (fault f b) k h g z = record { number-is = g .number-is; some = g .some; byte-is = g .byte-is; kept = shorter n m entry exit h (g .kept) }
   seq-fault from st entry exit n m r (ok a after) k h g z = absurd (z (g .number-is))
@@ -68,6 +68,6 @@ module _ {A : Type 0} (spare : ℕ) (wa : A → List ℕ) (ia : A → ℕ) (s : 
   faulted-not {r = r} {f = f} g z = let e : r .number ≡ f = g .number-is in let p : 0 < f = g .some in omega arith
 
   -- otherwise it is what was read, with the reader that the code has
-  pub seq-ok : (st : State) (entry exit : List ℕ) (n : ℕ) (r : Parsed) (d : Read A) → GivesWith spare wa ia s st entry exit n r d → r .number ≡ 0 → (a : A) × (d ≡ ok a (r .state)) × GivenWith spare s st entry exit n r (wa a) (ia a) (r .state)
+  pub seq-ok : (st : State) (entry exit : List ℕ) (n : ℕ) (r : Parsed) (d : Read A) → GivesWith spare wa ia s st entry exit n r d → r .number ≡ 0 → (a : A) × (d ≡ ok a (cursorOf s exit (r .state))) × GivenWith spare s st entry exit n r (wa a) (ia a) (cursorOf s exit (r .state))
   seq-ok st entry exit n r (fault f b) g z = absurd (faulted-not g z)
-  seq-ok st entry exit n r (ok a after) g z = (a, ap (ok a) (sym (g .state-is)), subst⁻¹ (λ (x : State). GivenWith spare s st entry exit n r (wa a) (ia a) x) (g .state-is) g)
+  seq-ok st entry exit n r (ok a after) g z = (a, ap (ok a) (sym (g .state-is)), subst⁻¹ (λ (x : Cursor). GivenWith spare s st entry exit n r (wa a) (ia a) x) (g .state-is) g)

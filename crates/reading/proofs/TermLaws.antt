@@ -9,25 +9,28 @@ use lib.ListN.{length, set, take, length-append}
 use lib.Dec.{eqb}
 use borrow.Author.Tests.{eq-eqb, ne-eqb}
 use Rattle.syntax.specs.Terms.{Term, Terms, Atom, variable, compound, nil, cons, arity, termOf}
-use Rattle.syntax.specs.Tokens.{spelling}
-use Rattle.syntax.specs.Reading.{Read, fault, ok, andThen, next, wrongNumber, wrong, beyond, full, readVariable, readTerm, readTermWith, termWith, readAtomWith, atomWith, atomAt, readList, readArguments, argumentsAfter, startOf, begins, afterOf, After, more, last, neither, Start, aVariable, aNumeral, aName, nothing}
-use Rattle.syntax.specs.Words.{termWords, termsWords, atomWords, functor}
+use Rattle.syntax.specs.Tokens.{spelling, commaKind, endKind}
+use Rattle.syntax.specs.Reading.{Cursor, Read, fault, ok, andThen, next, wrongNumber, wrong, beyond, full, readVariable, readTerm, readTermWith, termWith, readAtomWith, atomWith, atomAt, readList, readArguments, argumentsAfter, startOf, begins, afterOf, After, more, last, neither, Start, aVariable, aNumeral, aName, nothing}
+use Rattle.syntax.specs.Words.{nodeWords, termWords, termsWords, atomWords, functor}
+use Rattle.syntax.specs.Limits.{sheetBytes, variables}
+use Rattle.syntax.specs.Spans.{namesFrom, met, Held}
+use Rattle.syntax.proofs.Spans.{met-three}
 use Rattle.syntax.specs.declared.State.{State}
 use Rattle.reading.specs.Atoms.{readAtomAt}
-use Rattle.reading.specs.Gives.{Standing, Moved, Ready, Faulted, Given, Gives, GivenWith, GivesWith, Refused, Counted, fullNumber, one}
+use Rattle.reading.specs.Gives.{cursorOf, onward, left, Standing, Moved, Ready, Faulted, Given, Gives, GivenWith, GivesWith, Refused, Counted, fullNumber, one}
 use Rattle.reading.specs.declared.Parsed.{Parsed}
 use Rattle.reading.proofs.Laws.{length-spelling}
-use Rattle.reading.proofs.Reading.{refused-beyond, refused-wrong}
+use Rattle.reading.proofs.Reading.{refused-beyond, refused-wrong, next-of, held-of, cursor-kept, held-kept}
 use Rattle.reading.proofs.Starts.{start-variable, start-numeral, start-name, start-nothing, after-more, after-last, after-neither}
 use Rattle.reading.proofs.Sequence.{seq-fault, seq-ok, shorter, kept-before, joined, header}
 
 -- the words of a name or numeral without arguments
-leaf-words : (s : List ℕ) (st : State) → st .token .at + st .token .len ≤ length s → (64 + st .token .len) ∷ 3 ∷ (st .token .at) ∷ [] ≡ termWords (termOf (atomAt s st nil))
+leaf-words : (s : List ℕ) (st : Cursor) → st .token .at + st .token .len ≤ length s → (64 + st .token .len) ∷ 3 ∷ (st .token .at) ∷ [] ≡ termWords (termOf (atomAt s st nil))
 unfolding termWords
 leaf-words s st h = ap (λ (k : ℕ). k ∷ 3 ∷ (st .token .at) ∷ []) (sym (ap (λ (k : ℕ). 64 + 0 * 32 + k) (length-spelling s (st .token .at) (st .token .len) h)))
 
 -- the words of a name with arguments
-atom-words : (s : List ℕ) (st : State) (ts : Terms) → st .token .at + st .token .len ≤ length s → functor (arity ts) (st .token .len) ∷ (3 + length (termsWords ts)) ∷ (st .token .at) ∷ termsWords ts ≡ atomWords (atomAt s st ts)
+atom-words : (s : List ℕ) (st : Cursor) (ts : Terms) → st .token .at + st .token .len ≤ length s → functor (arity ts) (st .token .len) ∷ (3 + length (termsWords ts)) ∷ (st .token .at) ∷ termsWords ts ≡ atomWords (atomAt s st ts)
 unfolding termWords
 atom-words s st ts h = ap (λ (k : ℕ). functor (arity ts) k ∷ (3 + length (termsWords ts)) ∷ (st .token .at) ∷ termsWords ts) (sym (length-spelling s (st .token .at) (st .token .len) h))
 
@@ -47,45 +50,46 @@ mutual
 pub leaf-asked : (s : List ℕ) (st : State) (table : List ℕ) (n k : ℕ) → Ready s st table n 0 → st .token .kind ≡ k → (k ≡ 16 → ⊥) → Ready s st table n 0 × ((64 + st .token .len < 2 ^ 32) × (st .token .kind ≡ 16 → ⊥))
 leaf-asked s st table n k ready e z =
     let inside : st .token .at + st .token .len ≤ length s = ready .standing .inside in
-    let short : length s ≤ 16384 = ready .standing .short in
+    let short : length s ≤ sheetBytes = ready .standing .short in
     (ready, (omega arith, λ q. z (sym e ∙ q)))
 
 -- ---- atoms
 
-module _ (left : ℕ) (s : List ℕ) (st : State) where
+module _ (most : ℕ) (s : List ℕ) (st : Cursor) where
   -- the definition, by what stands behind the name
-  atom-open : (past : State) → past ≡ next s st → past .token .kind ≡ 7 → readAtomAt left s st ≡ andThen (readList left s past) (λ ts after. ok (atomAt s st ts) after)
+  atom-open : (past : Cursor) → past ≡ next s st → past .token .kind ≡ 7 → readAtomAt most s st ≡ andThen (readList most s past) (λ ts after. ok (atomAt s st ts) after)
   unfolding readAtomAt readAtomWith atomWith
-  atom-open past e k = ap (λ (b : Bool). atomWith (λ x. readList left s x) s st b) (ap (λ (x : State). eqb (x .token .kind) 7) (sym e) ∙ eq-eqb (past .token .kind) 7 k) ∙ ap (λ (x : State). andThen (readList left s x) (λ ts after. ok (atomAt s st ts) after)) (sym e)
+  atom-open past e k = ap (λ (b : Bool). atomWith (λ x. readList most s x) s st b) (ap (λ (x : Cursor). eqb (x .token .kind) 7) (sym e) ∙ eq-eqb (past .token .kind) 7 k) ∙ ap (λ (x : Cursor). andThen (readList most s x) (λ ts after. ok (atomAt s st ts) after)) (sym e)
 
-  atom-alone : (past : State) → past ≡ next s st → (past .token .kind ≡ 7 → ⊥) → readAtomAt left s st ≡ ok (atomAt s st nil) (next s st)
+  atom-alone : (past : Cursor) → past ≡ next s st → (past .token .kind ≡ 7 → ⊥) → readAtomAt most s st ≡ ok (atomAt s st nil) (next s st)
   unfolding readAtomAt readAtomWith atomWith
-  atom-alone past e k = ap (λ (b : Bool). atomWith (λ x. readList left s x) s st b) (ap (λ (x : State). eqb (x .token .kind) 7) (sym e) ∙ ne-eqb (past .token .kind) 7 k)
+  atom-alone past e k = ap (λ (b : Bool). atomWith (λ x. readList most s x) s st b) (ap (λ (x : Cursor). eqb (x .token .kind) 7) (sym e) ∙ ne-eqb (past .token .kind) 7 k)
 
-  module _ (entry : List ℕ) (n : ℕ) (r : Parsed) (ready : Ready s st entry n 0) where
-    pub atom-bare : (exit : List ℕ) (past : State) → Moved s st past → (past .token .kind ≡ 7 → ⊥) → Given s st entry exit n r ((64 + st .token .len) ∷ 3 ∷ (st .token .at) ∷ []) 1 (next s st) → Gives atomWords one s st entry exit n r (readAtomAt left s st)
-    atom-bare exit past m k g =
-        subst⁻¹ (Gives atomWords one s st entry exit n r) (atom-alone past (m .is) k)
-        (subst (λ (w : List ℕ). Given s st entry exit n r w 1 (next s st)) (leaf-words s st (ready .standing .inside)) g)
-
-    pub atom-deep : (past : State) → Moved s st past → past .token .kind ≡ 7 → left ≡ 0 → Refused past 6 r → Gives atomWords one s st entry entry n r (readAtomAt left s st)
-    unfolding readList andThen beyond
-    atom-deep past m k z f =
-        subst⁻¹ (Gives atomWords one s st entry entry n r) (atom-open past (m .is) k ∙ ap (λ (l : ℕ). andThen (readList l s past) (λ ts after. ok (atomAt s st ts) after)) z)
-        (refused-beyond atomWords one s st past entry entry n r f refl)
-
-  list-down : (past inner : State) → (left ≡ 0 → ⊥) → inner ≡ next s past → readList left s past ≡ readArguments (λ x. readTerm (left - 1) s x) s 8 inner
+  list-down : (past inner : Cursor) → (most ≡ 0 → ⊥) → inner ≡ next s past → readList most s past ≡ readArguments (λ x. readTerm (most - 1) s x) s 8 inner
   unfolding readList readTerm
   list-down past inner z e =
-      let d : left ≡ suc (left - 1) = omega (arith, z) in
-      ap (λ (l : ℕ). readList l s past) d ∙ ap (readArguments (λ x. readTerm (left - 1) s x) s 8) (sym e)
+      let d : most ≡ suc (most - 1) = omega (arith, z) in
+      ap (λ (l : ℕ). readList l s past) d ∙ ap (readArguments (λ x. readTerm (most - 1) s x) s 8) (sym e)
 
-  module _ (entry exit mid : List ℕ) (n : ℕ) (past inner : State) (ready : Ready s st entry n 0) (name : st .token .kind ≡ 3) (m : Moved s st past) (k : past .token .kind ≡ 7) (z : left ≡ 0 → ⊥) (m′ : Moved s past inner) where
-    whole : readAtomAt left s st ≡ andThen (readArguments (λ x. readTerm (left - 1) s x) s 8 inner) (λ ts after. ok (atomAt s st ts) after)
-    whole = atom-open past (m .is) k ∙ ap (λ (d : Read Terms). andThen d (λ ts after. ok (atomAt s st ts) after)) (list-down past inner z (m′ .is))
+module _ (most : ℕ) (s : List ℕ) (st : State) where
+  module _ (entry : List ℕ) (n : ℕ) (r : Parsed) (ready : Ready s st entry n 0) where
+    pub atom-bare : (exit : List ℕ) (past : State) → Moved s st past → (past .token .kind ≡ 7 → ⊥) → Given s st entry exit n r ((64 + st .token .len) ∷ 3 ∷ (st .token .at) ∷ []) 1 (next s (cursorOf s entry st)) → Gives atomWords one s st entry exit n r (readAtomAt most s (cursorOf s entry st))
+    atom-bare exit past m k g =
+        subst⁻¹ (Gives atomWords one s st entry exit n r) (atom-alone most s (cursorOf s entry st) (cursorOf s entry past) (next-of entry m) k)
+        (subst (λ (w : List ℕ). Given s st entry exit n r w 1 (next s (cursorOf s entry st))) (leaf-words s (cursorOf s entry st) (ready .standing .inside)) g)
+
+    pub atom-deep : (past : State) → Moved s st past → past .token .kind ≡ 7 → most ≡ 0 → Refused past 6 r → Gives atomWords one s st entry entry n r (readAtomAt most s (cursorOf s entry st))
+    unfolding readList andThen beyond
+    atom-deep past m k z f =
+        subst⁻¹ (Gives atomWords one s st entry entry n r) (atom-open most s (cursorOf s entry st) (cursorOf s entry past) (next-of entry m) k ∙ ap (λ (l : ℕ). andThen (readList l s (cursorOf s entry past)) (λ ts after. ok (atomAt s (cursorOf s entry st) ts) after)) z)
+        (refused-beyond atomWords one s st past entry entry n r (namesFrom s (met entry) 0 (past .count)) f refl)
+
+  module _ (entry exit mid : List ℕ) (n : ℕ) (past inner : State) (ready : Ready s st entry n 0) (name : st .token .kind ≡ 3) (m : Moved s st past) (k : past .token .kind ≡ 7) (z : most ≡ 0 → ⊥) (m′ : Moved s past inner) where
+    whole : readAtomAt most s (cursorOf s entry st) ≡ andThen (readArguments (λ x. readTerm (most - 1) s x) s 8 (cursorOf s entry inner)) (λ ts after. ok (atomAt s (cursorOf s entry st) ts) after)
+    whole = atom-open most s (cursorOf s entry st) (cursorOf s entry past) (next-of entry m) k ∙ ap (λ (d : Read Terms). andThen d (λ ts after. ok (atomAt s (cursorOf s entry st) ts) after)) (list-down most s (cursorOf s entry st) (cursorOf s entry past) (cursorOf s entry inner) z (next-of entry m′))
 
     -- the name takes a byte and the bracket another
-    space : 8 + 4 * (length s - inner .token .at) ≤ 4 * (length s - st .token .at)
+    space : 2 * nodeWords + nodeWords * left s inner ≤ nodeWords * left s st
     space =
         let a : 0 < st .token .len = ready .standing .some (λ e. let q : st .token .kind ≡ 3 = name in omega arith) in
         let b : 0 < past .token .len = m .standing .some (λ e. let q : past .token .kind ≡ 7 = k in omega arith) in
@@ -97,112 +101,123 @@ module _ (left : ℕ) (s : List ℕ) (st : State) where
 
     pub list-ready : Ready s inner entry (n + 3) 0
     list-ready =
-        let room : n + 4 * (length s - st .token .at) + 0 ≤ length entry = ready .room in
-        let sp : 8 + 4 * (length s - inner .token .at) ≤ 4 * (length s - st .token .at) = space in
-        record { standing = m′ .standing; room = omega arith; small = ready .small }
+        let room : n + nodeWords * left s st + 0 + variables ≤ length entry = ready .room in
+        let sp : 2 * nodeWords + nodeWords * left s inner ≤ nodeWords * left s st = space in
+        record { standing = m′ .standing; held = held-of m′ (held-of m (ready .held)); room = omega arith; small = ready .small }
 
-    pub atom-fault : (r : Parsed) → Gives termsWords arity s inner entry exit (n + 3) r (readArguments (λ x. readTerm (left - 1) s x) s 8 inner) → (r .number ≡ 0 → ⊥) → Gives atomWords one s st entry exit n r (readAtomAt left s st)
-    atom-fault r g q = subst⁻¹ (Gives atomWords one s st entry exit n r) whole (seq-fault 1 1 termsWords arity atomWords one s st inner entry exit n (n + 3) r (readArguments (λ x. readTerm (left - 1) s x) s 8 inner) (λ ts after. ok (atomAt s st ts) after) (omega arith) g q)
+    pub atom-fault : (r : Parsed) → Gives termsWords arity s inner entry exit (n + 3) r (readArguments (λ x. readTerm (most - 1) s x) s 8 (cursorOf s entry inner)) → (r .number ≡ 0 → ⊥) → Gives atomWords one s st entry exit n r (readAtomAt most s (cursorOf s entry st))
+    atom-fault r g q = subst⁻¹ (Gives atomWords one s st entry exit n r) whole (seq-fault 1 1 termsWords arity atomWords one s st inner entry exit n (n + 3) r (readArguments (λ x. readTerm (most - 1) s x) s 8 (cursorOf s entry inner)) (λ ts after. ok (atomAt s (cursorOf s entry st) ts) after) (omega arith) g q)
 
-    module _ (r : Parsed) (g : Gives termsWords arity s inner entry mid (n + 3) r (readArguments (λ x. readTerm (left - 1) s x) s 8 inner)) (e : r .number ≡ 0) where
+    module _ (r : Parsed) (g : Gives termsWords arity s inner entry mid (n + 3) r (readArguments (λ x. readTerm (most - 1) s x) s 8 (cursorOf s entry inner))) (e : r .number ≡ 0) where
       -- what `close` asks
       pub close-ready : length mid ≡ length entry → (n + 3 ≤ length mid) × ((st .token .at < 2 ^ 31) × ((st .token .len < 2 ^ 15) × ((r .items < 2 ^ 20) × ((n ≤ r .used) × (r .used < 2 ^ 31)))))
       close-ready l =
-          let o : (ts : Terms) × (readArguments (λ x. readTerm (left - 1) s x) s 8 inner ≡ ok ts (r .state)) × Given s inner entry mid (n + 3) r (termsWords ts) (arity ts) (r .state) = seq-ok 1 termsWords arity s inner entry mid (n + 3) r (readArguments (λ x. readTerm (left - 1) s x) s 8 inner) g e in
-          let room : n + 4 * (length s - st .token .at) + 0 ≤ length entry = ready .room in
+          let o : (ts : Terms) × (readArguments (λ x. readTerm (most - 1) s x) s 8 (cursorOf s entry inner) ≡ ok ts (cursorOf s mid (r .state))) × Given s inner entry mid (n + 3) r (termsWords ts) (arity ts) (cursorOf s mid (r .state)) = seq-ok 1 termsWords arity s inner entry mid (n + 3) r (readArguments (λ x. readTerm (most - 1) s x) s 8 (cursorOf s entry inner)) g e in
+          let room : n + nodeWords * left s st + 0 + variables ≤ length entry = ready .room in
           let inside : st .token .at + st .token .len ≤ length s = ready .standing .inside in
-          let short : length s ≤ 16384 = ready .standing .short in
+          let short : length s ≤ sheetBytes = ready .standing .short in
           let small : length entry < 2 ^ 31 = ready .small in
           let used : r .used ≡ (n + 3) + length (termsWords (o .0)) = o .2 .used-is in
           let items : r .items ≡ arity (o .0) = o .2 .items-is in
-          let fits : length (termsWords (o .0)) + 4 * (length s - r .state .token .at) + 1 ≤ 4 * (length s - inner .token .at) = o .2 .room in
-          let sp : 8 + 4 * (length s - inner .token .at) ≤ 4 * (length s - st .token .at) = space in
+          let fits : length (termsWords (o .0)) + nodeWords * left s (r .state) + 1 ≤ nodeWords * left s inner + 1 = o .2 .room in
+          let sp : 2 * nodeWords + nodeWords * left s inner ≤ nodeWords * left s st = space in
           let few : arity (o .0) ≤ length (termsWords (o .0)) = arity-words (o .0) in
           (omega arith, (omega arith, (omega arith, (omega arith, (omega arith, omega arith)))))
 
-      pub atom-list : (q : Parsed) → q ≡ record { number = 0; used = r .used; items = 1; state = r .state } → exit ≡ set (set (set mid n (functor (r .items) (st .token .len))) (n + 1) (r .used - n)) (n + 2) (st .token .at) → Gives atomWords one s st entry exit n q (readAtomAt left s st)
+      pub atom-list : length mid ≡ length entry → (q : Parsed) → q ≡ record { number = 0; used = r .used; items = 1; state = r .state } → exit ≡ set (set (set mid n (functor (r .items) (st .token .len))) (n + 1) (r .used - n)) (n + 2) (st .token .at) → Gives atomWords one s st entry exit n q (readAtomAt most s (cursorOf s entry st))
       unfolding andThen
-      atom-list q eq ex =
-          let o : (ts : Terms) × (readArguments (λ x. readTerm (left - 1) s x) s 8 inner ≡ ok ts (r .state)) × Given s inner entry mid (n + 3) r (termsWords ts) (arity ts) (r .state) = seq-ok 1 termsWords arity s inner entry mid (n + 3) r (readArguments (λ x. readTerm (left - 1) s x) s 8 inner) g e in
+      atom-list l q eq ex =
+          let o : (ts : Terms) × (readArguments (λ x. readTerm (most - 1) s x) s 8 (cursorOf s entry inner) ≡ ok ts (cursorOf s mid (r .state))) × Given s inner entry mid (n + 3) r (termsWords ts) (arity ts) (cursorOf s mid (r .state)) = seq-ok 1 termsWords arity s inner entry mid (n + 3) r (readArguments (λ x. readTerm (most - 1) s x) s 8 (cursorOf s entry inner)) g e in
           let ts : Terms = o .0 in
-          let given : Given s inner entry mid (n + 3) r (termsWords ts) (arity ts) (r .state) = o .2 in
-          let room : n + 4 * (length s - st .token .at) + 0 ≤ length entry = ready .room in
-          let sp : 8 + 4 * (length s - inner .token .at) ≤ 4 * (length s - st .token .at) = space in
+          let given : Given s inner entry mid (n + 3) r (termsWords ts) (arity ts) (cursorOf s mid (r .state)) = o .2 in
+          let room : n + nodeWords * left s st + 0 + variables ≤ length entry = ready .room in
+          let sp : 2 * nodeWords + nodeWords * left s inner ≤ nodeWords * left s st = space in
           let used : r .used ≡ (n + 3) + length (termsWords ts) = given .used-is in
-          let fits : length (termsWords ts) + 4 * (length s - r .state .token .at) + 1 ≤ 4 * (length s - inner .token .at) = given .room in
+          let fits : length (termsWords ts) + nodeWords * left s (r .state) + 1 ≤ nodeWords * left s inner + 1 = given .room in
           let size : r .used - n ≡ 3 + length (termsWords ts) = omega arith in
           let words : List ℕ = functor (arity ts) (st .token .len) ∷ (3 + length (termsWords ts)) ∷ (st .token .at) ∷ termsWords ts in
           let stored : exit ≡ set (set (set mid n (functor (arity ts) (st .token .len))) (n + 1) (3 + length (termsWords ts))) (n + 2) (st .token .at) =
           ex ∙ ap₂ (λ (i z : ℕ). set (set (set mid n (functor i (st .token .len))) (n + 1) z) (n + 2) (st .token .at)) (given .items-is) size in
-          let result : Given s st entry exit n (record { number = 0; used = r .used; items = 1; state = r .state }) words 1 (r .state) = record {
+          let same : met exit ≡ met mid = ap met ex ∙ met-three mid n (functor (r .items) (st .token .len)) (r .used - n) (st .token .at) (omega arith) in
+          let result : Given s st entry exit n (record { number = 0; used = r .used; items = 1; state = r .state }) words 1 (cursorOf s mid (r .state)) = record {
             number-is = refl;
-            state-is = refl;
+            state-is = cursor-kept s mid exit (r .state) same;
             items-is = refl;
             used-is = omega arith;
             table-is = header entry mid exit (termsWords ts) n (functor (arity ts) (st .token .len)) (3 + length (termsWords ts)) (st .token .at) (omega arith) (given .table-is) stored;
             standing = given .standing;
+            held = held-kept same (given .held);
             room = omega arith;
           } in
-          subst⁻¹ (λ (d : Read Atom). Gives atomWords one s st entry exit n q d) (whole ∙ ap (λ (d : Read Terms). andThen d (λ ts after. ok (atomAt s st ts) after)) (o .1))
-          (subst⁻¹ (λ (x : Parsed). Given s st entry exit n x (atomWords (atomAt s st ts)) 1 (r .state)) eq
-          (subst (λ (w : List ℕ). Given s st entry exit n (record { number = 0; used = r .used; items = 1; state = r .state }) w 1 (r .state)) (atom-words s st ts (ready .standing .inside)) result))
+          subst⁻¹ (λ (d : Read Atom). Gives atomWords one s st entry exit n q d) (whole ∙ ap (λ (d : Read Terms). andThen d (λ ts after. ok (atomAt s (cursorOf s entry st) ts) after)) (o .1))
+          (subst⁻¹ (λ (x : Parsed). Given s st entry exit n x (atomWords (atomAt s (cursorOf s entry st) ts)) 1 (cursorOf s mid (r .state))) eq
+          (subst (λ (w : List ℕ). Given s st entry exit n (record { number = 0; used = r .used; items = 1; state = r .state }) w 1 (cursorOf s mid (r .state))) (atom-words s (cursorOf s entry st) ts (ready .standing .inside)) result))
 
 -- ---- terms
 
-module _ (left : ℕ) (s : List ℕ) (st : State) where
-  term-by : (x : Start) → startOf (st .token .kind) ≡ x → readTerm left s st ≡ termWith (λ st1. readList left s st1) s st x
+module _ (most : ℕ) (s : List ℕ) (st : Cursor) where
+  term-by : (x : Start) → startOf (st .token .kind) ≡ x → readTerm most s st ≡ termWith (λ st1. readList most s st1) s st x
   unfolding readTerm readTermWith
-  term-by x e = ap (termWith (λ st1. readList left s st1) s st) e
+  term-by x e = ap (termWith (λ st1. readList most s st1) s st) e
 
+module _ (most : ℕ) (s : List ℕ) (st : State) where
   module _ (entry exit : List ℕ) (n : ℕ) (r : Parsed) where
-    pub term-variable : st .token .kind ≡ 4 → Gives termWords one s st entry exit n r (readVariable s st) → Gives termWords one s st entry exit n r (readTerm left s st)
+    pub term-variable : st .token .kind ≡ 4 → Gives termWords one s st entry exit n r (readVariable s (cursorOf s entry st)) → Gives termWords one s st entry exit n r (readTerm most s (cursorOf s entry st))
     unfolding termWith
-    term-variable e g = subst⁻¹ (Gives termWords one s st entry exit n r) (term-by aVariable (start-variable (st .token .kind) e)) g
+    term-variable e g = subst⁻¹ (Gives termWords one s st entry exit n r) (term-by most s (cursorOf s entry st) aVariable (start-variable (st .token .kind) e)) g
 
-    pub term-numeral : Ready s st entry n 0 → (st .token .kind ≡ 4 → ⊥) → st .token .kind ≡ 5 → Given s st entry exit n r ((64 + st .token .len) ∷ 3 ∷ (st .token .at) ∷ []) 1 (next s st) → Gives termWords one s st entry exit n r (readTerm left s st)
+    pub term-numeral : Ready s st entry n 0 → (st .token .kind ≡ 4 → ⊥) → st .token .kind ≡ 5 → Given s st entry exit n r ((64 + st .token .len) ∷ 3 ∷ (st .token .at) ∷ []) 1 (next s (cursorOf s entry st)) → Gives termWords one s st entry exit n r (readTerm most s (cursorOf s entry st))
     unfolding termWith
     term-numeral ready f e g =
-        subst⁻¹ (Gives termWords one s st entry exit n r) (term-by aNumeral (start-numeral (st .token .kind) f e))
-        (subst (λ (w : List ℕ). Given s st entry exit n r w 1 (next s st)) (leaf-words s st (ready .standing .inside)) g)
+        subst⁻¹ (Gives termWords one s st entry exit n r) (term-by most s (cursorOf s entry st) aNumeral (start-numeral (st .token .kind) f e))
+        (subst (λ (w : List ℕ). Given s st entry exit n r w 1 (next s (cursorOf s entry st))) (leaf-words s (cursorOf s entry st) (ready .standing .inside)) g)
 
     atom-term : (d : Read Atom) → Gives atomWords one s st entry exit n r d → Gives termWords one s st entry exit n r (andThen d (λ a after. ok (termOf a) after))
     unfolding andThen
     atom-term (fault k b) g = g
     atom-term (ok a after) g = g
 
-    pub term-name : (st .token .kind ≡ 4 → ⊥) → (st .token .kind ≡ 5 → ⊥) → st .token .kind ≡ 3 → Gives atomWords one s st entry exit n r (readAtomAt left s st) → Gives termWords one s st entry exit n r (readTerm left s st)
+    pub term-name : (st .token .kind ≡ 4 → ⊥) → (st .token .kind ≡ 5 → ⊥) → st .token .kind ≡ 3 → Gives atomWords one s st entry exit n r (readAtomAt most s (cursorOf s entry st)) → Gives termWords one s st entry exit n r (readTerm most s (cursorOf s entry st))
     unfolding termWith readAtomAt
-    term-name f h e g = subst⁻¹ (Gives termWords one s st entry exit n r) (term-by aName (start-name (st .token .kind) f h e)) (atom-term (readAtomAt left s st) g)
+    term-name f h e g = subst⁻¹ (Gives termWords one s st entry exit n r) (term-by most s (cursorOf s entry st) aName (start-name (st .token .kind) f h e)) (atom-term (readAtomAt most s (cursorOf s entry st)) g)
 
-    pub term-other : (st .token .kind ≡ 4 → ⊥) → (st .token .kind ≡ 5 → ⊥) → (st .token .kind ≡ 3 → ⊥) → Refused st (wrongNumber (st .token .kind)) r → Gives termWords one s st entry entry n r (readTerm left s st)
+    pub term-other : (st .token .kind ≡ 4 → ⊥) → (st .token .kind ≡ 5 → ⊥) → (st .token .kind ≡ 3 → ⊥) → Refused st (wrongNumber (st .token .kind)) r → Gives termWords one s st entry entry n r (readTerm most s (cursorOf s entry st))
     unfolding termWith
-    term-other f h e g = subst⁻¹ (Gives termWords one s st entry entry n r) (term-by nothing (start-nothing (st .token .kind) f h e)) (refused-wrong termWords one s st st entry entry n r g refl)
+    term-other f h e g = subst⁻¹ (Gives termWords one s st entry entry n r) (term-by most s (cursorOf s entry st) nothing (start-nothing (st .token .kind) f h e)) (refused-wrong termWords one s st st entry entry n r (namesFrom s (met entry) 0 (st .count)) g refl)
 
 -- ---- lists
 
-full-by : {A : Type 0} (words : A → List ℕ) (items : A → ℕ) (s : List ℕ) (from st : State) (entry : List ℕ) (n : ℕ) (r : Parsed) (b : Bool) → Refused st (fullNumber b (st .token .kind)) r → Gives words items s from entry entry n r (full b st)
+full-by : {A : Type 0} (words : A → List ℕ) (items : A → ℕ) (s : List ℕ) (from st : State) (entry : List ℕ) (n : ℕ) (r : Parsed) (b : Bool) (names : List (List ℕ)) → Refused st (fullNumber b (st .token .kind)) r → Gives words items s from entry entry n r (full b (record { token = st .token; names = names }))
 unfolding full
-full-by words items s from st entry n r true g = refused-beyond words items s from st entry entry n r g refl
-full-by words items s from st entry n r false g = refused-wrong words items s from st entry entry n r g refl
+full-by words items s from st entry n r true names g = refused-beyond words items s from st entry entry n r names g refl
+full-by words items s from st entry n r false names g = refused-wrong words items s from st entry entry n r names g refl
 
 -- a list or body that is full
-pub list-full : {A : Type 0} (words : A → List ℕ) (items : A → ℕ) (s : List ℕ) (from st : State) (entry : List ℕ) (n : ℕ) (r : Parsed) → Refused st (fullNumber (begins (startOf (st .token .kind))) (st .token .kind)) r → Gives words items s from entry entry n r (full (begins (startOf (st .token .kind))) st)
-list-full words items s from st entry n r g = full-by words items s from st entry n r (begins (startOf (st .token .kind))) g
+pub list-full : {A : Type 0} (words : A → List ℕ) (items : A → ℕ) (s : List ℕ) (from st : State) (entry : List ℕ) (n : ℕ) (r : Parsed) (names : List (List ℕ)) → Refused st (fullNumber (begins (startOf (st .token .kind))) (st .token .kind)) r → Gives words items s from entry entry n r (full (begins (startOf (st .token .kind))) (record { token = st .token; names = names }))
+list-full words items s from st entry n r names g = full-by words items s from st entry n r (begins (startOf (st .token .kind))) names g
 
 -- One of a list was read; a list behind it is read by `rest`. The lists are `Terms` or a body, made by `put` from a thing and a list.
-module _ {A L : Type 0} (over : ℕ) (wa : A → List ℕ) (wl : L → List ℕ) (il : L → ℕ) (put : A → L → L) (empty : L) (words-put : (a : A) (l : L) → wl (put a l) ≡ wa a ++ wl l) (items-put : (a : A) (l : L) → il (put a l) ≡ suc (il l)) (words-empty : wl empty ≡ []) (items-empty : il empty ≡ 0) (s : List ℕ) (st : State) (entry mid : List ℕ) (n : ℕ) (r : Parsed) (a : A) (g : GivenWith over s st entry mid n r (wa a) 1 (r .state)) where
-  pub behind-ready : (spare : ℕ) → Ready s st entry n spare → (after : State) → Moved s (r .state) after → length mid ≡ length entry → Ready s after mid (r .used) spare
-  behind-ready spare ready after m l =
-      let room : n + 4 * (length s - st .token .at) + spare ≤ length entry = ready .room in
+module _ {A L : Type 0} (over : ℕ) (wa : A → List ℕ) (wl : L → List ℕ) (il : L → ℕ) (put : A → L → L) (empty : L) (words-put : (a : A) (l : L) → wl (put a l) ≡ wa a ++ wl l) (items-put : (a : A) (l : L) → il (put a l) ≡ suc (il l)) (words-empty : wl empty ≡ []) (items-empty : il empty ≡ 0) (s : List ℕ) (st : State) (entry mid : List ℕ) (n : ℕ) (r : Parsed) (a : A) (g : GivenWith over s st entry mid n r (wa a) 1 (cursorOf s mid (r .state))) where
+  -- the token behind it takes a byte
+  past-less : (after : State) → (r .state .token .kind ≡ endKind → ⊥) → Moved s (r .state) after → nodeWords + nodeWords * left s after ≤ nodeWords * left s (r .state)
+  past-less after z m =
+      let some : 0 < r .state .token .len = g .standing .some z in
+      let inside : r .state .token .at + r .state .token .len ≤ length s = g .standing .inside in
+      let f : r .state .token .at + r .state .token .len ≤ after .token .at = m .forward in
+      omega arith
+
+  pub behind-ready : (spare : ℕ) → Ready s st entry n spare → (after : State) → (r .state .token .kind ≡ endKind → ⊥) → Moved s (r .state) after → length mid ≡ length entry → Ready s after mid (r .used) spare
+  behind-ready spare ready after z m l =
+      let less : nodeWords + nodeWords * left s after ≤ nodeWords * left s (r .state) = past-less after z m in
+      let room : n + nodeWords * left s st + spare + variables ≤ length entry = ready .room in
       let small : length entry < 2 ^ 31 = ready .small in
       let used : r .used ≡ n + length (wa a) = g .used-is in
-      let fits : length (wa a) + 4 * (length s - r .state .token .at) + over ≤ 4 * (length s - st .token .at) = g .room in
-      let f : r .state .token .at + r .state .token .len ≤ after .token .at = m .forward in
-      record { standing = m .standing; room = omega arith; small = omega arith }
+      let fits : length (wa a) + nodeWords * left s (r .state) + over ≤ nodeWords * left s st + 1 = g .room in
+      record { standing = m .standing; held = held-of m (g .held); room = omega arith; small = omega arith }
 
-  pub one-more : (exit : List ℕ) (after : State) (q p : Parsed) (d : Read L) → Moved s (r .state) after → Gives wl il s after mid exit (r .used) q d → Counted q p → n ≤ length entry → Gives wl il s st entry exit n p (andThen d (λ l end. ok (put a l) end))
+  pub one-more : (exit : List ℕ) (after : State) (q p : Parsed) (d : Read L) → (r .state .token .kind ≡ endKind → ⊥) → Moved s (r .state) after → Gives wl il s after mid exit (r .used) q d → Counted q p → n ≤ length entry → Gives wl il s st entry exit n p (andThen d (λ l end. ok (put a l) end))
   unfolding andThen
-  one-more exit after q p (fault f b) m h e k =
+  one-more exit after q p (fault f b) z m h e k =
       let used : r .used ≡ n + length (wa a) = g .used-is in
       record {
         number-is = e .number-is ∙ h .number-is;
@@ -210,25 +225,26 @@ module _ {A L : Type 0} (over : ℕ) (wa : A → List ℕ) (wl : L → List ℕ)
         byte-is = ap (λ (x : State). x .token .at) (e .state-is) ∙ h .byte-is;
         kept = shorter n (r .used) mid exit (omega arith) (h .kept) ∙ kept-before n n (length (wa a)) entry mid (wa a) (omega arith) k (g .table-is);
       }
-  one-more exit after q p (ok l end) m h e k =
+  one-more exit after q p (ok l end) z m h e k =
+      let less : nodeWords + nodeWords * left s after ≤ nodeWords * left s (r .state) = past-less after z m in
       let used : r .used ≡ n + length (wa a) = g .used-is in
       let used′ : q .used ≡ r .used + length (wl l) = h .used-is in
       let used″ : p .used ≡ q .used = e .used-is in
       let items : q .items ≡ il l = h .items-is in
       let items′ : p .items ≡ q .items + 1 = e .items-is (h .number-is) in
-      let fits : length (wa a) + 4 * (length s - r .state .token .at) + over ≤ 4 * (length s - st .token .at) = g .room in
-      let fits′ : length (wl l) + 4 * (length s - end .token .at) + 1 ≤ 4 * (length s - after .token .at) = h .room in
-      let f : r .state .token .at + r .state .token .len ≤ after .token .at = m .forward in
+      let fits : length (wa a) + nodeWords * left s (r .state) + over ≤ nodeWords * left s st + 1 = g .room in
+      let fits′ : length (wl l) + nodeWords * left s (q .state) + 1 ≤ nodeWords * left s after + 1 = h .room in
       let both : length (wa a ++ wl l) ≡ length (wa a) + length (wl l) = length-append (wa a) (wl l) in
       let ends : take ((n + length (wa a)) + length (wl l)) exit ≡ take (n + length (wa a)) mid ++ wl l = subst (λ (u : ℕ). take (u + length (wl l)) exit ≡ take u mid ++ wl l) used (h .table-is) in
       let result : Given s st entry exit n p (wa a ++ wl l) (suc (il l)) end = record {
         number-is = e .number-is ∙ h .number-is;
-        state-is = e .state-is ∙ h .state-is;
+        state-is = ap (cursorOf s exit) (e .state-is) ∙ h .state-is;
         items-is = omega arith;
         used-is = omega arith;
         table-is = joined entry mid exit (wa a) (wl l) n (g .table-is) ends;
-        standing = h .standing;
-        room = omega arith;
+        standing = subst⁻¹ (Standing s) (e .state-is) (h .standing);
+        held = subst⁻¹ (λ (x : State). Held s (met exit) (x .count)) (e .state-is) (h .held);
+        room = subst⁻¹ (λ (x : State). length (wa a ++ wl l) + nodeWords * left s x + 1 ≤ nodeWords * left s st + 1) (e .state-is) (omega arith);
       } in
       subst⁻¹ (λ (w : List ℕ). Given s st entry exit n p w (il (put a l)) end) (words-put a l)
       (subst⁻¹ (λ (i : ℕ). Given s st entry exit n p (wa a ++ wl l) i end) (items-put a l) result)
@@ -236,71 +252,75 @@ module _ {A L : Type 0} (over : ℕ) (wa : A → List ℕ) (wl : L → List ℕ)
   -- the things of a list that was read are few
   pub few-items : ((l : L) → il l ≤ length (wl l)) → (exit : List ℕ) (after : State) (q : Parsed) (d : Read L) (m : ℕ) → Standing s after → Gives wl il s after mid exit m q d → q .number ≡ 0 → q .items < 2 ^ 31
   few-items few exit after q d m stands h e =
-      let o : (l : L) × (d ≡ ok l (q .state)) × Given s after mid exit m q (wl l) (il l) (q .state) = seq-ok 1 wl il s after mid exit m q d h e in
+      let o : (l : L) × (d ≡ ok l (cursorOf s exit (q .state))) × Given s after mid exit m q (wl l) (il l) (cursorOf s exit (q .state)) = seq-ok 1 wl il s after mid exit m q d h e in
       let items : q .items ≡ il (o .0) = o .2 .items-is in
-      let fits : length (wl (o .0)) + 4 * (length s - q .state .token .at) + 1 ≤ 4 * (length s - after .token .at) = o .2 .room in
-      let short : length s ≤ 16384 = stands .short in
+      let fits : length (wl (o .0)) + nodeWords * left s (q .state) + 1 ≤ nodeWords * left s after + 1 = o .2 .room in
+      let short : length s ≤ sheetBytes = stands .short in
       let b : il (o .0) ≤ length (wl (o .0)) = few (o .0) in
       omega arith
 
-  pub one-last : (after : State) → (r .state .token .kind ≡ 16 → ⊥) → Moved s (r .state) after → Given s st entry mid n (record { number = 0; used = r .used; items = 1; state = after }) (wl (put a empty)) (il (put a empty)) (next s (r .state))
+  pub one-last : (after : State) → (r .state .token .kind ≡ 16 → ⊥) → Moved s (r .state) after → Given s st entry mid n (record { number = 0; used = r .used; items = 1; state = after }) (wl (put a empty)) (il (put a empty)) (next s (cursorOf s mid (r .state)))
   one-last after z m =
-      let some : 0 < r .state .token .len = g .standing .some z in
-      let inside : r .state .token .at + r .state .token .len ≤ length s = g .standing .inside in
-      let fits : length (wa a) + 4 * (length s - r .state .token .at) + over ≤ 4 * (length s - st .token .at) = g .room in
-      let f : r .state .token .at + r .state .token .len ≤ after .token .at = m .forward in
-      let result : Given s st entry mid n (record { number = 0; used = r .used; items = 1; state = after }) (wa a) 1 after = record {
+      let less : nodeWords + nodeWords * left s after ≤ nodeWords * left s (r .state) = past-less after z m in
+      let fits : length (wa a) + nodeWords * left s (r .state) + over ≤ nodeWords * left s st + 1 = g .room in
+      let result : Given s st entry mid n (record { number = 0; used = r .used; items = 1; state = after }) (wa a) 1 (cursorOf s mid after) = record {
         number-is = refl;
         state-is = refl;
         items-is = refl;
         used-is = g .used-is;
         table-is = g .table-is;
         standing = m .standing;
+        held = held-of m (g .held);
         room = omega arith;
       } in
-      subst (λ (x : State). Given s st entry mid n (record { number = 0; used = r .used; items = 1; state = after }) (wl (put a empty)) (il (put a empty)) x) (m .is)
-      (subst⁻¹ (λ (w : List ℕ). Given s st entry mid n (record { number = 0; used = r .used; items = 1; state = after }) w (il (put a empty)) after) (words-put a empty ∙ ap (λ (w : List ℕ). wa a ++ w) words-empty ∙ append-nil (wa a))
-      (subst⁻¹ (λ (i : ℕ). Given s st entry mid n (record { number = 0; used = r .used; items = 1; state = after }) (wa a) i after) (items-put a empty ∙ ap suc items-empty) result))
+      subst (λ (x : Cursor). Given s st entry mid n (record { number = 0; used = r .used; items = 1; state = after }) (wl (put a empty)) (il (put a empty)) x) (next-of mid m)
+      (subst⁻¹ (λ (w : List ℕ). Given s st entry mid n (record { number = 0; used = r .used; items = 1; state = after }) w (il (put a empty)) (cursorOf s mid after)) (words-put a empty ∙ ap (λ (w : List ℕ). wa a ++ w) words-empty ∙ append-nil (wa a))
+      (subst⁻¹ (λ (i : ℕ). Given s st entry mid n (record { number = 0; used = r .used; items = 1; state = after }) (wa a) i (cursorOf s mid after)) (items-put a empty ∙ ap suc items-empty) result))
 
   pub one-kept : n ≤ length entry → take n mid ≡ take n entry
   one-kept k = kept-before n n (length (wa a)) entry mid (wa a) (omega arith) k (g .table-is)
 
+-- a comma is not the end
+pub comma-some : {k : ℕ} → k ≡ commaKind → k ≡ endKind → ⊥
+comma-some e f = omega arith
+
 -- the lists are `Terms`
-module _ (left : ℕ) (s : List ℕ) (k : ℕ) (st : State) where
-  abbrev term : State → Read Term
-  term x = readTerm left s x
+module _ (most : ℕ) (s : List ℕ) (k : ℕ) (st : Cursor) where
+  abbrev term : Cursor → Read Term
+  term x = readTerm most s x
 
   abbrev whole-list : Read Terms
-  whole-list = readArguments (λ x. readTerm left s x) s k st
+  whole-list = readArguments (λ x. readTerm most s x) s k st
 
-  pub arguments-full : (entry : List ℕ) (n : ℕ) (r : Parsed) → k ≡ 0 → Refused st (fullNumber (begins (startOf (st .token .kind))) (st .token .kind)) r → Gives termsWords arity s st entry entry n r (readArguments (λ x. readTerm left s x) s k st)
-  unfolding readArguments
-  arguments-full entry n r z g = subst⁻¹ (λ (j : ℕ). Gives termsWords arity s st entry entry n r (readArguments (λ x. readTerm left s x) s j st)) z (list-full termsWords arity s st st entry n r g)
+  abbrev go-on : Term → Cursor → Read Terms
+  go-on t after = argumentsAfter (λ st1. readArguments (λ x. readTerm most s x) s (k - 1) st1) s t after (afterOf 8 (after .token .kind))
 
-  abbrev go-on : Term → State → Read Terms
-  go-on t after = argumentsAfter (λ st1. readArguments (λ x. readTerm left s x) s (k - 1) st1) s t after (afterOf 8 (after .token .kind))
-
-  arguments-some : (k ≡ 0 → ⊥) → whole-list ≡ andThen (readTerm left s st) go-on
+  arguments-some : (k ≡ 0 → ⊥) → whole-list ≡ andThen (readTerm most s st) go-on
   unfolding readArguments
   arguments-some z =
       let d : k ≡ suc (k - 1) = omega (arith, z) in
-      ap (λ (j : ℕ). readArguments (λ x. readTerm left s x) s j st) d
+      ap (λ (j : ℕ). readArguments (λ x. readTerm most s x) s j st) d
 
-  module _ (entry mid : List ℕ) (n : ℕ) (r : Parsed) (ready : Ready s st entry n 0) (z : k ≡ 0 → ⊥) (g : Gives termWords one s st entry mid n r (readTerm left s st)) where
-    pub arguments-fault : (r .number ≡ 0 → ⊥) → Gives termsWords arity s st entry mid n r (readArguments (λ x. readTerm left s x) s k st)
-    arguments-fault q = subst⁻¹ (Gives termsWords arity s st entry mid n r) (arguments-some z) (seq-fault 1 1 termWords one termsWords arity s st st entry mid n n r (readTerm left s st) go-on (omega arith) g q)
+module _ (most : ℕ) (s : List ℕ) (k : ℕ) (st : State) where
+  pub arguments-full : (entry : List ℕ) (n : ℕ) (r : Parsed) → k ≡ 0 → Refused st (fullNumber (begins (startOf (st .token .kind))) (st .token .kind)) r → Gives termsWords arity s st entry entry n r (readArguments (λ x. readTerm most s x) s k (cursorOf s entry st))
+  unfolding readArguments
+  arguments-full entry n r z g = subst⁻¹ (λ (j : ℕ). Gives termsWords arity s st entry entry n r (readArguments (λ x. readTerm most s x) s j (cursorOf s entry st))) z (list-full termsWords arity s st st entry n r (namesFrom s (met entry) 0 (st .count)) g)
+
+  module _ (entry mid : List ℕ) (n : ℕ) (r : Parsed) (ready : Ready s st entry n 0) (z : k ≡ 0 → ⊥) (g : Gives termWords one s st entry mid n r (readTerm most s (cursorOf s entry st))) where
+    pub arguments-fault : (r .number ≡ 0 → ⊥) → Gives termsWords arity s st entry mid n r (readArguments (λ x. readTerm most s x) s k (cursorOf s entry st))
+    arguments-fault q = subst⁻¹ (Gives termsWords arity s st entry mid n r) (arguments-some most s k (cursorOf s entry st) z) (seq-fault 1 1 termWords one termsWords arity s st st entry mid n n r (readTerm most s (cursorOf s entry st)) (go-on most s k (cursorOf s entry st)) (omega arith) g q)
 
     module _ (e : r .number ≡ 0) where
-      read : (t : Term) × (readTerm left s st ≡ ok t (r .state)) × Given s st entry mid n r (termWords t) 1 (r .state)
-      read = seq-ok 1 termWords one s st entry mid n r (readTerm left s st) g e
+      read : (t : Term) × (readTerm most s (cursorOf s entry st) ≡ ok t (cursorOf s mid (r .state))) × Given s st entry mid n r (termWords t) 1 (cursorOf s mid (r .state))
+      read = seq-ok 1 termWords one s st entry mid n r (readTerm most s (cursorOf s entry st)) g e
 
       n-in : n ≤ length entry
-      n-in = let room : n + 4 * (length s - st .token .at) + 0 ≤ length entry = ready .room in omega arith
+      n-in = let room : n + nodeWords * left s st + 0 + variables ≤ length entry = ready .room in omega arith
 
       -- the whole, by what stands behind the term
-      behind : (x : After) → afterOf 8 (r .state .token .kind) ≡ x → whole-list ≡ argumentsAfter (λ st1. readArguments (λ y. readTerm left s y) s (k - 1) st1) s (read .0) (r .state) x
+      behind : (x : After) → afterOf 8 (r .state .token .kind) ≡ x → whole-list most s k (cursorOf s entry st) ≡ argumentsAfter (λ st1. readArguments (λ y. readTerm most s y) s (k - 1) st1) s (read .0) (cursorOf s mid (r .state)) x
       unfolding andThen
-      behind x a = arguments-some z ∙ ap (λ (d : Read Term). andThen d go-on) (read .1) ∙ ap (argumentsAfter (λ st1. readArguments (λ y. readTerm left s y) s (k - 1) st1) s (read .0) (r .state)) a
+      behind x a = arguments-some most s k (cursorOf s entry st) z ∙ ap (λ (d : Read Term). andThen d (go-on most s k (cursorOf s entry st))) (read .1) ∙ ap (argumentsAfter (λ st1. readArguments (λ y. readTerm most s y) s (k - 1) st1) s (read .0) (cursorOf s mid (r .state))) a
 
       pub arguments-standing : Standing s (r .state)
       arguments-standing = read .2 .standing
@@ -313,26 +333,26 @@ module _ (left : ℕ) (s : List ℕ) (k : ℕ) (st : State) where
       unfolding termWords
       words-nil = refl
 
-      pub arguments-ready : (after : State) → Moved s (r .state) after → length mid ≡ length entry → Ready s after mid (r .used) 0
-      arguments-ready after m l = behind-ready 1 termWords termsWords arity cons nil words-cons (λ t ts. refl) words-nil refl s st entry mid n r (read .0) (read .2) 0 ready after m l
+      pub arguments-ready : (after : State) → r .state .token .kind ≡ commaKind → Moved s (r .state) after → length mid ≡ length entry → Ready s after mid (r .used) 0
+      arguments-ready after a m l = behind-ready 1 termWords termsWords arity cons nil words-cons (λ t ts. refl) words-nil refl s st entry mid n r (read .0) (read .2) 0 ready after (comma-some a) m l
 
-      pub arguments-more : (exit : List ℕ) (after : State) (q p : Parsed) → r .state .token .kind ≡ 9 → Moved s (r .state) after → Gives termsWords arity s after mid exit (r .used) q (readArguments (λ x. readTerm left s x) s (k - 1) after) → Counted q p → Gives termsWords arity s st entry exit n p (readArguments (λ x. readTerm left s x) s k st)
+      pub arguments-more : (exit : List ℕ) (after : State) (q p : Parsed) → r .state .token .kind ≡ 9 → Moved s (r .state) after → Gives termsWords arity s after mid exit (r .used) q (readArguments (λ x. readTerm most s x) s (k - 1) (cursorOf s mid after)) → Counted q p → Gives termsWords arity s st entry exit n p (readArguments (λ x. readTerm most s x) s k (cursorOf s entry st))
       unfolding argumentsAfter
       arguments-more exit after q p a m h ep =
-          subst⁻¹ (Gives termsWords arity s st entry exit n p) (behind more (after-more 8 (r .state .token .kind) a) ∙ ap (λ (x : State). andThen (readArguments (λ y. readTerm left s y) s (k - 1) x) (λ ts end. ok (cons (read .0) ts) end)) (sym (m .is)))
-          (one-more 1 termWords termsWords arity cons nil words-cons (λ t ts. refl) words-nil refl s st entry mid n r (read .0) (read .2) exit after q p (readArguments (λ x. readTerm left s x) s (k - 1) after) m h ep n-in)
+          subst⁻¹ (Gives termsWords arity s st entry exit n p) (behind more (after-more 8 (r .state .token .kind) a) ∙ ap (λ (x : Cursor). andThen (readArguments (λ y. readTerm most s y) s (k - 1) x) (λ ts end. ok (cons (read .0) ts) end)) (sym (next-of mid m)))
+          (one-more 1 termWords termsWords arity cons nil words-cons (λ t ts. refl) words-nil refl s st entry mid n r (read .0) (read .2) exit after q p (readArguments (λ x. readTerm most s x) s (k - 1) (cursorOf s mid after)) (comma-some a) m h ep n-in)
 
-      pub arguments-few : (exit : List ℕ) (after : State) (q : Parsed) → Moved s (r .state) after → Gives termsWords arity s after mid exit (r .used) q (readArguments (λ x. readTerm left s x) s (k - 1) after) → q .number ≡ 0 → q .items < 2 ^ 31
-      arguments-few exit after q m h zero-is = few-items 1 termWords termsWords arity cons nil words-cons (λ t ts. refl) words-nil refl s st entry mid n r (read .0) (read .2) arity-words exit after q (readArguments (λ x. readTerm left s x) s (k - 1) after) (r .used) (m .standing) h zero-is
+      pub arguments-few : (exit : List ℕ) (after : State) (q : Parsed) → Moved s (r .state) after → Gives termsWords arity s after mid exit (r .used) q (readArguments (λ x. readTerm most s x) s (k - 1) (cursorOf s mid after)) → q .number ≡ 0 → q .items < 2 ^ 31
+      arguments-few exit after q m h zero-is = few-items 1 termWords termsWords arity cons nil words-cons (λ t ts. refl) words-nil refl s st entry mid n r (read .0) (read .2) arity-words exit after q (readArguments (λ x. readTerm most s x) s (k - 1) (cursorOf s mid after)) (r .used) (m .standing) h zero-is
 
-      pub arguments-last : (after : State) → (r .state .token .kind ≡ 9 → ⊥) → r .state .token .kind ≡ 8 → Moved s (r .state) after → Gives termsWords arity s st entry mid n (record { number = 0; used = r .used; items = 1; state = after }) (readArguments (λ x. readTerm left s x) s k st)
+      pub arguments-last : (after : State) → (r .state .token .kind ≡ 9 → ⊥) → r .state .token .kind ≡ 8 → Moved s (r .state) after → Gives termsWords arity s st entry mid n (record { number = 0; used = r .used; items = 1; state = after }) (readArguments (λ x. readTerm most s x) s k (cursorOf s entry st))
       unfolding argumentsAfter
       arguments-last after f a m =
           subst⁻¹ (Gives termsWords arity s st entry mid n (record { number = 0; used = r .used; items = 1; state = after })) (behind last (after-last 8 (r .state .token .kind) f a))
           (one-last 1 termWords termsWords arity cons nil words-cons (λ t ts. refl) words-nil refl s st entry mid n r (read .0) (read .2) after (λ q. let e8 : r .state .token .kind ≡ 8 = a in omega arith) m)
 
-      pub arguments-wrong : (q : Parsed) → (r .state .token .kind ≡ 9 → ⊥) → (r .state .token .kind ≡ 8 → ⊥) → Refused (r .state) (wrongNumber (r .state .token .kind)) q → Gives termsWords arity s st entry mid n q (readArguments (λ x. readTerm left s x) s k st)
+      pub arguments-wrong : (q : Parsed) → (r .state .token .kind ≡ 9 → ⊥) → (r .state .token .kind ≡ 8 → ⊥) → Refused (r .state) (wrongNumber (r .state .token .kind)) q → Gives termsWords arity s st entry mid n q (readArguments (λ x. readTerm most s x) s k (cursorOf s entry st))
       unfolding argumentsAfter
       arguments-wrong q f a h =
           subst⁻¹ (Gives termsWords arity s st entry mid n q) (behind neither (after-neither 8 (r .state .token .kind) f a))
-          (refused-wrong termsWords arity s st (r .state) entry mid n q h (one-kept 1 termWords termsWords arity cons nil words-cons (λ t ts. refl) words-nil refl s st entry mid n r (read .0) (read .2) n-in))
+          (refused-wrong termsWords arity s st (r .state) entry mid n q (namesFrom s (met mid) 0 (r .state .count)) h (one-kept 1 termWords termsWords arity cons nil words-cons (λ t ts. refl) words-nil refl s st entry mid n r (read .0) (read .2) n-in))

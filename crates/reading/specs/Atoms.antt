@@ -2,8 +2,7 @@
 use Prim.Native.Nat.{ℕ}
 use mathlib.Core.List.{List}
 use Rattle.syntax.specs.Terms.{Atom}
-use Rattle.syntax.specs.Reading.{Read, readAtomWith, readList}
-use Rattle.syntax.specs.declared.State.{State}
+use Rattle.syntax.specs.Reading.{Cursor, Read, readAtomWith, readList}
 
-unfoldable pub readAtomAt : ℕ → List ℕ → State → Read Atom
+unfoldable pub readAtomAt : ℕ → List ℕ → Cursor → Read Atom
 readAtomAt left s st = readAtomWith (λ x. readList left s x) s st

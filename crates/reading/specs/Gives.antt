@@ -5,20 +5,37 @@ use mathlib.Core.Bool.{Bool, true, false, cond}
 use mathlib.Core.List.{List, _++_}
 use mathlib.Core.Option.{Option, none, some}
 use lib.ListN.{length, take}
-use Rattle.syntax.specs.Reading.{Read, fault, ok, next, wrongNumber}
+use Rattle.syntax.specs.Limits.{sheetBytes, wordBytes, variables}
+use Rattle.syntax.specs.Tokens.{tokenAt, spelling, variableKind, endKind}
+use Rattle.syntax.specs.Reading.{Cursor, Read, fault, ok, wrongNumber, numberOf}
+use Rattle.syntax.specs.Spans.{namesFrom, met, Held}
+use Rattle.syntax.specs.Words.{nodeWords}
 use Rattle.syntax.specs.declared.State.{State}
 use Rattle.reading.specs.declared.Parsed.{Parsed}
 
--- A reader stands within its text: the token at hand is inside, and has a byte unless it is the end.
+-- The reader that a state and a node table stand for.
+abbrev pub cursorOf : List ℕ → List ℕ → State → Cursor
+cursorOf s table st = record { token = st .token; names = namesFrom s (met table) 0 (st .count) }
+
+-- The state past the token at hand.
+abbrev pub onward : List ℕ → State → State
+onward s st = record { token = tokenAt s (st .token .at + st .token .len); count = st .count }
+
+-- The state with no variable met.
+abbrev pub fresh : State → State
+fresh st = record { token = st .token; count = 0 }
+
+-- A reader stands within its text: the token at hand is inside, has a byte unless it is the end, and is short if it is a variable.
 pub record Standing (s : List ℕ) (st : State) : Type 0 where
   pub inside : st .token .at + st .token .len ≤ length s
-  pub some : (st .token .kind ≡ 16 → ⊥) → 0 < st .token .len
-  pub few : st .count ≤ 32
-  pub short : length s ≤ 16384
+  pub some : (st .token .kind ≡ endKind → ⊥) → 0 < st .token .len
+  pub brief : st .token .kind ≡ variableKind → st .token .len ≤ wordBytes
+  pub few : st .count ≤ variables
+  pub short : length s ≤ sheetBytes
 
 -- The reader past the token at hand stands within the text too, further on.
 pub record Moved (s : List ℕ) (st r : State) : Type 0 where
-  pub is : r ≡ next s st
+  pub is : r ≡ onward s st
   pub standing : Standing s r
   pub forward : st .token .at + st .token .len ≤ r .token .at
 
@@ -26,10 +43,12 @@ pub record Moved (s : List ℕ) (st r : State) : Type 0 where
 abbrev pub left : List ℕ → State → ℕ
 left s st = length s - st .token .at
 
--- The table has four words for each byte that is left, and its places fit a word.
+-- The words of the variables met lie within the text. From n on the table has a node's words for each byte that is left, some to spare and those of the
+-- variables, and its places fit a word.
 pub record Ready (s : List ℕ) (st : State) (table : List ℕ) (n spare : ℕ) : Type 0 where
   pub standing : Standing s st
-  pub room : n + 4 * left s st + spare ≤ length table
+  pub held : Held s (met table) (st .count)
+  pub room : n + nodeWords * left s st + spare + variables ≤ length table
   pub small : length table < 2 ^ 31
 
 -- On a fault: its number and byte, and the words before n are as they were.
@@ -39,16 +58,21 @@ pub record Faulted (entry exit : List ℕ) (n : ℕ) (r : Parsed) (k b : ℕ) : 
   pub byte-is : r .state .token .at ≡ b
   pub kept : take n exit ≡ take n entry
 
--- Otherwise: the reader after what was read, how many things those are, and the words before n followed by the words of what was read. Of four
--- words for each byte that was read at least `spare` are left over.
-pub record GivenWith (spare : ℕ) (s : List ℕ) (from : State) (entry exit : List ℕ) (n : ℕ) (r : Parsed) (words : List ℕ) (items : ℕ) (after : State) : Type 0 where
+-- Otherwise: the reader after what was read, how many things those are, and the words before n followed by the words of what was read. Of a
+-- node's words for each byte that was read, and one more, at least `spare` are left over.
+pub record GivenWith (spare : ℕ) (s : List ℕ) (from : State) (entry exit : List ℕ) (n : ℕ) (r : Parsed) (words : List ℕ) (items : ℕ) (after : Cursor) : Type 0 where
   pub number-is : r .number ≡ 0
-  pub state-is : r .state ≡ after
+  pub state-is : cursorOf s exit (r .state) ≡ after
   pub items-is : r .items ≡ items
   pub used-is : r .used ≡ n + length words
   pub table-is : take (n + length words) exit ≡ take n entry ++ words
-  pub standing : Standing s after
-  pub room : length words + 4 * left s after + spare ≤ 4 * left s from
+  pub standing : Standing s (r .state)
+  pub held : Held s (met exit) (r .state .count)
+  pub room : length words + nodeWords * left s (r .state) + spare ≤ nodeWords * left s from + 1
+
+-- the variable at hand among those met
+abbrev pub found : List ℕ → List ℕ → State → Option ℕ
+found s table st = numberOf (spelling s (st .token .at) (st .token .len)) 0 (namesFrom s (met table) 0 (st .count))
 
 -- What a search for a variable answers: the number of the one found, or one more than all of them.
 abbrev pub FoundAs : Option ℕ → ℕ → ℕ → Type 0
@@ -65,7 +89,7 @@ GivesWith spare words items s from entry exit n r (fault k b) = Faulted entry ex
 GivesWith spare words items s from entry exit n r (ok a after) = GivenWith spare s from entry exit n r (words a) (items a) after
 
 -- with one word left over
-abbrev pub Given : List ℕ → State → List ℕ → List ℕ → ℕ → Parsed → List ℕ → ℕ → State → Type 0
+abbrev pub Given : List ℕ → State → List ℕ → List ℕ → ℕ → Parsed → List ℕ → ℕ → Cursor → Type 0
 Given s from entry exit n r words items after = GivenWith 1 s from entry exit n r words items after
 
 abbrev pub Gives : {A : Type 0} → (A → List ℕ) → (A → ℕ) → List ℕ → State → List ℕ → List ℕ → ℕ → Parsed → Read A → Type 0

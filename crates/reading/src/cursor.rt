@@ -4,10 +4,14 @@ use syntax::NO_TOKEN;
 use syntax::OVERLONG;
 use syntax::State;
 use syntax::Token;
+use syntax::span_at;
+use syntax::span_length;
 ghost use mathlib.Core.Path.{_≡_};
 ghost use Prim.Native.Nat.{_+_, _*_, _-_, _≤_, _<_, _^_};
 ghost use lib.ListN.{length, set, getD};
-ghost use Rattle.syntax.specs.Reading.{wrongNumber, sameRun, sameSpan, isAnonymous, withNew};
+ghost use Rattle.syntax.specs.Reading.{wrongNumber};
+ghost use Rattle.syntax.specs.Words.{nodeWords};
+ghost use Rattle.syntax.specs.Spans.{spanned, Inside};
 ghost use mathlib.Core.List.{[], _∷_};
 ghost use Rattle.syntax.specs.Tokens.{spelling};
 ghost use Rattle.syntax.specs.Terms.{sameName, true-name, fail-name, mode-name};
@@ -22,12 +26,7 @@ pub fn next(s: &[u8], st: State) -> State
     let p = t.at + t.len;
     let token = lexer::token_at(s, p);
     let count = st.count;
-    let first = st.first;
-    State {
-        token,
-        count,
-        first,
-    }
+    State { token, count }
 }
 
 // A fault of the given number at the token at hand.
@@ -59,7 +58,7 @@ pub fn wrong(st: State) -> Parsed
 
 // Three words from n on.
 pub fn put_node(table: &mut [u32], n: usize, what: usize, size: usize, at: usize)
-    requires { ⌜ (n + 3 ≤ length (now table)) × ((what < 2 ^ 32) × ((size < 2 ^ 32) × (at < 2 ^ 32))) ⌝ }
+    requires { ⌜ (n + nodeWords ≤ length (now table)) × ((what < 2 ^ 32) × ((size < 2 ^ 32) × (at < 2 ^ 32))) ⌝ }
     ensures { λ _. ⌜ now (table .exit) ≡ set (set (set (now (table .entry)) n what) (n + 1) size) (n + 2) at ⌝ }
 {
     table[n] = what as u32;
@@ -67,35 +66,17 @@ pub fn put_node(table: &mut [u32], n: usize, what: usize, size: usize, at: usize
     table[n + 2] = at as u32;
 }
 
-// Whether the text reads the same for n bytes from a and from b on.
-pub fn same_run(s: &[u8], a: usize, b: usize, n: usize) -> bool
-    requires { ⌜ (a + n < 2 ^ 32) × (b + n < 2 ^ 32) ⌝ }
-    ensures { λ r. ⌜ r ≡ sameRun (now (s .entry)) a b n ⌝ }
-{
-    let mut i = 0;
-    while i < n {
-        let x = lexer::byte_at(s, a + i);
-        let y = lexer::byte_at(s, b + i);
-        if x != y {
-            return false;
-        }
-        i += 1;
-    }
-    true
-}
-
 // Whether a variable's first occurrence, packed, is spelt as a token.
 pub fn same_span(s: &[u8], t: Token, first: u32) -> bool
-    requires { ⌜ (t .at + t .len ≤ length (now s)) × (length (now s) ≤ 16384) ⌝ }
-    ensures { λ r. ⌜ r ≡ sameSpan (now (s .entry)) t first ⌝ }
+    requires { ⌜ (t .at + t .len ≤ length (now s)) × Inside (now s) first ⌝ }
+    ensures { λ r. ⌜ r ≡ sameName (spanned (now (s .entry)) first) (spelling (now (s .entry)) (t .at) (t .len)) ⌝ }
 {
-    let w = first as usize;
-    let len = t.len;
     let at = t.at;
-    let a = w / 32;
-    let m = w % 32;
+    let len = t.len;
+    let a = span_at(first);
+    let m = span_length(first);
     if m == len {
-        return same_run(s, a, at, len);
+        return lexer::same_bytes(s, a, s, at, len);
     }
     false
 }

@@ -6,32 +6,32 @@ use crate::cursor::put_node;
 use crate::cursor::refuse;
 use crate::cursor::same_span;
 use crate::cursor::wrong;
+use syntax::ARGUMENTS;
 use syntax::CLOSE;
 use syntax::COMMA;
+use syntax::FIRST_NAME;
+use syntax::LENGTHS;
 use syntax::NAME;
+use syntax::NODE_WORDS;
 use syntax::NUMERAL;
 use syntax::OPEN;
 use syntax::State;
 use syntax::Token;
 use syntax::VARIABLE;
+use syntax::VARIABLES;
+use syntax::pack_span;
 ghost use mathlib.Core.Path.{_≡_};
 ghost use mathlib.Core.List.{[], _∷_};
 ghost use Prim.Native.Nat.{_+_, _*_, _-_, _≤_, _<_, _^_};
-ghost use lib.ListN.{length, set, getD, take};
+ghost use lib.ListN.{length, set};
+ghost use Rattle.syntax.specs.Limits.{sheetBytes, variables};
+ghost use Rattle.syntax.specs.Spans.{packed, met, Held};
 ghost use Rattle.syntax.specs.Terms.{arity};
-ghost use Rattle.syntax.specs.Reading.{isAnonymous, numberOf, withNew, newVariable, readVariable, readTerm, readList, readAtomWith, readArguments, startOf};
+ghost use Rattle.syntax.specs.Tokens.{nameKind, variableKind, endKind};
+ghost use Rattle.syntax.specs.Reading.{isAnonymous, newVariable, readVariable, readTerm, readList, readAtomWith, readArguments, startOf};
 ghost use Rattle.reading.specs.Atoms.{readAtomAt};
-ghost use Rattle.syntax.specs.Words.{termWords, termsWords, atomWords, functor};
-ghost use Rattle.reading.specs.Gives.{Standing, Ready, Given, Gives, FoundAs, MetAs, Refused, Counted, fullNumber, one};
-
-// The most arguments or marks in a list.
-pub const ARGUMENTS: usize = 8;
-
-// The most variables in a clause or goal.
-pub const VARIABLES: usize = 32;
-
-// What a node of a name with its number of arguments says.
-const NAMED: usize = 64;
+ghost use Rattle.syntax.specs.Words.{nodeWords, termWords, termsWords, atomWords, functor};
+ghost use Rattle.reading.specs.Gives.{cursorOf, found, Standing, Ready, Given, Gives, FoundAs, MetAs, Refused, Counted, fullNumber, one};
 
 // The underscore.
 const UNDERSCORE: u8 = 95;
@@ -48,16 +48,18 @@ fn is_anonymous(s: &[u8], t: Token) -> bool
 }
 
 // The number of the variable at hand: that of the same one met before, or one more than all of these.
-fn number_of(s: &[u8], st: State) -> usize
+fn number_of(s: &[u8], st: State, table: &[u32]) -> usize
     requires { ⌜ Standing (now s) st ⌝ }
-    ensures { λ r. ⌜ FoundAs (numberOf (now (s .entry)) (st .token) 0 (take (st .count) (st .first))) (st .count) r ⌝ }
+    requires { ⌜ (variables ≤ length (now table)) × Held (now s) (met (now table)) (st .count) ⌝ }
+    ensures { λ r. ⌜ FoundAs (found (now (s .entry)) (now (table .entry)) st) (st .count) r ⌝ }
 {
     let t = st.token;
     let count = st.count;
-    let first = st.first;
+    let from = table.len() - VARIABLES;
     let mut i = 0;
     while i < count {
-        let w = first[i];
+        let p = from + i;
+        let w = table[p];
         if same_span(s, t, w) {
             return i;
         }
@@ -67,44 +69,46 @@ fn number_of(s: &[u8], st: State) -> usize
 }
 
 // The number of the variable at hand if it was met before, else how many there are; `_` alone never was.
-fn known_number(s: &[u8], st: State) -> usize
+fn known_number(s: &[u8], st: State, table: &[u32]) -> usize
     requires { ⌜ Standing (now s) st ⌝ }
-    ensures { λ r. ⌜ MetAs (isAnonymous (now (s .entry)) (st .token)) (numberOf (now (s .entry)) (st .token) 0 (take (st .count) (st .first))) (st .count) r ⌝ }
+    requires { ⌜ (variables ≤ length (now table)) × Held (now s) (met (now table)) (st .count) ⌝ }
+    ensures { λ r. ⌜ MetAs (isAnonymous (now (s .entry)) (st .token)) (found (now (s .entry)) (now (table .entry)) st) (st .count) r ⌝ }
 {
     let t = st.token;
     let count = st.count;
     if is_anonymous(s, t) {
         return count;
     }
-    number_of(s, st)
+    number_of(s, st, table)
 }
 
-// The reader with one variable more, first met here.
-fn with_new(s: &[u8], st: State) -> State
-    requires { ⌜ Standing (now s) st ⌝ }
-    requires { ⌜ st .count < 32 ⌝ }
-    ensures { λ r. ⌜ r ≡ withNew st ⌝ }
+// The reader with one variable more, first met here; its word is stored.
+fn with_new(st: State, table: &mut [u32]) -> State
+    requires { ⌜ (st .token .at ≤ sheetBytes) × (st .token .len ≤ sheetBytes) ⌝ }
+    requires { ⌜ (st .count < variables) × ((variables ≤ length (now table)) × (length (now table) < 2 ^ 31)) ⌝ }
+    ensures is { λ r. ⌜ r ≡ record { token = st .token; count = st .count + 1 } ⌝ }
+    ensures stored { λ r. ⌜ now (table .exit) ≡ set (now (table .entry)) (length (now (table .entry)) - variables + st .count) (packed (st .token .at) (st .token .len)) ⌝ }
 {
-    let t = st.token;
-    let count = st.count;
-    let w = t.at * 32 + t.len;
-    let mut new = st;
-    new.first[count] = w as u32;
-    new.count = count + 1;
-    new
+    let token = st.token;
+    let w = pack_span(token.at, token.len);
+    let from = table.len() - VARIABLES;
+    let p = from + st.count;
+    table[p] = w;
+    let count = st.count + 1;
+    State { token, count }
 }
 
 // A node without arguments for the token at hand, and the reader past it.
 fn leaf(s: &[u8], st: State, table: &mut [u32], n: usize, what: usize) -> Parsed
     requires { ⌜ Ready (now s) st (now table) n 0 ⌝ }
-    requires { ⌜ (what < 2 ^ 32) × (st .token .kind ≡ 16 → ⊥) ⌝ }
-    ensures { λ r. ⌜ Given (now (s .entry)) st (now (table .entry)) (now (table .exit)) n r (what ∷ 3 ∷ (st .token .at) ∷ []) 1 (Rattle.syntax.specs.Reading.next (now (s .entry)) st) ⌝ }
+    requires { ⌜ (what < 2 ^ 32) × (st .token .kind ≡ endKind → ⊥) ⌝ }
+    ensures { λ r. ⌜ Given (now (s .entry)) st (now (table .entry)) (now (table .exit)) n r (what ∷ nodeWords ∷ (st .token .at) ∷ []) 1 (Rattle.syntax.specs.Reading.next (now (s .entry)) (cursorOf (now (s .entry)) (now (table .entry)) st)) ⌝ }
 {
     let t = st.token;
     let at = t.at;
-    put_node(table, n, what, 3, at);
+    put_node(table, n, what, NODE_WORDS, at);
     let after = next(s, st);
-    let used = n + 3;
+    let used = n + NODE_WORDS;
     Parsed {
         number: 0,
         used,
@@ -116,12 +120,12 @@ fn leaf(s: &[u8], st: State, table: &mut [u32], n: usize, what: usize) -> Parsed
 // A variable that is met here first.
 fn new_variable(s: &[u8], st: State, table: &mut [u32], n: usize) -> Parsed
     requires { ⌜ Ready (now s) st (now table) n 0 ⌝ }
-    requires { ⌜ st .token .kind ≡ 4 ⌝ }
-    ensures { λ r. ⌜ Gives termWords one (now (s .entry)) st (now (table .entry)) (now (table .exit)) n r (newVariable (now (s .entry)) st) ⌝ }
+    requires { ⌜ st .token .kind ≡ variableKind ⌝ }
+    ensures { λ r. ⌜ Gives termWords one (now (s .entry)) st (now (table .entry)) (now (table .exit)) n r (newVariable (now (s .entry)) (cursorOf (now (s .entry)) (now (table .entry)) st)) ⌝ }
 {
     let count = st.count;
     if count < VARIABLES {
-        let new = with_new(s, st);
+        let new = with_new(st, table);
         return leaf(s, new, table, n, count);
     }
     refuse(st, 6)
@@ -129,11 +133,11 @@ fn new_variable(s: &[u8], st: State, table: &mut [u32], n: usize) -> Parsed
 
 fn read_variable(s: &[u8], st: State, table: &mut [u32], n: usize) -> Parsed
     requires { ⌜ Ready (now s) st (now table) n 0 ⌝ }
-    requires { ⌜ st .token .kind ≡ 4 ⌝ }
-    ensures { λ r. ⌜ Gives termWords one (now (s .entry)) st (now (table .entry)) (now (table .exit)) n r (readVariable (now (s .entry)) st) ⌝ }
+    requires { ⌜ st .token .kind ≡ variableKind ⌝ }
+    ensures { λ r. ⌜ Gives termWords one (now (s .entry)) st (now (table .entry)) (now (table .exit)) n r (readVariable (now (s .entry)) (cursorOf (now (s .entry)) (now (table .entry)) st)) ⌝ }
 {
     let count = st.count;
-    let v = known_number(s, st);
+    let v = known_number(s, st, table);
     if v < count {
         return leaf(s, st, table, n, v);
     }
@@ -168,8 +172,8 @@ pub fn full(st: State) -> Parsed
 // A name with an optional bracketed list; the name is at hand.
 pub fn read_atom(s: &[u8], left: usize, st: State, table: &mut [u32], n: usize) -> Parsed
     requires { ⌜ Ready (now s) st (now table) n 0 ⌝ }
-    requires { ⌜ st .token .kind ≡ 3 ⌝ }
-    ensures { λ r. ⌜ Gives atomWords one (now (s .entry)) st (now (table .entry)) (now (table .exit)) n r (readAtomAt left (now (s .entry)) st) ⌝ }
+    requires { ⌜ st .token .kind ≡ nameKind ⌝ }
+    ensures { λ r. ⌜ Gives atomWords one (now (s .entry)) st (now (table .entry)) (now (table .exit)) n r (readAtomAt left (now (s .entry)) (cursorOf (now (s .entry)) (now (table .entry)) st)) ⌝ }
 {
     let t = st.token;
     let len = t.len;
@@ -177,14 +181,14 @@ pub fn read_atom(s: &[u8], left: usize, st: State, table: &mut [u32], n: usize) 
     let u = past.token;
     let kind = u.kind;
     if kind != OPEN {
-        let what = NAMED + len;
+        let what = FIRST_NAME + len;
         return leaf(s, st, table, n, what);
     }
     if left == 0 {
         return refuse(past, 6);
     }
     let inner = next(s, past);
-    let m = n + 3;
+    let m = n + NODE_WORDS;
     let fewer = left - 1;
     let r = read_arguments(s, fewer, ARGUMENTS, inner, table, m);
     if r.number != 0 {
@@ -195,13 +199,13 @@ pub fn read_atom(s: &[u8], left: usize, st: State, table: &mut [u32], n: usize) 
 
 // The node of the name at hand, whose arguments were read.
 fn close(st: State, r: Parsed, table: &mut [u32], n: usize) -> Parsed
-    requires { ⌜ (n + 3 ≤ length (now table)) × ((st .token .at < 2 ^ 31) × ((st .token .len < 2 ^ 15) × ((r .items < 2 ^ 20) × ((n ≤ r .used) × (r .used < 2 ^ 31))))) ⌝ }
+    requires { ⌜ (n + nodeWords ≤ length (now table)) × ((st .token .at < 2 ^ 31) × ((st .token .len < 2 ^ 15) × ((r .items < 2 ^ 20) × ((n ≤ r .used) × (r .used < 2 ^ 31))))) ⌝ }
     ensures { λ q. ⌜ (q ≡ record { number = 0; used = r .used; items = 1; state = r .state }) × (now (table .exit) ≡ set (set (set (now (table .entry)) n (functor (r .items) (st .token .len))) (n + 1) (r .used - n)) (n + 2) (st .token .at)) ⌝ }
 {
     let t = st.token;
     let at = t.at;
     let used = r.used;
-    let what = NAMED + r.items * 32 + t.len;
+    let what = FIRST_NAME + r.items * LENGTHS + t.len;
     let size = used - n;
     put_node(table, n, what, size, at);
     let state = r.state;
@@ -215,7 +219,7 @@ fn close(st: State, r: Parsed, table: &mut [u32], n: usize) -> Parsed
 
 pub fn read_term(s: &[u8], left: usize, st: State, table: &mut [u32], n: usize) -> Parsed
     requires { ⌜ Ready (now s) st (now table) n 0 ⌝ }
-    ensures { λ r. ⌜ Gives termWords one (now (s .entry)) st (now (table .entry)) (now (table .exit)) n r (readTerm left (now (s .entry)) st) ⌝ }
+    ensures { λ r. ⌜ Gives termWords one (now (s .entry)) st (now (table .entry)) (now (table .exit)) n r (readTerm left (now (s .entry)) (cursorOf (now (s .entry)) (now (table .entry)) st)) ⌝ }
 {
     let t = st.token;
     let kind = t.kind;
@@ -224,7 +228,7 @@ pub fn read_term(s: &[u8], left: usize, st: State, table: &mut [u32], n: usize) 
     }
     if kind == NUMERAL {
         let len = t.len;
-        let what = NAMED + len;
+        let what = FIRST_NAME + len;
         return leaf(s, st, table, n, what);
     }
     if kind == NAME {
@@ -238,7 +242,7 @@ pub fn read_term(s: &[u8], left: usize, st: State, table: &mut [u32], n: usize) 
 // A list of terms after its opening bracket, of at most k.
 fn read_arguments(s: &[u8], left: usize, k: usize, st: State, table: &mut [u32], n: usize) -> Parsed
     requires { ⌜ Ready (now s) st (now table) n 0 ⌝ }
-    ensures { λ r. ⌜ Gives termsWords arity (now (s .entry)) st (now (table .entry)) (now (table .exit)) n r (readArguments (λ x. readTerm left (now (s .entry)) x) (now (s .entry)) k st) ⌝ }
+    ensures { λ r. ⌜ Gives termsWords arity (now (s .entry)) st (now (table .entry)) (now (table .exit)) n r (readArguments (λ x. readTerm left (now (s .entry)) x) (now (s .entry)) k (cursorOf (now (s .entry)) (now (table .entry)) st)) ⌝ }
 {
     if k == 0 {
         return full(st);

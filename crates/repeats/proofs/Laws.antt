@@ -3,24 +3,23 @@ use Prim.Native.Nat.{ℕ, zero, suc, _+_, _-_, _*_, _≤_, _<_, _^_}
 use native.Mathlib.Numerals.{add-one}
 use native.Mathlib.Nat.{le-of-suc-le-suc}
 use native.Mathlib.Omega.{arith}
-use mathlib.Core.Path.{_≡_, refl, sym, ap, ap₂, _∙_, subst, subst⁻¹}
-use mathlib.Core.Bool.{Bool, true, false, _&&_, _||_, or-true}
+use mathlib.Core.Path.{_≡_, refl, sym, ap, ap₂, _∙_, subst}
+use mathlib.Core.Bool.{Bool, true, false, _&&_, _||_}
 use mathlib.Core.List.{List, [], _∷_, _++_, append-assoc}
-use mathlib.Core.Option.{Option, none, some}
-use lib.ListN.{length, getD, take, drop, length-take, length-append}
+use mathlib.Core.Option.{Option, some}
+use lib.ListN.{length, getD, take, drop, length-take}
 use lib.Seq.{split-at, take-suc, drop-cons}
-use lib.Dec.{eqb}
 use borrow.Author.Tests.{eq-eqb, ne-eqb}
 use Rattle.syntax.specs.Tokens.{spelling}
 use Rattle.syntax.specs.Terms.{Declaration, sameName, samePredicate, true-name, fail-name}
 use Rattle.syntax.specs.Reading.{declares, repeats, firstRepeat}
 use Rattle.syntax.specs.Words.{declarationWords, declarationsWords}
 use Rattle.marking.specs.Standing.{DeclarationStands, DeclarationsStand, no-declarations, declaration-stands}
-use Rattle.marking.specs.Tables.{Has, DeclarationsAt}
+use Rattle.words.specs.Tables.{Has}
+use Rattle.marking.specs.Tables.{DeclarationsAt}
 use Rattle.marking.specs.Answers.{position}
-use Rattle.marking.proofs.Places.{has-left, has-right}
+use Rattle.words.proofs.Laws.{has-left, has-right}
 use Rattle.repeats.specs.Repeating.{repeatOf, nth}
-use Rattle.repeats.specs.declared.Repeat.{Repeat}
 
 -- ---- a list of declarations taken apart at a place
 
@@ -113,20 +112,20 @@ module _ (s declared : List ℕ) (n : ℕ) (w : DeclarationsAt s declared n) (i 
 
   -- what the words say
   pub place-in : 4 * i + 2 < length declared
-  unfolding Has declarationWords
-  place-in = let q : suc (suc (4 * i)) < length declared = one-has .1 .1 .1 .1 .0 in omega arith
+  unfolding declarationWords
+  place-in = let q : 4 * i + 1 + 1 < length declared = one-has .2 .2 .0 in omega arith
 
   pub at-is : getD declared (4 * i) 0 ≡ one .at
-  unfolding Has declarationWords
-  at-is = one-has .1 .0
+  unfolding declarationWords
+  at-is = one-has .1
 
   len-is : getD declared (4 * i + 1) 0 ≡ length (one .name)
-  unfolding Has declarationWords
-  len-is = ap (λ (k : ℕ). getD declared k 0) (add-one (4 * i)) ∙ one-has .1 .1 .1 .0
+  unfolding declarationWords
+  len-is = one-has .2 .1
 
   marks-is : getD declared (4 * i + 2) 0 ≡ length (one .marks)
-  unfolding Has declarationWords
-  marks-is = (let q : 4 * i + 2 ≡ suc (suc (4 * i)) = omega arith in ap (λ (k : ℕ). getD declared k 0) q) ∙ one-has .1 .1 .1 .1 .1 .0
+  unfolding declarationWords
+  marks-is = (let q : 4 * i + 2 ≡ 4 * i + 1 + 1 = omega arith in ap (λ (k : ℕ). getD declared k 0) q) ∙ one-has .2 .2 .1
 
   module _ (at len marks : ℕ) (ea : at ≡ getD declared (4 * i) 0) (el : len ≡ getD declared (4 * i + 1) 0) (em : marks ≡ getD declared (4 * i + 2) 0) where
     pub name-inside : at + len ≤ length s

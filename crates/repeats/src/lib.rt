@@ -1,8 +1,9 @@
 // Refusal 7 of document 01: a declaration that repeats an earlier predicate, or names `true` or `fail` without arguments.
 use marking::marks::find;
-use marking::table::word_at;
 use reading::cursor::is_fail;
 use reading::cursor::is_true;
+use syntax::DECLARATION_SIZE;
+use words::word_at;
 ghost use mathlib.Core.Path.{_≡_};
 ghost use mathlib.Core.List.{[]};
 ghost use Prim.Native.Nat.{_<_};
@@ -17,16 +18,13 @@ pub struct Repeat {
     pub byte: usize,
 }
 
-// The words of a declaration.
-const ENTRY: usize = 4;
-
 // Whether declaration i is at fault.
 fn is_repeat(s: &[u8], declared: &[u32], n: usize, i: usize) -> bool
     requires { ⌜ DeclarationsAt (now s) (now declared) n ⌝ }
     requires { ⌜ i < n ⌝ }
     ensures { λ r. ⌜ ((w : DeclarationsAt (now (s .entry)) (now (declared .entry)) n) → r ≡ repeats (take i (w .list)) (nth (w .list) i)) ⌝ }
 {
-    let p = ENTRY * i;
+    let p = DECLARATION_SIZE * i;
     let at = word_at(declared, p);
     let len = word_at(declared, p + 1);
     let marks = word_at(declared, p + 2);
@@ -51,7 +49,7 @@ pub fn first_repeat(s: &[u8], declared: &[u32], n: usize) -> Repeat
     let mut i = 0;
     while i < n {
         if is_repeat(s, declared, n, i) {
-            let byte = word_at(declared, ENTRY * i);
+            let byte = word_at(declared, DECLARATION_SIZE * i);
             return Repeat { found: true, byte };
         }
         i += 1;

@@ -7,7 +7,7 @@ use Rattle.syntax.specs.Quote.{bytes}
 use Rattle.syntax.specs.Bytes.{classOf, inWord, inNumeral}
 use Rattle.syntax.specs.Tokens.{skipped, run, word, dashFirst, tokenOf, tokenFrom, tokenPlace, tokenAt}
 use Rattle.syntax.specs.Terms.{sameBytes, literalOf}
-use Rattle.syntax.specs.Reading.{andThen, standing, next, wrongNumber, wrong, beyond, full, sameRun, numberOf, isAnonymous, withNew, newVariable, oldVariable, readVariable, atomWith, readAtomWith, termWith, readTermWith, argumentsAfter, readArguments, readList, readTerm, readAtom, readRight, afterAtom, afterTerm, literalWith, readLiteral, bodyAfter, readBody, fresh, clauseAfter, readClause, marksAfter, marksWith, readMarks, declarationEnd, declarationFrom, isMode, afterNeck, readDeclaration, itemWith, readItems, atStart, readSheet, goalEnd, readGoal, declares, repeats, firstRepeat}
+use Rattle.syntax.specs.Reading.{andThen, standing, next, wrongNumber, wrong, beyond, full, numberOf, isAnonymous, withNew, newVariable, oldVariable, readVariable, atomWith, readAtomWith, termWith, readTermWith, argumentsAfter, readArguments, readList, readTerm, readAtom, readRight, afterAtom, afterTerm, literalWith, readLiteral, bodyAfter, readBody, clauseAfter, readClause, marksAfter, marksWith, readMarks, declarationEnd, declarationFrom, isMode, afterNeck, readDeclaration, itemWith, readItems, atStart, readSheet, goalEnd, readGoal, declares, repeats, firstRepeat}
 use Rattle.syntax.specs.Reading.{marksOf as marksBehind}
 use Rattle.syntax.specs.Refusals.{five, numbersOf}
 use Rattle.syntax.specs.Verdicts.{withoutRepeats, sheetFrom, goalFrom, sheetOf, goalOutcome, sheetVerdict}
@@ -95,5 +95,5 @@ cases =
 
 -- each case gets the answer that it is told with
 as-told : map answered cases ≡ map told cases
-unfolding classOf inWord inNumeral skipped run word dashFirst tokenOf tokenFrom tokenPlace tokenAt sameBytes literalOf andThen standing next wrongNumber wrong beyond full sameRun numberOf isAnonymous withNew newVariable oldVariable readVariable atomWith readAtomWith termWith readTermWith argumentsAfter readArguments readList readTerm readAtom readRight afterAtom afterTerm literalWith readLiteral bodyAfter readBody fresh clauseAfter readClause marksAfter marksWith readMarks marksBehind declarationEnd declarationFrom isMode afterNeck readDeclaration itemWith readItems atStart readSheet goalEnd readGoal declares repeats firstRepeat withoutRepeats sheetFrom goalFrom sheetOf goalOutcome sheetVerdict nothing everything isGround groundTerm groundBoth equateVariable equateSame equate marksOf orNoMarks marksFor sameMark faulty firstFaulty groundIf groundMarked undeclared undeclaredAtom undeclaredLiteral undeclaredBody undeclaredClause undeclaredClauses undeclaredInSheet undeclaredInGoal openInput openOutput literalFault afterLiteral walkOn bodyFault startKnown headFault clauseFault clausesFault sheetFault walkFault goalFault faultless checkedFrom checkedSheet checkVerdict checkedGoalFrom checkedGoal goalAnswer checkGoalFrom checkGoalVerdict faultName
+unfolding classOf inWord inNumeral skipped run word dashFirst tokenOf tokenFrom tokenPlace tokenAt sameBytes literalOf andThen standing next wrongNumber wrong beyond full numberOf isAnonymous withNew newVariable oldVariable readVariable atomWith readAtomWith termWith readTermWith argumentsAfter readArguments readList readTerm readAtom readRight afterAtom afterTerm literalWith readLiteral bodyAfter readBody clauseAfter readClause marksAfter marksWith readMarks marksBehind declarationEnd declarationFrom isMode afterNeck readDeclaration itemWith readItems atStart readSheet goalEnd readGoal declares repeats firstRepeat withoutRepeats sheetFrom goalFrom sheetOf goalOutcome sheetVerdict nothing everything isGround groundTerm groundBoth equateVariable equateSame equate marksOf orNoMarks marksFor sameMark faulty firstFaulty groundIf groundMarked undeclared undeclaredAtom undeclaredLiteral undeclaredBody undeclaredClause undeclaredClauses undeclaredInSheet undeclaredInGoal openInput openOutput literalFault afterLiteral walkOn bodyFault startKnown headFault clauseFault clausesFault sheetFault walkFault goalFault faultless checkedFrom checkedSheet checkVerdict checkedGoalFrom checkedGoal goalAnswer checkGoalFrom checkGoalVerdict faultName
 as-told = refl

@@ -6,7 +6,7 @@ use mathlib.Core.List.{List, [], _∷_}
 use native.Mathlib.Omega.{arith}
 use lib.ListN.{length, length-set, length-replicate, getD-replicate}
 use Rattle.syntax.specs.Terms.{Term, Terms, variable, compound, nil, cons, arity, Literal, Body, call, equation, truth, falsity, Mark, output, Declaration, samePredicate}
-use Rattle.syntax.specs.Reading.{variables}
+use Rattle.syntax.specs.Limits.{variables}
 use Rattle.rules.specs.Modes.{Known, knows, everything, isGround, groundTerm, groundTerms, groundBoth, equateVariable, equateSame, equate, equateAll, sameMark, marksFor, listOf, groundIf, groundMarked, afterLiteral}
 use Rattle.rules.specs.Judgment.{BodyModed, no-more, conjunction}
 use Rattle.rules.proofs.Terms.{grounding-keeps}

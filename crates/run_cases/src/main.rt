@@ -1,11 +1,17 @@
 // Answers each record of the file `cases`: `R`, the allowance in 3 bytes, the wanted answers in 2 and the room in 3, lowest first, a sheet
 // and a goal. What the runner would print with these settings is printed.
+use cases::BYTE;
+use cases::TWO_BYTES;
 use cases::wide;
 use syntax::Run;
 use syntax::Verdict;
 ghost use mathlib.Core.Path.{_≡_};
 ghost use Prim.Native.Nat.{_+_, _≤_, _<_};
 ghost use lib.ListN.{length};
+ghost use Rattle.run_cases.specs.Rooms.{textRoom};
+
+// The most room for answers that a case may ask for.
+const TEXT_ROOM: usize = 200000;
 
 // The bytes of a record before its texts.
 const SETTINGS: usize = 9;
@@ -14,13 +20,13 @@ const SETTINGS: usize = 9;
 fn two(cases: &[u8], at: usize) -> usize
     requires { ⌜ at + 2 ≤ length (now cases) ⌝ }
 {
-    wide(cases[at]) + 256 * wide(cases[at + 1])
+    wide(cases[at]) + BYTE * wide(cases[at + 1])
 }
 
 fn three(cases: &[u8], at: usize) -> usize
     requires { ⌜ at + 3 ≤ length (now cases) ⌝ }
 {
-    wide(cases[at]) + 256 * wide(cases[at + 1]) + 65536 * wide(cases[at + 2])
+    wide(cases[at]) + BYTE * wide(cases[at + 1]) + TWO_BYTES * wide(cases[at + 2])
 }
 
 fn print_run<'a>(sheet: &'a [u8], goal: &'a [u8], run: Run, text: &[u8]) {
@@ -48,15 +54,15 @@ fn run_with<'a>(sheet: &'a [u8], goal: &'a [u8], allowance: usize, wanted: usize
     print_run(sheet, goal, run, text);
 }
 
-fn text_room() -> [u8; 200000]
-    ensures { λ r. ⌜ 200000 ≡ length r ⌝ }
+fn text_room() -> [u8; TEXT_ROOM]
+    ensures { λ r. ⌜ textRoom ≡ length r ⌝ }
 {
-    [0; 200000]
+    [0; TEXT_ROOM]
 }
 
-// Runs with so much room; a record that asks for more than 200,000 bytes is passed over.
+// Runs with so much room; a record that asks for more than there is is passed over.
 fn answer_run<'a>(sheet: &'a [u8], goal: &'a [u8], allowance: usize, wanted: usize, room: usize) {
-    if 200000 < room {
+    if TEXT_ROOM < room {
         return;
     }
     let mut text = text_room();

@@ -1,17 +1,24 @@
 // Runs the goal in the file `goal` over the sheet in the file `sheet`, within 65,536 steps, for at most 16 answers of at most 4,096 bytes
 // together, and prints the answers and the report. A file that cannot be read counts as empty. One byte more than the limit is read,
 // so that a text past it is known by its length.
+use syntax::GOAL_BYTES;
+use syntax::MOST_STEPS;
 use syntax::Run;
+use syntax::SHEET_BYTES;
 use syntax::Verdict;
 
-const STEPS: usize = 65536;
+const SHEET_ROOM: usize = SHEET_BYTES + 1;
+
+const GOAL_ROOM: usize = GOAL_BYTES + 1;
 
 const ANSWERS: usize = 16;
 
+const TEXT_BYTES: usize = 4096;
+
 fn main() {
-    let mut sheet = [0u8; 16385];
-    let mut goal = [0u8; 1025];
-    let mut text = [0u8; 4096];
+    let mut sheet = [0u8; SHEET_ROOM];
+    let mut goal = [0u8; GOAL_ROOM];
+    let mut text = [0u8; TEXT_BYTES];
     let first = os::open_read(b"sheet");
     let n = io::read_full(first, &mut sheet);
     libc::close(first);
@@ -20,7 +27,7 @@ fn main() {
     libc::close(second);
     let clauses = &sheet[..n];
     let asked = &goal[..m];
-    match pilvaust::run(clauses, asked, STEPS, ANSWERS, &mut text) {
+    match pilvaust::run(clauses, asked, MOST_STEPS, ANSWERS, &mut text) {
         Run::Ended(report) => {
             printing::print_lines(&text, report.answers);
             printing::print_report(report);

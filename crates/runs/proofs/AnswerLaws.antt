@@ -13,12 +13,13 @@ use Rattle.syntax.specs.declared.Kind.the-variants.{Wanted, Done, Steps, Deep}
 use Rattle.machine.specs.Machine.{Alternative, step}
 use Rattle.machine.specs.Answers.{line}
 use Rattle.machine.specs.Runs.{isEmpty, isAnswer, goesDeeper}
+use Rattle.layout.specs.Regions.{alternatives, alternativeSize, mostAlternatives, stateWords, stack}
 use Rattle.layout.specs.Nodes.{Symbol}
 use Rattle.layout.specs.State.{bindings}
 use Rattle.layout.specs.Pile.{pileOf, Piled, markAt}
 use Rattle.layout.proofs.Pile.{height, undone, Means}
 use Rattle.bindings.specs.Cells.{Stored, Undone}
-use Rattle.spelling.specs.Words.{namesFrom}
+use Rattle.syntax.specs.Spans.{namesFrom}
 use Rattle.answers.specs.Fitting.{Answerable, SomeAnswerable, Fitted}
 use Rattle.bindings.specs.Scratch.{SameMarks, Roomy}
 use Rattle.engine.specs.Steps.{Running, Steppable, Stepped}
@@ -85,8 +86,8 @@ module _ {nodes code state : List ℕ} {allowance wanted h n answers steps : ℕ
 -- ---- the trail rewound
 
 module _ {state : List ℕ} {h n : ℕ} (w : Rewindable state h n) where
-  pub rewind-room : 33792 + (h - 1) * 6 + 3 < length state
-  rewind-room = let x : h ≤ 256 = height (w .ss) (w .sh) (w .g) (w .nodes) (w .code) state h n (w .piled) in let y : 35328 ≤ length state = w .piled .long in let z : 1 ≤ h = w .some in omega arith
+  pub rewind-room : alternatives + (h - 1) * alternativeSize + 3 < length state
+  rewind-room = let x : h ≤ mostAlternatives = height (w .ss) (w .sh) (w .g) (w .nodes) (w .code) state h n (w .piled) in let y : stateWords ≤ length state = w .piled .long in let z : 1 ≤ h = w .some in omega arith
 
   pub rewind-stored : Stored state n
   rewind-stored = record { ss = w .ss; nodes = w .nodes; store = w .piled .store }
@@ -114,7 +115,7 @@ module _ {state : List ℕ} {h n : ℕ} (w : Rewindable state h n) where
     rewind-end =
         record {
           long = u .keeps .long;
-          mark = u .keeps .others (33792 + (h - 1) * 6 + 3) (omega arith);
+          mark = u .keeps .others (alternatives + (h - 1) * alternativeSize + 3) (omega arith);
           same = rewound-by (h - 1) (let z : 1 ≤ h = w .some in omega arith);
         }
 
@@ -126,11 +127,11 @@ rewind-ends {state} {after} {h} {n} {m} w e u = subst⁻¹ (Rewound state after 
 
 -- ---- the scratch words behind marks and queue
 
-pub part-marks : (xs zs : List ℕ) → 32768 ≤ length xs → length (take 32768 xs ++ zs) ≡ length xs → SameMarks xs (take 32768 xs ++ zs)
+pub part-marks : (xs zs : List ℕ) → stack ≤ length xs → length (take stack xs ++ zs) ≡ length xs → SameMarks xs (take stack xs ++ zs)
 part-marks xs zs l e =
     record {
       long = e;
-      words = λ j k. (let m : length (take 32768 xs) ≡ 32768 = length-take-le 32768 xs l in List·getD-append (take 32768 xs) zs 0 j (omega arith)) ∙ getD-take 32768 xs j 0 k;
+      words = λ j k. (let m : length (take stack xs) ≡ stack = length-take-le stack xs l in List·getD-append (take stack xs) zs 0 j (omega arith)) ∙ getD-take stack xs j 0 k;
     }
 
 -- ---- an answer
@@ -160,7 +161,7 @@ module _ {sheet goal names : List ℕ} {count : ℕ} {nodes code symbols state s
           goes = ap (goesDeeper (w .sh)) (same-pile .is) ∙ answer-flat (w .sh) (pileOf (w .ss) (w .sh) (w .g) nodes code state h) (w .answer);
           roomy = (let r : Roomy scratch = w .under .lent .roomy in let e : length scratch1 ≡ length scratch = y .long in omega arith);
           clean = record {
-            long = (let r : 32768 ≤ length scratch = w .under .lent .clean .long in let e : length scratch1 ≡ length scratch = y .long in omega arith);
+            long = (let r : stack ≤ length scratch = w .under .lent .clean .long in let e : length scratch1 ≡ length scratch = y .long in omega arith);
             zero = λ j l. y .words j (omega arith) ∙ w .under .lent .clean .zero j l;
           };
         }

@@ -12,7 +12,7 @@ use borrow.Author.Tests.{ltb-true, ltb-false, lt-ltb, le-ltb}
 use lib.Seq.{sets, length-sets}
 use Rattle.syntax.specs.Terms.{Sheet, Goal}
 use Rattle.syntax.specs.declared.Kind.{Kind}
-use Rattle.syntax.specs.declared.Kind.the-variants.{Full}
+use Rattle.syntax.specs.declared.Kind.the-variants.{Full, Steps}
 use Rattle.buffers.proofs.Laws.{sets-append}
 use Rattle.machine.specs.Machine.{Alternative, step, start}
 use Rattle.machine.specs.Answers.{line}
@@ -25,7 +25,8 @@ use Rattle.bindings.specs.Scratch.{Roomy}
 use Rattle.answers.specs.Fitting.{Fitted}
 use Rattle.runs.specs.declared.Next.{Next}
 use Rattle.runs.specs.declared.Next.the-variants.{End, Answer, Step}
-use Rattle.runs.specs.Running.{nextOf, reportOf, Tellable, Lent, Under, Ongoing, Runs}
+use Rattle.runs.specs.Running.{nextOf, Tellable, Lent, Under, Ongoing, Carries, Turned}
+use Rattle.runs.specs.declared.Carried.{Carried}
 use Rattle.runs.proofs.EndLaws.{Goes, Answers, run-ends, run-steps, run-answers}
 use Rattle.runs.proofs.LineLaws.{line-some, line-of}
 
@@ -39,7 +40,7 @@ pile-some ss sh g nodes code state zero q = absurd (let y : _≡_ {A = Bool} tru
 pile-some ss sh g nodes code state (suc h) q = omega arith
 
 roomy-same : (a b : List ℕ) → length b ≡ length a → Roomy a → Roomy b
-roomy-same a b e r = subst⁻¹ (λ (k : ℕ). 393225 ≤ k) e r
+roomy-same a b e r = omega (arith, e, r)
 
 lt-or-le : (a b : ℕ) → (a < b) ⊎ (b ≤ a)
 lt-or-le a b = by (ltb a b) refl
@@ -54,35 +55,37 @@ not-over room n l = le-ltb room n l
 over : (room n : ℕ) → room < n → ltb room n ≡ true
 over room n l = lt-ltb room n l
 
-module _ (ss : List Symbol) (sh : Sheet) (g : Goal) (nodes code : List ℕ) (allowance wanted : ℕ) (old : List ℕ) where
-  abbrev progress : List ℕ → ℕ → ℕ → ℕ → List ℕ → Progress
-  progress state h answers steps written = record { pile = pileOf ss sh g nodes code state h; answers = answers; steps = steps; text = written }
+full-over : _≡_ {A = Kind} Full Steps → ⊥
+full-over y = let x : _≡_ {A = ℕ} 0 1 = cc in omega arith
 
-  pub begins : (state scratch : List ℕ) → Piled ss sh g nodes code state 1 0 → pileOf ss sh g nodes code state 1 ≡ start sh g → Lent scratch (length old) → Ongoing ss sh g nodes code state scratch allowance wanted old old 1 0 0 0 0
-  unfolding run begun
-  begins state scratch p e l =
-      let z : allowance ≡ allowance - 0 = omega arith in
-      record {
-        under = record { piled = p; lent = l };
-        written = [];
-        at-is = refl;
-        fits = omega arith;
-        text-is = refl;
-        steps-few = omega arith;
-        whole = ap₂ (λ (n : ℕ) (q : List Alternative). runFrom sh g wanted (length old) n (record { pile = q; answers = 0; steps = 0; text = [] })) z (sym e);
-      }
+pub begins : {ss : List Symbol} {sh : Sheet} {g : Goal} {nodes code state scratch old new : List ℕ} {p : Progress} {t : Carried} (wanted k : ℕ) → Carries ss sh g nodes code state scratch old new p t → Ongoing ss sh g nodes code state scratch (runFrom sh g wanted (length old) k p) (t .steps + k) wanted old new (t .height) (t .trail) (t .answers) (t .steps) (t .at)
+begins {ss} {sh} {g} {nodes} {code} {state} {scratch} {old} {new} {p} {t} wanted k c =
+    let z : k ≡ t .steps + k - t .steps = omega arith in
+    record {
+      under = c .under;
+      written = p .text;
+      at-is = c .at-is;
+      fits = c .fits;
+      text-is = c .text-is;
+      steps-few = omega arith;
+      whole = ap₂ (runFrom sh g wanted (length old)) z (c .is);
+    }
 
-  module _ (state scratch new : List ℕ) (h n answers steps at : ℕ) (o : Ongoing ss sh g nodes code state scratch allowance wanted old new h n answers steps at) where
+module _ {ss : List Symbol} {sh : Sheet} {g : Goal} {nodes code : List ℕ} {final : Ended} {allowance wanted : ℕ} {old : List ℕ} where
+  module _ {state scratch new : List ℕ} {h n answers steps at : ℕ} (o : Ongoing ss sh g nodes code state scratch final allowance wanted old new h n answers steps at) where
     abbrev here : Progress
-    here = progress state h answers steps (o .written)
+    here = record { pile = pileOf ss sh g nodes code state h; answers = answers; steps = steps; text = o .written }
 
-    ended : (k : Kind) → runFrom sh g wanted (length old) (allowance - steps) here ≡ record { kind = k; at = here } → Runs sh g allowance wanted old new (record { kind = k; answers = answers; steps = steps })
-    ended k e =
-        let q : run sh g allowance wanted (length old) ≡ record { kind = k; at = here } = o .whole ∙ e in
-        record { is = sym (ap reportOf q); text-is = o .text-is ∙ ap (λ (x : Ended). sets old 0 (x .at .text)) (sym q) }
-
-    pub ends : (k : Kind) → nextOf wanted answers (allowance - steps) sh (pileOf ss sh g nodes code state h) ≡ End k → Runs sh g allowance wanted old new (record { kind = k; answers = answers; steps = steps })
-    ends k q = ended k (run-ends sh g wanted (length old) (allowance - steps) here k q)
+    pub ends : (k : Kind) → nextOf wanted answers (allowance - steps) sh (pileOf ss sh g nodes code state h) ≡ End k → Turned ss sh g nodes code state scratch old new final (record { height = h; trail = n; answers = answers; steps = steps; at = at; kind = k })
+    ends k q =
+        subst⁻¹ (λ (x : Ended). Turned ss sh g nodes code state scratch old new x (record { height = h; trail = n; answers = answers; steps = steps; at = at; kind = k })) (o .whole ∙ run-ends sh g wanted (length old) (allowance - steps) here k q)
+        (record {
+          kind-is = refl;
+          answers-is = refl;
+          steps-is = refl;
+          text-is = o .text-is;
+          on = λ _. record { under = o .under; is = refl; at-is = o .at-is; fits = o .fits; text-is = o .text-is };
+        })
 
     later : (state1 scratch1 : List ℕ) (h1 n1 : ℕ) → Piled ss sh g nodes code state1 h1 n1 → Clean scratch1 → length scratch1 ≡ length scratch → Under ss sh g nodes code state1 scratch1 (length old) h1 n1
     later state1 scratch1 h1 n1 p c e =
@@ -105,7 +108,7 @@ module _ (ss : List Symbol) (sh : Sheet) (g : Goal) (nodes code : List ℕ) (all
       pub step-few : steps < allowance
       step-few = let x : 0 < allowance - steps = left-some (allowance - steps) (goes .more) in omega arith
 
-      pub steps-on : (state1 scratch1 : List ℕ) (h1 n1 : ℕ) → Piled ss sh g nodes code state1 h1 n1 → pileOf ss sh g nodes code state1 h1 ≡ step sh (pileOf ss sh g nodes code state h) → Clean scratch1 → length scratch1 ≡ length scratch → Ongoing ss sh g nodes code state1 scratch1 allowance wanted old new h1 n1 answers (steps + 1) at
+      pub steps-on : (state1 scratch1 : List ℕ) (h1 n1 : ℕ) → Piled ss sh g nodes code state1 h1 n1 → pileOf ss sh g nodes code state1 h1 ≡ step sh (pileOf ss sh g nodes code state h) → Clean scratch1 → length scratch1 ≡ length scratch → Ongoing ss sh g nodes code state1 scratch1 final allowance wanted old new h1 n1 answers (steps + 1) at
       steps-on state1 scratch1 h1 n1 p e c l =
           let x : steps < allowance = step-few in
           let z : allowance - steps - 1 ≡ allowance - (steps + 1) = omega arith in
@@ -160,13 +163,17 @@ module _ (ss : List Symbol) (sh : Sheet) (g : Goal) (nodes code : List ℕ) (all
           total : length (o .written) + length (nextLine g (pileOf ss sh g nodes code state h)) ≡ at + L
           total = ap₂ (λ (a b : ℕ). a + b) (sym (o .at-is)) (ap length the-line)
 
-          pub full : r ≡ 0 → Runs sh g allowance wanted old new1 (record { kind = Full; answers = answers; steps = steps })
-          full z = by (lt-or-le (length new) (at + L))
+          pub full : r ≡ 0 → (state2 scratch2 : List ℕ) (h2 n2 : ℕ) → Turned ss sh g nodes code state2 scratch2 old new1 final (record { height = h2; trail = n2; answers = answers; steps = steps; at = at; kind = Full })
+          full z state2 scratch2 h2 n2 = by (lt-or-le (length new) (at + L))
             where
-              by : (length new < at + L) ⊎ (at + L ≤ length new) → Runs sh g allowance wanted old new1 (record { kind = Full; answers = answers; steps = steps })
+              stops : Ended → List ℕ → Type 0
+              stops x t = Turned ss sh g nodes code state2 scratch2 old t x (record { height = h2; trail = n2; answers = answers; steps = steps; at = at; kind = Full })
+
+              by : (length new < at + L) ⊎ (at + L ≤ length new) → stops final new1
               by (inl l) =
-                  subst⁻¹ (λ (t : List ℕ). Runs sh g allowance wanted old t (record { kind = Full; answers = answers; steps = steps })) (f .full l .1)
-                  (ended Full (answers-here .full (over (length old) (length (o .written) + length (nextLine g (pileOf ss sh g nodes code state h))) (let y : length new ≡ length old = room-same in let t : length (o .written) + length (nextLine g (pileOf ss sh g nodes code state h)) ≡ at + L = total in omega arith))))
+                  subst⁻¹ (stops final) (f .full l .1)
+                  (subst⁻¹ (λ (x : Ended). stops x new) (o .whole ∙ answers-here .full (over (length old) (length (o .written) + length (nextLine g (pileOf ss sh g nodes code state h))) (let y : length new ≡ length old = room-same in let t : length (o .written) + length (nextLine g (pileOf ss sh g nodes code state h)) ≡ at + L = total in omega arith)))
+                  (record { kind-is = refl; answers-is = refl; steps-is = refl; text-is = o .text-is; on = λ y. absurd (full-over y) }))
               by (inr l) =
                   absurd (let y : r ≡ at + L = f .fits l .past in let t : 1 ≤ L = line-some g (bindings ss nodes state1 m) in omega arith)
 
@@ -177,7 +184,7 @@ module _ (ss : List Symbol) (sh : Sheet) (g : Goal) (nodes code : List ℕ) (all
               by (inl l) = absurd (z (f .full l .0))
               by (inr l) = l
 
-          pub answers-on : (r ≡ 0 → ⊥) → (state2 scratch2 : List ℕ) (h2 n2 : ℕ) → Piled ss sh g nodes code state2 h2 n2 → pileOf ss sh g nodes code state2 h2 ≡ step sh (pileOf ss sh g nodes code state1 h) → Clean scratch2 → length scratch2 ≡ length scratch → Ongoing ss sh g nodes code state2 scratch2 allowance wanted old new1 h2 n2 (answers + 1) (steps + 1) r
+          pub answers-on : (r ≡ 0 → ⊥) → (state2 scratch2 : List ℕ) (h2 n2 : ℕ) → Piled ss sh g nodes code state2 h2 n2 → pileOf ss sh g nodes code state2 h2 ≡ step sh (pileOf ss sh g nodes code state1 h) → Clean scratch2 → length scratch2 ≡ length scratch → Ongoing ss sh g nodes code state2 scratch2 final allowance wanted old new1 h2 n2 (answers + 1) (steps + 1) r
           answers-on z state2 scratch2 h2 n2 p2 e2 c2 l2 =
               let x : steps < allowance = answer-few in
               let fit : at + L ≤ length new = fitting z in

@@ -12,15 +12,18 @@ use Rattle.syntax.specs.declared.Kind.the-variants.{Wanted, Done, Steps, Deep}
 use Rattle.machine.specs.Machine.{Alternative, start}
 use Rattle.machine.specs.Answers.{line}
 use Rattle.machine.specs.Runs.{Progress, Ended, isEmpty, isAnswer, goesDeeper, runFrom, begun, run}
+use Rattle.layout.specs.Regions.{deepest, openSize, stack, stateWords}
 use Rattle.layout.specs.Nodes.{Symbol}
 use Rattle.layout.specs.Program.{Program}
 use Rattle.layout.specs.State.{bindings}
 use Rattle.layout.specs.Pile.{pileOf, Piled, markAt}
 use Rattle.bindings.specs.Queues.{Clean}
 use Rattle.bindings.specs.Scratch.{Roomy}
-use Rattle.spelling.specs.Words.{Names, Named, namesFrom}
+use Rattle.syntax.specs.Spans.{namesFrom}
+use Rattle.spelling.specs.Words.{Names, Named}
 use Rattle.answers.specs.Fitting.{Fitted}
 use Rattle.engine.specs.Steps.{Stepped}
+use Rattle.runs.specs.declared.Carried.{Carried}
 use Rattle.runs.specs.declared.Told.{Told}
 use Rattle.runs.specs.declared.Next.{Next}
 use Rattle.runs.specs.declared.Next.the-variants.{End, Answer, Step}
@@ -46,7 +49,7 @@ pub record Spelt (ss : List Symbol) (g : Goal) (sheet goal names : List ℕ) (co
 
 -- scratch words whose part behind marks and queue is an ample stack for the brackets of an answer with so many bytes of room
 abbrev pub Tellable : List ℕ → ℕ → Type 0
-Tellable scratch room = min 524320 (room * 2 + 4) + 32768 ≤ length scratch
+Tellable scratch room = min (deepest * openSize) (room * 2 + 4) + stack ≤ length scratch
 
 -- what a run is lent: scratch words without a mark, for unification and for answers in a text of so many bytes
 pub record Lent (scratch : List ℕ) (room : ℕ) : Type 0 where
@@ -59,15 +62,31 @@ pub record Under (ss : List Symbol) (sh : Sheet) (g : Goal) (nodes code state sc
   pub piled : Piled ss sh g nodes code state h n
   pub lent : Lent scratch room
 
--- Where a run stands: the rest of it is the rest of the whole run.
-pub record Ongoing (ss : List Symbol) (sh : Sheet) (g : Goal) (nodes code state scratch : List ℕ) (allowance wanted : ℕ) (old new : List ℕ) (h n answers steps at : ℕ) : Type 0 where
+-- Where a run stands: the rest of it is the rest of a whole, which ends so.
+pub record Ongoing (ss : List Symbol) (sh : Sheet) (g : Goal) (nodes code state scratch : List ℕ) (e : Ended) (allowance wanted : ℕ) (old new : List ℕ) (h n answers steps at : ℕ) : Type 0 where
   pub under : Under ss sh g nodes code state scratch (length old) h n
   pub written : List ℕ
   pub at-is : at ≡ length written
   pub fits : at ≤ length old
   pub text-is : new ≡ sets old 0 written
   pub steps-few : steps ≤ allowance
-  pub whole : run sh g allowance wanted (length old) ≡ runFrom sh g wanted (length old) (allowance - steps) (record { pile = pileOf ss sh g nodes code state h; answers = answers; steps = steps; text = written })
+  pub whole : e ≡ runFrom sh g wanted (length old) (allowance - steps) (record { pile = pileOf ss sh g nodes code state h; answers = answers; steps = steps; text = written })
+
+-- What a run carries means the definition's progress, and so much is written into the text `old`.
+pub record Carries (ss : List Symbol) (sh : Sheet) (g : Goal) (nodes code state scratch old new : List ℕ) (p : Progress) (t : Carried) : Type 0 where
+  pub under : Under ss sh g nodes code state scratch (length old) (t .height) (t .trail)
+  pub is : p ≡ record { pile = pileOf ss sh g nodes code state (t .height); answers = t .answers; steps = t .steps; text = p .text }
+  pub at-is : t .at ≡ length (p .text)
+  pub fits : t .at ≤ length old
+  pub text-is : new ≡ sets old 0 (p .text)
+
+-- a turn's end: how the run ended, and what it carries if it may go on
+pub record Turned (ss : List Symbol) (sh : Sheet) (g : Goal) (nodes code state scratch old new : List ℕ) (e : Ended) (t : Carried) : Type 0 where
+  pub kind-is : t .kind ≡ e .kind
+  pub answers-is : t .answers ≡ e .at .answers
+  pub steps-is : t .steps ≡ e .at .steps
+  pub text-is : new ≡ sets old 0 (e .at .text)
+  pub on : t .kind ≡ Steps → Carries ss sh g nodes code state scratch old new (e .at) t
 
 -- what a run gives and writes
 pub record Runs (sh : Sheet) (g : Goal) (allowance wanted : ℕ) (old new : List ℕ) (r : Report) : Type 0 where
@@ -119,14 +138,15 @@ pub record Answered (ss : List Symbol) (sh : Sheet) (g : Goal) (nodes code befor
   pub state-long : length after ≡ length before
   pub scratch-long : length between ≡ length scratch
 
--- the goal alone on the pile
-pub record Begun (sheet goal names : List ℕ) (count : ℕ) (nodes code symbols state scratch text : List ℕ) : Type 0 where
+-- a run under way
+pub record Underway (sheet goal names : List ℕ) (count : ℕ) (nodes code symbols state scratch text : List ℕ) (t : Carried) : Type 0 where
   pub ss : List Symbol
   pub sh : Sheet
   pub g : Goal
   pub spelt : Spelt ss g sheet goal names count symbols
-  pub under : Under ss sh g nodes code state scratch (length text) 1 0
-  pub alone : pileOf ss sh g nodes code state 1 ≡ start sh g
+  pub old : List ℕ
+  pub progress : Progress
+  pub carries : Carries ss sh g nodes code state scratch old text progress t
 
 -- a loaded program and a state of zeros
 pub record Runnable (sheet goal names : List ℕ) (count : ℕ) (nodes code symbols state scratch text : List ℕ) : Type 0 where
@@ -135,6 +155,6 @@ pub record Runnable (sheet goal names : List ℕ) (count : ℕ) (nodes code symb
   pub g : Goal
   pub spelt : Spelt ss g sheet goal names count symbols
   pub program : Program ss sh g nodes code
-  pub long : 35328 ≤ length state
+  pub long : stateWords ≤ length state
   pub zero-words : (i : ℕ) → getD state i 0 ≡ 0
   pub lent : Lent scratch (length text)

@@ -1,35 +1,34 @@
 // A run over loaded words: the step repeated until document 01 ends it, and the lines of its answers. Document 01 is the paper "Rule
 // sheets".
 use answers::put_answer;
-use bindings::occurrence::word_at;
-use bindings::stack::STACK;
 use bindings::store::undo;
 use engine::goes_deeper;
 use engine::is_answer;
 use engine::start;
 use engine::step;
+use layout::ALTERNATIVE_SIZE;
+use layout::ALTERNATIVES;
+use layout::STACK;
 use syntax::Kind;
 use syntax::Report;
+use words::word_at;
 ghost use mathlib.Core.Path.{_≡_};
 ghost use mathlib.Core.List.{List};
-ghost use Prim.Native.Nat.{ℕ, _-_, _≤_};
+ghost use Prim.Native.Nat.{ℕ, _+_, _-_, _^_, _≤_, _<_};
 ghost use lib.ListN.{length};
 ghost use Rattle.syntax.specs.Terms.{Goal};
 ghost use Rattle.machine.specs.Answers.{line};
+ghost use Rattle.machine.specs.Runs.{runFrom};
 ghost use Rattle.layout.specs.Nodes.{Symbol};
 ghost use Rattle.layout.specs.State.{bindings};
 ghost use Rattle.bindings.specs.Scratch.{SameMarks};
-ghost use Rattle.spelling.specs.Words.{namesFrom};
+ghost use Rattle.syntax.specs.Spans.{namesFrom};
 ghost use Rattle.answers.specs.Fitting.{Answerable, SomeAnswerable, Fitted};
 ghost use Rattle.layout.specs.Pile.{pileOf};
 ghost use Rattle.engine.specs.Steps.{Running};
-ghost use Rattle.runs.specs.Running.{nextOf, Tellable, Rewindable, Rewound, Answering, Answered, Begun, Runnable, Runs};
+ghost use Rattle.runs.specs.Running.{nextOf, Tellable, Rewindable, Rewound, Answering, Answered, Underway, Turned, Runnable, Runs};
 
-// Where the alternatives begin, how many words one takes, and which of them is the length of its trail.
-const ALTERNATIVES: usize = 33792;
-
-const ALTERNATIVE: usize = 6;
-
+// Which word of an alternative is the length of its trail.
 const MARK: usize = 3;
 
 // What comes before the next step: an end, an answer's line, or nothing.
@@ -37,6 +36,17 @@ pub enum Next {
     End(Kind),
     Answer,
     Step,
+}
+
+// What a run carries from turn to turn: the height of the pile, the length of the trail, the answers, the steps, the position in the text,
+// and how it ended; `Steps` while it may go on.
+pub struct Carried {
+    pub height: usize,
+    pub trail: usize,
+    pub answers: usize,
+    pub steps: usize,
+    pub at: usize,
+    pub kind: Kind,
 }
 
 // After an answer: the position past its line, 0 where the line does not fit; and the pile's height and the trail's length.
@@ -86,7 +96,7 @@ fn rewind(state: &mut [u32], h: usize, n: usize) -> usize
     ensures { λ r. ⌜ Rewound (now (state .entry)) (now (state .exit)) h n r ⌝ }
 {
     let j = h - 1;
-    let i = ALTERNATIVES + j * ALTERNATIVE + MARK;
+    let i = ALTERNATIVES + j * ALTERNATIVE_SIZE + MARK;
     let mark = word_at(state, i);
     undo(state, mark, n);
     mark
@@ -172,8 +182,8 @@ fn answer(
     }
 }
 
-// The step repeated, from the goal alone on the pile.
-fn run_on(
+// A run taken at most k steps further: the step repeated until an end applies or the k steps are used up.
+pub fn turn(
     sheet: &[u8],
     goal: &[u8],
     names: &[u32],
@@ -184,24 +194,30 @@ fn run_on(
     state: &mut [u32],
     scratch: &mut [u32],
     text: &mut [u8],
-    allowance: usize,
+    carried: Carried,
+    k: usize,
     wanted: usize,
-) -> Report
-    requires { ⌜ Begun (now sheet) (now goal) (now names) count (now nodes) (now code) (now symbols) (now state) (now scratch) (now text) ⌝ }
-    ensures { λ r. ⌜ ((w : Begun (now (sheet .entry)) (now (goal .entry)) (now (names .entry)) count (now (nodes .entry)) (now (code .entry)) (now (symbols .entry)) (now (state .entry)) (now (scratch .entry)) (now (text .entry))) → Runs (w .sh) (w .g) allowance wanted (now (text .entry)) (now (text .exit)) r) ⌝ }
+) -> Carried
+    requires { ⌜ Underway (now sheet) (now goal) (now names) count (now nodes) (now code) (now symbols) (now state) (now scratch) (now text) carried ⌝ }
+    requires { ⌜ carried .steps + k < 2 ^ 64 ⌝ }
+    ensures { λ r. ⌜ ((w : Underway (now (sheet .entry)) (now (goal .entry)) (now (names .entry)) count (now (nodes .entry)) (now (code .entry)) (now (symbols .entry)) (now (state .entry)) (now (scratch .entry)) (now (text .entry)) carried) → Turned (w .ss) (w .sh) (w .g) (now (nodes .entry)) (now (code .entry)) (now (state .exit)) (now (scratch .exit)) (w .old) (now (text .exit)) (runFrom (w .sh) (w .g) wanted (length (w .old)) k (w .progress)) r) ⌝ }
 {
-    let mut h = 1;
-    let mut n = 0;
-    let mut answers = 0;
-    let mut steps = 0;
-    let mut at = 0;
+    let allowance = carried.steps + k;
+    let mut h = carried.height;
+    let mut n = carried.trail;
+    let mut answers = carried.answers;
+    let mut steps = carried.steps;
+    let mut at = carried.at;
     loop {
         match next_of(code, state, allowance, wanted, h, n, answers, steps) {
             Next::End(kind) => {
-                return Report {
-                    kind,
+                return Carried {
+                    height: h,
+                    trail: n,
                     answers,
                     steps,
+                    at,
+                    kind,
                 };
             }
             Next::Answer => {
@@ -221,10 +237,13 @@ fn run_on(
                     at,
                 );
                 if t.at == 0 {
-                    return Report {
-                        kind: Kind::Full,
+                    return Carried {
+                        height: t.height,
+                        trail: t.trail,
                         answers,
                         steps,
+                        at,
+                        kind: Kind::Full,
                     };
                 }
                 at = t.at;
@@ -243,7 +262,7 @@ fn run_on(
     }
 }
 
-// A run over a loaded program: what it reports, and its lines at the start of the text.
+// A run over a loaded program, in one turn: what it reports, and its lines at the start of the text.
 pub fn run(
     sheet: &[u8],
     goal: &[u8],
@@ -262,7 +281,15 @@ pub fn run(
     ensures { λ r. ⌜ ((w : Runnable (now (sheet .entry)) (now (goal .entry)) (now (names .entry)) count (now (nodes .entry)) (now (code .entry)) (now (symbols .entry)) (now (state .entry)) (now (scratch .entry)) (now (text .entry))) → Runs (w .sh) (w .g) allowance wanted (now (text .entry)) (now (text .exit)) r) ⌝ }
 {
     start(code, state);
-    run_on(
+    let first = Carried {
+        height: 1,
+        trail: 0,
+        answers: 0,
+        steps: 0,
+        at: 0,
+        kind: Kind::Steps,
+    };
+    let last = turn(
         sheet,
         goal,
         names,
@@ -273,7 +300,14 @@ pub fn run(
         state,
         scratch,
         text,
+        first,
         allowance,
         wanted,
-    )
+    );
+    let kind = last.kind;
+    Report {
+        kind,
+        answers: last.answers,
+        steps: last.steps,
+    }
 }

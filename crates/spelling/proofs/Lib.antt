@@ -1,4 +1,3 @@
-pub mod GoalNames
 pub mod NumberLaws
 pub mod WalkLaws
 pub mod ShallowLaws

@@ -1,5 +1,5 @@
 -- Laws of the numbers of unbound variables, and of the names of symbols. Assumes nothing.
-use Prim.Native.Nat.{ℕ, suc, _+_, _/_, _%_, _≤_, _<_, _^_}
+use Prim.Native.Nat.{ℕ, suc, _+_, _≤_, _<_, _^_}
 use native.Mathlib.Nat.{add-zero}
 use native.Mathlib.Omega.{arith}
 use mathlib.Core.Path.{_≡_, refl, sym, ap, _∙_, subst}
@@ -10,6 +10,8 @@ use lib.Dec.{T, eqb}
 use lib.ListN.{length, getD, set, take, drop, length-set, length-append, length-take}
 use lib.Seq.{getD-set-same, getD-set-other}
 use borrow.Author.Tests.{eqb-true, eqb-false, eq-eqb, ne-eqb}
+use Rattle.syntax.specs.Limits.{wordBytes}
+use Rattle.layout.specs.Regions.{cells}
 use Rattle.syntax.specs.Tokens.{spelling}
 use Rattle.buffers.specs.Buffers.{Put, decimal}
 use Rattle.buffers.proofs.Laws.{then, decimal-few}
@@ -18,28 +20,28 @@ use Rattle.machine.specs.Answers.{Piece, unbound, placeOf, numbered, bytesOf}
 use Rattle.machine.proofs.Tests.{variable-eq, variable-refl}
 use Rattle.layout.specs.State.{variableOf}
 use Rattle.layout.proofs.State.{cell-eq}
-use Rattle.spelling.specs.Words.{textOf, nameAt, numberIn, Numbers}
+use Rattle.spelling.specs.Words.{nameAt, numberIn, Numbers, symbolPlace, symbolText, symbolLength, symbolName, textOf}
 use Rattle.spelling.specs.Telling.{Numbered, Told}
 
 -- ---- names
 
-pub name-in-sheet : (symbols sheet goal out out′ : List ℕ) (k w at r : ℕ) → w ≡ getD symbols k 0 → w / 32 % 2 ≡ 0 → Put out at (spelling sheet (w / 64) (w % 32)) out′ r
+pub name-in-sheet : (symbols sheet goal out out′ : List ℕ) (k w at r : ℕ) → w ≡ getD symbols k 0 → symbolText w ≡ 0 → Put out at (spelling sheet (symbolPlace w) (symbolLength w)) out′ r
     → Put out at (nameAt symbols sheet goal k) out′ r
 unfolding nameAt
 name-in-sheet symbols sheet goal out out′ k w at r e z p =
-    subst (λ (v : ℕ). Put out at (spelling (textOf v sheet goal) (v / 64) (v % 32)) out′ r) e (rw (eq-eqb (w / 32 % 2) 0 z) p)
+    subst (λ (v : ℕ). Put out at (symbolName sheet goal v) out′ r) e (rw (eq-eqb (symbolText w) 0 z) p)
 
-pub name-in-goal : (symbols sheet goal out out′ : List ℕ) (k w at r : ℕ) → w ≡ getD symbols k 0 → (w / 32 % 2 ≡ 0 → ⊥) → Put out at (spelling goal (w / 64) (w % 32)) out′ r
+pub name-in-goal : (symbols sheet goal out out′ : List ℕ) (k w at r : ℕ) → w ≡ getD symbols k 0 → (symbolText w ≡ 0 → ⊥) → Put out at (spelling goal (symbolPlace w) (symbolLength w)) out′ r
     → Put out at (nameAt symbols sheet goal k) out′ r
 unfolding nameAt
 name-in-goal symbols sheet goal out out′ k w at r e z p =
-    subst (λ (v : ℕ). Put out at (spelling (textOf v sheet goal) (v / 64) (v % 32)) out′ r) e (rw (ne-eqb (w / 32 % 2) 0 z) p)
+    subst (λ (v : ℕ). Put out at (symbolName sheet goal v) out′ r) e (rw (ne-eqb (symbolText w) 0 z) p)
 
-pub inside-sheet : (sheet goal : List ℕ) (w v : ℕ) → w ≡ v → w / 32 % 2 ≡ 0 → v / 64 + v % 32 ≤ length (textOf v sheet goal) → w / 64 + w % 32 ≤ length sheet
-inside-sheet sheet goal w v e z h = let k : w / 64 + w % 32 ≤ length (textOf w sheet goal) = subst (λ (x : ℕ). x / 64 + x % 32 ≤ length (textOf x sheet goal)) (sym e) h in rw (eq-eqb (w / 32 % 2) 0 z) at k
+pub inside-sheet : (sheet goal : List ℕ) (w v : ℕ) → w ≡ v → symbolText w ≡ 0 → symbolPlace v + symbolLength v ≤ length (textOf v sheet goal) → symbolPlace w + symbolLength w ≤ length sheet
+inside-sheet sheet goal w v e z h = let k : symbolPlace w + symbolLength w ≤ length (textOf w sheet goal) = subst (λ (x : ℕ). symbolPlace x + symbolLength x ≤ length (textOf x sheet goal)) (sym e) h in rw (eq-eqb (symbolText w) 0 z) at k
 
-pub inside-goal : (sheet goal : List ℕ) (w v : ℕ) → w ≡ v → (w / 32 % 2 ≡ 0 → ⊥) → v / 64 + v % 32 ≤ length (textOf v sheet goal) → w / 64 + w % 32 ≤ length goal
-inside-goal sheet goal w v e z h = let k : w / 64 + w % 32 ≤ length (textOf w sheet goal) = subst (λ (x : ℕ). x / 64 + x % 32 ≤ length (textOf x sheet goal)) (sym e) h in rw (ne-eqb (w / 32 % 2) 0 z) at k
+pub inside-goal : (sheet goal : List ℕ) (w v : ℕ) → w ≡ v → (symbolText w ≡ 0 → ⊥) → symbolPlace v + symbolLength v ≤ length (textOf v sheet goal) → symbolPlace w + symbolLength w ≤ length goal
+inside-goal sheet goal w v e z h = let k : symbolPlace w + symbolLength w ≤ length (textOf w sheet goal) = subst (λ (x : ℕ). symbolPlace x + symbolLength x ≤ length (textOf x sheet goal)) (sym e) h in rw (ne-eqb (symbolText w) 0 z) at k
 
 -- ---- places among the variables met
 
@@ -117,7 +119,7 @@ unfolding bytesOf
 bytes-new v met ps e = rw (e, bytesOf)
 
 -- it has a number
-pub number-known : (met : List Variable) (x : ℕ) (numbers : List ℕ) → x < 16384 → (getD numbers x 0 ≡ 0 → ⊥) → Numbers numbers met → Numbered met x numbers (getD numbers x 0)
+pub number-known : (met : List Variable) (x : ℕ) (numbers : List ℕ) → x < cells → (getD numbers x 0 ≡ 0 → ⊥) → Numbers numbers met → Numbered met x numbers (getD numbers x 0)
 number-known met x numbers l z h = go (placeOf (variableOf x) 1 met) refl
   where
     go : (o : Option ℕ) → placeOf (variableOf x) 1 met ≡ o → Numbered met x numbers (getD numbers x 0)
@@ -159,19 +161,19 @@ own-number x met e =
     number-some (variableOf x) (met ++ (variableOf x ∷ [])) (1 + length met) (place-append (variableOf x) (variableOf x) 1 met ∙ rw (e, same))
     ∙ (let q : 1 + length met ≡ suc (length met) = omega arith in q)
 
-module _ (numbers : List ℕ) (met : List Variable) (x new : ℕ) (l : x < 16384) (free : placeOf (variableOf x) 1 met ≡ none) (next : new ≡ suc (length met)) (h : Numbers numbers met) where
-  one-more : Numbers (set (set numbers x new) 16384 new) (met ++ (variableOf x ∷ []))
+module _ (numbers : List ℕ) (met : List Variable) (x new : ℕ) (l : x < cells) (free : placeOf (variableOf x) 1 met ≡ none) (next : new ≡ suc (length met)) (h : Numbers numbers met) where
+  one-more : Numbers (set (set numbers x new) cells new) (met ++ (variableOf x ∷ []))
   one-more =
-      let long : length (set (set numbers x new) 16384 new) ≡ 16385 = simp length-set (h .long) in
-      let len : length (set numbers x new) ≡ 16385 = simp length-set (h .long) in
-      let old : length numbers ≡ 16385 = h .long in
+      let long : length (set (set numbers x new) cells new) ≡ cells + 1 = simp length-set (h .long) in
+      let len : length (set numbers x new) ≡ cells + 1 = simp length-set (h .long) in
+      let old : length numbers ≡ cells + 1 = h .long in
       record {
         long = long;
-        counted = getD-set-same (set numbers x new) 16384 new 0 (omega arith) ∙ (next ∙ (let a : length (met ++ (variableOf x ∷ [])) ≡ length met + 1 = length-append met (variableOf x ∷ []) in let q : suc (length met) ≡ length (met ++ (variableOf x ∷ [])) = omega arith in q));
-        number = λ y s. getD-set-other (set numbers x new) 16384 y new 0 (λ q. omega arith) ∙ go y s (omega arith) (eqb y x) refl;
+        counted = getD-set-same (set numbers x new) cells new 0 (omega arith) ∙ (next ∙ (let a : length (met ++ (variableOf x ∷ [])) ≡ length met + 1 = length-append met (variableOf x ∷ []) in let q : suc (length met) ≡ length (met ++ (variableOf x ∷ [])) = omega arith in q));
+        number = λ y s. getD-set-other (set numbers x new) cells y new 0 (λ q. omega arith) ∙ go y s (omega arith) (eqb y x) refl;
       }
     where
-      go : (y : ℕ) → y < 16384 → x < length numbers → (b : Bool) → eqb y x ≡ b → getD (set numbers x new) y 0 ≡ numberIn (variableOf y) (met ++ (variableOf x ∷ []))
+      go : (y : ℕ) → y < cells → x < length numbers → (b : Bool) → eqb y x ≡ b → getD (set numbers x new) y 0 ≡ numberIn (variableOf y) (met ++ (variableOf x ∷ []))
       go y s r true e =
           let q : y ≡ x = eqb-true y x e in
           subst (λ (k : ℕ). getD (set numbers x new) k 0 ≡ numberIn (variableOf k) (met ++ (variableOf x ∷ []))) (sym q) (getD-set-same numbers x new 0 r ∙ (next ∙ sym (own-number x met free)))
@@ -180,19 +182,19 @@ module _ (numbers : List ℕ) (met : List Variable) (x new : ℕ) (l : x < 16384
           getD-set-other numbers x y new 0 d ∙ (h .number y s ∙ sym (other-stays x y met d))
 
 -- it gets the next one
-pub number-new : (met : List Variable) (x : ℕ) (numbers : List ℕ) → x < 16384 → getD numbers x 0 ≡ 0 → Numbers numbers met
-    → Numbered met x (set (set numbers x (getD numbers 16384 0 + 1)) 16384 (getD numbers 16384 0 + 1)) (getD numbers 16384 0 + 1)
+pub number-new : (met : List Variable) (x : ℕ) (numbers : List ℕ) → x < cells → getD numbers x 0 ≡ 0 → Numbers numbers met
+    → Numbered met x (set (set numbers x (getD numbers cells 0 + 1)) cells (getD numbers cells 0 + 1)) (getD numbers cells 0 + 1)
 unfolding AtLeast
 number-new met x numbers l z h = go (placeOf (variableOf x) 1 met) refl (place-least (variableOf x) 1 met)
   where
-    go : (o : Option ℕ) → placeOf (variableOf x) 1 met ≡ o → AtLeast 1 (placeOf (variableOf x) 1 met) → Numbered met x (set (set numbers x (getD numbers 16384 0 + 1)) 16384 (getD numbers 16384 0 + 1)) (getD numbers 16384 0 + 1)
+    go : (o : Option ℕ) → placeOf (variableOf x) 1 met ≡ o → AtLeast 1 (placeOf (variableOf x) 1 met) → Numbered met x (set (set numbers x (getD numbers cells 0 + 1)) cells (getD numbers cells 0 + 1)) (getD numbers cells 0 + 1)
     go (some k) e s = absurd (let a : 1 ≤ k = rw e at s in let b : getD numbers x 0 ≡ k = h .number x l ∙ number-some (variableOf x) met k e in omega arith)
     go none e s =
-        let c : getD numbers 16384 0 ≡ length met = h .counted in
-        let next : getD numbers 16384 0 + 1 ≡ suc (length met) = omega arith in
+        let c : getD numbers cells 0 ≡ length met = h .counted in
+        let next : getD numbers cells 0 + 1 ≡ suc (length met) = omega arith in
         record {
           met-after = met ++ (variableOf x ∷ []);
-          numbers-after = one-more numbers met x (getD numbers 16384 0 + 1) l e next h;
+          numbers-after = one-more numbers met x (getD numbers cells 0 + 1) l e next h;
           few = (let a : length (met ++ (variableOf x ∷ [])) ≡ length met + 1 = length-append met (variableOf x ∷ []) in omega arith);
           is = λ ps. bytes-new (variableOf x) met ps e ∙ ap (λ (j : ℕ). numbered j (bytesOf (met ++ (variableOf x ∷ [])) ps)) (sym next);
         }
@@ -213,10 +215,10 @@ unbound-told met x r at m next numbers old mid new few n p q ps =
       is = n .is ps;
     }
 
-pub unbound-near : (at m next r : ℕ) (old mid new : List ℕ) → r < 2 ^ 64 → Put old at (95 ∷ []) mid m → Put mid m (decimal r) new next → (at ≤ next) × (next ≤ at + 31)
+pub unbound-near : (at m next r : ℕ) (old mid new : List ℕ) → r < 2 ^ 64 → Put old at (95 ∷ []) mid m → Put mid m (decimal r) new next → (at ≤ next) × (next ≤ at + wordBytes)
 unbound-near at m next r old mid new h p q = let a : m ≡ at + 1 = p .past in let b : next ≡ m + length (decimal r) = q .past in let k : length (decimal r) ≤ 20 = decimal-few r h in (omega arith, omega arith)
 
-pub name-near : (text out out′ : List ℕ) (from len at r : ℕ) → len ≤ 31 → Put out at (spelling text from len) out′ r → r ≤ at + 31
+pub name-near : (text out out′ : List ℕ) (from len at r : ℕ) → len ≤ wordBytes → Put out at (spelling text from len) out′ r → r ≤ at + wordBytes
 name-near text out out′ from len at r h p =
     let a : r ≡ at + length (spelling text from len) = p .past in
     let b : length (take len (drop from text)) ≤ len = rw length-take (omega arith) in

@@ -1,6 +1,6 @@
--- How many brackets a resolved term opens at once: at most 16, and 16 for each binding. Assumes nothing.
+-- How many brackets a resolved term opens at once: at most a term's own, and as many for each binding. Assumes nothing.
 --
--- A clause's term opens at most 16 brackets before it comes to a variable, and what stands for that variable opens fewer than the whole does. So
+-- A clause's term opens at most `brackets` brackets before it comes to a variable, and what stands for that variable opens fewer than the whole does. So
 -- the bound variables that are passed one inside the other are distinct.
 use Prim.Native.Nat.{ℕ, zero, suc, max, _+_, _*_, _≤_, _<_}
 use native.Mathlib.Omega.{arith}
@@ -11,6 +11,9 @@ use mathlib.Core.Logic.{_⊎_, inl, inr}
 use lib.Dec.{T, ltb, eqb, ltb→lt}
 use lib.ListN.{getD}
 use borrow.Author.Tests.{ltb-true, ltb-false, lt-ltb, le-ltb, eqb-true, eqb-false}
+use Rattle.syntax.specs.Limits.{brackets}
+use Rattle.syntax.specs.Words.{firstName}
+use Rattle.layout.specs.Regions.{copies, cells, deepest}
 use Rattle.syntax.specs.Terms.{Term, Terms, variable, compound, nil, cons, arity}
 use Rattle.machine.specs.Substitution.{Variable, RTerm, var, app, Binding, resolve, copied, copiedAll}
 use Rattle.machine.proofs.Tests.{both}
@@ -77,12 +80,12 @@ below-one f (suc n) a s i l h k = go (eqb i n) refl (λ q. below-one f n a s i q
 
 -- ---- a clause's term, with what is known of its variables
 
-module _ (ss : List Symbol) (b : List Binding) (c s m : ℕ) (known : (v : ℕ) → v < 64 → depth (resolve b (var (record { copy = c; number = v }))) < s → depth (resolve b (var (record { copy = c; number = v }))) ≤ m) where
+module _ (ss : List Symbol) (b : List Binding) (c s m : ℕ) (known : (v : ℕ) → v < firstName → depth (resolve b (var (record { copy = c; number = v }))) < s → depth (resolve b (var (record { copy = c; number = v }))) ≤ m) where
   mutual
     unfolding isLoadable bracketsOf depth resolvedAll
 
     inside : (t : Term) → T (isLoadable ss t) → depth (resolve b (copied c t)) < s → depth (resolve b (copied c t)) ≤ bracketsOf t + m
-    inside (variable v at) h l = let k : depth (resolve b (var (record { copy = c; number = v }))) ≤ m = known v (ltb→lt v 64 h) l in omega arith
+    inside (variable v at) h l = let k : depth (resolve b (var (record { copy = c; number = v }))) ≤ m = known v (ltb→lt v firstName h) l in omega arith
     inside (compound at f ts) h l =
         let e : depth (resolve b (app f (copiedAll c ts))) ≡ depthAll (resolvedAll b (copiedAll c ts)) = ap depth (resolved-name b f (copiedAll c ts)) ∙ depth-name f (resolvedAll b (copiedAll c ts)) in
         let k : depthAll (resolvedAll b (copiedAll c ts)) ≤ bracketsAll ts + m = inside-all ts (both (isListed ss f (arity ts)) (areLoadable ss ts) h .1) (omega arith) in
@@ -103,9 +106,9 @@ module _ (ss : List Symbol) (b : List Binding) (c s m : ℕ) (known : (v : ℕ) 
 unfoldable entryDepth : List Symbol → List ℕ → List ℕ → ℕ → ℕ → ℕ
 entryDepth ss nodes state n i = depth (resolve (bindings ss nodes state n) (var (variableOf (trailAt state i))))
 
--- 16 brackets, and 16 for each entry that opens fewer
+-- a term's brackets, and as many for each entry that opens fewer
 abbrev Shallow : List Symbol → List ℕ → List ℕ → ℕ → ℕ → Type 0
-Shallow ss nodes state n s = s ≤ 16 * (below (entryDepth ss nodes state n) n s + 1)
+Shallow ss nodes state n s = s ≤ brackets * (below (entryDepth ss nodes state n) n s + 1)
 
 none-shallow : (ss : List Symbol) (nodes state : List ℕ) (n s : ℕ) → s ≡ 0 → Shallow ss nodes state n s
 none-shallow ss nodes state n s e = omega arith
@@ -118,11 +121,11 @@ record Entered (ss : List Symbol) (nodes state : List ℕ) (n c v : ℕ) : Type 
   same : entryDepth ss nodes state n i ≡ depth (resolve (bindings ss nodes state n) (var (record { copy = c; number = v })))
 
 module _ (ss : List Symbol) (nodes state : List ℕ) (n : ℕ) (store : Store ss nodes state n) where
-  entered : (c v : ℕ) → c < 256 → v < 64 → (depth (resolve (bindings ss nodes state n) (var (record { copy = c; number = v }))) ≡ 0) ⊎ Entered ss nodes state n c v
+  entered : (c v : ℕ) → c < copies → v < firstName → (depth (resolve (bindings ss nodes state n) (var (record { copy = c; number = v }))) ≡ 0) ⊎ Entered ss nodes state n c v
   unfolding entryDepth depth
   entered c v l h = go (eqb (cellAt state (cellOf c v)) 0) refl
     where
-      small : cellOf c v < 16384
+      small : cellOf c v < cells
       small = cell-small c v l h
 
       go : (t : Bool) → eqb (cellAt state (cellOf c v)) 0 ≡ t → (depth (resolve (bindings ss nodes state n) (var (record { copy = c; number = v }))) ≡ 0) ⊎ Entered ss nodes state n c v
@@ -133,14 +136,14 @@ module _ (ss : List Symbol) (nodes state : List ℕ) (n : ℕ) (store : Store ss
           inr (record { i = o .0; inside = o .1; cell = o .2; same = ap (λ (x : Variable). depth (resolve (bindings ss nodes state n) (var x))) (ap variableOf (o .2) ∙ variable-cell c v h) })
 
   -- a name with its arguments, where all entries that open fewer brackets are shallow
-  name-shallow : (c at : ℕ) (f : List ℕ) (ts : Terms) → c < 256 → T (areLoadable ss ts) → bracketsAll ts ≤ 16
+  name-shallow : (c at : ℕ) (f : List ℕ) (ts : Terms) → c < copies → T (areLoadable ss ts) → bracketsAll ts ≤ brackets
       → ((i : ℕ) → i < n → entryDepth ss nodes state n i < depth (resolve (bindings ss nodes state n) (copied c (compound at f ts))) → Shallow ss nodes state n (entryDepth ss nodes state n i))
       → Shallow ss nodes state n (depth (resolve (bindings ss nodes state n) (copied c (compound at f ts))))
   name-shallow c at f ts l h k ih =
       let e : whole ≡ depthAll (resolvedAll (bindings ss nodes state n) (copiedAll c ts)) = ap depth (resolved-name (bindings ss nodes state n) f (copiedAll c ts)) ∙ depth-name f (resolvedAll (bindings ss nodes state n) (copiedAll c ts)) in
-      let q : depthAll (resolvedAll (bindings ss nodes state n) (copiedAll c ts)) ≤ bracketsAll ts + 16 * below (entryDepth ss nodes state n) n whole =
-      inside-all ss (bindings ss nodes state n) c whole (16 * below (entryDepth ss nodes state n) n whole) (λ v r less. known v less (entered c v l r)) ts h (omega arith) in
-      let z : whole ≤ 16 * (below (entryDepth ss nodes state n) n whole + 1) = omega arith in
+      let q : depthAll (resolvedAll (bindings ss nodes state n) (copiedAll c ts)) ≤ bracketsAll ts + brackets * below (entryDepth ss nodes state n) n whole =
+      inside-all ss (bindings ss nodes state n) c whole (brackets * below (entryDepth ss nodes state n) n whole) (λ v r less. known v less (entered c v l r)) ts h (omega arith) in
+      let z : whole ≤ brackets * (below (entryDepth ss nodes state n) n whole + 1) = omega arith in
       z
     where
       whole : ℕ
@@ -148,25 +151,25 @@ module _ (ss : List Symbol) (nodes state : List ℕ) (n : ℕ) (store : Store ss
 
       known : (v : ℕ) → depth (resolve (bindings ss nodes state n) (var (record { copy = c; number = v }))) < whole
           → (depth (resolve (bindings ss nodes state n) (var (record { copy = c; number = v }))) ≡ 0) ⊎ Entered ss nodes state n c v
-          → depth (resolve (bindings ss nodes state n) (var (record { copy = c; number = v }))) ≤ 16 * below (entryDepth ss nodes state n) n whole
+          → depth (resolve (bindings ss nodes state n) (var (record { copy = c; number = v }))) ≤ brackets * below (entryDepth ss nodes state n) n whole
       known v less (inl z) = omega arith
       known v less (inr o) =
           let q : entryDepth ss nodes state n (o .i) ≡ depth (resolve (bindings ss nodes state n) (var (record { copy = c; number = v }))) = o .same in
-          let r : entryDepth ss nodes state n (o .i) ≤ 16 * (below (entryDepth ss nodes state n) n (entryDepth ss nodes state n (o .i)) + 1) = ih (o .i) (o .inside) (omega arith) in
+          let r : entryDepth ss nodes state n (o .i) ≤ brackets * (below (entryDepth ss nodes state n) n (entryDepth ss nodes state n (o .i)) + 1) = ih (o .i) (o .inside) (omega arith) in
           let x : below (entryDepth ss nodes state n) n (entryDepth ss nodes state n (o .i)) < below (entryDepth ss nodes state n) n whole = below-one (entryDepth ss nodes state n) n (entryDepth ss nodes state n (o .i)) whole (o .i) (o .inside) (omega arith) (omega arith) in
           omega arith
 
   -- the term of a node, where all entries are shallow that open fewer brackets, or as many and stand for an earlier cell than x
-  node-shallow : (p c x : ℕ) (t : Term) → Stands ss nodes p t → c < 256
+  node-shallow : (p c x : ℕ) (t : Term) → Stands ss nodes p t → c < copies
       → ((i : ℕ) → i < n → entryDepth ss nodes state n i < depth (resolve (bindings ss nodes state n) (copied c t)) → Shallow ss nodes state n (entryDepth ss nodes state n i))
-      → (getD nodes p 0 < 64 → cellOf c (getD nodes p 0) < x)
+      → (getD nodes p 0 < firstName → cellOf c (getD nodes p 0) < x)
       → ((i : ℕ) → i < n → entryDepth ss nodes state n i ≡ depth (resolve (bindings ss nodes state n) (copied c t)) → trailAt state i < x → Shallow ss nodes state n (entryDepth ss nodes state n i))
       → Shallow ss nodes state n (depth (resolve (bindings ss nodes state n) (copied c t)))
   unfolding loadedWords isLoadable bracketsOf
   node-shallow p c x (variable v at) s l fewer down earlier = go (entered c v l low)
     where
-      low : v < 64
-      low = ltb→lt v 64 (s .loadable)
+      low : v < firstName
+      low = ltb→lt v firstName (s .loadable)
 
       is : getD nodes p 0 ≡ v
       is = s .words .1
@@ -174,7 +177,7 @@ module _ (ss : List Symbol) (nodes state : List ℕ) (n : ℕ) (store : Store ss
       go : (depth (resolve (bindings ss nodes state n) (var (record { copy = c; number = v }))) ≡ 0) ⊎ Entered ss nodes state n c v → Shallow ss nodes state n (depth (resolve (bindings ss nodes state n) (var (record { copy = c; number = v }))))
       go (inl z) = none-shallow ss nodes state n (depth (resolve (bindings ss nodes state n) (var (record { copy = c; number = v })))) z
       go (inr o) =
-          let r : v < 64 = low in
+          let r : v < firstName = low in
           let w : getD nodes p 0 ≡ v = is in
           let k : cellOf c (getD nodes p 0) < x = down (omega arith) in
           let e : trailAt state (o .i) ≡ cellOf c (getD nodes p 0) = o .cell ∙ ap (cellOf c) (sym is) in
@@ -183,15 +186,15 @@ module _ (ss : List Symbol) (nodes state : List ℕ) (n : ℕ) (store : Store ss
       name-shallow c at f ts l (both (isListed ss f (arity ts)) (areLoadable ss ts) (s .loadable) .1) (s .shallow) fewer
 
   -- every entry is shallow: by how many brackets it opens, and then by its cell
-  entry-shallow : (k i : ℕ) → i < n → entryDepth ss nodes state n i * 16384 + trailAt state i < k → Shallow ss nodes state n (entryDepth ss nodes state n i)
+  entry-shallow : (k i : ℕ) → i < n → entryDepth ss nodes state n i * cells + trailAt state i < k → Shallow ss nodes state n (entryDepth ss nodes state n i)
   unfolding entryDepth valueOf
-  entry-shallow zero i l h = absurd (let z : entryDepth ss nodes state n i * 16384 + trailAt state i < 0 = h in omega arith)
+  entry-shallow zero i l h = absurd (let z : entryDepth ss nodes state n i * cells + trailAt state i < 0 = h in omega arith)
   entry-shallow (suc k) i l h =
       subst (Shallow ss nodes state n) (sym same)
       (node-shallow place copy (trailAt state i) (entry .node .0) (entry .node .1) (copy-small word)
-      (λ j q less. entry-shallow k j q (let a : trailAt state j < 16384 = store .entry j q .cell in let m : entryDepth ss nodes state n i * 16384 + trailAt state i < suc k = h in let e : entryDepth ss nodes state n i ≡ depth (resolve (bindings ss nodes state n) (copied copy (entry .node .0))) = same in omega arith))
+      (λ j q less. entry-shallow k j q (let a : trailAt state j < cells = store .entry j q .cell in let m : entryDepth ss nodes state n i * cells + trailAt state i < suc k = h in let e : entryDepth ss nodes state n i ≡ depth (resolve (bindings ss nodes state n) (copied copy (entry .node .0))) = same in omega arith))
       (entry .down)
-      (λ j q equal less. entry-shallow k j q (let m : entryDepth ss nodes state n i * 16384 + trailAt state i < suc k = h in let e : entryDepth ss nodes state n i ≡ depth (resolve (bindings ss nodes state n) (copied copy (entry .node .0))) = same in omega arith)))
+      (λ j q equal less. entry-shallow k j q (let m : entryDepth ss nodes state n i * cells + trailAt state i < suc k = h in let e : entryDepth ss nodes state n i ≡ depth (resolve (bindings ss nodes state n) (copied copy (entry .node .0))) = same in omega arith)))
     where
       entry : Entry ss nodes state i
       entry = store .entry i l
@@ -209,29 +212,29 @@ module _ (ss : List Symbol) (nodes state : List ℕ) (n : ℕ) (store : Store ss
       same = ap depth (resolve-bound ss nodes state n (trailAt state i) store (entry .cell) (entry .bound) ∙ ap (resolve (bindings ss nodes state n)) (term-at ss nodes place copy (entry .node .0) (entry .node .1)))
 
   each-shallow : (i : ℕ) → i < n → Shallow ss nodes state n (entryDepth ss nodes state n i)
-  each-shallow i l = entry-shallow (suc (entryDepth ss nodes state n i * 16384 + trailAt state i)) i l (omega arith)
+  each-shallow i l = entry-shallow (suc (entryDepth ss nodes state n i * cells + trailAt state i)) i l (omega arith)
 
-  at-most : (s : ℕ) → Shallow ss nodes state n s → s ≤ 16 * (n + 1)
+  at-most : (s : ℕ) → Shallow ss nodes state n s → s ≤ brackets * (n + 1)
   at-most s h = let k : below (entryDepth ss nodes state n) n s ≤ n = below-few (entryDepth ss nodes state n) n s in omega arith
 
   -- the term of a node in a copy
-  pub shallow-term : (p c : ℕ) → Node ss nodes p → c < 256 → depth (resolve (bindings ss nodes state n) (termAt ss nodes p c)) ≤ 16 * (n + 1)
+  pub shallow-term : (p c : ℕ) → Node ss nodes p → c < copies → depth (resolve (bindings ss nodes state n) (termAt ss nodes p c)) ≤ brackets * (n + 1)
   shallow-term p c node l =
       let e : depth (resolve (bindings ss nodes state n) (termAt ss nodes p c)) ≡ depth (resolve (bindings ss nodes state n) (copied c (node .0))) = ap (λ (t : RTerm). depth (resolve (bindings ss nodes state n) t)) (term-at ss nodes p c (node .0) (node .1)) in
       at-most (depth (resolve (bindings ss nodes state n) (termAt ss nodes p c)))
       (subst (Shallow ss nodes state n) (sym e) (node-shallow p c (suc (cellOf c (getD nodes p 0))) (node .0) (node .1) l (λ i q less. each-shallow i q) (λ low. omega arith) (λ i q equal less. each-shallow i q)))
 
   -- the value of a variable of the goal
-  pub shallow-value : (i : ℕ) → i < 64 → depth (valueIn (bindings ss nodes state n) i) ≤ 16 * (n + 1)
+  pub shallow-value : (i : ℕ) → i < firstName → depth (valueIn (bindings ss nodes state n) i) ≤ brackets * (n + 1)
   shallow-value i l = go (entered 0 i (omega arith) l)
     where
-      go : (depth (valueIn (bindings ss nodes state n) i) ≡ 0) ⊎ Entered ss nodes state n 0 i → depth (valueIn (bindings ss nodes state n) i) ≤ 16 * (n + 1)
+      go : (depth (valueIn (bindings ss nodes state n) i) ≡ 0) ⊎ Entered ss nodes state n 0 i → depth (valueIn (bindings ss nodes state n) i) ≤ brackets * (n + 1)
       go (inl z) = omega arith
       go (inr o) = at-most (depth (valueIn (bindings ss nodes state n) i)) (subst (Shallow ss nodes state n) (o .same) (each-shallow (o .i) (o .inside)))
 
-  -- 16 × 16,385 brackets are room enough: no more cells can be bound than there are
-  pub shallow-terms : (p c : ℕ) → Node ss nodes p → c < 256 → depth (resolve (bindings ss nodes state n) (termAt ss nodes p c)) ≤ 262160
-  shallow-terms p c node l = let a : depth (resolve (bindings ss nodes state n) (termAt ss nodes p c)) ≤ 16 * (n + 1) = shallow-term p c node l in let b : n ≤ 16384 = few ss nodes state n store in omega arith
+  -- `deepest` brackets are room enough: no more cells can be bound than there are
+  pub shallow-terms : (p c : ℕ) → Node ss nodes p → c < copies → depth (resolve (bindings ss nodes state n) (termAt ss nodes p c)) ≤ deepest
+  shallow-terms p c node l = let a : depth (resolve (bindings ss nodes state n) (termAt ss nodes p c)) ≤ brackets * (n + 1) = shallow-term p c node l in let b : n ≤ cells = few ss nodes state n store in omega arith
 
-  pub shallow-values : (i : ℕ) → i < 64 → depth (valueIn (bindings ss nodes state n) i) ≤ 262160
-  shallow-values i l = let a : depth (valueIn (bindings ss nodes state n) i) ≤ 16 * (n + 1) = shallow-value i l in let b : n ≤ 16384 = few ss nodes state n store in omega arith
+  pub shallow-values : (i : ℕ) → i < firstName → depth (valueIn (bindings ss nodes state n) i) ≤ deepest
+  shallow-values i l = let a : depth (valueIn (bindings ss nodes state n) i) ≤ brackets * (n + 1) = shallow-value i l in let b : n ≤ cells = few ss nodes state n store in omega arith

@@ -2,14 +2,17 @@
 use Prim.Native.Nat.{ℕ, zero, suc, _+_, _-_, _*_, _/_, _%_, _≤_, _<_, _^_}
 use native.Mathlib.Numerals.{add-one}
 use native.Mathlib.Omega.{arith}
-use mathlib.Core.Path.{_≡_, refl, sym, ap, ap₂, _∙_, subst}
+use mathlib.Core.Path.{_≡_, refl, sym, ap, _∙_, subst}
 use mathlib.Core.Logic.{_⊎_, inl, inr}
-use mathlib.Core.Bool.{Bool, true, false, cond, _&&_}
+use mathlib.Core.Bool.{Bool, true, false, _&&_}
 use mathlib.Core.List.{List, [], _∷_, _++_, append-assoc}
-use lib.Dec.{T, eqb, leb}
+use lib.Dec.{eqb, leb}
 use borrow.Author.Tests.{leb-true, leb-false}
 use lib.ListN.{length, getD, take, drop, length-take, length-drop, length-append}
 use lib.Seq.{drop-cons}
+use Rattle.syntax.specs.Limits.{variables, wordBytes}
+use Rattle.syntax.specs.Spans.{spanAt, spanLength, spanned, Inside, namesFrom}
+use Rattle.layout.specs.Regions.{copyCells, cells, deepest, openSize}
 use Rattle.syntax.specs.Quote.{bytes}
 use Rattle.syntax.specs.Terms.{sameBytes}
 use Rattle.syntax.specs.Tokens.{spelling}
@@ -18,10 +21,10 @@ use Rattle.buffers.proofs.Laws.{then, nothing}
 use Rattle.machine.specs.Substitution.{Variable, RTerm, var, Binding, resolve}
 use Rattle.machine.specs.Answers.{Piece, unbound, written, spelt, bytesOf, isAnonymous, allAnonymous, valuesFrom}
 use Rattle.layout.specs.Nodes.{Symbol, Node, termAt}
-use Rattle.layout.specs.State.{cellOf, variableOf, nodeOf, copyOf, cellAt, trailAt, valueOf, bindings, Entry, Store}
+use Rattle.layout.specs.State.{variableOf, nodeOf, copyOf, cellAt, trailAt, valueOf, bindings, Entry}
 use Rattle.layout.proofs.State.{copy-small, resolve-bound, resolve-unbound}
-use Rattle.spelling.specs.Words.{Names, Numbers, Rows, left, depth, Named, nameIn, namesFrom}
-use Rattle.spelling.specs.Telling.{Told, Ample, Counting, Counted, Setting, SomeSetting, Facing, SomeFacing, Spelling, Walked, Lined, Valued, SomeValued, Values, SomeValues, valueIn, gap}
+use Rattle.spelling.specs.Words.{Numbers, left, depth, Named}
+use Rattle.spelling.specs.Telling.{Told, Ample, Counting, Counted, Setting, SomeSetting, Facing, Spelling, Walked, Lined, Valued, SomeValued, Values, SomeValues, valueIn, gap}
 use Rattle.spelling.proofs.WalkLaws.{told-whole, told-words, told-after, told-then, few-met, bytes-written, walked-told}
 
 -- ---- `_`
@@ -44,26 +47,26 @@ one-byte : (a : ℕ) → sameBytes (a ∷ []) (95 ∷ []) ≡ eqb a 95
 unfolding sameBytes
 one-byte a = and-true (eqb a 95)
 
-pub anonymous-long : (goal : List ℕ) (w : ℕ) → w / 32 + w % 32 ≤ length goal → (w % 32 ≡ 1 → ⊥) → false ≡ isAnonymous (nameIn goal w)
+pub anonymous-long : (goal : List ℕ) (w : ℕ) → Inside goal w → (spanLength w ≡ 1 → ⊥) → false ≡ isAnonymous (spanned goal w)
 unfolding isAnonymous
 anonymous-long goal w h z =
-    let e : length (take (w % 32) (drop (w / 32) goal)) ≡ w % 32 = rw (length-take, length-drop) (omega arith) in
-    sym (not-one (take (w % 32) (drop (w / 32) goal)) (λ q. z (sym e ∙ q)))
+    let e : length (take (spanLength w) (drop (spanAt w) goal)) ≡ spanLength w = rw (length-take, length-drop) (omega arith) in
+    sym (not-one (take (spanLength w) (drop (spanAt w) goal)) (λ q. z (sym e ∙ q)))
 
-pub anonymous-one : (goal : List ℕ) (w b : ℕ) → w / 32 + w % 32 ≤ length goal → w % 32 ≡ 1 → b ≡ getD goal (w / 32) 0 → eqb b 95 ≡ isAnonymous (nameIn goal w)
+pub anonymous-one : (goal : List ℕ) (w b : ℕ) → Inside goal w → spanLength w ≡ 1 → b ≡ getD goal (spanAt w) 0 → eqb b 95 ≡ isAnonymous (spanned goal w)
 unfolding isAnonymous
 anonymous-one goal w b h z e =
-    let k : w / 32 < length goal = omega arith in
-    let d : take (w % 32) (drop (w / 32) goal) ≡ getD goal (w / 32) 0 ∷ [] = rw (z, drop-cons goal (w / 32) 0 k) refl in
-    ap (λ (x : ℕ). eqb x 95) e ∙ (sym (one-byte (getD goal (w / 32) 0)) ∙ ap (λ (l : List ℕ). sameBytes l (95 ∷ [])) (sym d))
+    let k : spanAt w < length goal = omega arith in
+    let d : take (spanLength w) (drop (spanAt w) goal) ≡ getD goal (spanAt w) 0 ∷ [] = rw (z, drop-cons goal (spanAt w) 0 k) refl in
+    ap (λ (x : ℕ). eqb x 95) e ∙ (sym (one-byte (getD goal (spanAt w) 0)) ∙ ap (λ (l : List ℕ). sameBytes l (95 ∷ [])) (sym d))
 
 -- ---- whether there is a variable to give
 
-names-more : (goal names : List ℕ) (i k : ℕ) → i < k → namesFrom goal names i (k - i) ≡ nameIn goal (getD names i 0) ∷ namesFrom goal names (i + 1) (k - (i + 1))
+names-more : (goal names : List ℕ) (i k : ℕ) → i < k → namesFrom goal names i (k - i) ≡ spanned goal (getD names i 0) ∷ namesFrom goal names (i + 1) (k - (i + 1))
 unfolding namesFrom
 names-more goal names i k l =
     let e : k - i ≡ suc (k - (i + 1)) = omega arith in
-    ap (namesFrom goal names i) e ∙ ap (λ (j : ℕ). nameIn goal (getD names i 0) ∷ namesFrom goal names j (k - (i + 1))) (sym (add-one i))
+    ap (namesFrom goal names i) e ∙ ap (λ (j : ℕ). spanned goal (getD names i 0) ∷ namesFrom goal names j (k - (i + 1))) (sym (add-one i))
 
 names-none : (goal names : List ℕ) (i k : ℕ) → k ≤ i → namesFrom goal names i (k - i) ≡ []
 unfolding namesFrom
@@ -79,17 +82,17 @@ all-cons : (x : List ℕ) (xs : List (List ℕ)) → allAnonymous (x ∷ xs) ≡
 unfolding allAnonymous
 all-cons x xs = refl
 
-all-here : (goal names : List ℕ) (k i : ℕ) (b : Bool) → i < k → b ≡ isAnonymous (nameIn goal (getD names i 0)) → AllFrom goal names k i → allAnonymous (namesFrom goal names 0 k) ≡ (b && allAnonymous (namesFrom goal names (i + 1) (k - (i + 1))))
+all-here : (goal names : List ℕ) (k i : ℕ) (b : Bool) → i < k → b ≡ isAnonymous (spanned goal (getD names i 0)) → AllFrom goal names k i → allAnonymous (namesFrom goal names 0 k) ≡ (b && allAnonymous (namesFrom goal names (i + 1) (k - (i + 1))))
 all-here goal names k i b l e a =
-    a ∙ (ap allAnonymous (names-more goal names i k l) ∙ (all-cons (nameIn goal (getD names i 0)) (namesFrom goal names (i + 1) (k - (i + 1))) ∙ ap (λ (x : Bool). x && allAnonymous (namesFrom goal names (i + 1) (k - (i + 1)))) (sym e)))
+    a ∙ (ap allAnonymous (names-more goal names i k l) ∙ (all-cons (spanned goal (getD names i 0)) (namesFrom goal names (i + 1) (k - (i + 1))) ∙ ap (λ (x : Bool). x && allAnonymous (namesFrom goal names (i + 1) (k - (i + 1)))) (sym e)))
 
-pub all-more : (goal names : List ℕ) (k i w : ℕ) (b : Bool) → i < k → w ≡ getD names i 0 → b ≡ isAnonymous (nameIn goal w) → b ≡ true → AllFrom goal names k i → AllFrom goal names k (i + 1)
+pub all-more : (goal names : List ℕ) (k i w : ℕ) (b : Bool) → i < k → w ≡ getD names i 0 → b ≡ isAnonymous (spanned goal w) → b ≡ true → AllFrom goal names k i → AllFrom goal names k (i + 1)
 all-more goal names k i w b l ew e t a =
-    all-here goal names k i b l (e ∙ ap (λ (x : ℕ). isAnonymous (nameIn goal x)) ew) a ∙ ap (λ (x : Bool). x && allAnonymous (namesFrom goal names (i + 1) (k - (i + 1)))) t
+    all-here goal names k i b l (e ∙ ap (λ (x : ℕ). isAnonymous (spanned goal x)) ew) a ∙ ap (λ (x : Bool). x && allAnonymous (namesFrom goal names (i + 1) (k - (i + 1)))) t
 
-pub all-not : (goal names : List ℕ) (k i w : ℕ) (b : Bool) → i < k → w ≡ getD names i 0 → b ≡ isAnonymous (nameIn goal w) → b ≡ false → AllFrom goal names k i → false ≡ allAnonymous (namesFrom goal names 0 k)
+pub all-not : (goal names : List ℕ) (k i w : ℕ) (b : Bool) → i < k → w ≡ getD names i 0 → b ≡ isAnonymous (spanned goal w) → b ≡ false → AllFrom goal names k i → false ≡ allAnonymous (namesFrom goal names 0 k)
 all-not goal names k i w b l ew e t a =
-    sym (all-here goal names k i b l (e ∙ ap (λ (x : ℕ). isAnonymous (nameIn goal x)) ew) a ∙ ap (λ (x : Bool). x && allAnonymous (namesFrom goal names (i + 1) (k - (i + 1)))) t)
+    sym (all-here goal names k i b l (e ∙ ap (λ (x : ℕ). isAnonymous (spanned goal x)) ew) a ∙ ap (λ (x : Bool). x && allAnonymous (namesFrom goal names (i + 1) (k - (i + 1)))) t)
 
 pub all-end : (goal names : List ℕ) (k i : ℕ) → k ≤ i → AllFrom goal names k i → true ≡ allAnonymous (namesFrom goal names 0 k)
 unfolding allAnonymous
@@ -108,13 +111,13 @@ walked-after {whole} {at = at} {m} {next} {ps} limit t w =
 module _ (ss : List Symbol) (n : ℕ) (nodes state symbols sheet goal stack : List ℕ) (i w : ℕ) (v : Valued ss n nodes state symbols sheet goal stack i) (e : w ≡ getD state i 0) where
   as-cell : valueIn (bindings ss nodes state n) i ≡ resolve (bindings ss nodes state n) (var (variableOf i))
   as-cell =
-      let l : i < 32 = v .low in
-      let a : 0 ≡ i / 64 = omega arith in
-      let d : i ≡ i % 64 = omega arith in
+      let l : i < variables = v .low in
+      let a : 0 ≡ i / copyCells = omega arith in
+      let d : i ≡ i % copyCells = omega arith in
       ap (λ (x : Variable). resolve (bindings ss nodes state n) (var x)) (λ j. record { copy = a j; number = d j })
 
-  small : i < 16384
-  small = let l : i < 32 = v .low in omega arith
+  small : i < cells
+  small = let l : i < variables = v .low in omega arith
 
   pub value-free : w ≡ 0 → valueIn (bindings ss nodes state n) i ≡ var (variableOf i)
   value-free z = as-cell ∙ resolve-unbound ss nodes state n i (v .setting .store) small (sym e ∙ z)
@@ -126,7 +129,7 @@ module _ (ss : List Symbol) (n : ℕ) (nodes state symbols sheet goal stack : Li
       ∙ (resolve-bound ss nodes state n i (v .setting .store) small (λ q. z (e ∙ q))
       ∙ ap (λ (x : ℕ). resolve (bindings ss nodes state n) (termAt ss nodes (nodeOf x) (copyOf x))) (sym e))
 
-  pub value-facing : (w ≡ 0 → ⊥) → Ample stack 2 → Facing ss n nodes state symbols sheet goal stack (nodeOf w) (copyOf w) 0
+  pub value-facing : (w ≡ 0 → ⊥) → Ample stack openSize → Facing ss n nodes state symbols sheet goal stack (nodeOf w) (copyOf w) 0
   value-facing z room =
       let b : cellAt state i ≡ 0 → ⊥ = (λ q. z (e ∙ q)) in
       let o : (j : ℕ) × (j < n) × (trailAt state j ≡ i) = v .setting .store .only i small b in
@@ -135,7 +138,7 @@ module _ (ss : List Symbol) (n : ℕ) (nodes state symbols sheet goal stack : Li
         setting = v .setting;
         node = subst (λ (x : ℕ). Node ss nodes (nodeOf x)) (ap (cellAt state) (o .2) ∙ sym e) (t .node);
         copy = copy-small w;
-        shallow = (let k : depth (valueIn (bindings ss nodes state n) i) ≤ 262160 = v .shallow in let q : depth (valueIn (bindings ss nodes state n) i) ≡ depth (resolve (bindings ss nodes state n) (termAt ss nodes (nodeOf w) (copyOf w))) = ap depth (value-bound z) in omega arith);
+        shallow = (let k : depth (valueIn (bindings ss nodes state n) i) ≤ deepest = v .shallow in let q : depth (valueIn (bindings ss nodes state n) i) ≡ depth (resolve (bindings ss nodes state n) (termAt ss nodes (nodeOf w) (copyOf w))) = ap depth (value-bound z) in omega arith);
         room = room;
       }
 
@@ -173,7 +176,7 @@ gap-short (suc more) = omega arith
 
 -- ---- between a term and its rows
 
-module _ (nodes state symbols sheet goal stack : List ℕ) (i w : ℕ) (numbers : List ℕ) (at : ℕ) (v : SomeValued nodes state symbols sheet goal stack i) (k : Counting numbers at) (e : w ≡ getD state i 0) (z : w ≡ 0 → ⊥) (room : Ample stack 2)
+module _ (nodes state symbols sheet goal stack : List ℕ) (i w : ℕ) (numbers : List ℕ) (at : ℕ) (v : SomeValued nodes state symbols sheet goal stack i) (k : Counting numbers at) (e : w ≡ getD state i 0) (z : w ≡ 0 → ⊥) (room : Ample stack openSize)
     (out nums after mid : List ℕ) (m rows : ℕ)
     (f : (ss : List Symbol) (n : ℕ) (met : List Variable) (rest : List Piece) → Facing ss n nodes state symbols sheet goal stack (nodeOf w) (copyOf w) 0 → Numbers numbers met
     → Spelling ss nodes (bindings ss nodes state n) (bytesOf met (spelt (resolve (bindings ss nodes state n) (termAt ss nodes (nodeOf w) (copyOf w))) (left ss nodes (bindings ss nodes state n) stack 0 rest))) out at mid nums after m rows rest) where
@@ -186,15 +189,15 @@ module _ (nodes state symbols sheet goal stack : List ℕ) (i w : ℕ) (numbers 
   pub value-counting : m + 100 < 2 ^ 64 → Counting nums m
   value-counting l = record { met = first .told .met; numbers-are = first .told .numbers-are; few = first .told .few; near = l }
 
-pub nearer : (at m r limit : ℕ) → (at ≤ m) × (m ≤ at + 31) → (m ≤ r) × ((r ≤ limit + 32) ⊎ (r ≡ m)) → (at ≤ r) × ((r ≤ limit + 32) ⊎ (r ≤ at + 31))
+pub nearer : (at m r limit : ℕ) → (at ≤ m) × (m ≤ at + wordBytes) → (m ≤ r) × ((r ≤ limit + (wordBytes + 1)) ⊎ (r ≡ m)) → (at ≤ r) × ((r ≤ limit + (wordBytes + 1)) ⊎ (r ≤ at + wordBytes))
 nearer at m r limit a b = (omega (arith, a .0, b .0), go (b .1))
   where
-    go : (r ≤ limit + 32) ⊎ (r ≡ m) → (r ≤ limit + 32) ⊎ (r ≤ at + 31)
+    go : (r ≤ limit + (wordBytes + 1)) ⊎ (r ≡ m) → (r ≤ limit + (wordBytes + 1)) ⊎ (r ≤ at + wordBytes)
     go (inl x) = inl x
     go (inr x) = inr (omega (arith, a .1))
 
-pub word-inside : (goal names : List ℕ) (k i w : ℕ) → Named goal names k → i < k → w ≡ getD names i 0 → w / 32 + w % 32 ≤ length goal
-word-inside goal names k i w n l e = subst (λ (x : ℕ). x / 32 + x % 32 ≤ length goal) (sym e) (n .inside i l)
+pub word-inside : (goal names : List ℕ) (k i w : ℕ) → Named goal names k → i < k → w ≡ getD names i 0 → Inside goal w
+word-inside goal names k i w n l e = subst (λ (x : ℕ). Inside goal x) (sym e) (n .inside i l)
 
 -- ---- a variable with its value
 
@@ -213,27 +216,27 @@ bytes-three met f g h ps =
     ∙ (ap (λ (l : List ℕ). f ++ l) (bytes-written met g (written h ps) ∙ ap (λ (l : List ℕ). g ++ l) (bytes-written met h ps))
     ∙ (ap (λ (l : List ℕ). f ++ l) (sym (append-assoc g h (bytesOf met ps))) ∙ sym (append-assoc f (g ++ h) (bytesOf met ps))))
 
-pub binding-skip : (b : List Binding) (i more w limit : ℕ) (goal : List ℕ) (xs : List (List ℕ)) (met : List Variable) (out numbers : List ℕ) (at : ℕ) (r : Bool) → r ≡ isAnonymous (nameIn goal w) → r ≡ true → Counting numbers at → Numbers numbers met
-    → Walked limit (bytesOf met (valuesFrom b i (gap more) (nameIn goal w ∷ xs))) out at out at numbers (valuesFrom b (suc i) (gap more) xs)
+pub binding-skip : (b : List Binding) (i more w limit : ℕ) (goal : List ℕ) (xs : List (List ℕ)) (met : List Variable) (out numbers : List ℕ) (at : ℕ) (r : Bool) → r ≡ isAnonymous (spanned goal w) → r ≡ true → Counting numbers at → Numbers numbers met
+    → Walked limit (bytesOf met (valuesFrom b i (gap more) (spanned goal w ∷ xs))) out at out at numbers (valuesFrom b (suc i) (gap more) xs)
 binding-skip b i more w limit goal xs met out numbers at r e t k n =
-    walked-told limit (told-words met [] out out at at numbers (bytesOf met (valuesFrom b i (gap more) (nameIn goal w ∷ xs))) (valuesFrom b (suc i) (gap more) xs) n (few-met numbers at met k n) (nothing out at) (ap (bytesOf met) (values-skip b i (gap more) (nameIn goal w) xs (sym e ∙ t))))
+    walked-told limit (told-words met [] out out at at numbers (bytesOf met (valuesFrom b i (gap more) (spanned goal w ∷ xs))) (valuesFrom b (suc i) (gap more) xs) n (few-met numbers at met k n) (nothing out at) (ap (bytesOf met) (values-skip b i (gap more) (spanned goal w) xs (sym e ∙ t))))
 
-pub binding-give : (b : List Binding) (i more w limit : ℕ) (goal : List ℕ) (xs : List (List ℕ)) (met : List Variable) (old mid new numbers : List ℕ) (at m next : ℕ) (r : Bool) → r ≡ isAnonymous (nameIn goal w) → r ≡ false
-    → Put old at (gap more ++ (nameIn goal w ++ bytes " = ")) mid m
+pub binding-give : (b : List Binding) (i more w limit : ℕ) (goal : List ℕ) (xs : List (List ℕ)) (met : List Variable) (old mid new numbers : List ℕ) (at m next : ℕ) (r : Bool) → r ≡ isAnonymous (spanned goal w) → r ≡ false
+    → Put old at (gap more ++ (spanned goal w ++ bytes " = ")) mid m
     → Walked limit (bytesOf met (spelt (valueIn b i) (valuesFrom b (suc i) (bytes ", ") xs))) mid m new next numbers (valuesFrom b (suc i) (bytes ", ") xs)
-    → Walked limit (bytesOf met (valuesFrom b i (gap more) (nameIn goal w ∷ xs))) old at new next numbers (valuesFrom b (suc i) (gap 1) xs)
+    → Walked limit (bytesOf met (valuesFrom b i (gap more) (spanned goal w ∷ xs))) old at new next numbers (valuesFrom b (suc i) (gap 1) xs)
 binding-give b i more w limit goal xs met old mid new numbers at m next r e t p v =
-    let is : bytesOf met (valuesFrom b i (gap more) (nameIn goal w ∷ xs)) ≡ (gap more ++ (nameIn goal w ++ bytes " = ")) ++ bytesOf met (spelt (valueIn b i) (valuesFrom b (suc i) (bytes ", ") xs)) =
-    ap (bytesOf met) (values-give b i (gap more) (nameIn goal w) xs (sym e ∙ t)) ∙ bytes-three met (gap more) (nameIn goal w) (bytes " = ") (spelt (valueIn b i) (valuesFrom b (suc i) (bytes ", ") xs)) in
+    let is : bytesOf met (valuesFrom b i (gap more) (spanned goal w ∷ xs)) ≡ (gap more ++ (spanned goal w ++ bytes " = ")) ++ bytesOf met (spelt (valueIn b i) (valuesFrom b (suc i) (bytes ", ") xs)) =
+    ap (bytesOf met) (values-give b i (gap more) (spanned goal w) xs (sym e ∙ t)) ∙ bytes-three met (gap more) (spanned goal w) (bytes " = ") (spelt (valueIn b i) (valuesFrom b (suc i) (bytes ", ") xs)) in
     record {
       done = λ l. told-after met (spelt (valueIn b i) (valuesFrom b (suc i) (bytes ", ") xs)) p is (v .done l);
-      over = λ l. let a : limit < m + length (bytesOf met (spelt (valueIn b i) (valuesFrom b (suc i) (bytes ", ") xs))) = v .over l in let d : m ≡ at + length (gap more ++ (nameIn goal w ++ bytes " = ")) = p .past in let f : length (bytesOf met (valuesFrom b i (gap more) (nameIn goal w ∷ xs))) ≡ length ((gap more ++ (nameIn goal w ++ bytes " = ")) ++ bytesOf met (spelt (valueIn b i) (valuesFrom b (suc i) (bytes ", ") xs))) = ap length is in let g : length ((gap more ++ (nameIn goal w ++ bytes " = ")) ++ bytesOf met (spelt (valueIn b i) (valuesFrom b (suc i) (bytes ", ") xs))) ≡ length (gap more ++ (nameIn goal w ++ bytes " = ")) + length (bytesOf met (spelt (valueIn b i) (valuesFrom b (suc i) (bytes ", ") xs))) = length-append (gap more ++ (nameIn goal w ++ bytes " = ")) (bytesOf met (spelt (valueIn b i) (valuesFrom b (suc i) (bytes ", ") xs))) in omega arith;
+      over = λ l. let a : limit < m + length (bytesOf met (spelt (valueIn b i) (valuesFrom b (suc i) (bytes ", ") xs))) = v .over l in let d : m ≡ at + length (gap more ++ (spanned goal w ++ bytes " = ")) = p .past in let f : length (bytesOf met (valuesFrom b i (gap more) (spanned goal w ∷ xs))) ≡ length ((gap more ++ (spanned goal w ++ bytes " = ")) ++ bytesOf met (spelt (valueIn b i) (valuesFrom b (suc i) (bytes ", ") xs))) = ap length is in let g : length ((gap more ++ (spanned goal w ++ bytes " = ")) ++ bytesOf met (spelt (valueIn b i) (valuesFrom b (suc i) (bytes ", ") xs))) ≡ length (gap more ++ (spanned goal w ++ bytes " = ")) + length (bytesOf met (spelt (valueIn b i) (valuesFrom b (suc i) (bytes ", ") xs))) = length-append (gap more ++ (spanned goal w ++ bytes " = ")) (bytesOf met (spelt (valueIn b i) (valuesFrom b (suc i) (bytes ", ") xs))) in omega arith;
     }
 
-pub nearer-value : (at m r limit : ℕ) → (at ≤ m) × (m ≤ at + 36) → (m ≤ r) × ((r ≤ limit + 32) ⊎ (r ≤ m + 31)) → (at ≤ r) × ((r ≤ limit + 32) ⊎ (r ≤ at + 67))
+pub nearer-value : (at m r limit : ℕ) → (at ≤ m) × (m ≤ at + (wordBytes + 5)) → (m ≤ r) × ((r ≤ limit + (wordBytes + 1)) ⊎ (r ≤ m + wordBytes)) → (at ≤ r) × ((r ≤ limit + (wordBytes + 1)) ⊎ (r ≤ at + (2 * wordBytes + 5)))
 nearer-value at m r limit a b = (omega (arith, a .0, b .0), go (b .1))
   where
-    go : (r ≤ limit + 32) ⊎ (r ≤ m + 31) → (r ≤ limit + 32) ⊎ (r ≤ at + 67)
+    go : (r ≤ limit + (wordBytes + 1)) ⊎ (r ≤ m + wordBytes) → (r ≤ limit + (wordBytes + 1)) ⊎ (r ≤ at + (2 * wordBytes + 5))
     go (inl x) = inl x
     go (inr x) = inr (omega (arith, a .1))
 
@@ -249,7 +252,7 @@ valued : (ss : List Symbol) (n : ℕ) (nodes state symbols sheet goal stack₀ s
 valued ss n nodes state symbols sheet goal stack₀ stack names count i v e l =
     record {
       setting = record { store = v .setting .store; names = v .setting .names; rows = record { high = omega arith; each = λ j k. absurd (let z : j < 0 = k in omega arith) } };
-      low = (let f : count ≤ 32 = v .named .few in omega arith);
+      low = (let f : count ≤ variables = v .named .few in omega arith);
       shallow = v .shallow i l;
     }
 
@@ -278,12 +281,12 @@ module _ (nodes state symbols sheet goal names : List ℕ) (count : ℕ) (number
 
     pub listing-next : (stack numbers₁ out₁ : List ℕ) (past₁ more₁ w : ℕ) → length stack ≡ length stack₀ → i < count → w ≡ getD names i 0 → past ≤ limit
         → ((ss : List Symbol) (n : ℕ) (met : List Variable) (xs : List (List ℕ)) → Valued ss n nodes state symbols sheet goal stack i → Numbers numbers met
-        → Walked limit (bytesOf met (valuesFrom (bindings ss nodes state n) i (gap more) (nameIn goal w ∷ xs))) out past out₁ past₁ numbers₁ (valuesFrom (bindings ss nodes state n) (suc i) (gap more₁) xs))
+        → Walked limit (bytesOf met (valuesFrom (bindings ss nodes state n) i (gap more) (spanned goal w ∷ xs))) out past out₁ past₁ numbers₁ (valuesFrom (bindings ss nodes state n) (suc i) (gap more₁) xs))
         → Listing nodes state symbols sheet goal names count numbers₀ stack₀ out₀ at limit numbers₁ out₁ past₁ more₁ (i + 1)
     listing-next stack numbers₁ out₁ past₁ more₁ w e l ew p f ss n met v h =
         let t : Told (bytesOf met (valuesFrom (bindings ss nodes state n) 0 [] (namesFrom goal names 0 count))) out₀ at out past numbers (valuesFrom (bindings ss nodes state n) i (gap more) (namesFrom goal names i (count - i))) = g ss n met v h .done p in
-        let is : namesFrom goal names i (count - i) ≡ nameIn goal w ∷ namesFrom goal names (i + 1) (count - (i + 1)) = names-more goal names i count l ∙ ap (λ (x : ℕ). nameIn goal x ∷ namesFrom goal names (i + 1) (count - (i + 1))) (sym ew) in
-        let u : Walked limit (bytesOf (t .met) (valuesFrom (bindings ss nodes state n) i (gap more) (nameIn goal w ∷ namesFrom goal names (i + 1) (count - (i + 1))))) out past out₁ past₁ numbers₁ (valuesFrom (bindings ss nodes state n) (suc i) (gap more₁) (namesFrom goal names (i + 1) (count - (i + 1)))) =
+        let is : namesFrom goal names i (count - i) ≡ spanned goal w ∷ namesFrom goal names (i + 1) (count - (i + 1)) = names-more goal names i count l ∙ ap (λ (x : ℕ). spanned goal x ∷ namesFrom goal names (i + 1) (count - (i + 1))) (sym ew) in
+        let u : Walked limit (bytesOf (t .met) (valuesFrom (bindings ss nodes state n) i (gap more) (spanned goal w ∷ namesFrom goal names (i + 1) (count - (i + 1))))) out past out₁ past₁ numbers₁ (valuesFrom (bindings ss nodes state n) (suc i) (gap more₁) (namesFrom goal names (i + 1) (count - (i + 1)))) =
         f ss n (t .met) (namesFrom goal names (i + 1) (count - (i + 1))) (valued ss n nodes state symbols sheet goal stack₀ stack names count i v e l) (t .numbers-are) in
         let y : Walked limit (bytesOf (t .met) (valuesFrom (bindings ss nodes state n) i (gap more) (namesFrom goal names i (count - i)))) out past out₁ past₁ numbers₁ (valuesFrom (bindings ss nodes state n) (i + 1) (gap more₁) (namesFrom goal names (i + 1) (count - (i + 1)))) =
         subst (λ (j : ℕ). Walked limit (bytesOf (t .met) (valuesFrom (bindings ss nodes state n) i (gap more) (namesFrom goal names i (count - i)))) out past out₁ past₁ numbers₁ (valuesFrom (bindings ss nodes state n) j (gap more₁) (namesFrom goal names (i + 1) (count - (i + 1))))) (sym (add-one i)) (subst (λ (zs : List (List ℕ)). Walked limit (bytesOf (t .met) (valuesFrom (bindings ss nodes state n) i (gap more) zs)) out past out₁ past₁ numbers₁ (valuesFrom (bindings ss nodes state n) (suc i) (gap more₁) (namesFrom goal names (i + 1) (count - (i + 1))))) (sym is) u) in
@@ -306,9 +309,9 @@ module _ (nodes state symbols sheet goal names : List ℕ) (count : ℕ) (number
         past-it k true q = let a : next ≡ at + length (bytesOf met (valuesFrom (bindings ss nodes state n) 0 [] (namesFrom goal names 0 count))) = ended (leb-true past limit q) .past in omega arith
         past-it k false q = g ss n met v h .over (leb-false past limit q)
 
-pub near-on : (past r limit : ℕ) → past ≤ limit → limit + 400 < 2 ^ 64 → (past ≤ r) × ((r ≤ limit + 32) ⊎ (r ≤ past + 67)) → r + 300 < 2 ^ 64
+pub near-on : (past r limit : ℕ) → past ≤ limit → limit + 400 < 2 ^ 64 → (past ≤ r) × ((r ≤ limit + (wordBytes + 1)) ⊎ (r ≤ past + (2 * wordBytes + 5))) → r + 300 < 2 ^ 64
 near-on past r limit l f h = go (h .1)
   where
-    go : (r ≤ limit + 32) ⊎ (r ≤ past + 67) → r + 300 < 2 ^ 64
+    go : (r ≤ limit + (wordBytes + 1)) ⊎ (r ≤ past + (2 * wordBytes + 5)) → r + 300 < 2 ^ 64
     go (inl x) = omega arith
     go (inr x) = omega arith

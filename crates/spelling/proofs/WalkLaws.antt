@@ -1,17 +1,17 @@
 -- Laws of the walk: what a row, a name and an unbound variable leave to spell. Assumes nothing.
-use Prim.Native.Nat.{ℕ, zero, suc, max, _+_, _-_, _*_, _/_, _%_, _≤_, _<_, _^_}
-use native.Mathlib.Nat.{add-zero}
+use Prim.Native.Nat.{ℕ, zero, suc, max, _+_, _-_, _*_, _≤_, _<_, _^_}
 use native.Mathlib.Numerals.{add-one}
 use native.Mathlib.Omega.{arith}
 use mathlib.Core.Path.{_≡_, refl, sym, ap, ap₂, _∙_, subst}
-use mathlib.Core.Logic.{_⊎_, inl, inr}
-use mathlib.Core.Bool.{Bool, true, false, cond, _&&_, _||_}
+use mathlib.Core.Bool.{Bool, true, false, _||_}
 use mathlib.Core.List.{List, [], _∷_, _++_, append-assoc}
 use lib.Dec.{T, eqb, ltb→lt}
 use lib.ListN.{length, getD, set, length-set, length-append}
 use lib.Seq.{getD-set-same, getD-set-other}
 use borrow.Author.Tests.{eqb-true, eqb-false, eq-eqb, ne-eqb}
-use Rattle.syntax.specs.Terms.{Term, Terms, variable, compound, arity}
+use Rattle.syntax.specs.Words.{firstName}
+use Rattle.layout.specs.Regions.{copies, copyCells, cells, places, deepest, openSize, loadedNode}
+use Rattle.syntax.specs.Terms.{Term, variable, compound, arity}
 use Rattle.buffers.specs.Buffers.{Put}
 use Rattle.buffers.proofs.Laws.{then, nothing}
 use Rattle.machine.specs.Substitution.{Variable, RTerm, RTerms, var, app, rnil, rcons, Binding, resolve}
@@ -19,12 +19,12 @@ use Rattle.machine.specs.Answers.{Piece, byte, unbound, written, spelt, speltAr
 use Rattle.machine.proofs.Terms.{resolveAll, resolve-app, resolve-nil, resolve-cons}
 use Rattle.machine.proofs.Tests.{both}
 use Rattle.layout.specs.Nodes.{Symbol, isSymbol, symbolOf, isListed, nameOf, Node, Stands, Row, loadedWords, isLoadable, areLoadable, termAt, termsAt}
-use Rattle.layout.specs.State.{cellOf, variableOf, bindings, Store, cellAt}
+use Rattle.layout.specs.State.{cellOf, variableOf, bindings}
 use Rattle.layout.proofs.Nodes.{node-inside, node-size, node-end, variable-at, compound-row, compound-at, row-none, row-cons, row-first, row-rest, row-order}
 use Rattle.layout.proofs.State.{variable-cell, cell-small, resolve-unbound}
 use Rattle.bindings.specs.Cells.{Derefs}
-use Rattle.spelling.specs.Words.{Placed, nameAt, Names, Numbers, resolvedAll, depth, depthAll, speltRow, rowTerms, left, Standing, Rows}
-use Rattle.spelling.specs.Telling.{separatorOf, Told, Ample, Counting, Heading, SomeHeading, Setting, SomeSetting, Facing, SomeFacing, Spelling, Walked}
+use Rattle.spelling.specs.Words.{Placed, nameAt, Numbers, resolvedAll, depth, depthAll, speltRow, rowTerms, left, Standing, Rows, rowWord, endWord, newRow, movedRow, rowPlace, rowMore, spanWord, rowLast, rowCopy}
+use Rattle.spelling.specs.Telling.{separatorOf, Told, Ample, Counting, Heading, Setting, SomeSetting, Facing, Spelling, Walked}
 
 -- ---- resolved lists and depths
 
@@ -55,15 +55,15 @@ symbol-small (s ∷ ss) f n h = go (isSymbol f n s) refl h (symbol-small ss f n)
     go true e k ih = omega arith
     go false e k ih = let q : symbolOf ss f n < length ss = ih k in omega arith
 
-symbol-listed : (ss : List Symbol) (nodes : List ℕ) (p : ℕ) → Node ss nodes p → 64 ≤ getD nodes p 0 → getD nodes p 0 - 64 < length ss
+symbol-listed : (ss : List Symbol) (nodes : List ℕ) (p : ℕ) → Node ss nodes p → firstName ≤ getD nodes p 0 → getD nodes p 0 - firstName < length ss
 unfolding loadedWords isLoadable
 symbol-listed ss nodes p n h = go (n .0) (n .1)
   where
-    go : (t : Term) → Stands ss nodes p t → getD nodes p 0 - 64 < length ss
-    go (variable k a) s = absurd (let e : getD nodes p 0 ≡ k = s .words .1 in let l : k < 64 = ltb→lt k 64 (s .loadable) in omega arith)
+    go : (t : Term) → Stands ss nodes p t → getD nodes p 0 - firstName < length ss
+    go (variable k a) s = absurd (let e : getD nodes p 0 ≡ k = s .words .1 in let l : k < firstName = ltb→lt k firstName (s .loadable) in omega arith)
     go (compound a f ts) s =
         let ok : T (isListed ss f (arity ts)) × T (areLoadable ss ts) = both (isListed ss f (arity ts)) (areLoadable ss ts) (s .loadable) in
-        let e : getD nodes p 0 ≡ 64 + symbolOf ss f (arity ts) = s .words .1 in
+        let e : getD nodes p 0 ≡ firstName + symbolOf ss f (arity ts) = s .words .1 in
         let l : symbolOf ss f (arity ts) < length ss = symbol-small ss f (arity ts) (ok .0) in
         omega arith
 
@@ -72,56 +72,56 @@ symbol-listed ss nodes p n h = go (n .0) (n .1)
 -- a row laid or moved at height h
 pub record Pushed (stack : List ℕ) (h v w : ℕ) (after : List ℕ) : Type 0 where
   pub long : length after ≡ length stack
-  pub first : getD after (h * 2) 0 ≡ v
-  pub second : getD after (h * 2 + 1) 0 ≡ w
-  pub below : (i : ℕ) → i < h * 2 → getD after i 0 ≡ getD stack i 0
+  pub first : rowWord after h ≡ v
+  pub second : endWord after h ≡ w
+  pub below : (i : ℕ) → i < h * openSize → getD after i 0 ≡ getD stack i 0
 
-pub put-pushed : (stack after : List ℕ) (h v w : ℕ) → h * 2 + 2 ≤ length stack → after ≡ set (set stack (h * 2) v) (h * 2 + 1) w → Pushed stack h v w after
+pub put-pushed : (stack after : List ℕ) (h v w : ℕ) → h * openSize + openSize ≤ length stack → after ≡ set (set stack (h * openSize) v) (h * openSize + 1) w → Pushed stack h v w after
 put-pushed stack after h v w l e =
-    let n : length (set stack (h * 2) v) ≡ length stack = simp length-set in
+    let n : length (set stack (h * openSize) v) ≡ length stack = simp length-set in
     record {
       long = ap length e ∙ simp length-set;
-      first = ap (λ (s : List ℕ). getD s (h * 2) 0) e ∙ (getD-set-other (set stack (h * 2) v) (h * 2 + 1) (h * 2) w 0 (λ q. omega arith) ∙ getD-set-same stack (h * 2) v 0 (omega arith));
-      second = ap (λ (s : List ℕ). getD s (h * 2 + 1) 0) e ∙ getD-set-same (set stack (h * 2) v) (h * 2 + 1) w 0 (omega arith);
-      below = λ i k. ap (λ (s : List ℕ). getD s i 0) e ∙ (getD-set-other (set stack (h * 2) v) (h * 2 + 1) i w 0 (λ q. omega arith) ∙ getD-set-other stack (h * 2) i v 0 (λ q. omega arith));
+      first = ap (λ (s : List ℕ). rowWord s h) e ∙ (getD-set-other (set stack (h * openSize) v) (h * openSize + 1) (h * openSize) w 0 (λ q. omega arith) ∙ getD-set-same stack (h * openSize) v 0 (omega arith));
+      second = ap (λ (s : List ℕ). endWord s h) e ∙ getD-set-same (set stack (h * openSize) v) (h * openSize + 1) w 0 (omega arith);
+      below = λ i k. ap (λ (s : List ℕ). getD s i 0) e ∙ (getD-set-other (set stack (h * openSize) v) (h * openSize + 1) i w 0 (λ q. omega arith) ∙ getD-set-other stack (h * openSize) i v 0 (λ q. omega arith));
     }
 
-pub move-pushed : (stack after : List ℕ) (h v : ℕ) → h * 2 + 2 ≤ length stack → after ≡ set stack (h * 2) v → Pushed stack h v (getD stack (h * 2 + 1) 0) after
+pub move-pushed : (stack after : List ℕ) (h v : ℕ) → h * openSize + openSize ≤ length stack → after ≡ set stack (h * openSize) v → Pushed stack h v (endWord stack h) after
 move-pushed stack after h v l e =
     record {
       long = ap length e ∙ simp length-set;
-      first = ap (λ (s : List ℕ). getD s (h * 2) 0) e ∙ getD-set-same stack (h * 2) v 0 (omega arith);
-      second = ap (λ (s : List ℕ). getD s (h * 2 + 1) 0) e ∙ getD-set-other stack (h * 2) (h * 2 + 1) v 0 (λ q. omega arith);
-      below = λ i k. ap (λ (s : List ℕ). getD s i 0) e ∙ getD-set-other stack (h * 2) i v 0 (λ q. omega arith);
+      first = ap (λ (s : List ℕ). rowWord s h) e ∙ getD-set-same stack (h * openSize) v 0 (omega arith);
+      second = ap (λ (s : List ℕ). endWord s h) e ∙ getD-set-other stack (h * openSize) (h * openSize + 1) v 0 (λ q. omega arith);
+      below = λ i k. ap (λ (s : List ℕ). getD s i 0) e ∙ getD-set-other stack (h * openSize) i v 0 (λ q. omega arith);
     }
 
 module _ (ss : List Symbol) (nodes : List ℕ) (b : List Binding) (stack after : List ℕ) where
-  left-same : (h : ℕ) → ((i : ℕ) → i < h * 2 → getD after i 0 ≡ getD stack i 0) → (rest : List Piece) → left ss nodes b after h rest ≡ left ss nodes b stack h rest
+  left-same : (h : ℕ) → ((i : ℕ) → i < h * openSize → getD after i 0 ≡ getD stack i 0) → (rest : List Piece) → left ss nodes b after h rest ≡ left ss nodes b stack h rest
   unfolding left
   left-same zero z rest = refl
   left-same (suc h) z rest =
-      let v : getD after (h * 2) 0 ≡ getD stack (h * 2) 0 = z (h * 2) (omega arith) in
-      let w : getD after (h * 2 + 1) 0 ≡ getD stack (h * 2 + 1) 0 = z (h * 2 + 1) (omega arith) in
+      let v : rowWord after h ≡ rowWord stack h = z (h * openSize) (omega arith) in
+      let w : endWord after h ≡ endWord stack h = z (h * openSize + 1) (omega arith) in
       let r : left ss nodes b after h rest ≡ left ss nodes b stack h rest = left-same h (λ i l. z i (omega arith)) rest in
       rw (v, w, r)
 
   pub left-pushed : (h v w : ℕ) → Pushed stack h v w after → (rest : List Piece)
-      → left ss nodes b after (suc h) rest ≡ speltRow (v % 2) (resolvedAll b (rowTerms ss nodes v w)) (left ss nodes b stack h rest)
+      → left ss nodes b after (suc h) rest ≡ speltRow (rowMore v) (resolvedAll b (rowTerms ss nodes v w)) (left ss nodes b stack h rest)
   unfolding left
   left-pushed h v w p rest = let r : left ss nodes b after h rest ≡ left ss nodes b stack h rest = left-same h (p .below) rest in rw (p .first, p .second, r)
 
-  pub rows-pushed : (h v w : ℕ) → Rows ss nodes b stack h → Pushed stack h v w after → h * 2 + 2 ≤ length stack → Standing ss nodes b h v w → Rows ss nodes b after (suc h)
+  pub rows-pushed : (h v w : ℕ) → Rows ss nodes b stack h → Pushed stack h v w after → h * openSize + openSize ≤ length stack → Standing ss nodes b h v w → Rows ss nodes b after (suc h)
   rows-pushed h v w r p l s = record { high = (let e : length after ≡ length stack = p .long in omega arith); each = λ i k. go i k (eqb i h) refl }
     where
-      go : (i : ℕ) → i < suc h → (d : Bool) → eqb i h ≡ d → Standing ss nodes b i (getD after (i * 2) 0) (getD after (i * 2 + 1) 0)
+      go : (i : ℕ) → i < suc h → (d : Bool) → eqb i h ≡ d → Standing ss nodes b i (rowWord after i) (endWord after i)
       go i k true e =
           let q : i ≡ h = eqb-true i h e in
-          subst (λ (j : ℕ). Standing ss nodes b j (getD after (j * 2) 0) (getD after (j * 2 + 1) 0)) (sym q) (rw (p .first, p .second) s)
+          subst (λ (j : ℕ). Standing ss nodes b j (rowWord after j) (endWord after j)) (sym q) (rw (p .first, p .second) s)
       go i k false e =
           let d : i ≡ h → ⊥ = eqb-false i h e in
           let x : i < h = omega (arith, d) in
-          let f : getD after (i * 2) 0 ≡ getD stack (i * 2) 0 = p .below (i * 2) (omega arith) in
-          let g : getD after (i * 2 + 1) 0 ≡ getD stack (i * 2 + 1) 0 = p .below (i * 2 + 1) (omega arith) in
+          let f : rowWord after i ≡ rowWord stack i = p .below (i * openSize) (omega arith) in
+          let g : endWord after i ≡ endWord stack i = p .below (i * openSize + 1) (omega arith) in
           rw (f, g) (r .each i x)
 
 -- ---- bytes of pieces
@@ -170,53 +170,53 @@ told-rest e t = rw e at t
 -- ---- a name or an unbound variable
 
 module _ (ss : List Symbol) (b : List Binding) (nodes symbols sheet goal stack : List ℕ) (p c height : ℕ) (h : Heading ss b nodes symbols sheet goal stack p c height) where
-  pub head-inside : p + 2 ≤ length nodes
+  pub head-inside : p + loadedNode ≤ length nodes
   head-inside = node-inside ss nodes p (h .node)
 
-  pub head-small : p + getD nodes (p + 1) 0 ≤ 65536
-  head-small = let a : p + getD nodes (p + 1) 0 ≤ length nodes = node-end ss nodes p (h .node) in let d : length nodes ≤ 65536 = h .small in omega arith
+  pub head-small : p + getD nodes (p + 1) 0 ≤ places
+  head-small = let a : p + getD nodes (p + 1) 0 ≤ length nodes = node-end ss nodes p (h .node) in let d : length nodes ≤ places = h .small in omega arith
 
-  pub head-placed : (k : ℕ) → 64 ≤ getD nodes p 0 → k ≡ getD nodes p 0 - 64 → Placed symbols sheet goal k
-  head-placed k l e = subst (λ (x : ℕ). Placed symbols sheet goal x) (sym e) (h .names .placed (getD nodes p 0 - 64) (symbol-listed ss nodes p (h .node) l))
+  pub head-placed : (k : ℕ) → firstName ≤ getD nodes p 0 → k ≡ getD nodes p 0 - firstName → Placed symbols sheet goal k
+  head-placed k l e = subst (λ (x : ℕ). Placed symbols sheet goal x) (sym e) (h .names .placed (getD nodes p 0 - firstName) (symbol-listed ss nodes p (h .node) l))
 
-  head-name : (k : ℕ) → 64 ≤ getD nodes p 0 → k ≡ getD nodes p 0 - 64 → nameAt symbols sheet goal k ≡ nameOf ss (getD nodes p 0 - 64)
-  head-name k l e = ap (nameAt symbols sheet goal) e ∙ h .names .name (getD nodes p 0 - 64) (symbol-listed ss nodes p (h .node) l)
+  head-name : (k : ℕ) → firstName ≤ getD nodes p 0 → k ≡ getD nodes p 0 - firstName → nameAt symbols sheet goal k ≡ nameOf ss (getD nodes p 0 - firstName)
+  head-name k l e = ap (nameAt symbols sheet goal) e ∙ h .names .name (getD nodes p 0 - firstName) (symbol-listed ss nodes p (h .node) l)
 
   args : RTerms
-  args = termsAt ss nodes (p + 2) (p + getD nodes (p + 1) 0) c
+  args = termsAt ss nodes (p + loadedNode) (p + getD nodes (p + 1) 0) c
 
-  head-is : 64 ≤ getD nodes p 0 → resolve b (termAt ss nodes p c) ≡ app (nameOf ss (getD nodes p 0 - 64)) (resolvedAll b args)
+  head-is : firstName ≤ getD nodes p 0 → resolve b (termAt ss nodes p c) ≡ app (nameOf ss (getD nodes p 0 - firstName)) (resolvedAll b args)
   unfolding args
-  head-is l = ap (resolve b) (compound-at ss nodes p (h .node) c l) ∙ resolved-name b (nameOf ss (getD nodes p 0 - 64)) (termsAt ss nodes (p + 2) (p + getD nodes (p + 1) 0) c)
+  head-is l = ap (resolve b) (compound-at ss nodes p (h .node) c l) ∙ resolved-name b (nameOf ss (getD nodes p 0 - firstName)) (termsAt ss nodes (p + loadedNode) (p + getD nodes (p + 1) 0) c)
 
-  args-shallow : 64 ≤ getD nodes p 0 → depthAll (resolvedAll b args) + height ≤ 262160
+  args-shallow : firstName ≤ getD nodes p 0 → depthAll (resolvedAll b args) + height ≤ deepest
   args-shallow l =
-      let e : depth (resolve b (termAt ss nodes p c)) ≡ depthAll (resolvedAll b args) = ap depth (head-is l) ∙ depth-name (nameOf ss (getD nodes p 0 - 64)) (resolvedAll b args) in
-      let k : depth (resolve b (termAt ss nodes p c)) + height ≤ 262160 = h .shallow in
+      let e : depth (resolve b (termAt ss nodes p c)) ≡ depthAll (resolvedAll b args) = ap depth (head-is l) ∙ depth-name (nameOf ss (getD nodes p 0 - firstName)) (resolvedAll b args) in
+      let k : depth (resolve b (termAt ss nodes p c)) + height ≤ deepest = h .shallow in
       omega arith
 
-  opens : (getD nodes (p + 1) 0 ≡ 2 → ⊥) → p + 2 < p + getD nodes (p + 1) 0
+  opens : (getD nodes (p + 1) 0 ≡ loadedNode → ⊥) → p + loadedNode < p + getD nodes (p + 1) 0
   opens z = let a : 2 ≤ getD nodes (p + 1) 0 = node-size ss nodes p (h .node) in omega (arith, z)
 
-  pub head-room : 64 ≤ getD nodes p 0 → (getD nodes (p + 1) 0 ≡ 2 → ⊥) → height * 2 + 2 ≤ length stack
+  pub head-room : firstName ≤ getD nodes p 0 → (getD nodes (p + 1) 0 ≡ loadedNode → ⊥) → height * openSize + openSize ≤ length stack
   unfolding args
   head-room l z =
-      let o : p + 2 < p + getD nodes (p + 1) 0 = opens z in
-      let r : Row ss nodes (p + 2) (p + getD nodes (p + 1) 0) = compound-row ss nodes p (h .node) l in
-      let e : depthAll (resolvedAll b args) ≡ max (suc (depth (resolve b (termAt ss nodes (p + 2) c)))) (depthAll (resolvedAll b (termsAt ss nodes (p + 2 + getD nodes (p + 2 + 1) 0) (p + getD nodes (p + 1) 0) c))) =
-      ap (λ (ts : RTerms). depthAll (resolvedAll b ts)) (row-cons ss nodes (p + 2) (p + getD nodes (p + 1) 0) r c o)
-      ∙ depth-cons b (termAt ss nodes (p + 2) c) (termsAt ss nodes (p + 2 + getD nodes (p + 2 + 1) 0) (p + getD nodes (p + 1) 0) c) in
-      let k : depthAll (resolvedAll b args) + height ≤ 262160 = args-shallow l in
-      let a : Ample stack (height * 2 + 2) = h .room in
+      let o : p + loadedNode < p + getD nodes (p + 1) 0 = opens z in
+      let r : Row ss nodes (p + loadedNode) (p + getD nodes (p + 1) 0) = compound-row ss nodes p (h .node) l in
+      let e : depthAll (resolvedAll b args) ≡ max (suc (depth (resolve b (termAt ss nodes (p + loadedNode) c)))) (depthAll (resolvedAll b (termsAt ss nodes (p + loadedNode + getD nodes (p + loadedNode + 1) 0) (p + getD nodes (p + 1) 0) c))) =
+      ap (λ (ts : RTerms). depthAll (resolvedAll b ts)) (row-cons ss nodes (p + loadedNode) (p + getD nodes (p + 1) 0) r c o)
+      ∙ depth-cons b (termAt ss nodes (p + loadedNode) c) (termsAt ss nodes (p + loadedNode + getD nodes (p + loadedNode + 1) 0) (p + getD nodes (p + 1) 0) c) in
+      let k : depthAll (resolvedAll b args) + height ≤ deepest = args-shallow l in
+      let a : Ample stack (height * openSize + openSize) = h .room in
       omega arith
 
   -- an unbound variable
-  pub head-variable : (met : List Variable) (w x : ℕ) (old new numbers : List ℕ) (at next : ℕ) (rest : List Piece) → w ≡ getD nodes p 0 → w < 64 → x ≡ c * 64 + w
+  pub head-variable : (met : List Variable) (w x : ℕ) (old new numbers : List ℕ) (at next : ℕ) (rest : List Piece) → w ≡ getD nodes p 0 → w < firstName → x ≡ c * copyCells + w
       → ((ps : List Piece) → Told (bytesOf met (unbound (variableOf x) ∷ ps)) old at new next numbers ps)
       → Spelling ss nodes b (bytesOf met (spelt (resolve b (termAt ss nodes p c)) (left ss nodes b stack height rest))) old at new numbers stack next height rest
   head-variable met w x old new numbers at next rest e l q t =
-      let low : getD nodes p 0 < 64 = omega arith in
-      let cell : x ≡ cellOf c (getD nodes p 0) = q ∙ ap (λ (k : ℕ). c * 64 + k) e in
+      let low : getD nodes p 0 < firstName = omega arith in
+      let cell : x ≡ cellOf c (getD nodes p 0) = q ∙ ap (λ (k : ℕ). c * copyCells + k) e in
       let term : resolve b (termAt ss nodes p c) ≡ var (variableOf x) = h .free low ∙ (variable-at ss nodes p (h .node) c low ∙ (ap var (sym (variable-cell c (getD nodes p 0) low)) ∙ ap (λ (k : ℕ). var (variableOf k)) (sym cell))) in
       record {
         told = told-whole (ap (λ (s : RTerm). bytesOf met (spelt s (left ss nodes b stack height rest))) term ∙ ap (bytesOf met) (spelt-var (variableOf x) (left ss nodes b stack height rest))) (t (left ss nodes b stack height rest));
@@ -224,56 +224,56 @@ module _ (ss : List Symbol) (b : List Binding) (nodes symbols sheet goal stack :
       }
 
   -- a name: its bytes, and its arguments are left
-  name-told : (met : List Variable) (k : ℕ) (old new numbers : List ℕ) (at next : ℕ) (ps : List Piece) → 64 ≤ getD nodes p 0 → k ≡ getD nodes p 0 - 64 → Numbers numbers met → length met ≤ at
+  name-told : (met : List Variable) (k : ℕ) (old new numbers : List ℕ) (at next : ℕ) (ps : List Piece) → firstName ≤ getD nodes p 0 → k ≡ getD nodes p 0 - firstName → Numbers numbers met → length met ≤ at
       → Put old at (nameAt symbols sheet goal k) new next → Told (bytesOf met (spelt (resolve b (termAt ss nodes p c)) ps)) old at new next numbers (speltArgs (resolvedAll b args) ps)
   name-told met k old new numbers at next ps l e n few put =
       told-words met (nameAt symbols sheet goal k) old new at next numbers (bytesOf met (spelt (resolve b (termAt ss nodes p c)) ps)) (speltArgs (resolvedAll b args) ps) n few put
       (ap (λ (s : RTerm). bytesOf met (spelt s ps)) (head-is l)
-      ∙ (ap (bytesOf met) (spelt-name (nameOf ss (getD nodes p 0 - 64)) (resolvedAll b args) ps)
-      ∙ (bytes-written met (nameOf ss (getD nodes p 0 - 64)) (speltArgs (resolvedAll b args) ps)
+      ∙ (ap (bytesOf met) (spelt-name (nameOf ss (getD nodes p 0 - firstName)) (resolvedAll b args) ps)
+      ∙ (bytes-written met (nameOf ss (getD nodes p 0 - firstName)) (speltArgs (resolvedAll b args) ps)
       ∙ ap (λ (f : List ℕ). f ++ bytesOf met (speltArgs (resolvedAll b args) ps)) (sym (head-name k l e)))))
 
-  pub head-leaf : (met : List Variable) (k : ℕ) (old new numbers : List ℕ) (at next : ℕ) (rest : List Piece) → 64 ≤ getD nodes p 0 → k ≡ getD nodes p 0 - 64 → getD nodes (p + 1) 0 ≡ 2 → Numbers numbers met → length met ≤ at
+  pub head-leaf : (met : List Variable) (k : ℕ) (old new numbers : List ℕ) (at next : ℕ) (rest : List Piece) → firstName ≤ getD nodes p 0 → k ≡ getD nodes p 0 - firstName → getD nodes (p + 1) 0 ≡ 2 → Numbers numbers met → length met ≤ at
       → Put old at (nameAt symbols sheet goal k) new next
       → Spelling ss nodes b (bytesOf met (spelt (resolve b (termAt ss nodes p c)) (left ss nodes b stack height rest))) old at new numbers stack next height rest
   unfolding args resolvedAll speltArgs
   head-leaf met k old new numbers at next rest l e z n few put =
-      let r : Row ss nodes (p + 2) (p + getD nodes (p + 1) 0) = compound-row ss nodes p (h .node) l in
-      let none : args ≡ rnil = row-none ss nodes (p + 2) (p + getD nodes (p + 1) 0) r c (omega arith) in
+      let r : Row ss nodes (p + loadedNode) (p + getD nodes (p + 1) 0) = compound-row ss nodes p (h .node) l in
+      let none : args ≡ rnil = row-none ss nodes (p + loadedNode) (p + getD nodes (p + 1) 0) r c (omega arith) in
       record {
         told = told-rest (ap (λ (ts : RTerms). speltArgs (resolvedAll b ts) (left ss nodes b stack height rest)) none) (name-told met k old new numbers at next (left ss nodes b stack height rest) l e n few put);
         rows = h .rows;
       }
 
-  row-standing : 64 ≤ getD nodes p 0 → (getD nodes (p + 1) 0 ≡ 2 → ⊥) → Standing ss nodes b height ((p + 2) * 2) ((p + getD nodes (p + 1) 0) * 256 + c)
+  row-standing : firstName ≤ getD nodes p 0 → (getD nodes (p + 1) 0 ≡ loadedNode → ⊥) → Standing ss nodes b height (newRow (p + loadedNode)) (spanWord (p + getD nodes (p + 1) 0) c)
   unfolding args
   row-standing l z =
-      let x : (p + 2) * 2 / 2 ≡ p + 2 = omega arith in
-      let small : c < 256 = h .copy in
-      let y : ((p + getD nodes (p + 1) 0) * 256 + c) / 256 ≡ p + getD nodes (p + 1) 0 = omega arith in
-      let w : ((p + getD nodes (p + 1) 0) * 256 + c) % 256 ≡ c = omega arith in
+      let x : rowPlace (newRow (p + loadedNode)) ≡ p + loadedNode = omega arith in
+      let small : c < copies = h .copy in
+      let y : rowLast (spanWord (p + getD nodes (p + 1) 0) c) ≡ p + getD nodes (p + 1) 0 = omega arith in
+      let w : rowCopy (spanWord (p + getD nodes (p + 1) 0) c) ≡ c = omega arith in
       record { row = rw (x, y) (compound-row ss nodes p (h .node) l); opened = λ q. rw (x, y) (opens z); shallow = rw (x, y, w) (args-shallow l) }
 
-  pub head-open : (met : List Variable) (k last : ℕ) (old new numbers after : List ℕ) (at next : ℕ) (rest : List Piece) → 64 ≤ getD nodes p 0 → k ≡ getD nodes p 0 - 64 → (getD nodes (p + 1) 0 ≡ 2 → ⊥) → Numbers numbers met → length met ≤ at
-      → Put old at (nameAt symbols sheet goal k) new next → last ≡ p + getD nodes (p + 1) 0 → after ≡ set (set stack (height * 2) ((p + 2) * 2)) (height * 2 + 1) (last * 256 + c)
+  pub head-open : (met : List Variable) (k last : ℕ) (old new numbers after : List ℕ) (at next : ℕ) (rest : List Piece) → firstName ≤ getD nodes p 0 → k ≡ getD nodes p 0 - firstName → (getD nodes (p + 1) 0 ≡ loadedNode → ⊥) → Numbers numbers met → length met ≤ at
+      → Put old at (nameAt symbols sheet goal k) new next → last ≡ p + getD nodes (p + 1) 0 → after ≡ set (set stack (height * openSize) (newRow (p + loadedNode))) (height * openSize + 1) (spanWord last c)
       → Spelling ss nodes b (bytesOf met (spelt (resolve b (termAt ss nodes p c)) (left ss nodes b stack height rest))) old at new numbers after next (height + 1) rest
   unfolding args
   head-open met k last old new numbers after at next rest l e z n few put m s =
-      let pushed : Pushed stack height ((p + 2) * 2) ((p + getD nodes (p + 1) 0) * 256 + c) after = put-pushed stack after height ((p + 2) * 2) ((p + getD nodes (p + 1) 0) * 256 + c) (head-room l z) (s ∙ ap (λ (j : ℕ). set (set stack (height * 2) ((p + 2) * 2)) (height * 2 + 1) (j * 256 + c)) m) in
-      let x : (p + 2) * 2 / 2 ≡ p + 2 = omega arith in
-      let x0 : (p + 2) * 2 % 2 ≡ 0 = omega arith in
-      let small : c < 256 = h .copy in
-      let y : ((p + getD nodes (p + 1) 0) * 256 + c) / 256 ≡ p + getD nodes (p + 1) 0 = omega arith in
-      let w : ((p + getD nodes (p + 1) 0) * 256 + c) % 256 ≡ c = omega arith in
-      let rows : Rows ss nodes b after (suc height) = rows-pushed ss nodes b stack after height ((p + 2) * 2) ((p + getD nodes (p + 1) 0) * 256 + c) (h .rows) pushed (head-room l z) (row-standing l z) in
-      let is : left ss nodes b after (suc height) rest ≡ speltArgs (resolvedAll b args) (left ss nodes b stack height rest) = left-pushed ss nodes b stack after height ((p + 2) * 2) ((p + getD nodes (p + 1) 0) * 256 + c) pushed rest ∙ rw (x, x0, y, w) in
+      let pushed : Pushed stack height (newRow (p + loadedNode)) (spanWord (p + getD nodes (p + 1) 0) c) after = put-pushed stack after height (newRow (p + loadedNode)) (spanWord (p + getD nodes (p + 1) 0) c) (head-room l z) (s ∙ ap (λ (j : ℕ). set (set stack (height * openSize) (newRow (p + loadedNode))) (height * openSize + 1) (spanWord j c)) m) in
+      let x : rowPlace (newRow (p + loadedNode)) ≡ p + loadedNode = omega arith in
+      let x0 : rowMore (newRow (p + loadedNode)) ≡ 0 = omega arith in
+      let small : c < copies = h .copy in
+      let y : rowLast (spanWord (p + getD nodes (p + 1) 0) c) ≡ p + getD nodes (p + 1) 0 = omega arith in
+      let w : rowCopy (spanWord (p + getD nodes (p + 1) 0) c) ≡ c = omega arith in
+      let rows : Rows ss nodes b after (suc height) = rows-pushed ss nodes b stack after height (newRow (p + loadedNode)) (spanWord (p + getD nodes (p + 1) 0) c) (h .rows) pushed (head-room l z) (row-standing l z) in
+      let is : left ss nodes b after (suc height) rest ≡ speltArgs (resolvedAll b args) (left ss nodes b stack height rest) = left-pushed ss nodes b stack after height (newRow (p + loadedNode)) (spanWord (p + getD nodes (p + 1) 0) c) pushed rest ∙ rw (x, x0, y, w) in
       rw (add-one height) (record { told = told-rest (sym is) (name-told met k old new numbers at next (left ss nodes b stack height rest) l e n few put); rows = rows })
 
 -- those met are as many as the table counts
 pub few-met : (numbers : List ℕ) (at : ℕ) (met : List Variable) → Counting numbers at → Numbers numbers met → length met ≤ at
 few-met numbers at met k n =
-    let a : getD numbers 16384 0 ≡ length (k .met) = k .numbers-are .counted in
-    let d : getD numbers 16384 0 ≡ length met = n .counted in
+    let a : getD numbers cells 0 ≡ length (k .met) = k .numbers-are .counted in
+    let d : getD numbers cells 0 ≡ length met = n .counted in
     let e : length (k .met) ≤ at = k .few in
     omega arith
 
@@ -289,11 +289,11 @@ module _ (ss : List Symbol) (n : ℕ) (nodes state symbols sheet goal stack : Li
         names = f .setting .names;
         free = λ low. free low;
         rows = f .setting .rows;
-        shallow = (let e : depth (resolve (bindings ss nodes state n) (termAt ss nodes p c)) ≡ depth (resolve (bindings ss nodes state n) (termAt ss nodes q d)) = ap depth (sym (l .leads .means)) in let k : depth (resolve (bindings ss nodes state n) (termAt ss nodes p c)) + height ≤ 262160 = f .shallow in omega arith);
+        shallow = (let e : depth (resolve (bindings ss nodes state n) (termAt ss nodes p c)) ≡ depth (resolve (bindings ss nodes state n) (termAt ss nodes q d)) = ap depth (sym (l .leads .means)) in let k : depth (resolve (bindings ss nodes state n) (termAt ss nodes p c)) + height ≤ deepest = f .shallow in omega arith);
         room = f .room;
       }
     where
-      free : getD nodes q 0 < 64 → resolve (bindings ss nodes state n) (termAt ss nodes q d) ≡ termAt ss nodes q d
+      free : getD nodes q 0 < firstName → resolve (bindings ss nodes state n) (termAt ss nodes q d) ≡ termAt ss nodes q d
       free low =
           let is : termAt ss nodes q d ≡ var (variableOf (cellOf d (getD nodes q 0))) = variable-at ss nodes q (l .leads .node) d low ∙ ap var (sym (variable-cell d (getD nodes q 0) low)) in
           rw is (resolve-unbound ss nodes state n (cellOf d (getD nodes q 0)) (f .setting .store) (cell-small d (getD nodes q 0) (l .leads .copy) low) (l .stops low))
@@ -346,38 +346,38 @@ module _ (ss : List Symbol) (n : ℕ) (nodes state symbols sheet goal stack : Li
   upper : height ≡ suc top
   upper = omega arith
 
-  pub top-room : top * 2 + 2 ≤ length stack
-  top-room = let h : height * 2 ≤ length stack = s .rows .high in let u : height ≡ suc top = upper in omega arith
+  pub top-room : top * openSize + openSize ≤ length stack
+  top-room = let h : height * openSize ≤ length stack = s .rows .high in let u : height ≡ suc top = upper in omega arith
 
-  standing : Standing ss nodes (bindings ss nodes state n) top (getD stack (top * 2) 0) (getD stack (top * 2 + 1) 0)
+  standing : Standing ss nodes (bindings ss nodes state n) top (rowWord stack top) (endWord stack top)
   standing = s .rows .each top (let u : height ≡ suc top = upper in omega arith)
 
   lower : Rows ss nodes (bindings ss nodes state n) stack top
-  lower = record { high = (let h : top * 2 + 2 ≤ length stack = top-room in omega arith); each = λ i k. s .rows .each i (let u : height ≡ suc top = upper in omega arith) }
+  lower = record { high = (let h : top * openSize + openSize ≤ length stack = top-room in omega arith); each = λ i k. s .rows .each i (let u : height ≡ suc top = upper in omega arith) }
 
   left-top : (rest : List Piece) → left ss nodes (bindings ss nodes state n) stack height rest
-      ≡ speltRow (getD stack (top * 2) 0 % 2) (resolvedAll (bindings ss nodes state n) (rowTerms ss nodes (getD stack (top * 2) 0) (getD stack (top * 2 + 1) 0))) (left ss nodes (bindings ss nodes state n) stack top rest)
+      ≡ speltRow (rowMore (rowWord stack top)) (resolvedAll (bindings ss nodes state n) (rowTerms ss nodes (rowWord stack top) (endWord stack top))) (left ss nodes (bindings ss nodes state n) stack top rest)
   unfolding left
   left-top rest = ap (λ (h : ℕ). left ss nodes (bindings ss nodes state n) stack h rest) upper
 
   -- the closing bracket
-  pub turn-close : (place last : ℕ) → place ≡ getD stack (top * 2) 0 / 2 → last ≡ getD stack (top * 2 + 1) 0 / 256 → place ≡ last
+  pub turn-close : (place last : ℕ) → place ≡ rowPlace (rowWord stack top) → last ≡ rowLast (endWord stack top) → place ≡ last
       → (met : List Variable) (old new numbers : List ℕ) (at next : ℕ) (rest : List Piece) → Numbers numbers met → length met ≤ at → Put old at (41 ∷ []) new next
       → Spelling ss nodes (bindings ss nodes state n) (bytesOf met (left ss nodes (bindings ss nodes state n) stack height rest)) old at new numbers stack next top rest
   turn-close place last ep el e met old new numbers at next rest num few put =
-      let same : getD stack (top * 2) 0 / 2 ≡ getD stack (top * 2 + 1) 0 / 256 = omega arith in
-      let some : getD stack (top * 2) 0 % 2 ≡ 0 → ⊥ = (λ z. let k : getD stack (top * 2) 0 / 2 < getD stack (top * 2 + 1) 0 / 256 = standing .opened z in omega arith) in
-      let none : rowTerms ss nodes (getD stack (top * 2) 0) (getD stack (top * 2 + 1) 0) ≡ rnil = row-none ss nodes (getD stack (top * 2) 0 / 2) (getD stack (top * 2 + 1) 0 / 256) (standing .row) (getD stack (top * 2 + 1) 0 % 256) (omega arith) in
+      let same : rowPlace (rowWord stack top) ≡ rowLast (endWord stack top) = omega arith in
+      let some : rowMore (rowWord stack top) ≡ 0 → ⊥ = (λ z. let k : rowPlace (rowWord stack top) < rowLast (endWord stack top) = standing .opened z in omega arith) in
+      let none : rowTerms ss nodes (rowWord stack top) (endWord stack top) ≡ rnil = row-none ss nodes (rowPlace (rowWord stack top)) (rowLast (endWord stack top)) (standing .row) (rowCopy (endWord stack top)) (omega arith) in
       let is : left ss nodes (bindings ss nodes state n) stack height rest ≡ byte 41 ∷ left ss nodes (bindings ss nodes state n) stack top rest =
       left-top rest
-      ∙ (ap (λ (ts : RTerms). speltRow (getD stack (top * 2) 0 % 2) ts (left ss nodes (bindings ss nodes state n) stack top rest)) (ap (resolvedAll (bindings ss nodes state n)) none ∙ resolved-nil (bindings ss nodes state n))
-      ∙ row-closed (getD stack (top * 2) 0 % 2) some (left ss nodes (bindings ss nodes state n) stack top rest)) in
+      ∙ (ap (λ (ts : RTerms). speltRow (rowMore (rowWord stack top)) ts (left ss nodes (bindings ss nodes state n) stack top rest)) (ap (resolvedAll (bindings ss nodes state n)) none ∙ resolved-nil (bindings ss nodes state n))
+      ∙ row-closed (rowMore (rowWord stack top)) some (left ss nodes (bindings ss nodes state n) stack top rest)) in
       record {
         told = told-words met (41 ∷ []) old new at next numbers (bytesOf met (left ss nodes (bindings ss nodes state n) stack height rest)) (left ss nodes (bindings ss nodes state n) stack top rest) num few put (ap (bytesOf met) is ∙ bytes-byte met 41 (left ss nodes (bindings ss nodes state n) stack top rest));
         rows = lower;
       }
 
-  module _ (place last copy : ℕ) (ep : place ≡ getD stack (top * 2) 0 / 2) (el : last ≡ getD stack (top * 2 + 1) 0 / 256) (ec : copy ≡ getD stack (top * 2 + 1) 0 % 256) (ne : place ≡ last → ⊥) where
+  module _ (place last copy : ℕ) (ep : place ≡ rowPlace (rowWord stack top)) (el : last ≡ rowLast (endWord stack top)) (ec : copy ≡ rowCopy (endWord stack top)) (ne : place ≡ last → ⊥) where
     row : Row ss nodes place last
     row = rw (ep, el) (standing .row)
 
@@ -390,59 +390,59 @@ module _ (ss : List Symbol) (n : ℕ) (nodes state symbols sheet goal stack : Li
     pub turn-inside : place + 2 ≤ length nodes
     turn-inside = node-inside ss nodes place turn-node
 
-    pub turn-small : place + getD nodes (place + 1) 0 ≤ 65536
-    turn-small = let a : place + getD nodes (place + 1) 0 ≤ length nodes = node-end ss nodes place turn-node in let d : length nodes ≤ 65536 = s .store .small in omega arith
+    pub turn-small : place + getD nodes (place + 1) 0 ≤ places
+    turn-small = let a : place + getD nodes (place + 1) 0 ≤ length nodes = node-end ss nodes place turn-node in let d : length nodes ≤ places = s .store .small in omega arith
 
-    terms-are : rowTerms ss nodes (getD stack (top * 2) 0) (getD stack (top * 2 + 1) 0) ≡ rcons (termAt ss nodes place copy) (termsAt ss nodes (place + getD nodes (place + 1) 0) last copy)
+    terms-are : rowTerms ss nodes (rowWord stack top) (endWord stack top) ≡ rcons (termAt ss nodes place copy) (termsAt ss nodes (place + getD nodes (place + 1) 0) last copy)
     terms-are = rw (← ep, ← el, ← ec) (row-cons ss nodes place last row copy before-last)
 
-    deep : max (suc (depth (resolve (bindings ss nodes state n) (termAt ss nodes place copy)))) (depthAll (resolvedAll (bindings ss nodes state n) (termsAt ss nodes (place + getD nodes (place + 1) 0) last copy))) + top ≤ 262160
+    deep : max (suc (depth (resolve (bindings ss nodes state n) (termAt ss nodes place copy)))) (depthAll (resolvedAll (bindings ss nodes state n) (termsAt ss nodes (place + getD nodes (place + 1) 0) last copy))) + top ≤ deepest
     deep =
-        let e : depthAll (resolvedAll (bindings ss nodes state n) (rowTerms ss nodes (getD stack (top * 2) 0) (getD stack (top * 2 + 1) 0))) ≡ max (suc (depth (resolve (bindings ss nodes state n) (termAt ss nodes place copy)))) (depthAll (resolvedAll (bindings ss nodes state n) (termsAt ss nodes (place + getD nodes (place + 1) 0) last copy))) =
+        let e : depthAll (resolvedAll (bindings ss nodes state n) (rowTerms ss nodes (rowWord stack top) (endWord stack top))) ≡ max (suc (depth (resolve (bindings ss nodes state n) (termAt ss nodes place copy)))) (depthAll (resolvedAll (bindings ss nodes state n) (termsAt ss nodes (place + getD nodes (place + 1) 0) last copy))) =
         ap (λ (ts : RTerms). depthAll (resolvedAll (bindings ss nodes state n) ts)) terms-are ∙ depth-cons (bindings ss nodes state n) (termAt ss nodes place copy) (termsAt ss nodes (place + getD nodes (place + 1) 0) last copy) in
-        let k : depthAll (resolvedAll (bindings ss nodes state n) (rowTerms ss nodes (getD stack (top * 2) 0) (getD stack (top * 2 + 1) 0))) + top ≤ 262160 = standing .shallow in
+        let k : depthAll (resolvedAll (bindings ss nodes state n) (rowTerms ss nodes (rowWord stack top) (endWord stack top))) + top ≤ deepest = standing .shallow in
         omega arith
 
-    module _ (next : ℕ) (after : List ℕ) (en : next ≡ place + getD nodes (place + 1) 0) (ea : after ≡ set stack (top * 2) (next * 2 + 1)) where
-      pushed : Pushed stack top (next * 2 + 1) (getD stack (top * 2 + 1) 0) after
-      pushed = move-pushed stack after top (next * 2 + 1) top-room ea
+    module _ (next : ℕ) (after : List ℕ) (en : next ≡ place + getD nodes (place + 1) 0) (ea : after ≡ set stack (top * openSize) (movedRow next)) where
+      pushed : Pushed stack top (movedRow next) (endWord stack top) after
+      pushed = move-pushed stack after top (movedRow next) top-room ea
 
-      half : (next * 2 + 1) / 2 ≡ place + getD nodes (place + 1) 0
+      half : rowPlace (movedRow next) ≡ place + getD nodes (place + 1) 0
       half = omega arith
 
-      moved : Standing ss nodes (bindings ss nodes state n) top (next * 2 + 1) (getD stack (top * 2 + 1) 0)
+      moved : Standing ss nodes (bindings ss nodes state n) top (movedRow next) (endWord stack top)
       moved =
           record {
             row = rw (half, ← el) (row-rest ss nodes place last row before-last);
             opened = λ z. absurd (omega arith);
-            shallow = rw (half, ← el, ← ec) (let k : max (suc (depth (resolve (bindings ss nodes state n) (termAt ss nodes place copy)))) (depthAll (resolvedAll (bindings ss nodes state n) (termsAt ss nodes (place + getD nodes (place + 1) 0) last copy))) + top ≤ 262160 = deep in omega arith);
+            shallow = rw (half, ← el, ← ec) (let k : max (suc (depth (resolve (bindings ss nodes state n) (termAt ss nodes place copy)))) (depthAll (resolvedAll (bindings ss nodes state n) (termsAt ss nodes (place + getD nodes (place + 1) 0) last copy))) + top ≤ deepest = deep in omega arith);
           }
 
-      pub turn-facing : Ample stack (height * 2 + 2) → Facing ss n nodes state symbols sheet goal after place copy height
+      pub turn-facing : Ample stack (height * openSize + openSize) → Facing ss n nodes state symbols sheet goal after place copy height
       turn-facing room =
           record {
-            setting = record { store = s .store; names = s .names; rows = rw upper (rows-pushed ss nodes (bindings ss nodes state n) stack after top (next * 2 + 1) (getD stack (top * 2 + 1) 0) lower pushed top-room moved) };
+            setting = record { store = s .store; names = s .names; rows = rw upper (rows-pushed ss nodes (bindings ss nodes state n) stack after top (movedRow next) (endWord stack top) lower pushed top-room moved) };
             node = turn-node;
             copy = (omega arith);
-            shallow = (let k : max (suc (depth (resolve (bindings ss nodes state n) (termAt ss nodes place copy)))) (depthAll (resolvedAll (bindings ss nodes state n) (termsAt ss nodes (place + getD nodes (place + 1) 0) last copy))) + top ≤ 262160 = deep in let u : height ≡ suc top = upper in omega arith);
-            room = (let l : length after ≡ length stack = pushed .long in let a : Ample stack (height * 2 + 2) = room in omega arith);
+            shallow = (let k : max (suc (depth (resolve (bindings ss nodes state n) (termAt ss nodes place copy)))) (depthAll (resolvedAll (bindings ss nodes state n) (termsAt ss nodes (place + getD nodes (place + 1) 0) last copy))) + top ≤ deepest = deep in let u : height ≡ suc top = upper in omega arith);
+            room = (let l : length after ≡ length stack = pushed .long in let a : Ample stack (height * openSize + openSize) = room in omega arith);
           }
 
       left-after : (rest : List Piece) → left ss nodes (bindings ss nodes state n) after height rest ≡ speltMore (resolvedAll (bindings ss nodes state n) (termsAt ss nodes (place + getD nodes (place + 1) 0) last copy)) (left ss nodes (bindings ss nodes state n) stack top rest)
       left-after rest =
-          let odd : (next * 2 + 1) % 2 ≡ suc 0 = omega arith in
+          let odd : rowMore (movedRow next) ≡ suc 0 = omega arith in
           ap (λ (h : ℕ). left ss nodes (bindings ss nodes state n) after h rest) upper
-          ∙ (left-pushed ss nodes (bindings ss nodes state n) stack after top (next * 2 + 1) (getD stack (top * 2 + 1) 0) pushed rest
+          ∙ (left-pushed ss nodes (bindings ss nodes state n) stack after top (movedRow next) (endWord stack top) pushed rest
           ∙ rw (odd, half, ← el, ← ec))
 
-      pub turn-spelt : (met : List Variable) (old mid new numbers stack′ : List ℕ) (at m past more mark high : ℕ) (rest : List Piece) → more ≡ getD stack (top * 2) 0 % 2 → mark ≡ separatorOf more → Put old at (mark ∷ []) mid m
+      pub turn-spelt : (met : List Variable) (old mid new numbers stack′ : List ℕ) (at m past more mark high : ℕ) (rest : List Piece) → more ≡ rowMore (rowWord stack top) → mark ≡ separatorOf more → Put old at (mark ∷ []) mid m
           → Spelling ss nodes (bindings ss nodes state n) (bytesOf met (spelt (resolve (bindings ss nodes state n) (termAt ss nodes place copy)) (left ss nodes (bindings ss nodes state n) after height rest))) mid m new numbers stack′ past high rest
           → Spelling ss nodes (bindings ss nodes state n) (bytesOf met (left ss nodes (bindings ss nodes state n) stack height rest)) old at new numbers stack′ past high rest
       turn-spelt met old mid new numbers stack′ at m past more mark high rest em es put sp =
           let is : left ss nodes (bindings ss nodes state n) stack height rest ≡ byte mark ∷ spelt (resolve (bindings ss nodes state n) (termAt ss nodes place copy)) (left ss nodes (bindings ss nodes state n) after height rest) =
           left-top rest
-          ∙ (ap (λ (ts : RTerms). speltRow (getD stack (top * 2) 0 % 2) ts (left ss nodes (bindings ss nodes state n) stack top rest)) (ap (resolvedAll (bindings ss nodes state n)) terms-are ∙ resolved-cons (bindings ss nodes state n) (termAt ss nodes place copy) (termsAt ss nodes (place + getD nodes (place + 1) 0) last copy))
-          ∙ (row-next (getD stack (top * 2) 0 % 2) (resolve (bindings ss nodes state n) (termAt ss nodes place copy)) (resolvedAll (bindings ss nodes state n) (termsAt ss nodes (place + getD nodes (place + 1) 0) last copy)) (left ss nodes (bindings ss nodes state n) stack top rest)
+          ∙ (ap (λ (ts : RTerms). speltRow (rowMore (rowWord stack top)) ts (left ss nodes (bindings ss nodes state n) stack top rest)) (ap (resolvedAll (bindings ss nodes state n)) terms-are ∙ resolved-cons (bindings ss nodes state n) (termAt ss nodes place copy) (termsAt ss nodes (place + getD nodes (place + 1) 0) last copy))
+          ∙ (row-next (rowMore (rowWord stack top)) (resolve (bindings ss nodes state n) (termAt ss nodes place copy)) (resolvedAll (bindings ss nodes state n) (termsAt ss nodes (place + getD nodes (place + 1) 0) last copy)) (left ss nodes (bindings ss nodes state n) stack top rest)
           ∙ ap₂ (λ (x : ℕ) (ps : List Piece). byte x ∷ spelt (resolve (bindings ss nodes state n) (termAt ss nodes place copy)) ps) (ap separatorOf (sym em) ∙ sym es) (sym (left-after rest)))) in
           record {
             told = told-after met (spelt (resolve (bindings ss nodes state n) (termAt ss nodes place copy)) (left ss nodes (bindings ss nodes state n) after height rest)) put (ap (bytesOf met) is ∙ bytes-byte met mark (spelt (resolve (bindings ss nodes state n) (termAt ss nodes place copy)) (left ss nodes (bindings ss nodes state n) after height rest))) (sp .told);

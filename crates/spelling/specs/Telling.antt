@@ -1,5 +1,8 @@
 -- What the functions promise: bytes appended, and what is still to be spelt.
 use Prim.Native.Nat.{ℕ, zero, suc, min, _+_, _*_, _<_, _≤_, _^_}
+use Rattle.syntax.specs.Limits.{variables}
+use Rattle.syntax.specs.Words.{firstName}
+use Rattle.layout.specs.Regions.{copies, places, deepest, openSize}
 use Rattle.syntax.specs.Quote.{bytes}
 use mathlib.Core.Path.{_≡_}
 use mathlib.Core.Bool.{cond}
@@ -43,20 +46,20 @@ pub record Counted (numbers : List ℕ) : Type 0 where
   pub met : List Variable
   pub numbers-are : Numbers numbers met
 
--- A stack of so many words, or of two for each of the 262,160 brackets that can be open at once at most.
+-- A stack of so many words, or of a row for each bracket that can be open at once.
 abbrev pub Ample : List ℕ → ℕ → Type 0
-Ample stack words = min 524320 words ≤ length stack
+Ample stack words = min (deepest * openSize) words ≤ length stack
 
 -- A term at p, a name or an unbound variable, with a stack that has room for one more row where the term opens a bracket.
 pub record Heading (ss : List Symbol) (b : List Binding) (nodes symbols sheet goal stack : List ℕ) (p c height : ℕ) : Type 0 where
   pub node : Node ss nodes p
-  pub copy : c < 256
-  pub small : length nodes ≤ 65536
+  pub copy : c < copies
+  pub small : length nodes ≤ places
   pub names : Names ss symbols sheet goal
-  pub free : getD nodes p 0 < 64 → resolve b (termAt ss nodes p c) ≡ termAt ss nodes p c
+  pub free : getD nodes p 0 < firstName → resolve b (termAt ss nodes p c) ≡ termAt ss nodes p c
   pub rows : Rows ss nodes b stack height
-  pub shallow : depth (resolve b (termAt ss nodes p c)) + height ≤ 262160
-  pub room : Ample stack (height * 2 + 2)
+  pub shallow : depth (resolve b (termAt ss nodes p c)) + height ≤ deepest
+  pub room : Ample stack (height * openSize + openSize)
 
 pub record SomeHeading (nodes symbols sheet goal stack : List ℕ) (p c height : ℕ) : Type 0 where
   pub ss : List Symbol
@@ -73,9 +76,9 @@ pub record Setting (ss : List Symbol) (n : ℕ) (nodes state symbols sheet goal 
 pub record Facing (ss : List Symbol) (n : ℕ) (nodes state symbols sheet goal stack : List ℕ) (p c height : ℕ) : Type 0 where
   pub setting : Setting ss n nodes state symbols sheet goal stack height
   pub node : Node ss nodes p
-  pub copy : c < 256
-  pub shallow : depth (resolve (bindings ss nodes state n) (termAt ss nodes p c)) + height ≤ 262160
-  pub room : Ample stack (height * 2 + 2)
+  pub copy : c < copies
+  pub shallow : depth (resolve (bindings ss nodes state n) (termAt ss nodes p c)) + height ≤ deepest
+  pub room : Ample stack (height * openSize + openSize)
 
 pub record SomeFacing (nodes state symbols sheet goal stack : List ℕ) (p c height : ℕ) : Type 0 where
   pub ss : List Symbol
@@ -107,11 +110,11 @@ separatorOf more = cond (eqb more 0) 40 44
 abbrev pub valueIn : List Binding → ℕ → RTerm
 valueIn b i = resolve b (var (record { copy = 0; number = i }))
 
--- the goal's variable i, whose value opens at most 262,160 brackets at once
+-- the goal's variable i, whose value opens at most so many brackets at once as a value can
 pub record Valued (ss : List Symbol) (n : ℕ) (nodes state symbols sheet goal stack : List ℕ) (i : ℕ) : Type 0 where
   pub setting : Setting ss n nodes state symbols sheet goal stack 0
-  pub low : i < 32
-  pub shallow : depth (valueIn (bindings ss nodes state n) i) ≤ 262160
+  pub low : i < variables
+  pub shallow : depth (valueIn (bindings ss nodes state n) i) ≤ deepest
 
 pub record SomeValued (nodes state symbols sheet goal stack : List ℕ) (i : ℕ) : Type 0 where
   pub ss : List Symbol
@@ -127,7 +130,7 @@ gap (suc more) = bytes ", "
 pub record Values (ss : List Symbol) (n : ℕ) (nodes state symbols sheet goal stack names : List ℕ) (count : ℕ) : Type 0 where
   pub setting : Setting ss n nodes state symbols sheet goal stack 0
   pub named : Named goal names count
-  pub shallow : (i : ℕ) → i < count → depth (valueIn (bindings ss nodes state n) i) ≤ 262160
+  pub shallow : (i : ℕ) → i < count → depth (valueIn (bindings ss nodes state n) i) ≤ deepest
 
 pub record SomeValues (nodes state symbols sheet goal stack names : List ℕ) (count : ℕ) : Type 0 where
   pub ss : List Symbol

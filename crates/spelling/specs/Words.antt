@@ -1,42 +1,58 @@
--- What the tables of this crate mean: spellings of symbols, names of the goal's variables, numbers of unbound variables, and the stack of a walk.
+-- What the tables of this crate mean: spellings of symbols, numbers of unbound variables, the stack of a walk, and the words of the goal's variables.
 use Prim.Native.Nat.{ℕ, zero, suc, max, _+_, _*_, _/_, _%_, _<_, _≤_}
 use mathlib.Core.Path.{_≡_}
-use mathlib.Core.Bool.{Bool, true, false, cond}
-use mathlib.Core.List.{List, [], _∷_}
-use mathlib.Core.Option.{Option, none, some}
+use mathlib.Core.Bool.{cond}
+use mathlib.Core.List.{List}
+use mathlib.Core.Option.{none, some}
 use lib.Dec.{eqb}
 use lib.ListN.{length, getD}
+use Rattle.syntax.specs.Limits.{lengths, variables}
 use Rattle.syntax.specs.Tokens.{spelling}
+use Rattle.syntax.specs.Spans.{Inside}
 use Rattle.machine.specs.Substitution.{Variable, RTerm, RTerms, var, app, rnil, rcons, Binding, resolve}
 use Rattle.machine.specs.Answers.{Piece, speltArgs, speltMore, placeOf}
+use Rattle.layout.specs.Regions.{copies, cells, deepest, openSize}
 use Rattle.layout.specs.Nodes.{Symbol, nameOf, Row, termsAt}
 use Rattle.layout.specs.State.{variableOf}
 
 -- ---- symbols
 
--- A symbol's word: the place of its name, whether that is in the goal (else in the sheet), and its length.
+-- the texts that a name can stand in: the sheet, 0, and the goal, 1
+abbrev pub texts : ℕ
+texts = 2
+
+-- A symbol's word: the place of its name, the text, and its length.
+abbrev pub symbolWord : ℕ → ℕ → ℕ → ℕ
+symbolWord place text len = place * (texts * lengths) + text * lengths + len
+
+abbrev pub symbolPlace : ℕ → ℕ
+symbolPlace w = w / (texts * lengths)
+
+abbrev pub symbolText : ℕ → ℕ
+symbolText w = w / lengths % texts
+
+abbrev pub symbolLength : ℕ → ℕ
+symbolLength w = w % lengths
+
 abbrev pub textOf : ℕ → List ℕ → List ℕ → List ℕ
-textOf w sheet goal = cond (eqb (w / 32 % 2) 0) sheet goal
+textOf w sheet goal = cond (eqb (symbolText w) 0) sheet goal
+
+-- the name that a symbol's word gives
+abbrev pub symbolName : List ℕ → List ℕ → ℕ → List ℕ
+symbolName sheet goal w = spelling (textOf w sheet goal) (symbolPlace w) (symbolLength w)
 
 unfoldable pub nameAt : List ℕ → List ℕ → List ℕ → ℕ → List ℕ
-nameAt symbols sheet goal k = spelling (textOf (getD symbols k 0) sheet goal) (getD symbols k 0 / 64) (getD symbols k 0 % 32)
+nameAt symbols sheet goal k = symbolName sheet goal (getD symbols k 0)
 
 -- the word of a symbol gives a part of a text
 pub record Placed (symbols sheet goal : List ℕ) (k : ℕ) : Type 0 where
   pub listed : k < length symbols
-  pub inside : getD symbols k 0 / 64 + getD symbols k 0 % 32 ≤ length (textOf (getD symbols k 0) sheet goal)
+  pub inside : symbolPlace (getD symbols k 0) + symbolLength (getD symbols k 0) ≤ length (textOf (getD symbols k 0) sheet goal)
 
 -- every symbol's name is spelt where its word says
 pub record Names (ss : List Symbol) (symbols sheet goal : List ℕ) : Type 0 where
   pub placed : (k : ℕ) → k < length ss → Placed symbols sheet goal k
   pub name : (k : ℕ) → k < length ss → nameAt symbols sheet goal k ≡ nameOf ss k
-
--- ---- the goal's variables
-
--- the names from number i on, k of them; a word holds place and length
-unfoldable pub namesFrom : List ℕ → List ℕ → ℕ → ℕ → List (List ℕ)
-namesFrom goal names i zero = []
-namesFrom goal names i (suc k) = spelling goal (getD names i 0 / 32) (getD names i 0 % 32) ∷ namesFrom goal names (suc i) k
 
 -- ---- numbers of unbound variables
 
@@ -46,9 +62,9 @@ numberIn v met = elim (placeOf v 1 met) [ none ↦ 0 | some n ↦ n ]
 
 -- A word for each cell, and then their count.
 pub record Numbers (numbers : List ℕ) (met : List Variable) : Type 0 where
-  pub long : length numbers ≡ 16385
-  pub counted : getD numbers 16384 0 ≡ length met
-  pub number : (x : ℕ) → x < 16384 → getD numbers x 0 ≡ numberIn (variableOf x) met
+  pub long : length numbers ≡ cells + 1
+  pub counted : getD numbers cells 0 ≡ length met
+  pub number : (x : ℕ) → x < cells → getD numbers x 0 ≡ numberIn (variableOf x) met
 
 -- ---- the stack
 
@@ -72,32 +88,58 @@ abbrev pub speltRow : ℕ → RTerms → List Piece → List Piece
 speltRow zero ts rest = speltArgs ts rest
 speltRow (suc k) ts rest = speltMore ts rest
 
--- The two words of a row: the place and whether some arguments are spelt; the end and the copy.
+-- The two words of a row. The first gives the place of the next argument and whether some before it are spelt; the second the place behind the
+-- last argument, and the copy.
+abbrev pub rowWord : List ℕ → ℕ → ℕ
+rowWord stack h = getD stack (h * openSize) 0
+
+abbrev pub endWord : List ℕ → ℕ → ℕ
+endWord stack h = getD stack (h * openSize + 1) 0
+
+abbrev pub newRow : ℕ → ℕ
+newRow place = place * 2
+
+abbrev pub movedRow : ℕ → ℕ
+movedRow place = place * 2 + 1
+
+abbrev pub rowPlace : ℕ → ℕ
+rowPlace v = v / 2
+
+abbrev pub rowMore : ℕ → ℕ
+rowMore v = v % 2
+
+abbrev pub spanWord : ℕ → ℕ → ℕ
+spanWord last copy = last * copies + copy
+
+abbrev pub rowLast : ℕ → ℕ
+rowLast w = w / copies
+
+abbrev pub rowCopy : ℕ → ℕ
+rowCopy w = w % copies
+
 abbrev pub rowTerms : List Symbol → List ℕ → ℕ → ℕ → RTerms
-rowTerms ss nodes v w = termsAt ss nodes (v / 2) (w / 256) (w % 256)
+rowTerms ss nodes v w = termsAt ss nodes (rowPlace v) (rowLast w) (rowCopy w)
 
 -- what the first h rows have left to spell, and then the rest
 unfoldable pub left : List Symbol → List ℕ → List Binding → List ℕ → ℕ → List Piece → List Piece
 left ss nodes b stack zero rest = rest
 left ss nodes b stack (suc h) rest =
-    speltRow (getD stack (h * 2) 0 % 2) (resolvedAll b (rowTerms ss nodes (getD stack (h * 2) 0) (getD stack (h * 2 + 1) 0))) (left ss nodes b stack h rest)
+    speltRow (rowMore (rowWord stack h)) (resolvedAll b (rowTerms ss nodes (rowWord stack h) (endWord stack h))) (left ss nodes b stack h rest)
 
--- A row at height i: some arguments of a node, which with the rows below open at most 262,160 brackets at once.
+-- A row at height i: some arguments of a node, which with the rows below open at most as many brackets at once as a value can.
 pub record Standing (ss : List Symbol) (nodes : List ℕ) (b : List Binding) (i v w : ℕ) : Type 0 where
-  pub row : Row ss nodes (v / 2) (w / 256)
-  pub opened : v % 2 ≡ 0 → v / 2 < w / 256
-  pub shallow : depthAll (resolvedAll b (rowTerms ss nodes v w)) + i ≤ 262160
+  pub row : Row ss nodes (rowPlace v) (rowLast w)
+  pub opened : rowMore v ≡ 0 → rowPlace v < rowLast w
+  pub shallow : depthAll (resolvedAll b (rowTerms ss nodes v w)) + i ≤ deepest
 
 pub record Rows (ss : List Symbol) (nodes : List ℕ) (b : List Binding) (stack : List ℕ) (h : ℕ) : Type 0 where
-  pub high : h * 2 ≤ length stack
-  pub each : (i : ℕ) → i < h → Standing ss nodes b i (getD stack (i * 2) 0) (getD stack (i * 2 + 1) 0)
+  pub high : h * openSize ≤ length stack
+  pub each : (i : ℕ) → i < h → Standing ss nodes b i (rowWord stack i) (endWord stack i)
 
--- the names of the goal's variables are parts of its text
+-- ---- the goal's variables
+
+-- the words of the goal's variables give parts of its text
 pub record Named (goal names : List ℕ) (count : ℕ) : Type 0 where
   pub listed : count ≤ length names
-  pub few : count ≤ 32
-  pub inside : (i : ℕ) → i < count → getD names i 0 / 32 + getD names i 0 % 32 ≤ length goal
-
--- the name that a word gives
-abbrev pub nameIn : List ℕ → ℕ → List ℕ
-nameIn goal w = spelling goal (w / 32) (w % 32)
+  pub few : count ≤ variables
+  pub inside : (i : ℕ) → i < count → Inside goal (getD names i 0)

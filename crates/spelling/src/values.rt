@@ -1,31 +1,35 @@
 // The goal's variables with their values.
+use crate::records::append_unbound;
 use crate::walk::append_rows;
 use crate::walk::append_term;
-use crate::words::append_unbound;
-use bindings::occurrence::word_at;
 use buffers::append_byte;
 use buffers::append_part;
+use layout::COPIES;
+use syntax::LENGTHS;
+use words::word_at;
 ghost use mathlib.Core.Path.{_≡_};
 ghost use mathlib.Core.Logic.{_⊎_};
 ghost use mathlib.Core.List.{List, [], _∷_, _++_};
-ghost use Prim.Native.Nat.{ℕ, suc, _+_, _-_, _*_, _/_, _%_, _^_, _≤_, _<_};
-ghost use lib.ListN.{length};
+ghost use Prim.Native.Nat.{ℕ, suc, _+_, _-_, _*_, _^_, _≤_, _<_};
+ghost use Rattle.syntax.specs.Limits.{wordBytes};
+ghost use Rattle.syntax.specs.Spans.{spanned, Inside, namesFrom};
+ghost use Rattle.layout.specs.Regions.{openSize};
 ghost use Rattle.syntax.specs.Quote.{bytes};
 ghost use Rattle.buffers.specs.Buffers.{Put};
 ghost use Rattle.machine.specs.Substitution.{Variable};
 ghost use Rattle.machine.specs.Answers.{Piece, spelt, bytesOf, isAnonymous, allAnonymous, valuesFrom};
 ghost use Rattle.layout.specs.Nodes.{Symbol};
 ghost use Rattle.layout.specs.State.{bindings};
-ghost use Rattle.spelling.specs.Words.{Numbers, Named, nameIn, namesFrom};
+ghost use Rattle.spelling.specs.Words.{Numbers, Named};
 ghost use Rattle.spelling.specs.Telling.{Ample, Counting, Counted, Valued, SomeValued, Values, SomeValues, Walked, Lined, valueIn, gap};
 
 // Whether a packed name of the goal is `_` alone.
 pub fn is_anonymous(goal: &[u8], w: usize) -> bool
-    requires { ⌜ w / 32 + w % 32 ≤ length (now goal) ⌝ }
-    ensures { λ r. ⌜ r ≡ isAnonymous (nameIn (now (goal .entry)) w) ⌝ }
+    requires { ⌜ Inside (now goal) w ⌝ }
+    ensures { λ r. ⌜ r ≡ isAnonymous (spanned (now (goal .entry)) w) ⌝ }
 {
-    let len = w % 32;
-    let place = w / 32;
+    let len = w % LENGTHS;
+    let place = w / LENGTHS;
     if len != 1 {
         return false;
     }
@@ -64,16 +68,16 @@ pub fn append_value(
     limit: usize,
 ) -> usize
     requires { ⌜ SomeValued (now nodes) (now state) (now symbols) (now sheet) (now goal) (now stack) i ⌝ }
-    requires { ⌜ (Counting (now numbers) at) × ((at + 200 < 2 ^ 64) × ((limit + 200 < 2 ^ 64) × Ample (now stack) ((limit - at) * 2 + 4))) ⌝ }
+    requires { ⌜ (Counting (now numbers) at) × ((at + 200 < 2 ^ 64) × ((limit + 200 < 2 ^ 64) × Ample (now stack) ((limit - at) * openSize + 2 * openSize))) ⌝ }
     ensures told { λ r. ⌜ ((ss : List Symbol) (n : ℕ) (met : List Variable) (rest : List Piece) → Valued ss n (now (nodes .entry)) (now (state .entry)) (now (symbols .entry)) (now (sheet .entry)) (now (goal .entry)) (now (stack .entry)) i → Numbers (now (numbers .entry)) met → Walked limit (bytesOf met (spelt (valueIn (bindings ss (now (nodes .entry)) (now (state .entry)) n) i) rest)) (now (out .entry)) at (now (out .exit)) r (now (numbers .exit)) rest) ⌝ }
-    ensures near { λ r. ⌜ (at ≤ r) × ((r ≤ limit + 32) ⊎ (r ≤ at + 31)) ⌝ }
+    ensures near { λ r. ⌜ (at ≤ r) × ((r ≤ limit + (wordBytes + 1)) ⊎ (r ≤ at + wordBytes)) ⌝ }
 {
     let w = word_at(state, i);
     if w == 0 {
         return append_unbound(numbers, i, out, at);
     }
-    let p = (w - 1) / 256;
-    let c = (w - 1) % 256;
+    let p = (w - 1) / COPIES;
+    let c = (w - 1) % COPIES;
     let t = append_term(
         nodes,
         state,
@@ -118,13 +122,13 @@ fn append_gap(more: usize, out: &mut [u8], at: usize) -> usize
 
 // A variable and the sign behind it.
 pub fn append_variable(goal: &[u8], w: usize, more: usize, out: &mut [u8], at: usize) -> usize
-    requires { ⌜ (w / 32 + w % 32 ≤ length (now goal)) × (at + 300 < 2 ^ 64) ⌝ }
-    ensures wrote { λ r. ⌜ Put (now (out .entry)) at (gap more ++ (nameIn (now (goal .entry)) w ++ bytes " = ")) (now (out .exit)) r ⌝ }
-    ensures near { λ r. ⌜ (at ≤ r) × (r ≤ at + 36) ⌝ }
+    requires { ⌜ (Inside (now goal) w) × (at + 300 < 2 ^ 64) ⌝ }
+    ensures wrote { λ r. ⌜ Put (now (out .entry)) at (gap more ++ (spanned (now (goal .entry)) w ++ bytes " = ")) (now (out .exit)) r ⌝ }
+    ensures near { λ r. ⌜ (at ≤ r) × (r ≤ at + (wordBytes + 5)) ⌝ }
 {
     let past = append_gap(more, out, at);
-    let place = w / 32;
-    let len = w % 32;
+    let place = w / LENGTHS;
+    let len = w % LENGTHS;
     let past_name = append_part(goal, place, len, out, past);
     append_part(b" = ", 0, 3, out, past_name)
 }
@@ -152,9 +156,9 @@ pub fn append_binding(
     limit: usize,
 ) -> Listed
     requires { ⌜ SomeValued (now nodes) (now state) (now symbols) (now sheet) (now goal) (now stack) i ⌝ }
-    requires { ⌜ (w / 32 + w % 32 ≤ length (now goal)) × ((Counting (now numbers) at) × ((at + 300 < 2 ^ 64) × ((limit + 200 < 2 ^ 64) × Ample (now stack) ((limit - at) * 2 + 4)))) ⌝ }
-    ensures told { λ r. ⌜ ((ss : List Symbol) (n : ℕ) (met : List Variable) (xs : List (List ℕ)) → Valued ss n (now (nodes .entry)) (now (state .entry)) (now (symbols .entry)) (now (sheet .entry)) (now (goal .entry)) (now (stack .entry)) i → Numbers (now (numbers .entry)) met → Walked limit (bytesOf met (valuesFrom (bindings ss (now (nodes .entry)) (now (state .entry)) n) i (gap more) (nameIn (now (goal .entry)) w ∷ xs))) (now (out .entry)) at (now (out .exit)) (r .at) (now (numbers .exit)) (valuesFrom (bindings ss (now (nodes .entry)) (now (state .entry)) n) (suc i) (gap (r .more)) xs)) ⌝ }
-    ensures near { λ r. ⌜ (at ≤ r .at) × ((r .at ≤ limit + 32) ⊎ (r .at ≤ at + 67)) ⌝ }
+    requires { ⌜ (Inside (now goal) w) × ((Counting (now numbers) at) × ((at + 300 < 2 ^ 64) × ((limit + 200 < 2 ^ 64) × Ample (now stack) ((limit - at) * openSize + 2 * openSize)))) ⌝ }
+    ensures told { λ r. ⌜ ((ss : List Symbol) (n : ℕ) (met : List Variable) (xs : List (List ℕ)) → Valued ss n (now (nodes .entry)) (now (state .entry)) (now (symbols .entry)) (now (sheet .entry)) (now (goal .entry)) (now (stack .entry)) i → Numbers (now (numbers .entry)) met → Walked limit (bytesOf met (valuesFrom (bindings ss (now (nodes .entry)) (now (state .entry)) n) i (gap more) (spanned (now (goal .entry)) w ∷ xs))) (now (out .entry)) at (now (out .exit)) (r .at) (now (numbers .exit)) (valuesFrom (bindings ss (now (nodes .entry)) (now (state .entry)) n) (suc i) (gap (r .more)) xs)) ⌝ }
+    ensures near { λ r. ⌜ (at ≤ r .at) × ((r .at ≤ limit + (wordBytes + 1)) ⊎ (r .at ≤ at + (2 * wordBytes + 5))) ⌝ }
 {
     if is_anonymous(goal, w) {
         return Listed { at, more };
@@ -195,7 +199,7 @@ pub fn append_values(
     limit: usize,
 ) -> usize
     requires { ⌜ SomeValues (now nodes) (now state) (now symbols) (now sheet) (now goal) (now stack) (now names) count ⌝ }
-    requires { ⌜ (Counting (now numbers) at) × ((at + 400 < 2 ^ 64) × ((limit + 400 < 2 ^ 64) × Ample (now stack) ((limit - at) * 2 + 4))) ⌝ }
+    requires { ⌜ (Counting (now numbers) at) × ((at + 400 < 2 ^ 64) × ((limit + 400 < 2 ^ 64) × Ample (now stack) ((limit - at) * openSize + 2 * openSize))) ⌝ }
     ensures lined { λ r. ⌜ ((ss : List Symbol) (n : ℕ) (met : List Variable) → Values ss n (now (nodes .entry)) (now (state .entry)) (now (symbols .entry)) (now (sheet .entry)) (now (goal .entry)) (now (stack .entry)) (now (names .entry)) count → Numbers (now (numbers .entry)) met → Lined limit (bytesOf met (valuesFrom (bindings ss (now (nodes .entry)) (now (state .entry)) n) 0 [] (namesFrom (now (goal .entry)) (now (names .entry)) 0 count))) (now (out .entry)) at (now (out .exit)) r) ⌝ }
     ensures counted { λ r. ⌜ (r ≤ limit → Counted (now (numbers .exit))) ⌝ }
 {

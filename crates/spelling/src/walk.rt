@@ -1,17 +1,21 @@
 // A term spelt without recursion: the stack has a row for each bracket that is open.
-use crate::words::append_name;
-use crate::words::append_unbound;
-use crate::words::move_row;
-use crate::words::put_row;
-use crate::words::row_at;
-use bindings::occurrence::word_at;
+use crate::records::append_name;
+use crate::records::append_unbound;
+use crate::records::move_row;
+use crate::records::put_row;
+use crate::records::row_at;
 use bindings::store::deref;
 use buffers::append_byte;
+use layout::COPY_CELLS;
+use layout::LOADED_NODE;
+use syntax::FIRST_NAME;
+use words::word_at;
 ghost use mathlib.Core.Path.{_≡_};
 ghost use mathlib.Core.Logic.{_⊎_};
 ghost use mathlib.Core.List.{List};
 ghost use Prim.Native.Nat.{ℕ, _+_, _-_, _*_, _^_, _≤_, _<_};
-ghost use lib.ListN.{length};
+ghost use Rattle.syntax.specs.Limits.{wordBytes};
+ghost use Rattle.layout.specs.Regions.{openSize};
 ghost use Rattle.machine.specs.Substitution.{Variable, Binding, resolve};
 ghost use Rattle.machine.specs.Answers.{Piece, spelt, bytesOf};
 ghost use Rattle.layout.specs.Nodes.{Symbol, termAt};
@@ -42,21 +46,21 @@ fn append_head(
     requires { ⌜ SomeHeading (now nodes) (now symbols) (now sheet) (now goal) (now stack) p c height ⌝ }
     requires { ⌜ Counting (now numbers) at ⌝ }
     ensures told { λ r. ⌜ ((ss : List Symbol) (b : List Binding) (met : List Variable) (rest : List Piece) → Heading ss b (now (nodes .entry)) (now (symbols .entry)) (now (sheet .entry)) (now (goal .entry)) (now (stack .entry)) p c height → Numbers (now (numbers .entry)) met → Spelling ss (now (nodes .entry)) b (bytesOf met (spelt (resolve b (termAt ss (now (nodes .entry)) p c)) (left ss (now (nodes .entry)) b (now (stack .entry)) height rest))) (now (out .entry)) at (now (out .exit)) (now (numbers .exit)) (now (stack .exit)) (r .at) (r .height) rest) ⌝ }
-    ensures near { λ r. ⌜ (at ≤ r .at) × ((r .at ≤ at + 31) × (r .height ≤ height + 1)) ⌝ }
+    ensures near { λ r. ⌜ (at ≤ r .at) × ((r .at ≤ at + wordBytes) × (r .height ≤ height + 1)) ⌝ }
 {
     let w = word_at(nodes, p);
-    if w < 64 {
-        let x = c * 64 + w;
+    if w < FIRST_NAME {
+        let x = c * COPY_CELLS + w;
         let past = append_unbound(numbers, x, out, at);
         return Walk { at: past, height };
     }
-    let k = w - 64;
+    let k = w - FIRST_NAME;
     let past = append_name(symbols, sheet, goal, k, out, at);
     let size = word_at(nodes, p + 1);
-    if size == 2 {
+    if size == LOADED_NODE {
         return Walk { at: past, height };
     }
-    let first = p + 2;
+    let first = p + LOADED_NODE;
     let last = p + size;
     put_row(stack, height, first, last, c);
     let higher = height + 1;
@@ -84,7 +88,7 @@ pub fn append_term(
     requires { ⌜ SomeFacing (now nodes) (now state) (now symbols) (now sheet) (now goal) (now stack) p c height ⌝ }
     requires { ⌜ Counting (now numbers) at ⌝ }
     ensures told { λ r. ⌜ ((ss : List Symbol) (n : ℕ) (met : List Variable) (rest : List Piece) → Facing ss n (now (nodes .entry)) (now (state .entry)) (now (symbols .entry)) (now (sheet .entry)) (now (goal .entry)) (now (stack .entry)) p c height → Numbers (now (numbers .entry)) met → Spelling ss (now (nodes .entry)) (bindings ss (now (nodes .entry)) (now (state .entry)) n) (bytesOf met (spelt (resolve (bindings ss (now (nodes .entry)) (now (state .entry)) n) (termAt ss (now (nodes .entry)) p c)) (left ss (now (nodes .entry)) (bindings ss (now (nodes .entry)) (now (state .entry)) n) (now (stack .entry)) height rest))) (now (out .entry)) at (now (out .exit)) (now (numbers .exit)) (now (stack .exit)) (r .at) (r .height) rest) ⌝ }
-    ensures near { λ r. ⌜ (at ≤ r .at) × ((r .at ≤ at + 31) × (r .height ≤ height + 1)) ⌝ }
+    ensures near { λ r. ⌜ (at ≤ r .at) × ((r .at ≤ at + wordBytes) × (r .height ≤ height + 1)) ⌝ }
 {
     let t = deref(nodes, state, p, c);
     let node = t.node;
@@ -128,9 +132,9 @@ fn turn(
     height: usize,
 ) -> Walk
     requires { ⌜ SomeSetting (now nodes) (now state) (now symbols) (now sheet) (now goal) (now stack) height ⌝ }
-    requires { ⌜ (0 < height) × ((Counting (now numbers) at) × ((at + 200 < 2 ^ 64) × Ample (now stack) (height * 2 + 2))) ⌝ }
+    requires { ⌜ (0 < height) × ((Counting (now numbers) at) × ((at + 200 < 2 ^ 64) × Ample (now stack) (height * openSize + openSize))) ⌝ }
     ensures told { λ r. ⌜ ((ss : List Symbol) (n : ℕ) (met : List Variable) (rest : List Piece) → Setting ss n (now (nodes .entry)) (now (state .entry)) (now (symbols .entry)) (now (sheet .entry)) (now (goal .entry)) (now (stack .entry)) height → Numbers (now (numbers .entry)) met → Spelling ss (now (nodes .entry)) (bindings ss (now (nodes .entry)) (now (state .entry)) n) (bytesOf met (left ss (now (nodes .entry)) (bindings ss (now (nodes .entry)) (now (state .entry)) n) (now (stack .entry)) height rest)) (now (out .entry)) at (now (out .exit)) (now (numbers .exit)) (now (stack .exit)) (r .at) (r .height) rest) ⌝ }
-    ensures near { λ r. ⌜ (at < r .at) × ((r .at ≤ at + 32) × (r .height ≤ height + 1)) ⌝ }
+    ensures near { λ r. ⌜ (at < r .at) × ((r .at ≤ at + (wordBytes + 1)) × (r .height ≤ height + 1)) ⌝ }
 {
     let top = height - 1;
     let row = row_at(stack, top);
@@ -182,9 +186,9 @@ pub fn append_rows(
     limit: usize,
 ) -> usize
     requires { ⌜ SomeSetting (now nodes) (now state) (now symbols) (now sheet) (now goal) (now stack) height ⌝ }
-    requires { ⌜ (Counting (now numbers) at) × ((limit + 200 < 2 ^ 64) × Ample (now stack) (height * 2 + (limit + 1 - at) * 2)) ⌝ }
+    requires { ⌜ (Counting (now numbers) at) × ((limit + 200 < 2 ^ 64) × Ample (now stack) (height * openSize + (limit + 1 - at) * openSize)) ⌝ }
     ensures told { λ r. ⌜ ((ss : List Symbol) (n : ℕ) (met : List Variable) (rest : List Piece) → Setting ss n (now (nodes .entry)) (now (state .entry)) (now (symbols .entry)) (now (sheet .entry)) (now (goal .entry)) (now (stack .entry)) height → Numbers (now (numbers .entry)) met → Walked limit (bytesOf met (left ss (now (nodes .entry)) (bindings ss (now (nodes .entry)) (now (state .entry)) n) (now (stack .entry)) height rest)) (now (out .entry)) at (now (out .exit)) r (now (numbers .exit)) rest) ⌝ }
-    ensures near { λ r. ⌜ (at ≤ r) × ((r ≤ limit + 32) ⊎ (r ≡ at)) ⌝ }
+    ensures near { λ r. ⌜ (at ≤ r) × ((r ≤ limit + (wordBytes + 1)) ⊎ (r ≡ at)) ⌝ }
 {
     let mut past = at;
     let mut rows = height;

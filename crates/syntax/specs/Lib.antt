@@ -1,8 +1,10 @@
 pub mod Quote
 pub mod Bytes
+pub mod Limits
 pub mod Tokens
 pub mod Terms
 pub mod Reading
 pub mod Refusals
 pub mod Verdicts
 pub mod Words
+pub mod Spans

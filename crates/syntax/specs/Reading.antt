@@ -1,125 +1,95 @@
 -- Reading a sheet or a goal from left to right, to its first fault (document 01, "How a sheet is spelt", its table, and "The ten numbers", 2 to 7).
 -- The limits of the table are what the recursion counts down.
-use Prim.Native.Nat.{ℕ, zero, suc, _+_, _-_, _*_, _/_, _%_}
+use Prim.Native.Nat.{ℕ, zero, suc, _+_, _-_}
 use mathlib.Core.Bool.{Bool, true, false, cond, _&&_, _||_}
-use mathlib.Core.List.{List, [], _∷_, _++_, map}
+use mathlib.Core.List.{List, [], _∷_, _++_}
 use mathlib.Core.Option.{Option, none, some}
 use lib.Dec.{leb, ltb, eqb}
-use lib.ListN.{length, getD, set, take, drop, replicate}
+use lib.ListN.{length, getD}
+use Rattle.syntax.specs.Limits.{brackets, arguments, variables, literals, declarations, clauses}
 use Rattle.syntax.specs.Tokens.{tokenAt, spelling, noToken, nameKind, variableKind, numeralKind, neckKind, openKind, closeKind, commaKind, stopKind, equalsKind, plusKind, minusKind, starKind, overlongKind, endKind}
 use Rattle.syntax.specs.Terms.{Term, Terms, variable, compound, nil, cons, Atom, termOf, Literal, Body, equation, done, also, literalOf, Mark, input, output, free, Declaration, Clause, Sheet, Goal, arity, sameName, samePredicate, true-name, fail-name, mode-name}
 use Rattle.syntax.specs.declared.Token.{Token}
-use Rattle.syntax.specs.declared.State.{State}
 
--- The most that may be: bytes of a sheet and of a goal, brackets open at once, arguments or marks in a list, variables in a clause or goal,
--- literals in a body or goal, declarations, clauses. (The most bytes of a word is in `Tokens`.)
-abbrev pub sheetBytes : ℕ
-sheetBytes = 16384
+-- Where the reader stands: the token at hand, and the spellings of the variables that the clause or goal has so far, the first one met first.
+pub record Cursor : Type 0 where
+  pub token : Token
+  pub names : List (List ℕ)
 
-abbrev pub goalBytes : ℕ
-goalBytes = 1024
-
-abbrev pub brackets : ℕ
-brackets = 16
-
-abbrev pub arguments : ℕ
-arguments = 8
-
-abbrev pub variables : ℕ
-variables = 32
-
-abbrev pub literals : ℕ
-literals = 16
-
-abbrev pub declarations : ℕ
-declarations = 64
-
-abbrev pub clauses : ℕ
-clauses = 256
+-- at a token, with no variable met
+abbrev pub begin : Token → Cursor
+begin t = record { token = t; names = [] }
 
 -- What reading gives: a fault, by number and byte, or what was read, and where the reader stands after it.
 pub data Read (A : Type 0) : Type 0 where
   fault : ℕ → ℕ → Read A
-  ok : A → State → Read A
+  ok : A → Cursor → Read A
 
-unfoldable pub andThen : {A B : Type 0} → Read A → (A → State → Read B) → Read B
+unfoldable pub andThen : {A B : Type 0} → Read A → (A → Cursor → Read B) → Read B
 andThen (fault n b) k = fault n b
 andThen (ok a st) k = k a st
 
-abbrev pub kindAt : State → ℕ
+abbrev pub kindAt : Cursor → ℕ
 kindAt st = st .token .kind
 
-abbrev pub is : ℕ → State → Bool
+abbrev pub is : ℕ → Cursor → Bool
 is k st = eqb (kindAt st) k
 
+-- how the token at hand is spelt
+abbrev pub spelt : List ℕ → Cursor → List ℕ
+spelt s st = spelling s (st .token .at) (st .token .len)
+
 -- the reader at the first token from a position on, with the variables met so far
-unfoldable pub standing : List ℕ → ℕ → State → State
-standing s from st = record { token = tokenAt s from; count = st .count; first = st .first }
+unfoldable pub standing : List ℕ → ℕ → Cursor → Cursor
+standing s from st = record { token = tokenAt s from; names = st .names }
 
 -- the reader past the token at hand
-unfoldable pub next : List ℕ → State → State
+unfoldable pub next : List ℕ → Cursor → Cursor
 next s st = standing s (st .token .at + st .token .len) st
 
 -- 3 where the byte begins no token, 4 for one too long, 5 for one that cannot stand here
 unfoldable pub wrongNumber : ℕ → ℕ
 wrongNumber k = cond (eqb k noToken) 3 (cond (eqb k overlongKind) 4 5)
 
-unfoldable pub wrong : {A : Type 0} → State → Read A
+unfoldable pub wrong : {A : Type 0} → Cursor → Read A
 wrong st = fault (wrongNumber (kindAt st)) (st .token .at)
 
 -- the token at hand goes past a limit
-unfoldable pub beyond : {A : Type 0} → State → Read A
+unfoldable pub beyond : {A : Type 0} → Cursor → Read A
 beyond st = fault 6 (st .token .at)
 
 -- a list or body that is full: 6 for a token that could begin one more, else as above
-unfoldable pub full : {A : Type 0} → Bool → State → Read A
+unfoldable pub full : {A : Type 0} → Bool → Cursor → Read A
 full true st = beyond st
 full false st = wrong st
 
 -- ---- variables
 
--- one variable's first occurrence: place and length in one number
-abbrev pub packed : ℕ → ℕ → ℕ
-packed at len = at * 32 + len
-
-abbrev pub spanned : List ℕ → ℕ → List ℕ
-spanned s w = spelling s (w / 32) (w % 32)
-
--- the text reads the same for n bytes from a and from b on
-unfoldable pub sameRun : List ℕ → ℕ → ℕ → ℕ → Bool
-sameRun s a b zero = true
-sameRun s a b (suc n) = eqb (getD s a 0) (getD s b 0) && sameRun s (suc a) (suc b) n
-
--- the first occurrence w is spelt as the token at hand
-abbrev pub sameSpan : List ℕ → Token → ℕ → Bool
-sameSpan s t w = eqb (w % 32) (t .len) && sameRun s (w / 32) (t .at) (t .len)
-
--- the number of the first of the variables that is spelt as the token at hand, counted from i
-unfoldable pub numberOf : List ℕ → Token → ℕ → List ℕ → Option ℕ
-numberOf s t i [] = none
-numberOf s t i (w ∷ ws) = elim (sameSpan s t w) [ true ↦ some i | false ↦ numberOf s t (suc i) ws ]
+-- the number of the first of the variables that is spelt so, counted from i
+unfoldable pub numberOf : List ℕ → ℕ → List (List ℕ) → Option ℕ
+numberOf name i [] = none
+numberOf name i (m ∷ ms) = elim (sameName m name) [ true ↦ some i | false ↦ numberOf name (suc i) ms ]
 
 -- the token at hand is `_` alone
 unfoldable pub isAnonymous : List ℕ → Token → Bool
 isAnonymous s t = eqb (t .len) 1 && eqb (getD s (t .at) 0) 95
 
 -- the reader with one variable more, first met here
-unfoldable pub withNew : State → State
-withNew st =
-    record { token = st .token; count = st .count + 1; first = set (st .first) (st .count) (packed (st .token .at) (st .token .len)) }
+unfoldable pub withNew : List ℕ → Cursor → Cursor
+withNew s st = record { token = st .token; names = st .names ++ (spelt s st ∷ []) }
 
-unfoldable pub newVariable : List ℕ → State → Read Term
+unfoldable pub newVariable : List ℕ → Cursor → Read Term
 newVariable s st =
-    elim (ltb (st .count) variables) [ true ↦ ok (variable (st .count) (st .token .at)) (next s (withNew st)) | false ↦ beyond st ]
+    elim (ltb (length (st .names)) variables) [ true ↦ ok (variable (length (st .names)) (st .token .at)) (next s (withNew s st)) | false ↦ beyond st ]
 
-unfoldable pub oldVariable : List ℕ → State → Option ℕ → Read Term
+unfoldable pub oldVariable : List ℕ → Cursor → Option ℕ → Read Term
 oldVariable s st none = newVariable s st
 oldVariable s st (some i) = ok (variable i (st .token .at)) (next s st)
 
 -- `_` alone is a new variable each time; any other is one throughout its clause
-unfoldable pub readVariable : List ℕ → State → Read Term
+unfoldable pub readVariable : List ℕ → Cursor → Read Term
 readVariable s st =
-    elim (isAnonymous s (st .token)) [ true ↦ newVariable s st | false ↦ oldVariable s st (numberOf s (st .token) 0 (take (st .count) (st .first))) ]
+    elim (isAnonymous s (st .token)) [ true ↦ newVariable s st | false ↦ oldVariable s st (numberOf (spelt s st) 0 (st .names)) ]
 
 -- ---- terms
 
@@ -144,80 +114,80 @@ abbrev pub afterOf : ℕ → ℕ → After
 afterOf end k = cond (eqb k commaKind) more (cond (eqb k end) last neither)
 
 -- the name at hand, with some arguments
-abbrev pub atomAt : List ℕ → State → Terms → Atom
-atomAt s st ts = record { at = st .token .at; name = spelling s (st .token .at) (st .token .len); args = ts }
+abbrev pub atomAt : List ℕ → Cursor → Terms → Atom
+atomAt s st ts = record { at = st .token .at; name = spelt s st; args = ts }
 
 -- An atom, the name at hand; `list` reads what an opening bracket leads to.
-unfoldable pub atomWith : (State → Read Terms) → List ℕ → State → Bool → Read Atom
+unfoldable pub atomWith : (Cursor → Read Terms) → List ℕ → Cursor → Bool → Read Atom
 atomWith list s st true = andThen (list (next s st)) (λ ts after. ok (atomAt s st ts) after)
 atomWith list s st false = ok (atomAt s st nil) (next s st)
 
-unfoldable pub readAtomWith : (State → Read Terms) → List ℕ → State → Read Atom
+unfoldable pub readAtomWith : (Cursor → Read Terms) → List ℕ → Cursor → Read Atom
 readAtomWith list s st = atomWith list s st (is openKind (next s st))
 
 -- a term: a variable, a numeral, or a name with an optional bracketed list
-unfoldable pub termWith : (State → Read Terms) → List ℕ → State → Start → Read Term
+unfoldable pub termWith : (Cursor → Read Terms) → List ℕ → Cursor → Start → Read Term
 termWith list s st aVariable = readVariable s st
 termWith list s st aNumeral = ok (termOf (atomAt s st nil)) (next s st)
 termWith list s st aName = andThen (readAtomWith list s st) (λ a after. ok (termOf a) after)
 termWith list s st nothing = wrong st
 
-unfoldable pub readTermWith : (State → Read Terms) → List ℕ → State → Read Term
+unfoldable pub readTermWith : (Cursor → Read Terms) → List ℕ → Cursor → Read Term
 readTermWith list s st = termWith list s st (startOf (kindAt st))
 
 -- what follows one term of a list; `rest` reads the terms behind a comma
-unfoldable pub argumentsAfter : (State → Read Terms) → List ℕ → Term → State → After → Read Terms
+unfoldable pub argumentsAfter : (Cursor → Read Terms) → List ℕ → Term → Cursor → After → Read Terms
 argumentsAfter rest s t st more = andThen (rest (next s st)) (λ ts after. ok (cons t ts) after)
 argumentsAfter rest s t st last = ok (cons t nil) (next s st)
 argumentsAfter rest s t st neither = wrong st
 
 -- a list of terms after its opening bracket, with so many arguments left; `term` reads one
-unfoldable pub readArguments : (State → Read Term) → List ℕ → ℕ → State → Read Terms
+unfoldable pub readArguments : (Cursor → Read Term) → List ℕ → ℕ → Cursor → Read Terms
 readArguments term s zero st = full (begins (startOf (kindAt st))) st
 readArguments term s (suc k) st =
     andThen (term st) (λ t after. argumentsAfter (λ st1. readArguments term s k st1) s t after (afterOf closeKind (kindAt after)))
 
 -- A list of terms, of which the opening bracket is at hand, with so many brackets left: reading one term and reading a list call each other.
-unfoldable pub readList : ℕ → List ℕ → State → Read Terms
+unfoldable pub readList : ℕ → List ℕ → Cursor → Read Terms
 readList zero s st = beyond st
 readList (suc left) s st = readArguments (λ st1. readTermWith (λ st2. readList left s st2) s st1) s arguments (next s st)
 
-unfoldable pub readTerm : ℕ → List ℕ → State → Read Term
+unfoldable pub readTerm : ℕ → List ℕ → Cursor → Read Term
 readTerm left s st = readTermWith (λ st1. readList left s st1) s st
 
-unfoldable pub readAtom : List ℕ → State → Read Atom
+unfoldable pub readAtom : List ℕ → Cursor → Read Atom
 readAtom s st = readAtomWith (λ st1. readList brackets s st1) s st
 
 -- ---- literals
 
 -- an equation, whose left side was read
-unfoldable pub readRight : List ℕ → Term → State → Read Literal
+unfoldable pub readRight : List ℕ → Term → Cursor → Read Literal
 readRight s t st = andThen (readTerm brackets s (next s st)) (λ u after. ok (equation t u) after)
 
 -- after an atom: an equation, or the atom alone
-unfoldable pub afterAtom : List ℕ → Atom → State → Bool → Read Literal
+unfoldable pub afterAtom : List ℕ → Atom → Cursor → Bool → Read Literal
 afterAtom s a st true = readRight s (termOf a) st
 afterAtom s a st false = ok (literalOf a) st
 
 -- after a variable or a numeral: an equation
-unfoldable pub afterTerm : List ℕ → Term → State → Bool → Read Literal
+unfoldable pub afterTerm : List ℕ → Term → Cursor → Bool → Read Literal
 afterTerm s t st true = readRight s t st
 afterTerm s t st false = wrong st
 
-unfoldable pub literalWith : List ℕ → State → Bool → Read Literal
+unfoldable pub literalWith : List ℕ → Cursor → Bool → Read Literal
 literalWith s st true = andThen (readAtom s st) (λ a after. afterAtom s a after (is equalsKind after))
 literalWith s st false = andThen (readTerm brackets s st) (λ t after. afterTerm s t after (is equalsKind after))
 
-unfoldable pub readLiteral : List ℕ → State → Read Literal
+unfoldable pub readLiteral : List ℕ → Cursor → Read Literal
 readLiteral s st = literalWith s st (is nameKind st)
 
-unfoldable pub bodyAfter : (State → Read Body) → List ℕ → Literal → State → After → Read Body
+unfoldable pub bodyAfter : (Cursor → Read Body) → List ℕ → Literal → Cursor → After → Read Body
 bodyAfter rest s l st more = andThen (rest (next s st)) (λ b after. ok (also l b) after)
 bodyAfter rest s l st last = ok (also l done) (next s st)
 bodyAfter rest s l st neither = wrong st
 
 -- literals up to the full stop, with so many left
-unfoldable pub readBody : List ℕ → ℕ → State → Read Body
+unfoldable pub readBody : List ℕ → ℕ → Cursor → Read Body
 readBody s zero st = full (begins (startOf (kindAt st))) st
 readBody s (suc k) st =
     andThen (readLiteral s st) (λ l after. bodyAfter (λ st1. readBody s k st1) s l after (afterOf stopKind (kindAt after)))
@@ -225,8 +195,8 @@ readBody s (suc k) st =
 -- ---- clauses and declarations
 
 -- the reader with no variable met
-unfoldable pub fresh : State → State
-fresh st = record { token = st .token; count = 0; first = st .first }
+abbrev pub fresh : Cursor → Cursor
+fresh st = begin (st .token)
 
 -- what stands after a head: the full stop, or :- and a body
 pub data Tail : Type 0 where
@@ -235,17 +205,17 @@ pub data Tail : Type 0 where
 abbrev pub tailOf : ℕ → Tail
 tailOf k = cond (eqb k stopKind) fact (cond (eqb k neckKind) rule other)
 
-abbrev pub clauseOf : Atom → Body → State → Clause
-clauseOf h b st = record { head = h; body = b; variables = st .count }
+abbrev pub clauseOf : Atom → Body → Cursor → Clause
+clauseOf h b st = record { head = h; body = b; variables = length (st .names) }
 
-unfoldable pub clauseAfter : List ℕ → Atom → State → Tail → Read Clause
+unfoldable pub clauseAfter : List ℕ → Atom → Cursor → Tail → Read Clause
 clauseAfter s h st fact = ok (clauseOf h done st) (next s st)
 clauseAfter s h st rule = andThen (readBody s literals (next s st)) (λ b after. ok (clauseOf h b after) after)
 clauseAfter s h st other = wrong st
 
--- a clause, of which the head's name is at hand
-unfoldable pub readClause : List ℕ → State → Read Clause
-readClause s st = andThen (readAtom s (fresh st)) (λ h after. clauseAfter s h after (tailOf (kindAt after)))
+-- a clause, of which the head's name is at hand and no variable is met
+unfoldable pub readClause : List ℕ → Cursor → Read Clause
+readClause s st = andThen (readAtom s st) (λ h after. clauseAfter s h after (tailOf (kindAt after)))
 
 pub data Sign : Type 0 where
   mark : Mark → Sign
@@ -258,49 +228,49 @@ abbrev pub isMark : Sign → Bool
 isMark (mark m) = true
 isMark noMark = false
 
-unfoldable pub marksAfter : (State → Read (List Mark)) → List ℕ → Mark → State → After → Read (List Mark)
+unfoldable pub marksAfter : (Cursor → Read (List Mark)) → List ℕ → Mark → Cursor → After → Read (List Mark)
 marksAfter rest s m st more = andThen (rest (next s st)) (λ ms after. ok (m ∷ ms) after)
 marksAfter rest s m st last = ok (m ∷ []) (next s st)
 marksAfter rest s m st neither = wrong st
 
-unfoldable pub marksWith : (State → Read (List Mark)) → List ℕ → State → Sign → Read (List Mark)
+unfoldable pub marksWith : (Cursor → Read (List Mark)) → List ℕ → Cursor → Sign → Read (List Mark)
 marksWith rest s st (mark m) = marksAfter rest s m (next s st) (afterOf closeKind (kindAt (next s st)))
 marksWith rest s st noMark = wrong st
 
 -- a list of marks after its opening bracket, with so many left
-unfoldable pub readMarks : List ℕ → ℕ → State → Read (List Mark)
+unfoldable pub readMarks : List ℕ → ℕ → Cursor → Read (List Mark)
 readMarks s zero st = full (isMark (signOf (kindAt st))) st
 readMarks s (suc k) st = marksWith (λ st1. readMarks s k st1) s st (signOf (kindAt st))
 
 -- the marks behind a declaration's name, or none
-unfoldable pub marksOf : List ℕ → State → Bool → Read (List Mark)
+unfoldable pub marksOf : List ℕ → Cursor → Bool → Read (List Mark)
 marksOf s st true = readMarks s arguments (next s st)
 marksOf s st false = ok [] st
 
-abbrev pub declarationOf : List ℕ → State → List Mark → Declaration
-declarationOf s st ms = record { at = st .token .at; name = spelling s (st .token .at) (st .token .len); marks = ms }
+abbrev pub declarationOf : List ℕ → Cursor → List Mark → Declaration
+declarationOf s st ms = record { at = st .token .at; name = spelt s st; marks = ms }
 
 -- the full stop of a declaration
-unfoldable pub declarationEnd : List ℕ → Declaration → State → Bool → Read Declaration
+unfoldable pub declarationEnd : List ℕ → Declaration → Cursor → Bool → Read Declaration
 declarationEnd s d st true = ok d (next s st)
 declarationEnd s d st false = wrong st
 
 -- a declaration's name and marks, where a name is at hand
-unfoldable pub declarationFrom : List ℕ → State → Bool → Read Declaration
+unfoldable pub declarationFrom : List ℕ → Cursor → Bool → Read Declaration
 declarationFrom s st true =
     andThen (marksOf s (next s st) (is openKind (next s st))) (λ ms after. declarationEnd s (declarationOf s st ms) after (is stopKind after))
 declarationFrom s st false = wrong st
 
 -- the name `mode`
-unfoldable pub isMode : List ℕ → State → Bool
-isMode s st = is nameKind st && sameName (spelling s (st .token .at) (st .token .len)) mode-name
+unfoldable pub isMode : List ℕ → Cursor → Bool
+isMode s st = is nameKind st && sameName (spelt s st) mode-name
 
-unfoldable pub afterNeck : List ℕ → State → Bool → Read Declaration
+unfoldable pub afterNeck : List ℕ → Cursor → Bool → Read Declaration
 afterNeck s st true = declarationFrom s (next s st) (is nameKind (next s st))
 afterNeck s st false = wrong st
 
 -- a declaration, of which the :- is at hand
-unfoldable pub readDeclaration : List ℕ → State → Read Declaration
+unfoldable pub readDeclaration : List ℕ → Cursor → Read Declaration
 readDeclaration s st = afterNeck s (next s st) (isMode s (next s st))
 
 -- ---- sheets and goals
@@ -322,33 +292,33 @@ abbrev pub withClause : Clause → Sheet → Sheet
 withClause c sh = record { declarations = sh .declarations; clauses = c ∷ sh .clauses }
 
 -- `rest` reads the items behind one, with the declarations and clauses then left
-unfoldable pub itemWith : (ℕ → ℕ → State → Read Sheet) → List ℕ → ℕ → ℕ → State → Item → Read Sheet
+unfoldable pub itemWith : (ℕ → ℕ → Cursor → Read Sheet) → List ℕ → ℕ → ℕ → Cursor → Item → Read Sheet
 itemWith rest s ds cs st noItem = ok (record { declarations = []; clauses = [] }) st
 itemWith rest s ds cs st aDeclaration =
     andThen (readDeclaration s st) (λ d after. andThen (rest (ds - 1) cs after) (λ sh end. ok (withDeclaration d sh) end))
 itemWith rest s ds cs st aClause =
-    andThen (readClause s st) (λ c after. andThen (rest ds (cs - 1) after) (λ sh end. ok (withClause c sh) end))
+    andThen (readClause s st) (λ c after. andThen (rest ds (cs - 1) (fresh after)) (λ sh end. ok (withClause c sh) end))
 itemWith rest s ds cs st pastLimit = beyond st
 itemWith rest s ds cs st misplaced = wrong st
 
 -- Items to the end of the text. The first number bounds their number; with one more than there may be declarations and clauses together it
 -- never stops the reading.
-unfoldable pub readItems : List ℕ → ℕ → ℕ → ℕ → State → Read Sheet
+unfoldable pub readItems : List ℕ → ℕ → ℕ → ℕ → Cursor → Read Sheet
 readItems s zero ds cs st = wrong st
 readItems s (suc n) ds cs st = itemWith (λ ds1 cs1 st1. readItems s n ds1 cs1 st1) s ds cs st (itemOf (kindAt st) ds cs)
 
 -- the reader at a text's first token
-unfoldable pub atStart : List ℕ → State
-atStart s = record { token = tokenAt s 0; count = 0; first = replicate 32 0 }
+unfoldable pub atStart : List ℕ → Cursor
+atStart s = begin (tokenAt s 0)
 
 unfoldable pub readSheet : List ℕ → Read Sheet
-readSheet s = readItems s 321 declarations clauses (atStart s)
+readSheet s = readItems s (declarations + clauses + 1) declarations clauses (atStart s)
 
-abbrev pub goalOf : List ℕ → Body → State → Goal
-goalOf s b st = record { body = b; names = map (λ w. spanned s w) (take (st .count) (st .first)) }
+abbrev pub goalOf : Body → Cursor → Goal
+goalOf b st = record { body = b; names = st .names }
 
-unfoldable pub goalEnd : List ℕ → Body → State → Bool → Read Goal
-goalEnd s b st true = ok (goalOf s b st) st
+unfoldable pub goalEnd : List ℕ → Body → Cursor → Bool → Read Goal
+goalEnd s b st true = ok (goalOf b st) st
 goalEnd s b st false = wrong st
 
 -- one or more literals, a full stop, and the end

@@ -4,6 +4,7 @@ use mathlib.Core.Bool.{Bool, true, false, cond}
 use mathlib.Core.List.{List, [], _∷_}
 use lib.Dec.{leb, eqb}
 use lib.ListN.{length, drop, take}
+use Rattle.syntax.specs.Limits.{wordBytes}
 use Rattle.syntax.specs.Bytes.{classOf, inWord, inNumeral}
 use Rattle.syntax.specs.declared.Token.{Token}
 
@@ -79,7 +80,7 @@ run f (b ∷ s) = elim (f b) [ true ↦ suc (run f s) | false ↦ 0 ]
 
 -- a name, variable or numeral of n bytes
 unfoldable pub word : ℕ → ℕ → ℕ → Token
-word kind at n = record { kind = cond (leb n 31) kind overlongKind; at = at; len = n }
+word kind at n = record { kind = cond (leb n wordBytes) kind overlongKind; at = at; len = n }
 
 -- whether the first byte is the dash
 unfoldable pub dashFirst : List ℕ → Bool

@@ -6,7 +6,8 @@ use mathlib.Core.Option.{Option, none, some}
 use lib.Dec.{leb, eqb}
 use lib.ListN.{length}
 use Rattle.syntax.specs.Terms.{Sheet, Goal, Declaration}
-use Rattle.syntax.specs.Reading.{Read, fault, ok, readSheet, readGoal, firstRepeat, sheetBytes, goalBytes}
+use Rattle.syntax.specs.Limits.{sheetBytes, goalBytes}
+use Rattle.syntax.specs.Reading.{Read, fault, ok, readSheet, readGoal, firstRepeat}
 use Rattle.syntax.specs.declared.Text.{Text}
 use Rattle.syntax.specs.declared.Text.the-variants.{Sheet as inSheet, Goal as inGoal}
 use Rattle.syntax.specs.declared.Refusal.{Refusal}

@@ -2,17 +2,26 @@
 use Prim.Native.Nat.{ℕ, suc, _+_, _*_}
 use mathlib.Core.List.{List, [], _∷_, _++_}
 use lib.ListN.{length}
+use Rattle.syntax.specs.Limits.{sheetBytes, goalBytes, lengths, declarations}
 use Rattle.syntax.specs.Terms.{Term, Terms, variable, compound, nil, cons, Atom, termOf, arity, Literal, Body, call, equation, truth, falsity, done, also, Mark, input, output, free, Declaration, Clause, Sheet}
 
--- What a node is: a variable's number (below 64), or 64 and more for a name, with its number of arguments and its length.
+-- A node's first word is a variable's number, below this, or a name's, from this on.
+abbrev pub firstName : ℕ
+firstName = 64
+
+-- A name's first word: its number of arguments and its length.
 abbrev pub functor : ℕ → ℕ → ℕ
-functor arguments len = 64 + arguments * 32 + len
+functor arguments len = firstName + arguments * lengths + len
+
+-- the words of a node without its arguments
+abbrev pub nodeWords : ℕ
+nodeWords = 3
 
 -- A node: what it is, how many words it and its arguments take, and the byte where its token stands; its arguments follow.
 unfoldable mutual
   pub termWords : Term → List ℕ
-  termWords (variable n b) = n ∷ 3 ∷ b ∷ []
-  termWords (compound b name ts) = functor (arity ts) (length name) ∷ (3 + length (termsWords ts)) ∷ b ∷ termsWords ts
+  termWords (variable n b) = n ∷ nodeWords ∷ b ∷ []
+  termWords (compound b name ts) = functor (arity ts) (length name) ∷ (nodeWords + length (termsWords ts)) ∷ b ∷ termsWords ts
 
   pub termsWords : Terms → List ℕ
   termsWords nil = []
@@ -21,12 +30,25 @@ unfoldable mutual
 abbrev pub atomWords : Atom → List ℕ
 atomWords a = termWords (termOf a)
 
--- A literal: 0 for truth, 1 for falsehood, 2 for a call, 3 for an equation, and then its terms.
+-- the kinds of literal
+abbrev pub truthKind : ℕ
+truthKind = 0
+
+abbrev pub falsityKind : ℕ
+falsityKind = 1
+
+abbrev pub callKind : ℕ
+callKind = 2
+
+abbrev pub equationKind : ℕ
+equationKind = 3
+
+-- A literal: its kind, and then its terms.
 unfoldable pub literalWords : Literal → List ℕ
-literalWords truth = 0 ∷ []
-literalWords falsity = 1 ∷ []
-literalWords (call a) = 2 ∷ atomWords a
-literalWords (equation t u) = 3 ∷ (termWords t ++ termWords u)
+literalWords truth = truthKind ∷ []
+literalWords falsity = falsityKind ∷ []
+literalWords (call a) = callKind ∷ atomWords a
+literalWords (equation t u) = equationKind ∷ (termWords t ++ termWords u)
 
 unfoldable pub bodyWords : Body → List ℕ
 bodyWords done = []
@@ -36,16 +58,23 @@ abbrev pub bodyLength : Body → ℕ
 bodyLength done = 0
 bodyLength (also l b) = suc (bodyLength b)
 
+-- the words of a clause before its head
+abbrev pub clauseStart : ℕ
+clauseStart = 3
+
 -- A clause: how many words it takes, its number of variables, its number of literals, the head, the literals.
 unfoldable pub clauseWords : Clause → List ℕ
 clauseWords c =
-    (3 + length (atomWords (c .head) ++ bodyWords (c .body))) ∷ (c .variables) ∷ bodyLength (c .body) ∷ (atomWords (c .head) ++ bodyWords (c .body))
+    (clauseStart + length (atomWords (c .head) ++ bodyWords (c .body))) ∷ (c .variables) ∷ bodyLength (c .body) ∷ (atomWords (c .head) ++ bodyWords (c .body))
 
 unfoldable pub clausesWords : List Clause → List ℕ
 clausesWords [] = []
 clausesWords (c ∷ cs) = clauseWords c ++ clausesWords cs
 
--- the marks in one number, the first lowest: 1 for +, 2 for -, 3 for *
+-- The marks in one number, the first lowest: 1 for +, 2 for -, 3 for *. Each has room for so many numbers:
+abbrev pub markNumbers : ℕ
+markNumbers = 4
+
 abbrev pub markNumber : Mark → ℕ
 markNumber input = 1
 markNumber output = 2
@@ -53,7 +82,11 @@ markNumber free = 3
 
 unfoldable pub marksNumber : List Mark → ℕ
 marksNumber [] = 0
-marksNumber (m ∷ ms) = markNumber m + 4 * marksNumber ms
+marksNumber (m ∷ ms) = markNumber m + markNumbers * marksNumber ms
+
+-- the words of a declaration
+abbrev pub declarationSize : ℕ
+declarationSize = 4
 
 -- A declaration: byte and length of its name, number of marks, the marks.
 unfoldable pub declarationWords : Declaration → List ℕ
@@ -62,3 +95,16 @@ declarationWords d = (d .at) ∷ length (d .name) ∷ length (d .marks) ∷ mark
 unfoldable pub declarationsWords : List Declaration → List ℕ
 declarationsWords [] = []
 declarationsWords (d ∷ ds) = declarationWords d ++ declarationsWords ds
+
+-- ---- the tables
+
+-- What is read takes at most a node's words for each byte and a few more; the last words, one for each variable, are those of Spans. Four for each
+-- byte are room enough for both.
+abbrev pub sheetWords : ℕ
+sheetWords = 4 * (sheetBytes + 1)
+
+abbrev pub goalWords : ℕ
+goalWords = 4 * (goalBytes + 1)
+
+abbrev pub declaredWords : ℕ
+declaredWords = declarations * declarationSize

@@ -1,6 +1,9 @@
 // The declared types that cross crates, and the numbers of a refusal. Document 01 is the paper "Rule sheets".
 ghost use mathlib.Core.Path.{_≡_};
+ghost use Prim.Native.Nat.{_≤_};
+ghost use Rattle.syntax.specs.Limits.{sheetBytes};
 ghost use Rattle.syntax.specs.Refusals.{numbersOf};
+ghost use Rattle.syntax.specs.Spans.{packed, spanAt, spanLength};
 
 // The kinds of token. A byte's class has the same number where one byte is a token.
 pub const NO_TOKEN: usize = 0;
@@ -33,6 +36,72 @@ pub const OVERLONG: usize = 15;
 
 pub const END: usize = 16;
 
+// Document 01's limits (specs/Limits). Bytes of a sheet and of a goal:
+pub const SHEET_BYTES: usize = 16384;
+
+pub const GOAL_BYTES: usize = 1024;
+
+// bytes of a name, a variable or a numeral, and how many lengths these can have:
+pub const WORD_BYTES: usize = 31;
+
+pub const LENGTHS: usize = WORD_BYTES + 1;
+
+// brackets open at once, arguments or marks in a list, variables in a clause or goal, literals in a body or goal:
+pub const BRACKETS: usize = 16;
+
+pub const ARGUMENTS: usize = 8;
+
+pub const VARIABLES: usize = 32;
+
+pub const LITERALS: usize = 16;
+
+// declarations and clauses in a sheet:
+pub const DECLARATIONS: usize = 64;
+
+pub const CLAUSES: usize = 256;
+
+// the path at which a call goes no deeper, the steps that a run may be allowed, the answers that may be wanted:
+pub const LONGEST_PATH: usize = 255;
+
+pub const MOST_STEPS: usize = 65536;
+
+pub const MOST_ANSWERS: usize = 64;
+
+// The words of a table (specs/Words). A node's first word is a variable's number, below this, or a name's, from this on:
+pub const FIRST_NAME: usize = 64;
+
+// the words of a node without its arguments, of a clause before its head, of a declaration:
+pub const NODE_WORDS: usize = 3;
+
+pub const CLAUSE_START: usize = 3;
+
+pub const DECLARATION_SIZE: usize = 4;
+
+// the kinds of literal:
+pub const TRUTH_KIND: usize = 0;
+
+pub const FALSITY_KIND: usize = 1;
+
+pub const CALL_KIND: usize = 2;
+
+pub const EQUATION_KIND: usize = 3;
+
+// the numbers of the marks, and room for one of them where they are packed, the first lowest:
+pub const INPUT: usize = 1;
+
+pub const OUTPUT: usize = 2;
+
+pub const FREE: usize = 3;
+
+pub const MARK_NUMBERS: usize = 4;
+
+// the words of the tables that a sheet and a goal are read into, and of the declarations':
+pub const SHEET_WORDS: usize = 4 * (SHEET_BYTES + 1);
+
+pub const GOAL_WORDS: usize = 4 * (GOAL_BYTES + 1);
+
+pub const DECLARED_WORDS: usize = DECLARATIONS * DECLARATION_SIZE;
+
 // One token of a text: its kind, first byte and length.
 pub struct Token {
     pub kind: usize,
@@ -40,12 +109,11 @@ pub struct Token {
     pub len: usize,
 }
 
-// Where a reader stands: the token at hand, how many variables the clause has so far, and for each of them the place
-// and length of its first occurrence, as place * 32 + length.
+// Where a reader stands: the token at hand, and how many variables the clause has so far. Their first occurrences stand in the last
+// words of the node table (specs/Spans).
 pub struct State {
     pub token: Token,
     pub count: usize,
-    pub first: [u32; 32],
 }
 
 // The text that a refusal speaks of.
@@ -227,4 +295,29 @@ pub fn numbers(refusal: Refusal) -> Five
             argument: argument,
         },
     }
+}
+
+// A part of a text in one word (specs/Spans): its place and its length.
+pub fn pack_span(at: usize, len: usize) -> u32
+    requires { ⌜ (at ≤ sheetBytes) × (len ≤ sheetBytes) ⌝ }
+    ensures { λ r. ⌜ r ≡ packed at len ⌝ }
+{
+    let w = at * LENGTHS + len;
+    w as u32
+}
+
+// The place of such a part.
+pub fn span_at(word: u32) -> usize
+    ensures { λ r. ⌜ r ≡ spanAt word ⌝ }
+{
+    let w = word as usize;
+    w / LENGTHS
+}
+
+// Its length.
+pub fn span_length(word: u32) -> usize
+    ensures { λ r. ⌜ r ≡ spanLength word ⌝ }
+{
+    let w = word as usize;
+    w % LENGTHS
 }

@@ -16,7 +16,8 @@ use Rattle.syntax.specs.declared.Verdict.the-variants.{Accepted, Refused}
 use Rattle.rules.specs.Modes.{sheetFault, goalFault}
 use Rattle.rules.specs.Checking.{faultless, checkedFrom, checkedSheet, checkVerdict, checkedGoalFrom, checkedGoal, goalAnswer, checkGoalFrom, checkGoalVerdict}
 use Rattle.marking.specs.Standing.{SheetStands, DeclarationsStand}
-use Rattle.marking.specs.Tables.{Has, SheetAt, GoalAt}
+use Rattle.words.specs.Tables.{Has}
+use Rattle.marking.specs.Tables.{SheetAt, GoalAt}
 use Rattle.marking.specs.Answers.{checkedOf}
 use Rattle.marking.specs.declared.Checked.{Checked}
 use Rattle.marking.specs.declared.Checked.the-variants.{Fine, Fault}
@@ -104,7 +105,7 @@ module _ (s declared : List ℕ) (n k : ℕ) (g table : List ℕ) (r : GoalRead)
     pub goal-of : (x : Goal) × (goalOutcome g ≡ accepted x)
     goal-of = goal-accepted-by (goalOutcome g) a b (sym (t .is) ∙ e)
 
-    pub standing : GoalStanding g table (r .literals) (r .names) (r .count) (goal-of .0)
+    pub standing : GoalStanding g table (r .literals) (r .count) (goal-of .0)
     standing = t .holds (goal-of .0) (goal-of .1)
 
     pub goal-stands-at : Over s declared n k → GoalAt s declared n g table (r .literals)

@@ -9,10 +9,12 @@ use lib.ListN.{length, getD, take, replicate}
 use lib.Dec.{leb, eqb, leb·suc-suc}
 use borrow.Author.Tests.{le-leb, lt-leb}
 use Rattle.syntax.specs.Terms.{Sheet, Goal, Declaration}
-use Rattle.syntax.specs.Reading.{Read, fault, ok, readGoal}
+use Rattle.syntax.specs.Reading.{Cursor, Read, fault, ok, readGoal}
 use Rattle.syntax.specs.Words.{declarationsWords, declarationWords, bodyWords, bodyLength}
 use Rattle.syntax.specs.Verdicts.{Outcome, refused, accepted, faultOf, goalFrom, goalOutcome, goalVerdict, sheetOf, sheetVerdict, readVerdict, readGoalVerdict, nthEntry, outcomeEntry, entryAt}
-use Rattle.syntax.specs.declared.State.{State}
+use Rattle.syntax.specs.Limits.{variables}
+use Rattle.syntax.specs.Spans.{met, Held}
+use Rattle.syntax.proofs.Spans.{met-length}
 use Rattle.syntax.specs.declared.Text.{Text}
 use Rattle.syntax.specs.declared.Text.the-variants.{Sheet as inSheet, Goal as inGoal}
 use Rattle.syntax.specs.declared.Refusal.{Refusal}
@@ -24,34 +26,26 @@ use Rattle.syntax.specs.declared.Declared.the-variants.{As, Nothing}
 use Rattle.reading.specs.declared.Parsed.{Parsed}
 use Rattle.parser.specs.Marks.{Stopped}
 use Rattle.parser.specs.Sheets.{GoalGiven, GoalLoads}
-use Rattle.marking.specs.Tables.{Has}
-use Rattle.marking.proofs.Places.{has-left, has-right, has-inside}
-use Rattle.tables.specs.Tables.{Tabled, GoalStanding, GoalTabled, entryWords}
+use Rattle.words.specs.Tables.{Has}
+use Rattle.words.proofs.Laws.{has-left, has-right, has-inside, has-taken}
+use Rattle.tables.specs.Tables.{Tabled, GoalStanding, GoalTabled}
+use Rattle.listings.specs.Listings.{entryWords}
 use Rattle.tables.specs.declared.GoalRead.{GoalRead}
 use Rattle.tables.proofs.Laws.{four-words, never}
 use Rattle.modes.proofs.Accepted.{goal-stands}
-use Rattle.modes.proofs.Loaded.{has-taken}
-use Rattle.spelling.specs.Words.{Named, namesFrom}
-use Rattle.spelling.proofs.GoalNames.{goal-names, goal-named, goal-words}
-
--- ---- one entry of a table
-
-pub entry-none : (declared : List ℕ) (n i : ℕ) → n ≤ i → Nothing ≡ entryWords declared n i
-entry-none declared n i h = simp (le-leb n i h)
-
-pub entry-some : (declared : List ℕ) (n i a l m : ℕ) → i < n → a ≡ getD declared (4 * i) 0 → l ≡ getD declared (4 * i + 1) 0 → m ≡ getD declared (4 * i + 2) 0 → As (record { at = a; len = l; arguments = m }) ≡ entryWords declared n i
-entry-some declared n i a l m h ea el em = ap (λ (x : ℕ). As (record { at = x; len = l; arguments = m })) ea ∙ ap₂ (λ (x y : ℕ). As (record { at = getD declared (4 * i) 0; len = x; arguments = y })) el em ∙ simp (lt-leb n i h)
+use Rattle.syntax.specs.Spans.{namesFrom}
+use Rattle.spelling.specs.Words.{Named}
 
 -- ---- the entries of a sheet
 
 one-entry : (declared : List ℕ) (d : Declaration) (n p q : ℕ) → q ≡ p → Has declared p (declarationWords d) → As (record { at = d .at; len = length (d .name); arguments = length (d .marks) }) ≡ cond (leb (suc n) 0) Nothing (As (record { at = getD declared q 0; len = getD declared (q + 1) 0; arguments = getD declared (q + 2) 0 }))
-unfolding Has declarationWords
+unfolding declarationWords
 one-entry declared d n p q e h =
-    let p1 : q + 1 ≡ suc p = omega arith in
-    let p2 : q + 2 ≡ suc (suc p) = omega arith in
-    let a : getD declared q 0 ≡ d .at = ap (λ (k : ℕ). getD declared k 0) e ∙ h .1 .0 in
-    let l : getD declared (q + 1) 0 ≡ length (d .name) = ap (λ (k : ℕ). getD declared k 0) p1 ∙ h .1 .1 .1 .0 in
-    let m : getD declared (q + 2) 0 ≡ length (d .marks) = ap (λ (k : ℕ). getD declared k 0) p2 ∙ h .1 .1 .1 .1 .1 .0 in
+    let p1 : q + 1 ≡ p + 1 = omega arith in
+    let p2 : q + 2 ≡ p + 1 + 1 = omega arith in
+    let a : getD declared q 0 ≡ d .at = ap (λ (k : ℕ). getD declared k 0) e ∙ h .1 in
+    let l : getD declared (q + 1) 0 ≡ length (d .name) = ap (λ (k : ℕ). getD declared k 0) p1 ∙ h .2 .1 in
+    let m : getD declared (q + 2) 0 ≡ length (d .marks) = ap (λ (k : ℕ). getD declared k 0) p2 ∙ h .2 .2 .1 in
     sym (simp (lt-leb (suc n) 0 (omega arith)) (ap (λ (x : ℕ). As (record { at = x; len = getD declared (q + 1) 0; arguments = getD declared (q + 2) 0 })) a ∙ ap₂ (λ (x y : ℕ). As (record { at = d .at; len = x; arguments = y })) l m))
 
 later : (declared : List ℕ) (n i q : ℕ) → cond (leb (suc n) (suc i)) Nothing (As (record { at = getD declared q 0; len = getD declared (q + 1) 0; arguments = getD declared (q + 2) 0 })) ≡ cond (leb n i) Nothing (As (record { at = getD declared q 0; len = getD declared (q + 1) 0; arguments = getD declared (q + 2) 0 }))
@@ -116,57 +110,54 @@ module _ (s declared table : List ℕ) (v : Verdict) (e : v ≡ readVerdict s) (
 
 -- ---- goals
 
-goal-answer : (s table : List ℕ) (q : Refusal) (r : GoalRead) → goalOutcome s ≡ refused q → r ≡ record { verdict = Refused inGoal q; literals = 0; count = 0; names = replicate 32 0 } → GoalTabled s table r
+goal-answer : (s table : List ℕ) (q : Refusal) (r : GoalRead) → goalOutcome s ≡ refused q → r ≡ record { verdict = Refused inGoal q; literals = 0; count = 0 } → GoalTabled s table r
 unfolding goalVerdict
 goal-answer s table q r e f = record {
   is = ap (λ (x : GoalRead). x .verdict) f ∙ ap goalVerdict (sym e);
-  words = sym (ap (λ (x : GoalRead). length (x .names)) f);
   holds = λ g a. absurd (never q g (sym e ∙ a));
 }
 
-pub goal-long : (s table : List ℕ) (r : GoalRead) → 1024 < length s → r ≡ record { verdict = Refused inGoal TooLong; literals = 0; count = 0; names = replicate 32 0 } → GoalTabled s table r
+pub goal-long : (s table : List ℕ) (r : GoalRead) → 1024 < length s → r ≡ record { verdict = Refused inGoal TooLong; literals = 0; count = 0 } → GoalTabled s table r
 goal-long s table r h f = goal-answer s table TooLong r is f
   where
     is : goalOutcome s ≡ refused TooLong
     is = unfold goalOutcome in ap (λ (b : Bool). elim b as (λ _. Outcome Goal) [ true ↦ goalFrom (readGoal s) | false ↦ refused TooLong ]) (lt-leb (length s) 1024 h)
 
-module _ (s table : List ℕ) (p : Parsed) (short : length s ≤ 1024) (g : GoalLoads table p (readGoal s)) where
+module _ (s table : List ℕ) (p : Parsed) (short : length s ≤ 1024) (g : GoalLoads s table p (readGoal s)) where
   goal-from : goalOutcome s ≡ goalFrom (readGoal s)
   unfolding goalOutcome
   goal-from = ap (λ (b : Bool). elim b as (λ _. Outcome Goal) [ true ↦ goalFrom (readGoal s) | false ↦ refused TooLong ]) (le-leb (length s) 1024 short)
 
-  goal-fault-by : (d : Read Goal) → readGoal s ≡ d → GoalLoads table p d → (p .number ≡ 0 → ⊥) → goalOutcome s ≡ refused (faultOf (p .number) (p .state .token .at))
+  goal-fault-by : (d : Read Goal) → readGoal s ≡ d → GoalLoads s table p d → (p .number ≡ 0 → ⊥) → goalOutcome s ≡ refused (faultOf (p .number) (p .state .token .at))
   unfolding goalFrom
   goal-fault-by (fault k b) e h z = goal-from ∙ ap goalFrom e ∙ ap₂ (λ (n b : ℕ). refused (faultOf n b)) (sym (h .number-is)) (sym (h .byte-is))
   goal-fault-by (ok x end) e h z = absurd (z (h .number-is))
 
-  pub goal-faults : (p .number ≡ 0 → ⊥) → (q : Refusal) (r : GoalRead) → q ≡ faultOf (p .number) (p .state .token .at) → r ≡ record { verdict = Refused inGoal q; literals = 0; count = 0; names = replicate 32 0 } → GoalTabled s table r
+  pub goal-faults : (p .number ≡ 0 → ⊥) → (q : Refusal) (r : GoalRead) → q ≡ faultOf (p .number) (p .state .token .at) → r ≡ record { verdict = Refused inGoal q; literals = 0; count = 0 } → GoalTabled s table r
   goal-faults z q r eq f = goal-answer s table q r (goal-fault-by (readGoal s) refl g z ∙ ap refused (sym eq)) f
 
-  goal-read-by : (d : Read Goal) → readGoal s ≡ d → GoalLoads table p d → p .number ≡ 0 → (x : Goal) × (end : State) × (readGoal s ≡ ok x end) × GoalGiven table p x end
+  goal-read-by : (d : Read Goal) → readGoal s ≡ d → GoalLoads s table p d → p .number ≡ 0 → (x : Goal) × (end : Cursor) × (readGoal s ≡ ok x end) × GoalGiven s table p x
   goal-read-by (fault k b) e h z = let a : p .number ≡ k = h .number-is in let y : 0 < k = h .some in absurd (omega arith)
   goal-read-by (ok x end) e h z = (x, end, e, h)
 
   same-goal : (a b : Goal) → _≡_ {A = Outcome Goal} (accepted a) (accepted b) → a ≡ b
   same-goal a b e = cc
 
-  pub goal-accepted : p .number ≡ 0 → GoalTabled s table (record { verdict = Accepted 0 0; literals = p .items; count = p .state .count; names = p .state .first })
+  pub goal-accepted : variables ≤ length table → p .number ≡ 0 → GoalTabled s table (record { verdict = Accepted 0 0; literals = p .items; count = p .state .count })
   unfolding goalVerdict goalFrom
-  goal-accepted z =
-      let o : (x : Goal) × (end : State) × (readGoal s ≡ ok x end) × GoalGiven table p x end = goal-read-by (readGoal s) refl g z in
+  goal-accepted long z =
+      let o : (x : Goal) × (end : Cursor) × (readGoal s ≡ ok x end) × GoalGiven s table p x = goal-read-by (readGoal s) refl g z in
       let a : goalOutcome s ≡ accepted (o .0) = goal-from ∙ ap goalFrom (o .2) in
-      let end : p .state ≡ o .1 = o .3 .state-is in
-      let st : GoalStanding s table (p .items) (p .state .first) (p .state .count) (o .0) = record {
+      let st : GoalStanding s table (p .items) (p .state .count) (o .0) = record {
         has = has-taken table (p .used) (bodyWords (o .0 .body)) (o .3 .table-is);
         count = o .3 .items-is;
         stands = goal-stands s (o .0) (o .1) (o .2);
-        named = subst⁻¹ (λ (x : State). Named s (x .first) (x .count)) end (goal-named s (o .0) (o .1) (o .2));
-        names-are = goal-names s (o .0) (o .1) (o .2) ∙ sym (ap (λ (x : State). namesFrom s (x .first) 0 (x .count)) end);
+        named = record { listed = omega (arith, o .3 .few, met-length table long); few = o .3 .few; inside = o .3 .held .inside };
+        names-are = o .3 .names-are;
       } in
       record {
         is = ap goalVerdict (sym a);
-        words = sym (ap (λ (x : State). length (x .first)) end ∙ goal-words s (o .0) (o .1) (o .2));
-        holds = λ x e. subst (GoalStanding s table (p .items) (p .state .first) (p .state .count)) (same-goal (o .0) x (sym a ∙ e)) st;
+        holds = λ x e. subst (GoalStanding s table (p .items) (p .state .count)) (same-goal (o .0) x (sym a ∙ e)) st;
       }
 
 pub goal-verdict : (s table : List ℕ) (r : GoalRead) → GoalTabled s table r → r .verdict ≡ readGoalVerdict s

@@ -12,7 +12,7 @@ use Rattle.syntax.specs.Terms.{Sheet, Goal, Declaration, Clause}
 use Rattle.syntax.specs.Reading.{Read, fault, ok, readSheet, firstRepeat}
 use Rattle.syntax.specs.Words.{declarationsWords, clausesWords, declarationWords}
 use Rattle.syntax.specs.Verdicts.{Outcome, refused, accepted, faultOf, sheetFrom, withoutRepeats, sheetOf, sheetVerdict, readVerdict}
-use Rattle.syntax.specs.declared.State.{State}
+use Rattle.syntax.specs.Reading.{Cursor}
 use Rattle.syntax.specs.declared.Text.the-variants.{Sheet as inSheet}
 use Rattle.syntax.specs.declared.Refusal.{Refusal}
 use Rattle.syntax.specs.declared.Refusal.the-variants.{TooLong, NoToken, Overlong, Misplaced, OverLimit, Repeated}
@@ -20,12 +20,13 @@ use Rattle.syntax.specs.declared.Verdict.{Verdict}
 use Rattle.syntax.specs.declared.Verdict.the-variants.{Accepted, Refused}
 use Rattle.parser.specs.Sheets.{Holds, LoadFault, LoadGiven, Loads}
 use Rattle.parser.specs.declared.Loaded.{Loaded}
-use Rattle.marking.specs.Tables.{Has, DeclarationsAt, SheetAt}
+use Rattle.words.specs.Tables.{Has}
+use Rattle.marking.specs.Tables.{DeclarationsAt, SheetAt}
 use Rattle.repeats.specs.Repeating.{repeatOf}
 use Rattle.repeats.specs.declared.Repeat.{Repeat}
 use Rattle.tables.specs.Tables.{Tabled}
 use Rattle.modes.proofs.Accepted.{read-stands}
-use Rattle.modes.proofs.Loaded.{has-taken}
+use Rattle.words.proofs.Laws.{has-taken}
 
 -- ---- the number of a fault
 
@@ -77,11 +78,11 @@ module _ (s declared table : List ℕ) (r : Loaded) (short : length s ≤ 16384)
   sheet-fault z q v eq ev = answer-refused q v (fault-by (readSheet s) refl g z ∙ ap refused (sym eq)) ev
 
   module _ (z : r .number ≡ 0) where
-    read-by : (d : Read Sheet) → readSheet s ≡ d → Loads declared table r d → (sh : Sheet) × (end : State) × (readSheet s ≡ ok sh end) × LoadGiven declared table r sh
+    read-by : (d : Read Sheet) → readSheet s ≡ d → Loads declared table r d → (sh : Sheet) × (end : Cursor) × (readSheet s ≡ ok sh end) × LoadGiven declared table r sh
     read-by (fault k b) e h = let x : r .number ≡ k = h .number-is in let y : 0 < k = h .some in absurd (omega arith)
     read-by (ok sh end) e h = (sh, end, e, h)
 
-    read : (sh : Sheet) × (end : State) × (readSheet s ≡ ok sh end) × LoadGiven declared table r sh
+    read : (sh : Sheet) × (end : Cursor) × (readSheet s ≡ ok sh end) × LoadGiven declared table r sh
     read = read-by (readSheet s) refl g
 
     has-declarations : Has declared 0 (declarationsWords (read .0 .declarations))

@@ -2,22 +2,22 @@
 use marking::Checked;
 use parser::sheets::read_items;
 use repeats::first_repeat;
+use syntax::DECLARED_WORDS;
+use syntax::GOAL_BYTES;
+use syntax::GOAL_WORDS;
 use syntax::Refusal;
+use syntax::SHEET_BYTES;
+use syntax::SHEET_WORDS;
 use syntax::Text;
 use syntax::Verdict;
 ghost use mathlib.Core.Path.{_≡_};
 ghost use Prim.Native.Nat.{_≤_, _<_, _^_};
-ghost use lib.ListN.{length, replicate};
+ghost use lib.ListN.{length};
+ghost use Rattle.syntax.specs.Words.{sheetWords, goalWords, declaredWords};
 ghost use Rattle.syntax.specs.Terms.{Sheet};
 ghost use Rattle.syntax.specs.Verdicts.{faultOf, accepted, sheetOf, readVerdict};
 ghost use Rattle.rules.specs.Checking.{checkedSheet, checkVerdict};
 ghost use Rattle.tables.specs.Tables.{Tabled, GoalTabled};
-
-// The most bytes of a sheet.
-const SHEET_BYTES: usize = 16384;
-
-// The most bytes of a goal.
-const GOAL_BYTES: usize = 1024;
 
 // A fault of reading, 3 to 6, as a refusal.
 fn fault_of(number: usize, byte: usize) -> Refusal
@@ -47,7 +47,7 @@ fn sheet_refused(refusal: Refusal) -> Verdict
 
 // A sheet into its tables.
 pub fn load(sheet: &[u8], declared: &mut [u32], table: &mut [u32]) -> Verdict
-    requires { ⌜ (256 ≤ length (now declared)) × ((65540 ≤ length (now table)) × (length (now table) < 2 ^ 31)) ⌝ }
+    requires { ⌜ (declaredWords ≤ length (now declared)) × ((sheetWords ≤ length (now table)) × (length (now table) < 2 ^ 31)) ⌝ }
     ensures is { λ r. ⌜ r ≡ readVerdict (now (sheet .entry)) ⌝ }
     ensures holds { λ r. ⌜ ((sh : Sheet) → sheetOf (now (sheet .entry)) ≡ accepted sh → Tabled (now (sheet .entry)) (now (declared .exit)) (now (table .exit)) sh) ⌝ }
 {
@@ -74,36 +74,35 @@ pub fn load(sheet: &[u8], declared: &mut [u32], table: &mut [u32]) -> Verdict
 }
 
 // Room for a sheet's declarations, for the nodes of a sheet and for those of a goal. The contracts give the lengths alone.
-pub fn declared_room() -> [u32; 256]
-    ensures { λ r. ⌜ 256 ≡ length r ⌝ }
+pub fn declared_room() -> [u32; DECLARED_WORDS]
+    ensures { λ r. ⌜ declaredWords ≡ length r ⌝ }
 {
-    [0; 256]
+    [0; DECLARED_WORDS]
 }
 
-pub fn node_room() -> [u32; 65540]
-    ensures { λ r. ⌜ 65540 ≡ length r ⌝ }
+pub fn node_room() -> [u32; SHEET_WORDS]
+    ensures { λ r. ⌜ sheetWords ≡ length r ⌝ }
 {
-    [0; 65540]
+    [0; SHEET_WORDS]
 }
 
-pub fn goal_room() -> [u32; 4100]
-    ensures { λ r. ⌜ 4100 ≡ length r ⌝ }
+pub fn goal_room() -> [u32; GOAL_WORDS]
+    ensures { λ r. ⌜ goalWords ≡ length r ⌝ }
 {
-    [0; 4100]
+    [0; GOAL_WORDS]
 }
 
-// What reading a goal gives: how many literals it has, how many variables, and for each of these the place and length of its first
-// occurrence, as place * 32 + length.
+// What reading a goal gives: how many literals it has, and how many variables; their first occurrences stand in the last words of
+// the table.
 pub struct GoalRead {
     pub verdict: Verdict,
     pub literals: usize,
     pub count: usize,
-    pub names: [u32; 32],
 }
 
 // A goal into its table.
 pub fn load_goal(goal: &[u8], table: &mut [u32]) -> GoalRead
-    requires { ⌜ (4100 ≤ length (now table)) × (length (now table) < 2 ^ 31) ⌝ }
+    requires { ⌜ (goalWords ≤ length (now table)) × (length (now table) < 2 ^ 31) ⌝ }
     ensures { λ r. ⌜ GoalTabled (now (goal .entry)) (now (table .exit)) r ⌝ }
 {
     if GOAL_BYTES < goal.len() {
@@ -119,7 +118,6 @@ pub fn load_goal(goal: &[u8], table: &mut [u32]) -> GoalRead
     }
     let literals = r.items;
     let count = st.count;
-    let names = st.first;
     GoalRead {
         verdict: Verdict::Accepted {
             declarations: 0,
@@ -127,13 +125,12 @@ pub fn load_goal(goal: &[u8], table: &mut [u32]) -> GoalRead
         },
         literals,
         count,
-        names,
     }
 }
 
 // The refusal of a goal.
 fn goal_refused(refusal: Refusal) -> GoalRead
-    ensures { λ r. ⌜ r ≡ record { verdict = Verdict.Refused Text.Goal refusal; literals = 0; count = 0; names = replicate 32 0 } ⌝ }
+    ensures { λ r. ⌜ r ≡ record { verdict = Verdict.Refused Text.Goal refusal; literals = 0; count = 0 } ⌝ }
 {
     GoalRead {
         verdict: Verdict::Refused {
@@ -142,13 +139,12 @@ fn goal_refused(refusal: Refusal) -> GoalRead
         },
         literals: 0,
         count: 0,
-        names: [0; 32],
     }
 }
 
 // A sheet into its tables, held against its marks.
 pub fn load_checked(sheet: &[u8], declared: &mut [u32], table: &mut [u32]) -> Verdict
-    requires { ⌜ (256 ≤ length (now declared)) × ((65540 ≤ length (now table)) × (length (now table) < 2 ^ 31)) ⌝ }
+    requires { ⌜ (declaredWords ≤ length (now declared)) × ((sheetWords ≤ length (now table)) × (length (now table) < 2 ^ 31)) ⌝ }
     ensures is { λ r. ⌜ r ≡ checkVerdict (now (sheet .entry)) ⌝ }
     ensures holds { λ r. ⌜ ((sh : Sheet) → checkedSheet (now (sheet .entry)) ≡ accepted sh → Tabled (now (sheet .entry)) (now (declared .exit)) (now (table .exit)) sh) ⌝ }
 {

@@ -5,7 +5,9 @@ use mathlib.Core.Bool.{Bool, true, false, cond}
 use mathlib.Core.List.{List, [], _∷_}
 use lib.Dec.{ltb}
 use lib.ListN.{length, getD}
+use Rattle.syntax.specs.Words.{firstName}
 use Rattle.machine.specs.Substitution.{Variable, sameVariable, RTerm, RTerms, var, app, rnil, rcons, replace, replaceAll, Binding, resolve}
+use Rattle.layout.specs.Regions.{loadedNode}
 use Rattle.layout.specs.Nodes.{Symbol, nameOf, decoded, decodedAll, termAt, termsAt, followed}
 use Rattle.layout.specs.State.{nodeOf, copyOf, variableOf, cellAt, trailAt, valueOf, bindings}
 use Rattle.bindings.specs.declared.stack.Side.{Side}
@@ -49,7 +51,7 @@ mutual
 
 module _ (ss : List Symbol) (nodes : List ℕ) (c : ℕ) where
   node-bare : (p : ℕ) (a a′ : RTerms) (b : Bool) → bareAll a ≡ a′
-      → bare (elim b [ true ↦ var (record { copy = c; number = getD nodes p 0 }) | false ↦ app (nameOf ss (getD nodes p 0 - 64)) a ]) ≡ elim b [ true ↦ var (record { copy = c; number = getD nodes p 0 }) | false ↦ app (nameOf [] (getD nodes p 0 - 64)) a′ ]
+      → bare (elim b [ true ↦ var (record { copy = c; number = getD nodes p 0 }) | false ↦ app (nameOf ss (getD nodes p 0 - firstName)) a ]) ≡ elim b [ true ↦ var (record { copy = c; number = getD nodes p 0 }) | false ↦ app (nameOf [] (getD nodes p 0 - firstName)) a′ ]
   unfolding bare nameOf
   node-bare p a a′ true e = refl
   node-bare p a a′ false e = ap (app []) e
@@ -64,7 +66,7 @@ module _ (ss : List Symbol) (nodes : List ℕ) (c : ℕ) where
 
     bare-decoded : (k p : ℕ) → bare (decoded ss nodes c k p) ≡ decoded [] nodes c k p
     bare-decoded zero p = refl
-    bare-decoded (suc k) p = node-bare p (decodedAll ss nodes c k (p + 2) (p + getD nodes (p + 1) 0)) (decodedAll [] nodes c k (p + 2) (p + getD nodes (p + 1) 0)) (ltb (getD nodes p 0) 64) (bare-decoded-all k (p + 2) (p + getD nodes (p + 1) 0))
+    bare-decoded (suc k) p = node-bare p (decodedAll ss nodes c k (p + loadedNode) (p + getD nodes (p + 1) 0)) (decodedAll [] nodes c k (p + loadedNode) (p + getD nodes (p + 1) 0)) (ltb (getD nodes p 0) firstName) (bare-decoded-all k (p + loadedNode) (p + getD nodes (p + 1) 0))
 
     bare-decoded-all : (k p e : ℕ) → bareAll (decodedAll ss nodes c k p e) ≡ decodedAll [] nodes c k p e
     bare-decoded-all zero p e = refl

@@ -9,8 +9,10 @@ use mathlib.Core.Logic.{_⊎_, inl, inr}
 use lib.Dec.{ltb}
 use lib.ListN.{length, getD}
 use borrow.Author.Tests.{ltb-true, ltb-false}
+use Rattle.syntax.specs.Words.{firstName}
 use Rattle.machine.specs.Substitution.{RTerm, RTerms, var, app, rnil, rcons, Binding, resolve}
 use Rattle.machine.proofs.Terms.{resolveAll, resolve-app, resolve-nil, resolve-cons}
+use Rattle.layout.specs.Regions.{loadedNode}
 use Rattle.layout.specs.Nodes.{Symbol, nameOf, Node, Row, termAt, termsAt, followed, count}
 use Rattle.layout.proofs.Nodes.{node-inside, node-end, node-size, variable-at, variable-size, compound-at, compound-row, row-one, row-one-is, row-order, row-none, row-first, row-rest, row-cons, row-open, row-opened, same-count, other-symbol, row-join, row-joined}
 use Rattle.unifier.specs.Rows.{unifyRows, nodesOf, nodesOfAll, sizeOf}
@@ -78,7 +80,7 @@ none-followed us = refl
 -- ---- two terms
 
 module _ (nodes : List ℕ) (p q : ℕ) (g : Pairable nodes p q) where
-  pub pair-inside : (p + 2 ≤ length nodes) × ((q + 2 ≤ length nodes) × ((p + getD nodes (p + 1) 0 ≤ length nodes) × (2 ≤ getD nodes (p + 1) 0)))
+  pub pair-inside : (p + loadedNode ≤ length nodes) × ((q + loadedNode ≤ length nodes) × ((p + getD nodes (p + 1) 0 ≤ length nodes) × (loadedNode ≤ getD nodes (p + 1) 0)))
   pair-inside = (node-inside (g .ss) nodes p (g .left), (node-inside (g .ss) nodes q (g .right), (node-end (g .ss) nodes p (g .left), node-size (g .ss) nodes p (g .left))))
 
   one-beside : Beside (g .ss) nodes p (p + getD nodes (p + 1) 0) q (q + getD nodes (q + 1) 0)
@@ -89,9 +91,9 @@ module _ (nodes : List ℕ) (p q : ℕ) (g : Pairable nodes p q) where
         same = λ c d. ap count (row-one-is (g .ss) nodes p c (g .left)) ∙ (count-one (termAt (g .ss) nodes p c) rnil ∙ (sym (count-one (termAt (g .ss) nodes q d) rnil) ∙ sym (ap count (row-one-is (g .ss) nodes q d (g .right)))));
       }
 
-  pub term-met : (getD nodes p 0 < 64) ⊎ (getD nodes q 0 < 64) → Walks (g .ss) nodes p (p + getD nodes (p + 1) 0) q (q + getD nodes (q + 1) 0) (Met p q)
+  pub term-met : (getD nodes p 0 < firstName) ⊎ (getD nodes q 0 < firstName) → Walks (g .ss) nodes p (p + getD nodes (p + 1) 0) q (q + getD nodes (q + 1) 0) (Met p q)
   term-met v =
-      let k : 2 ≤ getD nodes (p + 1) 0 = node-size (g .ss) nodes p (g .left) in
+      let k : loadedNode ≤ getD nodes (p + 1) 0 = node-size (g .ss) nodes p (g .left) in
       record { beside = one-beside; some = omega arith; variable = v; means = λ b c d l r. refl; less = λ b c. omega arith; less-right = λ b d. omega arith }
 
   -- the row of one term, with others behind it
@@ -101,24 +103,24 @@ module _ (nodes : List ℕ) (p q : ℕ) (g : Pairable nodes p q) where
   row-is-right : (d : ℕ) (r : RTerms) → followed (termsAt (g .ss) nodes q (q + getD nodes (q + 1) 0) d) r ≡ rcons (termAt (g .ss) nodes q d) r
   row-is-right d r = ap (λ (ts : RTerms). followed ts r) (row-one-is (g .ss) nodes q d (g .right)) ∙ (one-followed (termAt (g .ss) nodes q d) rnil r ∙ ap (rcons (termAt (g .ss) nodes q d)) (none-followed r))
 
-  module _ (hp : 64 ≤ getD nodes p 0) (hq : 64 ≤ getD nodes q 0) where
+  module _ (hp : firstName ≤ getD nodes p 0) (hq : firstName ≤ getD nodes q 0) where
     args : ℕ → RTerms
-    args c = termsAt (g .ss) nodes (p + 2) (p + getD nodes (p + 1) 0) c
+    args c = termsAt (g .ss) nodes (p + loadedNode) (p + getD nodes (p + 1) 0) c
 
     args-right : ℕ → RTerms
-    args-right d = termsAt (g .ss) nodes (q + 2) (q + getD nodes (q + 1) 0) d
+    args-right d = termsAt (g .ss) nodes (q + loadedNode) (q + getD nodes (q + 1) 0) d
 
     pub term-clash : (getD nodes p 0 ≡ getD nodes q 0 → ⊥) → Walks (g .ss) nodes p (p + getD nodes (p + 1) 0) q (q + getD nodes (q + 1) 0) Clash
     unfolding args args-right
     term-clash z = λ b c d l r.
         ap₂ (unifyRows b) (row-is c l) (row-is-right d r)
-        ∙ rows-clash b (termAt (g .ss) nodes p c) (termAt (g .ss) nodes q d) l r (nameOf (g .ss) (getD nodes p 0 - 64)) (nameOf (g .ss) (getD nodes q 0 - 64)) (resolveAll b (args c)) (resolveAll b (args-right d))
-        (ap (resolve b) (compound-at (g .ss) nodes p (g .left) c hp) ∙ resolve-app b (nameOf (g .ss) (getD nodes p 0 - 64)) (args c))
-        (ap (resolve b) (compound-at (g .ss) nodes q (g .right) d hq) ∙ resolve-app b (nameOf (g .ss) (getD nodes q 0 - 64)) (args-right d))
+        ∙ rows-clash b (termAt (g .ss) nodes p c) (termAt (g .ss) nodes q d) l r (nameOf (g .ss) (getD nodes p 0 - firstName)) (nameOf (g .ss) (getD nodes q 0 - firstName)) (resolveAll b (args c)) (resolveAll b (args-right d))
+        (ap (resolve b) (compound-at (g .ss) nodes p (g .left) c hp) ∙ resolve-app b (nameOf (g .ss) (getD nodes p 0 - firstName)) (args c))
+        (ap (resolve b) (compound-at (g .ss) nodes q (g .right) d hq) ∙ resolve-app b (nameOf (g .ss) (getD nodes q 0 - firstName)) (args-right d))
         (λ n k. other-symbol (g .ss) nodes p q c d (g .left) (g .right) hp hq z n (sym (count-resolve b (args c)) ∙ (k ∙ count-resolve b (args-right d))))
 
     module _ (w : getD nodes p 0 ≡ getD nodes q 0) where
-      pub term-list : Walkable nodes (p + 2) (p + getD nodes (p + 1) 0) (q + 2)
+      pub term-list : Walkable nodes (p + loadedNode) (p + getD nodes (p + 1) 0) (q + loadedNode)
       term-list =
           record {
             ss = g .ss;
@@ -130,26 +132,26 @@ module _ (nodes : List ℕ) (p q : ℕ) (g : Pairable nodes p q) where
       unfolding args args-right
       opened b c d l r =
           ap₂ (unifyRows b) (row-is c l) (row-is-right d r)
-          ∙ rows-open b (termAt (g .ss) nodes p c) (termAt (g .ss) nodes q d) l r (nameOf (g .ss) (getD nodes p 0 - 64)) (args c) (args-right d)
+          ∙ rows-open b (termAt (g .ss) nodes p c) (termAt (g .ss) nodes q d) l r (nameOf (g .ss) (getD nodes p 0 - firstName)) (args c) (args-right d)
           (ap (resolve b) (compound-at (g .ss) nodes p (g .left) c hp))
-          (ap (resolve b) (compound-at (g .ss) nodes q (g .right) d hq ∙ ap (λ (k : ℕ). app (nameOf (g .ss) (k - 64)) (args-right d)) (sym w)))
+          (ap (resolve b) (compound-at (g .ss) nodes q (g .right) d hq ∙ ap (λ (k : ℕ). app (nameOf (g .ss) (k - firstName)) (args-right d)) (sym w)))
           (same-count (g .ss) nodes p q c d (g .left) (g .right) hp hq w)
 
       bigger : (b : List Binding) (c : ℕ) → sizeOf b (args c) ≤ sizeOf b (termsAt (g .ss) nodes p (p + getD nodes (p + 1) 0) c)
       unfolding args
       bigger b c =
           let s : sizeOf b (termsAt (g .ss) nodes p (p + getD nodes (p + 1) 0) c) ≡ nodesOf (resolve b (termAt (g .ss) nodes p c)) + sizeOf b rnil = ap (sizeOf b) (row-one-is (g .ss) nodes p c (g .left)) ∙ size-cons b (termAt (g .ss) nodes p c) rnil in
-          let t : nodesOf (resolve b (termAt (g .ss) nodes p c)) ≡ suc (sizeOf b (args c)) = ap (λ (x : RTerm). nodesOf (resolve b x)) (compound-at (g .ss) nodes p (g .left) c hp) ∙ size-app b (nameOf (g .ss) (getD nodes p 0 - 64)) (args c) in
+          let t : nodesOf (resolve b (termAt (g .ss) nodes p c)) ≡ suc (sizeOf b (args c)) = ap (λ (x : RTerm). nodesOf (resolve b x)) (compound-at (g .ss) nodes p (g .left) c hp) ∙ size-app b (nameOf (g .ss) (getD nodes p 0 - firstName)) (args c) in
           omega arith
 
       bigger-right : (b : List Binding) (d : ℕ) → sizeOf b (args-right d) ≤ sizeOf b (termsAt (g .ss) nodes q (q + getD nodes (q + 1) 0) d)
       unfolding args-right
       bigger-right b d =
           let s : sizeOf b (termsAt (g .ss) nodes q (q + getD nodes (q + 1) 0) d) ≡ nodesOf (resolve b (termAt (g .ss) nodes q d)) + sizeOf b rnil = ap (sizeOf b) (row-one-is (g .ss) nodes q d (g .right)) ∙ size-cons b (termAt (g .ss) nodes q d) rnil in
-          let t : nodesOf (resolve b (termAt (g .ss) nodes q d)) ≡ suc (sizeOf b (args-right d)) = ap (λ (x : RTerm). nodesOf (resolve b x)) (compound-at (g .ss) nodes q (g .right) d hq) ∙ size-app b (nameOf (g .ss) (getD nodes q 0 - 64)) (args-right d) in
+          let t : nodesOf (resolve b (termAt (g .ss) nodes q d)) ≡ suc (sizeOf b (args-right d)) = ap (λ (x : RTerm). nodesOf (resolve b x)) (compound-at (g .ss) nodes q (g .right) d hq) ∙ size-app b (nameOf (g .ss) (getD nodes q 0 - firstName)) (args-right d) in
           omega arith
 
-      deeper : (o : Walked) → Walks (g .ss) nodes (p + 2) (p + getD nodes (p + 1) 0) (q + 2) (q + getD nodes (q + 1) 0) o → Walks (g .ss) nodes p (p + getD nodes (p + 1) 0) q (q + getD nodes (q + 1) 0) o
+      deeper : (o : Walked) → Walks (g .ss) nodes (p + loadedNode) (p + getD nodes (p + 1) 0) (q + loadedNode) (q + getD nodes (q + 1) 0) o → Walks (g .ss) nodes p (p + getD nodes (p + 1) 0) q (q + getD nodes (q + 1) 0) o
       unfolding args args-right
       deeper Done k = λ b c d l r. opened b c d l r ∙ k b c d l r
       deeper Clash k = λ b c d l r. opened b c d l r ∙ k b c d l r
@@ -159,11 +161,11 @@ module _ (nodes : List ℕ) (p q : ℕ) (g : Pairable nodes p q) where
             some = k .some;
             variable = k .variable;
             means = λ b c d l r. opened b c d l r ∙ k .means b c d l r;
-            less = λ b c. (let x : sizeOf b (termsAt (g .ss) nodes i (p + getD nodes (p + 1) 0) c) ≤ sizeOf b (termsAt (g .ss) nodes (p + 2) (p + getD nodes (p + 1) 0) c) = k .less b c in let y : sizeOf b (termsAt (g .ss) nodes (p + 2) (p + getD nodes (p + 1) 0) c) ≤ sizeOf b (termsAt (g .ss) nodes p (p + getD nodes (p + 1) 0) c) = bigger b c in omega arith);
-            less-right = λ b d. (let x : sizeOf b (termsAt (g .ss) nodes j (q + getD nodes (q + 1) 0) d) ≤ sizeOf b (termsAt (g .ss) nodes (q + 2) (q + getD nodes (q + 1) 0) d) = k .less-right b d in let y : sizeOf b (termsAt (g .ss) nodes (q + 2) (q + getD nodes (q + 1) 0) d) ≤ sizeOf b (termsAt (g .ss) nodes q (q + getD nodes (q + 1) 0) d) = bigger-right b d in omega arith);
+            less = λ b c. (let x : sizeOf b (termsAt (g .ss) nodes i (p + getD nodes (p + 1) 0) c) ≤ sizeOf b (termsAt (g .ss) nodes (p + loadedNode) (p + getD nodes (p + 1) 0) c) = k .less b c in let y : sizeOf b (termsAt (g .ss) nodes (p + loadedNode) (p + getD nodes (p + 1) 0) c) ≤ sizeOf b (termsAt (g .ss) nodes p (p + getD nodes (p + 1) 0) c) = bigger b c in omega arith);
+            less-right = λ b d. (let x : sizeOf b (termsAt (g .ss) nodes j (q + getD nodes (q + 1) 0) d) ≤ sizeOf b (termsAt (g .ss) nodes (q + loadedNode) (q + getD nodes (q + 1) 0) d) = k .less-right b d in let y : sizeOf b (termsAt (g .ss) nodes (q + loadedNode) (q + getD nodes (q + 1) 0) d) ≤ sizeOf b (termsAt (g .ss) nodes q (q + getD nodes (q + 1) 0) d) = bigger-right b d in omega arith);
           }
 
-      pub term-open : (o : Walked) → ((h : Walkable nodes (p + 2) (p + getD nodes (p + 1) 0) (q + 2)) → Walks (h .ss) nodes (p + 2) (p + getD nodes (p + 1) 0) (q + 2) (h .f) o) → Walks (g .ss) nodes p (p + getD nodes (p + 1) 0) q (q + getD nodes (q + 1) 0) o
+      pub term-open : (o : Walked) → ((h : Walkable nodes (p + loadedNode) (p + getD nodes (p + 1) 0) (q + loadedNode)) → Walks (h .ss) nodes (p + loadedNode) (p + getD nodes (p + 1) 0) (q + loadedNode) (h .f) o) → Walks (g .ss) nodes p (p + getD nodes (p + 1) 0) q (q + getD nodes (q + 1) 0) o
       unfolding term-list
       term-open o k = deeper o (k term-list)
 
@@ -191,10 +193,10 @@ module _ (nodes : List ℕ) (p e q : ℕ) (g : Walkable nodes p e q) where
     pub list-pair : Pairable nodes p q
     list-pair = record { ss = g .ss; left = row-first (g .ss) nodes p e (g .beside .left) l; right = row-first (g .ss) nodes q (g .f) (g .beside .right) right-some }
 
-    pub list-inside : ((p + 1 < length nodes) × (q + 1 < length nodes)) × ((p + getD nodes (p + 1) 0 ≤ e) × ((q + getD nodes (q + 1) 0 ≤ length nodes) × ((p + getD nodes (p + 1) 0 ≤ length nodes) × (2 ≤ getD nodes (p + 1) 0))))
+    pub list-inside : ((p + 1 < length nodes) × (q + 1 < length nodes)) × ((p + getD nodes (p + 1) 0 ≤ e) × ((q + getD nodes (q + 1) 0 ≤ length nodes) × ((p + getD nodes (p + 1) 0 ≤ length nodes) × (loadedNode ≤ getD nodes (p + 1) 0))))
     list-inside =
-        let a : p + 2 ≤ length nodes = node-inside (g .ss) nodes p (row-first (g .ss) nodes p e (g .beside .left) l) in
-        let b : q + 2 ≤ length nodes = node-inside (g .ss) nodes q (row-first (g .ss) nodes q (g .f) (g .beside .right) right-some) in
+        let a : p + loadedNode ≤ length nodes = node-inside (g .ss) nodes p (row-first (g .ss) nodes p e (g .beside .left) l) in
+        let b : q + loadedNode ≤ length nodes = node-inside (g .ss) nodes q (row-first (g .ss) nodes q (g .f) (g .beside .right) right-some) in
         ((omega arith, omega arith), (row-order (g .ss) nodes (p + getD nodes (p + 1) 0) e (row-rest (g .ss) nodes p e (g .beside .left) l), (node-end (g .ss) nodes q (row-first (g .ss) nodes q (g .f) (g .beside .right) right-some), (node-end (g .ss) nodes p (row-first (g .ss) nodes p e (g .beside .left) l), node-size (g .ss) nodes p (row-first (g .ss) nodes p e (g .beside .left) l)))))
 
     rest : Row (g .ss) nodes (p + getD nodes (p + 1) 0) e
@@ -300,7 +302,7 @@ list-on nodes p e q g l first d k s z a b o m =
     list-next nodes p e q g l (subst (λ (x : Walked). (h : Pairable nodes p q) → Walks (h .ss) nodes p (p + getD nodes (p + 1) 0) q (q + getD nodes (q + 1) 0) x) d k) o
     (subst (λ (y : ℕ). (h : Walkable nodes (p + getD nodes (p + 1) 0) e (q + y)) → Walks (h .ss) nodes (p + getD nodes (p + 1) 0) e (q + y) (h .f) o) b (subst (λ (y : ℕ). (h : Walkable nodes (p + y) e (q + z)) → Walks (h .ss) nodes (p + y) e (q + z) (h .f) o) a m))
 
-pub term-on : (nodes : List ℕ) (p q : ℕ) (g : Pairable nodes p q) (w z s : ℕ) → w ≡ getD nodes p 0 → z ≡ getD nodes q 0 → 64 ≤ w → 64 ≤ z → w ≡ z → s ≡ getD nodes (p + 1) 0 → (o : Walked)
-    → ((h : Walkable nodes (p + 2) (p + s) (q + 2)) → Walks (h .ss) nodes (p + 2) (p + s) (q + 2) (h .f) o) → Walks (g .ss) nodes p (p + getD nodes (p + 1) 0) q (q + getD nodes (q + 1) 0) o
+pub term-on : (nodes : List ℕ) (p q : ℕ) (g : Pairable nodes p q) (w z s : ℕ) → w ≡ getD nodes p 0 → z ≡ getD nodes q 0 → firstName ≤ w → firstName ≤ z → w ≡ z → s ≡ getD nodes (p + 1) 0 → (o : Walked)
+    → ((h : Walkable nodes (p + loadedNode) (p + s) (q + loadedNode)) → Walks (h .ss) nodes (p + loadedNode) (p + s) (q + loadedNode) (h .f) o) → Walks (g .ss) nodes p (p + getD nodes (p + 1) 0) q (q + getD nodes (q + 1) 0) o
 term-on nodes p q g w z s a b hw hz e c o m =
-    term-open nodes p q g (subst (λ (k : ℕ). 64 ≤ k) a hw) (subst (λ (k : ℕ). 64 ≤ k) b hz) (sym a ∙ (e ∙ b)) o (subst (λ (y : ℕ). (h : Walkable nodes (p + 2) (p + y) (q + 2)) → Walks (h .ss) nodes (p + 2) (p + y) (q + 2) (h .f) o) c m)
+    term-open nodes p q g (subst (λ (k : ℕ). firstName ≤ k) a hw) (subst (λ (k : ℕ). firstName ≤ k) b hz) (sym a ∙ (e ∙ b)) o (subst (λ (y : ℕ). (h : Walkable nodes (p + loadedNode) (p + y) (q + loadedNode)) → Walks (h .ss) nodes (p + loadedNode) (p + y) (q + loadedNode) (h .f) o) c m)

@@ -15,6 +15,7 @@ use Rattle.machine.specs.Unifiers.{MostGeneral}
 use Rattle.machine.proofs.Tests.{variable-refl, variable-sym, name-refl}
 use Rattle.machine.proofs.Terms.{resolveAll, resolve-app, resolve-nil, resolve-cons, grows-more}
 use Rattle.machine.proofs.Unifier.{unify-unbounded, unify-some}
+use Rattle.layout.specs.Regions.{copyCells}
 use Rattle.layout.specs.Nodes.{followed, count}
 use Rattle.layout.specs.State.{variableOf}
 use Rattle.layout.proofs.State.{replace-away}
@@ -302,11 +303,11 @@ later-by a b c d (inr h) = go (ltb c a) (eqb c a) (ltb d b) (eq-eqb c a (h .0)) 
     go false y z p q = ap₂ _&&_ p q
 
 pub later-cell : (x y : ℕ) → y < x → isLater (variableOf x) (variableOf y) ≡ true
-later-cell x y l = later-by (x / 64) (x % 64) (y / 64) (y % 64) (go (ltb (y / 64) (x / 64)) refl)
+later-cell x y l = later-by (x / copyCells) (x % copyCells) (y / copyCells) (y % copyCells) (go (ltb (y / copyCells) (x / copyCells)) refl)
   where
-    go : (a : Bool) → ltb (y / 64) (x / 64) ≡ a → (y / 64 < x / 64) ⊎ ((y / 64 ≡ x / 64) × (y % 64 < x % 64))
-    go true e = inl (ltb-true (y / 64) (x / 64) e)
-    go false e = let h : x / 64 ≤ y / 64 = ltb-false (y / 64) (x / 64) e in inr (omega arith, omega arith)
+    go : (a : Bool) → ltb (y / copyCells) (x / copyCells) ≡ a → (y / copyCells < x / copyCells) ⊎ ((y / copyCells ≡ x / copyCells) × (y % copyCells < x % copyCells))
+    go true e = inl (ltb-true (y / copyCells) (x / copyCells) e)
+    go false e = let h : x / copyCells ≤ y / copyCells = ltb-false (y / copyCells) (x / copyCells) e in inr (omega arith, omega arith)
 
 earlier-by : (a b c d : ℕ) → a ≤ c → (c ≡ a → b ≤ d) → (ltb c a || (eqb c a && ltb d b)) ≡ false
 earlier-by a b c d h k = ap (λ (x : Bool). x || (eqb c a && ltb d b)) (le-ltb c a h) ∙ go (eqb c a) refl
@@ -316,7 +317,7 @@ earlier-by a b c d h k = ap (λ (x : Bool). x || (eqb c a && ltb d b)) (le-ltb c
     go false e = refl
 
 pub earlier-cell : (x y : ℕ) → y < x → isLater (variableOf y) (variableOf x) ≡ false
-earlier-cell x y l = earlier-by (y / 64) (y % 64) (x / 64) (x % 64) (omega arith) (λ e. omega arith)
+earlier-cell x y l = earlier-by (y / copyCells) (y % copyCells) (x / copyCells) (x % copyCells) (omega arith) (λ e. omega arith)
 
 -- first terms that are the same with the bindings put in
 pub rows-first : (b : List Binding) (t u t′ u′ : RTerm) (ts us : RTerms) → resolve b t ≡ resolve b t′ → resolve b u ≡ resolve b u′ → unifyRows b (rcons t ts) (rcons u us) ≡ unifyRows b (rcons t′ ts) (rcons u′ us)

@@ -9,9 +9,11 @@ use mathlib.Core.Logic.{inr}
 use lib.Dec.{T, eqb}
 use lib.ListN.{length, getD}
 use borrow.Author.Tests.{eqb-true, eqb-false}
+use Rattle.syntax.specs.Words.{firstName}
 use Rattle.machine.specs.Substitution.{Variable, sameVariable, isLater, RTerm, RTerms, var, app, rnil, rcons, occurs, occursIn, Binding, resolve}
 use Rattle.machine.proofs.Tests.{variable-eq}
 use Rattle.machine.proofs.Terms.{resolveAll, resolve-app}
+use Rattle.layout.specs.Regions.{copies, copyCells, places, stack, pairs, pairOf, memo, rows, loadedNode, pairSize}
 use Rattle.layout.specs.Nodes.{Symbol, nameOf, Node, Row, termAt, termsAt, followed, count}
 use Rattle.layout.specs.State.{cellOf, variableOf, wordOf, cellAt, valueOf, bindings, Store}
 use Rattle.layout.proofs.Nodes.{node-inside, node-end, variable-at, compound-at, same-count, other-symbol}
@@ -47,13 +49,13 @@ same-variable v w e = cc
 -- ---- what a dereferenced term is
 
 module _ (ss : List Symbol) (nodes state : List ℕ) (n top p c : ℕ) (store : Store ss nodes state n) (r : Reached ss nodes state top p c) where
-  is-open : getD nodes p 0 < 64 → resolve (bindings ss nodes state n) (termAt ss nodes p c) ≡ var (variableOf (cellOf c (getD nodes p 0)))
+  is-open : getD nodes p 0 < firstName → resolve (bindings ss nodes state n) (termAt ss nodes p c) ≡ var (variableOf (cellOf c (getD nodes p 0)))
   is-open l =
       ap (resolve (bindings ss nodes state n)) (variable-at ss nodes p (r .node) c l ∙ ap var (sym (variable-cell c (getD nodes p 0) l)))
       ∙ resolve-unbound ss nodes state n (cellOf c (getD nodes p 0)) store (cell-small c (getD nodes p 0) (r .copy) l) (r .stops l)
 
-  is-name : 64 ≤ getD nodes p 0 → resolve (bindings ss nodes state n) (termAt ss nodes p c) ≡ app (nameOf ss (getD nodes p 0 - 64)) (resolveAll (bindings ss nodes state n) (termsAt ss nodes (p + 2) (p + getD nodes (p + 1) 0) c))
-  is-name l = ap (resolve (bindings ss nodes state n)) (compound-at ss nodes p (r .node) c l) ∙ resolve-app (bindings ss nodes state n) (nameOf ss (getD nodes p 0 - 64)) (termsAt ss nodes (p + 2) (p + getD nodes (p + 1) 0) c)
+  is-name : firstName ≤ getD nodes p 0 → resolve (bindings ss nodes state n) (termAt ss nodes p c) ≡ app (nameOf ss (getD nodes p 0 - firstName)) (resolveAll (bindings ss nodes state n) (termsAt ss nodes (p + loadedNode) (p + getD nodes (p + 1) 0) c))
+  is-name l = ap (resolve (bindings ss nodes state n)) (compound-at ss nodes p (r .node) c l) ∙ resolve-app (bindings ss nodes state n) (nameOf ss (getD nodes p 0 - firstName)) (termsAt ss nodes (p + loadedNode) (p + getD nodes (p + 1) 0) c)
 
 module _ (nodes scratch : List ℕ) (h p c q d : ℕ) (g : Crossed nodes scratch h p c q d) where
   b : List Binding
@@ -80,7 +82,7 @@ module _ (nodes scratch : List ℕ) (h p c q d : ℕ) (g : Crossed nodes scratch
   y : ℕ
   y = cellOf d (getD nodes q 0)
 
-  pub settle-inside : (p + 2 ≤ length nodes) × ((q + 2 ≤ length nodes) × (length nodes ≤ 65536))
+  pub settle-inside : (p + loadedNode ≤ length nodes) × ((q + loadedNode ≤ length nodes) × (length nodes ≤ places))
   settle-inside = (node-inside (g .work .ss) nodes p (g .left .node), (node-inside (g .work .ss) nodes q (g .right .node), g .work .store .small))
 
   -- a turn that is this one
@@ -88,11 +90,11 @@ module _ (nodes scratch : List ℕ) (h p c q d : ℕ) (g : Crossed nodes scratch
   settle-as r e x = subst⁻¹ (λ (k : Turn). Settled nodes scratch scratch h p c q d g k) e x
 
   -- a cell of a copy that is at most the top
-  cell-below : (k m : ℕ) → k ≤ g .work .top → m < 64 → cellOf k m < (g .work .top + 1) * 64
+  cell-below : (k m : ℕ) → k ≤ g .work .top → m < firstName → cellOf k m < (g .work .top + 1) * copyCells
   cell-below k m l o = omega arith
 
   -- the left variable bound to the right term
-  bind-left : getD nodes p 0 < 64 → ((w : Variable) → resolve b u ≡ var w → isLater (variableOf x) w ≡ true) → (getD nodes q 0 < 64 → y < x)
+  bind-left : getD nodes p 0 < firstName → ((w : Variable) → resolve b u ≡ var w → isLater (variableOf x) w ≡ true) → (getD nodes q 0 < firstName → y < x)
       → (T (occurs (variableOf x) (resolve b u)) → unifyRows b (rcons t ls) (rcons u rs) ≡ none)
       → Binds (g .work .ss) nodes (g .state) b (g .work .top) (rcons t ls) (rcons u rs) scratch h x q d
   unfolding b t u ls rs x y
@@ -112,7 +114,7 @@ module _ (nodes scratch : List ℕ) (h p c q d : ℕ) (g : Crossed nodes scratch
         closes = λ z. closes-bound (g .work .ss) nodes b (leftAt scratch) (rightAt scratch) h t u (record { variable = variableOf x; term = resolve b u }) (left-bound b t u (variableOf x) (is-open (g .work .ss) nodes (g .state) (g .n) (g .work .top) p c (g .work .store) (g .left) l) z) (g .closes);
       }
 
-  bind-right : getD nodes q 0 < 64 → ((w : Variable) → resolve b t ≡ var w → isLater w (variableOf y) ≡ false) → (getD nodes p 0 < 64 → x < y)
+  bind-right : getD nodes q 0 < firstName → ((w : Variable) → resolve b t ≡ var w → isLater w (variableOf y) ≡ false) → (getD nodes p 0 < firstName → x < y)
       → (T (occurs (variableOf y) (resolve b t)) → unifyRows b (rcons t ls) (rcons u rs) ≡ none)
       → Binds (g .work .ss) nodes (g .state) b (g .work .top) (rcons t ls) (rcons u rs) scratch h y p c
   unfolding b t u ls rs x y
@@ -148,7 +150,7 @@ module _ (nodes scratch : List ℕ) (h p c q d : ℕ) (g : Crossed nodes scratch
 
   -- ---- two variables
 
-  module _ (lp : getD nodes p 0 < 64) (lq : getD nodes q 0 < 64) where
+  module _ (lp : getD nodes p 0 < firstName) (lq : getD nodes q 0 < firstName) where
     left-is : resolve b t ≡ var (variableOf x)
     unfolding b t x
     left-is = is-open (g .work .ss) nodes (g .state) (g .n) (g .work .top) p c (g .work .store) (g .left) lp
@@ -183,42 +185,42 @@ module _ (nodes scratch : List ℕ) (h p c q d : ℕ) (g : Crossed nodes scratch
 
   -- ---- a variable and a name
 
-  pub settle-left : getD nodes p 0 < 64 → 64 ≤ getD nodes q 0 → Settled nodes scratch scratch h p c q d g (Bind h (cellOf c (getD nodes p 0)) q d)
+  pub settle-left : getD nodes p 0 < firstName → firstName ≤ getD nodes q 0 → Settled nodes scratch scratch h p c q d g (Bind h (cellOf c (getD nodes p 0)) q d)
   unfolding b t u ls rs x y
   settle-left lp hq =
-      let name : resolve b u ≡ app (nameOf (g .work .ss) (getD nodes q 0 - 64)) (resolveAll b (termsAt (g .work .ss) nodes (q + 2) (q + getD nodes (q + 1) 0) d)) = is-name (g .work .ss) nodes (g .state) (g .n) (g .work .top) q d (g .work .store) (g .right) hq in (
+      let name : resolve b u ≡ app (nameOf (g .work .ss) (getD nodes q 0 - firstName)) (resolveAll b (termsAt (g .work .ss) nodes (q + loadedNode) (q + getD nodes (q + 1) 0) d)) = is-name (g .work .ss) nodes (g .state) (g .n) (g .work .top) q d (g .work .store) (g .right) hq in (
         marks-refl scratch,
         bind-left lp
-            (λ w k. absurd (never-variable (nameOf (g .work .ss) (getD nodes q 0 - 64)) (resolveAll b (termsAt (g .work .ss) nodes (q + 2) (q + getD nodes (q + 1) 0) d)) w (sym name ∙ k)))
-            (λ k. absurd (let z : getD nodes q 0 < 64 = k in omega arith))
-            (λ k. rows-occurs-left b t u ls rs (variableOf x) (nameOf (g .work .ss) (getD nodes q 0 - 64)) (resolveAll b (termsAt (g .work .ss) nodes (q + 2) (q + getD nodes (q + 1) 0) d)) (is-open (g .work .ss) nodes (g .state) (g .n) (g .work .top) p c (g .work .store) (g .left) lp) name (subst (λ (v : RTerm). T (occurs (variableOf x) v)) name k)),
+            (λ w k. absurd (never-variable (nameOf (g .work .ss) (getD nodes q 0 - firstName)) (resolveAll b (termsAt (g .work .ss) nodes (q + loadedNode) (q + getD nodes (q + 1) 0) d)) w (sym name ∙ k)))
+            (λ k. absurd (let z : getD nodes q 0 < firstName = k in omega arith))
+            (λ k. rows-occurs-left b t u ls rs (variableOf x) (nameOf (g .work .ss) (getD nodes q 0 - firstName)) (resolveAll b (termsAt (g .work .ss) nodes (q + loadedNode) (q + getD nodes (q + 1) 0) d)) (is-open (g .work .ss) nodes (g .state) (g .n) (g .work .top) p c (g .work .store) (g .left) lp) name (subst (λ (v : RTerm). T (occurs (variableOf x) v)) name k)),
       )
 
-  pub settle-right : 64 ≤ getD nodes p 0 → getD nodes q 0 < 64 → Settled nodes scratch scratch h p c q d g (Bind h (cellOf d (getD nodes q 0)) p c)
+  pub settle-right : firstName ≤ getD nodes p 0 → getD nodes q 0 < firstName → Settled nodes scratch scratch h p c q d g (Bind h (cellOf d (getD nodes q 0)) p c)
   unfolding b t u ls rs x y
   settle-right hp lq =
-      let name : resolve b t ≡ app (nameOf (g .work .ss) (getD nodes p 0 - 64)) (resolveAll b (termsAt (g .work .ss) nodes (p + 2) (p + getD nodes (p + 1) 0) c)) = is-name (g .work .ss) nodes (g .state) (g .n) (g .work .top) p c (g .work .store) (g .left) hp in (
+      let name : resolve b t ≡ app (nameOf (g .work .ss) (getD nodes p 0 - firstName)) (resolveAll b (termsAt (g .work .ss) nodes (p + loadedNode) (p + getD nodes (p + 1) 0) c)) = is-name (g .work .ss) nodes (g .state) (g .n) (g .work .top) p c (g .work .store) (g .left) hp in (
         marks-refl scratch,
         bind-right lq
-            (λ w k. absurd (never-variable (nameOf (g .work .ss) (getD nodes p 0 - 64)) (resolveAll b (termsAt (g .work .ss) nodes (p + 2) (p + getD nodes (p + 1) 0) c)) w (sym name ∙ k)))
-            (λ k. absurd (let z : getD nodes p 0 < 64 = k in omega arith))
-            (λ k. rows-occurs-right b t u ls rs (variableOf y) (nameOf (g .work .ss) (getD nodes p 0 - 64)) (resolveAll b (termsAt (g .work .ss) nodes (p + 2) (p + getD nodes (p + 1) 0) c)) name (is-open (g .work .ss) nodes (g .state) (g .n) (g .work .top) q d (g .work .store) (g .right) lq) (subst (λ (v : RTerm). T (occurs (variableOf y) v)) name k)),
+            (λ w k. absurd (never-variable (nameOf (g .work .ss) (getD nodes p 0 - firstName)) (resolveAll b (termsAt (g .work .ss) nodes (p + loadedNode) (p + getD nodes (p + 1) 0) c)) w (sym name ∙ k)))
+            (λ k. absurd (let z : getD nodes p 0 < firstName = k in omega arith))
+            (λ k. rows-occurs-right b t u ls rs (variableOf y) (nameOf (g .work .ss) (getD nodes p 0 - firstName)) (resolveAll b (termsAt (g .work .ss) nodes (p + loadedNode) (p + getD nodes (p + 1) 0) c)) name (is-open (g .work .ss) nodes (g .state) (g .n) (g .work .top) q d (g .work .store) (g .right) lq) (subst (λ (v : RTerm). T (occurs (variableOf y) v)) name k)),
       )
 
   -- ---- two names
 
-  module _ (hp : 64 ≤ getD nodes p 0) (hq : 64 ≤ getD nodes q 0) where
+  module _ (hp : firstName ≤ getD nodes p 0) (hq : firstName ≤ getD nodes q 0) where
     al : RTerms
-    al = termsAt (g .work .ss) nodes (p + 2) (p + getD nodes (p + 1) 0) c
+    al = termsAt (g .work .ss) nodes (p + loadedNode) (p + getD nodes (p + 1) 0) c
 
     ar : RTerms
-    ar = termsAt (g .work .ss) nodes (q + 2) (q + getD nodes (q + 1) 0) d
+    ar = termsAt (g .work .ss) nodes (q + loadedNode) (q + getD nodes (q + 1) 0) d
 
     pub settle-clash : (getD nodes p 0 ≡ getD nodes q 0 → ⊥) → Settled nodes scratch scratch h p c q d g Clash
     unfolding b t u ls rs al ar
     settle-clash z = (
       marks-refl scratch,
-      rows-clash b t u ls rs (nameOf (g .work .ss) (getD nodes p 0 - 64)) (nameOf (g .work .ss) (getD nodes q 0 - 64)) (resolveAll b al) (resolveAll b ar)
+      rows-clash b t u ls rs (nameOf (g .work .ss) (getD nodes p 0 - firstName)) (nameOf (g .work .ss) (getD nodes q 0 - firstName)) (resolveAll b al) (resolveAll b ar)
           (is-name (g .work .ss) nodes (g .state) (g .n) (g .work .top) p c (g .work .store) (g .left) hp)
           (is-name (g .work .ss) nodes (g .state) (g .n) (g .work .top) q d (g .work .store) (g .right) hq)
           (λ n k. other-symbol (g .work .ss) nodes p q c d (g .left .node) (g .right .node) hp hq z n (sym (count-resolve b al) ∙ (k ∙ count-resolve b ar))),
@@ -226,7 +228,7 @@ module _ (nodes scratch : List ℕ) (h p c q d : ℕ) (g : Crossed nodes scratch
 
     module _ (w : getD nodes p 0 ≡ getD nodes q 0) where
       -- the stack with the new pair, wherever its words stand
-      pushed : (l r : ℕ → Side) → ((k : ℕ) → k < h → l k ≡ leftAt scratch k) → l h ≡ record { root = p; at = p + 2; copy = c } → ((k : ℕ) → k < h → r k ≡ rightAt scratch k) → r h ≡ record { root = q; at = q + 2; copy = d } → Stack (g .work .ss) nodes (bindings (g .work .ss) nodes (g .state) (g .n)) (g .work .top) l r (suc h)
+      pushed : (l r : ℕ → Side) → ((k : ℕ) → k < h → l k ≡ leftAt scratch k) → l h ≡ record { root = p; at = p + loadedNode; copy = c } → ((k : ℕ) → k < h → r k ≡ rightAt scratch k) → r h ≡ record { root = q; at = q + loadedNode; copy = d } → Stack (g .work .ss) nodes (bindings (g .work .ss) nodes (g .state) (g .n)) (g .work .top) l r (suc h)
       pushed l r a e a1 e1 =
           record {
             left = half-pushed (g .work .ss) nodes (bindings (g .work .ss) nodes (g .state) (g .n)) (g .work .top) (leftAt scratch) l h p c a e (g .left .node) (g .left .copy) (g .left .below) hp (g .inside) (g .work .stack .left);
@@ -260,7 +262,7 @@ module _ (nodes scratch : List ℕ) (h p c q d : ℕ) (g : Crossed nodes scratch
               (subst⁻¹ (λ (s : Side). Via (bindings (g .work .ss) nodes (g .state) (g .n)) (g .work .stack .via k) (wholeOf (g .work .ss) nodes (leftAt scratch k)) (wholeOf (g .work .ss) nodes s)) (a1 k (under k i z)) (g .work .stack .vias k o (under k i z)))
 
       -- there is room for it
-      settle-height : suc h ≤ 32769
+      settle-height : suc h ≤ pairs
       settle-height =
           height (g .work .ss) nodes (bindings (g .work .ss) nodes (g .state) (g .n)) (g .work .top) l r (suc h) (pushed l r (λ k o. l-is k o (eqb k h) refl) (l-top (eqb h h) refl) (λ k o. r-is k o (eqb k h) refl) (r-top (eqb h h) refl))
         where
@@ -269,29 +271,29 @@ module _ (nodes scratch : List ℕ) (h p c q d : ℕ) (g : Crossed nodes scratch
           pick new old false = old
 
           l : ℕ → Side
-          l k = pick (record { root = p; at = p + 2; copy = c }) (leftAt scratch k) (eqb k h)
+          l k = pick (record { root = p; at = p + loadedNode; copy = c }) (leftAt scratch k) (eqb k h)
 
           r : ℕ → Side
-          r k = pick (record { root = q; at = q + 2; copy = d }) (rightAt scratch k) (eqb k h)
+          r k = pick (record { root = q; at = q + loadedNode; copy = d }) (rightAt scratch k) (eqb k h)
 
-          l-is : (k : ℕ) → k < h → (z : Bool) → eqb k h ≡ z → pick (record { root = p; at = p + 2; copy = c }) (leftAt scratch k) z ≡ leftAt scratch k
+          l-is : (k : ℕ) → k < h → (z : Bool) → eqb k h ≡ z → pick (record { root = p; at = p + loadedNode; copy = c }) (leftAt scratch k) z ≡ leftAt scratch k
           l-is k o true z = absurd (let i : k ≡ h = eqb-true k h z in omega arith)
           l-is k o false z = refl
 
-          r-is : (k : ℕ) → k < h → (z : Bool) → eqb k h ≡ z → pick (record { root = q; at = q + 2; copy = d }) (rightAt scratch k) z ≡ rightAt scratch k
+          r-is : (k : ℕ) → k < h → (z : Bool) → eqb k h ≡ z → pick (record { root = q; at = q + loadedNode; copy = d }) (rightAt scratch k) z ≡ rightAt scratch k
           r-is k o true z = absurd (let i : k ≡ h = eqb-true k h z in omega arith)
           r-is k o false z = refl
 
-          l-top : (z : Bool) → eqb h h ≡ z → pick (record { root = p; at = p + 2; copy = c }) (leftAt scratch h) z ≡ record { root = p; at = p + 2; copy = c }
+          l-top : (z : Bool) → eqb h h ≡ z → pick (record { root = p; at = p + loadedNode; copy = c }) (leftAt scratch h) z ≡ record { root = p; at = p + loadedNode; copy = c }
           l-top true z = refl
           l-top false z = absurd (eqb-false h h z refl)
 
-          r-top : (z : Bool) → eqb h h ≡ z → pick (record { root = q; at = q + 2; copy = d }) (rightAt scratch h) z ≡ record { root = q; at = q + 2; copy = d }
+          r-top : (z : Bool) → eqb h h ≡ z → pick (record { root = q; at = q + loadedNode; copy = d }) (rightAt scratch h) z ≡ record { root = q; at = q + loadedNode; copy = d }
           r-top true z = refl
           r-top false z = absurd (eqb-false h h z refl)
 
-      pub settle-room : 32768 + h * 6 + 5 < length scratch
-      settle-room = let k : suc h ≤ 32769 = settle-height in let o : 393225 ≤ length scratch = g .work .roomy in omega arith
+      pub settle-room : pairOf h + pairSize ≤ length scratch
+      settle-room = let k : suc h ≤ pairs = settle-height in let o : rows ≤ length scratch = g .work .roomy in omega arith
 
       -- arguments that are equal make the two terms equal
       opens : (newer : List Binding) → resolve (newer ++ bindings (g .work .ss) nodes (g .state) (g .n)) (app [] al) ≡ resolve (newer ++ bindings (g .work .ss) nodes (g .state) (g .n)) (app [] ar)
@@ -299,33 +301,33 @@ module _ (nodes scratch : List ℕ) (h p c q d : ℕ) (g : Crossed nodes scratch
       unfolding al ar
       opens newer e =
           ap (resolve (newer ++ bindings (g .work .ss) nodes (g .state) (g .n))) (compound-at (g .work .ss) nodes p (g .left .node) c hp)
-          ∙ (equal-named (newer ++ bindings (g .work .ss) nodes (g .state) (g .n)) al ar e (nameOf (g .work .ss) (getD nodes p 0 - 64))
-          ∙ sym (ap (resolve (newer ++ bindings (g .work .ss) nodes (g .state) (g .n))) (compound-at (g .work .ss) nodes q (g .right .node) d hq ∙ ap (λ (k : ℕ). app (nameOf (g .work .ss) (k - 64)) ar) (sym w))))
+          ∙ (equal-named (newer ++ bindings (g .work .ss) nodes (g .state) (g .n)) al ar e (nameOf (g .work .ss) (getD nodes p 0 - firstName))
+          ∙ sym (ap (resolve (newer ++ bindings (g .work .ss) nodes (g .state) (g .n))) (compound-at (g .work .ss) nodes q (g .right .node) d hq ∙ ap (λ (k : ℕ). app (nameOf (g .work .ss) (k - firstName)) ar) (sym w))))
 
-      pub settle-open : (after : List ℕ) → after ≡ pairWords scratch h p (p + 2) c q (q + 2) d → Settled nodes scratch after h p c q d g (Go (h + 1))
+      pub settle-open : (after : List ℕ) → after ≡ pairWords scratch h p (p + loadedNode) c q (q + loadedNode) d → Settled nodes scratch after h p c q d g (Go (h + 1))
       unfolding b t u ls rs al ar
       settle-open after e =
           subst⁻¹ (λ (s : List ℕ). Settled nodes scratch s h p c q d g (Go (h + 1))) e
-          (let fits : 32768 + h * 6 + 5 < length scratch = settle-room in
-          let l-below : (k : ℕ) → k < h → leftAt (pairWords scratch h p (p + 2) c q (q + 2) d) k ≡ leftAt scratch k = (λ k o. pair-left-others scratch h p (p + 2) c q (q + 2) d fits k (λ z. omega arith)) in
-          let r-below : (k : ℕ) → k < h → rightAt (pairWords scratch h p (p + 2) c q (q + 2) d) k ≡ rightAt scratch k = (λ k o. pair-right-others scratch h p (p + 2) c q (q + 2) d fits k (λ z. omega arith)) in
-          let l-top : leftAt (pairWords scratch h p (p + 2) c q (q + 2) d) h ≡ record { root = p; at = p + 2; copy = c } = pair-left scratch h p (p + 2) c q (q + 2) d fits in
-          let r-top : rightAt (pairWords scratch h p (p + 2) c q (q + 2) d) h ≡ record { root = q; at = q + 2; copy = d } = pair-right scratch h p (p + 2) c q (q + 2) d fits in
+          (let fits : pairOf h + pairSize ≤ length scratch = settle-room in
+          let l-below : (k : ℕ) → k < h → leftAt (pairWords scratch h p (p + loadedNode) c q (q + loadedNode) d) k ≡ leftAt scratch k = (λ k o. pair-left-others scratch h p (p + loadedNode) c q (q + loadedNode) d fits k (λ z. omega arith)) in
+          let r-below : (k : ℕ) → k < h → rightAt (pairWords scratch h p (p + loadedNode) c q (q + loadedNode) d) k ≡ rightAt scratch k = (λ k o. pair-right-others scratch h p (p + loadedNode) c q (q + loadedNode) d fits k (λ z. omega arith)) in
+          let l-top : leftAt (pairWords scratch h p (p + loadedNode) c q (q + loadedNode) d) h ≡ record { root = p; at = p + loadedNode; copy = c } = pair-left scratch h p (p + loadedNode) c q (q + loadedNode) d fits in
+          let r-top : rightAt (pairWords scratch h p (p + loadedNode) c q (q + loadedNode) d) h ≡ record { root = q; at = q + loadedNode; copy = d } = pair-right scratch h p (p + loadedNode) c q (q + loadedNode) d fits in
           let more : suc h ≡ h + 1 = omega arith in
-          let left-rows : rowsOf (g .work .ss) nodes (leftAt (pairWords scratch h p (p + 2) c q (q + 2) d)) (h + 1) ≡ followed al ls = ap (rowsOf (g .work .ss) nodes (leftAt (pairWords scratch h p (p + 2) c q (q + 2) d))) (sym more) ∙ (rows-top (g .work .ss) nodes (leftAt (pairWords scratch h p (p + 2) c q (q + 2) d)) h ∙ ap₂ followed (ap (rowOf (g .work .ss) nodes) l-top) (rows-agree (g .work .ss) nodes (leftAt scratch) (leftAt (pairWords scratch h p (p + 2) c q (q + 2) d)) h l-below)) in
-          let right-rows : rowsOf (g .work .ss) nodes (rightAt (pairWords scratch h p (p + 2) c q (q + 2) d)) (h + 1) ≡ followed ar rs = ap (rowsOf (g .work .ss) nodes (rightAt (pairWords scratch h p (p + 2) c q (q + 2) d))) (sym more) ∙ (rows-top (g .work .ss) nodes (rightAt (pairWords scratch h p (p + 2) c q (q + 2) d)) h ∙ ap₂ followed (ap (rowOf (g .work .ss) nodes) r-top) (rows-agree (g .work .ss) nodes (rightAt scratch) (rightAt (pairWords scratch h p (p + 2) c q (q + 2) d)) h r-below)) in
-          let opened : unifyRows b (rcons t ls) (rcons u rs) ≡ unifyRows b (followed al ls) (followed ar rs) = rows-open b t u ls rs (nameOf (g .work .ss) (getD nodes p 0 - 64)) al ar (ap (resolve b) (compound-at (g .work .ss) nodes p (g .left .node) c hp)) (ap (resolve b) (compound-at (g .work .ss) nodes q (g .right .node) d hq ∙ ap (λ (k : ℕ). app (nameOf (g .work .ss) (k - 64)) ar) (sym w))) (same-count (g .work .ss) nodes p q c d (g .left .node) (g .right .node) hp hq w) in (
-            pair-marks scratch h p (p + 2) c q (q + 2) d fits,
+          let left-rows : rowsOf (g .work .ss) nodes (leftAt (pairWords scratch h p (p + loadedNode) c q (q + loadedNode) d)) (h + 1) ≡ followed al ls = ap (rowsOf (g .work .ss) nodes (leftAt (pairWords scratch h p (p + loadedNode) c q (q + loadedNode) d))) (sym more) ∙ (rows-top (g .work .ss) nodes (leftAt (pairWords scratch h p (p + loadedNode) c q (q + loadedNode) d)) h ∙ ap₂ followed (ap (rowOf (g .work .ss) nodes) l-top) (rows-agree (g .work .ss) nodes (leftAt scratch) (leftAt (pairWords scratch h p (p + loadedNode) c q (q + loadedNode) d)) h l-below)) in
+          let right-rows : rowsOf (g .work .ss) nodes (rightAt (pairWords scratch h p (p + loadedNode) c q (q + loadedNode) d)) (h + 1) ≡ followed ar rs = ap (rowsOf (g .work .ss) nodes (rightAt (pairWords scratch h p (p + loadedNode) c q (q + loadedNode) d))) (sym more) ∙ (rows-top (g .work .ss) nodes (rightAt (pairWords scratch h p (p + loadedNode) c q (q + loadedNode) d)) h ∙ ap₂ followed (ap (rowOf (g .work .ss) nodes) r-top) (rows-agree (g .work .ss) nodes (rightAt scratch) (rightAt (pairWords scratch h p (p + loadedNode) c q (q + loadedNode) d)) h r-below)) in
+          let opened : unifyRows b (rcons t ls) (rcons u rs) ≡ unifyRows b (followed al ls) (followed ar rs) = rows-open b t u ls rs (nameOf (g .work .ss) (getD nodes p 0 - firstName)) al ar (ap (resolve b) (compound-at (g .work .ss) nodes p (g .left .node) c hp)) (ap (resolve b) (compound-at (g .work .ss) nodes q (g .right .node) d hq ∙ ap (λ (k : ℕ). app (nameOf (g .work .ss) (k - firstName)) ar) (sym w))) (same-count (g .work .ss) nodes p q c d (g .left .node) (g .right .node) hp hq w) in (
+            pair-marks scratch h p (p + loadedNode) c q (q + loadedNode) d fits,
             record {
-              stack = subst (Stack (g .work .ss) nodes b (g .work .top) (leftAt (pairWords scratch h p (p + 2) c q (q + 2) d)) (rightAt (pairWords scratch h p (p + 2) c q (q + 2) d))) more (pushed (leftAt (pairWords scratch h p (p + 2) c q (q + 2) d)) (rightAt (pairWords scratch h p (p + 2) c q (q + 2) d)) l-below l-top r-below r-top);
+              stack = subst (Stack (g .work .ss) nodes b (g .work .top) (leftAt (pairWords scratch h p (p + loadedNode) c q (q + loadedNode) d)) (rightAt (pairWords scratch h p (p + loadedNode) c q (q + loadedNode) d))) more (pushed (leftAt (pairWords scratch h p (p + loadedNode) c q (q + loadedNode) d)) (rightAt (pairWords scratch h p (p + loadedNode) c q (q + loadedNode) d)) l-below l-top r-below r-top);
               means = opened ∙ sym (ap₂ (unifyRows b) left-rows right-rows);
               less = (let s : sizeOf b (rcons t ls) ≡ nodesOf (resolve b t) + sizeOf b ls = size-cons b t ls in
-                  let m : nodesOf (resolve b t) ≡ suc (sizeOf b al) = ap (λ (v : RTerm). nodesOf (resolve b v)) (compound-at (g .work .ss) nodes p (g .left .node) c hp) ∙ size-app b (nameOf (g .work .ss) (getD nodes p 0 - 64)) al in
-                  let o : sizeOf b (rowsOf (g .work .ss) nodes (leftAt (pairWords scratch h p (p + 2) c q (q + 2) d)) (h + 1)) ≡ sizeOf b al + sizeOf b ls = ap (sizeOf b) left-rows ∙ size-followed b al ls in
+                  let m : nodesOf (resolve b t) ≡ suc (sizeOf b al) = ap (λ (v : RTerm). nodesOf (resolve b v)) (compound-at (g .work .ss) nodes p (g .left .node) c hp) ∙ size-app b (nameOf (g .work .ss) (getD nodes p 0 - firstName)) al in
+                  let o : sizeOf b (rowsOf (g .work .ss) nodes (leftAt (pairWords scratch h p (p + loadedNode) c q (q + loadedNode) d)) (h + 1)) ≡ sizeOf b al + sizeOf b ls = ap (sizeOf b) left-rows ∙ size-followed b al ls in
                   omega arith);
-              memo = memo-kept (g .work .ss) nodes b scratch (g .work .memo) (pairWords scratch h p (p + 2) c q (q + 2) d) (λ j o. pair-others scratch h p (p + 2) c q (q + 2) d fits j (inr (let z : suc h ≤ 32769 = settle-height in omega arith)));
-              closes = subst (λ (i : ℕ). Closes (g .work .ss) nodes b (leftAt (pairWords scratch h p (p + 2) c q (q + 2) d)) (rightAt (pairWords scratch h p (p + 2) c q (q + 2) d)) i nothing nothing) more
-                  (closes-pushed (g .work .ss) nodes b (leftAt scratch) (rightAt scratch) (leftAt (pairWords scratch h p (p + 2) c q (q + 2) d)) (rightAt (pairWords scratch h p (p + 2) c q (q + 2) d)) h t u l-below r-below
+              memo = memo-kept (g .work .ss) nodes b scratch (g .work .memo) (pairWords scratch h p (p + loadedNode) c q (q + loadedNode) d) (λ j o. pair-others scratch h p (p + loadedNode) c q (q + loadedNode) d fits j (inr (let z : suc h ≤ pairs = settle-height in omega arith)));
+              closes = subst (λ (i : ℕ). Closes (g .work .ss) nodes b (leftAt (pairWords scratch h p (p + loadedNode) c q (q + loadedNode) d)) (rightAt (pairWords scratch h p (p + loadedNode) c q (q + loadedNode) d)) i nothing nothing) more
+                  (closes-pushed (g .work .ss) nodes b (leftAt scratch) (rightAt scratch) (leftAt (pairWords scratch h p (p + loadedNode) c q (q + loadedNode) d)) (rightAt (pairWords scratch h p (p + loadedNode) c q (q + loadedNode) d)) h t u l-below r-below
                   (ap (wholeOf (g .work .ss) nodes) l-top) (ap (wholeOf (g .work .ss) nodes) r-top)
                   (λ newer e1. opens newer (sym (ap (λ (s : Side). resolve (newer ++ b) (app [] (rowOf (g .work .ss) nodes s))) l-top) ∙ (e1 ∙ ap (λ (s : Side). resolve (newer ++ b) (app [] (rowOf (g .work .ss) nodes s))) r-top))) (g .closes));
             },
@@ -333,52 +335,52 @@ module _ (nodes scratch : List ℕ) (h p c q d : ℕ) (g : Crossed nodes scratch
 
 -- the same, over the words as they are read
 module _ (nodes scratch : List ℕ) (h p c q d : ℕ) (g : Crossed nodes scratch h p c q d) (w z : ℕ) (ew : w ≡ getD nodes p 0) (ez : z ≡ getD nodes q 0) where
-  pub read-same : w < 64 → z < 64 → cellOf c w ≡ cellOf d z → Settled nodes scratch scratch h p c q d g (Go h)
+  pub read-same : w < firstName → z < firstName → cellOf c w ≡ cellOf d z → Settled nodes scratch scratch h p c q d g (Go h)
   read-same =
-      subst⁻¹ (λ (i : ℕ). i < 64 → z < 64 → cellOf c i ≡ cellOf d z → Settled nodes scratch scratch h p c q d g (Go h)) ew
-      (subst⁻¹ (λ (j : ℕ). getD nodes p 0 < 64 → j < 64 → cellOf c (getD nodes p 0) ≡ cellOf d j → Settled nodes scratch scratch h p c q d g (Go h)) ez (settle-same nodes scratch h p c q d g))
+      subst⁻¹ (λ (i : ℕ). i < firstName → z < firstName → cellOf c i ≡ cellOf d z → Settled nodes scratch scratch h p c q d g (Go h)) ew
+      (subst⁻¹ (λ (j : ℕ). getD nodes p 0 < firstName → j < firstName → cellOf c (getD nodes p 0) ≡ cellOf d j → Settled nodes scratch scratch h p c q d g (Go h)) ez (settle-same nodes scratch h p c q d g))
 
-  pub read-earlier : w < 64 → z < 64 → cellOf c w < cellOf d z → Settled nodes scratch scratch h p c q d g (Bind h (cellOf d z) p c)
+  pub read-earlier : w < firstName → z < firstName → cellOf c w < cellOf d z → Settled nodes scratch scratch h p c q d g (Bind h (cellOf d z) p c)
   read-earlier =
-      subst⁻¹ (λ (i : ℕ). i < 64 → z < 64 → cellOf c i < cellOf d z → Settled nodes scratch scratch h p c q d g (Bind h (cellOf d z) p c)) ew
-      (subst⁻¹ (λ (j : ℕ). getD nodes p 0 < 64 → j < 64 → cellOf c (getD nodes p 0) < cellOf d j → Settled nodes scratch scratch h p c q d g (Bind h (cellOf d j) p c)) ez (settle-earlier nodes scratch h p c q d g))
+      subst⁻¹ (λ (i : ℕ). i < firstName → z < firstName → cellOf c i < cellOf d z → Settled nodes scratch scratch h p c q d g (Bind h (cellOf d z) p c)) ew
+      (subst⁻¹ (λ (j : ℕ). getD nodes p 0 < firstName → j < firstName → cellOf c (getD nodes p 0) < cellOf d j → Settled nodes scratch scratch h p c q d g (Bind h (cellOf d j) p c)) ez (settle-earlier nodes scratch h p c q d g))
 
-  pub read-later : w < 64 → z < 64 → (cellOf c w ≡ cellOf d z → ⊥) → cellOf d z ≤ cellOf c w → Settled nodes scratch scratch h p c q d g (Bind h (cellOf c w) q d)
+  pub read-later : w < firstName → z < firstName → (cellOf c w ≡ cellOf d z → ⊥) → cellOf d z ≤ cellOf c w → Settled nodes scratch scratch h p c q d g (Bind h (cellOf c w) q d)
   read-later lp lq n o =
-      subst⁻¹ (λ (i : ℕ). i < 64 → z < 64 → cellOf d z < cellOf c i → Settled nodes scratch scratch h p c q d g (Bind h (cellOf c i) q d)) ew
-      (subst⁻¹ (λ (j : ℕ). getD nodes p 0 < 64 → j < 64 → cellOf d j < cellOf c (getD nodes p 0) → Settled nodes scratch scratch h p c q d g (Bind h (cellOf c (getD nodes p 0)) q d)) ez (settle-later nodes scratch h p c q d g)) lp lq (omega (arith, n))
+      subst⁻¹ (λ (i : ℕ). i < firstName → z < firstName → cellOf d z < cellOf c i → Settled nodes scratch scratch h p c q d g (Bind h (cellOf c i) q d)) ew
+      (subst⁻¹ (λ (j : ℕ). getD nodes p 0 < firstName → j < firstName → cellOf d j < cellOf c (getD nodes p 0) → Settled nodes scratch scratch h p c q d g (Bind h (cellOf c (getD nodes p 0)) q d)) ez (settle-later nodes scratch h p c q d g)) lp lq (omega (arith, n))
 
-  pub read-left : w < 64 → 64 ≤ z → Settled nodes scratch scratch h p c q d g (Bind h (cellOf c w) q d)
+  pub read-left : w < firstName → firstName ≤ z → Settled nodes scratch scratch h p c q d g (Bind h (cellOf c w) q d)
   read-left =
-      subst⁻¹ (λ (i : ℕ). i < 64 → 64 ≤ z → Settled nodes scratch scratch h p c q d g (Bind h (cellOf c i) q d)) ew
-      (subst⁻¹ (λ (j : ℕ). getD nodes p 0 < 64 → 64 ≤ j → Settled nodes scratch scratch h p c q d g (Bind h (cellOf c (getD nodes p 0)) q d)) ez (settle-left nodes scratch h p c q d g))
+      subst⁻¹ (λ (i : ℕ). i < firstName → firstName ≤ z → Settled nodes scratch scratch h p c q d g (Bind h (cellOf c i) q d)) ew
+      (subst⁻¹ (λ (j : ℕ). getD nodes p 0 < firstName → firstName ≤ j → Settled nodes scratch scratch h p c q d g (Bind h (cellOf c (getD nodes p 0)) q d)) ez (settle-left nodes scratch h p c q d g))
 
-  pub read-right : 64 ≤ w → z < 64 → Settled nodes scratch scratch h p c q d g (Bind h (cellOf d z) p c)
+  pub read-right : firstName ≤ w → z < firstName → Settled nodes scratch scratch h p c q d g (Bind h (cellOf d z) p c)
   read-right =
-      subst⁻¹ (λ (i : ℕ). 64 ≤ i → z < 64 → Settled nodes scratch scratch h p c q d g (Bind h (cellOf d z) p c)) ew
-      (subst⁻¹ (λ (j : ℕ). 64 ≤ getD nodes p 0 → j < 64 → Settled nodes scratch scratch h p c q d g (Bind h (cellOf d j) p c)) ez (settle-right nodes scratch h p c q d g))
+      subst⁻¹ (λ (i : ℕ). firstName ≤ i → z < firstName → Settled nodes scratch scratch h p c q d g (Bind h (cellOf d z) p c)) ew
+      (subst⁻¹ (λ (j : ℕ). firstName ≤ getD nodes p 0 → j < firstName → Settled nodes scratch scratch h p c q d g (Bind h (cellOf d j) p c)) ez (settle-right nodes scratch h p c q d g))
 
-  pub read-clash : 64 ≤ w → 64 ≤ z → (w ≡ z → ⊥) → Settled nodes scratch scratch h p c q d g Clash
-  read-clash hp hq n = settle-clash nodes scratch h p c q d g (subst (λ (k : ℕ). 64 ≤ k) ew hp) (subst (λ (k : ℕ). 64 ≤ k) ez hq) (λ e. n (ew ∙ (e ∙ sym ez)))
+  pub read-clash : firstName ≤ w → firstName ≤ z → (w ≡ z → ⊥) → Settled nodes scratch scratch h p c q d g Clash
+  read-clash hp hq n = settle-clash nodes scratch h p c q d g (subst (λ (k : ℕ). firstName ≤ k) ew hp) (subst (λ (k : ℕ). firstName ≤ k) ez hq) (λ e. n (ew ∙ (e ∙ sym ez)))
 
-  pub read-openable : 64 ≤ w → 64 ≤ z → w ≡ z → Openable scratch h p c q d
-  read-openable hp hq e = record { nodes = nodes; crossed = g; name = subst (λ (k : ℕ). 64 ≤ k) ew hp; same = sym ew ∙ (e ∙ ez) }
+  pub read-openable : firstName ≤ w → firstName ≤ z → w ≡ z → Openable scratch h p c q d
+  read-openable hp hq e = record { nodes = nodes; crossed = g; name = subst (λ (k : ℕ). firstName ≤ k) ew hp; same = sym ew ∙ (e ∙ ez) }
 
-  pub read-open : (hp : 64 ≤ w) (hq : 64 ≤ z) (e : w ≡ z) (after : List ℕ) (r : Turn) → ((k : Openable scratch h p c q d) → Settled (k .nodes) scratch after h p c q d (k .crossed) r) → Settled nodes scratch after h p c q d g r
+  pub read-open : (hp : firstName ≤ w) (hq : firstName ≤ z) (e : w ≡ z) (after : List ℕ) (r : Turn) → ((k : Openable scratch h p c q d) → Settled (k .nodes) scratch after h p c q d (k .crossed) r) → Settled nodes scratch after h p c q d g r
   unfolding read-openable
   read-open hp hq e after r k = k (read-openable hp hq e)
 
 -- ---- two names that are the same
 
 module _ (scratch : List ℕ) (h p c q d : ℕ) (g : Openable scratch h p c q d) where
-  other-name : 64 ≤ getD (g .nodes) q 0
-  other-name = subst (λ (k : ℕ). 64 ≤ k) (g .same) (g .name)
+  other-name : firstName ≤ getD (g .nodes) q 0
+  other-name = subst (λ (k : ℕ). firstName ≤ k) (g .same) (g .name)
 
-  pub open-small : ((p + 2 ≤ 65536) × (q + 2 ≤ 65536)) × (((c < 256) × (d < 256)) × (393225 ≤ length scratch))
+  pub open-small : ((p + loadedNode ≤ places) × (q + loadedNode ≤ places)) × (((c < copies) × (d < copies)) × (rows ≤ length scratch))
   open-small =
-      let a : p + 2 ≤ length (g .nodes) = settle-inside (g .nodes) scratch h p c q d (g .crossed) .0 in
-      let b1 : q + 2 ≤ length (g .nodes) = settle-inside (g .nodes) scratch h p c q d (g .crossed) .1 .0 in
-      let s : length (g .nodes) ≤ 65536 = settle-inside (g .nodes) scratch h p c q d (g .crossed) .1 .1 in
+      let a : p + loadedNode ≤ length (g .nodes) = settle-inside (g .nodes) scratch h p c q d (g .crossed) .0 in
+      let b1 : q + loadedNode ≤ length (g .nodes) = settle-inside (g .nodes) scratch h p c q d (g .crossed) .1 .0 in
+      let s : length (g .nodes) ≤ places = settle-inside (g .nodes) scratch h p c q d (g .crossed) .1 .1 in
       ((omega arith, omega arith), ((g .crossed .left .copy, g .crossed .right .copy), g .crossed .work .roomy))
 
   words-equal : resolve (bindings (g .crossed .work .ss) (g .nodes) (g .crossed .state) (g .crossed .n)) (valueOf (g .crossed .work .ss) (g .nodes) (wordOf p c)) ≡ resolve (bindings (g .crossed .work .ss) (g .nodes) (g .crossed .state) (g .crossed .n)) (valueOf (g .crossed .work .ss) (g .nodes) (wordOf q d))
@@ -389,26 +391,24 @@ module _ (scratch : List ℕ) (h p c q d : ℕ) (g : Openable scratch h p c q d)
       ∙ (e ∙ ap (resolve (bindings (g .crossed .work .ss) (g .nodes) (g .crossed .state) (g .crossed .n))) (value-word (g .crossed .work .ss) (g .nodes) q d (g .crossed .right .copy))))
 
   -- one term
-  pub open-same : wordOf p c ≡ wordOf q d → Settled (g .nodes) scratch scratch h p c q d (g .crossed) (Go h)
-  open-same e = words-equal (ap (λ (k : ℕ). resolve (bindings (g .crossed .work .ss) (g .nodes) (g .crossed .state) (g .crossed .n)) (valueOf (g .crossed .work .ss) (g .nodes) k)) e)
+  pub open-same : {x y : ℕ} → x ≡ wordOf p c → y ≡ wordOf q d → x ≡ y → Settled (g .nodes) scratch scratch h p c q d (g .crossed) (Go h)
+  open-same a b e = words-equal (ap (λ (k : ℕ). resolve (bindings (g .crossed .work .ss) (g .nodes) (g .crossed .state) (g .crossed .n)) (valueOf (g .crossed .work .ss) (g .nodes) k)) (sym a ∙ (e ∙ b)))
 
   -- a pair of the memo
-  pub open-known : Found scratch (wordOf p c) (wordOf q d) → Settled (g .nodes) scratch scratch h p c q d (g .crossed) (Go h)
-  open-known f = words-equal (memo-found (g .crossed .work .ss) (g .nodes) (bindings (g .crossed .work .ss) (g .nodes) (g .crossed .state) (g .crossed .n)) scratch (g .crossed .work .memo) (wordOf p c) (wordOf q d) f)
+  pub open-known : {x y : ℕ} → x ≡ wordOf p c → y ≡ wordOf q d → Found scratch x y → Settled (g .nodes) scratch scratch h p c q d (g .crossed) (Go h)
+  open-known {y = y} a b f = words-equal (memo-found (g .crossed .work .ss) (g .nodes) (bindings (g .crossed .work .ss) (g .nodes) (g .crossed .state) (g .crossed .n)) scratch (g .crossed .work .memo) (wordOf p c) (wordOf q d) (subst (Found scratch (wordOf p c)) b (subst (λ (k : ℕ). Found scratch k y) a f)))
 
-  pub open-room : (32768 + h * 6 + 5 < length scratch) × (((p < 2 ^ 32) × ((p + 2 < 2 ^ 32) × (c < 2 ^ 32))) × ((q < 2 ^ 32) × ((q + 2 < 2 ^ 32) × (d < 2 ^ 32))))
+  pub open-room : (pairOf h + pairSize ≤ length scratch) × (((p < 2 ^ 32) × ((p + loadedNode < 2 ^ 32) × (c < 2 ^ 32))) × ((q < 2 ^ 32) × ((q + loadedNode < 2 ^ 32) × (d < 2 ^ 32))))
   open-room =
-      let room : 32768 + h * 6 + 5 < length scratch = settle-room (g .nodes) scratch h p c q d (g .crossed) (g .name) other-name (g .same) in
-      let a : p + 2 ≤ 65536 = open-small .0 .0 in
-      let b1 : q + 2 ≤ 65536 = open-small .0 .1 in
-      let cl : c < 256 = g .crossed .left .copy in
-      let dl : d < 256 = g .crossed .right .copy in
+      let room : pairOf h + pairSize ≤ length scratch = settle-room (g .nodes) scratch h p c q d (g .crossed) (g .name) other-name (g .same) in
+      let a : p + loadedNode ≤ places = open-small .0 .0 in
+      let b1 : q + loadedNode ≤ places = open-small .0 .1 in
+      let cl : c < copies = g .crossed .left .copy in
+      let dl : d < copies = g .crossed .right .copy in
       (room, ((omega arith, (omega arith, omega arith)), (omega arith, (omega arith, omega arith))))
 
-  pub open-high : h < 40000
-  open-high =
-      let k : h ≤ 32769 = height (g .crossed .work .ss) (g .nodes) (bindings (g .crossed .work .ss) (g .nodes) (g .crossed .state) (g .crossed .n)) (g .crossed .work .top) (leftAt scratch) (rightAt scratch) h (g .crossed .work .stack) in
-      omega arith
+  pub open-high : h ≤ pairs
+  open-high = height (g .crossed .work .ss) (g .nodes) (bindings (g .crossed .work .ss) (g .nodes) (g .crossed .state) (g .crossed .n)) (g .crossed .work .top) (leftAt scratch) (rightAt scratch) h (g .crossed .work .stack)
 
-  pub open-pushed : (after : List ℕ) → after ≡ pairWords scratch h p (p + 2) c q (q + 2) d → Settled (g .nodes) scratch after h p c q d (g .crossed) (Go (h + 1))
+  pub open-pushed : (after : List ℕ) → after ≡ pairWords scratch h p (p + loadedNode) c q (q + loadedNode) d → Settled (g .nodes) scratch after h p c q d (g .crossed) (Go (h + 1))
   open-pushed = settle-open (g .nodes) scratch h p c q d (g .crossed) (g .name) other-name (g .same)

@@ -8,6 +8,7 @@ use mathlib.Core.Option.{none, some}
 use lib.Dec.{T}
 use lib.ListN.{length}
 use Rattle.machine.specs.Substitution.{rnil, occurs, Binding, resolve}
+use Rattle.layout.specs.Regions.{copies, places, cells, trail, storeWords, stack, memo, rows, loadedNode}
 use Rattle.layout.specs.Nodes.{Symbol, termAt}
 use Rattle.layout.specs.State.{variableOf, wordOf, bindings, Store, Within, Keeps, boundWords}
 use Rattle.layout.proofs.Nodes.{node-inside}
@@ -49,7 +50,7 @@ no-rows ss nodes after = (refl, refl)
 
 module _ (nodes state before after : List ℕ) (n h k : ℕ) (g : Work nodes state before n h) (a : Advancing (g .ss) nodes state before after (g .top) n h k) where
   pub advance-work : Work nodes state after n k
-  advance-work = record { ss = g .ss; top = g .top; store = g .store; within = g .within; roomy = (let e : length after ≡ length before = a .marks .long in let o : 393225 ≤ length before = g .roomy in omega arith); stack = a .stack; memo = a .memo }
+  advance-work = record { ss = g .ss; top = g .top; store = g .store; within = g .within; roomy = (let e : length after ≡ length before = a .marks .long in let o : rows ≤ length before = g .roomy in omega arith); stack = a .stack; memo = a .memo }
 
   pub advance-turn : 0 < k → Turnable nodes state after k
   unfolding advance-work
@@ -124,7 +125,7 @@ module _ (nodes before after scratch later : List ℕ) (n m h : ℕ) (g : Solvab
   b = bindings ss nodes after m
 
   pub solve-work : Work nodes after later m h
-  solve-work = record { ss = ss; top = g .work .top; store = s .store; within = s .within; roomy = (let e : length later ≡ length scratch = s .long in let o : 393225 ≤ length scratch = g .work .roomy in omega arith); stack = s .stack; memo = s .memo }
+  solve-work = record { ss = ss; top = g .work .top; store = s .store; within = s .within; roomy = (let e : length later ≡ length scratch = s .long in let o : rows ≤ length scratch = g .work .roomy in omega arith); stack = s .stack; memo = s .memo }
 
   pub solve-ready : Ready nodes after later m h
   unfolding solve-work
@@ -138,7 +139,7 @@ module _ (nodes before after scratch later : List ℕ) (n m h : ℕ) (g : Solvab
     clean-next : Clean next
     clean-next =
         let e : length next ≡ length later = gave .0 .long in
-        let l : 32768 ≤ length later = s .clean .long in
+        let l : storeWords ≤ length later = s .clean .long in
         record { long = omega arith; zero = λ y o. gave .0 .words y (omega arith) ∙ s .clean .zero y o }
 
     long-next : length next ≡ length scratch
@@ -164,16 +165,16 @@ module _ (nodes before after scratch later : List ℕ) (n m h : ℕ) (g : Solvab
       pub solve-check : Checkable nodes after next x p d
       solve-check = record { ss = ss; n = m; store = s .store; node = binds .node; copy = binds .copy; cell = binds .cell; unbound = binds .unbound; clean = clean-next }
 
-      pub solve-room : (x < 16384) × ((16384 + m < length after) × (wordOf p d < 2 ^ 32))
+      pub solve-room : (x < cells) × ((trail + m < length after) × (wordOf p d < 2 ^ 32))
       solve-room =
-          let r : m < 16384 = room ss nodes after m x (s .store) (binds .cell) (binds .unbound) in
-          let l : 32768 ≤ length after = s .store .long in
-          let o : p + 2 ≤ length nodes = node-inside ss nodes p (binds .node) in
-          let q : length nodes ≤ 65536 = s .store .small in
-          let c1 : d < 256 = binds .copy in
+          let r : m < cells = room ss nodes after m x (s .store) (binds .cell) (binds .unbound) in
+          let l : storeWords ≤ length after = s .store .long in
+          let o : p + loadedNode ≤ length nodes = node-inside ss nodes p (binds .node) in
+          let q : length nodes ≤ places = s .store .small in
+          let c1 : d < copies = binds .copy in
           (binds .cell, (omega arith, omega arith))
 
-      pub solve-few : m < 16384
+      pub solve-few : m < cells
       solve-few = room ss nodes after m x (s .store) (binds .cell) (binds .unbound)
 
       pub solve-closed : (closed r : ℕ) → Closed closed after → Closing closed x d r → (state1 : List ℕ) → state1 ≡ boundWords after m x (wordOf p d) → Closed r state1

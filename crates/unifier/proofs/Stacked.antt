@@ -9,7 +9,9 @@ use lib.Dec.{ltb, eqb}
 use lib.ListN.{length, getD, set, length-set}
 use lib.Seq.{getD-set-same, getD-set-other}
 use borrow.Author.Tests.{ltb-true, ltb-false, eqb-true, eqb-false}
+use Rattle.syntax.specs.Words.{firstName}
 use Rattle.machine.specs.Substitution.{RTerm, RTerms, var, app, rnil, rcons, replace, Binding, resolve}
+use Rattle.layout.specs.Regions.{copies, cells, storeWords, pairs, pairOf, memo, loadedNode, sideSize, pairSize}
 use Rattle.layout.specs.Nodes.{Symbol, nameOf, Node, Row, termAt, termsAt, followed, count}
 use Rattle.layout.specs.State.{variableOf}
 use Rattle.layout.proofs.Nodes.{compound-at, compound-row}
@@ -23,7 +25,7 @@ use Rattle.unifier.proofs.Rules.{resolve-append}
 
 -- ---- words
 
-module _ (words : List ℕ) (i root at copy : ℕ) (fits : i + 2 < length words) where
+module _ (words : List ℕ) (i root at copy : ℕ) (fits : i + sideSize ≤ length words) where
   long1 : length (set words i root) ≡ length words
   long1 = length-set words i root
 
@@ -34,7 +36,7 @@ module _ (words : List ℕ) (i root at copy : ℕ) (fits : i + 2 < length words)
   unfolding sideWords
   side-long = length-set (set (set words i root) (i + 1) at) (i + 2) copy ∙ long2
 
-  pub side-others : (j : ℕ) → (j < i) ⊎ (i + 3 ≤ j) → getD (sideWords words i root at copy) j 0 ≡ getD words j 0
+  pub side-others : (j : ℕ) → (j < i) ⊎ (i + sideSize ≤ j) → getD (sideWords words i root at copy) j 0 ≡ getD words j 0
   unfolding sideWords
   side-others j (inl l) = getD-set-other (set (set words i root) (i + 1) at) (i + 2) j copy 0 (λ e. omega arith) ∙ (getD-set-other (set words i root) (i + 1) j at 0 (λ e. omega arith) ∙ getD-set-other words i j root 0 (λ e. omega arith))
   side-others j (inr l) = getD-set-other (set (set words i root) (i + 1) at) (i + 2) j copy 0 (λ e. omega arith) ∙ (getD-set-other (set words i root) (i + 1) j at 0 (λ e. omega arith) ∙ getD-set-other words i j root 0 (λ e. omega arith))
@@ -48,31 +50,31 @@ module _ (words : List ℕ) (i root at copy : ℕ) (fits : i + 2 < length words)
       λ k. record { root = a k; at = b k; copy = c k }
 
 -- a side whose words are as they were
-side-kept : (before after : List ℕ) (i : ℕ) → ((j : ℕ) → i ≤ j → j < i + 3 → getD after j 0 ≡ getD before j 0) → sideAt after i ≡ sideAt before i
+side-kept : (before after : List ℕ) (i : ℕ) → ((j : ℕ) → i ≤ j → j < i + sideSize → getD after j 0 ≡ getD before j 0) → sideAt after i ≡ sideAt before i
 side-kept before after i k =
     let a : getD after i 0 ≡ getD before i 0 = k i (omega arith) (omega arith) in
     let b : getD after (i + 1) 0 ≡ getD before (i + 1) 0 = k (i + 1) (omega arith) (omega arith) in
     let c : getD after (i + 2) 0 ≡ getD before (i + 2) 0 = k (i + 2) (omega arith) (omega arith) in
     λ x. record { root = a x; at = b x; copy = c x }
 
-module _ (scratch : List ℕ) (k root at copy other there second : ℕ) (fits : 32768 + k * 6 + 5 < length scratch) where
+module _ (scratch : List ℕ) (k root at copy other there second : ℕ) (fits : pairOf k + pairSize ≤ length scratch) where
   first : List ℕ
-  first = sideWords scratch (32768 + k * 6) root at copy
+  first = sideWords scratch (pairOf k) root at copy
 
-  first-long : length (sideWords scratch (32768 + k * 6) root at copy) ≡ length scratch
-  first-long = side-long scratch (32768 + k * 6) root at copy (omega arith)
+  first-long : length (sideWords scratch (pairOf k) root at copy) ≡ length scratch
+  first-long = side-long scratch (pairOf k) root at copy (omega arith)
 
-  fits-two : 32768 + k * 6 + 3 + 2 < length (sideWords scratch (32768 + k * 6) root at copy)
-  fits-two = let e : length (sideWords scratch (32768 + k * 6) root at copy) ≡ length scratch = first-long in omega arith
+  fits-two : pairOf k + sideSize + sideSize ≤ length (sideWords scratch (pairOf k) root at copy)
+  fits-two = let e : length (sideWords scratch (pairOf k) root at copy) ≡ length scratch = first-long in omega arith
 
   pub pair-long : length (pairWords scratch k root at copy other there second) ≡ length scratch
   unfolding pairWords
-  pair-long = side-long (sideWords scratch (32768 + k * 6) root at copy) (32768 + k * 6 + 3) other there second fits-two ∙ first-long
+  pair-long = side-long (sideWords scratch (pairOf k) root at copy) (pairOf k + sideSize) other there second fits-two ∙ first-long
 
-  pub pair-others : (j : ℕ) → (j < 32768 + k * 6) ⊎ (32768 + k * 6 + 6 ≤ j) → getD (pairWords scratch k root at copy other there second) j 0 ≡ getD scratch j 0
+  pub pair-others : (j : ℕ) → (j < pairOf k) ⊎ (pairOf k + pairSize ≤ j) → getD (pairWords scratch k root at copy other there second) j 0 ≡ getD scratch j 0
   unfolding pairWords
-  pair-others j (inl l) = side-others (sideWords scratch (32768 + k * 6) root at copy) (32768 + k * 6 + 3) other there second fits-two j (inl (omega arith)) ∙ side-others scratch (32768 + k * 6) root at copy (omega arith) j (inl (omega arith))
-  pair-others j (inr l) = side-others (sideWords scratch (32768 + k * 6) root at copy) (32768 + k * 6 + 3) other there second fits-two j (inr (omega arith)) ∙ side-others scratch (32768 + k * 6) root at copy (omega arith) j (inr (omega arith))
+  pair-others j (inl l) = side-others (sideWords scratch (pairOf k) root at copy) (pairOf k + sideSize) other there second fits-two j (inl (omega arith)) ∙ side-others scratch (pairOf k) root at copy (omega arith) j (inl (omega arith))
+  pair-others j (inr l) = side-others (sideWords scratch (pairOf k) root at copy) (pairOf k + sideSize) other there second fits-two j (inr (omega arith)) ∙ side-others scratch (pairOf k) root at copy (omega arith) j (inr (omega arith))
 
   pub pair-marks : SameMarks scratch (pairWords scratch k root at copy other there second)
   pair-marks = record { long = pair-long; words = λ j l. pair-others j (inl (omega arith)) }
@@ -80,41 +82,41 @@ module _ (scratch : List ℕ) (k root at copy other there second : ℕ) (fits : 
   pub pair-left : leftAt (pairWords scratch k root at copy other there second) k ≡ record { root = root; at = at; copy = copy }
   unfolding pairWords
   pair-left =
-      side-kept (sideWords scratch (32768 + k * 6) root at copy) (sideWords (sideWords scratch (32768 + k * 6) root at copy) (32768 + k * 6 + 3) other there second) (32768 + k * 6)
-      (λ j l h. side-others (sideWords scratch (32768 + k * 6) root at copy) (32768 + k * 6 + 3) other there second fits-two j (inl (omega arith)))
-      ∙ side-here scratch (32768 + k * 6) root at copy (omega arith)
+      side-kept (sideWords scratch (pairOf k) root at copy) (sideWords (sideWords scratch (pairOf k) root at copy) (pairOf k + sideSize) other there second) (pairOf k)
+      (λ j l h. side-others (sideWords scratch (pairOf k) root at copy) (pairOf k + sideSize) other there second fits-two j (inl (omega arith)))
+      ∙ side-here scratch (pairOf k) root at copy (omega arith)
 
   pub pair-right : rightAt (pairWords scratch k root at copy other there second) k ≡ record { root = other; at = there; copy = second }
   unfolding pairWords
-  pair-right = side-here (sideWords scratch (32768 + k * 6) root at copy) (32768 + k * 6 + 3) other there second fits-two
+  pair-right = side-here (sideWords scratch (pairOf k) root at copy) (pairOf k + sideSize) other there second fits-two
 
   pub pair-left-others : (j : ℕ) → (j ≡ k → ⊥) → leftAt (pairWords scratch k root at copy other there second) j ≡ leftAt scratch j
-  pair-left-others j z = side-kept scratch (pairWords scratch k root at copy other there second) (32768 + j * 6) (λ i l h. pair-others i (go i l h (ltb j k) refl))
+  pair-left-others j z = side-kept scratch (pairWords scratch k root at copy other there second) (pairOf j) (λ i l h. pair-others i (go i l h (ltb j k) refl))
     where
-      go : (i : ℕ) → 32768 + j * 6 ≤ i → i < 32768 + j * 6 + 3 → (b : Bool) → ltb j k ≡ b → (i < 32768 + k * 6) ⊎ (32768 + k * 6 + 6 ≤ i)
+      go : (i : ℕ) → pairOf j ≤ i → i < pairOf j + sideSize → (b : Bool) → ltb j k ≡ b → (i < pairOf k) ⊎ (pairOf k + pairSize ≤ i)
       go i l h true e = inl (let q : j < k = ltb-true j k e in omega arith)
       go i l h false e = inr (let q : k ≤ j = ltb-false j k e in omega (arith, z))
 
   pub pair-right-others : (j : ℕ) → (j ≡ k → ⊥) → rightAt (pairWords scratch k root at copy other there second) j ≡ rightAt scratch j
-  pair-right-others j z = side-kept scratch (pairWords scratch k root at copy other there second) (32768 + j * 6 + 3) (λ i l h. pair-others i (go i l h (ltb j k) refl))
+  pair-right-others j z = side-kept scratch (pairWords scratch k root at copy other there second) (pairOf j + sideSize) (λ i l h. pair-others i (go i l h (ltb j k) refl))
     where
-      go : (i : ℕ) → 32768 + j * 6 + 3 ≤ i → i < 32768 + j * 6 + 3 + 3 → (b : Bool) → ltb j k ≡ b → (i < 32768 + k * 6) ⊎ (32768 + k * 6 + 6 ≤ i)
+      go : (i : ℕ) → pairOf j + sideSize ≤ i → i < pairOf j + sideSize + 3 → (b : Bool) → ltb j k ≡ b → (i < pairOf k) ⊎ (pairOf k + pairSize ≤ i)
       go i l h true e = inl (let q : j < k = ltb-true j k e in omega arith)
       go i l h false e = inr (let q : k ≤ j = ltb-false j k e in omega (arith, z))
 
 -- words from 32,768 on as they were: the pairs are as they were
-pub left-kept : (before after : List ℕ) → ((j : ℕ) → 32768 ≤ j → getD after j 0 ≡ getD before j 0) → (k : ℕ) → leftAt after k ≡ leftAt before k
-left-kept before after w k = side-kept before after (32768 + k * 6) (λ j l h. w j (omega arith))
+pub left-kept : (before after : List ℕ) → ((j : ℕ) → storeWords ≤ j → getD after j 0 ≡ getD before j 0) → (k : ℕ) → leftAt after k ≡ leftAt before k
+left-kept before after w k = side-kept before after (pairOf k) (λ j l h. w j (omega arith))
 
-pub right-kept : (before after : List ℕ) → ((j : ℕ) → 32768 ≤ j → getD after j 0 ≡ getD before j 0) → (k : ℕ) → rightAt after k ≡ rightAt before k
-right-kept before after w k = side-kept before after (32768 + k * 6 + 3) (λ j l h. w j (omega arith))
+pub right-kept : (before after : List ℕ) → ((j : ℕ) → storeWords ≤ j → getD after j 0 ≡ getD before j 0) → (k : ℕ) → rightAt after k ≡ rightAt before k
+right-kept before after w k = side-kept before after (pairOf k + sideSize) (λ j l h. w j (omega arith))
 
 -- words before the memo as they were: so are the pairs of a stack that is not too high
-pub left-front : (before after : List ℕ) → ((j : ℕ) → j < 229382 → getD after j 0 ≡ getD before j 0) → (k : ℕ) → k < 32769 → leftAt after k ≡ leftAt before k
-left-front before after w k o = side-kept before after (32768 + k * 6) (λ j l h. w j (omega arith))
+pub left-front : (before after : List ℕ) → ((j : ℕ) → j < memo → getD after j 0 ≡ getD before j 0) → (k : ℕ) → k < pairs → leftAt after k ≡ leftAt before k
+left-front before after w k o = side-kept before after (pairOf k) (λ j l h. w j (omega arith))
 
-pub right-front : (before after : List ℕ) → ((j : ℕ) → j < 229382 → getD after j 0 ≡ getD before j 0) → (k : ℕ) → k < 32769 → rightAt after k ≡ rightAt before k
-right-front before after w k o = side-kept before after (32768 + k * 6 + 3) (λ j l h. w j (omega arith))
+pub right-front : (before after : List ℕ) → ((j : ℕ) → j < memo → getD after j 0 ≡ getD before j 0) → (k : ℕ) → k < pairs → rightAt after k ≡ rightAt before k
+right-front before after w k o = side-kept before after (pairOf k + sideSize) (λ j l h. w j (omega arith))
 
 -- ---- rows
 
@@ -133,7 +135,7 @@ pub half-agrees : (ss : List Symbol) (nodes : List ℕ) (b : List Binding) (top 
 half-agrees ss nodes b top s t h a f =
     record {
       node = λ k l. subst⁻¹ (λ (x : Side). Node ss nodes (x .root)) (a k l) (f .node k l);
-      copy = λ k l. subst⁻¹ (λ (x : Side). x .copy < 256) (a k l) (f .copy k l);
+      copy = λ k l. subst⁻¹ (λ (x : Side). x .copy < copies) (a k l) (f .copy k l);
       below = λ k l. subst⁻¹ (λ (x : Side). x .copy ≤ top) (a k l) (f .below k l);
       row = λ k l. subst⁻¹ (λ (x : Side). Row ss nodes (x .at) (endOf nodes x)) (a k l) (f .row k l);
       small = λ k o l newer. subst⁻¹ (λ (x : Side). sizeOf (newer ++ b) (rowOf ss nodes x) < nodesOf (resolve (newer ++ b) (wholeOf ss nodes x))) (a k l) (f .small k o l newer);
@@ -196,7 +198,7 @@ half-moved ss nodes b top s t h j a e r less f =
     u-node k l true q = f .node h (omega arith)
     u-node k l false q = f .node k l
 
-    u-copy : (k : ℕ) → k < suc h → (q : Bool) → eqb k h ≡ q → pick q k .copy < 256
+    u-copy : (k : ℕ) → k < suc h → (q : Bool) → eqb k h ≡ q → pick q k .copy < copies
     u-copy k l true q = f .copy h (omega arith)
     u-copy k l false q = f .copy k l
 
@@ -222,7 +224,7 @@ half-moved ss nodes b top s t h j a e r less f =
     u-down k o l newer false x false y = f .down k o l newer
 
 -- a new top: the arguments of a name that stands strictly inside the top before
-pub half-pushed : (ss : List Symbol) (nodes : List ℕ) (b : List Binding) (top : ℕ) (s t : ℕ → Side) (h p c : ℕ) → ((k : ℕ) → k < h → t k ≡ s k) → t h ≡ record { root = p; at = p + 2; copy = c } → Node ss nodes p → c < 256 → c ≤ top → 64 ≤ getD nodes p 0
+pub half-pushed : (ss : List Symbol) (nodes : List ℕ) (b : List Binding) (top : ℕ) (s t : ℕ → Side) (h p c : ℕ) → ((k : ℕ) → k < h → t k ≡ s k) → t h ≡ record { root = p; at = p + loadedNode; copy = c } → Node ss nodes p → c < copies → c ≤ top → firstName ≤ getD nodes p 0
     → (2 ≤ h → (newer : List Binding) → nodesOf (resolve (newer ++ b) (termAt ss nodes p c)) < nodesOf (resolve (newer ++ b) (wholeOf ss nodes (s (h - 1))))) → Half ss nodes b top s h → Half ss nodes b top t (suc h)
 half-pushed ss nodes b top s t h p c a e node copy below high inside f =
     half-agrees ss nodes b top u t (suc h) (λ k l. t-is k l (eqb k h) refl)
@@ -236,7 +238,7 @@ half-pushed ss nodes b top s t h p c a e node copy below high inside f =
     })
   where
     pick : Bool → ℕ → Side
-    pick true k = record { root = p; at = p + 2; copy = c }
+    pick true k = record { root = p; at = p + loadedNode; copy = c }
     pick false k = s k
 
     u : ℕ → Side
@@ -253,7 +255,7 @@ half-pushed ss nodes b top s t h p c a e node copy below high inside f =
     u-node k l true q = node
     u-node k l false q = f .node k (under k l q)
 
-    u-copy : (k : ℕ) → k < suc h → (q : Bool) → eqb k h ≡ q → pick q k .copy < 256
+    u-copy : (k : ℕ) → k < suc h → (q : Bool) → eqb k h ≡ q → pick q k .copy < copies
     u-copy k l true q = copy
     u-copy k l false q = f .copy k (under k l q)
 
@@ -267,7 +269,7 @@ half-pushed ss nodes b top s t h p c a e node copy below high inside f =
 
     u-small : (k : ℕ) → 1 ≤ k → k < suc h → (newer : List Binding) → (q : Bool) → eqb k h ≡ q → sizeOf (newer ++ b) (rowOf ss nodes (pick q k)) < nodesOf (resolve (newer ++ b) (wholeOf ss nodes (pick q k)))
     u-small k o l newer true q =
-        let x : nodesOf (resolve (newer ++ b) (termAt ss nodes p c)) ≡ suc (sizeOf (newer ++ b) (termsAt ss nodes (p + 2) (p + getD nodes (p + 1) 0) c)) = ap (λ (y : RTerm). nodesOf (resolve (newer ++ b) y)) (compound-at ss nodes p node c high) ∙ size-app (newer ++ b) (nameOf ss (getD nodes p 0 - 64)) (termsAt ss nodes (p + 2) (p + getD nodes (p + 1) 0) c) in
+        let x : nodesOf (resolve (newer ++ b) (termAt ss nodes p c)) ≡ suc (sizeOf (newer ++ b) (termsAt ss nodes (p + loadedNode) (p + getD nodes (p + 1) 0) c)) = ap (λ (y : RTerm). nodesOf (resolve (newer ++ b) y)) (compound-at ss nodes p node c high) ∙ size-app (newer ++ b) (nameOf ss (getD nodes p 0 - firstName)) (termsAt ss nodes (p + loadedNode) (p + getD nodes (p + 1) 0) c) in
         omega arith
     u-small k o l newer false q = f .small k o (under k l q) newer
 
@@ -296,25 +298,25 @@ module _ (ss : List Symbol) (nodes : List ℕ) (b : List Binding) (top : ℕ) (s
       omega arith
 
 -- the pairs are no more than the cells, once for each side, and one
-pub height : (ss : List Symbol) (nodes : List ℕ) (b : List Binding) (top : ℕ) (l r : ℕ → Side) (h : ℕ) → Stack ss nodes b top l r h → h ≤ 32769
-height ss nodes b top l r h st = let k : h - 1 ≤ 32768 = pigeonhole 32768 (h - 1) (λ j. st .via (j + 1)) (λ j q. st .vias (j + 1) (omega arith) (omega arith) .small) apart in omega arith
+pub height : (ss : List Symbol) (nodes : List ℕ) (b : List Binding) (top : ℕ) (l r : ℕ → Side) (h : ℕ) → Stack ss nodes b top l r h → h ≤ pairs
+height ss nodes b top l r h st = let k : h - 1 ≤ 2 * cells = pigeonhole (2 * cells) (h - 1) (λ j. st .via (j + 1)) (λ j q. st .vias (j + 1) (omega arith) (omega arith) .small) apart in omega arith
   where
-    ordered : (i j : ℕ) → i < j → j < h - 1 → st .via (i + 1) ≡ st .via (j + 1) → (q : Bool) → ltb (st .via (i + 1)) 16384 ≡ q → ⊥
+    ordered : (i j : ℕ) → i < j → j < h - 1 → st .via (i + 1) ≡ st .via (j + 1) → (q : Bool) → ltb (st .via (i + 1)) cells ≡ q → ⊥
     ordered i j q w e true x =
-        let a : st .via (i + 1) < 16384 = ltb-true (st .via (i + 1)) 16384 x in
-        let c : st .via (j + 1) < 16384 = omega arith in
+        let a : st .via (i + 1) < cells = ltb-true (st .via (i + 1)) cells x in
+        let c : st .via (j + 1) < cells = omega arith in
         wholes-apart ss nodes b top l h (st .left) (i + 1) (j + 1) (omega arith) (omega arith) (omega arith)
         (sym (st .vias (i + 1) (omega arith) (omega arith) .left-is a) ∙ (ap (λ (v : ℕ). resolve b (var (variableOf v))) e ∙ st .vias (j + 1) (omega arith) (omega arith) .left-is c))
     ordered i j q w e false x =
-        let a : 16384 ≤ st .via (i + 1) = ltb-false (st .via (i + 1)) 16384 x in
-        let c : 16384 ≤ st .via (j + 1) = omega arith in
+        let a : cells ≤ st .via (i + 1) = ltb-false (st .via (i + 1)) cells x in
+        let c : cells ≤ st .via (j + 1) = omega arith in
         wholes-apart ss nodes b top r h (st .right) (i + 1) (j + 1) (omega arith) (omega arith) (omega arith)
-        (sym (st .vias (i + 1) (omega arith) (omega arith) .right-is a) ∙ (ap (λ (v : ℕ). resolve b (var (variableOf (v - 16384)))) e ∙ st .vias (j + 1) (omega arith) (omega arith) .right-is c))
+        (sym (st .vias (i + 1) (omega arith) (omega arith) .right-is a) ∙ (ap (λ (v : ℕ). resolve b (var (variableOf (v - cells)))) e ∙ st .vias (j + 1) (omega arith) (omega arith) .right-is c))
 
     apart : (i j : ℕ) → i < h - 1 → j < h - 1 → st .via (i + 1) ≡ st .via (j + 1) → i ≡ j
     apart i j q w e =
-        let x : i < j → ⊥ = (λ k. ordered i j k w e (ltb (st .via (i + 1)) 16384) refl) in
-        let y : j < i → ⊥ = (λ k. ordered j i k q (sym e) (ltb (st .via (j + 1)) 16384) refl) in
+        let x : i < j → ⊥ = (λ k. ordered i j k w e (ltb (st .via (i + 1)) cells) refl) in
+        let y : j < i → ⊥ = (λ k. ordered j i k q (sym e) (ltb (st .via (j + 1)) cells) refl) in
         omega (arith, x, y)
 
 -- ---- both sides

@@ -9,7 +9,9 @@ use borrow.Author.Tests.{eqb-true, eqb-false}
 use mathlib.Core.Option.{none}
 use mathlib.Core.Logic.{_⊎_, inl, inr}
 use lib.ListN.{length, getD}
+use Rattle.syntax.specs.Words.{firstName}
 use Rattle.machine.specs.Substitution.{RTerm, RTerms, var, app, rnil, rcons, Binding, resolve}
+use Rattle.layout.specs.Regions.{copies, places, cells, trail, stack, pairs, pairOf, memo, rows, loadedNode, pairSize}
 use Rattle.layout.specs.Nodes.{Symbol, Node, Row, termAt, termsAt, followed, count}
 use Rattle.layout.specs.State.{cellOf, variableOf, wordOf, valueOf, bindings, Store, Within}
 use Rattle.layout.proofs.Nodes.{node-inside, node-end, node-size, variable-at, row-first, row-rest, row-cons, row-order}
@@ -81,19 +83,19 @@ module _ (nodes state scratch : List ℕ) (h p c q d : ℕ) (g : Crossable nodes
           closes = closes-terms (g .work .ss) nodes (bindings (g .work .ss) nodes state (g .n)) (leftAt scratch) (rightAt scratch) h (termAt (g .work .ss) nodes p c) (termAt (g .work .ss) nodes q d) (termAt (g .work .ss) nodes p1 c1) (termAt (g .work .ss) nodes q1 d1) (to-left .leads .means) (to-right .leads .means) (g .closes);
         }
 
-    cell-of : (i j : ℕ) → Node (g .work .ss) nodes i → getD nodes i 0 < 64 → resolve (bindings (g .work .ss) nodes state (g .n)) (var (variableOf (cellOf j (getD nodes i 0)))) ≡ resolve (bindings (g .work .ss) nodes state (g .n)) (termAt (g .work .ss) nodes i j)
+    cell-of : (i j : ℕ) → Node (g .work .ss) nodes i → getD nodes i 0 < firstName → resolve (bindings (g .work .ss) nodes state (g .n)) (var (variableOf (cellOf j (getD nodes i 0)))) ≡ resolve (bindings (g .work .ss) nodes state (g .n)) (termAt (g .work .ss) nodes i j)
     cell-of i j n l = ap (resolve (bindings (g .work .ss) nodes state (g .n))) (ap var (variable-cell j (getD nodes i 0) l) ∙ sym (variable-at (g .work .ss) nodes i n j l))
 
     pub cross-settle : Crossed nodes scratch h p1 c1 q1 d1
     cross-settle = crossing (via-of (g .variable) .0) (via-of (g .variable) .1)
       where
-        via-of : (getD nodes p 0 < 64) ⊎ (getD nodes q 0 < 64) → (v : ℕ) × Via (bindings (g .work .ss) nodes state (g .n)) v (termAt (g .work .ss) nodes p1 c1) (termAt (g .work .ss) nodes q1 d1)
+        via-of : (getD nodes p 0 < firstName) ⊎ (getD nodes q 0 < firstName) → (v : ℕ) × Via (bindings (g .work .ss) nodes state (g .n)) v (termAt (g .work .ss) nodes p1 c1) (termAt (g .work .ss) nodes q1 d1)
         via-of (inl l) =
-            let s : cellOf c (getD nodes p 0) < 16384 = cell-small c (getD nodes p 0) (g .copy) l in
-            (cellOf c (getD nodes p 0), record { small = omega arith; left-is = λ k. cell-of p c (g .left) l ∙ sym (to-left .leads .means); right-is = λ k. absurd (let z : 16384 ≤ cellOf c (getD nodes p 0) = k in omega arith) })
+            let s : cellOf c (getD nodes p 0) < cells = cell-small c (getD nodes p 0) (g .copy) l in
+            (cellOf c (getD nodes p 0), record { small = omega arith; left-is = λ k. cell-of p c (g .left) l ∙ sym (to-left .leads .means); right-is = λ k. absurd (let z : cells ≤ cellOf c (getD nodes p 0) = k in omega arith) })
         via-of (inr l) =
-            let s : cellOf d (getD nodes q 0) < 16384 = cell-small d (getD nodes q 0) (g .copy-right) l in
-            (16384 + cellOf d (getD nodes q 0), record { small = omega arith; left-is = λ k. absurd (let z : 16384 + cellOf d (getD nodes q 0) < 16384 = k in omega arith); right-is = λ k. ap (λ (i : ℕ). resolve (bindings (g .work .ss) nodes state (g .n)) (var (variableOf i))) (let e : 16384 + cellOf d (getD nodes q 0) - 16384 ≡ cellOf d (getD nodes q 0) = omega arith in e) ∙ (cell-of q d (g .right) l ∙ sym (to-right .leads .means)) })
+            let s : cellOf d (getD nodes q 0) < cells = cell-small d (getD nodes q 0) (g .copy-right) l in
+            (cells + cellOf d (getD nodes q 0), record { small = omega arith; left-is = λ k. absurd (let z : cells + cellOf d (getD nodes q 0) < cells = k in omega arith); right-is = λ k. ap (λ (i : ℕ). resolve (bindings (g .work .ss) nodes state (g .n)) (var (variableOf i))) (let e : cells + cellOf d (getD nodes q 0) - cells ≡ cellOf d (getD nodes q 0) = omega arith in e) ∙ (cell-of q d (g .right) l ∙ sym (to-right .leads .means)) })
 
     pub cross-end : (after : List ℕ) (t : Turn) → ((k : Crossed nodes scratch h p1 c1 q1 d1) → Settled nodes scratch after h p1 c1 q1 d1 k t) → Crosses nodes state scratch after h p c q d g t
     unfolding cross-settle crossing
@@ -134,11 +136,11 @@ module _ (nodes state scratch : List ℕ) (n h p q : ℕ) (w : Work nodes state 
   abbrev pub mid : List ℕ
   mid = pairWords scratch (h - 1) (l0 .root) pa (l0 .copy) (r0 .root) qa (r0 .copy)
 
-  high : h ≤ 32769
+  high : h ≤ pairs
   high = height (w .ss) nodes b (w .top) (leftAt scratch) (rightAt scratch) h (w .stack)
 
-  fits : 32768 + (h - 1) * 6 + 5 < length scratch
-  fits = let k : h ≤ 32769 = high in let o : 393225 ≤ length scratch = w .roomy in omega arith
+  fits : pairOf (h - 1) + pairSize ≤ length scratch
+  fits = let k : h ≤ pairs = high in let o : rows ≤ length scratch = w .roomy in omega arith
 
   under : (h - 1) < h
   under = omega arith
@@ -253,9 +255,9 @@ module _ (nodes state scratch : List ℕ) (n h p q : ℕ) (w : Work nodes state 
           top = w .top;
           store = w .store;
           within = w .within;
-          roomy = (let e : length mid ≡ length scratch = pair-long scratch (h - 1) (l0 .root) pa (l0 .copy) (r0 .root) qa (r0 .copy) fits in let o : 393225 ≤ length scratch = w .roomy in omega arith);
+          roomy = (let e : length mid ≡ length scratch = pair-long scratch (h - 1) (l0 .root) pa (l0 .copy) (r0 .root) qa (r0 .copy) fits in let o : rows ≤ length scratch = w .roomy in omega arith);
           stack = moved;
-          memo = memo-kept (w .ss) nodes b scratch (w .memo) mid (λ j o. pair-others scratch (h - 1) (l0 .root) pa (l0 .copy) (r0 .root) qa (r0 .copy) fits j (inr (let k : h ≤ 32769 = high in omega arith)));
+          memo = memo-kept (w .ss) nodes b scratch (w .memo) mid (λ j o. pair-others scratch (h - 1) (l0 .root) pa (l0 .copy) (r0 .root) qa (r0 .copy) fits j (inr (let k : h ≤ pairs = high in omega arith)));
         };
         some = some;
         left = left-node;
@@ -309,17 +311,17 @@ module _ (nodes state scratch : List ℕ) (n h p q : ℕ) (w : Work nodes state 
             (omega arith) (s .1),
       )
 
-  pub meet-inside : ((p + 1 < length nodes) × (q + 1 < length nodes)) × (((p + getD nodes (p + 1) 0 < 2 ^ 32) × (q + getD nodes (q + 1) 0 < 2 ^ 32)) × ((32768 + (h - 1) * 6 + 5 < length scratch) × ((l0 .root < 2 ^ 32) × ((l0 .copy < 2 ^ 32) × ((r0 .root < 2 ^ 32) × (r0 .copy < 2 ^ 32))))))
+  pub meet-inside : ((p + 1 < length nodes) × (q + 1 < length nodes)) × (((p + getD nodes (p + 1) 0 < 2 ^ 32) × (q + getD nodes (q + 1) 0 < 2 ^ 32)) × ((pairOf (h - 1) + pairSize ≤ length scratch) × ((l0 .root < 2 ^ 32) × ((l0 .copy < 2 ^ 32) × ((r0 .root < 2 ^ 32) × (r0 .copy < 2 ^ 32))))))
   meet-inside =
-      let a : p + 2 ≤ length nodes = node-inside (w .ss) nodes p left-node in
-      let c : q + 2 ≤ length nodes = node-inside (w .ss) nodes q right-node in
+      let a : p + loadedNode ≤ length nodes = node-inside (w .ss) nodes p left-node in
+      let c : q + loadedNode ≤ length nodes = node-inside (w .ss) nodes q right-node in
       let d : p + getD nodes (p + 1) 0 ≤ length nodes = node-end (w .ss) nodes p left-node in
       let e : q + getD nodes (q + 1) 0 ≤ length nodes = node-end (w .ss) nodes q right-node in
-      let f : l0 .root + 2 ≤ length nodes = node-inside (w .ss) nodes (l0 .root) (w .stack .left .node (h - 1) under) in
-      let g : r0 .root + 2 ≤ length nodes = node-inside (w .ss) nodes (r0 .root) (w .stack .right .node (h - 1) under) in
-      let i : length nodes ≤ 65536 = w .store .small in
-      let j : l0 .copy < 256 = w .stack .left .copy (h - 1) under in
-      let k : r0 .copy < 256 = w .stack .right .copy (h - 1) under in
+      let f : l0 .root + loadedNode ≤ length nodes = node-inside (w .ss) nodes (l0 .root) (w .stack .left .node (h - 1) under) in
+      let g : r0 .root + loadedNode ≤ length nodes = node-inside (w .ss) nodes (r0 .root) (w .stack .right .node (h - 1) under) in
+      let i : length nodes ≤ places = w .store .small in
+      let j : l0 .copy < copies = w .stack .left .copy (h - 1) under in
+      let k : r0 .copy < copies = w .stack .right .copy (h - 1) under in
       ((omega arith, omega arith), ((omega arith, omega arith), (fits, (omega arith, (omega arith, (omega arith, omega arith))))))
 
 -- the same, over the sides and sizes as they are read
@@ -328,10 +330,10 @@ module _ (nodes state scratch : List ℕ) (n h p q : ℕ) (w : Work nodes state 
   canonical m = subst (λ (y : Side). Meets (w .ss) nodes (leftAt scratch (h - 1) .at) (endOf nodes (leftAt scratch (h - 1))) (y .at) (endOf nodes y) p q) er (subst (λ (x : Side). Meets (w .ss) nodes (x .at) (endOf nodes x) (r .at) (endOf nodes r) p q) el m)
 
   module _ (m : Meets (w .ss) nodes (l .at) (endOf nodes l) (r .at) (endOf nodes r) p q) (cl : Closes (w .ss) nodes (bindings (w .ss) nodes state n) (leftAt scratch) (rightAt scratch) h nothing nothing) where
-    pub met-inside : ((p + 1 < length nodes) × (q + 1 < length nodes)) × (((p + getD nodes (p + 1) 0 < 2 ^ 32) × (q + getD nodes (q + 1) 0 < 2 ^ 32)) × ((32768 + (h - 1) * 6 + 5 < length scratch) × ((l .root < 2 ^ 32) × ((l .copy < 2 ^ 32) × ((r .root < 2 ^ 32) × (r .copy < 2 ^ 32))))))
+    pub met-inside : ((p + 1 < length nodes) × (q + 1 < length nodes)) × (((p + getD nodes (p + 1) 0 < 2 ^ 32) × (q + getD nodes (q + 1) 0 < 2 ^ 32)) × ((pairOf (h - 1) + pairSize ≤ length scratch) × ((l .root < 2 ^ 32) × ((l .copy < 2 ^ 32) × ((r .root < 2 ^ 32) × (r .copy < 2 ^ 32))))))
     met-inside =
-        subst⁻¹ (λ (x : Side). ((p + 1 < length nodes) × (q + 1 < length nodes)) × (((p + getD nodes (p + 1) 0 < 2 ^ 32) × (q + getD nodes (q + 1) 0 < 2 ^ 32)) × ((32768 + (h - 1) * 6 + 5 < length scratch) × ((x .root < 2 ^ 32) × ((x .copy < 2 ^ 32) × ((r .root < 2 ^ 32) × (r .copy < 2 ^ 32))))))) el
-        (subst⁻¹ (λ (y : Side). ((p + 1 < length nodes) × (q + 1 < length nodes)) × (((p + getD nodes (p + 1) 0 < 2 ^ 32) × (q + getD nodes (q + 1) 0 < 2 ^ 32)) × ((32768 + (h - 1) * 6 + 5 < length scratch) × ((leftAt scratch (h - 1) .root < 2 ^ 32) × ((leftAt scratch (h - 1) .copy < 2 ^ 32) × ((y .root < 2 ^ 32) × (y .copy < 2 ^ 32))))))) er
+        subst⁻¹ (λ (x : Side). ((p + 1 < length nodes) × (q + 1 < length nodes)) × (((p + getD nodes (p + 1) 0 < 2 ^ 32) × (q + getD nodes (q + 1) 0 < 2 ^ 32)) × ((pairOf (h - 1) + pairSize ≤ length scratch) × ((x .root < 2 ^ 32) × ((x .copy < 2 ^ 32) × ((r .root < 2 ^ 32) × (r .copy < 2 ^ 32))))))) el
+        (subst⁻¹ (λ (y : Side). ((p + 1 < length nodes) × (q + 1 < length nodes)) × (((p + getD nodes (p + 1) 0 < 2 ^ 32) × (q + getD nodes (q + 1) 0 < 2 ^ 32)) × ((pairOf (h - 1) + pairSize ≤ length scratch) × ((leftAt scratch (h - 1) .root < 2 ^ 32) × ((leftAt scratch (h - 1) .copy < 2 ^ 32) × ((y .root < 2 ^ 32) × (y .copy < 2 ^ 32))))))) er
         (meet-inside nodes state scratch n h p q w some (canonical m) cl))
 
     module _ (s z : ℕ) (es : s ≡ getD nodes (p + 1) 0) (ez : z ≡ getD nodes (q + 1) 0) (mid1 : List ℕ) (e : mid1 ≡ pairWords scratch (h - 1) (l .root) (p + s) (l .copy) (r .root) (q + z) (r .copy)) where
@@ -355,10 +357,10 @@ module _ (nodes state scratch : List ℕ) (n h p q : ℕ) (w : Work nodes state 
 
 -- ---- one turn
 
-pub turn-room : (nodes state scratch : List ℕ) (h : ℕ) (g : Turnable nodes state scratch h) → (1 ≤ h) × ((h ≤ 32769) × (32768 + (h - 1) * 6 + 5 < length scratch))
+pub turn-room : (nodes state scratch : List ℕ) (h : ℕ) (g : Turnable nodes state scratch h) → (1 ≤ h) × ((h ≤ pairs) × (pairOf (h - 1) + pairSize ≤ length scratch))
 turn-room nodes state scratch h g =
-    let k : h ≤ 32769 = height (g .work .ss) nodes (bindings (g .work .ss) nodes state (g .n)) (g .work .top) (leftAt scratch) (rightAt scratch) h (g .work .stack) in
-    let o : 393225 ≤ length scratch = g .work .roomy in
+    let k : h ≤ pairs = height (g .work .ss) nodes (bindings (g .work .ss) nodes state (g .n)) (g .work .top) (leftAt scratch) (rightAt scratch) h (g .work .stack) in
+    let o : rows ≤ length scratch = g .work .roomy in
     let s : 1 ≤ h = g .some in
     (s, (k, omega arith))
 
@@ -370,7 +372,7 @@ module _ (nodes state scratch : List ℕ) (h : ℕ) (g : Turnable nodes state sc
   left-root = subst⁻¹ (λ (x : Side). Node (g .work .ss) nodes (x .root)) el (g .work .stack .left .node (h - 1) top-under)
 
   pub turn-inside : (l .root + 1 < length nodes) × (l .root + getD nodes (l .root + 1) 0 ≤ length nodes)
-  turn-inside = let a : l .root + 2 ≤ length nodes = node-inside (g .work .ss) nodes (l .root) left-root in let c : l .root + getD nodes (l .root + 1) 0 ≤ length nodes = node-end (g .work .ss) nodes (l .root) left-root in (omega arith, c)
+  turn-inside = let a : l .root + loadedNode ≤ length nodes = node-inside (g .work .ss) nodes (l .root) left-root in let c : l .root + getD nodes (l .root + 1) 0 ≤ length nodes = node-end (g .work .ss) nodes (l .root) left-root in (omega arith, c)
 
   beside : Beside (g .work .ss) nodes (l .at) (endOf nodes l) (r .at) (endOf nodes r)
   beside =
@@ -416,6 +418,10 @@ module _ (nodes state scratch : List ℕ) (h : ℕ) (g : Turnable nodes state sc
 
 -- ---- the top pair done
 
+-- what two words remember is remembered of what they are
+pub remembers-at : {before after : List ℕ} {x y left right : ℕ} → x ≡ left → y ≡ right → Remembers before after x y → Remembers before after left right
+remembers-at {before} {after} {x} {y} {left} {right} a b k = subst (Remembers before after left) b (subst (λ (z : ℕ). Remembers before after z y) a k)
+
 module _ (scratch : List ℕ) (h : ℕ) (l r : Side) (g : Passable scratch h l r) where
   bs : List Binding
   bs = bindings (g .work .ss) (g .nodes) (g .state) (g .n)
@@ -426,7 +432,7 @@ module _ (scratch : List ℕ) (h : ℕ) (l r : Side) (g : Passable scratch h l r
   top-is : h - 1 < h
   top-is = let s : 1 ≤ h = g .some in omega arith
 
-  not-high : h ≤ 32769
+  not-high : h ≤ pairs
   not-high = height (g .work .ss) (g .nodes) (bindings (g .work .ss) (g .nodes) (g .state) (g .n)) (g .work .top) (leftAt scratch) (rightAt scratch) h (g .work .stack)
 
   rows-done-is : (x : List Binding) → SameRows (g .work .ss) (g .nodes) x (leftAt scratch (h - 1)) (rightAt scratch (h - 1))
@@ -440,17 +446,17 @@ module _ (scratch : List ℕ) (h : ℕ) (l r : Side) (g : Passable scratch h l r
       g .closes .wholes (h - 1) top-is [] refl
       (λ j x y. subst⁻¹ (λ (i : ℕ). SameRows (g .work .ss) (g .nodes) (bindings (g .work .ss) (g .nodes) (g .state) (g .n)) (leftAt scratch i) (rightAt scratch i)) (let z : j ≡ h - 1 = omega arith in z) (rows-done-is (bindings (g .work .ss) (g .nodes) (g .state) (g .n))))
 
-  left-copy : l .copy < 256
-  left-copy = subst⁻¹ (λ (x : Side). x .copy < 256) (g .left-is) (g .work .stack .left .copy (h - 1) top-is)
+  left-copy : l .copy < copies
+  left-copy = subst⁻¹ (λ (x : Side). x .copy < copies) (g .left-is) (g .work .stack .left .copy (h - 1) top-is)
 
-  right-copy : r .copy < 256
-  right-copy = subst⁻¹ (λ (x : Side). x .copy < 256) (g .right-is) (g .work .stack .right .copy (h - 1) top-is)
+  right-copy : r .copy < copies
+  right-copy = subst⁻¹ (λ (x : Side). x .copy < copies) (g .right-is) (g .work .stack .right .copy (h - 1) top-is)
 
-  pub pass-small : ((l .root < 65536) × (r .root < 65536)) × (((l .copy < 256) × (r .copy < 256)) × ((393225 ≤ length scratch) × (1 ≤ h)))
+  pub pass-small : ((l .root < places) × (r .root < places)) × (((l .copy < copies) × (r .copy < copies)) × ((rows ≤ length scratch) × (1 ≤ h)))
   pass-small =
-      let a : l .root + 2 ≤ length (g .nodes) = node-inside (g .work .ss) (g .nodes) (l .root) (subst⁻¹ (λ (x : Side). Node (g .work .ss) (g .nodes) (x .root)) (g .left-is) (g .work .stack .left .node (h - 1) top-is)) in
-      let b1 : r .root + 2 ≤ length (g .nodes) = node-inside (g .work .ss) (g .nodes) (r .root) (subst⁻¹ (λ (x : Side). Node (g .work .ss) (g .nodes) (x .root)) (g .right-is) (g .work .stack .right .node (h - 1) top-is)) in
-      let s : length (g .nodes) ≤ 65536 = g .work .store .small in
+      let a : l .root + loadedNode ≤ length (g .nodes) = node-inside (g .work .ss) (g .nodes) (l .root) (subst⁻¹ (λ (x : Side). Node (g .work .ss) (g .nodes) (x .root)) (g .left-is) (g .work .stack .left .node (h - 1) top-is)) in
+      let b1 : r .root + loadedNode ≤ length (g .nodes) = node-inside (g .work .ss) (g .nodes) (r .root) (subst⁻¹ (λ (x : Side). Node (g .work .ss) (g .nodes) (x .root)) (g .right-is) (g .work .stack .right .node (h - 1) top-is)) in
+      let s : length (g .nodes) ≤ places = g .work .store .small in
       ((omega arith, omega arith), ((left-copy, right-copy), (g .work .roomy, g .some)))
 
   words-equal : resolve (bindings (g .work .ss) (g .nodes) (g .state) (g .n)) (valueOf (g .work .ss) (g .nodes) (wordOf (l .root) (l .copy))) ≡ resolve (bindings (g .work .ss) (g .nodes) (g .state) (g .n)) (valueOf (g .work .ss) (g .nodes) (wordOf (r .root) (r .copy)))
@@ -460,10 +466,10 @@ module _ (scratch : List ℕ) (h : ℕ) (l r : Side) (g : Passable scratch h l r
 
   module _ (after : List ℕ) (k : Remembers scratch after (wordOf (l .root) (l .copy)) (wordOf (r .root) (r .copy))) where
     left-same : (i : ℕ) → i < h → leftAt after i ≡ leftAt scratch i
-    left-same i o = left-front scratch after (k .words) i (let z : h ≤ 32769 = not-high in omega arith)
+    left-same i o = left-front scratch after (k .words) i (let z : h ≤ pairs = not-high in omega arith)
 
     right-same : (i : ℕ) → i < h → rightAt after i ≡ rightAt scratch i
-    right-same i o = right-front scratch after (k .words) i (let z : h ≤ 32769 = not-high in omega arith)
+    right-same i o = right-front scratch after (k .words) i (let z : h ≤ pairs = not-high in omega arith)
 
     left-under : (i : ℕ) → i < h - 1 → leftAt after i ≡ leftAt scratch i
     left-under i o = left-same i (omega arith)

@@ -9,11 +9,12 @@ use lib.Seq.{getD-set-same, getD-set-other}
 use Rattle.syntax.specs.Terms.{Term}
 use Rattle.machine.specs.Substitution.{RTerm, RTerms, app, rnil, rcons, copied, Binding, resolve}
 use Rattle.machine.specs.Unification.{unify}
+use Rattle.layout.specs.Regions.{copies, places, stack, pairOf, memo, rows, loadedNode, pairSize}
 use Rattle.layout.specs.Nodes.{Symbol, Stands, Node, Row, termAt, termsAt, followed, count}
 use Rattle.layout.specs.State.{bindings}
 use Rattle.layout.proofs.Nodes.{node-inside, row-one, row-one-is, term-at}
 use Rattle.bindings.specs.Queues.{Clean}
-use Rattle.memos.specs.Memos.{terms}
+use Rattle.memos.specs.Memos.{classesMade}
 use Rattle.bindings.specs.Scratch.{leftAt, rightAt, pairWords, SameMarks}
 use Rattle.bindings.specs.declared.stack.Side.{Side}
 use Rattle.memos.proofs.Remembering.{memo-none}
@@ -27,11 +28,11 @@ use Rattle.unifier.proofs.Closing.{equal-first, closes-first}
 use Rattle.unifier.proofs.Stacked.{pair-long, pair-others, pair-marks, pair-left, pair-right, rows-top}
 
 -- one side of a stack of one pair
-one-half : (ss : List Symbol) (nodes : List ℕ) (b : List Binding) (top p c : ℕ) (s : ℕ → Side) → s 0 ≡ record { root = p; at = p; copy = c } → Node ss nodes p → c < 256 → c ≤ top → Half ss nodes b top s 1
+one-half : (ss : List Symbol) (nodes : List ℕ) (b : List Binding) (top p c : ℕ) (s : ℕ → Side) → s 0 ≡ record { root = p; at = p; copy = c } → Node ss nodes p → c < copies → c ≤ top → Half ss nodes b top s 1
 one-half ss nodes b top p c s e n l o =
     record {
       node = λ k q. subst⁻¹ (λ (x : Side). Node ss nodes (x .root)) (at k q) n;
-      copy = λ k q. subst⁻¹ (λ (x : Side). x .copy < 256) (at k q) l;
+      copy = λ k q. subst⁻¹ (λ (x : Side). x .copy < copies) (at k q) l;
       below = λ k q. subst⁻¹ (λ (x : Side). x .copy ≤ top) (at k q) o;
       row = λ k q. subst⁻¹ (λ (x : Side). Row ss nodes (x .at) (endOf nodes x)) (at k q) (row-one ss nodes p n);
       small = λ k a q newer. absurd (let z : k < 1 = q in omega arith);
@@ -44,27 +45,27 @@ one-half ss nodes b top p c s e n l o =
 module _ (nodes state scratch : List ℕ) (p c q d n : ℕ) (g : Unifiable nodes state scratch p c q d n) where
   -- the memo emptied
   abbrev pub blank : List ℕ
-  blank = set scratch 229382 0
+  blank = set scratch memo 0
 
   blank-long : length blank ≡ length scratch
-  blank-long = length-set scratch 229382 0
+  blank-long = length-set scratch memo 0
 
-  pub unify-forget : 229382 < length scratch
-  unify-forget = let r : 393225 ≤ length scratch = g .roomy in omega arith
+  pub unify-forget : memo < length scratch
+  unify-forget = let r : rows ≤ length scratch = g .roomy in omega arith
 
-  blank-room : (32768 + 0 * 6 + 5 < length blank) × (((p < 2 ^ 32) × ((p < 2 ^ 32) × (c < 2 ^ 32))) × ((q < 2 ^ 32) × ((q < 2 ^ 32) × (d < 2 ^ 32))))
+  blank-room : (pairOf 0 + pairSize ≤ length blank) × (((p < 2 ^ 32) × ((p < 2 ^ 32) × (c < 2 ^ 32))) × ((q < 2 ^ 32) × ((q < 2 ^ 32) × (d < 2 ^ 32))))
   blank-room =
-      let a : p + 2 ≤ length nodes = node-inside (g .ss) nodes p (g .left) in
-      let b : q + 2 ≤ length nodes = node-inside (g .ss) nodes q (g .right) in
-      let s : length nodes ≤ 65536 = g .store .small in
-      let r : 393225 ≤ length scratch = g .roomy in
+      let a : p + loadedNode ≤ length nodes = node-inside (g .ss) nodes p (g .left) in
+      let b : q + loadedNode ≤ length nodes = node-inside (g .ss) nodes q (g .right) in
+      let s : length nodes ≤ places = g .store .small in
+      let r : rows ≤ length scratch = g .roomy in
       let e : length blank ≡ length scratch = blank-long in
-      let x : c < 256 = g .copy in
-      let y : d < 256 = g .copy-right in
+      let x : c < copies = g .copy in
+      let y : d < copies = g .copy-right in
       (omega arith, ((omega arith, (omega arith, omega arith)), (omega arith, (omega arith, omega arith))))
 
-  pub unify-room : (s : List ℕ) → s ≡ blank → (32768 + 0 * 6 + 5 < length s) × (((p < 2 ^ 32) × ((p < 2 ^ 32) × (c < 2 ^ 32))) × ((q < 2 ^ 32) × ((q < 2 ^ 32) × (d < 2 ^ 32))))
-  unify-room s e = subst⁻¹ (λ (x : List ℕ). (32768 + 0 * 6 + 5 < length x) × (((p < 2 ^ 32) × ((p < 2 ^ 32) × (c < 2 ^ 32))) × ((q < 2 ^ 32) × ((q < 2 ^ 32) × (d < 2 ^ 32))))) e blank-room
+  pub unify-room : (s : List ℕ) → s ≡ blank → (pairOf 0 + pairSize ≤ length s) × (((p < 2 ^ 32) × ((p < 2 ^ 32) × (c < 2 ^ 32))) × ((q < 2 ^ 32) × ((q < 2 ^ 32) × (d < 2 ^ 32))))
+  unify-room s e = subst⁻¹ (λ (x : List ℕ). (pairOf 0 + pairSize ≤ length x) × (((p < 2 ^ 32) × ((p < 2 ^ 32) × (c < 2 ^ 32))) × ((q < 2 ^ 32) × ((q < 2 ^ 32) × (d < 2 ^ 32))))) e blank-room
 
   abbrev pub mid : List ℕ
   mid = pairWords blank 0 p p c q q d
@@ -90,8 +91,8 @@ module _ (nodes state scratch : List ℕ) (p c q d n : ℕ) (g : Unifiable nodes
         vias = λ k a l. absurd (let z : k < 1 = l in omega arith);
       }
 
-  no-terms : terms mid ≡ 0
-  no-terms = pair-others blank 0 p p c q q d (blank-room .0) 229382 (inr (omega arith)) ∙ getD-set-same scratch 229382 0 0 unify-forget
+  no-terms : classesMade mid ≡ 0
+  no-terms = pair-others blank 0 p p c q q d (blank-room .0) memo (inr (omega arith)) ∙ getD-set-same scratch memo 0 0 unify-forget
 
   -- the first pair's rows are its two terms
   first-closes : Closes (g .ss) nodes (bindings (g .ss) nodes state n) (leftAt mid) (rightAt mid) 1 nothing nothing
@@ -109,11 +110,11 @@ module _ (nodes state scratch : List ℕ) (p c q d n : ℕ) (g : Unifiable nodes
       let m : SameMarks blank mid = pair-marks blank 0 p p c q q d (blank-room .0) in
       let e : length mid ≡ length blank = m .long in
       let e1 : length blank ≡ length scratch = blank-long in
-      let r : 393225 ≤ length scratch = g .roomy in
+      let r : rows ≤ length scratch = g .roomy in
       record {
         work = record { ss = g .ss; top = g .top; store = g .store; within = g .within; roomy = omega arith; stack = first-stack; memo = memo-none (g .ss) nodes (bindings (g .ss) nodes state n) mid no-terms };
         closes = first-closes;
-        clean = record { long = omega arith; zero = λ y l. m .words y (omega arith) ∙ (getD-set-other scratch 229382 y 0 0 (λ e2. omega arith) ∙ g .clean .zero y l) };
+        clean = record { long = omega arith; zero = λ y l. m .words y (omega arith) ∙ (getD-set-other scratch memo y 0 0 (λ e2. omega arith) ∙ g .clean .zero y l) };
       }
 
   mid-is : (s0 s : List ℕ) → s0 ≡ blank → s ≡ pairWords s0 0 p p c q q d → s ≡ mid

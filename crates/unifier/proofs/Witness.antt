@@ -4,25 +4,26 @@ use native.Mathlib.Omega.{arith}
 use mathlib.Core.Path.{_≡_}
 use mathlib.Core.List.{List}
 use lib.ListN.{length, getD, replicate, length-replicate, getD-replicate}
+use Rattle.layout.specs.Regions.{cells, rows}
 use Rattle.layout.proofs.Witness.{symbols, table, state, node, empty}
 use Rattle.bindings.specs.Queues.{Clean}
 use Rattle.unifier.specs.Turns.{Unifiable}
 
 unfoldable pub scratch : List ℕ
-scratch = replicate 393225 0
+scratch = replicate rows 0
 
-scratch-long : length scratch ≡ 393225
+scratch-long : length scratch ≡ rows
 unfolding scratch
-scratch-long = length-replicate {A = ℕ} 393225 0
+scratch-long = length-replicate {A = ℕ} rows 0
 
-scratch-zero : (y : ℕ) → y < 16384 → getD scratch y 0 ≡ 0
+scratch-zero : (y : ℕ) → y < cells → getD scratch y 0 ≡ 0
 unfolding scratch
-scratch-zero y l = getD-replicate {A = ℕ} 393225 y 0 0 (omega arith)
+scratch-zero y l = getD-replicate {A = ℕ} rows y 0 0 (omega arith)
 
 -- f(X) of the goal and f(X) of copy 1
 pub witness : Unifiable table state scratch 0 0 0 1 0
 witness =
-    let l : length scratch ≡ 393225 = scratch-long in
+    let l : length scratch ≡ rows = scratch-long in
     record {
       ss = symbols;
       top = 1;

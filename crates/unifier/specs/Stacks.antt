@@ -1,9 +1,10 @@
 -- The work stack: pairs of rows, the first pair at the bottom. What its words mean, and the invariant that bounds its height.
-use Prim.Native.Nat.{ℕ, zero, suc, _+_, _-_, _≤_, _<_}
+use Prim.Native.Nat.{ℕ, zero, suc, _+_, _-_, _*_, _≤_, _<_}
 use mathlib.Core.Path.{_≡_}
 use mathlib.Core.List.{List, [], _++_}
 use lib.ListN.{getD}
 use Rattle.machine.specs.Substitution.{RTerm, RTerms, var, app, rnil, Binding, resolve}
+use Rattle.layout.specs.Regions.{copies, cells}
 use Rattle.layout.specs.Nodes.{Symbol, Node, Row, termAt, termsAt, followed, count}
 use Rattle.layout.specs.State.{variableOf}
 use Rattle.bindings.specs.declared.stack.Side.{Side}
@@ -32,7 +33,7 @@ rowsOf ss nodes s (suc h) = followed (rowOf ss nodes (s h)) (rowsOf ss nodes s h
 -- each whole is smaller than the one below it.
 pub record Half (ss : List Symbol) (nodes : List ℕ) (b : List Binding) (top : ℕ) (s : ℕ → Side) (h : ℕ) : Type 0 where
   pub node : (k : ℕ) → k < h → Node ss nodes (s k .root)
-  pub copy : (k : ℕ) → k < h → s k .copy < 256
+  pub copy : (k : ℕ) → k < h → s k .copy < copies
   pub below : (k : ℕ) → k < h → s k .copy ≤ top
   pub row : (k : ℕ) → k < h → Row ss nodes (s k .at) (endOf nodes (s k))
   pub small : (k : ℕ) → 1 ≤ k → k < h → (newer : List Binding) → sizeOf (newer ++ b) (rowOf ss nodes (s k)) < nodesOf (resolve (newer ++ b) (wholeOf ss nodes (s k)))
@@ -40,9 +41,9 @@ pub record Half (ss : List Symbol) (nodes : List ℕ) (b : List Binding) (top : 
 
 -- A pair was opened by way of a bound cell: below 16,384 one that stands for the left whole, else one for the right.
 pub record Via (b : List Binding) (v : ℕ) (left right : RTerm) : Type 0 where
-  pub small : v < 32768
-  pub left-is : v < 16384 → resolve b (var (variableOf v)) ≡ resolve b left
-  pub right-is : 16384 ≤ v → resolve b (var (variableOf (v - 16384))) ≡ resolve b right
+  pub small : v < 2 * cells
+  pub left-is : v < cells → resolve b (var (variableOf v)) ≡ resolve b left
+  pub right-is : cells ≤ v → resolve b (var (variableOf (v - cells))) ≡ resolve b right
 
 pub record Stack (ss : List Symbol) (nodes : List ℕ) (b : List Binding) (top : ℕ) (l r : ℕ → Side) (h : ℕ) : Type 0 where
   pub left : Half ss nodes b top l h

@@ -7,9 +7,11 @@ use mathlib.Core.Option.{Option, none, some}
 use mathlib.Core.Logic.{_⊎_}
 use lib.Dec.{T}
 use lib.ListN.{length, getD}
+use Rattle.syntax.specs.Words.{firstName}
 use Rattle.syntax.specs.Terms.{Term}
 use Rattle.machine.specs.Substitution.{RTerm, RTerms, rcons, copied, occurs, Binding, resolve}
 use Rattle.machine.specs.Unification.{unify}
+use Rattle.layout.specs.Regions.{copies, copyCells, cells, stack, memo}
 use Rattle.layout.specs.Nodes.{Symbol, Stands, Node, termAt}
 use Rattle.layout.specs.State.{cellOf, variableOf, cellAt, bindings, Store, Within, Keeps}
 use Rattle.bindings.specs.Queues.{Clean}
@@ -45,13 +47,13 @@ pub record Goes (ss : List Symbol) (nodes : List ℕ) (b : List Binding) (top : 
 -- The variable of cell x is to be bound to the term at p in copy c, unless it stands in it; then there is no unifier.
 pub record Binds (ss : List Symbol) (nodes state : List ℕ) (b : List Binding) (top : ℕ) (ls rs : RTerms) (after : List ℕ) (k x p c : ℕ) : Type 0 where
   pub stack : Stack ss nodes b top (leftAt after) (rightAt after) k
-  pub cell : x < 16384
+  pub cell : x < cells
   pub unbound : cellAt state x ≡ 0
-  pub below : x < (top + 1) * 64
+  pub below : x < (top + 1) * copyCells
   pub node : Node ss nodes p
-  pub copy : c < 256
+  pub copy : c < copies
   pub copy-below : c ≤ top
-  pub down : getD nodes p 0 < 64 → cellOf c (getD nodes p 0) < x
+  pub down : getD nodes p 0 < firstName → cellOf c (getD nodes p 0) < x
   pub stands : T (occurs (variableOf x) (resolve b (termAt ss nodes p c))) → unifyRows b ls rs ≡ none
   pub free : (T (occurs (variableOf x) (resolve b (termAt ss nodes p c))) → ⊥) → unifyRows b ls rs ≡ unifyRows (record { variable = variableOf x; term = resolve b (termAt ss nodes p c) } ∷ b) (rowsOf ss nodes (leftAt after) k) (rowsOf ss nodes (rightAt after) k)
   pub memo : Memo ss nodes b after
@@ -70,9 +72,9 @@ Turned nodes state before after n h g t =
 -- a term that is dereferenced
 pub record Reached (ss : List Symbol) (nodes state : List ℕ) (top p c : ℕ) : Type 0 where
   pub node : Node ss nodes p
-  pub copy : c < 256
+  pub copy : c < copies
   pub below : c ≤ top
-  pub stops : getD nodes p 0 < 64 → cellAt state (cellOf c (getD nodes p 0)) ≡ 0
+  pub stops : getD nodes p 0 < firstName → cellAt state (cellOf c (getD nodes p 0)) ≡ 0
 
 -- Two dereferenced terms before the rows of a stack: at least one was reached by way of a bound cell, and from the second pair on both stand
 -- strictly inside the wholes of the top pair.
@@ -84,7 +86,7 @@ pub record Crossed (nodes scratch : List ℕ) (h p c q d : ℕ) : Type 0 where
   pub left : Reached (work .ss) nodes state (work .top) p c
   pub right : Reached (work .ss) nodes state (work .top) q d
   pub via : ℕ
-  pub via-is : getD nodes p 0 ≡ getD nodes q 0 → 64 ≤ getD nodes p 0 → Via (bindings (work .ss) nodes state n) via (termAt (work .ss) nodes p c) (termAt (work .ss) nodes q d)
+  pub via-is : getD nodes p 0 ≡ getD nodes q 0 → firstName ≤ getD nodes p 0 → Via (bindings (work .ss) nodes state n) via (termAt (work .ss) nodes p c) (termAt (work .ss) nodes q d)
   pub inside : 2 ≤ h → (newer : List Binding) → nodesOf (resolve (newer ++ bindings (work .ss) nodes state n) (termAt (work .ss) nodes p c)) < nodesOf (resolve (newer ++ bindings (work .ss) nodes state n) (wholeOf (work .ss) nodes (leftAt scratch (h - 1))))
   pub inside-right : 2 ≤ h → (newer : List Binding) → nodesOf (resolve (newer ++ bindings (work .ss) nodes state n) (termAt (work .ss) nodes q d)) < nodesOf (resolve (newer ++ bindings (work .ss) nodes state n) (wholeOf (work .ss) nodes (rightAt scratch (h - 1))))
   pub closes : Closes (work .ss) nodes (bindings (work .ss) nodes state n) (leftAt scratch) (rightAt scratch) h (termAt (work .ss) nodes p c) (termAt (work .ss) nodes q d)
@@ -93,7 +95,7 @@ pub record Crossed (nodes scratch : List ℕ) (h p c q d : ℕ) : Type 0 where
 pub record Openable (scratch : List ℕ) (h p c q d : ℕ) : Type 0 where
   pub nodes : List ℕ
   pub crossed : Crossed nodes scratch h p c q d
-  pub name : 64 ≤ getD nodes p 0
+  pub name : firstName ≤ getD nodes p 0
   pub same : getD nodes p 0 ≡ getD nodes q 0
 
 abbrev pub Settled : (nodes before after : List ℕ) (h p c q d : ℕ) → Crossed nodes before h p c q d → Turn → Type 0
@@ -108,11 +110,11 @@ pub record Crossable (nodes state scratch : List ℕ) (h p c q d : ℕ) : Type 0
   pub some : 1 ≤ h
   pub left : Node (work .ss) nodes p
   pub right : Node (work .ss) nodes q
-  pub copy : c < 256
-  pub copy-right : d < 256
+  pub copy : c < copies
+  pub copy-right : d < copies
   pub below : c ≤ work .top
   pub below-right : d ≤ work .top
-  pub variable : (getD nodes p 0 < 64) ⊎ (getD nodes q 0 < 64)
+  pub variable : (getD nodes p 0 < firstName) ⊎ (getD nodes q 0 < firstName)
   pub inside : 2 ≤ h → (newer : List Binding) → nodesOf (resolve (newer ++ bindings (work .ss) nodes state n) (termAt (work .ss) nodes p c)) < nodesOf (resolve (newer ++ bindings (work .ss) nodes state n) (wholeOf (work .ss) nodes (leftAt scratch (h - 1))))
   pub inside-right : 2 ≤ h → (newer : List Binding) → nodesOf (resolve (newer ++ bindings (work .ss) nodes state n) (termAt (work .ss) nodes q d)) < nodesOf (resolve (newer ++ bindings (work .ss) nodes state n) (wholeOf (work .ss) nodes (rightAt scratch (h - 1))))
   pub closes : Closes (work .ss) nodes (bindings (work .ss) nodes state n) (leftAt scratch) (rightAt scratch) h (termAt (work .ss) nodes p c) (termAt (work .ss) nodes q d)
@@ -198,8 +200,8 @@ pub record Unifiable (nodes state scratch : List ℕ) (p c q d n : ℕ) : Type 0
   pub clean : Clean scratch
   pub left : Node ss nodes p
   pub right : Node ss nodes q
-  pub copy : c < 256
-  pub copy-right : d < 256
+  pub copy : c < copies
+  pub copy-right : d < copies
   pub below : c ≤ top
   pub below-right : d ≤ top
 

@@ -5,6 +5,7 @@ use mathlib.Core.List.{List}
 use mathlib.Core.Option.{none}
 use mathlib.Core.Logic.{_⊎_}
 use lib.ListN.{getD}
+use Rattle.syntax.specs.Words.{firstName}
 use Rattle.machine.specs.Substitution.{RTerms, Binding}
 use Rattle.layout.specs.Nodes.{Symbol, Node, Row, termsAt, followed, count}
 use Rattle.unifier.specs.Rows.{unifyRows, sizeOf}
@@ -33,7 +34,7 @@ pub record Pairable (nodes : List ℕ) (p q : ℕ) : Type 0 where
 pub record Meets (ss : List Symbol) (nodes : List ℕ) (p e q f i j : ℕ) : Type 0 where
   pub beside : Beside ss nodes i e j f
   pub some : i < e
-  pub variable : (getD nodes i 0 < 64) ⊎ (getD nodes j 0 < 64)
+  pub variable : (getD nodes i 0 < firstName) ⊎ (getD nodes j 0 < firstName)
   pub means : (b : List Binding) (c d : ℕ) (l r : RTerms) → unifyRows b (followed (termsAt ss nodes p e c) l) (followed (termsAt ss nodes q f d) r) ≡ unifyRows b (followed (termsAt ss nodes i e c) l) (followed (termsAt ss nodes j f d) r)
   pub less : (b : List Binding) (c : ℕ) → sizeOf b (termsAt ss nodes i e c) ≤ sizeOf b (termsAt ss nodes p e c)
   pub less-right : (b : List Binding) (d : ℕ) → sizeOf b (termsAt ss nodes j f d) ≤ sizeOf b (termsAt ss nodes q f d)

@@ -4,17 +4,22 @@ use crate::walk::walk_rows;
 use bindings::occurrence::closed_to;
 use bindings::occurrence::size_at;
 use bindings::occurrence::stands;
-use bindings::occurrence::word_at;
-use bindings::stack::PAIR;
-use bindings::stack::STACK;
 use bindings::stack::Side;
 use bindings::stack::put_pair;
 use bindings::stack::side_at;
 use bindings::store::bind;
 use bindings::store::deref;
+use bindings::store::pack;
+use layout::COPY_CELLS;
+use layout::LOADED_NODE;
+use layout::PAIR_SIZE;
+use layout::SIDE_SIZE;
+use layout::STACK;
 use memos::forget;
 use memos::known;
 use memos::remember;
+use syntax::FIRST_NAME;
+use words::word_at;
 ghost use mathlib.Core.Path.{_≡_};
 ghost use Rattle.bindings.specs.Queues.{Closed};
 ghost use Rattle.bindings.specs.Scratch.{leftAt, rightAt};
@@ -46,16 +51,16 @@ fn open_pair(scratch: &mut [u32], h: usize, p: usize, c: usize, q: usize, d: usi
     requires { ⌜ Openable (now scratch) h p c q d ⌝ }
     ensures { λ r. ⌜ ((g : Openable (now (scratch .entry)) h p c q d) → Rattle.unifier.specs.Turns.Settled (g .nodes) (now (scratch .entry)) (now (scratch .exit)) h p c q d (g .crossed) r) ⌝ }
 {
-    let left = p * 256 + c + 1;
-    let right = q * 256 + d + 1;
+    let left = pack(p, c);
+    let right = pack(q, d);
     if left == right {
         return Turn::Go(h);
     }
     if known(scratch, left, right) {
         return Turn::Go(h);
     }
-    let i = p + 2;
-    let j = q + 2;
+    let i = p + LOADED_NODE;
+    let j = q + LOADED_NODE;
     put_pair(scratch, h, p, i, c, q, j, d);
     Turn::Go(h + 1)
 }
@@ -87,10 +92,10 @@ fn settle(
 {
     let w = word_at(nodes, p);
     let z = word_at(nodes, q);
-    if w < 64 {
-        let x = c * 64 + w;
-        if z < 64 {
-            let y = d * 64 + z;
+    if w < FIRST_NAME {
+        let x = c * COPY_CELLS + w;
+        if z < FIRST_NAME {
+            let y = d * COPY_CELLS + z;
             if x == y {
                 return Turn::Go(h);
             }
@@ -101,8 +106,8 @@ fn settle(
         }
         return bind_to(h, x, q, d);
     }
-    if z < 64 {
-        let v = d * 64 + z;
+    if z < FIRST_NAME {
+        let v = d * COPY_CELLS + z;
         return bind_to(h, v, p, c);
     }
     if w != z {
@@ -164,8 +169,8 @@ fn pass(scratch: &mut [u32], h: usize, size: usize, l: Side, r: Side) -> Turn
     let c = l.copy;
     let other = r.root;
     let d = r.copy;
-    let left = root * 256 + c + 1;
-    let right = other * 256 + d + 1;
+    let left = pack(root, c);
+    let right = pack(other, d);
     remember(scratch, h, size, left, right);
     Turn::Go(h - 1)
 }
@@ -176,9 +181,9 @@ fn next_turn(nodes: &[u32], state: &[u32], scratch: &mut [u32], h: usize) -> Tur
     ensures { λ t. ⌜ ((g : Turnable (now (nodes .entry)) (now (state .entry)) (now (scratch .entry)) h) → Turned (now (nodes .entry)) (now (state .entry)) (now (scratch .entry)) (now (scratch .exit)) (g .n) h (g .work) t) ⌝ }
 {
     let k = h - 1;
-    let base = STACK + k * PAIR;
+    let base = STACK + k * PAIR_SIZE;
     let l = side_at(scratch, base);
-    let r = side_at(scratch, base + 3);
+    let r = side_at(scratch, base + SIDE_SIZE);
     let root = l.root;
     let from = l.at;
     let there = r.at;

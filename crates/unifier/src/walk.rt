@@ -1,7 +1,9 @@
 // Two clause terms side by side. One term and a list of terms call each other, within the brackets of the clause: at most 16 brackets, each with
 // at most 8 terms left, so the calls nest some 150 deep at most.
 use bindings::occurrence::size_at;
-use bindings::occurrence::word_at;
+use layout::LOADED_NODE;
+use syntax::FIRST_NAME;
+use words::word_at;
 ghost use Prim.Native.Nat.{_+_};
 ghost use lib.ListN.{getD};
 ghost use Rattle.unifier.specs.Walks.{Walkable, Pairable, Walks};
@@ -19,18 +21,18 @@ pub fn unify_term(nodes: &[u32], p: usize, q: usize) -> Walked
 {
     let w = word_at(nodes, p);
     let z = word_at(nodes, q);
-    if w < 64 {
+    if w < FIRST_NAME {
         return Walked::Met { left: p, right: q };
     }
-    if z < 64 {
+    if z < FIRST_NAME {
         return Walked::Met { left: p, right: q };
     }
     if w != z {
         return Walked::Clash;
     }
     let e = p + size_at(nodes, p);
-    let i = p + 2;
-    let j = q + 2;
+    let i = p + LOADED_NODE;
+    let j = q + LOADED_NODE;
     unify_list(nodes, i, e, j)
 }
 
@@ -62,10 +64,10 @@ fn begin_list(nodes: &[u32], p: usize, e: usize, q: usize) -> Walked
     if e <= p {
         return Walked::Done;
     }
-    if word_at(nodes, p) < 64 {
+    if word_at(nodes, p) < FIRST_NAME {
         return Walked::Met { left: p, right: q };
     }
-    if word_at(nodes, q) < 64 {
+    if word_at(nodes, q) < FIRST_NAME {
         return Walked::Met { left: p, right: q };
     }
     unify_list(nodes, p, e, q)
@@ -78,18 +80,18 @@ fn begin_term(nodes: &[u32], p: usize, q: usize) -> Walked
 {
     let w = word_at(nodes, p);
     let z = word_at(nodes, q);
-    if w < 64 {
+    if w < FIRST_NAME {
         return Walked::Met { left: p, right: q };
     }
-    if z < 64 {
+    if z < FIRST_NAME {
         return Walked::Met { left: p, right: q };
     }
     if w != z {
         return Walked::Clash;
     }
     let e = p + size_at(nodes, p);
-    let i = p + 2;
-    let j = q + 2;
+    let i = p + LOADED_NODE;
+    let j = q + LOADED_NODE;
     begin_list(nodes, i, e, j)
 }
 

@@ -1,6 +1,5 @@
 use mathlib.Core.List.{[]}
-use mathlib.Core.Path.{refl}
-use Rattle.answers.proofs.LineLaws.{numbers-none, counting-none}
+use Rattle.answers.proofs.LineLaws.{numbers-clear, counting-clear}
 use borrow.Author.Needs.{needs}
 use Rattle.answers.proofs.append_afresh.Statement.{statement}
 use Rattle.answers.proofs.append_afresh.Tie as tie
@@ -14,7 +13,7 @@ slice-aggregate-append-values c = search needs
 
 -- src/lib.rt:49:5
 append-values-requires : tie.Need-append-values-requires
-append-values-requires c κs = (c .before .before .before .before .before .before .before .before .before .before .before .pre .0, (counting-none 16385 _ refl (c .before .before .before .before .before .before .before .before .before .before .before .pre .1 .0), c .before .before .before .before .before .before .before .before .before .before .before .pre .1))
+append-values-requires c κs = let pre = c .before .before .before .before .before .before .before .before .before .before .before .pre in (pre .0, (counting-clear (pre .1 .0), pre .1))
 
 -- src/lib.rt:31:1
 same-length : tie.Need-same-length
@@ -26,7 +25,7 @@ same-length-2 c = search needs
 
 -- src/lib.rt:31:1
 returns : tie.Need-returns
-returns c = λ ss n v. c .before .before .before .before .before .append-values .ensures .0 ss n [] v (numbers-none 16385 refl)
+returns c = λ ss n v. c .before .before .before .before .before .append-values .ensures .0 ss n [] v numbers-clear
 
 pub append-afresh-spec : {M : Type 1} → statement M
 append-afresh-spec =

@@ -14,7 +14,7 @@ slice-read-if1 c = search needs
 
 -- src/lib.rt:85:9
 append-values-requires : tie.Need-append-values-requires
-append-values-requires c κs = (c .before .before .before .before .before .before .before .before .before .before .before .before .before .before .pre .0, (counting-again _ _ (c .before .before .before .before .before .before .before .before .before .before .before .before .before .before .pre .1 .0) (c .before .before .before .if1 .taken) (c .before .before .before .before .before .before .before .before .before .before .before .before .before .before .pre .1 .1 .0), c .before .before .before .before .before .before .before .before .before .before .before .before .before .before .pre .1 .1))
+append-values-requires c κs = let pre = c .before .before .before .before .before .before .before .before .before .before .before .before .before .before .pre in (pre .0, (counting-again _ _ (pre .1 .0) (c .before .before .before .if1 .taken) (pre .1 .1 .0), pre .1 .1))
 
 -- src/lib.rt:85:9
 same-length : tie.Need-same-length
@@ -30,7 +30,7 @@ same-length-3 c = search needs
 
 -- src/lib.rt:85:9
 returns : tie.Need-returns
-returns c = λ ss n v. c .before .before .before .before .before .before .append-values .ensures .0 ss n [] v (numbers-again _ (c .before .before .before .before .before .before .before .before .before .before .before .before .before .before .before .before .before .before .before .before .before .pre .1 .0) (c .before .before .before .before .before .before .before .before .before .before .if1 .taken))
+returns c = let c6 = c .before .before .before .before .before .before in let c10 = c6 .before .before .before .before in let c21 = c10 .before .before .before .before .before .before .before .before .before .before .before in λ ss n v. c6 .append-values .ensures .0 ss n [] v (numbers-again _ (c21 .pre .1 .0) (c10 .if1 .taken))
 
 -- src/lib.rt:100:5
 append-afresh-requires : tie.Need-append-afresh-requires

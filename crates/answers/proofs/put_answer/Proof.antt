@@ -22,7 +22,7 @@ same-length c = search needs
 
 -- src/lib.rt:153:9
 returns : tie.Need-returns
-returns c = λ ss n g v q. line-fits-yes g _ _ (c .before .before .before .before .before .all-anonymous .result) _ _ _ _ (c .before .before .before .before .before .all-anonymous .ensures) (c .before .before .before .before .if1 .taken) q (c .before .before .put-yes .ensures)
+returns c = let c4 = c .before .before .before .before in let c5 = c4 .before in λ ss n g v q. line-fits-yes g _ _ (c5 .all-anonymous .result) _ _ _ _ (c5 .all-anonymous .ensures) (c4 .if1 .taken) q (c .before .before .put-yes .ensures)
 
 -- src/lib.rt:155:5
 put-values-requires : tie.Need-put-values-requires
@@ -38,7 +38,7 @@ same-length-3 c = search needs
 
 -- src/lib.rt:136:1
 returns-2 : tie.Need-returns-2
-returns-2 c = λ ss n g v q. line-fits-values g _ _ (c .before .before .before .before .before .before .before .before .all-anonymous .result) _ _ _ _ (c .before .before .before .before .before .before .before .before .all-anonymous .ensures) (c .before .before .before .before .before .before .before .if1 .left) q (c .before .before .before .before .put-values .ensures ss n v)
+returns-2 c = let c4 = c .before .before .before .before in let c7 = c4 .before .before .before in let c8 = c7 .before in let all-anonymous = c8 .all-anonymous in λ ss n g v q. line-fits-values g _ _ (all-anonymous .result) _ _ _ _ (all-anonymous .ensures) (c7 .if1 .left) q (c4 .put-values .ensures ss n v)
 
 pub put-answer-spec : {M : Type 1} → statement M
 put-answer-spec =

@@ -1,7 +1,7 @@
 use mathlib.Core.List.{[]}
 use mathlib.Core.Path.{refl}
 use native.Mathlib.Omega.{arith}
-use Rattle.answers.proofs.LineLaws.{numbers-none, counting-none, fitted-none, fitted-put, some-values, values-of}
+use Rattle.answers.proofs.LineLaws.{numbers-clear, counting-clear, fitted-none, fitted-put, some-values, values-of}
 use borrow.Author.Needs.{needs}
 use Rattle.answers.proofs.put_values.Statement.{statement}
 use Rattle.answers.proofs.put_values.Tie as tie
@@ -20,7 +20,7 @@ slice-aggregate-append-values-2 c = search needs
 
 -- src/lib.rt:135:9
 append-values-requires : tie.Need-append-values-requires
-append-values-requires c κs = (some-values _ _ _ _ _ _ _ _ (c .before .before .before .before .before .before .before .before .before .before .before .pre .0), (counting-none 16385 _ refl (omega (arith, c .before .before .before .before .before .before .before .before .before .before .before .pre .1 .0, c .before .before .before .before .before .before .before .before .before .before .before .good .1 .1 .1 .1 .1 .1 .1 .1 .0 .1)), (omega (arith, c .before .before .before .before .before .before .before .before .before .before .before .pre .1 .0, c .before .before .before .before .before .before .before .before .before .before .before .good .1 .1 .1 .1 .1 .1 .1 .1 .0 .1), (omega (arith, c .before .before .before .before .before .before .before .before .before .before .before .good .1 .1 .1 .1 .1 .1 .1 .1 .0 .1), c .before .before .before .before .before .before .before .before .before .before .before .pre .1 .1))))
+append-values-requires c κs = let c11 = c .before .before .before .before .before .before .before .before .before .before .before in let pre = c11 .pre in let good = c11 .good in (some-values _ _ _ _ _ _ _ _ (pre .0), (counting-clear (omega (arith, pre .1 .0, good .1 .1 .1 .1 .1 .1 .1 .1 .0 .1)), (omega (arith, pre .1 .0, good .1 .1 .1 .1 .1 .1 .1 .1 .0 .1), (omega (arith, good .1 .1 .1 .1 .1 .1 .1 .1 .0 .1), pre .1 .1))))
 
 -- src/lib.rt:150:9
 same-length : tie.Need-same-length
@@ -28,7 +28,7 @@ same-length c = search needs
 
 -- src/lib.rt:150:9
 returns : tie.Need-returns
-returns c = λ ss n v. fitted-none _ _ _ _ _ (c .before .before .before .before .before .append-values .result) _ refl (omega (arith, c .if1 .taken)) (c .before .before .before .before .before .append-values .ensures .0 ss n [] (values-of _ _ _ _ _ _ _ _ _ _ v) (numbers-none 16385 refl))
+returns c = let c5 = c .before .before .before .before .before in λ ss n v. fitted-none _ _ _ _ _ (c5 .append-values .result) _ refl (omega (arith, c .if1 .taken)) (c5 .append-values .ensures .0 ss n [] (values-of _ _ _ _ _ _ _ _ _ _ v) numbers-clear)
 
 -- src/lib.rt:160:9
 slice-aggregate-append-again : tie.Need-slice-aggregate-append-again
@@ -36,7 +36,7 @@ slice-aggregate-append-again c = search needs
 
 -- src/lib.rt:152:5
 append-again-requires : tie.Need-append-again-requires
-append-again-requires c κs = (some-values _ _ _ _ _ _ _ _ (c .before .before .before .before .before .before .before .before .before .before .before .before .before .before .before .before .before .before .before .before .pre .0), (c .before .before .before .before .before .before .before .before .append-values .ensures .1 (omega (arith, c .before .before .before .if1 .left)), (omega (arith, c .before .before .before .before .before .before .before .before .before .before .before .before .before .before .before .before .before .before .before .before .pre .1 .0, c .before .before .before .before .before .before .before .before .before .before .before .before .before .before .before .before .before .before .before .before .good .1 .1 .1 .1 .1 .1 .1 .1 .0 .1), (omega (arith, c .before .before .before .before .before .before .before .before .before .before .before .before .before .before .before .before .before .before .before .before .good .1 .1 .1 .1 .1 .1 .1 .1 .0 .1), omega (arith, c .before .before .before .before .before .before .before .before .append-values .kept .1 .1 .1 .1 .1 .1 .1 .1 .0, c .before .before .before .before .before .before .before .before .before .before .before .before .before .before .before .before .before .before .before .before .pre .1 .1)))))
+append-again-requires c κs = let c8 = c .before .before .before .before .before .before .before .before in let c20 = c8 .before .before .before .before .before .before .before .before .before .before .before .before in let pre = c20 .pre in let good = c20 .good in let append-values = c8 .append-values in (some-values _ _ _ _ _ _ _ _ (pre .0), (append-values .ensures .1 (omega (arith, c .before .before .before .if1 .left)), (omega (arith, pre .1 .0, good .1 .1 .1 .1 .1 .1 .1 .1 .0 .1), (omega (arith, good .1 .1 .1 .1 .1 .1 .1 .1 .0 .1), omega (arith, append-values .kept .1 .1 .1 .1 .1 .1 .1 .1 .0, pre .1 .1)))))
 
 -- src/lib.rt:116:1
 same-length-2 : tie.Need-same-length-2
@@ -48,7 +48,7 @@ same-length-3 c = search needs
 
 -- src/lib.rt:116:1
 returns-2 : tie.Need-returns-2
-returns-2 c = λ ss n v. fitted-put _ _ _ _ _ _ (c .before .before .before .before .before .before .before .before .before .before .before .before .before .before .append-values .result) _ _ refl (omega (arith, c .before .before .before .before .before .before .before .before .before .if1 .left)) (c .before .before .before .before .before .before .before .before .before .before .before .before .before .before .append-values .ensures .0 ss n [] (values-of _ _ _ _ _ _ _ _ _ _ v) (numbers-none 16385 refl)) (c .before .before .before .before .before .append-again .ensures ss n (values-of _ _ _ _ _ _ _ _ _ _ v))
+returns-2 c = let c5 = c .before .before .before .before .before in let c9 = c5 .before .before .before .before in let c14 = c9 .before .before .before .before .before in let append-values = c14 .append-values in λ ss n v. fitted-put _ _ _ _ _ _ (append-values .result) _ _ refl (omega (arith, c9 .if1 .left)) (append-values .ensures .0 ss n [] (values-of _ _ _ _ _ _ _ _ _ _ v) numbers-clear) (c5 .append-again .ensures ss n (values-of _ _ _ _ _ _ _ _ _ _ v))
 
 pub put-values-spec : {M : Type 1} → statement M
 put-values-spec =

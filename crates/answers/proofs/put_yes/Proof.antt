@@ -1,7 +1,6 @@
 use Rattle.syntax.specs.Quote.{bytes}
 use lib.ListN.{length}
 use mathlib.Core.Path.{_≡_}
-use Prim.Native.Nat.{_+_}
 use mathlib.Core.Path.{refl}
 use native.Mathlib.Omega.{arith}
 use Rattle.answers.proofs.LineLaws.{fitted-short, fitted-yes}
@@ -34,7 +33,7 @@ same-length c = search needs
 
 -- src/lib.rt:19:1
 returns-2 : tie.Need-returns-2
-returns-2 c = fitted-yes _ _ _ _ (omega (arith, c .before .before .before .before .before .if1 .left, c .before .before .before .before .before .before .before .pre)) (c .before .before .append-part .ensures)
+returns-2 c = let c5 = c .before .before .before .before .before in let c7 = c5 .before .before in fitted-yes _ _ _ _ (omega (arith, c5 .if1 .left, c7 .pre)) (c .before .before .append-part .ensures)
 
 pub put-yes-spec : {M : Type 1} → statement M
 put-yes-spec =

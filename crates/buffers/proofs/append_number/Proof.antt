@@ -15,7 +15,7 @@ same-length : tie.Need-same-length
 same-length c = search needs
 
 returns : tie.Need-returns
-returns c = (then (c .before .before .before .before .before .before .append-byte .ensures) (c .before .before .append-decimal .ensures), omega (arith, decimal-few (c .before .before .before .before .before .before .before .before .before .args .n) (omega arith)))
+returns c = let c6 = c .before .before .before .before .before .before in let c9 = c6 .before .before .before in (then (c6 .append-byte .ensures) (c .before .before .append-decimal .ensures), omega (arith, decimal-few (c9 .args .n) (omega arith)))
 
 pub append-number-spec : {M : Type 1} → statement M
 append-number-spec =

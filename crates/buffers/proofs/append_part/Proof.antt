@@ -34,13 +34,13 @@ loop-less : tie.Need-loop-less Inv-loop μ-loop
 loop-less c = omega arith
 
 loop-again : tie.Need-loop-again Inv-loop μ-loop
-loop-again c = (omega arith, c .before .before .append-byte .kept .1 .0 ∙ c .before .before .before .before .before .before .loop .inv .1, omega arith, part-more _ _ (c .before .before .before .before .before .before .before .before .before .args .text .now) (c .before .before .before .before .before .before .before .before .before .args .from) (c .before .before .before .before .before .before .before .before .before .args .len) _ _ (c .before .before .before .before .before .before .loop .i) _ _ (omega arith) (omega arith) (c .before .before .before .before .before .before .loop .inv .3) (c .before .before .append-byte .ensures))
+loop-again c = let c6 = c .before .before .before .before .before .before in let c9 = c6 .before .before .before in (omega arith, c .before .before .append-byte .kept .1 .0 ∙ c6 .loop .inv .1, omega arith, part-more _ _ (c9 .args .text .now) (c9 .args .from) (c9 .args .len) _ _ (c6 .loop .i) _ _ (omega arith) (omega arith) (c6 .loop .inv .3) (c .before .before .append-byte .ensures))
 
 same-length : tie.Need-same-length Inv-loop μ-loop
 same-length c = c .before .loop .inv .1
 
 returns : tie.Need-returns Inv-loop μ-loop
-returns c = part-whole _ _ (c .before .before .before .before .args .text .now) (c .before .before .before .before .args .from) (c .before .before .before .before .args .len) _ _ (c .before .loop .i) (omega arith) (omega arith) (c .before .loop .inv .3)
+returns c = let c4 = c .before .before .before .before in part-whole _ _ (c4 .args .text .now) (c4 .args .from) (c4 .args .len) _ _ (c .before .loop .i) (omega arith) (omega arith) (c .before .loop .inv .3)
 
 pub append-part-spec : {M : Type 1} → statement M
 append-part-spec =

@@ -2,6 +2,7 @@
 use Prim.Native.Nat.{ℕ}
 use mathlib.Core.Path.{_≡_, sym}
 use lib.ListN.{length, replicate, length-replicate}
+use Rattle.cases.specs.Rooms.{fileRoom}
 use Rattle.cases.proofs.room.Statement.{statement}
 use Rattle.cases.proofs.room.Tie as tie
 
@@ -9,7 +10,7 @@ zeros : (n byte : ℕ) → n ≡ length (replicate n byte)
 zeros n byte = sym (length-replicate n byte)
 
 returns : tie.Need-returns
-returns c = zeros 900000 0
+returns c = zeros fileRoom 0
 
 pub room-spec : {M : Type 1} → statement M
 room-spec = tie.close (tie.spec returns)

@@ -152,7 +152,7 @@ read-body-read-body-requires : (t : ℕ) → read-body-lts.Need-read-body-requir
   wrong-reads.Asked,
   wrong-reads.Learnt,
 ) (read-body-at t) read-body.Post
-read-body-read-body-requires t c κs = (omega arith, body-ready (c .before .before .before .before .before .before .before .before .before .before .before .before .before .before .args .s .now) (c .before .before .before .before .before .before .before .before .before .before .before .before .before .before .args .k) (c .before .before .before .before .before .before .before .before .before .before .before .before .before .before .args .st) (c .before .before .before .before .before .before .before .before .before .before .before .before .before .before .args .table .now) (c .before .before .before .before .before .before .before .before .before .read-literal .last .1 .1 .0) (c .before .before .before .before .before .before .before .before .before .before .before .before .before .before .args .n) (c .before .before .before .before .before .before .before .before .before .read-literal .result) (c .before .before .before .before .before .before .before .before .before .before .before .before .before .before .pre .1) (c .before .before .before .before .before .before .before .before .before .before .before .if1 .left) (c .before .before .before .before .before .before .before .before .before .read-literal .ensures) (c .before .before .before .before .before .if2 .left) (c .before .next .result) (c .before .next .ensures) (c .before .before .before .before .before .before .before .before .before .read-literal .kept .1 .1 .0))
+read-body-read-body-requires t c κs = (omega arith, body-ready (c .before .before .before .before .before .before .before .before .before .before .before .before .before .before .args .s .now) (c .before .before .before .before .before .before .before .before .before .before .before .before .before .before .args .k) (c .before .before .before .before .before .before .before .before .before .before .before .before .before .before .args .st) (c .before .before .before .before .before .before .before .before .before .before .before .before .before .before .args .table .now) (c .before .before .before .before .before .before .before .before .before .read-literal .last .1 .1 .0) (c .before .before .before .before .before .before .before .before .before .before .before .before .before .before .args .n) (c .before .before .before .before .before .before .before .before .before .read-literal .result) (c .before .before .before .before .before .before .before .before .before .before .before .before .before .before .pre .1) (c .before .before .before .before .before .before .before .before .before .before .before .if1 .left) (c .before .before .before .before .before .before .before .before .before .read-literal .ensures) (c .before .before .before .before .before .if2 .left) (c .before .next .result) (c .before .before .if3 .taken) (c .before .next .ensures) (c .before .before .before .before .before .before .before .before .before .read-literal .kept .1 .1 .0))
 
 read-body-counted-requires : (t : ℕ) → read-body-lts.Need-counted-requires (
   full-reads.Asked,

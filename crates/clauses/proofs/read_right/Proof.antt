@@ -1,5 +1,5 @@
 -- `clauses::read_right` meets its contract: each way out is a law of `LiteralLaws`. Assumes nothing.
-use Rattle.clauses.proofs.LiteralLaws.{right-given}
+use Rattle.clauses.proofs.LiteralLaws.{right-given, right-asked}
 use borrow.Author.Needs.{needs}
 use Rattle.clauses.proofs.read_right.Statement.{statement}
 use Rattle.clauses.proofs.read_right.Tie as tie
@@ -11,7 +11,7 @@ next-requires : tie.Need-next-requires
 next-requires c κs = search needs
 
 read-term-requires : tie.Need-read-term-requires
-read-term-requires c κs = search needs
+read-term-requires c κs = search (right-asked, needs)
 
 same-length : tie.Need-same-length
 same-length c = search needs

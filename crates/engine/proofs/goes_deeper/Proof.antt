@@ -5,7 +5,7 @@ use Rattle.engine.proofs.goes_deeper.Tie as tie
 use Rattle.engine.proofs.goes_deeper.Reads as reads
 use Rattle.engine.proofs.goes_deeper.Lts as lts
 use Rattle.engine.proofs.records.stand_at.Reads as stand-at-reads
-use Rattle.bindings.proofs.occurrence.word_at.Reads as word-at-reads
+use Rattle.words.proofs.word_at.Reads as word-at-reads
 
 -- src/lib.rt:72:9
 returns : tie.Need-returns
@@ -29,11 +29,11 @@ returns-2 c = λ nodes w. deeper-other w (c .before .before .before .if1 .left) 
 
 -- src/lib.rt:80:9
 returns-3 : tie.Need-returns-3
-returns-3 c = λ nodes w. deeper-last w (c .before .before .before .before .before .if1 .left) (c .before .before .before .before .stand-at .ensures) (c .before .before .before .word-at .ensures) (c .if3 .taken)
+returns-3 c = let c4 = c .before .before .before .before in let c5 = c4 .before in λ nodes w. deeper-last w (c5 .if1 .left) (c4 .stand-at .ensures) (c .before .before .before .word-at .ensures) (c .if3 .taken)
 
 -- src/lib.rt:67:1
 returns-4 : tie.Need-returns-4
-returns-4 c = λ nodes w. deeper-end w (c .before .before .before .before .before .before .if1 .left) (c .before .before .before .before .before .stand-at .ensures) (c .before .before .before .before .word-at .ensures) (c .before .before .before .if2 .left) (c .before .if3 .left)
+returns-4 c = let c4 = c .before .before .before .before in let c5 = c4 .before in let c6 = c5 .before in λ nodes w. deeper-end w (c6 .if1 .left) (c5 .stand-at .ensures) (c4 .word-at .ensures) (c .before .before .before .if2 .left) (c .before .if3 .left)
 
 pub goes-deeper-spec : {M : Type 1} → statement M
 goes-deeper-spec =

@@ -5,7 +5,7 @@ use Rattle.engine.proofs.is_answer.Tie as tie
 use Rattle.engine.proofs.is_answer.Reads as reads
 use Rattle.engine.proofs.is_answer.Lts as lts
 use Rattle.engine.proofs.records.stand_at.Reads as stand-at-reads
-use Rattle.bindings.proofs.occurrence.word_at.Reads as word-at-reads
+use Rattle.words.proofs.word_at.Reads as word-at-reads
 
 -- src/lib.rt:59:9
 returns : tie.Need-returns

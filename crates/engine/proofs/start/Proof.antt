@@ -5,7 +5,7 @@ use Rattle.engine.proofs.start.Tie as tie
 use Rattle.engine.proofs.start.Reads as reads
 use Rattle.engine.proofs.start.Lts as lts
 use Rattle.engine.proofs.laying.lay.Reads as lay-reads
-use Rattle.bindings.proofs.occurrence.word_at.Reads as word-at-reads
+use Rattle.words.proofs.word_at.Reads as word-at-reads
 
 -- src/lib.rt:49:9
 word-at-requires : tie.Need-word-at-requires

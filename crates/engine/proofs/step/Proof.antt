@@ -18,11 +18,11 @@ stand-at-requires c κs = step-room (c .before .before .before .before .before .
 
 -- src/lib.rt:40:5
 undo-requires : tie.Need-undo-requires
-undo-requires c κs = (step-stored (c .before .before .before .before .before .before .before .pre) (c .before .stand-at .ensures), step-mark (c .before .before .before .before .before .before .before .pre) (c .before .stand-at .ensures))
+undo-requires c κs = let c7 = c .before .before .before .before .before .before .before in (step-stored (c7 .pre) (c .before .stand-at .ensures), step-mark (c7 .pre) (c .before .stand-at .ensures))
 
 -- src/lib.rt:41:5
 work-requires : tie.Need-work-requires
-work-requires c κs = step-steppable (c .before .before .before .before .before .before .before .before .before .before .before .before .pre) (c .before .before .before .before .before .before .stand-at .ensures) (c .before .before .before .before .undo .ensures)
+work-requires c κs = let c4 = c .before .before .before .before in let c6 = c4 .before .before in let c12 = c6 .before .before .before .before .before .before in step-steppable (c12 .pre) (c6 .stand-at .ensures) (c4 .undo .ensures)
 
 -- src/lib.rt:27:1
 same-length : tie.Need-same-length
@@ -34,7 +34,7 @@ same-length-2 c = search needs
 
 -- src/lib.rt:27:1
 returns : tie.Need-returns
-returns c = λ w. step-end w (c .before .before .before .before .before .before .before .before .before .before .before .stand-at .ensures) (c .before .before .before .before .before .before .before .before .before .undo .ensures) (c .before .before .before .before .work .last .1 .1 .0) (c .before .before .before .before .work .last .1 .1 .1 .0) (c .before .before .before .before .work .result) (c .before .before .before .before .work .ensures)
+returns c = let c4 = c .before .before .before .before in let c9 = c4 .before .before .before .before .before in let c11 = c9 .before .before in λ w. step-end w (c11 .stand-at .ensures) (c9 .undo .ensures) (c4 .work .last .1 .1 .0) (c4 .work .last .1 .1 .1 .0) (c4 .work .result) (c4 .work .ensures)
 
 pub step-spec : {M : Type 1} → statement M
 step-spec =

@@ -20,7 +20,7 @@ use Rattle.syntax.specs.Verdicts.{sheetVerdict}
 use Rattle.syntax.specs.declared.Entry.{Entry}
 use Rattle.syntax.specs.declared.Verdict.{Verdict}
 use Rattle.rules.specs.Checking.{checkedSheet, checkVerdict}
-use Rattle.pilvaust.specs.Listings.{overlay, declaredOf}
+use Rattle.listings.specs.Listings.{overlay, declaredOf}
 use Rattle.pilvaust.proofs.check_listing.Symbol as listing-def
 use Rattle.pilvaust.proofs.check_listing.Symbol.{name as #listing}
 use Rattle.pilvaust.proofs.check_listing.Met as listing-thm

@@ -1,6 +1,6 @@
 use mathlib.Core.Path.{ap, _∙_}
 use borrow.Author.Needs.{needs}
-use Rattle.exports.specs.Packed.{packedRun}
+use Rattle.packing.specs.Packed.{packedRun}
 use Rattle.exports.proofs.pilvaust_run.Statement.{statement}
 use Rattle.exports.proofs.pilvaust_run.Tie as tie
 

@@ -24,7 +24,7 @@ same-length : tie.Need-same-length
 same-length c = search needs
 
 returns : tie.Need-returns
-returns c = (then (then (then (then (c .before .before .before .before .before .before .before .before .before .before .before .before .before .before .before .before .before .before .append-number .ensures .0) (c .before .before .before .before .before .before .before .before .before .before .before .before .before .before .append-number2 .ensures .0)) (c .before .before .before .before .before .before .before .before .before .before .append-number3 .ensures .0)) (c .before .before .before .before .before .before .append-number4 .ensures .0)) (c .before .before .append-number5 .ensures .0), omega arith)
+returns c = let c6 = c .before .before .before .before .before .before in let c10 = c6 .before .before .before .before in let c14 = c10 .before .before .before .before in let c18 = c14 .before .before .before .before in (then (then (then (then (c18 .append-number .ensures .0) (c14 .append-number2 .ensures .0)) (c10 .append-number3 .ensures .0)) (c6 .append-number4 .ensures .0)) (c .before .before .append-number5 .ensures .0), omega arith)
 
 pub append-five-spec : {M : Type 1} → statement M
 append-five-spec =

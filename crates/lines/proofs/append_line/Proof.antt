@@ -21,7 +21,7 @@ same-length c = search needs
 
 returns : tie.Need-returns
 unfolding lineOf
-returns c = then (then (c .before .before .before .before .before .before .before .before .before .before .append-verdict .ensures .0) (c .before .before .before .before .before .before .append-name .ensures)) (c .before .before .append-byte .ensures)
+returns c = let c6 = c .before .before .before .before .before .before in let c10 = c6 .before .before .before .before in then (then (c10 .append-verdict .ensures .0) (c6 .append-name .ensures)) (c .before .before .append-byte .ensures)
 
 pub append-line-spec : {M : Type 1} → statement M
 append-line-spec =

@@ -18,7 +18,7 @@ same-length : tie.Need-same-length
 same-length c = search needs
 
 returns-2 : tie.Need-returns-2
-returns-2 c = spelt (some-name (c .before .before .before .before .before .before .before .before .before .before .before .args .name .now) (c .before .before .before .before .before .before .before .before .if1 .left)) (then (c .before .before .before .before .before .before .append-byte .ensures) (c .before .before .append .ensures))
+returns-2 c = let c6 = c .before .before .before .before .before .before in let c8 = c6 .before .before in let c11 = c8 .before .before .before in spelt (some-name (c11 .args .name .now) (c8 .if1 .left)) (then (c6 .append-byte .ensures) (c .before .before .append .ensures))
 
 pub append-name-spec : {M : Type 1} → statement M
 append-name-spec =

@@ -44,13 +44,13 @@ same-length : tie.Need-same-length
 same-length c = search needs
 
 returns : tie.Need-returns
-returns c = (spelt (ap verdictWords (c .before .before .before .before .before .before .before .before .before .before .before .before .before .before .verdict .given .1)) (then (then (c .before .before .before .before .before .before .before .before .before .before .append .ensures) (c .before .before .before .before .before .before .append-number .ensures .0)) (c .before .before .append-number2 .ensures .0)), omega arith)
+returns c = let c6 = c .before .before .before .before .before .before in let c10 = c6 .before .before .before .before in let c14 = c10 .before .before .before .before in (spelt (ap verdictWords (c14 .verdict .given .1)) (then (then (c10 .append .ensures) (c6 .append-number .ensures .0)) (c .before .before .append-number2 .ensures .0)), omega arith)
 
 same-length-2 : tie.Need-same-length-2
 same-length-2 c = search needs
 
 returns-2 : tie.Need-returns-2
-returns-2 c = (spelt (ap verdictWords (c .before .before .before .before .before .before .before .before .before .before .before .before .before .before .before .verdict2 .given .1)) (then (then (c .before .before .before .before .before .before .before .before .before .before .before .append2 .ensures) (c .before .before .before .before .before .before .before .append-text .ensures .0)) (spelt (ap five (sym (c .before .before .before .before .numbers .ensures))) (c .before .before .append-five .ensures .0))), omega arith)
+returns-2 c = let c4 = c .before .before .before .before in let c7 = c4 .before .before .before in let c11 = c7 .before .before .before .before in let c15 = c11 .before .before .before .before in (spelt (ap verdictWords (c15 .verdict2 .given .1)) (then (then (c11 .append2 .ensures) (c7 .append-text .ensures .0)) (spelt (ap five (sym (c4 .numbers .ensures))) (c .before .before .append-five .ensures .0))), omega arith)
 
 pub append-verdict-spec : {M : Type 1} → statement M
 append-verdict-spec =

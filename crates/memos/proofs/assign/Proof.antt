@@ -1,4 +1,6 @@
 use Prim.Native.Nat.{_+_, _/_}
+use Rattle.layout.specs.Regions.{copies}
+use Rattle.memos.specs.Memos.{shift}
 use Rattle.memos.proofs.Remembering.{assigned-none, assigned, row-then}
 use borrow.Author.Needs.{needs}
 use Rattle.memos.proofs.assign.Statement.{statement}
@@ -22,7 +24,7 @@ same-length c = search needs
 
 -- src/lib.rt:232:9
 returns : tie.Need-returns
-returns c = assigned-none (c .before .before .before .before .before .before .args .scratch .now) _ (c .before .before .before .before .before .before .args .term) (c .before .before .before .before .before .before .args .i) ((c .before .before .before .before .before .before .args .term + 255) / 256) (c .before .before .before .row-for .result) (c .before .before .before .row-for .ensures)
+returns c = let c6 = c .before .before .before .before .before .before in assigned-none (c6 .args .scratch .now) _ (c6 .args .term) (c6 .args .i) ((c6 .args .term + shift) / copies) (c .before .before .before .row-for .result) (c .before .before .before .row-for .ensures)
 
 -- src/lib.rt:234:13
 sub-k : tie.Need-sub-k
@@ -30,7 +32,7 @@ sub-k c = search needs
 
 -- src/lib.rt:235:5
 put-number-requires : tie.Need-put-number-requires
-put-number-requires c κs = row-then _ _ (c .before .before .before .before .row-for .result) (c .before .before .before .before .before .before .before .args .i) (c .before .before .before .before .row-for .ensures .row) (c .before .if1 .left) (c .before .before .before .before .before .before .before .pre .1 .1)
+put-number-requires c κs = let c4 = c .before .before .before .before in let c7 = c4 .before .before .before in row-then _ _ (c4 .row-for .result) (c7 .args .i) (c4 .row-for .ensures .row) (c .before .if1 .left) (c7 .pre .1 .1)
 
 -- src/lib.rt:225:1
 same-length-2 : tie.Need-same-length-2
@@ -38,7 +40,7 @@ same-length-2 c = search needs
 
 -- src/lib.rt:225:1
 returns-2 : tie.Need-returns-2
-returns-2 c = assigned (c .before .before .before .before .before .before .before .before .before .before .args .scratch .now) _ (c .before .before .before .before .before .before .before .before .before .before .args .term) (c .before .before .before .before .before .before .before .before .before .before .args .i) (c .before .before .before .before .before .before .before .row-for .result) (c .before .before .before .before .before .before .before .row-for .ensures) (c .before .before .before .before .if1 .left) (c .before .before .before .before .before .before .before .before .before .before .pre .1 .1) _ (c .before .before .put-number .ensures)
+returns-2 c = let c4 = c .before .before .before .before in let c7 = c4 .before .before .before in let c10 = c7 .before .before .before in assigned (c10 .args .scratch .now) _ (c10 .args .term) (c10 .args .i) (c7 .row-for .result) (c7 .row-for .ensures) (c4 .if1 .left) (c10 .pre .1 .1) _ (c .before .before .put-number .ensures)
 
 pub assign-spec : {M : Type 1} → statement M
 assign-spec =

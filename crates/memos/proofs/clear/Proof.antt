@@ -1,3 +1,4 @@
+use Rattle.layout.specs.Regions.{rowWords}
 use Rattle.memos.proofs.Remembering.{cleared-none, cleared-more, cleared-all}
 use native.Mathlib.Omega.{arith}
 use Rattle.memos.specs.Memos.{Cleared}
@@ -8,10 +9,10 @@ use Rattle.memos.proofs.clear.Reads as reads
 use Rattle.memos.proofs.clear.Lts as lts
 
 abbrev Inv-loop : tie.InvT-loop
-Inv-loop scratch₀ base k₀ scratch k = (k ≤ 128) × Cleared scratch₀ scratch base k
+Inv-loop scratch₀ base k₀ scratch k = (k ≤ rowWords) × Cleared scratch₀ scratch base k
 
 abbrev μ-loop : tie.MeasureT-loop
-μ-loop scratch₀ base k₀ scratch k = 128 - k
+μ-loop scratch₀ base k₀ scratch k = rowWords - k
 
 -- src/lib.rt:171:5
 loop-holds : tie.Need-loop-holds Inv-loop μ-loop

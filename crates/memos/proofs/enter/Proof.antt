@@ -4,7 +4,7 @@ use Rattle.memos.proofs.enter.Statement.{statement}
 use Rattle.memos.proofs.enter.Tie as tie
 use Rattle.memos.proofs.enter.Reads as reads
 use Rattle.memos.proofs.enter.Lts as lts
-use Rattle.bindings.proofs.occurrence.word_at.Reads as word-at-reads
+use Rattle.words.proofs.word_at.Reads as word-at-reads
 use Rattle.memos.proofs.begin.Reads as begin-reads
 use Rattle.memos.proofs.is_crowded.Reads as is-crowded-reads
 use Rattle.memos.proofs.place.Reads as place-reads
@@ -27,7 +27,7 @@ same-length c = search needs
 
 -- src/lib.rt:364:9
 returns : tie.Need-returns
-returns c = begins-remembers (c .before .before .before .before .before .before .before .before .args .scratch .now) _ (c .before .before .before .before .before .before .before .before .args .left) (c .before .before .before .before .before .before .before .before .args .right) (c .before .before .begin .ensures)
+returns c = let c8 = c .before .before .before .before .before .before .before .before in begins-remembers (c8 .args .scratch .now) _ (c8 .args .left) (c8 .args .right) (c .before .before .begin .ensures)
 
 -- src/lib.rt:367:9
 begin-requires-2 : tie.Need-begin-requires-2
@@ -39,7 +39,7 @@ same-length-2 c = search needs
 
 -- src/lib.rt:368:9
 returns-2 : tie.Need-returns-2
-returns-2 c = begins-remembers (c .before .before .before .before .before .before .before .before .before .args .scratch .now) _ (c .before .before .before .before .before .before .before .before .before .args .left) (c .before .before .before .before .before .before .before .before .before .args .right) (c .before .before .begin2 .ensures)
+returns-2 c = let c9 = c .before .before .before .before .before .before .before .before .before in begins-remembers (c9 .args .scratch .now) _ (c9 .args .left) (c9 .args .right) (c .before .before .begin2 .ensures)
 
 -- src/lib.rt:370:8
 is-crowded-requires : tie.Need-is-crowded-requires
@@ -55,7 +55,7 @@ same-length-3 c = search needs
 
 -- src/lib.rt:372:9
 returns-3 : tie.Need-returns-3
-returns-3 c = begins-remembers (c .before .before .before .before .before .before .before .before .before .before .before .before .args .scratch .now) _ (c .before .before .before .before .before .before .before .before .before .before .before .before .args .left) (c .before .before .before .before .before .before .before .before .before .before .before .before .args .right) (c .before .before .begin3 .ensures)
+returns-3 c = let c12 = c .before .before .before .before .before .before .before .before .before .before .before .before in begins-remembers (c12 .args .scratch .now) _ (c12 .args .left) (c12 .args .right) (c .before .before .begin3 .ensures)
 
 -- src/lib.rt:374:5
 place-requires : tie.Need-place-requires

@@ -6,7 +6,7 @@ use Rattle.memos.proofs.fresh.Statement.{statement}
 use Rattle.memos.proofs.fresh.Tie as tie
 use Rattle.memos.proofs.fresh.Reads as reads
 use Rattle.memos.proofs.fresh.Lts as lts
-use Rattle.bindings.proofs.occurrence.word_at.Reads as word-at-reads
+use Rattle.words.proofs.word_at.Reads as word-at-reads
 
 -- src/lib.rt:243:9
 word-at-requires : tie.Need-word-at-requires

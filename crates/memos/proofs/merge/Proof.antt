@@ -33,7 +33,7 @@ same-length-2 c = search needs
 
 -- src/lib.rt:302:1
 returns-2 : tie.Need-returns-2
-returns-2 c = merged (c .before .before .before .before .before .before .before .before .before .before .args .scratch .now) _ (c .before .before .before .before .before .before .before .before .before .before .args .i) (c .before .before .before .before .before .before .before .before .before .before .args .j) (c .before .before .before .before .before .before .before .root-of .result) (c .before .before .before .before .before .root-of2 .result) (c .before .before .before .before .before .before .before .root-of .ensures .1) (c .before .before .before .before .before .root-of2 .ensures .1) (c .before .before .join .ensures)
+returns-2 c = let c5 = c .before .before .before .before .before in let c7 = c5 .before .before in let c10 = c7 .before .before .before in merged (c10 .args .scratch .now) _ (c10 .args .i) (c10 .args .j) (c7 .root-of .result) (c5 .root-of2 .result) (c7 .root-of .ensures .1) (c5 .root-of2 .ensures .1) (c .before .before .join .ensures)
 
 pub merge-spec : {M : Type 1} → statement M
 merge-spec =

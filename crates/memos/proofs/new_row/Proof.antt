@@ -1,13 +1,14 @@
 use Prim.Native.Nat.{_/_, _%_}
 use lib.ListN.{length-set}
 use native.Mathlib.Omega.{arith}
+use Rattle.layout.specs.Regions.{slotCount}
 use Rattle.memos.proofs.Remembering.{opens-none, opens-new}
 use borrow.Author.Needs.{needs}
 use Rattle.memos.proofs.new_row.Statement.{statement}
 use Rattle.memos.proofs.new_row.Tie as tie
 use Rattle.memos.proofs.new_row.Reads as reads
 use Rattle.memos.proofs.new_row.Lts as lts
-use Rattle.bindings.proofs.occurrence.word_at.Reads as word-at-reads
+use Rattle.words.proofs.word_at.Reads as word-at-reads
 use Rattle.memos.proofs.clear.Reads as clear-reads
 
 -- src/lib.rt:182:9
@@ -20,7 +21,7 @@ same-length c = search needs
 
 -- src/lib.rt:184:9
 returns : tie.Need-returns
-returns c = opens-none (c .before .before .before .before .args .scratch .now) (c .before .before .before .before .args .key)
+returns c = let c4 = c .before .before .before .before in opens-none (c4 .args .scratch .now) (c4 .args .key)
 
 -- src/lib.rt:186:24
 mul-base : tie.Need-mul-base
@@ -40,7 +41,7 @@ same-length-2 c = search needs
 
 -- src/lib.rt:188:9
 returns-2 : tie.Need-returns-2
-returns-2 c = opens-none (c .before .before .before .before .before .args .scratch .now) (c .before .before .before .before .before .args .key)
+returns-2 c = let c5 = c .before .before .before .before .before in opens-none (c5 .args .scratch .now) (c5 .args .key)
 
 -- src/lib.rt:190:5
 clear-requires : tie.Need-clear-requires
@@ -100,7 +101,7 @@ same-length-3 c = search needs
 
 -- src/lib.rt:178:1
 returns-3 : tie.Need-returns-3
-returns-3 c = opens-new (c .before .before .before .before .before .before .before .before .before .args .scratch .now) _ (c .before .before .before .before .before .before .word-at .result) (c .before .before .before .before .before .before .before .before .before .args .key / 2 % 16384) (c .before .before .before .before .before .before .before .before .before .args .key) (c .before .before .before .before .before .before .word-at .ensures) (omega (arith, c .before .before .before .before .before .if1 .left)) (omega arith) (omega (arith, c .before .before .before .before .if2 .left)) (c .before .before .clear .ensures)
+returns-3 c = let c4 = c .before .before .before .before in let c5 = c4 .before in let c6 = c5 .before in let c9 = c6 .before .before .before in opens-new (c9 .args .scratch .now) _ (c6 .word-at .result) (c9 .args .key / 2 % slotCount) (c9 .args .key) (c6 .word-at .ensures) (omega (arith, c5 .if1 .left)) (omega arith) (omega (arith, c4 .if2 .left)) (c .before .before .clear .ensures)
 
 pub new-row-spec : {M : Type 1} → statement M
 new-row-spec =

@@ -4,7 +4,7 @@ use Rattle.memos.proofs.number_in.Statement.{statement}
 use Rattle.memos.proofs.number_in.Tie as tie
 use Rattle.memos.proofs.number_in.Reads as reads
 use Rattle.memos.proofs.number_in.Lts as lts
-use Rattle.bindings.proofs.occurrence.word_at.Reads as word-at-reads
+use Rattle.words.proofs.word_at.Reads as word-at-reads
 
 -- src/lib.rt:87:22
 mul-at : tie.Need-mul-at

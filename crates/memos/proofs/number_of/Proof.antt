@@ -1,6 +1,8 @@
 use Prim.Native.Nat.{_+_, _/_}
 use mathlib.Core.Path.{refl}
 use mathlib.Core.Logic.{inl}
+use Rattle.layout.specs.Regions.{copies}
+use Rattle.memos.specs.Memos.{shift}
 use Rattle.memos.proofs.Remembering.{row-fits, entered-at}
 use borrow.Author.Needs.{needs}
 use Rattle.memos.proofs.number_of.Statement.{statement}
@@ -28,7 +30,7 @@ sub-k c = search needs
 
 -- src/lib.rt:106:9
 number-in-requires : tie.Need-number-in-requires
-number-in-requires c κs = row-fits (c .before .before .before .args .scratch .now) ((c .before .before .before .args .term + 255) / 256) (c .before .row-of .result) (c .before .row-of .ensures) (c .if1 .left)
+number-in-requires c κs = row-fits (c .before .before .before .args .scratch .now) ((c .before .before .before .args .term + shift) / copies) (c .before .row-of .result) (c .before .row-of .ensures) (c .if1 .left)
 
 -- src/lib.rt:108:9
 returns-2 : tie.Need-returns-2

@@ -25,7 +25,7 @@ same-length c = search needs
 
 -- src/lib.rt:252:1
 returns : tie.Need-returns
-returns c = paired (c .before .before .before .before .before .before .before .before .before .before .before .before .before .args .scratch .now) _ _ _ (c .before .before .before .before .before .before .before .before .before .before .before .before .before .args .left) (c .before .before .before .before .before .before .before .before .before .before .before .before .before .args .right) (c .before .before .before .before .before .before .before .before .before .before .fresh .result) (c .before .before .before .before .before .before .before .before .before .before .fresh .ensures) (c .before .before .before .before .before .before .assign .ensures) (c .before .before .assign2 .ensures)
+returns c = let c6 = c .before .before .before .before .before .before in let c10 = c6 .before .before .before .before in let c13 = c10 .before .before .before in paired (c13 .args .scratch .now) _ _ _ (c13 .args .left) (c13 .args .right) (c10 .fresh .result) (c10 .fresh .ensures) (c6 .assign .ensures) (c .before .before .assign2 .ensures)
 
 pub pair-up-spec : {M : Type 1} → statement M
 pair-up-spec =

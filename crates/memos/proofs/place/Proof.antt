@@ -31,7 +31,7 @@ returns c = search needs
 
 -- src/lib.rt:346:9
 assign-requires : tie.Need-assign-requires
-assign-requires c κs = (c .before .before .before .before .before .before .before .before .pre .0, (c .before .before .before .before .before .before .before .before .pre .1 .1 .1 .0, small-number (c .before .before .before .before .before .before .before .before .args .scratch .now) (c .before .before .before .before .before .before .before .before .args .right) (c .before .before .before .number-of2 .result) (c .before .before .before .number-of2 .ensures)))
+assign-requires c κs = let c8 = c .before .before .before .before .before .before .before .before in (c8 .pre .0, (c8 .pre .1 .1 .1 .0, small-number (c8 .args .scratch .now) (c8 .args .right) (c .before .before .before .number-of2 .result) (c .before .before .before .number-of2 .ensures)))
 
 -- src/lib.rt:347:9
 same-length-2 : tie.Need-same-length-2
@@ -39,11 +39,11 @@ same-length-2 c = search needs
 
 -- src/lib.rt:347:9
 returns-2 : tie.Need-returns-2
-returns-2 c = assigned-left (c .before .before .before .before .before .before .before .before .before .before .before .args .scratch .now) _ (c .before .before .before .before .before .before .before .before .before .before .before .args .left) (c .before .before .before .before .before .before .before .before .before .before .before .args .right) (c .before .before .before .before .before .before .number-of2 .result) (c .before .before .before .before .before .before .before .before .before .before .before .pre .1 .0) (of-number (c .before .before .before .before .before .before .before .before .before .before .before .args .scratch .now) (c .before .before .before .before .before .before .before .before .before .before .before .args .right) (c .before .before .before .before .before .before .number-of2 .result) (c .before .before .before .before .before .before .number-of2 .ensures) (c .before .before .before .before .if2 .left)) (c .before .before .assign .ensures)
+returns-2 c = let c4 = c .before .before .before .before in let c6 = c4 .before .before in let c11 = c6 .before .before .before .before .before in assigned-left (c11 .args .scratch .now) _ (c11 .args .left) (c11 .args .right) (c6 .number-of2 .result) (c11 .pre .1 .0) (of-number (c11 .args .scratch .now) (c11 .args .right) (c6 .number-of2 .result) (c6 .number-of2 .ensures) (c4 .if2 .left)) (c .before .before .assign .ensures)
 
 -- src/lib.rt:350:9
 assign-requires-2 : tie.Need-assign-requires-2
-assign-requires-2 c κs = (c .before .before .before .before .before .before .before .before .pre .0, (c .before .before .before .before .before .before .before .before .pre .1 .1 .1 .1, small-number (c .before .before .before .before .before .before .before .before .args .scratch .now) (c .before .before .before .before .before .before .before .before .args .left) (c .before .before .before .before .before .number-of .result) (c .before .before .before .before .before .number-of .ensures)))
+assign-requires-2 c κs = let c5 = c .before .before .before .before .before in let c8 = c5 .before .before .before in (c8 .pre .0, (c8 .pre .1 .1 .1 .1, small-number (c8 .args .scratch .now) (c8 .args .left) (c5 .number-of .result) (c5 .number-of .ensures)))
 
 -- src/lib.rt:351:9
 same-length-3 : tie.Need-same-length-3
@@ -51,11 +51,11 @@ same-length-3 c = search needs
 
 -- src/lib.rt:351:9
 returns-3 : tie.Need-returns-3
-returns-3 c = assigned-right (c .before .before .before .before .before .before .before .before .before .before .before .args .scratch .now) _ (c .before .before .before .before .before .before .before .before .before .before .before .args .left) (c .before .before .before .before .before .before .before .before .before .before .before .args .right) (c .before .before .before .before .before .before .before .before .number-of .result) (c .before .before .before .before .before .before .before .before .before .before .before .pre .1 .0) (of-number (c .before .before .before .before .before .before .before .before .before .before .before .args .scratch .now) (c .before .before .before .before .before .before .before .before .before .before .before .args .left) (c .before .before .before .before .before .before .before .before .number-of .result) (c .before .before .before .before .before .before .before .before .number-of .ensures) (c .before .before .before .before .before .if1 .left)) (c .before .before .assign2 .ensures)
+returns-3 c = let c5 = c .before .before .before .before .before in let c8 = c5 .before .before .before in let c11 = c8 .before .before .before in assigned-right (c11 .args .scratch .now) _ (c11 .args .left) (c11 .args .right) (c8 .number-of .result) (c11 .pre .1 .0) (of-number (c11 .args .scratch .now) (c11 .args .left) (c8 .number-of .result) (c8 .number-of .ensures) (c5 .if1 .left)) (c .before .before .assign2 .ensures)
 
 -- src/lib.rt:353:5
 merge-requires : tie.Need-merge-requires
-merge-requires c κs = (c .before .before .before .before .before .before .before .before .pre .0, (small-number (c .before .before .before .before .before .before .before .before .args .scratch .now) (c .before .before .before .before .before .before .before .before .args .left) (c .before .before .before .before .before .number-of .result) (c .before .before .before .before .before .number-of .ensures), small-number (c .before .before .before .before .before .before .before .before .args .scratch .now) (c .before .before .before .before .before .before .before .before .args .right) (c .before .before .before .number-of2 .result) (c .before .before .before .number-of2 .ensures)))
+merge-requires c κs = let c5 = c .before .before .before .before .before in let c8 = c5 .before .before .before in (c8 .pre .0, (small-number (c8 .args .scratch .now) (c8 .args .left) (c5 .number-of .result) (c5 .number-of .ensures), small-number (c8 .args .scratch .now) (c8 .args .right) (c .before .before .before .number-of2 .result) (c .before .before .before .number-of2 .ensures)))
 
 -- src/lib.rt:335:1
 same-length-4 : tie.Need-same-length-4
@@ -63,7 +63,7 @@ same-length-4 c = search needs
 
 -- src/lib.rt:335:1
 returns-4 : tie.Need-returns-4
-returns-4 c = merged-both (c .before .before .before .before .before .before .before .before .before .before .before .args .scratch .now) _ (c .before .before .before .before .before .before .before .before .before .before .before .args .left) (c .before .before .before .before .before .before .before .before .before .before .before .args .right) (c .before .before .before .before .before .before .before .before .number-of .result) (c .before .before .before .before .before .before .number-of2 .result) (c .before .before .before .before .before .before .before .before .before .before .before .pre .1 .0) (of-number (c .before .before .before .before .before .before .before .before .before .before .before .args .scratch .now) (c .before .before .before .before .before .before .before .before .before .before .before .args .left) (c .before .before .before .before .before .before .before .before .number-of .result) (c .before .before .before .before .before .before .before .before .number-of .ensures) (c .before .before .before .before .before .if1 .left)) (of-number (c .before .before .before .before .before .before .before .before .before .before .before .args .scratch .now) (c .before .before .before .before .before .before .before .before .before .before .before .args .right) (c .before .before .before .before .before .before .number-of2 .result) (c .before .before .before .before .before .before .number-of2 .ensures) (c .before .before .before .before .if3 .left)) (c .before .before .merge .ensures)
+returns-4 c = let c4 = c .before .before .before .before in let c5 = c4 .before in let c6 = c5 .before in let c8 = c6 .before .before in let c11 = c8 .before .before .before in merged-both (c11 .args .scratch .now) _ (c11 .args .left) (c11 .args .right) (c8 .number-of .result) (c6 .number-of2 .result) (c11 .pre .1 .0) (of-number (c11 .args .scratch .now) (c11 .args .left) (c8 .number-of .result) (c8 .number-of .ensures) (c5 .if1 .left)) (of-number (c11 .args .scratch .now) (c11 .args .right) (c6 .number-of2 .result) (c6 .number-of2 .ensures) (c4 .if3 .left)) (c .before .before .merge .ensures)
 
 pub place-spec : {M : Type 1} → statement M
 place-spec =

@@ -4,7 +4,7 @@ use Rattle.memos.proofs.put_number.Statement.{statement}
 use Rattle.memos.proofs.put_number.Tie as tie
 use Rattle.memos.proofs.put_number.Reads as reads
 use Rattle.memos.proofs.put_number.Lts as lts
-use Rattle.bindings.proofs.occurrence.word_at.Reads as word-at-reads
+use Rattle.words.proofs.word_at.Reads as word-at-reads
 
 -- src/lib.rt:215:22
 mul-at : tie.Need-mul-at
@@ -48,7 +48,7 @@ same-length c = search needs
 
 -- src/lib.rt:219:9
 returns : tie.Need-returns
-returns c = placed-low (c .before .before .before .before .args .scratch .now) (c .before .before .before .before .args .k) (c .before .before .before .before .args .v) (c .before .before .before .before .args .i) (c .before .word-at .result) (c .before .word-at .ensures) (c .if1 .taken)
+returns c = let c4 = c .before .before .before .before in placed-low (c4 .args .scratch .now) (c4 .args .k) (c4 .args .v) (c4 .args .i) (c .before .word-at .result) (c .before .word-at .ensures) (c .if1 .taken)
 
 -- src/lib.rt:221:20
 mul-scratch-3 : tie.Need-mul-scratch-3
@@ -76,7 +76,7 @@ same-length-2 c = search needs
 
 -- src/lib.rt:211:1
 returns-2 : tie.Need-returns-2
-returns-2 c = placed-high (c .before .before .before .before .args .scratch .now) (c .before .before .before .before .args .k) (c .before .before .before .before .args .v) (c .before .before .before .before .args .i) (c .before .word-at .result) (c .before .word-at .ensures) (c .if1 .left)
+returns-2 c = let c4 = c .before .before .before .before in placed-high (c4 .args .scratch .now) (c4 .args .k) (c4 .args .v) (c4 .args .i) (c .before .word-at .result) (c .before .word-at .ensures) (c .if1 .left)
 
 pub put-number-spec : {M : Type 1} → statement M
 put-number-spec =

@@ -29,7 +29,7 @@ same-length c = search needs
 
 -- src/lib.rt:414:1
 returns-2 : tie.Need-returns-2
-returns-2 c = weighed-then _ _ _ (c .before .before .before .before .before .before .before .before .before .before .before .args .left) (c .before .before .before .before .before .before .before .before .before .before .before .args .right) (c .before .before .before .before .before .before .before .weigh .ensures) (c .before .before .enter .ensures)
+returns-2 c = let c7 = c .before .before .before .before .before .before .before in let c11 = c7 .before .before .before .before in weighed-then _ _ _ (c11 .args .left) (c11 .args .right) (c7 .weigh .ensures) (c .before .before .enter .ensures)
 
 -- src/lib.rt:414:1
 same-length-2 : tie.Need-same-length-2
@@ -37,7 +37,7 @@ same-length-2 c = search needs
 
 -- src/lib.rt:414:1
 returns-3 : tie.Need-returns-3
-returns-3 c = weighed-remembers _ _ (c .before .before .before .before .before .before .before .args .left) (c .before .before .before .before .before .before .before .args .right) (c .before .before .before .weigh .ensures)
+returns-3 c = let c7 = c .before .before .before .before .before .before .before in weighed-remembers _ _ (c7 .args .left) (c7 .args .right) (c .before .before .before .weigh .ensures)
 
 pub remember-spec : {M : Type 1} → statement M
 remember-spec =

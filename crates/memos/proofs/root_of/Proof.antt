@@ -1,3 +1,4 @@
+use Rattle.layout.specs.Regions.{classCount}
 use Rattle.memos.proofs.Remembering.{reaches-begin, reaches-on}
 use native.Mathlib.Omega.{arith}
 use Prim.Native.Nat.{_-_, _<_, _≤_}
@@ -10,10 +11,10 @@ use Rattle.memos.proofs.root_of.Lts as lts
 use Rattle.memos.proofs.link_at.Reads as link-at-reads
 
 abbrev Inv-loop : tie.InvT-loop
-Inv-loop scratch i r₀ k₀ r k = (r < 16640) × Reaches scratch i r
+Inv-loop scratch i r₀ k₀ r k = (r < classCount) × Reaches scratch i r
 
 abbrev μ-loop : tie.MeasureT-loop
-μ-loop scratch i r₀ k₀ r k = 16640 - k
+μ-loop scratch i r₀ k₀ r k = classCount - k
 
 -- src/lib.rt:112:5
 loop-holds : tie.Need-loop-holds Inv-loop μ-loop
@@ -29,7 +30,7 @@ returns c = (c .before .before .before .loop .inv .0, c .before .before .before 
 
 -- src/lib.rt:118:13
 returns-2 : tie.Need-returns-2 Inv-loop μ-loop
-returns-2 c = (c .before .before .before .before .loop .inv .0, c .before .before .before .before .loop .inv .1)
+returns-2 c = let c4 = c .before .before .before .before in (c4 .loop .inv .0, c4 .loop .inv .1)
 
 -- src/lib.rt:120:13
 sub-r : tie.Need-sub-r Inv-loop μ-loop
@@ -45,7 +46,7 @@ loop-less c = omega (arith, c .before .before .before .loop-test .taken)
 
 -- src/lib.rt:112:5
 loop-again : tie.Need-loop-again Inv-loop μ-loop
-loop-again c = (omega (arith, c .if2 .left, c .before .if1 .left), reaches-on (c .before .before .before .before .before .before .args .scratch .now) (c .before .before .before .before .before .before .args .i) (c .before .before .before .before .loop .r) (c .before .before .link-at .result) (c .before .before .before .before .loop .inv .1) (c .before .before .link-at .ensures) (c .before .if1 .left) (c .if2 .left) _ refl)
+loop-again c = let c4 = c .before .before .before .before in let c6 = c4 .before .before in (omega (arith, c .if2 .left, c .before .if1 .left), reaches-on (c6 .args .scratch .now) (c6 .args .i) (c4 .loop .r) (c .before .before .link-at .result) (c4 .loop .inv .1) (c .before .before .link-at .ensures) (c .before .if1 .left) (c .if2 .left) _ refl)
 
 -- src/lib.rt:105:1
 returns-3 : tie.Need-returns-3 Inv-loop μ-loop

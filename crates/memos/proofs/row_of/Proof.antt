@@ -7,7 +7,7 @@ use Rattle.memos.proofs.row_of.Statement.{statement}
 use Rattle.memos.proofs.row_of.Tie as tie
 use Rattle.memos.proofs.row_of.Reads as reads
 use Rattle.memos.proofs.row_of.Lts as lts
-use Rattle.bindings.proofs.occurrence.word_at.Reads as word-at-reads
+use Rattle.words.proofs.word_at.Reads as word-at-reads
 
 -- src/lib.rt:66:30
 add-word-at : tie.Need-add-word-at
@@ -63,7 +63,7 @@ add-result c = search needs
 
 -- src/lib.rt:61:1
 returns-5 : tie.Need-returns-5
-returns-5 c = rowed-at (c .before .before .before .before .before .before .before .before .args .scratch .now) (c .before .before .before .before .before .before .before .before .args .key) (c .before .before .before .before .before .before .word-at .result) (c .before .before .before .before .word-at2 .result) (c .before .before .word-at3 .result) (omega (arith, c .before .before .before .before .before .if1 .left)) (c .before .before .before .before .word-at2 .ensures) (omega (arith, c .before .before .before .if2 .left)) (c .before .before .word-at3 .ensures) (c .before .if3 .left) (omega (arith, c .if4 .left))
+returns-5 c = let c4 = c .before .before .before .before in let c5 = c4 .before in let c6 = c5 .before in let c8 = c6 .before .before in rowed-at (c8 .args .scratch .now) (c8 .args .key) (c6 .word-at .result) (c4 .word-at2 .result) (c .before .before .word-at3 .result) (omega (arith, c5 .if1 .left)) (c4 .word-at2 .ensures) (omega (arith, c .before .before .before .if2 .left)) (c .before .before .word-at3 .ensures) (c .before .if3 .left) (omega (arith, c .if4 .left))
 
 pub row-of-spec : {M : Type 1} → statement M
 row-of-spec =

@@ -1,4 +1,5 @@
 use Prim.Native.Nat.{_+_}
+use Rattle.layout.specs.Regions.{weights}
 use Rattle.memos.proofs.Remembering.{weighed-two}
 use native.Mathlib.Omega.{arith}
 use lib.ListN.{length-set}
@@ -7,7 +8,7 @@ use Rattle.memos.proofs.weigh.Statement.{statement}
 use Rattle.memos.proofs.weigh.Tie as tie
 use Rattle.memos.proofs.weigh.Reads as reads
 use Rattle.memos.proofs.weigh.Lts as lts
-use Rattle.bindings.proofs.occurrence.word_at.Reads as word-at-reads
+use Rattle.words.proofs.word_at.Reads as word-at-reads
 use Rattle.memos.proofs.sum.Reads as sum-reads
 
 -- src/lib.rt:400:14
@@ -64,7 +65,7 @@ same-length c = search needs
 
 -- src/lib.rt:406:9
 returns : tie.Need-returns
-returns c = weighed-two (c .before .before .before .before .before .before .before .before .args .scratch .now) (283144 + c .before .before .before .before .before .before .before .before .args .h + 1) 0 (283144 + c .before .before .before .before .before .before .before .before .args .h) (c .sum2 .result) (omega arith) (omega (arith, c .before .before .before .before .before .before .before .before .pre .1)) (omega arith) (omega (arith, c .before .before .before .before .before .before .before .before .pre .1))
+returns c = let c8 = c .before .before .before .before .before .before .before .before in weighed-two (c8 .args .scratch .now) (weights + c8 .args .h + 1) 0 (weights + c8 .args .h) (c .sum2 .result) (omega arith) (omega (arith, c8 .pre .1)) (omega arith) (omega (arith, c8 .pre .1))
 
 -- src/lib.rt:408:19
 sum-requires-3 : tie.Need-sum-requires-3
@@ -88,7 +89,7 @@ same-length-2 c = search needs
 
 -- src/lib.rt:396:1
 returns-2 : tie.Need-returns-2
-returns-2 c = weighed-two (c .before .before .before .before .before .before .before .before .args .scratch .now) (283144 + c .before .before .before .before .before .before .before .before .args .h + 1) 0 (283144 + c .before .before .before .before .before .before .before .before .args .h) (c .sum3 .result) (omega arith) (omega (arith, c .before .before .before .before .before .before .before .before .pre .1)) (omega arith) (omega (arith, c .before .before .before .before .before .before .before .before .pre .1))
+returns-2 c = let c8 = c .before .before .before .before .before .before .before .before in weighed-two (c8 .args .scratch .now) (weights + c8 .args .h + 1) 0 (weights + c8 .args .h) (c .sum3 .result) (omega arith) (omega (arith, c8 .pre .1)) (omega arith) (omega (arith, c8 .pre .1))
 
 pub weigh-spec : {M : Type 1} → statement M
 weigh-spec =

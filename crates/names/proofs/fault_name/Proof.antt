@@ -21,7 +21,7 @@ slice-aggregate-result c = search needs
 -- src/lib.rt:86:13
 returns : tie.Need-returns
 unfolding faultName
-returns c = sym (ap (faultName (c .before .before .before .before .before .args .sheet .now) (c .before .before .before .before .before .args .goal .now)) (c .before .enum-told .given .1))
+returns c = let c5 = c .before .before .before .before .before in sym (ap (faultName (c5 .args .sheet .now) (c5 .args .goal .now)) (c .before .enum-told .given .1))
 
 -- src/lib.rt:88:28
 enum-known-verdict : tie.Need-enum-known-verdict
@@ -38,10 +38,10 @@ part-at-fault-requires c κs = search needs
 -- src/lib.rt:92:13
 returns-2 : tie.Need-returns-2
 unfolding faultName
-returns-2 c = c .part-at-fault .ensures
-    ∙ ap (λ (n : ℕ). spelling (textAtFault (c .before .before .before .before .before .before .before .args .sheet .now) (c .before .before .before .before .before .before .before .args .goal .now) (c .before .before .before .verdict .given .0 .0)) n (c .before .name-span .result .len)) (c .before .name-span .ensures .0)
-    ∙ ap (spelling (textAtFault (c .before .before .before .before .before .before .before .args .sheet .now) (c .before .before .before .before .before .before .before .args .goal .now) (c .before .before .before .verdict .given .0 .0)) (nameSpan (c .before .before .before .verdict .given .0 .1 .0) .0)) (c .before .name-span .ensures .1)
-    ∙ sym (ap (faultName (c .before .before .before .before .before .before .before .args .sheet .now) (c .before .before .before .before .before .before .before .args .goal .now)) (c .before .before .before .verdict .given .1))
+returns-2 c = let c7 = c .before .before .before .before .before .before .before in c .part-at-fault .ensures
+    ∙ ap (λ (n : ℕ). spelling (textAtFault (c7 .args .sheet .now) (c7 .args .goal .now) (c .before .before .before .verdict .given .0 .0)) n (c .before .name-span .result .len)) (c .before .name-span .ensures .0)
+    ∙ ap (spelling (textAtFault (c7 .args .sheet .now) (c7 .args .goal .now) (c .before .before .before .verdict .given .0 .0)) (nameSpan (c .before .before .before .verdict .given .0 .1 .0) .0)) (c .before .name-span .ensures .1)
+    ∙ sym (ap (faultName (c7 .args .sheet .now) (c7 .args .goal .now)) (c .before .before .before .verdict .given .1))
 
 pub fault-name-spec : {M : Type 1} → statement M
 fault-name-spec =

@@ -20,7 +20,7 @@ part-requires c κs = search needs
 
 -- src/lib.rt:65:13
 returns : tie.Need-returns
-returns c = c .part .ensures ∙ sym (ap (λ (t : Text). spelling (textAtFault (c .before .before .before .before .before .args .sheet .now) (c .before .before .before .before .before .args .goal .now) t) (c .before .before .before .before .before .args .at) (c .before .before .before .before .before .args .len)) (c .before .enum-told .given .1))
+returns c = let c5 = c .before .before .before .before .before in c .part .ensures ∙ sym (ap (λ (t : Text). spelling (textAtFault (c5 .args .sheet .now) (c5 .args .goal .now) t) (c5 .args .at) (c5 .args .len)) (c .before .enum-told .given .1))
 
 -- src/lib.rt:68:13
 enum-told-2 : tie.Need-enum-told-2
@@ -32,7 +32,7 @@ part-requires-2 c κs = search needs
 
 -- src/lib.rt:68:13
 returns-2 : tie.Need-returns-2
-returns-2 c = c .part2 .ensures ∙ sym (ap (λ (t : Text). spelling (textAtFault (c .before .before .before .before .before .args .sheet .now) (c .before .before .before .before .before .args .goal .now) t) (c .before .before .before .before .before .args .at) (c .before .before .before .before .before .args .len)) (c .before .enum-told2 .given .1))
+returns-2 c = let c5 = c .before .before .before .before .before in c .part2 .ensures ∙ sym (ap (λ (t : Text). spelling (textAtFault (c5 .args .sheet .now) (c5 .args .goal .now) t) (c5 .args .at) (c5 .args .len)) (c .before .enum-told2 .given .1))
 
 -- src/lib.rt:71:20
 enum-told-3 : tie.Need-enum-told-3
@@ -44,7 +44,7 @@ slice-aggregate-result c = search needs
 
 -- src/lib.rt:71:13
 returns-3 : tie.Need-returns-3
-returns-3 c = of-none (c .before .before .before .before .before .args .at) (c .before .before .before .before .before .args .len) ∙ sym (ap (λ (t : Text). spelling (textAtFault (c .before .before .before .before .before .args .sheet .now) (c .before .before .before .before .before .args .goal .now) t) (c .before .before .before .before .before .args .at) (c .before .before .before .before .before .args .len)) (c .before .enum-told3 .given .1))
+returns-3 c = let c5 = c .before .before .before .before .before in of-none (c5 .args .at) (c5 .args .len) ∙ sym (ap (λ (t : Text). spelling (textAtFault (c5 .args .sheet .now) (c5 .args .goal .now) t) (c5 .args .at) (c5 .args .len)) (c .before .enum-told3 .given .1))
 
 pub part-at-fault-spec : {M : Type 1} → statement M
 part-at-fault-spec =

@@ -33,13 +33,13 @@ slice-aggregate-goal-over-2 : tie.Need-slice-aggregate-goal-over-2
 slice-aggregate-goal-over-2 c = search needs
 
 goal-over-requires : tie.Need-goal-over-requires
-goal-over-requires c κs = (over-at (c .before .before .before .before .before .before .before .before .before .before .before .before .before .before .args .sheet .now) (c .before .before .before .before .before .before .before .load-checked .last .1 .0) (c .before .before .before .before .before .before .before .load-checked .last .1 .1 .0) (c .before .before .before .before .before .before .before .before .before .before .before .before .before .before .args .goal .now) (c .before .before .before .before .before .before .before .load-checked .result) (c .before .before .before .before .before .before .before .load-checked .ensures .0) (c .before .before .before .before .before .before .before .load-checked .ensures .1) (c .before .before .before .v .given .0 .0) (c .before .before .before .v .given .0 .1 .0) (c .before .before .before .v .given .1), omega (arith, c .before .before .before .before .before .before .before .load-checked .kept .1 .1 .0, c .before .before .before .before .before .before .before .before .before .before .node-room .ensures))
+goal-over-requires c κs = let c7 = c .before .before .before .before .before .before .before in let c10 = c7 .before .before .before in let c14 = c10 .before .before .before .before in (over-at (c14 .args .sheet .now) (c7 .load-checked .last .1 .0) (c7 .load-checked .last .1 .1 .0) (c14 .args .goal .now) (c7 .load-checked .result) (c7 .load-checked .ensures .0) (c7 .load-checked .ensures .1) (c .before .before .before .v .given .0 .0) (c .before .before .before .v .given .0 .1 .0) (c .before .before .before .v .given .1), omega (arith, c7 .load-checked .kept .1 .1 .0, c10 .node-room .ensures))
 
 returns : tie.Need-returns
-returns c = both-refused (c .before .before .before .before .before .before .before .before .before .before .before .args .sheet .now) (c .before .before .before .before .load-checked .last .1 .0) (c .before .before .before .before .load-checked .last .1 .1 .0) (c .before .before .before .before .before .before .before .before .before .before .before .args .goal .now) (c .before .before .before .before .load-checked .result) (c .before .before .before .before .load-checked .ensures .0) (c .before .before .before .before .load-checked .ensures .1) (c .enum-told .given .0 .0) (c .enum-told .given .0 .1 .0) (c .enum-told .given .1)
+returns c = let c4 = c .before .before .before .before in let c11 = c4 .before .before .before .before .before .before .before in both-refused (c11 .args .sheet .now) (c4 .load-checked .last .1 .0) (c4 .load-checked .last .1 .1 .0) (c11 .args .goal .now) (c4 .load-checked .result) (c4 .load-checked .ensures .0) (c4 .load-checked .ensures .1) (c .enum-told .given .0 .0) (c .enum-told .given .0 .1 .0) (c .enum-told .given .1)
 
 returns-2 : tie.Need-returns-2
-returns-2 c = both-answered (c .before .before .before .before .before .before .before .before .before .before .before .before .before .before .before .before .args .sheet .now) (c .before .before .before .before .before .before .before .before .before .load-checked .last .1 .0) (c .before .before .before .before .before .before .before .before .before .load-checked .last .1 .1 .0) (c .before .before .before .before .before .before .before .before .before .before .before .before .before .before .before .before .args .goal .now) (c .before .before .before .before .before .before .before .before .before .load-checked .result) (c .before .before .before .before .before .before .before .before .before .load-checked .ensures .0) (c .before .before .before .before .before .before .before .before .before .load-checked .ensures .1) (c .before .before .before .before .before .v .given .0 .0) (c .before .before .before .before .before .v .given .0 .1 .0) (c .before .before .before .before .before .v .given .1) (c .before .goal-over .result) (c .before .goal-over .ensures)
+returns-2 c = let c5 = c .before .before .before .before .before in let c9 = c5 .before .before .before .before in let c16 = c9 .before .before .before .before .before .before .before in both-answered (c16 .args .sheet .now) (c9 .load-checked .last .1 .0) (c9 .load-checked .last .1 .1 .0) (c16 .args .goal .now) (c9 .load-checked .result) (c9 .load-checked .ensures .0) (c9 .load-checked .ensures .1) (c5 .v .given .0 .0) (c5 .v .given .0 .1 .0) (c5 .v .given .1) (c .before .goal-over .result) (c .before .goal-over .ensures)
 
 pub check-goal-spec : {M : Type 1} → statement M
 check-goal-spec =

@@ -26,16 +26,16 @@ slice-aggregate-entry-of : tie.Need-slice-aggregate-entry-of
 slice-aggregate-entry-of c = search needs
 
 entry-of-requires : tie.Need-entry-of-requires
-entry-of-requires c κs = entries-long (c .before .before .before .before .before .before .before .before .before .before .before .before .args .sheet .now) (c .before .before .before .before .before .before .load .last .1 .0) (c .before .before .before .before .before .before .load .last .1 .1 .0) (c .before .before .before .before .before .before .load .result) (c .before .before .before .before .before .before .load .ensures .0) (c .before .before .before .before .before .before .load .ensures .1) (c .before .before .declarations .given .0 .0) (c .before .before .declarations .given .0 .1 .0) (c .before .before .declarations .given .1)
+entry-of-requires c κs = let c6 = c .before .before .before .before .before .before in let c12 = c6 .before .before .before .before .before .before in entries-long (c12 .args .sheet .now) (c6 .load .last .1 .0) (c6 .load .last .1 .1 .0) (c6 .load .result) (c6 .load .ensures .0) (c6 .load .ensures .1) (c .before .before .declarations .given .0 .0) (c .before .before .declarations .given .0 .1 .0) (c .before .before .declarations .given .1)
 
 enum-told : tie.Need-enum-told
 enum-told c = search needs
 
 returns : tie.Need-returns
-returns c = entry-is (c .before .before .before .before .before .before .before .before .before .before .before .before .before .args .sheet .now) (c .before .before .before .before .before .before .before .load .last .1 .0) (c .before .before .before .before .before .before .before .load .last .1 .1 .0) (c .before .before .before .before .before .before .before .load .result) (c .before .before .before .before .before .before .before .load .ensures .0) (c .before .before .before .before .before .before .before .load .ensures .1) (c .before .before .before .declarations .given .0 .0) (c .before .before .before .declarations .given .0 .1 .0) (c .before .before .before .declarations .given .1) (c .before .before .before .before .before .before .before .before .before .before .before .before .before .args .i) (c .entry-of .result) (c .entry-of .ensures)
+returns c = let c7 = c .before .before .before .before .before .before .before in let c13 = c7 .before .before .before .before .before .before in entry-is (c13 .args .sheet .now) (c7 .load .last .1 .0) (c7 .load .last .1 .1 .0) (c7 .load .result) (c7 .load .ensures .0) (c7 .load .ensures .1) (c .before .before .before .declarations .given .0 .0) (c .before .before .before .declarations .given .0 .1 .0) (c .before .before .before .declarations .given .1) (c13 .args .i) (c .entry-of .result) (c .entry-of .ensures)
 
 returns-2 : tie.Need-returns-2
-returns-2 c = entry-refused (c .before .before .before .before .before .before .before .before .before .before .args .sheet .now) (c .before .before .before .before .load .last .1 .0) (c .before .before .before .before .load .last .1 .1 .0) (c .before .before .before .before .load .result) (c .before .before .before .before .load .ensures .0) (c .before .before .before .before .load .ensures .1) (c .enum-told .given .0 .0) (c .enum-told .given .0 .1 .0) (c .enum-told .given .1) (c .before .before .before .before .before .before .before .before .before .before .args .i)
+returns-2 c = let c4 = c .before .before .before .before in let c10 = c4 .before .before .before .before .before .before in entry-refused (c10 .args .sheet .now) (c4 .load .last .1 .0) (c4 .load .last .1 .1 .0) (c4 .load .result) (c4 .load .ensures .0) (c4 .load .ensures .1) (c .enum-told .given .0 .0) (c .enum-told .given .0 .1 .0) (c .enum-told .given .1) (c10 .args .i)
 
 pub entry-spec : {M : Type 1} → statement M
 entry-spec =

@@ -18,7 +18,7 @@ array-share-prefix-line : tie.Need-array-share-prefix-line
 array-share-prefix-line c = fits (reportLine (c .before .before .before .args .kind) (c .before .before .before .args .answers) (c .before .before .before .args .steps)) (replicate 64 0) (c .before .put-report .ensures .0) (c .before .put-report .ensures .1)
 
 slice-aggregate-write-all : tie.Need-slice-aggregate-write-all
-slice-aggregate-write-all c = sym (length-take-le _ _ (fits (reportLine (c .before .before .before .before .args .kind) (c .before .before .before .before .args .answers) (c .before .before .before .before .args .steps)) (replicate 64 0) (c .before .before .put-report .ensures .0) (c .before .before .put-report .ensures .1)))
+slice-aggregate-write-all c = let c4 = c .before .before .before .before in sym (length-take-le _ _ (fits (reportLine (c4 .args .kind) (c4 .args .answers) (c4 .args .steps)) (replicate 64 0) (c .before .before .put-report .ensures .0) (c .before .before .put-report .ensures .1)))
 
 write-all-requires : tie.Need-write-all-requires
 write-all-requires c κs = search needs

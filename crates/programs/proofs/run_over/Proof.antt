@@ -17,7 +17,7 @@ slice-aggregate-run c = search needs
 
 -- src/lib.rt:64:5
 run-requires : tie.Need-run-requires
-run-requires c κs = runnable (c .before .before .before .before .before .before .before .before .before .before .before .before .pre .0) (c .before .before .before .state-words .ensures) (c .before .before .before .before .before .before .before .before .before .before .before .before .pre .1)
+run-requires c κs = let c12 = c .before .before .before .before .before .before .before .before .before .before .before .before in runnable (c12 .pre .0) (c .before .before .before .state-words .ensures) (c12 .pre .1)
 
 -- src/lib.rt:47:1
 same-length : tie.Need-same-length
@@ -29,7 +29,7 @@ same-length-2 c = search needs
 
 -- src/lib.rt:47:1
 returns : tie.Need-returns
-returns c = λ w. linked-runs w (c .before .before .before .before .before .before .before .before .before .state-words .ensures) (c .before .before .before .before .before .before .before .before .before .before .before .before .before .before .before .before .before .before .pre .1) (c .before .before .before .before .before .run .ensures)
+returns c = let c5 = c .before .before .before .before .before in let c9 = c5 .before .before .before .before in let c18 = c9 .before .before .before .before .before .before .before .before .before in λ w. linked-runs w (c9 .state-words .ensures) (c18 .pre .1) (c5 .run .ensures)
 
 pub run-over-spec : {M : Type 1} → statement M
 run-over-spec =

@@ -44,7 +44,7 @@ slice-aggregate-link-2 c = search needs
 
 -- src/lib.rt:101:5
 link-requires : tie.Need-link-requires
-link-requires c κs = links (c .before .before .before .before .before .before .before .before .before .before .before .before .before .before .before .before .pre) (c .before .before .before .before .before .before .before .before .before .node-words .ensures) (c .before .before .before .before .before .before .before .before .node-words2 .ensures) (c .before .before .before .before .load-nodes .kept .1 .1 .1 .1 .1 .1 .0) (c .before .before .before .before .load-nodes .ensures) (c .before .before .before .before .before .before .before .code-words .ensures)
+link-requires c κs = let c4 = c .before .before .before .before in let c7 = c4 .before .before .before in let c8 = c7 .before in let c9 = c8 .before in let c16 = c9 .before .before .before .before .before .before .before in links (c16 .pre) (c9 .node-words .ensures) (c8 .node-words2 .ensures) (c4 .load-nodes .kept .1 .1 .1 .1 .1 .1 .0) (c4 .load-nodes .ensures) (c7 .code-words .ensures)
 
 -- src/lib.rt:103:36
 slice-aggregate-run-linked : tie.Need-slice-aggregate-run-linked
@@ -60,7 +60,7 @@ slice-aggregate-run-linked-3 c = search needs
 
 -- src/lib.rt:102:5
 run-linked-requires : tie.Need-run-linked-requires
-run-linked-requires c κs = linked (c .before .before .before .before .before .before .before .before .before .before .before .before .before .before .before .before .before .before .before .before .before .before .pre) (c .before .before .before .before .before .before .before .before .before .before .before .before .before .before .before .node-words .ensures) (c .before .before .before .before .before .before .before .before .before .before .before .before .before .before .node-words2 .ensures) (c .before .before .before .before .before .before .before .before .before .before .load-nodes .kept .1 .1 .1 .1 .1 .1 .0) (c .before .before .before .before .before .before .before .before .before .before .load-nodes .ensures) (c .before .before .before .before .before .before .before .before .before .before .before .before .before .code-words .ensures) (c .before .before .before .before .before .link .ensures)
+run-linked-requires c κs = let c5 = c .before .before .before .before .before in let c10 = c5 .before .before .before .before .before in let c13 = c10 .before .before .before in let c14 = c13 .before in let c15 = c14 .before in let c22 = c15 .before .before .before .before .before .before .before in linked (c22 .pre) (c15 .node-words .ensures) (c14 .node-words2 .ensures) (c10 .load-nodes .kept .1 .1 .1 .1 .1 .1 .0) (c10 .load-nodes .ensures) (c13 .code-words .ensures) (c5 .link .ensures)
 
 -- src/lib.rt:81:1
 same-length : tie.Need-same-length
@@ -68,7 +68,7 @@ same-length c = search needs
 
 -- src/lib.rt:81:1
 returns : tie.Need-returns
-returns c = λ w. program-runs w (c .before .before .before .before .before .before .before .before .before .before .before .before .before .before .before .before .before .before .node-words .ensures) (c .before .before .before .before .before .before .before .before .before .before .before .before .before .before .before .before .before .node-words2 .ensures) (c .before .before .before .before .before .before .before .before .before .before .before .before .before .load-nodes .kept .1 .1 .1 .1 .1 .1 .0) (c .before .before .before .before .before .before .before .before .before .before .before .before .before .load-nodes .ensures) (c .before .before .before .before .before .before .before .before .before .before .before .before .before .before .before .before .code-words .ensures) (c .before .before .before .before .before .before .before .before .link .ensures) (c .before .before .run-linked .ensures)
+returns c = let c8 = c .before .before .before .before .before .before .before .before in let c13 = c8 .before .before .before .before .before in let c16 = c13 .before .before .before in let c17 = c16 .before in let c18 = c17 .before in λ w. program-runs w (c18 .node-words .ensures) (c17 .node-words2 .ensures) (c13 .load-nodes .kept .1 .1 .1 .1 .1 .1 .0) (c13 .load-nodes .ensures) (c16 .code-words .ensures) (c8 .link .ensures) (c .before .before .run-linked .ensures)
 
 pub run-program-spec : {M : Type 1} → statement M
 run-program-spec =

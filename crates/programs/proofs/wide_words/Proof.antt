@@ -1,10 +1,13 @@
+use Prim.Native.Nat.{_+_}
+use Rattle.syntax.specs.Limits.{sheetBytes, goalBytes}
+use Rattle.layout.specs.Regions.{scratchFor}
 use Rattle.programs.proofs.ProgramLaws.{zeros}
 use Rattle.programs.proofs.wide_words.Statement.{statement}
 use Rattle.programs.proofs.wide_words.Tie as tie
 
 -- src/lib.rt:31:1
 returns : tie.Need-returns
-returns c = zeros 761866
+returns c = zeros (scratchFor (sheetBytes + goalBytes))
 
 pub wide-words-spec : {M : Type 1} → statement M
 wide-words-spec = tie.close (tie.spec returns)

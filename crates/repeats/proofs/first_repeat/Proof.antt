@@ -23,13 +23,13 @@ is-repeat-requires : tie.Need-is-repeat-requires Inv-loop μ-loop
 is-repeat-requires c κs = (c .before .before .before .before .pre, c .loop-test .taken)
 
 mul-word-at : tie.Need-mul-word-at Inv-loop μ-loop
-mul-word-at c = omega (arith, place-in (c .before .before .before .before .before .before .args .s .now) (c .before .before .before .before .before .before .args .declared .now) (c .before .before .before .before .before .before .args .n) (c .before .before .before .before .before .before .pre) (c .before .before .before .loop .i) (c .before .before .loop-test .taken), c .before .before .before .before .before .before .good .1 .0)
+mul-word-at c = let c6 = c .before .before .before .before .before .before in omega (arith, place-in (c6 .args .s .now) (c6 .args .declared .now) (c6 .args .n) (c6 .pre) (c .before .before .before .loop .i) (c .before .before .loop-test .taken), c6 .good .1 .0)
 
 word-at-requires : tie.Need-word-at-requires Inv-loop μ-loop
-word-at-requires c κs = omega (arith, place-in (c .before .before .before .before .before .before .args .s .now) (c .before .before .before .before .before .before .args .declared .now) (c .before .before .before .before .before .before .args .n) (c .before .before .before .before .before .before .pre) (c .before .before .before .loop .i) (c .before .before .loop-test .taken))
+word-at-requires c κs = let c6 = c .before .before .before .before .before .before in omega (arith, place-in (c6 .args .s .now) (c6 .args .declared .now) (c6 .args .n) (c6 .pre) (c .before .before .before .loop .i) (c .before .before .loop-test .taken))
 
 returns : tie.Need-returns Inv-loop μ-loop
-returns c = λ w. found-here (c .before .before .before .before .before .before .before .args .s .now) (c .before .before .before .before .before .before .before .args .declared .now) (c .before .before .before .before .before .before .before .args .n) w (c .before .before .before .before .loop .i) (c .before .before .before .loop-test .taken) (c .before .before .before .before .loop .inv .1 w) (c .before .before .is-repeat .result) (c .word-at .result) (c .before .before .is-repeat .ensures w) (c .before .if1 .taken) (c .word-at .ensures)
+returns c = let c4 = c .before .before .before .before in let c7 = c4 .before .before .before in λ w. found-here (c7 .args .s .now) (c7 .args .declared .now) (c7 .args .n) w (c4 .loop .i) (c .before .before .before .loop-test .taken) (c4 .loop .inv .1 w) (c .before .before .is-repeat .result) (c .word-at .result) (c .before .before .is-repeat .ensures w) (c .before .if1 .taken) (c .word-at .ensures)
 
 add-i : tie.Need-add-i Inv-loop μ-loop
 add-i c = omega arith
@@ -38,10 +38,10 @@ loop-less : tie.Need-loop-less Inv-loop μ-loop
 loop-less c = omega arith
 
 loop-again : tie.Need-loop-again Inv-loop μ-loop
-loop-again c = (omega arith, λ w. not-here (c .before .before .before .before .before .before .args .s .now) (c .before .before .before .before .before .before .args .declared .now) (c .before .before .before .before .before .before .args .n) w (c .before .before .before .loop .i) (c .before .before .loop-test .taken) (c .before .before .before .loop .inv .1 w) (c .before .is-repeat .result) (c .before .is-repeat .ensures w) (c .if1 .left))
+loop-again c = let c6 = c .before .before .before .before .before .before in (omega arith, λ w. not-here (c6 .args .s .now) (c6 .args .declared .now) (c6 .args .n) w (c .before .before .before .loop .i) (c .before .before .loop-test .taken) (c .before .before .before .loop .inv .1 w) (c .before .is-repeat .result) (c .before .is-repeat .ensures w) (c .if1 .left))
 
 returns-2 : tie.Need-returns-2 Inv-loop μ-loop
-returns-2 c = λ w. none-left (c .before .before .before .before .args .s .now) (c .before .before .before .before .args .declared .now) (c .before .before .before .before .args .n) w (c .before .loop .i) (c .loop-test .left) (c .before .loop .inv .1 w)
+returns-2 c = let c4 = c .before .before .before .before in λ w. none-left (c4 .args .s .now) (c4 .args .declared .now) (c4 .args .n) w (c .before .loop .i) (c .loop-test .left) (c .before .loop .inv .1 w)
 
 pub first-repeat-spec : {M : Type 1} → statement M
 first-repeat-spec =

@@ -66,7 +66,7 @@ same-length-5 : tie.Need-same-length-5
 same-length-5 c = search needs
 
 returns-5 : tie.Need-returns-5
-returns-5 c = (spelt (deep _ (c .before .before .before .before .before .match .rest .0 .0 .0 .1) (c .before .before .before .before .before .match .rest .0 .0 .1) (c .before .before .before .before .before .match .rest .0 .1) (c .before .before .before .before .before .match .rest .1)) (c .before .before .append5 .ensures), omega arith)
+returns-5 c = let c5 = c .before .before .before .before .before in (spelt (deep _ (c5 .match .rest .0 .0 .0 .1) (c5 .match .rest .0 .0 .1) (c5 .match .rest .0 .1) (c5 .match .rest .1)) (c .before .before .append5 .ensures), omega arith)
 
 pub append-kind-spec : {M : Type 1} → statement M
 append-kind-spec =

@@ -28,7 +28,7 @@ same-length c = search needs
 
 returns : tie.Need-returns
 unfolding reportLine
-returns c = then (then (then (then (c .before .before .before .before .before .before .before .before .before .before .before .before .before .before .before .before .before .before .append .ensures) (c .before .before .before .before .before .before .before .before .before .before .before .before .before .before .append-kind .ensures .0)) (c .before .before .before .before .before .before .before .before .before .before .append-number .ensures .0)) (c .before .before .before .before .before .before .append-number2 .ensures .0)) (c .before .before .append-byte .ensures)
+returns c = let c6 = c .before .before .before .before .before .before in let c10 = c6 .before .before .before .before in let c14 = c10 .before .before .before .before in let c18 = c14 .before .before .before .before in then (then (then (then (c18 .append .ensures) (c14 .append-kind .ensures .0)) (c10 .append-number .ensures .0)) (c6 .append-number2 .ensures .0)) (c .before .before .append-byte .ensures)
 
 pub append-report-spec : {M : Type 1} → statement M
 append-report-spec =

@@ -14,7 +14,7 @@ rewind-requires c κs = answer-rewinds (c .before .before .before .before .befor
 
 -- src/lib.rt:148:9
 tell-requires : tie.Need-tell-requires
-tell-requires c κs = (answer-tells (c .before .before .before .before .before .before .before .before .before .before .before .before .before .before .before .before .pre) (c .before .before .before .before .before .rewind .ensures), answer-room (c .before .before .before .before .before .before .before .before .before .before .before .before .before .before .before .before .pre) (c .before .before .before .before .before .rewind .ensures))
+tell-requires c κs = let c5 = c .before .before .before .before .before in let c16 = c5 .before .before .before .before .before .before .before .before .before .before .before in (answer-tells (c16 .pre) (c5 .rewind .ensures), answer-room (c16 .pre) (c5 .rewind .ensures))
 
 -- src/lib.rt:161:9
 same-length : tie.Need-same-length
@@ -30,11 +30,11 @@ same-length-3 c = search needs
 
 -- src/lib.rt:161:9
 returns : tie.Need-returns
-returns c = λ w. answer-full w (c .before .before .before .before .before .before .before .before .before .before .before .rewind .ensures) (c .before .before .before .before .before .tell .ensures .0) (c .before .before .before .before .before .tell .ensures .1) (c .if1 .taken)
+returns c = let c5 = c .before .before .before .before .before in let c11 = c5 .before .before .before .before .before .before in λ w. answer-full w (c11 .rewind .ensures) (c5 .tell .ensures .0) (c5 .tell .ensures .1) (c .if1 .taken)
 
 -- src/lib.rt:167:9
 step-requires : tie.Need-step-requires
-step-requires c κs = answer-steps (c .before .before .before .before .before .before .before .before .before .before .before .before .before .before .before .before .before .before .before .before .before .before .before .before .pre) (c .before .before .before .before .before .before .before .before .before .before .before .before .before .rewind .ensures) (c .before .before .before .before .before .before .before .tell .ensures .1)
+step-requires c κs = let c7 = c .before .before .before .before .before .before .before in let c13 = c7 .before .before .before .before .before .before in let c24 = c13 .before .before .before .before .before .before .before .before .before .before .before in answer-steps (c24 .pre) (c13 .rewind .ensures) (c7 .tell .ensures .1)
 
 -- src/lib.rt:129:1
 same-length-4 : tie.Need-same-length-4
@@ -50,7 +50,7 @@ same-length-6 c = search needs
 
 -- src/lib.rt:129:1
 returns-2 : tie.Need-returns-2
-returns-2 c = λ w. answer-on w (c .before .before .before .before .before .before .before .before .before .before .before .before .before .before .before .before .before .before .rewind .ensures) (c .before .before .before .before .before .before .before .before .before .before .before .before .tell .ensures .0) (c .before .before .before .before .before .before .before .before .before .before .before .before .tell .ensures .1) _ _ (c .before .before .before .before .step .result) (c .before .before .before .before .step .ensures)
+returns-2 c = let c4 = c .before .before .before .before in let c12 = c4 .before .before .before .before .before .before .before .before in let c18 = c12 .before .before .before .before .before .before in λ w. answer-on w (c18 .rewind .ensures) (c12 .tell .ensures .0) (c12 .tell .ensures .1) _ _ (c4 .step .result) (c4 .step .ensures)
 
 pub answer-spec : {M : Type 1} → statement M
 answer-spec =

@@ -26,7 +26,7 @@ is-answer-requires c κs = search needs
 
 -- src/lib.rt:66:9
 returns-4 : tie.Need-returns-4
-returns-4 c = λ nodes w. next-answer (c .before .before .before .before .before .before .before .pre .1) w (c .before .before .before .before .if1 .left) (c .before .before .before .if2 .left) (c .before .before .if3 .left) (sym (c .if4 .taken) ∙ c .before .is-answer .ensures nodes w)
+returns-4 c = let c4 = c .before .before .before .before in let c7 = c4 .before .before .before in λ nodes w. next-answer (c7 .pre .1) w (c4 .if1 .left) (c .before .before .before .if2 .left) (c .before .before .if3 .left) (sym (c .if4 .taken) ∙ c .before .is-answer .ensures nodes w)
 
 -- src/lib.rt:68:8
 goes-deeper-requires : tie.Need-goes-deeper-requires
@@ -34,11 +34,11 @@ goes-deeper-requires c κs = search needs
 
 -- src/lib.rt:69:9
 returns-5 : tie.Need-returns-5
-returns-5 c = λ nodes w. next-deep (c .before .before .before .before .before .before .before .before .before .pre .1) w (c .before .before .before .before .before .before .if1 .left) (c .before .before .before .before .before .if2 .left) (c .before .before .before .before .if3 .left) (sym (c .before .before .if4 .left) ∙ c .before .before .before .is-answer .ensures nodes w) (sym (c .if5 .taken) ∙ c .before .goes-deeper .ensures nodes w)
+returns-5 c = let c4 = c .before .before .before .before in let c5 = c4 .before in let c6 = c5 .before in let c9 = c6 .before .before .before in λ nodes w. next-deep (c9 .pre .1) w (c6 .if1 .left) (c5 .if2 .left) (c4 .if3 .left) (sym (c .before .before .if4 .left) ∙ c .before .before .before .is-answer .ensures nodes w) (sym (c .if5 .taken) ∙ c .before .goes-deeper .ensures nodes w)
 
 -- src/lib.rt:42:1
 returns-6 : tie.Need-returns-6
-returns-6 c = λ nodes w. next-step (c .before .before .before .before .before .before .before .before .before .pre .1) w (c .before .before .before .before .before .before .if1 .left) (c .before .before .before .before .before .if2 .left) (c .before .before .before .before .if3 .left) (sym (c .before .before .if4 .left) ∙ c .before .before .before .is-answer .ensures nodes w) (sym (c .if5 .left) ∙ c .before .goes-deeper .ensures nodes w)
+returns-6 c = let c4 = c .before .before .before .before in let c5 = c4 .before in let c6 = c5 .before in let c9 = c6 .before .before .before in λ nodes w. next-step (c9 .pre .1) w (c6 .if1 .left) (c5 .if2 .left) (c4 .if3 .left) (sym (c .before .before .if4 .left) ∙ c .before .before .before .is-answer .ensures nodes w) (sym (c .if5 .left) ∙ c .before .goes-deeper .ensures nodes w)
 
 pub next-of-spec : {M : Type 1} → statement M
 next-of-spec =

@@ -5,7 +5,7 @@ use Rattle.runs.proofs.rewind.Statement.{statement}
 use Rattle.runs.proofs.rewind.Tie as tie
 use Rattle.runs.proofs.rewind.Reads as reads
 use Rattle.runs.proofs.rewind.Lts as lts
-use Rattle.bindings.proofs.occurrence.word_at.Reads as word-at-reads
+use Rattle.words.proofs.word_at.Reads as word-at-reads
 use Rattle.bindings.proofs.store.undo.Reads as undo-reads
 
 -- src/lib.rt:79:13
@@ -30,7 +30,7 @@ word-at-requires c κs = rewind-room (c .before .before .pre)
 
 -- src/lib.rt:82:5
 undo-requires : tie.Need-undo-requires
-undo-requires c κs = (rewind-stored (c .before .before .before .before .pre), rewind-low (c .before .before .before .before .pre) (c .before .word-at .ensures))
+undo-requires c κs = let c4 = c .before .before .before .before in (rewind-stored (c4 .pre), rewind-low (c4 .pre) (c .before .word-at .ensures))
 
 -- src/lib.rt:75:1
 same-length : tie.Need-same-length
@@ -38,7 +38,7 @@ same-length c = search needs
 
 -- src/lib.rt:75:1
 returns : tie.Need-returns
-returns c = rewind-ends (c .before .before .before .before .before .before .before .pre) (c .before .before .before .before .word-at .ensures) (c .before .before .undo .ensures)
+returns c = let c4 = c .before .before .before .before in let c7 = c4 .before .before .before in rewind-ends (c7 .pre) (c4 .word-at .ensures) (c .before .before .undo .ensures)
 
 pub rewind-spec : {M : Type 1} → statement M
 rewind-spec =

@@ -7,7 +7,7 @@ use Rattle.bindings.proofs.occurrence.is_constant.Tie as tie
 use Rattle.bindings.proofs.occurrence.is_constant.Reads as reads
 use Rattle.bindings.proofs.occurrence.is_constant.Lts as lts
 use Rattle.bindings.proofs.occurrence.size_at.Reads as size-at-reads
-use Rattle.bindings.proofs.occurrence.word_at.Reads as word-at-reads
+use Rattle.words.proofs.word_at.Reads as word-at-reads
 
 word-at-requires : tie.Need-word-at-requires
 word-at-requires c κs = search needs

@@ -23,15 +23,15 @@ size-at-requires c κs = scan-inside (c .before .before .before .args .nodes .no
 
 -- src/occurrence.rt:67:13
 add-e : tie.Need-add-e Inv-loop μ-loop
-add-e c = omega (arith, scan-inside (c .before .before .before .before .args .nodes .now) (c .before .before .before .before .args .state .now) (c .before .before .before .before .args .scratch .now) (c .before .before .before .before .args .q) (c .before .before .before .before .args .d) (c .before .before .before .before .args .m) (c .before .before .before .before .pre))
+add-e c = let c4 = c .before .before .before .before in omega (arith, scan-inside (c4 .args .nodes .now) (c4 .args .state .now) (c4 .args .scratch .now) (c4 .args .q) (c4 .args .d) (c4 .args .m) (c4 .pre))
 
 -- src/occurrence.rt:70:5
 loop-holds : tie.Need-loop-holds Inv-loop μ-loop
-loop-holds c = λ g. scan-begin (c .before .before .before .before .args .nodes .now) (c .before .before .before .before .args .state .now) (c .before .before .before .before .args .scratch .now) (c .before .before .before .before .args .q) (c .before .before .before .before .args .d) (c .before .before .before .before .args .x) (c .before .before .before .before .args .m) (c .size-at .result) g (c .size-at .ensures)
+loop-holds c = let c4 = c .before .before .before .before in λ g. scan-begin (c4 .args .nodes .now) (c4 .args .state .now) (c4 .args .scratch .now) (c4 .args .q) (c4 .args .d) (c4 .args .x) (c4 .args .m) (c .size-at .result) g (c .size-at .ensures)
 
 -- src/occurrence.rt:71:12
 is-cell-requires : tie.Need-is-cell-requires Inv-loop μ-loop
-is-cell-requires c κs = (scan-place (c .before .before .before .before .before .before .args .nodes .now) (c .before .before .before .before .before .before .args .state .now) (c .before .before .before .before .before .before .args .scratch .now) (c .before .loop .scratch) (c .before .before .before .before .before .before .args .q) (c .before .before .before .before .before .before .args .q + c .before .before .size-at .result) (c .before .before .before .before .before .before .args .d) (c .before .before .before .before .before .before .args .x) (c .before .before .before .before .before .before .args .m) (c .before .loop .i) (c .before .loop .n) (c .before .before .before .before .before .before .pre) (c .before .loop .inv (c .before .before .before .before .before .before .pre)) (c .loop-test .taken), c .before .before .before .before .before .before .pre .copy)
+is-cell-requires c κs = let c6 = c .before .before .before .before .before .before in (scan-place (c6 .args .nodes .now) (c6 .args .state .now) (c6 .args .scratch .now) (c .before .loop .scratch) (c6 .args .q) (c6 .args .q + c .before .before .size-at .result) (c6 .args .d) (c6 .args .x) (c6 .args .m) (c .before .loop .i) (c .before .loop .n) (c6 .pre) (c .before .loop .inv (c6 .pre)) (c .loop-test .taken), c6 .pre .copy)
 
 -- src/occurrence.rt:72:13
 same-length : tie.Need-same-length Inv-loop μ-loop
@@ -39,15 +39,15 @@ same-length c = c .before .before .before .loop .inv (c .before .before .before 
 
 -- src/occurrence.rt:72:13
 returns : tie.Need-returns Inv-loop μ-loop
-returns c = λ g. scan-found (c .before .before .before .before .before .before .before .before .args .nodes .now) (c .before .before .before .before .before .before .before .before .args .state .now) (c .before .before .before .before .before .before .before .before .args .scratch .now) (c .before .before .before .loop .scratch) (c .before .before .before .before .before .before .before .before .args .q) (c .before .before .before .before .before .before .before .before .args .q + c .before .before .before .before .size-at .result) (c .before .before .before .before .before .before .before .before .args .d) (c .before .before .before .before .before .before .before .before .args .x) (c .before .before .before .before .before .before .before .before .args .m) (c .before .before .before .loop .i) (c .before .before .before .loop .n) g (c .before .before .before .loop .inv g) (c .before .before .loop-test .taken) (c .before .is-cell .result) (c .before .is-cell .ensures) (c .if1 .taken)
+returns c = let c4 = c .before .before .before .before in let c8 = c4 .before .before .before .before in λ g. scan-found (c8 .args .nodes .now) (c8 .args .state .now) (c8 .args .scratch .now) (c .before .before .before .loop .scratch) (c8 .args .q) (c8 .args .q + c4 .size-at .result) (c8 .args .d) (c8 .args .x) (c8 .args .m) (c .before .before .before .loop .i) (c .before .before .before .loop .n) g (c .before .before .before .loop .inv g) (c .before .before .loop-test .taken) (c .before .is-cell .result) (c .before .is-cell .ensures) (c .if1 .taken)
 
 -- src/occurrence.rt:74:9
 visit-requires : tie.Need-visit-requires Inv-loop μ-loop
-visit-requires c κs = scan-visit (c .before .before .before .before .before .before .before .before .before .args .nodes .now) (c .before .before .before .before .before .before .before .before .before .args .state .now) (c .before .before .before .before .before .before .before .before .before .args .scratch .now) (c .before .before .before .before .loop .scratch) (c .before .before .before .before .before .before .before .before .before .args .q) (c .before .before .before .before .before .before .before .before .before .args .q + c .before .before .before .before .before .size-at .result) (c .before .before .before .before .before .before .before .before .before .args .d) (c .before .before .before .before .before .before .before .before .before .args .x) (c .before .before .before .before .before .before .before .before .before .args .m) (c .before .before .before .before .loop .i) (c .before .before .before .before .loop .n) (c .before .before .before .before .before .before .before .before .before .pre) (c .before .before .before .before .loop .inv (c .before .before .before .before .before .before .before .before .before .pre)) (c .before .before .before .loop-test .taken)
+visit-requires c κs = let c4 = c .before .before .before .before in let c5 = c4 .before in let c9 = c5 .before .before .before .before in scan-visit (c9 .args .nodes .now) (c9 .args .state .now) (c9 .args .scratch .now) (c4 .loop .scratch) (c9 .args .q) (c9 .args .q + c5 .size-at .result) (c9 .args .d) (c9 .args .x) (c9 .args .m) (c4 .loop .i) (c4 .loop .n) (c9 .pre) (c4 .loop .inv (c9 .pre)) (c .before .before .before .loop-test .taken)
 
 -- src/occurrence.rt:75:9
 add-i : tie.Need-add-i Inv-loop μ-loop
-add-i c = omega (arith, scan-place (c .before .before .before .before .before .before .before .before .before .before .before .before .args .nodes .now) (c .before .before .before .before .before .before .before .before .before .before .before .before .args .state .now) (c .before .before .before .before .before .before .before .before .before .before .before .before .args .scratch .now) (c .before .before .before .before .before .before .before .loop .scratch) (c .before .before .before .before .before .before .before .before .before .before .before .before .args .q) (c .before .before .before .before .before .before .before .before .before .before .before .before .args .q + c .before .before .before .before .before .before .before .before .size-at .result) (c .before .before .before .before .before .before .before .before .before .before .before .before .args .d) (c .before .before .before .before .before .before .before .before .before .before .before .before .args .x) (c .before .before .before .before .before .before .before .before .before .before .before .before .args .m) (c .before .before .before .before .before .before .before .loop .i) (c .before .before .before .before .before .before .before .loop .n) (c .before .before .before .before .before .before .before .before .before .before .before .before .pre) (c .before .before .before .before .before .before .before .loop .inv (c .before .before .before .before .before .before .before .before .before .before .before .before .pre)) (c .before .before .before .before .before .before .loop-test .taken))
+add-i c = let c6 = c .before .before .before .before .before .before in let c7 = c6 .before in let c8 = c7 .before in let c12 = c8 .before .before .before .before in omega (arith, scan-place (c12 .args .nodes .now) (c12 .args .state .now) (c12 .args .scratch .now) (c7 .loop .scratch) (c12 .args .q) (c12 .args .q + c8 .size-at .result) (c12 .args .d) (c12 .args .x) (c12 .args .m) (c7 .loop .i) (c7 .loop .n) (c12 .pre) (c7 .loop .inv (c12 .pre)) (c6 .loop-test .taken))
 
 -- src/occurrence.rt:70:5
 loop-less : tie.Need-loop-less Inv-loop μ-loop
@@ -55,7 +55,7 @@ loop-less c = omega arith
 
 -- src/occurrence.rt:70:5
 loop-again : tie.Need-loop-again Inv-loop μ-loop
-loop-again c = λ g. scan-next (c .before .before .before .before .before .before .before .before .before .before .before .before .args .nodes .now) (c .before .before .before .before .before .before .before .before .before .before .before .before .args .state .now) (c .before .before .before .before .before .before .before .before .before .before .before .before .args .scratch .now) (c .before .before .before .before .before .before .before .loop .scratch) (c .before .before .before .before .before .before .before .before .before .before .before .before .args .q) (c .before .before .before .before .before .before .before .before .before .before .before .before .args .q + c .before .before .before .before .before .before .before .before .size-at .result) (c .before .before .before .before .before .before .before .before .before .before .before .before .args .d) (c .before .before .before .before .before .before .before .before .before .before .before .before .args .x) (c .before .before .before .before .before .before .before .before .before .before .before .before .args .m) (c .before .before .before .before .before .before .before .loop .i) (c .before .before .before .before .before .before .before .loop .n) g (c .before .before .before .before .before .before .before .loop .inv g) (c .before .before .before .before .before .before .loop-test .taken) (c .before .before .before .before .before .is-cell .result) (c .before .before .before .before .before .is-cell .ensures) (c .before .before .before .before .if1 .left) (c .before .before .visit .last .1 .1 .0) (c .before .before .visit .result) (c .before .before .visit .ensures)
+loop-again c = let c4 = c .before .before .before .before in let c5 = c4 .before in let c6 = c5 .before in let c7 = c6 .before in let c8 = c7 .before in let c12 = c8 .before .before .before .before in λ g. scan-next (c12 .args .nodes .now) (c12 .args .state .now) (c12 .args .scratch .now) (c7 .loop .scratch) (c12 .args .q) (c12 .args .q + c8 .size-at .result) (c12 .args .d) (c12 .args .x) (c12 .args .m) (c7 .loop .i) (c7 .loop .n) g (c7 .loop .inv g) (c6 .loop-test .taken) (c5 .is-cell .result) (c5 .is-cell .ensures) (c4 .if1 .left) (c .before .before .visit .last .1 .1 .0) (c .before .before .visit .result) (c .before .before .visit .ensures)
 
 -- src/occurrence.rt:63:1
 same-length-2 : tie.Need-same-length-2 Inv-loop μ-loop
@@ -63,7 +63,7 @@ same-length-2 c = c .before .loop .inv (c .before .before .before .before .befor
 
 -- src/occurrence.rt:63:1
 returns-2 : tie.Need-returns-2 Inv-loop μ-loop
-returns-2 c = λ g. scan-end (c .before .before .before .before .before .before .args .nodes .now) (c .before .before .before .before .before .before .args .state .now) (c .before .before .before .before .before .before .args .scratch .now) (c .before .loop .scratch) (c .before .before .before .before .before .before .args .q) (c .before .before .before .before .before .before .args .q + c .before .before .size-at .result) (c .before .before .before .before .before .before .args .d) (c .before .before .before .before .before .before .args .x) (c .before .before .before .before .before .before .args .m) (c .before .loop .i) (c .before .loop .n) g (c .before .loop .inv g) (c .loop-test .left)
+returns-2 c = let c6 = c .before .before .before .before .before .before in λ g. scan-end (c6 .args .nodes .now) (c6 .args .state .now) (c6 .args .scratch .now) (c .before .loop .scratch) (c6 .args .q) (c6 .args .q + c .before .before .size-at .result) (c6 .args .d) (c6 .args .x) (c6 .args .m) (c .before .loop .i) (c .before .loop .n) g (c .before .loop .inv g) (c .loop-test .left)
 
 pub scan-spec : {M : Type 1} → statement M
 scan-spec =

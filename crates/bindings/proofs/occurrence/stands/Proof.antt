@@ -14,13 +14,13 @@ apart-requires c κs = search needs
 
 -- src/occurrence.rt:162:9
 returns : tie.Need-returns
-returns c = λ g. apart-checked (c .before .before .before .before .before .args .nodes .now) (c .before .before .before .before .before .args .state .now) (c .before .before .before .before .before .args .scratch .now) (c .before .before .before .before .before .args .x) (c .before .before .before .before .before .args .q) (c .before .before .before .before .before .args .d) (c .before .before .before .before .before .args .k) g (c .before .before .before .before .before .pre .1) (c .before .apart .ensures (c .if1 .taken))
+returns c = let c5 = c .before .before .before .before .before in λ g. apart-checked (c5 .args .nodes .now) (c5 .args .state .now) (c5 .args .scratch .now) (c5 .args .x) (c5 .args .q) (c5 .args .d) (c5 .args .k) g (c5 .pre .1) (c .before .apart .ensures (c .if1 .taken))
 
 is-constant-requires : tie.Need-is-constant-requires
-is-constant-requires c κs = constant-inside (c .before .before .before .before .before .args .nodes .now) (c .before .before .before .before .before .args .state .now) (c .before .before .before .before .before .args .scratch .now) (c .before .before .before .before .before .args .x) (c .before .before .before .before .before .args .q) (c .before .before .before .before .before .args .d) (c .before .before .before .before .before .pre .0)
+is-constant-requires c κs = let c5 = c .before .before .before .before .before in constant-inside (c5 .args .nodes .now) (c5 .args .state .now) (c5 .args .scratch .now) (c5 .args .x) (c5 .args .q) (c5 .args .d) (c5 .pre .0)
 
 returns-2 : tie.Need-returns-2
-returns-2 c = λ g. constant-checked (c .before .before .before .before .before .before .before .args .nodes .now) (c .before .before .before .before .before .before .before .args .state .now) (c .before .before .before .before .before .before .before .args .scratch .now) (c .before .before .before .before .before .before .before .args .x) (c .before .before .before .before .before .before .before .args .q) (c .before .before .before .before .before .before .before .args .d) g (c .before .is-constant .ensures (c .if2 .taken))
+returns-2 c = let c7 = c .before .before .before .before .before .before .before in λ g. constant-checked (c7 .args .nodes .now) (c7 .args .state .now) (c7 .args .scratch .now) (c7 .args .x) (c7 .args .q) (c7 .args .d) g (c .before .is-constant .ensures (c .if2 .taken))
 
 occurs-requires : tie.Need-occurs-requires
 occurs-requires c κs = search needs

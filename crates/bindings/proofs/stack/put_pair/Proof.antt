@@ -1,6 +1,7 @@
 use Prim.Native.Nat.{ℕ, _+_, _*_}
 use mathlib.Core.List.{List}
 use mathlib.Core.Path.{_∙_, ap}
+use Rattle.layout.specs.Regions.{storeWords, sideSize, pairOf}
 use Rattle.bindings.specs.Scratch.{sideWords, pairWords}
 use borrow.Author.Needs.{needs}
 use Rattle.bindings.proofs.stack.put_pair.Statement.{statement}
@@ -36,7 +37,7 @@ same-length c = search needs
 -- src/stack.rt:40:1
 returns : tie.Need-returns
 unfolding pairWords
-returns c = c .before .before .put-side2 .ensures ∙ ap (λ (s : List ℕ). sideWords s (32768 + c .before .before .before .before .before .before .before .before .before .args .k * 6 + 3) (c .before .before .before .before .before .before .before .before .before .args .other) (c .before .before .before .before .before .before .before .before .before .args .there) (c .before .before .before .before .before .before .before .before .before .args .second)) (c .before .before .before .before .before .before .put-side .ensures)
+returns c = let c6 = c .before .before .before .before .before .before in let c9 = c6 .before .before .before in c .before .before .put-side2 .ensures ∙ ap (λ (s : List ℕ). sideWords s (pairOf (c9 .args .k) + sideSize) (c9 .args .other) (c9 .args .there) (c9 .args .second)) (c6 .put-side .ensures)
 
 pub put-pair-spec : {M : Type 1} → statement M
 put-pair-spec =

@@ -50,7 +50,7 @@ mul-scratch-3 c = search needs
 
 -- src/stack.rt:36:5
 slice-write-scratch-3 : tie.Need-slice-write-scratch-3
-slice-write-scratch-3 c = search needs
+slice-write-scratch-3 c = simp length-set (omega arith)
 
 -- src/stack.rt:30:1
 same-length : tie.Need-same-length

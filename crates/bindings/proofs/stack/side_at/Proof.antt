@@ -4,7 +4,7 @@ use Rattle.bindings.proofs.stack.side_at.Statement.{statement}
 use Rattle.bindings.proofs.stack.side_at.Tie as tie
 use Rattle.bindings.proofs.stack.side_at.Reads as reads
 use Rattle.bindings.proofs.stack.side_at.Lts as lts
-use Rattle.bindings.proofs.occurrence.word_at.Reads as word-at-reads
+use Rattle.words.proofs.word_at.Reads as word-at-reads
 
 -- src/stack.rt:24:9
 word-at-requires : tie.Need-word-at-requires

@@ -1,26 +1,17 @@
 use Rattle.layout.specs.State.{boundWords}
-use mathlib.Core.Path.{refl}
+use mathlib.Core.Path.{ap}
 use borrow.Author.Needs.{needs}
 use Rattle.bindings.proofs.store.bind.Statement.{statement}
 use Rattle.bindings.proofs.store.bind.Tie as tie
 use Rattle.bindings.proofs.store.bind.Reads as reads
 use Rattle.bindings.proofs.store.bind.Lts as lts
 
--- src/store.rt:47:13
-mul-w : tie.Need-mul-w
-mul-w c = search needs
-
--- src/store.rt:47:13
-add-w : tie.Need-add-w
-add-w c = search needs
-
--- src/store.rt:47:13
-add-w-2 : tie.Need-add-w-2
-add-w-2 c = search needs
-
 -- src/store.rt:48:14
 add-at : tie.Need-add-at
 add-at c = search needs
+
+pack-requires : tie.Need-pack-requires
+pack-requires c κs = search needs
 
 -- src/store.rt:49:16
 cast-state : tie.Need-cast-state
@@ -53,15 +44,13 @@ same-length c = search needs
 -- src/store.rt:43:1
 returns : tie.Need-returns
 unfolding boundWords
-returns c = refl
+returns c = ap (boundWords (c .before .before .args .state .now) (c .before .before .args .n) (c .before .before .args .x)) (c .pack .ensures)
 
 pub bind-spec : {M : Type 1} → statement M
 bind-spec =
     tie.close
     (tie.spec
-    mul-w
-    add-w
-    add-w-2
+    pack-requires
     add-at
     cast-state
     mul-state

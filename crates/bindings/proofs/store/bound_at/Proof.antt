@@ -2,6 +2,7 @@ use Prim.Native.Nat.{_+_, _*_}
 use lib.ListN.{getD}
 use native.Mathlib.Omega.{arith}
 use mathlib.Core.Path.{sym}
+use Rattle.layout.specs.Regions.{copyCells}
 use Rattle.bindings.proofs.Deref.{bound-variable, bound-name}
 use borrow.Author.Needs.{needs}
 use Rattle.bindings.proofs.store.bound_at.Statement.{statement}
@@ -43,7 +44,7 @@ shared-slice-read-result c = search needs
 
 -- src/store.rt:23:5
 cast-result : tie.Need-cast-result
-cast-result c = omega (arith, c .shared-slice-known2 .given (c .before .before .before .args .c * 64 + getD (c .before .before .before .args .nodes .now) (c .before .before .before .args .p) 0))
+cast-result c = omega (arith, c .shared-slice-known2 .given (c .before .before .before .args .c * copyCells + getD (c .before .before .before .args .nodes .now) (c .before .before .before .args .p) 0))
 
 -- src/store.rt:14:1
 returns-2 : tie.Need-returns-2

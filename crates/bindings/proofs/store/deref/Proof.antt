@@ -1,3 +1,4 @@
+use borrow.Author.Needs.{needs}
 use native.Mathlib.Omega.{arith}
 use mathlib.Core.Path.{_≡_}
 use Rattle.bindings.specs.Cells.{boundAt, Given, Leads}
@@ -22,29 +23,24 @@ bound-at-requires c κs = place (c .before .before .pre .ss) (c .before .before 
 loop-holds : tie.Need-loop-holds Inv-loop μ-loop
 loop-holds c = (c .bound-at .ensures, λ g. leads-begin (c .before .before .before .args .nodes .now) (c .before .before .before .args .state .now) (c .before .before .before .args .p) (c .before .before .before .args .c) g)
 
--- src/store.rt:35:17
-sub-node : tie.Need-sub-node Inv-loop μ-loop
-sub-node c = omega (arith, c .loop-test .taken)
-
--- src/store.rt:36:17
-sub-copy : tie.Need-sub-copy Inv-loop μ-loop
-sub-copy c = omega (arith, c .loop-test .taken)
+unpack-requires : tie.Need-unpack-requires Inv-loop μ-loop
+unpack-requires c κs = omega (arith, c .loop-test .taken)
 
 -- src/store.rt:37:9
 bound-at-requires-2 : tie.Need-bound-at-requires-2 Inv-loop μ-loop
-bound-at-requires-2 c κs = let g : Given (c .before .before .before .before .before .args .nodes .now) (c .before .before .before .before .before .args .state .now) (c .before .before .before .before .before .args .p) (c .before .before .before .before .before .args .c) = c .before .before .before .before .before .pre in let k : Leads (g .ss) (c .before .before .before .before .before .args .nodes .now) (c .before .before .before .before .before .args .state .now) (g .n) (c .before .before .before .before .before .args .p) (c .before .before .before .before .before .args .c) _ _ = leads-on (c .before .before .before .before .before .args .nodes .now) (c .before .before .before .before .before .args .state .now) (c .before .before .before .before .before .args .p) (c .before .before .before .before .before .args .c) (c .before .loop .node) (c .before .loop .copy) (c .before .loop .w) g (c .before .loop .inv .1 g) (c .before .loop .inv .0) (c .loop-test .taken) in place (g .ss) (c .before .before .before .before .before .args .nodes .now) (c .before .before .before .before .before .args .state .now) (g .n) _ _ (g .store) (k .node) (k .copy)
+bound-at-requires-2 c κs = let c6 = c .before .before .before .before .before .before in let g : Given (c6 .args .nodes .now) (c6 .args .state .now) (c6 .args .p) (c6 .args .c) = c6 .pre in let k : Leads (g .ss) (c6 .args .nodes .now) (c6 .args .state .now) (g .n) (c6 .args .p) (c6 .args .c) _ _ = leads-on (c6 .args .nodes .now) (c6 .args .state .now) (c6 .args .p) (c6 .args .c) (c .before .before .loop .node) (c .before .before .loop .copy) (c .before .before .loop .w) g (c .before .before .loop .inv .1 g) (c .before .before .loop .inv .0) (c .before .loop-test .taken) (c .unpack .ensures) in place (g .ss) (c6 .args .nodes .now) (c6 .args .state .now) (g .n) _ _ (g .store) (k .node) (k .copy)
 
 -- src/store.rt:34:5
 loop-less : tie.Need-loop-less Inv-loop μ-loop
-loop-less c = depth-falls (c .before .before .before .before .before .before .args .nodes .now) (c .before .before .before .before .before .before .args .state .now) (c .before .before .before .before .before .before .args .p) (c .before .before .before .before .before .before .args .c) (c .before .before .loop .node) (c .before .before .loop .copy) (c .before .before .loop .w) (c .before .before .before .before .before .before .pre) (c .before .before .loop .inv .1 (c .before .before .before .before .before .before .pre)) (c .before .before .loop .inv .0) (c .before .loop-test .taken)
+loop-less c = let c7 = c .before .before .before .before .before .before .before in depth-falls (c7 .args .nodes .now) (c7 .args .state .now) (c7 .args .p) (c7 .args .c) (c .before .before .before .loop .node) (c .before .before .before .loop .copy) (c .before .before .before .loop .w) (c7 .pre) (c .before .before .before .loop .inv .1 (c7 .pre)) (c .before .before .before .loop .inv .0) (c .before .before .loop-test .taken) (c .before .unpack .ensures)
 
 -- src/store.rt:34:5
 loop-again : tie.Need-loop-again Inv-loop μ-loop
-loop-again c = (c .bound-at2 .ensures, λ g. leads-on (c .before .before .before .before .before .before .args .nodes .now) (c .before .before .before .before .before .before .args .state .now) (c .before .before .before .before .before .before .args .p) (c .before .before .before .before .before .before .args .c) (c .before .before .loop .node) (c .before .before .loop .copy) (c .before .before .loop .w) g (c .before .before .loop .inv .1 g) (c .before .before .loop .inv .0) (c .before .loop-test .taken))
+loop-again c = let c7 = c .before .before .before .before .before .before .before in (c .bound-at2 .ensures, λ g. leads-on (c7 .args .nodes .now) (c7 .args .state .now) (c7 .args .p) (c7 .args .c) (c .before .before .before .loop .node) (c .before .before .before .loop .copy) (c .before .before .before .loop .w) g (c .before .before .before .loop .inv .1 g) (c .before .before .before .loop .inv .0) (c .before .before .loop-test .taken) (c .before .unpack .ensures))
 
 -- src/store.rt:27:1
 returns : tie.Need-returns Inv-loop μ-loop
-returns c = λ g. leads-end (c .before .before .before .before .before .args .nodes .now) (c .before .before .before .before .before .args .state .now) (c .before .before .before .before .before .args .p) (c .before .before .before .before .before .args .c) (c .before .loop .node) (c .before .loop .copy) (c .before .loop .w) g (c .before .loop .inv .1 g) (c .before .loop .inv .0) (c .loop-test .left)
+returns c = let c5 = c .before .before .before .before .before in λ g. leads-end (c5 .args .nodes .now) (c5 .args .state .now) (c5 .args .p) (c5 .args .c) (c .before .loop .node) (c .before .loop .copy) (c .before .loop .w) g (c .before .loop .inv .1 g) (c .before .loop .inv .0) (c .loop-test .left)
 
 pub deref-spec : {M : Type 1} → statement M
 deref-spec =
@@ -54,8 +50,7 @@ deref-spec =
     μ-loop
     bound-at-requires
     loop-holds
-    sub-node
-    sub-copy
+    unpack-requires
     bound-at-requires-2
     loop-less
     loop-again

@@ -4,6 +4,7 @@ use Prim.Native.Nat.{_≤_}
 use native.Mathlib.Omega.{arith}
 use borrow.Author.Needs.{needs}
 use lib.ListN.{length-set}
+use Rattle.layout.specs.Regions.{trail}
 use Rattle.bindings.specs.Cells.{Stored, Undone}
 use Rattle.bindings.proofs.Deref.{undone-begin, undone-next, next-entry}
 use Rattle.bindings.proofs.store.undo.Statement.{statement}
@@ -39,7 +40,7 @@ slice-read-x c = omega (arith, next-entry (c .before .before .before .args .stat
 
 -- src/store.rt:63:17
 cast-x : tie.Need-cast-x Inv-loop μ-loop
-cast-x c = omega (arith, c .slice-known .given (16384 + (c .before .before .loop .i - 1)))
+cast-x c = omega (arith, c .slice-known .given (trail + (c .before .before .loop .i - 1)))
 
 -- src/store.rt:64:9
 mul-state : tie.Need-mul-state Inv-loop μ-loop

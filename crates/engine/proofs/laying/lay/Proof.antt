@@ -26,7 +26,7 @@ same-length c = search needs
 
 -- src/laying.rt:51:1
 returns : tie.Need-returns
-returns c = λ w. lay-end w (c .before .before .before .before .before .first-literal .result) (c .before .before .before .before .before .first-literal .ensures) (c .before .before .before .before .topmost .result) (c .before .before .before .before .topmost .ensures) (c .before .before .put-stand .last .0) (c .before .before .put-stand .ensures)
+returns c = let c4 = c .before .before .before .before in let c5 = c4 .before in λ w. lay-end w (c5 .first-literal .result) (c5 .first-literal .ensures) (c4 .topmost .result) (c4 .topmost .ensures) (c .before .before .put-stand .last .0) (c .before .before .put-stand .ensures)
 
 pub lay-spec : {M : Type 1} → statement M
 lay-spec =

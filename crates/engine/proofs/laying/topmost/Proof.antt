@@ -4,7 +4,7 @@ use Rattle.engine.proofs.laying.topmost.Statement.{statement}
 use Rattle.engine.proofs.laying.topmost.Tie as tie
 use Rattle.engine.proofs.laying.topmost.Reads as reads
 use Rattle.engine.proofs.laying.topmost.Lts as lts
-use Rattle.bindings.proofs.occurrence.word_at.Reads as word-at-reads
+use Rattle.words.proofs.word_at.Reads as word-at-reads
 
 -- src/laying.rt:44:8
 word-at-requires : tie.Need-word-at-requires
@@ -24,7 +24,7 @@ word-at-requires-2 c κs = search needs
 
 -- src/laying.rt:40:1
 returns-2 : tie.Need-returns-2
-returns-2 c = read-call (c .before .before .before .before .args .code .now) (c .before .before .before .before .args .l) (c .before .before .word-at .result) (c .word-at2 .result) (c .before .before .word-at .ensures) (c .before .if1 .left) (c .word-at2 .ensures)
+returns-2 c = let c4 = c .before .before .before .before in read-call (c4 .args .code .now) (c4 .args .l) (c .before .before .word-at .result) (c .word-at2 .result) (c .before .before .word-at .ensures) (c .before .if1 .left) (c .word-at2 .ensures)
 
 pub topmost-spec : {M : Type 1} → statement M
 topmost-spec =

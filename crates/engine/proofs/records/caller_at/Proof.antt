@@ -4,7 +4,7 @@ use Rattle.engine.proofs.records.caller_at.Statement.{statement}
 use Rattle.engine.proofs.records.caller_at.Tie as tie
 use Rattle.engine.proofs.records.caller_at.Reads as reads
 use Rattle.engine.proofs.records.caller_at.Lts as lts
-use Rattle.bindings.proofs.occurrence.word_at.Reads as word-at-reads
+use Rattle.words.proofs.word_at.Reads as word-at-reads
 
 -- src/records.rt:56:22
 mul-i : tie.Need-mul-i

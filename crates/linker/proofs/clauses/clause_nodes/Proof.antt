@@ -22,7 +22,7 @@ nodes-of-requires : tie.Need-nodes-of-requires
 nodes-of-requires c κs = clause-marks (c .before .before .before .args .table .now) (c .before .before .before .args .p) (c .before .before .before .pre .0) (c .before .before .before .pre .1) (c .before .word-at .result) (c .word-at2 .result) (c .before .word-at .ensures) (c .word-at2 .ensures)
 
 returns : tie.Need-returns
-returns c = λ ss cl h. clause-size ss (c .before .before .before .before .args .table .now) (c .before .before .before .before .args .p) cl h (c .before .before .word-at .result) (c .before .word-at2 .result) (c .before .before .word-at .ensures) (c .before .word-at2 .ensures) (c .nodes-of .result) (c .nodes-of .ensures)
+returns c = let c4 = c .before .before .before .before in λ ss cl h. clause-size ss (c4 .args .table .now) (c4 .args .p) cl h (c .before .before .word-at .result) (c .before .word-at2 .result) (c .before .before .word-at .ensures) (c .before .word-at2 .ensures) (c .nodes-of .result) (c .nodes-of .ensures)
 
 pub clause-nodes-spec : {M : Type 1} → statement M
 clause-nodes-spec =

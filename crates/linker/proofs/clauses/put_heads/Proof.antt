@@ -24,37 +24,37 @@ loop-holds : tie.Need-loop-holds Inv-loop μ-loop
 loop-holds c = λ ss cls w. heads-begin ss cls (c .before .before .args .table .now) (c .before .before .args .q) (c .before .before .args .clauses) (c .before .before .args .code .now) w
 
 mul-put : tie.Need-mul-put Inv-loop μ-loop
-mul-put c = omega (arith, heads-room (c .before .before .before .before .before .args .table .now) (c .before .before .loop .at) (c .before .before .loop .node) (c .before .before .before .before .before .args .clauses) (c .before .before .loop .code) (c .before .before .loop .k) (c .before .loop-test .taken) (c .before .before .before .before .before .pre .0) _ (c .before .before .loop .inv (c .before .before .before .before .before .pre .0) (c .before .before .before .before .before .pre .1 .0) (c .before .before .before .before .before .pre .1 .1)) .0)
+mul-put c = let c5 = c .before .before .before .before .before in omega (arith, heads-room (c5 .args .table .now) (c .before .before .loop .at) (c .before .before .loop .node) (c5 .args .clauses) (c .before .before .loop .code) (c .before .before .loop .k) (c .before .loop-test .taken) (c5 .pre .0) _ (c .before .before .loop .inv (c5 .pre .0) (c5 .pre .1 .0) (c5 .pre .1 .1)) .0)
 
 put-requires : tie.Need-put-requires Inv-loop μ-loop
-put-requires c κs = (heads-room (c .before .before .before .before .before .args .table .now) (c .before .before .loop .at) (c .before .before .loop .node) (c .before .before .before .before .before .args .clauses) (c .before .before .loop .code) (c .before .before .loop .k) (c .before .loop-test .taken) (c .before .before .before .before .before .pre .0) _ (c .before .before .loop .inv (c .before .before .before .before .before .pre .0) (c .before .before .before .before .before .pre .1 .0) (c .before .before .before .before .before .pre .1 .1)) .1 .0, omega (arith, heads-room (c .before .before .before .before .before .args .table .now) (c .before .before .loop .at) (c .before .before .loop .node) (c .before .before .before .before .before .args .clauses) (c .before .before .loop .code) (c .before .before .loop .k) (c .before .loop-test .taken) (c .before .before .before .before .before .pre .0) _ (c .before .before .loop .inv (c .before .before .before .before .before .pre .0) (c .before .before .before .before .before .pre .1 .0) (c .before .before .before .before .before .pre .1 .1)) .1 .1))
+put-requires c κs = let c5 = c .before .before .before .before .before in (heads-room (c5 .args .table .now) (c .before .before .loop .at) (c .before .before .loop .node) (c5 .args .clauses) (c .before .before .loop .code) (c .before .before .loop .k) (c .before .loop-test .taken) (c5 .pre .0) _ (c .before .before .loop .inv (c5 .pre .0) (c5 .pre .1 .0) (c5 .pre .1 .1)) .1 .0, omega (arith, heads-room (c5 .args .table .now) (c .before .before .loop .at) (c .before .before .loop .node) (c5 .args .clauses) (c .before .before .loop .code) (c .before .before .loop .k) (c .before .loop-test .taken) (c5 .pre .0) _ (c .before .before .loop .inv (c5 .pre .0) (c5 .pre .1 .0) (c5 .pre .1 .1)) .1 .1))
 
 clause-nodes-requires : tie.Need-clause-nodes-requires Inv-loop μ-loop
-clause-nodes-requires c κs = heads-clause (c .before .before .before .before .before .before .before .before .args .table .now) (c .before .before .before .before .before .loop .at) (c .before .before .before .before .before .loop .node) (c .before .before .before .before .before .before .before .before .args .clauses) (c .before .before .before .before .before .loop .code) (c .before .before .before .before .before .loop .k) (c .before .before .before .before .loop-test .taken) (c .before .before .before .before .before .before .before .before .pre .0) _ (c .before .before .before .before .before .loop .inv (c .before .before .before .before .before .before .before .before .pre .0) (c .before .before .before .before .before .before .before .before .pre .1 .0) (c .before .before .before .before .before .before .before .before .pre .1 .1))
+clause-nodes-requires c κs = let c4 = c .before .before .before .before in let c5 = c4 .before in let c8 = c5 .before .before .before in heads-clause (c8 .args .table .now) (c5 .loop .at) (c5 .loop .node) (c8 .args .clauses) (c5 .loop .code) (c5 .loop .k) (c4 .loop-test .taken) (c8 .pre .0) _ (c5 .loop .inv (c8 .pre .0) (c8 .pre .1 .0) (c8 .pre .1 .1))
 
 word-at-requires : tie.Need-word-at-requires Inv-loop μ-loop
-word-at-requires c κs = clause-ends (c .before .before .before .before .before .before .before .before .before .args .table .now) (c .before .before .before .before .before .before .loop .at) (heads-clause (c .before .before .before .before .before .before .before .before .before .args .table .now) (c .before .before .before .before .before .before .loop .at) (c .before .before .before .before .before .before .loop .node) (c .before .before .before .before .before .before .before .before .before .args .clauses) (c .before .before .before .before .before .before .loop .code) (c .before .before .before .before .before .before .loop .k) (c .before .before .before .before .before .loop-test .taken) (c .before .before .before .before .before .before .before .before .before .pre .0) _ (c .before .before .before .before .before .before .loop .inv (c .before .before .before .before .before .before .before .before .before .pre .0) (c .before .before .before .before .before .before .before .before .before .pre .1 .0) (c .before .before .before .before .before .before .before .before .before .pre .1 .1)) .0) (heads-clause (c .before .before .before .before .before .before .before .before .before .args .table .now) (c .before .before .before .before .before .before .loop .at) (c .before .before .before .before .before .before .loop .node) (c .before .before .before .before .before .before .before .before .before .args .clauses) (c .before .before .before .before .before .before .loop .code) (c .before .before .before .before .before .before .loop .k) (c .before .before .before .before .before .loop-test .taken) (c .before .before .before .before .before .before .before .before .before .pre .0) _ (c .before .before .before .before .before .before .loop .inv (c .before .before .before .before .before .before .before .before .before .pre .0) (c .before .before .before .before .before .before .before .before .before .pre .1 .0) (c .before .before .before .before .before .before .before .before .before .pre .1 .1)) .1) .0
+word-at-requires c κs = let c5 = c .before .before .before .before .before in let c6 = c5 .before in let c9 = c6 .before .before .before in clause-ends (c9 .args .table .now) (c6 .loop .at) (heads-clause (c9 .args .table .now) (c6 .loop .at) (c6 .loop .node) (c9 .args .clauses) (c6 .loop .code) (c6 .loop .k) (c5 .loop-test .taken) (c9 .pre .0) _ (c6 .loop .inv (c9 .pre .0) (c9 .pre .1 .0) (c9 .pre .1 .1)) .0) (heads-clause (c9 .args .table .now) (c6 .loop .at) (c6 .loop .node) (c9 .args .clauses) (c6 .loop .code) (c6 .loop .k) (c5 .loop-test .taken) (c9 .pre .0) _ (c6 .loop .inv (c9 .pre .0) (c9 .pre .1 .0) (c9 .pre .1 .1)) .1) .0
 
 add-at : tie.Need-add-at Inv-loop μ-loop
-add-at c = omega (arith, c .word-at .ensures, clause-ends (c .before .before .before .before .before .before .before .before .before .before .args .table .now) (c .before .before .before .before .before .before .before .loop .at) (heads-clause (c .before .before .before .before .before .before .before .before .before .before .args .table .now) (c .before .before .before .before .before .before .before .loop .at) (c .before .before .before .before .before .before .before .loop .node) (c .before .before .before .before .before .before .before .before .before .before .args .clauses) (c .before .before .before .before .before .before .before .loop .code) (c .before .before .before .before .before .before .before .loop .k) (c .before .before .before .before .before .before .loop-test .taken) (c .before .before .before .before .before .before .before .before .before .before .pre .0) _ (c .before .before .before .before .before .before .before .loop .inv (c .before .before .before .before .before .before .before .before .before .before .pre .0) (c .before .before .before .before .before .before .before .before .before .before .pre .1 .0) (c .before .before .before .before .before .before .before .before .before .before .pre .1 .1)) .0) (heads-clause (c .before .before .before .before .before .before .before .before .before .before .args .table .now) (c .before .before .before .before .before .before .before .loop .at) (c .before .before .before .before .before .before .before .loop .node) (c .before .before .before .before .before .before .before .before .before .before .args .clauses) (c .before .before .before .before .before .before .before .loop .code) (c .before .before .before .before .before .before .before .loop .k) (c .before .before .before .before .before .before .loop-test .taken) (c .before .before .before .before .before .before .before .before .before .before .pre .0) _ (c .before .before .before .before .before .before .before .loop .inv (c .before .before .before .before .before .before .before .before .before .before .pre .0) (c .before .before .before .before .before .before .before .before .before .before .pre .1 .0) (c .before .before .before .before .before .before .before .before .before .before .pre .1 .1)) .1) .1)
+add-at c = let c6 = c .before .before .before .before .before .before in let c7 = c6 .before in let c10 = c7 .before .before .before in omega (arith, c .word-at .ensures, clause-ends (c10 .args .table .now) (c7 .loop .at) (heads-clause (c10 .args .table .now) (c7 .loop .at) (c7 .loop .node) (c10 .args .clauses) (c7 .loop .code) (c7 .loop .k) (c6 .loop-test .taken) (c10 .pre .0) _ (c7 .loop .inv (c10 .pre .0) (c10 .pre .1 .0) (c10 .pre .1 .1)) .0) (heads-clause (c10 .args .table .now) (c7 .loop .at) (c7 .loop .node) (c10 .args .clauses) (c7 .loop .code) (c7 .loop .k) (c6 .loop-test .taken) (c10 .pre .0) _ (c7 .loop .inv (c10 .pre .0) (c10 .pre .1 .0) (c10 .pre .1 .1)) .1) .1)
 
 add-node : tie.Need-add-node Inv-loop μ-loop
-add-node c = omega (arith, heads-size (c .before .before .before .before .before .before .before .before .before .before .args .table .now) (c .before .before .before .before .before .before .before .loop .at) (c .before .before .before .before .before .before .before .loop .node) (c .before .before .before .before .before .before .before .before .before .before .args .clauses) (c .before .before .before .before .before .before .before .loop .code) (c .before .before .before .before .before .before .before .loop .k) (c .before .before .before .before .before .before .loop-test .taken) (c .before .clause-nodes .result) (c .before .clause-nodes .ensures) (c .before .before .before .before .before .before .before .before .before .before .pre .0) _ (c .before .before .before .before .before .before .before .loop .inv (c .before .before .before .before .before .before .before .before .before .before .pre .0) (c .before .before .before .before .before .before .before .before .before .before .pre .1 .0) (c .before .before .before .before .before .before .before .before .before .before .pre .1 .1)))
+add-node c = let c6 = c .before .before .before .before .before .before in let c7 = c6 .before in let c10 = c7 .before .before .before in omega (arith, heads-size (c10 .args .table .now) (c7 .loop .at) (c7 .loop .node) (c10 .args .clauses) (c7 .loop .code) (c7 .loop .k) (c6 .loop-test .taken) (c .before .clause-nodes .result) (c .before .clause-nodes .ensures) (c10 .pre .0) _ (c7 .loop .inv (c10 .pre .0) (c10 .pre .1 .0) (c10 .pre .1 .1)))
 
 add-k : tie.Need-add-k Inv-loop μ-loop
-add-k c = omega (arith, heads-room (c .before .before .before .before .before .before .before .before .before .before .args .table .now) (c .before .before .before .before .before .before .before .loop .at) (c .before .before .before .before .before .before .before .loop .node) (c .before .before .before .before .before .before .before .before .before .before .args .clauses) (c .before .before .before .before .before .before .before .loop .code) (c .before .before .before .before .before .before .before .loop .k) (c .before .before .before .before .before .before .loop-test .taken) (c .before .before .before .before .before .before .before .before .before .before .pre .0) _ (c .before .before .before .before .before .before .before .loop .inv (c .before .before .before .before .before .before .before .before .before .before .pre .0) (c .before .before .before .before .before .before .before .before .before .before .pre .1 .0) (c .before .before .before .before .before .before .before .before .before .before .pre .1 .1)) .0)
+add-k c = let c6 = c .before .before .before .before .before .before in let c7 = c6 .before in let c10 = c7 .before .before .before in omega (arith, heads-room (c10 .args .table .now) (c7 .loop .at) (c7 .loop .node) (c10 .args .clauses) (c7 .loop .code) (c7 .loop .k) (c6 .loop-test .taken) (c10 .pre .0) _ (c7 .loop .inv (c10 .pre .0) (c10 .pre .1 .0) (c10 .pre .1 .1)) .0)
 
 loop-less : tie.Need-loop-less Inv-loop μ-loop
 loop-less c = omega arith
 
 loop-again : tie.Need-loop-again Inv-loop μ-loop
-loop-again c = λ ss cls w. heads-next (c .before .before .before .before .before .before .before .before .before .before .args .table .now) (c .before .before .before .before .before .before .before .loop .at) (c .before .before .before .before .before .before .before .loop .node) (c .before .before .before .before .before .before .before .before .before .before .args .clauses) (c .before .before .before .before .before .before .before .loop .code) (c .before .before .before .before .before .before .before .loop .k) (c .before .before .before .before .before .before .loop-test .taken) (c .before .clause-nodes .result) (c .before .clause-nodes .ensures) _ (c .before .before .before .before .put .ensures) (c .word-at .result) (c .word-at .ensures) ss _ (c .before .before .before .before .before .before .before .loop .inv ss cls w)
+loop-again c = let c4 = c .before .before .before .before in let c6 = c4 .before .before in let c7 = c6 .before in let c10 = c7 .before .before .before in λ ss cls w. heads-next (c10 .args .table .now) (c7 .loop .at) (c7 .loop .node) (c10 .args .clauses) (c7 .loop .code) (c7 .loop .k) (c6 .loop-test .taken) (c .before .clause-nodes .result) (c .before .clause-nodes .ensures) _ (c4 .put .ensures) (c .word-at .result) (c .word-at .ensures) ss _ (c7 .loop .inv ss cls w)
 
 same-length : tie.Need-same-length Inv-loop μ-loop
-same-length c = ap length (heads-end (c .before .before .before .before .pre .0) _ (c .before .before .before .before .args .table .now) (c .before .loop .at) (c .before .loop .node) (c .before .before .before .before .args .clauses) (c .before .loop .code) (c .before .loop .k) (c .loop-test .left) (c .before .loop .inv (c .before .before .before .before .pre .0) (c .before .before .before .before .pre .1 .0) (c .before .before .before .before .pre .1 .1))) ∙ heads-long (c .before .before .before .before .pre .0) (c .before .before .before .before .args .q) (c .before .before .before .before .pre .1 .0) (c .before .before .before .before .args .code .now) 1
+same-length c = let c4 = c .before .before .before .before in ap length (heads-end (c4 .pre .0) _ (c4 .args .table .now) (c .before .loop .at) (c .before .loop .node) (c4 .args .clauses) (c .before .loop .code) (c .before .loop .k) (c .loop-test .left) (c .before .loop .inv (c4 .pre .0) (c4 .pre .1 .0) (c4 .pre .1 .1))) ∙ heads-long (c4 .pre .0) (c4 .args .q) (c4 .pre .1 .0) (c4 .args .code .now) 1
 
 returns : tie.Need-returns Inv-loop μ-loop
-returns c = λ ss cls w. heads-end ss _ (c .before .before .before .before .args .table .now) (c .before .loop .at) (c .before .loop .node) (c .before .before .before .before .args .clauses) (c .before .loop .code) (c .before .loop .k) (c .loop-test .left) (c .before .loop .inv ss cls w)
+returns c = let c4 = c .before .before .before .before in λ ss cls w. heads-end ss _ (c4 .args .table .now) (c .before .loop .at) (c .before .loop .node) (c4 .args .clauses) (c .before .loop .code) (c .before .loop .k) (c .loop-test .left) (c .before .loop .inv ss cls w)
 
 pub put-heads-spec : {M : Type 1} → statement M
 put-heads-spec =

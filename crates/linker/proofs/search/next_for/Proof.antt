@@ -23,7 +23,7 @@ head-word-requires : tie.Need-head-word-requires Inv-loop μ-loop
 head-word-requires c κs = (omega arith, (omega arith, c .before .before .before .before .pre .0 .inside (c .before .loop .j) (omega arith) (omega arith)))
 
 returns : tie.Need-returns Inv-loop μ-loop
-returns c = seek-found (c .before .before .before .before .before .before .args .nodes .now) (c .before .before .before .before .before .before .args .code .now) (c .before .before .before .before .before .before .args .word) (c .before .before .before .before .before .before .args .clauses) (c .before .before .before .loop .j) _ (c .before .before .before .loop .inv .1 .1) (c .before .before .loop-test .taken) (sym (c .before .head-word .ensures) ∙ c .if1 .taken)
+returns c = let c6 = c .before .before .before .before .before .before in seek-found (c6 .args .nodes .now) (c6 .args .code .now) (c6 .args .word) (c6 .args .clauses) (c .before .before .before .loop .j) _ (c .before .before .before .loop .inv .1 .1) (c .before .before .loop-test .taken) (sym (c .before .head-word .ensures) ∙ c .if1 .taken)
 
 add-j-2 : tie.Need-add-j-2 Inv-loop μ-loop
 add-j-2 c = omega arith
@@ -32,10 +32,10 @@ loop-less : tie.Need-loop-less Inv-loop μ-loop
 loop-less c = omega arith
 
 loop-again : tie.Need-loop-again Inv-loop μ-loop
-loop-again c = (omega arith, (omega arith, seek-on (c .before .before .before .before .before .before .args .nodes .now) (c .before .before .before .before .before .before .args .code .now) (c .before .before .before .before .before .before .args .word) (c .before .before .before .before .before .before .args .clauses) (c .before .before .before .loop .j) _ (c .before .before .before .loop .inv .1 .1) (c .before .before .loop-test .taken) (λ e. c .if1 .left (c .before .head-word .ensures ∙ e))))
+loop-again c = let c6 = c .before .before .before .before .before .before in (omega arith, (omega arith, seek-on (c6 .args .nodes .now) (c6 .args .code .now) (c6 .args .word) (c6 .args .clauses) (c .before .before .before .loop .j) _ (c .before .before .before .loop .inv .1 .1) (c .before .before .loop-test .taken) (λ e. c .if1 .left (c .before .head-word .ensures ∙ e))))
 
 returns-2 : tie.Need-returns-2 Inv-loop μ-loop
-returns-2 c = seek-none (c .before .before .before .before .args .nodes .now) (c .before .before .before .before .args .code .now) (c .before .before .before .before .args .word) (c .before .before .before .before .args .clauses) (c .before .loop .j) _ (c .before .loop .inv .1 .1) (c .loop-test .left)
+returns-2 c = let c4 = c .before .before .before .before in seek-none (c4 .args .nodes .now) (c4 .args .code .now) (c4 .args .word) (c4 .args .clauses) (c .before .loop .j) _ (c .before .loop .inv .1 .1) (c .loop-test .left)
 
 pub next-for-spec : {M : Type 1} → statement M
 next-for-spec =

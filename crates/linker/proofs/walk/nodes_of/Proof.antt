@@ -11,7 +11,7 @@ mul-result : tie.Need-mul-result
 mul-result c = search needs
 
 returns : tie.Need-returns
-returns c = nodes-of-is (c .args .words) (c .args .marks)
+returns c = nodes-of-is (c .args .words) (c .args .others)
 
 pub nodes-of-spec : {M : Type 1} → statement M
 nodes-of-spec = tie.close (tie.spec sub-result mul-result returns)

@@ -28,7 +28,7 @@ loop-less : tie.Need-loop-less Inv-loop μ-loop
 loop-less c = omega arith
 
 loop-again : tie.Need-loop-again Inv-loop μ-loop
-loop-again c = λ b w. on-next (c .before .before .before .before .args .table .now) (c .before .before .loop .at) (c .before .before .loop .i) (c .before .before .before .before .args .literals) _ (c .before .loop-test .taken) (c .past-literal .result) (c .past-literal .ensures) (c .before .before .loop .inv b w)
+loop-again c = let c4 = c .before .before .before .before in λ b w. on-next (c4 .args .table .now) (c .before .before .loop .at) (c .before .before .loop .i) (c4 .args .literals) _ (c .before .loop-test .taken) (c .past-literal .result) (c .past-literal .ensures) (c .before .before .loop .inv b w)
 
 returns : tie.Need-returns Inv-loop μ-loop
 returns c = λ b w. on-end (c .before .before .before .args .table .now) (c .before .loop .at) (c .before .loop .i) (c .before .before .before .args .literals) _ (c .loop-test .left) (c .before .loop .inv b w)

@@ -18,13 +18,18 @@ loop-holds : tie.Need-loop-holds Inv-loop μ-loop
 loop-holds c = (omega arith, (refl, λ w. body-begin (c .before .before .args .table .now) (c .before .before .args .from) (c .before .before .args .literals) (c .before .before .args .text) (c .before .before .args .nodes .now) (c .before .before .args .at) (c .before .before .pre .0 .1 .1 .1) w))
 
 add-first : tie.Need-add-first Inv-loop μ-loop
-add-first c = omega (arith, body-turn (c .before .before .before .before .args .table .now) (c .before .before .before .before .args .literals) (c .before .before .before .before .args .text) (c .before .before .before .before .args .nodes .now) (c .before .before .before .before .args .at) (flatWords (flatAll (c .before .before .before .before .args .text) (bodyParsed (c .before .before .before .before .pre .1 .body)))) (c .before .loop .nodes) (c .before .loop .p) (c .before .loop .q) (c .before .loop .i) (c .loop-test .taken) (c .before .loop .inv .1 .1 (c .before .before .before .before .pre .1)) .inside, c .before .before .before .before .pre .0 .1 .0)
+add-first c = let c4 = c .before .before .before .before in omega (arith, body-turn (c .loop-test .taken) (c .before .loop .inv .1 .1 (c4 .pre .1)) .inside, c4 .pre .0 .1 .0)
 
 past-literal-requires : tie.Need-past-literal-requires Inv-loop μ-loop
-past-literal-requires c κs = (body-turn (c .before .before .before .before .args .table .now) (c .before .before .before .before .args .literals) (c .before .before .before .before .args .text) (c .before .before .before .before .args .nodes .now) (c .before .before .before .before .args .at) (flatWords (flatAll (c .before .before .before .before .args .text) (bodyParsed (c .before .before .before .before .pre .1 .body)))) (c .before .loop .nodes) (c .before .loop .p) (c .before .loop .q) (c .before .loop .i) (c .loop-test .taken) (c .before .loop .inv .1 .1 (c .before .before .before .before .pre .1)) .source, body-turn (c .before .before .before .before .args .table .now) (c .before .before .before .before .args .literals) (c .before .before .before .before .args .text) (c .before .before .before .before .args .nodes .now) (c .before .before .before .before .args .at) (flatWords (flatAll (c .before .before .before .before .args .text) (bodyParsed (c .before .before .before .before .pre .1 .body)))) (c .before .loop .nodes) (c .before .loop .p) (c .before .loop .q) (c .before .loop .i) (c .loop-test .taken) (c .before .loop .inv .1 .1 (c .before .before .before .before .pre .1)) .literal)
+past-literal-requires c κs =
+    let t = body-turn (c .loop-test .taken) (c .before .loop .inv .1 .1 (c .before .before .before .before .pre .1)) in
+    (t .literal, t .has)
 
 copy-nodes-requires : tie.Need-copy-nodes-requires Inv-loop μ-loop
-copy-nodes-requires c κs = ((c .before .before .before .before .before .before .pre .0 .0, (c .before .before .before .before .before .before .pre .0 .1 .0, (omega (arith, c .before .before .before .loop .inv .1 .0, c .before .before .before .before .before .before .pre .0 .1 .1 .0), body-turn (c .before .before .before .before .before .before .args .table .now) (c .before .before .before .before .before .before .args .literals) (c .before .before .before .before .before .before .args .text) (c .before .before .before .before .before .before .args .nodes .now) (c .before .before .before .before .before .before .args .at) (flatWords (flatAll (c .before .before .before .before .before .before .args .text) (bodyParsed (c .before .before .before .before .before .before .pre .1 .body)))) (c .before .before .before .loop .nodes) (c .before .before .before .loop .p) (c .before .before .before .loop .q) (c .before .before .before .loop .i) (c .before .before .loop-test .taken) (c .before .before .before .loop .inv .1 .1 (c .before .before .before .before .before .before .pre .1)) .near))), body-turn (c .before .before .before .before .before .before .args .table .now) (c .before .before .before .before .before .before .args .literals) (c .before .before .before .before .before .before .args .text) (c .before .before .before .before .before .before .args .nodes .now) (c .before .before .before .before .before .before .args .at) (flatWords (flatAll (c .before .before .before .before .before .before .args .text) (bodyParsed (c .before .before .before .before .before .before .pre .1 .body)))) (c .before .before .before .loop .nodes) (c .before .before .before .loop .p) (c .before .before .before .loop .q) (c .before .before .before .loop .i) (c .before .before .loop-test .taken) (c .before .before .before .loop .inv .1 .1 (c .before .before .before .before .before .before .pre .1)) .run (c .before .past-literal .result) (c .before .past-literal .ensures (body-turn (c .before .before .before .before .before .before .args .table .now) (c .before .before .before .before .before .before .args .literals) (c .before .before .before .before .before .before .args .text) (c .before .before .before .before .before .before .args .nodes .now) (c .before .before .before .before .before .before .args .at) (flatWords (flatAll (c .before .before .before .before .before .before .args .text) (bodyParsed (c .before .before .before .before .before .before .pre .1 .body)))) (c .before .before .before .loop .nodes) (c .before .before .before .loop .p) (c .before .before .before .loop .q) (c .before .before .before .loop .i) (c .before .before .loop-test .taken) (c .before .before .before .loop .inv .1 .1 (c .before .before .before .before .before .before .pre .1)) .source) (body-turn (c .before .before .before .before .before .before .args .table .now) (c .before .before .before .before .before .before .args .literals) (c .before .before .before .before .before .before .args .text) (c .before .before .before .before .before .before .args .nodes .now) (c .before .before .before .before .before .before .args .at) (flatWords (flatAll (c .before .before .before .before .before .before .args .text) (bodyParsed (c .before .before .before .before .before .before .pre .1 .body)))) (c .before .before .before .loop .nodes) (c .before .before .before .loop .p) (c .before .before .before .loop .q) (c .before .before .before .loop .i) (c .before .before .loop-test .taken) (c .before .before .before .loop .inv .1 .1 (c .before .before .before .before .before .before .pre .1)) .literal)))
+copy-nodes-requires c κs =
+    let pre = c .before .before .before .before .before .before .pre in
+    let t = body-turn (c .before .before .loop-test .taken) (c .before .before .before .loop .inv .1 .1 (pre .1)) in
+    ((pre .0 .0, (pre .0 .1 .0, (omega (arith, c .before .before .before .loop .inv .1 .0, pre .0 .1 .1 .0), t .near))), t .run (c .before .past-literal .result) (c .before .past-literal .ensures (t .literal) (t .has)))
 
 add-i : tie.Need-add-i Inv-loop μ-loop
 add-i c = omega arith
@@ -33,13 +38,23 @@ loop-less : tie.Need-loop-less Inv-loop μ-loop
 loop-less c = omega arith
 
 loop-again : tie.Need-loop-again Inv-loop μ-loop
-loop-again c = (omega arith, (c .before .before .copy-nodes .kept .1 .1 .1 .1 .0 ∙ c .before .before .before .before .before .before .loop .inv .1 .0, λ w. body-turn (c .before .before .before .before .before .before .before .before .before .args .table .now) (c .before .before .before .before .before .before .before .before .before .args .literals) (c .before .before .before .before .before .before .before .before .before .args .text) (c .before .before .before .before .before .before .before .before .before .args .nodes .now) (c .before .before .before .before .before .before .before .before .before .args .at) (flatWords (flatAll (c .before .before .before .before .before .before .before .before .before .args .text) (bodyParsed (w .body)))) (c .before .before .before .before .before .before .loop .nodes) (c .before .before .before .before .before .before .loop .p) (c .before .before .before .before .before .before .loop .q) (c .before .before .before .before .before .before .loop .i) (c .before .before .before .before .before .loop-test .taken) (c .before .before .before .before .before .before .loop .inv .1 .1 (w)) .on (c .before .before .before .before .past-literal .result) (c .before .before .copy-nodes .last .1 .1 .1 .1 .0) (c .before .before .copy-nodes .result) (c .before .before .before .before .past-literal .ensures (body-turn (c .before .before .before .before .before .before .before .before .before .args .table .now) (c .before .before .before .before .before .before .before .before .before .args .literals) (c .before .before .before .before .before .before .before .before .before .args .text) (c .before .before .before .before .before .before .before .before .before .args .nodes .now) (c .before .before .before .before .before .before .before .before .before .args .at) (flatWords (flatAll (c .before .before .before .before .before .before .before .before .before .args .text) (bodyParsed (w .body)))) (c .before .before .before .before .before .before .loop .nodes) (c .before .before .before .before .before .before .loop .p) (c .before .before .before .before .before .before .loop .q) (c .before .before .before .before .before .before .loop .i) (c .before .before .before .before .before .loop-test .taken) (c .before .before .before .before .before .before .loop .inv .1 .1 (w)) .source) (body-turn (c .before .before .before .before .before .before .before .before .before .args .table .now) (c .before .before .before .before .before .before .before .before .before .args .literals) (c .before .before .before .before .before .before .before .before .before .args .text) (c .before .before .before .before .before .before .before .before .before .args .nodes .now) (c .before .before .before .before .before .before .before .before .before .args .at) (flatWords (flatAll (c .before .before .before .before .before .before .before .before .before .args .text) (bodyParsed (w .body)))) (c .before .before .before .before .before .before .loop .nodes) (c .before .before .before .before .before .before .loop .p) (c .before .before .before .before .before .before .loop .q) (c .before .before .before .before .before .before .loop .i) (c .before .before .before .before .before .loop-test .taken) (c .before .before .before .before .before .before .loop .inv .1 .1 (w)) .literal)) (c .before .before .copy-nodes .ensures (body-turn (c .before .before .before .before .before .before .before .before .before .args .table .now) (c .before .before .before .before .before .before .before .before .before .args .literals) (c .before .before .before .before .before .before .before .before .before .args .text) (c .before .before .before .before .before .before .before .before .before .args .nodes .now) (c .before .before .before .before .before .before .before .before .before .args .at) (flatWords (flatAll (c .before .before .before .before .before .before .before .before .before .args .text) (bodyParsed (w .body)))) (c .before .before .before .before .before .before .loop .nodes) (c .before .before .before .before .before .before .loop .p) (c .before .before .before .before .before .before .loop .q) (c .before .before .before .before .before .before .loop .i) (c .before .before .before .before .before .loop-test .taken) (c .before .before .before .before .before .before .loop .inv .1 .1 (w)) .run (c .before .before .before .before .past-literal .result) (c .before .before .before .before .past-literal .ensures (body-turn (c .before .before .before .before .before .before .before .before .before .args .table .now) (c .before .before .before .before .before .before .before .before .before .args .literals) (c .before .before .before .before .before .before .before .before .before .args .text) (c .before .before .before .before .before .before .before .before .before .args .nodes .now) (c .before .before .before .before .before .before .before .before .before .args .at) (flatWords (flatAll (c .before .before .before .before .before .before .before .before .before .args .text) (bodyParsed (w .body)))) (c .before .before .before .before .before .before .loop .nodes) (c .before .before .before .before .before .before .loop .p) (c .before .before .before .before .before .before .loop .q) (c .before .before .before .before .before .before .loop .i) (c .before .before .before .before .before .loop-test .taken) (c .before .before .before .before .before .before .loop .inv .1 .1 (w)) .source) (body-turn (c .before .before .before .before .before .before .before .before .before .args .table .now) (c .before .before .before .before .before .before .before .before .before .args .literals) (c .before .before .before .before .before .before .before .before .before .args .text) (c .before .before .before .before .before .before .before .before .before .args .nodes .now) (c .before .before .before .before .before .before .before .before .before .args .at) (flatWords (flatAll (c .before .before .before .before .before .before .before .before .before .args .text) (bodyParsed (w .body)))) (c .before .before .before .before .before .before .loop .nodes) (c .before .before .before .before .before .before .loop .p) (c .before .before .before .before .before .before .loop .q) (c .before .before .before .before .before .before .loop .i) (c .before .before .before .before .before .loop-test .taken) (c .before .before .before .before .before .before .loop .inv .1 .1 (w)) .literal))))))
+loop-again c =
+    let next = c .before .before .before .before .past-literal .result in (
+      omega arith,
+      (
+        c .before .before .copy-nodes .kept .1 .1 .1 .1 .0 ∙ c .before .before .before .before .before .before .loop .inv .1 .0,
+        λ w.
+            let t = body-turn (c .before .before .before .before .before .loop-test .taken) (c .before .before .before .before .before .before .loop .inv .1 .1 w) in
+            let e = c .before .before .before .before .past-literal .ensures (t .literal) (t .has) in
+            t .on next (c .before .before .copy-nodes .last .1 .1 .1 .1 .0) (c .before .before .copy-nodes .result) e (c .before .before .copy-nodes .ensures (t .run next e)),
+      ),
+    )
 
 same-length : tie.Need-same-length Inv-loop μ-loop
 same-length c = c .before .loop .inv .1 .0
 
 returns : tie.Need-returns Inv-loop μ-loop
-returns c = λ w. body-end (c .before .before .before .before .args .table .now) (c .before .before .before .before .args .literals) (c .before .before .before .before .args .text) (c .before .before .before .before .args .nodes .now) (c .before .before .before .before .args .at) (flatWords (flatAll (c .before .before .before .before .args .text) (bodyParsed (w .body)))) (c .before .loop .nodes) (c .before .loop .p) (c .before .loop .q) (c .before .loop .i) (c .loop-test .left) (c .before .loop .inv .1 .1 w)
+returns c = λ w. body-end (c .loop-test .left) (c .before .loop .inv .1 .1 w)
 
 pub copy-body-spec : {M : Type 1} → statement M
 copy-body-spec =

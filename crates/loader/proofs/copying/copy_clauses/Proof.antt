@@ -4,7 +4,7 @@ use native.Mathlib.Omega.{arith}
 use mathlib.Core.Path.{_≡_, refl, _∙_}
 use lib.ListN.{length}
 use Rattle.loader.specs.Flat.{clausesParsed, flatWords, flatAll, ClausesHere}
-use Rattle.loader.proofs.Clauses.{Clausing, clauses-begin, clauses-turn, clause-at, clauses-end}
+use Rattle.loader.proofs.Clauses.{Clausing, clauses-begin, clauses-turn, clauses-end}
 use Rattle.loader.proofs.copying.copy_clauses.Statement.{statement}
 use Rattle.loader.proofs.copying.copy_clauses.Tie as tie
 
@@ -18,10 +18,15 @@ loop-holds : tie.Need-loop-holds Inv-loop μ-loop
 loop-holds c = (omega arith, (refl, λ w. clauses-begin (c .before .before .args .table .now) (c .before .before .args .clauses) (c .before .before .args .nodes .now) (c .before .before .args .at) (c .before .before .pre .0 .1 .1) w))
 
 copy-clause-requires : tie.Need-copy-clause-requires Inv-loop μ-loop
-copy-clause-requires c κs = ((c .before .before .before .before .before .pre .0 .0, (omega (arith, c .before .before .before .before .before .pre .0 .1 .0, c .before .before .loop .inv .1 .0), clauses-turn (c .before .before .before .before .before .args .table .now) (c .before .before .before .before .before .args .clauses) (c .before .before .before .before .before .args .nodes .now) (c .before .before .before .before .before .args .at) (flatWords (flatAll 0 (clausesParsed (c .before .before .before .before .before .pre .1 .list)))) (c .before .before .loop .nodes) (c .before .before .loop .p) (c .before .before .loop .q) (c .before .before .loop .i) (c .before .loop-test .taken) (c .before .before .loop .inv .1 .1 (c .before .before .before .before .before .pre .1)) .near)), clauses-turn (c .before .before .before .before .before .args .table .now) (c .before .before .before .before .before .args .clauses) (c .before .before .before .before .before .args .nodes .now) (c .before .before .before .before .before .args .at) (flatWords (flatAll 0 (clausesParsed (c .before .before .before .before .before .pre .1 .list)))) (c .before .before .loop .nodes) (c .before .before .loop .p) (c .before .before .loop .q) (c .before .before .loop .i) (c .before .loop-test .taken) (c .before .before .loop .inv .1 .1 (c .before .before .before .before .before .pre .1)) .clause)
+copy-clause-requires c κs =
+    let pre = c .before .before .before .before .before .pre in
+    let t = clauses-turn (c .before .loop-test .taken) (c .before .before .loop .inv .1 .1 (pre .1)) in
+    ((pre .0 .0, (omega (arith, pre .0 .1 .0, c .before .before .loop .inv .1 .0), t .near)), t .clause)
 
 past-clause-requires : tie.Need-past-clause-requires Inv-loop μ-loop
-past-clause-requires c κs = (clauses-turn (c .before .before .before .before .before .before .before .before .args .table .now) (c .before .before .before .before .before .before .before .before .args .clauses) (c .before .before .before .before .before .before .before .before .args .nodes .now) (c .before .before .before .before .before .before .before .before .args .at) (flatWords (flatAll 0 (clausesParsed (c .before .before .before .before .before .before .before .before .pre .1 .list)))) (c .before .before .before .before .before .loop .nodes) (c .before .before .before .before .before .loop .p) (c .before .before .before .before .before .loop .q) (c .before .before .before .before .before .loop .i) (c .before .before .before .before .loop-test .taken) (c .before .before .before .before .before .loop .inv .1 .1 (c .before .before .before .before .before .before .before .before .pre .1)) .clause .text, clause-at (c .before .before .before .before .before .before .before .before .args .table .now) (c .before .before .before .before .before .loop .p) (clauses-turn (c .before .before .before .before .before .before .before .before .args .table .now) (c .before .before .before .before .before .before .before .before .args .clauses) (c .before .before .before .before .before .before .before .before .args .nodes .now) (c .before .before .before .before .before .before .before .before .args .at) (flatWords (flatAll 0 (clausesParsed (c .before .before .before .before .before .before .before .before .pre .1 .list)))) (c .before .before .before .before .before .loop .nodes) (c .before .before .before .before .before .loop .p) (c .before .before .before .before .before .loop .q) (c .before .before .before .before .before .loop .i) (c .before .before .before .before .loop-test .taken) (c .before .before .before .before .before .loop .inv .1 .1 (c .before .before .before .before .before .before .before .before .pre .1)) .clause))
+past-clause-requires c κs =
+    let t = clauses-turn (c .before .before .before .before .loop-test .taken) (c .before .before .before .before .before .loop .inv .1 .1 (c .before .before .before .before .before .before .before .before .pre .1)) in
+    (t .clause .clause, t .clause .has)
 
 add-i : tie.Need-add-i Inv-loop μ-loop
 add-i c = omega arith
@@ -30,13 +35,21 @@ loop-less : tie.Need-loop-less Inv-loop μ-loop
 loop-less c = omega arith
 
 loop-again : tie.Need-loop-again Inv-loop μ-loop
-loop-again c = (omega arith, (c .before .before .before .copy-clause .kept .1 .1 .0 ∙ c .before .before .before .before .before .before .loop .inv .1 .0, λ w. clauses-turn (c .before .before .before .before .before .before .before .before .before .args .table .now) (c .before .before .before .before .before .before .before .before .before .args .clauses) (c .before .before .before .before .before .before .before .before .before .args .nodes .now) (c .before .before .before .before .before .before .before .before .before .args .at) (flatWords (flatAll 0 (clausesParsed (w .list)))) (c .before .before .before .before .before .before .loop .nodes) (c .before .before .before .before .before .before .loop .p) (c .before .before .before .before .before .before .loop .q) (c .before .before .before .before .before .before .loop .i) (c .before .before .before .before .before .loop-test .taken) (c .before .before .before .before .before .before .loop .inv .1 .1 (w)) .on (c .past-clause .result) (c .before .before .before .copy-clause .last .1 .1 .0) (c .before .before .before .copy-clause .result) (c .past-clause .ensures (clauses-turn (c .before .before .before .before .before .before .before .before .before .args .table .now) (c .before .before .before .before .before .before .before .before .before .args .clauses) (c .before .before .before .before .before .before .before .before .before .args .nodes .now) (c .before .before .before .before .before .before .before .before .before .args .at) (flatWords (flatAll 0 (clausesParsed (w .list)))) (c .before .before .before .before .before .before .loop .nodes) (c .before .before .before .before .before .before .loop .p) (c .before .before .before .before .before .before .loop .q) (c .before .before .before .before .before .before .loop .i) (c .before .before .before .before .before .loop-test .taken) (c .before .before .before .before .before .before .loop .inv .1 .1 (w)) .clause .text) (clause-at (c .before .before .before .before .before .before .before .before .before .args .table .now) (c .before .before .before .before .before .before .loop .p) (clauses-turn (c .before .before .before .before .before .before .before .before .before .args .table .now) (c .before .before .before .before .before .before .before .before .before .args .clauses) (c .before .before .before .before .before .before .before .before .before .args .nodes .now) (c .before .before .before .before .before .before .before .before .before .args .at) (flatWords (flatAll 0 (clausesParsed (w .list)))) (c .before .before .before .before .before .before .loop .nodes) (c .before .before .before .before .before .before .loop .p) (c .before .before .before .before .before .before .loop .q) (c .before .before .before .before .before .before .loop .i) (c .before .before .before .before .before .loop-test .taken) (c .before .before .before .before .before .before .loop .inv .1 .1 (w)) .clause))) (c .before .before .before .copy-clause .ensures (clauses-turn (c .before .before .before .before .before .before .before .before .before .args .table .now) (c .before .before .before .before .before .before .before .before .before .args .clauses) (c .before .before .before .before .before .before .before .before .before .args .nodes .now) (c .before .before .before .before .before .before .before .before .before .args .at) (flatWords (flatAll 0 (clausesParsed (w .list)))) (c .before .before .before .before .before .before .loop .nodes) (c .before .before .before .before .before .before .loop .p) (c .before .before .before .before .before .before .loop .q) (c .before .before .before .before .before .before .loop .i) (c .before .before .before .before .before .loop-test .taken) (c .before .before .before .before .before .before .loop .inv .1 .1 (w)) .clause))))
+loop-again c = let c5 = c .before .before .before .before .before in let c6 = c5 .before in (
+  omega arith,
+  (
+    c .before .before .before .copy-clause .kept .1 .1 .0 ∙ c6 .loop .inv .1 .0,
+    λ w.
+        let t = clauses-turn (c5 .loop-test .taken) (c6 .loop .inv .1 .1 w) in
+        t .on (c .past-clause .result) (c .before .before .before .copy-clause .last .1 .1 .0) (c .before .before .before .copy-clause .result) (c .past-clause .ensures (t .clause .clause) (t .clause .has)) (c .before .before .before .copy-clause .ensures (t .clause)),
+  ),
+)
 
 same-length : tie.Need-same-length Inv-loop μ-loop
 same-length c = c .before .loop .inv .1 .0
 
 returns : tie.Need-returns Inv-loop μ-loop
-returns c = λ w. clauses-end (c .before .before .before .before .args .table .now) (c .before .before .before .before .args .clauses) (c .before .before .before .before .args .nodes .now) (c .before .before .before .before .args .at) (flatWords (flatAll 0 (clausesParsed (w .list)))) (c .before .loop .nodes) (c .before .loop .p) (c .before .loop .q) (c .before .loop .i) (c .loop-test .left) (c .before .loop .inv .1 .1 w)
+returns c = λ w. clauses-end (c .loop-test .left) (c .before .loop .inv .1 .1 w)
 
 pub copy-clauses-spec : {M : Type 1} → statement M
 copy-clauses-spec =

@@ -7,13 +7,13 @@ use Rattle.loader.proofs.numbering.intern.Statement.{statement}
 use Rattle.loader.proofs.numbering.intern.Tie as tie
 
 find-symbol-requires : tie.Need-find-symbol-requires
-find-symbol-requires c κs = (c .before .before .before .before .pre .0 .0, c .before .before .before .before .pre .1 .1)
+find-symbol-requires c κs = let c4 = c .before .before .before .before in (c4 .pre .0 .0, c4 .pre .1 .1)
 
 same-length : tie.Need-same-length
 same-length c = search needs
 
 returns : tie.Need-returns
-returns c = intern-old (c .before .before .before .before .before .before .args .sheet .now) (c .before .before .before .before .before .before .args .goal .now) (c .before .before .before .before .before .before .args .symbols .now) (c .before .before .before .before .before .before .args .count) (c .before .before .before .before .before .before .args .w) (c .before .before .before .before .before .before .args .arguments) (c .before .find-symbol .result) (c .before .before .before .before .before .before .pre .0 .0) (c .before .find-symbol .ensures) (c .if1 .taken)
+returns c = let c6 = c .before .before .before .before .before .before in intern-old (c6 .args .sheet .now) (c6 .args .goal .now) (c6 .args .symbols .now) (c6 .args .count) (c6 .args .w) (c6 .args .arguments) (c .before .find-symbol .result) (c6 .pre .0 .0) (c .before .find-symbol .ensures) (c .if1 .taken)
 
 add-j : tie.Need-add-j
 add-j c = search needs
@@ -28,13 +28,13 @@ mul-symbols-2 : tie.Need-mul-symbols-2
 mul-symbols-2 c = search needs
 
 slice-write-symbols-2 : tie.Need-slice-write-symbols-2
-slice-write-symbols-2 c = omega (arith, c .before .before .before .before .before .before .pre .0 .1, c .before .before .before .before .before .before .pre .1 .0, length-set (c .before .before .before .before .before .before .args .symbols .now) (c .before .before .before .before .before .before .args .count) (c .before .before .before .before .before .before .args .w))
+slice-write-symbols-2 c = let c6 = c .before .before .before .before .before .before in omega (arith, c6 .pre .0 .1, c6 .pre .1 .0, length-set (c6 .args .symbols .now) (c6 .args .count) (c6 .args .w))
 
 same-length-2 : tie.Need-same-length-2
 same-length-2 c = search needs
 
 returns-2 : tie.Need-returns-2
-returns-2 c = intern-new (c .before .before .before .before .before .before .args .sheet .now) (c .before .before .before .before .before .before .args .goal .now) (c .before .before .before .before .before .before .args .symbols .now) (c .before .before .before .before .before .before .args .count) (c .before .before .before .before .before .before .args .w) (c .before .before .before .before .before .before .args .arguments) (c .before .find-symbol .result) (c .before .before .before .before .before .before .pre .0 .0) (c .before .find-symbol .ensures) (c .before .before .before .before .before .before .pre .0 .1) (c .before .before .before .before .before .before .pre .1 .0) (c .before .before .before .before .before .before .pre .1 .1) (c .if1 .left)
+returns-2 c = let c6 = c .before .before .before .before .before .before in intern-new (c6 .args .sheet .now) (c6 .args .goal .now) (c6 .args .symbols .now) (c6 .args .count) (c6 .args .w) (c6 .args .arguments) (c .before .find-symbol .result) (c6 .pre .0 .0) (c .before .find-symbol .ensures) (c6 .pre .0 .1) (c6 .pre .1 .0) (c6 .pre .1 .1) (c .if1 .left)
 
 pub intern-spec : {M : Type 1} → statement M
 intern-spec =

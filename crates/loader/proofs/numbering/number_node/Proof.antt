@@ -11,10 +11,10 @@ slice-read-v : tie.Need-slice-read-v
 slice-read-v c = search needs
 
 returns : tie.Need-returns
-returns c = node-variable (c .before .before .before .before .before .before .args .sheet .now) (c .before .before .before .before .before .before .args .goal .now) (c .before .before .before .before .before .before .args .nodes .now) (c .before .before .before .before .before .before .args .p) (c .before .before .before .before .before .before .args .symbols .now) (c .before .before .before .before .before .before .args .count) (c .if1 .taken) (c .before .before .before .before .before .before .pre .0 .0 .0)
+returns c = let c6 = c .before .before .before .before .before .before in node-variable (c6 .args .sheet .now) (c6 .args .goal .now) (c6 .args .nodes .now) (c6 .args .p) (c6 .args .symbols .now) (c6 .args .count) (c .if1 .taken) (c6 .pre .0 .0 .0)
 
 intern-requires : tie.Need-intern-requires
-intern-requires c κs = ((c .before .before .before .before .before .before .before .pre .0 .0 .0, c .before .before .before .before .before .before .before .pre .0 .0 .1), (c .before .before .before .before .before .before .before .pre .0 .1 .0, c .before .before .before .before .before .before .before .pre .1 (c .before .if1 .left)))
+intern-requires c κs = let c7 = c .before .before .before .before .before .before .before in ((c7 .pre .0 .0 .0, c7 .pre .0 .0 .1), (c7 .pre .0 .1 .0, c7 .pre .1 (c .before .if1 .left)))
 
 add-number : tie.Need-add-number
 add-number c = search needs
@@ -38,7 +38,7 @@ same-length-2 : tie.Need-same-length-2
 same-length-2 c = search needs
 
 returns-2 : tie.Need-returns-2
-returns-2 c = node-name (c .before .before .before .before .before .before .before .before .before .before .before .args .sheet .now) (c .before .before .before .before .before .before .before .before .before .before .before .args .goal .now) (c .before .before .before .before .before .before .before .before .before .before .before .args .nodes .now) (c .before .before .before .before .before .before .before .before .before .before .before .args .p) (c .before .before .before .before .before .before .before .before .before .before .before .args .symbols .now) (c .before .before .before .before .before .before .before .before .before .before .before .args .count) (c .before .before .before .intern .result) (c .counted .result) (c .before .before .before .intern .last .1 .1 .0) (c .before .before .before .before .before .if1 .left) (c .before .before .before .intern .ensures) (c .counted .ensures)
+returns-2 c = let c5 = c .before .before .before .before .before in let c11 = c5 .before .before .before .before .before .before in node-name (c11 .args .sheet .now) (c11 .args .goal .now) (c11 .args .nodes .now) (c11 .args .p) (c11 .args .symbols .now) (c11 .args .count) (c .before .before .before .intern .result) (c .counted .result) (c .before .before .before .intern .last .1 .1 .0) (c5 .if1 .left) (c .before .before .before .intern .ensures) (c .counted .ensures)
 
 pub number-node-spec : {M : Type 1} → statement M
 number-node-spec =

@@ -19,10 +19,10 @@ loop-holds : tie.Need-loop-holds Inv-loop μ-loop
 loop-holds c = (omega arith, none-yet (c .before .before .before .args .sheet .now) (c .before .before .before .args .goal .now) (c .before .before .before .args .symbols .now) (wordName (c .before .before .before .args .sheet .now) (c .before .before .before .args .goal .now) (c .before .before .before .args .w)) (c .before .before .before .args .arguments))
 
 is-symbol-requires : tie.Need-is-symbol-requires Inv-loop μ-loop
-is-symbol-requires c κs = (omega (arith, c .before .before .before .before .before .pre .0 .room, c .loop-test .taken), (c .before .before .before .before .before .pre .0 .inside (c .before .loop .k) (c .loop-test .taken), c .before .before .before .before .before .pre .1))
+is-symbol-requires c κs = let c5 = c .before .before .before .before .before in (omega (arith, c5 .pre .0 .room, c .loop-test .taken), (c5 .pre .0 .inside (c .before .loop .k) (c .loop-test .taken), c5 .pre .1))
 
 returns : tie.Need-returns Inv-loop μ-loop
-returns c = found (c .before .before .before .before .before .before .before .args .sheet .now) (c .before .before .before .before .before .before .before .args .goal .now) (c .before .before .before .before .before .before .before .args .symbols .now) (wordName (c .before .before .before .before .before .before .before .args .sheet .now) (c .before .before .before .before .before .before .before .args .goal .now) (c .before .before .before .before .before .before .before .args .w)) (c .before .before .before .before .before .before .before .args .arguments) (c .before .before .before .loop .k) (c .before .before .before .before .before .before .before .args .count) (c .before .is-symbol .result) (c .before .before .loop-test .taken) (c .before .before .before .loop .inv .1) (c .before .is-symbol .ensures) (c .if1 .taken)
+returns c = let c7 = c .before .before .before .before .before .before .before in found (c7 .args .sheet .now) (c7 .args .goal .now) (c7 .args .symbols .now) (wordName (c7 .args .sheet .now) (c7 .args .goal .now) (c7 .args .w)) (c7 .args .arguments) (c .before .before .before .loop .k) (c7 .args .count) (c .before .is-symbol .result) (c .before .before .loop-test .taken) (c .before .before .before .loop .inv .1) (c .before .is-symbol .ensures) (c .if1 .taken)
 
 add-k : tie.Need-add-k Inv-loop μ-loop
 add-k c = omega arith
@@ -31,10 +31,10 @@ loop-less : tie.Need-loop-less Inv-loop μ-loop
 loop-less c = omega arith
 
 loop-again : tie.Need-loop-again Inv-loop μ-loop
-loop-again c = (omega arith, not-this (c .before .before .before .before .before .before .before .args .sheet .now) (c .before .before .before .before .before .before .before .args .goal .now) (c .before .before .before .before .before .before .before .args .symbols .now) (wordName (c .before .before .before .before .before .before .before .args .sheet .now) (c .before .before .before .before .before .before .before .args .goal .now) (c .before .before .before .before .before .before .before .args .w)) (c .before .before .before .before .before .before .before .args .arguments) (c .before .before .before .loop .k) (c .before .is-symbol .result) (c .before .before .before .loop .inv .1) (c .before .is-symbol .ensures) (c .if1 .left))
+loop-again c = let c7 = c .before .before .before .before .before .before .before in (omega arith, not-this (c7 .args .sheet .now) (c7 .args .goal .now) (c7 .args .symbols .now) (wordName (c7 .args .sheet .now) (c7 .args .goal .now) (c7 .args .w)) (c7 .args .arguments) (c .before .before .before .loop .k) (c .before .is-symbol .result) (c .before .before .before .loop .inv .1) (c .before .is-symbol .ensures) (c .if1 .left))
 
 returns-2 : tie.Need-returns-2 Inv-loop μ-loop
-returns-2 c = not-found (c .before .before .before .before .before .args .sheet .now) (c .before .before .before .before .before .args .goal .now) (c .before .before .before .before .before .args .symbols .now) (wordName (c .before .before .before .before .before .args .sheet .now) (c .before .before .before .before .before .args .goal .now) (c .before .before .before .before .before .args .w)) (c .before .before .before .before .before .args .arguments) (c .before .loop .k) (c .before .before .before .before .before .args .count) (c .before .loop .inv .0) (c .loop-test .left) (c .before .loop .inv .1)
+returns-2 c = let c5 = c .before .before .before .before .before in not-found (c5 .args .sheet .now) (c5 .args .goal .now) (c5 .args .symbols .now) (wordName (c5 .args .sheet .now) (c5 .args .goal .now) (c5 .args .w)) (c5 .args .arguments) (c .before .loop .k) (c5 .args .count) (c .before .loop .inv .0) (c .loop-test .left) (c .before .loop .inv .1)
 
 pub find-symbol-spec : {M : Type 1} → statement M
 find-symbol-spec =

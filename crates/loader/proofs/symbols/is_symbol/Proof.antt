@@ -14,7 +14,7 @@ shared-slice-read-if1 : tie.Need-shared-slice-read-if1
 shared-slice-read-if1 c = search needs
 
 returns : tie.Need-returns
-returns c = symbol-not (c .before .before .before .before .before .args .sheet .now) (c .before .before .before .before .before .args .goal .now) (c .before .before .before .before .before .args .symbols .now) (c .before .before .before .before .before .args .k) (c .before .before .before .before .before .args .w) (c .before .before .before .before .before .args .arguments) (c .if1 .taken)
+returns c = let c5 = c .before .before .before .before .before in symbol-not (c5 .args .sheet .now) (c5 .args .goal .now) (c5 .args .symbols .now) (c5 .args .k) (c5 .args .w) (c5 .args .arguments) (c .if1 .taken)
 
 mul-same-name : tie.Need-mul-same-name
 mul-same-name c = search needs
@@ -26,7 +26,7 @@ same-name-requires : tie.Need-same-name-requires
 same-name-requires c κs = search needs
 
 returns-2 : tie.Need-returns-2
-returns-2 c = symbol-is (c .before .before .before .before .before .before .before .args .sheet .now) (c .before .before .before .before .before .before .before .args .goal .now) (c .before .before .before .before .before .before .before .args .symbols .now) (c .before .before .before .before .before .before .before .args .k) (c .before .before .before .before .before .before .before .args .w) (c .before .before .before .before .before .before .before .args .arguments) (c .same-name .result) (c .before .before .if1 .left) (c .same-name .ensures)
+returns-2 c = let c7 = c .before .before .before .before .before .before .before in symbol-is (c7 .args .sheet .now) (c7 .args .goal .now) (c7 .args .symbols .now) (c7 .args .k) (c7 .args .w) (c7 .args .arguments) (c .same-name .result) (c .before .before .if1 .left) (c .same-name .ensures)
 
 pub is-symbol-spec : {M : Type 1} → statement M
 is-symbol-spec =

@@ -10,22 +10,22 @@ wide-requires : tie.Need-wide-requires
 wide-requires c κs = search needs
 
 returns : tie.Need-returns
-returns c = other-length (c .before .before .before .before .args .sheet .now) (c .before .before .before .before .args .goal .now) (c .before .before .before .before .args .v) (c .before .before .before .before .args .w) (c .before .before .before .before .pre .0) (c .before .before .before .before .pre .1) (c .if1 .taken)
+returns c = let c4 = c .before .before .before .before in other-length (c4 .args .sheet .now) (c4 .args .goal .now) (c4 .args .v) (c4 .args .w) (c4 .pre .0) (c4 .pre .1) (c .if1 .taken)
 
 wide-requires-2 : tie.Need-wide-requires-2
 wide-requires-2 c κs = search needs
 
 same-part-requires : tie.Need-same-part-requires
-same-part-requires c κs = (inside-text (c .before .before .before .before .before .before .args .sheet .now) (c .before .before .before .before .before .before .args .sheet .now) (c .before .before .before .before .before .before .args .goal .now) (c .before .before .before .before .before .before .args .w) (c .before .wide2 .result) (c .before .before .before .wide .result) (sheet-text (c .before .before .before .before .before .before .args .sheet .now) (c .before .before .before .before .before .before .args .goal .now) (c .before .before .before .before .before .before .args .w) (c .if2 .taken)) (c .before .wide2 .ensures) (c .before .before .before .wide .ensures) (c .before .before .before .before .before .before .pre .1), (c .before .before .before .before .before .before .pre .0, c .before .before .before .wide .ensures ∙ sym (c .before .before .if1 .left)))
+same-part-requires c κs = let c6 = c .before .before .before .before .before .before in (inside-text (c6 .args .sheet .now) (c6 .args .sheet .now) (c6 .args .goal .now) (c6 .args .w) (c .before .wide2 .result) (c .before .before .before .wide .result) (sheet-text (c6 .args .sheet .now) (c6 .args .goal .now) (c6 .args .w) (c .if2 .taken)) (c .before .wide2 .ensures) (c .before .before .before .wide .ensures) (c6 .pre .1), (c6 .pre .0, c .before .before .before .wide .ensures ∙ sym (c .before .before .if1 .left)))
 
 returns-2 : tie.Need-returns-2
-returns-2 c = name-is (c .before .before .before .before .before .before .before .args .sheet .now) (c .before .before .before .before .before .before .before .args .sheet .now) (c .before .before .before .before .before .before .before .args .goal .now) (c .before .before .before .before .before .before .before .args .w) (c .before .before .wide2 .result) (c .before .before .before .before .wide .result) (sheet-text (c .before .before .before .before .before .before .before .args .sheet .now) (c .before .before .before .before .before .before .before .args .goal .now) (c .before .before .before .before .before .before .before .args .w) (c .before .if2 .taken)) (c .before .before .wide2 .ensures) (c .before .before .before .before .wide .ensures) (wordName (c .before .before .before .before .before .before .before .args .sheet .now) (c .before .before .before .before .before .before .before .args .goal .now) (c .before .before .before .before .before .before .before .args .v)) (c .same-part .result) (c .same-part .ensures)
+returns-2 c = let c4 = c .before .before .before .before in let c7 = c4 .before .before .before in name-is (c7 .args .sheet .now) (c7 .args .sheet .now) (c7 .args .goal .now) (c7 .args .w) (c .before .before .wide2 .result) (c4 .wide .result) (sheet-text (c7 .args .sheet .now) (c7 .args .goal .now) (c7 .args .w) (c .before .if2 .taken)) (c .before .before .wide2 .ensures) (c4 .wide .ensures) (wordName (c7 .args .sheet .now) (c7 .args .goal .now) (c7 .args .v)) (c .same-part .result) (c .same-part .ensures)
 
 same-part-requires-2 : tie.Need-same-part-requires-2
-same-part-requires-2 c κs = (inside-text (c .before .before .before .before .before .before .args .goal .now) (c .before .before .before .before .before .before .args .sheet .now) (c .before .before .before .before .before .before .args .goal .now) (c .before .before .before .before .before .before .args .w) (c .before .wide2 .result) (c .before .before .before .wide .result) (goal-text (c .before .before .before .before .before .before .args .sheet .now) (c .before .before .before .before .before .before .args .goal .now) (c .before .before .before .before .before .before .args .w) (c .if2 .left)) (c .before .wide2 .ensures) (c .before .before .before .wide .ensures) (c .before .before .before .before .before .before .pre .1), (c .before .before .before .before .before .before .pre .0, c .before .before .before .wide .ensures ∙ sym (c .before .before .if1 .left)))
+same-part-requires-2 c κs = let c6 = c .before .before .before .before .before .before in (inside-text (c6 .args .goal .now) (c6 .args .sheet .now) (c6 .args .goal .now) (c6 .args .w) (c .before .wide2 .result) (c .before .before .before .wide .result) (goal-text (c6 .args .sheet .now) (c6 .args .goal .now) (c6 .args .w) (c .if2 .left)) (c .before .wide2 .ensures) (c .before .before .before .wide .ensures) (c6 .pre .1), (c6 .pre .0, c .before .before .before .wide .ensures ∙ sym (c .before .before .if1 .left)))
 
 returns-3 : tie.Need-returns-3
-returns-3 c = name-is (c .before .before .before .before .before .before .before .args .goal .now) (c .before .before .before .before .before .before .before .args .sheet .now) (c .before .before .before .before .before .before .before .args .goal .now) (c .before .before .before .before .before .before .before .args .w) (c .before .before .wide2 .result) (c .before .before .before .before .wide .result) (goal-text (c .before .before .before .before .before .before .before .args .sheet .now) (c .before .before .before .before .before .before .before .args .goal .now) (c .before .before .before .before .before .before .before .args .w) (c .before .if2 .left)) (c .before .before .wide2 .ensures) (c .before .before .before .before .wide .ensures) (wordName (c .before .before .before .before .before .before .before .args .sheet .now) (c .before .before .before .before .before .before .before .args .goal .now) (c .before .before .before .before .before .before .before .args .v)) (c .same-part2 .result) (c .same-part2 .ensures)
+returns-3 c = let c4 = c .before .before .before .before in let c7 = c4 .before .before .before in name-is (c7 .args .goal .now) (c7 .args .sheet .now) (c7 .args .goal .now) (c7 .args .w) (c .before .before .wide2 .result) (c4 .wide .result) (goal-text (c7 .args .sheet .now) (c7 .args .goal .now) (c7 .args .w) (c .before .if2 .left)) (c .before .before .wide2 .ensures) (c4 .wide .ensures) (wordName (c7 .args .sheet .now) (c7 .args .goal .now) (c7 .args .v)) (c .same-part2 .result) (c .same-part2 .ensures)
 
 pub same-name-spec : {M : Type 1} → statement M
 same-name-spec =

@@ -9,16 +9,16 @@ wide-requires : tie.Need-wide-requires
 wide-requires c κs = search needs
 
 same-bytes-requires : tie.Need-same-bytes-requires
-same-bytes-requires c κs = (inside-text (c .before .before .before .before .before .args .sheet .now) (c .before .before .before .before .before .args .sheet .now) (c .before .before .before .before .before .args .goal .now) (c .before .before .before .before .before .args .w) (c .before .wide .result) (c .before .before .before .before .before .args .len) (sheet-text (c .before .before .before .before .before .args .sheet .now) (c .before .before .before .before .before .args .goal .now) (c .before .before .before .before .before .args .w) (c .if1 .taken)) (c .before .wide .ensures) (c .before .before .before .before .before .pre .1 .1) (c .before .before .before .before .before .pre .1 .0), c .before .before .before .before .before .pre .0)
+same-bytes-requires c κs = let c5 = c .before .before .before .before .before in (inside-text (c5 .args .sheet .now) (c5 .args .sheet .now) (c5 .args .goal .now) (c5 .args .w) (c .before .wide .result) (c5 .args .len) (sheet-text (c5 .args .sheet .now) (c5 .args .goal .now) (c5 .args .w) (c .if1 .taken)) (c .before .wide .ensures) (c5 .pre .1 .1) (c5 .pre .1 .0), c5 .pre .0)
 
 returns : tie.Need-returns
-returns c = part-is (c .before .before .before .before .before .before .args .sheet .now) (c .before .before .before .before .before .before .args .sheet .now) (c .before .before .before .before .before .before .args .goal .now) (c .before .before .before .before .before .before .args .w) (c .before .before .wide .result) (c .before .before .before .before .before .before .args .len) (sheet-text (c .before .before .before .before .before .before .args .sheet .now) (c .before .before .before .before .before .before .args .goal .now) (c .before .before .before .before .before .before .args .w) (c .before .if1 .taken)) (c .before .before .wide .ensures) (c .before .before .before .before .before .before .pre .1 .1) (spelling (c .before .before .before .before .before .before .args .text .now) (c .before .before .before .before .before .before .args .at) (c .before .before .before .before .before .before .args .len)) (c .same-bytes .result) (c .same-bytes .ensures)
+returns c = let c6 = c .before .before .before .before .before .before in part-is (c6 .args .sheet .now) (c6 .args .sheet .now) (c6 .args .goal .now) (c6 .args .w) (c .before .before .wide .result) (c6 .args .len) (sheet-text (c6 .args .sheet .now) (c6 .args .goal .now) (c6 .args .w) (c .before .if1 .taken)) (c .before .before .wide .ensures) (c6 .pre .1 .1) (spelling (c6 .args .text .now) (c6 .args .at) (c6 .args .len)) (c .same-bytes .result) (c .same-bytes .ensures)
 
 same-bytes-requires-2 : tie.Need-same-bytes-requires-2
-same-bytes-requires-2 c κs = (inside-text (c .before .before .before .before .before .args .goal .now) (c .before .before .before .before .before .args .sheet .now) (c .before .before .before .before .before .args .goal .now) (c .before .before .before .before .before .args .w) (c .before .wide .result) (c .before .before .before .before .before .args .len) (goal-text (c .before .before .before .before .before .args .sheet .now) (c .before .before .before .before .before .args .goal .now) (c .before .before .before .before .before .args .w) (c .if1 .left)) (c .before .wide .ensures) (c .before .before .before .before .before .pre .1 .1) (c .before .before .before .before .before .pre .1 .0), c .before .before .before .before .before .pre .0)
+same-bytes-requires-2 c κs = let c5 = c .before .before .before .before .before in (inside-text (c5 .args .goal .now) (c5 .args .sheet .now) (c5 .args .goal .now) (c5 .args .w) (c .before .wide .result) (c5 .args .len) (goal-text (c5 .args .sheet .now) (c5 .args .goal .now) (c5 .args .w) (c .if1 .left)) (c .before .wide .ensures) (c5 .pre .1 .1) (c5 .pre .1 .0), c5 .pre .0)
 
 returns-2 : tie.Need-returns-2
-returns-2 c = part-is (c .before .before .before .before .before .before .args .goal .now) (c .before .before .before .before .before .before .args .sheet .now) (c .before .before .before .before .before .before .args .goal .now) (c .before .before .before .before .before .before .args .w) (c .before .before .wide .result) (c .before .before .before .before .before .before .args .len) (goal-text (c .before .before .before .before .before .before .args .sheet .now) (c .before .before .before .before .before .before .args .goal .now) (c .before .before .before .before .before .before .args .w) (c .before .if1 .left)) (c .before .before .wide .ensures) (c .before .before .before .before .before .before .pre .1 .1) (spelling (c .before .before .before .before .before .before .args .text .now) (c .before .before .before .before .before .before .args .at) (c .before .before .before .before .before .before .args .len)) (c .same-bytes2 .result) (c .same-bytes2 .ensures)
+returns-2 c = let c6 = c .before .before .before .before .before .before in part-is (c6 .args .goal .now) (c6 .args .sheet .now) (c6 .args .goal .now) (c6 .args .w) (c .before .before .wide .result) (c6 .args .len) (goal-text (c6 .args .sheet .now) (c6 .args .goal .now) (c6 .args .w) (c .before .if1 .left)) (c .before .before .wide .ensures) (c6 .pre .1 .1) (spelling (c6 .args .text .now) (c6 .args .at) (c6 .args .len)) (c .same-bytes2 .result) (c .same-bytes2 .ensures)
 
 pub same-part-spec : {M : Type 1} → statement M
 same-part-spec =

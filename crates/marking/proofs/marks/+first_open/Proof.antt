@@ -1,4 +1,5 @@
 -- `marking::marks::first_open` meets its contract. The measure is what is left of the words. Assumes nothing.
+use Rattle.marking.proofs.Places.{node-inside, past-ends}
 use Prim.Native.Nat.{_<_, _-_, ℕ}
 use native.Mathlib.Omega.{arith}
 use mathlib.Core.Path.{refl}
@@ -11,7 +12,7 @@ use Rattle.marking.proofs.marks.first_open.Reads as first-open
 use Rattle.marking.proofs.marks.first_open.Kinds as first-open-kinds
 use Rattle.marking.proofs.marks.+first_open.Lts-first_open as first-open-lts
 use Rattle.marking.proofs.marks.is_open.Reads as is-open-reads
-use Rattle.marking.proofs.table.past.Reads as past-reads
+use Rattle.words.proofs.past.Reads as past-reads
 
 abbrev μ-first-open : Measures 1 first-open-kinds.ps ℕ
 μ-first-open κs a = a .1 .1 .0 - a .1 .0
@@ -62,7 +63,7 @@ first-open-past-requires : (t : ℕ) → first-open-lts.Need-past-requires (
   first-open-below t,
   first-open.Post,
 ) (first-open-at t) first-open.Post
-first-open-past-requires t c κs = marked-first (c .before .before .before .before .args .table .now) (c .before .before .before .before .args .p) (c .before .before .before .before .args .stop) (c .before .before .before .before .args .marks) (c .before .before .before .before .args .mark) (c .before .before .before .before .args .known) (c .before .before .if1 .left) (c .before .before .before .before .pre .1 .0)
+first-open-past-requires t c κs = node-inside (marked-first (c .before .before .before .before .args .table .now) (c .before .before .before .before .args .p) (c .before .before .before .before .args .stop) (c .before .before .before .before .args .marks) (c .before .before .before .before .args .mark) (c .before .before .before .before .args .known) (c .before .before .if1 .left) (c .before .before .before .before .pre .1 .0))
 
 first-open-add-more : (t : ℕ) → first-open-lts.Need-add-more (
   is-open-reads.Asked,
@@ -72,7 +73,7 @@ first-open-add-more : (t : ℕ) → first-open-lts.Need-add-more (
   first-open-below t,
   first-open.Post,
 ) (first-open-at t) first-open.Post
-first-open-add-more t c = omega (arith, marked-further (c .before .before .before .before .before .args .table .now) (c .before .before .before .before .before .args .p) (c .before .before .before .before .before .args .stop) (c .before .before .before .before .before .args .marks) (c .before .before .before .before .before .args .mark) (c .before .before .before .before .before .args .known) (c .before .before .before .if1 .left) (c .past .result) (c .past .ensures) (c .before .before .before .before .before .pre .1 .0))
+first-open-add-more t c = omega (arith, marked-further (c .before .before .before .before .before .args .table .now) (c .before .before .before .before .before .args .p) (c .before .before .before .before .before .args .stop) (c .before .before .before .before .before .args .marks) (c .before .before .before .before .before .args .mark) (c .before .before .before .before .before .args .known) (c .before .before .before .if1 .left) (c .past .result) (past-ends (c .past .ensures)) (c .before .before .before .before .before .pre .1 .0))
 
 first-open-first-open-requires : (t : ℕ) → first-open-lts.Need-first-open-requires (
   is-open-reads.Asked,
@@ -82,7 +83,7 @@ first-open-first-open-requires : (t : ℕ) → first-open-lts.Need-first-open-re
   first-open-below t,
   first-open.Post,
 ) (first-open-at t) first-open.Post
-first-open-first-open-requires t c κs = (omega (arith, marked-further (c .before .before .before .before .before .args .table .now) (c .before .before .before .before .before .args .p) (c .before .before .before .before .before .args .stop) (c .before .before .before .before .before .args .marks) (c .before .before .before .before .before .args .mark) (c .before .before .before .before .before .args .known) (c .before .before .before .if1 .left) (c .past .result) (c .past .ensures) (c .before .before .before .before .before .pre .1 .0)), (marked-rest (c .before .before .before .before .before .args .table .now) (c .before .before .before .before .before .args .p) (c .before .before .before .before .before .args .stop) (c .before .before .before .before .before .args .marks) (c .before .before .before .before .before .args .mark) (c .before .before .before .before .before .args .known) (c .before .before .before .if1 .left) (c .past .result) (c .past .ensures) (c .before .before .before .before .before .pre .1 .0), omega (arith, marked-further (c .before .before .before .before .before .args .table .now) (c .before .before .before .before .before .args .p) (c .before .before .before .before .before .args .stop) (c .before .before .before .before .before .args .marks) (c .before .before .before .before .before .args .mark) (c .before .before .before .before .before .args .known) (c .before .before .before .if1 .left) (c .past .result) (c .past .ensures) (c .before .before .before .before .before .pre .1 .0))))
+first-open-first-open-requires t c κs = (omega (arith, marked-further (c .before .before .before .before .before .args .table .now) (c .before .before .before .before .before .args .p) (c .before .before .before .before .before .args .stop) (c .before .before .before .before .before .args .marks) (c .before .before .before .before .before .args .mark) (c .before .before .before .before .before .args .known) (c .before .before .before .if1 .left) (c .past .result) (past-ends (c .past .ensures)) (c .before .before .before .before .before .pre .1 .0)), (marked-rest (c .before .before .before .before .before .args .table .now) (c .before .before .before .before .before .args .p) (c .before .before .before .before .before .args .stop) (c .before .before .before .before .before .args .marks) (c .before .before .before .before .before .args .mark) (c .before .before .before .before .before .args .known) (c .before .before .before .if1 .left) (c .past .result) (past-ends (c .past .ensures)) (c .before .before .before .before .before .pre .1 .0), omega (arith, marked-further (c .before .before .before .before .before .args .table .now) (c .before .before .before .before .before .args .p) (c .before .before .before .before .before .args .stop) (c .before .before .before .before .before .args .marks) (c .before .before .before .before .before .args .mark) (c .before .before .before .before .before .args .known) (c .before .before .before .if1 .left) (c .past .result) (past-ends (c .past .ensures)) (c .before .before .before .before .before .pre .1 .0))))
 
 first-open-returns-3 : (t : ℕ) → first-open-lts.Need-returns-3 (
   is-open-reads.Asked,
@@ -92,7 +93,7 @@ first-open-returns-3 : (t : ℕ) → first-open-lts.Need-returns-3 (
   first-open-below t,
   first-open.Post,
 ) (first-open-at t) first-open.Post
-first-open-returns-3 t c = open-on (c .before .before .before .before .before .before .args .table .now) (c .before .before .before .before .before .before .args .p) (c .before .before .before .before .before .before .args .stop) (c .before .before .before .before .before .before .args .marks) (c .before .before .before .before .before .before .args .mark) (c .before .before .before .before .before .before .args .known) (c .before .before .before .before .if1 .left) (c .before .past .result) (c .before .past .ensures) (c .before .before .before .before .before .before .args .number) _ (c .before .before .before .is-open .result) (c .before .before .before .is-open .ensures) (c .before .before .if2 .left) refl (c .first-open .result) (c .first-open .ensures)
+first-open-returns-3 t c = open-on (c .before .before .before .before .before .before .args .table .now) (c .before .before .before .before .before .before .args .p) (c .before .before .before .before .before .before .args .stop) (c .before .before .before .before .before .before .args .marks) (c .before .before .before .before .before .before .args .mark) (c .before .before .before .before .before .before .args .known) (c .before .before .before .before .if1 .left) (c .before .past .result) (past-ends (c .before .past .ensures)) (c .before .before .before .before .before .before .args .number) _ (c .before .before .before .is-open .result) (c .before .before .before .is-open .ensures) (c .before .before .if2 .left) refl (c .first-open .result) (c .first-open .ensures)
 
 pub +first-open-spec : {M : Type 1} → statement M
 +first-open-spec = close μ-first-open λ t. first-open-lts.spec (

@@ -1,4 +1,5 @@
 -- `marking::marks::ground_marked` meets its contract. The measure is what is left of the words. Assumes nothing.
+use Rattle.marking.proofs.Places.{node-inside, past-ends}
 use Prim.Native.Nat.{_<_, _-_, ℕ}
 use native.Mathlib.Omega.{arith}
 use Rattle.marking.proofs.Marking.{none-given, marked-first, marked-further, marked-rest, given-same, given-other}
@@ -9,7 +10,7 @@ use Rattle.marking.proofs.marks.+ground_marked.Tie.{close}
 use Rattle.marking.proofs.marks.ground_marked.Reads as ground-marked
 use Rattle.marking.proofs.marks.ground_marked.Kinds as ground-marked-kinds
 use Rattle.marking.proofs.marks.+ground_marked.Lts-ground_marked as ground-marked-lts
-use Rattle.marking.proofs.table.past.Reads as past-reads
+use Rattle.words.proofs.past.Reads as past-reads
 use Rattle.marking.proofs.terms.ground_term.Reads as ground-term-reads
 
 abbrev μ-ground-marked : Measures 1 ground-marked-kinds.ps ℕ
@@ -45,7 +46,7 @@ ground-marked-past-requires : (t : ℕ) → ground-marked-lts.Need-past-requires
   ground-marked-below t,
   ground-marked.Post,
 ) (ground-marked-at t) ground-marked.Post
-ground-marked-past-requires t c κs = marked-first (c .before .before .args .table .now) (c .before .before .args .p) (c .before .before .args .stop) (c .before .before .args .marks) (c .before .before .args .mark) (c .before .before .args .known) (c .if1 .left) (c .before .before .pre .1)
+ground-marked-past-requires t c κs = node-inside (marked-first (c .before .before .args .table .now) (c .before .before .args .p) (c .before .before .args .stop) (c .before .before .args .marks) (c .before .before .args .mark) (c .before .before .args .known) (c .if1 .left) (c .before .before .pre .1))
 
 ground-marked-ground-term-requires : (t : ℕ) → ground-marked-lts.Need-ground-term-requires (
   past-reads.Asked,
@@ -65,7 +66,7 @@ ground-marked-ground-marked-requires : (t : ℕ) → ground-marked-lts.Need-grou
   ground-marked-below t,
   ground-marked.Post,
 ) (ground-marked-at t) ground-marked.Post
-ground-marked-ground-marked-requires t c κs = (omega (arith, marked-further (c .before .before .before .before .before .args .table .now) (c .before .before .before .before .before .args .p) (c .before .before .before .before .before .args .stop) (c .before .before .before .before .before .args .marks) (c .before .before .before .before .before .args .mark) (c .before .before .before .before .before .args .known) (c .before .before .before .if1 .left) (c .before .before .past .result) (c .before .before .past .ensures) (c .before .before .before .before .before .pre .1)), marked-rest (c .before .before .before .before .before .args .table .now) (c .before .before .before .before .before .args .p) (c .before .before .before .before .before .args .stop) (c .before .before .before .before .before .args .marks) (c .before .before .before .before .before .args .mark) (c .before .before .before .before .before .args .known) (c .before .before .before .if1 .left) (c .before .before .past .result) (c .before .before .past .ensures) (c .before .before .before .before .before .pre .1))
+ground-marked-ground-marked-requires t c κs = (omega (arith, marked-further (c .before .before .before .before .before .args .table .now) (c .before .before .before .before .before .args .p) (c .before .before .before .before .before .args .stop) (c .before .before .before .before .before .args .marks) (c .before .before .before .before .before .args .mark) (c .before .before .before .before .before .args .known) (c .before .before .before .if1 .left) (c .before .before .past .result) (past-ends (c .before .before .past .ensures)) (c .before .before .before .before .before .pre .1)), marked-rest (c .before .before .before .before .before .args .table .now) (c .before .before .before .before .before .args .p) (c .before .before .before .before .before .args .stop) (c .before .before .before .before .before .args .marks) (c .before .before .before .before .before .args .mark) (c .before .before .before .before .before .args .known) (c .before .before .before .if1 .left) (c .before .before .past .result) (past-ends (c .before .before .past .ensures)) (c .before .before .before .before .before .pre .1))
 
 ground-marked-returns-2 : (t : ℕ) → ground-marked-lts.Need-returns-2 (
   past-reads.Asked,
@@ -75,7 +76,7 @@ ground-marked-returns-2 : (t : ℕ) → ground-marked-lts.Need-returns-2 (
   ground-marked-below t,
   ground-marked.Post,
 ) (ground-marked-at t) ground-marked.Post
-ground-marked-returns-2 t c = given-same (c .before .before .before .before .before .before .args .table .now) (c .before .before .before .before .before .before .args .p) (c .before .before .before .before .before .before .args .stop) (c .before .before .before .before .before .before .args .marks) (c .before .before .before .before .before .before .args .mark) (c .before .before .before .before .before .before .args .known) (c .before .before .before .before .if1 .left) (c .before .before .before .past .result) (c .before .before .before .past .ensures) (c .before .before .if2 .taken) (c .before .ground-term .result) (c .ground-marked .result) (c .before .ground-term .ensures) (c .ground-marked .ensures)
+ground-marked-returns-2 t c = given-same (c .before .before .before .before .before .before .args .table .now) (c .before .before .before .before .before .before .args .p) (c .before .before .before .before .before .before .args .stop) (c .before .before .before .before .before .before .args .marks) (c .before .before .before .before .before .before .args .mark) (c .before .before .before .before .before .before .args .known) (c .before .before .before .before .if1 .left) (c .before .before .before .past .result) (past-ends (c .before .before .before .past .ensures)) (c .before .before .if2 .taken) (c .before .ground-term .result) (c .ground-marked .result) (c .before .ground-term .ensures) (c .ground-marked .ensures)
 
 ground-marked-ground-marked-requires-2 : (t : ℕ) → ground-marked-lts.Need-ground-marked-requires-2 (
   past-reads.Asked,
@@ -85,7 +86,7 @@ ground-marked-ground-marked-requires-2 : (t : ℕ) → ground-marked-lts.Need-gr
   ground-marked-below t,
   ground-marked.Post,
 ) (ground-marked-at t) ground-marked.Post
-ground-marked-ground-marked-requires-2 t c κs = (omega (arith, marked-further (c .before .before .before .before .args .table .now) (c .before .before .before .before .args .p) (c .before .before .before .before .args .stop) (c .before .before .before .before .args .marks) (c .before .before .before .before .args .mark) (c .before .before .before .before .args .known) (c .before .before .if1 .left) (c .before .past .result) (c .before .past .ensures) (c .before .before .before .before .pre .1)), marked-rest (c .before .before .before .before .args .table .now) (c .before .before .before .before .args .p) (c .before .before .before .before .args .stop) (c .before .before .before .before .args .marks) (c .before .before .before .before .args .mark) (c .before .before .before .before .args .known) (c .before .before .if1 .left) (c .before .past .result) (c .before .past .ensures) (c .before .before .before .before .pre .1))
+ground-marked-ground-marked-requires-2 t c κs = (omega (arith, marked-further (c .before .before .before .before .args .table .now) (c .before .before .before .before .args .p) (c .before .before .before .before .args .stop) (c .before .before .before .before .args .marks) (c .before .before .before .before .args .mark) (c .before .before .before .before .args .known) (c .before .before .if1 .left) (c .before .past .result) (past-ends (c .before .past .ensures)) (c .before .before .before .before .pre .1)), marked-rest (c .before .before .before .before .args .table .now) (c .before .before .before .before .args .p) (c .before .before .before .before .args .stop) (c .before .before .before .before .args .marks) (c .before .before .before .before .args .mark) (c .before .before .before .before .args .known) (c .before .before .if1 .left) (c .before .past .result) (past-ends (c .before .past .ensures)) (c .before .before .before .before .pre .1))
 
 ground-marked-returns-3 : (t : ℕ) → ground-marked-lts.Need-returns-3 (
   past-reads.Asked,
@@ -95,7 +96,7 @@ ground-marked-returns-3 : (t : ℕ) → ground-marked-lts.Need-returns-3 (
   ground-marked-below t,
   ground-marked.Post,
 ) (ground-marked-at t) ground-marked.Post
-ground-marked-returns-3 t c = given-other (c .before .before .before .before .before .args .table .now) (c .before .before .before .before .before .args .p) (c .before .before .before .before .before .args .stop) (c .before .before .before .before .before .args .marks) (c .before .before .before .before .before .args .mark) (c .before .before .before .before .before .args .known) (c .before .before .before .if1 .left) (c .before .before .past .result) (c .before .before .past .ensures) (c .before .if2 .left) (c .ground-marked2 .result) (c .ground-marked2 .ensures)
+ground-marked-returns-3 t c = given-other (c .before .before .before .before .before .args .table .now) (c .before .before .before .before .before .args .p) (c .before .before .before .before .before .args .stop) (c .before .before .before .before .before .args .marks) (c .before .before .before .before .before .args .mark) (c .before .before .before .before .before .args .known) (c .before .before .before .if1 .left) (c .before .before .past .result) (past-ends (c .before .before .past .ensures)) (c .before .if2 .left) (c .ground-marked2 .result) (c .ground-marked2 .ensures)
 
 pub +ground-marked-spec : {M : Type 1} → statement M
 +ground-marked-spec = close μ-ground-marked λ t. ground-marked-lts.spec (

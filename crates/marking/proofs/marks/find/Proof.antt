@@ -18,13 +18,13 @@ loop-holds : tie.Need-loop-holds Inv-loop μ-loop
 loop-holds c = (omega arith, searched-first (c .before .before .before .args .s .now) (c .before .before .before .args .declared .now) (c .before .before .before .args .n) (spelling (c .before .before .before .args .g .now) (c .before .before .before .args .at) (c .before .before .before .args .len)) (c .before .before .before .args .arguments) 0 refl)
 
 mul-p : tie.Need-mul-p Inv-loop μ-loop
-mul-p c = omega (arith, declaration-room (c .before .before .before .before .before .args .s .now) (c .before .before .before .before .before .args .declared .now) _ (declaration-at (c .before .before .before .before .before .args .s .now) (c .before .before .before .before .before .args .declared .now) (c .before .before .before .before .before .args .n) (spelling (c .before .before .before .before .before .args .g .now) (c .before .before .before .before .before .args .at) (c .before .before .before .before .before .args .len)) (c .before .before .before .before .before .args .arguments) (c .before .loop .i) (c .loop-test .taken) ((c .before .loop .inv) .1) (c .before .before .before .before .before .pre .0)))
+mul-p c = let c5 = c .before .before .before .before .before in omega (arith, declaration-room (c5 .args .s .now) (c5 .args .declared .now) _ (declaration-at (c5 .args .s .now) (c5 .args .declared .now) (c5 .args .n) (spelling (c5 .args .g .now) (c5 .args .at) (c5 .args .len)) (c5 .args .arguments) (c .before .loop .i) (c .loop-test .taken) ((c .before .loop .inv) .1) (c5 .pre .0)))
 
 declares-requires : tie.Need-declares-requires Inv-loop μ-loop
-declares-requires c κs = (declaration-at (c .before .before .before .before .before .args .s .now) (c .before .before .before .before .before .args .declared .now) (c .before .before .before .before .before .args .n) (spelling (c .before .before .before .before .before .args .g .now) (c .before .before .before .before .before .args .at) (c .before .before .before .before .before .args .len)) (c .before .before .before .before .before .args .arguments) (c .before .loop .i) (c .loop-test .taken) ((c .before .loop .inv) .1) (c .before .before .before .before .before .pre .0), c .before .before .before .before .before .pre .1)
+declares-requires c κs = let c5 = c .before .before .before .before .before in (declaration-at (c5 .args .s .now) (c5 .args .declared .now) (c5 .args .n) (spelling (c5 .args .g .now) (c5 .args .at) (c5 .args .len)) (c5 .args .arguments) (c .before .loop .i) (c .loop-test .taken) ((c .before .loop .inv) .1) (c5 .pre .0), c5 .pre .1)
 
 returns : tie.Need-returns Inv-loop μ-loop
-returns c = searched-found (c .before .before .before .before .before .before .before .args .s .now) (c .before .before .before .before .before .before .before .args .declared .now) (c .before .before .before .before .before .before .before .args .n) (spelling (c .before .before .before .before .before .before .before .args .g .now) (c .before .before .before .before .before .before .before .args .at) (c .before .before .before .before .before .before .before .args .len)) (c .before .before .before .before .before .before .before .args .arguments) (c .before .before .before .loop .i) (c .before .before .loop-test .taken) ((c .before .before .before .loop .inv) .1) (c .before .declares .result) (c .before .declares .ensures) (c .if1 .taken)
+returns c = let c7 = c .before .before .before .before .before .before .before in searched-found (c7 .args .s .now) (c7 .args .declared .now) (c7 .args .n) (spelling (c7 .args .g .now) (c7 .args .at) (c7 .args .len)) (c7 .args .arguments) (c .before .before .before .loop .i) (c .before .before .loop-test .taken) ((c .before .before .before .loop .inv) .1) (c .before .declares .result) (c .before .declares .ensures) (c .if1 .taken)
 
 add-i : tie.Need-add-i Inv-loop μ-loop
 add-i c = omega arith
@@ -33,10 +33,10 @@ loop-less : tie.Need-loop-less Inv-loop μ-loop
 loop-less c = omega arith
 
 loop-again : tie.Need-loop-again Inv-loop μ-loop
-loop-again c = (omega arith, searched-on (c .before .before .before .before .before .before .before .args .s .now) (c .before .before .before .before .before .before .before .args .declared .now) (c .before .before .before .before .before .before .before .args .n) (spelling (c .before .before .before .before .before .before .before .args .g .now) (c .before .before .before .before .before .before .before .args .at) (c .before .before .before .before .before .before .before .args .len)) (c .before .before .before .before .before .before .before .args .arguments) (c .before .before .before .loop .i) (c .before .before .loop-test .taken) ((c .before .before .before .loop .inv) .1) (c .before .declares .result) (c .before .declares .ensures) (c .if1 .left))
+loop-again c = let c7 = c .before .before .before .before .before .before .before in (omega arith, searched-on (c7 .args .s .now) (c7 .args .declared .now) (c7 .args .n) (spelling (c7 .args .g .now) (c7 .args .at) (c7 .args .len)) (c7 .args .arguments) (c .before .before .before .loop .i) (c .before .before .loop-test .taken) ((c .before .before .before .loop .inv) .1) (c .before .declares .result) (c .before .declares .ensures) (c .if1 .left))
 
 returns-2 : tie.Need-returns-2 Inv-loop μ-loop
-returns-2 c = searched-all (c .before .before .before .before .before .args .s .now) (c .before .before .before .before .before .args .declared .now) (c .before .before .before .before .before .args .n) (spelling (c .before .before .before .before .before .args .g .now) (c .before .before .before .before .before .args .at) (c .before .before .before .before .before .args .len)) (c .before .before .before .before .before .args .arguments) (c .before .loop .i) (c .loop-test .left) ((c .before .loop .inv) .1)
+returns-2 c = let c5 = c .before .before .before .before .before in searched-all (c5 .args .s .now) (c5 .args .declared .now) (c5 .args .n) (spelling (c5 .args .g .now) (c5 .args .at) (c5 .args .len)) (c5 .args .arguments) (c .before .loop .i) (c .loop-test .left) ((c .before .loop .inv) .1)
 
 pub find-spec : {M : Type 1} → statement M
 find-spec =

@@ -1,6 +1,6 @@
 -- `marking::terms::are_ground` and `marking::terms::is_ground` meet their contracts. A term is measured by its words, a list of terms by the words that are left. Assumes nothing.
 use borrow.Author.Tests.{not-true, not-false}
-use Rattle.marking.proofs.Places.{stop-is, inner-at, next-further, room-three, size-least, variable-below, first-fits, parted}
+use Rattle.marking.proofs.Places.{inner-at, next-further, room-three, size-least, variable-below, first-fits, parted, node-inside, past-ends}
 use Prim.Native.Nat.{_<_, _+_, _-_, _*_, ℕ}
 use native.Mathlib.Omega.{arith}
 use lib.ListN.{getD}
@@ -15,8 +15,8 @@ use Rattle.marking.proofs.terms.+are_ground+is_ground.Lts-are_ground as
 use Rattle.marking.proofs.terms.is_ground.Reads as is-ground
 use Rattle.marking.proofs.terms.is_ground.Kinds as is-ground-kinds
 use Rattle.marking.proofs.terms.+are_ground+is_ground.Lts-is_ground as is-ground-lts
-use Rattle.marking.proofs.table.past.Reads as past-reads
-use Rattle.marking.proofs.table.word_at.Reads as word-at-reads
+use Rattle.words.proofs.past.Reads as past-reads
+use Rattle.words.proofs.word_at.Reads as word-at-reads
 
 abbrev μ-are-ground : Measures 1 are-ground-kinds.ps ℕ
 μ-are-ground κs a = 2 * (a .1 .1 .0 - a .1 .0) + 1
@@ -77,7 +77,7 @@ are-ground-past-requires : (t : ℕ) → are-ground-lts.Need-past-requires (
   are-ground-below t,
   are-ground.Post,
 ) (are-ground-at t) are-ground.Post
-are-ground-past-requires t c κs = parted (c .before .before .if1 .left) (c .before .before .before .before .pre .1) .first
+are-ground-past-requires t c κs = node-inside (parted (c .before .before .if1 .left) (c .before .before .before .before .pre .1) .first)
 
 are-ground-are-ground-requires : (t : ℕ) → are-ground-lts.Need-are-ground-requires (
   is-ground-below t,
@@ -87,7 +87,7 @@ are-ground-are-ground-requires : (t : ℕ) → are-ground-lts.Need-are-ground-re
   are-ground-below t,
   are-ground.Post,
 ) (are-ground-at t) are-ground.Post
-are-ground-are-ground-requires t c κs = (omega (arith, next-further (c .past .result) (c .before .before .before .if1 .left) (c .past .ensures) (c .before .before .before .before .before .pre .1)), rest-at (c .before .before .before .before .before .args .table .now) (c .before .before .before .before .before .args .p) (c .before .before .before .before .before .args .stop) (c .before .before .before .before .before .args .known) (c .before .before .before .if1 .left) (c .past .result) (c .past .ensures) (c .before .before .before .before .before .pre .1))
+are-ground-are-ground-requires t c κs = (omega (arith, next-further (c .past .result) (c .before .before .before .if1 .left) (past-ends (c .past .ensures)) (c .before .before .before .before .before .pre .1)), rest-at (c .before .before .before .before .before .args .table .now) (c .before .before .before .before .before .args .p) (c .before .before .before .before .before .args .stop) (c .before .before .before .before .before .args .known) (c .before .before .before .if1 .left) (c .past .result) (past-ends (c .past .ensures)) (c .before .before .before .before .before .pre .1))
 
 are-ground-returns-3 : (t : ℕ) → are-ground-lts.Need-returns-3 (
   is-ground-below t,
@@ -97,7 +97,7 @@ are-ground-returns-3 : (t : ℕ) → are-ground-lts.Need-returns-3 (
   are-ground-below t,
   are-ground.Post,
 ) (are-ground-at t) are-ground.Post
-are-ground-returns-3 t c = rest-ground (c .before .before .before .before .before .before .args .table .now) (c .before .before .before .before .before .before .args .p) (c .before .before .before .before .before .before .args .stop) (c .before .before .before .before .before .before .args .known) (c .before .before .before .before .if1 .left) (c .before .past .result) (c .before .past .ensures) (c .before .before .before .is-ground .result) (c .before .before .before .is-ground .ensures) (not-false _ (c .before .before .if2 .left)) (c .are-ground .result) (c .are-ground .ensures)
+are-ground-returns-3 t c = rest-ground (c .before .before .before .before .before .before .args .table .now) (c .before .before .before .before .before .before .args .p) (c .before .before .before .before .before .before .args .stop) (c .before .before .before .before .before .before .args .known) (c .before .before .before .before .if1 .left) (c .before .past .result) (past-ends (c .before .past .ensures)) (c .before .before .before .is-ground .result) (c .before .before .before .is-ground .ensures) (not-false _ (c .before .before .if2 .left)) (c .are-ground .result) (c .are-ground .ensures)
 
 is-ground-word-at-requires : (t : ℕ) → is-ground-lts.Need-word-at-requires (
   word-at-reads.Asked,
@@ -147,7 +147,7 @@ is-ground-past-requires : (t : ℕ) → is-ground-lts.Need-past-requires (
   are-ground-below t,
   are-ground.Post,
 ) (is-ground-at t) is-ground.Post
-is-ground-past-requires t c κs = c .before .before .before .pre .1
+is-ground-past-requires t c κs = node-inside (c .before .before .before .pre .1)
 
 is-ground-are-ground-requires : (t : ℕ) → is-ground-lts.Need-are-ground-requires (
   word-at-reads.Asked,
@@ -157,7 +157,7 @@ is-ground-are-ground-requires : (t : ℕ) → is-ground-lts.Need-are-ground-requ
   are-ground-below t,
   are-ground.Post,
 ) (is-ground-at t) is-ground.Post
-is-ground-are-ground-requires t c κs = (omega (arith, stop-is (c .past .result) (c .past .ensures) (c .before .before .before .before .pre .1), size-least (c .before .before .before .before .args .table .now) (c .before .before .before .before .args .p) (c .before .before .before .before .pre .1)), inner-at (c .before .before .word-at .result) (c .past .result) (c .before .before .word-at .ensures) (c .before .if1 .left) (c .past .ensures) (c .before .before .before .before .pre .1))
+is-ground-are-ground-requires t c κs = (omega (arith, c .past .ensures, size-least (c .before .before .before .before .args .table .now) (c .before .before .before .before .args .p) (c .before .before .before .before .pre .1)), inner-at (c .before .before .word-at .result) (c .past .result) (c .before .before .word-at .ensures) (c .before .if1 .left) (past-ends (c .past .ensures)) (c .before .before .before .before .pre .1))
 
 is-ground-returns-2 : (t : ℕ) → is-ground-lts.Need-returns-2 (
   word-at-reads.Asked,
@@ -167,7 +167,7 @@ is-ground-returns-2 : (t : ℕ) → is-ground-lts.Need-returns-2 (
   are-ground-below t,
   are-ground.Post,
 ) (is-ground-at t) is-ground.Post
-is-ground-returns-2 t c = ground-inner (c .before .before .before .before .before .args .table .now) (c .before .before .before .before .before .args .p) (c .before .before .before .before .before .args .t3) (c .before .before .before .word-at .result) (c .before .before .before .word-at .ensures) (c .before .past .result) (c .before .before .if1 .left) (c .before .past .ensures) (c .are-ground .result) (c .are-ground .ensures)
+is-ground-returns-2 t c = ground-inner (c .before .before .before .before .before .args .table .now) (c .before .before .before .before .before .args .p) (c .before .before .before .before .before .args .t3) (c .before .before .before .word-at .result) (c .before .before .before .word-at .ensures) (c .before .past .result) (c .before .before .if1 .left) (past-ends (c .before .past .ensures)) (c .are-ground .result) (c .are-ground .ensures)
 
 pub +are-ground+is-ground-spec : {M : Type 1} → statement M
 +are-ground+is-ground-spec = close μ-are-ground μ-is-ground (λ t. are-ground-lts.spec (

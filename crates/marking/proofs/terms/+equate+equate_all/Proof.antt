@@ -4,7 +4,7 @@ use native.Mathlib.Omega.{arith}
 use borrow.Author.Tests.{not-true, not-false}
 use lib.ListN.{getD}
 use Rattle.rules.specs.Modes.{everything}
-use Rattle.marking.proofs.Places.{room-three, size-least, stop-is}
+use Rattle.marking.proofs.Places.{room-three, size-least, node-inside, past-ends}
 use Rattle.marking.proofs.Equating.{left-at, right-at, equated-left, equated-right, clashed, pairs-at, descended, none-equated, split, pair-fits, pair-further, others-at, others-equated}
 use borrow.Fn.Kinds.{In}
 use borrow.Fn.PlainCycle.{Measures, is, falls, and}
@@ -16,8 +16,8 @@ use Rattle.marking.proofs.terms.+equate+equate_all.Lts-equate as equate
 use Rattle.marking.proofs.terms.equate_all.Reads as equate-all
 use Rattle.marking.proofs.terms.equate_all.Kinds as equate-all-kinds
 use Rattle.marking.proofs.terms.+equate+equate_all.Lts-equate_all as equate-all-lts
-use Rattle.marking.proofs.table.past.Reads as past-reads
-use Rattle.marking.proofs.table.word_at.Reads as word-at-reads
+use Rattle.words.proofs.past.Reads as past-reads
+use Rattle.words.proofs.word_at.Reads as word-at-reads
 use Rattle.marking.proofs.terms.equate_variable.Reads as equate-variable-reads
 use Rattle.marking.proofs.terms.same_functor.Reads as same-functor-reads
 
@@ -180,7 +180,7 @@ equate-past-requires : (t : ℕ) → equate-lts.Need-past-requires (
   equate-all-below t,
   equate-all.Post,
 ) (equate-at t) equate.Post
-equate-past-requires t c κs = left-at (c .before .before .before .before .before .before .before .before .pre .1)
+equate-past-requires t c κs = node-inside (left-at (c .before .before .before .before .before .before .before .before .pre .1))
 
 equate-add-other : (t : ℕ) → equate-lts.Need-add-other (
   word-at-reads.Asked,
@@ -208,7 +208,7 @@ equate-equate-all-requires : (t : ℕ) → equate-lts.Need-equate-all-requires (
   equate-all-below t,
   equate-all.Post,
 ) (equate-at t) equate.Post
-equate-equate-all-requires t c κs = (omega (arith, stop-is (c .past .result) (c .past .ensures) (left-at (c .before .before .before .before .before .before .before .before .before .pre .1)), size-least (c .before .before .before .before .before .before .before .before .before .args .table .now) (c .before .before .before .before .before .before .before .before .before .args .p) (left-at (c .before .before .before .before .before .before .before .before .before .pre .1))), pairs-at (c .before .before .before .before .before .before .before .before .before .args .s .now) (c .before .before .before .before .before .before .before .before .before .args .table .now) (c .before .before .before .before .before .before .before .before .before .args .p) (c .before .before .before .before .before .before .before .before .before .args .q) (c .before .before .before .before .before .before .before .before .before .args .known) (c .before .before .before .before .before .before .word-at .result) (c .before .before .before .before .word-at2 .result) (c .before .before .before .before .before .before .word-at .ensures) (c .before .before .before .before .word-at2 .ensures) (c .before .before .before .before .before .if1 .left) (c .before .before .before .if2 .left) (c .before .before .same-functor .result) (c .before .before .same-functor .ensures) (not-false _ (c .before .if3 .left)) (c .past .result) (c .past .ensures) (c .before .before .before .before .before .before .before .before .before .pre .1))
+equate-equate-all-requires t c κs = (omega (arith, c .past .ensures, size-least (c .before .before .before .before .before .before .before .before .before .args .table .now) (c .before .before .before .before .before .before .before .before .before .args .p) (left-at (c .before .before .before .before .before .before .before .before .before .pre .1))), pairs-at (c .before .before .before .before .before .before .before .before .before .args .s .now) (c .before .before .before .before .before .before .before .before .before .args .table .now) (c .before .before .before .before .before .before .before .before .before .args .p) (c .before .before .before .before .before .before .before .before .before .args .q) (c .before .before .before .before .before .before .before .before .before .args .known) (c .before .before .before .before .before .before .word-at .result) (c .before .before .before .before .word-at2 .result) (c .before .before .before .before .before .before .word-at .ensures) (c .before .before .before .before .word-at2 .ensures) (c .before .before .before .before .before .if1 .left) (c .before .before .before .if2 .left) (c .before .before .same-functor .result) (c .before .before .same-functor .ensures) (not-false _ (c .before .if3 .left)) (c .past .result) (past-ends (c .past .ensures)) (c .before .before .before .before .before .before .before .before .before .pre .1))
 
 equate-returns-4 : (t : ℕ) → equate-lts.Need-returns-4 (
   word-at-reads.Asked,
@@ -222,7 +222,7 @@ equate-returns-4 : (t : ℕ) → equate-lts.Need-returns-4 (
   equate-all-below t,
   equate-all.Post,
 ) (equate-at t) equate.Post
-equate-returns-4 t c = descended (c .before .before .before .before .before .before .before .before .before .before .args .s .now) (c .before .before .before .before .before .before .before .before .before .before .args .table .now) (c .before .before .before .before .before .before .before .before .before .before .args .p) (c .before .before .before .before .before .before .before .before .before .before .args .q) (c .before .before .before .before .before .before .before .before .before .before .args .known) (c .before .before .before .before .before .before .before .word-at .result) (c .before .before .before .before .before .word-at2 .result) (c .before .before .before .before .before .before .before .word-at .ensures) (c .before .before .before .before .before .word-at2 .ensures) (c .before .before .before .before .before .before .if1 .left) (c .before .before .before .before .if2 .left) (c .before .before .before .same-functor .result) (c .before .before .before .same-functor .ensures) (not-false _ (c .before .before .if3 .left)) (c .before .past .result) (c .before .past .ensures) (c .equate-all .result) (c .equate-all .ensures)
+equate-returns-4 t c = descended (c .before .before .before .before .before .before .before .before .before .before .args .s .now) (c .before .before .before .before .before .before .before .before .before .before .args .table .now) (c .before .before .before .before .before .before .before .before .before .before .args .p) (c .before .before .before .before .before .before .before .before .before .before .args .q) (c .before .before .before .before .before .before .before .before .before .before .args .known) (c .before .before .before .before .before .before .before .word-at .result) (c .before .before .before .before .before .word-at2 .result) (c .before .before .before .before .before .before .before .word-at .ensures) (c .before .before .before .before .before .word-at2 .ensures) (c .before .before .before .before .before .before .if1 .left) (c .before .before .before .before .if2 .left) (c .before .before .before .same-functor .result) (c .before .before .before .same-functor .ensures) (not-false _ (c .before .before .if3 .left)) (c .before .past .result) (past-ends (c .before .past .ensures)) (c .equate-all .result) (c .equate-all .ensures)
 
 equate-all-returns : (t : ℕ) → equate-all-lts.Need-returns (
   equate-below t,
@@ -252,7 +252,7 @@ equate-all-past-requires : (t : ℕ) → equate-all-lts.Need-past-requires (
   equate-all-below t,
   equate-all.Post,
 ) (equate-all-at t) equate-all.Post
-equate-all-past-requires t c κs = left-at (split (c .before .before .before .before .args .s .now) (c .before .before .before .before .args .table .now) (c .before .before .before .before .args .p) (c .before .before .before .before .args .stop) (c .before .before .before .before .args .q) (c .before .before .before .before .args .known) (c .before .if1 .left) (c .before .before .before .before .pre .1) .first)
+equate-all-past-requires t c κs = node-inside (left-at (split (c .before .before .before .before .args .s .now) (c .before .before .before .before .args .table .now) (c .before .before .before .before .args .p) (c .before .before .before .before .args .stop) (c .before .before .before .before .args .q) (c .before .before .before .before .args .known) (c .before .if1 .left) (c .before .before .before .before .pre .1) .first))
 
 equate-all-past-requires-2 : (t : ℕ) → equate-all-lts.Need-past-requires-2 (
   equate-below t,
@@ -262,7 +262,7 @@ equate-all-past-requires-2 : (t : ℕ) → equate-all-lts.Need-past-requires-2 (
   equate-all-below t,
   equate-all.Post,
 ) (equate-all-at t) equate-all.Post
-equate-all-past-requires-2 t c κs = right-at (split (c .before .before .before .before .before .args .s .now) (c .before .before .before .before .before .args .table .now) (c .before .before .before .before .before .args .p) (c .before .before .before .before .before .args .stop) (c .before .before .before .before .before .args .q) (c .before .before .before .before .before .args .known) (c .before .before .if1 .left) (c .before .before .before .before .before .pre .1) .first)
+equate-all-past-requires-2 t c κs = node-inside (right-at (split (c .before .before .before .before .before .args .s .now) (c .before .before .before .before .before .args .table .now) (c .before .before .before .before .before .args .p) (c .before .before .before .before .before .args .stop) (c .before .before .before .before .before .args .q) (c .before .before .before .before .before .args .known) (c .before .before .if1 .left) (c .before .before .before .before .before .pre .1) .first))
 
 equate-all-equate-all-requires : (t : ℕ) → equate-all-lts.Need-equate-all-requires (
   equate-below t,
@@ -272,7 +272,7 @@ equate-all-equate-all-requires : (t : ℕ) → equate-all-lts.Need-equate-all-re
   equate-all-below t,
   equate-all.Post,
 ) (equate-all-at t) equate-all.Post
-equate-all-equate-all-requires t c κs = (omega (arith, pair-further (c .before .before .before .before .before .before .args .s .now) (c .before .before .before .before .before .before .args .table .now) (c .before .before .before .before .before .before .args .p) (c .before .before .before .before .before .before .args .stop) (c .before .before .before .before .before .before .args .q) (c .before .before .before .before .before .before .args .known) (c .before .before .before .if1 .left) (c .before .past .result) (c .past2 .result) (c .before .past .ensures) (c .past2 .ensures) (c .before .before .before .before .before .before .pre .1)), others-at (c .before .before .before .before .before .before .args .s .now) (c .before .before .before .before .before .before .args .table .now) (c .before .before .before .before .before .before .args .p) (c .before .before .before .before .before .before .args .stop) (c .before .before .before .before .before .before .args .q) (c .before .before .before .before .before .before .args .known) (c .before .before .before .if1 .left) (c .before .past .result) (c .past2 .result) (c .before .past .ensures) (c .past2 .ensures) (c .before .before .before .before .before .before .pre .1))
+equate-all-equate-all-requires t c κs = (omega (arith, pair-further (c .before .before .before .before .before .before .args .s .now) (c .before .before .before .before .before .before .args .table .now) (c .before .before .before .before .before .before .args .p) (c .before .before .before .before .before .before .args .stop) (c .before .before .before .before .before .before .args .q) (c .before .before .before .before .before .before .args .known) (c .before .before .before .if1 .left) (c .before .past .result) (c .past2 .result) (past-ends (c .before .past .ensures)) (past-ends (c .past2 .ensures)) (c .before .before .before .before .before .before .pre .1)), others-at (c .before .before .before .before .before .before .args .s .now) (c .before .before .before .before .before .before .args .table .now) (c .before .before .before .before .before .before .args .p) (c .before .before .before .before .before .before .args .stop) (c .before .before .before .before .before .before .args .q) (c .before .before .before .before .before .before .args .known) (c .before .before .before .if1 .left) (c .before .past .result) (c .past2 .result) (past-ends (c .before .past .ensures)) (past-ends (c .past2 .ensures)) (c .before .before .before .before .before .before .pre .1))
 
 equate-all-returns-2 : (t : ℕ) → equate-all-lts.Need-returns-2 (
   equate-below t,
@@ -282,7 +282,7 @@ equate-all-returns-2 : (t : ℕ) → equate-all-lts.Need-returns-2 (
   equate-all-below t,
   equate-all.Post,
 ) (equate-all-at t) equate-all.Post
-equate-all-returns-2 t c = others-equated (c .before .before .before .before .before .before .before .args .s .now) (c .before .before .before .before .before .before .before .args .table .now) (c .before .before .before .before .before .before .before .args .p) (c .before .before .before .before .before .before .before .args .stop) (c .before .before .before .before .before .before .before .args .q) (c .before .before .before .before .before .before .before .args .known) (c .before .before .before .before .if1 .left) (c .before .before .past .result) (c .before .past2 .result) (c .before .before .past .ensures) (c .before .past2 .ensures) (c .before .before .before .equate .result) (c .before .before .before .equate .ensures) (c .equate-all .result) (c .equate-all .ensures)
+equate-all-returns-2 t c = others-equated (c .before .before .before .before .before .before .before .args .s .now) (c .before .before .before .before .before .before .before .args .table .now) (c .before .before .before .before .before .before .before .args .p) (c .before .before .before .before .before .before .before .args .stop) (c .before .before .before .before .before .before .before .args .q) (c .before .before .before .before .before .before .before .args .known) (c .before .before .before .before .if1 .left) (c .before .before .past .result) (c .before .past2 .result) (past-ends (c .before .before .past .ensures)) (past-ends (c .before .past2 .ensures)) (c .before .before .before .equate .result) (c .before .before .before .equate .ensures) (c .equate-all .result) (c .equate-all .ensures)
 
 pub +equate+equate-all-spec : {M : Type 1} → statement M
 +equate+equate-all-spec = close μ-equate μ-equate-all (λ t. equate-lts.spec (

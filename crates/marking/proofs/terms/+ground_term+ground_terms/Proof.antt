@@ -2,7 +2,7 @@
 use Prim.Native.Nat.{_<_, _+_, _-_, _*_, ℕ}
 use native.Mathlib.Omega.{arith}
 use lib.ListN.{getD}
-use Rattle.marking.proofs.Places.{room-three, size-least, variable-below, first-fits, parted, stop-is, inner-at, next-further}
+use Rattle.marking.proofs.Places.{room-three, size-least, variable-below, first-fits, parted, inner-at, next-further, node-inside, past-ends}
 use Rattle.marking.proofs.Grounding.{stored, stored-inner, none-stored, rest-at, rest-stored}
 use borrow.Fn.Kinds.{In}
 use borrow.Fn.PlainCycle.{Measures, is, falls, and}
@@ -14,8 +14,8 @@ use Rattle.marking.proofs.terms.+ground_term+ground_terms.Lts-ground_te
 use Rattle.marking.proofs.terms.ground_terms.Reads as ground-terms
 use Rattle.marking.proofs.terms.ground_terms.Kinds as ground-terms-kinds
 use Rattle.marking.proofs.terms.+ground_term+ground_terms.Lts-ground_terms as ground-terms-lts
-use Rattle.marking.proofs.table.past.Reads as past-reads
-use Rattle.marking.proofs.table.word_at.Reads as word-at-reads
+use Rattle.words.proofs.past.Reads as past-reads
+use Rattle.words.proofs.word_at.Reads as word-at-reads
 
 abbrev μ-ground-term : Measures 1 ground-term-kinds.ps ℕ
 μ-ground-term κs a = 2 * getD (a .0 .now) (a .1 .0 + 1) 0
@@ -91,7 +91,7 @@ ground-term-past-requires : (t : ℕ) → ground-term-lts.Need-past-requires (
   ground-terms-below t,
   ground-terms.Post,
 ) (ground-term-at t) ground-term.Post
-ground-term-past-requires t c κs = c .before .before .before .pre .1
+ground-term-past-requires t c κs = node-inside (c .before .before .before .pre .1)
 
 ground-term-ground-terms-requires : (t : ℕ) → ground-term-lts.Need-ground-terms-requires (
   word-at-reads.Asked,
@@ -101,7 +101,7 @@ ground-term-ground-terms-requires : (t : ℕ) → ground-term-lts.Need-ground-te
   ground-terms-below t,
   ground-terms.Post,
 ) (ground-term-at t) ground-term.Post
-ground-term-ground-terms-requires t c κs = (omega (arith, stop-is (c .past .result) (c .past .ensures) (c .before .before .before .before .pre .1), size-least (c .before .before .before .before .args .table .now) (c .before .before .before .before .args .p) (c .before .before .before .before .pre .1)), inner-at (c .before .before .word-at .result) (c .past .result) (c .before .before .word-at .ensures) (c .before .if1 .left) (c .past .ensures) (c .before .before .before .before .pre .1))
+ground-term-ground-terms-requires t c κs = (omega (arith, c .past .ensures, size-least (c .before .before .before .before .args .table .now) (c .before .before .before .before .args .p) (c .before .before .before .before .pre .1)), inner-at (c .before .before .word-at .result) (c .past .result) (c .before .before .word-at .ensures) (c .before .if1 .left) (past-ends (c .past .ensures)) (c .before .before .before .before .pre .1))
 
 ground-term-returns-2 : (t : ℕ) → ground-term-lts.Need-returns-2 (
   word-at-reads.Asked,
@@ -111,7 +111,7 @@ ground-term-returns-2 : (t : ℕ) → ground-term-lts.Need-returns-2 (
   ground-terms-below t,
   ground-terms.Post,
 ) (ground-term-at t) ground-term.Post
-ground-term-returns-2 t c = stored-inner (c .before .before .before .before .before .args .table .now) (c .before .before .before .before .before .args .p) (c .before .before .before .before .before .args .known) (c .before .before .before .word-at .result) (c .before .before .before .word-at .ensures) (c .before .past .result) (c .before .before .if1 .left) (c .before .past .ensures) (c .ground-terms .result) (c .ground-terms .ensures)
+ground-term-returns-2 t c = stored-inner (c .before .before .before .before .before .args .table .now) (c .before .before .before .before .before .args .p) (c .before .before .before .before .before .args .known) (c .before .before .before .word-at .result) (c .before .before .before .word-at .ensures) (c .before .past .result) (c .before .before .if1 .left) (past-ends (c .before .past .ensures)) (c .ground-terms .result) (c .ground-terms .ensures)
 
 ground-terms-returns : (t : ℕ) → ground-terms-lts.Need-returns (
   ground-term-below t,
@@ -141,7 +141,7 @@ ground-terms-past-requires : (t : ℕ) → ground-terms-lts.Need-past-requires (
   ground-terms-below t,
   ground-terms.Post,
 ) (ground-terms-at t) ground-terms.Post
-ground-terms-past-requires t c κs = parted (c .before .if1 .left) (c .before .before .before .pre .1) .first
+ground-terms-past-requires t c κs = node-inside (parted (c .before .if1 .left) (c .before .before .before .pre .1) .first)
 
 ground-terms-ground-terms-requires : (t : ℕ) → ground-terms-lts.Need-ground-terms-requires (
   ground-term-below t,
@@ -151,7 +151,7 @@ ground-terms-ground-terms-requires : (t : ℕ) → ground-terms-lts.Need-ground-
   ground-terms-below t,
   ground-terms.Post,
 ) (ground-terms-at t) ground-terms.Post
-ground-terms-ground-terms-requires t c κs = (omega (arith, next-further (c .past .result) (c .before .before .if1 .left) (c .past .ensures) (c .before .before .before .before .pre .1)), rest-at (c .before .before .before .before .args .table .now) (c .before .before .before .before .args .p) (c .before .before .before .before .args .stop) (c .before .before .before .before .args .known) (c .before .before .if1 .left) (c .past .result) (c .past .ensures) (c .before .before .before .before .pre .1))
+ground-terms-ground-terms-requires t c κs = (omega (arith, next-further (c .past .result) (c .before .before .if1 .left) (past-ends (c .past .ensures)) (c .before .before .before .before .pre .1)), rest-at (c .before .before .before .before .args .table .now) (c .before .before .before .before .args .p) (c .before .before .before .before .args .stop) (c .before .before .before .before .args .known) (c .before .before .if1 .left) (c .past .result) (past-ends (c .past .ensures)) (c .before .before .before .before .pre .1))
 
 ground-terms-returns-2 : (t : ℕ) → ground-terms-lts.Need-returns-2 (
   ground-term-below t,
@@ -161,7 +161,7 @@ ground-terms-returns-2 : (t : ℕ) → ground-terms-lts.Need-returns-2 (
   ground-terms-below t,
   ground-terms.Post,
 ) (ground-terms-at t) ground-terms.Post
-ground-terms-returns-2 t c = rest-stored (c .before .before .before .before .before .args .table .now) (c .before .before .before .before .before .args .p) (c .before .before .before .before .before .args .stop) (c .before .before .before .before .before .args .known) (c .before .before .before .if1 .left) (c .before .past .result) (c .before .past .ensures) (c .before .before .ground-term .result) (c .before .before .ground-term .ensures) (c .ground-terms .result) (c .ground-terms .ensures)
+ground-terms-returns-2 t c = rest-stored (c .before .before .before .before .before .args .table .now) (c .before .before .before .before .before .args .p) (c .before .before .before .before .before .args .stop) (c .before .before .before .before .before .args .known) (c .before .before .before .if1 .left) (c .before .past .result) (past-ends (c .before .past .ensures)) (c .before .before .ground-term .result) (c .before .before .ground-term .ensures) (c .ground-terms .result) (c .ground-terms .ensures)
 
 pub +ground-term+ground-terms-spec : {M : Type 1} → statement M
 +ground-term+ground-terms-spec = close μ-ground-term μ-ground-terms (λ t. ground-term-lts.spec (

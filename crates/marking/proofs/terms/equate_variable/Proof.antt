@@ -14,7 +14,7 @@ ground-term-requires-2 : tie.Need-ground-term-requires-2
 ground-term-requires-2 c κs = search needs
 
 returns : tie.Need-returns
-returns c = left-grounds (c .before .before .before .before .before .args .table .now) (c .before .before .before .before .before .args .p) (c .before .before .before .before .before .args .q) (c .before .before .before .before .before .args .known) (c .before .before .before .is-ground .result) (c .before .before .before .is-ground .result) (c .before .before .before .is-ground .ensures) (c .before .before .if1 .taken) (c .before .ground-term .result) (c .ground-term2 .result) (c .before .ground-term .ensures) (c .ground-term2 .ensures)
+returns c = let c5 = c .before .before .before .before .before in left-grounds (c5 .args .table .now) (c5 .args .p) (c5 .args .q) (c5 .args .known) (c .before .before .before .is-ground .result) (c .before .before .before .is-ground .result) (c .before .before .before .is-ground .ensures) (c .before .before .if1 .taken) (c .before .ground-term .result) (c .ground-term2 .result) (c .before .ground-term .ensures) (c .ground-term2 .ensures)
 
 is-ground-requires-2 : tie.Need-is-ground-requires-2
 is-ground-requires-2 c κs = search needs
@@ -26,10 +26,10 @@ ground-term-requires-4 : tie.Need-ground-term-requires-4
 ground-term-requires-4 c κs = search needs
 
 returns-2 : tie.Need-returns-2
-returns-2 c = right-grounds (c .before .before .before .before .before .before .before .args .table .now) (c .before .before .before .before .before .before .before .args .p) (c .before .before .before .before .before .before .before .args .q) (c .before .before .before .before .before .before .before .args .known) (c .before .before .before .before .before .is-ground .result) (c .before .before .before .is-ground2 .result) (c .before .before .before .before .before .is-ground .ensures) (c .before .before .before .is-ground2 .ensures) (c .before .before .before .before .if1 .left) (c .before .before .if2 .taken) (c .before .ground-term3 .result) (c .ground-term4 .result) (c .before .ground-term3 .ensures) (c .ground-term4 .ensures)
+returns-2 c = let c4 = c .before .before .before .before in let c5 = c4 .before in let c7 = c5 .before .before in right-grounds (c7 .args .table .now) (c7 .args .p) (c7 .args .q) (c7 .args .known) (c5 .is-ground .result) (c .before .before .before .is-ground2 .result) (c5 .is-ground .ensures) (c .before .before .before .is-ground2 .ensures) (c4 .if1 .left) (c .before .before .if2 .taken) (c .before .ground-term3 .result) (c .ground-term4 .result) (c .before .ground-term3 .ensures) (c .ground-term4 .ensures)
 
 returns-3 : tie.Need-returns-3
-returns-3 c = neither-grounds (c .before .before .before .before .before .args .table .now) (c .before .before .before .before .before .args .p) (c .before .before .before .before .before .args .q) (c .before .before .before .before .before .args .known) (c .before .before .before .is-ground .result) (c .before .is-ground2 .result) (c .before .before .before .is-ground .ensures) (c .before .is-ground2 .ensures) (c .before .before .if1 .left) (c .if2 .left)
+returns-3 c = let c5 = c .before .before .before .before .before in neither-grounds (c5 .args .table .now) (c5 .args .p) (c5 .args .q) (c5 .args .known) (c .before .before .before .is-ground .result) (c .before .is-ground2 .result) (c .before .before .before .is-ground .ensures) (c .before .is-ground2 .ensures) (c .before .before .if1 .left) (c .if2 .left)
 
 pub equate-variable-spec : {M : Type 1} → statement M
 equate-variable-spec =

@@ -4,7 +4,7 @@ use native.Mathlib.Omega.{arith}
 use mathlib.Core.Path.{sym, _∙_}
 use Rattle.rules.specs.Modes.{bodyFault}
 use Rattle.marking.specs.Tables.{DeclarationsAt, BodyAt}
-use Rattle.modes.proofs.Walking.{Ahead, begun, turn, walk-ended, walk-faulted, walk-on}
+use Rattle.modes.proofs.Walking.{literal-words, Ahead, begun, turn, walk-ended, walk-faulted, walk-on}
 use Rattle.modes.proofs.bodies.body_walk.Statement.{statement}
 use Rattle.modes.proofs.bodies.body_walk.Tie as tie
 
@@ -15,31 +15,31 @@ abbrev μ-loop : tie.MeasureT-loop
 μ-loop s declared n g table p literals clause at₀ i₀ flags₀ at i flags = literals - i
 
 loop-holds : tie.Need-loop-holds Inv-loop μ-loop
-loop-holds c = (omega arith, λ d w. begun (λ k b. bodyFault (d .list) (c .before .before .before .before .args .clause) k (c .before .before .before .before .args .known) b) w)
+loop-holds c = let c4 = c .before .before .before .before in (omega arith, λ d w. begun (λ k b. bodyFault (d .list) (c4 .args .clause) k (c4 .args .known) b) w)
 
 add-number : tie.Need-add-number Inv-loop μ-loop
 add-number c = omega arith
 
 literal-walk-requires : tie.Need-literal-walk-requires Inv-loop μ-loop
-literal-walk-requires c κs = (c .before .before .before .before .before .before .pre .0, turn (c .loop-test .taken) ((c .before .loop .inv) .1 (c .before .before .before .before .before .before .pre .0) (c .before .before .before .before .before .before .pre .1)) .literal)
+literal-walk-requires c κs = let c6 = c .before .before .before .before .before .before in (c6 .pre .0, turn (c .loop-test .taken) ((c .before .loop .inv) .1 (c6 .pre .0) (c6 .pre .1)) .literal)
 
 is-fault-requires : tie.Need-is-fault-requires Inv-loop μ-loop
 is-fault-requires c κs = tt
 
 returns : tie.Need-returns Inv-loop μ-loop
-returns c = λ d w. walk-faulted (d .list) (c .before .before .before .before .before .before .before .before .before .before .args .clause) (c .before .before .before .before .before .before .before .before .before .before .args .g .now) (c .before .before .before .before .before .before .before .before .before .before .args .table .now) (c .before .before .before .before .before .loop .at) (c .before .before .before .before .before .loop .i) (c .before .before .before .before .before .before .before .before .before .before .args .literals) (c .before .before .before .before .before .loop .flags) (bodyFault (d .list) (c .before .before .before .before .before .before .before .before .before .before .args .clause) 1 (c .before .before .before .before .before .before .before .before .before .before .args .known) (w .body)) (c .before .before .before .before .loop-test .taken) (c .before .before .before .literal-walk .result) ((c .before .before .before .literal-walk .ensures) d) (sym (c .before .is-fault .ensures) ∙ (c .if1 .taken)) ((c .before .before .before .before .before .loop .inv) .1 d w)
+returns c = let c4 = c .before .before .before .before in let c5 = c4 .before in let c10 = c5 .before .before .before .before .before in λ d w. walk-faulted (d .list) (c10 .args .clause) (c10 .args .g .now) (c10 .args .table .now) (c5 .loop .at) (c5 .loop .i) (c10 .args .literals) (c5 .loop .flags) (bodyFault (d .list) (c10 .args .clause) 1 (c10 .args .known) (w .body)) (c4 .loop-test .taken) (c .before .before .before .literal-walk .result) ((c .before .before .before .literal-walk .ensures) d) (sym (c .before .is-fault .ensures) ∙ (c .if1 .taken)) ((c5 .loop .inv) .1 d w)
 
 past-literal-requires : tie.Need-past-literal-requires Inv-loop μ-loop
-past-literal-requires c κs = ((c .before .before .before .before .before .before .before .before .before .before .args .g .now), turn (c .before .before .before .before .loop-test .taken) ((c .before .before .before .before .before .loop .inv) .1 (c .before .before .before .before .before .before .before .before .before .before .pre .0) (c .before .before .before .before .before .before .before .before .before .before .pre .1)) .literal)
+past-literal-requires c κs = let c4 = c .before .before .before .before in let c5 = c4 .before in let c10 = c5 .before .before .before .before .before in literal-words (turn (c4 .loop-test .taken) ((c5 .loop .inv) .1 (c10 .pre .0) (c10 .pre .1)) .literal)
 
 loop-less : tie.Need-loop-less Inv-loop μ-loop
 loop-less c = omega arith
 
 loop-again : tie.Need-loop-again Inv-loop μ-loop
-loop-again c = (omega arith, λ d w. walk-on (d .list) (c .before .before .before .before .before .before .before .before .before .before .before .args .clause) (c .before .before .before .before .before .before .before .before .before .before .before .args .g .now) (c .before .before .before .before .before .before .before .before .before .before .before .args .table .now) (c .before .before .before .before .before .before .loop .at) (c .before .before .before .before .before .before .loop .i) (c .before .before .before .before .before .before .before .before .before .before .before .args .literals) (c .before .before .before .before .before .before .loop .flags) (bodyFault (d .list) (c .before .before .before .before .before .before .before .before .before .before .before .args .clause) 1 (c .before .before .before .before .before .before .before .before .before .before .before .args .known) (w .body)) (c .before .before .before .before .before .loop-test .taken) (c .before .before .before .before .literal-walk .result) ((c .before .before .before .before .literal-walk .ensures) d) (sym (c .before .before .is-fault .ensures) ∙ (c .before .if1 .left)) (c .past-literal .result) ((c .past-literal .ensures) (c .before .before .before .before .before .before .before .before .before .before .before .args .g .now)) ((c .before .before .before .before .before .before .loop .inv) .1 d w))
+loop-again c = let c4 = c .before .before .before .before in let c5 = c4 .before in let c6 = c5 .before in let c11 = c6 .before .before .before .before .before in (omega arith, λ d w. walk-on (d .list) (c11 .args .clause) (c11 .args .g .now) (c11 .args .table .now) (c6 .loop .at) (c6 .loop .i) (c11 .args .literals) (c6 .loop .flags) (bodyFault (d .list) (c11 .args .clause) 1 (c11 .args .known) (w .body)) (c5 .loop-test .taken) (c4 .literal-walk .result) ((c4 .literal-walk .ensures) d) (sym (c .before .before .is-fault .ensures) ∙ (c .before .if1 .left)) (c .past-literal .result) (λ u. c .past-literal .ensures (u .literal) (u .has)) ((c6 .loop .inv) .1 d w))
 
 returns-2 : tie.Need-returns-2 Inv-loop μ-loop
-returns-2 c = λ d w. walk-ended (d .list) (c .before .before .before .before .before .before .args .clause) (c .before .before .before .before .before .before .args .g .now) (c .before .before .before .before .before .before .args .table .now) (c .before .loop .at) (c .before .loop .i) (c .before .before .before .before .before .before .args .literals) (c .before .loop .flags) (bodyFault (d .list) (c .before .before .before .before .before .before .args .clause) 1 (c .before .before .before .before .before .before .args .known) (w .body)) (c .loop-test .left) ((c .before .loop .inv) .1 d w)
+returns-2 c = let c6 = c .before .before .before .before .before .before in λ d w. walk-ended (d .list) (c6 .args .clause) (c6 .args .g .now) (c6 .args .table .now) (c .before .loop .at) (c .before .loop .i) (c6 .args .literals) (c .before .loop .flags) (bodyFault (d .list) (c6 .args .clause) 1 (c6 .args .known) (w .body)) (c .loop-test .left) ((c .before .loop .inv) .1 d w)
 
 pub body-walk-spec : {M : Type 1} → statement M
 body-walk-spec =

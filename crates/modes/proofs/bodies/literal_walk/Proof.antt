@@ -1,4 +1,5 @@
 -- `modes::bodies::literal_walk` meets its contract. Assumes nothing.
+use Rattle.marking.proofs.Places.{node-inside, past-ends}
 use native.Mathlib.Omega.{arith}
 use Rattle.rules.specs.Modes.{everything}
 use Rattle.modes.specs.Answers.{walkOf}
@@ -10,29 +11,29 @@ word-at-requires : tie.Need-word-at-requires
 word-at-requires c κs = literal-room (c .before .before .before .before .pre .1)
 
 returns : tie.Need-returns
-returns c = λ d w. walked-truth (c .before .word-at .result) (c .before .word-at .ensures) (c .if1 .taken) (d .list) (c .before .before .before .before .before .before .args .clause) (c .before .before .before .before .before .before .args .literal) (c .before .before .before .before .before .before .args .known) w
+returns c = let c6 = c .before .before .before .before .before .before in λ d w. walked-truth (c .before .word-at .result) (c .before .word-at .ensures) (c .if1 .taken) (d .list) (c6 .args .clause) (c6 .args .literal) (c6 .args .known) w
 
 returns-2 : tie.Need-returns-2
 unfolding everything
-returns-2 c = λ d w. walked-falsity (c .before .before .word-at .result) (c .before .before .word-at .ensures) (c .if2 .taken) (d .list) (c .before .before .before .before .before .before .before .args .clause) (c .before .before .before .before .before .before .before .args .literal) (c .before .before .before .before .before .before .before .args .known) w
+returns-2 c = let c7 = c .before .before .before .before .before .before .before in λ d w. walked-falsity (c .before .before .word-at .result) (c .before .before .word-at .ensures) (c .if2 .taken) (d .list) (c7 .args .clause) (c7 .args .literal) (c7 .args .known) w
 
 add-q : tie.Need-add-q
 add-q c = omega (arith, literal-room (c .before .before .before .before .before .before .before .pre .1))
 
 call-walk-requires : tie.Need-call-walk-requires
-call-walk-requires c κs = (c .before .before .before .before .before .before .before .before .pre .0, atom-at (c .before .before .before .word-at .result) (c .before .before .before .word-at .ensures) (c .if3 .taken) (c .before .before .before .before .before .before .before .before .pre .1))
+call-walk-requires c κs = let c8 = c .before .before .before .before .before .before .before .before in (c8 .pre .0, atom-at (c .before .before .before .word-at .result) (c .before .before .before .word-at .ensures) (c .if3 .taken) (c8 .pre .1))
 
 returns-3 : tie.Need-returns-3
-returns-3 c = λ d w. walked-call (c .before .before .before .before .word-at .result) (c .before .before .before .before .word-at .ensures) (c .before .if3 .taken) (d .list) (c .before .before .before .before .before .before .before .before .before .args .clause) (c .before .before .before .before .before .before .before .before .before .args .literal) (c .before .before .before .before .before .before .before .before .before .args .known) (walkOf (c .call-walk .result)) ((c .call-walk .ensures) d) w
+returns-3 c = let c4 = c .before .before .before .before in let c9 = c4 .before .before .before .before .before in λ d w. walked-call (c4 .word-at .result) (c4 .word-at .ensures) (c .before .if3 .taken) (d .list) (c9 .args .clause) (c9 .args .literal) (c9 .args .known) (walkOf (c .call-walk .result)) ((c .call-walk .ensures) d) w
 
 past-requires : tie.Need-past-requires
-past-requires c κs = first-term (c .before .before .before .word-at .result) (c .before .before .before .word-at .ensures) (at-least _ (c .before .before .if1 .left) (c .before .if2 .left)) (c .before .before .before .before .before .before .before .before .pre .1)
+past-requires c κs = node-inside (first-term (c .before .before .before .word-at .result) (c .before .before .before .word-at .ensures) (at-least _ (c .before .before .if1 .left) (c .before .if2 .left)) (c .before .before .before .before .before .before .before .before .pre .1))
 
 equate-requires : tie.Need-equate-requires
-equate-requires c κs = sides-at (c .before .before .before .before .word-at .result) (c .before .before .before .before .word-at .ensures) (c .past .result) (c .past .ensures) (at-least _ (c .before .before .before .if1 .left) (c .before .before .if2 .left)) (c .before .if3 .left) (c .before .before .before .before .before .before .before .before .before .pre .1)
+equate-requires c κs = let c4 = c .before .before .before .before in let c9 = c4 .before .before .before .before .before in sides-at (c4 .word-at .result) (c4 .word-at .ensures) (c .past .result) (past-ends (c .past .ensures)) (at-least _ (c .before .before .before .if1 .left) (c .before .before .if2 .left)) (c .before .if3 .left) (c9 .pre .1)
 
 returns-4 : tie.Need-returns-4
-returns-4 c = λ d w. walked-equation (c .before .before .before .before .before .word-at .result) (c .before .before .before .before .before .word-at .ensures) (c .before .past .result) (c .before .past .ensures) (at-least _ (c .before .before .before .before .if1 .left) (c .before .before .before .if2 .left)) (c .before .before .if3 .left) (d .list) (c .before .before .before .before .before .before .before .before .before .before .args .clause) (c .before .before .before .before .before .before .before .before .before .before .args .literal) (c .before .before .before .before .before .before .before .before .before .before .args .known) (c .equate .result) (c .equate .ensures) w
+returns-4 c = let c4 = c .before .before .before .before in let c5 = c4 .before in let c10 = c5 .before .before .before .before .before in λ d w. walked-equation (c5 .word-at .result) (c5 .word-at .ensures) (c .before .past .result) (past-ends (c .before .past .ensures)) (at-least _ (c4 .if1 .left) (c .before .before .before .if2 .left)) (c .before .before .if3 .left) (d .list) (c10 .args .clause) (c10 .args .literal) (c10 .args .known) (c .equate .result) (c .equate .ensures) w
 
 pub literal-walk-spec : {M : Type 1} → statement M
 literal-walk-spec =

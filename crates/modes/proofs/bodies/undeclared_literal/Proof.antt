@@ -8,16 +8,16 @@ word-at-requires : tie.Need-word-at-requires
 word-at-requires c κs = literal-room (c .before .before .before .before .pre .1)
 
 returns : tie.Need-returns
-returns c = λ d w. no-call (c .before .word-at .result) (c .before .word-at .ensures) (c .if1 .taken) (d .list) (c .before .before .before .before .before .before .args .clause) (c .before .before .before .before .before .before .args .literal) w
+returns c = let c6 = c .before .before .before .before .before .before in λ d w. no-call (c .before .word-at .result) (c .before .word-at .ensures) (c .if1 .taken) (d .list) (c6 .args .clause) (c6 .args .literal) w
 
 add-q : tie.Need-add-q
 add-q c = omega (arith, literal-room (c .before .before .before .before .before .before .pre .1))
 
 undeclared-atom-requires : tie.Need-undeclared-atom-requires
-undeclared-atom-requires c κs = (c .before .before .before .before .before .before .pre .0, atom-at (c .before .word-at .result) (c .before .word-at .ensures) (c .if1 .left) (c .before .before .before .before .before .before .pre .1))
+undeclared-atom-requires c κs = let c6 = c .before .before .before .before .before .before in (c6 .pre .0, atom-at (c .before .word-at .result) (c .before .word-at .ensures) (c .if1 .left) (c6 .pre .1))
 
 returns-2 : tie.Need-returns-2
-returns-2 c = λ d w. called (c .before .before .word-at .result) (c .before .before .word-at .ensures) (c .before .if1 .left) (d .list) (c .before .before .before .before .before .before .before .args .clause) (c .before .before .before .before .before .before .before .args .literal) (c .undeclared-atom .result) ((c .undeclared-atom .ensures) d) w
+returns-2 c = let c7 = c .before .before .before .before .before .before .before in λ d w. called (c .before .before .word-at .result) (c .before .before .word-at .ensures) (c .before .if1 .left) (d .list) (c7 .args .clause) (c7 .args .literal) (c .undeclared-atom .result) ((c .undeclared-atom .ensures) d) w
 
 pub undeclared-literal-spec : {M : Type 1} → statement M
 undeclared-literal-spec =

@@ -14,7 +14,7 @@ returns : tie.Need-returns
 returns c = tt
 
 find-atom-requires : tie.Need-find-atom-requires
-find-atom-requires c κs = (c .before .before .before .before .before .pre .0, head-at (c .before .before .before .before .before .pre .1))
+find-atom-requires c κs = let c5 = c .before .before .before .before .before in (c5 .pre .0, head-at (c5 .pre .1))
 
 returns-2 : tie.Need-returns-2
 returns-2 c = tt

@@ -11,7 +11,7 @@ wrong-requires : tie.Need-wrong-requires
 wrong-requires c κs = search needs
 
 returns : tie.Need-returns
-returns c = declaration-wrong (c .before .before .before .before .before .before .args .s .now) (c .before .before .before .before .before .before .args .st) (c .before .before .before .next .result) (c .before .before .before .before .before .before .args .table .now) (c .before .before .before .before .before .before .args .n) (c .before .before .before .next .ensures) (c .wrong .result) (c .before .if1 .taken) (c .wrong .ensures)
+returns c = let c6 = c .before .before .before .before .before .before in declaration-wrong (c6 .args .s .now) (c6 .args .st) (c .before .before .before .next .result) (c6 .args .table .now) (c6 .args .n) (c .before .before .before .next .ensures) (c .wrong .result) (c .before .if1 .taken) (c .wrong .ensures)
 
 is-mode-requires : tie.Need-is-mode-requires
 is-mode-requires c κs = search needs
@@ -26,13 +26,13 @@ same-length : tie.Need-same-length
 same-length c = search needs
 
 returns-2 : tie.Need-returns-2
-returns-2 c = declaration-mode (c .before .before .before .before .before .before .before .before .before .before .before .before .args .s .now) (c .before .before .before .before .before .before .before .before .before .before .before .before .args .st) (c .before .before .before .before .before .before .before .before .before .next .result) (c .before .before .before .before .before .before .before .before .before .before .before .before .args .table .now) (c .before .before .before .before .before .before .before .before .before .before .before .before .args .n) (c .before .before .before .before .before .before .before .before .before .next .ensures) (c .before .before .before .before .before .before .before .if1 .left) (c .before .before .before .before .before .before .is-mode .result) (c .before .before .before .before .before .before .is-mode .ensures) (c .before .before .before .before .next2 .result) (c .before .before .read-declared .last .1 .1 .0) (c .before .before .read-declared .result) (c .before .before .before .before .before .if2 .taken) (c .before .before .before .before .next2 .ensures) (c .before .before .read-declared .ensures)
+returns-2 c = let c4 = c .before .before .before .before in let c5 = c4 .before in let c6 = c5 .before in let c7 = c6 .before in let c9 = c7 .before .before in let c12 = c9 .before .before .before in declaration-mode (c12 .args .s .now) (c12 .args .st) (c9 .next .result) (c12 .args .table .now) (c12 .args .n) (c9 .next .ensures) (c7 .if1 .left) (c6 .is-mode .result) (c6 .is-mode .ensures) (c4 .next2 .result) (c .before .before .read-declared .last .1 .1 .0) (c .before .before .read-declared .result) (c5 .if2 .taken) (c4 .next2 .ensures) (c .before .before .read-declared .ensures)
 
 wrong-requires-2 : tie.Need-wrong-requires-2
 wrong-requires-2 c κs = search needs
 
 returns-3 : tie.Need-returns-3
-returns-3 c = declaration-other (c .before .before .before .before .before .before .before .before .args .s .now) (c .before .before .before .before .before .before .before .before .args .st) (c .before .before .before .before .before .next .result) (c .before .before .before .before .before .before .before .before .args .table .now) (c .before .before .before .before .before .before .before .before .args .n) (c .before .before .before .before .before .next .ensures) (c .before .before .before .if1 .left) (c .before .before .is-mode .result) (c .before .before .is-mode .ensures) (c .wrong2 .result) (c .before .if2 .left) (c .wrong2 .ensures)
+returns-3 c = let c5 = c .before .before .before .before .before in let c8 = c5 .before .before .before in declaration-other (c8 .args .s .now) (c8 .args .st) (c5 .next .result) (c8 .args .table .now) (c8 .args .n) (c5 .next .ensures) (c .before .before .before .if1 .left) (c .before .before .is-mode .result) (c .before .before .is-mode .ensures) (c .wrong2 .result) (c .before .if2 .left) (c .wrong2 .ensures)
 
 pub read-declaration-spec : {M : Type 1} → statement M
 read-declaration-spec =

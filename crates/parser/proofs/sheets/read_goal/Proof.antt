@@ -8,19 +8,19 @@ start-requires : tie.Need-start-requires
 start-requires c κs = search needs
 
 read-body-requires : tie.Need-read-body-requires
-read-body-requires c κs = goal-ready _ _ _ (c .before .start .ensures .1) (c .before .before .before .before .pre .1 .0) (c .before .before .before .before .pre .1 .1)
+read-body-requires c κs = let c4 = c .before .before .before .before in goal-ready _ _ _ (c .before .start .ensures .0) (c .before .start .ensures .1) (c4 .pre .1 .0) (c4 .pre .1 .1)
 
 same-length : tie.Need-same-length
 same-length c = search needs
 
 returns : tie.Need-returns
-returns c = goal-fault (c .before .before .before .before .before .before .before .before .before .args .s .now) (c .before .before .before .before .before .before .before .before .before .args .table .now) (c .before .before .before .before .read-body .last .1 .1 .1 .0) (c .before .before .before .before .before .before .start .result) (c .before .before .before .before .before .before .start .ensures .0) (c .before .before .before .before .read-body .result) (c .before .before .before .before .read-body .ensures) (c .if1 .taken)
+returns c = let c4 = c .before .before .before .before in let c6 = c4 .before .before in let c9 = c6 .before .before .before in goal-fault (c9 .args .s .now) (c9 .args .table .now) (c4 .read-body .last .1 .1 .1 .0) (c6 .start .result) (c6 .start .ensures .0) (c4 .read-body .result) (c4 .read-body .ensures) (c .if1 .taken)
 
 same-length-2 : tie.Need-same-length-2
 same-length-2 c = search needs
 
 returns-2 : tie.Need-returns-2
-returns-2 c = goal-end (c .before .before .before .before .before .before .before .before .before .before .before .before .args .s .now) (c .before .before .before .before .before .before .before .before .before .before .before .before .args .table .now) (c .before .before .before .before .before .before .before .read-body .last .1 .1 .1 .0) (c .before .before .before .before .before .before .before .before .before .start .result) (c .before .before .before .before .before .before .before .before .before .start .ensures .0) (c .before .before .before .before .before .before .before .read-body .result) (c .before .before .before .before .before .before .before .read-body .ensures) (c .before .before .before .if1 .left) (c .if2 .taken)
+returns-2 c = let c7 = c .before .before .before .before .before .before .before in let c9 = c7 .before .before in let c12 = c9 .before .before .before in goal-end (c12 .args .s .now) (c12 .args .table .now) (c7 .read-body .last .1 .1 .1 .0) (c9 .start .result) (c9 .start .ensures .0) (c7 .read-body .result) (c7 .read-body .ensures) (c .before .before .before .if1 .left) (c .if2 .taken)
 
 wrong-requires : tie.Need-wrong-requires
 wrong-requires c κs = search needs
@@ -29,7 +29,7 @@ same-length-3 : tie.Need-same-length-3
 same-length-3 c = search needs
 
 returns-3 : tie.Need-returns-3
-returns-3 c = goal-wrong (c .before .before .before .before .before .before .before .before .before .before .before .before .before .args .s .now) (c .before .before .before .before .before .before .before .before .before .before .before .before .before .args .table .now) (c .before .before .before .before .before .before .before .before .read-body .last .1 .1 .1 .0) (c .before .before .before .before .before .before .before .before .before .before .start .result) (c .before .before .before .before .before .before .before .before .before .before .start .ensures .0) (c .before .before .before .before .before .before .before .before .read-body .result) (c .before .before .before .before .before .before .before .before .read-body .ensures) (c .before .before .before .before .if1 .left) (c .wrong .result) (c .before .if2 .left) (c .wrong .ensures)
+returns-3 c = let c4 = c .before .before .before .before in let c8 = c4 .before .before .before .before in let c10 = c8 .before .before in let c13 = c10 .before .before .before in goal-wrong (c13 .args .s .now) (c13 .args .table .now) (c8 .read-body .last .1 .1 .1 .0) (c10 .start .result) (c10 .start .ensures .0) (c8 .read-body .result) (c8 .read-body .ensures) (c4 .if1 .left) (c .wrong .result) (c .before .if2 .left) (c .wrong .ensures)
 
 pub read-goal-spec : {M : Type 1} → statement M
 read-goal-spec =

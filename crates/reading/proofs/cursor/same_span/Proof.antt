@@ -4,8 +4,14 @@ use Rattle.reading.proofs.Laws.{span-same, span-other}
 use Rattle.reading.proofs.cursor.same_span.Statement.{statement}
 use Rattle.reading.proofs.cursor.same_span.Tie as tie
 
-same-run-requires : tie.Need-same-run-requires
-same-run-requires c κs = search needs
+span-at-requires : tie.Need-span-at-requires
+span-at-requires c κs = search needs
+
+span-length-requires : tie.Need-span-length-requires
+span-length-requires c κs = search needs
+
+same-bytes-requires : tie.Need-same-bytes-requires
+same-bytes-requires c κs = search needs
 
 returns : tie.Need-returns
 returns c = search (span-same, needs)
@@ -14,4 +20,4 @@ returns-2 : tie.Need-returns-2
 returns-2 c = search (span-other, needs)
 
 pub same-span-spec : {M : Type 1} → statement M
-same-span-spec = tie.close (tie.spec same-run-requires returns returns-2)
+same-span-spec = tie.close (tie.spec span-at-requires span-length-requires same-bytes-requires returns returns-2)

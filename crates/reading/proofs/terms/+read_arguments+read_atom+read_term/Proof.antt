@@ -190,7 +190,7 @@ read-arguments-read-arguments-requires : (t : ℕ) → read-arguments-lts.Need-r
   wrong-reads.Asked,
   wrong-reads.Learnt,
 ) (read-arguments-at t) read-arguments.Post
-read-arguments-read-arguments-requires t c κs = (omega arith, arguments-ready (c .before .before .before .before .before .before .before .before .before .before .before .before .before .before .args .left) (c .before .before .before .before .before .before .before .before .before .before .before .before .before .before .args .s .now) (c .before .before .before .before .before .before .before .before .before .before .before .before .before .before .args .k) (c .before .before .before .before .before .before .before .before .before .before .before .before .before .before .args .st) (c .before .before .before .before .before .before .before .before .before .before .before .before .before .before .args .table .now) (c .before .before .before .before .before .before .before .before .before .read-term .last .1 .1 .1 .0) (c .before .before .before .before .before .before .before .before .before .before .before .before .before .before .args .n) (c .before .before .before .before .before .before .before .before .before .read-term .result) (c .before .before .before .before .before .before .before .before .before .before .before .before .before .before .pre .1) (c .before .before .before .before .before .before .before .before .before .before .before .if1 .left) (c .before .before .before .before .before .before .before .before .before .read-term .ensures) (c .before .before .before .before .before .if2 .left) (c .before .next .result) (c .before .next .ensures) (c .before .before .before .before .before .before .before .before .before .read-term .kept .1 .1 .1 .0))
+read-arguments-read-arguments-requires t c κs = (omega arith, arguments-ready (c .before .before .before .before .before .before .before .before .before .before .before .before .before .before .args .left) (c .before .before .before .before .before .before .before .before .before .before .before .before .before .before .args .s .now) (c .before .before .before .before .before .before .before .before .before .before .before .before .before .before .args .k) (c .before .before .before .before .before .before .before .before .before .before .before .before .before .before .args .st) (c .before .before .before .before .before .before .before .before .before .before .before .before .before .before .args .table .now) (c .before .before .before .before .before .before .before .before .before .read-term .last .1 .1 .1 .0) (c .before .before .before .before .before .before .before .before .before .before .before .before .before .before .args .n) (c .before .before .before .before .before .before .before .before .before .read-term .result) (c .before .before .before .before .before .before .before .before .before .before .before .before .before .before .pre .1) (c .before .before .before .before .before .before .before .before .before .before .before .if1 .left) (c .before .before .before .before .before .before .before .before .before .read-term .ensures) (c .before .before .before .before .before .if2 .left) (c .before .next .result) (c .before .before .if3 .taken) (c .before .next .ensures) (c .before .before .before .before .before .before .before .before .before .read-term .kept .1 .1 .1 .0))
 
 read-arguments-counted-requires : (t : ℕ) → read-arguments-lts.Need-counted-requires (
   full-reads.Asked,
@@ -558,7 +558,7 @@ read-atom-returns-4 : (t : ℕ) → read-atom-lts.Need-returns-4 (
   close-reads.Asked,
   close-reads.Learnt,
 ) (read-atom-at t) read-atom.Post
-read-atom-returns-4 t c = atom-list (c .before .before .before .before .before .before .before .before .before .before .before .before .before .before .before .before .before .before .args .left) (c .before .before .before .before .before .before .before .before .before .before .before .before .before .before .before .before .before .before .args .s .now) (c .before .before .before .before .before .before .before .before .before .before .before .before .before .before .before .before .before .before .args .st) (c .before .before .before .before .before .before .before .before .before .before .before .before .before .before .before .before .before .before .args .table .now) (c .before .before .close .last .1 .1 .0) (c .before .before .before .before .before .before .before .before .read-arguments .last .1 .1 .1 .1 .0) (c .before .before .before .before .before .before .before .before .before .before .before .before .before .before .before .before .before .before .args .n) (c .before .before .before .before .before .before .before .before .before .before .before .before .before .before .next .result) (c .before .before .before .before .before .before .before .before .before .before .next2 .result) (c .before .before .before .before .before .before .before .before .before .before .before .before .before .before .before .before .before .before .pre .1 .0) (c .before .before .before .before .before .before .before .before .before .before .before .before .before .before .before .before .before .before .pre .1 .1) (c .before .before .before .before .before .before .before .before .before .before .before .before .before .before .next .ensures) (c .before .before .before .before .before .before .before .before .before .before .before .before .if1 .left) (c .before .before .before .before .before .before .before .before .before .before .before .if2 .left) (c .before .before .before .before .before .before .before .before .before .before .next2 .ensures) (c .before .before .before .before .before .before .before .before .read-arguments .result) (c .before .before .before .before .before .before .before .before .read-arguments .ensures) (c .before .before .before .before .if3 .left) (c .before .before .close .result) (c .before .before .close .ensures .0) (c .before .before .close .ensures .1)
+read-atom-returns-4 t c = atom-list (c .before .before .before .before .before .before .before .before .before .before .before .before .before .before .before .before .before .before .args .left) (c .before .before .before .before .before .before .before .before .before .before .before .before .before .before .before .before .before .before .args .s .now) (c .before .before .before .before .before .before .before .before .before .before .before .before .before .before .before .before .before .before .args .st) (c .before .before .before .before .before .before .before .before .before .before .before .before .before .before .before .before .before .before .args .table .now) (c .before .before .close .last .1 .1 .0) (c .before .before .before .before .before .before .before .before .read-arguments .last .1 .1 .1 .1 .0) (c .before .before .before .before .before .before .before .before .before .before .before .before .before .before .before .before .before .before .args .n) (c .before .before .before .before .before .before .before .before .before .before .before .before .before .before .next .result) (c .before .before .before .before .before .before .before .before .before .before .next2 .result) (c .before .before .before .before .before .before .before .before .before .before .before .before .before .before .before .before .before .before .pre .1 .0) (c .before .before .before .before .before .before .before .before .before .before .before .before .before .before .before .before .before .before .pre .1 .1) (c .before .before .before .before .before .before .before .before .before .before .before .before .before .before .next .ensures) (c .before .before .before .before .before .before .before .before .before .before .before .before .if1 .left) (c .before .before .before .before .before .before .before .before .before .before .before .if2 .left) (c .before .before .before .before .before .before .before .before .before .before .next2 .ensures) (c .before .before .before .before .before .before .before .before .read-arguments .result) (c .before .before .before .before .before .before .before .before .read-arguments .ensures) (c .before .before .before .before .if3 .left) (c .before .before .before .before .before .before .before .before .read-arguments .kept .1 .1 .1 .1 .0) (c .before .before .close .result) (c .before .before .close .ensures .0) (c .before .before .close .ensures .1)
 
 read-term-read-variable-requires : (t : ℕ) → read-term-lts.Need-read-variable-requires (
   read-variable-reads.Asked,

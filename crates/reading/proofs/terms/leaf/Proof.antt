@@ -6,7 +6,7 @@ use Rattle.reading.proofs.terms.leaf.Statement.{statement}
 use Rattle.reading.proofs.terms.leaf.Tie as tie
 
 put-node-requires : tie.Need-put-node-requires
-put-node-requires c κs = omega (arith, node-room _ _ _ _ (c .before .before .before .before .pre .0) (c .before .before .before .before .pre .1 .1))
+put-node-requires c κs = let c4 = c .before .before .before .before in omega (arith, node-room _ _ _ _ (c4 .pre .0) (c4 .pre .1 .1))
 
 next-requires : tie.Need-next-requires
 next-requires c κs = search needs

@@ -8,7 +8,7 @@ with-new-requires : tie.Need-with-new-requires
 with-new-requires c κs = search needs
 
 leaf-requires : tie.Need-leaf-requires
-leaf-requires c κs = new-ready _ _ _ _ _ (c .before .with-new .ensures) (c .before .before .if1 .taken) (c .before .before .before .before .before .pre .1) (c .before .before .before .before .before .pre .0)
+leaf-requires c κs = let c5 = c .before .before .before .before .before in let c8 = c5 .before .before .before in new-ready _ _ _ _ _ _ (c .before .before .before .with-new .ensures .0) (c .before .before .before .with-new .ensures .1) (c5 .if1 .taken) (c8 .pre .1) (c8 .pre .0)
 
 same-length : tie.Need-same-length
 same-length c = search needs

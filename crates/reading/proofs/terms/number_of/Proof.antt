@@ -3,29 +3,35 @@ use Prim.Native.Nat.{_-_, _≤_}
 use mathlib.Core.Path.{_≡_, refl}
 use borrow.Author.Needs.{needs}
 use native.Mathlib.Omega.{arith}
-use lib.ListN.{take, drop}
-use Rattle.syntax.specs.Reading.{numberOf}
-use Rattle.reading.proofs.Reading.{number-found, number-step, number-none}
+use lib.ListN.{length}
+use Rattle.syntax.specs.Limits.{variables}
+use Rattle.reading.proofs.Reading.{searched, span-inside, number-found, number-step, number-none}
 use Rattle.reading.proofs.terms.number_of.Statement.{statement}
 use Rattle.reading.proofs.terms.number_of.Tie as tie
 
 abbrev Inv-loop : tie.InvT-loop
-Inv-loop s t count first i₀ i = (i ≤ count) × (numberOf s t 0 (take count first) ≡ numberOf s t i (drop i (take count first)))
+Inv-loop s table t count from i₀ i = (i ≤ count) × ((from ≡ length table - variables) × (searched s t count table 0 ≡ searched s t count table i))
 
 abbrev μ-loop : tie.MeasureT-loop
-μ-loop s t count first i₀ i = count - i
+μ-loop s table t count from i₀ i = count - i
+
+sub-from : tie.Need-sub-from Inv-loop μ-loop
+sub-from c = search needs
 
 loop-holds : tie.Need-loop-holds Inv-loop μ-loop
-loop-holds c = (omega arith, refl)
+loop-holds c = (omega arith, (search needs, refl))
+
+add-p : tie.Need-add-p Inv-loop μ-loop
+add-p c = omega arith
 
 mul-w : tie.Need-mul-w Inv-loop μ-loop
 mul-w c = omega arith
 
-array-read-w : tie.Need-array-read-w Inv-loop μ-loop
-array-read-w c = search needs
+shared-slice-read-w : tie.Need-shared-slice-read-w Inv-loop μ-loop
+shared-slice-read-w c = omega arith
 
 same-span-requires : tie.Need-same-span-requires Inv-loop μ-loop
-same-span-requires c κs = search needs
+same-span-requires c κs = search (span-inside, needs)
 
 returns : tie.Need-returns Inv-loop μ-loop
 returns c = search (number-found, needs)
@@ -37,7 +43,7 @@ loop-less : tie.Need-loop-less Inv-loop μ-loop
 loop-less c = omega arith
 
 loop-again : tie.Need-loop-again Inv-loop μ-loop
-loop-again c = (omega arith, search (number-step, needs))
+loop-again c = (omega arith, (search needs, search (number-step, needs)))
 
 returns-2 : tie.Need-returns-2 Inv-loop μ-loop
 returns-2 c = search (number-none, needs)
@@ -48,9 +54,11 @@ number-of-spec =
     (tie.spec
     Inv-loop
     μ-loop
+    sub-from
     loop-holds
+    add-p
     mul-w
-    array-read-w
+    shared-slice-read-w
     same-span-requires
     returns
     add-i

@@ -1,31 +1,43 @@
 -- `reading::terms::with_new` meets its contract. Assumes nothing.
 use mathlib.Core.Path.{refl}
-use Rattle.syntax.specs.Reading.{withNew}
+use Rattle.reading.proofs.Reading.{new-stored}
 use borrow.Author.Needs.{needs}
 use Rattle.reading.proofs.terms.with_new.Statement.{statement}
 use Rattle.reading.proofs.terms.with_new.Tie as tie
 
-mul-w : tie.Need-mul-w
-mul-w c = search needs
+pack-span-requires : tie.Need-pack-span-requires
+pack-span-requires c κs = search needs
 
-add-w : tie.Need-add-w
-add-w c = search needs
+sub-from : tie.Need-sub-from
+sub-from c = search needs
 
-cast-new : tie.Need-cast-new
-cast-new c = search needs
+add-p : tie.Need-add-p
+add-p c = search needs
 
-mul-new : tie.Need-mul-new
-mul-new c = search needs
+mul-table : tie.Need-mul-table
+mul-table c = search needs
 
-element-write-new : tie.Need-element-write-new
-element-write-new c = search needs
+slice-write-table : tie.Need-slice-write-table
+slice-write-table c = search needs
 
-add-new : tie.Need-add-new
-add-new c = search needs
+add-count : tie.Need-add-count
+add-count c = search needs
+
+same-length : tie.Need-same-length
+same-length c = search needs
 
 returns : tie.Need-returns
-unfolding withNew
-returns c = refl
+returns c = (refl, search (new-stored, needs))
 
 pub with-new-spec : {M : Type 1} → statement M
-with-new-spec = tie.close (tie.spec mul-w add-w cast-new mul-new element-write-new add-new returns)
+with-new-spec =
+    tie.close
+    (tie.spec
+    pack-span-requires
+    sub-from
+    add-p
+    mul-table
+    slice-write-table
+    add-count
+    same-length
+    returns)

@@ -1,8 +1,5 @@
 use native.Mathlib.Omega.{arith}
-use Prim.Native.Nat.{_+_, _-_, _≤_, _<_, _/_, _%_}
-use mathlib.Core.Path.{_≡_, refl, sym}
-use lib.ListN.{length}
-use borrow.Author.Needs.{needs}
+use Prim.Native.Nat.{_-_, _≤_}
 use borrow.Author.Tests.{not-true, not-false}
 use Rattle.spelling.proofs.ValueLaws.{AllFrom, all-start, all-more, all-not, all-end, word-inside}
 use Rattle.spelling.proofs.values.all_anonymous.Statement.{statement}
@@ -21,10 +18,10 @@ word-at-requires : tie.Need-word-at-requires Inv-loop μ-loop
 word-at-requires c κs = omega (arith, c .before .before .before .before .pre .listed)
 
 is-anonymous-requires : tie.Need-is-anonymous-requires Inv-loop μ-loop
-is-anonymous-requires c κs = word-inside _ _ (c .before .before .before .before .before .args .count) (c .before .before .loop .i) _ (c .before .before .before .before .before .pre) (c .before .loop-test .taken) (c .word-at .ensures)
+is-anonymous-requires c κs = let c5 = c .before .before .before .before .before in word-inside _ _ (c5 .args .count) (c .before .before .loop .i) _ (c5 .pre) (c .before .loop-test .taken) (c .word-at .ensures)
 
 returns : tie.Need-returns Inv-loop μ-loop
-returns c = all-not (c .before .before .before .before .before .before .before .args .goal .now) (c .before .before .before .before .before .before .before .args .names .now) (c .before .before .before .before .before .before .before .args .count) (c .before .before .before .before .loop .i) (c .before .before .word-at .result) (c .before .is-anonymous .result) (c .before .before .before .loop-test .taken) (c .before .before .word-at .ensures) (c .before .is-anonymous .ensures) (not-true (c .before .is-anonymous .result) (c .if1 .taken)) (c .before .before .before .before .loop .inv .1)
+returns c = let c4 = c .before .before .before .before in let c7 = c4 .before .before .before in let args = c7 .args in let loop = c4 .loop in all-not (args .goal .now) (args .names .now) (args .count) (loop .i) (c .before .before .word-at .result) (c .before .is-anonymous .result) (c .before .before .before .loop-test .taken) (c .before .before .word-at .ensures) (c .before .is-anonymous .ensures) (not-true (c .before .is-anonymous .result) (c .if1 .taken)) (loop .inv .1)
 
 add-i : tie.Need-add-i Inv-loop μ-loop
 add-i c = omega arith
@@ -33,7 +30,7 @@ loop-less : tie.Need-loop-less Inv-loop μ-loop
 loop-less c = omega arith
 
 loop-again : tie.Need-loop-again Inv-loop μ-loop
-loop-again c = (omega arith, all-more (c .before .before .before .before .before .before .before .args .goal .now) (c .before .before .before .before .before .before .before .args .names .now) (c .before .before .before .before .before .before .before .args .count) (c .before .before .before .before .loop .i) (c .before .before .word-at .result) (c .before .is-anonymous .result) (c .before .before .before .loop-test .taken) (c .before .before .word-at .ensures) (c .before .is-anonymous .ensures) (not-false (c .before .is-anonymous .result) (c .if1 .left)) (c .before .before .before .before .loop .inv .1))
+loop-again c = let c4 = c .before .before .before .before in let c7 = c4 .before .before .before in let args = c7 .args in let loop = c4 .loop in (omega arith, all-more (args .goal .now) (args .names .now) (args .count) (loop .i) (c .before .before .word-at .result) (c .before .is-anonymous .result) (c .before .before .before .loop-test .taken) (c .before .before .word-at .ensures) (c .before .is-anonymous .ensures) (not-false (c .before .is-anonymous .result) (c .if1 .left)) (loop .inv .1))
 
 returns-2 : tie.Need-returns-2 Inv-loop μ-loop
 returns-2 c = all-end _ _ (c .before .before .before .before .args .count) (c .before .loop .i) (c .loop-test .left) (c .before .loop .inv .1)

@@ -16,7 +16,7 @@ same-length : tie.Need-same-length
 same-length c = search needs
 
 returns-2 : tie.Need-returns-2
-returns-2 c = gap-some (c .before .before .before .before .before .before .before .args .more) _ _ _ _ (c .before .before .before .before .before .if1 .left) (c .before .before .append-part .ensures)
+returns-2 c = let c5 = c .before .before .before .before .before in let c7 = c5 .before .before in gap-some (c7 .args .more) _ _ _ _ (c5 .if1 .left) (c .before .before .append-part .ensures)
 
 pub append-gap-spec : {M : Type 1} → statement M
 append-gap-spec =

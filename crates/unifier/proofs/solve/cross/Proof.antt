@@ -17,7 +17,7 @@ deref-requires-2 c κs = search needs
 
 -- src/solve.rt:62:5
 settle-requires : tie.Need-settle-requires
-settle-requires c κs = cross-settle (c .before .before .before .before .before .before .args .nodes .now) (c .before .before .before .before .before .before .args .state .now) (c .before .before .before .before .before .before .args .scratch .now) (c .before .before .before .before .before .before .args .h) (c .before .before .before .before .before .before .args .p) (c .before .before .before .before .before .before .args .c) (c .before .before .before .before .before .before .args .q) (c .before .before .before .before .before .before .args .d) (c .before .before .before .before .before .before .pre) (c .before .before .deref .result .node) (c .before .before .deref .result .copy) (c .before .deref2 .result .node) (c .before .deref2 .result .copy) (c .before .before .deref .ensures) (c .before .deref2 .ensures)
+settle-requires c κs = let c6 = c .before .before .before .before .before .before in cross-settle (c6 .args .nodes .now) (c6 .args .state .now) (c6 .args .scratch .now) (c6 .args .h) (c6 .args .p) (c6 .args .c) (c6 .args .q) (c6 .args .d) (c6 .pre) (c .before .before .deref .result .node) (c .before .before .deref .result .copy) (c .before .deref2 .result .node) (c .before .deref2 .result .copy) (c .before .before .deref .ensures) (c .before .deref2 .ensures)
 
 -- src/solve.rt:56:1
 same-length : tie.Need-same-length
@@ -25,7 +25,7 @@ same-length c = search needs
 
 -- src/solve.rt:56:1
 returns : tie.Need-returns
-returns c = λ g. cross-end (c .before .before .before .before .before .before .before .before .before .args .nodes .now) (c .before .before .before .before .before .before .before .before .before .args .state .now) (c .before .before .before .before .before .before .before .before .before .args .scratch .now) (c .before .before .before .before .before .before .before .before .before .args .h) (c .before .before .before .before .before .before .before .before .before .args .p) (c .before .before .before .before .before .before .before .before .before .args .c) (c .before .before .before .before .before .before .before .before .before .args .q) (c .before .before .before .before .before .before .before .before .before .args .d) g (c .before .before .before .before .before .deref .result .node) (c .before .before .before .before .before .deref .result .copy) (c .before .before .before .before .deref2 .result .node) (c .before .before .before .before .deref2 .result .copy) (c .before .before .before .before .before .deref .ensures) (c .before .before .before .before .deref2 .ensures) (c .before .before .settle .last .1 .0) (c .before .before .settle .result) (c .before .before .settle .ensures)
+returns c = let c4 = c .before .before .before .before in let c5 = c4 .before in let c9 = c5 .before .before .before .before in λ g. cross-end (c9 .args .nodes .now) (c9 .args .state .now) (c9 .args .scratch .now) (c9 .args .h) (c9 .args .p) (c9 .args .c) (c9 .args .q) (c9 .args .d) g (c5 .deref .result .node) (c5 .deref .result .copy) (c4 .deref2 .result .node) (c4 .deref2 .result .copy) (c5 .deref .ensures) (c4 .deref2 .ensures) (c .before .before .settle .last .1 .0) (c .before .before .settle .result) (c .before .before .settle .ensures)
 
 pub cross-spec : {M : Type 1} → statement M
 cross-spec =

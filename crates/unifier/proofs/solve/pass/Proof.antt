@@ -1,4 +1,4 @@
-use Rattle.unifier.proofs.Turning.{pass-small, pass-turned}
+use Rattle.unifier.proofs.Turning.{pass-small, pass-turned, remembers-at}
 use native.Mathlib.Omega.{arith}
 use borrow.Author.Needs.{needs}
 use Rattle.unifier.proofs.solve.pass.Statement.{statement}
@@ -7,37 +7,19 @@ use Rattle.unifier.proofs.solve.pass.Reads as reads
 use Rattle.unifier.proofs.solve.pass.Lts as lts
 use Rattle.memos.proofs.remember.Reads as remember-reads
 
--- src/solve.rt:170:16
-mul-left : tie.Need-mul-left
-mul-left c = omega (arith, pass-small (c .before .args .scratch .now) (c .before .args .h) (c .before .args .l) (c .before .args .r) (c .before .pre))
-
--- src/solve.rt:170:16
-add-left : tie.Need-add-left
-add-left c = omega (arith, pass-small (c .before .args .scratch .now) (c .before .args .h) (c .before .args .l) (c .before .args .r) (c .before .pre))
-
--- src/solve.rt:170:16
-add-left-2 : tie.Need-add-left-2
-add-left-2 c = omega (arith, pass-small (c .before .args .scratch .now) (c .before .args .h) (c .before .args .l) (c .before .args .r) (c .before .pre))
-
--- src/solve.rt:171:17
-mul-right : tie.Need-mul-right
-mul-right c = omega (arith, pass-small (c .before .args .scratch .now) (c .before .args .h) (c .before .args .l) (c .before .args .r) (c .before .pre))
-
--- src/solve.rt:171:17
-add-right : tie.Need-add-right
-add-right c = omega (arith, pass-small (c .before .args .scratch .now) (c .before .args .h) (c .before .args .l) (c .before .args .r) (c .before .pre))
-
--- src/solve.rt:171:17
-add-right-2 : tie.Need-add-right-2
-add-right-2 c = omega (arith, pass-small (c .before .args .scratch .now) (c .before .args .h) (c .before .args .l) (c .before .args .r) (c .before .pre))
-
 -- src/solve.rt:172:5
 remember-requires : tie.Need-remember-requires
-remember-requires c κs = omega (arith, pass-small (c .before .before .args .scratch .now) (c .before .before .args .h) (c .before .before .args .l) (c .before .before .args .r) (c .before .before .pre))
+remember-requires c κs = let c4 = c .before .before .before .before in omega (arith, c .before .before .pack .ensures, c .before .pack2 .ensures, pass-small (c4 .args .scratch .now) (c4 .args .h) (c4 .args .l) (c4 .args .r) (c4 .pre))
+
+pack-requires : tie.Need-pack-requires
+pack-requires c κs = omega (arith, pass-small (c .before .args .scratch .now) (c .before .args .h) (c .before .args .l) (c .before .args .r) (c .before .pre))
+
+pack-requires-2 : tie.Need-pack-requires-2
+pack-requires-2 c κs = omega (arith, pass-small (c .before .before .args .scratch .now) (c .before .before .args .h) (c .before .before .args .l) (c .before .before .args .r) (c .before .before .pre))
 
 -- src/solve.rt:173:14
-sub-t12 : tie.Need-sub-t12
-sub-t12 c = search needs
+sub-t15 : tie.Need-sub-t15
+sub-t15 c = search needs
 
 -- src/solve.rt:162:1
 same-length : tie.Need-same-length
@@ -45,19 +27,15 @@ same-length c = search needs
 
 -- src/solve.rt:162:1
 returns : tie.Need-returns
-returns c = λ g. pass-turned (c .before .before .before .before .before .args .scratch .now) (c .before .before .before .before .before .args .h) (c .before .before .before .before .before .args .l) (c .before .before .before .before .before .args .r) g (c .before .before .remember .last .0) (c .before .before .remember .ensures)
+returns c = let c4 = c .before .before .before .before in let c5 = c4 .before in let c7 = c5 .before .before in λ g. pass-turned (c7 .args .scratch .now) (c7 .args .h) (c7 .args .l) (c7 .args .r) g (c .before .before .remember .last .0) (remembers-at (c5 .pack .ensures) (c4 .pack2 .ensures) (c .before .before .remember .ensures))
 
 pub pass-spec : {M : Type 1} → statement M
 pass-spec =
     tie.close
     (tie.spec
-    mul-left
-    add-left
-    add-left-2
-    mul-right
-    add-right
-    add-right-2
+    pack-requires
+    pack-requires-2
     remember-requires
-    sub-t12
+    sub-t15
     same-length
     returns)

@@ -7,7 +7,7 @@ use Rattle.unifier.proofs.solve.unify.Lts as lts
 use Rattle.unifier.proofs.solve.unify_closed.Reads as unify-closed-reads
 
 unify-closed-requires : tie.Need-unify-closed-requires
-unify-closed-requires c κs = (c .before .before .before .before .before .pre, closed-none (c .before .before .before .before .before .args .state .now))
+unify-closed-requires c κs = let c5 = c .before .before .before .before .before in (c5 .pre, closed-none (c5 .args .state .now))
 
 same-length : tie.Need-same-length
 same-length c = search needs

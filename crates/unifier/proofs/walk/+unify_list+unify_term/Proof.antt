@@ -2,6 +2,8 @@ use native.Mathlib.Omega.{arith}
 use borrow.Author.Needs.{needs}
 use mathlib.Core.Path.{_≡_, sym, ap, _∙_, subst, subst⁻¹}
 use mathlib.Core.Logic.{inl, inr}
+use Rattle.syntax.specs.Words.{firstName}
+use Rattle.layout.specs.Regions.{loadedNode}
 use Rattle.unifier.specs.Walks.{Walkable, Pairable, Walks}
 use Rattle.unifier.specs.declared.walk.Walked.{Walked}
 use Rattle.unifier.proofs.Rowwise.{pair-inside, term-met, term-clash, term-list, term-on, list-on, list-end, list-pair, list-inside, list-clash, list-met, list-rest}
@@ -16,7 +18,7 @@ use Rattle.unifier.proofs.walk.unify_term.Reads as unify-term
 use Rattle.unifier.proofs.walk.unify_term.Kinds as unify-term-kinds
 use Rattle.unifier.proofs.walk.+unify_list+unify_term.Lts-unify_term as unify-term-lts
 use Rattle.bindings.proofs.occurrence.size_at.Reads as size-at-reads
-use Rattle.bindings.proofs.occurrence.word_at.Reads as word-at-reads
+use Rattle.words.proofs.word_at.Reads as word-at-reads
 use Rattle.unifier.proofs.walk.+unify_list+unify_term.{statement}
 use Rattle.unifier.proofs.walk.+unify_list+unify_term.Tie.{close}
 
@@ -210,7 +212,7 @@ unify-term-returns : (t : ℕ) → unify-term-lts.Need-returns (
   unify-list-below t,
   unify-list.Post,
 ) (unify-term-at t) unify-term.Post
-unify-term-returns t c = λ g. term-met (c .before .before .before .before .args .nodes .now) (c .before .before .before .before .args .p) (c .before .before .before .before .args .q) g (inl (subst (λ (k : ℕ). k < 64) (c .before .before .word-at .ensures) (c .if1 .taken)))
+unify-term-returns t c = λ g. term-met (c .before .before .before .before .args .nodes .now) (c .before .before .before .before .args .p) (c .before .before .before .before .args .q) g (inl (subst (λ (k : ℕ). k < firstName) (c .before .before .word-at .ensures) (c .if1 .taken)))
 
 -- src/walk.rt:25:9
 unify-term-returns-2 : (t : ℕ) → unify-term-lts.Need-returns-2 (
@@ -221,7 +223,7 @@ unify-term-returns-2 : (t : ℕ) → unify-term-lts.Need-returns-2 (
   unify-list-below t,
   unify-list.Post,
 ) (unify-term-at t) unify-term.Post
-unify-term-returns-2 t c = λ g. term-met (c .before .before .before .before .before .args .nodes .now) (c .before .before .before .before .before .args .p) (c .before .before .before .before .before .args .q) g (inr (subst (λ (k : ℕ). k < 64) (c .before .before .word-at2 .ensures) (c .if2 .taken)))
+unify-term-returns-2 t c = λ g. term-met (c .before .before .before .before .before .args .nodes .now) (c .before .before .before .before .before .args .p) (c .before .before .before .before .before .args .q) g (inr (subst (λ (k : ℕ). k < firstName) (c .before .before .word-at2 .ensures) (c .if2 .taken)))
 
 -- src/walk.rt:28:9
 unify-term-returns-3 : (t : ℕ) → unify-term-lts.Need-returns-3 (
@@ -232,7 +234,7 @@ unify-term-returns-3 : (t : ℕ) → unify-term-lts.Need-returns-3 (
   unify-list-below t,
   unify-list.Post,
 ) (unify-term-at t) unify-term.Post
-unify-term-returns-3 t c = λ g. term-clash (c .before .before .before .before .before .before .args .nodes .now) (c .before .before .before .before .before .before .args .p) (c .before .before .before .before .before .before .args .q) g (subst (λ (k : ℕ). 64 ≤ k) (c .before .before .before .before .word-at .ensures) (c .before .before .if1 .left)) (subst (λ (k : ℕ). 64 ≤ k) (c .before .before .before .word-at2 .ensures) (c .before .if2 .left)) (λ z. c .if3 .taken (c .before .before .before .before .word-at .ensures ∙ (z ∙ sym (c .before .before .before .word-at2 .ensures))))
+unify-term-returns-3 t c = λ g. term-clash (c .before .before .before .before .before .before .args .nodes .now) (c .before .before .before .before .before .before .args .p) (c .before .before .before .before .before .before .args .q) g (subst (λ (k : ℕ). firstName ≤ k) (c .before .before .before .before .word-at .ensures) (c .before .before .if1 .left)) (subst (λ (k : ℕ). firstName ≤ k) (c .before .before .before .word-at2 .ensures) (c .before .if2 .left)) (λ z. c .if3 .taken (c .before .before .before .before .word-at .ensures ∙ (z ∙ sym (c .before .before .before .word-at2 .ensures))))
 
 -- src/walk.rt:30:17
 unify-term-size-at-requires : (t : ℕ) → unify-term-lts.Need-size-at-requires (
@@ -287,7 +289,7 @@ unify-term-unify-list-requires : (t : ℕ) → unify-term-lts.Need-unify-list-re
   unify-list-below t,
   unify-list.Post,
 ) (unify-term-at t) unify-term.Post
-unify-term-unify-list-requires t c κs = (omega (arith, c .size-at .ensures, pair-inside (c .before .before .before .before .before .before .before .args .nodes .now) (c .before .before .before .before .before .before .before .args .p) (c .before .before .before .before .before .before .before .args .q) (c .before .before .before .before .before .before .before .pre .1)), subst⁻¹ (λ (k : ℕ). Walkable (c .before .before .before .before .before .before .before .args .nodes .now) (c .before .before .before .before .before .before .before .args .p + 2) (c .before .before .before .before .before .before .before .args .p + k) (c .before .before .before .before .before .before .before .args .q + 2)) (c .size-at .ensures) (term-list (c .before .before .before .before .before .before .before .args .nodes .now) (c .before .before .before .before .before .before .before .args .p) (c .before .before .before .before .before .before .before .args .q) (c .before .before .before .before .before .before .before .pre .1) (subst (λ (k : ℕ). 64 ≤ k) (c .before .before .before .before .before .word-at .ensures) (c .before .before .before .if1 .left)) (subst (λ (k : ℕ). 64 ≤ k) (c .before .before .before .before .word-at2 .ensures) (c .before .before .if2 .left)) (sym (c .before .before .before .before .before .word-at .ensures) ∙ (c .before .if3 .left ∙ c .before .before .before .before .word-at2 .ensures))))
+unify-term-unify-list-requires t c κs = (omega (arith, c .size-at .ensures, pair-inside (c .before .before .before .before .before .before .before .args .nodes .now) (c .before .before .before .before .before .before .before .args .p) (c .before .before .before .before .before .before .before .args .q) (c .before .before .before .before .before .before .before .pre .1)), subst⁻¹ (λ (k : ℕ). Walkable (c .before .before .before .before .before .before .before .args .nodes .now) (c .before .before .before .before .before .before .before .args .p + loadedNode) (c .before .before .before .before .before .before .before .args .p + k) (c .before .before .before .before .before .before .before .args .q + loadedNode)) (c .size-at .ensures) (term-list (c .before .before .before .before .before .before .before .args .nodes .now) (c .before .before .before .before .before .before .before .args .p) (c .before .before .before .before .before .before .before .args .q) (c .before .before .before .before .before .before .before .pre .1) (subst (λ (k : ℕ). firstName ≤ k) (c .before .before .before .before .before .word-at .ensures) (c .before .before .before .if1 .left)) (subst (λ (k : ℕ). firstName ≤ k) (c .before .before .before .before .word-at2 .ensures) (c .before .before .if2 .left)) (sym (c .before .before .before .before .before .word-at .ensures) ∙ (c .before .if3 .left ∙ c .before .before .before .before .word-at2 .ensures))))
 
 -- src/walk.rt:15:1
 unify-term-returns-4 : (t : ℕ) → unify-term-lts.Need-returns-4 (

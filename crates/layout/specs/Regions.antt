@@ -1,0 +1,197 @@
+-- The tables of a run: how many words each record has, how many records there are, and where each region begins. A region begins where the one
+-- before it ends.
+use Prim.Native.Nat.{ℕ, _+_, _*_, _/_}
+use Rattle.syntax.specs.Limits.{brackets, literals, clauses, longestPath}
+use Rattle.syntax.specs.Words.{firstName, nodeWords, sheetWords, goalWords}
+
+-- ---- copies
+
+-- The goal is copy 0; a call at the longest path makes no further one.
+abbrev pub copies : ℕ
+copies = longestPath + 1
+
+-- the cells of a copy: one for each number that a variable can have
+abbrev pub copyCells : ℕ
+copyCells = firstName
+
+-- ---- loaded nodes
+
+-- the words of a loaded node without its arguments
+abbrev pub loadedNode : ℕ
+loadedNode = 2
+
+-- the most nodes of a sheet and a goal, and the words they take
+abbrev pub mostNodes : ℕ
+mostNodes = (sheetWords + goalWords) / nodeWords + 1
+
+abbrev pub nodesWords : ℕ
+nodesWords = mostNodes * loadedNode
+
+-- A place in the nodes or in the code is below this, so that a cell's word can hold a node's together with a copy.
+abbrev pub places : ℕ
+places = 65536
+
+-- ---- code: a record for the goal and each clause, and then the literals of each with the body's end
+
+abbrev pub clauseSize : ℕ
+clauseSize = 4
+
+abbrev pub literalSize : ℕ
+literalSize = 4
+
+-- the kind of a body's end; a literal's own kinds are those of `syntax`
+abbrev pub endKind : ℕ
+endKind = 4
+
+abbrev pub bodies : ℕ
+bodies = (clauses + 1) * clauseSize
+
+abbrev pub bodySize : ℕ
+bodySize = (literals + 1) * literalSize
+
+abbrev pub codeWords : ℕ
+codeWords = bodies + (clauses + 1) * bodySize
+
+-- the record of a clause, by its number; the goal's is that of number 0
+abbrev pub clauseRecord : ℕ → ℕ
+clauseRecord k = k * clauseSize
+
+-- the literal of a number in the body that begins at a place
+abbrev pub literalFrom : ℕ → ℕ → ℕ
+literalFrom start i = start + i * literalSize
+
+-- the record behind a literal's
+abbrev pub nextLiteral : ℕ → ℕ
+nextLiteral l = l + literalSize
+
+-- ---- state: cells, trail, frames, alternatives
+
+abbrev pub cells : ℕ
+cells = copies * copyCells
+
+-- the trail has room for every cell
+abbrev pub trail : ℕ
+trail = cells
+
+-- the words of cells and trail, which the scratch words begin with too
+abbrev pub storeWords : ℕ
+storeWords = trail + cells
+
+abbrev pub frames : ℕ
+frames = storeWords
+
+abbrev pub frameSize : ℕ
+frameSize = 4
+
+-- the frame of a copy
+abbrev pub frameOf : ℕ → ℕ
+frameOf k = frames + k * frameSize
+
+abbrev pub alternatives : ℕ
+alternatives = frames + copies * frameSize
+
+abbrev pub alternativeSize : ℕ
+alternativeSize = 6
+
+-- the alternative of a number, the lowest of the pile being 0
+abbrev pub alternativeOf : ℕ → ℕ
+alternativeOf j = alternatives + j * alternativeSize
+
+-- the most alternatives
+abbrev pub mostAlternatives : ℕ
+mostAlternatives = copies
+
+abbrev pub stateWords : ℕ
+stateWords = alternatives + mostAlternatives * alternativeSize
+
+-- ---- scratch: marks and queue as cells and trail, the work stack, the memo
+
+abbrev pub stack : ℕ
+stack = storeWords
+
+-- a side of a pair, and a pair
+abbrev pub sideSize : ℕ
+sideSize = 3
+
+abbrev pub pairSize : ℕ
+pairSize = 2 * sideSize
+
+-- the pair of a number, the lowest of the stack being 0
+abbrev pub pairOf : ℕ → ℕ
+pairOf k = stack + k * pairSize
+
+abbrev pub pairs : ℕ
+pairs = 2 * cells + 1
+
+-- The memo: the number of classes and the number of rows, slots, the nodes of the rows, classes, weights, rows.
+abbrev pub memo : ℕ
+memo = stack + pairs * pairSize
+
+-- where the number of rows stands
+abbrev pub rowsWord : ℕ
+rowsWord = memo + 1
+
+abbrev pub slots : ℕ
+slots = rowsWord + 1
+
+abbrev pub slotCount : ℕ
+slotCount = 16384
+
+abbrev pub keys : ℕ
+keys = slots + slotCount
+
+abbrev pub keyCount : ℕ
+keyCount = 4096
+
+abbrev pub classes : ℕ
+classes = keys + keyCount
+
+abbrev pub classSize : ℕ
+classSize = 2
+
+abbrev pub classCount : ℕ
+classCount = cells + copies
+
+abbrev pub classOf : ℕ → ℕ
+classOf i = classes + i * classSize
+
+abbrev pub weights : ℕ
+weights = classes + classCount * classSize
+
+abbrev pub heights : ℕ
+heights = pairs + 1
+
+abbrev pub rows : ℕ
+rows = weights + heights
+
+-- a row has a half word for each copy
+abbrev pub rowWords : ℕ
+rowWords = copies / 2
+
+abbrev pub memoRow : ℕ → ℕ
+memoRow k = rows + k * rowWords
+
+-- the numbers that half a word can hold
+abbrev pub halfWord : ℕ
+halfWord = 65536
+
+-- the rows for texts of so many bytes: one for each five bytes, and two
+abbrev pub rowsFor : ℕ → ℕ
+rowsFor bytes = (bytes + 4) / 5 + 2
+
+abbrev pub scratchFor : ℕ → ℕ
+scratchFor bytes = rows + rowsFor bytes * rowWords
+
+-- a sheet that is not long, for which less scratch is cleared
+abbrev pub shortSheet : ℕ
+shortSheet = 2048
+
+-- ---- answers
+
+-- the brackets that a value can have open at once: those of every bound term and of the goal's, one inside the other
+abbrev pub deepest : ℕ
+deepest = (cells + 1) * brackets
+
+-- the words for one open bracket of a value that is spelt
+abbrev pub openSize : ℕ
+openSize = 2
