@@ -146,7 +146,19 @@ RUNS = [
 SETTINGS = [
     (1, 1, 0, b"", b"true.", "end steps 0 1"),
     (2, 1, 3, b"", b"true.", "end full 0 1"),
-    (2, 1, 4, b"", b"true.", "yes\nend wanted 1 2"),
+    # the wanted count reached: nothing left, a call without a further clause left, a further clause left; an allowance
+    # just enough and one short, room just enough and one short
+    (2, 1, 4, b"", b"true.", "yes\nend done 1 2"),
+    (9, 1, 4, b"", b"true.", "yes\nend done 1 2"),
+    (9, 2, 12, b":-mode p(-). p(a). p(b).", b"p(X).", "X = a\nX = b\nend wanted 2 4"),
+    (9, 1, 99, b":-mode p(-). p(a).", b"p(X).", "X = a\nend wanted 1 2"),
+    (2, 1, 6, b":-mode p(-). p(a).", b"p(X).", "X = a\nend wanted 1 2"),
+    (1, 1, 6, b":-mode p(-). p(a).", b"p(X).", "end steps 0 1"),
+    (9, 1, 5, b":-mode p(-). p(a).", b"p(X).", "end full 0 1"),
+    (9, 1, 6, b":-mode p(-). p(a). p(b).", b"p(X).", "X = a\nend wanted 1 2"),
+    (2, 1, 6, b"", b"X = a.", "X = a\nend done 1 2"),
+    (1, 1, 6, b"", b"X = a.", "end steps 0 1"),
+    (2, 1, 5, b"", b"X = a.", "end full 0 1"),
     (0, 1, 4, b"", b"true.", "refused 1 0 0 0 0"),
     (65_537, 1, 4, b"p(", b"", "refused 1 0 0 0 0"),
     (65_536, 0, 4, b"", b"true.", "refused 1 0 0 0 0"),

@@ -44,7 +44,7 @@ cases =
     runner ":-mode l. l :- l." "l." (ended Deep 0 255 "") ∷
     within 1 1 0 "" "true." (ended Steps 0 1 "") ∷
     within 2 1 3 "" "true." (ended Full 0 1 "") ∷
-    within 2 1 4 "" "true." (ended Wanted 1 2 "yes\n") ∷
+    within 2 1 4 "" "true." (ended Done 1 2 "yes\n") ∷
     runner "" "A = f(B,C), C = D." (ended Done 1 3 "A = f(_1,_2), B = _1, C = _2, D = _2\n") ∷
     runner "" "" (stopped inGoal (Misplaced 0)) ∷
     -- `fail`, alone and behind `true`; a clash; a declared predicate without clauses; a head that does not unify
@@ -87,6 +87,18 @@ cases =
     within 300 64 6 ":-mode p(-). p(aa). p(b)." "p(X)." (ended Full 0 1 "") ∷
     within 255 1 0 ":-mode l. l :- l." "l." (ended Steps 0 255 "") ∷
     within 256 1 0 ":-mode l. l :- l." "l." (ended Deep 0 255 "") ∷
+    -- the wanted count reached: nothing left, a call without a further clause left, a further clause left; an allowance just enough and one
+    -- short, room just enough and one short
+    within 9 1 4 "" "true." (ended Done 1 2 "yes\n") ∷
+    within 9 2 12 ":-mode p(-). p(a). p(b)." "p(X)." (ended Wanted 2 4 "X = a\nX = b\n") ∷
+    within 9 1 99 ":-mode p(-). p(a)." "p(X)." (ended Wanted 1 2 "X = a\n") ∷
+    within 2 1 6 ":-mode p(-). p(a)." "p(X)." (ended Wanted 1 2 "X = a\n") ∷
+    within 1 1 6 ":-mode p(-). p(a)." "p(X)." (ended Steps 0 1 "") ∷
+    within 9 1 5 ":-mode p(-). p(a)." "p(X)." (ended Full 0 1 "") ∷
+    within 9 1 6 ":-mode p(-). p(a). p(b)." "p(X)." (ended Wanted 1 2 "X = a\n") ∷
+    within 2 1 6 "" "X = a." (ended Done 1 2 "X = a\n") ∷
+    within 1 1 6 "" "X = a." (ended Steps 0 1 "") ∷
+    within 2 1 5 "" "X = a." (ended Full 0 1 "") ∷
     -- refusals of a run: settings, then the sheet, then the goal
     within 0 1 0 "p" "" (stopped Neither Settings) ∷
     within 65537 1 0 "p" "" (stopped Neither Settings) ∷

@@ -34,9 +34,9 @@ module _ (sh : Sheet) (g : Goal) (wanted room : ℕ) where
       never : (k : Kind) → some k ≡ none → ⊥
       never k q = let z : _≡_ {A = ℕ} 0 1 = cc in omega arith
 
-      go : (a b : Bool) → _≡_ {A = Option Kind} (elim a [ true ↦ some Wanted | false ↦ elim b [ true ↦ some Done | false ↦ some Steps ] ]) none → ⊥
-      go true b q = never Wanted q
-      go false true q = never Done q
+      go : (a b : Bool) → _≡_ {A = Option Kind} (elim b [ true ↦ some Done | false ↦ elim a [ true ↦ some Wanted | false ↦ some Steps ] ]) none → ⊥
+      go a true q = never Done q
+      go true false q = never Wanted q
       go false false q = never Steps q
 
   run-ends : (n : ℕ) (p : Progress) → EndsAfter sh g n wanted room p (runFrom sh g wanted room n p)

@@ -12,4 +12,5 @@ pub mod Reached
 pub mod Next
 pub mod EveryRun
 pub mod Turns
+pub mod Earlier
 pub mod Witness

@@ -15,7 +15,7 @@ module _ (sh : Sheet) (g : Goal) (wanted room : ℕ) where
   -- an end by the five tests, or else on
   abbrev endBy : Progress → Bool → Bool → Bool → Bool → Bool → (Unit {0} → Ended) → Ended
   endBy p a b c d e on =
-      endOr p (elim a [ true ↦ some Wanted | false ↦ elim b [ true ↦ some Done | false ↦ elim c [ true ↦ some Steps | false ↦ elim d [ true ↦ some Full | false ↦ elim e [ true ↦ some Deep | false ↦ none ] ] ] ] ]) on
+      endOr p (elim b [ true ↦ some Done | false ↦ elim a [ true ↦ some Wanted | false ↦ elim c [ true ↦ some Steps | false ↦ elim d [ true ↦ some Full | false ↦ elim e [ true ↦ some Deep | false ↦ none ] ] ] ] ]) on
 
   -- the same, with the tests of where the run stands but for that of the steps
   abbrev endHere : Progress → Bool → (Unit {0} → Ended) → Ended
@@ -34,8 +34,8 @@ module _ (sh : Sheet) (g : Goal) (wanted room : ℕ) where
   module _ (n : ℕ) (p : Progress) where
     none-by : (a b c d e : Bool) (on on0 : Unit {0} → Ended) → runFrom sh g wanted room n p ≡ endBy p a b c d e on → runFrom sh g wanted room n p ≡ onward sh g wanted room n (endBy p a b true d e on0)
     unfolding endOr onward
-    none-by true b c d e on on0 q = q
-    none-by false true c d e on on0 q = q
+    none-by a true c d e on on0 q = q
+    none-by true false c d e on on0 q = q
     none-by false false c d e on on0 q = refl
 
     none-more : (c : Bool) (on : Unit {0} → Ended) → runFrom sh g wanted room n p ≡ endHere p c on → runFrom sh g wanted room n p ≡ onward sh g wanted room n (runFrom sh g wanted room 0 p)
@@ -46,8 +46,8 @@ module _ (sh : Sheet) (g : Goal) (wanted room : ℕ) where
     -- a step, and then n steps more than before
     some-by : (a b d e : Bool) (on later : Unit {0} → Ended) → later tt ≡ onward sh g wanted room n (on tt) → endBy p a b false d e later ≡ onward sh g wanted room n (endBy p a b false d e on)
     unfolding endOr onward
-    some-by true b d e on later q = refl
-    some-by false true d e on later q = refl
+    some-by a true d e on later q = refl
+    some-by true false d e on later q = refl
     some-by false false true e on later q = refl
     some-by false false false true on later q = refl
     some-by false false false false on later q = q

@@ -4,6 +4,7 @@ pub mod Unifiers
 pub mod Machine
 pub mod Answers
 pub mod Runs
+pub mod Earlier
 pub mod Counts
 pub mod Reached
 pub mod Claims

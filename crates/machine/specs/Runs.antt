@@ -75,11 +75,12 @@ pub record Ending : Type 0 where
   pub kind : Kind
   pub applies : Bool
 
--- The tests before each step, in their order; `left` is what is left of the allowance (document 01's word for the most steps).
+-- The tests before each step, in their order; `left` is what is left of the allowance (document 01's word for the most steps). Document 02 (vii): "Both
+-- rules apply there; `done` now comes first." The order of document 01 stands in `Earlier`.
 abbrev pub endings : Sheet → Goal → ℕ → ℕ → ℕ → Progress → List Ending
 endings sh g wanted room left p =
-    record { kind = Wanted; applies = leb wanted (p .answers) } ∷
     record { kind = Done; applies = isEmpty (p .pile) } ∷
+    record { kind = Wanted; applies = leb wanted (p .answers) } ∷
     record { kind = Steps; applies = eqb left 0 } ∷
     record { kind = Full; applies = isAnswer (p .pile) && ltb room (length (p .text) + length (nextLine g (p .pile))) } ∷
     record { kind = Deep; applies = goesDeeper sh (p .pile) } ∷ []

@@ -33,7 +33,7 @@ use Rattle.runs.proofs.EndLaws.{answer-flat}
 
 module _ (wanted answers left : ℕ) (sh : Sheet) (pile : List Alternative) where
   abbrev picks : Bool → Bool → Bool → Bool → Bool → Next
-  picks a b c d e = cond a (End Wanted) (cond b (End Done) (cond c (End Steps) (cond d Answer (cond e (End Deep) Step))))
+  picks a b c d e = cond b (End Done) (cond a (End Wanted) (cond c (End Steps) (cond d Answer (cond e (End Deep) Step))))
 
   picked : nextOf wanted answers left sh pile ≡ picks (leb wanted answers) (isEmpty pile) (eqb left 0) (isAnswer pile) (goesDeeper sh pile)
   unfolding nextOf
@@ -58,15 +58,15 @@ unfolding isEmpty pileOf
 pile-filled ss sh g nodes code state zero q = absurd (q refl)
 pile-filled ss sh g nodes code state (suc h) q = refl
 
+pub next-done : (allowance wanted answers steps : ℕ) {nodes code state : List ℕ} {h n : ℕ} (w : Running nodes code state h n) → h ≡ 0 → End Done ≡ nextOf wanted answers (allowance - steps) (w .sh) (pileOf (w .ss) (w .sh) (w .g) nodes code state h)
+next-done allowance wanted answers steps {nodes} {code} {state} {h} {n} w z = sym (picks-to wanted answers (allowance - steps) (w .sh) (pileOf (w .ss) (w .sh) (w .g) nodes code state h) (leb wanted answers) true (eqb (allowance - steps) 0) (isAnswer (pileOf (w .ss) (w .sh) (w .g) nodes code state h)) (goesDeeper (w .sh) (pileOf (w .ss) (w .sh) (w .g) nodes code state h)) refl (pile-empty (w .ss) (w .sh) (w .g) nodes code state h z) refl refl refl)
+
 module _ {nodes code state : List ℕ} {allowance wanted h n answers steps : ℕ} (few : steps ≤ allowance) (w : Running nodes code state h n) where
-  pub next-wanted : wanted ≤ answers → End Wanted ≡ nextOf wanted answers (allowance - steps) (w .sh) (pileOf (w .ss) (w .sh) (w .g) nodes code state h)
-  next-wanted l = sym (picks-to wanted answers (allowance - steps) (w .sh) (pileOf (w .ss) (w .sh) (w .g) nodes code state h) true (isEmpty (pileOf (w .ss) (w .sh) (w .g) nodes code state h)) (eqb (allowance - steps) 0) (isAnswer (pileOf (w .ss) (w .sh) (w .g) nodes code state h)) (goesDeeper (w .sh) (pileOf (w .ss) (w .sh) (w .g) nodes code state h)) (le-leb wanted answers l) refl refl refl refl)
+  module _ (z : h ≡ 0 → ⊥) where
+    pub next-wanted : wanted ≤ answers → End Wanted ≡ nextOf wanted answers (allowance - steps) (w .sh) (pileOf (w .ss) (w .sh) (w .g) nodes code state h)
+    next-wanted l = sym (picks-to wanted answers (allowance - steps) (w .sh) (pileOf (w .ss) (w .sh) (w .g) nodes code state h) true false (eqb (allowance - steps) 0) (isAnswer (pileOf (w .ss) (w .sh) (w .g) nodes code state h)) (goesDeeper (w .sh) (pileOf (w .ss) (w .sh) (w .g) nodes code state h)) (le-leb wanted answers l) (pile-filled (w .ss) (w .sh) (w .g) nodes code state h z) refl refl refl)
 
-  module _ (l : answers < wanted) where
-    pub next-done : h ≡ 0 → End Done ≡ nextOf wanted answers (allowance - steps) (w .sh) (pileOf (w .ss) (w .sh) (w .g) nodes code state h)
-    next-done z = sym (picks-to wanted answers (allowance - steps) (w .sh) (pileOf (w .ss) (w .sh) (w .g) nodes code state h) false true (eqb (allowance - steps) 0) (isAnswer (pileOf (w .ss) (w .sh) (w .g) nodes code state h)) (goesDeeper (w .sh) (pileOf (w .ss) (w .sh) (w .g) nodes code state h)) (lt-leb wanted answers l) (pile-empty (w .ss) (w .sh) (w .g) nodes code state h z) refl refl refl)
-
-    module _ (z : h ≡ 0 → ⊥) where
+    module _ (l : answers < wanted) where
       pub next-steps : steps ≡ allowance → End Steps ≡ nextOf wanted answers (allowance - steps) (w .sh) (pileOf (w .ss) (w .sh) (w .g) nodes code state h)
       next-steps e = sym (picks-to wanted answers (allowance - steps) (w .sh) (pileOf (w .ss) (w .sh) (w .g) nodes code state h) false false true (isAnswer (pileOf (w .ss) (w .sh) (w .g) nodes code state h)) (goesDeeper (w .sh) (pileOf (w .ss) (w .sh) (w .g) nodes code state h)) (lt-leb wanted answers l) (pile-filled (w .ss) (w .sh) (w .g) nodes code state h z) (eq-eqb (allowance - steps) 0 (omega arith)) refl refl)
 

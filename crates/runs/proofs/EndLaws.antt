@@ -19,15 +19,15 @@ use Rattle.runs.specs.declared.Next.the-variants.{End, Answer, Step}
 use Rattle.runs.specs.Running.{nextOf}
 
 abbrev nextBy : Bool → Bool → Bool → Bool → Bool → Next
-nextBy a b c d e = cond a (End Wanted) (cond b (End Done) (cond c (End Steps) (cond d Answer (cond e (End Deep) Step))))
+nextBy a b c d e = cond b (End Done) (cond a (End Wanted) (cond c (End Steps) (cond d Answer (cond e (End Deep) Step))))
 
 abbrev firstBy : Bool → Bool → Bool → Bool → Bool → Option Kind
 firstBy a b c d e =
-    elim a [ true ↦ some Wanted | false ↦ elim b [ true ↦ some Done | false ↦ elim c [ true ↦ some Steps | false ↦ elim d [ true ↦ some Full | false ↦ elim e [ true ↦ some Deep | false ↦ none ] ] ] ] ]
+    elim b [ true ↦ some Done | false ↦ elim a [ true ↦ some Wanted | false ↦ elim c [ true ↦ some Steps | false ↦ elim d [ true ↦ some Full | false ↦ elim e [ true ↦ some Deep | false ↦ none ] ] ] ] ]
 
 end-by : (a b c d e f : Bool) (k : Kind) → nextBy a b c d e ≡ End k → firstBy a b c (d && f) e ≡ some k
-end-by true b c d e f k q = cc
-end-by false true c d e f k q = cc
+end-by a true c d e f k q = cc
+end-by true false c d e f k q = cc
 end-by false false true d e f k q = cc
 end-by false false false true e f k q = absurd (let z : _≡_ {A = ℕ} 0 1 = cc in omega arith)
 end-by false false false false true f k q = cc
@@ -41,8 +41,8 @@ record Steady (b c d e : Bool) (o : Option Kind) : Type 0 where
   none-is : o ≡ none
 
 step-by : (a b c d e f : Bool) → nextBy a b c d e ≡ Step → Steady b c d e (firstBy a b c (d && f) e)
-step-by true b c d e f q = absurd (let z : _≡_ {A = ℕ} 0 1 = cc in omega arith)
-step-by false true c d e f q = absurd (let z : _≡_ {A = ℕ} 0 1 = cc in omega arith)
+step-by a true c d e f q = absurd (let z : _≡_ {A = ℕ} 0 1 = cc in omega arith)
+step-by true false c d e f q = absurd (let z : _≡_ {A = ℕ} 0 1 = cc in omega arith)
 step-by false false true d e f q = absurd (let z : _≡_ {A = ℕ} 0 1 = cc in omega arith)
 step-by false false false true e f q = absurd (let z : _≡_ {A = ℕ} 0 1 = cc in omega arith)
 step-by false false false false true f q = absurd (let z : _≡_ {A = ℕ} 0 1 = cc in omega arith)
@@ -56,8 +56,8 @@ record Answering (b c d : Bool) (o : Bool → Option Kind) : Type 0 where
   fits-is : o false ≡ none
 
 answer-by : (a b c d e : Bool) → e ≡ false → nextBy a b c d e ≡ Answer → Answering b c d (λ (f : Bool). firstBy a b c (d && f) e)
-answer-by true b c d e z q = absurd (let y : _≡_ {A = ℕ} 0 1 = cc in omega arith)
-answer-by false true c d e z q = absurd (let y : _≡_ {A = ℕ} 0 1 = cc in omega arith)
+answer-by a true c d e z q = absurd (let y : _≡_ {A = ℕ} 0 1 = cc in omega arith)
+answer-by true false c d e z q = absurd (let y : _≡_ {A = ℕ} 0 1 = cc in omega arith)
 answer-by false false true d e z q = absurd (let y : _≡_ {A = ℕ} 0 1 = cc in omega arith)
 answer-by false false false true e z q = record { some-left = refl; more = refl; answer = refl; full-is = refl; fits-is = ap (λ (x : Bool). firstBy false false false false x) z }
 answer-by false false false false true z q = absurd (let y : _≡_ {A = ℕ} 0 1 = cc in omega arith)
@@ -149,8 +149,8 @@ module _ (sh : Sheet) (g : Goal) (wanted room : ℕ) where
     pub on : ltb room (length (p .text) + length (nextLine g (p .pile))) ≡ false → runFrom sh g wanted room left p ≡ runFrom sh g wanted room (left - 1) (record { pile = step sh (p .pile); answers = p .answers + 1; steps = suc (p .steps); text = p .text ++ nextLine g (p .pile) })
 
   is-answer : (a b c d e : Bool) → nextBy a b c d e ≡ Answer → d ≡ true
-  is-answer true b c d e q = absurd (let y : _≡_ {A = ℕ} 0 1 = cc in omega arith)
-  is-answer false true c d e q = absurd (let y : _≡_ {A = ℕ} 0 1 = cc in omega arith)
+  is-answer a true c d e q = absurd (let y : _≡_ {A = ℕ} 0 1 = cc in omega arith)
+  is-answer true false c d e q = absurd (let y : _≡_ {A = ℕ} 0 1 = cc in omega arith)
   is-answer false false true d e q = absurd (let y : _≡_ {A = ℕ} 0 1 = cc in omega arith)
   is-answer false false false true e q = refl
   is-answer false false false false true q = absurd (let y : _≡_ {A = ℕ} 0 1 = cc in omega arith)
@@ -169,8 +169,9 @@ module _ (sh : Sheet) (g : Goal) (wanted room : ℕ) where
       }
 
 below-by : (a b c d e : Bool) → nextBy a b c d e ≡ Answer → a ≡ false
-below-by true b c d e q = absurd (let y : _≡_ {A = ℕ} 0 1 = cc in omega arith)
-below-by false b c d e q = refl
+below-by a true c d e q = absurd (let y : _≡_ {A = ℕ} 0 1 = cc in omega arith)
+below-by true false c d e q = absurd (let y : _≡_ {A = ℕ} 0 1 = cc in omega arith)
+below-by false false c d e q = refl
 
 -- an answer more is wanted
 pub answer-below : (wanted answers left : ℕ) (sh : Sheet) (pile : List Alternative) → nextOf wanted answers left sh pile ≡ Answer → answers < wanted

@@ -31,8 +31,8 @@ use Rattle.runs.specs.declared.Next.the-variants.{End, Answer, Step}
 -- What comes before the next step: an end, an answer's line, or nothing. `left` is what is left of the allowance.
 unfoldable pub nextOf : ℕ → ℕ → ℕ → Sheet → List Alternative → Next
 nextOf wanted answers left sh pile =
-    cond (leb wanted answers) (End Wanted)
-    (cond (isEmpty pile) (End Done)
+    cond (isEmpty pile) (End Done)
+    (cond (leb wanted answers) (End Wanted)
     (cond (eqb left 0) (End Steps)
     (cond (isAnswer pile) Answer
     (cond (goesDeeper sh pile) (End Deep) Step))))

@@ -56,7 +56,7 @@ pub struct Told {
     pub trail: usize,
 }
 
-// What comes before the next step. The ends are looked for in document 01's order; whether an answer's line fits is known once it is
+// What comes before the next step. The ends are looked for in their order, `done` before `wanted`; whether an answer's line fits is known once it is
 // measured.
 fn next_of(
     code: &[u32],
@@ -72,11 +72,11 @@ fn next_of(
     requires { ⌜ steps ≤ allowance ⌝ }
     ensures { λ r. ⌜ ((nodes : List ℕ) (w : Running nodes (now (code .entry)) (now (state .entry)) h n) → r ≡ nextOf wanted answers (allowance - steps) (w .sh) (pileOf (w .ss) (w .sh) (w .g) nodes (now (code .entry)) (now (state .entry)) h)) ⌝ }
 {
-    if wanted <= answers {
-        return Next::End(Kind::Wanted);
-    }
     if h == 0 {
         return Next::End(Kind::Done);
+    }
+    if wanted <= answers {
+        return Next::End(Kind::Wanted);
     }
     if steps == allowance {
         return Next::End(Kind::Steps);

@@ -159,7 +159,7 @@ pub enum Verdict {
     Refused { text: Text, refusal: Refusal },
 }
 
-// How a run ends, in the order in which document 01 looks for the ends.
+// How a run ends. Document 02 (vii) looks for `Done` before `Wanted`; the others are looked for in this order.
 pub enum Kind {
     Wanted,
     Done,

@@ -10,11 +10,11 @@ use Rattle.engine.proofs.is_answer.Reads as is-answer-reads
 
 -- src/lib.rt:57:9
 returns : tie.Need-returns
-returns c = λ nodes w. search (next-wanted, needs)
+returns c = let c3 = c .before .before .before in λ nodes w. next-done (c3 .args .allowance) (c3 .args .wanted) (c3 .args .answers) (c3 .args .steps) w (c .if1 .taken)
 
 -- src/lib.rt:60:9
 returns-2 : tie.Need-returns-2
-returns-2 c = λ nodes w. search (next-done, needs)
+returns-2 c = λ nodes w. search (next-wanted, needs)
 
 -- src/lib.rt:63:9
 returns-3 : tie.Need-returns-3
