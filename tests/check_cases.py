@@ -148,8 +148,23 @@ def undeclared(add):
         add("K", sheet, goal)
 
 
+def known_late(add, start):
+    """Variables met after so many others: known by a head's input, an equation, a call's output, and not known."""
+    before = ["W%d" % n for n in range(start)]
+    padding = ["n(%s)" % ",".join(before[n : n + 8]) for n in range(0, start, 8)]
+    modes = ":-mode p(+,-). :-mode o(-). :-mode i(+). " + "".join(
+        ":-mode n(%s). " % ",".join("*" * size) for size in sorted({len(before[n : n + 8]) for n in range(0, start, 8)})
+    )
+    for last in ("X = Y", "o(Y)", "Y = f(Z), o(Z)", "f(Y,Z) = f(Z,a)", "f(Z,Y) = f(a,Z)", "true", "i(X), o(Y)", "i(Y)", "o(Z), Z = Y", "fail"):
+        add("C", modes + "p(X,Y) :- %s." % ", ".join(padding + [last]))
+        add("C", modes + "p(f(%s),Y) :- %s." % (",".join(before[:8] + ["X"][: 8 - len(before[:8])]) or "X", ", ".join(padding + [last])))
+        add("K", modes + "p(a,b). o(a). i(a).", ", ".join(padding + [last, "p(Y,Q)"]) + ".")
+
+
 def many_variables(add):
-    """32 variables: chains of equations, whole and with one link missing."""
+    """64 variables: chains of equations, whole and with one link missing, and what is known ground at numbers 32 to 63 in every rule."""
+    for start in (0, 31, 32):
+        known_late(add, start)
     names = variables(32)
     pairs = ("f({1},{2}) = f({0},{1})", "f({2},{1}) = f({1},{0})")
     for first, marks in (("a", "-" * 8), ("V31", "-" * 8), ("a", "*" * 8), ("_", "-" * 8)):

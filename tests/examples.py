@@ -67,8 +67,7 @@ CHECKS = [
     (b"p( % x\n", "refused sheet 5 7 0 0 0"),
     (b"p(" + b"f(" * 16 + b"a" + b")" * 16 + b").", "refused sheet 6 33 0 0 0"),
     (b":-mode p. p:-" + b"f(" * 16 + b"a" + b")" * 16 + b"=a.", "accepted 1 1"),
-    (b"p(_,_,_,_,_,_,_,_):-q(_,_,_,_,_,_,_,_),q(_,_,_,_,_,_,_,_),"
-     b"q(_,_,_,_,_,_,_,_),_", "refused sheet 6 77 0 0 0"),
+    (b"p(_,_,_,_,_,_,_,_):-" + b"q(_,_,_,_,_,_,_,_)," * 7 + b"_", "refused sheet 6 153 0 0 0"),
     (b"p:-" + b"true,fail,X=Y,q," * 4 + b"true", "refused sheet 6 67 0 0 0"),
     # grammar
     (b"p :- X.", "refused sheet 5 6 0 0 0"),

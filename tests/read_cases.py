@@ -119,7 +119,7 @@ def argument_limits(add):
 
 
 def variable_limits(add):
-    for count in (31, 32, 33, 34):
+    for count in (32, 33, 63, 64, 65, 66):
         for names in (variables(count), [b"_"] * count, [b"_", b"X"] * 8 + variables(count - 9)):
             body = in_atoms(b"q", names)
             add("S", b"p :- " + body + b".")
@@ -131,11 +131,11 @@ def variable_limits(add):
             add("G", body + b".")
             add("G", body + b", V0 = _.")
             add("G", listed([name + b" = a" for name in names[:16]] + [body]) + b".")
-    full = in_atoms(b"q", variables(32))
+    full = in_atoms(b"q", variables(64))
     add("S", (b"p :- " + full + b".") * 3)
     add("S", (b"p :- " + full + b".") * 2 + b"p :- " + full + b", W.")
     for token in NEXT_TOKENS:
-        add("S", b"p :- " + full + b", V31 = " + token)
+        add("S", b"p :- " + full + b", V63 = " + token)
         add("S", b"p :- " + full + b"," + token)
         add("G", full + b"," + token)
         add("S", b"p :- " + full + b", q(V0" + token)

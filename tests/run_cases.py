@@ -298,6 +298,25 @@ def long_runs(add):
     add(":-mode l. l :- fail. l :- l, l. l.", "l, l.")
 
 
+def sixty_four(add):
+    """An answer line with 64 variables; 254 and 255 copies of a clause with 64 variables, bound and undone."""
+    names = ["V%d" % n for n in range(64)]
+    eights = ["q(%s)" % ",".join(names[n : n + 8]) for n in range(0, 64, 8)]
+    fact = ":-mode q(%s). q(%s)." % (",".join("*" * 8), ",".join("abcdefgh"))
+    loose = ":-mode q(%s). q(A,B,C,D,E,F,G,H)." % ",".join("*" * 8)
+    for sheet in (fact, loose):
+        edges(add, sheet, ", ".join(eights) + ".")
+        add(sheet, ", ".join(eights) + ", V63 = V0, V32 = V31.")
+    body = ", ".join(eights)
+    deep = ":-mode q(%s). q(A,A,A,A,A,A,A,A). :-mode l. l :- %s, V0 = V63, l. l." % (",".join("*" * 8), body)
+    add(deep, "l.")
+    add(deep, "l.", wanted=1)
+    undone = ":-mode q(%s). q(a,A,A,A,A,A,A,A). q(A,A,A,A,A,A,A,b). :-mode l(*). l(z). l(s(N)) :- %s, l(N)." % (",".join("*" * 8), body)
+    for count in (1, 3):
+        add(undone, "l(%s)." % nested(count, "z"), wanted=64)
+        add(undone, "l(%s), fail." % nested(count, "z"), allowance=60_000)
+
+
 def by_chance(add, rng):
     """Accepted sheets and goals; runs with several answers are kept the most."""
     made = 0
@@ -324,4 +343,5 @@ def make(add, rng):
     filled(add)
     rooms(add)
     long_runs(add)
+    sixty_four(add)
     by_chance(add, rng)

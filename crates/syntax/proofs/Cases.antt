@@ -45,6 +45,9 @@ sheets =
     ∷ (bytes "p(f(f(f(f(f(f(f(f(f(f(f(f(f(f(f(f(a")
     ∷ (bytes "p :- a,a,a,a,a,a,a,a,a,a,a,a,a,a,a,a.")
     ∷ (bytes "p :- a,a,a,a,a,a,a,a,a,a,a,a,a,a,a,a,X")
+    ∷ (bytes "p :- a(_,_,_,_,_,_,_,_),a(_,_,_,_,_,_,_,_),a(_,_,_,_,_,_,_,_),a(_,_,_,_,_,_,_,_),a(_,_,_,_,_,_,_,_),a(_,_,_,_,_,_,_,_),a(_,_,_,_,_,_,_,_),a(_,_,_,_,_,_,_,_).")
+    ∷ (bytes "p :- a(_,_,_,_,_,_,_,_),a(_,_,_,_,_,_,_,_),a(_,_,_,_,_,_,_,_),a(_,_,_,_,_,_,_,_),a(_,_,_,_,_,_,_,_),a(_,_,_,_,_,_,_,_),a(_,_,_,_,_,_,_,_),a(_,_,_,_,_,_,_,_),a(_")
+    ∷ (bytes "p(_,_,_,_,_,_,_,_) :- a(_,_,_,_,_,_,_,_),a(_,_,_,_,_,_,_,_),a(_,_,_,_,_,_,_,_),a(_,_,_,_,_,_,_,_),a(_,_,_,_,_,_,_,_),a(_,_,_,_,_,_,_,_),a(_,_,_,_,_,_,_,_), X")
     ∷ []
 
 sheet-answers : List Verdict
@@ -77,6 +80,9 @@ sheet-answers =
     ∷ Refused Sheet (OverLimit 33)
     ∷ Accepted 0 1
     ∷ Refused Sheet (OverLimit 37)
+    ∷ Accepted 0 1
+    ∷ Refused Sheet (OverLimit 159)
+    ∷ Refused Sheet (OverLimit 156)
     ∷ []
 
 -- texts of goals, and the answers to them

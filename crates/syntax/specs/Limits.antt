@@ -27,9 +27,9 @@ brackets = 16
 abbrev pub arguments : ℕ
 arguments = 8
 
--- variables in a clause or goal
+-- variables in a clause or goal (document 02, (viii): "A clause or goal may have 64.")
 abbrev pub variables : ℕ
-variables = 32
+variables = 64
 
 -- literals in a body or goal
 abbrev pub literals : ℕ

@@ -51,7 +51,7 @@ pub const BRACKETS: usize = 16;
 
 pub const ARGUMENTS: usize = 8;
 
-pub const VARIABLES: usize = 32;
+pub const VARIABLES: usize = 64;
 
 pub const LITERALS: usize = 16;
 
