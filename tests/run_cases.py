@@ -299,7 +299,7 @@ def long_runs(add):
 
 
 def sixty_four(add):
-    """An answer line with 64 variables; 254 and 255 copies of a clause with 64 variables, bound and undone."""
+    """An answer line with 64 variables; copies of a clause with 64 variables, bound and undone, 254 and 255 of them and one too many."""
     names = ["V%d" % n for n in range(64)]
     eights = ["q(%s)" % ",".join(names[n : n + 8]) for n in range(0, 64, 8)]
     fact = ":-mode q(%s). q(%s)." % (",".join("*" * 8), ",".join("abcdefgh"))
@@ -315,6 +315,13 @@ def sixty_four(add):
     for count in (1, 3):
         add(undone, "l(%s)." % nested(count, "z"), wanted=64)
         add(undone, "l(%s), fail." % nested(count, "z"), allowance=60_000)
+    blanks = "f(%s)" % ",".join("_" * 8)
+    body = ",".join(["%s=%s" % (blanks, blanks)] * 4)
+    chain = "".join(":-mode c%d.c%d:-%s%s." % (n, n, body, ",c%d" % (n + 1) if n < 63 else "") for n in range(64))
+    for last in (2, 1, 0):
+        goal = "c0,c0,c0,c%d" % last
+        add(chain, goal + ".")
+        add(chain, goal + ",fail.")
 
 
 def by_chance(add, rng):
