@@ -58,6 +58,15 @@ def equations(add):
             add("K", ":-mode q(+,+).", "%s = %s, q(X,Y)." % order)
 
 
+def numerals(add):
+    """Spellings with and without leading zeros, and names with the same digits, on both sides."""
+    for left, right in product(examples.NUMERALS, repeat=2):
+        add("C", ":-mode p(-). p(X) :- %s = %s." % (left, right))
+    for left, right in product(examples.NUMERALS, ["0", "7", "a7"]):
+        add("C", ":-mode p(+). p(X) :- f(%s,X) = f(%s,Y), p(Y), p(Z)." % (left, right))
+        add("K", ":-mode p(+).", "f(%s) = f(%s), p(Y)." % (left, right))
+
+
 def literal_orders(add, rng):
     for body in product(LITERALS, repeat=2):
         add("C", LITERAL_MODES + "p(X) :- %s." % ", ".join(body))
@@ -219,6 +228,7 @@ def by_chance(add, rng):
 def make(add, rng):
     worked_examples(add)
     equations(add)
+    numerals(add)
     literal_orders(add, rng)
     mark_pairs(add, rng)
     wide_atoms(add)

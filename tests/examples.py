@@ -17,6 +17,12 @@ EIGHT = b"a,a,a,a,a,a,a,a,"
 EIGHT_MARKS = b"+,+,+,+,+,+,+,+,"
 LONG = b"a" * 32
 
+# Numerals, and names with the same digits; the last is over the limit of 31 bytes.
+NUMERALS = [
+    "0", "00", "0" * 31, "7", "07", "007", "0" * 30 + "7", "70", "070", "700", "1", "10", "010",
+    "a7", "a07", "b007", "a_0", "0" * 32,
+]
+
 CHECKS = [
     # paper 01, the table
     (PLUS % b"+,+,-", "accepted 1 2"),
@@ -98,7 +104,12 @@ CHECKS = [
     (b":-mode p(-). :-mode q(+). p(X) :- fail, q(Y), q(_).", "accepted 2 1"),
     (b":-mode p(-,-). p(X,_) :- a = f(a).", "accepted 1 1"),
     (b":-mode p(-). p(X) :- a = 1.", "accepted 1 1"),
-    (b":-mode p(-). p(X) :- 1 = 01.", "accepted 1 1"),
+    # paper 02 (iii): equal without leading zeros; before, these were accepted by a clash
+    (b":-mode p(-). p(X) :- 1 = 01.", "refused sheet 10 0 1 0 1 p"),
+    (b":-mode p(+). p(X) :- 1 = 01, p(Y).", "refused sheet 9 0 1 2 1 p"),
+    (b":-mode p(-). p(X) :- 1 = 10.", "accepted 1 1"),
+    (b":-mode p(-). p(X) :- a1 = a01.", "accepted 1 1"),
+    (b":-mode p(-). p(X) :- 00 = 0.", "refused sheet 10 0 1 0 1 p"),
     (b":-mode p(-). p(X) :- X = f(X).", "refused sheet 10 0 1 0 1 p"),
     (b":-mode p(-). p(X) :- f(Y,X) = f(a,Y).", "accepted 1 1"),
     (b":-mode p(-). p(X) :- f(X,Y) = f(Y,a).", "refused sheet 10 0 1 0 1 p"),
@@ -129,6 +140,15 @@ RUNS = [
     (b"", b"p.", "refused goal 8 0 0 1 0 p"),
     (b":-mode p(-,+).", b"true, p(X,Y), q.", "refused goal 8 0 0 3 0 q"),
     (b":-mode p(-,+).", b"true, p(X,f(Y)).", "refused goal 9 0 0 2 2 p"),
+    # paper 02 (iii): numerals without leading zeros, in facts, goals and answers; names are not touched
+    (b":-mode p(*). p(007). p(00).", b"p(7), p(X).", "X = 7\nX = 0\nend done 2 8"),
+    (b"", b"01 = 1.", "yes\nend done 1 2"),
+    (b"", b"X=f(000,a01,b007).", "X = f(0,a01,b007)\nend done 1 2"),
+    (b"", b"a01=a1.", "end done 0 1"),
+    (b"", b"X = " + b"0" * 31 + b".", "X = 0\nend done 1 2"),
+    (b"", b"X = " + b"0" * 30 + b"1, X = 1.", "X = 1\nend done 1 3"),
+    (b"", b"X = " + b"0" * 32 + b".", "refused goal 4 4 0 0 0"),
+    (b"", b"X = 10, Y = 010, X = Y, Z = 100.", "X = 10, Y = 10, Z = 100\nend done 1 5"),
     # the run
     (b":-mode p(*). :-mode q(*). q(c). p(a). q(d). p(b).", b"p(b).",
      "yes\nend done 1 4"),

@@ -1,5 +1,7 @@
 """Cases for running: a sheet, a goal and the settings."""
 
+from itertools import product
+
 import engine
 import examples
 import random_sheets
@@ -144,6 +146,18 @@ def steps_and_ends(add):
     for sheet, goals in LARGER:
         for goal in goals:
             edges(add, sheet, goal)
+
+
+def numerals(add):
+    """Numerals of facts, heads, goals and equations that meet, and how they are printed."""
+    for left, right in product(examples.NUMERALS, repeat=2):
+        add(":-mode p(*). p(%s)." % left, "p(%s)." % right)
+    for left, right in product(examples.NUMERALS, ["0", "7", "a7"]):
+        add(":-mode p(+,-). p(f(%s,X),X) :- %s = X." % (left, right), "p(f(%s,%s),Y)." % (right, left))
+        add("", "X = f(%s,%s), X = f(Y,Y)." % (left, right))
+    facts = " ".join("p(%s)." % spelt for spelt in examples.NUMERALS if len(spelt) < 32)
+    for goal in ("p(X).", "p(X), p(X).", *("p(%s)." % spelt for spelt in examples.NUMERALS)):
+        add(":-mode p(*). " + facts, goal, wanted=64)
 
 
 def path_limit(add):
@@ -344,6 +358,7 @@ def make(add, rng):
     worked_examples(add)
     settings(add)
     steps_and_ends(add)
+    numerals(add)
     path_limit(add)
     large_terms(add)
     crowds(add)

@@ -62,7 +62,12 @@ cases =
     -- occurs check through a second equation, and under a head; names, numerals and numbers of arguments that clash
     short "" "f(X,Y) = f(Y,g(X))." (ended Done 0 1 "") ∷
     short ":-mode p(*,*). p(X,f(X))." "p(Y,Y)." (ended Done 0 2 "") ∷
-    short "" "01 = 1." (ended Done 0 1 "") ∷
+    -- document 02, (iii): numerals without leading zeros; names are not touched
+    short "" "01 = 1." (ended Done 1 2 "yes\n") ∷
+    short ":-mode p(*). p(007). p(00)." "p(7), p(X)." (ended Done 2 8 "X = 7\nX = 0\n") ∷
+    short "" "X=f(000,a01,b007)." (ended Done 1 2 "X = f(0,a01,b007)\n") ∷
+    short "" "a01=a1." (ended Done 0 1 "") ∷
+    short "" "10 = 1." (ended Done 0 1 "") ∷
     short "" "f(a) = f(a,b)." (ended Done 0 1 "") ∷
     short "" "f(1) = f(X)." (ended Done 1 2 "X = 1\n") ∷
     -- a head's variable met twice; a goal's variable bound by a later literal; both sides variables

@@ -2,6 +2,7 @@ pub mod Compute
 pub mod Cases
 pub mod CountCases
 pub mod Tests
+pub mod Numerals
 pub mod Terms
 pub mod Unifier
 pub mod Piles

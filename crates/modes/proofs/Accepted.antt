@@ -1,13 +1,15 @@
 -- What reading accepts stands in its text, by the induction over reading. Assumes nothing.
-use Prim.Native.Nat.{ℕ, _+_, _≤_, _<_}
+use Prim.Native.Nat.{ℕ, _+_, _≤_, _<_, _-_}
 use native.Mathlib.Omega.{arith}
-use mathlib.Core.Path.{_≡_, sym, ap}
+use mathlib.Core.Path.{_≡_, sym, ap, _∙_}
 use mathlib.Core.List.{List, [], _∷_}
 use lib.ListN.{length, drop, length-drop, length-append}
 use lib.Seq.{length-take-le}
 use Rattle.syntax.specs.Limits.{variables, wordBytes}
 use Rattle.syntax.specs.Tokens.{spelling, numeralKind}
 use Rattle.syntax.specs.Terms.{Terms, nil, arity, Sheet, Goal}
+use Rattle.syntax.specs.Numerals.{trimmed, dropped}
+use Rattle.syntax.proofs.Numerals.{trimmed-short, trimmed-spelling}
 use Rattle.syntax.specs.Reading.{Cursor, spelt, ok, standing, next, withNew, fresh, atStart, readSheet, readGoal}
 use Rattle.syntax.specs.declared.Token.{Token}
 use Rattle.syntax.proofs.Induction.{Kept, sheet-read, goal-read}
@@ -45,6 +47,20 @@ name-here {s} {t} p l =
     let long : length (spelling s (t .at) (t .len)) ≡ t .len = length-take-le (t .len) (drop (t .at) s) (omega (arith, length-drop (t .at) s)) in
     record { spelt = ap (spelling s (t .at)) (sym long); inside = omega arith; short = omega arith }
 
+-- and so is a numeral, without its leading zeros
+numeral-here : {s : List ℕ} {t : Token} → Placed s t → t .kind ≤ numeralKind → NameAt s (t .at + dropped (spelling s (t .at) (t .len))) (trimmed (spelling s (t .at) (t .len)))
+numeral-here {s} {t} p l =
+    let ends : t .at + t .len ≤ length s = placed-ends p in
+    let short : t .len ≤ wordBytes = placed-short p l in
+    let long : length (spelling s (t .at) (t .len)) ≡ t .len = length-take-le (t .len) (drop (t .at) s) (omega (arith, length-drop (t .at) s)) in
+    let less : length (trimmed (spelling s (t .at) (t .len))) ≤ length (spelling s (t .at) (t .len)) = trimmed-short (spelling s (t .at) (t .len)) in
+    let left : t .len - dropped (spelling s (t .at) (t .len)) ≡ length (trimmed (spelling s (t .at) (t .len))) = omega arith in
+    record {
+      spelt = trimmed-spelling s (t .at) (t .len) ∙ ap (spelling s (t .at + dropped (spelling s (t .at) (t .len)))) left;
+      inside = omega arith;
+      short = omega arith;
+    }
+
 -- a list of terms of at most k
 abbrev Listed : List ℕ → ℕ → Terms → Type 0
 Listed s k ts = AllStand s ts × (arity ts ≤ k)
@@ -60,7 +76,7 @@ kept s =
       without-variables = reader-fresh;
       new-variable = λ r low. stands-variable low;
       old-variable = λ r low. stands-variable (met-below r low);
-      numeral = λ r e. stands-compound {ts = nil} (name-here (r .placed) (omega (arith, e))) (omega arith) stand-nil;
+      numeral = λ r e. stands-compound {ts = nil} (numeral-here (r .placed) (omega (arith, e))) (omega arith) stand-nil;
       named = λ r e h. stands-compound (name-here (r .placed) (omega (arith, e))) (h .1) (h .0);
       no-terms = (stand-nil, omega arith);
       one-term = λ h hs. (stand-cons h (hs .0), omega (arith, hs .1));

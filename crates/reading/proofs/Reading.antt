@@ -140,19 +140,19 @@ three l n a b c h =
     e2 : n + 2 ≡ suc (n + 1)
     e2 = omega arith
 
-pub leaf-given : (s : List ℕ) (st : State) (entry exit : List ℕ) (n what : ℕ) (after : State) → Ready s st entry n 0 → (st .token .kind ≡ 16 → ⊥) → exit ≡ set (set (set entry n what) (n + 1) 3) (n + 2) (st .token .at) → Moved s st after → Given s st entry exit n (record { number = 0; used = n + 3; items = 1; state = after }) (what ∷ 3 ∷ (st .token .at) ∷ []) 1 (next s (cursorOf s entry st))
-leaf-given s st entry exit n what after ready k e m =
+pub leaf-given : (s : List ℕ) (st : State) (entry exit : List ℕ) (n what b : ℕ) (after : State) → Ready s st entry n 0 → (st .token .kind ≡ 16 → ⊥) → exit ≡ set (set (set entry n what) (n + 1) 3) (n + 2) b → Moved s st after → Given s st entry exit n (record { number = 0; used = n + 3; items = 1; state = after }) (what ∷ 3 ∷ b ∷ []) 1 (next s (cursorOf s entry st))
+leaf-given s st entry exit n what b after ready k e m =
     let some : 0 < st .token .len = ready .standing .some k in
     let inside : st .token .at + st .token .len ≤ length s = ready .standing .inside in
     let room : n + nodeWords * left s st + 0 + variables ≤ length entry = ready .room in
     let forward : st .token .at + st .token .len ≤ after .token .at = m .forward in
-    let kept : met exit ≡ met entry = ap met e ∙ met-three entry n what 3 (st .token .at) (omega arith) in
+    let kept : met exit ≡ met entry = ap met e ∙ met-three entry n what 3 b (omega arith) in
     record {
       number-is = refl;
       state-is = cursor-kept s entry exit after kept ∙ next-of entry m;
       items-is = refl;
       used-is = refl;
-      table-is = ap (take (n + 3)) e ∙ three entry n what 3 (st .token .at) (omega arith);
+      table-is = ap (take (n + 3)) e ∙ three entry n what 3 b (omega arith);
       standing = m .standing;
       held = held-kept kept (held-of m (ready .held));
       room = omega arith;

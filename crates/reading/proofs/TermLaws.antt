@@ -10,7 +10,9 @@ use lib.Dec.{eqb}
 use borrow.Author.Tests.{eq-eqb, ne-eqb}
 use Rattle.syntax.specs.Terms.{Term, Terms, Atom, variable, compound, nil, cons, arity, termOf}
 use Rattle.syntax.specs.Tokens.{spelling, commaKind, endKind}
-use Rattle.syntax.specs.Reading.{Cursor, Read, fault, ok, andThen, next, wrongNumber, wrong, beyond, full, readVariable, readTerm, readTermWith, termWith, readAtomWith, atomWith, atomAt, readList, readArguments, argumentsAfter, startOf, begins, afterOf, After, more, last, neither, Start, aVariable, aNumeral, aName, nothing}
+use Rattle.syntax.specs.Numerals.{trimmed, dropped}
+use Rattle.syntax.proofs.Numerals.{trimmed-short}
+use Rattle.syntax.specs.Reading.{Cursor, numeralAt, spelt, Read, fault, ok, andThen, next, wrongNumber, wrong, beyond, full, readVariable, readTerm, readTermWith, termWith, readAtomWith, atomWith, atomAt, readList, readArguments, argumentsAfter, startOf, begins, afterOf, After, more, last, neither, Start, aVariable, aNumeral, aName, nothing}
 use Rattle.syntax.specs.Words.{nodeWords, termWords, termsWords, atomWords, functor}
 use Rattle.syntax.specs.Limits.{sheetBytes, variables}
 use Rattle.syntax.specs.Spans.{namesFrom, met, Held}
@@ -52,6 +54,34 @@ leaf-asked s st table n k ready e z =
     let inside : st .token .at + st .token .len ≤ length s = ready .standing .inside in
     let short : length s ≤ sheetBytes = ready .standing .short in
     (ready, (omega arith, λ q. z (sym e ∙ q)))
+
+-- ---- numerals
+
+-- what `leaf_at` asks for a numeral
+pub numeral-asked : (s : List ℕ) (st : State) (table : List ℕ) (n p : ℕ) → Ready s st table n 0 → st .token .kind ≡ 5 → p ≡ st .token .at + dropped (spelling s (st .token .at) (st .token .len)) → Ready s st table n 0 × ((64 + (st .token .at + st .token .len - p) < 2 ^ 32) × ((p < 2 ^ 32) × (st .token .kind ≡ 16 → ⊥)))
+numeral-asked s st table n p ready k e =
+    let inside : st .token .at + st .token .len ≤ length s = ready .standing .inside in
+    let short : length s ≤ sheetBytes = ready .standing .short in
+    let long : length (spelling s (st .token .at) (st .token .len)) ≡ st .token .len = length-spelling s (st .token .at) (st .token .len) inside in
+    (ready, (omega arith, (omega arith, λ q. absurd (omega (arith, k, q)))))
+
+pub numeral-low : (s : List ℕ) (st : State) (table : List ℕ) (n p : ℕ) → Ready s st table n 0 → p ≡ st .token .at + dropped (spelling s (st .token .at) (st .token .len)) → p ≤ st .token .at + st .token .len
+numeral-low s st table n p ready e =
+    let inside : st .token .at + st .token .len ≤ length s = ready .standing .inside in
+    let long : length (spelling s (st .token .at) (st .token .len)) ≡ st .token .len = length-spelling s (st .token .at) (st .token .len) inside in
+    omega arith
+
+numeral-words : (s : List ℕ) (st : Cursor) (p : ℕ) → st .token .at + st .token .len ≤ length s → p ≡ st .token .at + dropped (spelt s st) → (64 + (st .token .at + st .token .len - p)) ∷ 3 ∷ p ∷ [] ≡ termWords (termOf (numeralAt s st))
+unfolding termWords
+numeral-words s st p inside e =
+    let long : length (spelt s st) ≡ st .token .len = length-spelling s (st .token .at) (st .token .len) inside in
+    let less : length (trimmed (spelt s st)) ≤ length (spelt s st) = trimmed-short (spelt s st) in
+    let left : st .token .at + st .token .len - p ≡ length (trimmed (spelt s st)) = omega (arith, long, less, e) in
+    ap₂ (λ (k b : ℕ). (64 + k) ∷ 3 ∷ b ∷ []) left e
+
+pub numeral-given : (s : List ℕ) (st : State) (entry exit : List ℕ) (n p : ℕ) (r : Parsed) → Ready s st entry n 0 → p ≡ st .token .at + dropped (spelling s (st .token .at) (st .token .len)) → Given s st entry exit n r ((64 + (st .token .at + st .token .len - p)) ∷ 3 ∷ p ∷ []) 1 (next s (cursorOf s entry st)) → Given s st entry exit n r (termWords (termOf (numeralAt s (cursorOf s entry st)))) 1 (next s (cursorOf s entry st))
+numeral-given s st entry exit n p r ready e g =
+    subst (λ (w : List ℕ). Given s st entry exit n r w 1 (next s (cursorOf s entry st))) (numeral-words s (cursorOf s entry st) p (ready .standing .inside) e) g
 
 -- ---- atoms
 
@@ -166,11 +196,9 @@ module _ (most : ℕ) (s : List ℕ) (st : State) where
     unfolding termWith
     term-variable e g = subst⁻¹ (Gives termWords one s st entry exit n r) (term-by most s (cursorOf s entry st) aVariable (start-variable (st .token .kind) e)) g
 
-    pub term-numeral : Ready s st entry n 0 → (st .token .kind ≡ 4 → ⊥) → st .token .kind ≡ 5 → Given s st entry exit n r ((64 + st .token .len) ∷ 3 ∷ (st .token .at) ∷ []) 1 (next s (cursorOf s entry st)) → Gives termWords one s st entry exit n r (readTerm most s (cursorOf s entry st))
+    pub term-numeral : (st .token .kind ≡ 4 → ⊥) → st .token .kind ≡ 5 → Given s st entry exit n r (termWords (termOf (numeralAt s (cursorOf s entry st)))) 1 (next s (cursorOf s entry st)) → Gives termWords one s st entry exit n r (readTerm most s (cursorOf s entry st))
     unfolding termWith
-    term-numeral ready f e g =
-        subst⁻¹ (Gives termWords one s st entry exit n r) (term-by most s (cursorOf s entry st) aNumeral (start-numeral (st .token .kind) f e))
-        (subst (λ (w : List ℕ). Given s st entry exit n r w 1 (next s (cursorOf s entry st))) (leaf-words s (cursorOf s entry st) (ready .standing .inside)) g)
+    term-numeral f e g = subst⁻¹ (Gives termWords one s st entry exit n r) (term-by most s (cursorOf s entry st) aNumeral (start-numeral (st .token .kind) f e)) g
 
     atom-term : (d : Read Atom) → Gives atomWords one s st entry exit n r d → Gives termWords one s st entry exit n r (andThen d (λ a after. ok (termOf a) after))
     unfolding andThen

@@ -26,15 +26,18 @@ ghost use Prim.Native.Nat.{_+_, _*_, _-_, _≤_, _<_, _^_};
 ghost use lib.ListN.{length, set};
 ghost use Rattle.syntax.specs.Limits.{sheetBytes, variables};
 ghost use Rattle.syntax.specs.Spans.{packed, met, Held};
-ghost use Rattle.syntax.specs.Terms.{arity};
-ghost use Rattle.syntax.specs.Tokens.{nameKind, variableKind, endKind};
-ghost use Rattle.syntax.specs.Reading.{isAnonymous, newVariable, readVariable, readTerm, readList, readAtomWith, readArguments, startOf};
+ghost use Rattle.syntax.specs.Terms.{arity, termOf};
+ghost use Rattle.syntax.specs.Numerals.{dropped};
+ghost use Rattle.syntax.specs.Tokens.{spelling, nameKind, variableKind, numeralKind, endKind};
+ghost use Rattle.syntax.specs.Reading.{isAnonymous, numeralAt, newVariable, readVariable, readTerm, readList, readAtomWith, readArguments, startOf};
 ghost use Rattle.reading.specs.Atoms.{readAtomAt};
 ghost use Rattle.syntax.specs.Words.{nodeWords, termWords, termsWords, atomWords, functor};
 ghost use Rattle.reading.specs.Gives.{cursorOf, found, Standing, Ready, Given, Gives, FoundAs, MetAs, Refused, Counted, fullNumber, one};
 
-// The underscore.
+// The underscore, and the digit 0.
 const UNDERSCORE: u8 = 95;
+
+const ZERO: u8 = 48;
 
 // Whether a token is `_` alone.
 fn is_anonymous(s: &[u8], t: Token) -> bool
@@ -98,14 +101,12 @@ fn with_new(st: State, table: &mut [u32]) -> State
     State { token, count }
 }
 
-// A node without arguments for the token at hand, and the reader past it.
-fn leaf(s: &[u8], st: State, table: &mut [u32], n: usize, what: usize) -> Parsed
+// A node without arguments for the token at hand, at a byte of it, and the reader past it.
+fn leaf_at(s: &[u8], st: State, table: &mut [u32], n: usize, what: usize, at: usize) -> Parsed
     requires { ⌜ Ready (now s) st (now table) n 0 ⌝ }
-    requires { ⌜ (what < 2 ^ 32) × (st .token .kind ≡ endKind → ⊥) ⌝ }
-    ensures { λ r. ⌜ Given (now (s .entry)) st (now (table .entry)) (now (table .exit)) n r (what ∷ nodeWords ∷ (st .token .at) ∷ []) 1 (Rattle.syntax.specs.Reading.next (now (s .entry)) (cursorOf (now (s .entry)) (now (table .entry)) st)) ⌝ }
+    requires { ⌜ (what < 2 ^ 32) × ((at < 2 ^ 32) × (st .token .kind ≡ endKind → ⊥)) ⌝ }
+    ensures { λ r. ⌜ Given (now (s .entry)) st (now (table .entry)) (now (table .exit)) n r (what ∷ nodeWords ∷ at ∷ []) 1 (Rattle.syntax.specs.Reading.next (now (s .entry)) (cursorOf (now (s .entry)) (now (table .entry)) st)) ⌝ }
 {
-    let t = st.token;
-    let at = t.at;
     put_node(table, n, what, NODE_WORDS, at);
     let after = next(s, st);
     let used = n + NODE_WORDS;
@@ -115,6 +116,50 @@ fn leaf(s: &[u8], st: State, table: &mut [u32], n: usize, what: usize) -> Parsed
         items: 1,
         state: after,
     }
+}
+
+// The same at its first byte.
+fn leaf(s: &[u8], st: State, table: &mut [u32], n: usize, what: usize) -> Parsed
+    requires { ⌜ Ready (now s) st (now table) n 0 ⌝ }
+    requires { ⌜ (what < 2 ^ 32) × (st .token .kind ≡ endKind → ⊥) ⌝ }
+    ensures { λ r. ⌜ Given (now (s .entry)) st (now (table .entry)) (now (table .exit)) n r (what ∷ nodeWords ∷ (st .token .at) ∷ []) 1 (Rattle.syntax.specs.Reading.next (now (s .entry)) (cursorOf (now (s .entry)) (now (table .entry)) st)) ⌝ }
+{
+    let t = st.token;
+    let at = t.at;
+    leaf_at(s, st, table, n, what, at)
+}
+
+// The byte of the first digit that a numeral keeps: leading zeros are dropped, but never its last digit.
+fn first_kept(s: &[u8], at: usize, len: usize) -> usize
+    requires { ⌜ at + len ≤ length (now s) ⌝ }
+    ensures { λ r. ⌜ r ≡ at + dropped (spelling (now (s .entry)) at len) ⌝ }
+{
+    let mut p = at;
+    let mut left = len;
+    while 1 < left {
+        if s[p] != ZERO {
+            return p;
+        }
+        p += 1;
+        left -= 1;
+    }
+    p
+}
+
+// The numeral at hand, without its leading zeros.
+fn read_numeral(s: &[u8], st: State, table: &mut [u32], n: usize) -> Parsed
+    requires { ⌜ Ready (now s) st (now table) n 0 ⌝ }
+    requires { ⌜ st .token .kind ≡ numeralKind ⌝ }
+    ensures { λ r. ⌜ Given (now (s .entry)) st (now (table .entry)) (now (table .exit)) n r (termWords (termOf (numeralAt (now (s .entry)) (cursorOf (now (s .entry)) (now (table .entry)) st)))) 1 (Rattle.syntax.specs.Reading.next (now (s .entry)) (cursorOf (now (s .entry)) (now (table .entry)) st)) ⌝ }
+{
+    let t = st.token;
+    let at = t.at;
+    let len = t.len;
+    let p = first_kept(s, at, len);
+    let past = at + len;
+    let kept = past - p;
+    let what = FIRST_NAME + kept;
+    leaf_at(s, st, table, n, what, p)
 }
 
 // A variable that is met here first.
@@ -227,9 +272,7 @@ pub fn read_term(s: &[u8], left: usize, st: State, table: &mut [u32], n: usize) 
         return read_variable(s, st, table, n);
     }
     if kind == NUMERAL {
-        let len = t.len;
-        let what = FIRST_NAME + len;
-        return leaf(s, st, table, n, what);
+        return read_numeral(s, st, table, n);
     }
     if kind == NAME {
         let own = st;

@@ -7,6 +7,7 @@ use Rattle.syntax.specs.Quote.{bytes}
 use Rattle.syntax.specs.Bytes.{classOf, inWord, inNumeral}
 use Rattle.syntax.specs.Tokens.{skipped, run, word, dashFirst, tokenOf, tokenFrom, tokenPlace, tokenAt}
 use Rattle.syntax.specs.Terms.{sameBytes, literalOf}
+use Rattle.syntax.specs.Numerals.{trimmed}
 use Rattle.syntax.specs.Reading.{andThen, standing, next, wrongNumber, wrong, beyond, full, numberOf, isAnonymous, withNew, newVariable, oldVariable, readVariable, atomWith, readAtomWith, termWith, readTermWith, argumentsAfter, readArguments, readList, readTerm, readAtom, readRight, afterAtom, afterTerm, literalWith, readLiteral, bodyAfter, readBody, clauseAfter, readClause, marksAfter, marksWith, readMarks, declarationEnd, declarationFrom, isMode, afterNeck, readDeclaration, itemWith, readItems, atStart, readSheet, goalEnd, readGoal, declares, repeats, firstRepeat}
 use Rattle.syntax.specs.Reading.{marksOf as marksBehind}
 use Rattle.syntax.specs.Refusals.{five, numbersOf}
@@ -82,6 +83,12 @@ cases =
     ∷ sheet "true." (refused Sheet (five 8 0 1 0 0) (bytes "true"))
     ∷ sheet ":- mode p(+). p." (refused Sheet (five 8 0 1 0 0) (bytes "p"))
     ∷ sheet "p(a). :- mode p(+)." (accepted 1 1)
+    -- document 02, (iii): accepted before by a clash of 1 and 01, which are one now; names are not touched
+    ∷ sheet ":- mode p(-). p(X) :- 1 = 01." (refused Sheet (five 10 0 1 0 1) (bytes "p"))
+    ∷ sheet ":- mode p(+). p(X) :- 1 = 01, p(Y)." (refused Sheet (five 9 0 1 2 1) (bytes "p"))
+    ∷ sheet ":- mode p(-). p(X) :- 00 = 000." (refused Sheet (five 10 0 1 0 1) (bytes "p"))
+    ∷ sheet ":- mode p(-). p(X) :- 1 = 10." (accepted 1 1)
+    ∷ sheet ":- mode p(-). p(X) :- a1 = a01." (accepted 1 1)
     -- 7 before 8; refusals up to 7 hand back no name
     ∷ sheet "q. :- mode p(+). :- mode p(-)." (refused Sheet (five 7 25 0 0 0) [])
     -- goals: the sheet first, then 2 to 6, 8 and 9
@@ -95,5 +102,5 @@ cases =
 
 -- each case gets the answer that it is told with
 as-told : map answered cases ≡ map told cases
-unfolding classOf inWord inNumeral skipped run word dashFirst tokenOf tokenFrom tokenPlace tokenAt sameBytes literalOf andThen standing next wrongNumber wrong beyond full numberOf isAnonymous withNew newVariable oldVariable readVariable atomWith readAtomWith termWith readTermWith argumentsAfter readArguments readList readTerm readAtom readRight afterAtom afterTerm literalWith readLiteral bodyAfter readBody clauseAfter readClause marksAfter marksWith readMarks marksBehind declarationEnd declarationFrom isMode afterNeck readDeclaration itemWith readItems atStart readSheet goalEnd readGoal declares repeats firstRepeat withoutRepeats sheetFrom goalFrom sheetOf goalOutcome sheetVerdict nothing everything isGround groundTerm groundBoth equateVariable equateSame equate marksOf orNoMarks marksFor sameMark faulty firstFaulty groundIf groundMarked undeclared undeclaredAtom undeclaredLiteral undeclaredBody undeclaredClause undeclaredClauses undeclaredInSheet undeclaredInGoal openInput openOutput literalFault afterLiteral walkOn bodyFault startKnown headFault clauseFault clausesFault sheetFault walkFault goalFault faultless checkedFrom checkedSheet checkVerdict checkedGoalFrom checkedGoal goalAnswer checkGoalFrom checkGoalVerdict faultName
+unfolding trimmed classOf inWord inNumeral skipped run word dashFirst tokenOf tokenFrom tokenPlace tokenAt sameBytes literalOf andThen standing next wrongNumber wrong beyond full numberOf isAnonymous withNew newVariable oldVariable readVariable atomWith readAtomWith termWith readTermWith argumentsAfter readArguments readList readTerm readAtom readRight afterAtom afterTerm literalWith readLiteral bodyAfter readBody clauseAfter readClause marksAfter marksWith readMarks marksBehind declarationEnd declarationFrom isMode afterNeck readDeclaration itemWith readItems atStart readSheet goalEnd readGoal declares repeats firstRepeat withoutRepeats sheetFrom goalFrom sheetOf goalOutcome sheetVerdict nothing everything isGround groundTerm groundBoth equateVariable equateSame equate marksOf orNoMarks marksFor sameMark faulty firstFaulty groundIf groundMarked undeclared undeclaredAtom undeclaredLiteral undeclaredBody undeclaredClause undeclaredClauses undeclaredInSheet undeclaredInGoal openInput openOutput literalFault afterLiteral walkOn bodyFault startKnown headFault clauseFault clausesFault sheetFault walkFault goalFault faultless checkedFrom checkedSheet checkVerdict checkedGoalFrom checkedGoal goalAnswer checkGoalFrom checkGoalVerdict faultName
 as-told = refl

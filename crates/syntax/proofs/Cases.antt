@@ -26,6 +26,7 @@ sheets =
     ∷ (bytes ":- mode true.")
     ∷ (bytes ":- mode true(*).")
     ∷ (bytes ":- mode mode(+). mode(mode).")
+    ∷ (bytes ":- mode a01. :- mode a1.")
     ∷ (bytes "p(1a).")
     ∷ (bytes ":--mode p.")
     ∷ (bytes ": - mode p.")
@@ -61,6 +62,7 @@ sheet-answers =
     ∷ Refused Sheet (Repeated 8)
     ∷ Accepted 1 0
     ∷ Accepted 1 1
+    ∷ Accepted 2 0
     ∷ Refused Sheet (Misplaced 3)
     ∷ Refused Sheet (Misplaced 2)
     ∷ Refused Sheet (NoToken 0)

@@ -12,7 +12,7 @@ use borrow.Author.Tests.{eqb-true, eqb-false, ltb-true}
 use Rattle.syntax.specs.Limits.{brackets, arguments, variables, literals, declarations, clauses}
 use Rattle.syntax.specs.Tokens.{nameKind, variableKind, numeralKind, neckKind, openKind, closeKind, stopKind, equalsKind, endKind}
 use Rattle.syntax.specs.Terms.{sameName, Term, Terms, variable, nil, cons, arity, Atom, termOf, Literal, Body, call, equation, truth, falsity, done, also, literalOf, Mark, Declaration, Clause, Sheet, Goal, samePredicate, true-name, fail-name}
-use Rattle.syntax.specs.Reading.{Cursor, Read, fault, ok, andThen, kindAt, is, next, wrong, beyond, full, spelt, numberOf, isAnonymous, withNew, newVariable, oldVariable, readVariable, aVariable, aNumeral, aName, startOf, begins, After, more, last, neither, afterOf, atomAt, atomWith, readAtomWith, termWith, readTermWith, argumentsAfter, readArguments, readList, readTerm, readAtom, readRight, afterAtom, afterTerm, literalWith, readLiteral, bodyAfter, readBody, fresh, Tail, fact, rule, other, tailOf, clauseOf, clauseAfter, readClause, Sign, mark, noMark, signOf, isMark, marksAfter, marksWith, readMarks, marksOf, declarationOf, declarationEnd, declarationFrom, isMode, afterNeck, readDeclaration, noItem, aDeclaration, aClause, pastLimit, misplaced, withDeclaration, withClause, itemWith, readItems, atStart, readSheet, goalOf, goalEnd, readGoal}
+use Rattle.syntax.specs.Reading.{Cursor, numeralAt, Read, fault, ok, andThen, kindAt, is, next, wrong, beyond, full, spelt, numberOf, isAnonymous, withNew, newVariable, oldVariable, readVariable, aVariable, aNumeral, aName, startOf, begins, After, more, last, neither, afterOf, atomAt, atomWith, readAtomWith, termWith, readTermWith, argumentsAfter, readArguments, readList, readTerm, readAtom, readRight, afterAtom, afterTerm, literalWith, readLiteral, bodyAfter, readBody, fresh, Tail, fact, rule, other, tailOf, clauseOf, clauseAfter, readClause, Sign, mark, noMark, signOf, isMark, marksAfter, marksWith, readMarks, marksOf, declarationOf, declarationEnd, declarationFrom, isMode, afterNeck, readDeclaration, noItem, aDeclaration, aClause, pastLimit, misplaced, withDeclaration, withClause, itemWith, readItems, atStart, readSheet, goalOf, goalEnd, readGoal}
 use Rattle.syntax.specs.declared.Token.{Token}
 
 -- ---- what must be kept
@@ -31,7 +31,7 @@ pub record Kept (s : List ℕ) (OfReader : Cursor → Type 0) (OfTerm : ℕ → 
   pub new-variable : {left : ℕ} {st : Cursor} → OfReader st → length (st .names) < variables → OfTerm left (variable (length (st .names)) (st .token .at))
   pub old-variable : {left i : ℕ} {st : Cursor} → OfReader st → i < length (st .names) → OfTerm left (variable i (st .token .at))
   -- terms, and lists of them
-  pub numeral : {left : ℕ} {st : Cursor} → OfReader st → kindAt st ≡ numeralKind → OfTerm left (termOf (atomAt s st nil))
+  pub numeral : {left : ℕ} {st : Cursor} → OfReader st → kindAt st ≡ numeralKind → OfTerm left (termOf (numeralAt s st))
   pub named : {left : ℕ} {st : Cursor} {ts : Terms} → OfReader st → kindAt st ≡ nameKind → OfTerms left arguments ts → OfTerm left (termOf (atomAt s st ts))
   pub no-terms : {left k : ℕ} → OfTerms left k nil
   pub one-term : {left k : ℕ} {t : Term} {ts : Terms} → OfTerm left t → OfTerms (suc left) k ts → OfTerms (suc left) (suc k) (cons t ts)

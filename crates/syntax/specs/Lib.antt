@@ -3,6 +3,7 @@ pub mod Bytes
 pub mod Limits
 pub mod Tokens
 pub mod Terms
+pub mod Numerals
 pub mod Reading
 pub mod Refusals
 pub mod Verdicts

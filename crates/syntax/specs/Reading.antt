@@ -8,6 +8,7 @@ use lib.Dec.{leb, ltb, eqb}
 use lib.ListN.{length, getD}
 use Rattle.syntax.specs.Limits.{brackets, arguments, variables, literals, declarations, clauses}
 use Rattle.syntax.specs.Tokens.{tokenAt, spelling, noToken, nameKind, variableKind, numeralKind, neckKind, openKind, closeKind, commaKind, stopKind, equalsKind, plusKind, minusKind, starKind, overlongKind, endKind}
+use Rattle.syntax.specs.Numerals.{trimmed, dropped}
 use Rattle.syntax.specs.Terms.{Term, Terms, variable, compound, nil, cons, Atom, termOf, Literal, Body, equation, done, also, literalOf, Mark, input, output, free, Declaration, Clause, Sheet, Goal, arity, sameName, samePredicate, true-name, fail-name, mode-name}
 use Rattle.syntax.specs.declared.Token.{Token}
 
@@ -117,6 +118,10 @@ afterOf end k = cond (eqb k commaKind) more (cond (eqb k end) last neither)
 abbrev pub atomAt : List ℕ → Cursor → Terms → Atom
 atomAt s st ts = record { at = st .token .at; name = spelt s st; args = ts }
 
+-- the numeral at hand: its digits without leading zeros, at the byte of the first digit kept
+abbrev pub numeralAt : List ℕ → Cursor → Atom
+numeralAt s st = record { at = st .token .at + dropped (spelt s st); name = trimmed (spelt s st); args = nil }
+
 -- An atom, the name at hand; `list` reads what an opening bracket leads to.
 unfoldable pub atomWith : (Cursor → Read Terms) → List ℕ → Cursor → Bool → Read Atom
 atomWith list s st true = andThen (list (next s st)) (λ ts after. ok (atomAt s st ts) after)
@@ -128,7 +133,7 @@ readAtomWith list s st = atomWith list s st (is openKind (next s st))
 -- a term: a variable, a numeral, or a name with an optional bracketed list
 unfoldable pub termWith : (Cursor → Read Terms) → List ℕ → Cursor → Start → Read Term
 termWith list s st aVariable = readVariable s st
-termWith list s st aNumeral = ok (termOf (atomAt s st nil)) (next s st)
+termWith list s st aNumeral = ok (termOf (numeralAt s st)) (next s st)
 termWith list s st aName = andThen (readAtomWith list s st) (λ a after. ok (termOf a) after)
 termWith list s st nothing = wrong st
 

@@ -21,6 +21,7 @@ use Rattle.reading.proofs.terms.close.Reads as close-reads
 use Rattle.reading.proofs.terms.counted.Reads as counted-reads
 use Rattle.reading.proofs.terms.full.Reads as full-reads
 use Rattle.reading.proofs.terms.leaf.Reads as leaf-reads
+use Rattle.reading.proofs.terms.read_numeral.Reads as read-numeral-reads
 use Rattle.reading.proofs.terms.read_variable.Reads as read-variable-reads
 use Rattle.reading.proofs.terms.+read_arguments+read_atom+read_term.{statement}
 use Rattle.reading.proofs.terms.+read_arguments+read_atom+read_term.Tie.{close}
@@ -563,8 +564,8 @@ read-atom-returns-4 t c = atom-list (c .before .before .before .before .before .
 read-term-read-variable-requires : (t : ℕ) → read-term-lts.Need-read-variable-requires (
   read-variable-reads.Asked,
   read-variable-reads.Learnt,
-  leaf-reads.Asked,
-  leaf-reads.Learnt,
+  read-numeral-reads.Asked,
+  read-numeral-reads.Learnt,
   read-atom-below t,
   read-atom.Post,
   wrong-reads.Asked,
@@ -575,8 +576,8 @@ read-term-read-variable-requires t c κs = search needs
 read-term-same-length : (t : ℕ) → read-term-lts.Need-same-length (
   read-variable-reads.Asked,
   read-variable-reads.Learnt,
-  leaf-reads.Asked,
-  leaf-reads.Learnt,
+  read-numeral-reads.Asked,
+  read-numeral-reads.Learnt,
   read-atom-below t,
   read-atom.Post,
   wrong-reads.Asked,
@@ -587,8 +588,8 @@ read-term-same-length t c = search needs
 read-term-returns : (t : ℕ) → read-term-lts.Need-returns (
   read-variable-reads.Asked,
   read-variable-reads.Learnt,
-  leaf-reads.Asked,
-  leaf-reads.Learnt,
+  read-numeral-reads.Asked,
+  read-numeral-reads.Learnt,
   read-atom-below t,
   read-atom.Post,
   wrong-reads.Asked,
@@ -596,35 +597,23 @@ read-term-returns : (t : ℕ) → read-term-lts.Need-returns (
 ) (read-term-at t) read-term.Post
 read-term-returns t c = search (term-variable, needs)
 
-read-term-add-what : (t : ℕ) → read-term-lts.Need-add-what (
+read-term-read-numeral-requires : (t : ℕ) → read-term-lts.Need-read-numeral-requires (
   read-variable-reads.Asked,
   read-variable-reads.Learnt,
-  leaf-reads.Asked,
-  leaf-reads.Learnt,
+  read-numeral-reads.Asked,
+  read-numeral-reads.Learnt,
   read-atom-below t,
   read-atom.Post,
   wrong-reads.Asked,
   wrong-reads.Learnt,
 ) (read-term-at t) read-term.Post
-read-term-add-what t c = omega arith
-
-read-term-leaf-requires : (t : ℕ) → read-term-lts.Need-leaf-requires (
-  read-variable-reads.Asked,
-  read-variable-reads.Learnt,
-  leaf-reads.Asked,
-  leaf-reads.Learnt,
-  read-atom-below t,
-  read-atom.Post,
-  wrong-reads.Asked,
-  wrong-reads.Learnt,
-) (read-term-at t) read-term.Post
-read-term-leaf-requires t c κs = search (leaf-asked, needs)
+read-term-read-numeral-requires t c κs = search needs
 
 read-term-same-length-2 : (t : ℕ) → read-term-lts.Need-same-length-2 (
   read-variable-reads.Asked,
   read-variable-reads.Learnt,
-  leaf-reads.Asked,
-  leaf-reads.Learnt,
+  read-numeral-reads.Asked,
+  read-numeral-reads.Learnt,
   read-atom-below t,
   read-atom.Post,
   wrong-reads.Asked,
@@ -635,8 +624,8 @@ read-term-same-length-2 t c = search needs
 read-term-returns-2 : (t : ℕ) → read-term-lts.Need-returns-2 (
   read-variable-reads.Asked,
   read-variable-reads.Learnt,
-  leaf-reads.Asked,
-  leaf-reads.Learnt,
+  read-numeral-reads.Asked,
+  read-numeral-reads.Learnt,
   read-atom-below t,
   read-atom.Post,
   wrong-reads.Asked,
@@ -647,8 +636,8 @@ read-term-returns-2 t c = search (term-numeral, needs)
 read-term-read-atom-requires : (t : ℕ) → read-term-lts.Need-read-atom-requires (
   read-variable-reads.Asked,
   read-variable-reads.Learnt,
-  leaf-reads.Asked,
-  leaf-reads.Learnt,
+  read-numeral-reads.Asked,
+  read-numeral-reads.Learnt,
   read-atom-below t,
   read-atom.Post,
   wrong-reads.Asked,
@@ -659,8 +648,8 @@ read-term-read-atom-requires t c κs = (omega arith, search needs)
 read-term-same-length-3 : (t : ℕ) → read-term-lts.Need-same-length-3 (
   read-variable-reads.Asked,
   read-variable-reads.Learnt,
-  leaf-reads.Asked,
-  leaf-reads.Learnt,
+  read-numeral-reads.Asked,
+  read-numeral-reads.Learnt,
   read-atom-below t,
   read-atom.Post,
   wrong-reads.Asked,
@@ -671,8 +660,8 @@ read-term-same-length-3 t c = search needs
 read-term-returns-3 : (t : ℕ) → read-term-lts.Need-returns-3 (
   read-variable-reads.Asked,
   read-variable-reads.Learnt,
-  leaf-reads.Asked,
-  leaf-reads.Learnt,
+  read-numeral-reads.Asked,
+  read-numeral-reads.Learnt,
   read-atom-below t,
   read-atom.Post,
   wrong-reads.Asked,
@@ -683,8 +672,8 @@ read-term-returns-3 t c = search (term-name, needs)
 read-term-wrong-requires : (t : ℕ) → read-term-lts.Need-wrong-requires (
   read-variable-reads.Asked,
   read-variable-reads.Learnt,
-  leaf-reads.Asked,
-  leaf-reads.Learnt,
+  read-numeral-reads.Asked,
+  read-numeral-reads.Learnt,
   read-atom-below t,
   read-atom.Post,
   wrong-reads.Asked,
@@ -695,8 +684,8 @@ read-term-wrong-requires t c κs = search needs
 read-term-returns-4 : (t : ℕ) → read-term-lts.Need-returns-4 (
   read-variable-reads.Asked,
   read-variable-reads.Learnt,
-  leaf-reads.Asked,
-  leaf-reads.Learnt,
+  read-numeral-reads.Asked,
+  read-numeral-reads.Learnt,
   read-atom-below t,
   read-atom.Post,
   wrong-reads.Asked,
@@ -772,8 +761,8 @@ pub +read-arguments+read-atom+read-term-spec : {M : Type 1} → statement M
     λ t. read-term-lts.spec (
       read-variable-reads.Asked,
       read-variable-reads.Learnt,
-      leaf-reads.Asked,
-      leaf-reads.Learnt,
+      read-numeral-reads.Asked,
+      read-numeral-reads.Learnt,
       read-atom-below t,
       read-atom.Post,
       wrong-reads.Asked,
@@ -784,8 +773,7 @@ pub +read-arguments+read-atom+read-term-spec : {M : Type 1} → statement M
     (read-term-read-variable-requires t)
     (read-term-same-length t)
     (read-term-returns t)
-    (read-term-add-what t)
-    (read-term-leaf-requires t)
+    (read-term-read-numeral-requires t)
     (read-term-same-length-2 t)
     (read-term-returns-2 t)
     (read-term-read-atom-requires t)

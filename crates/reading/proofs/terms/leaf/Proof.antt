@@ -1,24 +1,17 @@
--- `reading::terms::leaf` meets its contract: each way out is a law of `Reading`. Assumes nothing.
-use native.Mathlib.Omega.{arith}
-use Rattle.reading.proofs.Reading.{leaf-given, node-room}
+-- `reading::terms::leaf` meets its contract. Assumes nothing.
+use Rattle.reading.proofs.Reading.{node-room}
 use borrow.Author.Needs.{needs}
 use Rattle.reading.proofs.terms.leaf.Statement.{statement}
 use Rattle.reading.proofs.terms.leaf.Tie as tie
 
-put-node-requires : tie.Need-put-node-requires
-put-node-requires c κs = let c4 = c .before .before .before .before in omega (arith, node-room _ _ _ _ (c4 .pre .0) (c4 .pre .1 .1))
-
-next-requires : tie.Need-next-requires
-next-requires c κs = search needs
-
-add-used : tie.Need-add-used
-add-used c = search needs
+leaf-at-requires : tie.Need-leaf-at-requires
+leaf-at-requires c κs = search (node-room, needs)
 
 same-length : tie.Need-same-length
 same-length c = search needs
 
 returns : tie.Need-returns
-returns c = search (leaf-given, needs)
+returns c = search needs
 
 pub leaf-spec : {M : Type 1} → statement M
-leaf-spec = tie.close (tie.spec put-node-requires next-requires add-used same-length returns)
+leaf-spec = tie.close (tie.spec leaf-at-requires same-length returns)
