@@ -208,6 +208,30 @@ def many_items(add):
         add("C", "".join(":-mode p%d. p%d :- p%d.\n" % (n, n, n + 1) for n in range(count)))
 
 
+def open_places(add):
+    """The first open variable at every place of an argument, and of a nested term."""
+    inner = ("X", "Y", "_", "f(X,Y)", "f(Y,X)", "f(X,X)", "f(_,_)", "f(a,g(h(Y),X))", "f(g(X),g(Y),_)")
+    for term in inner:
+        for known in ("true", "X = a", "Y = a", "X = a, Y = b", "X = Y"):
+            add("C", ":-mode p(-). p(%s) :- %s." % (term, known))
+            add("C", ":-mode p(*,-). p(f(Y,X),%s) :- %s." % (term, known))
+            add("C", ":-mode p(+). :-mode q. q :- %s, p(%s)." % (known, term))
+            add("C", ":-mode p(*,+). :-mode q(*). q(X) :- %s, p(f(Y,X),%s)." % (known, term))
+            add("K", ":-mode p(+).", "%s, p(%s)." % (known, term))
+            add("K", ":-mode p(*,+).", " %s ,\n p( g(X,Y) , %s )." % (known, term))
+    for width in range(1, 9):
+        for place in range(width):
+            arguments = ["a"] * place + ["f(a,g(Y),X)"] + ["Z"] * (width - place - 1)
+            nested = random_sheets.atom("f", arguments)
+            for mark in "+-*":
+                marks = marked("p", mark * width) + marked("r", "-") + marked("q", "")
+                add("C", marks + random_sheets.atom("p", arguments) + " :- r(Y).")
+                add("C", marks + "q :- r(Y), " + random_sheets.atom("p", arguments) + ".")
+                add("K", marks, "r(Y), " + random_sheets.atom("p", arguments) + ".")
+            add("C", marked("p", "-") + "p(" + nested + ").")
+            add("K", marked("p", "+"), "Y = a, p(" + nested + ").")
+
+
 def by_chance(add, rng):
     for _ in range(420):
         lines, predicates = random_sheets.well_marked_sheet(rng)
@@ -237,3 +261,4 @@ def make(add, rng):
     many_variables(add)
     many_items(add)
     by_chance(add, rng)
+    open_places(add)

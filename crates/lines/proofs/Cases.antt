@@ -12,7 +12,7 @@ use Rattle.lines.specs.Lines.{lineOf}
 lines : List (List ℕ)
 lines =
     lineOf (Accepted 1 2) []
-    ∷ lineOf (Refused Sheet (OpenOutput 1 2 20 4)) (bytes "plus")
+    ∷ lineOf (Refused Sheet (OpenOutput 28 1 2 21 4)) (bytes "plus")
     ∷ lineOf (Refused Goal (Misplaced 0)) []
     ∷ lineOf (Refused Neither Settings) []
     ∷ []
@@ -20,7 +20,7 @@ lines =
 expected : List (List ℕ)
 expected =
     bytes "accepted 1 2\n"
-    ∷ bytes "refused sheet 10 0 1 0 2 plus\n"
+    ∷ bytes "refused sheet 10 28 1 0 2 plus\n"
     ∷ bytes "refused goal 5 0 0 0 0\n"
     ∷ bytes "refused 1 0 0 0 0\n"
     ∷ []

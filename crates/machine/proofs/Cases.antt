@@ -110,12 +110,12 @@ cases =
     within 1 0 0 "p" "" (stopped Neither Settings) ∷
     within 1 65 0 "p" "" (stopped Neither Settings) ∷
     within 65536 64 0 "p" "" (stopped inSheet (Misplaced 1)) ∷
-    short ":-mode p(-). p(X) :- true." "p" (stopped inSheet (OpenOutput 1 1 13 1)) ∷
+    short ":-mode p(-). p(X) :- true." "p" (stopped inSheet (OpenOutput 15 1 1 13 1)) ∷
     short "" "p(X)." (stopped inGoal (Undeclared 0 1 0 1)) ∷
-    short ":-mode p(+). p(a)." "p(X)." (stopped inGoal (OpenInput 0 1 1 0 1)) ∷
+    short ":-mode p(+). p(a)." "p(X)." (stopped inGoal (OpenInput 2 0 1 1 0 1)) ∷
     -- traps of the modes: a call's outputs give nothing to its own inputs, * arguments of a head give nothing, and after `fail` all is ground
-    short ":-mode p(+,-). p(a,a)." "p(X,X)." (stopped inGoal (OpenInput 0 1 1 0 1)) ∷
-    short ":-mode p(*,-). p(X,X)." "p(a,Y)." (stopped inSheet (OpenOutput 1 2 15 1)) ∷
+    short ":-mode p(+,-). p(a,a)." "p(X,X)." (stopped inGoal (OpenInput 2 0 1 1 0 1)) ∷
+    short ":-mode p(*,-). p(X,X)." "p(a,Y)." (stopped inSheet (OpenOutput 19 1 2 15 1)) ∷
     short ":-mode p(-). p(X) :- fail." "p(X)." (ended Done 0 3 "") ∷
     []
 

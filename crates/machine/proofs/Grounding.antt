@@ -2,7 +2,7 @@
 -- and 17.2, and exercise 17.3 for equations).
 use Prim.Native.Nat.{ℕ, zero, suc}
 use native.Mathlib.Omega.{arith}
-use mathlib.Core.Path.{_≡_, refl, sym, ap, _∙_, subst}
+use mathlib.Core.Path.{_≡_, refl, sym, ap, _∙_, subst, subst⁻¹}
 use mathlib.Core.Bool.{Bool, true, false, not, _&&_, _||_}
 use mathlib.Core.List.{List, [], _∷_}
 use mathlib.Core.Option.{Option, none, some}
@@ -11,7 +11,8 @@ use lib.Dec.{T, eqb, eqb-refl}
 use lib.ListN.{length, set, replicate}
 use Rattle.syntax.specs.Limits.{variables}
 use Rattle.syntax.specs.Terms.{Term, Terms, variable, compound, nil, cons, arity, Atom, termOf, Mark, Declaration, samePredicate, sameName}
-use Rattle.rules.specs.Modes.{Known, knows, nothing, isGround, areGround, groundTerm, groundTerms, groundBoth, equateVariable, equateSame, equate, equateAll, marksOf, orNoMarks, marksFor, sameMark, listOf, faulty, firstFaulty, oneMore, countFaulty, groundIf, groundMarked}
+use Rattle.rules.specs.Modes.{Known, knows, nothing, isGround, areGround, groundTerm, groundTerms, groundBoth, equateVariable, equateSame, equate, equateAll, marksOf, orNoMarks, marksFor, sameMark, listOf, openByte, ifMarked, OpenArgument, firstOpen, faulty, oneMore, countFaulty, groundIf, groundMarked}
+use Rattle.rules.proofs.Terms.{isNone, ground-none}
 use Rattle.machine.specs.Substitution.{RTerm, RTerms, var, app, rnil, rcons, copied, copiedAll, closed, closedAll, Binding, resolve}
 use Rattle.machine.proofs.Tests.{both, and, either, name-refl}
 use Rattle.machine.proofs.Terms.{resolveAll, resolve-app, resolve-nil, resolve-cons, Grows}
@@ -200,18 +201,19 @@ marked-grows m c (k ∷ ks) [] g h = tt
 marked-grows m c (k ∷ ks) (t ∷ ts) g h = (λ l. g .stays-closed (copied c t) (h .0 l), marked-grows m c ks ts g (h .1))
 
 -- none is at fault where the mode test finds none
-pub marked-known : (m : Mark) (τ : Known) (c : ℕ) (b : List Binding) → Sound τ c b → (ks : List Mark) (ts : List Term) (n : ℕ) → firstFaulty m (isGround τ) ks ts n ≡ none → Marked m b c ks ts
-unfolding Marked firstFaulty faulty
+pub marked-known : (m : Mark) (τ : Known) (c : ℕ) (b : List Binding) → Sound τ c b → (ks : List Mark) (ts : List Term) (n : ℕ) → firstOpen m τ ks ts n ≡ none → Marked m b c ks ts
+unfolding Marked firstOpen ifMarked
 marked-known m τ c b s [] ts n e = tt
 marked-known m τ c b s (k ∷ ks) [] n e = tt
-marked-known m τ c b s (k ∷ ks) (t ∷ ts) n e = go (sameMark m k) (isGround τ t) (λ l. ground-closed τ c b s t l) (λ l. marked-known m τ c b s ks ts (suc n) l) e
+marked-known m τ c b s (k ∷ ks) (t ∷ ts) n e =
+    go (sameMark m k) (openByte τ t) (λ l. ground-closed τ c b s t (subst⁻¹ T (ground-none τ t) l)) (λ l. marked-known m τ c b s ks ts (suc n) l) e
   where
-    go : (x y : Bool) → (T y → Closed b (copied c t)) → (firstFaulty m (isGround τ) ks ts (suc n) ≡ none → Marked m b c ks ts)
-        → _≡_ {A = Option ℕ} (elim (x && not y) [ true ↦ some n | false ↦ firstFaulty m (isGround τ) ks ts (suc n) ]) none
+    go : (x : Bool) (o : Option ℕ) → (T (isNone o) → Closed b (copied c t)) → (firstOpen m τ ks ts (suc n) ≡ none → Marked m b c ks ts)
+        → _≡_ {A = Option OpenArgument} (elim (ifMarked x o) as (λ _. Option OpenArgument) [ none ↦ firstOpen m τ ks ts (suc n) | some i ↦ some (record { argument = n; byte = i }) ]) none
         → (T x → Closed b (copied c t)) × Marked m b c ks ts
-    go true true p q l = (λ z. p tt, q l)
-    go true false p q l = let z : _≡_ {A = ℕ} 0 1 = cc in absurd (let w : ⊥ = omega arith in w)
-    go false y p q l = (λ z. absurd z, q l)
+    go true none p q l = (λ z. p tt, q l)
+    go true (some i) p q l = let z : _≡_ {A = ℕ} 0 1 = cc in absurd (let w : ⊥ = omega arith in w)
+    go false o p q l = (λ z. absurd z, q l)
 
 -- and counted they are none
 pub marked-count : (m : Mark) (b : List Binding) (c : ℕ) (ks : List Mark) (ts : List Term) → Marked m b c ks ts → countFaulty m (λ (t : Term). closed (resolve b (copied c t))) ks ts ≡ 0

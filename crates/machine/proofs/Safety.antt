@@ -13,7 +13,7 @@ use lib.Dec.{T, T-not, eqb, eqb-refl, eqb→eq}
 use lib.ListN.{length}
 use Rattle.syntax.specs.Terms.{Term, Atom, termOf, Literal, call, equation, truth, falsity, Body, done, also, Mark, input, output, Declaration, Clause, Sheet}
 use Rattle.syntax.specs.declared.Refusal.{Refusal}
-use Rattle.rules.specs.Modes.{Known, nothing, isGround, marksFor, listOf, firstFaulty, openInput, openOutput, literalFault, afterLiteral, Walk, faulted, known, walkOn, bodyFault, startKnown, headFault, clauseFault}
+use Rattle.rules.specs.Modes.{Known, nothing, marksFor, listOf, OpenArgument, firstOpen, openInput, openOutput, literalFault, afterLiteral, Walk, faulted, known, walkOn, bodyFault, startKnown, headFault, clauseFault}
 use Rattle.machine.specs.Substitution.{copied, Binding}
 use Rattle.machine.specs.Machine.{Pending, Call, pending}
 use Rattle.machine.specs.Counts.{isWithin, isLeft}
@@ -141,7 +141,7 @@ unfolding walkOn
 walked-on Q none rest σ e = (refl, e)
 walked-on Q (some r) rest σ e = absurd e
 
-open-none : (c l : ℕ) (a : Atom) (o : Option ℕ) → openInput c l a o ≡ none → o ≡ none
+open-none : (c l : ℕ) (a : Atom) (o : Option OpenArgument) → openInput c l a o ≡ none → o ≡ none
 unfolding openInput
 open-none c l a none e = refl
 open-none c l a (some n) e = cc
@@ -159,7 +159,7 @@ literal-safe sh c τ b n l P s (call a) f k = (inputs, λ b1 g o. k b1 g (sound-
     arguments = listOf (a .args)
 
     inputs : ClosedArguments sh input b c a
-    inputs = marked-known input τ c b s marks arguments 1 (open-none n l a (firstFaulty input (isGround τ) marks arguments 1) f)
+    inputs = marked-known input τ c b s marks arguments 1 (open-none n l a (firstOpen input τ marks arguments 1) f)
 literal-safe sh c τ b n l P s (equation t u) f k = λ b1 g e. k b1 g (sound-equate t u τ c b1 (sound-grows τ c g s) e)
 literal-safe sh c τ b n l P s truth f k = k b (grows-refl b) s
 literal-safe sh c τ b n l P s falsity f k = tt
@@ -179,9 +179,9 @@ module _ (sh : Sheet) (calls : List Call) (c : ℕ) (rest : List Pending) (b0 : 
 
 -- the head's outputs are known ground after the body
 abbrev pub OutputsKnown : List Declaration → Atom → Known → Type 0
-OutputsKnown ds h σ = firstFaulty output (isGround σ) (marksFor ds h) (listOf (h .args)) 1 ≡ none
+OutputsKnown ds h σ = firstOpen output σ (marksFor ds h) (listOf (h .args)) 1 ≡ none
 
-output-none : (c : ℕ) (a : Atom) (o : Option ℕ) → openOutput c a o ≡ none → o ≡ none
+output-none : (c : ℕ) (a : Atom) (o : Option OpenArgument) → openOutput c a o ≡ none → o ≡ none
 unfolding openOutput
 output-none c a none e = refl
 output-none c a (some n) e = cc
@@ -189,7 +189,7 @@ output-none c a (some n) e = cc
 head-ends : (ds : List Declaration) (n : ℕ) (h : Atom) (w : Walk) → headFault ds n h w ≡ none → Ends (OutputsKnown ds h) w
 unfolding headFault
 head-ends ds n h (faulted r) e = some-none r e
-head-ends ds n h (known σ) e = output-none n h (firstFaulty output (isGround σ) (marksFor ds h) (listOf (h .args)) 1) e
+head-ends ds n h (known σ) e = output-none n h (firstOpen output σ (marksFor ds h) (listOf (h .args)) 1) e
 
 clause-ends : (ds : List Declaration) (n : ℕ) (cl : Clause) → clauseFault ds n cl ≡ none → Ends (OutputsKnown ds (cl .head)) (bodyFault ds n 1 (startKnown ds (cl .head)) (cl .body))
 unfolding clauseFault

@@ -2,22 +2,29 @@
 use Prim.Native.Nat.{ℕ, _+_, _≤_, _<_}
 use native.Mathlib.Omega.{arith}
 use mathlib.Core.Path.{_≡_, refl, sym, ap, ap₂, _∙_, subst, subst⁻¹}
-use mathlib.Core.Bool.{Bool, true, false, _&&_, _||_}
-use mathlib.Core.List.{List}
+use mathlib.Core.Bool.{Bool, true, false, _||_}
+use mathlib.Core.List.{List, []}
+use mathlib.Core.Option.{Option, none, some}
 use lib.ListN.{length, getD, set}
 use Rattle.syntax.specs.Terms.{Term, Terms, variable, compound}
-use Rattle.syntax.specs.Words.{termWords, firstName}
-use Rattle.rules.specs.Modes.{Known, isGround, areGround, groundTerm, groundTerms, groundBoth, equateVariable}
+use Rattle.syntax.specs.Words.{termWords, firstName, nodeWords}
+use Rattle.rules.specs.Modes.{Known, isGround, openUnless, openByte, openByteOf, groundTerm, groundTerms, groundBoth, equateVariable}
+use Rattle.rules.proofs.Terms.{isNone, ground-none}
 use Rattle.words.specs.Tables.{Has}
+use Rattle.words.proofs.Laws.{node}
 use Rattle.marking.specs.Tables.{TermAt, TermsAt}
+use Rattle.marking.specs.Answers.{groundnessOf}
+use Rattle.marking.specs.declared.terms.Groundness.{Groundness}
+use Rattle.marking.specs.declared.terms.Groundness.the-variants.{Ground, Open}
 use Rattle.marking.proofs.Places.{Opened, opened, none-left, Parted, parted}
 
 -- ---- one term
 
-flag-by : (table : List ℕ) (p : ℕ) (τ : Known) (t : Term) → Has table p (termWords t) → getD table p 0 < firstName → getD τ (getD table p 0) false ≡ isGround τ t
-unfolding termWords isGround
-flag-by table p τ (variable n at) h l = ap (λ (k : ℕ). getD τ k false) (h .1)
-flag-by table p τ (compound at f ts) h l = absurd (omega (arith, h .1))
+test-by : (table : List ℕ) (p : ℕ) (τ : Known) (t : Term) → Has table p (termWords t) → getD table p 0 < firstName
+    → openUnless (getD τ (getD table p 0) false) (getD table (p + 2) 0) ≡ openByte τ t
+unfolding termWords openByte
+test-by table p τ (variable n at) h l = ap₂ (λ (k b : ℕ). openUnless (getD τ k false) b) (h .1) (node table p n nodeWords at [] h .third)
+test-by table p τ (compound at f ts) h l = absurd (omega (arith, h .1))
 
 stored-by : (table : List ℕ) (p : ℕ) (τ : Known) (t : Term) → Has table p (termWords t) → getD table p 0 < firstName → set τ (getD table p 0) true ≡ groundTerm t τ
 unfolding termWords groundTerm
@@ -25,18 +32,26 @@ stored-by table p τ (variable n at) h l = ap (λ (k : ℕ). set τ k true) (h .
 stored-by table p τ (compound at f ts) h l = absurd (omega (arith, h .1))
 
 module _ (table : List ℕ) (p : ℕ) (τ : Known) (v : ℕ) (e : v ≡ getD table p 0) where
-  pub flag : v < firstName → (w : TermAt table p) → getD τ v false ≡ isGround τ (w .term)
-  flag l w = ap (λ (k : ℕ). getD τ k false) e ∙ flag-by table p τ (w .term) (w .has) (omega arith)
+  tested : v < firstName → (w : TermAt table p) → openUnless (getD τ v false) (getD table (p + 2) 0) ≡ openByte τ (w .term)
+  tested l w = ap (λ (k : ℕ). openUnless (getD τ k false) (getD table (p + 2) 0)) e ∙ test-by table p τ (w .term) (w .has) (omega arith)
+
+  pub variable-ground : v < firstName → getD τ v false ≡ true → (w : TermAt table p) → Ground ≡ groundnessOf (openByte τ (w .term))
+  unfolding openUnless
+  variable-ground l k w = sym (ap (λ (b : Bool). groundnessOf (openUnless b (getD table (p + 2) 0))) k) ∙ ap groundnessOf (tested l w)
+
+  pub variable-open : v < firstName → getD τ v false ≡ false → (byte : ℕ) → byte ≡ getD table (p + 2) 0 → (w : TermAt table p) → Open byte ≡ groundnessOf (openByte τ (w .term))
+  unfolding openUnless
+  variable-open l k byte eb w = ap Open eb ∙ sym (ap (λ (b : Bool). groundnessOf (openUnless b (getD table (p + 2) 0))) k) ∙ ap groundnessOf (tested l w)
 
   pub stored : v < firstName → (w : TermAt table p) → set τ v true ≡ groundTerm (w .term) τ
   stored l w = ap (λ (k : ℕ). set τ k true) e ∙ stored-by table p τ (w .term) (w .has) (omega arith)
 
   module _ (stop : ℕ) (l : firstName ≤ v) (s : (w : TermAt table p) → stop ≡ p + length (termWords (w .term))) where
-    pub ground-inner : (b : Bool) → ((u : TermsAt table (p + 3) stop) → b ≡ areGround τ (u .terms)) → (w : TermAt table p) → b ≡ isGround τ (w .term)
-    unfolding isGround
-    ground-inner b h w =
+    pub test-inner : (g : Groundness) → ((u : TermsAt table (p + 3) stop) → g ≡ groundnessOf (openByteOf τ (u .terms))) → (w : TermAt table p) → g ≡ groundnessOf (openByte τ (w .term))
+    unfolding openByte
+    test-inner g h w =
         let o : Opened table p stop (w .term) = opened v stop e l w (s w) in
-        h (o .inner) ∙ sym (ap (isGround τ) (o .is))
+        h (o .inner) ∙ sym (ap (λ (t : Term). groundnessOf (openByte τ t)) (o .is))
 
     pub stored-inner : (σ : Known) → ((u : TermsAt table (p + 3) stop) → σ ≡ groundTerms (u .terms) τ) → (w : TermAt table p) → σ ≡ groundTerm (w .term) τ
     unfolding groundTerm
@@ -46,21 +61,32 @@ module _ (table : List ℕ) (p : ℕ) (τ : Known) (v : ℕ) (e : v ≡ getD tab
 
 -- ---- lists of terms
 
+-- the first of two tests that finds an open variable
+then-open : (o p : Option ℕ) (b : ℕ) → groundnessOf o ≡ Open b → groundnessOf (elim o as (λ _. Option ℕ) [ none ↦ p | some i ↦ some i ]) ≡ groundnessOf o
+then-open none p b e = let z : _≡_ {A = ℕ} 0 1 = cc in absurd (omega arith)
+then-open (some i) p b e = refl
+
+then-rest : (o p : Option ℕ) → groundnessOf o ≡ Ground → groundnessOf (elim o as (λ _. Option ℕ) [ none ↦ p | some i ↦ some i ]) ≡ groundnessOf p
+then-rest none p e = refl
+then-rest (some i) p e = let z : _≡_ {A = ℕ} 0 1 = cc in absurd (omega arith)
+
 module _ (table : List ℕ) (p stop : ℕ) (τ : Known) where
-  pub none-ground : stop ≤ p → (w : TermsAt table p stop) → true ≡ areGround τ (w .terms)
-  unfolding isGround
-  none-ground l w = sym (ap (areGround τ) (none-left l w))
+  pub none-tested : stop ≤ p → (w : TermsAt table p stop) → Ground ≡ groundnessOf (openByteOf τ (w .terms))
+  unfolding openByte
+  none-tested l w = sym (ap (λ (ts : Terms). groundnessOf (openByteOf τ ts)) (none-left l w))
 
   pub none-stored : stop ≤ p → (w : TermsAt table p stop) → τ ≡ groundTerms (w .terms) τ
   unfolding groundTerm
   none-stored l w = sym (ap (λ (ts : Terms). groundTerms ts τ) (none-left l w))
 
   module _ (l : p < stop) where
-    pub first-open : (b : Bool) → ((u : TermAt table p) → b ≡ isGround τ (u .term)) → b ≡ false → (w : TermsAt table p stop) → false ≡ areGround τ (w .terms)
-    unfolding isGround
-    first-open b h f w =
+    pub first-open : (g : Groundness) → ((u : TermAt table p) → g ≡ groundnessOf (openByte τ (u .term))) → (b : ℕ) → g ≡ Open b → (w : TermsAt table p stop) → g ≡ groundnessOf (openByteOf τ (w .terms))
+    unfolding openByte
+    first-open g h b f w =
         let q : Parted table p stop (w .terms) = parted l w in
-        sym (ap (areGround τ) (q .is) ∙ ap (λ (x : Bool). x && areGround τ (q .rest .terms)) (sym (h (q .first)) ∙ f))
+        h (q .first)
+        ∙ sym (then-open (openByte τ (q .first .term)) (openByteOf τ (q .rest .terms)) b (sym (h (q .first)) ∙ f))
+        ∙ sym (ap (λ (ts : Terms). groundnessOf (openByteOf τ ts)) (q .is))
 
     module _ (next : ℕ) (n : (u : TermAt table p) → next ≡ p + length (termWords (u .term))) where
       pub rest-at : TermsAt table p stop → TermsAt table next stop
@@ -71,17 +97,36 @@ module _ (table : List ℕ) (p stop : ℕ) (τ : Known) where
       moved P h w =
           subst (λ (k : ℕ). (u : TermsAt table k stop) → P (u .terms)) (n (parted l w .first)) h (parted l w .rest)
 
-      pub rest-ground : (b : Bool) → ((u : TermAt table p) → b ≡ isGround τ (u .term)) → b ≡ true → (r : Bool) → ((u : TermsAt table next stop) → r ≡ areGround τ (u .terms)) → (w : TermsAt table p stop) → r ≡ areGround τ (w .terms)
-      unfolding isGround
-      rest-ground b h t r k w =
+      pub rest-tested : (g : Groundness) → ((u : TermAt table p) → g ≡ groundnessOf (openByte τ (u .term))) → g ≡ Ground → (r : Groundness) → ((u : TermsAt table next stop) → r ≡ groundnessOf (openByteOf τ (u .terms))) → (w : TermsAt table p stop) → r ≡ groundnessOf (openByteOf τ (w .terms))
+      unfolding openByte
+      rest-tested g h f r k w =
           let q : Parted table p stop (w .terms) = parted l w in
-          moved (λ (ts : Terms). r ≡ areGround τ ts) k w ∙ sym (ap (areGround τ) (q .is) ∙ ap (λ (x : Bool). x && areGround τ (q .rest .terms)) (sym (h (q .first)) ∙ t))
+          moved (λ (ts : Terms). r ≡ groundnessOf (openByteOf τ ts)) k w
+          ∙ sym (then-rest (openByte τ (q .first .term)) (openByteOf τ (q .rest .terms)) (sym (h (q .first)) ∙ f))
+          ∙ sym (ap (λ (ts : Terms). groundnessOf (openByteOf τ ts)) (q .is))
 
       pub rest-stored : (σ : Known) → ((u : TermAt table p) → σ ≡ groundTerm (u .term) τ) → (r : Known) → ((u : TermsAt table next stop) → r ≡ groundTerms (u .terms) σ) → (w : TermsAt table p stop) → r ≡ groundTerms (w .terms) τ
       unfolding groundTerm
       rest-stored σ h r k w =
           let q : Parted table p stop (w .terms) = parted l w in
           moved (λ (ts : Terms). r ≡ groundTerms ts σ) k w ∙ ap (groundTerms (q .rest .terms)) (h (q .first)) ∙ sym (ap (λ (ts : Terms). groundTerms ts τ) (q .is))
+
+-- ---- yes or no
+
+module _ (table : List ℕ) (p : ℕ) (τ : Known) (g : Groundness) (eg : (w : TermAt table p) → g ≡ groundnessOf (openByte τ (w .term))) where
+  pub test-yes : g ≡ Ground → (w : TermAt table p) → true ≡ isGround τ (w .term)
+  test-yes e w = by (openByte τ (w .term)) (sym (eg w) ∙ e) ∙ sym (ground-none τ (w .term))
+    where
+      by : (o : Option ℕ) → groundnessOf o ≡ Ground → true ≡ isNone o
+      by none h = refl
+      by (some b) h = let z : _≡_ {A = ℕ} 0 1 = cc in absurd (omega arith)
+
+  pub test-no : (b : ℕ) → g ≡ Open b → (w : TermAt table p) → false ≡ isGround τ (w .term)
+  test-no b e w = by (openByte τ (w .term)) (sym (eg w) ∙ e) ∙ sym (ground-none τ (w .term))
+    where
+      by : (o : Option ℕ) → groundnessOf o ≡ Open b → false ≡ isNone o
+      by none h = let z : _≡_ {A = ℕ} 0 1 = cc in absurd (omega arith)
+      by (some i) h = refl
 
 -- ---- an equation with a variable
 

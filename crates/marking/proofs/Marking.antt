@@ -15,11 +15,15 @@ use Rattle.syntax.specs.Terms.{Term, Terms, nil, cons, arity, Atom, termOf, Mar
 use Rattle.syntax.specs.Tokens.{spelling}
 use Rattle.syntax.specs.Words.{termWords, termsWords, declarationWords, declarationsWords, markNumber, marksNumber, firstName, markNumbers, declarationSize}
 use Rattle.syntax.specs.declared.Refusal.the-variants.{Undeclared}
-use Rattle.rules.specs.Modes.{Known, isGround, marksOf, orNoMarks, marksFor, sameMark, listOf, faulty, firstFaulty, groundIf, groundMarked, groundTerm, undeclared, undeclaredAtom}
+use Rattle.rules.specs.Modes.{Known, openByte, marksOf, orNoMarks, marksFor, sameMark, listOf, ifMarked, OpenArgument, firstOpen, groundIf, groundMarked, groundTerm, undeclared, undeclaredAtom}
 use Rattle.marking.specs.Standing.{NameAt, AllNumbered, numbered-cons, Stands, AllStand, stands-compound, DeclarationsStand, declaration-stands}
 use Rattle.words.specs.Tables.{Has}
 use Rattle.marking.specs.Tables.{TermAt, DeclarationAt, DeclarationsAt, AtomAt, NamedAt, MarkedAt}
-use Rattle.marking.specs.Answers.{checkedOf, nameOf, numberOr0, position}
+use Rattle.marking.specs.Answers.{checkedOf, groundnessOf, firstOpenOf, nameOf, position}
+use Rattle.marking.specs.declared.terms.Groundness.{Groundness}
+use Rattle.marking.specs.declared.terms.Groundness.the-variants.{Ground, Open}
+use Rattle.marking.specs.declared.marks.FirstOpen.{FirstOpen}
+use Rattle.marking.specs.declared.marks.FirstOpen.the-variants.{Nowhere, At}
 use Rattle.marking.specs.declared.marks.Name.{Name}
 use Rattle.marking.specs.declared.Checked.the-variants.{Fine, Fault}
 use Rattle.words.proofs.Laws.{Node, node, has-left, has-right, has-inside}
@@ -379,41 +383,45 @@ lowest input ks = omega arith
 lowest output ks = omega arith
 lowest free ks = omega arith
 
+-- an open argument of number n, or what comes after it
+abbrev openOr : Option ℕ → ℕ → Option OpenArgument → Option OpenArgument
+openOr o n rest = elim o as (λ _. Option OpenArgument) [ none ↦ rest | some b ↦ some (record { argument = n; byte = b }) ]
+
 -- the first argument and the others, with their marks
 pub record Marked (table : List ℕ) (p stop marks mark : ℕ) (m : Mark) (ms : List Mark) (ts : Terms) : Type 0 where
   pub first : TermAt table p
   pub rest : MarkedAt table (p + length (termWords (first .term))) stop (marks / markNumbers) mark
-  pub fault-is : (test : Term → Bool) (n : ℕ)
-      → firstFaulty m test ms (listOf ts) n ≡ elim (eqb (marks % markNumbers) mark && not (test (first .term))) as (λ _. Option ℕ) [ true ↦ some n | false ↦ firstFaulty (rest .wanted) test (rest .listed) (listOf (rest .terms)) (suc n) ]
+  pub fault-is : (τ : Known) (n : ℕ)
+      → firstOpen m τ ms (listOf ts) n ≡ openOr (ifMarked (eqb (marks % markNumbers) mark) (openByte τ (first .term))) n (firstOpen (rest .wanted) τ (rest .listed) (listOf (rest .terms)) (suc n))
   pub ground-is : (τ : Known) → groundMarked m ms (listOf ts) τ ≡ groundMarked (rest .wanted) (rest .listed) (listOf (rest .terms)) (groundIf (eqb (marks % markNumbers) mark) (first .term) τ)
 
 -- the mark of the first argument, and what is left of the marks
 record Lowest (marks mark : ℕ) (m : Mark) (ms : List Mark) (t : Term) (ts : Terms) : Type 0 where
   left : List Mark
   number : marks / markNumbers ≡ marksNumber left
-  fault-is : (test : Term → Bool) (n : ℕ)
-      → firstFaulty m test ms (t ∷ listOf ts) n ≡ elim (eqb (marks % markNumbers) mark && not (test t)) as (λ _. Option ℕ) [ true ↦ some n | false ↦ firstFaulty m test left (listOf ts) (suc n) ]
+  fault-is : (τ : Known) (n : ℕ)
+      → firstOpen m τ ms (t ∷ listOf ts) n ≡ openOr (ifMarked (eqb (marks % markNumbers) mark) (openByte τ t)) n (firstOpen m τ left (listOf ts) (suc n))
   ground-is : (τ : Known) → groundMarked m ms (t ∷ listOf ts) τ ≡ groundMarked m left (listOf ts) (groundIf (eqb (marks % markNumbers) mark) t τ)
 
 no-marks : (marks mark : ℕ) (m : Mark) (t : Term) (ts : Terms) → marks ≡ marksNumber [] → mark ≡ markNumber m → Lowest marks mark m [] t ts
-unfolding marksNumber firstFaulty groundMarked groundIf
+unfolding marksNumber firstOpen ifMarked groundMarked groundIf
 no-marks marks mark m t ts em ew =
     let no : eqb (marks % markNumbers) mark ≡ false = ne-eqb (marks % markNumbers) mark (λ e. omega (arith, mark-some m)) in
     record {
       left = [];
       number = omega arith;
-      fault-is = λ test n. sym (ap (λ (b : Bool). elim (b && not (test t)) as (λ _. Option ℕ) [ true ↦ some n | false ↦ none ]) no);
+      fault-is = λ τ n. sym (ap (λ (b : Bool). openOr (ifMarked b (openByte τ t)) n none) no);
       ground-is = λ τ. sym (ap (λ (b : Bool). groundIf b t τ) no);
     }
 
 one-mark : (marks mark : ℕ) (m k : Mark) (ks : List Mark) (t : Term) (ts : Terms) → marks ≡ marksNumber (k ∷ ks) → mark ≡ markNumber m → Lowest marks mark m (k ∷ ks) t ts
-unfolding firstFaulty groundMarked groundIf faulty
+unfolding firstOpen ifMarked groundMarked groundIf
 one-mark marks mark m k ks t ts em ew =
     let is : eqb (marks % markNumbers) mark ≡ sameMark m k = ap₂ eqb (ap (λ (x : ℕ). x % markNumbers) em ∙ lowest k ks .0) ew ∙ same-number m k in
     record {
       left = ks;
       number = ap (λ (x : ℕ). x / markNumbers) em ∙ lowest k ks .1;
-      fault-is = λ test n. sym (ap (λ (b : Bool). elim (b && not (test t)) as (λ _. Option ℕ) [ true ↦ some n | false ↦ firstFaulty m test ks (listOf ts) (suc n) ]) is);
+      fault-is = λ τ n. sym (ap (λ (b : Bool). openOr (ifMarked b (openByte τ t)) n (firstOpen m τ ks (listOf ts) (suc n))) is);
       ground-is = λ τ. sym (ap (λ (b : Bool). groundMarked m ks (listOf ts) (groundIf b t τ)) is);
     }
 
@@ -444,25 +452,35 @@ marked-by table p stop marks mark m ms (cons t ts) l h e (numbered-cons k ks) em
     }
 
 none-marked : (ms : List Mark) (m : Mark) (ts : Terms) (p stop : ℕ) → stop ≤ p → stop ≡ p + length (termsWords ts)
-    → ((test : Term → Bool) (n : ℕ) → firstFaulty m test ms (listOf ts) n ≡ none) × ((τ : Known) → groundMarked m ms (listOf ts) τ ≡ τ)
-unfolding firstFaulty groundMarked
-none-marked [] m ts p stop l e = ((λ test n. refl), (λ τ. refl))
-none-marked (k ∷ ks) m nil p stop l e = ((λ test n. refl), (λ τ. refl))
+    → ((τ : Known) (n : ℕ) → firstOpen m τ ms (listOf ts) n ≡ none) × ((τ : Known) → groundMarked m ms (listOf ts) τ ≡ τ)
+unfolding firstOpen groundMarked
+none-marked [] m ts p stop l e = ((λ τ n. refl), (λ τ. refl))
+none-marked (k ∷ ks) m nil p stop l e = ((λ τ n. refl), (λ τ. refl))
 none-marked (k ∷ ks) m (cons t ts) p stop l e = absurd (omega (arith, cons-long t ts))
 
-pub open-other : (table : List ℕ) (p marks mark : ℕ) (τ : Known) → (marks % markNumbers ≡ mark → ⊥) → (w : TermAt table p) → false ≡ (eqb (marks % markNumbers) mark && not (isGround τ (w .term)))
-open-other table p marks mark τ n w = sym (ap (λ (b : Bool). b && not (isGround τ (w .term))) (ne-eqb (marks % markNumbers) mark n))
+pub other-passes : (table : List ℕ) (p marks mark : ℕ) (τ : Known) → (marks % markNumbers ≡ mark → ⊥) → (w : TermAt table p) → Ground ≡ groundnessOf (ifMarked (eqb (marks % markNumbers) mark) (openByte τ (w .term)))
+unfolding ifMarked
+other-passes table p marks mark τ n w = sym (ap (λ (b : Bool). groundnessOf (ifMarked b (openByte τ (w .term)))) (ne-eqb (marks % markNumbers) mark n))
 
-pub open-same : (table : List ℕ) (p marks mark : ℕ) (τ : Known) → marks % markNumbers ≡ mark → (b : Bool) → ((w : TermAt table p) → b ≡ isGround τ (w .term))
-    → (w : TermAt table p) → not b ≡ (eqb (marks % markNumbers) mark && not (isGround τ (w .term)))
-open-same table p marks mark τ e b h w = ap not (h w) ∙ sym (ap (λ (x : Bool). x && not (isGround τ (w .term))) (eq-eqb (marks % markNumbers) mark e))
+pub same-tested : (table : List ℕ) (p marks mark : ℕ) (τ : Known) → marks % markNumbers ≡ mark → (g : Groundness) → ((w : TermAt table p) → g ≡ groundnessOf (openByte τ (w .term)))
+    → (w : TermAt table p) → g ≡ groundnessOf (ifMarked (eqb (marks % markNumbers) mark) (openByte τ (w .term)))
+unfolding ifMarked
+same-tested table p marks mark τ e g h w = h w ∙ sym (ap (λ (b : Bool). groundnessOf (ifMarked b (openByte τ (w .term)))) (eq-eqb (marks % markNumbers) mark e))
+
+or-found : (o : Option ℕ) (n b : ℕ) (rest : Option OpenArgument) → groundnessOf o ≡ Open b → At n b ≡ firstOpenOf (openOr o n rest)
+or-found none n b rest e = let z : _≡_ {A = ℕ} 0 1 = cc in absurd (omega arith)
+or-found (some i) n b rest e = let k : i ≡ b = cc in ap (At n) (sym k)
+
+or-rest : (o : Option ℕ) (n : ℕ) (rest : Option OpenArgument) → groundnessOf o ≡ Ground → firstOpenOf rest ≡ firstOpenOf (openOr o n rest)
+or-rest none n rest e = refl
+or-rest (some i) n rest e = let z : _≡_ {A = ℕ} 0 1 = cc in absurd (omega arith)
 
 ends-inside : (table : List ℕ) (p : ℕ) (ts : Terms) → Has table p (termsWords ts) → 0 < length (termsWords ts) → p + length (termsWords ts) ≤ length table
 ends-inside table p ts h l = has-inside table p (termsWords ts) h l
 
 module _ (table : List ℕ) (p stop marks mark : ℕ) (τ : Known) where
-  pub none-open : (number : ℕ) → stop ≤ p → (w : MarkedAt table p stop marks mark) → 0 ≡ numberOr0 (firstFaulty (w .wanted) (isGround τ) (w .listed) (listOf (w .terms)) number)
-  none-open number l w = sym (ap numberOr0 (none-marked (w .listed) (w .wanted) (w .terms) p stop l (w .ends) .0 (isGround τ) number))
+  pub none-open : (number : ℕ) → stop ≤ p → (w : MarkedAt table p stop marks mark) → Nowhere ≡ firstOpenOf (firstOpen (w .wanted) τ (w .listed) (listOf (w .terms)) number)
+  none-open number l w = sym (ap firstOpenOf (none-marked (w .listed) (w .wanted) (w .terms) p stop l (w .ends) .0 τ number))
 
   pub none-given : stop ≤ p → (w : MarkedAt table p stop marks mark) → τ ≡ groundMarked (w .wanted) (w .listed) (listOf (w .terms)) τ
   none-given l w = sym (none-marked (w .listed) (w .wanted) (w .terms) p stop l (w .ends) .1 τ)
@@ -474,13 +492,12 @@ module _ (table : List ℕ) (p stop marks mark : ℕ) (τ : Known) where
     pub marked-first : MarkedAt table p stop marks mark → TermAt table p
     marked-first w = marked w .first
 
-    pub found-open : (number : ℕ) (b : Bool) → ((w : TermAt table p) → b ≡ (eqb (marks % markNumbers) mark && not (isGround τ (w .term)))) → b ≡ true
-        → (w : MarkedAt table p stop marks mark) → number ≡ numberOr0 (firstFaulty (w .wanted) (isGround τ) (w .listed) (listOf (w .terms)) number)
-    found-open number b h e w =
-        sym
-        (ap numberOr0
-        (marked w .fault-is (isGround τ) number
-        ∙ ap (λ (x : Bool). elim x as (λ _. Option ℕ) [ true ↦ some number | false ↦ firstFaulty (marked w .rest .wanted) (isGround τ) (marked w .rest .listed) (listOf (marked w .rest .terms)) (suc number) ]) (sym (h (marked w .first)) ∙ e)))
+    pub found-open : (number : ℕ) (g : Groundness) → ((w : TermAt table p) → g ≡ groundnessOf (ifMarked (eqb (marks % markNumbers) mark) (openByte τ (w .term)))) → (byte : ℕ) → g ≡ Open byte
+        → (w : MarkedAt table p stop marks mark) → At number byte ≡ firstOpenOf (firstOpen (w .wanted) τ (w .listed) (listOf (w .terms)) number)
+    found-open number g h byte e w =
+        let q : Marked table p stop marks mark (w .wanted) (w .listed) (w .terms) = marked w in
+        or-found (ifMarked (eqb (marks % markNumbers) mark) (openByte τ (q .first .term))) number byte (firstOpen (q .rest .wanted) τ (q .rest .listed) (listOf (q .rest .terms)) (suc number)) (sym (h (q .first)) ∙ e)
+        ∙ sym (ap firstOpenOf (q .fault-is τ number))
 
     module _ (next : ℕ) (n : (u : TermAt table p) → next ≡ p + length (termWords (u .term))) where
       pub marked-further : MarkedAt table p stop marks mark → (p + 3 ≤ next) × ((next ≤ stop) × (stop ≤ length table))
@@ -491,19 +508,17 @@ module _ (table : List ℕ) (p stop marks mark : ℕ) (τ : Known) where
       pub marked-rest : MarkedAt table p stop marks mark → MarkedAt table next stop (marks / markNumbers) mark
       marked-rest w = subst⁻¹ (λ (k : ℕ). MarkedAt table k stop (marks / markNumbers) mark) (n (marked w .first)) (marked w .rest)
 
-      pub open-on : (number more : ℕ) (b : Bool) → ((w : TermAt table p) → b ≡ (eqb (marks % markNumbers) mark && not (isGround τ (w .term)))) → b ≡ false → more ≡ number + 1
-          → (r : ℕ) → ((w : MarkedAt table next stop (marks / markNumbers) mark) → r ≡ numberOr0 (firstFaulty (w .wanted) (isGround τ) (w .listed) (listOf (w .terms)) more))
-          → (w : MarkedAt table p stop marks mark) → r ≡ numberOr0 (firstFaulty (w .wanted) (isGround τ) (w .listed) (listOf (w .terms)) number)
-      open-on number more b h e em r k w =
+      pub open-on : (number more : ℕ) (g : Groundness) → ((w : TermAt table p) → g ≡ groundnessOf (ifMarked (eqb (marks % markNumbers) mark) (openByte τ (w .term)))) → g ≡ Ground → more ≡ number + 1
+          → (r : FirstOpen) → ((w : MarkedAt table next stop (marks / markNumbers) mark) → r ≡ firstOpenOf (firstOpen (w .wanted) τ (w .listed) (listOf (w .terms)) more))
+          → (w : MarkedAt table p stop marks mark) → r ≡ firstOpenOf (firstOpen (w .wanted) τ (w .listed) (listOf (w .terms)) number)
+      open-on number more g h e em r k w =
           let q : Marked table p stop marks mark (w .wanted) (w .listed) (w .terms) = marked w in
-          let k1 : (u : MarkedAt table (p + length (termWords (q .first .term))) stop (marks / markNumbers) mark) → r ≡ numberOr0 (firstFaulty (u .wanted) (isGround τ) (u .listed) (listOf (u .terms)) more) =
-          subst (λ (j : ℕ). (u : MarkedAt table j stop (marks / markNumbers) mark) → r ≡ numberOr0 (firstFaulty (u .wanted) (isGround τ) (u .listed) (listOf (u .terms)) more)) (n (q .first)) k in
+          let k1 : (u : MarkedAt table (p + length (termWords (q .first .term))) stop (marks / markNumbers) mark) → r ≡ firstOpenOf (firstOpen (u .wanted) τ (u .listed) (listOf (u .terms)) more) =
+          subst (λ (j : ℕ). (u : MarkedAt table j stop (marks / markNumbers) mark) → r ≡ firstOpenOf (firstOpen (u .wanted) τ (u .listed) (listOf (u .terms)) more)) (n (q .first)) k in
           k1 (q .rest)
-          ∙ ap (λ (j : ℕ). numberOr0 (firstFaulty (q .rest .wanted) (isGround τ) (q .rest .listed) (listOf (q .rest .terms)) j)) (em ∙ add-one number)
-          ∙ sym
-          (ap numberOr0
-          (q .fault-is (isGround τ) number
-          ∙ ap (λ (x : Bool). elim x as (λ _. Option ℕ) [ true ↦ some number | false ↦ firstFaulty (q .rest .wanted) (isGround τ) (q .rest .listed) (listOf (q .rest .terms)) (suc number) ]) (sym (h (q .first)) ∙ e)))
+          ∙ ap (λ (j : ℕ). firstOpenOf (firstOpen (q .rest .wanted) τ (q .rest .listed) (listOf (q .rest .terms)) j)) (em ∙ add-one number)
+          ∙ or-rest (ifMarked (eqb (marks % markNumbers) mark) (openByte τ (q .first .term))) number (firstOpen (q .rest .wanted) τ (q .rest .listed) (listOf (q .rest .terms)) (suc number)) (sym (h (q .first)) ∙ e)
+          ∙ sym (ap firstOpenOf (q .fault-is τ number))
 
       given-on : (b : Bool) (σ r : Known) (w : MarkedAt table p stop marks mark) → eqb (marks % markNumbers) mark ≡ b → σ ≡ groundIf b (marked w .first .term) τ
           → ((u : MarkedAt table next stop (marks / markNumbers) mark) → r ≡ groundMarked (u .wanted) (u .listed) (listOf (u .terms)) σ)

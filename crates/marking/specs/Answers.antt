@@ -8,6 +8,11 @@ use Rattle.syntax.specs.Terms.{Atom, Declaration, arity, samePredicate}
 use Rattle.syntax.specs.declared.Refusal.{Refusal}
 use Rattle.marking.specs.declared.Checked.{Checked}
 use Rattle.marking.specs.declared.Checked.the-variants.{Fine, Fault}
+use Rattle.rules.specs.Modes.{OpenArgument}
+use Rattle.marking.specs.declared.terms.Groundness.{Groundness}
+use Rattle.marking.specs.declared.terms.Groundness.the-variants.{Ground, Open}
+use Rattle.marking.specs.declared.marks.FirstOpen.{FirstOpen}
+use Rattle.marking.specs.declared.marks.FirstOpen.the-variants.{Nowhere, At}
 use Rattle.marking.specs.declared.marks.Name.{Name}
 
 -- no fault, or the first one
@@ -19,10 +24,15 @@ checkedOf (some r) = Fault r
 abbrev pub nameOf : Atom → Name
 nameOf a = record { at = a .at; len = length (a .name); arguments = arity (a .args) }
 
--- an argument's number, 0 for none
-abbrev pub numberOr0 : Option ℕ → ℕ
-numberOr0 none = 0
-numberOr0 (some n) = n
+-- no open variable, or the byte of the first one
+abbrev pub groundnessOf : Option ℕ → Groundness
+groundnessOf none = Ground
+groundnessOf (some byte) = Open byte
+
+-- no open argument, or the first one
+abbrev pub firstOpenOf : Option OpenArgument → FirstOpen
+firstOpenOf none = Nowhere
+firstOpenOf (some o) = At (o .argument) (o .byte)
 
 -- the place of a predicate's first declaration among some, or how many these are
 unfoldable pub position : List Declaration → List ℕ → ℕ → ℕ

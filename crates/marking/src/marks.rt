@@ -1,8 +1,9 @@
 // The marks of a predicate, and the arguments that have one of them.
 use crate::Checked;
 use crate::Known;
+use crate::terms::Groundness;
 use crate::terms::ground_term;
-use crate::terms::is_ground;
+use crate::terms::ground_test;
 use syntax::DECLARATION_SIZE;
 use syntax::FIRST_NAME;
 use syntax::INPUT;
@@ -14,16 +15,16 @@ use syntax::Refusal;
 use words::past;
 use words::word_at;
 ghost use mathlib.Core.Path.{_≡_};
-ghost use mathlib.Core.Bool.{true, not, _&&_};
+ghost use mathlib.Core.Bool.{true};
 ghost use Prim.Native.Nat.{_+_, _%_, _≤_, _<_};
 ghost use lib.Dec.{eqb};
 ghost use lib.ListN.{length};
 ghost use Rattle.syntax.specs.Tokens.{spelling};
 ghost use Rattle.syntax.specs.Terms.{arity, samePredicate, input, output};
 ghost use Rattle.syntax.specs.Words.{markNumbers, marksNumber};
-ghost use Rattle.rules.specs.Modes.{isGround, marksFor, listOf, firstFaulty, groundMarked, undeclaredAtom, openInput, openOutput};
+ghost use Rattle.rules.specs.Modes.{openByte, marksFor, listOf, ifMarked, firstOpen, groundMarked, undeclaredAtom, openInput, openOutput};
 ghost use Rattle.marking.specs.Tables.{TermAt, DeclarationAt, DeclarationsAt, AtomAt, NamedAt, MarkedAt, JudgedAt};
-ghost use Rattle.marking.specs.Answers.{checkedOf, nameOf, numberOr0, position};
+ghost use Rattle.marking.specs.Answers.{checkedOf, groundnessOf, firstOpenOf, nameOf, position};
 
 // The name of an atom: its byte, its length, and the number of arguments behind it.
 pub struct Name {
@@ -184,18 +185,24 @@ pub fn undeclared_atom(
     })
 }
 
-// Whether a term, whose mark is the lowest of `marks`, has the mark and is not ground.
-fn is_open(table: &[u32], p: usize, marks: usize, mark: usize, known: Known) -> bool
-    requires { ⌜ TermAt (now table) p ⌝ }
-    ensures { λ r. ⌜ ((w : TermAt (now (table .entry)) p) → r ≡ (eqb (marks % markNumbers) mark && not (isGround known (w .term)))) ⌝ }
-{
-    if marks % MARK_NUMBERS != mark {
-        return false;
-    }
-    !is_ground(table, p, known)
+// The first argument that has a mark and is not ground: its number, and the byte of the first variable in it that is not known ground.
+pub enum FirstOpen {
+    Nowhere,
+    At { argument: usize, byte: usize },
 }
 
-// The number, counted from `number`, of the first of the terms up to a place that has the mark and is not ground; 0 where there is none.
+// The ground test of a term whose mark is the lowest of `marks`; with another mark it passes.
+fn marked_test(table: &[u32], p: usize, marks: usize, mark: usize, known: Known) -> Groundness
+    requires { ⌜ TermAt (now table) p ⌝ }
+    ensures { λ r. ⌜ ((w : TermAt (now (table .entry)) p) → r ≡ groundnessOf (ifMarked (eqb (marks % markNumbers) mark) (openByte known (w .term)))) ⌝ }
+{
+    if marks % MARK_NUMBERS != mark {
+        return Groundness::Ground;
+    }
+    ground_test(table, p, known)
+}
+
+// The first of the terms up to a place that has the mark and is not ground; the numbers count from `number`.
 fn first_open(
     table: &[u32],
     p: usize,
@@ -204,21 +211,27 @@ fn first_open(
     mark: usize,
     known: Known,
     number: usize,
-) -> usize
+) -> FirstOpen
     requires { ⌜ MarkedAt (now table) p stop marks mark ⌝ }
     requires { ⌜ number + stop ≤ length (now table) + p ⌝ }
-    ensures { λ r. ⌜ ((w : MarkedAt (now (table .entry)) p stop marks mark) → r ≡ numberOr0 (firstFaulty (w .wanted) (isGround known) (w .listed) (listOf (w .terms)) number)) ⌝ }
+    ensures { λ r. ⌜ ((w : MarkedAt (now (table .entry)) p stop marks mark) → r ≡ firstOpenOf (firstOpen (w .wanted) known (w .listed) (listOf (w .terms)) number)) ⌝ }
 {
     if stop <= p {
-        return 0;
+        return FirstOpen::Nowhere;
     }
-    if is_open(table, p, marks, mark, known) {
-        return number;
+    let test = marked_test(table, p, marks, mark, known);
+    match test {
+        Groundness::Open(byte) => FirstOpen::At {
+            argument: number,
+            byte,
+        },
+        Groundness::Ground => {
+            let next = past(table, p);
+            let rest = marks / MARK_NUMBERS;
+            let more = number + 1;
+            first_open(table, next, stop, rest, mark, known, more)
+        }
     }
-    let next = past(table, p);
-    let rest = marks / MARK_NUMBERS;
-    let more = number + 1;
-    first_open(table, next, stop, rest, mark, known, more)
 }
 
 // What is known once the variables of the terms up to a place that have the mark are ground.
@@ -255,44 +268,50 @@ pub fn call_fault(
     literal: usize,
 ) -> Checked
     requires { ⌜ JudgedAt (now table) p marks ⌝ }
-    ensures { λ r. ⌜ ((w : JudgedAt (now (table .entry)) p marks) → r ≡ checkedOf (openInput clause literal (w .atom) (firstFaulty input (isGround known) (w .listed) (listOf (w .atom .args)) 1))) ⌝ }
+    ensures { λ r. ⌜ ((w : JudgedAt (now (table .entry)) p marks) → r ≡ checkedOf (openInput clause literal (w .atom) (firstOpen input known (w .listed) (listOf (w .atom .args)) 1))) ⌝ }
 {
     let from = p + NODE_WORDS;
     let stop = past(table, p);
-    let argument = first_open(table, from, stop, marks, INPUT, known, 1);
-    if argument == 0 {
-        return Checked::Fine;
+    let found = first_open(table, from, stop, marks, INPUT, known, 1);
+    match found {
+        FirstOpen::Nowhere => Checked::Fine,
+        FirstOpen::At { argument, byte } => {
+            let name = name_at(table, p);
+            let at = name.at;
+            let len = name.len;
+            Checked::Fault(Refusal::OpenInput {
+                byte,
+                clause,
+                literal,
+                argument,
+                at,
+                len,
+            })
+        }
     }
-    let name = name_at(table, p);
-    let at = name.at;
-    let len = name.len;
-    Checked::Fault(Refusal::OpenInput {
-        clause,
-        literal,
-        argument,
-        at,
-        len,
-    })
 }
 
 // The fault of a head after its body, by its marks: the first - argument that is not ground.
 pub fn head_fault(table: &[u32], p: usize, marks: usize, known: Known, clause: usize) -> Checked
     requires { ⌜ JudgedAt (now table) p marks ⌝ }
-    ensures { λ r. ⌜ ((w : JudgedAt (now (table .entry)) p marks) → r ≡ checkedOf (openOutput clause (w .atom) (firstFaulty output (isGround known) (w .listed) (listOf (w .atom .args)) 1))) ⌝ }
+    ensures { λ r. ⌜ ((w : JudgedAt (now (table .entry)) p marks) → r ≡ checkedOf (openOutput clause (w .atom) (firstOpen output known (w .listed) (listOf (w .atom .args)) 1))) ⌝ }
 {
     let from = p + NODE_WORDS;
     let stop = past(table, p);
-    let argument = first_open(table, from, stop, marks, OUTPUT, known, 1);
-    if argument == 0 {
-        return Checked::Fine;
+    let found = first_open(table, from, stop, marks, OUTPUT, known, 1);
+    match found {
+        FirstOpen::Nowhere => Checked::Fine,
+        FirstOpen::At { argument, byte } => {
+            let name = name_at(table, p);
+            let at = name.at;
+            let len = name.len;
+            Checked::Fault(Refusal::OpenOutput {
+                byte,
+                clause,
+                argument,
+                at,
+                len,
+            })
+        }
     }
-    let name = name_at(table, p);
-    let at = name.at;
-    let len = name.len;
-    Checked::Fault(Refusal::OpenOutput {
-        clause,
-        argument,
-        at,
-        len,
-    })
 }

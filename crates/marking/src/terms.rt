@@ -11,37 +11,63 @@ ghost use mathlib.Core.Path.{_≡_};
 ghost use Prim.Native.Nat.{_≤_};
 ghost use lib.ListN.{getD};
 ghost use Rattle.syntax.specs.Words.{firstName};
-ghost use Rattle.rules.specs.Modes.{isGround, areGround, groundTerm, groundTerms, equateVariable, equate, equateAll};
+ghost use Rattle.rules.specs.Modes.{isGround, openByte, openByteOf, groundTerm, groundTerms, equateVariable, equate, equateAll};
 ghost use Rattle.marking.specs.Tables.{TermAt, TermsAt, PairAt, PairsAt};
+ghost use Rattle.marking.specs.Answers.{groundnessOf};
 ghost use Rattle.marking.specs.Functors.{sameFunctor};
 
-// Whether a term is ground.
-pub fn is_ground(table: &[u32], p: usize, known: Known) -> bool
+// The answer of the ground test: ground, or the byte of the first variable that is not known ground.
+pub enum Groundness {
+    Ground,
+    Open(usize),
+}
+
+// The ground test of a term.
+pub fn ground_test(table: &[u32], p: usize, known: Known) -> Groundness
     requires { ⌜ TermAt (now table) p ⌝ }
-    ensures { λ r. ⌜ ((w : TermAt (now (table .entry)) p) → r ≡ isGround known (w .term)) ⌝ }
+    ensures { λ r. ⌜ ((w : TermAt (now (table .entry)) p) → r ≡ groundnessOf (openByte known (w .term))) ⌝ }
 {
     let v = word_at(table, p);
     if v < FIRST_NAME {
-        return known[v];
+        if known[v] {
+            return Groundness::Ground;
+        }
+        let byte = word_at(table, p + 2);
+        return Groundness::Open(byte);
     }
     let from = p + NODE_WORDS;
     let stop = past(table, p);
-    are_ground(table, from, stop, known)
+    ground_test_all(table, from, stop, known)
 }
 
-// Whether all terms up to a place are ground.
-fn are_ground(table: &[u32], p: usize, stop: usize, known: Known) -> bool
+// The ground test of all terms up to a place, from left to right.
+fn ground_test_all(table: &[u32], p: usize, stop: usize, known: Known) -> Groundness
     requires { ⌜ TermsAt (now table) p stop ⌝ }
-    ensures { λ r. ⌜ ((w : TermsAt (now (table .entry)) p stop) → r ≡ areGround known (w .terms)) ⌝ }
+    ensures { λ r. ⌜ ((w : TermsAt (now (table .entry)) p stop) → r ≡ groundnessOf (openByteOf known (w .terms))) ⌝ }
 {
     if stop <= p {
-        return true;
+        return Groundness::Ground;
     }
-    if !is_ground(table, p, known) {
-        return false;
+    let first = ground_test(table, p, known);
+    match first {
+        Groundness::Open(_) => first,
+        Groundness::Ground => {
+            let next = past(table, p);
+            ground_test_all(table, next, stop, known)
+        }
     }
-    let next = past(table, p);
-    are_ground(table, next, stop, known)
+}
+
+// Whether a term is ground, for the equations, which ask no more.
+fn is_ground(table: &[u32], p: usize, known: Known) -> bool
+    requires { ⌜ TermAt (now table) p ⌝ }
+    ensures { λ r. ⌜ ((w : TermAt (now (table .entry)) p) → r ≡ isGround known (w .term)) ⌝ }
+{
+    let test = ground_test(table, p, known);
+    match test {
+        Groundness::Ground => true,
+        Groundness::Open(_) => false,
+    }
 }
 
 // What is known once all variables of a term are ground.

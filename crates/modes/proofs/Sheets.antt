@@ -10,7 +10,7 @@ use lib.ListN.{length, getD}
 use Rattle.syntax.specs.Terms.{Atom, termOf, Mark, input, output, Declaration, Clause}
 use Rattle.syntax.specs.Words.{clauseStart, termWords, atomWords, bodyWords, bodyLength, clauseWords, clausesWords, markNumber, marksNumber}
 use Rattle.syntax.specs.declared.Refusal.{Refusal}
-use Rattle.rules.specs.Modes.{Known, nothing, isGround, marksFor, listOf, firstFaulty, groundMarked, openOutput, undeclaredAtom, undeclaredBody, undeclaredClause, undeclaredClauses, undeclaredInSheet, undeclaredInGoal, startKnown, headFault, clauseFault, clausesFault, sheetFault, goalFault, walkFault, Walk, bodyFault}
+use Rattle.rules.specs.Modes.{Known, nothing, marksFor, listOf, firstOpen, groundMarked, openOutput, undeclaredAtom, undeclaredBody, undeclaredClause, undeclaredClauses, undeclaredInSheet, undeclaredInGoal, startKnown, headFault, clauseFault, clausesFault, sheetFault, goalFault, walkFault, Walk, bodyFault}
 use Rattle.marking.specs.Standing.{ClausesStand, clause-stands}
 use Rattle.words.specs.Tables.{Has}
 use Rattle.marking.specs.Tables.{TermAt, MarkedAt, JudgedAt, DeclarationsAt, AtomAt, BodyAt, ClauseAt, ClausesAt, SheetAt, GoalAt}
@@ -81,7 +81,7 @@ stopped-by ds c h Fine τ x e t = let y : _≡_ {A = ℕ} 0 1 = cc in absurd (om
 stopped-by ds c h (Fault r) τ x e t = ap (λ (z : Walk). checkedOf (headFault ds c h z)) e
 
 passed-by : (ds : List Declaration) (c : ℕ) (h : Atom) (f : Checked) (τ : Known) (x : Walk) → walkBy f τ ≡ x → isFault f ≡ false
-    → checkedOf (openOutput c h (firstFaulty output (isGround τ) (marksFor ds h) (listOf (h .args)) 1)) ≡ checkedOf (headFault ds c h x)
+    → checkedOf (openOutput c h (firstOpen output τ (marksFor ds h) (listOf (h .args)) 1)) ≡ checkedOf (headFault ds c h x)
 unfolding headFault
 passed-by ds c h Fine τ x e t = ap (λ (z : Walk). checkedOf (headFault ds c h z)) e
 passed-by ds c h (Fault r) τ x e t = let y : _≡_ {A = ℕ} 0 1 = cc in absurd (omega arith)
@@ -108,7 +108,7 @@ module _ (s declared : List ℕ) (n : ℕ) (table : List ℕ) (p c marks : ℕ)
     clause-stopped t d u = stopped-by (d .list) c (u .clause .head) (w .fault) (w .known) _ (walked d u) t
 
     pub clause-passed : isFault (w .fault) ≡ false → (r : Checked)
-        → ((j : JudgedAt table (p + 3) marks) → r ≡ checkedOf (openOutput c (j .atom) (firstFaulty output (isGround (w .known)) (j .listed) (listOf (j .atom .args)) 1)))
+        → ((j : JudgedAt table (p + 3) marks) → r ≡ checkedOf (openOutput c (j .atom) (firstOpen output (w .known) (j .listed) (listOf (j .atom .args)) 1)))
         → (d : DeclarationsAt s declared n) (u : ClauseAt s table p) → r ≡ checkedOf (clauseFault (d .list) c (u .clause))
     unfolding clauseFault
     clause-passed t r h d u = h (head-judged d u) ∙ passed-by (d .list) c (u .clause .head) (w .fault) (w .known) _ (walked d u) t

@@ -10,7 +10,7 @@ use lib.ListN.{length, getD}
 use Rattle.syntax.specs.Terms.{Term, Atom, termOf, Literal, Body, call, equation, truth, falsity, done, also, input, output, Declaration}
 use Rattle.syntax.specs.Words.{termWords, atomWords, literalWords, bodyWords, bodyLength, marksNumber, truthKind, falsityKind, callKind, equationKind}
 use Rattle.syntax.specs.declared.Refusal.{Refusal}
-use Rattle.rules.specs.Modes.{Known, everything, isGround, marksFor, listOf, firstFaulty, groundMarked, equate, openInput, undeclaredAtom, undeclaredLiteral, undeclaredBody, literalFault, afterLiteral, Walk, known, walkOn, bodyFault}
+use Rattle.rules.specs.Modes.{Known, everything, marksFor, listOf, firstOpen, groundMarked, equate, openInput, undeclaredAtom, undeclaredLiteral, undeclaredBody, literalFault, afterLiteral, Walk, known, walkOn, bodyFault}
 use Rattle.marking.specs.Standing.{Stands, LiteralStands, call-stands, equation-stands, BodyStands, also-stands}
 use Rattle.words.specs.Tables.{Has}
 use Rattle.marking.specs.Tables.{TermAt, PairAt, MarkedAt, JudgedAt, DeclarationsAt, AtomAt, LiteralAt, BodyAt}
@@ -208,7 +208,7 @@ module _ (s declared : List ℕ) (n : ℕ) (g table : List ℕ) (p marks : ℕ)
   }
 
   pub walked-fault : (τ : Known) (c l : ℕ) (f : Checked)
-      → ((u : JudgedAt table p marks) → f ≡ checkedOf (openInput c l (u .atom) (firstFaulty input (isGround τ) (u .listed) (listOf (u .atom .args)) 1)))
+      → ((u : JudgedAt table p marks) → f ≡ checkedOf (openInput c l (u .atom) (firstOpen input τ (u .listed) (listOf (u .atom .args)) 1)))
       → (stop : ℕ) → ((u : TermAt table p) → stop ≡ p + length (termWords (u .term))) → (after : Known)
       → ((u : MarkedAt table (p + 3) stop marks 2) → after ≡ groundMarked (u .wanted) (u .listed) (listOf (u .terms)) τ)
       → (d : DeclarationsAt s declared n) (w : AtomAt g table p) → walkBy f after ≡ literalWalk (d .list) c l τ (call (w .atom))

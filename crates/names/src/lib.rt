@@ -24,6 +24,7 @@ fn name_span(refusal: Refusal) -> Span
             len,
         } => Span { at, len },
         Refusal::OpenInput {
+            byte: _,
             clause: _,
             literal: _,
             argument: _,
@@ -31,6 +32,7 @@ fn name_span(refusal: Refusal) -> Span
             len,
         } => Span { at, len },
         Refusal::OpenOutput {
+            byte: _,
             clause: _,
             argument: _,
             at,

@@ -7,7 +7,7 @@ use native.Mathlib.Omega.{arith}
 use lib.ListN.{length}
 use Rattle.syntax.specs.Terms.{Atom, Literal, Body, call, equation, truth, falsity, done, also, Mark, input, output, Declaration, Clause, arity}
 use Rattle.syntax.specs.declared.Refusal.{Refusal}
-use Rattle.rules.specs.Modes.{Known, nothing, isGround, marksOf, orNoMarks, marksFor, listOf, firstFaulty, undeclared, undeclaredAtom, undeclaredLiteral, undeclaredBody, undeclaredClause, undeclaredClauses, openInput, openOutput, literalFault, afterLiteral, Walk, faulted, known, walkOn, bodyFault, startKnown, headFault, clauseFault, clausesFault}
+use Rattle.rules.specs.Modes.{Known, nothing, marksOf, orNoMarks, marksFor, listOf, OpenArgument, firstOpen, undeclared, undeclaredAtom, undeclaredLiteral, undeclaredBody, undeclaredClause, undeclaredClauses, openInput, openOutput, literalFault, afterLiteral, Walk, faulted, known, walkOn, bodyFault, startKnown, headFault, clauseFault, clausesFault}
 use Rattle.rules.specs.Judgment.{Declared, Moded, BodyModed, atom, equality, truth-unchanged, falsehood, no-more, conjunction, ClauseModed, clause, ClausesModed, no-clauses, each-clause}
 use Rattle.rules.proofs.Equations.{equating-derived, equating-unique}
 use Rattle.rules.proofs.Marks.{marked-holds, marked-derived, markedly-unique, markedly-derived, declared-holds, declared-derived, declared-length}
@@ -34,12 +34,12 @@ marks-for : (ds : List Declaration) (a : Atom) (ms : List Mark) → marksOf ds a
 unfolding marksFor orNoMarks
 marks-for ds a ms e = rw e
 
-no-open : (c n : ℕ) (a : Atom) (o : Option ℕ) → openInput c n a o ≡ none → o ≡ none
+no-open : (c n : ℕ) (a : Atom) (o : Option OpenArgument) → openInput c n a o ≡ none → o ≡ none
 unfolding openInput
 no-open c n a none e = refl
 no-open c n a (some k) e = absurd (let z : _≡_ {A = ℕ} 0 1 = cc in omega arith)
 
-no-output : (c : ℕ) (a : Atom) (o : Option ℕ) → openOutput c a o ≡ none → o ≡ none
+no-output : (c : ℕ) (a : Atom) (o : Option OpenArgument) → openOutput c a o ≡ none → o ≡ none
 unfolding openOutput
 no-output c a none e = refl
 no-output c a (some k) e = absurd (let z : _≡_ {A = ℕ} 0 1 = cc in omega arith)
@@ -86,7 +86,7 @@ unfolding undeclaredLiteral literalFault afterLiteral
 literal-derived ds c n (call a) τ u f =
     let d : Declared ds a (marksFor ds a) = atom-marks ds c n a u in
     let l : length (marksFor ds a) ≡ arity (a .args) = declared-length d in
-    atom d (marked-derived input τ (marksFor ds a) (a .args) 1 l (no-open c n a (firstFaulty input (isGround τ) (marksFor ds a) (listOf (a .args)) 1) f))
+    atom d (marked-derived input τ (marksFor ds a) (a .args) 1 l (no-open c n a (firstOpen input τ (marksFor ds a) (listOf (a .args)) 1) f))
     (markedly-derived output τ (marksFor ds a) (a .args) l)
 literal-derived ds c n (equation t u) τ p f = equality (equating-derived t u τ)
 literal-derived ds c n truth τ p f = truth-unchanged
@@ -163,7 +163,7 @@ clause-derived ds c cl u f = go (bodyFault ds c 1 (startKnown ds (cl .head)) (cl
         clause d (markedly-derived input nothing (marksFor ds (cl .head)) (cl .head .args) (declared-length d))
         (body-derived ds c (cl .body) 1 (startKnown ds (cl .head)) σ (second-none (undeclaredAtom ds c 0 (cl .head)) (undeclaredBody ds c 1 (cl .body)) u) p)
         (marked-derived output σ (marksFor ds (cl .head)) (cl .head .args) 1 (declared-length d)
-        (no-output c (cl .head) (firstFaulty output (isGround σ) (marksFor ds (cl .head)) (listOf (cl .head .args)) 1) h))
+        (no-output c (cl .head) (firstOpen output σ (marksFor ds (cl .head)) (listOf (cl .head .args)) 1) h))
 
 pub clauses-declared : {ds : List Declaration} {cls : List Clause} → ClausesModed ds cls → (c : ℕ) → undeclaredClauses ds c cls ≡ none
 unfolding undeclaredClauses

@@ -1,4 +1,4 @@
--- Computed cases: document 01's starred cases of checking, its traps, and the order of the refusals.
+-- Computed cases: document 01's starred cases of checking, its traps, the order of the refusals, and document 02's (ii).
 use Prim.Native.Nat.{ℕ}
 use Prim.Native.String.{String}
 use mathlib.Core.Path.{_≡_, refl}
@@ -17,7 +17,7 @@ use Rattle.syntax.specs.declared.Verdict.{Verdict}
 use Rattle.syntax.specs.declared.Verdict.the-variants.{Accepted, Refused}
 use Rattle.syntax.specs.declared.Text.{Text}
 use Rattle.syntax.specs.declared.Text.the-variants.{Sheet, Goal}
-use Rattle.rules.specs.Modes.{nothing, everything, isGround, groundTerm, groundBoth, equateVariable, equateSame, equate, marksOf, orNoMarks, marksFor, sameMark, faulty, firstFaulty, groundIf, groundMarked, undeclared, undeclaredAtom, undeclaredLiteral, undeclaredBody, undeclaredClause, undeclaredClauses, undeclaredInSheet, undeclaredInGoal, openInput, openOutput, literalFault, afterLiteral, walkOn, bodyFault, startKnown, headFault, clauseFault, clausesFault, sheetFault, walkFault, goalFault}
+use Rattle.rules.specs.Modes.{nothing, everything, isGround, openUnless, openByte, groundTerm, groundBoth, equateVariable, equateSame, equate, marksOf, orNoMarks, marksFor, sameMark, ifMarked, firstOpen, groundIf, groundMarked, undeclared, undeclaredAtom, undeclaredLiteral, undeclaredBody, undeclaredClause, undeclaredClauses, undeclaredInSheet, undeclaredInGoal, openInput, openOutput, literalFault, afterLiteral, walkOn, bodyFault, startKnown, headFault, clauseFault, clausesFault, sheetFault, walkFault, goalFault}
 use Rattle.rules.specs.Checking.{faultless, checkedFrom, checkedSheet, checkVerdict, checkedGoalFrom, checkedGoal, goalAnswer, checkGoalFrom, checkGoalVerdict, faultName}
 
 -- what the checker prints, before it is spelt
@@ -49,33 +49,40 @@ cases =
     sheet ":- mode plus(+,+,-).\nplus(z,N,N).\nplus(s(M),N,s(P)) :- plus(M,N,P).\n" (accepted 1 2)
     ∷ sheet ":- mode plus(+,-,+).\nplus(z,N,N).\nplus(s(M),N,s(P)) :- plus(M,N,P).\n" (accepted 1 2)
     ∷ sheet ":- mode plus(-,+,+).\nplus(z,N,N).\nplus(s(M),N,s(P)) :- plus(M,N,P).\n" (accepted 1 2)
-    ∷ sheet ":- mode plus(+,-,-).\nplus(z,N,N).\nplus(s(M),N,s(P)) :- plus(M,N,P).\n" (refused Sheet (five 10 0 1 0 2) (bytes "plus"))
+    ∷ sheet ":- mode plus(+,-,-).\nplus(z,N,N).\nplus(s(M),N,s(P)) :- plus(M,N,P).\n" (refused Sheet (five 10 28 1 0 2) (bytes "plus"))
     ∷ sheet "" (accepted 0 0)
     ∷ sheet ":- mode p(-). p(X) :- fail." (accepted 1 1)
-    ∷ sheet ":- mode p(-). p(X) :- true." (refused Sheet (five 10 0 1 0 1) (bytes "p"))
+    ∷ sheet ":- mode p(-). p(X) :- true." (refused Sheet (five 10 16 1 0 1) (bytes "p"))
     ∷ sheet ":- mode p(-). p(X) :- a = b." (accepted 1 1)
-    ∷ sheet ":- mode p(-). p(X) :- f(X,Y) = f(Y,a)." (refused Sheet (five 10 0 1 0 1) (bytes "p"))
-    ∷ sheet ":- mode next(+,-). :- mode ends(+,-). next(off,rinse). ends(S,T) :- next(U,T)." (refused Sheet (five 9 0 2 1 1) (bytes "next"))
-    ∷ sheet ":- mode next(+,-). :- mode ends(+,-). next(off,rinse). ends(S,T) :- next(S,U)." (refused Sheet (five 10 0 2 0 2) (bytes "ends"))
+    ∷ sheet ":- mode p(-). p(X) :- f(X,Y) = f(Y,a)." (refused Sheet (five 10 16 1 0 1) (bytes "p"))
+    ∷ sheet ":- mode next(+,-). :- mode ends(+,-). next(off,rinse). ends(S,T) :- next(U,T)." (refused Sheet (five 9 73 2 1 1) (bytes "next"))
+    ∷ sheet ":- mode next(+,-). :- mode ends(+,-). next(off,rinse). ends(S,T) :- next(S,U)." (refused Sheet (five 10 62 2 0 2) (bytes "ends"))
     -- the traps: outputs before inputs, * head arguments, reading on after `fail`
-    ∷ sheet ":- mode p(+,-). :- mode q(*). q(X) :- p(X,X)." (refused Sheet (five 9 0 1 1 1) (bytes "p"))
-    ∷ sheet ":- mode p(*,-). p(X,X)." (refused Sheet (five 10 0 1 0 2) (bytes "p"))
+    ∷ sheet ":- mode p(+,-). :- mode q(*). q(X) :- p(X,X)." (refused Sheet (five 9 40 1 1 1) (bytes "p"))
+    ∷ sheet ":- mode p(*,-). p(X,X)." (refused Sheet (five 10 20 1 0 2) (bytes "p"))
     ∷ sheet ":- mode p(-). :- mode q(+). p(X) :- fail, q(Y)." (accepted 2 1)
-    ∷ sheet ":- mode p(-). :- mode q(+). p(X) :- true, q(Y)." (refused Sheet (five 9 0 1 2 1) (bytes "q"))
+    ∷ sheet ":- mode p(-). :- mode q(+). p(X) :- true, q(Y)." (refused Sheet (five 9 44 1 2 1) (bytes "q"))
     -- equations: pairs from the left, a variable inside the other side, clashes at the top and below
     ∷ sheet ":- mode p(-). p(X) :- f(Y,X) = f(a,Y)." (accepted 1 1)
-    ∷ sheet ":- mode p(-). p(X) :- X = f(X)." (refused Sheet (five 10 0 1 0 1) (bytes "p"))
-    ∷ sheet ":- mode p(-). p(X) :- f(X) = Y, Y = f(a)." (refused Sheet (five 10 0 1 0 1) (bytes "p"))
+    ∷ sheet ":- mode p(-). p(X) :- X = f(X)." (refused Sheet (five 10 16 1 0 1) (bytes "p"))
+    ∷ sheet ":- mode p(-). p(X) :- f(X) = Y, Y = f(a)." (refused Sheet (five 10 16 1 0 1) (bytes "p"))
     ∷ sheet ":- mode p(-). p(X) :- Y = f(a), f(X) = Y." (accepted 1 1)
     ∷ sheet ":- mode p(-). p(X) :- a = 1." (accepted 1 1)
     ∷ sheet ":- mode p(-). p(X) :- f(Y) = f(Y,Z)." (accepted 1 1)
     ∷ sheet ":- mode p(-). p(X) :- f(g(Y),a) = f(g(Y),b)." (accepted 1 1)
-    ∷ sheet ":- mode p(-). p(X) :- f(a) = f(a)." (refused Sheet (five 10 0 1 0 1) (bytes "p"))
+    ∷ sheet ":- mode p(-). p(X) :- f(a) = f(a)." (refused Sheet (five 10 16 1 0 1) (bytes "p"))
     -- * arguments give and ask nothing; `_` is a variable of its own; the lowest argument of the first fault
-    ∷ sheet ":- mode p(*). :- mode q(-). p(X). q(X) :- p(X)." (refused Sheet (five 10 0 2 0 1) (bytes "q"))
-    ∷ sheet ":- mode p(+). :- mode q(+). p(X). q(_) :- p(_)." (refused Sheet (five 9 0 2 1 1) (bytes "p"))
-    ∷ sheet ":- mode p(*,+,+). :- mode q(-). q(X) :- p(X,Y,X)." (refused Sheet (five 9 0 1 1 2) (bytes "p"))
-    ∷ sheet ":- mode p(-). :- mode q(+). p(X). p(X) :- q(X)." (refused Sheet (five 10 0 1 0 1) (bytes "p"))
+    ∷ sheet ":- mode p(*). :- mode q(-). p(X). q(X) :- p(X)." (refused Sheet (five 10 36 2 0 1) (bytes "q"))
+    ∷ sheet ":- mode p(+). :- mode q(+). p(X). q(_) :- p(_)." (refused Sheet (five 9 44 2 1 1) (bytes "p"))
+    ∷ sheet ":- mode p(*,+,+). :- mode q(-). q(X) :- p(X,Y,X)." (refused Sheet (five 9 44 1 1 2) (bytes "p"))
+    ∷ sheet ":- mode p(-). :- mode q(+). p(X). p(X) :- q(X)." (refused Sheet (five 10 30 1 0 1) (bytes "p"))
+    -- document 02, (ii): the first open variable in the argument, where it stands there; nested, twice, anonymous, in a goal
+    ∷ sheet ":-mode p(+). p(X) :- Y = Z, p(f(X,g(Z),Y))." (refused Sheet (five 9 36 1 2 1) (bytes "p"))
+    ∷ sheet ":-mode p(-,-). p(X,f(a,Y,X)) :- X=b." (refused Sheet (five 10 23 1 0 2) (bytes "p"))
+    ∷ sheet ":-mode p(*,-). p(X,f(a,g(X)))." (refused Sheet (five 10 25 1 0 2) (bytes "p"))
+    ∷ sheet ":-mode p(-). p(f(X,X))." (refused Sheet (five 10 17 1 0 1) (bytes "p"))
+    ∷ sheet ":-mode p(-). p(f(_,_))." (refused Sheet (five 10 17 1 0 1) (bytes "p"))
+    ∷ goal ":-mode p(+). p(a)." "X=a,p(f(X,_))." (refused Goal (five 9 10 0 2 1) (bytes "p"))
     -- 8 over the whole sheet before 9 and 10: head before body, left to right; a predicate has a number of arguments; declarations may follow
     ∷ sheet "p :- q. r." (refused Sheet (five 8 0 1 0 0) (bytes "p"))
     ∷ sheet ":- mode p. p :- true, a = b, qq, r. s." (refused Sheet (five 8 0 1 3 0) (bytes "qq"))
@@ -84,23 +91,23 @@ cases =
     ∷ sheet ":- mode p(+). p." (refused Sheet (five 8 0 1 0 0) (bytes "p"))
     ∷ sheet "p(a). :- mode p(+)." (accepted 1 1)
     -- document 02, (iii): accepted before by a clash of 1 and 01, which are one now; names are not touched
-    ∷ sheet ":- mode p(-). p(X) :- 1 = 01." (refused Sheet (five 10 0 1 0 1) (bytes "p"))
-    ∷ sheet ":- mode p(+). p(X) :- 1 = 01, p(Y)." (refused Sheet (five 9 0 1 2 1) (bytes "p"))
-    ∷ sheet ":- mode p(-). p(X) :- 00 = 000." (refused Sheet (five 10 0 1 0 1) (bytes "p"))
+    ∷ sheet ":- mode p(-). p(X) :- 1 = 01." (refused Sheet (five 10 16 1 0 1) (bytes "p"))
+    ∷ sheet ":- mode p(+). p(X) :- 1 = 01, p(Y)." (refused Sheet (five 9 32 1 2 1) (bytes "p"))
+    ∷ sheet ":- mode p(-). p(X) :- 00 = 000." (refused Sheet (five 10 16 1 0 1) (bytes "p"))
     ∷ sheet ":- mode p(-). p(X) :- 1 = 10." (accepted 1 1)
     ∷ sheet ":- mode p(-). p(X) :- a1 = a01." (accepted 1 1)
     -- 7 before 8; refusals up to 7 hand back no name
     ∷ sheet "q. :- mode p(+). :- mode p(-)." (refused Sheet (five 7 25 0 0 0) [])
     -- goals: the sheet first, then 2 to 6, 8 and 9
     ∷ goal ":- mode plus(+,+,-).\nplus(z,N,N).\nplus(s(M),N,s(P)) :- plus(M,N,P).\n" "plus(s(z),z,X)." (accepted 1 2)
-    ∷ goal ":- mode plus(+,+,-)." "X = a, plus(X,Y,Z)." (refused Goal (five 9 0 0 2 2) (bytes "plus"))
+    ∷ goal ":- mode plus(+,+,-)." "X = a, plus(X,Y,Z)." (refused Goal (five 9 14 0 2 2) (bytes "plus"))
     ∷ goal ":- mode p(-). :- mode q(+)." "p(X), q(X), true, qqq(X), q(Y)." (refused Goal (five 8 0 0 4 0) (bytes "qqq"))
     ∷ goal ":- mode q(+)." "fail, q(X)." (accepted 1 0)
-    ∷ goal ":- mode p(-). p(X)." "p(" (refused Sheet (five 10 0 1 0 1) (bytes "p"))
+    ∷ goal ":- mode p(-). p(X)." "p(" (refused Sheet (five 10 16 1 0 1) (bytes "p"))
     ∷ goal "" "" (refused Goal (five 5 0 0 0 0) [])
     ∷ []
 
 -- each case gets the answer that it is told with
 as-told : map answered cases ≡ map told cases
-unfolding trimmed classOf inWord inNumeral skipped run word dashFirst tokenOf tokenFrom tokenPlace tokenAt sameBytes literalOf andThen standing next wrongNumber wrong beyond full numberOf isAnonymous withNew newVariable oldVariable readVariable atomWith readAtomWith termWith readTermWith argumentsAfter readArguments readList readTerm readAtom readRight afterAtom afterTerm literalWith readLiteral bodyAfter readBody clauseAfter readClause marksAfter marksWith readMarks marksBehind declarationEnd declarationFrom isMode afterNeck readDeclaration itemWith readItems atStart readSheet goalEnd readGoal declares repeats firstRepeat withoutRepeats sheetFrom goalFrom sheetOf goalOutcome sheetVerdict nothing everything isGround groundTerm groundBoth equateVariable equateSame equate marksOf orNoMarks marksFor sameMark faulty firstFaulty groundIf groundMarked undeclared undeclaredAtom undeclaredLiteral undeclaredBody undeclaredClause undeclaredClauses undeclaredInSheet undeclaredInGoal openInput openOutput literalFault afterLiteral walkOn bodyFault startKnown headFault clauseFault clausesFault sheetFault walkFault goalFault faultless checkedFrom checkedSheet checkVerdict checkedGoalFrom checkedGoal goalAnswer checkGoalFrom checkGoalVerdict faultName
+unfolding trimmed classOf inWord inNumeral skipped run word dashFirst tokenOf tokenFrom tokenPlace tokenAt sameBytes literalOf andThen standing next wrongNumber wrong beyond full numberOf isAnonymous withNew newVariable oldVariable readVariable atomWith readAtomWith termWith readTermWith argumentsAfter readArguments readList readTerm readAtom readRight afterAtom afterTerm literalWith readLiteral bodyAfter readBody clauseAfter readClause marksAfter marksWith readMarks marksBehind declarationEnd declarationFrom isMode afterNeck readDeclaration itemWith readItems atStart readSheet goalEnd readGoal declares repeats firstRepeat withoutRepeats sheetFrom goalFrom sheetOf goalOutcome sheetVerdict nothing everything isGround groundTerm groundBoth equateVariable equateSame equate marksOf orNoMarks marksFor sameMark openUnless openByte ifMarked firstOpen groundIf groundMarked undeclared undeclaredAtom undeclaredLiteral undeclaredBody undeclaredClause undeclaredClauses undeclaredInSheet undeclaredInGoal openInput openOutput literalFault afterLiteral walkOn bodyFault startKnown headFault clauseFault clausesFault sheetFault walkFault goalFault faultless checkedFrom checkedSheet checkVerdict checkedGoalFrom checkedGoal goalAnswer checkGoalFrom checkGoalVerdict faultName
 as-told = refl

@@ -5,3 +5,4 @@ pub mod Bodies
 pub mod Growth
 pub mod Agreement
 pub mod Cases
+pub mod Earlier

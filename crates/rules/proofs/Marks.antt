@@ -1,16 +1,16 @@
 -- The judgments about the arguments with a mark, and the declaration of a predicate, with the functions that decide them.
 use Prim.Native.Nat.{ℕ, suc}
-use mathlib.Core.Path.{_≡_, refl, sym, ap, subst, _∙_}
+use mathlib.Core.Path.{_≡_, refl, sym, ap, ap₂, subst, _∙_}
 use mathlib.Core.Logic.{_≢_}
-use mathlib.Core.Bool.{Bool, true, false, _&&_, true≢false, false≢true}
+use mathlib.Core.Bool.{Bool, true, false, not, _&&_, true≢false, false≢true}
 use mathlib.Core.List.{List, [], _∷_}
 use mathlib.Core.Option.{Option, none, some}
 use native.Mathlib.Omega.{arith}
 use lib.ListN.{length}
-use Rattle.syntax.specs.Terms.{Terms, nil, cons, arity, Atom, Mark, input, output, free, Declaration, samePredicate}
-use Rattle.rules.specs.Modes.{Known, isGround, groundTerm, sameMark, listOf, faulty, firstFaulty, oneMore, countFaulty, groundIf, groundMarked, marksOf}
+use Rattle.syntax.specs.Terms.{Term, Terms, nil, cons, arity, Atom, Mark, input, output, free, Declaration, samePredicate}
+use Rattle.rules.specs.Modes.{Known, isGround, openByte, groundTerm, sameMark, ifMarked, firstOpen, listOf, faulty, groundIf, groundMarked, marksOf}
 use Rattle.rules.specs.Judgment.{MarkedGround, marked-none, marked-one, marked-other, MarkedGrounding, markedly-none, markedly-one, markedly-other, Declared, first, later}
-use Rattle.rules.proofs.Terms.{not-true, ground-holds, ground-derived, grounding-derived, grounding-unique}
+use Rattle.rules.proofs.Terms.{isNone, ground-none, not-true, ground-holds, ground-derived, grounding-derived, grounding-unique}
 use Rattle.rules.proofs.Equations.{same-arity}
 
 -- ---- options
@@ -49,92 +49,74 @@ unlike m k e p = true≢false (sym (same-mark m) ∙ ap (λ q. sameMark m q) (sy
 
 -- ---- one argument of a list
 
-pub faulty-not : {A : Type 0} (m k : Mark) (test : A → Bool) (x : A) → sameMark m k ≡ false → faulty m test k x ≡ false
+-- an argument that has the mark and is not ground is where the test finds a byte
+pub faulty-open : (m k : Mark) (τ : Known) (t : Term) → faulty m (isGround τ) k t ≡ not (isNone (ifMarked (sameMark m k) (openByte τ t)))
 unfolding faulty
-faulty-not m k test x e = rw e
-
-pub faulty-passes : {A : Type 0} (m k : Mark) (test : A → Bool) (x : A) → test x ≡ true → faulty m test k x ≡ false
-unfolding faulty
-faulty-passes m k test x e = rw e (and-false (sameMark m k))
+faulty-open m k τ t = ap (λ (g : Bool). sameMark m k && not g) (ground-none τ t) ∙ by (sameMark m k) (openByte τ t)
   where
-    and-false : (b : Bool) → (b && false) ≡ false
-    and-false true = refl
-    and-false false = refl
+    by : (b : Bool) (o : Option ℕ) → (b && not (isNone o)) ≡ not (isNone (ifMarked b o))
+    by true o = unfold ifMarked in refl
+    by false o = unfold ifMarked in refl
 
-pub faulty-fails : {A : Type 0} (m k : Mark) (test : A → Bool) (x : A) → sameMark m k ≡ true → test x ≡ false → faulty m test k x ≡ true
-unfolding faulty
-faulty-fails m k test x e h = rw (e, h)
+module _ (m : Mark) (τ : Known) (k : Mark) (ks : List Mark) (t : Term) (ts : List Term) (n : ℕ) where
+  pub open-passes : ifMarked (sameMark m k) (openByte τ t) ≡ none → firstOpen m τ (k ∷ ks) (t ∷ ts) n ≡ firstOpen m τ ks ts (suc n)
+  unfolding firstOpen
+  open-passes e = rw (e, firstOpen)
 
-module _ {A : Type 0} (m : Mark) (test : A → Bool) (k : Mark) (ks : List Mark) (x : A) (xs : List A) (n : ℕ) where
-  pub first-passes : faulty m test k x ≡ false → firstFaulty m test (k ∷ ks) (x ∷ xs) n ≡ firstFaulty m test ks xs (suc n)
-  unfolding firstFaulty
-  first-passes e = rw (e, firstFaulty)
-
-  pub first-fails : faulty m test k x ≡ true → firstFaulty m test (k ∷ ks) (x ∷ xs) n ≡ some n
-  unfolding firstFaulty
-  first-fails e = rw (e, firstFaulty)
-
--- none is at fault exactly where the count is zero
-pub none-counted : {A : Type 0} (m : Mark) (test : A → Bool) (ks : List Mark) (xs : List A) (n : ℕ)
-    → firstFaulty m test ks xs n ≡ none
-    → countFaulty m test ks xs ≡ 0
-unfolding firstFaulty countFaulty oneMore
-none-counted m test [] xs n e = refl
-none-counted m test (k ∷ ks) [] n e = refl
-none-counted m test (k ∷ ks) (x ∷ xs) n e = go (faulty m test k x) refl (λ h. none-counted m test ks xs (suc n) h)
-  where
-    go : (b : Bool)
-        → faulty m test k x ≡ b
-        → (firstFaulty m test ks xs (suc n) ≡ none → countFaulty m test ks xs ≡ 0)
-        → oneMore b (countFaulty m test ks xs) ≡ 0
-    go true p h = absurd (none-some (sym (first-fails m test k ks x xs n p) ∙ e))
-    go false p h = h (sym (first-passes m test k ks x xs n p) ∙ e)
-
-pub counted-none : {A : Type 0} (m : Mark) (test : A → Bool) (ks : List Mark) (xs : List A) (n : ℕ)
-    → countFaulty m test ks xs ≡ 0
-    → firstFaulty m test ks xs n ≡ none
-unfolding firstFaulty countFaulty oneMore
-counted-none m test [] xs n e = refl
-counted-none m test (k ∷ ks) [] n e = refl
-counted-none m test (k ∷ ks) (x ∷ xs) n e = go (faulty m test k x) refl e (λ h. counted-none m test ks xs (suc n) h)
-  where
-    go : (b : Bool)
-        → faulty m test k x ≡ b
-        → oneMore b (countFaulty m test ks xs) ≡ 0
-        → (countFaulty m test ks xs ≡ 0 → firstFaulty m test ks xs (suc n) ≡ none)
-        → firstFaulty m test (k ∷ ks) (x ∷ xs) n ≡ none
-    go true p z h = absurd (omega arith)
-    go false p z h = first-passes m test k ks x xs n p ∙ h z
+  pub open-found : (b : ℕ) → ifMarked (sameMark m k) (openByte τ t) ≡ some b → firstOpen m τ (k ∷ ks) (t ∷ ts) n ≡ some (record { argument = n; byte = b })
+  unfolding firstOpen
+  open-found b e = rw (e, firstOpen)
 
 -- ---- τ ⊢ t ground, for the arguments with a mark
 
-pub marked-holds : {m : Mark} {τ : Known} {ms : List Mark} {ts : Terms} → MarkedGround m τ ms ts → (n : ℕ) → firstFaulty m (isGround τ) ms (listOf ts) n ≡ none
-unfolding firstFaulty
+ground-byte : (τ : Known) (t : Term) → isGround τ t ≡ true → openByte τ t ≡ none
+ground-byte τ t e = by (openByte τ t) (sym (ground-none τ t) ∙ e)
+  where
+    by : (o : Option ℕ) → isNone o ≡ true → o ≡ none
+    by none e = refl
+    by (some b) e = absurd (false≢true e)
+
+same-passes : (m k : Mark) (o : Option ℕ) → o ≡ none → ifMarked (sameMark m k) o ≡ none
+unfolding ifMarked
+same-passes m k o e = ap (ifMarked (sameMark m k)) e ∙ by (sameMark m k)
+  where
+    by : (b : Bool) → ifMarked b none ≡ none
+    by true = unfold ifMarked in refl
+    by false = unfold ifMarked in refl
+
+other-passes : (m k : Mark) (o : Option ℕ) → sameMark m k ≡ false → ifMarked (sameMark m k) o ≡ none
+unfolding ifMarked
+other-passes m k o e = ap (λ (b : Bool). ifMarked b o) e
+
+pub marked-holds : {m : Mark} {τ : Known} {ms : List Mark} {ts : Terms} → MarkedGround m τ ms ts → (n : ℕ) → firstOpen m τ ms (listOf ts) n ≡ none
+unfolding firstOpen
 marked-holds marked-none n = refl
 marked-holds {m} {τ} (marked-one {t = t} {ms = ms} {ts = ts} g r) n =
-    first-passes m (isGround τ) m ms t (listOf ts) n (faulty-passes m m (isGround τ) t (ground-holds g)) ∙ marked-holds r (suc n)
+    open-passes m τ m ms t (listOf ts) n (same-passes m m (openByte τ t) (ground-byte τ t (ground-holds g))) ∙ marked-holds r (suc n)
 marked-holds {m} {τ} (marked-other {k = k} {t = t} {ms = ms} {ts = ts} h r) n =
-    first-passes m (isGround τ) k ms t (listOf ts) n (faulty-not m k (isGround τ) t (other-mark m k h)) ∙ marked-holds r (suc n)
+    open-passes m τ k ms t (listOf ts) n (other-passes m k (openByte τ t) (other-mark m k h)) ∙ marked-holds r (suc n)
 
 pub marked-derived : (m : Mark) (τ : Known) (ms : List Mark) (ts : Terms) (n : ℕ)
     → length ms ≡ arity ts
-    → firstFaulty m (isGround τ) ms (listOf ts) n ≡ none
+    → firstOpen m τ ms (listOf ts) n ≡ none
     → MarkedGround m τ ms ts
 marked-derived m τ [] nil n l e = marked-none
 marked-derived m τ [] (cons t ts) n l e = absurd (omega arith)
 marked-derived m τ (k ∷ ks) nil n l e = absurd (omega arith)
 marked-derived m τ (k ∷ ks) (cons t ts) n l e =
-    go (sameMark m k) (isGround τ t) refl refl (λ p. marked-derived m τ ks ts (suc n) (omega arith) (sym (first-passes m (isGround τ) k ks t (listOf ts) n p) ∙ e))
+    go (sameMark m k) (openByte τ t) refl refl (λ p. marked-derived m τ ks ts (suc n) (omega arith) (sym (open-passes m τ k ks t (listOf ts) n p) ∙ e))
   where
-    go : (b c : Bool)
+    go : (b : Bool) (o : Option ℕ)
         → sameMark m k ≡ b
-        → isGround τ t ≡ c
-        → (faulty m (isGround τ) k t ≡ false → MarkedGround m τ ks ts)
+        → openByte τ t ≡ o
+        → (ifMarked (sameMark m k) (openByte τ t) ≡ none → MarkedGround m τ ks ts)
         → MarkedGround m τ (k ∷ ks) (cons t ts)
-    go false c p q h = marked-other (unlike m k p) (h (faulty-not m k (isGround τ) t p))
-    go true true p q h =
-        subst (λ j. MarkedGround m τ (j ∷ ks) (cons t ts)) (sym (alike m k p)) (marked-one (ground-derived τ t q) (h (faulty-passes m k (isGround τ) t q)))
-    go true false p q h = absurd (none-some (sym (first-fails m (isGround τ) k ks t (listOf ts) n (faulty-fails m k (isGround τ) t p q)) ∙ e))
+    go false o p q h = marked-other (unlike m k p) (h (other-passes m k (openByte τ t) p))
+    go true none p q h =
+        subst (λ j. MarkedGround m τ (j ∷ ks) (cons t ts)) (sym (alike m k p))
+        (marked-one (ground-derived τ t (ground-none τ t ∙ ap isNone q)) (h (same-passes m k (openByte τ t) q)))
+    go true (some b) p q h =
+        absurd (none-some (sym (open-found m τ k ks t (listOf ts) n b (unfold ifMarked in (ap₂ ifMarked p q))) ∙ e))
 
 -- ---- τ ⊢ s / σ, for the arguments with a mark
 

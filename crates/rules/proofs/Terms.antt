@@ -1,11 +1,12 @@
 -- The judgments about terms and the functions that decide them.
 use Prim.Native.Nat.{ℕ, zero, suc}
-use mathlib.Core.Path.{_≡_, refl, sym, ap, _∙_}
+use mathlib.Core.Path.{_≡_, refl, sym, ap, ap₂, _∙_}
 use mathlib.Core.Bool.{Bool, true, false, _&&_, true≢false, false≢true}
 use mathlib.Core.List.{[], _∷_}
+use mathlib.Core.Option.{Option, none, some}
 use lib.ListN.{set}
 use Rattle.syntax.specs.Terms.{Term, Terms, variable, compound, nil, cons}
-use Rattle.rules.specs.Modes.{Known, knows, isGround, areGround, groundTerm, groundTerms}
+use Rattle.rules.specs.Modes.{Known, knows, isGround, areGround, openUnless, openByte, openByteOf, groundTerm, groundTerms}
 use Rattle.rules.specs.Judgment.{Ground, AllGround, ground-variable, ground-compound, ground-nil, ground-cons, Grounding, AllGrounding, grounding-variable, grounding-compound, grounding-nil, grounding-cons}
 
 pub and-left : (a b : Bool) → (a && b) ≡ true → a ≡ true
@@ -53,6 +54,34 @@ not-true false h = refl
 
 pub open-holds : {τ : Known} {t : Term} → ¬ Ground τ t → isGround τ t ≡ false
 open-holds {τ} {t} h = not-true (isGround τ t) (λ e. h (ground-derived τ t e))
+
+-- ---- the byte of the first open variable
+
+abbrev pub isNone : Option ℕ → Bool
+isNone none = true
+isNone (some b) = false
+
+either-none : (o p : Option ℕ) → (isNone o && isNone p) ≡ isNone (elim o as (λ _. Option ℕ) [ none ↦ p | some b ↦ some b ])
+either-none none p = refl
+either-none (some b) p = refl
+
+unless-none : (k : Bool) (at : ℕ) → k ≡ isNone (openUnless k at)
+unfolding openUnless
+unless-none true at = refl
+unless-none false at = refl
+
+-- the test finds no open variable exactly where the term is ground
+mutual
+  unfolding isGround openByte
+
+  pub ground-none : (τ : Known) (t : Term) → isGround τ t ≡ isNone (openByte τ t)
+  ground-none τ (variable i at) = unless-none (knows τ i) at
+  ground-none τ (compound at f ts) = all-none τ ts
+
+  pub all-none : (τ : Known) (ts : Terms) → areGround τ ts ≡ isNone (openByteOf τ ts)
+  all-none τ nil = refl
+  all-none τ (cons t ts) =
+      ap₂ (λ (a b : Bool). a && b) (ground-none τ t) (all-none τ ts) ∙ either-none (openByte τ t) (openByteOf τ ts)
 
 -- ---- τ ⊢ t / σ
 

@@ -64,8 +64,8 @@ nameSpan (Misplaced byte) = (0, 0)
 nameSpan (OverLimit byte) = (0, 0)
 nameSpan (Repeated byte) = (0, 0)
 nameSpan (Undeclared clause literal at len) = (at, len)
-nameSpan (OpenInput clause literal argument at len) = (at, len)
-nameSpan (OpenOutput clause argument at len) = (at, len)
+nameSpan (OpenInput byte clause literal argument at len) = (at, len)
+nameSpan (OpenOutput byte clause argument at len) = (at, len)
 
 -- the text that a refusal speaks of
 abbrev pub textAtFault : List ℕ → List ℕ → Text → List ℕ

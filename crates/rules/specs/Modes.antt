@@ -1,4 +1,4 @@
--- What is known ground, and the refusals 8 to 10 (document 01, "What is known ground" and "The ten numbers").
+-- What is known ground, and the refusals 8 to 10 (document 01, "What is known ground" and "The ten numbers"; document 02, (ii)).
 use Prim.Native.Nat.{ℕ, suc}
 use mathlib.Core.Bool.{Bool, true, false, not, _&&_, _||_}
 use mathlib.Core.List.{List, [], _∷_}
@@ -34,6 +34,22 @@ unfoldable mutual
   pub areGround : Known → Terms → Bool
   areGround τ nil = true
   areGround τ (cons t ts) = isGround τ t && areGround τ ts
+
+-- a variable that stands at a byte, by whether it is known ground
+unfoldable pub openUnless : Bool → ℕ → Option ℕ
+openUnless true at = none
+openUnless false at = some at
+
+-- "The ground test now gives the byte of the first variable in the argument that is not known ground, where it gave yes or no": none exactly
+-- where the term is ground (a theorem). It is the variable's place in this term, not its first place in the clause.
+unfoldable mutual
+  pub openByte : Known → Term → Option ℕ
+  openByte τ (variable i at) = openUnless (knows τ i) at
+  openByte τ (compound at f ts) = openByteOf τ ts
+
+  pub openByteOf : Known → Terms → Option ℕ
+  openByteOf τ nil = none
+  openByteOf τ (cons t ts) = elim (openByte τ t) [ none ↦ openByteOf τ ts | some b ↦ some b ]
 
 -- all variables of a term "become ground"
 unfoldable mutual
@@ -109,15 +125,26 @@ abbrev pub listOf : Terms → List Term
 listOf nil = []
 listOf (cons t ts) = t ∷ listOf ts
 
+-- an argument that is not ground: its number, and the byte of the first variable in it that is not known ground
+pub record OpenArgument : Type 0 where
+  pub argument : ℕ
+  pub byte : ℕ
+
+-- an argument without the mark is not looked at
+unfoldable pub ifMarked : Bool → Option ℕ → Option ℕ
+ifMarked true byte = byte
+ifMarked false byte = none
+
+-- the first argument that has the mark and is not ground; the numbers count from n
+unfoldable pub firstOpen : Mark → Known → List Mark → List Term → ℕ → Option OpenArgument
+firstOpen m τ [] ts n = none
+firstOpen m τ (k ∷ ks) [] n = none
+firstOpen m τ (k ∷ ks) (t ∷ ts) n =
+    elim (ifMarked (sameMark m k) (openByte τ t)) [ none ↦ firstOpen m τ ks ts (suc n) | some b ↦ some (record { argument = n; byte = b }) ]
+
 -- an argument x marked k: it has the mark m and fails the test
 unfoldable pub faulty : {A : Type 0} → Mark → (A → Bool) → Mark → A → Bool
 faulty m test k x = sameMark m k && not (test x)
-
--- the number, counted from n, of the first argument that has the mark and fails the test
-unfoldable pub firstFaulty : {A : Type 0} → Mark → (A → Bool) → List Mark → List A → ℕ → Option ℕ
-firstFaulty m test [] xs n = none
-firstFaulty m test (k ∷ ks) [] n = none
-firstFaulty m test (k ∷ ks) (x ∷ xs) n = elim (faulty m test k x) [ true ↦ some n | false ↦ firstFaulty m test ks xs (suc n) ]
 
 -- one is added where the test says so
 unfoldable pub oneMore : Bool → ℕ → ℕ
@@ -183,19 +210,19 @@ undeclaredInGoal sh g = undeclaredBody (sh .declarations) 0 1 (g .body)
 
 -- ---- refusals 9 and 10
 
--- 9: "A call has a + argument not known ground; clause, literal, argument."
-unfoldable pub openInput : ℕ → ℕ → Atom → Option ℕ → Option Refusal
+-- 9: "A call has a + argument not known ground; clause, literal, argument."; "refusals 9 and 10 carry it in their byte place, which was 0"
+unfoldable pub openInput : ℕ → ℕ → Atom → Option OpenArgument → Option Refusal
 openInput c l a none = none
-openInput c l a (some n) = some (OpenInput c l n (a .at) (length (a .name)))
+openInput c l a (some o) = some (OpenInput (o .byte) c l (o .argument) (a .at) (length (a .name)))
 
 -- 10: "A head's - argument is not known ground after the body; clause, literal 0, argument."
-unfoldable pub openOutput : ℕ → Atom → Option ℕ → Option Refusal
+unfoldable pub openOutput : ℕ → Atom → Option OpenArgument → Option Refusal
 openOutput c a none = none
-openOutput c a (some n) = some (OpenOutput c n (a .at) (length (a .name)))
+openOutput c a (some o) = some (OpenOutput (o .byte) c (o .argument) (a .at) (length (a .name)))
 
 -- "Call: each + argument must be ground"; literal l of clause c, before which τ is known ground
 unfoldable pub literalFault : List Declaration → ℕ → ℕ → Known → Literal → Option Refusal
-literalFault ds c l τ (call a) = openInput c l a (firstFaulty input (isGround τ) (marksFor ds a) (listOf (a .args)) 1)
+literalFault ds c l τ (call a) = openInput c l a (firstOpen input τ (marksFor ds a) (listOf (a .args)) 1)
 literalFault ds c l τ (equation t u) = none
 literalFault ds c l τ truth = none
 literalFault ds c l τ falsity = none
@@ -230,7 +257,7 @@ startKnown ds h = groundMarked input (marksFor ds h) (listOf (h .args)) nothing
 -- "The head's outputs are looked at after the body."
 unfoldable pub headFault : List Declaration → ℕ → Atom → Walk → Option Refusal
 headFault ds c h (faulted r) = some r
-headFault ds c h (known σ) = openOutput c h (firstFaulty output (isGround σ) (marksFor ds h) (listOf (h .args)) 1)
+headFault ds c h (known σ) = openOutput c h (firstOpen output σ (marksFor ds h) (listOf (h .args)) 1)
 
 -- "each clause in turn is taken through 9 along its body and then 10"
 unfoldable pub clauseFault : List Declaration → ℕ → Clause → Option Refusal

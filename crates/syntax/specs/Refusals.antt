@@ -1,4 +1,4 @@
--- The numbers of the refusals (document 01, "The ten numbers").
+-- The numbers of the refusals (document 01, "The ten numbers"; document 02, (ii): "refusals 9 and 10 carry it in their byte place").
 use Prim.Native.Nat.{ℕ}
 use Rattle.syntax.specs.declared.Five.{Five}
 use Rattle.syntax.specs.declared.Refusal.{Refusal}
@@ -17,5 +17,5 @@ numbersOf (Misplaced byte) = five 5 byte 0 0 0
 numbersOf (OverLimit byte) = five 6 byte 0 0 0
 numbersOf (Repeated byte) = five 7 byte 0 0 0
 numbersOf (Undeclared clause literal at len) = five 8 0 clause literal 0
-numbersOf (OpenInput clause literal argument at len) = five 9 0 clause literal argument
-numbersOf (OpenOutput clause argument at len) = five 10 0 clause 0 argument
+numbersOf (OpenInput byte clause literal argument at len) = five 9 byte clause literal argument
+numbersOf (OpenOutput byte clause argument at len) = five 10 byte clause 0 argument

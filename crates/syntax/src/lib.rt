@@ -123,7 +123,8 @@ pub enum Text {
     Neither,
 }
 
-// The ten refusals of document 01, in its order. Those that hand a name back carry its place and length.
+// The ten refusals of document 01, in its order. Those that hand a name back carry its place and length. The byte of an open input or output
+// is that of the first variable in the argument that is not known ground.
 pub enum Refusal {
     Settings,
     TooLong,
@@ -139,6 +140,7 @@ pub enum Refusal {
         len: usize,
     },
     OpenInput {
+        byte: usize,
         clause: usize,
         literal: usize,
         argument: usize,
@@ -146,6 +148,7 @@ pub enum Refusal {
         len: usize,
     },
     OpenOutput {
+        byte: usize,
         clause: usize,
         argument: usize,
         at: usize,
@@ -270,6 +273,7 @@ pub fn numbers(refusal: Refusal) -> Five
             argument: 0,
         },
         Refusal::OpenInput {
+            byte,
             clause,
             literal,
             argument,
@@ -277,19 +281,20 @@ pub fn numbers(refusal: Refusal) -> Five
             len: _,
         } => Five {
             number: 9,
-            byte: 0,
+            byte: byte,
             clause: clause,
             literal: literal,
             argument: argument,
         },
         Refusal::OpenOutput {
+            byte,
             clause,
             argument,
             at: _,
             len: _,
         } => Five {
             number: 10,
-            byte: 0,
+            byte: byte,
             clause: clause,
             literal: 0,
             argument: argument,

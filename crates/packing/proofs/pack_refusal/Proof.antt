@@ -20,8 +20,8 @@ at-most-ten (Misplaced b) = omega arith
 at-most-ten (OverLimit b) = omega arith
 at-most-ten (Repeated b) = omega arith
 at-most-ten (Undeclared k l at len) = omega arith
-at-most-ten (OpenInput k l a at len) = omega arith
-at-most-ten (OpenOutput k a at len) = omega arith
+at-most-ten (OpenInput b k l a at len) = omega arith
+at-most-ten (OpenOutput b k a at len) = omega arith
 
 numbers-requires : tie.Need-numbers-requires
 numbers-requires c κs = search needs

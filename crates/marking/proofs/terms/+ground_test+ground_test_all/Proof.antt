@@ -1,0 +1,271 @@
+-- `marking::terms::ground_test` and `marking::terms::ground_test_all` meet their contracts. A term is measured by its words, a list of terms by the words that are left. Assumes nothing.
+use borrow.Author.Needs.{needs}
+use native.Mathlib.Omega.{arith}
+use lib.ListN.{getD}
+use Rattle.marking.proofs.Places.{inner-at, next-further, room-three, size-least, variable-below, first-fits, parted, node-inside, past-ends}
+use Rattle.marking.proofs.Grounding.{variable-ground, variable-open, test-inner, none-tested, first-open, rest-at, rest-tested}
+use Prim.Native.Nat.{ℕ, _<_, _+_, _-_, _*_}
+use borrow.Fn.Kinds.{In}
+use borrow.Fn.PlainCycle.{Measures, is, falls, and}
+use Rattle.marking.proofs.terms.ground_test.Reads as ground-test
+use Rattle.marking.proofs.terms.ground_test.Kinds as ground-test-kinds
+use Rattle.marking.proofs.terms.+ground_test+ground_test_all.Lts-ground_test as ground-test-lts
+use Rattle.marking.proofs.terms.ground_test_all.Reads as ground-test-all
+use Rattle.marking.proofs.terms.ground_test_all.Kinds as ground-test-all-kinds
+use Rattle.marking.proofs.terms.+ground_test+ground_test_all.Lts-ground_test_all as ground-test-all-lts
+use Rattle.words.proofs.past.Reads as past-reads
+use Rattle.words.proofs.word_at.Reads as word-at-reads
+use Rattle.marking.proofs.terms.+ground_test+ground_test_all.{statement}
+use Rattle.marking.proofs.terms.+ground_test+ground_test_all.Tie.{close}
+
+abbrev μ-ground-test : Measures 1 ground-test-kinds.ps ℕ
+μ-ground-test κs a = 2 * getD (a .0 .now) (a .1 .0 + 1) 0
+
+abbrev μ-ground-test-all : Measures 1 ground-test-all-kinds.ps ℕ
+μ-ground-test-all κs a = 2 * (a .1 .1 .0 - a .1 .0) + 1
+
+abbrev ground-test-at : ℕ → In 1 ground-test-kinds.ps
+ground-test-at t =
+    and 1 ground-test-kinds.ps (is 1 ground-test-kinds.ps μ-ground-test t) ground-test.Pre
+
+abbrev ground-test-below : ℕ → In 1 ground-test-kinds.ps
+ground-test-below t =
+    and 1 ground-test-kinds.ps (falls 1 ground-test-kinds.ps _<_ μ-ground-test t) ground-test.Pre
+
+abbrev ground-test-all-at : ℕ → In 1 ground-test-all-kinds.ps
+ground-test-all-at t =
+    and
+    1
+    ground-test-all-kinds.ps
+    (is 1 ground-test-all-kinds.ps μ-ground-test-all t)
+    ground-test-all.Pre
+
+abbrev ground-test-all-below : ℕ → In 1 ground-test-all-kinds.ps
+ground-test-all-below t =
+    and
+    1
+    ground-test-all-kinds.ps
+    (falls 1 ground-test-all-kinds.ps _<_ μ-ground-test-all t)
+    ground-test-all.Pre
+
+ground-test-word-at-requires : (t : ℕ) → ground-test-lts.Need-word-at-requires (
+  word-at-reads.Asked,
+  word-at-reads.Learnt,
+  past-reads.Asked,
+  past-reads.Learnt,
+  ground-test-all-below t,
+  ground-test-all.Post,
+) (ground-test-at t) ground-test.Post
+ground-test-word-at-requires t c κs = omega (arith, room-three (c .before .args .table .now) (c .before .args .p) (c .before .pre .1))
+
+ground-test-array-read-if2 : (t : ℕ) → ground-test-lts.Need-array-read-if2 (
+  word-at-reads.Asked,
+  word-at-reads.Learnt,
+  past-reads.Asked,
+  past-reads.Learnt,
+  ground-test-all-below t,
+  ground-test-all.Post,
+) (ground-test-at t) ground-test.Post
+ground-test-array-read-if2 t c = variable-below (c .before .before .before .args .table .now) (c .before .before .before .args .p) (c .before .word-at .result) (c .before .before .before .pre .1) (c .before .word-at .ensures) (c .if1 .taken)
+
+ground-test-returns : (t : ℕ) → ground-test-lts.Need-returns (
+  word-at-reads.Asked,
+  word-at-reads.Learnt,
+  past-reads.Asked,
+  past-reads.Learnt,
+  ground-test-all-below t,
+  ground-test-all.Post,
+) (ground-test-at t) ground-test.Post
+ground-test-returns t c = variable-ground (c .before .before .before .before .args .table .now) (c .before .before .before .before .args .p) (c .before .before .before .before .args .t3) (c .before .before .word-at .result) (c .before .before .word-at .ensures) (c .before .if1 .taken) (c .if2 .taken)
+
+ground-test-add-word-at : (t : ℕ) → ground-test-lts.Need-add-word-at (
+  word-at-reads.Asked,
+  word-at-reads.Learnt,
+  past-reads.Asked,
+  past-reads.Learnt,
+  ground-test-all-below t,
+  ground-test-all.Post,
+) (ground-test-at t) ground-test.Post
+ground-test-add-word-at t c = omega (arith, room-three (c .before .before .before .before .args .table .now) (c .before .before .before .before .args .p) (c .before .before .before .before .pre .1))
+
+ground-test-word-at-requires-2 : (t : ℕ) → ground-test-lts.Need-word-at-requires-2 (
+  word-at-reads.Asked,
+  word-at-reads.Learnt,
+  past-reads.Asked,
+  past-reads.Learnt,
+  ground-test-all-below t,
+  ground-test-all.Post,
+) (ground-test-at t) ground-test.Post
+ground-test-word-at-requires-2 t c κs = omega (arith, room-three (c .before .before .before .before .args .table .now) (c .before .before .before .before .args .p) (c .before .before .before .before .pre .1))
+
+ground-test-returns-2 : (t : ℕ) → ground-test-lts.Need-returns-2 (
+  word-at-reads.Asked,
+  word-at-reads.Learnt,
+  past-reads.Asked,
+  past-reads.Learnt,
+  ground-test-all-below t,
+  ground-test-all.Post,
+) (ground-test-at t) ground-test.Post
+ground-test-returns-2 t c = variable-open (c .before .before .before .before .before .args .table .now) (c .before .before .before .before .before .args .p) (c .before .before .before .before .before .args .t3) (c .before .before .before .word-at .result) (c .before .before .before .word-at .ensures) (c .before .before .if1 .taken) (c .before .if2 .left) (c .word-at2 .result) (c .word-at2 .ensures)
+
+ground-test-add-from : (t : ℕ) → ground-test-lts.Need-add-from (
+  word-at-reads.Asked,
+  word-at-reads.Learnt,
+  past-reads.Asked,
+  past-reads.Learnt,
+  ground-test-all-below t,
+  ground-test-all.Post,
+) (ground-test-at t) ground-test.Post
+ground-test-add-from t c = omega (arith, room-three (c .before .before .before .args .table .now) (c .before .before .before .args .p) (c .before .before .before .pre .1))
+
+ground-test-past-requires : (t : ℕ) → ground-test-lts.Need-past-requires (
+  word-at-reads.Asked,
+  word-at-reads.Learnt,
+  past-reads.Asked,
+  past-reads.Learnt,
+  ground-test-all-below t,
+  ground-test-all.Post,
+) (ground-test-at t) ground-test.Post
+ground-test-past-requires t c κs = node-inside (c .before .before .before .pre .1)
+
+ground-test-ground-test-all-requires : (t : ℕ) → ground-test-lts.Need-ground-test-all-requires (
+  word-at-reads.Asked,
+  word-at-reads.Learnt,
+  past-reads.Asked,
+  past-reads.Learnt,
+  ground-test-all-below t,
+  ground-test-all.Post,
+) (ground-test-at t) ground-test.Post
+ground-test-ground-test-all-requires t c κs = (omega (arith, c .past .ensures, size-least (c .before .before .before .before .args .table .now) (c .before .before .before .before .args .p) (c .before .before .before .before .pre .1)), inner-at (c .before .before .word-at .result) (c .past .result) (c .before .before .word-at .ensures) (c .before .if1 .left) (past-ends (c .past .ensures)) (c .before .before .before .before .pre .1))
+
+ground-test-returns-3 : (t : ℕ) → ground-test-lts.Need-returns-3 (
+  word-at-reads.Asked,
+  word-at-reads.Learnt,
+  past-reads.Asked,
+  past-reads.Learnt,
+  ground-test-all-below t,
+  ground-test-all.Post,
+) (ground-test-at t) ground-test.Post
+ground-test-returns-3 t c = test-inner (c .before .before .before .before .before .args .table .now) (c .before .before .before .before .before .args .p) (c .before .before .before .before .before .args .t3) (c .before .before .before .word-at .result) (c .before .before .before .word-at .ensures) (c .before .past .result) (c .before .before .if1 .left) (past-ends (c .before .past .ensures)) (c .ground-test-all .result) (c .ground-test-all .ensures)
+
+ground-test-all-returns : (t : ℕ) → ground-test-all-lts.Need-returns (
+  ground-test-below t,
+  ground-test.Post,
+  past-reads.Asked,
+  past-reads.Learnt,
+  ground-test-all-below t,
+  ground-test-all.Post,
+) (ground-test-all-at t) ground-test-all.Post
+ground-test-all-returns t c = none-tested (c .before .before .args .table .now) (c .before .before .args .p) (c .before .before .args .stop) (c .before .before .args .known) (c .if1 .taken)
+
+ground-test-all-ground-test-requires : (t : ℕ) → ground-test-all-lts.Need-ground-test-requires (
+  ground-test-below t,
+  ground-test.Post,
+  past-reads.Asked,
+  past-reads.Learnt,
+  ground-test-all-below t,
+  ground-test-all.Post,
+) (ground-test-all-at t) ground-test-all.Post
+ground-test-all-ground-test-requires t c κs = (omega (arith, first-fits (c .if1 .left) (c .before .before .pre .1)), parted (c .if1 .left) (c .before .before .pre .1) .first)
+
+ground-test-all-enum-told : (t : ℕ) → ground-test-all-lts.Need-enum-told (
+  ground-test-below t,
+  ground-test.Post,
+  past-reads.Asked,
+  past-reads.Learnt,
+  ground-test-all-below t,
+  ground-test-all.Post,
+) (ground-test-all-at t) ground-test-all.Post
+ground-test-all-enum-told t c = search needs
+
+ground-test-all-enum-told-2 : (t : ℕ) → ground-test-all-lts.Need-enum-told-2 (
+  ground-test-below t,
+  ground-test.Post,
+  past-reads.Asked,
+  past-reads.Learnt,
+  ground-test-all-below t,
+  ground-test-all.Post,
+) (ground-test-all-at t) ground-test-all.Post
+ground-test-all-enum-told-2 t c = search needs
+
+ground-test-all-past-requires : (t : ℕ) → ground-test-all-lts.Need-past-requires (
+  ground-test-below t,
+  ground-test.Post,
+  past-reads.Asked,
+  past-reads.Learnt,
+  ground-test-all-below t,
+  ground-test-all.Post,
+) (ground-test-all-at t) ground-test-all.Post
+ground-test-all-past-requires t c κs = node-inside (parted (c .before .before .before .if1 .left) (c .before .before .before .before .before .pre .1) .first)
+
+ground-test-all-ground-test-all-requires :
+    (t : ℕ) → ground-test-all-lts.Need-ground-test-all-requires (
+      ground-test-below t,
+      ground-test.Post,
+      past-reads.Asked,
+      past-reads.Learnt,
+      ground-test-all-below t,
+      ground-test-all.Post,
+    ) (ground-test-all-at t) ground-test-all.Post
+ground-test-all-ground-test-all-requires t c κs = (omega (arith, next-further (c .past .result) (c .before .before .before .before .if1 .left) (past-ends (c .past .ensures)) (c .before .before .before .before .before .before .pre .1)), rest-at (c .before .before .before .before .before .before .args .table .now) (c .before .before .before .before .before .before .args .p) (c .before .before .before .before .before .before .args .stop) (c .before .before .before .before .before .before .args .known) (c .before .before .before .before .if1 .left) (c .past .result) (past-ends (c .past .ensures)) (c .before .before .before .before .before .before .pre .1))
+
+ground-test-all-returns-2 : (t : ℕ) → ground-test-all-lts.Need-returns-2 (
+  ground-test-below t,
+  ground-test.Post,
+  past-reads.Asked,
+  past-reads.Learnt,
+  ground-test-all-below t,
+  ground-test-all.Post,
+) (ground-test-all-at t) ground-test-all.Post
+ground-test-all-returns-2 t c = first-open (c .before .before .before .before .before .args .table .now) (c .before .before .before .before .before .args .p) (c .before .before .before .before .before .args .stop) (c .before .before .before .before .before .args .known) (c .before .before .before .if1 .left) (c .before .before .ground-test .result) (c .before .before .ground-test .ensures) (c .enum-told .given .0 .0) (c .enum-told .given .1)
+
+ground-test-all-returns-3 : (t : ℕ) → ground-test-all-lts.Need-returns-3 (
+  ground-test-below t,
+  ground-test.Post,
+  past-reads.Asked,
+  past-reads.Learnt,
+  ground-test-all-below t,
+  ground-test-all.Post,
+) (ground-test-all-at t) ground-test-all.Post
+ground-test-all-returns-3 t c = rest-tested (c .before .before .before .before .before .before .before .args .table .now) (c .before .before .before .before .before .before .before .args .p) (c .before .before .before .before .before .before .before .args .stop) (c .before .before .before .before .before .before .before .args .known) (c .before .before .before .before .before .if1 .left) (c .before .past .result) (past-ends (c .before .past .ensures)) (c .before .before .before .before .ground-test .result) (c .before .before .before .before .ground-test .ensures) (c .before .before .enum-told2 .given .1) (c .ground-test-all .result) (c .ground-test-all .ensures)
+
+pub +ground-test+ground-test-all-spec : {M : Type 1} → statement M
++ground-test+ground-test-all-spec =
+    close μ-ground-test μ-ground-test-all (λ t. ground-test-lts.spec (
+      word-at-reads.Asked,
+      word-at-reads.Learnt,
+      past-reads.Asked,
+      past-reads.Learnt,
+      ground-test-all-below t,
+      ground-test-all.Post,
+    )
+    (ground-test-at t)
+    ground-test.Post
+    (ground-test-word-at-requires t)
+    (ground-test-array-read-if2 t)
+    (ground-test-returns t)
+    (ground-test-add-word-at t)
+    (ground-test-word-at-requires-2 t)
+    (ground-test-returns-2 t)
+    (ground-test-add-from t)
+    (ground-test-past-requires t)
+    (ground-test-ground-test-all-requires t)
+    (ground-test-returns-3 t))
+    λ t. ground-test-all-lts.spec (
+      ground-test-below t,
+      ground-test.Post,
+      past-reads.Asked,
+      past-reads.Learnt,
+      ground-test-all-below t,
+      ground-test-all.Post,
+    )
+    (ground-test-all-at t)
+    ground-test-all.Post
+    (ground-test-all-returns t)
+    (ground-test-all-ground-test-requires t)
+    (ground-test-all-enum-told t)
+    (ground-test-all-enum-told-2 t)
+    (ground-test-all-past-requires t)
+    (ground-test-all-ground-test-all-requires t)
+    (ground-test-all-returns-2 t)
+    (ground-test-all-returns-3 t)

@@ -1,0 +1,238 @@
+-- Document 02's (ii) changes one place of the refusals 9 and 10 and nothing else: with that byte set to 0, verdicts are those of before.
+-- Assumes nothing.
+use Prim.Native.Nat.{ℕ, suc}
+use mathlib.Core.Path.{_≡_, refl, sym, ap, _∙_}
+use mathlib.Core.Bool.{Bool, true, false, not, cond}
+use mathlib.Core.List.{List, [], _∷_}
+use mathlib.Core.Option.{Option, none, some}
+use lib.Dec.{leb, eqb}
+use lib.ListN.{length}
+use Rattle.syntax.specs.Terms.{Term, Atom, Literal, Body, call, equation, truth, falsity, done, also, Mark, input, output, Declaration, Clause, Sheet, Goal}
+use Rattle.syntax.specs.Limits.{sheetBytes, goalBytes}
+use Rattle.syntax.specs.Reading.{Read, fault, ok, readSheet, readGoal, firstRepeat}
+use Rattle.syntax.specs.Verdicts.{Outcome, refused, accepted, faultOf, withoutRepeats, sheetFrom, goalFrom, sheetOf, goalOutcome, sheetVerdict}
+use Rattle.syntax.specs.declared.Refusal.{Refusal}
+use Rattle.syntax.specs.declared.Refusal.the-variants.{TooLong, NoToken, Overlong, Misplaced, OverLimit}
+use Rattle.syntax.specs.declared.Verdict.{Verdict}
+use Rattle.rules.specs.Modes.{Known, nothing, isGround, openByte, marksOf, marksFor, sameMark, listOf, ifMarked, OpenArgument, firstOpen, undeclared, undeclaredAtom, undeclaredLiteral, undeclaredBody, undeclaredClause, undeclaredClauses, undeclaredInSheet, undeclaredInGoal, openInput, openOutput, literalFault, afterLiteral, Walk, faulted, known, walkOn, bodyFault, startKnown, headFault, clauseFault, clausesFault, sheetFault, walkFault, goalFault}
+use Rattle.rules.specs.Checking.{faultless, checkedFrom, checkedSheet, checkVerdict, checkedGoalFrom, checkedGoal, goalAnswer, checkGoalFrom, checkGoalVerdict}
+use Rattle.rules.specs.Earlier as earlier
+use Rattle.rules.specs.Earlier.{firstFaulty, withoutByte, faultWithout, walkWithout, outcomeWithout, verdictWithout}
+use Rattle.rules.proofs.Terms.{isNone}
+use Rattle.rules.proofs.Marks.{faulty-open}
+
+-- ---- the first open argument has the number that the first faulty one has
+
+abbrev numberOf : Option OpenArgument → Option ℕ
+numberOf none = none
+numberOf (some o) = some (o .argument)
+
+first-earlier : (m : Mark) (τ : Known) (ks : List Mark) (ts : List Term) (n : ℕ) → numberOf (firstOpen m τ ks ts n) ≡ firstFaulty m (isGround τ) ks ts n
+unfolding firstOpen firstFaulty
+first-earlier m τ [] ts n = refl
+first-earlier m τ (k ∷ ks) [] n = refl
+first-earlier m τ (k ∷ ks) (t ∷ ts) n =
+    by (ifMarked (sameMark m k) (openByte τ t)) (first-earlier m τ ks ts (suc n))
+    ∙ sym (ap (λ (b : Bool). elim b as (λ _. Option ℕ) [ true ↦ some n | false ↦ firstFaulty m (isGround τ) ks ts (suc n) ]) (faulty-open m k τ t))
+  where
+    by : (o : Option ℕ) → numberOf (firstOpen m τ ks ts (suc n)) ≡ firstFaulty m (isGround τ) ks ts (suc n)
+        → numberOf (elim o as (λ _. Option OpenArgument) [ none ↦ firstOpen m τ ks ts (suc n) | some b ↦ some (record { argument = n; byte = b }) ])
+        ≡ elim (not (isNone o)) as (λ _. Option ℕ) [ true ↦ some n | false ↦ firstFaulty m (isGround τ) ks ts (suc n) ]
+    by none h = h
+    by (some b) h = refl
+
+-- ---- 8 has no such byte
+
+first-of : (o x o1 x1 : Option Refusal) → faultWithout o ≡ o1 → faultWithout x ≡ x1
+    → faultWithout (elim o as (λ _. Option Refusal) [ none ↦ x | some r ↦ some r ]) ≡ elim o1 as (λ _. Option Refusal) [ none ↦ x1 | some r ↦ some r ]
+first-of none x o1 x1 e h = h ∙ ap (λ (o : Option Refusal). elim o as (λ _. Option Refusal) [ none ↦ x1 | some r ↦ some r ]) e
+first-of (some r) x o1 x1 e h = ap (λ (o : Option Refusal). elim o as (λ _. Option Refusal) [ none ↦ x1 | some r ↦ some r ]) e
+
+atom-same : (ds : List Declaration) (c l : ℕ) (a : Atom) → faultWithout (undeclaredAtom ds c l a) ≡ undeclaredAtom ds c l a
+unfolding undeclaredAtom
+atom-same ds c l a = by (marksOf ds a)
+  where
+    by : (o : Option (List Mark)) → faultWithout (undeclared c l a o) ≡ undeclared c l a o
+    by none = unfold undeclared in refl
+    by (some ms) = unfold undeclared in refl
+
+literal-same : (ds : List Declaration) (c l : ℕ) (lit : Literal) → faultWithout (undeclaredLiteral ds c l lit) ≡ undeclaredLiteral ds c l lit
+unfolding undeclaredLiteral
+literal-same ds c l (call a) = atom-same ds c l a
+literal-same ds c l (equation t u) = refl
+literal-same ds c l truth = refl
+literal-same ds c l falsity = refl
+
+body-same : (ds : List Declaration) (c l : ℕ) (b : Body) → faultWithout (undeclaredBody ds c l b) ≡ undeclaredBody ds c l b
+unfolding undeclaredBody
+body-same ds c l done = refl
+body-same ds c l (also lit b) = first-of (undeclaredLiteral ds c l lit) (undeclaredBody ds c (suc l) b) _ _ (literal-same ds c l lit) (body-same ds c (suc l) b)
+
+clause-same : (ds : List Declaration) (c : ℕ) (cl : Clause) → faultWithout (undeclaredClause ds c cl) ≡ undeclaredClause ds c cl
+unfolding undeclaredClause
+clause-same ds c cl = first-of (undeclaredAtom ds c 0 (cl .head)) (undeclaredBody ds c 1 (cl .body)) _ _ (atom-same ds c 0 (cl .head)) (body-same ds c 1 (cl .body))
+
+clauses-same : (ds : List Declaration) (c : ℕ) (cls : List Clause) → faultWithout (undeclaredClauses ds c cls) ≡ undeclaredClauses ds c cls
+unfolding undeclaredClauses
+clauses-same ds c [] = refl
+clauses-same ds c (cl ∷ cls) = first-of (undeclaredClause ds c cl) (undeclaredClauses ds (suc c) cls) _ _ (clause-same ds c cl) (clauses-same ds (suc c) cls)
+
+-- ---- 9 and 10
+
+input-earlier : (c l : ℕ) (a : Atom) (o : Option OpenArgument) → faultWithout (openInput c l a o) ≡ earlier.openInput c l a (numberOf o)
+unfolding openInput earlier.openInput
+input-earlier c l a none = refl
+input-earlier c l a (some o) = refl
+
+output-earlier : (c : ℕ) (a : Atom) (o : Option OpenArgument) → faultWithout (openOutput c a o) ≡ earlier.openOutput c a (numberOf o)
+unfolding openOutput earlier.openOutput
+output-earlier c a none = refl
+output-earlier c a (some o) = refl
+
+literal-earlier : (ds : List Declaration) (c l : ℕ) (τ : Known) (lit : Literal) → faultWithout (literalFault ds c l τ lit) ≡ earlier.literalFault ds c l τ lit
+unfolding literalFault earlier.literalFault
+literal-earlier ds c l τ (call a) =
+    input-earlier c l a (firstOpen input τ (marksFor ds a) (listOf (a .args)) 1)
+    ∙ ap (earlier.openInput c l a) (first-earlier input τ (marksFor ds a) (listOf (a .args)) 1)
+literal-earlier ds c l τ (equation t u) = refl
+literal-earlier ds c l τ truth = refl
+literal-earlier ds c l τ falsity = refl
+
+walk-on : (o p : Option Refusal) (rest more : Known → Walk) (σ : Known) → faultWithout o ≡ p → walkWithout (rest σ) ≡ more σ → walkWithout (walkOn o rest σ) ≡ walkOn p more σ
+unfolding walkOn
+walk-on none p rest more σ e h = h ∙ ap (λ (x : Option Refusal). walkOn x more σ) e
+walk-on (some r) p rest more σ e h = ap (λ (x : Option Refusal). walkOn x more σ) e
+
+body-earlier : (ds : List Declaration) (c l : ℕ) (τ : Known) (b : Body) → walkWithout (bodyFault ds c l τ b) ≡ earlier.bodyFault ds c l τ b
+unfolding bodyFault earlier.bodyFault
+body-earlier ds c l τ done = refl
+body-earlier ds c l τ (also lit b) =
+    walk-on (literalFault ds c l τ lit) (earlier.literalFault ds c l τ lit) (λ σ. bodyFault ds c (suc l) σ b) (λ σ. earlier.bodyFault ds c (suc l) σ b) (afterLiteral ds lit τ)
+    (literal-earlier ds c l τ lit) (body-earlier ds c (suc l) (afterLiteral ds lit τ) b)
+
+head-earlier : (ds : List Declaration) (c : ℕ) (h : Atom) (w : Walk) → faultWithout (headFault ds c h w) ≡ earlier.headFault ds c h (walkWithout w)
+unfolding headFault earlier.headFault
+head-earlier ds c h (faulted r) = refl
+head-earlier ds c h (known σ) =
+    output-earlier c h (firstOpen output σ (marksFor ds h) (listOf (h .args)) 1)
+    ∙ ap (earlier.openOutput c h) (first-earlier output σ (marksFor ds h) (listOf (h .args)) 1)
+
+clause-earlier : (ds : List Declaration) (c : ℕ) (cl : Clause) → faultWithout (clauseFault ds c cl) ≡ earlier.clauseFault ds c cl
+unfolding clauseFault earlier.clauseFault
+clause-earlier ds c cl =
+    head-earlier ds c (cl .head) (bodyFault ds c 1 (startKnown ds (cl .head)) (cl .body))
+    ∙ ap (earlier.headFault ds c (cl .head)) (body-earlier ds c 1 (startKnown ds (cl .head)) (cl .body))
+
+clauses-earlier : (ds : List Declaration) (c : ℕ) (cls : List Clause) → faultWithout (clausesFault ds c cls) ≡ earlier.clausesFault ds c cls
+unfolding clausesFault earlier.clausesFault
+clauses-earlier ds c [] = refl
+clauses-earlier ds c (cl ∷ cls) = first-of (clauseFault ds c cl) (clausesFault ds (suc c) cls) _ _ (clause-earlier ds c cl) (clauses-earlier ds (suc c) cls)
+
+pub sheet-fault-earlier : (sh : Sheet) → faultWithout (sheetFault sh) ≡ earlier.sheetFault sh
+unfolding sheetFault earlier.sheetFault undeclaredInSheet
+sheet-fault-earlier sh =
+    first-of (undeclaredClauses (sh .declarations) 1 (sh .clauses)) (clausesFault (sh .declarations) 1 (sh .clauses)) _ _
+    (clauses-same (sh .declarations) 1 (sh .clauses)) (clauses-earlier (sh .declarations) 1 (sh .clauses))
+
+walk-fault : (w : Walk) → faultWithout (walkFault w) ≡ walkFault (walkWithout w)
+unfolding walkFault
+walk-fault (faulted r) = refl
+walk-fault (known σ) = refl
+
+pub goal-fault-earlier : (sh : Sheet) (g : Goal) → faultWithout (goalFault sh g) ≡ earlier.goalFault sh g
+unfolding goalFault earlier.goalFault undeclaredInGoal
+goal-fault-earlier sh g =
+    first-of (undeclaredBody (sh .declarations) 0 1 (g .body)) (walkFault (bodyFault (sh .declarations) 0 1 nothing (g .body))) _ _
+    (body-same (sh .declarations) 0 1 (g .body))
+    (walk-fault (bodyFault (sh .declarations) 0 1 nothing (g .body)) ∙ ap walkFault (body-earlier (sh .declarations) 0 1 nothing (g .body)))
+
+-- ---- verdicts
+
+fault-same : (n b : ℕ) → withoutByte (faultOf n b) ≡ faultOf n b
+fault-same n b = by (eqb n 3) (eqb n 4) (eqb n 5)
+  where
+    by : (x y z : Bool)
+        → withoutByte (cond x (NoToken b) (cond y (Overlong b) (cond z (Misplaced b) (OverLimit b))))
+        ≡ cond x (NoToken b) (cond y (Overlong b) (cond z (Misplaced b) (OverLimit b)))
+    by true y z = refl
+    by false true z = refl
+    by false false true = refl
+    by false false false = refl
+
+-- reading refuses with 2 to 7
+sheet-same : (s : List ℕ) → outcomeWithout {A = Sheet} (sheetOf s) ≡ sheetOf s
+unfolding sheetOf
+sheet-same s = by (leb (length s) sheetBytes)
+  where
+    repeats : (sh : Sheet) (o : Option ℕ) → outcomeWithout {A = Sheet} (withoutRepeats sh o) ≡ withoutRepeats sh o
+    repeats sh none = unfold withoutRepeats in refl
+    repeats sh (some b) = unfold withoutRepeats in refl
+
+    from : (r : Read Sheet) → outcomeWithout {A = Sheet} (sheetFrom r) ≡ sheetFrom r
+    from (fault n b) = unfold sheetFrom in (ap refused (fault-same n b))
+    from (ok sh st) = unfold sheetFrom in (repeats sh (firstRepeat [] (sh .declarations)))
+
+    by : (b : Bool) → outcomeWithout {A = Sheet} (elim b as (λ _. Outcome Sheet) [ true ↦ sheetFrom (readSheet s) | false ↦ refused TooLong ])
+        ≡ elim b as (λ _. Outcome Sheet) [ true ↦ sheetFrom (readSheet s) | false ↦ refused TooLong ]
+    by true = from (readSheet s)
+    by false = refl
+
+goal-same : (s : List ℕ) → outcomeWithout {A = Goal} (goalOutcome s) ≡ goalOutcome s
+unfolding goalOutcome
+goal-same s = by (leb (length s) goalBytes)
+  where
+    from : (r : Read Goal) → outcomeWithout {A = Goal} (goalFrom r) ≡ goalFrom r
+    from (fault n b) = unfold goalFrom in (ap refused (fault-same n b))
+    from (ok g st) = unfold goalFrom in refl
+
+    by : (b : Bool) → outcomeWithout {A = Goal} (elim b as (λ _. Outcome Goal) [ true ↦ goalFrom (readGoal s) | false ↦ refused TooLong ])
+        ≡ elim b as (λ _. Outcome Goal) [ true ↦ goalFrom (readGoal s) | false ↦ refused TooLong ]
+    by true = from (readGoal s)
+    by false = refl
+
+faultless-without : {A : Type 0} (x : A) (o : Option Refusal) → outcomeWithout (faultless x o) ≡ faultless x (faultWithout o)
+unfolding faultless
+faultless-without x none = refl
+faultless-without x (some r) = refl
+
+-- The sheet that checking accepts, or its refusal, is that of before but for this byte.
+pub checked-sheet-earlier : (s : List ℕ) → outcomeWithout {A = Sheet} (checkedSheet s) ≡ earlier.checkedSheet s
+unfolding checkedSheet earlier.checkedSheet
+checked-sheet-earlier s = by (sheetOf s) (sheet-same s)
+  where
+    by : (o : Outcome Sheet) → outcomeWithout {A = Sheet} o ≡ o → outcomeWithout {A = Sheet} (checkedFrom o) ≡ earlier.checkedFrom o
+    by (refused r) e = unfold checkedFrom in unfold earlier.checkedFrom in e
+    by (accepted sh) e = unfold checkedFrom in unfold earlier.checkedFrom in (faultless-without sh (sheetFault sh) ∙ ap (faultless sh) (sheet-fault-earlier sh))
+
+-- The same of a goal over a sheet.
+pub checked-goal-earlier : (sh : Sheet) (g : List ℕ) → outcomeWithout {A = Goal} (checkedGoal sh g) ≡ earlier.checkedGoal sh g
+unfolding checkedGoal earlier.checkedGoal
+checked-goal-earlier sh g = by (goalOutcome g) (goal-same g)
+  where
+    by : (o : Outcome Goal) → outcomeWithout {A = Goal} o ≡ o → outcomeWithout {A = Goal} (checkedGoalFrom sh o) ≡ earlier.checkedGoalFrom sh o
+    by (refused r) e = unfold checkedGoalFrom in unfold earlier.checkedGoalFrom in e
+    by (accepted x) e = unfold checkedGoalFrom in unfold earlier.checkedGoalFrom in (faultless-without x (goalFault sh x) ∙ ap (faultless x) (goal-fault-earlier sh x))
+
+verdict-without : (o : Outcome Sheet) → verdictWithout (sheetVerdict o) ≡ sheetVerdict (outcomeWithout o)
+unfolding sheetVerdict
+verdict-without (refused r) = refl
+verdict-without (accepted sh) = refl
+
+-- "refusals 9 and 10 carry it in their byte place, which was 0": with this byte set to 0, the verdict on a sheet is that of before.
+pub verdict-earlier : (s : List ℕ) → verdictWithout (checkVerdict s) ≡ earlier.checkVerdict s
+unfolding checkVerdict earlier.checkVerdict
+verdict-earlier s = verdict-without (checkedSheet s) ∙ ap sheetVerdict (checked-sheet-earlier s)
+
+answer-without : (sh : Sheet) (o : Outcome Goal) → verdictWithout (goalAnswer sh o) ≡ goalAnswer sh (outcomeWithout {A = Goal} o)
+unfolding goalAnswer sheetVerdict
+answer-without sh (refused r) = refl
+answer-without sh (accepted g) = refl
+
+-- The same of a sheet and a goal.
+pub goal-verdict-earlier : (s g : List ℕ) → verdictWithout (checkGoalVerdict s g) ≡ earlier.checkGoalVerdict s g
+unfolding checkGoalVerdict earlier.checkGoalVerdict
+goal-verdict-earlier s g = by (checkedSheet s) ∙ ap (earlier.checkGoalFrom g) (checked-sheet-earlier s)
+  where
+    by : (o : Outcome Sheet) → verdictWithout (checkGoalFrom g o) ≡ earlier.checkGoalFrom g (outcomeWithout o)
+    by (refused r) = unfold checkGoalFrom in unfold earlier.checkGoalFrom in refl
+    by (accepted sh) = unfold checkGoalFrom in unfold earlier.checkGoalFrom in (answer-without sh (checkedGoal sh g) ∙ ap (goalAnswer sh) (checked-goal-earlier sh g))
