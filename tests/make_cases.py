@@ -112,7 +112,13 @@ def make_list(cases):
         cases.add(b"L" + text_field(sheet), engine.read_lent(sheet, list_cases.HELD))
         cases.add(b"M" + text_field(sheet), engine.check_lent(sheet, list_cases.HELD))
 
+    def add_search(text, words, name, arguments):
+        lent = b"".join(number_field(word, 4) for word in [arguments, *words])
+        record = b"F" + b"".join(map(text_field, (lent, name, text)))
+        cases.add(record, engine.look_up(text, words, name, arguments))
+
     list_cases.make(add, random.Random(list_cases.SEED))
+    list_cases.make_searches(add_search, random.Random(list_cases.SEED + 1))
 
 
 STAGES = {"read": make_read, "check": make_check, "run": make_run, "list": make_list}

@@ -61,6 +61,22 @@ def test_lists():
         expect(size, engine.read_lent(sheet + b"!", held[:size]).entries, held[:size])
 
 
+def test_searches():
+    """A match at each place, a repeat, another number of arguments, an entry past the end, words left over."""
+    twice, far = [0, 2, 1, 0, 3, 2, 1, 0], [2**32 - 1, 1, 1, 0, 4, 1, 1, 0]
+    for words, name, arguments, answer in (
+        (twice, b"ab", 1, (0, 1)),
+        ([1] + twice[1:], b"ab", 1, (1, 2)),
+        (twice, b"ab", 2, (2,)),
+        (far, b"b", 1, (1, 2)),
+        ([4, 2] + twice[2:], b"b", 1, (2,)),
+        (far[:7], b"b", 1, (1,)),
+        ([6, 0, 0, 0, 5, 0, 0, 0], b"", 0, (1, 2)),
+        ([], b"", 0, (0,)),
+    ):
+        expect((words, name, arguments), engine.look_up(b"abcab", words, name, arguments), answer)
+
+
 def test_running():
     for sheet, goal, output in examples.RUNS:
         expect((sheet, goal), lines(engine.run(sheet, goal, 65_536, 16, 4_096)), output)
@@ -93,7 +109,8 @@ def test_large_terms():
         expect("t", lines(report), "yes\nend " + end)
 
 
-for test in (test_reading, test_checking, test_lists, test_running, test_counts, test_large_terms):
+tests = test_reading, test_checking, test_lists, test_searches
+for test in (*tests, test_running, test_counts, test_large_terms):
     test()
 print("%d passed, %d failed" % (passed, failed))
 sys.exit(failed > 0)

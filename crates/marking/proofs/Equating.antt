@@ -16,6 +16,7 @@ use Rattle.words.specs.Tables.{Has}
 use Rattle.marking.specs.Tables.{TermAt, PairAt, PairsAt}
 use Rattle.marking.specs.Standing.{NameAt, Numbered, AllNumbered, numbered-variable, numbered-compound, numbered-nil, numbered-cons, Stands, AllStand, stands-variable, stands-compound, stand-nil, stand-cons}
 use Rattle.words.proofs.Laws.{Node, node, has-left, has-right}
+use Rattle.lookup.proofs.Laws.{lengths-differ}
 use Rattle.marking.proofs.Places.{cons-long, sized}
 
 -- ---- what stands in a text has numbered variables
@@ -82,19 +83,6 @@ name-inside v a e f n = omega (arith, len-is v e n, n .place, n .name-at .inside
 pub name-is : {s table : List ℕ} {p : ℕ} {t : Term} (v a : ℕ) → v ≡ getD table p 0 → a ≡ getD table (p + 2) 0 → (n : Named s table p t)
     → take ((v - firstName) % lengths) (drop a s) ≡ n .name
 name-is {s} v a e f n = ap₂ (λ (l k : ℕ). take l (drop k s)) (len-is v e n) (f ∙ n .place) ∙ sym (n .name-at .spelt)
-
--- names of different lengths differ
-pub lengths-differ : (a b : List ℕ) → (length a ≡ length b → ⊥) → sameBytes a b ≡ false
-unfolding sameBytes
-lengths-differ [] [] n = absurd (n refl)
-lengths-differ [] (y ∷ b) n = refl
-lengths-differ (x ∷ a) [] n = refl
-lengths-differ (x ∷ a) (y ∷ b) n =
-    ap (λ (t : Bool). eqb x y && t) (lengths-differ a b (λ e. n (ap suc e))) ∙ and-false (eqb x y)
-  where
-    and-false : (t : Bool) → (t && false) ≡ false
-    and-false true = refl
-    and-false false = refl
 
 differ : (f : List ℕ) (m : ℕ) (g : List ℕ) (n : ℕ) (t : Bool) → eqb m n ≡ t → (functor m (length f) ≡ functor n (length g) → ⊥) → samePredicate f m g n ≡ false
 differ f m g n true e h =

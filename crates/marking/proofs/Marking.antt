@@ -7,11 +7,10 @@ use mathlib.Core.Bool.{Bool, true, false, not, _&&_}
 use mathlib.Core.List.{List, [], _∷_}
 use mathlib.Core.Option.{Option, none, some}
 use lib.Dec.{eqb}
-use lib.ListN.{length, getD, take, drop, length-append, length-drop}
-use lib.Seq.{length-take-le}
+use lib.ListN.{length, getD, take, drop, length-append}
 use borrow.Author.Tests.{eq-eqb, ne-eqb}
 use Rattle.syntax.specs.Limits.{arguments, lengths}
-use Rattle.syntax.specs.Terms.{Term, Terms, nil, cons, arity, Atom, termOf, Mark, input, output, free, Declaration, sameBytes, samePredicate}
+use Rattle.syntax.specs.Terms.{Term, Terms, nil, cons, arity, Atom, termOf, Mark, input, output, free, Declaration, samePredicate}
 use Rattle.syntax.specs.Tokens.{spelling}
 use Rattle.syntax.specs.Words.{termWords, termsWords, declarationWords, declarationsWords, markNumber, marksNumber, firstName, markNumbers, declarationSize}
 use Rattle.syntax.specs.declared.Refusal.the-variants.{Undeclared}
@@ -28,7 +27,10 @@ use Rattle.marking.specs.declared.marks.Name.{Name}
 use Rattle.marking.specs.declared.Checked.the-variants.{Fine, Fault}
 use Rattle.words.proofs.Laws.{Node, node, has-left, has-right, has-inside}
 use Rattle.marking.proofs.Places.{Says, says as atom-words, sized, cons-long}
-use Rattle.marking.proofs.Equating.{lengths-differ}
+use Rattle.lookup.specs.declared.Lookup.{Lookup}
+use Rattle.lookup.specs.declared.Lookup.the-variants.{Found, Missing}
+use Rattle.lookup.specs.Searching.{matches, lookFrom, lookUp, storedEntry, storedEntries}
+use Rattle.lookup.proofs.Laws.{inside-text, look-by}
 
 -- ---- one declaration
 
@@ -40,38 +42,14 @@ says s declared p w = node declared p _ _ _ _ (w .has)
 pub declaration-room : (s declared : List ℕ) (p : ℕ) → DeclarationAt s declared p → p + 2 < length declared
 declaration-room s declared p w = says s declared p w .inside
 
-spelling-long : (g : List ℕ) (at len : ℕ) → at + len ≤ length g → length (spelling g at len) ≡ len
-spelling-long g at len h = length-take-le len (drop at g) (omega (arith, length-drop at g))
-
-module _ (s declared : List ℕ) (p : ℕ) (g : List ℕ) (at len arguments : ℕ) (h : at + len ≤ length g) (count : ℕ) (ec : count ≡ getD declared (p + 2) 0) where
-  pub other-arity : (count ≡ arguments → ⊥) → (w : DeclarationAt s declared p)
-      → false ≡ samePredicate (w .declaration .name) (length (w .declaration .marks)) (spelling g at len) arguments
-  other-arity n w =
-      sym
-      (ap (λ (t : Bool). t && sameBytes (w .declaration .name) (spelling g at len))
-      (ne-eqb (length (w .declaration .marks)) arguments (λ e. n (ec ∙ says s declared p w .third ∙ e))))
-
-  module _ (e : count ≡ arguments) (bytes : ℕ) (eb : bytes ≡ getD declared (p + 1) 0) where
-    by-arity : (w : DeclarationAt s declared p) (t : Bool) → sameBytes (w .declaration .name) (spelling g at len) ≡ t
-        → t ≡ samePredicate (w .declaration .name) (length (w .declaration .marks)) (spelling g at len) arguments
-    by-arity w t k = sym (ap₂ (λ (x y : Bool). x && y) (eq-eqb (length (w .declaration .marks)) arguments (sym (says s declared p w .third) ∙ sym ec ∙ e)) k)
-
-    pub other-length : (bytes ≡ len → ⊥) → (w : DeclarationAt s declared p)
-        → false ≡ samePredicate (w .declaration .name) (length (w .declaration .marks)) (spelling g at len) arguments
-    other-length n w =
-        by-arity w false
-        (lengths-differ (w .declaration .name) (spelling g at len) (λ k. n (eb ∙ says s declared p w .second ∙ k ∙ spelling-long g at len h)))
-
-    module _ (el : bytes ≡ len) (place : ℕ) (ep : place ≡ getD declared p 0) where
-      pub names-inside : DeclarationAt s declared p → (place + len ≤ length s) × (at + len ≤ length g)
-      names-inside w = (omega (arith, says s declared p w .first, says s declared p w .second, w .stands .name .inside), h)
-
-      pub names-same : (r : Bool) → r ≡ sameBytes (take len (drop place s)) (take len (drop at g)) → (w : DeclarationAt s declared p)
-          → r ≡ samePredicate (w .declaration .name) (length (w .declaration .marks)) (spelling g at len) arguments
-      names-same r k w =
-          let n : take len (drop place s) ≡ w .declaration .name =
-          ap₂ (λ (l a : ℕ). take l (drop a s)) (sym el ∙ eb ∙ says s declared p w .second) (ep ∙ says s declared p w .first) ∙ sym (w .stands .name .spelt) in
-          by-arity w r (sym (k ∙ ap (λ (x : List ℕ). sameBytes x (take len (drop at g))) n))
+-- the entry of a declaration's words matches where the declaration is of the predicate
+pub matches-declared : (s declared : List ℕ) (p : ℕ) (name : List ℕ) (n : ℕ) (w : DeclarationAt s declared p)
+    → matches s name n (storedEntry declared p) ≡ samePredicate (w .declaration .name) (length (w .declaration .marks)) name n
+matches-declared s declared p name n w =
+    let o : Node declared p (w .declaration .at) (length (w .declaration .name)) (length (w .declaration .marks)) (marksNumber (w .declaration .marks) ∷ []) = says s declared p w in
+    let k : getD declared p 0 + getD declared (p + 1) 0 ≤ length s = omega (arith, o .first, o .second, w .stands .name .inside) in
+    inside-text s name n (storedEntry declared p) k
+    ∙ ap₂ (λ (x : List ℕ) (m : ℕ). samePredicate x m name n) (ap₂ (λ (l a : ℕ). take l (drop a s)) (o .second) (o .first) ∙ sym (w .stands .name .spelt)) (o .third)
 
 -- ---- the search
 
@@ -84,68 +62,60 @@ position-none : (name : List ℕ) (n : ℕ) → position [] name n ≡ 0
 unfolding position
 position-none name n = refl
 
--- what is left of the search from the i-th declaration on
-pub record Rest (s declared : List ℕ) (n i : ℕ) (all : List Declaration) (name : List ℕ) (arguments : ℕ) : Type 0 where
-  pub list : List Declaration
-  pub has : Has declared (i * declarationSize) (declarationsWords list)
-  pub count : n ≡ i + length list
-  pub stand : DeclarationsStand s list
-  pub same : position all name arguments ≡ i + position list name arguments
+-- the place that an answer tells, or how many entries there are
+abbrev placeOf : Lookup → ℕ
+placeOf (Found place compared) = place
+placeOf (Missing compared) = compared
 
--- the first of them and the others
-pub record Turn (s declared : List ℕ) (n i : ℕ) (all : List Declaration) (name : List ℕ) (arguments : ℕ) : Type 0 where
-  pub first : DeclarationAt s declared (i * declarationSize)
-  pub found : samePredicate (first .declaration .name) (length (first .declaration .marks)) name arguments ≡ true → position all name arguments ≡ i
-  pub on : samePredicate (first .declaration .name) (length (first .declaration .marks)) name arguments ≡ false → Rest s declared n (i + 1) all name arguments
+searched-by : (s declared : List ℕ) (p k : ℕ) (d : Declaration) (ds : List Declaration) (name : List ℕ) (n : ℕ) (b : Bool)
+    → samePredicate (d .name) (length (d .marks)) name n ≡ b → matches s name n (storedEntry declared p) ≡ samePredicate (d .name) (length (d .marks)) name n
+    → placeOf (lookFrom s name n (suc k) (storedEntries declared (p + declarationSize) (length ds))) ≡ suc k + position ds name n
+    → placeOf (lookFrom s name n k (storedEntries declared p (suc (length ds)))) ≡ k + position (d ∷ ds) name n
+unfolding storedEntries
+searched-by s declared p k d ds name n true e m on =
+    let z : position (d ∷ ds) name n ≡ 0 = position-by true d ds name n e in
+    let i : k ≡ k + position (d ∷ ds) name n = omega arith in
+    ap placeOf (look-by s name n k (storedEntry declared p) (storedEntries declared (p + declarationSize) (length ds)) true (m ∙ e)) ∙ i
+searched-by s declared p k d ds name n false e m on =
+    let z : position (d ∷ ds) name n ≡ suc (position ds name n) = position-by false d ds name n e in
+    let i : suc k + position ds name n ≡ k + position (d ∷ ds) name n = omega arith in
+    ap placeOf (look-by s name n k (storedEntry declared p) (storedEntries declared (p + declarationSize) (length ds)) false (m ∙ e)) ∙ on ∙ i
 
-turn-by : (s declared : List ℕ) (n i : ℕ) (all : List Declaration) (name : List ℕ) (arguments : ℕ) (ds : List Declaration) → i < n
-    → Has declared (i * declarationSize) (declarationsWords ds) → n ≡ i + length ds → DeclarationsStand s ds → position all name arguments ≡ i + position ds name arguments
-    → Turn s declared n i all name arguments
+-- the search over the words of declarations comes to the first one of the predicate
+searched : (s declared : List ℕ) (p k : ℕ) (ds : List Declaration) (name : List ℕ) (n : ℕ) → Has declared p (declarationsWords ds) → DeclarationsStand s ds
+    → placeOf (lookFrom s name n k (storedEntries declared p (length ds))) ≡ k + position ds name n
+unfolding lookFrom storedEntries declarationsWords declarationWords
+searched s declared p k [] name n h st = let z : k ≡ k + position [] name n = omega (arith, position-none name n) in z
+searched s declared p k (d ∷ ds) name n h (declaration-stands st sts) =
+    searched-by s declared p k d ds name n _ refl
+    (matches-declared s declared p name n record { declaration = d; has = has-left declared p (declarationWords d) (declarationsWords ds) h; stands = st })
+    (searched s declared (p + declarationSize) (suc k) ds name n (has-right declared p (declarationWords d) (declarationsWords ds) h) sts)
+
+declared-words : (ds : List Declaration) → length (declarationsWords ds) ≡ length ds * declarationSize
 unfolding declarationsWords declarationWords
-turn-by s declared n i all name arguments [] l h c k e = absurd (omega arith)
-turn-by s declared n i all name arguments (d ∷ ds) l h c (declaration-stands k ks) e = record {
-  first = record { declaration = d; has = has-left declared (i * declarationSize) (declarationWords d) (declarationsWords ds) h; stands = k };
-  found = λ b. omega (arith, e, position-by true d ds name arguments b);
-  on = λ b. record {
-    list = ds;
-    has = (let p : i * declarationSize + declarationSize ≡ (i + 1) * declarationSize = omega arith in subst (λ (j : ℕ). Has declared j (declarationsWords ds)) p (has-right declared (i * declarationSize) (declarationWords d) (declarationsWords ds) h));
-    count = omega arith;
-    stand = ks;
-    same = omega (arith, e, position-by false d ds name arguments b);
-  };
-}
+declared-words [] = refl
+declared-words (d ∷ ds) = let e : length (declarationsWords ds) ≡ length ds * declarationSize = declared-words ds in omega (arith, length-append (declarationWords d) (declarationsWords ds))
 
-module _ (s declared : List ℕ) (n : ℕ) (name : List ℕ) (arguments i : ℕ) where
-  pub searched-first : i ≡ 0 → (w : DeclarationsAt s declared n) → Rest s declared n i (w .list) name arguments
-  searched-first z w = record {
-    list = w .list;
-    has = (let p : i * declarationSize ≡ 0 = omega arith in subst⁻¹ (λ (j : ℕ). Has declared j (declarationsWords (w .list))) p (w .has));
-    count = omega (arith, w .count);
-    stand = w .stand;
-    same = omega arith;
-  }
+room-by : (declared : List ℕ) (n : ℕ) (ds : List Declaration) → n ≡ length ds → Has declared 0 (declarationsWords ds) → n * declarationSize ≤ length declared
+room-by declared n [] e h = omega arith
+room-by declared n (d ∷ ds) e h =
+    let l : length (declarationsWords (d ∷ ds)) ≡ length (d ∷ ds) * declarationSize = declared-words (d ∷ ds) in
+    omega (arith, has-inside declared 0 (declarationsWords (d ∷ ds)) h (omega arith))
 
-  pub searched-all : n ≤ i → ((w : DeclarationsAt s declared n) → Rest s declared n i (w .list) name arguments) → (w : DeclarationsAt s declared n)
-      → n ≡ position (w .list) name arguments
-  searched-all l inv w = by (inv w .list) (inv w .count) (inv w .same)
-    where
-      by : (ds : List Declaration) → n ≡ i + length ds → position (w .list) name arguments ≡ i + position ds name arguments → n ≡ position (w .list) name arguments
-      by [] c e = omega (arith, e, position-none name arguments)
-      by (d ∷ ds) c e = absurd (omega arith)
+pub declarations-room : {s declared : List ℕ} {n : ℕ} → DeclarationsAt s declared n → n * declarationSize ≤ length declared
+declarations-room {s} {declared} {n} w = room-by declared n (w .list) (w .count) (w .has)
 
-  module _ (l : i < n) (inv : (w : DeclarationsAt s declared n) → Rest s declared n i (w .list) name arguments) where
-    turn : (w : DeclarationsAt s declared n) → Turn s declared n i (w .list) name arguments
-    turn w = turn-by s declared n i (w .list) name arguments (inv w .list) l (inv w .has) (inv w .count) (inv w .stand) (inv w .same)
+module _ (s declared : List ℕ) (n : ℕ) (name : List ℕ) (arguments : ℕ) (r : Lookup) (er : r ≡ lookUp s name arguments (storedEntries declared 0 n)) where
+  place-is : (w : DeclarationsAt s declared n) → placeOf r ≡ position (w .list) name arguments
+  place-is w =
+      let k : 0 + position (w .list) name arguments ≡ position (w .list) name arguments = omega arith in
+      ap placeOf (er ∙ ap (λ (m : ℕ). lookUp s name arguments (storedEntries declared 0 m)) (w .count)) ∙ searched s declared 0 0 (w .list) name arguments (w .has) (w .stand) ∙ k
 
-    pub declaration-at : DeclarationsAt s declared n → DeclarationAt s declared (i * declarationSize)
-    declaration-at w = turn w .first
+  pub place-found : (place compared : ℕ) → r ≡ Found place compared → (w : DeclarationsAt s declared n) → place ≡ position (w .list) name arguments
+  place-found place compared e w = sym (ap placeOf e) ∙ place-is w
 
-    module _ (b : Bool) (eb : (w : DeclarationAt s declared (i * declarationSize)) → b ≡ samePredicate (w .declaration .name) (length (w .declaration .marks)) name arguments) where
-      pub searched-found : b ≡ true → (w : DeclarationsAt s declared n) → i ≡ position (w .list) name arguments
-      searched-found t w = sym (turn w .found (sym (eb (turn w .first)) ∙ t))
-
-      pub searched-on : b ≡ false → (w : DeclarationsAt s declared n) → Rest s declared n (i + 1) (w .list) name arguments
-      searched-on f w = turn w .on (sym (eb (turn w .first)) ∙ f)
+  pub place-missing : (compared : ℕ) → r ≡ Missing compared → (w : DeclarationsAt s declared n) → compared ≡ position (w .list) name arguments
+  place-missing compared e w = sym (ap placeOf e) ∙ place-is w
 
 -- ---- atoms
 
@@ -247,12 +217,12 @@ module _ (s declared : List ℕ) (n near : ℕ) (l : near < n) where
   near-at d = near-of [] 0 d .it
 
   pub near-declares : (g table : List ℕ) (p : ℕ) (name : Name) → ((w : NamedAt table p) → name ≡ nameOf (w .atom)) → (q : ℕ) → q ≡ near * declarationSize → (b : Bool)
-      → ((w : DeclarationAt s declared q) → b ≡ samePredicate (w .declaration .name) (length (w .declaration .marks)) (spelling g (name .at) (name .len)) (name .arguments))
+      → b ≡ matches s (spelling g (name .at) (name .len)) (name .arguments) (storedEntry declared q)
       → b ≡ true → (d : DeclarationsAt s declared n) (w : AtomAt g table p) → position (d .list) (w .atom .name) (arity (w .atom .args)) < n
   near-declares g table p name en q eq b eb t d w =
       let o : Near s declared q (d .list) (spelling g (name .at) (name .len)) (name .arguments) =
       subst⁻¹ (λ (j : ℕ). Near s declared j (d .list) (spelling g (name .at) (name .len)) (name .arguments)) eq (near-of (spelling g (name .at) (name .len)) (name .arguments) d) in
-      let k : position (d .list) (spelling g (name .at) (name .len)) (name .arguments) < length (d .list) = o .found (sym (eb (o .it)) ∙ t) in
+      let k : position (d .list) (spelling g (name .at) (name .len)) (name .arguments) < length (d .list) = o .found (sym (matches-declared s declared q (spelling g (name .at) (name .len)) (name .arguments) (o .it)) ∙ sym eb ∙ t) in
       let m : position (d .list) (spelling g (name .at) (name .len)) (name .arguments) ≡ position (d .list) (w .atom .name) (arity (w .atom .args)) =
       atom-position g table p name en (d .list) w in
       omega (arith, k, m, d .count)

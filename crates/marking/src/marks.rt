@@ -4,6 +4,9 @@ use crate::Known;
 use crate::terms::Groundness;
 use crate::terms::ground_term;
 use crate::terms::ground_test;
+use lookup::Lookup;
+use lookup::is_match;
+use lookup::look_among;
 use syntax::DECLARATION_SIZE;
 use syntax::FIRST_NAME;
 use syntax::INPUT;
@@ -20,10 +23,10 @@ ghost use Prim.Native.Nat.{_+_, _%_, _≤_, _<_};
 ghost use lib.Dec.{eqb};
 ghost use lib.ListN.{length};
 ghost use Rattle.syntax.specs.Tokens.{spelling};
-ghost use Rattle.syntax.specs.Terms.{arity, samePredicate, input, output};
+ghost use Rattle.syntax.specs.Terms.{arity, input, output};
 ghost use Rattle.syntax.specs.Words.{markNumbers, marksNumber};
 ghost use Rattle.rules.specs.Modes.{openByte, marksFor, listOf, ifMarked, firstOpen, groundMarked, undeclaredAtom, openInput, openOutput};
-ghost use Rattle.marking.specs.Tables.{TermAt, DeclarationAt, DeclarationsAt, AtomAt, NamedAt, MarkedAt, JudgedAt};
+ghost use Rattle.marking.specs.Tables.{TermAt, DeclarationsAt, AtomAt, NamedAt, MarkedAt, JudgedAt};
 ghost use Rattle.marking.specs.Answers.{checkedOf, groundnessOf, firstOpenOf, nameOf, position};
 
 // The name of an atom: its byte, its length, and the number of arguments behind it.
@@ -47,32 +50,6 @@ fn name_at(table: &[u32], p: usize) -> Name
     }
 }
 
-// Whether the declaration at a place is of the predicate whose name is the part of `g` at `at`, `len` bytes long.
-fn declares(
-    s: &[u8],
-    declared: &[u32],
-    p: usize,
-    g: &[u8],
-    at: usize,
-    len: usize,
-    arguments: usize,
-) -> bool
-    requires { ⌜ DeclarationAt (now s) (now declared) p ⌝ }
-    requires { ⌜ at + len ≤ length (now g) ⌝ }
-    ensures { λ r. ⌜ ((w : DeclarationAt (now (s .entry)) (now (declared .entry)) p) → r ≡ samePredicate (w .declaration .name) (length (w .declaration .marks)) (spelling (now (g .entry)) at len) arguments) ⌝ }
-{
-    let count = word_at(declared, p + 2);
-    if count != arguments {
-        return false;
-    }
-    let bytes = word_at(declared, p + 1);
-    if bytes != len {
-        return false;
-    }
-    let place = word_at(declared, p);
-    lexer::same_bytes(s, place, g, at, len)
-}
-
 // The search for a predicate's declaration: which of the `n` it is, or `n` where there is none.
 pub fn find(
     s: &[u8],
@@ -87,15 +64,10 @@ pub fn find(
     requires { ⌜ at + len ≤ length (now g) ⌝ }
     ensures { λ r. ⌜ ((w : DeclarationsAt (now (s .entry)) (now (declared .entry)) n) → r ≡ position (w .list) (spelling (now (g .entry)) at len) arguments) ⌝ }
 {
-    let mut i = 0;
-    while i < n {
-        let p = i * DECLARATION_SIZE;
-        if declares(s, declared, p, g, at, len, arguments) {
-            return i;
-        }
-        i += 1;
+    match look_among(s, declared, n, g, at, len, arguments) {
+        Lookup::Found { place, compared: _ } => place,
+        Lookup::Missing { compared } => compared,
     }
-    n
 }
 
 // The same for the predicate of the atom at a place.
@@ -134,7 +106,7 @@ pub fn is_near(
     let len = name.len;
     let arguments = name.arguments;
     let q = near * DECLARATION_SIZE;
-    declares(s, declared, q, g, at, len, arguments)
+    is_match(s, declared, q, g, at, len, arguments)
 }
 
 // The marks of the predicate of the atom at a place, in one number; 0 where it has no declaration.

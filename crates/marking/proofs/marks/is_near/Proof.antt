@@ -12,13 +12,13 @@ name-at-requires : tie.Need-name-at-requires
 name-at-requires c κs = atom-name (c .before .before .before .before .before .pre .1)
 
 mul-q : tie.Need-mul-q
-mul-q c = let c6 = c .before .before .before .before .before .before in omega (arith, declaration-room (c6 .args .s .now) (c6 .args .declared .now) _ (near-at (c6 .args .s .now) (c6 .args .declared .now) (c6 .args .n) (c6 .args .near) (c .before .if1 .left) (c6 .pre .0)))
+mul-q c = omega (arith, declaration-room (c .before .before .before .before .before .before .args .s .now) (c .before .before .before .before .before .before .args .declared .now) _ (near-at (c .before .before .before .before .before .before .args .s .now) (c .before .before .before .before .before .before .args .declared .now) (c .before .before .before .before .before .before .args .n) (c .before .before .before .before .before .before .args .near) (c .before .if1 .left) (c .before .before .before .before .before .before .pre .0)))
 
-declares-requires : tie.Need-declares-requires
-declares-requires c κs = let c6 = c .before .before .before .before .before .before in (near-at (c6 .args .s .now) (c6 .args .declared .now) (c6 .args .n) (c6 .args .near) (c .before .if1 .left) (c6 .pre .0), atom-inside (c6 .args .g .now) (c6 .args .table .now) (c6 .args .p) (c .name-at .result) (c .name-at .ensures) (c6 .pre .1))
+is-match-requires : tie.Need-is-match-requires
+is-match-requires c κs = (declaration-room (c .before .before .before .before .before .before .args .s .now) (c .before .before .before .before .before .before .args .declared .now) _ (near-at (c .before .before .before .before .before .before .args .s .now) (c .before .before .before .before .before .before .args .declared .now) (c .before .before .before .before .before .before .args .n) (c .before .before .before .before .before .before .args .near) (c .before .if1 .left) (c .before .before .before .before .before .before .pre .0)), atom-inside (c .before .before .before .before .before .before .args .g .now) (c .before .before .before .before .before .before .args .table .now) (c .before .before .before .before .before .before .args .p) (c .name-at .result) (c .name-at .ensures) (c .before .before .before .before .before .before .pre .1))
 
 returns-2 : tie.Need-returns-2
-returns-2 c = let c7 = c .before .before .before .before .before .before .before in near-declares (c7 .args .s .now) (c7 .args .declared .now) (c7 .args .n) (c7 .args .near) (c .before .before .if1 .left) (c7 .args .g .now) (c7 .args .table .now) (c7 .args .p) (c .before .name-at .result) (c .before .name-at .ensures) _ refl (c .declares .result) (c .declares .ensures)
+returns-2 c = near-declares (c .before .before .before .before .before .before .before .args .s .now) (c .before .before .before .before .before .before .before .args .declared .now) (c .before .before .before .before .before .before .before .args .n) (c .before .before .before .before .before .before .before .args .near) (c .before .before .if1 .left) (c .before .before .before .before .before .before .before .args .g .now) (c .before .before .before .before .before .before .before .args .table .now) (c .before .before .before .before .before .before .before .args .p) (c .before .name-at .result) (c .before .name-at .ensures) _ refl (c .is-match .result) (c .is-match .ensures)
 
 pub is-near-spec : {M : Type 1} → statement M
-is-near-spec = tie.close (tie.spec returns name-at-requires mul-q declares-requires returns-2)
+is-near-spec = tie.close (tie.spec returns name-at-requires mul-q is-match-requires returns-2)

@@ -1,0 +1,3 @@
+pub mod Laws
+pub mod First
+pub mod Cases
