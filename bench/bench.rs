@@ -6,10 +6,10 @@ use std::process::{Command, exit};
 use std::time::Instant;
 
 unsafe extern "C" {
-    /// crates/exports: below 2^32 accepted, declarations times 2^16 and clauses.
-    fn pilvaust_read(sheet: *const u8, len: usize) -> u64;
-    fn pilvaust_check(sheet: *const u8, len: usize) -> u64;
-    /// The same: below 2^32 a run that ended, its kind times 2^24, the answers times 2^17 and the steps.
+    /// crates/exports (include/pilvaust.h): 0 where the sheet is accepted, and its counts among the numbers.
+    fn pilvaust_read(sheet: *const u8, len: usize, numbers: *mut usize, numbers_len: usize) -> usize;
+    fn pilvaust_check(sheet: *const u8, len: usize, numbers: *mut usize, numbers_len: usize) -> usize;
+    /// The same: 0 where the run ended, and its report among the numbers.
     fn pilvaust_run(
         sheet: *const u8,
         len: usize,
@@ -19,7 +19,9 @@ unsafe extern "C" {
         wanted: usize,
         text: *mut u8,
         room: usize,
-    ) -> u64;
+        numbers: *mut usize,
+        numbers_len: usize,
+    ) -> usize;
     /// The C library's: the CPU time of this process, in microseconds.
     fn clock() -> i64;
 }
@@ -38,8 +40,16 @@ const BATCHES: usize = 21;
 const RUNS: usize = 200;
 const LONG_RUNS: usize = 10;
 const SWI_RUNS: usize = 1_000;
-const DONE: u64 = 1;
-const OUT_OF_STEPS: u64 = 2;
+const DONE: usize = 1;
+const OUT_OF_STEPS: usize = 2;
+/// The places of an answer's numbers, as in include/pilvaust.h.
+const DECLARATION_COUNT: usize = 8;
+const CLAUSE_COUNT: usize = 9;
+const VERDICT_NUMBERS: usize = 10;
+const KIND: usize = 8;
+const ANSWER_COUNT: usize = 9;
+const STEP_COUNT: usize = 10;
+const RUN_NUMBERS: usize = 12;
 const MOST_GROWTH: f64 = 5.0;
 const MOST_MICROSECONDS: f64 = 2_000.0;
 const MOST_OF_SWI: f64 = 0.05;
@@ -47,30 +57,47 @@ const MOST_RUN_GROWTH: f64 = 12.0;
 const SHEET_FILE: &str = "target/bench_sheet.pl";
 const GOAL_FILE: &str = "target/bench_goal.pl";
 
-fn read(sheet: &[u8]) -> u64 {
-    // SAFETY: the function reads `len` bytes from `sheet` and keeps nothing of them.
-    unsafe { pilvaust_read(sheet.as_ptr(), sheet.len()) }
+/// The counts of declarations and clauses of a sheet that is accepted.
+#[derive(Clone, Copy, Debug, PartialEq)]
+struct Counts {
+    declarations: usize,
+    clauses: usize,
 }
 
-fn check(sheet: &[u8]) -> u64 {
+fn counts(refusal: usize, numbers: &[usize; VERDICT_NUMBERS]) -> Counts {
+    assert_eq!(refusal, 0, "refused: {numbers:?}");
+    Counts { declarations: numbers[DECLARATION_COUNT], clauses: numbers[CLAUSE_COUNT] }
+}
+
+fn read(sheet: &[u8]) -> Counts {
+    let mut numbers = [0; VERDICT_NUMBERS];
+    // SAFETY: the function reads `len` bytes from `sheet`, writes at most so many numbers, and keeps nothing.
+    let refusal = unsafe { pilvaust_read(sheet.as_ptr(), sheet.len(), numbers.as_mut_ptr(), VERDICT_NUMBERS) };
+    counts(refusal, &numbers)
+}
+
+fn check(sheet: &[u8]) -> Counts {
+    let mut numbers = [0; VERDICT_NUMBERS];
     // SAFETY: as for `read`.
-    unsafe { pilvaust_check(sheet.as_ptr(), sheet.len()) }
+    let refusal = unsafe { pilvaust_check(sheet.as_ptr(), sheet.len(), numbers.as_mut_ptr(), VERDICT_NUMBERS) };
+    counts(refusal, &numbers)
 }
 
 /// What a run reports.
 #[derive(Clone, Copy, Debug, PartialEq)]
 struct Report {
-    kind: u64,
-    answers: u64,
-    steps: u64,
+    kind: usize,
+    answers: usize,
+    steps: usize,
 }
 
 /// A run of a goal over a sheet, to its end or until it has taken that many steps.
 fn run(case: &Case, allowance: usize) -> Report {
     let (sheet, goal) = (black_box(case.sheet.as_bytes()), black_box(case.goal.as_bytes()));
     let mut text = [0; ROOM];
-    // SAFETY: the function reads so many bytes from `sheet` and `goal`, writes at most `ROOM` to `text`, and keeps nothing.
-    let answer = unsafe {
+    let mut numbers = [0; RUN_NUMBERS];
+    // SAFETY: the function reads so many bytes from `sheet` and `goal`, writes at most `ROOM` to `text` and so many numbers, and keeps nothing.
+    let refusal = unsafe {
         pilvaust_run(
             sheet.as_ptr(),
             sheet.len(),
@@ -80,11 +107,13 @@ fn run(case: &Case, allowance: usize) -> Report {
             ANSWERS,
             text.as_mut_ptr(),
             ROOM,
+            numbers.as_mut_ptr(),
+            RUN_NUMBERS,
         )
     };
-    assert!(answer < 1 << 32, "{}: refused {}, byte {}", case.name, answer >> 32, answer % (1 << 32));
+    assert_eq!(refusal, 0, "{}: refused {numbers:?}", case.name);
     black_box(&text);
-    Report { kind: answer >> 24, answers: (answer >> 17) % 128, steps: answer % (1 << 17) }
+    Report { kind: numbers[KIND], answers: numbers[ANSWER_COUNT], steps: numbers[STEP_COUNT] }
 }
 
 /// A sheet of that many bytes: groups of 256 bytes, each filled up by a comment.
@@ -143,7 +172,7 @@ struct Case {
     name: &'static str,
     sheet: String,
     goal: String,
-    answers: u64,
+    answers: usize,
 }
 
 fn nested(functor: &str, levels: usize, inner: &str) -> String {
@@ -227,7 +256,7 @@ fn reverses() -> Case {
     Case { name: "reverses", sheet: BITS.to_string() + REVERSE, goal, answers: 0 }
 }
 
-fn microseconds(answer: fn(&[u8]) -> u64, sheet: &[u8]) -> f64 {
+fn microseconds(answer: fn(&[u8]) -> Counts, sheet: &[u8]) -> f64 {
     let start = Instant::now();
     black_box(answer(black_box(sheet)));
     start.elapsed().as_secs_f64() * 1e6
@@ -240,7 +269,7 @@ fn median(mut times: Vec<f64>) -> f64 {
 
 /// The largest ratio of the time for a full sheet to that for one of a quarter of its length.
 fn growth() -> f64 {
-    let makes: [(&str, fn(usize) -> String, u64, u64); 4] = [
+    let makes: [(&str, fn(usize) -> String, usize, usize); 4] = [
         ("rules", rules, 1, 4),
         ("variables", variables, 0, 1),
         ("brackets", brackets, 0, 1),
@@ -251,8 +280,9 @@ fn growth() -> f64 {
     for (name, group, declarations, clauses) in makes {
         let (short, full) = (sheet(SHORT, group), sheet(FULL, group));
         for text in [&short, &full] {
-            let groups = (text.len() / GROUP) as u64;
-            assert_eq!(read(text), groups * (declarations << 16) + groups * clauses, "{name} is not accepted");
+            let groups = text.len() / GROUP;
+            let expected = Counts { declarations: groups * declarations, clauses: groups * clauses };
+            assert_eq!(read(text), expected, "{name}");
         }
         // In turn, so that whatever else the machine does falls on both.
         let (mut shorts, mut fulls) = (Vec::new(), Vec::new());
@@ -268,7 +298,7 @@ fn growth() -> f64 {
 }
 
 /// What SWI-Prolog prints: a time in microseconds, and a count, which is known.
-fn swi(words: &[&str], count: u64) -> f64 {
+fn swi(words: &[&str], count: usize) -> f64 {
     let output = Command::new("swipl").args(words).output().expect("swipl runs (Debian's swi-prolog-nox)");
     let text = String::from_utf8_lossy(&output.stdout);
     let words: Vec<&str> = text.split_whitespace().collect();
@@ -300,7 +330,7 @@ fn beside_swi() -> (f64, f64) {
     let (mut slowest, mut largest): (f64, f64) = (0.0, 0.0);
     for (name, group) in makes {
         let full = sheet(FULL, group);
-        assert_eq!(check(&full), (64 << 16) + 256, "{name} is not accepted");
+        assert_eq!(check(&full), Counts { declarations: 64, clauses: 256 }, "{name}");
         let checked = median((0..ROUNDS).map(|_| microseconds(check, &full)).collect());
         let loaded = swi_microseconds(&full);
         println!("{name:10} {checked:7.1} µs {loaded:7.1} µs {:6.3}", checked / loaded);
@@ -329,7 +359,7 @@ fn run_growth() -> f64 {
         for steps in [SHORT_RUN, LONG_RUN] {
             assert_eq!(
                 run(&case, steps),
-                Report { kind: OUT_OF_STEPS, answers: 0, steps: steps as u64 },
+                Report { kind: OUT_OF_STEPS, answers: 0, steps },
                 "{}",
                 case.name
             );

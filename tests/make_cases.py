@@ -5,9 +5,10 @@ python3 tests/make_cases.py check    crates/check_cases/data/cases and .../stdou
 python3 tests/make_cases.py run      crates/run_cases/data/cases and .../stdout
 python3 tests/make_cases.py list     crates/list_cases/data/cases and .../stdout
 
-A case is a letter and its fields; a text is its length in 3 bytes, lowest
-first, then its bytes.  The cases come from fixed seeds: each call writes the
-same files.
+First the engine is held to the worked examples (test_engine.py); where it fails
+one, nothing is written.  A case is a letter and its fields; a text is its length
+in 3 bytes, lowest first, then its bytes.  The cases come from fixed seeds: each
+call writes the same files.
 """
 
 import random
@@ -20,6 +21,7 @@ import engine
 import list_cases
 import read_cases
 import run_cases
+import test_engine
 
 ROOT = Path(__file__).resolve().parent.parent
 MOST_BYTES, MOST_TEXT = 900_000, 20_000
@@ -142,4 +144,6 @@ def main(stage):
 if __name__ == "__main__":
     if len(sys.argv) != 2 or sys.argv[1] not in STAGES:
         sys.exit("usage: make_cases.py " + "|".join(STAGES))
+    if not test_engine.run():
+        sys.exit("the engine fails a worked example: no case is written")
     main(sys.argv[1])

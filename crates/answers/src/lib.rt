@@ -48,7 +48,10 @@ fn append_afresh(
 ) -> usize
     requires { ⌜ SomeValues (now nodes) (now state) (now symbols) (now sheet) (now goal) (now stack) (now names) count ⌝ }
     requires { ⌜ (at + 400 < 2 ^ 64) × ((limit + 400 < 2 ^ 64) × Ample (now stack) ((limit - at) * openSize + 2 * openSize)) ⌝ }
-    ensures { λ r. ⌜ ((ss : List Symbol) (n : ℕ) → Values ss n (now (nodes .entry)) (now (state .entry)) (now (symbols .entry)) (now (sheet .entry)) (now (goal .entry)) (now (stack .entry)) (now (names .entry)) count → Lined limit (bytesOf [] (valuesFrom (bindings ss (now (nodes .entry)) (now (state .entry)) n) 0 [] (namesFrom (now (goal .entry)) (now (names .entry)) 0 count))) (now (out .entry)) at (now (out .exit)) r) ⌝ }
+    ensures { λ r. ⌜ ((ss : List Symbol) (n : ℕ) → Values ss n (now (nodes .entry)) (now (state .entry)) (now (symbols .entry)) (now (sheet .entry))
+        (now (goal .entry)) (now (stack .entry)) (now (names .entry)) count
+        → Lined limit (bytesOf [] (valuesFrom (bindings ss (now (nodes .entry)) (now (state .entry)) n) 0 []
+        (namesFrom (now (goal .entry)) (now (names .entry)) 0 count))) (now (out .entry)) at (now (out .exit)) r) ⌝ }
 {
     let mut numbers = [0usize; NUMBERS];
     append_values(
@@ -84,7 +87,10 @@ fn append_again(
 ) -> usize
     requires { ⌜ SomeValues (now nodes) (now state) (now symbols) (now sheet) (now goal) (now stack) (now names) count ⌝ }
     requires { ⌜ (Counted (now numbers)) × ((at + 400 < 2 ^ 64) × ((limit + 400 < 2 ^ 64) × Ample (now stack) ((limit - at) * openSize + 2 * openSize))) ⌝ }
-    ensures { λ r. ⌜ ((ss : List Symbol) (n : ℕ) → Values ss n (now (nodes .entry)) (now (state .entry)) (now (symbols .entry)) (now (sheet .entry)) (now (goal .entry)) (now (stack .entry)) (now (names .entry)) count → Lined limit (bytesOf [] (valuesFrom (bindings ss (now (nodes .entry)) (now (state .entry)) n) 0 [] (namesFrom (now (goal .entry)) (now (names .entry)) 0 count))) (now (out .entry)) at (now (out .exit)) r) ⌝ }
+    ensures { λ r. ⌜ ((ss : List Symbol) (n : ℕ) → Values ss n (now (nodes .entry)) (now (state .entry)) (now (symbols .entry)) (now (sheet .entry))
+        (now (goal .entry)) (now (stack .entry)) (now (names .entry)) count
+        → Lined limit (bytesOf [] (valuesFrom (bindings ss (now (nodes .entry)) (now (state .entry)) n) 0 []
+        (namesFrom (now (goal .entry)) (now (names .entry)) 0 count))) (now (out .entry)) at (now (out .exit)) r) ⌝ }
 {
     if numbers[CELLS] == 0 {
         return append_values(
@@ -132,7 +138,10 @@ fn put_values(
 ) -> usize
     requires { ⌜ SomeAnswerable (now nodes) (now state) (now symbols) (now sheet) (now goal) (now names) count ⌝ }
     requires { ⌜ (at ≤ length (now text)) × Ample (now stack) ((length (now text) - at) * openSize + 2 * openSize) ⌝ }
-    ensures { λ r. ⌜ ((ss : List Symbol) (n : ℕ) → Answerable ss n (now (nodes .entry)) (now (state .entry)) (now (symbols .entry)) (now (sheet .entry)) (now (goal .entry)) (now (names .entry)) count → Fitted (bytesOf [] (valuesFrom (bindings ss (now (nodes .entry)) (now (state .entry)) n) 0 [] (namesFrom (now (goal .entry)) (now (names .entry)) 0 count))) (now (text .entry)) at (now (text .exit)) r) ⌝ }
+    ensures { λ r. ⌜ ((ss : List Symbol) (n : ℕ) → Answerable ss n (now (nodes .entry)) (now (state .entry)) (now (symbols .entry)) (now (sheet .entry))
+        (now (goal .entry)) (now (names .entry)) count → Fitted
+        (bytesOf [] (valuesFrom (bindings ss (now (nodes .entry)) (now (state .entry)) n) 0 []
+        (namesFrom (now (goal .entry)) (now (names .entry)) 0 count))) (now (text .entry)) at (now (text .exit)) r) ⌝ }
 {
     let room = text.len();
     let mut numbers = [0usize; NUMBERS];
@@ -187,7 +196,9 @@ pub fn put_answer(
 ) -> usize
     requires { ⌜ SomeAnswerable (now nodes) (now state) (now symbols) (now sheet) (now goal) (now names) count ⌝ }
     requires { ⌜ (at ≤ length (now text)) × Ample (now stack) ((length (now text) - at) * openSize + 2 * openSize) ⌝ }
-    ensures { λ r. ⌜ ((ss : List Symbol) (n : ℕ) (g : Goal) → Answerable ss n (now (nodes .entry)) (now (state .entry)) (now (symbols .entry)) (now (sheet .entry)) (now (goal .entry)) (now (names .entry)) count → g .names ≡ namesFrom (now (goal .entry)) (now (names .entry)) 0 count → Fitted (line g (bindings ss (now (nodes .entry)) (now (state .entry)) n)) (now (text .entry)) at (now (text .exit)) r) ⌝ }
+    ensures { λ r. ⌜ ((ss : List Symbol) (n : ℕ) (g : Goal) → Answerable ss n (now (nodes .entry)) (now (state .entry)) (now (symbols .entry))
+        (now (sheet .entry)) (now (goal .entry)) (now (names .entry)) count → g .names ≡ namesFrom (now (goal .entry)) (now (names .entry)) 0 count
+        → Fitted (line g (bindings ss (now (nodes .entry)) (now (state .entry)) n)) (now (text .entry)) at (now (text .exit)) r) ⌝ }
 {
     if all_anonymous(goal, names, count) {
         return put_yes(text, at);

@@ -69,12 +69,6 @@ constant-checked nodes state scratch x q d g h =
 pub closed-none : (state : List ℕ) → Closed 0 state
 closed-none state = record { few = omega arith; copy = λ y l. absurd (let z : y < 0 = l in omega arith) }
 
-pub closes-still : (k x d : ℕ) → (x < k * copyCells → d < k) → Closing k x d k
-closes-still k x d h = record { closed = λ state c. c; stays = h }
-
-pub closes-none : (k x d : ℕ) → Closing k x d 0
-closes-none k x d = record { closed = λ state c. closed-none state; stays = λ l. absurd (let z : x < 0 = l in omega arith) }
-
 pub closed-bound : (state : List ℕ) (n x q d k r : ℕ) → storeWords ≤ length state → n < cells → x < cells → d < copies → Closed k state → Closing k x d r → Closed r (boundWords state n x (wordOf q d))
 closed-bound state n x q d k r long room small copy c h =
     record { few = h .closed state c .few; copy = λ y l. at y l (eqb y x) refl }

@@ -96,7 +96,8 @@ pub record Searched (ss : List Symbol) (nodes state : List ℕ) (n : ℕ) (befor
   pub keeps : Keeps m before after
   pub queued : Queued state after (r .n)
   pub found : r .found ≡ true → (i : ℕ) × (i < m) × T (occurs (variableOf x) (resolve (bindings ss nodes state n) (var (variableOf (trailAt before i)))))
-  pub clear : r .found ≡ false → (i : ℕ) → i < r .n → (v : Variable) → T (occurs v (valueOf ss nodes (cellAt state (trailAt after i)))) → Dealt state after x (r .n) v
+  pub clear : r .found ≡ false → (i : ℕ) → i < r .n → (v : Variable) → T (occurs v (valueOf ss nodes (cellAt state (trailAt after i))))
+      → Dealt state after x (r .n) v
 
 -- ---- the check
 

@@ -72,7 +72,8 @@ fn scan(
     m: usize,
 ) -> Queue
     requires { ⌜ Scannable (now nodes) (now state) (now scratch) q d m ⌝ }
-    ensures { λ r. ⌜ ((g : Scannable (now (nodes .entry)) (now (state .entry)) (now (scratch .entry)) q d m) → Scanned (g .ss) (now (nodes .entry)) (now (state .entry)) (now (scratch .entry)) (now (scratch .exit)) q d x m r) ⌝ }
+    ensures { λ r. ⌜ ((g : Scannable (now (nodes .entry)) (now (state .entry)) (now (scratch .entry)) q d m)
+        → Scanned (g .ss) (now (nodes .entry)) (now (state .entry)) (now (scratch .entry)) (now (scratch .exit)) q d x m r) ⌝ }
 {
     let e = q + size_at(nodes, q);
     let mut i = q;
@@ -90,7 +91,8 @@ fn scan(
 // The terms of the queued cells, until cell x is found or the queue is at its end.
 fn search(nodes: &[u32], state: &[u32], scratch: &mut [u32], x: usize, m: usize) -> Queue
     requires { ⌜ Searchable (now nodes) (now state) (now scratch) x m ⌝ }
-    ensures { λ r. ⌜ ((g : Searchable (now (nodes .entry)) (now (state .entry)) (now (scratch .entry)) x m) → Searched (g .ss) (now (nodes .entry)) (now (state .entry)) (g .n) (now (scratch .entry)) (now (scratch .exit)) x m r) ⌝ }
+    ensures { λ r. ⌜ ((g : Searchable (now (nodes .entry)) (now (state .entry)) (now (scratch .entry)) x m)
+        → Searched (g .ss) (now (nodes .entry)) (now (state .entry)) (g .n) (now (scratch .entry)) (now (scratch .exit)) x m r) ⌝ }
 {
     let mut k = 0;
     let mut n = m;
@@ -120,7 +122,8 @@ pub fn occurs(
     d: usize,
 ) -> bool
     requires { ⌜ Checkable (now nodes) (now state) (now scratch) x q d ⌝ }
-    ensures { λ r. ⌜ ((g : Checkable (now (nodes .entry)) (now (state .entry)) (now (scratch .entry)) x q d) → Checked (g .ss) (now (nodes .entry)) (now (state .entry)) (g .n) (now (scratch .entry)) (now (scratch .exit)) x q d r) ⌝ }
+    ensures { λ r. ⌜ ((g : Checkable (now (nodes .entry)) (now (state .entry)) (now (scratch .entry)) x q d)
+        → Checked (g .ss) (now (nodes .entry)) (now (state .entry)) (g .n) (now (scratch .entry)) (now (scratch .exit)) x q d r) ⌝ }
 {
     let r = scan(nodes, state, scratch, q, d, x, 0);
     if r.found {
@@ -171,7 +174,8 @@ pub fn stands(
 ) -> bool
     requires { ⌜ Checkable (now nodes) (now state) (now scratch) x q d ⌝ }
     requires { ⌜ Closed k (now state) ⌝ }
-    ensures { λ r. ⌜ ((g : Checkable (now (nodes .entry)) (now (state .entry)) (now (scratch .entry)) x q d) → Checked (g .ss) (now (nodes .entry)) (now (state .entry)) (g .n) (now (scratch .entry)) (now (scratch .exit)) x q d r) ⌝ }
+    ensures { λ r. ⌜ ((g : Checkable (now (nodes .entry)) (now (state .entry)) (now (scratch .entry)) x q d)
+        → Checked (g .ss) (now (nodes .entry)) (now (state .entry)) (g .n) (now (scratch .entry)) (now (scratch .exit)) x q d r) ⌝ }
 {
     if apart(x, d, k) {
         return false;

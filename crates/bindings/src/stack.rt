@@ -46,7 +46,8 @@ pub fn put_pair(
     there: usize,
     second: usize,
 )
-    requires { ⌜ (pairOf k + pairSize ≤ length (now scratch)) × (((root < 2 ^ 32) × ((at < 2 ^ 32) × (copy < 2 ^ 32))) × ((other < 2 ^ 32) × ((there < 2 ^ 32) × (second < 2 ^ 32)))) ⌝ }
+    requires { ⌜ (pairOf k + pairSize ≤ length (now scratch)) × (((root < 2 ^ 32) × ((at < 2 ^ 32) × (copy < 2 ^ 32)))
+        × ((other < 2 ^ 32) × ((there < 2 ^ 32) × (second < 2 ^ 32)))) ⌝ }
     ensures { λ _. ⌜ now (scratch .exit) ≡ pairWords (now (scratch .entry)) k root at copy other there second ⌝ }
 {
     let i = STACK + k * PAIR_SIZE;

@@ -46,7 +46,8 @@ pub fn bound_at(nodes: &[u32], state: &[u32], p: usize, c: usize) -> usize
 // Where a term leads: to a name, or to an unbound variable.
 pub fn deref(nodes: &[u32], state: &[u32], p: usize, c: usize) -> At
     requires { ⌜ Given (now nodes) (now state) p c ⌝ }
-    ensures { λ r. ⌜ ((g : Given (now (nodes .entry)) (now (state .entry)) p c) → Derefs (g .ss) (now (nodes .entry)) (now (state .entry)) (g .n) p c (r .node) (r .copy)) ⌝ }
+    ensures { λ r. ⌜ ((g : Given (now (nodes .entry)) (now (state .entry)) p c) → Derefs (g .ss) (now (nodes .entry)) (now (state .entry)) (g .n) p c
+        (r .node) (r .copy)) ⌝ }
 {
     let mut node = p;
     let mut copy = c;

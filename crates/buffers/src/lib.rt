@@ -1,10 +1,12 @@
 // Bytes into a lent buffer. Each function writes from a position on and returns the position past what it wrote; bytes at or
 // past the buffer's end are left out but counted, so a buffer of no bytes measures.
+ghost use mathlib.Core.Path.{_≡_};
 ghost use mathlib.Core.List.{[], _∷_};
 ghost use Prim.Native.Nat.{_+_, _^_, _≤_, _<_};
 ghost use lib.ListN.{length};
 ghost use Rattle.syntax.specs.Tokens.{spelling};
 ghost use Rattle.buffers.specs.Buffers.{Put, decimal, number};
+ghost use Rattle.buffers.specs.Feeds.{pastLines};
 
 pub fn append_byte(byte: u8, out: &mut [u8], at: usize) -> usize
     requires { ⌜ at + 1 < 2 ^ 64 ⌝ }
@@ -60,4 +62,22 @@ pub fn append(text: &[u8], out: &mut [u8], at: usize) -> usize
     ensures { λ r. ⌜ Put (now (out .entry)) at (now (text .entry)) (now (out .exit)) r ⌝ }
 {
     append_part(text, 0, text.len(), out, at)
+}
+
+// The position behind so many lines of a text.
+pub fn past_lines(text: &[u8], lines: usize) -> usize
+    ensures { λ r. ⌜ r ≡ pastLines lines (now (text .entry)) ⌝ }
+{
+    let mut at = 0;
+    let mut left = lines;
+    while at < text.len() {
+        if left == 0 {
+            return at;
+        }
+        if text[at] == b'\n' {
+            left -= 1;
+        }
+        at += 1;
+    }
+    at
 }

@@ -45,7 +45,7 @@ pub fn text_at(cases: &[u8], at: usize) -> Part
 }
 
 pub fn wide(byte: u8) -> usize
-    ensures { λ r. ⌜ r < byteValues ⌝ }
+    ensures { λ r. ⌜ (r ≡ byte) × (r < byteValues) ⌝ }
 {
     byte as usize
 }

@@ -17,4 +17,5 @@ pub record Ruled (s : List ℕ) (st : State) (entry exit : List ℕ) (n used : �
   pub long : length mid ≡ length entry
   pub given : Gives bodyWords bodyLength s (onward s st) entry mid used body (readBody s literals (cursorOf s entry (onward s st)))
   pub faulted : (body .number ≡ 0 → ⊥) → (r ≡ body) × (exit ≡ mid)
-  pub stored : body .number ≡ 0 → (r ≡ record { number = body .number; used = body .used; items = 1; state = body .state }) × (exit ≡ set (set (set mid n (body .used - n)) (n + 1) (body .state .count)) (n + 2) (body .items))
+  pub stored : body .number ≡ 0 → (r ≡ record { number = body .number; used = body .used; items = 1; state = body .state })
+      × (exit ≡ set (set (set mid n (body .used - n)) (n + 1) (body .state .count)) (n + 2) (body .items))

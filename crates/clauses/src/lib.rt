@@ -41,7 +41,8 @@ ghost use Rattle.clauses.specs.Rules.{Ruled};
 fn read_right(s: &[u8], st: State, table: &mut [u32], n: usize, used: usize) -> Parsed
     requires { ⌜ Ready (now s) st (now table) used 0 ⌝ }
     requires { ⌜ (st .token .kind ≡ equalsKind) × (n < used) ⌝ }
-    ensures { λ r. ⌜ Gives termWords one (now (s .entry)) (onward (now (s .entry)) st) (set (now (table .entry)) n equationKind) (now (table .exit)) used r (readTerm brackets (now (s .entry)) (cursorOf (now (s .entry)) (set (now (table .entry)) n equationKind) (onward (now (s .entry)) st))) ⌝ }
+    ensures { λ r. ⌜ Gives termWords one (now (s .entry)) (onward (now (s .entry)) st) (set (now (table .entry)) n equationKind) (now (table .exit)) used r
+        (readTerm brackets (now (s .entry)) (cursorOf (now (s .entry)) (set (now (table .entry)) n equationKind) (onward (now (s .entry)) st))) ⌝ }
 {
     put(table, n, EQUATION_KIND);
     let past = next(s, st);
@@ -69,7 +70,8 @@ fn atom_number(s: &[u8], at: usize, len: usize, size: usize) -> usize
 fn read_named(s: &[u8], st: State, table: &mut [u32], n: usize) -> Parsed
     requires { ⌜ Ready (now s) st (now table) n 1 ⌝ }
     requires { ⌜ st .token .kind ≡ nameKind ⌝ }
-    ensures { λ r. ⌜ GivesWith 0 literalWords one (now (s .entry)) st (now (table .entry)) (now (table .exit)) n r (literalWith (now (s .entry)) (cursorOf (now (s .entry)) (now (table .entry)) st) true) ⌝ }
+    ensures { λ r. ⌜ GivesWith 0 literalWords one (now (s .entry)) st (now (table .entry)) (now (table .exit)) n r
+        (literalWith (now (s .entry)) (cursorOf (now (s .entry)) (now (table .entry)) st) true) ⌝ }
 {
     let m = n + 1;
     let r = read_atom(s, BRACKETS, st, table, m);
@@ -120,7 +122,8 @@ fn alone(s: &[u8], st: State, r: Parsed, table: &mut [u32], n: usize) -> Parsed
 // A literal that begins with a variable or a numeral is an equation.
 fn read_equation(s: &[u8], st: State, table: &mut [u32], n: usize) -> Parsed
     requires { ⌜ Ready (now s) st (now table) n 1 ⌝ }
-    ensures { λ r. ⌜ GivesWith 0 literalWords one (now (s .entry)) st (now (table .entry)) (now (table .exit)) n r (literalWith (now (s .entry)) (cursorOf (now (s .entry)) (now (table .entry)) st) false) ⌝ }
+    ensures { λ r. ⌜ GivesWith 0 literalWords one (now (s .entry)) st (now (table .entry)) (now (table .exit)) n r
+        (literalWith (now (s .entry)) (cursorOf (now (s .entry)) (now (table .entry)) st) false) ⌝ }
 {
     let m = n + 1;
     let r = read_term(s, BRACKETS, st, table, m);
@@ -139,7 +142,8 @@ fn read_equation(s: &[u8], st: State, table: &mut [u32], n: usize) -> Parsed
 
 pub fn read_literal(s: &[u8], st: State, table: &mut [u32], n: usize) -> Parsed
     requires { ⌜ Ready (now s) st (now table) n 1 ⌝ }
-    ensures { λ r. ⌜ GivesWith 0 literalWords one (now (s .entry)) st (now (table .entry)) (now (table .exit)) n r (readLiteral (now (s .entry)) (cursorOf (now (s .entry)) (now (table .entry)) st)) ⌝ }
+    ensures { λ r. ⌜ GivesWith 0 literalWords one (now (s .entry)) st (now (table .entry)) (now (table .exit)) n r
+        (readLiteral (now (s .entry)) (cursorOf (now (s .entry)) (now (table .entry)) st)) ⌝ }
 {
     let t = st.token;
     let kind = t.kind;
@@ -152,7 +156,8 @@ pub fn read_literal(s: &[u8], st: State, table: &mut [u32], n: usize) -> Parsed
 // Literals up to the full stop, at most k.
 pub fn read_body(s: &[u8], k: usize, st: State, table: &mut [u32], n: usize) -> Parsed
     requires { ⌜ Ready (now s) st (now table) n 1 ⌝ }
-    ensures { λ r. ⌜ Gives bodyWords bodyLength (now (s .entry)) st (now (table .entry)) (now (table .exit)) n r (readBody (now (s .entry)) k (cursorOf (now (s .entry)) (now (table .entry)) st)) ⌝ }
+    ensures { λ r. ⌜ Gives bodyWords bodyLength (now (s .entry)) st (now (table .entry)) (now (table .exit)) n r
+        (readBody (now (s .entry)) k (cursorOf (now (s .entry)) (now (table .entry)) st)) ⌝ }
 {
     if k == 0 {
         return full(st);
@@ -222,7 +227,8 @@ fn one_item(r: Parsed) -> Parsed
 pub fn read_clause(s: &[u8], st: State, table: &mut [u32], n: usize) -> Parsed
     requires { ⌜ Ready (now s) (Rattle.reading.specs.Gives.fresh st) (now table) n 4 ⌝ }
     requires { ⌜ st .token .kind ≡ nameKind ⌝ }
-    ensures { λ r. ⌜ Gives clauseWords one (now (s .entry)) st (now (table .entry)) (now (table .exit)) n r (readClause (now (s .entry)) (begin (st .token))) ⌝ }
+    ensures { λ r. ⌜ Gives clauseWords one (now (s .entry)) st (now (table .entry)) (now (table .exit)) n r
+        (readClause (now (s .entry)) (begin (st .token))) ⌝ }
 {
     let begin = fresh(st);
     let m = n + CLAUSE_START;

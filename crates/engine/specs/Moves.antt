@@ -82,7 +82,8 @@ pub record Tryable (nodes code state scratch : List ℕ) (h j k : ℕ) : Type 0 
   pub clean : Clean scratch
 
 -- The words mean this pile then.
-pub record Comes (ss : List Symbol) (sh : Sheet) (g : Goal) (nodes code before after scratch later : List ℕ) (pile : List Alternative) (r : Pile) : Type 0 where
+pub record Comes (ss : List Symbol) (sh : Sheet) (g : Goal) (nodes code before after scratch later : List ℕ) (pile : List Alternative)
+    (r : Pile) : Type 0 where
   pub is : pileOf ss sh g nodes code after (r .height) ≡ pile
   pub piled : Piled ss sh g nodes code after (r .height) (r .trail)
   pub state-long : length after ≡ length before
@@ -96,4 +97,5 @@ restAt sh g code state j = leftFrom sh g code state (pathAt state j) (copyAt sta
 -- what comes of the top alternative j when the clause is tried, and the pile below it
 abbrev pub triedOn : List Symbol → Sheet → Goal → List ℕ → List ℕ → List ℕ → ℕ → Atom → Clause → List Alternative
 triedOn ss sh g nodes code state j at cl =
-    onTop (tried sh (alternativeAt ss sh g nodes code state j) (copyAt state j) at (restAt sh g code state j) cl) (alternativeAt ss sh g nodes code state j) ++ pileOf ss sh g nodes code state j
+    onTop (tried sh (alternativeAt ss sh g nodes code state j) (copyAt state j) at (restAt sh g code state j) cl) (alternativeAt ss sh g nodes code state j)
+    ++ pileOf ss sh g nodes code state j

@@ -20,7 +20,8 @@ callerAt state k = record { copy = callerOf state k; literal = callOf state k }
 -- the words of alternative j; the last of them is free
 unfoldable pub standWords : List ℕ → ℕ → ℕ → ℕ → ℕ → ℕ → ℕ → List ℕ
 standWords state j copy literal next mark path =
-    set (set (set (set (set state (alternativeOf j) copy) (alternativeOf j + 1) literal) (alternativeOf j + 2) next) (alternativeOf j + 3) mark) (alternativeOf j + 4) path
+    set (set (set (set (set state (alternativeOf j) copy) (alternativeOf j + 1) literal) (alternativeOf j + 2) next) (alternativeOf j + 3) mark)
+    (alternativeOf j + 4) path
 
 -- the next clause of alternative j
 unfoldable pub nextWords : List ℕ → ℕ → ℕ → List ℕ

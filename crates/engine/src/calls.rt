@@ -32,7 +32,10 @@ fn try_clause(
     k: usize,
 ) -> Pile
     requires { ⌜ Tryable (now nodes) (now code) (now state) (now scratch) h (h - 1) k ⌝ }
-    ensures { λ r. ⌜ ((w : Tryable (now (nodes .entry)) (now (code .entry)) (now (state .entry)) (now (scratch .entry)) h (h - 1) k) → Comes (w .ss) (w .sh) (w .g) (now (nodes .entry)) (now (code .entry)) (now (state .entry)) (now (state .exit)) (now (scratch .entry)) (now (scratch .exit)) (triedOn (w .ss) (w .sh) (w .g) (now (nodes .entry)) (now (code .entry)) (now (state .entry)) (h - 1) (w .atom) (w .clause)) r) ⌝ }
+    ensures { λ r. ⌜ ((w : Tryable (now (nodes .entry)) (now (code .entry)) (now (state .entry)) (now (scratch .entry)) h (h - 1) k)
+        → Comes (w .ss) (w .sh) (w .g) (now (nodes .entry)) (now (code .entry)) (now (state .entry)) (now (state .exit)) (now (scratch .entry))
+        (now (scratch .exit)) (triedOn (w .ss) (w .sh) (w .g) (now (nodes .entry)) (now (code .entry)) (now (state .entry)) (h - 1) (w .atom) (w .clause))
+        r) ⌝ }
 {
     let j = h - 1;
     let s = stand_at(state, j);
@@ -69,7 +72,9 @@ fn work_call(
     requires { ⌜ Steppable (now nodes) (now code) (now state) (now scratch) h (markAt (now state) (h - 1)) ⌝ }
     requires { ⌜ s ≡ standAt (now state) (h - 1) ⌝ }
     requires { ⌜ kindAt (now code) (literalAt (now state) (h - 1)) ≡ callKind ⌝ }
-    ensures { λ r. ⌜ ((w : Steppable (now (nodes .entry)) (now (code .entry)) (now (state .entry)) (now (scratch .entry)) h (markAt (now (state .entry)) (h - 1))) → Stepped (w .running .ss) (w .running .sh) (w .running .g) (now (nodes .entry)) (now (code .entry)) (now (state .entry)) (now (state .exit)) (now (scratch .entry)) (now (scratch .exit)) h r) ⌝ }
+    ensures { λ r. ⌜ ((w : Steppable (now (nodes .entry)) (now (code .entry)) (now (state .entry)) (now (scratch .entry)) h
+        (markAt (now (state .entry)) (h - 1))) → Stepped (w .running .ss) (w .running .sh) (w .running .g) (now (nodes .entry)) (now (code .entry))
+        (now (state .entry)) (now (state .exit)) (now (scratch .entry)) (now (scratch .exit)) h r) ⌝ }
 {
     let j = h - 1;
     let next = s.next;
@@ -97,7 +102,9 @@ fn work_equation(
     requires { ⌜ Steppable (now nodes) (now code) (now state) (now scratch) h (markAt (now state) (h - 1)) ⌝ }
     requires { ⌜ s ≡ standAt (now state) (h - 1) ⌝ }
     requires { ⌜ kindAt (now code) (literalAt (now state) (h - 1)) ≡ equationKind ⌝ }
-    ensures { λ r. ⌜ ((w : Steppable (now (nodes .entry)) (now (code .entry)) (now (state .entry)) (now (scratch .entry)) h (markAt (now (state .entry)) (h - 1))) → Stepped (w .running .ss) (w .running .sh) (w .running .g) (now (nodes .entry)) (now (code .entry)) (now (state .entry)) (now (state .exit)) (now (scratch .entry)) (now (scratch .exit)) h r) ⌝ }
+    ensures { λ r. ⌜ ((w : Steppable (now (nodes .entry)) (now (code .entry)) (now (state .entry)) (now (scratch .entry)) h
+        (markAt (now (state .entry)) (h - 1))) → Stepped (w .running .ss) (w .running .sh) (w .running .g) (now (nodes .entry)) (now (code .entry))
+        (now (state .entry)) (now (state .exit)) (now (scratch .entry)) (now (scratch .exit)) h r) ⌝ }
 {
     let j = h - 1;
     let c = s.copy;
@@ -117,7 +124,9 @@ fn work_equation(
 // By the literal: `fail` and a goal's end leave the pile below.
 pub fn work(nodes: &[u32], code: &[u32], state: &mut [u32], scratch: &mut [u32], h: usize) -> Pile
     requires { ⌜ Steppable (now nodes) (now code) (now state) (now scratch) h (markAt (now state) (h - 1)) ⌝ }
-    ensures { λ r. ⌜ ((w : Steppable (now (nodes .entry)) (now (code .entry)) (now (state .entry)) (now (scratch .entry)) h (markAt (now (state .entry)) (h - 1))) → Stepped (w .running .ss) (w .running .sh) (w .running .g) (now (nodes .entry)) (now (code .entry)) (now (state .entry)) (now (state .exit)) (now (scratch .entry)) (now (scratch .exit)) h r) ⌝ }
+    ensures { λ r. ⌜ ((w : Steppable (now (nodes .entry)) (now (code .entry)) (now (state .entry)) (now (scratch .entry)) h
+        (markAt (now (state .entry)) (h - 1))) → Stepped (w .running .ss) (w .running .sh) (w .running .g) (now (nodes .entry)) (now (code .entry))
+        (now (state .entry)) (now (state .exit)) (now (scratch .entry)) (now (scratch .exit)) h r) ⌝ }
 {
     let j = h - 1;
     let s = stand_at(state, j);

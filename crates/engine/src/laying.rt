@@ -24,7 +24,8 @@ pub fn next_literal(l: usize) -> usize
 // The first literal left from l of copy c on. Where a body has ended, the caller goes on behind its call.
 fn first_literal(code: &[u32], state: &[u32], c: usize, l: usize) -> Spot
     requires { ⌜ Climbable (now code) (now state) c l ⌝ }
-    ensures { λ r. ⌜ ((w : Climbable (now (code .entry)) (now (state .entry)) c l) → Climbs (w .sh) (w .g) (now (code .entry)) (now (state .entry)) (w .path) c l r) ⌝ }
+    ensures { λ r. ⌜ ((w : Climbable (now (code .entry)) (now (state .entry)) c l) → Climbs (w .sh) (w .g) (now (code .entry)) (now (state .entry))
+        (w .path) c l r) ⌝ }
 {
     let mut copy = c;
     let mut literal = l;
@@ -53,7 +54,8 @@ fn topmost(code: &[u32], l: usize) -> usize
 // Alternative j stands at the first literal left from l of copy c on.
 pub fn lay(code: &[u32], state: &mut [u32], j: usize, c: usize, l: usize, mark: usize, path: usize)
     requires { ⌜ Layable (now code) (now state) j c l mark path ⌝ }
-    ensures { λ _. ⌜ ((w : Layable (now (code .entry)) (now (state .entry)) j c l mark path) → Lays (w .sh) (w .g) (now (code .entry)) (now (state .entry)) (now (state .exit)) j c l mark path) ⌝ }
+    ensures { λ _. ⌜ ((w : Layable (now (code .entry)) (now (state .entry)) j c l mark path)
+        → Lays (w .sh) (w .g) (now (code .entry)) (now (state .entry)) (now (state .exit)) j c l mark path) ⌝ }
 {
     let s = first_literal(code, state, c, l);
     let copy = s.copy;

@@ -34,7 +34,9 @@ pub fn step(
     n: usize,
 ) -> Pile
     requires { ⌜ Steppable (now nodes) (now code) (now state) (now scratch) h n ⌝ }
-    ensures { λ r. ⌜ ((w : Steppable (now (nodes .entry)) (now (code .entry)) (now (state .entry)) (now (scratch .entry)) h n) → Stepped (w .running .ss) (w .running .sh) (w .running .g) (now (nodes .entry)) (now (code .entry)) (now (state .entry)) (now (state .exit)) (now (scratch .entry)) (now (scratch .exit)) h r) ⌝ }
+    ensures { λ r. ⌜ ((w : Steppable (now (nodes .entry)) (now (code .entry)) (now (state .entry)) (now (scratch .entry)) h n)
+        → Stepped (w .running .ss) (w .running .sh) (w .running .g) (now (nodes .entry)) (now (code .entry)) (now (state .entry)) (now (state .exit))
+        (now (scratch .entry)) (now (scratch .exit)) h r) ⌝ }
 {
     let j = h - 1;
     let s = stand_at(state, j);
@@ -45,7 +47,8 @@ pub fn step(
 // The goal alone on the pile.
 pub fn start(code: &[u32], state: &mut [u32])
     requires { ⌜ ((nodes : List ℕ) × Startable nodes (now code) (now state)) ⌝ }
-    ensures { λ _. ⌜ ((nodes : List ℕ) (w : Startable nodes (now (code .entry)) (now (state .entry))) → Started (w .ss) (w .sh) (w .g) nodes (now (code .entry)) (now (state .entry)) (now (state .exit))) ⌝ }
+    ensures { λ _. ⌜ ((nodes : List ℕ) (w : Startable nodes (now (code .entry)) (now (state .entry)))
+        → Started (w .ss) (w .sh) (w .g) nodes (now (code .entry)) (now (state .entry)) (now (state .exit))) ⌝ }
 {
     let first = word_at(code, 1);
     lay(code, state, 0, 0, first, 0, 0);
@@ -54,7 +57,8 @@ pub fn start(code: &[u32], state: &mut [u32])
 // The next step would be an answer.
 pub fn is_answer(code: &[u32], state: &[u32], h: usize, n: usize) -> bool
     requires { ⌜ ((nodes : List ℕ) × Running nodes (now code) (now state) h n) ⌝ }
-    ensures { λ r. ⌜ ((nodes : List ℕ) (w : Running nodes (now (code .entry)) (now (state .entry)) h n) → r ≡ isAnswer (pileOf (w .ss) (w .sh) (w .g) nodes (now (code .entry)) (now (state .entry)) h)) ⌝ }
+    ensures { λ r. ⌜ ((nodes : List ℕ) (w : Running nodes (now (code .entry)) (now (state .entry)) h n)
+        → r ≡ isAnswer (pileOf (w .ss) (w .sh) (w .g) nodes (now (code .entry)) (now (state .entry)) h)) ⌝ }
 {
     if h == 0 {
         return false;
@@ -67,7 +71,8 @@ pub fn is_answer(code: &[u32], state: &[u32], h: usize, n: usize) -> bool
 // The next step would try a clause at the longest path.
 pub fn goes_deeper(code: &[u32], state: &[u32], h: usize, n: usize) -> bool
     requires { ⌜ ((nodes : List ℕ) × Running nodes (now code) (now state) h n) ⌝ }
-    ensures { λ r. ⌜ ((nodes : List ℕ) (w : Running nodes (now (code .entry)) (now (state .entry)) h n) → r ≡ goesDeeper (w .sh) (pileOf (w .ss) (w .sh) (w .g) nodes (now (code .entry)) (now (state .entry)) h)) ⌝ }
+    ensures { λ r. ⌜ ((nodes : List ℕ) (w : Running nodes (now (code .entry)) (now (state .entry)) h n)
+        → r ≡ goesDeeper (w .sh) (pileOf (w .ss) (w .sh) (w .g) nodes (now (code .entry)) (now (state .entry)) h)) ⌝ }
 {
     if h == 0 {
         return false;

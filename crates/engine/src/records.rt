@@ -64,7 +64,8 @@ pub fn put_stand(
     mark: usize,
     path: usize,
 )
-    requires { ⌜ (alternativeOf j + alternativeSize ≤ length (now state)) × (((copy < 2 ^ 32) × (literal < 2 ^ 32)) × ((next < 2 ^ 32) × ((mark < 2 ^ 32) × (path < 2 ^ 32)))) ⌝ }
+    requires { ⌜ (alternativeOf j + alternativeSize ≤ length (now state)) × (((copy < 2 ^ 32) × (literal < 2 ^ 32))
+        × ((next < 2 ^ 32) × ((mark < 2 ^ 32) × (path < 2 ^ 32)))) ⌝ }
     ensures { λ _. ⌜ now (state .exit) ≡ standWords (now (state .entry)) j copy literal next mark path ⌝ }
 {
     let i = ALTERNATIVES + j * ALTERNATIVE_SIZE;

@@ -44,7 +44,8 @@ fn fill(found: Listing, entries: &mut [Entry])
 
 // Reads a sheet; when it is accepted, the entries of its declarations, in sheet order, as far as the list goes.
 pub fn read_entries(sheet: &[u8], entries: &mut [Entry]) -> Verdict
-    ensures { λ r. ⌜ (r ≡ readVerdict (now (sheet .entry))) × (now (entries .exit) ≡ overlay (now (entries .entry)) (declaredOf (sheetOf (now (sheet .entry))))) ⌝ }
+    ensures { λ r. ⌜ (r ≡ readVerdict (now (sheet .entry))) × (now (entries .exit) ≡ overlay (now (entries .entry))
+        (declaredOf (sheetOf (now (sheet .entry))))) ⌝ }
 {
     let found = read_listing(sheet, entries.len());
     fill(found, entries);
@@ -53,7 +54,8 @@ pub fn read_entries(sheet: &[u8], entries: &mut [Entry]) -> Verdict
 
 // The same of a sheet that is checked.
 pub fn check_entries(sheet: &[u8], entries: &mut [Entry]) -> Verdict
-    ensures { λ r. ⌜ (r ≡ checkVerdict (now (sheet .entry))) × (now (entries .exit) ≡ overlay (now (entries .entry)) (declaredOf (checkedSheet (now (sheet .entry))))) ⌝ }
+    ensures { λ r. ⌜ (r ≡ checkVerdict (now (sheet .entry)))
+        × (now (entries .exit) ≡ overlay (now (entries .entry)) (declaredOf (checkedSheet (now (sheet .entry))))) ⌝ }
 {
     let found = check_listing(sheet, entries.len());
     fill(found, entries);

@@ -1,31 +1,61 @@
-// Reading, checking and running, for programs in other languages.
+// Reading, checking and running for programs in other languages: include/pilvaust.h. Each answer is a list of numbers (packing/specs/Numbers), of
+// which a lent slice takes as many as fit; later ones stay as they were.
 ghost use mathlib.Core.Path.{_≡_};
 ghost use lib.ListN.{length};
 ghost use lib.Seq.{sets};
-ghost use Rattle.syntax.specs.Verdicts.{readVerdict};
-ghost use Rattle.rules.specs.Checking.{checkVerdict};
-ghost use Rattle.machine.specs.Runs.{runOutcome, runAnswer, runText};
-ghost use Rattle.packing.specs.Packed.{packed, packedRun};
+ghost use Rattle.syntax.specs.Verdicts.{readVerdict, entryAt};
+ghost use Rattle.rules.specs.Checking.{checkVerdict, checkGoalVerdict};
+ghost use Rattle.machine.specs.Runs.{runOutcome, runText};
+ghost use Rattle.packing.specs.Numbers.{version, verdictNumbers, entryNumbers, refusalIn};
+ghost use Rattle.exports.specs.Runs.{outcomeNumbers};
 
-// The answer to a sheet that is read, as one number: below 2^32 accepted, the declarations times 2^16 and the clauses;
-// else a refusal, its number times 2^32 and its byte.
+// The version of the functions below and of their numbers.
 #[no_mangle]
-pub extern "C" fn pilvaust_read(sheet: &[u8]) -> u64
-    ensures { λ r. ⌜ r ≡ packed (readVerdict (now (sheet .entry))) ⌝ }
+pub extern "C" fn pilvaust_version() -> usize
+    ensures { λ r. ⌜ r ≡ version ⌝ }
 {
-    packing::pack(pilvaust::read(sheet))
+    packing::version_number()
+}
+
+// A sheet is read: the verdict's numbers, and returned the number of its refusal, 0 where it is accepted.
+#[no_mangle]
+pub extern "C" fn pilvaust_read(sheet: &[u8], numbers: &mut [usize]) -> usize
+    ensures is { λ r. ⌜ r ≡ refusalIn (verdictNumbers (readVerdict (now (sheet .entry)))) ⌝ }
+    ensures numbers { λ _. ⌜ now (numbers .exit) ≡ sets (now (numbers .entry)) 0 (verdictNumbers (readVerdict (now (sheet .entry)))) ⌝ }
+{
+    packing::put_verdict(pilvaust::read(sheet), numbers)
 }
 
 // The same of a sheet that is checked.
 #[no_mangle]
-pub extern "C" fn pilvaust_check(sheet: &[u8]) -> u64
-    ensures { λ r. ⌜ r ≡ packed (checkVerdict (now (sheet .entry))) ⌝ }
+pub extern "C" fn pilvaust_check(sheet: &[u8], numbers: &mut [usize]) -> usize
+    ensures is { λ r. ⌜ r ≡ refusalIn (verdictNumbers (checkVerdict (now (sheet .entry)))) ⌝ }
+    ensures numbers { λ _. ⌜ now (numbers .exit) ≡ sets (now (numbers .entry)) 0 (verdictNumbers (checkVerdict (now (sheet .entry)))) ⌝ }
 {
-    packing::pack(pilvaust::check(sheet))
+    packing::put_verdict(pilvaust::check(sheet), numbers)
 }
 
-// A goal run over a sheet, with at most so many steps and answers, which are written into the text. Below 2^32 a run that ended: its kind
-// times 2^24, the answers times 2^17 and the steps; else a refusal as above.
+// The same of a goal over a sheet.
+#[no_mangle]
+pub extern "C" fn pilvaust_check_goal(sheet: &[u8], goal: &[u8], numbers: &mut [usize]) -> usize
+    ensures is { λ r. ⌜ r ≡ refusalIn (verdictNumbers (checkGoalVerdict (now (sheet .entry)) (now (goal .entry)))) ⌝ }
+    ensures numbers { λ _. ⌜ now (numbers .exit) ≡ sets (now (numbers .entry)) 0 (verdictNumbers (checkGoalVerdict (now (sheet .entry)) (now (goal .entry)))) ⌝ }
+{
+    packing::put_verdict(pilvaust::check_goal(sheet, goal), numbers)
+}
+
+// The i-th declaration, from 0 on, of a sheet that reading accepts: byte and length of its name, number of arguments; returned is how many
+// numbers these are, 0 where there is no such declaration.
+#[no_mangle]
+pub extern "C" fn pilvaust_entry(sheet: &[u8], i: usize, numbers: &mut [usize]) -> usize
+    ensures is { λ r. ⌜ r ≡ length (entryNumbers (entryAt (now (sheet .entry)) i)) ⌝ }
+    ensures numbers { λ _. ⌜ now (numbers .exit) ≡ sets (now (numbers .entry)) 0 (entryNumbers (entryAt (now (sheet .entry)) i)) ⌝ }
+{
+    packing::put_entry(pilvaust::entry(sheet, i), numbers)
+}
+
+// A goal run over a sheet, with at most so many steps and answers, which are written into the text: the run's numbers, and returned the number of
+// its refusal, 0 where it ended.
 #[no_mangle]
 pub extern "C" fn pilvaust_run(
     sheet: &[u8],
@@ -33,9 +63,13 @@ pub extern "C" fn pilvaust_run(
     allowance: usize,
     wanted: usize,
     text: &mut [u8],
-) -> u64
-    ensures is { λ r. ⌜ r ≡ packedRun (runAnswer (runOutcome (now (sheet .entry)) (now (goal .entry)) allowance wanted (length (now (text .entry))))) ⌝ }
+    numbers: &mut [usize],
+) -> usize
+    ensures is { λ r. ⌜ r ≡ refusalIn (outcomeNumbers (runOutcome (now (sheet .entry)) (now (goal .entry)) allowance wanted (length (now (text .entry))))) ⌝ }
     ensures text { λ _. ⌜ now (text .exit) ≡ sets (now (text .entry)) 0 (runText (runOutcome (now (sheet .entry)) (now (goal .entry)) allowance wanted (length (now (text .entry))))) ⌝ }
+    ensures numbers { λ _. ⌜ now (numbers .exit) ≡ sets (now (numbers .entry)) 0 (outcomeNumbers (runOutcome (now (sheet .entry)) (now (goal .entry)) allowance wanted (length (now (text .entry))))) ⌝ }
 {
-    packing::pack_run(pilvaust::run(sheet, goal, allowance, wanted, text))
+    let r = pilvaust::run_written(sheet, goal, allowance, wanted, text);
+    let run = r.run;
+    packing::put_run(run, r.bytes, numbers)
 }

@@ -20,8 +20,6 @@ use Rattle.syntax.specs.declared.Text.the-variants.{Goal as inGoal}
 use Rattle.syntax.specs.declared.Refusal.{Refusal}
 use Rattle.syntax.specs.declared.Refusal.the-variants.{TooLong}
 use Rattle.syntax.specs.declared.Verdict.the-variants.{Accepted, Refused}
-use Rattle.syntax.specs.declared.Report.{Report}
-use Rattle.syntax.specs.declared.Run.{Run}
 use Rattle.syntax.specs.declared.Run.the-variants.{Ended as ended-by, Refused as refused-by}
 use Rattle.rules.specs.Modes.{goalFault}
 use Rattle.rules.specs.Checking.{faultless, checkedGoalFrom, checkedGoal}
@@ -31,10 +29,12 @@ use Rattle.marking.specs.Answers.{checkedOf}
 use Rattle.marking.specs.declared.Checked.{Checked}
 use Rattle.marking.specs.declared.Checked.the-variants.{Fine, Fault}
 use Rattle.layout.proofs.Limits.{goal-limited}
+use Rattle.runs.specs.declared.Ran.{Ran}
 use Rattle.runs.specs.Running.{Runs}
 use Rattle.programs.specs.Programs.{Programmed}
 use Rattle.tables.specs.Tables.{GoalStanding, GoalTabled, Over}
 use Rattle.goals.specs.Goals.{Ready, Answers}
+use Rattle.goals.specs.declared.Written.{Written}
 use Rattle.tables.specs.declared.GoalRead.{GoalRead}
 use Rattle.tables.proofs.Laws.{never}
 use Rattle.tables.proofs.Checking.{fine-none, fault-some, goal-refused-by, goal-of, standing, goal-stands-at, checked-over}
@@ -69,7 +69,7 @@ module _ {sheet table : List ℕ} {k : ℕ} {goal goals : List ℕ} {literals co
     goals-short = w .goals-short;
   }
 
-  pub part-runs : {allowance wanted : ℕ} {old new : List ℕ} {r : Report} → ((w : Programmed sheet table k goal goals literals (last-words goals) count) → Runs (w .sh) (w .g) allowance wanted old new r)
+  pub part-runs : {allowance wanted : ℕ} {old new : List ℕ} {r : Ran} → ((w : Programmed sheet table k goal goals literals (last-words goals) count) → Runs (w .sh) (w .g) allowance wanted old new r)
       → (w : Programmed sheet table k goal goals literals (met goals) count) → Runs (w .sh) (w .g) allowance wanted old new r
   unfolding part-programmed
   part-runs f w = f (part-programmed w)
@@ -86,10 +86,19 @@ goal-short s g e = by (leb (length s) goalBytes) refl e
 
 -- ---- a goal over a sheet
 
+-- a refusal, with nothing written
+abbrev pub Stops : Text → Refusal → Written → Type 0
+Stops t q u = (u .run ≡ refused-by t q) × (u .bytes ≡ 0)
+
 -- a refusal writes nothing
-pub stopped-answers : (o : RunOutcome) (t : Text) (q : Refusal) → o ≡ stopped t q → (u : Run) → u ≡ refused-by t q → (old : List ℕ) → Answers o old old u
+pub stopped-answers : (o : RunOutcome) (t : Text) (q : Refusal) → o ≡ stopped t q → (u : Written) → Stops t q u → (old : List ℕ) → Answers o old old u
 unfolding runAnswer runText
-stopped-answers o t q e u eu old = record { is = eu ∙ sym (ap runAnswer e); text-is = sym (ap (λ (x : RunOutcome). sets old 0 (runText x)) e) }
+stopped-answers o t q e u eu old =
+    record {
+      is = eu .0 ∙ sym (ap runAnswer e);
+      bytes-is = eu .1 ∙ sym (ap (λ (x : RunOutcome). length (runText x)) e);
+      text-is = sym (ap (λ (x : RunOutcome). sets old 0 (runText x)) e);
+    }
 
 module _ (s declared : List ℕ) (n : ℕ) (table : List ℕ) (k : ℕ) where
   abbrev over-of : Ready s declared n table k → Over s declared n k
@@ -100,7 +109,7 @@ module _ (s declared : List ℕ) (n : ℕ) (table : List ℕ) (k : ℕ) where
     abbrev outcome : Ready s declared n table k → List ℕ → RunOutcome
     outcome w old = overGoal (w .stands .sheet) allowance wanted (length old) (checkedGoal (w .stands .sheet) g)
 
-    pub goal-stops : (x : Text) (q : Refusal) → r .verdict ≡ Refused x q → (u : Run) → u ≡ refused-by x q → (old : List ℕ) (w : Ready s declared n table k)
+    pub goal-stops : (x : Text) (q : Refusal) → r .verdict ≡ Refused x q → (u : Written) → Stops x q u → (old : List ℕ) (w : Ready s declared n table k)
         → Answers (outcome w old) old old u
     unfolding checkedGoal checkedGoalFrom overGoal
     goal-stops x q e u eu old w =
@@ -142,17 +151,17 @@ module _ (s declared : List ℕ) (n : ℕ) (table : List ℕ) (k : ℕ) where
         goal-checked : (w : Ready s declared n table k) → ck ≡ checkedOf (goalFault (w .stands .sheet) the-goal)
         goal-checked w = checked-over s declared n k g goals r t a b e ck ec (over-of w)
 
-        pub fault-stops : (q : Refusal) → ck ≡ Fault q → (u : Run) → u ≡ refused-by inGoal q → (old : List ℕ) (w : Ready s declared n table k)
+        pub fault-stops : (q : Refusal) → ck ≡ Fault q → (u : Written) → Stops inGoal q u → (old : List ℕ) (w : Ready s declared n table k)
             → Answers (outcome w old) old old u
         unfolding checkedGoal checkedGoalFrom faultless overGoal
         fault-stops q h u eu old w =
             let o : checkedGoal (w .stands .sheet) g ≡ refused q = ap (checkedGoalFrom (w .stands .sheet)) (goal-of s declared n k g goals r t a b e .1) ∙ ap (faultless the-goal) (fault-some (goalFault (w .stands .sheet) the-goal) q (sym h ∙ goal-checked w)) in
             stopped-answers (outcome w old) inGoal q (ap (overGoal (w .stands .sheet) allowance wanted (length old)) o) u eu old
 
-        pub goal-runs : ck ≡ Fine → length goals ≤ goalWords → (x : Report) (old new : List ℕ)
+        pub goal-runs : ck ≡ Fine → length goals ≤ goalWords → (x : Ran) (old new : List ℕ)
             → ((p : Programmed s table k g goals (r .literals) (met goals) (r .count)) → Runs (p .sh) (p .g) allowance wanted old new x)
             → (w : Ready s declared n table k)
-            → Answers (outcome w old) old new (ended-by x)
+            → Answers (outcome w old) old new (record { run = ended-by (x .report); bytes = x .bytes })
         unfolding checkedGoal checkedGoalFrom faultless overGoal reported runAnswer runText goal-programmed
         goal-runs h short x old new f w =
             let o : checkedGoal (w .stands .sheet) g ≡ accepted the-goal = ap (checkedGoalFrom (w .stands .sheet)) (goal-of s declared n k g goals r t a b e .1) ∙ ap (faultless the-goal) (fine-none (goalFault (w .stands .sheet) the-goal) (sym h ∙ goal-checked w)) in
@@ -160,5 +169,6 @@ module _ (s declared : List ℕ) (n : ℕ) (table : List ℕ) (k : ℕ) where
             let u : Runs (w .stands .sheet) the-goal allowance wanted old new x = f (goal-programmed short w) in
             record {
               is = ap ended-by (u .is) ∙ sym (ap runAnswer c);
+              bytes-is = u .bytes-is ∙ sym (ap (λ (y : RunOutcome). length (runText y)) c);
               text-is = u .text-is ∙ sym (ap (λ (y : RunOutcome). sets old 0 (runText y)) c);
             }

@@ -6,12 +6,12 @@ use lib.ListN.{length}
 use lib.Seq.{sets}
 use Rattle.syntax.specs.Limits.{sheetBytes}
 use Rattle.syntax.specs.Words.{sheetWords}
-use Rattle.syntax.specs.declared.Run.{Run}
 use Rattle.marking.specs.Tables.{SheetAt}
 use Rattle.machine.specs.Runs.{RunOutcome, runAnswer, runText}
 use Rattle.syntax.specs.Limits.{sheetBytes}
 use Rattle.syntax.specs.Words.{sheetWords}
 use Rattle.layout.specs.Limits.{SheetLimited}
+use Rattle.goals.specs.declared.Written.{Written}
 
 -- a sheet of which the n declarations and k clauses stand in tables, within document 01's limits
 pub record Ready (s declared : List ℕ) (n : ℕ) (table : List ℕ) (k : ℕ) : Type 0 where
@@ -20,7 +20,8 @@ pub record Ready (s declared : List ℕ) (n : ℕ) (table : List ℕ) (k : ℕ) 
   pub short : length s ≤ sheetBytes
   pub table-short : length table ≤ sheetWords
 
--- what a run gives, and what it writes over a text
-pub record Answers (o : RunOutcome) (old new : List ℕ) (r : Run) : Type 0 where
-  pub is : r ≡ runAnswer o
+-- what a run gives, how many bytes it writes, and what it writes over a text
+pub record Answers (o : RunOutcome) (old new : List ℕ) (r : Written) : Type 0 where
+  pub is : r .run ≡ runAnswer o
+  pub bytes-is : r .bytes ≡ length (runText o)
   pub text-is : new ≡ sets old 0 (runText o)

@@ -1,8 +1,8 @@
 // A goal over a sheet that was checked and stands in its tables: the goal checked, and the goal run.
 use marking::Checked;
 use programs::run_program;
+use runs::Ran;
 use syntax::Refusal;
-use syntax::Report;
 use syntax::Run;
 use syntax::Text;
 use syntax::VARIABLES;
@@ -14,7 +14,10 @@ ghost use Prim.Native.Nat.{_≤_, _<_, _^_};
 ghost use lib.ListN.{length};
 ghost use Rattle.syntax.specs.Limits.{variables};
 ghost use Rattle.syntax.specs.Spans.{met};
-ghost use Rattle.syntax.specs.Words.{sheetWords};
+ghost use Rattle.syntax.specs.Terms.{Goal};
+ghost use Rattle.syntax.specs.Verdicts.{accepted, goalOutcome};
+ghost use Rattle.syntax.specs.Words.{sheetWords, bodyWords};
+ghost use Rattle.words.specs.Tables.{Has};
 ghost use Rattle.rules.specs.Checking.{checkedGoal, goalAnswer};
 ghost use Rattle.machine.specs.Runs.{overGoal};
 ghost use Rattle.runs.specs.Running.{Runs};
@@ -22,7 +25,7 @@ ghost use Rattle.programs.specs.Programs.{Programmed};
 ghost use Rattle.tables.specs.Tables.{Over};
 ghost use Rattle.goals.specs.Goals.{Ready, Answers};
 
-// A goal over the declarations of a checked sheet, which has k clauses.
+// A goal over the declarations of a checked sheet, which has k clauses. The table is for the goal's words, which it holds where the goal is read.
 pub fn goal_over(
     sheet: &[u8],
     declared: &[u32],
@@ -33,7 +36,9 @@ pub fn goal_over(
 ) -> Verdict
     requires { ⌜ Over (now sheet) (now declared) n k ⌝ }
     requires { ⌜ (sheetWords ≤ length (now table)) × (length (now table) < 2 ^ 31) ⌝ }
-    ensures { λ r. ⌜ ((w : Over (now (sheet .entry)) (now (declared .entry)) n k) → r ≡ goalAnswer (w .sheet) (checkedGoal (w .sheet) (now (goal .entry)))) ⌝ }
+    ensures is { λ r. ⌜ ((w : Over (now (sheet .entry)) (now (declared .entry)) n k) → r ≡ goalAnswer (w .sheet)
+        (checkedGoal (w .sheet) (now (goal .entry)))) ⌝ }
+    ensures holds { λ _. ⌜ ((g : Goal) → goalOutcome (now (goal .entry)) ≡ accepted g → Has (now (table .exit)) 0 (bodyWords (g .body))) ⌝ }
 {
     let r = load_goal(goal, table);
     let v = r.verdict;
@@ -62,11 +67,18 @@ pub fn goal_over(
     }
 }
 
-// The refusal of a run, and the text at fault.
-pub fn run_refused(text: Text, refusal: Refusal) -> Run
-    ensures { λ r. ⌜ r ≡ Run.Refused text refusal ⌝ }
+// The answer to a run, and how many bytes it has written into the text.
+pub struct Written {
+    pub run: Run,
+    pub bytes: usize,
+}
+
+// The refusal of a run, with the text at fault: nothing is written.
+pub fn run_refused(text: Text, refusal: Refusal) -> Written
+    ensures { λ r. ⌜ (r .run ≡ Run.Refused text refusal) × (r .bytes ≡ 0) ⌝ }
 {
-    Run::Refused { text, refusal }
+    let run = Run::Refused { text, refusal };
+    Written { run, bytes: 0 }
 }
 
 // A goal that was read into its table, with the words of its variables last, run over a sheet that stands in another.
@@ -81,10 +93,11 @@ fn run_read(
     text: &mut [u8],
     allowance: usize,
     wanted: usize,
-) -> Report
+) -> Ran
     requires { ⌜ variables ≤ length (now goals) ⌝ }
     requires { ⌜ Programmed (now sheet) (now table) k (now goal) (now goals) literals (met (now goals)) count ⌝ }
-    ensures { λ r. ⌜ ((w : Programmed (now (sheet .entry)) (now (table .entry)) k (now (goal .entry)) (now (goals .entry)) literals (met (now (goals .entry))) count) → Runs (w .sh) (w .g) allowance wanted (now (text .entry)) (now (text .exit)) r) ⌝ }
+    ensures { λ r. ⌜ ((w : Programmed (now (sheet .entry)) (now (table .entry)) k (now (goal .entry)) (now (goals .entry)) literals
+        (met (now (goals .entry))) count) → Runs (w .sh) (w .g) allowance wanted (now (text .entry)) (now (text .exit)) r) ⌝ }
 {
     let from = goals.len() - VARIABLES;
     run_program(
@@ -113,9 +126,11 @@ pub fn run_goal(
     text: &mut [u8],
     allowance: usize,
     wanted: usize,
-) -> Run
+) -> Written
     requires { ⌜ Ready (now sheet) (now declared) n (now table) k ⌝ }
-    ensures { λ r. ⌜ ((w : Ready (now (sheet .entry)) (now (declared .entry)) n (now (table .entry)) k) → Answers (overGoal (w .stands .sheet) allowance wanted (length (now (text .entry))) (checkedGoal (w .stands .sheet) (now (goal .entry)))) (now (text .entry)) (now (text .exit)) r) ⌝ }
+    ensures { λ r. ⌜ ((w : Ready (now (sheet .entry)) (now (declared .entry)) n (now (table .entry)) k)
+        → Answers (overGoal (w .stands .sheet) allowance wanted (length (now (text .entry))) (checkedGoal (w .stands .sheet) (now (goal .entry))))
+        (now (text .entry)) (now (text .exit)) r) ⌝ }
 {
     let mut goals = goal_room();
     let r = load_goal(goal, &mut goals);
@@ -133,18 +148,26 @@ pub fn run_goal(
         } => {
             let fault = modes::check_goal(sheet, declared, n, goal, &goals, literals);
             match fault {
-                Checked::Fine => Run::Ended(run_read(
-                    sheet,
-                    table,
-                    k,
-                    goal,
-                    &goals,
-                    literals,
-                    count,
-                    text,
-                    allowance,
-                    wanted,
-                )),
+                Checked::Fine => {
+                    let ran = run_read(
+                        sheet,
+                        table,
+                        k,
+                        goal,
+                        &goals,
+                        literals,
+                        count,
+                        text,
+                        allowance,
+                        wanted,
+                    );
+                    let report = ran.report;
+                    let run = Run::Ended(report);
+                    Written {
+                        run,
+                        bytes: ran.bytes,
+                    }
+                }
                 Checked::Fault(refusal) => run_refused(Text::Goal, refusal),
             }
         }

@@ -168,16 +168,7 @@ module _ (ss : List Symbol) (sh : Sheet) (g : Goal) (nodes code state : List ℕ
           ∙ ap (λ (k : ℕ). onTop (laid sh (alternativeAt ss sh g nodes code state h) (copyAt state h) a (leftFrom sh g code state (pathAt state h) (copyAt state h) (nextLiteral (literalAt state h))) cl
           (unify (bindings ss nodes state (markAt state h)) (copied (copyAt state h) (termOf a)) (copied (suc k) (termOf (cl .head))))) (movedOn sh (alternativeAt ss sh g nodes code state h) a) ++ pileOf ss sh g nodes code state h) path-is)
 
-      -- the head does not unify
-      pub step-refused : unify (bindings ss nodes state (markAt state h)) (copied (copyAt state h) (termOf a)) (copied (suc (pathAt state h)) (termOf (cl .head))) ≡ none
-          → step sh (pileOf ss sh g nodes code state (suc h))
-          ≡ record { literals = leftFrom sh g code state (pathAt state h) (copyAt state h) (literalAt state h); bindings = bindings ss nodes state (markAt state h); next = nextFor sh a (nextAt state h); calls = callsUpTo sh g code state (pathAt state h) } ∷ pileOf ss sh g nodes code state h
-      unfolding laid onTop movedOn alternativeAt
-      step-refused u =
-          step-called
-          ∙ ap (λ (o : Option (List Binding)). onTop (laid sh (alternativeAt ss sh g nodes code state h) (copyAt state h) a (leftFrom sh g code state (pathAt state h) (copyAt state h) (nextLiteral (literalAt state h))) cl o) (movedOn sh (alternativeAt ss sh g nodes code state h) a) ++ pileOf ss sh g nodes code state h) u
-
-      -- it does
+      -- the head unifies
       pub step-tried : (b : List Binding) → unify (bindings ss nodes state (markAt state h)) (copied (copyAt state h) (termOf a)) (copied (suc (pathAt state h)) (termOf (cl .head))) ≡ some b
           → step sh (pileOf ss sh g nodes code state (suc h))
           ≡ standing sh (pending (suc (pathAt state h)) (cl .body) (leftFrom sh g code state (pathAt state h) (copyAt state h) (nextLiteral (literalAt state h)))) b (record { copy = copyAt state h; atom = a } ∷ callsUpTo sh g code state (pathAt state h))

@@ -67,12 +67,19 @@ callOf state k = getD state (frameOf k + 2) 0
 unfoldable pub restFrom : Sheet → Goal → List ℕ → List ℕ → ℕ → ℕ → Body
 restFrom sh g code state c l = dropBody ((l - bodyAt code (clauseIn state c)) / literalSize) (bodyOf sh g (clauseIn state c))
 
--- The literals left behind copy c, of the copies 1 to k: those of its caller behind the call, and then those behind the caller.
+-- The literals left behind copy c, of the copies 1 to k: those of its caller behind the call, and then those behind the caller. For example, with two
+-- frames, the goal `p, q.` and the clause `p :- r, s.`:
+--
+--     frame 1: made for `p`, a call of copy 0      behind copy 1:  `q` of copy 0
+--     frame 2: made for `r`, a call of copy 1      behind copy 2:  `s` of copy 1, `q` of copy 0
+--
+-- The search goes down from frame k to the frame of copy c; a caller is lower than the copy made for its call, so it goes on below that frame.
 unfoldable pub leftBehind : Sheet → Goal → List ℕ → List ℕ → ℕ → ℕ → List Pending
 leftBehind sh g code state zero c = []
 leftBehind sh g code state (suc k) c =
     elim (eqb c (suc k)) [
-      | true ↦ pending (callerOf state (suc k)) (restFrom sh g code state (callerOf state (suc k)) (nextLiteral (callOf state (suc k)))) (leftBehind sh g code state k (callerOf state (suc k)))
+      | true ↦ pending (callerOf state (suc k)) (restFrom sh g code state (callerOf state (suc k)) (nextLiteral (callOf state (suc k))))
+          (leftBehind sh g code state k (callerOf state (suc k)))
       | false ↦ leftBehind sh g code state k c
     ]
 
@@ -84,7 +91,8 @@ leftFrom sh g code state k c l = pending c (restFrom sh g code state c l) (leftB
 unfoldable pub callsUpTo : Sheet → Goal → List ℕ → List ℕ → ℕ → List Call
 callsUpTo sh g code state zero = []
 callsUpTo sh g code state (suc k) =
-    record { copy = callerOf state (suc k); atom = firstAtom (restFrom sh g code state (callerOf state (suc k)) (callOf state (suc k))) } ∷ callsUpTo sh g code state k
+    record { copy = callerOf state (suc k); atom = firstAtom (restFrom sh g code state (callerOf state (suc k)) (callOf state (suc k))) }
+    ∷ callsUpTo sh g code state k
 
 -- ---- alternatives: six words each
 
@@ -108,7 +116,12 @@ pathAt state j = getD state (alternativeOf j + 4) 0
 
 unfoldable pub alternativeAt : List Symbol → Sheet → Goal → List ℕ → List ℕ → List ℕ → ℕ → Alternative
 alternativeAt ss sh g nodes code state j =
-    record { literals = leftFrom sh g code state (pathAt state j) (copyAt state j) (literalAt state j); bindings = bindings ss nodes state (markAt state j); next = nextAt state j; calls = callsUpTo sh g code state (pathAt state j) }
+    record {
+      literals = leftFrom sh g code state (pathAt state j) (copyAt state j) (literalAt state j);
+      bindings = bindings ss nodes state (markAt state j);
+      next = nextAt state j;
+      calls = callsUpTo sh g code state (pathAt state j);
+    }
 
 -- the pile of the first h alternatives, the last of them on top
 unfoldable pub pileOf : List Symbol → Sheet → Goal → List ℕ → List ℕ → List ℕ → ℕ → List Alternative

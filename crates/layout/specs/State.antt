@@ -44,7 +44,8 @@ valueOf ss nodes w = termAt ss nodes (nodeOf w) (copyOf w)
 unfoldable pub bindings : List Symbol → List ℕ → List ℕ → ℕ → List Binding
 bindings ss nodes state zero = []
 bindings ss nodes state (suc n) =
-    record { variable = variableOf (trailAt state n); term = resolve (bindings ss nodes state n) (valueOf ss nodes (cellAt state (trailAt state n))) } ∷ bindings ss nodes state n
+    record { variable = variableOf (trailAt state n); term = resolve (bindings ss nodes state n) (valueOf ss nodes (cellAt state (trailAt state n))) }
+    ∷ bindings ss nodes state n
 
 -- One entry of the trail: a bound cell, whose word gives a node. A variable is bound to an earlier one, or to a term in which it does not
 -- stand once the bindings before it are put in.
@@ -52,7 +53,8 @@ pub record Entry (ss : List Symbol) (nodes state : List ℕ) (i : ℕ) : Type 0 
   pub cell : trailAt state i < cells
   pub bound : cellAt state (trailAt state i) ≡ 0 → ⊥
   pub node : Node ss nodes (nodeOf (cellAt state (trailAt state i)))
-  pub down : getD nodes (nodeOf (cellAt state (trailAt state i))) 0 < firstName → cellOf (copyOf (cellAt state (trailAt state i))) (getD nodes (nodeOf (cellAt state (trailAt state i))) 0) < trailAt state i
+  pub down : getD nodes (nodeOf (cellAt state (trailAt state i))) 0 < firstName → cellOf (copyOf (cellAt state (trailAt state i)))
+      (getD nodes (nodeOf (cellAt state (trailAt state i))) 0) < trailAt state i
   pub free : T (occurs (variableOf (trailAt state i)) (resolve (bindings ss nodes state i) (valueOf ss nodes (cellAt state (trailAt state i))))) → ⊥
 
 -- The store: the first n entries of the trail are distinct, and they are exactly the bound cells.

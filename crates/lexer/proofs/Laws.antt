@@ -437,20 +437,3 @@ from-some i (b ∷ r) h = of-cases (λ t. 0 < t .len) (classOf b) i r (λ k n h 
 pub token-some : (s : List ℕ) (p : ℕ) → ((tokenAt s p) .kind ≡ 16 → ⊥) → 0 < (tokenAt s p) .len
 unfolding tokenAt
 token-some s p h = from-some (tokenPlace s p) (drop (tokenPlace s p) s) h
-
--- The end stands at the text's length.
-word-no-end : (k : ℕ) (t : Bool) → k ≤ 5 → cond t k 15 ≡ 16 → ⊥
-word-no-end k true h e = omega arith
-word-no-end k false h e = omega arith
-
-colon-no-end : (t : Bool) → _≡_ {A = ℕ} (cond t 6 0) 16 → ⊥
-colon-no-end true e = omega arith
-colon-no-end false e = omega arith
-
-from-end : (i : ℕ) (l : List ℕ) → (tokenFrom i l) .kind ≡ 16 → length l ≡ 0
-unfolding tokenFrom word
-from-end i [] h = refl
-from-end i (b ∷ r) h =
-    absurd
-    (of-cases (λ t. t .kind ≡ 16 → ⊥) (classOf b) i r (λ k n h m. word-no-end k (leb (suc n) 31) h) (λ t e. colon-no-end t)
-    (λ n3 n4 n5 e. omega (arith, class-small b)) h)

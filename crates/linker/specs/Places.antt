@@ -47,13 +47,15 @@ pub record LiteralIn (ss : List Symbol) (sh : Sheet) (x : Literal) (table : List
   pub node : q ≤ length nodes
 
 -- and there is room for its record at l
-pub record LiteralTo (ss : List Symbol) (sh : Sheet) (x : Literal) (table : List ℕ) (p : ℕ) (nodes : List ℕ) (q clauses : ℕ) (code : List ℕ) (l : ℕ) : Type 0 where
+pub record LiteralTo (ss : List Symbol) (sh : Sheet) (x : Literal) (table : List ℕ) (p : ℕ) (nodes : List ℕ) (q clauses : ℕ) (code : List ℕ) (l : ℕ) : Type
+    0 where
   pub given : LiteralIn ss sh x table p nodes q clauses code
   pub low : bodies ≤ l
   pub high : nextLiteral l ≤ length code
 
 -- a body of so many literals
-pub record BodyTo (ss : List Symbol) (sh : Sheet) (b : Body) (table : List ℕ) (p literals : ℕ) (nodes : List ℕ) (q clauses : ℕ) (code : List ℕ) (l : ℕ) : Type 0 where
+pub record BodyTo (ss : List Symbol) (sh : Sheet) (b : Body) (table : List ℕ) (p literals : ℕ) (nodes : List ℕ) (q clauses : ℕ) (code : List ℕ) (l : ℕ) :
+    Type 0 where
   pub headed : Headed ss sh nodes clauses code
   pub has : Has table p (bodyWords b)
   pub count : literals ≡ bodyLength b
@@ -64,7 +66,8 @@ pub record BodyTo (ss : List Symbol) (sh : Sheet) (b : Body) (table : List ℕ) 
   pub high : nextLiteral (literalFrom l literals) ≤ length code
 
 -- a clause of number k
-pub record ClauseTo (ss : List Symbol) (sh : Sheet) (cl : Clause) (table : List ℕ) (p : ℕ) (nodes : List ℕ) (q clauses : ℕ) (code : List ℕ) (k : ℕ) : Type 0 where
+pub record ClauseTo (ss : List Symbol) (sh : Sheet) (cl : Clause) (table : List ℕ) (p : ℕ) (nodes : List ℕ) (q clauses : ℕ) (code : List ℕ)
+    (k : ℕ) : Type 0 where
   pub headed : Headed ss sh nodes clauses code
   pub has : Has table p (clauseWords cl)
   pub stand : Has nodes q (clauseNodes ss cl)
@@ -75,7 +78,8 @@ pub record ClauseTo (ss : List Symbol) (sh : Sheet) (cl : Clause) (table : List 
   pub high : k ≤ clauses
 
 -- the clauses from number k on
-pub record ClausesTo (ss : List Symbol) (sh : Sheet) (cls : List Clause) (table : List ℕ) (p : ℕ) (nodes : List ℕ) (q clauses : ℕ) (code : List ℕ) (k : ℕ) : Type 0 where
+pub record ClausesTo (ss : List Symbol) (sh : Sheet) (cls : List Clause) (table : List ℕ) (p : ℕ) (nodes : List ℕ) (q clauses : ℕ) (code : List ℕ) (k : ℕ) :
+    Type 0 where
   pub headed : Headed ss sh nodes clauses code
   pub has : Has table p (clausesWords cls)
   pub stand : Has nodes q (clausesNodes ss cls)

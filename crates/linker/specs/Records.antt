@@ -51,7 +51,8 @@ putHeads ss q (cl ∷ cls) code k = putHeads ss (q + length (clauseNodes ss cl))
 -- a clause of number k, all but its head's place
 unfoldable pub putClause : List Symbol → Sheet → ℕ → Clause → List ℕ → ℕ → List ℕ
 putClause ss sh q cl code k =
-    putBody ss sh (q + length (loadedWords ss (termOf (cl .head)))) (cl .body) (putPair code (clauseRecord k + 1) (bodyPlace k) (nextFor sh (cl .head) k)) (bodyPlace k)
+    putBody ss sh (q + length (loadedWords ss (termOf (cl .head)))) (cl .body) (putPair code (clauseRecord k + 1) (bodyPlace k) (nextFor sh (cl .head) k))
+    (bodyPlace k)
 
 unfoldable pub putClauses : List Symbol → Sheet → ℕ → List Clause → List ℕ → ℕ → List ℕ
 putClauses ss sh q [] code k = code

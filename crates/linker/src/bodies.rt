@@ -19,7 +19,8 @@ ghost use Rattle.linker.specs.Places.{LiteralIn, LiteralTo, BodyTo};
 // The third word of a literal's record: the topmost clause for a call, the place of the right term of an equation.
 fn other_of(table: &[u32], p: usize, nodes: &[u32], q: usize, clauses: usize, code: &[u32]) -> usize
     requires { ⌜ ((ss : List Symbol) × ((sh : Sheet) × ((x : Literal) × LiteralIn ss sh x (now table) p (now nodes) q clauses (now code)))) ⌝ }
-    ensures { λ r. ⌜ ((ss : List Symbol) (sh : Sheet) (x : Literal) → LiteralIn ss sh x (now (table .entry)) p (now (nodes .entry)) q clauses (now (code .entry)) → r ≡ otherOf ss sh q x) ⌝ }
+    ensures { λ r. ⌜ ((ss : List Symbol) (sh : Sheet) (x : Literal) → LiteralIn ss sh x (now (table .entry)) p (now (nodes .entry)) q clauses
+        (now (code .entry)) → r ≡ otherOf ss sh q x) ⌝ }
 {
     let kind = word_at(table, p);
     if kind < CALL_KIND {
@@ -43,7 +44,8 @@ fn put_literal(
     l: usize,
 )
     requires { ⌜ ((ss : List Symbol) × ((sh : Sheet) × ((x : Literal) × LiteralTo ss sh x (now table) p (now nodes) q clauses (now code) l))) ⌝ }
-    ensures { λ _. ⌜ ((ss : List Symbol) (sh : Sheet) (x : Literal) → LiteralTo ss sh x (now (table .entry)) p (now (nodes .entry)) q clauses (now (code .entry)) l → now (code .exit) ≡ putRecord (now (code .entry)) l (kindOf x) q (otherOf ss sh q x)) ⌝ }
+    ensures { λ _. ⌜ ((ss : List Symbol) (sh : Sheet) (x : Literal) → LiteralTo ss sh x (now (table .entry)) p (now (nodes .entry)) q clauses
+        (now (code .entry)) l → now (code .exit) ≡ putRecord (now (code .entry)) l (kindOf x) q (otherOf ss sh q x)) ⌝ }
 {
     let kind = word_at(table, p);
     let other = other_of(table, p, nodes, q, clauses, code);
@@ -62,7 +64,8 @@ pub fn put_body(
     l: usize,
 )
     requires { ⌜ ((ss : List Symbol) × ((sh : Sheet) × ((b : Body) × BodyTo ss sh b (now table) p literals (now nodes) q clauses (now code) l))) ⌝ }
-    ensures { λ _. ⌜ ((ss : List Symbol) (sh : Sheet) (b : Body) → BodyTo ss sh b (now (table .entry)) p literals (now (nodes .entry)) q clauses (now (code .entry)) l → now (code .exit) ≡ putBody ss sh q b (now (code .entry)) l) ⌝ }
+    ensures { λ _. ⌜ ((ss : List Symbol) (sh : Sheet) (b : Body) → BodyTo ss sh b (now (table .entry)) p literals (now (nodes .entry)) q clauses
+        (now (code .entry)) l → now (code .exit) ≡ putBody ss sh q b (now (code .entry)) l) ⌝ }
 {
     let mut at = p;
     let mut node = q;

@@ -1,13 +1,13 @@
 // Linking: a record for each clause and literal, with the next clauses to be tried.
 mod bodies;
-mod clauses;
+mod clause_records;
 mod records;
 mod search;
 mod walk;
 
 use bodies::put_body;
-use clauses::put_clauses;
-use clauses::put_heads;
+use clause_records::put_clauses;
+use clause_records::put_heads;
 use layout::BODIES;
 use records::put_pair;
 use walk::nodes_of;
@@ -25,7 +25,8 @@ pub fn link(
     code: &mut [u32],
 )
     requires { ⌜ Linkable (now table) clauses (now goals) literals (now nodes) (now code) ⌝ }
-    ensures { λ _. ⌜ ((w : Linkable (now (table .entry)) clauses (now (goals .entry)) literals (now (nodes .entry)) (now (code .entry))) → Program (w .ss) (w .sh) (w .g) (now (nodes .entry)) (now (code .exit))) ⌝ }
+    ensures { λ _. ⌜ ((w : Linkable (now (table .entry)) clauses (now (goals .entry)) literals (now (nodes .entry)) (now (code .entry)))
+        → Program (w .ss) (w .sh) (w .g) (now (nodes .entry)) (now (code .exit))) ⌝ }
 {
     let stop = past_body(goals, 0, literals);
     let node = nodes_of(stop, literals);

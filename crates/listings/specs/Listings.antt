@@ -33,11 +33,19 @@ listedOf (Refused t r) room = 0
 
 -- the entry of the i-th declaration
 abbrev pub entryFrom : List ℕ → ℕ → Entry
-entryFrom words i = record { at = getD words (declarationSize * i) 0; len = getD words (declarationSize * i + 1) 0; arguments = getD words (declarationSize * i + 2) 0 }
+entryFrom words i = record {
+  at = getD words (declarationSize * i) 0;
+  len = getD words (declarationSize * i + 1) 0;
+  arguments = getD words (declarationSize * i + 2) 0;
+}
 
 -- the entry of the i-th of n declarations, four words each
 abbrev pub entryWords : List ℕ → ℕ → ℕ → Declared
-entryWords declared n i = cond (leb n i) Nothing (As (record { at = getD declared (declarationSize * i) 0; len = getD declared (declarationSize * i + 1) 0; arguments = getD declared (declarationSize * i + 2) 0 }))
+entryWords declared n i = cond (leb n i) Nothing (As (record {
+  at = getD declared (declarationSize * i) 0;
+  len = getD declared (declarationSize * i + 1) 0;
+  arguments = getD declared (declarationSize * i + 2) 0;
+}))
 
 -- the first k entries stored, one after another
 unfoldable pub pasted : (ℕ → Entry) → ℕ → List Entry → List Entry

@@ -17,7 +17,8 @@ pub struct Lent {
 
 // Reads a sheet and lends it the list.
 pub fn read_lent(sheet: &[u8], list: [Entry; 3]) -> Lent
-    ensures { λ r. ⌜ (r .verdict ≡ readVerdict (now (sheet .entry))) × ((r .list ≡ overlay list (declaredOf (sheetOf (now (sheet .entry))))) × (3 ≡ length (r .list))) ⌝ }
+    ensures { λ r. ⌜ (r .verdict ≡ readVerdict (now (sheet .entry))) × ((r .list ≡ overlay list (declaredOf (sheetOf (now (sheet .entry)))))
+        × (3 ≡ length (r .list))) ⌝ }
 {
     let mut lent = list;
     let verdict = read_entries(sheet, &mut lent);
@@ -29,7 +30,8 @@ pub fn read_lent(sheet: &[u8], list: [Entry; 3]) -> Lent
 
 // The same of a sheet that is checked.
 pub fn check_lent(sheet: &[u8], list: [Entry; 3]) -> Lent
-    ensures { λ r. ⌜ (r .verdict ≡ checkVerdict (now (sheet .entry))) × ((r .list ≡ overlay list (declaredOf (checkedSheet (now (sheet .entry))))) × (3 ≡ length (r .list))) ⌝ }
+    ensures { λ r. ⌜ (r .verdict ≡ checkVerdict (now (sheet .entry))) × ((r .list ≡ overlay list (declaredOf (checkedSheet (now (sheet .entry)))))
+        × (3 ≡ length (r .list))) ⌝ }
 {
     let mut lent = list;
     let verdict = check_entries(sheet, &mut lent);

@@ -1,10 +1,14 @@
 -- Both counts on short texts, most of which the modes refuse: demand 3 is not vacuous. The numbers were given by the separately written engine.
 use Prim.Native.Nat.{ℕ}
+use mathlib.Core.Bool.{true, false}
 use Prim.Native.String.{String}
 use mathlib.Core.Path.{_≡_, refl}
 use mathlib.Core.List.{List, [], _∷_, map}
 use mathlib.Core.Option.{some}
 use Rattle.syntax.specs.Quote.{bytes}
+use Rattle.syntax.specs.Terms.{nil}
+use Rattle.machine.specs.Machine.{Call}
+use Rattle.machine.specs.Counts.{isWithin}
 use Rattle.machine.proofs.Compute.{Counted, counted}
 
 -- a sheet, a goal, steps, and the open inputs and open outputs after so many
@@ -53,3 +57,15 @@ cases =
 all-cases : map (λ (c : Case). counted (c .sheet) (c .goal) (c .steps)) cases ≡ map (λ (c : Case). c .expected) cases
 unfolding counted
 all-cases = refl
+
+-- ---- the example at `isWithin`: copy 1 was made for a call of copy 0, copy 2 for one of copy 1, copy 3 for one of copy 0
+
+abbrev callOf : ℕ → Call
+callOf c = record { copy = c; atom = record { at = 0; name = []; args = nil } }
+
+abbrev calls : List Call
+calls = callOf 0 ∷ callOf 1 ∷ callOf 0 ∷ []
+
+within-example : (isWithin calls 1 2 ≡ true) × (isWithin calls 1 3 ≡ false)
+unfolding isWithin
+within-example = (refl, refl)

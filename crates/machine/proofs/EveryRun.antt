@@ -188,7 +188,7 @@ demand-3-runs sheet goal allowance wanted room r text e = ranged (inRange allowa
     over-goal : (sh : Sheet) → checkedSheet sheet ≡ accepted sh → (o : Outcome Goal) → checkedGoal sh goal ≡ o → overGoal sh allowance wanted room o ≡ ran r text → RunOver sheet goal allowance wanted room r text
     over-goal sh s (refused x) h q = absurd (stopped-ran inGoal x q)
     over-goal sh s (accepted g) h q =
-        record { texts = zero-over sheet goal sh g s h; reports = q; beginning = run-begins sh g allowance wanted room }
+        record { texts = zero-over sheet goal sh g s h; reports = q; beginning = run-begins sh g allowance wanted room; tallied = tally-pile sh g }
 
     over-sheet : (o : Outcome Sheet) → checkedSheet sheet ≡ o → overSheet goal allowance wanted room o ≡ ran r text → RunOver sheet goal allowance wanted room r text
     over-sheet (refused x) h q = absurd (stopped-ran inSheet x q)

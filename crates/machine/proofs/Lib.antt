@@ -15,3 +15,5 @@ pub mod EveryRun
 pub mod Turns
 pub mod Earlier
 pub mod Witness
+pub mod Names
+pub mod Lines

@@ -22,7 +22,7 @@ module _ (P : Alternative → Type 0) where
 
   -- what holds of the goal alone, and of all that comes of an alternative if it holds of that one, holds of every alternative reached
   module _ (sh : Sheet) (g : Goal) (keeps : (a : Alternative) → P a → All P (outcome sh a)) (begins : All P (start sh g)) where
-    all-step : (pile : List Alternative) → All P pile → All P (step sh pile)
+    pub all-step : (pile : List Alternative) → All P pile → All P (step sh pile)
     unfolding step
     all-step [] h = tt
     all-step (a ∷ below) h = all-append (outcome sh a) below (keeps a (h .0)) (h .1)

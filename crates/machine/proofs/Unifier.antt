@@ -320,9 +320,6 @@ unfolding unify
 unify-unbounded n b t u l =
     rounds-enough n (suc (places (resolve b t) + places (resolve b u))) (variables b t u) b t u (omega (arith, variables-length b t u)) (omega (arith, variables-length b t u)) (variables-hold b t u)
 
--- the two answers
+-- where there are bindings
 pub unify-some : (b : List Binding) (t u : RTerm) (b1 : List Binding) → unify b t u ≡ some b1 → MostGeneral b t u b1
 unify-some b t u b1 e = subst (Unified b t u) e (unify-spec b t u)
-
-pub unify-none : (b : List Binding) (t u : RTerm) → unify b t u ≡ none → NoUnifier b t u
-unify-none b t u e = subst (Unified b t u) e (unify-spec b t u)

@@ -68,7 +68,8 @@ valuesFrom b i separator [] = byte 10 ∷ []
 valuesFrom b i separator (x ∷ xs) =
     elim (isAnonymous x) [
       | true ↦ valuesFrom b (suc i) separator xs
-      | false ↦ written separator (written x (written (bytes " = ") (spelt (resolve b (var (record { copy = 0; number = i }))) (valuesFrom b (suc i) (bytes ", ") xs))))
+      | false ↦ written separator (written x (written (bytes " = ") (spelt (resolve b (var (record { copy = 0; number = i })))
+          (valuesFrom b (suc i) (bytes ", ") xs))))
     ]
 
 -- an answer's line, with its line feed; `yes` where there is no variable to give

@@ -39,8 +39,10 @@ pub record ZeroOver (sheet goal : List ℕ) : Type 0 where
   pub goal-accepted : checkedGoal sh goal ≡ accepted g
   pub zero : (n : ℕ) → BothZero sh g n
 
--- A run over two texts that is not refused: its report and text are those of the run, whose steps are the beginning of a list with both counts zero.
+-- A run over two texts that is not refused: its report and text are those of the run, whose steps are the beginning of a list with both counts zero:
+-- the piles that were tallied are those of that list.
 pub record RunOver (sheet goal : List ℕ) (allowance wanted room : ℕ) (report : Report) (text : List ℕ) : Type 0 where
   pub texts : ZeroOver sheet goal
   pub reports : reported (run (texts .sh) (texts .g) allowance wanted room) ≡ ran report text
   pub beginning : Beginning (texts .sh) (texts .g) allowance (run (texts .sh) (texts .g) allowance wanted room)
+  pub tallied : (n : ℕ) → tally (texts .sh) (texts .g) n .pile ≡ pileAfter (texts .sh) (texts .g) n

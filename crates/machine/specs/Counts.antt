@@ -34,6 +34,9 @@ openInputs sh a = inputsFirst sh (a .bindings) (a .literals)
 -- ---- open outputs
 
 -- Copy j is copy k, or was made for calls of copy k, at whatever depth. The newest of the calls is the one that copy `length calls` was made for.
+-- For example: copy 1 was made for a call of the goal (copy 0), copy 2 for a call of copy 1, copy 3 for a call of the goal, so the calls, newest first,
+-- are of the copies 0, 1, 0. Copy 2 is within copy 1: the call that it was made for is of copy 1, and copy 1 is within itself. Copy 3 is not: the call
+-- that it was made for is of copy 0, which was made for none and is not copy 1 (computed: `CountCases.within-example`).
 unfoldable pub isWithin : List Call → ℕ → ℕ → Bool
 isWithin [] k j = eqb j k
 isWithin (c ∷ cs) k j = elim (eqb j (suc (length cs))) [ true ↦ eqb j k || isWithin cs k (c .copy) | false ↦ isWithin cs k j ]

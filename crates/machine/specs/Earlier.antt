@@ -5,7 +5,8 @@ use mathlib.Core.List.{List, [], _∷_}
 use lib.Dec.{leb, ltb, eqb}
 use lib.ListN.{length}
 use Rattle.syntax.specs.Terms.{Sheet, Goal}
-use Rattle.machine.specs.Runs.{Kind, Wanted, Done, Steps, Full, Deep, Progress, isEmpty, isAnswer, nextLine, goesDeeper, Ending, firstEnd, advance, Ended, endOr, begun}
+use Rattle.machine.specs.Runs.{Kind, Wanted, Done, Steps, Full, Deep, Progress, isEmpty, isAnswer, nextLine, goesDeeper, Ending, firstEnd, advance}
+use Rattle.machine.specs.Runs.{Ended, endOr, begun}
 
 abbrev pub endingsEarlier : Sheet → Goal → ℕ → ℕ → ℕ → Progress → List Ending
 endingsEarlier sh g wanted room left p =

@@ -46,8 +46,9 @@ bound same b again = some b
 bound clash b again = none
 bound (apart v s) b again = again (record { variable = v; term = s } ∷ b)
 
--- While the two resolved terms differ, their first difference is bound away. The first number bounds the rounds; when none is left, nothing is
--- left to bind away.
+-- While the two resolved terms differ, their first difference is bound away. The first number bounds the rounds, so that this is a definition. When no
+-- round is left it says "the bindings so far", which would be wrong if a difference were left; with as many rounds as `unify` gives, none is
+-- (`Unifier.unify-spec`), and more rounds change nothing (`Unifier.unify-unbounded`).
 unfoldable pub rounds : ℕ → List Binding → RTerm → RTerm → Option (List Binding)
 rounds zero b t u = some b
 rounds (suc n) b t u = bound (differ (resolve b t) (resolve b u)) b (λ b1. rounds n b1 t u)

@@ -27,7 +27,8 @@ ghost use Prim.Native.Nat.{_+_, _*_, _/_, _%_, _-_, _≤_, _<_, _^_};
 ghost use lib.ListN.{length, getD, set};
 ghost use Rattle.layout.specs.Regions.{pairs, memo, keyCount, classCount, classOf, rowWords, halfWord, memoRow};
 ghost use Rattle.bindings.specs.Scratch.{Roomy};
-ghost use Rattle.memos.specs.Memos.{classesMade, linkOf, numberIn, stored, Rowed, Entered, Found, Cleared, Opens, Assigns, Fresh, Reaches, Joins, Begins, Remembers, Weighed, counted, heavy};
+ghost use Rattle.memos.specs.Memos.{classesMade, linkOf, numberIn, stored, Rowed, Entered, Found, Cleared, Opens, Assigns, Fresh, Reaches, Joins};
+ghost use Rattle.memos.specs.Memos.{Begins, Remembers, Weighed, counted, heavy};
 
 // So many pairs are only counted: most unifications are done before.
 const COUNTED: usize = 32;
@@ -202,7 +203,8 @@ fn row_for(scratch: &mut [u32], key: usize) -> usize
 // The number i in row k for the word v.
 fn put_number(scratch: &mut [u32], k: usize, v: usize, i: usize)
     requires { ⌜ (k < keyCount) × ((memoRow k + rowWords ≤ length (now scratch)) × (i < halfWord)) ⌝ }
-    ensures { λ _. ⌜ now (scratch .exit) ≡ set (now (scratch .entry)) (memoRow k + v % rowWords) (stored (v / rowWords % 2) (getD (now (scratch .entry)) (memoRow k + v % rowWords) 0) i) ⌝ }
+    ensures { λ _. ⌜ now (scratch .exit) ≡ set (now (scratch .entry)) (memoRow k + v % rowWords)
+        (stored (v / rowWords % 2) (getD (now (scratch .entry)) (memoRow k + v % rowWords) 0) i) ⌝ }
 {
     let at = ROWS + k * ROW_WORDS + v % ROW_WORDS;
     let w = word_at(scratch, at);
@@ -242,7 +244,8 @@ fn fresh(scratch: &mut [u32], term: usize) -> usize
 
 // A class of two terms.
 fn pair_up(scratch: &mut [u32], left: usize, right: usize)
-    requires { ⌜ (Roomy (now scratch)) × ((counted ≤ classesMade (now scratch)) × ((classesMade (now scratch) < classCount) × ((left < 2 ^ 32) × (right < 2 ^ 32)))) ⌝ }
+    requires { ⌜ (Roomy (now scratch)) × ((counted ≤ classesMade (now scratch)) × ((classesMade (now scratch) < classCount)
+        × ((left < 2 ^ 32) × (right < 2 ^ 32)))) ⌝ }
     ensures { λ _. ⌜ Remembers (now (scratch .entry)) (now (scratch .exit)) left right ⌝ }
 {
     let m = fresh(scratch, left);
@@ -325,7 +328,8 @@ fn is_crowded(scratch: &[u32]) -> bool
 
 // The two terms in one class.
 fn place(scratch: &mut [u32], left: usize, right: usize)
-    requires { ⌜ (Roomy (now scratch)) × ((counted ≤ classesMade (now scratch)) × ((classesMade (now scratch) < classCount) × ((left < 2 ^ 32) × (right < 2 ^ 32)))) ⌝ }
+    requires { ⌜ (Roomy (now scratch)) × ((counted ≤ classesMade (now scratch)) × ((classesMade (now scratch) < classCount)
+        × ((left < 2 ^ 32) × (right < 2 ^ 32)))) ⌝ }
     ensures { λ _. ⌜ Remembers (now (scratch .entry)) (now (scratch .exit)) left right ⌝ }
 {
     let i = number_of(scratch, left);

@@ -39,7 +39,8 @@ fn undeclared_literal(
 ) -> Checked
     requires { ⌜ DeclarationsAt (now s) (now declared) n ⌝ }
     requires { ⌜ LiteralAt (now g) (now table) p ⌝ }
-    ensures { λ r. ⌜ ((d : DeclarationsAt (now (s .entry)) (now (declared .entry)) n) (w : LiteralAt (now (g .entry)) (now (table .entry)) p) → r ≡ checkedOf (undeclaredLiteral (d .list) clause literal (w .literal))) ⌝ }
+    ensures { λ r. ⌜ ((d : DeclarationsAt (now (s .entry)) (now (declared .entry)) n) (w : LiteralAt (now (g .entry)) (now (table .entry)) p)
+        → r ≡ checkedOf (undeclaredLiteral (d .list) clause literal (w .literal))) ⌝ }
 {
     if word_at(table, p) != CALL_KIND {
         return Checked::Fine;
@@ -62,7 +63,8 @@ pub fn undeclared_body(
 ) -> Checked
     requires { ⌜ DeclarationsAt (now s) (now declared) n ⌝ }
     requires { ⌜ BodyAt (now g) (now table) p literals ⌝ }
-    ensures { λ r. ⌜ ((d : DeclarationsAt (now (s .entry)) (now (declared .entry)) n) (w : BodyAt (now (g .entry)) (now (table .entry)) p literals) → r ≡ checkedOf (undeclaredBody (d .list) clause 1 (w .body))) ⌝ }
+    ensures { λ r. ⌜ ((d : DeclarationsAt (now (s .entry)) (now (declared .entry)) n) (w : BodyAt (now (g .entry)) (now (table .entry)) p literals)
+        → r ≡ checkedOf (undeclaredBody (d .list) clause 1 (w .body))) ⌝ }
 {
     let mut at = p;
     let mut i = 0;
@@ -92,7 +94,8 @@ fn call_walk(
 ) -> Walked
     requires { ⌜ DeclarationsAt (now s) (now declared) n ⌝ }
     requires { ⌜ AtomAt (now g) (now table) p ⌝ }
-    ensures { λ r. ⌜ ((d : DeclarationsAt (now (s .entry)) (now (declared .entry)) n) (w : AtomAt (now (g .entry)) (now (table .entry)) p) → walkOf r ≡ literalWalk (d .list) clause literal known (call (w .atom))) ⌝ }
+    ensures { λ r. ⌜ ((d : DeclarationsAt (now (s .entry)) (now (declared .entry)) n) (w : AtomAt (now (g .entry)) (now (table .entry)) p)
+        → walkOf r ≡ literalWalk (d .list) clause literal known (call (w .atom))) ⌝ }
 {
     let marks = marks_of(s, declared, n, g, table, p);
     let from = p + NODE_WORDS;
@@ -119,7 +122,8 @@ fn literal_walk(
 ) -> Walked
     requires { ⌜ DeclarationsAt (now s) (now declared) n ⌝ }
     requires { ⌜ LiteralAt (now g) (now table) p ⌝ }
-    ensures { λ r. ⌜ ((d : DeclarationsAt (now (s .entry)) (now (declared .entry)) n) (w : LiteralAt (now (g .entry)) (now (table .entry)) p) → walkOf r ≡ literalWalk (d .list) clause literal known (w .literal)) ⌝ }
+    ensures { λ r. ⌜ ((d : DeclarationsAt (now (s .entry)) (now (declared .entry)) n) (w : LiteralAt (now (g .entry)) (now (table .entry)) p)
+        → walkOf r ≡ literalWalk (d .list) clause literal known (w .literal)) ⌝ }
 {
     let kind = word_at(table, p);
     if kind == TRUTH_KIND {
@@ -160,7 +164,8 @@ pub fn body_walk(
 ) -> Walked
     requires { ⌜ DeclarationsAt (now s) (now declared) n ⌝ }
     requires { ⌜ BodyAt (now g) (now table) p literals ⌝ }
-    ensures { λ r. ⌜ ((d : DeclarationsAt (now (s .entry)) (now (declared .entry)) n) (w : BodyAt (now (g .entry)) (now (table .entry)) p literals) → walkOf r ≡ bodyFault (d .list) clause 1 known (w .body)) ⌝ }
+    ensures { λ r. ⌜ ((d : DeclarationsAt (now (s .entry)) (now (declared .entry)) n) (w : BodyAt (now (g .entry)) (now (table .entry)) p literals)
+        → walkOf r ≡ bodyFault (d .list) clause 1 known (w .body)) ⌝ }
 {
     let mut at = p;
     let mut i = 0;

@@ -1,11 +1,11 @@
 // The mode check: refusals 8 to 10 of document 01, over the tables of words that the parser fills. Document 01 is the paper "Rule sheets".
 pub mod bodies;
-pub mod clauses;
+pub mod clause_faults;
 
 use bodies::body_walk;
 use bodies::undeclared_body;
-use clauses::clauses_fault;
-use clauses::undeclared_clauses;
+use clause_faults::clauses_fault;
+use clause_faults::undeclared_clauses;
 use marking::Checked;
 use marking::Known;
 use syntax::VARIABLES;
@@ -53,7 +53,8 @@ pub fn check_goal(
     literals: usize,
 ) -> Checked
     requires { ⌜ GoalAt (now s) (now declared) n (now g) (now table) literals ⌝ }
-    ensures { λ r. ⌜ ((w : GoalAt (now (s .entry)) (now (declared .entry)) n (now (g .entry)) (now (table .entry)) literals) → r ≡ checkedOf (goalFault (w .sheet) (w .goal))) ⌝ }
+    ensures { λ r. ⌜ ((w : GoalAt (now (s .entry)) (now (declared .entry)) n (now (g .entry)) (now (table .entry)) literals)
+        → r ≡ checkedOf (goalFault (w .sheet) (w .goal))) ⌝ }
 {
     let fault = undeclared_body(s, declared, n, g, table, 0, literals, 0, 0);
     if is_fault(fault) {

@@ -7,13 +7,13 @@ ghost use Rattle.syntax.specs.Tokens.{spelling};
 ghost use Rattle.rules.specs.Checking.{nameSpan, textAtFault, faultName};
 
 // Place and length of a name.
-struct Span {
-    at: usize,
-    len: usize,
+pub struct Span {
+    pub at: usize,
+    pub len: usize,
 }
 
 // Where the name stands that a refusal hands back; an empty part for those that hand none back.
-fn name_span(refusal: Refusal) -> Span
+pub fn name_span(refusal: Refusal) -> Span
     ensures { λ r. ⌜ (r .at ≡ nameSpan refusal .0) × (r .len ≡ nameSpan refusal .1) ⌝ }
 {
     match refusal {

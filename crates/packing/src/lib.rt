@@ -1,71 +1,158 @@
-// A verdict and the answer to a run as one number each, for callers in other languages.
+// The answers of reading, checking and running as numbers in a lent slice, for callers in other languages: as many as fit, later ones as they
+// were.
+use syntax::Declared;
 use syntax::Refusal;
-use syntax::Report;
 use syntax::Run;
+use syntax::Text;
 use syntax::Verdict;
 ghost use mathlib.Core.Path.{_≡_};
-ghost use Prim.Native.Nat.{_≤_};
-ghost use Rattle.packing.specs.Packed.{packed, packedRun, packedReport, packedRefusal, joined, joinedReport};
+ghost use mathlib.Core.List.{[], _∷_, _++_};
+ghost use Prim.Native.Nat.{_+_, _^_, _<_, _≤_};
+ghost use lib.ListN.{length};
+ghost use lib.Seq.{sets};
+ghost use Rattle.buffers.specs.Buffers.{Put};
+ghost use Rattle.packing.specs.Numbers.{version, textNumber, faultNumbers, verdictNumbers, runNumbers, entryNumbers, refusalIn};
 
-// The room of each part: a count of declarations or clauses, the answers, the steps, all that is below a refusal's number.
-const COUNTS: usize = 65536;
+// The lists of numbers that this library gives.
+const VERSION: usize = 1;
 
-const ANSWERS: usize = 128;
+// How many numbers a fault has,
+const FAULT: usize = 8;
 
-const STEPS: usize = 131072;
+// which of a fault's is the refusal's:
+const NUMBER: usize = 1;
 
-const HIGH: usize = 4294967296;
+// how many a verdict's counts and a run's report behind it:
+const COUNTS: usize = 2;
 
-// A verdict.
-pub fn pack(verdict: Verdict) -> u64
-    ensures { λ r. ⌜ r ≡ packed verdict ⌝ }
+const REPORT: usize = 4;
+
+// Their version.
+pub fn version_number() -> usize
+    ensures { λ r. ⌜ r ≡ version ⌝ }
+{
+    VERSION
+}
+
+// One number, where it fits; returned is the place behind it, also where it does not.
+fn put_one(number: usize, out: &mut [usize], at: usize) -> usize
+    requires { ⌜ at + 1 < 2 ^ 64 ⌝ }
+    ensures { λ r. ⌜ Put (now (out .entry)) at (number ∷ []) (now (out .exit)) r ⌝ }
+{
+    if at < out.len() {
+        out[at] = number;
+        return at + 1;
+    }
+    at + 1
+}
+
+// Numbers from a place on; the same.
+fn put(numbers: &[usize], out: &mut [usize], from: usize) -> usize
+    requires { ⌜ from + length (now numbers) < 2 ^ 64 ⌝ }
+    ensures { λ r. ⌜ Put (now (out .entry)) from (now (numbers .entry)) (now (out .exit)) r ⌝ }
+{
+    let mut past = from;
+    let mut i = 0;
+    while i < numbers.len() {
+        past = put_one(numbers[i], out, past);
+        i += 1;
+    }
+    past
+}
+
+fn text_number(text: Text) -> usize
+    ensures { λ r. ⌜ r ≡ textNumber text ⌝ }
+{
+    match text {
+        Text::Neither => 0,
+        Text::Sheet => 1,
+        Text::Goal => 2,
+    }
+}
+
+// A refusal, in the order in which it is told.
+fn fault_numbers(text: Text, refusal: Refusal) -> [usize; FAULT]
+    ensures { λ r. ⌜ r ≡ faultNumbers text refusal ⌝ }
+{
+    let which = text_number(text);
+    let five = syntax::numbers(refusal);
+    let name = names::name_span(refusal);
+    [
+        which,
+        five.number,
+        five.byte,
+        five.clause,
+        five.literal,
+        five.argument,
+        name.at,
+        name.len,
+    ]
+}
+
+// A fault and what follows it; the refusal's number is returned, 0 for none.
+fn put_both(fault: [usize; FAULT], rest: &[usize], out: &mut [usize]) -> usize
+    requires { ⌜ length (now rest) ≤ 4 ⌝ }
+    ensures is { λ r. ⌜ r ≡ refusalIn (fault ++ now (rest .entry)) ⌝ }
+    ensures numbers { λ _. ⌜ now (out .exit) ≡ sets (now (out .entry)) 0 (fault ++ now (rest .entry)) ⌝ }
+{
+    let past = put(&fault, out, 0);
+    put(rest, out, past);
+    fault[NUMBER]
+}
+
+// A verdict; the number of its refusal is returned, 0 for none.
+pub fn put_verdict(verdict: Verdict, out: &mut [usize]) -> usize
+    ensures is { λ r. ⌜ r ≡ refusalIn (verdictNumbers verdict) ⌝ }
+    ensures numbers { λ _. ⌜ now (out .exit) ≡ sets (now (out .entry)) 0 (verdictNumbers verdict) ⌝ }
 {
     match verdict {
         Verdict::Accepted {
             declarations,
             clauses,
-        } => (declarations % COUNTS * COUNTS + clauses % COUNTS) as u64,
-        Verdict::Refused { text: _, refusal } => pack_refusal(refusal),
+        } => {
+            let fault = [0; FAULT];
+            let counts = [declarations, clauses];
+            put_both(fault, &counts, out)
+        }
+        Verdict::Refused { text, refusal } => {
+            let fault = fault_numbers(text, refusal);
+            let counts = [0; COUNTS];
+            put_both(fault, &counts, out)
+        }
     }
 }
 
-// The answer to a run.
-pub fn pack_run(run: Run) -> u64
-    ensures { λ r. ⌜ r ≡ packedRun run ⌝ }
+// The answer to a run that has written so many bytes; returned as above.
+pub fn put_run(run: Run, bytes: usize, out: &mut [usize]) -> usize
+    ensures is { λ r. ⌜ r ≡ refusalIn (runNumbers run bytes) ⌝ }
+    ensures numbers { λ _. ⌜ now (out .exit) ≡ sets (now (out .entry)) 0 (runNumbers run bytes) ⌝ }
 {
     match run {
-        Run::Ended(report) => pack_report(report),
-        Run::Refused { text: _, refusal } => pack_refusal(refusal),
+        Run::Ended(report) => {
+            let fault = [0; FAULT];
+            let kind = report.kind;
+            let number = reports::kind_number(kind);
+            let rest = [number, report.answers, report.steps, bytes];
+            put_both(fault, &rest, out)
+        }
+        Run::Refused { text, refusal } => {
+            let fault = fault_numbers(text, refusal);
+            let rest = [0; REPORT];
+            put_both(fault, &rest, out)
+        }
     }
 }
 
-fn pack_report(report: Report) -> u64
-    ensures { λ r. ⌜ r ≡ packedReport report ⌝ }
+// A declaration; how many numbers it has is returned, 0 where there is none.
+pub fn put_entry(declared: Declared, out: &mut [usize]) -> usize
+    ensures is { λ r. ⌜ r ≡ length (entryNumbers declared) ⌝ }
+    ensures numbers { λ _. ⌜ now (out .exit) ≡ sets (now (out .entry)) 0 (entryNumbers declared) ⌝ }
 {
-    let kind = report.kind;
-    let answers = report.answers;
-    let steps = report.steps;
-    let number = reports::kind_number(kind);
-    join_report(number, answers, steps)
-}
-
-fn join_report(number: usize, answers: usize, steps: usize) -> u64
-    requires { ⌜ number ≤ 4 ⌝ }
-    ensures { λ r. ⌜ r ≡ joinedReport number answers steps ⌝ }
-{
-    ((number * ANSWERS + answers % ANSWERS) * STEPS + steps % STEPS) as u64
-}
-
-fn pack_refusal(refusal: Refusal) -> u64
-    ensures { λ r. ⌜ r ≡ packedRefusal refusal ⌝ }
-{
-    let five = syntax::numbers(refusal);
-    join(five.number, five.byte)
-}
-
-fn join(high: usize, low: usize) -> u64
-    requires { ⌜ high ≤ 10 ⌝ }
-    ensures { λ r. ⌜ r ≡ joined high low ⌝ }
-{
-    (high * HIGH + low % HIGH) as u64
+    match declared {
+        Declared::As(entry) => {
+            let numbers = [entry.at, entry.len, entry.arguments];
+            put(&numbers, out, 0)
+        }
+        Declared::Nothing => 0,
+    }
 }

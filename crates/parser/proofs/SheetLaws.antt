@@ -22,7 +22,7 @@ use Rattle.reading.specs.declared.Parsed.{Parsed}
 use Rattle.reading.proofs.Reading.{refused-beyond, wrong-positive}
 use Rattle.reading.proofs.Sequence.{seq-ok}
 use Rattle.parser.specs.Marks.{DeclarationGiven, DeclarationGives}
-use Rattle.parser.specs.Sheets.{declarationNext, clauseNext, before, Holds, Loading, LoadFault, LoadGiven, Loads, GoalLoads}
+use Rattle.parser.specs.Sheets.{declarationNext, clauseNext, before, Holds, Loading, ItemFault, LoadFault, LoadGiven, Loads, GoalLoads}
 use Rattle.parser.specs.declared.Loaded.{Loaded}
 
 -- ---- the first token
@@ -64,35 +64,50 @@ below {a = a} {most = most} n m = omega (arith, n)
 -- ---- items
 
 -- the definition, by what the token at hand begins
-module _ (s : List ℕ) (n ds cs : ℕ) (st : Cursor) where
-  abbrev rest : ℕ → ℕ → Cursor → Read Sheet
-  rest ds1 cs1 st1 = readItems s n ds1 cs1 st1
+module _ (rest : ℕ → ℕ → Cursor → Read Sheet) (s : List ℕ) (ds cs : ℕ) (st : Cursor) where
+  abbrev item : Read Sheet
+  item = itemWith rest s ds cs st (itemOf (st .token .kind) ds cs)
 
-  items-end : st .token .kind ≡ 16 → readItems s (suc n) ds cs st ≡ ok (record { declarations = []; clauses = [] }) st
-  unfolding readItems itemWith
-  items-end e = let i : itemOf (st .token .kind) ds cs ≡ noItem = simp (eq-eqb (st .token .kind) 16 e) in ap (itemWith rest s ds cs st) i
+  item-end : st .token .kind ≡ 16 → item ≡ ok (record { declarations = []; clauses = [] }) st
+  unfolding itemWith
+  item-end e = let i : itemOf (st .token .kind) ds cs ≡ noItem = simp (eq-eqb (st .token .kind) 16 e) in ap (itemWith rest s ds cs st) i
 
-  items-misplaced : (st .token .kind ≡ 16 → ⊥) → (st .token .kind ≡ 6 → ⊥) → (st .token .kind ≡ 3 → ⊥) → readItems s (suc n) ds cs st ≡ wrong st
-  unfolding readItems itemWith
-  items-misplaced e f g = let i : itemOf (st .token .kind) ds cs ≡ misplaced = simp (ne-eqb (st .token .kind) 16 e, ne-eqb (st .token .kind) 6 f, ne-eqb (st .token .kind) 3 g) in ap (itemWith rest s ds cs st) i
+  item-misplaced : (st .token .kind ≡ 16 → ⊥) → (st .token .kind ≡ 6 → ⊥) → (st .token .kind ≡ 3 → ⊥) → item ≡ wrong st
+  unfolding itemWith
+  item-misplaced e f g =
+      let i : itemOf (st .token .kind) ds cs ≡ misplaced = simp (ne-eqb (st .token .kind) 16 e, ne-eqb (st .token .kind) 6 f, ne-eqb (st .token .kind) 3 g) in
+      ap (itemWith rest s ds cs st) i
 
-  by-declaration : (b : Bool) → itemWith rest s ds cs st (cond b pastLimit aDeclaration) ≡ andThen (elim b as (λ _. Read Declaration) [ true ↦ beyond st | false ↦ readDeclaration s st ]) (λ d after. andThen (rest (ds - 1) cs after) (λ sh end. ok (withDeclaration d sh) end))
+  -- what reading a declaration, or a clause, leads to
+  abbrev after-declaration : Read Declaration → Read Sheet
+  after-declaration r = andThen r (λ d after. andThen (rest (ds - 1) cs after) (λ sh end. ok (withDeclaration d sh) end))
+
+  abbrev after-clause : Read Clause → Read Sheet
+  after-clause r = andThen r (λ c after. andThen (rest ds (cs - 1) (fresh after)) (λ sh end. ok (withClause c sh) end))
+
+  by-declaration : (b : Bool) → itemWith rest s ds cs st (cond b pastLimit aDeclaration) ≡ after-declaration (elim b as (λ _. Read Declaration) [ true ↦ beyond st | false ↦ readDeclaration s st ])
   unfolding itemWith andThen beyond
   by-declaration true = refl
   by-declaration false = refl
 
-  items-declaration : (st .token .kind ≡ 16 → ⊥) → st .token .kind ≡ 6 → readItems s (suc n) ds cs st ≡ andThen (declarationNext s ds st) (λ d after. andThen (rest (ds - 1) cs after) (λ sh end. ok (withDeclaration d sh) end))
-  unfolding readItems declarationNext
-  items-declaration e f = ap (itemWith rest s ds cs st) (simp (ne-eqb (st .token .kind) 16 e, eq-eqb (st .token .kind) 6 f)) ∙ by-declaration (eqb ds 0)
+  item-declaration : (st .token .kind ≡ 16 → ⊥) → st .token .kind ≡ 6 → item ≡ after-declaration (declarationNext s ds st)
+  unfolding declarationNext
+  item-declaration e f = ap (itemWith rest s ds cs st) (simp (ne-eqb (st .token .kind) 16 e, eq-eqb (st .token .kind) 6 f)) ∙ by-declaration (eqb ds 0)
 
-  by-clause : (b : Bool) → itemWith rest s ds cs st (cond b pastLimit aClause) ≡ andThen (elim b as (λ _. Read Clause) [ true ↦ beyond st | false ↦ readClause s st ]) (λ c after. andThen (rest ds (cs - 1) (fresh after)) (λ sh end. ok (withClause c sh) end))
+  by-clause : (b : Bool) → itemWith rest s ds cs st (cond b pastLimit aClause) ≡ after-clause (elim b as (λ _. Read Clause) [ true ↦ beyond st | false ↦ readClause s st ])
   unfolding itemWith andThen beyond
   by-clause true = refl
   by-clause false = refl
 
-  items-clause : (st .token .kind ≡ 16 → ⊥) → (st .token .kind ≡ 6 → ⊥) → st .token .kind ≡ 3 → readItems s (suc n) ds cs st ≡ andThen (clauseNext s cs st) (λ c after. andThen (rest ds (cs - 1) (fresh after)) (λ sh end. ok (withClause c sh) end))
-  unfolding readItems clauseNext
-  items-clause e f g = ap (itemWith rest s ds cs st) (simp (ne-eqb (st .token .kind) 16 e, ne-eqb (st .token .kind) 6 f, eq-eqb (st .token .kind) 3 g)) ∙ by-clause (eqb cs 0)
+  item-clause : (st .token .kind ≡ 16 → ⊥) → (st .token .kind ≡ 6 → ⊥) → st .token .kind ≡ 3 → item ≡ after-clause (clauseNext s cs st)
+  unfolding clauseNext
+  item-clause e f g =
+      ap (itemWith rest s ds cs st) (simp (ne-eqb (st .token .kind) 16 e, ne-eqb (st .token .kind) 6 f, eq-eqb (st .token .kind) 3 g)) ∙ by-clause (eqb cs 0)
+
+-- the items from here on are the one at hand and the others
+items : (s : List ℕ) (n ds cs : ℕ) (st : Cursor) → readItems s (suc n) ds cs st ≡ item (λ ds1 cs1 st1. readItems s n ds1 cs1 st1) s ds cs st
+unfolding readItems
+items s n ds cs st = refl
 
 -- what was read before is put in front
 before-nothing : (d : Read Sheet) → d ≡ before [] [] d
@@ -142,36 +157,46 @@ module _ (s declared table : List ℕ) (ds cs used : ℕ) (st : State) (l : Load
   whole-suc : readSheet s ≡ before (l .dl) (l .cl) (readItems s (suc (321 - (ds + cs) - 1)) (64 - ds) (256 - cs) (begin (st .token)))
   whole-suc = l .whole ∙ ap (λ (k : ℕ). before (l .dl) (l .cl) (readItems s k (64 - ds) (256 - cs) (begin (st .token)))) more
 
-  pub loading-end : st .token .kind ≡ 16 → Loads declared table (record { number = 0; byte = 0; declarations = ds; clauses = cs; used = used }) (readSheet s)
+  -- the items behind the one at hand
+  abbrev others : ℕ → ℕ → Cursor → Read Sheet
+  others ds1 cs1 st1 = readItems s (321 - (ds + cs) - 1) ds1 cs1 st1
+
+  here : readItems s (suc (321 - (ds + cs) - 1)) (64 - ds) (256 - cs) (begin (st .token)) ≡ item others s (64 - ds) (256 - cs) (begin (st .token))
+  here = items s (321 - (ds + cs) - 1) (64 - ds) (256 - cs) (begin (st .token))
+
+  pub loading-end : st .token .kind ≡ 16 → Loads s declared table (record { number = 0; byte = 0; declarations = ds; clauses = cs; used = used }) (readSheet s)
   unfolding before
   loading-end e =
-      subst⁻¹ (Loads declared table (record { number = 0; byte = 0; declarations = ds; clauses = cs; used = used }))
-      (whole-suc ∙ ap (before (l .dl) (l .cl)) (items-end s (321 - (ds + cs) - 1) (64 - ds) (256 - cs) (begin (st .token)) e) ∙ ap₂ (λ (a : List Declaration) (b : List Clause). ok (record { declarations = a; clauses = b }) (begin (st .token))) (append-nil (l .dl)) (append-nil (l .cl)))
+      subst⁻¹ (Loads s declared table (record { number = 0; byte = 0; declarations = ds; clauses = cs; used = used }))
+      (whole-suc ∙ ap (before (l .dl) (l .cl)) (here ∙ item-end others s (64 - ds) (256 - cs) (begin (st .token)) e) ∙ ap₂ (λ (a : List Declaration) (b : List Clause). ok (record { declarations = a; clauses = b }) (begin (st .token))) (append-nil (l .dl)) (append-nil (l .cl)))
       (record { number-is = refl; holds = l .holds; few = l .ds-most })
 
   -- a fault of the rest is the whole's
-  halt : (k b : ℕ) (r : Parsed) (q : Loaded) → readSheet s ≡ fault k b → r .number ≡ k → 0 < k → r .state .token .at ≡ b → (declared2 table2 : List ℕ) → Holds declared2 table2 ds cs used (l .dl) (l .cl) → q ≡ record { number = r .number; byte = r .state .token .at; declarations = ds; clauses = cs; used = used } → Loads declared2 table2 q (readSheet s)
-  halt k b r q e n p a declared2 table2 h eq =
-      subst⁻¹ (Loads declared2 table2 q) e
-      (subst⁻¹ (λ (x : Loaded). LoadFault declared2 table2 x k b) eq (record { number-is = n; some = p; byte-is = a; dl = l .dl; cl = l .cl; holds = h }))
+  halt : (k b : ℕ) (r : Parsed) (q : Loaded) → readSheet s ≡ fault k b → r .number ≡ k → 0 < k → r .state .token .at ≡ b → (declared2 table2 : List ℕ) → Holds declared2 table2 ds cs used (l .dl) (l .cl) → q ≡ record { number = r .number; byte = r .state .token .at; declarations = ds; clauses = cs; used = used } → ItemFault s (64 - ds) (256 - cs) (begin (st .token)) k b → Loads s declared2 table2 q (readSheet s)
+  halt k b r q e n p a declared2 table2 h eq faulty =
+      subst⁻¹ (Loads s declared2 table2 q) e
+      (subst⁻¹ (λ (x : Loaded). LoadFault s declared2 table2 x k b) eq
+      (record { number-is = n; some = p; byte-is = a; dl = l .dl; cl = l .cl; holds = h; from = begin (st .token); whole = l .whole; faulty = faulty }))
 
-  pub loading-wrong : (r : Parsed) (q : Loaded) → (st .token .kind ≡ 16 → ⊥) → (st .token .kind ≡ 6 → ⊥) → (st .token .kind ≡ 3 → ⊥) → Refused st (wrongNumber (st .token .kind)) r → q ≡ record { number = r .number; byte = r .state .token .at; declarations = ds; clauses = cs; used = used } → Loads declared table q (readSheet s)
+  pub loading-wrong : (r : Parsed) (q : Loaded) → (st .token .kind ≡ 16 → ⊥) → (st .token .kind ≡ 6 → ⊥) → (st .token .kind ≡ 3 → ⊥) → Refused st (wrongNumber (st .token .kind)) r → q ≡ record { number = r .number; byte = r .state .token .at; declarations = ds; clauses = cs; used = used } → Loads s declared table q (readSheet s)
   unfolding before wrong
-  loading-wrong r q e f g h eq = halt (wrongNumber (st .token .kind)) (st .token .at) r q (whole-suc ∙ ap (before (l .dl) (l .cl)) (items-misplaced s (321 - (ds + cs) - 1) (64 - ds) (256 - cs) (begin (st .token)) e f g)) (h .number-is) (wrong-positive (st .token .kind)) (ap (λ (x : State). x .token .at) (h .state-is)) declared table (l .holds) eq
+  loading-wrong r q e f g h eq = halt (wrongNumber (st .token .kind)) (st .token .at) r q (whole-suc ∙ ap (before (l .dl) (l .cl)) (here ∙ item-misplaced others s (64 - ds) (256 - cs) (begin (st .token)) e f g)) (h .number-is) (wrong-positive (st .token .kind)) (ap (λ (x : State). x .token .at) (h .state-is)) declared table (l .holds) eq
+      (λ rest. item-misplaced rest s (64 - ds) (256 - cs) (begin (st .token)) e f g)
 
   -- ---- a declaration
   module _ (e : st .token .kind ≡ 16 → ⊥) (f : st .token .kind ≡ 6) (declared2 : List ℕ) (r : Parsed) (g : DeclarationGives s st declared declared2 (4 * ds) r (declarationNext s (64 - ds) (begin (st .token)))) where
     at-declaration : readSheet s ≡ before (l .dl) (l .cl) (andThen (declarationNext s (64 - ds) (begin (st .token))) (λ d after. andThen (readItems s (321 - (ds + cs) - 1) (64 - ds - 1) (256 - cs) after) (λ sh end. ok (withDeclaration d sh) end)))
-    at-declaration = whole-suc ∙ ap (before (l .dl) (l .cl)) (items-declaration s (321 - (ds + cs) - 1) (64 - ds) (256 - cs) (begin (st .token)) e f)
+    at-declaration = whole-suc ∙ ap (before (l .dl) (l .cl)) (here ∙ item-declaration others s (64 - ds) (256 - cs) (begin (st .token)) e f)
 
-    declaration-fault-by : (d : Read Declaration) (q : Loaded) → DeclarationGives s st declared declared2 (4 * ds) r d → declarationNext s (64 - ds) (begin (st .token)) ≡ d → (r .number ≡ 0 → ⊥) → q ≡ record { number = r .number; byte = r .state .token .at; declarations = ds; clauses = cs; used = used } → Loads declared2 table q (readSheet s)
+    declaration-fault-by : (d : Read Declaration) (q : Loaded) → DeclarationGives s st declared declared2 (4 * ds) r d → declarationNext s (64 - ds) (begin (st .token)) ≡ d → (r .number ≡ 0 → ⊥) → q ≡ record { number = r .number; byte = r .state .token .at; declarations = ds; clauses = cs; used = used } → Loads s declared2 table q (readSheet s)
     unfolding before andThen
     declaration-fault-by (fault k b) q h ed z eq =
         halt k b r q (at-declaration ∙ ap (λ (d : Read Declaration). before (l .dl) (l .cl) (andThen d (λ d after. andThen (readItems s (321 - (ds + cs) - 1) (64 - ds - 1) (256 - cs) after) (λ sh end. ok (withDeclaration d sh) end)))) ed) (h .number-is) (h .some) (h .byte-is) declared2 table
         (record { ds-is = l .holds .ds-is; cs-is = l .holds .cs-is; used-is = l .holds .used-is; declared-is = h .kept ∙ l .holds .declared-is; table-is = l .holds .table-is }) eq
+        (λ rest. item-declaration rest s (64 - ds) (256 - cs) (begin (st .token)) e f ∙ ap (after-declaration rest s (64 - ds) (256 - cs) (begin (st .token))) ed)
     declaration-fault-by (ok d after) q h ed z eq = absurd (z (h .number-is))
 
-    pub loading-declaration-fault : (q : Loaded) → (r .number ≡ 0 → ⊥) → q ≡ record { number = r .number; byte = r .state .token .at; declarations = ds; clauses = cs; used = used } → Loads declared2 table q (readSheet s)
+    pub loading-declaration-fault : (q : Loaded) → (r .number ≡ 0 → ⊥) → q ≡ record { number = r .number; byte = r .state .token .at; declarations = ds; clauses = cs; used = used } → Loads s declared2 table q (readSheet s)
     loading-declaration-fault q z eq = declaration-fault-by (declarationNext s (64 - ds) (begin (st .token))) q g refl z eq
 
     module _ (z : r .number ≡ 0) where
@@ -232,16 +257,17 @@ module _ (s declared table : List ℕ) (ds cs used : ℕ) (st : State) (l : Load
 
   module _ (e : st .token .kind ≡ 16 → ⊥) (f : st .token .kind ≡ 6 → ⊥) (c : st .token .kind ≡ 3) (table2 : List ℕ) (r : Parsed) (same : length table2 ≡ length table) (g : Gives clauseWords one s st table table2 used r (clauseNext s (256 - cs) (begin (st .token)))) where
     at-clause : readSheet s ≡ before (l .dl) (l .cl) (andThen (clauseNext s (256 - cs) (begin (st .token))) (λ x after. andThen (readItems s (321 - (ds + cs) - 1) (64 - ds) (256 - cs - 1) (fresh after)) (λ sh end. ok (withClause x sh) end)))
-    at-clause = whole-suc ∙ ap (before (l .dl) (l .cl)) (items-clause s (321 - (ds + cs) - 1) (64 - ds) (256 - cs) (begin (st .token)) e f c)
+    at-clause = whole-suc ∙ ap (before (l .dl) (l .cl)) (here ∙ item-clause others s (64 - ds) (256 - cs) (begin (st .token)) e f c)
 
-    clause-fault-by : (d : Read Clause) (q : Loaded) → Gives clauseWords one s st table table2 used r d → clauseNext s (256 - cs) (begin (st .token)) ≡ d → (r .number ≡ 0 → ⊥) → q ≡ record { number = r .number; byte = r .state .token .at; declarations = ds; clauses = cs; used = used } → Loads declared table2 q (readSheet s)
+    clause-fault-by : (d : Read Clause) (q : Loaded) → Gives clauseWords one s st table table2 used r d → clauseNext s (256 - cs) (begin (st .token)) ≡ d → (r .number ≡ 0 → ⊥) → q ≡ record { number = r .number; byte = r .state .token .at; declarations = ds; clauses = cs; used = used } → Loads s declared table2 q (readSheet s)
     unfolding before andThen
     clause-fault-by (fault k b) q h ed z eq =
         halt k b r q (at-clause ∙ ap (λ (d : Read Clause). before (l .dl) (l .cl) (andThen d (λ x after. andThen (readItems s (321 - (ds + cs) - 1) (64 - ds) (256 - cs - 1) (fresh after)) (λ sh end. ok (withClause x sh) end)))) ed) (h .number-is) (h .some) (h .byte-is) declared table2
         (record { ds-is = l .holds .ds-is; cs-is = l .holds .cs-is; used-is = l .holds .used-is; declared-is = l .holds .declared-is; table-is = h .kept ∙ l .holds .table-is }) eq
+        (λ rest. item-clause rest s (64 - ds) (256 - cs) (begin (st .token)) e f c ∙ ap (after-clause rest s (64 - ds) (256 - cs) (begin (st .token))) ed)
     clause-fault-by (ok x after) q h ed z eq = absurd (z (h .number-is))
 
-    pub loading-clause-fault : (q : Loaded) → (r .number ≡ 0 → ⊥) → q ≡ record { number = r .number; byte = r .state .token .at; declarations = ds; clauses = cs; used = used } → Loads declared table2 q (readSheet s)
+    pub loading-clause-fault : (q : Loaded) → (r .number ≡ 0 → ⊥) → q ≡ record { number = r .number; byte = r .state .token .at; declarations = ds; clauses = cs; used = used } → Loads s declared table2 q (readSheet s)
     loading-clause-fault q z eq = clause-fault-by (clauseNext s (256 - cs) (begin (st .token))) q g refl z eq
 
     module _ (z : r .number ≡ 0) where

@@ -8,7 +8,7 @@ use lib.ListN.{length, take}
 use Rattle.syntax.specs.Limits.{variables, declarations, clauses}
 use Rattle.syntax.specs.Spans.{namesFrom, met, Held}
 use Rattle.syntax.specs.Terms.{Declaration, Clause, Sheet, Goal}
-use Rattle.syntax.specs.Reading.{Cursor, begin, Read, fault, ok, beyond, readDeclaration, readClause, readItems, readSheet}
+use Rattle.syntax.specs.Reading.{Cursor, begin, Read, fault, ok, beyond, kindAt, readDeclaration, readClause, itemOf, itemWith, readItems, readSheet}
 use Rattle.syntax.specs.Words.{nodeWords, declarationSize, declarationsWords, clausesWords, bodyWords, bodyLength}
 use Rattle.syntax.specs.declared.State.{State}
 use Rattle.reading.specs.Gives.{Standing, left}
@@ -47,23 +47,31 @@ pub record Loading (s declared table : List ℕ) (ds cs used : ℕ) (st : State)
   pub standing : Standing s st
   pub room : used + nodeWords * left s st + 4 + variables ≤ length table
 
--- On a fault: its number and byte, and the tables hold the items before it. Otherwise the tables hold the sheet.
-pub record LoadFault (declared table : List ℕ) (r : Loaded) (k b : ℕ) : Type 0 where
+-- the item that begins where the reader stands is at fault, whatever follows it
+abbrev pub ItemFault : List ℕ → ℕ → ℕ → Cursor → ℕ → ℕ → Type 0
+ItemFault s ds cs st k b = (rest : ℕ → ℕ → Cursor → Read Sheet) → itemWith rest s ds cs st (itemOf (kindAt st) ds cs) ≡ fault k b
+
+-- On a fault: its number and byte, and the tables hold the items before the one at fault, which begins at `from`. Otherwise the tables hold the sheet.
+pub record LoadFault (s declared table : List ℕ) (r : Loaded) (k b : ℕ) : Type 0 where
   pub number-is : r .number ≡ k
   pub some : 0 < k
   pub byte-is : r .byte ≡ b
   pub dl : List Declaration
   pub cl : List Clause
   pub holds : Holds declared table (r .declarations) (r .clauses) (r .used) dl cl
+  pub from : Cursor
+  pub whole : readSheet s
+      ≡ before dl cl (readItems s (declarations + clauses + 1 - (r .declarations + r .clauses)) (declarations - r .declarations) (clauses - r .clauses) from)
+  pub faulty : ItemFault s (declarations - r .declarations) (clauses - r .clauses) from k b
 
 pub record LoadGiven (declared table : List ℕ) (r : Loaded) (sh : Sheet) : Type 0 where
   pub number-is : r .number ≡ 0
   pub holds : Holds declared table (r .declarations) (r .clauses) (r .used) (sh .declarations) (sh .clauses)
   pub few : r .declarations ≤ declarations
 
-abbrev pub Loads : List ℕ → List ℕ → Loaded → Read Sheet → Type 0
-Loads declared table r (fault k b) = LoadFault declared table r k b
-Loads declared table r (ok sh end) = LoadGiven declared table r sh
+abbrev pub Loads : List ℕ → List ℕ → List ℕ → Loaded → Read Sheet → Type 0
+Loads s declared table r (fault k b) = LoadFault s declared table r k b
+Loads s declared table r (ok sh end) = LoadGiven declared table r sh
 
 -- On a fault of a goal: its number and byte; the table, written from its first word on, is left free, and its length stays. Otherwise it holds the goal's
 -- literals, and in its last words the spellings of its variables.

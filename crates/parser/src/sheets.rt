@@ -39,7 +39,8 @@ pub fn start(s: &[u8]) -> State
 fn next_declaration(s: &[u8], st: State, declared: &mut [u32], ds: usize) -> Parsed
     requires { ⌜ Standing (now s) st ⌝ }
     requires { ⌜ (ds ≤ declarations) × (declaredWords ≤ length (now declared)) ⌝ }
-    ensures { λ r. ⌜ DeclarationGives (now (s .entry)) st (now (declared .entry)) (now (declared .exit)) (declarationSize * ds) r (declarationNext (now (s .entry)) (declarations - ds) (begin (st .token))) ⌝ }
+    ensures { λ r. ⌜ DeclarationGives (now (s .entry)) st (now (declared .entry)) (now (declared .exit)) (declarationSize * ds) r
+        (declarationNext (now (s .entry)) (declarations - ds) (begin (st .token))) ⌝ }
 {
     if ds == DECLARATIONS {
         return refuse(st, 6);
@@ -52,7 +53,8 @@ fn next_declaration(s: &[u8], st: State, declared: &mut [u32], ds: usize) -> Par
 fn next_clause(s: &[u8], st: State, table: &mut [u32], used: usize, cs: usize) -> Parsed
     requires { ⌜ Ready (now s) (fresh st) (now table) used 4 ⌝ }
     requires { ⌜ (st .token .kind ≡ nameKind) × (cs ≤ clauses) ⌝ }
-    ensures { λ r. ⌜ Gives clauseWords one (now (s .entry)) st (now (table .entry)) (now (table .exit)) used r (clauseNext (now (s .entry)) (clauses - cs) (begin (st .token))) ⌝ }
+    ensures { λ r. ⌜ Gives clauseWords one (now (s .entry)) st (now (table .entry)) (now (table .exit)) used r
+        (clauseNext (now (s .entry)) (clauses - cs) (begin (st .token))) ⌝ }
 {
     if cs == CLAUSES {
         return refuse(st, 6);
@@ -81,7 +83,7 @@ fn halted(r: Parsed, declarations: usize, clauses: usize, used: usize) -> Loaded
 pub fn read_items(s: &[u8], declared: &mut [u32], table: &mut [u32]) -> Loaded
     requires { ⌜ length (now s) ≤ sheetBytes ⌝ }
     requires { ⌜ (declaredWords ≤ length (now declared)) × ((sheetWords ≤ length (now table)) × (length (now table) < 2 ^ 31)) ⌝ }
-    ensures { λ r. ⌜ Loads (now (declared .exit)) (now (table .exit)) r (readSheet (now (s .entry))) ⌝ }
+    ensures { λ r. ⌜ Loads (now (s .entry)) (now (declared .exit)) (now (table .exit)) r (readSheet (now (s .entry))) ⌝ }
 {
     let mut st = start(s);
     let mut ds = 0;

@@ -12,7 +12,7 @@ use Rattle.bindings.specs.Scratch.{Roomy}
 use Rattle.bindings.specs.Queues.{Clean}
 use Rattle.loader.specs.Loading.{Loadable, Loaded}
 use Rattle.linker.specs.Linking.{Linkable}
-use Rattle.syntax.specs.declared.Report.{Report}
+use Rattle.runs.specs.declared.Ran.{Ran}
 use Rattle.runs.specs.Running.{Spelt, Lent, Runnable, Runs}
 use Rattle.programs.specs.Programs.{Zeros, Blank, Programmed, Linked}
 
@@ -86,7 +86,7 @@ module _ {sheet table : List ℕ} {clauses : ℕ} {goal goals : List ℕ} {liter
       pub linked : Linked sheet goal names count nodes code symbols
       linked = record { ss = loaded .ss; sh = w .sh; g = w .g; program = program; spelt = record { spelt = loaded .names; named = w .named; names-are = w .names-are } }
 
-      pub program-runs : {allowance wanted : ℕ} {old new : List ℕ} {r : Report} → ((v : Linked sheet goal names count nodes code symbols) → Runs (v .sh) (v .g) allowance wanted old new r) → Runs (w .sh) (w .g) allowance wanted old new r
+      pub program-runs : {allowance wanted : ℕ} {old new : List ℕ} {r : Ran} → ((v : Linked sheet goal names count nodes code symbols) → Runs (v .sh) (v .g) allowance wanted old new r) → Runs (w .sh) (w .g) allowance wanted old new r
       unfolding linked
       program-runs q = q linked
 
@@ -106,6 +106,6 @@ module _ {sheet goal names : List ℕ} {count : ℕ} {nodes code symbols : List 
         lent = record { roomy = omega arith; clean = record { long = omega arith; zero = λ i l. y .zero-words i }; deep = y .tells };
       }
 
-  pub linked-runs : {state scratch text : List ℕ} {allowance wanted : ℕ} {old new : List ℕ} {r : Report} → Zeros stateWords state → Blank scratch (length text) → ((v : Runnable sheet goal names count nodes code symbols state scratch text) → Runs (v .sh) (v .g) allowance wanted old new r) → Runs (w .sh) (w .g) allowance wanted old new r
+  pub linked-runs : {state scratch text : List ℕ} {allowance wanted : ℕ} {old new : List ℕ} {r : Ran} → Zeros stateWords state → Blank scratch (length text) → ((v : Runnable sheet goal names count nodes code symbols state scratch text) → Runs (v .sh) (v .g) allowance wanted old new r) → Runs (w .sh) (w .g) allowance wanted old new r
   unfolding runnable
   linked-runs z y k = k (runnable z y)

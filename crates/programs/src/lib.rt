@@ -7,8 +7,8 @@ use layout::STATE_WORDS;
 use layout::WIDE_WORDS;
 use linker::link;
 use loader::load_nodes;
+use runs::Ran;
 use runs::run;
-use syntax::Report;
 ghost use Prim.Native.Nat.{_+_, _≤_};
 ghost use lib.ListN.{length};
 ghost use Rattle.syntax.specs.Limits.{sheetBytes, goalBytes};
@@ -67,9 +67,10 @@ fn run_over(
     text: &mut [u8],
     allowance: usize,
     wanted: usize,
-) -> Report
+) -> Ran
     requires { ⌜ (Linked (now sheet) (now goal) (now names) count (now nodes) (now code) (now symbols)) × Blank (now scratch) (length (now text)) ⌝ }
-    ensures { λ r. ⌜ ((w : Linked (now (sheet .entry)) (now (goal .entry)) (now (names .entry)) count (now (nodes .entry)) (now (code .entry)) (now (symbols .entry))) → Runs (w .sh) (w .g) allowance wanted (now (text .entry)) (now (text .exit)) r) ⌝ }
+    ensures { λ r. ⌜ ((w : Linked (now (sheet .entry)) (now (goal .entry)) (now (names .entry)) count (now (nodes .entry)) (now (code .entry))
+        (now (symbols .entry))) → Runs (w .sh) (w .g) allowance wanted (now (text .entry)) (now (text .exit)) r) ⌝ }
 {
     let mut state = state_words();
     run(
@@ -100,9 +101,10 @@ fn run_narrow(
     text: &mut [u8],
     allowance: usize,
     wanted: usize,
-) -> Report
+) -> Ran
     requires { ⌜ (Linked (now sheet) (now goal) (now names) count (now nodes) (now code) (now symbols)) × (length (now text) ≤ shortText) ⌝ }
-    ensures { λ r. ⌜ ((w : Linked (now (sheet .entry)) (now (goal .entry)) (now (names .entry)) count (now (nodes .entry)) (now (code .entry)) (now (symbols .entry))) → Runs (w .sh) (w .g) allowance wanted (now (text .entry)) (now (text .exit)) r) ⌝ }
+    ensures { λ r. ⌜ ((w : Linked (now (sheet .entry)) (now (goal .entry)) (now (names .entry)) count (now (nodes .entry)) (now (code .entry))
+        (now (symbols .entry))) → Runs (w .sh) (w .g) allowance wanted (now (text .entry)) (now (text .exit)) r) ⌝ }
 {
     let mut scratch = narrow_words();
     run_over(
@@ -132,9 +134,10 @@ fn run_wide(
     text: &mut [u8],
     allowance: usize,
     wanted: usize,
-) -> Report
+) -> Ran
     requires { ⌜ Linked (now sheet) (now goal) (now names) count (now nodes) (now code) (now symbols) ⌝ }
-    ensures { λ r. ⌜ ((w : Linked (now (sheet .entry)) (now (goal .entry)) (now (names .entry)) count (now (nodes .entry)) (now (code .entry)) (now (symbols .entry))) → Runs (w .sh) (w .g) allowance wanted (now (text .entry)) (now (text .exit)) r) ⌝ }
+    ensures { λ r. ⌜ ((w : Linked (now (sheet .entry)) (now (goal .entry)) (now (names .entry)) count (now (nodes .entry)) (now (code .entry))
+        (now (symbols .entry))) → Runs (w .sh) (w .g) allowance wanted (now (text .entry)) (now (text .exit)) r) ⌝ }
 {
     let mut scratch = wide_words();
     run_over(
@@ -164,9 +167,10 @@ fn run_linked(
     text: &mut [u8],
     allowance: usize,
     wanted: usize,
-) -> Report
+) -> Ran
     requires { ⌜ Linked (now sheet) (now goal) (now names) count (now nodes) (now code) (now symbols) ⌝ }
-    ensures { λ r. ⌜ ((w : Linked (now (sheet .entry)) (now (goal .entry)) (now (names .entry)) count (now (nodes .entry)) (now (code .entry)) (now (symbols .entry))) → Runs (w .sh) (w .g) allowance wanted (now (text .entry)) (now (text .exit)) r) ⌝ }
+    ensures { λ r. ⌜ ((w : Linked (now (sheet .entry)) (now (goal .entry)) (now (names .entry)) count (now (nodes .entry)) (now (code .entry))
+        (now (symbols .entry))) → Runs (w .sh) (w .g) allowance wanted (now (text .entry)) (now (text .exit)) r) ⌝ }
 {
     if SHORT_SHEET < sheet.len() {
         return run_wide(
@@ -223,9 +227,10 @@ pub fn run_program(
     text: &mut [u8],
     allowance: usize,
     wanted: usize,
-) -> Report
+) -> Ran
     requires { ⌜ Programmed (now sheet) (now table) clauses (now goal) (now goals) literals (now names) count ⌝ }
-    ensures { λ r. ⌜ ((w : Programmed (now (sheet .entry)) (now (table .entry)) clauses (now (goal .entry)) (now (goals .entry)) literals (now (names .entry)) count) → Runs (w .sh) (w .g) allowance wanted (now (text .entry)) (now (text .exit)) r) ⌝ }
+    ensures { λ r. ⌜ ((w : Programmed (now (sheet .entry)) (now (table .entry)) clauses (now (goal .entry)) (now (goals .entry)) literals
+        (now (names .entry)) count) → Runs (w .sh) (w .g) allowance wanted (now (text .entry)) (now (text .exit)) r) ⌝ }
 {
     let mut nodes = node_words();
     let mut symbols = node_words();

@@ -1,5 +1,5 @@
 // A reader over a sheet, which hands out one token at a time: a struct that holds the text and a position in it, and thin
-// functions over it. The borrow checker covers no function over such a struct, so the walks of `new`, `next`, `moved` and
+// functions over it. The borrow checker covers no function over such a struct, so the walks of `new`, `peek`, `moved` and
 // `nth_token` are proved by hand; the work is in `token_of` and `past_tokens`, which take the slice and the number.
 use lexer::past_at;
 use lexer::token_at;
@@ -55,8 +55,8 @@ pub fn new<'a>(text: &'a [u8]) -> Reader<'a>
     Reader { text, at: 0 }
 }
 
-// The token at a reader's place.
-pub fn next<'a>(r: Reader<'a>) -> Token
+// The token at a reader's place, where the reader stays.
+pub fn peek<'a>(r: Reader<'a>) -> Token
     ensures { λ t. ⌜ t ≡ tokenAt (now (r .entry .text)) (r .entry .at) ⌝ }
 {
     token_of(r.text, r.at)
@@ -74,5 +74,5 @@ pub fn moved<'a>(r: Reader<'a>, n: usize) -> Reader<'a>
 pub fn nth_token(text: &[u8], n: usize) -> Token
     ensures { λ t. ⌜ t ≡ nthToken (now (text .entry)) n ⌝ }
 {
-    next(moved(new(text), n))
+    peek(moved(new(text), n))
 }

@@ -1,5 +1,5 @@
 -- The line that ends a run (document 01, "Two programs and what they print"), as a list of bytes.
-use Prim.Native.Nat.{ℕ, zero, suc, _+_}
+use Prim.Native.Nat.{ℕ}
 use mathlib.Core.List.{List, [], _∷_, _++_}
 use Rattle.buffers.specs.Buffers.{number}
 use Rattle.syntax.specs.Quote.{bytes}
@@ -14,14 +14,14 @@ kindNumber Steps = 2
 kindNumber Full = 3
 kindNumber Deep = 4
 
--- how a run ended; a number above 4 counts as 4
-abbrev pub kindWord : ℕ → List ℕ
-kindWord zero = bytes "wanted"
-kindWord (suc zero) = bytes "done"
-kindWord (suc (suc zero)) = bytes "steps"
-kindWord (suc (suc (suc zero))) = bytes "full"
-kindWord (suc (suc (suc (suc n)))) = bytes "deep"
+-- how a run ended
+abbrev pub kindWord : Kind → List ℕ
+kindWord Wanted = bytes "wanted"
+kindWord Done = bytes "done"
+kindWord Steps = bytes "steps"
+kindWord Full = bytes "full"
+kindWord Deep = bytes "deep"
 
 -- the line that ends a run: its kind, the answers written and the steps
-unfoldable pub reportLine : ℕ → ℕ → ℕ → List ℕ
+unfoldable pub reportLine : Kind → ℕ → ℕ → List ℕ
 reportLine kind answers steps = bytes "end " ++ kindWord kind ++ number answers ++ number steps ++ (10 ∷ [])

@@ -22,8 +22,8 @@ pub fn kind_number(kind: Kind) -> usize
 }
 
 // Writes the line that ends a run to the start of out and returns its length; where the whole line does not fit, writes
-// nothing and returns 0. The kinds are 0 wanted, 1 done, 2 steps, 3 full, and from 4 on deep.
-pub fn put_report(kind: usize, answers: usize, steps: usize, out: &mut [u8]) -> usize
+// nothing and returns 0.
+pub fn put_report(kind: Kind, answers: usize, steps: usize, out: &mut [u8]) -> usize
     ensures length { λ r. ⌜ r ≡ written (reportLine kind answers steps) (now (out .entry)) ⌝ }
     ensures text { λ _. ⌜ now (out .exit) ≡ fitted (reportLine kind answers steps) (now (out .entry)) ⌝ }
 {
@@ -38,7 +38,7 @@ pub fn put_report(kind: usize, answers: usize, steps: usize, out: &mut [u8]) -> 
 
 // The functions below append as those of `buffers` do.
 
-fn append_report(kind: usize, answers: usize, steps: usize, out: &mut [u8]) -> usize
+fn append_report(kind: Kind, answers: usize, steps: usize, out: &mut [u8]) -> usize
     ensures { λ r. ⌜ Put (now (out .entry)) 0 (reportLine kind answers steps) (now (out .exit)) r ⌝ }
 {
     let past_word = append(b"end ", out, 0);
@@ -48,16 +48,16 @@ fn append_report(kind: usize, answers: usize, steps: usize, out: &mut [u8]) -> u
     append_byte(b'\n', out, past_steps)
 }
 
-fn append_kind(kind: usize, out: &mut [u8], at: usize) -> usize
+fn append_kind(kind: Kind, out: &mut [u8], at: usize) -> usize
     requires { ⌜ at ≤ 4 ⌝ }
     ensures wrote { λ r. ⌜ Put (now (out .entry)) at (kindWord kind) (now (out .exit)) r ⌝ }
     ensures within { λ r. ⌜ r ≤ at + 6 ⌝ }
 {
     match kind {
-        0 => append(b"wanted", out, at),
-        1 => append(b"done", out, at),
-        2 => append(b"steps", out, at),
-        3 => append(b"full", out, at),
-        _ => append(b"deep", out, at),
+        Kind::Wanted => append(b"wanted", out, at),
+        Kind::Done => append(b"done", out, at),
+        Kind::Steps => append(b"steps", out, at),
+        Kind::Full => append(b"full", out, at),
+        Kind::Deep => append(b"deep", out, at),
     }
 }

@@ -76,23 +76,11 @@ module _ {A : Type 0} where
   faultless-none x none y e = refl
   faultless-none x (some r) y e = absurd (let z : _≡_ {A = ℕ} 0 1 = cc in omega arith)
 
-  faultless-same : (x : A) (o : Option Refusal) (y : A) → faultless x o ≡ accepted y → x ≡ y
-  unfolding faultless
-  faultless-same x none y e = cc
-  faultless-same x (some r) y e = absurd (let z : _≡_ {A = ℕ} 0 1 = cc in omega arith)
-
 -- Of a text that is read as a sheet: it is accepted if and only if the judgment has a derivation for the sheet.
 pub text-agrees : (s : List ℕ) (sh : Sheet) → sheetOf s ≡ accepted sh → (checkedSheet s ≡ accepted sh) ↔ WellModed sh
 unfolding checkedSheet checkedFrom faultless
 text-agrees s sh e =
     ((λ h. sheet-derived sh (faultless-none sh (sheetFault sh) sh (rw e at h))), (λ m. rw (e, sheet-accepted sh m)))
-
--- Such a text that is refused has no derivation.
-pub text-refused : (s : List ℕ) (sh : Sheet) (r : Refusal) → sheetOf s ≡ accepted sh → checkedSheet s ≡ refused r → ¬ WellModed sh
-text-refused s sh r e h m =
-    let a : checkedSheet s ≡ accepted sh = text-agrees s sh e .1 m in
-    let z : _≡_ {A = ℕ} 0 1 = cc in
-    omega arith
 
 -- The same of the answer, with its counts.
 pub verdict-agrees : (s : List ℕ) (sh : Sheet)

@@ -6,3 +6,4 @@ pub mod Growth
 pub mod Agreement
 pub mod Cases
 pub mod Earlier
+pub mod Accepting

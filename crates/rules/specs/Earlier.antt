@@ -12,7 +12,8 @@ use Rattle.syntax.specs.declared.Refusal.{Refusal}
 use Rattle.syntax.specs.declared.Refusal.the-variants.{Settings, TooLong, NoToken, Overlong, Misplaced, OverLimit, Repeated, Undeclared, OpenInput, OpenOutput}
 use Rattle.syntax.specs.declared.Verdict.{Verdict}
 use Rattle.syntax.specs.declared.Verdict.the-variants.{Accepted, Refused}
-use Rattle.rules.specs.Modes.{Known, nothing, isGround, marksFor, listOf, faulty, undeclaredInSheet, undeclaredInGoal, afterLiteral, Walk, faulted, known, walkOn, startKnown, walkFault}
+use Rattle.rules.specs.Modes.{Known, nothing, isGround, marksFor, listOf, faulty, undeclaredInSheet, undeclaredInGoal, afterLiteral, Walk, faulted}
+use Rattle.rules.specs.Modes.{known, walkOn, startKnown, walkFault}
 use Rattle.rules.specs.Checking.{faultless, goalAnswer}
 
 -- the number, counted from n, of the first argument that has the mark and fails the test

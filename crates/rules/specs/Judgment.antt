@@ -7,7 +7,8 @@ use mathlib.Core.Logic.{_≢_}
 use mathlib.Core.Bool.{true, false}
 use mathlib.Core.List.{List, [], _∷_}
 use lib.ListN.{length, set}
-use Rattle.syntax.specs.Terms.{Term, Terms, variable, compound, nil, cons, arity, Atom, Literal, Body, call, equation, truth, falsity, done, also, Mark, input, output, Declaration, Clause, Sheet, Goal, samePredicate}
+use Rattle.syntax.specs.Terms.{Term, Terms, variable, compound, nil, cons, arity, Atom, Literal, Body, call, equation, truth, falsity, done, also, Mark}
+use Rattle.syntax.specs.Terms.{input, output, Declaration, Clause, Sheet, Goal, samePredicate}
 use Rattle.rules.specs.Modes.{Known, knows, nothing, everything}
 
 -- τ ⊢ t ground, and τ ⊢ t₁, …, tₙ ground

@@ -4,7 +4,8 @@ use mathlib.Core.Bool.{Bool, true, false, not, _&&_, _||_}
 use mathlib.Core.List.{List, [], _∷_}
 use mathlib.Core.Option.{Option, none, some}
 use lib.ListN.{length, getD, set, replicate}
-use Rattle.syntax.specs.Terms.{Term, Terms, variable, compound, nil, cons, arity, Atom, Literal, Body, call, equation, truth, falsity, done, also, Mark, input, output, free, Declaration, Clause, Sheet, Goal, samePredicate}
+use Rattle.syntax.specs.Terms.{Term, Terms, variable, compound, nil, cons, arity, Atom, Literal, Body, call, equation, truth, falsity, done, also, Mark}
+use Rattle.syntax.specs.Terms.{input, output, free, Declaration, Clause, Sheet, Goal, samePredicate}
 use Rattle.syntax.specs.Limits.{variables}
 use Rattle.syntax.specs.declared.Refusal.{Refusal}
 use Rattle.syntax.specs.declared.Refusal.the-variants.{Undeclared, OpenInput, OpenOutput}

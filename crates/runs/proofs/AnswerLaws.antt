@@ -180,13 +180,15 @@ module _ {sheet goal names : List ℕ} {count : ℕ} {nodes code symbols state s
             mark = x .mark;
             fitted = subst (Fitted (line (w .g) (bindings (w .ss) nodes mid m)) text at new) z fitted-here;
             stepped = λ q. absurd (q refl);
+            stopped = λ q. (refl, (refl, (refl, answer-steps y .clean)));
             state-long = x .long;
             scratch-long = y .long;
+            later-long = y .long;
           }
 
-      pub answer-on : {scratch1 : List ℕ} (y : SameMarks scratch scratch1) (after later : List ℕ) (r : Pile) → ((v : Steppable nodes code mid scratch1 h m) → Stepped (v .running .ss) (v .running .sh) (v .running .g) nodes code mid after scratch1 later h r) → Answered (w .ss) (w .sh) (w .g) nodes code state after scratch later text new h at (record { at = past; height = r .height; trail = r .trail })
+      pub answer-on : {scratch1 : List ℕ} (y : SameMarks scratch scratch1) → (past ≡ 0 → ⊥) → (after later : List ℕ) (r : Pile) → ((v : Steppable nodes code mid scratch1 h m) → Stepped (v .running .ss) (v .running .sh) (v .running .g) nodes code mid after scratch1 later h r) → Answered (w .ss) (w .sh) (w .g) nodes code state after scratch later text new h at (record { at = past; height = r .height; trail = r .trail })
       unfolding answer-steps
-      answer-on {scratch1} y after later r k =
+      answer-on {scratch1} y some after later r k =
           let s : Stepped (w .ss) (w .sh) (w .g) nodes code mid after scratch1 later h r = k (answer-steps y) in
           record {
             mid = mid;
@@ -196,6 +198,8 @@ module _ {sheet goal names : List ℕ} {count : ℕ} {nodes code symbols state s
             mark = x .mark;
             fitted = fitted-here;
             stepped = λ q. s;
+            stopped = λ q. absurd (some q);
             state-long = s .state-long ∙ x .long;
             scratch-long = y .long;
+            later-long = s .scratch-long ∙ y .long;
           }

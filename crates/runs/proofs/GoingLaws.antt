@@ -1,7 +1,7 @@
 -- The loop of a run: what holds from turn to turn, and each way on or out of it.
 use Prim.Native.Nat.{ℕ, suc, _+_, _-_, _≤_, _<_, _^_}
 use native.Mathlib.Omega.{arith}
-use mathlib.Core.Path.{_≡_, refl, sym, ap, ap₂, _∙_, subst}
+use mathlib.Core.Path.{_≡_, refl, sym, ap, ap₂, _∙_, subst, subst⁻¹}
 use mathlib.Core.Bool.{Bool, true, false}
 use mathlib.Core.List.{List, []}
 use lib.ListN.{length}
@@ -10,17 +10,19 @@ use Rattle.syntax.specs.Terms.{Sheet, Goal}
 use Rattle.syntax.specs.declared.Kind.{Kind}
 use Rattle.syntax.specs.declared.Kind.the-variants.{Full, Steps}
 use Rattle.machine.specs.Machine.{Alternative, step, start}
-use Rattle.machine.specs.Runs.{isAnswer, goesDeeper, runFrom, begun, run}
+use Rattle.machine.specs.Runs.{Progress, Ended, isAnswer, goesDeeper, runFrom, begun, run}
 use Rattle.layout.specs.Nodes.{Symbol}
 use Rattle.layout.specs.Program.{Program}
 use Rattle.layout.specs.Pile.{pileOf, Piled}
+use Rattle.bindings.specs.Queues.{Clean}
 use Rattle.engine.specs.Steps.{Running, Steppable, Stepped, Startable, Started}
 use Rattle.engine.specs.declared.Pile.{Pile}
 use Rattle.runs.specs.declared.Next.{Next}
 use Rattle.runs.specs.declared.Next.the-variants.{End, Answer, Step}
 use Rattle.runs.specs.declared.Told.{Told}
-use Rattle.runs.specs.Running.{nextOf, Spelt, Lent, Under, Ongoing, Runs, Answering, Answered, Carries, Turned, Underway, Runnable}
+use Rattle.runs.specs.Running.{nextOf, Spelt, Lent, Under, Ongoing, Runs, Leaves, Answering, Answered, Carries, Turned, Underway, Runnable}
 use Rattle.runs.specs.declared.Carried.{Carried}
+use Rattle.runs.specs.declared.Ran.{Ran}
 use Rattle.runs.proofs.EndLaws.{Answers, run-answers, answer-below}
 use Rattle.runs.proofs.LoopLaws.{begins, ends, step-some, step-flat, step-few, steps-on, answer-some, answer-few, answer-here, answer-room, full, answers-on}
 
@@ -116,8 +118,16 @@ module _ {sheet goal names : List ℕ} {count : ℕ} {nodes code symbols state�
 
           pub go-full : t .at ≡ 0 → Turned (w .ss) (w .sh) (w .g) nodes code state1 scratch1 (w .old) text1 (runFrom (w .sh) (w .g) wanted (length (w .old)) k (w .progress)) (record { height = t .height; trail = t .trail; answers = answers; steps = steps; at = at; kind = Full })
           go-full z =
-              full (i .on kind w) answering
-              (answered .mid) (answered .m) (answered .same .piled) (answered .same .is) (answered .mark) text1 (t .at) (answered .fitted) z state1 scratch1 (t .height) (t .trail)
+              let s : (state1 ≡ answered .mid) × ((t .height ≡ h) × ((t .trail ≡ answered .m) × Clean scratch1)) = answered .stopped z in
+              subst⁻¹ (λ (x : List ℕ). Turned (w .ss) (w .sh) (w .g) nodes code x scratch1 (w .old) text1 end (record { height = t .height; trail = t .trail; answers = answers; steps = steps; at = at; kind = Full })) (s .0)
+              (subst⁻¹ (λ (x : ℕ). Turned (w .ss) (w .sh) (w .g) nodes code (answered .mid) scratch1 (w .old) text1 end (record { height = x; trail = t .trail; answers = answers; steps = steps; at = at; kind = Full })) (s .1 .0)
+              (subst⁻¹ (λ (x : ℕ). Turned (w .ss) (w .sh) (w .g) nodes code (answered .mid) scratch1 (w .old) text1 end (record { height = h; trail = x; answers = answers; steps = steps; at = at; kind = Full })) (s .1 .1 .0)
+              (full (i .on kind w) answering
+              (answered .mid) (answered .m) (answered .same .piled) (answered .same .is) (answered .mark) text1 (t .at) (answered .fitted) z scratch1 (s .1 .1 .1)
+              (answered .later-long))))
+            where
+              end : Ended
+              end = runFrom (w .sh) (w .g) wanted (length (w .old)) k (w .progress)
 
           pub answers-going : (t .at ≡ 0 → ⊥) → Ongoing (w .ss) (w .sh) (w .g) nodes code state1 scratch1 (runFrom (w .sh) (w .g) wanted (length (w .old)) k (w .progress)) (steps₀ + k) wanted (w .old) text1 (t .height) (t .trail) (answers + 1) (steps + 1) (t .at)
           answers-going z =
@@ -163,12 +173,33 @@ module _ {sheet goal names : List ℕ} {count : ℕ} {nodes code symbols state s
           };
         }
 
-    pub go-runs : {allowance wanted : ℕ} {state2 scratch2 new : List ℕ} {t : Carried} → ((v : Underway sheet goal names count nodes code symbols state1 scratch text first) → Turned (v .ss) (v .sh) (v .g) nodes code state2 scratch2 (v .old) new (runFrom (v .sh) (v .g) wanted (length (v .old)) allowance (v .progress)) t) → Runs (w .sh) (w .g) allowance wanted text new (record { kind = t .kind; answers = t .answers; steps = t .steps })
-    unfolding go-underway run
-    go-runs {allowance} {wanted} {state2} {scratch2} {new} {t} k =
-        let z : Turned (w .ss) (w .sh) (w .g) nodes code state2 scratch2 text new (run (w .sh) (w .g) allowance wanted (length text)) t = k go-underway in
-        record {
-          is = ap (λ (x : Kind). record { kind = x; answers = t .answers; steps = t .steps }) (z .kind-is)
-              ∙ ap₂ (λ (a b : ℕ). record { kind = run (w .sh) (w .g) allowance wanted (length text) .kind; answers = a; steps = b }) (z .answers-is) (z .steps-is);
-          text-is = z .text-is;
-        }
+    -- what a run gives, of what it carries at its end
+    abbrev ran : Carried → Ran
+    ran t = record { report = record { kind = t .kind; answers = t .answers; steps = t .steps }; bytes = t .at }
+
+    module _ (allowance wanted : ℕ) {state2 scratch2 new : List ℕ} {t : Carried}
+        (k : (v : Underway sheet goal names count nodes code symbols state1 scratch text first) → Turned (v .ss) (v .sh) (v .g) nodes code state2 scratch2 (v .old) new (runFrom (v .sh) (v .g) wanted (length (v .old)) allowance (v .progress)) t) where
+      turned-here : Turned (w .ss) (w .sh) (w .g) nodes code state2 scratch2 text new (run (w .sh) (w .g) allowance wanted (length text)) t
+      unfolding go-underway run
+      turned-here = k go-underway
+
+      pub go-runs : Runs (w .sh) (w .g) allowance wanted text new (ran t)
+      go-runs =
+          let z : Turned (w .ss) (w .sh) (w .g) nodes code state2 scratch2 text new (run (w .sh) (w .g) allowance wanted (length text)) t = turned-here in
+          record {
+            is = ap (λ (x : Kind). record { kind = x; answers = t .answers; steps = t .steps }) (z .kind-is)
+                ∙ ap₂ (λ (a b : ℕ). record { kind = run (w .sh) (w .g) allowance wanted (length text) .kind; answers = a; steps = b }) (z .answers-is) (z .steps-is);
+            bytes-is = z .carries .at-is;
+            text-is = z .carries .text-is;
+          }
+
+      pub go-leaves : Leaves (w .ss) (w .sh) (w .g) nodes code state2 scratch2 (run (w .sh) (w .g) allowance wanted (length text) .at .pile)
+      go-leaves =
+          let z : Turned (w .ss) (w .sh) (w .g) nodes code state2 scratch2 text new (run (w .sh) (w .g) allowance wanted (length text)) t = turned-here in
+          record {
+            height = t .height;
+            trail = t .trail;
+            piled = z .carries .under .piled;
+            is = sym (ap (λ (p : Progress). p .pile) (z .carries .is));
+            clean = z .carries .under .lent .clean;
+          }

@@ -12,7 +12,7 @@ use borrow.Author.Tests.{ltb-true, ltb-false, lt-ltb, le-ltb}
 use lib.Seq.{sets, length-sets}
 use Rattle.syntax.specs.Terms.{Sheet, Goal}
 use Rattle.syntax.specs.declared.Kind.{Kind}
-use Rattle.syntax.specs.declared.Kind.the-variants.{Full, Steps}
+use Rattle.syntax.specs.declared.Kind.the-variants.{Full}
 use Rattle.buffers.proofs.Laws.{sets-append}
 use Rattle.machine.specs.Machine.{Alternative, step, start}
 use Rattle.machine.specs.Answers.{line}
@@ -55,9 +55,6 @@ not-over room n l = le-ltb room n l
 over : (room n : ℕ) → room < n → ltb room n ≡ true
 over room n l = lt-ltb room n l
 
-full-over : _≡_ {A = Kind} Full Steps → ⊥
-full-over y = let x : _≡_ {A = ℕ} 0 1 = cc in omega arith
-
 pub begins : {ss : List Symbol} {sh : Sheet} {g : Goal} {nodes code state scratch old new : List ℕ} {p : Progress} {t : Carried} (wanted k : ℕ) → Carries ss sh g nodes code state scratch old new p t → Ongoing ss sh g nodes code state scratch (runFrom sh g wanted (length old) k p) (t .steps + k) wanted old new (t .height) (t .trail) (t .answers) (t .steps) (t .at)
 begins {ss} {sh} {g} {nodes} {code} {state} {scratch} {old} {new} {p} {t} wanted k c =
     let z : k ≡ t .steps + k - t .steps = omega arith in
@@ -83,8 +80,7 @@ module _ {ss : List Symbol} {sh : Sheet} {g : Goal} {nodes code : List ℕ} {fin
           kind-is = refl;
           answers-is = refl;
           steps-is = refl;
-          text-is = o .text-is;
-          on = λ _. record { under = o .under; is = refl; at-is = o .at-is; fits = o .fits; text-is = o .text-is };
+          carries = record { under = o .under; is = refl; at-is = o .at-is; fits = o .fits; text-is = o .text-is };
         })
 
     later : (state1 scratch1 : List ℕ) (h1 n1 : ℕ) → Piled ss sh g nodes code state1 h1 n1 → Clean scratch1 → length scratch1 ≡ length scratch → Under ss sh g nodes code state1 scratch1 (length old) h1 n1
@@ -163,17 +159,29 @@ module _ {ss : List Symbol} {sh : Sheet} {g : Goal} {nodes code : List ℕ} {fin
           total : length (o .written) + length (nextLine g (pileOf ss sh g nodes code state h)) ≡ at + L
           total = ap₂ (λ (a b : ℕ). a + b) (sym (o .at-is)) (ap length the-line)
 
-          pub full : r ≡ 0 → (state2 scratch2 : List ℕ) (h2 n2 : ℕ) → Turned ss sh g nodes code state2 scratch2 old new1 final (record { height = h2; trail = n2; answers = answers; steps = steps; at = at; kind = Full })
-          full z state2 scratch2 h2 n2 = by (lt-or-le (length new) (at + L))
+          pub full : r ≡ 0 → (scratch2 : List ℕ) → Clean scratch2 → length scratch2 ≡ length scratch
+              → Turned ss sh g nodes code state1 scratch2 old new1 final (record { height = h; trail = m; answers = answers; steps = steps; at = at; kind = Full })
+          full z scratch2 c2 l2 = by (lt-or-le (length new) (at + L))
             where
               stops : Ended → List ℕ → Type 0
-              stops x t = Turned ss sh g nodes code state2 scratch2 old t x (record { height = h2; trail = n2; answers = answers; steps = steps; at = at; kind = Full })
+              stops x t = Turned ss sh g nodes code state1 scratch2 old t x (record { height = h; trail = m; answers = answers; steps = steps; at = at; kind = Full })
 
               by : (length new < at + L) ⊎ (at + L ≤ length new) → stops final new1
               by (inl l) =
                   subst⁻¹ (stops final) (f .full l .1)
                   (subst⁻¹ (λ (x : Ended). stops x new) (o .whole ∙ answers-here .full (over (length old) (length (o .written) + length (nextLine g (pileOf ss sh g nodes code state h))) (let y : length new ≡ length old = room-same in let t : length (o .written) + length (nextLine g (pileOf ss sh g nodes code state h)) ≡ at + L = total in omega arith)))
-                  (record { kind-is = refl; answers-is = refl; steps-is = refl; text-is = o .text-is; on = λ y. absurd (full-over y) }))
+                  (record {
+                    kind-is = refl;
+                    answers-is = refl;
+                    steps-is = refl;
+                    carries = record {
+                      under = later state1 scratch2 h m p c2 l2;
+                      is = ap (λ (v : List Alternative). record { pile = v; answers = answers; steps = steps; text = o .written }) (sym e);
+                      at-is = o .at-is;
+                      fits = o .fits;
+                      text-is = o .text-is;
+                    };
+                  }))
               by (inr l) =
                   absurd (let y : r ≡ at + L = f .fits l .past in let t : 1 ≤ L = line-some g (bindings ss nodes state1 m) in omega arith)
 

@@ -24,6 +24,7 @@ use Rattle.spelling.specs.Words.{Names, Named}
 use Rattle.answers.specs.Fitting.{Fitted}
 use Rattle.engine.specs.Steps.{Stepped}
 use Rattle.runs.specs.declared.Carried.{Carried}
+use Rattle.runs.specs.declared.Ran.{Ran}
 use Rattle.runs.specs.declared.Told.{Told}
 use Rattle.runs.specs.declared.Next.{Next}
 use Rattle.runs.specs.declared.Next.the-variants.{End, Answer, Step}
@@ -63,14 +64,16 @@ pub record Under (ss : List Symbol) (sh : Sheet) (g : Goal) (nodes code state sc
   pub lent : Lent scratch room
 
 -- Where a run stands: the rest of it is the rest of a whole, which ends so.
-pub record Ongoing (ss : List Symbol) (sh : Sheet) (g : Goal) (nodes code state scratch : List ℕ) (e : Ended) (allowance wanted : ℕ) (old new : List ℕ) (h n answers steps at : ℕ) : Type 0 where
+pub record Ongoing (ss : List Symbol) (sh : Sheet) (g : Goal) (nodes code state scratch : List ℕ) (e : Ended) (allowance wanted : ℕ) (old new : List ℕ)
+    (h n answers steps at : ℕ) : Type 0 where
   pub under : Under ss sh g nodes code state scratch (length old) h n
   pub written : List ℕ
   pub at-is : at ≡ length written
   pub fits : at ≤ length old
   pub text-is : new ≡ sets old 0 written
   pub steps-few : steps ≤ allowance
-  pub whole : e ≡ runFrom sh g wanted (length old) (allowance - steps) (record { pile = pileOf ss sh g nodes code state h; answers = answers; steps = steps; text = written })
+  pub whole : e ≡ runFrom sh g wanted (length old) (allowance - steps)
+      (record { pile = pileOf ss sh g nodes code state h; answers = answers; steps = steps; text = written })
 
 -- What a run carries means the definition's progress, and so much is written into the text `old`.
 pub record Carries (ss : List Symbol) (sh : Sheet) (g : Goal) (nodes code state scratch old new : List ℕ) (p : Progress) (t : Carried) : Type 0 where
@@ -80,17 +83,25 @@ pub record Carries (ss : List Symbol) (sh : Sheet) (g : Goal) (nodes code state 
   pub fits : t .at ≤ length old
   pub text-is : new ≡ sets old 0 (p .text)
 
--- a turn's end: how the run ended, and what it carries if it may go on
+-- a turn's end: how the run ended, and what it carries, whichever way it ended
 pub record Turned (ss : List Symbol) (sh : Sheet) (g : Goal) (nodes code state scratch old new : List ℕ) (e : Ended) (t : Carried) : Type 0 where
   pub kind-is : t .kind ≡ e .kind
   pub answers-is : t .answers ≡ e .at .answers
   pub steps-is : t .steps ≡ e .at .steps
-  pub text-is : new ≡ sets old 0 (e .at .text)
-  pub on : t .kind ≡ Steps → Carries ss sh g nodes code state scratch old new (e .at) t
+  pub carries : Carries ss sh g nodes code state scratch old new (e .at) t
 
--- what a run gives and writes
-pub record Runs (sh : Sheet) (g : Goal) (allowance wanted : ℕ) (old new : List ℕ) (r : Report) : Type 0 where
-  pub is : r ≡ reportOf (run sh g allowance wanted (length old))
+-- what a run leaves in the words that it was lent: the pile where it ended, and no mark
+pub record Leaves (ss : List Symbol) (sh : Sheet) (g : Goal) (nodes code state scratch : List ℕ) (pile : List Alternative) : Type 0 where
+  pub height : ℕ
+  pub trail : ℕ
+  pub piled : Piled ss sh g nodes code state height trail
+  pub is : pileOf ss sh g nodes code state height ≡ pile
+  pub clean : Clean scratch
+
+-- what a run gives and writes: the report, and how many bytes of the text are its lines
+pub record Runs (sh : Sheet) (g : Goal) (allowance wanted : ℕ) (old new : List ℕ) (r : Ran) : Type 0 where
+  pub is : r .report ≡ reportOf (run sh g allowance wanted (length old))
+  pub bytes-is : r .bytes ≡ length (run sh g allowance wanted (length old) .at .text)
   pub text-is : new ≡ sets old 0 (run sh g allowance wanted (length old) .at .text)
 
 -- ---- what the functions ask and promise
@@ -126,7 +137,7 @@ pub record Answering (sheet goal names : List ℕ) (count : ℕ) (nodes code sym
   pub answer : isAnswer (pileOf ss sh g nodes code state h) ≡ true
   pub room : at ≤ length text
 
--- The line is written and the step taken, or the line does not fit: then the position is 0.
+-- The line is written and the step taken, or the line does not fit: then the position is 0, and the pile as it was.
 pub record Answered (ss : List Symbol) (sh : Sheet) (g : Goal) (nodes code before after scratch later old new : List ℕ) (h at : ℕ) (r : Told) : Type 0 where
   pub mid : List ℕ
   pub between : List ℕ
@@ -135,8 +146,10 @@ pub record Answered (ss : List Symbol) (sh : Sheet) (g : Goal) (nodes code befor
   pub mark : markAt mid (h - 1) ≡ m
   pub fitted : Fitted (line g (bindings ss nodes mid m)) old at new (r .at)
   pub stepped : (r .at ≡ 0 → ⊥) → Stepped ss sh g nodes code mid after between later h (record { height = r .height; trail = r .trail })
+  pub stopped : r .at ≡ 0 → (after ≡ mid) × ((r .height ≡ h) × ((r .trail ≡ m) × Clean later))
   pub state-long : length after ≡ length before
   pub scratch-long : length between ≡ length scratch
+  pub later-long : length later ≡ length scratch
 
 -- a run under way
 pub record Underway (sheet goal names : List ℕ) (count : ℕ) (nodes code symbols state scratch text : List ℕ) (t : Carried) : Type 0 where

@@ -18,7 +18,7 @@ ghost use Prim.Native.Nat.{ℕ, _+_, _-_, _^_, _≤_, _<_};
 ghost use lib.ListN.{length};
 ghost use Rattle.syntax.specs.Terms.{Goal};
 ghost use Rattle.machine.specs.Answers.{line};
-ghost use Rattle.machine.specs.Runs.{runFrom};
+ghost use Rattle.machine.specs.Runs.{runFrom, run};
 ghost use Rattle.layout.specs.Nodes.{Symbol};
 ghost use Rattle.layout.specs.State.{bindings};
 ghost use Rattle.bindings.specs.Scratch.{SameMarks};
@@ -26,7 +26,7 @@ ghost use Rattle.syntax.specs.Spans.{namesFrom};
 ghost use Rattle.answers.specs.Fitting.{Answerable, SomeAnswerable, Fitted};
 ghost use Rattle.layout.specs.Pile.{pileOf};
 ghost use Rattle.engine.specs.Steps.{Running};
-ghost use Rattle.runs.specs.Running.{nextOf, Tellable, Rewindable, Rewound, Answering, Answered, Underway, Turned, Runnable, Runs};
+ghost use Rattle.runs.specs.Running.{nextOf, Tellable, Rewindable, Rewound, Answering, Answered, Underway, Turned, Runnable, Runs, Leaves};
 
 // Which word of an alternative is the length of its trail.
 const MARK: usize = 3;
@@ -47,6 +47,12 @@ pub struct Carried {
     pub steps: usize,
     pub at: usize,
     pub kind: Kind,
+}
+
+// What a run gives: its report, and how many bytes of the text are its lines.
+pub struct Ran {
+    pub report: Report,
+    pub bytes: usize,
 }
 
 // After an answer: the position past its line, 0 where the line does not fit; and the pile's height and the trail's length.
@@ -70,7 +76,8 @@ fn next_of(
 ) -> Next
     requires { ⌜ ((nodes : List ℕ) × Running nodes (now code) (now state) h n) ⌝ }
     requires { ⌜ steps ≤ allowance ⌝ }
-    ensures { λ r. ⌜ ((nodes : List ℕ) (w : Running nodes (now (code .entry)) (now (state .entry)) h n) → r ≡ nextOf wanted answers (allowance - steps) (w .sh) (pileOf (w .ss) (w .sh) (w .g) nodes (now (code .entry)) (now (state .entry)) h)) ⌝ }
+    ensures { λ r. ⌜ ((nodes : List ℕ) (w : Running nodes (now (code .entry)) (now (state .entry)) h n)
+        → r ≡ nextOf wanted answers (allowance - steps) (w .sh) (pileOf (w .ss) (w .sh) (w .g) nodes (now (code .entry)) (now (state .entry)) h)) ⌝ }
 {
     if h == 0 {
         return Next::End(Kind::Done);
@@ -117,7 +124,9 @@ fn tell(
 ) -> usize
     requires { ⌜ SomeAnswerable (now nodes) (now state) (now symbols) (now sheet) (now goal) (now names) count ⌝ }
     requires { ⌜ (at ≤ length (now text)) × Tellable (now scratch) (length (now text) - at) ⌝ }
-    ensures fitted { λ r. ⌜ ((ss : List Symbol) (n : ℕ) (g : Goal) → Answerable ss n (now (nodes .entry)) (now (state .entry)) (now (symbols .entry)) (now (sheet .entry)) (now (goal .entry)) (now (names .entry)) count → g .names ≡ namesFrom (now (goal .entry)) (now (names .entry)) 0 count → Fitted (line g (bindings ss (now (nodes .entry)) (now (state .entry)) n)) (now (text .entry)) at (now (text .exit)) r) ⌝ }
+    ensures fitted { λ r. ⌜ ((ss : List Symbol) (n : ℕ) (g : Goal) → Answerable ss n (now (nodes .entry)) (now (state .entry)) (now (symbols .entry))
+        (now (sheet .entry)) (now (goal .entry)) (now (names .entry)) count → g .names ≡ namesFrom (now (goal .entry)) (now (names .entry)) 0 count
+        → Fitted (line g (bindings ss (now (nodes .entry)) (now (state .entry)) n)) (now (text .entry)) at (now (text .exit)) r) ⌝ }
     ensures marks { λ _. ⌜ SameMarks (now (scratch .entry)) (now (scratch .exit)) ⌝ }
 {
     let from = STACK;
@@ -152,7 +161,10 @@ fn answer(
     at: usize,
 ) -> Told
     requires { ⌜ Answering (now sheet) (now goal) (now names) count (now nodes) (now code) (now symbols) (now state) (now scratch) (now text) h n at ⌝ }
-    ensures { λ r. ⌜ ((w : Answering (now (sheet .entry)) (now (goal .entry)) (now (names .entry)) count (now (nodes .entry)) (now (code .entry)) (now (symbols .entry)) (now (state .entry)) (now (scratch .entry)) (now (text .entry)) h n at) → Answered (w .ss) (w .sh) (w .g) (now (nodes .entry)) (now (code .entry)) (now (state .entry)) (now (state .exit)) (now (scratch .entry)) (now (scratch .exit)) (now (text .entry)) (now (text .exit)) h at r) ⌝ }
+    ensures { λ r. ⌜ ((w : Answering (now (sheet .entry)) (now (goal .entry)) (now (names .entry)) count (now (nodes .entry)) (now (code .entry))
+        (now (symbols .entry)) (now (state .entry)) (now (scratch .entry)) (now (text .entry)) h n at)
+        → Answered (w .ss) (w .sh) (w .g) (now (nodes .entry)) (now (code .entry)) (now (state .entry)) (now (state .exit)) (now (scratch .entry))
+        (now (scratch .exit)) (now (text .entry)) (now (text .exit)) h at r) ⌝ }
 {
     let m = rewind(state, h, n);
     let past = tell(
@@ -200,7 +212,10 @@ pub fn turn(
 ) -> Carried
     requires { ⌜ Underway (now sheet) (now goal) (now names) count (now nodes) (now code) (now symbols) (now state) (now scratch) (now text) carried ⌝ }
     requires { ⌜ carried .steps + k < 2 ^ 64 ⌝ }
-    ensures { λ r. ⌜ ((w : Underway (now (sheet .entry)) (now (goal .entry)) (now (names .entry)) count (now (nodes .entry)) (now (code .entry)) (now (symbols .entry)) (now (state .entry)) (now (scratch .entry)) (now (text .entry)) carried) → Turned (w .ss) (w .sh) (w .g) (now (nodes .entry)) (now (code .entry)) (now (state .exit)) (now (scratch .exit)) (w .old) (now (text .exit)) (runFrom (w .sh) (w .g) wanted (length (w .old)) k (w .progress)) r) ⌝ }
+    ensures { λ r. ⌜ ((w : Underway (now (sheet .entry)) (now (goal .entry)) (now (names .entry)) count (now (nodes .entry)) (now (code .entry))
+        (now (symbols .entry)) (now (state .entry)) (now (scratch .entry)) (now (text .entry)) carried)
+        → Turned (w .ss) (w .sh) (w .g) (now (nodes .entry)) (now (code .entry)) (now (state .exit)) (now (scratch .exit)) (w .old) (now (text .exit))
+        (runFrom (w .sh) (w .g) wanted (length (w .old)) k (w .progress)) r) ⌝ }
 {
     let allowance = carried.steps + k;
     let mut h = carried.height;
@@ -262,7 +277,7 @@ pub fn turn(
     }
 }
 
-// A run over a loaded program, in one turn: what it reports, and its lines at the start of the text.
+// A run over a loaded program, in one turn: what it reports, and its lines at the start of the text, so many bytes.
 pub fn run(
     sheet: &[u8],
     goal: &[u8],
@@ -276,9 +291,15 @@ pub fn run(
     text: &mut [u8],
     allowance: usize,
     wanted: usize,
-) -> Report
+) -> Ran
     requires { ⌜ Runnable (now sheet) (now goal) (now names) count (now nodes) (now code) (now symbols) (now state) (now scratch) (now text) ⌝ }
-    ensures { λ r. ⌜ ((w : Runnable (now (sheet .entry)) (now (goal .entry)) (now (names .entry)) count (now (nodes .entry)) (now (code .entry)) (now (symbols .entry)) (now (state .entry)) (now (scratch .entry)) (now (text .entry))) → Runs (w .sh) (w .g) allowance wanted (now (text .entry)) (now (text .exit)) r) ⌝ }
+    ensures gives { λ r. ⌜ ((w : Runnable (now (sheet .entry)) (now (goal .entry)) (now (names .entry)) count (now (nodes .entry)) (now (code .entry))
+        (now (symbols .entry)) (now (state .entry)) (now (scratch .entry)) (now (text .entry)))
+        → Runs (w .sh) (w .g) allowance wanted (now (text .entry)) (now (text .exit)) r) ⌝ }
+    ensures leaves { λ _. ⌜ ((w : Runnable (now (sheet .entry)) (now (goal .entry)) (now (names .entry)) count (now (nodes .entry)) (now (code .entry))
+        (now (symbols .entry)) (now (state .entry)) (now (scratch .entry)) (now (text .entry)))
+        → Leaves (w .ss) (w .sh) (w .g) (now (nodes .entry)) (now (code .entry)) (now (state .exit)) (now (scratch .exit))
+        (run (w .sh) (w .g) allowance wanted (length (now (text .entry))) .at .pile)) ⌝ }
 {
     start(code, state);
     let first = Carried {
@@ -305,9 +326,13 @@ pub fn run(
         wanted,
     );
     let kind = last.kind;
-    Report {
+    let report = Report {
         kind,
         answers: last.answers,
         steps: last.steps,
+    };
+    Ran {
+        report,
+        bytes: last.at,
     }
 }

@@ -91,7 +91,8 @@ pub record SomeSetting (nodes state symbols sheet goal stack : List ℕ) (height
   pub is : Setting ss n nodes state symbols sheet goal stack height
 
 -- Bytes are appended, and the rest is on the stack.
-pub record Spelling (ss : List Symbol) (nodes : List ℕ) (b : List Binding) (whole old : List ℕ) (at : ℕ) (new numbers stack : List ℕ) (next height : ℕ) (rest : List Piece) : Type 0 where
+pub record Spelling (ss : List Symbol) (nodes : List ℕ) (b : List Binding) (whole old : List ℕ) (at : ℕ) (new numbers stack : List ℕ) (next height : ℕ)
+    (rest : List Piece) : Type 0 where
   pub told : Told whole old at new next numbers (left ss nodes b stack height rest)
   pub rows : Rows ss nodes b stack height
 

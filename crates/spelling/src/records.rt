@@ -74,7 +74,8 @@ pub fn number_of(numbers: &mut [usize], x: usize) -> usize
 // An unbound variable, by its cell.
 pub fn append_unbound(numbers: &mut [usize], x: usize, out: &mut [u8], at: usize) -> usize
     requires { ⌜ (x < cells) × ((length (now numbers) ≡ cells + 1) × ((getD (now numbers) cells 0 ≤ at) × (at + wordBytes < 2 ^ 64))) ⌝ }
-    ensures told { λ r. ⌜ ((met : List Variable) → Numbers (now (numbers .entry)) met → (ps : List Piece) → Told (bytesOf met (unbound (variableOf x) ∷ ps)) (now (out .entry)) at (now (out .exit)) r (now (numbers .exit)) ps) ⌝ }
+    ensures told { λ r. ⌜ ((met : List Variable) → Numbers (now (numbers .entry)) met → (ps : List Piece)
+        → Told (bytesOf met (unbound (variableOf x) ∷ ps)) (now (out .entry)) at (now (out .exit)) r (now (numbers .exit)) ps) ⌝ }
     ensures near { λ r. ⌜ (at ≤ r) × (r ≤ at + wordBytes) ⌝ }
 {
     let past = append_byte(b'_', out, at);

@@ -68,8 +68,12 @@ pub fn append_value(
     limit: usize,
 ) -> usize
     requires { ⌜ SomeValued (now nodes) (now state) (now symbols) (now sheet) (now goal) (now stack) i ⌝ }
-    requires { ⌜ (Counting (now numbers) at) × ((at + 200 < 2 ^ 64) × ((limit + 200 < 2 ^ 64) × Ample (now stack) ((limit - at) * openSize + 2 * openSize))) ⌝ }
-    ensures told { λ r. ⌜ ((ss : List Symbol) (n : ℕ) (met : List Variable) (rest : List Piece) → Valued ss n (now (nodes .entry)) (now (state .entry)) (now (symbols .entry)) (now (sheet .entry)) (now (goal .entry)) (now (stack .entry)) i → Numbers (now (numbers .entry)) met → Walked limit (bytesOf met (spelt (valueIn (bindings ss (now (nodes .entry)) (now (state .entry)) n) i) rest)) (now (out .entry)) at (now (out .exit)) r (now (numbers .exit)) rest) ⌝ }
+    requires { ⌜ (Counting (now numbers) at) × ((at + 200 < 2 ^ 64) × ((limit + 200 < 2 ^ 64)
+        × Ample (now stack) ((limit - at) * openSize + 2 * openSize))) ⌝ }
+    ensures told { λ r. ⌜ ((ss : List Symbol) (n : ℕ) (met : List Variable) (rest : List Piece)
+        → Valued ss n (now (nodes .entry)) (now (state .entry)) (now (symbols .entry)) (now (sheet .entry)) (now (goal .entry)) (now (stack .entry)) i
+        → Numbers (now (numbers .entry)) met → Walked limit (bytesOf met (spelt (valueIn (bindings ss (now (nodes .entry)) (now (state .entry)) n) i) rest))
+        (now (out .entry)) at (now (out .exit)) r (now (numbers .exit)) rest) ⌝ }
     ensures near { λ r. ⌜ (at ≤ r) × ((r ≤ limit + (wordBytes + 1)) ⊎ (r ≤ at + wordBytes)) ⌝ }
 {
     let w = word_at(state, i);
@@ -156,8 +160,13 @@ pub fn append_binding(
     limit: usize,
 ) -> Listed
     requires { ⌜ SomeValued (now nodes) (now state) (now symbols) (now sheet) (now goal) (now stack) i ⌝ }
-    requires { ⌜ (Inside (now goal) w) × ((Counting (now numbers) at) × ((at + 300 < 2 ^ 64) × ((limit + 200 < 2 ^ 64) × Ample (now stack) ((limit - at) * openSize + 2 * openSize)))) ⌝ }
-    ensures told { λ r. ⌜ ((ss : List Symbol) (n : ℕ) (met : List Variable) (xs : List (List ℕ)) → Valued ss n (now (nodes .entry)) (now (state .entry)) (now (symbols .entry)) (now (sheet .entry)) (now (goal .entry)) (now (stack .entry)) i → Numbers (now (numbers .entry)) met → Walked limit (bytesOf met (valuesFrom (bindings ss (now (nodes .entry)) (now (state .entry)) n) i (gap more) (spanned (now (goal .entry)) w ∷ xs))) (now (out .entry)) at (now (out .exit)) (r .at) (now (numbers .exit)) (valuesFrom (bindings ss (now (nodes .entry)) (now (state .entry)) n) (suc i) (gap (r .more)) xs)) ⌝ }
+    requires { ⌜ (Inside (now goal) w) × ((Counting (now numbers) at) × ((at + 300 < 2 ^ 64)
+        × ((limit + 200 < 2 ^ 64) × Ample (now stack) ((limit - at) * openSize + 2 * openSize)))) ⌝ }
+    ensures told { λ r. ⌜ ((ss : List Symbol) (n : ℕ) (met : List Variable) (xs : List (List ℕ))
+        → Valued ss n (now (nodes .entry)) (now (state .entry)) (now (symbols .entry)) (now (sheet .entry)) (now (goal .entry)) (now (stack .entry)) i
+        → Numbers (now (numbers .entry)) met → Walked limit (bytesOf met (valuesFrom (bindings ss (now (nodes .entry)) (now (state .entry)) n) i (gap more)
+        (spanned (now (goal .entry)) w ∷ xs))) (now (out .entry)) at (now (out .exit)) (r .at) (now (numbers .exit))
+        (valuesFrom (bindings ss (now (nodes .entry)) (now (state .entry)) n) (suc i) (gap (r .more)) xs)) ⌝ }
     ensures near { λ r. ⌜ (at ≤ r .at) × ((r .at ≤ limit + (wordBytes + 1)) ⊎ (r .at ≤ at + (2 * wordBytes + 5))) ⌝ }
 {
     if is_anonymous(goal, w) {
@@ -199,8 +208,12 @@ pub fn append_values(
     limit: usize,
 ) -> usize
     requires { ⌜ SomeValues (now nodes) (now state) (now symbols) (now sheet) (now goal) (now stack) (now names) count ⌝ }
-    requires { ⌜ (Counting (now numbers) at) × ((at + 400 < 2 ^ 64) × ((limit + 400 < 2 ^ 64) × Ample (now stack) ((limit - at) * openSize + 2 * openSize))) ⌝ }
-    ensures lined { λ r. ⌜ ((ss : List Symbol) (n : ℕ) (met : List Variable) → Values ss n (now (nodes .entry)) (now (state .entry)) (now (symbols .entry)) (now (sheet .entry)) (now (goal .entry)) (now (stack .entry)) (now (names .entry)) count → Numbers (now (numbers .entry)) met → Lined limit (bytesOf met (valuesFrom (bindings ss (now (nodes .entry)) (now (state .entry)) n) 0 [] (namesFrom (now (goal .entry)) (now (names .entry)) 0 count))) (now (out .entry)) at (now (out .exit)) r) ⌝ }
+    requires { ⌜ (Counting (now numbers) at) × ((at + 400 < 2 ^ 64) × ((limit + 400 < 2 ^ 64)
+        × Ample (now stack) ((limit - at) * openSize + 2 * openSize))) ⌝ }
+    ensures lined { λ r. ⌜ ((ss : List Symbol) (n : ℕ) (met : List Variable) → Values ss n (now (nodes .entry)) (now (state .entry)) (now (symbols .entry))
+        (now (sheet .entry)) (now (goal .entry)) (now (stack .entry)) (now (names .entry)) count → Numbers (now (numbers .entry)) met
+        → Lined limit (bytesOf met (valuesFrom (bindings ss (now (nodes .entry)) (now (state .entry)) n) 0 []
+        (namesFrom (now (goal .entry)) (now (names .entry)) 0 count))) (now (out .entry)) at (now (out .exit)) r) ⌝ }
     ensures counted { λ r. ⌜ (r ≤ limit → Counted (now (numbers .exit))) ⌝ }
 {
     let mut past = at;

@@ -45,7 +45,11 @@ fn append_head(
 ) -> Walk
     requires { ⌜ SomeHeading (now nodes) (now symbols) (now sheet) (now goal) (now stack) p c height ⌝ }
     requires { ⌜ Counting (now numbers) at ⌝ }
-    ensures told { λ r. ⌜ ((ss : List Symbol) (b : List Binding) (met : List Variable) (rest : List Piece) → Heading ss b (now (nodes .entry)) (now (symbols .entry)) (now (sheet .entry)) (now (goal .entry)) (now (stack .entry)) p c height → Numbers (now (numbers .entry)) met → Spelling ss (now (nodes .entry)) b (bytesOf met (spelt (resolve b (termAt ss (now (nodes .entry)) p c)) (left ss (now (nodes .entry)) b (now (stack .entry)) height rest))) (now (out .entry)) at (now (out .exit)) (now (numbers .exit)) (now (stack .exit)) (r .at) (r .height) rest) ⌝ }
+    ensures told { λ r. ⌜ ((ss : List Symbol) (b : List Binding) (met : List Variable) (rest : List Piece)
+        → Heading ss b (now (nodes .entry)) (now (symbols .entry)) (now (sheet .entry)) (now (goal .entry)) (now (stack .entry)) p c height
+        → Numbers (now (numbers .entry)) met → Spelling ss (now (nodes .entry)) b (bytesOf met
+        (spelt (resolve b (termAt ss (now (nodes .entry)) p c)) (left ss (now (nodes .entry)) b (now (stack .entry)) height rest))) (now (out .entry)) at
+        (now (out .exit)) (now (numbers .exit)) (now (stack .exit)) (r .at) (r .height) rest) ⌝ }
     ensures near { λ r. ⌜ (at ≤ r .at) × ((r .at ≤ at + wordBytes) × (r .height ≤ height + 1)) ⌝ }
 {
     let w = word_at(nodes, p);
@@ -87,7 +91,12 @@ pub fn append_term(
 ) -> Walk
     requires { ⌜ SomeFacing (now nodes) (now state) (now symbols) (now sheet) (now goal) (now stack) p c height ⌝ }
     requires { ⌜ Counting (now numbers) at ⌝ }
-    ensures told { λ r. ⌜ ((ss : List Symbol) (n : ℕ) (met : List Variable) (rest : List Piece) → Facing ss n (now (nodes .entry)) (now (state .entry)) (now (symbols .entry)) (now (sheet .entry)) (now (goal .entry)) (now (stack .entry)) p c height → Numbers (now (numbers .entry)) met → Spelling ss (now (nodes .entry)) (bindings ss (now (nodes .entry)) (now (state .entry)) n) (bytesOf met (spelt (resolve (bindings ss (now (nodes .entry)) (now (state .entry)) n) (termAt ss (now (nodes .entry)) p c)) (left ss (now (nodes .entry)) (bindings ss (now (nodes .entry)) (now (state .entry)) n) (now (stack .entry)) height rest))) (now (out .entry)) at (now (out .exit)) (now (numbers .exit)) (now (stack .exit)) (r .at) (r .height) rest) ⌝ }
+    ensures told { λ r. ⌜ ((ss : List Symbol) (n : ℕ) (met : List Variable) (rest : List Piece)
+        → Facing ss n (now (nodes .entry)) (now (state .entry)) (now (symbols .entry)) (now (sheet .entry)) (now (goal .entry)) (now (stack .entry)) p c
+        height → Numbers (now (numbers .entry)) met → Spelling ss (now (nodes .entry)) (bindings ss (now (nodes .entry)) (now (state .entry)) n)
+        (bytesOf met (spelt (resolve (bindings ss (now (nodes .entry)) (now (state .entry)) n) (termAt ss (now (nodes .entry)) p c))
+        (left ss (now (nodes .entry)) (bindings ss (now (nodes .entry)) (now (state .entry)) n) (now (stack .entry)) height rest))) (now (out .entry)) at
+        (now (out .exit)) (now (numbers .exit)) (now (stack .exit)) (r .at) (r .height) rest) ⌝ }
     ensures near { λ r. ⌜ (at ≤ r .at) × ((r .at ≤ at + wordBytes) × (r .height ≤ height + 1)) ⌝ }
 {
     let t = deref(nodes, state, p, c);
@@ -133,7 +142,11 @@ fn turn(
 ) -> Walk
     requires { ⌜ SomeSetting (now nodes) (now state) (now symbols) (now sheet) (now goal) (now stack) height ⌝ }
     requires { ⌜ (0 < height) × ((Counting (now numbers) at) × ((at + 200 < 2 ^ 64) × Ample (now stack) (height * openSize + openSize))) ⌝ }
-    ensures told { λ r. ⌜ ((ss : List Symbol) (n : ℕ) (met : List Variable) (rest : List Piece) → Setting ss n (now (nodes .entry)) (now (state .entry)) (now (symbols .entry)) (now (sheet .entry)) (now (goal .entry)) (now (stack .entry)) height → Numbers (now (numbers .entry)) met → Spelling ss (now (nodes .entry)) (bindings ss (now (nodes .entry)) (now (state .entry)) n) (bytesOf met (left ss (now (nodes .entry)) (bindings ss (now (nodes .entry)) (now (state .entry)) n) (now (stack .entry)) height rest)) (now (out .entry)) at (now (out .exit)) (now (numbers .exit)) (now (stack .exit)) (r .at) (r .height) rest) ⌝ }
+    ensures told { λ r. ⌜ ((ss : List Symbol) (n : ℕ) (met : List Variable) (rest : List Piece)
+        → Setting ss n (now (nodes .entry)) (now (state .entry)) (now (symbols .entry)) (now (sheet .entry)) (now (goal .entry)) (now (stack .entry)) height
+        → Numbers (now (numbers .entry)) met → Spelling ss (now (nodes .entry)) (bindings ss (now (nodes .entry)) (now (state .entry)) n)
+        (bytesOf met (left ss (now (nodes .entry)) (bindings ss (now (nodes .entry)) (now (state .entry)) n) (now (stack .entry)) height rest))
+        (now (out .entry)) at (now (out .exit)) (now (numbers .exit)) (now (stack .exit)) (r .at) (r .height) rest) ⌝ }
     ensures near { λ r. ⌜ (at < r .at) × ((r .at ≤ at + (wordBytes + 1)) × (r .height ≤ height + 1)) ⌝ }
 {
     let top = height - 1;
@@ -187,7 +200,11 @@ pub fn append_rows(
 ) -> usize
     requires { ⌜ SomeSetting (now nodes) (now state) (now symbols) (now sheet) (now goal) (now stack) height ⌝ }
     requires { ⌜ (Counting (now numbers) at) × ((limit + 200 < 2 ^ 64) × Ample (now stack) (height * openSize + (limit + 1 - at) * openSize)) ⌝ }
-    ensures told { λ r. ⌜ ((ss : List Symbol) (n : ℕ) (met : List Variable) (rest : List Piece) → Setting ss n (now (nodes .entry)) (now (state .entry)) (now (symbols .entry)) (now (sheet .entry)) (now (goal .entry)) (now (stack .entry)) height → Numbers (now (numbers .entry)) met → Walked limit (bytesOf met (left ss (now (nodes .entry)) (bindings ss (now (nodes .entry)) (now (state .entry)) n) (now (stack .entry)) height rest)) (now (out .entry)) at (now (out .exit)) r (now (numbers .exit)) rest) ⌝ }
+    ensures told { λ r. ⌜ ((ss : List Symbol) (n : ℕ) (met : List Variable) (rest : List Piece)
+        → Setting ss n (now (nodes .entry)) (now (state .entry)) (now (symbols .entry)) (now (sheet .entry)) (now (goal .entry)) (now (stack .entry)) height
+        → Numbers (now (numbers .entry)) met → Walked limit (bytesOf met (left ss (now (nodes .entry))
+        (bindings ss (now (nodes .entry)) (now (state .entry)) n) (now (stack .entry)) height rest)) (now (out .entry)) at (now (out .exit)) r
+        (now (numbers .exit)) rest) ⌝ }
     ensures near { λ r. ⌜ (at ≤ r) × ((r ≤ limit + (wordBytes + 1)) ⊎ (r ≡ at)) ⌝ }
 {
     let mut past = at;

@@ -5,7 +5,7 @@ use Rattle.syntax.specs.Limits.{mostSteps}
 use Rattle.syntax.specs.declared.Verdict.{Verdict}
 use Rattle.syntax.specs.declared.Verdict.the-variants.{Refused}
 use Rattle.lines.specs.Lines.{lineOf}
-use Rattle.reports.specs.Reports.{kindNumber, reportLine}
+use Rattle.reports.specs.Reports.{reportLine}
 use Rattle.rules.specs.Checking.{checkVerdict, faultName}
 use Rattle.machine.specs.Runs.{RunOutcome, stopped, ran, runOutcome}
 
@@ -20,7 +20,7 @@ checker sheet = verdictLine sheet [] (checkVerdict sheet)
 -- the answer lines and the report, or the refusal
 unfoldable pub runLines : List ℕ → List ℕ → RunOutcome → List ℕ
 runLines sheet goal (stopped text refusal) = verdictLine sheet goal (Refused text refusal)
-runLines sheet goal (ran report text) = text ++ reportLine (kindNumber (report .kind)) (report .answers) (report .steps)
+runLines sheet goal (ran report text) = text ++ reportLine (report .kind) (report .answers) (report .steps)
 
 -- the answers that the runner wants, and the bytes that it has for them
 abbrev pub runnerAnswers : ℕ

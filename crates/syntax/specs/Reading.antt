@@ -152,7 +152,9 @@ readArguments term s zero st = full (begins (startOf (kindAt st))) st
 readArguments term s (suc k) st =
     andThen (term st) (λ t after. argumentsAfter (λ st1. readArguments term s k st1) s t after (afterOf closeKind (kindAt after)))
 
--- A list of terms, of which the opening bracket is at hand, with so many brackets left: reading one term and reading a list call each other.
+-- A list of terms, of which the opening bracket is at hand, with so many brackets left: reading one term and reading a list call each other. The knot is
+-- tied by arguments: `readArguments` is told how to read one term, and `readTermWith` how to read the list that a term may open, which is `readList`
+-- again with one bracket less. So the brackets left fall, and each definition above stands alone.
 unfoldable pub readList : ℕ → List ℕ → Cursor → Read Terms
 readList zero s st = beyond st
 readList (suc left) s st = readArguments (λ st1. readTermWith (λ st2. readList left s st2) s st1) s arguments (next s st)

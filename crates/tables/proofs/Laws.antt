@@ -60,12 +60,12 @@ sheet-long s declared table v h e = (e ∙ ap sheetVerdict (sym is), λ sh a. ab
     is : sheetOf s ≡ refused TooLong
     is = unfold sheetOf in ap (λ (b : Bool). elim b as (λ _. Outcome Sheet) [ true ↦ sheetFrom (readSheet s) | false ↦ refused TooLong ]) (lt-leb (length s) 16384 h)
 
-module _ (s declared table : List ℕ) (r : Loaded) (short : length s ≤ 16384) (g : Loads declared table r (readSheet s)) where
+module _ (s declared table : List ℕ) (r : Loaded) (short : length s ≤ 16384) (g : Loads s declared table r (readSheet s)) where
   sheet-from : sheetOf s ≡ sheetFrom (readSheet s)
   unfolding sheetOf
   sheet-from = ap (λ (b : Bool). elim b as (λ _. Outcome Sheet) [ true ↦ sheetFrom (readSheet s) | false ↦ refused TooLong ]) (le-leb (length s) 16384 short)
 
-  fault-by : (d : Read Sheet) → readSheet s ≡ d → Loads declared table r d → (r .number ≡ 0 → ⊥) → sheetOf s ≡ refused (faultOf (r .number) (r .byte))
+  fault-by : (d : Read Sheet) → readSheet s ≡ d → Loads s declared table r d → (r .number ≡ 0 → ⊥) → sheetOf s ≡ refused (faultOf (r .number) (r .byte))
   unfolding sheetFrom
   fault-by (fault k b) e h z = sheet-from ∙ ap sheetFrom e ∙ ap₂ (λ (n b : ℕ). refused (faultOf n b)) (sym (h .number-is)) (sym (h .byte-is))
   fault-by (ok sh end) e h z = absurd (z (h .number-is))
@@ -78,7 +78,7 @@ module _ (s declared table : List ℕ) (r : Loaded) (short : length s ≤ 16384)
   sheet-fault z q v eq ev = answer-refused q v (fault-by (readSheet s) refl g z ∙ ap refused (sym eq)) ev
 
   module _ (z : r .number ≡ 0) where
-    read-by : (d : Read Sheet) → readSheet s ≡ d → Loads declared table r d → (sh : Sheet) × (end : Cursor) × (readSheet s ≡ ok sh end) × LoadGiven declared table r sh
+    read-by : (d : Read Sheet) → readSheet s ≡ d → Loads s declared table r d → (sh : Sheet) × (end : Cursor) × (readSheet s ≡ ok sh end) × LoadGiven declared table r sh
     read-by (fault k b) e h = let x : r .number ≡ k = h .number-is in let y : 0 < k = h .some in absurd (omega arith)
     read-by (ok sh end) e h = (sh, end, e, h)
 

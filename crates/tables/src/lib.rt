@@ -49,7 +49,8 @@ fn sheet_refused(refusal: Refusal) -> Verdict
 pub fn load(sheet: &[u8], declared: &mut [u32], table: &mut [u32]) -> Verdict
     requires { ⌜ (declaredWords ≤ length (now declared)) × ((sheetWords ≤ length (now table)) × (length (now table) < 2 ^ 31)) ⌝ }
     ensures is { λ r. ⌜ r ≡ readVerdict (now (sheet .entry)) ⌝ }
-    ensures holds { λ r. ⌜ ((sh : Sheet) → sheetOf (now (sheet .entry)) ≡ accepted sh → Tabled (now (sheet .entry)) (now (declared .exit)) (now (table .exit)) sh) ⌝ }
+    ensures holds { λ r. ⌜ ((sh : Sheet) → sheetOf (now (sheet .entry)) ≡ accepted sh → Tabled (now (sheet .entry)) (now (declared .exit))
+        (now (table .exit)) sh) ⌝ }
 {
     if SHEET_BYTES < sheet.len() {
         return sheet_refused(Refusal::TooLong);
@@ -146,7 +147,8 @@ fn goal_refused(refusal: Refusal) -> GoalRead
 pub fn load_checked(sheet: &[u8], declared: &mut [u32], table: &mut [u32]) -> Verdict
     requires { ⌜ (declaredWords ≤ length (now declared)) × ((sheetWords ≤ length (now table)) × (length (now table) < 2 ^ 31)) ⌝ }
     ensures is { λ r. ⌜ r ≡ checkVerdict (now (sheet .entry)) ⌝ }
-    ensures holds { λ r. ⌜ ((sh : Sheet) → checkedSheet (now (sheet .entry)) ≡ accepted sh → Tabled (now (sheet .entry)) (now (declared .exit)) (now (table .exit)) sh) ⌝ }
+    ensures holds { λ r. ⌜ ((sh : Sheet) → checkedSheet (now (sheet .entry)) ≡ accepted sh
+        → Tabled (now (sheet .entry)) (now (declared .exit)) (now (table .exit)) sh) ⌝ }
 {
     let v = load(sheet, declared, table);
     match v {

@@ -1,4 +1,4 @@
-// Unification: the outer loop, which takes over where a bound variable is crossed.
+// Unification: the outer loop, which takes over where a variable stands on a side, bound or not.
 use crate::walk::Walked;
 use crate::walk::walk_rows;
 use bindings::occurrence::closed_to;

@@ -1,20 +1,38 @@
-use mathlib.Core.Path.{ap, _∙_}
+use Prim.Native.Nat.{ℕ}
+use mathlib.Core.Path.{_≡_, sym, ap₂}
+use mathlib.Core.List.{List}
+use lib.ListN.{length}
 use borrow.Author.Needs.{needs}
-use Rattle.packing.specs.Packed.{packedRun}
+use Rattle.machine.specs.Runs.{runOutcome}
+use Rattle.packing.specs.Numbers.{runNumbers}
+use Rattle.packing.proofs.Laws.{Given, given-as}
+use Rattle.exports.specs.Runs.{outcomeNumbers}
 use Rattle.exports.proofs.pilvaust_run.Statement.{statement}
 use Rattle.exports.proofs.pilvaust_run.Tie as tie
 
-run-requires : tie.Need-run-requires
-run-requires c κs = search needs
+run-written-requires : tie.Need-run-written-requires
+run-written-requires c κs = search needs
 
-pack-run-requires : tie.Need-pack-run-requires
-pack-run-requires c κs = search needs
+put-run-requires : tie.Need-put-run-requires
+put-run-requires c κs = search needs
 
 same-length : tie.Need-same-length
 same-length c = search needs
 
+same-length-2 : tie.Need-same-length-2
+same-length-2 c = search needs
+
 returns : tie.Need-returns
-returns c = (c .pack-run .ensures ∙ ap packedRun (c .before .before .before .run .ensures .0), c .before .before .before .run .ensures .1)
+returns c =
+    let c2 = c .before .before in
+    let c6 = c2 .before .before .before .before in
+    let a = c6 .before .before .before .before .before .before .args in
+    let ns : List ℕ = outcomeNumbers (runOutcome (a .sheet .now) (a .goal .now) (a .allowance) (a .wanted) (length (a .text .now))) in
+    let e : ns ≡ runNumbers (c6 .run-written .result .run) (c6 .run-written .result .bytes) =
+    sym (ap₂ runNumbers (c6 .run-written .ensures .0) (c6 .run-written .ensures .1 .0)) in
+    let h : Given ns (a .numbers .now) (c2 .put-run .last .1 .1 .0) (c2 .put-run .result) = given-as _ ns (a .numbers .now) _ _ e (c2 .put-run .ensures) in
+    (h .0, (c6 .run-written .ensures .1 .1, h .1))
 
 pub pilvaust-run-spec : {M : Type 1} → statement M
-pilvaust-run-spec = tie.close (tie.spec run-requires pack-run-requires same-length returns)
+pilvaust-run-spec =
+    tie.close (tie.spec run-written-requires put-run-requires same-length same-length-2 returns)

@@ -51,7 +51,7 @@ same-length : tie.Need-same-length
 same-length c = search needs
 
 returns-2 : tie.Need-returns-2
-returns-2 c = let c5 = c .before .before .before .before .before in let c7 = c5 .before .before in let c9 = c7 .before .before in let c12 = c9 .before .before .before in let c14 = c12 .before .before in let c20 = c14 .before .before .before .before .before .before in λ w. goal-runs (c20 .args .sheet .now) (c20 .args .declared .now) (c20 .args .n) (c20 .args .table .now) (c20 .args .k) (c20 .args .goal .now) (c12 .load-goal .last .1 .0) (c12 .load-goal .result) (c12 .load-goal .ensures) (c20 .args .allowance) (c20 .args .wanted) (c9 .enum-told .given .0 .0) (c9 .enum-told .given .0 .1 .0) (c9 .enum-told .given .1) (c7 .check-goal .result) (c7 .check-goal .ensures) (c5 .enum-told2 .given .1) (omega (arith, (c12 .load-goal .kept .1 .0), (c14 .goal-room .ensures))) (c .before .before .run-read .result) (c20 .args .text .now) (c .before .before .run-read .last .1 .1 .1 .1 .1 .1 .1 .0) (c .before .before .run-read .ensures) w
+returns-2 c = let d = c .before in let c5 = d .before .before .before .before .before in let c7 = c5 .before .before in let c9 = c7 .before .before in let c12 = c9 .before .before .before in let c14 = c12 .before .before in let c20 = c14 .before .before .before .before .before .before in λ w. goal-runs (c20 .args .sheet .now) (c20 .args .declared .now) (c20 .args .n) (c20 .args .table .now) (c20 .args .k) (c20 .args .goal .now) (c12 .load-goal .last .1 .0) (c12 .load-goal .result) (c12 .load-goal .ensures) (c20 .args .allowance) (c20 .args .wanted) (c9 .enum-told .given .0 .0) (c9 .enum-told .given .0 .1 .0) (c9 .enum-told .given .1) (c7 .check-goal .result) (c7 .check-goal .ensures) (c5 .enum-told2 .given .1) (omega (arith, (c12 .load-goal .kept .1 .0), (c14 .goal-room .ensures))) (d .before .before .run-read .result) (c20 .args .text .now) (d .before .before .run-read .last .1 .1 .1 .1 .1 .1 .1 .0) (d .before .before .run-read .ensures) w
 
 returns-3 : tie.Need-returns-3
 returns-3 c = let c4 = c .before .before .before .before in let c6 = c4 .before .before in let c9 = c6 .before .before .before in let c17 = c9 .before .before .before .before .before .before .before .before in λ w. fault-stops (c17 .args .sheet .now) (c17 .args .declared .now) (c17 .args .n) (c17 .args .table .now) (c17 .args .k) (c17 .args .goal .now) (c9 .load-goal .last .1 .0) (c9 .load-goal .result) (c9 .load-goal .ensures) (c17 .args .allowance) (c17 .args .wanted) (c6 .enum-told .given .0 .0) (c6 .enum-told .given .0 .1 .0) (c6 .enum-told .given .1) (c4 .check-goal .result) (c4 .check-goal .ensures) (c .before .before .fault .given .0 .0) (c .before .before .fault .given .1) (c .run-refused2 .result) (c .run-refused2 .ensures) (c17 .args .text .now) w

@@ -39,7 +39,7 @@ returns : tie.Need-returns
 returns c = let c4 = c .before .before .before .before in let c11 = c4 .before .before .before .before .before .before .before in both-refused (c11 .args .sheet .now) (c4 .load-checked .last .1 .0) (c4 .load-checked .last .1 .1 .0) (c11 .args .goal .now) (c4 .load-checked .result) (c4 .load-checked .ensures .0) (c4 .load-checked .ensures .1) (c .enum-told .given .0 .0) (c .enum-told .given .0 .1 .0) (c .enum-told .given .1)
 
 returns-2 : tie.Need-returns-2
-returns-2 c = let c5 = c .before .before .before .before .before in let c9 = c5 .before .before .before .before in let c16 = c9 .before .before .before .before .before .before .before in both-answered (c16 .args .sheet .now) (c9 .load-checked .last .1 .0) (c9 .load-checked .last .1 .1 .0) (c16 .args .goal .now) (c9 .load-checked .result) (c9 .load-checked .ensures .0) (c9 .load-checked .ensures .1) (c5 .v .given .0 .0) (c5 .v .given .0 .1 .0) (c5 .v .given .1) (c .before .goal-over .result) (c .before .goal-over .ensures)
+returns-2 c = let c5 = c .before .before .before .before .before in let c9 = c5 .before .before .before .before in let c16 = c9 .before .before .before .before .before .before .before in both-answered (c16 .args .sheet .now) (c9 .load-checked .last .1 .0) (c9 .load-checked .last .1 .1 .0) (c16 .args .goal .now) (c9 .load-checked .result) (c9 .load-checked .ensures .0) (c9 .load-checked .ensures .1) (c5 .v .given .0 .0) (c5 .v .given .0 .1 .0) (c5 .v .given .1) (c .before .goal-over .result) (c .before .goal-over .ensures .0)
 
 pub check-goal-spec : {M : Type 1} → statement M
 check-goal-spec =

@@ -1,7 +1,9 @@
 -- The lines are within the text. Assumes nothing.
 use mathlib.Core.Path.{sym}
 use lib.Seq.{length-take-le}
+use native.Mathlib.Omega.{arith}
 use borrow.Author.Needs.{needs}
+use Rattle.buffers.proofs.Feeding.{past-within}
 use Rattle.printing.proofs.print_lines.Statement.{statement}
 use Rattle.printing.proofs.print_lines.Tie as tie
 
@@ -9,7 +11,9 @@ past-lines-requires : tie.Need-past-lines-requires
 past-lines-requires c κs = search needs
 
 slice-aggregate-write-all : tie.Need-slice-aggregate-write-all
-slice-aggregate-write-all c = sym (length-take-le _ _ (c .before .past-lines .ensures))
+slice-aggregate-write-all c =
+    let a = c .before .before .before .args in
+    sym (length-take-le _ _ (omega (arith, c .before .past-lines .ensures, past-within (a .lines) (a .text .now))))
 
 write-all-requires : tie.Need-write-all-requires
 write-all-requires c κs = search needs

@@ -29,7 +29,7 @@ same-length-2 c = search needs
 
 -- src/lib.rt:47:1
 returns : tie.Need-returns
-returns c = let c5 = c .before .before .before .before .before in let c9 = c5 .before .before .before .before in let c18 = c9 .before .before .before .before .before .before .before .before .before in λ w. linked-runs w (c9 .state-words .ensures) (c18 .pre .1) (c5 .run .ensures)
+returns c = let c5 = c .before .before .before .before .before in let c9 = c5 .before .before .before .before in let c18 = c9 .before .before .before .before .before .before .before .before .before in λ w. linked-runs w (c9 .state-words .ensures) (c18 .pre .1) (c5 .run .ensures .0)
 
 pub run-over-spec : {M : Type 1} → statement M
 run-over-spec =

@@ -50,7 +50,7 @@ same-length-6 c = search needs
 
 -- src/lib.rt:129:1
 returns-2 : tie.Need-returns-2
-returns-2 c = let c4 = c .before .before .before .before in let c12 = c4 .before .before .before .before .before .before .before .before in let c18 = c12 .before .before .before .before .before .before in λ w. answer-on w (c18 .rewind .ensures) (c12 .tell .ensures .0) (c12 .tell .ensures .1) _ _ (c4 .step .result) (c4 .step .ensures)
+returns-2 c = let c4 = c .before .before .before .before in let c12 = c4 .before .before .before .before .before .before .before .before in let c18 = c12 .before .before .before .before .before .before in λ w. answer-on w (c18 .rewind .ensures) (c12 .tell .ensures .0) (c12 .tell .ensures .1) (c4 .before .before .before .if1 .left) _ _ (c4 .step .result) (c4 .step .ensures)
 
 pub answer-spec : {M : Type 1} → statement M
 answer-spec =

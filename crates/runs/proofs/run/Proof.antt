@@ -1,4 +1,4 @@
-use Rattle.runs.proofs.GoingLaws.{go-startable, go-underway, go-runs}
+use Rattle.runs.proofs.GoingLaws.{go-startable, go-underway, go-runs, go-leaves}
 use native.Mathlib.Omega.{arith}
 use borrow.Author.Needs.{needs}
 use Rattle.runs.proofs.run.Statement.{statement}
@@ -30,7 +30,7 @@ same-length-3 c = search needs
 
 -- src/lib.rt:185:1
 returns : tie.Need-returns
-returns c = let c6 = c .before .before .before .before .before .before in let c12 = c6 .before .before .before .before .before .before in λ w. go-runs w (c12 .start .ensures) (c6 .turn .ensures)
+returns c = let c6 = c .before .before .before .before .before .before in let c12 = c6 .before .before .before .before .before .before in let a = c12 .before .before .before .before .before .before .before .before .before .before .before .args in (λ w. go-runs w (c12 .start .ensures) (a .allowance) (a .wanted) (c6 .turn .ensures), λ w. go-leaves w (c12 .start .ensures) (a .allowance) (a .wanted) (c6 .turn .ensures))
 
 pub run-spec : {M : Type 1} → statement M
 run-spec =

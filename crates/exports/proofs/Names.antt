@@ -1,0 +1,259 @@
+-- The name that a refusal hands back lies in the text at fault, so that a caller may read its bytes there. Assumes nothing.
+use Prim.Native.Nat.{ℕ, suc, _+_, _≤_}
+use native.Mathlib.Omega.{arith}
+use mathlib.Core.Path.{_≡_, refl, sym, ap, _∙_, subst}
+use mathlib.Core.Bool.{Bool, true, false, cond}
+use mathlib.Core.List.{List, [], _∷_}
+use mathlib.Core.Option.{Option, none, some}
+use lib.Dec.{leb, eqb}
+use lib.ListN.{length}
+use Rattle.syntax.specs.Limits.{sheetBytes, goalBytes}
+use Rattle.syntax.specs.Terms.{Atom, Literal, Body, call, equation, truth, falsity, done, also, Mark, Declaration, Clause, Sheet, Goal, termOf}
+use Rattle.syntax.specs.Reading.{Read, fault, ok, readSheet, readGoal, firstRepeat}
+use Rattle.syntax.specs.Verdicts.{faultOf, Outcome, refused, accepted, withoutRepeats, sheetFrom, goalFrom, sheetOf, goalOutcome, sheetVerdict}
+use Rattle.syntax.specs.declared.Refusal.{Refusal}
+use Rattle.syntax.specs.declared.Refusal.the-variants.{Settings, TooLong, NoToken, Overlong, Misplaced, OverLimit, Repeated}
+use Rattle.syntax.specs.declared.Run.{Run}
+use Rattle.syntax.specs.declared.Run.the-variants.{Refused as stopped-by}
+use Rattle.syntax.specs.declared.Text.{Text}
+use Rattle.syntax.specs.declared.Text.the-variants.{Sheet as inSheet, Goal as inGoal, Neither}
+use Rattle.syntax.specs.declared.Verdict.{Verdict}
+use Rattle.syntax.specs.declared.Verdict.the-variants.{Accepted, Refused}
+use Rattle.rules.specs.Modes.{Known, nothing, OpenArgument, Walk, faulted, known, marksOf, marksFor, firstOpen, undeclared, undeclaredAtom, undeclaredLiteral, undeclaredBody, undeclaredClause, undeclaredClauses, undeclaredInSheet, undeclaredInGoal, openInput, openOutput, literalFault, afterLiteral, walkOn, bodyFault, headFault, startKnown, clauseFault, clausesFault, sheetFault, walkFault, goalFault}
+use Rattle.rules.specs.Checking.{nameSpan, faultless, checkedFrom, checkedSheet, checkVerdict, checkedGoalFrom, checkedGoal, goalAnswer, checkGoalFrom, checkGoalVerdict}
+use Rattle.marking.specs.Standing.{Stands, stands-compound, LiteralStands, call-stands, equation-stands, truth-stands, falsity-stands, BodyStands, done-stands, also-stands, ClauseStands, ClausesStand, no-clauses, clause-stands, SheetStands, GoalStands}
+use Rattle.modes.proofs.Accepted.{read-stands, goal-stands}
+use Rattle.machine.specs.Runs.{RunOutcome, stopped, ran, Ended, reported, run, overGoal, overSheet, inRange, runOutcome, runAnswer}
+use Rattle.exports.specs.Names.{NameInside}
+
+-- what holds of a refusal, if there is one
+abbrev IfSome : (Refusal → Type 0) → Option Refusal → Type 0
+IfSome P none = Unit {0}
+IfSome P (some r) = P r
+
+abbrev IfFaulted : (Refusal → Type 0) → Walk → Type 0
+IfFaulted P (faulted r) = P r
+IfFaulted P (known σ) = Unit {0}
+
+abbrev IfRefused : {A : Type 0} → (Refusal → Type 0) → Outcome A → Type 0
+IfRefused P (refused r) = P r
+IfRefused P (accepted x) = Unit {0}
+
+module _ (s : List ℕ) where
+  -- the name of a refusal of this text
+  abbrev In : Refusal → Type 0
+  In r = nameSpan r .0 + nameSpan r .1 ≤ length s
+
+  -- the first of two
+  first : (o p : Option Refusal) → IfSome In o → IfSome In p → IfSome In (elim o as (λ _. Option Refusal) [ none ↦ p | some r ↦ some r ])
+  first none p h k = k
+  first (some r) p h k = h
+
+  in-text : (a : Atom) → Stands s (termOf a) → a .at + length (a .name) ≤ length s
+  in-text a (stands-compound n l w) = n .inside
+
+  -- ---- 8
+
+  undeclared-in : (c l : ℕ) (a : Atom) (o : Option (List Mark)) → Stands s (termOf a) → IfSome In (undeclared c l a o)
+  unfolding undeclared
+  undeclared-in c l a none w = in-text a w
+  undeclared-in c l a (some ms) w = tt
+
+  atom-8 : (ds : List Declaration) (c l : ℕ) (a : Atom) → Stands s (termOf a) → IfSome In (undeclaredAtom ds c l a)
+  unfolding undeclaredAtom
+  atom-8 ds c l a w = undeclared-in c l a (marksOf ds a) w
+
+  literal-8 : (ds : List Declaration) (c l : ℕ) (lit : Literal) → LiteralStands s lit → IfSome In (undeclaredLiteral ds c l lit)
+  unfolding undeclaredLiteral
+  literal-8 ds c l (call a) (call-stands w) = atom-8 ds c l a w
+  literal-8 ds c l (equation t u) w = tt
+  literal-8 ds c l truth w = tt
+  literal-8 ds c l falsity w = tt
+
+  body-8 : (ds : List Declaration) (c l : ℕ) (b : Body) → BodyStands s b → IfSome In (undeclaredBody ds c l b)
+  unfolding undeclaredBody
+  body-8 ds c l done w = tt
+  body-8 ds c l (also lit b) (also-stands h k) =
+      first (undeclaredLiteral ds c l lit) (undeclaredBody ds c (suc l) b) (literal-8 ds c l lit h) (body-8 ds c (suc l) b k)
+
+  clause-8 : (ds : List Declaration) (c : ℕ) (cl : Clause) → ClauseStands s cl → IfSome In (undeclaredClause ds c cl)
+  unfolding undeclaredClause
+  clause-8 ds c cl w =
+      first (undeclaredAtom ds c 0 (cl .head)) (undeclaredBody ds c 1 (cl .body)) (atom-8 ds c 0 (cl .head) (w .head)) (body-8 ds c 1 (cl .body) (w .body))
+
+  clauses-8 : (ds : List Declaration) (c : ℕ) (cls : List Clause) → ClausesStand s cls → IfSome In (undeclaredClauses ds c cls)
+  unfolding undeclaredClauses
+  clauses-8 ds c [] w = tt
+  clauses-8 ds c (cl ∷ cls) (clause-stands h k) =
+      first (undeclaredClause ds c cl) (undeclaredClauses ds (suc c) cls) (clause-8 ds c cl h) (clauses-8 ds (suc c) cls k)
+
+  -- ---- 9 and 10
+
+  input-in : (c l : ℕ) (a : Atom) (o : Option OpenArgument) → Stands s (termOf a) → IfSome In (openInput c l a o)
+  unfolding openInput
+  input-in c l a none w = tt
+  input-in c l a (some o) w = in-text a w
+
+  output-in : (c : ℕ) (a : Atom) (o : Option OpenArgument) → Stands s (termOf a) → IfSome In (openOutput c a o)
+  unfolding openOutput
+  output-in c a none w = tt
+  output-in c a (some o) w = in-text a w
+
+  literal-9 : (ds : List Declaration) (c l : ℕ) (τ : Known) (lit : Literal) → LiteralStands s lit → IfSome In (literalFault ds c l τ lit)
+  unfolding literalFault
+  literal-9 ds c l τ (call a) (call-stands w) = input-in c l a _ w
+  literal-9 ds c l τ (equation t u) w = tt
+  literal-9 ds c l τ truth w = tt
+  literal-9 ds c l τ falsity w = tt
+
+  walk-on : (o : Option Refusal) (rest : Known → Walk) (σ : Known) → IfSome In o → IfFaulted In (rest σ) → IfFaulted In (walkOn o rest σ)
+  unfolding walkOn
+  walk-on none rest σ h k = k
+  walk-on (some r) rest σ h k = h
+
+  body-9 : (ds : List Declaration) (c l : ℕ) (τ : Known) (b : Body) → BodyStands s b → IfFaulted In (bodyFault ds c l τ b)
+  unfolding bodyFault
+  body-9 ds c l τ done w = tt
+  body-9 ds c l τ (also lit b) (also-stands h k) =
+      walk-on (literalFault ds c l τ lit) (λ σ. bodyFault ds c (suc l) σ b) (afterLiteral ds lit τ) (literal-9 ds c l τ lit h)
+      (body-9 ds c (suc l) (afterLiteral ds lit τ) b k)
+
+  head-10 : (ds : List Declaration) (c : ℕ) (h : Atom) (x : Walk) → Stands s (termOf h) → IfFaulted In x → IfSome In (headFault ds c h x)
+  unfolding headFault
+  head-10 ds c h (faulted r) w k = k
+  head-10 ds c h (known σ) w k = output-in c h _ w
+
+  clause-9 : (ds : List Declaration) (c : ℕ) (cl : Clause) → ClauseStands s cl → IfSome In (clauseFault ds c cl)
+  unfolding clauseFault
+  clause-9 ds c cl w = head-10 ds c (cl .head) _ (w .head) (body-9 ds c 1 (startKnown ds (cl .head)) (cl .body) (w .body))
+
+  clauses-9 : (ds : List Declaration) (c : ℕ) (cls : List Clause) → ClausesStand s cls → IfSome In (clausesFault ds c cls)
+  unfolding clausesFault
+  clauses-9 ds c [] w = tt
+  clauses-9 ds c (cl ∷ cls) (clause-stands h k) =
+      first (clauseFault ds c cl) (clausesFault ds (suc c) cls) (clause-9 ds c cl h) (clauses-9 ds (suc c) cls k)
+
+  walk-in : (x : Walk) → IfFaulted In x → IfSome In (walkFault x)
+  unfolding walkFault
+  walk-in (faulted r) h = h
+  walk-in (known σ) h = tt
+
+  sheet-in : (sh : Sheet) → SheetStands s sh → IfSome In (sheetFault sh)
+  unfolding sheetFault undeclaredInSheet
+  sheet-in sh w =
+      first (undeclaredInSheet sh) (clausesFault (sh .declarations) 1 (sh .clauses)) (clauses-8 (sh .declarations) 1 (sh .clauses) (w .clauses))
+      (clauses-9 (sh .declarations) 1 (sh .clauses) (w .clauses))
+
+  goal-in : (sh : Sheet) (g : Goal) → GoalStands s g → IfSome In (goalFault sh g)
+  unfolding goalFault undeclaredInGoal
+  goal-in sh g w =
+      first (undeclaredInGoal sh g) (walkFault (bodyFault (sh .declarations) 0 1 nothing (g .body))) (body-8 (sh .declarations) 0 1 (g .body) w)
+      (walk-in (bodyFault (sh .declarations) 0 1 nothing (g .body)) (body-9 (sh .declarations) 0 1 nothing (g .body) w))
+
+  -- ---- 2 to 7 hand back no name
+
+  spelling-in : (b : ℕ) (x y z : Bool) → In (cond x (NoToken b) (cond y (Overlong b) (cond z (Misplaced b) (OverLimit b))))
+  spelling-in b true y z = omega arith
+  spelling-in b false true z = omega arith
+  spelling-in b false false true = omega arith
+  spelling-in b false false false = omega arith
+
+  -- what was read has no fault, or one with its name in the text
+  faultless-in : {A : Type 0} (x : A) (o : Option Refusal) → IfSome In o → IfRefused In (faultless x o)
+  unfolding faultless
+  faultless-in x none h = tt
+  faultless-in x (some r) h = h
+
+  repeats-in : (sh : Sheet) (o : Option ℕ) → SheetStands s sh → IfRefused In (checkedFrom (withoutRepeats sh o))
+  unfolding withoutRepeats checkedFrom
+  repeats-in sh none w = faultless-in sh (sheetFault sh) (sheet-in sh w)
+  repeats-in sh (some b) w = omega arith
+
+  sheet-read-in : (x : Read Sheet) → readSheet s ≡ x → IfRefused In (checkedFrom (sheetFrom x))
+  unfolding sheetFrom checkedFrom
+  sheet-read-in (fault n b) e = spelling-in b (eqb n 3) (eqb n 4) (eqb n 5)
+  sheet-read-in (ok sh st) e = repeats-in sh (firstRepeat [] (sh .declarations)) (read-stands s sh st e)
+
+  sheet-sized-in : (b : Bool) → IfRefused In (checkedFrom (elim b as (λ _. Outcome Sheet) [ true ↦ sheetFrom (readSheet s) | false ↦ refused TooLong ]))
+  unfolding checkedFrom
+  sheet-sized-in true = sheet-read-in (readSheet s) refl
+  sheet-sized-in false = omega arith
+
+  checked-in : IfRefused In (checkedSheet s)
+  unfolding checkedSheet sheetOf
+  checked-in = sheet-sized-in (leb (length s) sheetBytes)
+
+  goal-read-in : (sh : Sheet) (x : Read Goal) → readGoal s ≡ x → IfRefused In (checkedGoalFrom sh (goalFrom x))
+  unfolding goalFrom checkedGoalFrom
+  goal-read-in sh (fault n b) e = spelling-in b (eqb n 3) (eqb n 4) (eqb n 5)
+  goal-read-in sh (ok g st) e = faultless-in g (goalFault sh g) (goal-in sh g (goal-stands s g st e))
+
+  goal-sized-in : (sh : Sheet) (b : Bool) → IfRefused In (checkedGoalFrom sh (elim b as (λ _. Outcome Goal) [ true ↦ goalFrom (readGoal s) | false ↦ refused TooLong ]))
+  unfolding checkedGoalFrom
+  goal-sized-in sh true = goal-read-in sh (readGoal s) refl
+  goal-sized-in sh false = omega arith
+
+  checked-goal-in : (sh : Sheet) → IfRefused In (checkedGoal sh s)
+  unfolding checkedGoal goalOutcome
+  checked-goal-in sh = goal-sized-in sh (leb (length s) goalBytes)
+
+-- ---- both texts
+
+module _ (s g : List ℕ) where
+  abbrev OfVerdict : Verdict → Type 0
+  OfVerdict (Accepted n k) = Unit {0}
+  OfVerdict (Refused t r) = NameInside s g t r
+
+  abbrev OfRun : RunOutcome → Type 0
+  OfRun (stopped t r) = NameInside s g t r
+  OfRun (ran report text) = Unit {0}
+
+  of-sheet : (o : Outcome Sheet) → IfRefused (In s) o → OfVerdict (sheetVerdict o)
+  unfolding sheetVerdict
+  of-sheet (refused r) h = h
+  of-sheet (accepted sh) h = tt
+
+  of-goal : (sh : Sheet) (o : Outcome Goal) → IfRefused (In g) o → OfVerdict (goalAnswer sh o)
+  unfolding goalAnswer sheetVerdict
+  of-goal sh (refused r) h = h
+  of-goal sh (accepted x) h = tt
+
+  of-both : (o : Outcome Sheet) → IfRefused (In s) o → OfVerdict (checkGoalFrom g o)
+  unfolding checkGoalFrom
+  of-both (refused r) h = h
+  of-both (accepted sh) h = of-goal sh (checkedGoal sh g) (checked-goal-in g sh)
+
+  -- of a sheet that is checked
+  pub check-name : (t : Text) (r : Refusal) → checkVerdict s ≡ Refused t r → NameInside s g t r
+  unfolding checkVerdict
+  check-name t r e = subst OfVerdict e (of-sheet (checkedSheet s) (checked-in s))
+
+  -- of a goal over it
+  pub check-goal-name : (t : Text) (r : Refusal) → checkGoalVerdict s g ≡ Refused t r → NameInside s g t r
+  unfolding checkGoalVerdict
+  check-goal-name t r e = subst OfVerdict e (of-both (checkedSheet s) (checked-in s))
+
+  module _ (allowance wanted room : ℕ) where
+    run-goal-in : (sh : Sheet) (o : Outcome Goal) → IfRefused (In g) o → OfRun (overGoal sh allowance wanted room o)
+    unfolding overGoal reported
+    run-goal-in sh (refused r) h = h
+    run-goal-in sh (accepted x) h = tt
+
+    run-sheet-in : (o : Outcome Sheet) → IfRefused (In s) o → OfRun (overSheet g allowance wanted room o)
+    unfolding overSheet
+    run-sheet-in (refused r) h = h
+    run-sheet-in (accepted sh) h = run-goal-in sh (checkedGoal sh g) (checked-goal-in g sh)
+
+    ranged-in : (b : Bool) → OfRun (elim b as (λ _. RunOutcome) [ true ↦ overSheet g allowance wanted room (checkedSheet s) | false ↦ stopped Neither Settings ])
+    ranged-in true = run-sheet-in (checkedSheet s) (checked-in s)
+    ranged-in false = omega arith
+
+    answer-in : (o : RunOutcome) → OfRun o → (t : Text) (r : Refusal) → runAnswer o ≡ stopped-by t r → NameInside s g t r
+    unfolding runAnswer
+    answer-in (stopped x q) h t r e = let a : x ≡ t = cc in let b : q ≡ r = cc in subst (λ (y : Text). NameInside s g y r) a (subst (λ (z : Refusal). NameInside s g x z) b h)
+    answer-in (ran report text) h t r e = absurd (let z : _≡_ {A = ℕ} 0 1 = cc in omega arith)
+
+    -- of a run
+    pub run-name : (t : Text) (r : Refusal) → runAnswer (runOutcome s g allowance wanted room) ≡ stopped-by t r → NameInside s g t r
+    unfolding runOutcome
+    run-name t r e = answer-in (runOutcome s g allowance wanted room) (ranged-in (inRange allowance wanted)) t r e
