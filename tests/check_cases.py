@@ -1,5 +1,6 @@
 """Cases for checking: sheets ("C") and goals over sheets ("K")."""
 
+import random
 from itertools import product
 
 import examples
@@ -28,8 +29,10 @@ def marked(name, marks):
 def worked_examples(add):
     for sheet, _ in examples.CHECKS:
         add("C", sheet)
-        add("K", sheet, b"true.")
-        add("K", sheet, b"p(")
+        if len(sheet) != 16_384:
+            add("K", sheet, b"p(")
+        if len(sheet) < 16_384:
+            add("K", sheet, b"true.")
     for goal, _ in examples.GOALS:
         add("K", b":-mode p.", goal)
     for *_, sheet, goal, _ in examples.RUNS + examples.SETTINGS:
@@ -232,6 +235,71 @@ def open_places(add):
             add("K", marked("p", "+"), "Y = a, p(" + nested + ").")
 
 
+def nested(terms):
+    """A term with these inside, at most eight to a list."""
+    while len(terms) > 8:
+        terms = ["g(%s)" % ",".join(terms[n : n + 8]) for n in range(0, len(terms), 8)]
+    return "f(%s)" % ",".join(terms)
+
+
+def chains(add):
+    """f(X,Y,Z) = f(Y,Z,a) of every length to 64, in the worst order, behind it the first variable as a head's output, an input, in a goal; at some
+    lengths also all of them, a chain that stays unknown, one that is cut in the middle, and one that the head makes known."""
+    letters = [chr(65 + n) for n in range(26)]
+    names = letters + [one + other for one in letters for other in "01"]
+    for length in range(1, 65):
+        chain = names[:length]
+        body = "%s = %s" % (nested(chain), nested(chain[1:] + ["a"]))
+        add("C", ":-mode p(-).p(A):-%s." % body)
+        add("C", ":-mode p(+).:-mode q.q:-%s,p(A)." % body)
+        add("K", ":-mode p(+).", "%s,p(A)." % body)
+        if length in (2, 3, 8, 9, 17, 32, 64):
+            cut = chain[1:] + ["a"]
+            cut[length // 2] = chain[length // 2]
+            for last in (chain[1:] + [chain[0]], cut):
+                body = "%s = %s" % (nested(chain), nested(last))
+                add("C", ":-mode p(-). p(%s) :- %s." % (nested(chain[::-1]), body))
+                add("K", ":-mode p(+).", "%s, p(%s)." % (body, nested(chain[::-1])))
+            body = "%s = %s" % (nested(chain), nested(chain[1:] + [chain[-1]]))
+            add("C", ":-mode p(+,-). p(%s,A) :- %s." % (chain[-1], body))
+            add("C", ":-mode p(+,-). p(A,%s) :- %s." % (chain[-1], body))
+
+
+def chance_equations(add, rng):
+    """Equations of nested terms over a few variables, some of them known before; every variable an output or an input behind them."""
+    names = variables(5)
+
+    def term(depth):
+        if depth == 0 or rng.random() < 0.5:
+            return rng.choice(names + ["a", "a"])
+        return random_sheets.atom(rng.choice("fffg"), [term(depth - 1) for _ in range(rng.choice((1, 2, 2, 2, 3)))])
+
+    def partner(left):
+        """A term that as a rule falls into pairs with the left one."""
+        if "(" not in left or rng.random() < 0.3:
+            return rng.choice(names + ["a", left])
+        inside, parts, level = left[2:-1], [""], 0
+        for sign in inside:
+            level += (sign == "(") - (sign == ")")
+            if sign == "," and level == 0:
+                parts.append("")
+            else:
+                parts[-1] += sign
+        return random_sheets.atom(left[0], [partner(part) for part in parts])
+
+    for _ in range(90):
+        body = []
+        for _ in range(rng.choice((1, 1, 1, 2))):
+            left = random_sheets.atom("f", [term(2) for _ in range(rng.randint(2, 5))])
+            right = partner(left)
+            body.append("%s = %s" % rng.choice(((left, right), (right, left))))
+        marks = ["-"] * 5
+        for _ in range(rng.choice((0, 0, 1, 2))):
+            marks[rng.randrange(5)] = "+"
+        add("C", marked("p", marks) + random_sheets.atom("p", names) + " :- %s." % ", ".join(body))
+        add("K", marked("p", "+" * 5), "%s, %s." % (", ".join(body), random_sheets.atom("p", names)))
+
+
 def by_chance(add, rng):
     for _ in range(420):
         lines, predicates = random_sheets.well_marked_sheet(rng)
@@ -262,3 +330,5 @@ def make(add, rng):
     many_items(add)
     by_chance(add, rng)
     open_places(add)
+    chains(add)
+    chance_equations(add, random.Random(SEED + 14))

@@ -33,7 +33,7 @@ CHECKS = [
     (P_OUT % b"fail", "accepted 1 1"),
     (P_OUT % b"true", "refused sheet 10 16 1 0 1 p"),
     (P_OUT % b"a = b", "accepted 1 1"),
-    (P_OUT % b"f(X,Y) = f(Y,a)", "refused sheet 10 16 1 0 1 p"),
+    (P_OUT % b"f(X,Y) = f(Y,a)", "accepted 1 1"),  # as paper 02 (xiv) has it
     (NEXT % b"next(U,T)", "refused sheet 9 73 2 1 1 next"),
     (NEXT % b"next(S,U)", "refused sheet 10 62 2 0 2 ends"),
     (b"p(.", "refused sheet 5 2 0 0 0"),
@@ -112,7 +112,18 @@ CHECKS = [
     (b":-mode p(-). p(X) :- 00 = 0.", "refused sheet 10 15 1 0 1 p"),
     (b":-mode p(-). p(X) :- X = f(X).", "refused sheet 10 15 1 0 1 p"),
     (b":-mode p(-). p(X) :- f(Y,X) = f(a,Y).", "accepted 1 1"),
-    (b":-mode p(-). p(X) :- f(X,Y) = f(Y,a).", "refused sheet 10 15 1 0 1 p"),
+    # paper 02 (xiv): an equation is gone over again, other literals are not
+    (b":-mode p(-). p(X) :- f(X,Y) = f(Y,a).", "accepted 1 1"),
+    (b":-mode p(-). p(X) :- f(X,Y,Z) = f(Y,Z,a).", "accepted 1 1"),
+    (b":-mode p(-). p(X) :- X = Y, Y = a.", "refused sheet 10 15 1 0 1 p"),
+    (b":-mode p(-). p(X) :- f(X,Y) = f(Y,Z), Z = a.", "refused sheet 10 15 1 0 1 p"),
+    (b":-mode p(-). p(X):-f(X,Y)=f(Y,Z).", "refused sheet 10 15 1 0 1 p"),
+    (b":-mode p(-,-). p(f(X,Z),X):-f(X,Y)=f(Y,a).", "refused sheet 10 21 1 0 1 p"),
+    (b":-mode p(+). p(X) :- f(Y,Z) = f(Z,X), p(f(Y,Z)).", "accepted 1 1"),
+    (b":-mode p(-). p(X) :- f(X,g(Y,h(Z))) = f(Y,g(Z,h(a))).", "accepted 1 1"),
+    # 9 before, now 10 at the head, and 9 at a later literal
+    (b":-mode p(-). :-mode q(+). p(X) :- f(Y,Z) = f(Z,a), q(Y). q(X).", "refused sheet 10 28 1 0 1 p"),
+    (b":-mode p(-). :-mode q(+). p(X) :- f(Y,Z) = f(Z,a), q(Y), q(X). q(X).", "refused sheet 9 59 1 3 1 q"),
     # paper 02, (ii): the first open variable in the argument, where it stands there
     (b":-mode p(+). p(X) :- Y = Z, p(f(X,g(Z),Y)).", "refused sheet 9 36 1 2 1 p"),
     (b":-mode p(-,-). p(X,f(a,Y,X)) :- X=b.", "refused sheet 10 23 1 0 2 p"),
@@ -157,6 +168,9 @@ RUNS = [
     (b"", b"X = " + b"0" * 32 + b".", "refused goal 4 4 0 0 0"),
     (b"", b"X = 10, Y = 010, X = Y, Z = 100.", "X = 10, Y = 10, Z = 100\nend done 1 5"),
     (b":-mode p(-,+).", b"true, p(X,f(Y)).", "refused goal 9 12 0 2 2 p"),
+    # paper 02, (xiv): goals too
+    (b":-mode p(+). p(a).", b"f(X,Y) = f(Y,a), p(X).", "X = a, Y = a\nend done 1 4"),
+    (b":-mode p(+). p(a).", b"f(X,Y) = f(Y,Z), p(X).", "refused goal 9 19 0 2 1 p"),
     # paper 02, (ii): a byte of the goal
     (b":-mode p(+). p(a).", b"p(f(a,_)).", "refused goal 9 6 0 1 1 p"),
     (b":-mode p(+). p(a).", b"X=a,p(f(X,_)).", "refused goal 9 10 0 2 1 p"),

@@ -11,7 +11,7 @@ use lib.Dec.{T, eqb, eqb-refl}
 use lib.ListN.{length, set, replicate}
 use Rattle.syntax.specs.Limits.{variables}
 use Rattle.syntax.specs.Terms.{Term, Terms, variable, compound, nil, cons, arity, Atom, termOf, Mark, Declaration, samePredicate, sameName}
-use Rattle.rules.specs.Modes.{Known, knows, nothing, isGround, areGround, groundTerm, groundTerms, groundBoth, equateVariable, equateSame, equate, equateAll, marksOf, orNoMarks, marksFor, sameMark, listOf, openByte, ifMarked, OpenArgument, firstOpen, faulty, oneMore, countFaulty, groundIf, groundMarked}
+use Rattle.rules.specs.Modes.{Known, knows, nothing, isGround, areGround, groundTerm, groundTerms, groundBoth, equateVariable, equateSame, equate, equateAll, further, goOver, passes, settle, marksOf, orNoMarks, marksFor, sameMark, listOf, openByte, ifMarked, OpenArgument, firstOpen, faulty, oneMore, countFaulty, groundIf, groundMarked}
 use Rattle.rules.proofs.Terms.{isNone, ground-none}
 use Rattle.machine.specs.Substitution.{RTerm, RTerms, var, app, rnil, rcons, copied, copiedAll, closed, closedAll, Binding, resolve}
 use Rattle.machine.proofs.Tests.{both, and, either, name-refl}
@@ -171,7 +171,7 @@ sound-same false pairs τ c b h s = absurd h
 mutual
   unfolding equate
 
-  pub sound-equate : (t u : Term) (τ : Known) (c : ℕ) (b : List Binding) → Sound τ c b → Same b (copied c t) (copied c u) → Sound (equate t u τ) c b
+  sound-equate : (t u : Term) (τ : Known) (c : ℕ) (b : List Binding) → Sound τ c b → Same b (copied c t) (copied c u) → Sound (equate t u τ) c b
   sound-equate (variable i at) u τ c b s e = sound-both (variable i at) u τ c b s e
   sound-equate (compound at f ts) (variable j bt) τ c b s e = sound-both (compound at f ts) (variable j bt) τ c b s e
   sound-equate (compound at f ts) (compound bt g us) τ c b s e =
@@ -185,6 +185,22 @@ mutual
   sound-pairs (cons t ts) nil τ c b s e = absurd (nil-cons b (copied c t) (copiedAll c ts) (sym e))
   sound-pairs (cons t ts) (cons u us) τ c b s e =
       sound-pairs ts us (equate t u τ) c b (sound-equate t u τ c b s (cons-same b (copied c t) (copied c u) (copiedAll c ts) (copiedAll c us) e .0)) (cons-same b (copied c t) (copied c u) (copiedAll c ts) (copiedAll c us) e .1)
+
+-- each pass begins from what the last one left
+sound-passes : (t u : Term) (k : ℕ) (τ : Known) (c : ℕ) (b : List Binding) → Sound τ c b → Same b (copied c t) (copied c u) → Sound (passes k t u τ) c b
+unfolding passes goOver
+sound-passes t u zero τ c b s e = s
+sound-passes t u (suc k) τ c b s e =
+    by (further τ (equate t u τ)) (sound-equate t u τ c b s e) (sound-passes t u k (equate t u τ) c b (sound-equate t u τ c b s e) e)
+  where
+    by : (x : Bool) → Sound (equate t u τ) c b → Sound (passes k t u (equate t u τ)) c b
+        → Sound (elim x as (λ _. Known) [ true ↦ passes k t u (equate t u τ) | false ↦ equate t u τ ]) c b
+    by true last more = more
+    by false last more = last
+
+pub sound-settle : (t u : Term) (τ : Known) (c : ℕ) (b : List Binding) → Sound τ c b → Same b (copied c t) (copied c u) → Sound (settle t u τ) c b
+unfolding settle
+sound-settle t u τ c b s e = sound-passes t u variables τ c b s e
 
 -- ---- marked arguments
 

@@ -19,7 +19,7 @@ use Rattle.machine.specs.Machine.{Pending, Call, pending}
 use Rattle.machine.specs.Counts.{isWithin, isLeft}
 use Rattle.machine.proofs.Tests.{neither, nor, some-none}
 use Rattle.machine.proofs.Terms.{Grows, grows-refl, grows-trans}
-use Rattle.machine.proofs.Grounding.{Same, Sound, sound-grows, sound-nothing, sound-equate, Marked, marked-grows, marked-known, sound-marked, marked-across}
+use Rattle.machine.proofs.Grounding.{Same, Sound, sound-grows, sound-nothing, sound-settle, Marked, marked-grows, marked-known, sound-marked, marked-across}
 
 -- the arguments of an atom of copy c that have a mark are closed
 abbrev pub ClosedArguments : Sheet → Mark → List Binding → ℕ → Atom → Type 0
@@ -160,7 +160,7 @@ literal-safe sh c τ b n l P s (call a) f k = (inputs, λ b1 g o. k b1 g (sound-
 
     inputs : ClosedArguments sh input b c a
     inputs = marked-known input τ c b s marks arguments 1 (open-none n l a (firstOpen input τ marks arguments 1) f)
-literal-safe sh c τ b n l P s (equation t u) f k = λ b1 g e. k b1 g (sound-equate t u τ c b1 (sound-grows τ c g s) e)
+literal-safe sh c τ b n l P s (equation t u) f k = λ b1 g e. k b1 g (sound-settle t u τ c b1 (sound-grows τ c g s) e)
 literal-safe sh c τ b n l P s truth f k = k b (grows-refl b) s
 literal-safe sh c τ b n l P s falsity f k = tt
 

@@ -118,12 +118,12 @@ module _ (s table : List ℕ) (p q v x : ℕ) (ev : v ≡ getD table p 0) (ex : 
 
 -- ---- equations
 
-open-left : (table : List ℕ) (p : ℕ) (τ : Known) (t u : Term) → Has table p (termWords t) → getD table p 0 < firstName → equateVariable t u τ ≡ equate t u τ
+pub open-left : (table : List ℕ) (p : ℕ) (τ : Known) (t u : Term) → Has table p (termWords t) → getD table p 0 < firstName → equateVariable t u τ ≡ equate t u τ
 unfolding termWords equate
 open-left table p τ (variable n at) u h l = refl
 open-left table p τ (compound at f ts) u h l = absurd (omega (arith, h .1))
 
-open-right : (table : List ℕ) (q : ℕ) (τ : Known) (t u : Term) → Has table q (termWords u) → getD table q 0 < firstName → equateVariable t u τ ≡ equate t u τ
+pub open-right : (table : List ℕ) (q : ℕ) (τ : Known) (t u : Term) → Has table q (termWords u) → getD table q 0 < firstName → equateVariable t u τ ≡ equate t u τ
 unfolding termWords equate
 open-right table q τ (variable n at) u h l = refl
 open-right table q τ (compound at f ts) (variable m bt) h l = refl

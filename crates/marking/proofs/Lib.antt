@@ -3,3 +3,4 @@ pub mod Grounding
 pub mod Equating
 pub mod Marking
 pub mod Judging
+pub mod Passing

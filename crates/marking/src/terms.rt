@@ -11,7 +11,7 @@ ghost use mathlib.Core.Path.{_≡_};
 ghost use Prim.Native.Nat.{_≤_};
 ghost use lib.ListN.{getD};
 ghost use Rattle.syntax.specs.Words.{firstName};
-ghost use Rattle.rules.specs.Modes.{isGround, openByte, openByteOf, groundTerm, groundTerms, equateVariable, equate, equateAll};
+ghost use Rattle.rules.specs.Modes.{isGround, openByte, openByteOf, groundTerm, groundTerms, equateVariable, equate, equateAll, further, settle};
 ghost use Rattle.marking.specs.Tables.{TermAt, TermsAt, PairAt, PairsAt};
 ghost use Rattle.marking.specs.Answers.{groundnessOf};
 ghost use Rattle.marking.specs.Functors.{sameFunctor};
@@ -133,8 +133,8 @@ fn same_functor(s: &[u8], table: &[u32], p: usize, q: usize) -> bool
     lexer::same_bytes(s, a, s, b, len)
 }
 
-// The effect of an equation of two terms of the text.
-pub fn equate(s: &[u8], table: &[u32], p: usize, q: usize, known: Known) -> Known
+// One pass over an equation of two terms of the text.
+fn equate(s: &[u8], table: &[u32], p: usize, q: usize, known: Known) -> Known
     requires { ⌜ PairAt (now s) (now table) p q ⌝ }
     ensures { λ r. ⌜ ((w : PairAt (now (s .entry)) (now (table .entry)) p q) → r ≡ equate (w .left) (w .right) known) ⌝ }
 {
@@ -153,7 +153,7 @@ pub fn equate(s: &[u8], table: &[u32], p: usize, q: usize, known: Known) -> Know
     equate_all(s, table, from, stop, other, known)
 }
 
-// The effect of the equations of two lists of as many terms, from left to right.
+// One pass over the equations of two lists of as many terms, from left to right.
 fn equate_all(s: &[u8], table: &[u32], p: usize, stop: usize, q: usize, known: Known) -> Known
     requires { ⌜ PairsAt (now s) (now table) p stop q ⌝ }
     ensures { λ r. ⌜ ((w : PairsAt (now (s .entry)) (now (table .entry)) p stop q) → r ≡ equateAll (w .left) (w .right) known) ⌝ }
@@ -165,4 +165,49 @@ fn equate_all(s: &[u8], table: &[u32], p: usize, stop: usize, q: usize, known: K
     let next = past(table, p);
     let other = past(table, q);
     equate_all(s, table, next, stop, other, after)
+}
+
+// Whether a variable that was unknown before is ground after.
+fn further(before: Known, after: Known) -> bool
+    ensures { λ r. ⌜ r ≡ further before after ⌝ }
+{
+    let mut i = 0;
+    while i < VARIABLES {
+        if after[i] {
+            if !before[i] {
+                return true;
+            }
+        }
+        i = i + 1;
+    }
+    false
+}
+
+// Passes over an equation, until one makes nothing further ground.
+fn go_over(s: &[u8], table: &[u32], p: usize, q: usize, known: Known) -> Known
+    requires { ⌜ PairAt (now s) (now table) p q ⌝ }
+    ensures { λ r. ⌜ ((w : PairAt (now (s .entry)) (now (table .entry)) p q) → r ≡ settle (w .left) (w .right) known) ⌝ }
+{
+    let mut flags = known;
+    loop {
+        let after = equate(s, table, p, q, flags);
+        if !further(flags, after) {
+            return after;
+        }
+        flags = after;
+    }
+}
+
+// The effect of an equation of two terms of the text. One pass does where a variable is on a side.
+pub fn settle(s: &[u8], table: &[u32], p: usize, q: usize, known: Known) -> Known
+    requires { ⌜ PairAt (now s) (now table) p q ⌝ }
+    ensures { λ r. ⌜ ((w : PairAt (now (s .entry)) (now (table .entry)) p q) → r ≡ settle (w .left) (w .right) known) ⌝ }
+{
+    if word_at(table, p) < FIRST_NAME {
+        return equate_variable(table, p, q, known);
+    }
+    if word_at(table, q) < FIRST_NAME {
+        return equate_variable(table, p, q, known);
+    }
+    go_over(s, table, p, q, known)
 }

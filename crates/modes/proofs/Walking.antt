@@ -10,7 +10,7 @@ use lib.ListN.{length, getD}
 use Rattle.syntax.specs.Terms.{Term, Atom, termOf, Literal, Body, call, equation, truth, falsity, done, also, input, output, Declaration}
 use Rattle.syntax.specs.Words.{termWords, atomWords, literalWords, bodyWords, bodyLength, marksNumber, truthKind, falsityKind, callKind, equationKind}
 use Rattle.syntax.specs.declared.Refusal.{Refusal}
-use Rattle.rules.specs.Modes.{Known, everything, marksFor, listOf, firstOpen, groundMarked, equate, openInput, undeclaredAtom, undeclaredLiteral, undeclaredBody, literalFault, afterLiteral, Walk, known, walkOn, bodyFault}
+use Rattle.rules.specs.Modes.{Known, everything, marksFor, listOf, firstOpen, groundMarked, settle, openInput, undeclaredAtom, undeclaredLiteral, undeclaredBody, literalFault, afterLiteral, Walk, known, walkOn, bodyFault}
 use Rattle.marking.specs.Standing.{Stands, LiteralStands, call-stands, equation-stands, BodyStands, also-stands}
 use Rattle.words.specs.Tables.{Has}
 use Rattle.marking.specs.Tables.{TermAt, PairAt, MarkedAt, JudgedAt, DeclarationsAt, AtomAt, LiteralAt, BodyAt}
@@ -152,13 +152,13 @@ module _ {g table : List ℕ} {p : ℕ} (kind : ℕ) (e : kind ≡ getD table p 
       pub sides-at : LiteralAt g table p → PairAt g table (p + 1) next
       sides-at w = subst⁻¹ (PairAt g table (p + 1)) (n (equation-at w .left)) (equation-at w .pair)
 
-      pub walked-equation : (ds : List Declaration) (c m : ℕ) (τ after : Known) → ((u : PairAt g table (p + 1) next) → after ≡ equate (u .left) (u .right) τ)
+      pub walked-equation : (ds : List Declaration) (c m : ℕ) (τ after : Known) → ((u : PairAt g table (p + 1) next) → after ≡ settle (u .left) (u .right) τ)
           → (w : LiteralAt g table p) → walkBy Fine after ≡ literalWalk ds c m τ (w .literal)
       unfolding literalFault afterLiteral walkOn
       walked-equation ds c m τ after h w =
           let q : EquationAt g table p (w .literal) = equation-at w in
-          let r : (u : PairAt g table (p + 1) (p + 1 + length (termWords (q .left .term)))) → after ≡ equate (u .left) (u .right) τ =
-          subst (λ (j : ℕ). (u : PairAt g table (p + 1) j) → after ≡ equate (u .left) (u .right) τ) (n (q .left)) h in
+          let r : (u : PairAt g table (p + 1) (p + 1 + length (termWords (q .left .term)))) → after ≡ settle (u .left) (u .right) τ =
+          subst (λ (j : ℕ). (u : PairAt g table (p + 1) j) → after ≡ settle (u .left) (u .right) τ) (n (q .left)) h in
           ap known (r (q .pair)) ∙ sym (ap (literalWalk ds c m τ) (q .is))
 
   -- ---- refusal 8

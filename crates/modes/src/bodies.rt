@@ -7,7 +7,7 @@ use marking::marks::call_fault;
 use marking::marks::ground_marked;
 use marking::marks::marks_of;
 use marking::marks::undeclared_atom;
-use marking::terms::equate;
+use marking::terms::settle;
 use syntax::CALL_KIND;
 use syntax::FALSITY_KIND;
 use syntax::NODE_WORDS;
@@ -143,7 +143,7 @@ fn literal_walk(
         return call_walk(s, declared, n, g, table, q, clause, literal, known);
     }
     let right = past(table, q);
-    let after = equate(g, table, q, right, known);
+    let after = settle(g, table, q, right, known);
     Walked {
         fault: Checked::Fine,
         known: after,

@@ -15,7 +15,7 @@ use Rattle.syntax.specs.declared.Verdict.the-variants.{Accepted}
 use Rattle.rules.specs.Modes.{nothing, Walk, faulted, known, bodyFault, undeclaredInSheet, undeclaredInGoal, clausesFault, sheetFault, walkFault, goalFault}
 use Rattle.rules.specs.Checking.{faultless, checkedFrom, checkedSheet, checkVerdict, checkedGoalFrom, checkedGoal, goalAnswer, checkGoalFrom, checkGoalVerdict}
 use Rattle.rules.specs.Judgment.{WellModed, WellModedGoal}
-use Rattle.rules.proofs.Bodies.{first-none, second-none, both-none, body-declared, body-holds, body-derived, clauses-declared, clauses-hold, clauses-derived}
+use Rattle.rules.proofs.Bodies.{first-none, second-none, both-none, nothing-wide, body-declared, body-holds, body-derived, clauses-declared, clauses-hold, clauses-derived}
 
 -- ---- sheets
 
@@ -47,7 +47,7 @@ goal-accepted : (sh : Sheet) (g : Goal) → WellModedGoal sh g → goalFault sh 
 unfolding goalFault undeclaredInGoal walkFault
 goal-accepted sh g m =
     both-none (undeclaredInGoal sh g) (walkFault (bodyFault (sh .declarations) 0 1 nothing (g .body))) (body-declared (m .1) 0 1)
-    (rw (body-holds (m .1) 0 1))
+    (rw (body-holds (m .1) nothing-wide 0 1))
 
 goal-derived : (sh : Sheet) (g : Goal) → goalFault sh g ≡ none → WellModedGoal sh g
 unfolding goalFault undeclaredInGoal walkFault
@@ -58,7 +58,7 @@ goal-derived sh g e =
     go : (w : Walk) → bodyFault (sh .declarations) 0 1 nothing (g .body) ≡ w → walkFault w ≡ none → WellModedGoal sh g
     go (faulted r) p h = absurd (let z : _≡_ {A = ℕ} 0 1 = cc in omega arith)
     go (known σ) p h =
-        (σ, body-derived (sh .declarations) 0 (g .body) 1 nothing σ (first-none (undeclaredInGoal sh g) (walkFault (bodyFault (sh .declarations) 0 1 nothing (g .body))) e) p)
+        (σ, body-derived (sh .declarations) 0 (g .body) 1 nothing σ nothing-wide (first-none (undeclaredInGoal sh g) (walkFault (bodyFault (sh .declarations) 0 1 nothing (g .body))) e) p)
 
 -- A goal over a sheet has no fault, 8 or 9, if and only if the judgment has a derivation for it.
 pub goal-agrees : (sh : Sheet) (g : Goal) → (goalFault sh g ≡ none) ↔ WellModedGoal sh g

@@ -2,7 +2,7 @@
 -- Assumes nothing.
 use Prim.Native.Nat.{ℕ, suc}
 use mathlib.Core.Path.{_≡_, refl, sym, ap, _∙_}
-use mathlib.Core.Bool.{Bool, true, false, not, cond}
+use mathlib.Core.Bool.{Bool, true, false, cond}
 use mathlib.Core.List.{List, [], _∷_}
 use mathlib.Core.Option.{Option, none, some}
 use lib.Dec.{leb, eqb}
@@ -14,32 +14,34 @@ use Rattle.syntax.specs.Verdicts.{Outcome, refused, accepted, faultOf, withoutR
 use Rattle.syntax.specs.declared.Refusal.{Refusal}
 use Rattle.syntax.specs.declared.Refusal.the-variants.{TooLong, NoToken, Overlong, Misplaced, OverLimit}
 use Rattle.syntax.specs.declared.Verdict.{Verdict}
-use Rattle.rules.specs.Modes.{Known, nothing, isGround, openByte, marksOf, marksFor, sameMark, listOf, ifMarked, OpenArgument, firstOpen, undeclared, undeclaredAtom, undeclaredLiteral, undeclaredBody, undeclaredClause, undeclaredClauses, undeclaredInSheet, undeclaredInGoal, openInput, openOutput, literalFault, afterLiteral, Walk, faulted, known, walkOn, bodyFault, startKnown, headFault, clauseFault, clausesFault, sheetFault, walkFault, goalFault}
+use Rattle.rules.specs.Modes.{Known, nothing, openUnless, openByte, marksOf, marksFor, sameMark, listOf, ifMarked, OpenArgument, firstOpen, undeclared, undeclaredAtom, undeclaredLiteral, undeclaredBody, undeclaredClause, undeclaredClauses, undeclaredInSheet, undeclaredInGoal, openInput, openOutput, literalFault, afterLiteral, Walk, faulted, known, walkOn, bodyFault, startKnown, headFault, clauseFault, clausesFault, sheetFault, walkFault, goalFault}
 use Rattle.rules.specs.Checking.{faultless, checkedFrom, checkedSheet, checkVerdict, checkedGoalFrom, checkedGoal, goalAnswer, checkGoalFrom, checkGoalVerdict}
 use Rattle.rules.specs.Earlier as earlier
-use Rattle.rules.specs.Earlier.{firstFaulty, withoutByte, faultWithout, walkWithout, outcomeWithout, verdictWithout}
-use Rattle.rules.proofs.Terms.{isNone}
-use Rattle.rules.proofs.Marks.{faulty-open}
+use Rattle.rules.specs.Earlier.{withoutBytes, withoutByte, faultWithout, walkWithout, outcomeWithout, verdictWithout}
+use Rattle.rules.proofs.Terms.{isNone, ground-none}
 
--- ---- the first open argument has the number that the first faulty one has
+-- ---- the first open argument is the same, but for its byte
 
-abbrev numberOf : Option OpenArgument → Option ℕ
-numberOf none = none
-numberOf (some o) = some (o .argument)
+abbrev openWithout : Option OpenArgument → Option OpenArgument
+openWithout none = none
+openWithout (some o) = some (record { argument = o .argument; byte = 0 })
 
-first-earlier : (m : Mark) (τ : Known) (ks : List Mark) (ts : List Term) (n : ℕ) → numberOf (firstOpen m τ ks ts n) ≡ firstFaulty m (isGround τ) ks ts n
-unfolding firstOpen firstFaulty
+first-earlier : (m : Mark) (τ : Known) (ks : List Mark) (ts : List Term) (n : ℕ) → openWithout (firstOpen m τ ks ts n) ≡ earlier.firstOpen withoutBytes m τ ks ts n
+unfolding firstOpen earlier.firstOpen openUnless
 first-earlier m τ [] ts n = refl
 first-earlier m τ (k ∷ ks) [] n = refl
 first-earlier m τ (k ∷ ks) (t ∷ ts) n =
-    by (ifMarked (sameMark m k) (openByte τ t)) (first-earlier m τ ks ts (suc n))
-    ∙ sym (ap (λ (b : Bool). elim b as (λ _. Option ℕ) [ true ↦ some n | false ↦ firstFaulty m (isGround τ) ks ts (suc n) ]) (faulty-open m k τ t))
+    by (sameMark m k) (openByte τ t) (first-earlier m τ ks ts (suc n))
+    ∙ ap (λ (g : Bool). orNext (earlier.firstOpen withoutBytes m τ ks ts (suc n)) (ifMarked (sameMark m k) (openUnless g 0))) (sym (ground-none τ t))
   where
-    by : (o : Option ℕ) → numberOf (firstOpen m τ ks ts (suc n)) ≡ firstFaulty m (isGround τ) ks ts (suc n)
-        → numberOf (elim o as (λ _. Option OpenArgument) [ none ↦ firstOpen m τ ks ts (suc n) | some b ↦ some (record { argument = n; byte = b }) ])
-        ≡ elim (not (isNone o)) as (λ _. Option ℕ) [ true ↦ some n | false ↦ firstFaulty m (isGround τ) ks ts (suc n) ]
-    by none h = h
-    by (some b) h = refl
+    orNext : Option OpenArgument → Option ℕ → Option OpenArgument
+    orNext x o = elim o [ none ↦ x | some b ↦ some (record { argument = n; byte = b }) ]
+
+    by : (x : Bool) (o : Option ℕ) → openWithout (firstOpen m τ ks ts (suc n)) ≡ earlier.firstOpen withoutBytes m τ ks ts (suc n)
+        → openWithout (orNext (firstOpen m τ ks ts (suc n)) (ifMarked x o)) ≡ orNext (earlier.firstOpen withoutBytes m τ ks ts (suc n)) (ifMarked x (openUnless (isNone o) 0))
+    by true none h = unfold ifMarked in h
+    by true (some b) h = unfold ifMarked in refl
+    by false o h = unfold ifMarked in h
 
 -- ---- 8 has no such byte
 
@@ -79,56 +81,65 @@ clauses-same ds c (cl ∷ cls) = first-of (undeclaredClause ds c cl) (undeclared
 
 -- ---- 9 and 10
 
-input-earlier : (c l : ℕ) (a : Atom) (o : Option OpenArgument) → faultWithout (openInput c l a o) ≡ earlier.openInput c l a (numberOf o)
-unfolding openInput earlier.openInput
+input-earlier : (c l : ℕ) (a : Atom) (o : Option OpenArgument) → faultWithout (openInput c l a o) ≡ openInput c l a (openWithout o)
+unfolding openInput
 input-earlier c l a none = refl
 input-earlier c l a (some o) = refl
 
-output-earlier : (c : ℕ) (a : Atom) (o : Option OpenArgument) → faultWithout (openOutput c a o) ≡ earlier.openOutput c a (numberOf o)
-unfolding openOutput earlier.openOutput
+output-earlier : (c : ℕ) (a : Atom) (o : Option OpenArgument) → faultWithout (openOutput c a o) ≡ openOutput c a (openWithout o)
+unfolding openOutput
 output-earlier c a none = refl
 output-earlier c a (some o) = refl
 
-literal-earlier : (ds : List Declaration) (c l : ℕ) (τ : Known) (lit : Literal) → faultWithout (literalFault ds c l τ lit) ≡ earlier.literalFault ds c l τ lit
+literal-earlier : (ds : List Declaration) (c l : ℕ) (τ : Known) (lit : Literal) → faultWithout (literalFault ds c l τ lit) ≡ earlier.literalFault withoutBytes ds c l τ lit
 unfolding literalFault earlier.literalFault
 literal-earlier ds c l τ (call a) =
     input-earlier c l a (firstOpen input τ (marksFor ds a) (listOf (a .args)) 1)
-    ∙ ap (earlier.openInput c l a) (first-earlier input τ (marksFor ds a) (listOf (a .args)) 1)
+    ∙ ap (openInput c l a) (first-earlier input τ (marksFor ds a) (listOf (a .args)) 1)
 literal-earlier ds c l τ (equation t u) = refl
 literal-earlier ds c l τ truth = refl
 literal-earlier ds c l τ falsity = refl
+
+after-earlier : (ds : List Declaration) (lit : Literal) (τ : Known) → afterLiteral ds lit τ ≡ earlier.afterLiteral withoutBytes ds lit τ
+unfolding afterLiteral earlier.afterLiteral
+after-earlier ds (call a) τ = refl
+after-earlier ds (equation t u) τ = refl
+after-earlier ds truth τ = refl
+after-earlier ds falsity τ = refl
 
 walk-on : (o p : Option Refusal) (rest more : Known → Walk) (σ : Known) → faultWithout o ≡ p → walkWithout (rest σ) ≡ more σ → walkWithout (walkOn o rest σ) ≡ walkOn p more σ
 unfolding walkOn
 walk-on none p rest more σ e h = h ∙ ap (λ (x : Option Refusal). walkOn x more σ) e
 walk-on (some r) p rest more σ e h = ap (λ (x : Option Refusal). walkOn x more σ) e
 
-body-earlier : (ds : List Declaration) (c l : ℕ) (τ : Known) (b : Body) → walkWithout (bodyFault ds c l τ b) ≡ earlier.bodyFault ds c l τ b
+body-earlier : (ds : List Declaration) (c l : ℕ) (τ : Known) (b : Body) → walkWithout (bodyFault ds c l τ b) ≡ earlier.bodyFault withoutBytes ds c l τ b
 unfolding bodyFault earlier.bodyFault
 body-earlier ds c l τ done = refl
 body-earlier ds c l τ (also lit b) =
-    walk-on (literalFault ds c l τ lit) (earlier.literalFault ds c l τ lit) (λ σ. bodyFault ds c (suc l) σ b) (λ σ. earlier.bodyFault ds c (suc l) σ b) (afterLiteral ds lit τ)
+    walk-on (literalFault ds c l τ lit) (earlier.literalFault withoutBytes ds c l τ lit)
+    (λ σ. bodyFault ds c (suc l) σ b) (λ σ. earlier.bodyFault withoutBytes ds c (suc l) σ b) (afterLiteral ds lit τ)
     (literal-earlier ds c l τ lit) (body-earlier ds c (suc l) (afterLiteral ds lit τ) b)
+    ∙ ap (walkOn (earlier.literalFault withoutBytes ds c l τ lit) (λ σ. earlier.bodyFault withoutBytes ds c (suc l) σ b)) (after-earlier ds lit τ)
 
-head-earlier : (ds : List Declaration) (c : ℕ) (h : Atom) (w : Walk) → faultWithout (headFault ds c h w) ≡ earlier.headFault ds c h (walkWithout w)
+head-earlier : (ds : List Declaration) (c : ℕ) (h : Atom) (w : Walk) → faultWithout (headFault ds c h w) ≡ earlier.headFault withoutBytes ds c h (walkWithout w)
 unfolding headFault earlier.headFault
 head-earlier ds c h (faulted r) = refl
 head-earlier ds c h (known σ) =
     output-earlier c h (firstOpen output σ (marksFor ds h) (listOf (h .args)) 1)
-    ∙ ap (earlier.openOutput c h) (first-earlier output σ (marksFor ds h) (listOf (h .args)) 1)
+    ∙ ap (openOutput c h) (first-earlier output σ (marksFor ds h) (listOf (h .args)) 1)
 
-clause-earlier : (ds : List Declaration) (c : ℕ) (cl : Clause) → faultWithout (clauseFault ds c cl) ≡ earlier.clauseFault ds c cl
+clause-earlier : (ds : List Declaration) (c : ℕ) (cl : Clause) → faultWithout (clauseFault ds c cl) ≡ earlier.clauseFault withoutBytes ds c cl
 unfolding clauseFault earlier.clauseFault
 clause-earlier ds c cl =
     head-earlier ds c (cl .head) (bodyFault ds c 1 (startKnown ds (cl .head)) (cl .body))
-    ∙ ap (earlier.headFault ds c (cl .head)) (body-earlier ds c 1 (startKnown ds (cl .head)) (cl .body))
+    ∙ ap (earlier.headFault withoutBytes ds c (cl .head)) (body-earlier ds c 1 (startKnown ds (cl .head)) (cl .body))
 
-clauses-earlier : (ds : List Declaration) (c : ℕ) (cls : List Clause) → faultWithout (clausesFault ds c cls) ≡ earlier.clausesFault ds c cls
+clauses-earlier : (ds : List Declaration) (c : ℕ) (cls : List Clause) → faultWithout (clausesFault ds c cls) ≡ earlier.clausesFault withoutBytes ds c cls
 unfolding clausesFault earlier.clausesFault
 clauses-earlier ds c [] = refl
 clauses-earlier ds c (cl ∷ cls) = first-of (clauseFault ds c cl) (clausesFault ds (suc c) cls) _ _ (clause-earlier ds c cl) (clauses-earlier ds (suc c) cls)
 
-pub sheet-fault-earlier : (sh : Sheet) → faultWithout (sheetFault sh) ≡ earlier.sheetFault sh
+pub sheet-fault-earlier : (sh : Sheet) → faultWithout (sheetFault sh) ≡ earlier.sheetFault withoutBytes sh
 unfolding sheetFault earlier.sheetFault undeclaredInSheet
 sheet-fault-earlier sh =
     first-of (undeclaredClauses (sh .declarations) 1 (sh .clauses)) (clausesFault (sh .declarations) 1 (sh .clauses)) _ _
@@ -139,7 +150,7 @@ unfolding walkFault
 walk-fault (faulted r) = refl
 walk-fault (known σ) = refl
 
-pub goal-fault-earlier : (sh : Sheet) (g : Goal) → faultWithout (goalFault sh g) ≡ earlier.goalFault sh g
+pub goal-fault-earlier : (sh : Sheet) (g : Goal) → faultWithout (goalFault sh g) ≡ earlier.goalFault withoutBytes sh g
 unfolding goalFault earlier.goalFault undeclaredInGoal
 goal-fault-earlier sh g =
     first-of (undeclaredBody (sh .declarations) 0 1 (g .body)) (walkFault (bodyFault (sh .declarations) 0 1 nothing (g .body))) _ _
@@ -196,20 +207,20 @@ faultless-without x none = refl
 faultless-without x (some r) = refl
 
 -- The sheet that checking accepts, or its refusal, is that of before but for this byte.
-pub checked-sheet-earlier : (s : List ℕ) → outcomeWithout {A = Sheet} (checkedSheet s) ≡ earlier.checkedSheet s
+pub checked-sheet-earlier : (s : List ℕ) → outcomeWithout {A = Sheet} (checkedSheet s) ≡ earlier.checkedSheet withoutBytes s
 unfolding checkedSheet earlier.checkedSheet
 checked-sheet-earlier s = by (sheetOf s) (sheet-same s)
   where
-    by : (o : Outcome Sheet) → outcomeWithout {A = Sheet} o ≡ o → outcomeWithout {A = Sheet} (checkedFrom o) ≡ earlier.checkedFrom o
+    by : (o : Outcome Sheet) → outcomeWithout {A = Sheet} o ≡ o → outcomeWithout {A = Sheet} (checkedFrom o) ≡ earlier.checkedFrom withoutBytes o
     by (refused r) e = unfold checkedFrom in unfold earlier.checkedFrom in e
     by (accepted sh) e = unfold checkedFrom in unfold earlier.checkedFrom in (faultless-without sh (sheetFault sh) ∙ ap (faultless sh) (sheet-fault-earlier sh))
 
 -- The same of a goal over a sheet.
-pub checked-goal-earlier : (sh : Sheet) (g : List ℕ) → outcomeWithout {A = Goal} (checkedGoal sh g) ≡ earlier.checkedGoal sh g
+pub checked-goal-earlier : (sh : Sheet) (g : List ℕ) → outcomeWithout {A = Goal} (checkedGoal sh g) ≡ earlier.checkedGoal withoutBytes sh g
 unfolding checkedGoal earlier.checkedGoal
 checked-goal-earlier sh g = by (goalOutcome g) (goal-same g)
   where
-    by : (o : Outcome Goal) → outcomeWithout {A = Goal} o ≡ o → outcomeWithout {A = Goal} (checkedGoalFrom sh o) ≡ earlier.checkedGoalFrom sh o
+    by : (o : Outcome Goal) → outcomeWithout {A = Goal} o ≡ o → outcomeWithout {A = Goal} (checkedGoalFrom sh o) ≡ earlier.checkedGoalFrom withoutBytes sh o
     by (refused r) e = unfold checkedGoalFrom in unfold earlier.checkedGoalFrom in e
     by (accepted x) e = unfold checkedGoalFrom in unfold earlier.checkedGoalFrom in (faultless-without x (goalFault sh x) ∙ ap (faultless x) (goal-fault-earlier sh x))
 
@@ -219,7 +230,7 @@ verdict-without (refused r) = refl
 verdict-without (accepted sh) = refl
 
 -- "refusals 9 and 10 carry it in their byte place, which was 0": with this byte set to 0, the verdict on a sheet is that of before.
-pub verdict-earlier : (s : List ℕ) → verdictWithout (checkVerdict s) ≡ earlier.checkVerdict s
+pub verdict-earlier : (s : List ℕ) → verdictWithout (checkVerdict s) ≡ earlier.checkVerdict withoutBytes s
 unfolding checkVerdict earlier.checkVerdict
 verdict-earlier s = verdict-without (checkedSheet s) ∙ ap sheetVerdict (checked-sheet-earlier s)
 
@@ -229,10 +240,10 @@ answer-without sh (refused r) = refl
 answer-without sh (accepted g) = refl
 
 -- The same of a sheet and a goal.
-pub goal-verdict-earlier : (s g : List ℕ) → verdictWithout (checkGoalVerdict s g) ≡ earlier.checkGoalVerdict s g
+pub goal-verdict-earlier : (s g : List ℕ) → verdictWithout (checkGoalVerdict s g) ≡ earlier.checkGoalVerdict withoutBytes s g
 unfolding checkGoalVerdict earlier.checkGoalVerdict
-goal-verdict-earlier s g = by (checkedSheet s) ∙ ap (earlier.checkGoalFrom g) (checked-sheet-earlier s)
+goal-verdict-earlier s g = by (checkedSheet s) ∙ ap (earlier.checkGoalFrom withoutBytes g) (checked-sheet-earlier s)
   where
-    by : (o : Outcome Sheet) → verdictWithout (checkGoalFrom g o) ≡ earlier.checkGoalFrom g (outcomeWithout o)
+    by : (o : Outcome Sheet) → verdictWithout (checkGoalFrom g o) ≡ earlier.checkGoalFrom withoutBytes g (outcomeWithout o)
     by (refused r) = unfold checkGoalFrom in unfold earlier.checkGoalFrom in refl
     by (accepted sh) = unfold checkGoalFrom in unfold earlier.checkGoalFrom in (answer-without sh (checkedGoal sh g) ∙ ap (goalAnswer sh) (checked-goal-earlier sh g))

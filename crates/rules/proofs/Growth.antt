@@ -1,16 +1,14 @@
--- The main judgment only adds to what is known ground: "σ preserves all g/x in τ" (Pfenning, lecture 17, section 17.5).
+-- A pass over an equation and a call's outputs only add to what is known ground.
 use Prim.Native.Nat.{ℕ, zero, suc, _<_}
-use mathlib.Core.Path.{_≡_, refl, sym, subst, _∙_}
+use mathlib.Core.Path.{_≡_, refl, subst, _∙_}
 use mathlib.Core.Bool.{Bool, true, false, _||_, false≢true}
 use mathlib.Core.List.{List, [], _∷_}
 use native.Mathlib.Omega.{arith}
 use lib.ListN.{length, length-set, length-replicate, getD-replicate}
-use Rattle.syntax.specs.Terms.{Term, Terms, variable, compound, nil, cons, arity, Literal, Body, call, equation, truth, falsity, Mark, output, Declaration, samePredicate}
+use Rattle.syntax.specs.Terms.{Term, Terms, variable, compound, nil, cons, arity, Mark, samePredicate}
 use Rattle.syntax.specs.Limits.{variables}
-use Rattle.rules.specs.Modes.{Known, knows, everything, isGround, groundTerm, groundTerms, groundBoth, equateVariable, equateSame, equate, equateAll, sameMark, marksFor, listOf, groundIf, groundMarked, afterLiteral}
-use Rattle.rules.specs.Judgment.{BodyModed, no-more, conjunction}
+use Rattle.rules.specs.Modes.{Known, knows, everything, isGround, groundTerm, groundTerms, groundBoth, equateVariable, equateSame, equate, equateAll, sameMark, groundIf, groundMarked}
 use Rattle.rules.proofs.Terms.{grounding-keeps}
-use Rattle.rules.proofs.Bodies.{literal-unique}
 
 -- A flag for each variable, and every variable known ground in τ is so in σ.
 pub record Grown (τ σ : Known) : Type 0 where
@@ -46,7 +44,7 @@ mutual
 pub term-grown : (t : Term) (τ : Known) → length τ ≡ variables → Grown τ (groundTerm t τ)
 term-grown t τ l = record { wide = term-width t τ ∙ l; keeps = λ i e. grounding-keeps t τ i e }
 
-both-grown : (b : Bool) (t u : Term) (τ : Known) → length τ ≡ variables → Grown τ (groundBoth b t u τ)
+pub both-grown : (b : Bool) (t u : Term) (τ : Known) → length τ ≡ variables → Grown τ (groundBoth b t u τ)
 unfolding groundBoth
 both-grown true t u τ l = grown-on (term-grown t τ l) (term-grown u (groundTerm t τ) (term-grown t τ l .wide))
 both-grown false t u τ l = stays l
@@ -83,17 +81,3 @@ marked-grown m [] ts τ l = stays l
 marked-grown m (k ∷ ks) [] τ l = stays l
 marked-grown m (k ∷ ks) (t ∷ ts) τ l =
     grown-on (if-grown (sameMark m k) t τ l) (marked-grown m ks ts (groundIf (sameMark m k) t τ) (if-grown (sameMark m k) t τ l .wide))
-
-pub literal-grown : (ds : List Declaration) (l : Literal) (τ : Known) → length τ ≡ variables → Grown τ (afterLiteral ds l τ)
-unfolding afterLiteral
-literal-grown ds (call a) τ w = marked-grown output (marksFor ds a) (listOf (a .args)) τ w
-literal-grown ds (equation t u) τ w = equate-grown t u τ w
-literal-grown ds truth τ w = stays w
-literal-grown ds falsity τ w = grown-everything w
-
--- From a flag for each variable, τ ⊢ G / σ only adds.
-pub body-grown : {ds : List Declaration} {τ σ : Known} {b : Body} → BodyModed ds τ b σ → length τ ≡ variables → Grown τ σ
-body-grown no-more w = stays w
-body-grown {ds} (conjunction {τ₁ = τ} {τ₂ = ρ} {l = l} m r) w =
-    let g : Grown τ ρ = subst (λ x. Grown τ x) (sym (literal-unique m)) (literal-grown ds l τ w) in
-    grown-on g (body-grown r (g .wide))

@@ -1,9 +1,11 @@
 pub mod Terms
 pub mod Equations
 pub mod Marks
-pub mod Bodies
 pub mod Growth
+pub mod Passes
+pub mod Bodies
 pub mod Agreement
 pub mod Cases
 pub mod Earlier
+pub mod Later
 pub mod Accepting

@@ -2,13 +2,13 @@
 use Prim.Native.Nat.{ℕ, suc}
 use mathlib.Core.Path.{_≡_, refl, sym, ap, ap₂, subst, _∙_}
 use mathlib.Core.Logic.{_≢_}
-use mathlib.Core.Bool.{Bool, true, false, not, _&&_, true≢false, false≢true}
+use mathlib.Core.Bool.{Bool, true, false, true≢false, false≢true}
 use mathlib.Core.List.{List, [], _∷_}
 use mathlib.Core.Option.{Option, none, some}
 use native.Mathlib.Omega.{arith}
 use lib.ListN.{length}
 use Rattle.syntax.specs.Terms.{Term, Terms, nil, cons, arity, Atom, Mark, input, output, free, Declaration, samePredicate}
-use Rattle.rules.specs.Modes.{Known, isGround, openByte, groundTerm, sameMark, ifMarked, firstOpen, listOf, faulty, groundIf, groundMarked, marksOf}
+use Rattle.rules.specs.Modes.{Known, isGround, openByte, groundTerm, sameMark, ifMarked, firstOpen, listOf, groundIf, groundMarked, marksOf}
 use Rattle.rules.specs.Judgment.{MarkedGround, marked-none, marked-one, marked-other, MarkedGrounding, markedly-none, markedly-one, markedly-other, Declared, first, later}
 use Rattle.rules.proofs.Terms.{isNone, ground-none, not-true, ground-holds, ground-derived, grounding-derived, grounding-unique}
 use Rattle.rules.proofs.Equations.{same-arity}
@@ -48,15 +48,6 @@ pub unlike : (m k : Mark) → sameMark m k ≡ false → k ≢ m
 unlike m k e p = true≢false (sym (same-mark m) ∙ ap (λ q. sameMark m q) (sym p) ∙ e)
 
 -- ---- one argument of a list
-
--- an argument that has the mark and is not ground is where the test finds a byte
-pub faulty-open : (m k : Mark) (τ : Known) (t : Term) → faulty m (isGround τ) k t ≡ not (isNone (ifMarked (sameMark m k) (openByte τ t)))
-unfolding faulty
-faulty-open m k τ t = ap (λ (g : Bool). sameMark m k && not g) (ground-none τ t) ∙ by (sameMark m k) (openByte τ t)
-  where
-    by : (b : Bool) (o : Option ℕ) → (b && not (isNone o)) ≡ not (isNone (ifMarked b o))
-    by true o = unfold ifMarked in refl
-    by false o = unfold ifMarked in refl
 
 module _ (m : Mark) (τ : Known) (k : Mark) (ks : List Mark) (t : Term) (ts : List Term) (n : ℕ) where
   pub open-passes : ifMarked (sameMark m k) (openByte τ t) ≡ none → firstOpen m τ (k ∷ ks) (t ∷ ts) n ≡ firstOpen m τ ks ts (suc n)

@@ -1,91 +1,105 @@
--- Checking as it was before document 02's (ii): the ground test says yes or no, and refusals 9 and 10 have 0 for a byte. A theorem says that
--- nothing else changed.
-use Prim.Native.Nat.{ℕ, suc}
-use mathlib.Core.Bool.{Bool, true, false}
+-- Checking as it was before document 02's (ii), and as it was before its (xiv): one definition, over what each of them changed. Theorems say that
+-- nothing else changed, and how (xiv) moves a verdict.
+use Prim.Native.Nat.{ℕ, suc, _≤_, _<_}
+use mathlib.Core.Path.{_≡_}
+use mathlib.Core.Bool.{true, false}
 use mathlib.Core.List.{List, [], _∷_}
 use mathlib.Core.Option.{Option, none, some}
-use lib.ListN.{length}
-use Rattle.syntax.specs.Terms.{Atom, Literal, Body, call, equation, truth, falsity, done, also, Mark, input, output, Declaration, Clause, Sheet, Goal}
+use Rattle.syntax.specs.Terms.{Term, Atom, Literal, Body, call, equation, truth, falsity, done, also, Mark, input, output, Declaration, Clause, Sheet, Goal}
+use Rattle.syntax.specs.Refusals.{numbersOf}
 use Rattle.syntax.specs.Verdicts.{Outcome, refused, accepted, sheetOf, goalOutcome, sheetVerdict}
-use Rattle.syntax.specs.declared.Text.the-variants.{Sheet as inSheet}
+use Rattle.syntax.specs.declared.Five.{Five}
+use Rattle.syntax.specs.declared.Text.{Text}
+use Rattle.syntax.specs.declared.Text.the-variants.{Sheet as inSheet, Goal as inGoal}
 use Rattle.syntax.specs.declared.Refusal.{Refusal}
 use Rattle.syntax.specs.declared.Refusal.the-variants.{Settings, TooLong, NoToken, Overlong, Misplaced, OverLimit, Repeated, Undeclared, OpenInput, OpenOutput}
 use Rattle.syntax.specs.declared.Verdict.{Verdict}
 use Rattle.syntax.specs.declared.Verdict.the-variants.{Accepted, Refused}
-use Rattle.rules.specs.Modes.{Known, nothing, isGround, marksFor, listOf, faulty, undeclaredInSheet, undeclaredInGoal, afterLiteral, Walk, faulted}
-use Rattle.rules.specs.Modes.{known, walkOn, startKnown, walkFault}
+use Rattle.rules.specs.Modes.{Known, nothing, everything, isGround, openUnless, openByte, equate, settle, marksFor, sameMark, listOf, ifMarked}
+use Rattle.rules.specs.Modes.{OpenArgument, groundMarked, undeclaredInSheet, undeclaredInGoal, openInput, openOutput, Walk, faulted, known, walkOn, startKnown, walkFault}
 use Rattle.rules.specs.Checking.{faultless, goalAnswer}
 
--- the number, counted from n, of the first argument that has the mark and fails the test
-unfoldable pub firstFaulty : {A : Type 0} → Mark → (A → Bool) → List Mark → List A → ℕ → Option ℕ
-firstFaulty m test [] xs n = none
-firstFaulty m test (k ∷ ks) [] n = none
-firstFaulty m test (k ∷ ks) (x ∷ xs) n = elim (faulty m test k x) [ true ↦ some n | false ↦ firstFaulty m test ks xs (suc n) ]
+-- The ground test: none, or the byte that is told of a term that is not ground; and what an equation makes known ground.
+pub record Ways : Type 0 where
+  pub test : Known → Term → Option ℕ
+  pub effect : Term → Term → Known → Known
 
--- 9, without a byte
-unfoldable pub openInput : ℕ → ℕ → Atom → Option ℕ → Option Refusal
-openInput c l a none = none
-openInput c l a (some n) = some (OpenInput 0 c l n (a .at) (length (a .name)))
+-- before (ii): the ground test "gave yes or no", and the byte of 9 and 10 "was 0"
+abbrev pub withoutBytes : Ways
+withoutBytes = record { test = λ τ t. openUnless (isGround τ t) 0; effect = settle }
 
--- 10, without a byte
-unfoldable pub openOutput : ℕ → Atom → Option ℕ → Option Refusal
-openOutput c a none = none
-openOutput c a (some n) = some (OpenOutput 0 c n (a .at) (length (a .name)))
+-- before (xiv): "the lecture's single pass"
+abbrev pub singlePass : Ways
+singlePass = record { test = openByte; effect = equate }
 
-unfoldable pub literalFault : List Declaration → ℕ → ℕ → Known → Literal → Option Refusal
-literalFault ds c l τ (call a) = openInput c l a (firstFaulty input (isGround τ) (marksFor ds a) (listOf (a .args)) 1)
-literalFault ds c l τ (equation t u) = none
-literalFault ds c l τ truth = none
-literalFault ds c l τ falsity = none
+-- ---- checking in such ways, each definition as in `Modes` and `Checking`
 
-unfoldable pub bodyFault : List Declaration → ℕ → ℕ → Known → Body → Walk
-bodyFault ds c l τ done = known τ
-bodyFault ds c l τ (also lit b) = walkOn (literalFault ds c l τ lit) (λ σ. bodyFault ds c (suc l) σ b) (afterLiteral ds lit τ)
+unfoldable pub firstOpen : Ways → Mark → Known → List Mark → List Term → ℕ → Option OpenArgument
+firstOpen way m τ [] ts n = none
+firstOpen way m τ (k ∷ ks) [] n = none
+firstOpen way m τ (k ∷ ks) (t ∷ ts) n =
+    elim (ifMarked (sameMark m k) (way .test τ t)) [ none ↦ firstOpen way m τ ks ts (suc n) | some b ↦ some (record { argument = n; byte = b }) ]
 
-unfoldable pub headFault : List Declaration → ℕ → Atom → Walk → Option Refusal
-headFault ds c h (faulted r) = some r
-headFault ds c h (known σ) = openOutput c h (firstFaulty output (isGround σ) (marksFor ds h) (listOf (h .args)) 1)
+unfoldable pub literalFault : Ways → List Declaration → ℕ → ℕ → Known → Literal → Option Refusal
+literalFault way ds c l τ (call a) = openInput c l a (firstOpen way input τ (marksFor ds a) (listOf (a .args)) 1)
+literalFault way ds c l τ (equation t u) = none
+literalFault way ds c l τ truth = none
+literalFault way ds c l τ falsity = none
 
-unfoldable pub clauseFault : List Declaration → ℕ → Clause → Option Refusal
-clauseFault ds c cl = headFault ds c (cl .head) (bodyFault ds c 1 (startKnown ds (cl .head)) (cl .body))
+unfoldable pub afterLiteral : Ways → List Declaration → Literal → Known → Known
+afterLiteral way ds (call a) τ = groundMarked output (marksFor ds a) (listOf (a .args)) τ
+afterLiteral way ds (equation t u) τ = way .effect t u τ
+afterLiteral way ds truth τ = τ
+afterLiteral way ds falsity τ = everything
 
-unfoldable pub clausesFault : List Declaration → ℕ → List Clause → Option Refusal
-clausesFault ds c [] = none
-clausesFault ds c (cl ∷ cls) = elim (clauseFault ds c cl) [ none ↦ clausesFault ds (suc c) cls | some r ↦ some r ]
+unfoldable pub bodyFault : Ways → List Declaration → ℕ → ℕ → Known → Body → Walk
+bodyFault way ds c l τ done = known τ
+bodyFault way ds c l τ (also lit b) = walkOn (literalFault way ds c l τ lit) (λ σ. bodyFault way ds c (suc l) σ b) (afterLiteral way ds lit τ)
 
-unfoldable pub sheetFault : Sheet → Option Refusal
-sheetFault sh = elim (undeclaredInSheet sh) [ none ↦ clausesFault (sh .declarations) 1 (sh .clauses) | some r ↦ some r ]
+unfoldable pub headFault : Ways → List Declaration → ℕ → Atom → Walk → Option Refusal
+headFault way ds c h (faulted r) = some r
+headFault way ds c h (known σ) = openOutput c h (firstOpen way output σ (marksFor ds h) (listOf (h .args)) 1)
 
-unfoldable pub goalFault : Sheet → Goal → Option Refusal
-goalFault sh g = elim (undeclaredInGoal sh g) [ none ↦ walkFault (bodyFault (sh .declarations) 0 1 nothing (g .body)) | some r ↦ some r ]
+unfoldable pub clauseFault : Ways → List Declaration → ℕ → Clause → Option Refusal
+clauseFault way ds c cl = headFault way ds c (cl .head) (bodyFault way ds c 1 (startKnown ds (cl .head)) (cl .body))
 
-unfoldable pub checkedFrom : Outcome Sheet → Outcome Sheet
-checkedFrom (refused r) = refused r
-checkedFrom (accepted sh) = faultless sh (sheetFault sh)
+unfoldable pub clausesFault : Ways → List Declaration → ℕ → List Clause → Option Refusal
+clausesFault way ds c [] = none
+clausesFault way ds c (cl ∷ cls) = elim (clauseFault way ds c cl) [ none ↦ clausesFault way ds (suc c) cls | some r ↦ some r ]
 
-unfoldable pub checkedSheet : List ℕ → Outcome Sheet
-checkedSheet s = checkedFrom (sheetOf s)
+unfoldable pub sheetFault : Ways → Sheet → Option Refusal
+sheetFault way sh = elim (undeclaredInSheet sh) [ none ↦ clausesFault way (sh .declarations) 1 (sh .clauses) | some r ↦ some r ]
+
+unfoldable pub goalFault : Ways → Sheet → Goal → Option Refusal
+goalFault way sh g = elim (undeclaredInGoal sh g) [ none ↦ walkFault (bodyFault way (sh .declarations) 0 1 nothing (g .body)) | some r ↦ some r ]
+
+unfoldable pub checkedFrom : Ways → Outcome Sheet → Outcome Sheet
+checkedFrom way (refused r) = refused r
+checkedFrom way (accepted sh) = faultless sh (sheetFault way sh)
+
+unfoldable pub checkedSheet : Ways → List ℕ → Outcome Sheet
+checkedSheet way s = checkedFrom way (sheetOf s)
 
 -- the answer to a sheet
-unfoldable pub checkVerdict : List ℕ → Verdict
-checkVerdict s = sheetVerdict (checkedSheet s)
+unfoldable pub checkVerdict : Ways → List ℕ → Verdict
+checkVerdict way s = sheetVerdict (checkedSheet way s)
 
-unfoldable pub checkedGoalFrom : Sheet → Outcome Goal → Outcome Goal
-checkedGoalFrom sh (refused r) = refused r
-checkedGoalFrom sh (accepted g) = faultless g (goalFault sh g)
+unfoldable pub checkedGoalFrom : Ways → Sheet → Outcome Goal → Outcome Goal
+checkedGoalFrom way sh (refused r) = refused r
+checkedGoalFrom way sh (accepted g) = faultless g (goalFault way sh g)
 
-unfoldable pub checkedGoal : Sheet → List ℕ → Outcome Goal
-checkedGoal sh g = checkedGoalFrom sh (goalOutcome g)
+unfoldable pub checkedGoal : Ways → Sheet → List ℕ → Outcome Goal
+checkedGoal way sh g = checkedGoalFrom way sh (goalOutcome g)
 
-unfoldable pub checkGoalFrom : List ℕ → Outcome Sheet → Verdict
-checkGoalFrom g (refused r) = Refused inSheet r
-checkGoalFrom g (accepted sh) = goalAnswer sh (checkedGoal sh g)
+unfoldable pub checkGoalFrom : Ways → List ℕ → Outcome Sheet → Verdict
+checkGoalFrom way g (refused r) = Refused inSheet r
+checkGoalFrom way g (accepted sh) = goalAnswer sh (checkedGoal way sh g)
 
 -- the answer to a sheet and a goal
-unfoldable pub checkGoalVerdict : List ℕ → List ℕ → Verdict
-checkGoalVerdict s g = checkGoalFrom g (checkedSheet s)
+unfoldable pub checkGoalVerdict : Ways → List ℕ → List ℕ → Verdict
+checkGoalVerdict way s g = checkGoalFrom way g (checkedSheet way s)
 
--- ---- this byte set to 0
+-- ---- (ii): this byte set to 0
 
 -- of refusals 9 and 10
 abbrev pub withoutByte : Refusal → Refusal
@@ -115,3 +129,28 @@ outcomeWithout (accepted x) = accepted x
 abbrev pub verdictWithout : Verdict → Verdict
 verdictWithout (Accepted declarations clauses) = Accepted declarations clauses
 verdictWithout (Refused text r) = Refused text (withoutByte r)
+
+-- ---- (xiv): what it does to a verdict
+
+-- refused with 9 or 10
+abbrev pub ByMarks : Refusal → Type 0
+ByMarks r = (9 ≤ numbersOf r .number) × (numbersOf r .number ≤ 10)
+
+-- The same place or a later one, or a later test, of 9 and 10: "each clause in turn is taken through 9 along its body and then 10", "and in it the
+-- lowest argument".
+pub data NotBefore (a b : Five) : Type 0 where
+  later-clause : a .clause < b .clause → NotBefore a b
+  later-test : a .clause ≡ b .clause → a .number < b .number → NotBefore a b
+  later-literal : a .clause ≡ b .clause → a .number ≡ b .number → a .literal < b .literal → NotBefore a b
+  later-argument : a .clause ≡ b .clause → a .number ≡ b .number → a .literal ≡ b .literal → a .argument ≤ b .argument → NotBefore a b
+
+-- from a verdict of the single pass to the verdict now
+pub data Moved : Verdict → Verdict → Type 0 where
+  -- "Sheets and goals accepted so far are accepted still."; "no other number moves"
+  stays : {v : Verdict} → Moved v v
+  -- "Of those refused with 9 or 10 some are now accepted"
+  now-accepted : {text : Text} {r : Refusal} {declarations clauses : ℕ} → ByMarks r → Moved (Refused text r) (Accepted declarations clauses)
+  -- "and some name a later place or meet a later test": 9 or 10 of the same text
+  later : {text : Text} {r q : Refusal} → ByMarks r → ByMarks q → NotBefore (numbersOf r) (numbersOf q) → Moved (Refused text r) (Refused text q)
+  -- or, the sheet being accepted now, a test of the goal
+  goal-tested : {r q : Refusal} → ByMarks r → Moved (Refused inSheet r) (Refused inGoal q)

@@ -1,6 +1,6 @@
 -- When a sheet and a goal are well-moded: the judgment τ ⊢ G / σ of Pfenning, lecture 17, sections 17.1 and 17.5, a constructor for each
--- rule. Abstract substitutions are `Known`: g/x ∈ τ is `knows τ x ≡ true`, u/x ∈ τ is `knows τ x ≡ false`, and τ + g/x is
--- `set τ x true`. Its rules for disjunction and ∃ have no goals here. No rule is for a predicate without declaration.
+-- rule, with equations gone over again (document 02, (xiv)). Abstract substitutions are `Known`: g/x ∈ τ is `knows τ x ≡ true`, u/x ∈ τ is
+-- `knows τ x ≡ false`, and τ + g/x is `set τ x true`. Its rules for disjunction and ∃ have no goals here. No rule is for a predicate without declaration.
 use Prim.Native.Nat.{ℕ}
 use mathlib.Core.Path.{_≡_}
 use mathlib.Core.Logic.{_≢_}
@@ -57,7 +57,7 @@ pub data MarkedGrounding (m : Mark) : Known → List Mark → Terms → Known �
       → MarkedGrounding m τ ms ts σ
       → MarkedGrounding m τ (k ∷ ms) (cons t ts) σ
 
--- Equality, τ ⊢ t ≐ s / σ.
+-- Equality, τ ⊢ t ≐ s / σ: one pass.
 mutual
   pub data Equating : Known → Term → Term → Known → Type 0 where
     -- x ≐ s: s ground; x ground and s not; neither
@@ -95,6 +95,13 @@ mutual
         → AllEquating τ₂ ts us τ₃
         → AllEquating τ₁ (cons t ts) (cons u us) τ₃
 
+-- The equation gone over again (document 02, (xiv)): `Equating`, the lecture's rules, is one pass.
+pub data Settling : Known → Term → Term → Known → Type 0 where
+  -- a pass that makes nothing further ground is the last
+  settled : {τ : Known} {t u : Term} → Equating τ t u τ → Settling τ t u τ
+  -- the next pass begins from what the last one left
+  again : {τ₁ τ₂ τ₃ : Known} {t u : Term} → Equating τ₁ t u τ₂ → Settling τ₂ t u τ₃ → Settling τ₁ t u τ₃
+
 -- the marks declared for an atom's predicate: those of its first declaration
 pub data Declared : List Declaration → Atom → List Mark → Type 0 where
   first : {d : Declaration} {ds : List Declaration} {a : Atom}
@@ -114,8 +121,8 @@ mutual
         → MarkedGround input τ ms (a .args)
         → MarkedGrounding output τ ms (a .args) σ
         → Moded ds τ (call a) σ
-    -- equality
-    equality : {τ σ : Known} {t u : Term} → Equating τ t u σ → Moded ds τ (equation t u) σ
+    -- equality, gone over until nothing further is ground
+    equality : {τ σ : Known} {t u : Term} → Settling τ t u σ → Moded ds τ (equation t u) σ
     -- truth
     truth-unchanged : {τ : Known} → Moded ds τ truth τ
     -- falsehood: g/x for every x

@@ -1,5 +1,5 @@
--- What is known ground, and the refusals 8 to 10 (document 01, "What is known ground" and "The ten numbers"; document 02, (ii)).
-use Prim.Native.Nat.{ℕ, suc}
+-- What is known ground, and the refusals 8 to 10 (document 01, "What is known ground" and "The ten numbers"; document 02, (ii) and (xiv)).
+use Prim.Native.Nat.{ℕ, zero, suc}
 use mathlib.Core.Bool.{Bool, true, false, not, _&&_, _||_}
 use mathlib.Core.List.{List, [], _∷_}
 use mathlib.Core.Option.{Option, none, some}
@@ -79,7 +79,7 @@ unfoldable pub equateSame : Bool → (Known → Known) → Known → Known
 equateSame true pairs τ = pairs τ
 equateSame false pairs τ = everything
 
--- The effect of an equation; "the argument pairs left to right, each beginning from what the last one left".
+-- One pass over an equation; "the argument pairs left to right, each beginning from what the last one left".
 unfoldable mutual
   pub equate : Term → Term → Known → Known
   equate (variable i at) u τ = equateVariable (variable i at) u τ
@@ -91,6 +91,26 @@ unfoldable mutual
   equateAll nil (cons u us) τ = everything
   equateAll (cons t ts) nil τ = everything
   equateAll (cons t ts) (cons u us) τ = equateAll ts us (equate t u τ)
+
+-- from the first to the second some variable became ground
+unfoldable pub further : Known → Known → Bool
+further [] σ = false
+further (b ∷ τ) [] = false
+further (b ∷ τ) (c ∷ σ) = (not b && c) || further τ σ
+
+-- after a pass that made σ of τ: the end where it "makes nothing further ground", else `again` from what it left
+unfoldable pub goOver : Known → (Known → Known) → Known → Known
+goOver τ again σ = elim (further τ σ) [ true ↦ again σ | false ↦ σ ]
+
+-- so many passes at most
+unfoldable pub passes : ℕ → Term → Term → Known → Known
+passes zero t u τ = τ
+passes (suc k) t u τ = goOver τ (λ σ. passes k t u σ) (equate t u τ)
+
+-- The effect of an equation; document 02, (xiv): "An equation is now gone over again until a pass makes nothing further ground." Each pass but the
+-- last makes a variable ground, so the bound is never met: one pass more changes nothing (a theorem).
+unfoldable pub settle : Term → Term → Known → Known
+settle t u τ = passes variables t u τ
 
 -- ---- marks
 
@@ -232,7 +252,7 @@ literalFault ds c l τ falsity = none
 -- "`true` changes nothing. After `fail` every variable of the clause is ground."
 unfoldable pub afterLiteral : List Declaration → Literal → Known → Known
 afterLiteral ds (call a) τ = groundMarked output (marksFor ds a) (listOf (a .args)) τ
-afterLiteral ds (equation t u) τ = equate t u τ
+afterLiteral ds (equation t u) τ = settle t u τ
 afterLiteral ds truth τ = τ
 afterLiteral ds falsity τ = everything
 

@@ -29,11 +29,11 @@ returns-3 c = let c4 = c .before .before .before .before in let c9 = c4 .before 
 past-requires : tie.Need-past-requires
 past-requires c κs = node-inside (first-term (c .before .before .before .word-at .result) (c .before .before .before .word-at .ensures) (at-least _ (c .before .before .if1 .left) (c .before .if2 .left)) (c .before .before .before .before .before .before .before .before .pre .1))
 
-equate-requires : tie.Need-equate-requires
-equate-requires c κs = let c4 = c .before .before .before .before in let c9 = c4 .before .before .before .before .before in sides-at (c4 .word-at .result) (c4 .word-at .ensures) (c .past .result) (past-ends (c .past .ensures)) (at-least _ (c .before .before .before .if1 .left) (c .before .before .if2 .left)) (c .before .if3 .left) (c9 .pre .1)
+settle-requires : tie.Need-settle-requires
+settle-requires c κs = let c4 = c .before .before .before .before in let c9 = c4 .before .before .before .before .before in sides-at (c4 .word-at .result) (c4 .word-at .ensures) (c .past .result) (past-ends (c .past .ensures)) (at-least _ (c .before .before .before .if1 .left) (c .before .before .if2 .left)) (c .before .if3 .left) (c9 .pre .1)
 
 returns-4 : tie.Need-returns-4
-returns-4 c = let c4 = c .before .before .before .before in let c5 = c4 .before in let c10 = c5 .before .before .before .before .before in λ d w. walked-equation (c5 .word-at .result) (c5 .word-at .ensures) (c .before .past .result) (past-ends (c .before .past .ensures)) (at-least _ (c4 .if1 .left) (c .before .before .before .if2 .left)) (c .before .before .if3 .left) (d .list) (c10 .args .clause) (c10 .args .literal) (c10 .args .known) (c .equate .result) (c .equate .ensures) w
+returns-4 c = let c4 = c .before .before .before .before in let c5 = c4 .before in let c10 = c5 .before .before .before .before .before in λ d w. walked-equation (c5 .word-at .result) (c5 .word-at .ensures) (c .before .past .result) (past-ends (c .before .past .ensures)) (at-least _ (c4 .if1 .left) (c .before .before .before .if2 .left)) (c .before .before .if3 .left) (d .list) (c10 .args .clause) (c10 .args .literal) (c10 .args .known) (c .settle .result) (c .settle .ensures) w
 
 pub literal-walk-spec : {M : Type 1} → statement M
 literal-walk-spec =
@@ -46,5 +46,5 @@ literal-walk-spec =
     call-walk-requires
     returns-3
     past-requires
-    equate-requires
+    settle-requires
     returns-4)
