@@ -10,7 +10,8 @@ use Rattle.syntax.specs.Quote.{bytes}
 use Rattle.layout.specs.Nodes.{nameOf}
 use Rattle.layout.specs.State.{wordOf, boundWords}
 use Rattle.layout.proofs.Witness.{symbols, table, state, witness as bound}
-use Rattle.spelling.specs.Words.{nameAt, Placed, Names, Named, symbolWord}
+use Rattle.spelling.specs.Words.{nameAt, Placed, Names, Named}
+use Rattle.layout.specs.Symbols.{symbolWord}
 use Rattle.spelling.specs.Telling.{Ample}
 use Rattle.answers.specs.Fitting.{SomeAnswerable}
 

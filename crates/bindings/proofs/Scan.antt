@@ -154,36 +154,44 @@ node-step ss nodes i e d r l = go (ltb (getD nodes i 0) firstName) refl
           split = λ v h. inr (subst T (same v) h);
         }
 
--- the same, over the words as they are read
-module _ (nodes state scratch : List ℕ) (i d m w : ℕ) (g : Visitable nodes state scratch i d m) (e : w ≡ getD nodes i 0) where
+-- the same, over the words as they are read and the cell as it is computed
+module _ {nodes state scratch : List ℕ} {i d m w : ℕ} (g : Visitable nodes state scratch i d m) (e : w ≡ getD nodes i 0) where
   pub read-name : firstName ≤ w → Visited nodes state scratch scratch i d m m
   read-name l = visit-name nodes state scratch i d m g (subst (λ (k : ℕ). firstName ≤ k) e l)
 
-  pub read-cell : w < firstName → cellOf d w < cells
-  read-cell l = cell-small d w (g .copy) l
+  module _ (l : w < firstName) {y : ℕ} (ey : y ≡ cellOf d w) where
+    low : getD nodes i 0 < firstName
+    low = subst (λ (k : ℕ). k < firstName) e l
 
-  pub read-inside : w < firstName → (cellOf d w < length state) × (cellOf d w < length scratch)
-  read-inside l = let a : cellOf d w < cells = read-cell l in let b : storeWords ≤ length scratch = g .queued .marked .long in let c : cells ≤ length state = g .long in (omega arith, omega arith)
+    cell-here : y ≡ cellOf d (getD nodes i 0)
+    cell-here = ey ∙ ap (cellOf d) e
 
-  module _ (z : ℕ) (f : z ≡ getD state (cellOf d w) 0) where
-    here : z ≡ cellAt state (cellOf d (getD nodes i 0))
-    here = f ∙ ap (λ (k : ℕ). cellAt state (cellOf d k)) e
+    pub read-inside : (y < length state) × (y < length scratch)
+    read-inside =
+        let a : cellOf d w < cells = cell-small d w (g .copy) l in
+        let b : storeWords ≤ length scratch = g .queued .marked .long in
+        let c : cells ≤ length state = g .long in
+        (omega (arith, ey), omega (arith, ey))
 
-    pub read-unbound : z ≡ 0 → Visited nodes state scratch scratch i d m m
-    read-unbound h = visit-unbound nodes state scratch i d m g (sym here ∙ h)
+    module _ {z : ℕ} (f : z ≡ getD state y 0) where
+      here : z ≡ cellAt state (cellOf d (getD nodes i 0))
+      here = f ∙ ap (cellAt state) cell-here
 
-    module _ (l : w < firstName) (k : ℕ) (s : k ≡ getD scratch (cellOf d w) 0) where
-      mark : k ≡ getD scratch (cellOf d (getD nodes i 0)) 0
-      mark = s ∙ ap (λ (j : ℕ). getD scratch (cellOf d j) 0) e
+      pub read-unbound : z ≡ 0 → Visited nodes state scratch scratch i d m m
+      read-unbound h = visit-unbound nodes state scratch i d m g (sym here ∙ h)
 
-      pub read-marked : (k ≡ 0 → ⊥) → Visited nodes state scratch scratch i d m m
-      read-marked h = visit-marked nodes state scratch i d m g (subst (λ (j : ℕ). j < firstName) e l) (λ q. h (mark ∙ q))
+      module _ {k : ℕ} (s : k ≡ getD scratch y 0) where
+        mark : k ≡ getD scratch (cellOf d (getD nodes i 0)) 0
+        mark = s ∙ ap (λ (j : ℕ). getD scratch j 0) cell-here
 
-      pub read-room : k ≡ 0 → (cellOf d w < cells) × ((trail + m < length scratch) × (wordOf 0 0 < 2 ^ 32))
-      read-room h = subst⁻¹ (λ (j : ℕ). (cellOf d j < cells) × ((trail + m < length scratch) × (wordOf 0 0 < 2 ^ 32))) e (visit-room nodes state scratch i d m g (subst (λ (j : ℕ). j < firstName) e l) (sym mark ∙ h))
+        pub read-marked : (k ≡ 0 → ⊥) → Visited nodes state scratch scratch i d m m
+        read-marked h = visit-marked nodes state scratch i d m g low (λ q. h (mark ∙ q))
 
-      pub read-new : (z ≡ 0 → ⊥) → k ≡ 0 → (after : List ℕ) → after ≡ boundWords scratch m (cellOf d w) (wordOf 0 0) → Visited nodes state scratch after i d m (m + 1)
-      read-new h q after x = visit-new nodes state scratch i d m g (subst (λ (j : ℕ). j < firstName) e l) (λ y. h (here ∙ y)) (sym mark ∙ q) after (x ∙ ap (λ (j : ℕ). boundWords scratch m (cellOf d j) (wordOf 0 0)) e)
+        pub read-room : k ≡ 0 → (y < cells) × ((trail + m < length scratch) × (wordOf 0 0 < 2 ^ 32))
+        read-room h = subst⁻¹ (λ (j : ℕ). (j < cells) × ((trail + m < length scratch) × (wordOf 0 0 < 2 ^ 32))) cell-here (visit-room nodes state scratch i d m g low (sym mark ∙ h))
+
+        pub read-new : (z ≡ 0 → ⊥) → k ≡ 0 → {after : List ℕ} → after ≡ boundWords scratch m y (wordOf 0 0) → Visited nodes state scratch after i d m (m + 1)
+        read-new h q {after} x = visit-new nodes state scratch i d m g low (λ y. h (here ∙ y)) (sym mark ∙ q) after (x ∙ ap (λ (j : ℕ). boundWords scratch m j (wordOf 0 0)) cell-here)
 
 -- ---- scanning
 

@@ -2,9 +2,10 @@
 use crate::store::bind;
 use crate::store::undo;
 use crate::store::unpack;
-use layout::COPY_CELLS;
 use layout::LOADED_NODE;
 use layout::TRAIL;
+use layout::cell_copy;
+use layout::cell_of;
 use syntax::FIRST_NAME;
 use words::word_at;
 ghost use mathlib.Core.Path.{_≡_};
@@ -38,7 +39,7 @@ fn is_cell(nodes: &[u32], i: usize, d: usize, x: usize) -> bool
     if FIRST_NAME <= w {
         return false;
     }
-    d * COPY_CELLS + w == x
+    cell_of(d, w) == x
 }
 
 // The cell of the variable at i, in copy d, queued where it is bound and not yet marked.
@@ -50,7 +51,7 @@ fn visit(nodes: &[u32], state: &[u32], scratch: &mut [u32], i: usize, d: usize, 
     if FIRST_NAME <= w {
         return m;
     }
-    let y = d * COPY_CELLS + w;
+    let y = cell_of(d, w);
     if word_at(state, y) == 0 {
         return m;
     }
@@ -142,7 +143,7 @@ fn apart(x: usize, d: usize, k: usize) -> bool
     if k <= d {
         return false;
     }
-    if x / COPY_CELLS < k {
+    if cell_copy(x) < k {
         return false;
     }
     true
@@ -193,7 +194,7 @@ pub fn closed_to(x: usize, d: usize, k: usize) -> usize
     if d < k {
         return k;
     }
-    if k <= x / COPY_CELLS {
+    if k <= cell_copy(x) {
         return k;
     }
     0

@@ -1,8 +1,8 @@
 // Cells and the trail.
 use crate::At;
 use layout::COPIES;
-use layout::COPY_CELLS;
 use layout::TRAIL;
+use layout::cell_of;
 use syntax::FIRST_NAME;
 ghost use mathlib.Core.Path.{_≡_};
 ghost use Prim.Native.Nat.{_+_, _*_, _≤_, _<_, _^_};
@@ -39,7 +39,7 @@ pub fn bound_at(nodes: &[u32], state: &[u32], p: usize, c: usize) -> usize
     if FIRST_NAME <= w {
         return 0;
     }
-    let x = c * COPY_CELLS + w;
+    let x = cell_of(c, w);
     state[x] as usize
 }
 

@@ -11,7 +11,7 @@ use Rattle.syntax.specs.Terms.{Atom, Literal, call, equation, truth, falsity, B
 use Rattle.syntax.specs.Reading.{Cursor, Read, fault, ok, andThen, next, wrongNumber, full, begins, startOf, readLiteral, readBody, bodyAfter, afterOf, After, more, last, neither}
 use Rattle.syntax.specs.Limits.{variables}
 use Rattle.syntax.specs.Spans.{namesFrom, met}
-use Rattle.syntax.specs.Tokens.{commaKind}
+use Rattle.syntax.specs.Tokens.{commaKind, stopKind}
 use Rattle.syntax.specs.Words.{nodeWords, termWords, atomWords, literalWords, bodyWords, bodyLength, clauseWords}
 use Rattle.syntax.specs.declared.State.{State}
 use Rattle.reading.specs.Gives.{cursorOf, left, Standing, Moved, Ready, Faulted, Given, Gives, GivenWith, GivesWith, Refused, Counted, fullNumber, one}
@@ -36,7 +36,7 @@ body-words (also l b) = let a : 1 ≤ length (literalWords l) = literal-some l i
 
 module _ (s : List ℕ) (k : ℕ) (st : Cursor) where
   abbrev go-on : Literal → Cursor → Read Body
-  go-on l after = bodyAfter (λ st1. readBody s (k - 1) st1) s l after (afterOf 10 (after .token .kind))
+  go-on l after = bodyAfter (λ st1. readBody s (k - 1) st1) s l after (afterOf stopKind (after .token .kind))
 
   body-some : (k ≡ 0 → ⊥) → readBody s k st ≡ andThen (readLiteral s st) go-on
   unfolding readBody
@@ -58,7 +58,7 @@ module _ (s : List ℕ) (k : ℕ) (st : State) where
       n-in : n ≤ length entry
       n-in = let room : n + nodeWords * left s st + 1 + variables ≤ length entry = ready .room in omega arith
 
-      behind : (x : After) → afterOf 10 (r .state .token .kind) ≡ x → readBody s k (cursorOf s entry st) ≡ bodyAfter (λ st1. readBody s (k - 1) st1) s (read .0) (cursorOf s mid (r .state)) x
+      behind : (x : After) → afterOf stopKind (r .state .token .kind) ≡ x → readBody s k (cursorOf s entry st) ≡ bodyAfter (λ st1. readBody s (k - 1) st1) s (read .0) (cursorOf s mid (r .state)) x
       unfolding andThen
       behind x a = body-some s k (cursorOf s entry st) z ∙ ap (λ (d : Read Literal). andThen d (go-on s k (cursorOf s entry st))) (read .1) ∙ ap (bodyAfter (λ st1. readBody s (k - 1) st1) s (read .0) (cursorOf s mid (r .state))) a
 
@@ -79,20 +79,20 @@ module _ (s : List ℕ) (k : ℕ) (st : State) where
       pub body-few : (exit : List ℕ) (after : State) (q : Parsed) → Moved s (r .state) after → Gives bodyWords bodyLength s after mid exit (r .used) q (readBody s (k - 1) (cursorOf s mid after)) → q .number ≡ 0 → q .items < 2 ^ 31
       body-few exit after q m h zero-is = few-items 0 literalWords bodyWords bodyLength also done words-also (λ l b. refl) words-done refl s st entry mid n r (read .0) (read .2) body-words exit after q (readBody s (k - 1) (cursorOf s mid after)) (r .used) (m .standing) h zero-is
 
-      pub body-more : (exit : List ℕ) (after : State) (q p : Parsed) → r .state .token .kind ≡ 9 → Moved s (r .state) after → Gives bodyWords bodyLength s after mid exit (r .used) q (readBody s (k - 1) (cursorOf s mid after)) → Counted q p → Gives bodyWords bodyLength s st entry exit n p (readBody s k (cursorOf s entry st))
+      pub body-more : (exit : List ℕ) (after : State) (q p : Parsed) → r .state .token .kind ≡ commaKind → Moved s (r .state) after → Gives bodyWords bodyLength s after mid exit (r .used) q (readBody s (k - 1) (cursorOf s mid after)) → Counted q p → Gives bodyWords bodyLength s st entry exit n p (readBody s k (cursorOf s entry st))
       unfolding bodyAfter
       body-more exit after q p a m h ep =
-          subst⁻¹ (Gives bodyWords bodyLength s st entry exit n p) (behind more (after-more 10 (r .state .token .kind) a) ∙ ap (λ (x : Cursor). andThen (readBody s (k - 1) x) (λ b end. ok (also (read .0) b) end)) (sym (next-of mid m)))
+          subst⁻¹ (Gives bodyWords bodyLength s st entry exit n p) (behind more (after-more stopKind (r .state .token .kind) a) ∙ ap (λ (x : Cursor). andThen (readBody s (k - 1) x) (λ b end. ok (also (read .0) b) end)) (sym (next-of mid m)))
           (one-more 0 literalWords bodyWords bodyLength also done words-also (λ l b. refl) words-done refl s st entry mid n r (read .0) (read .2) exit after q p (readBody s (k - 1) (cursorOf s mid after)) (comma-some a) m h ep n-in)
 
-      pub body-last : (after : State) → (r .state .token .kind ≡ 9 → ⊥) → r .state .token .kind ≡ 10 → Moved s (r .state) after → Gives bodyWords bodyLength s st entry mid n (record { number = 0; used = r .used; items = 1; state = after }) (readBody s k (cursorOf s entry st))
+      pub body-last : (after : State) → (r .state .token .kind ≡ commaKind → ⊥) → r .state .token .kind ≡ stopKind → Moved s (r .state) after → Gives bodyWords bodyLength s st entry mid n (record { number = 0; used = r .used; items = 1; state = after }) (readBody s k (cursorOf s entry st))
       unfolding bodyAfter
       body-last after f a m =
-          subst⁻¹ (Gives bodyWords bodyLength s st entry mid n (record { number = 0; used = r .used; items = 1; state = after })) (behind last (after-last 10 (r .state .token .kind) f a))
-          (one-last 0 literalWords bodyWords bodyLength also done words-also (λ l b. refl) words-done refl s st entry mid n r (read .0) (read .2) after (λ q. let e10 : r .state .token .kind ≡ 10 = a in omega arith) m)
+          subst⁻¹ (Gives bodyWords bodyLength s st entry mid n (record { number = 0; used = r .used; items = 1; state = after })) (behind last (after-last stopKind (r .state .token .kind) f a))
+          (one-last 0 literalWords bodyWords bodyLength also done words-also (λ l b. refl) words-done refl s st entry mid n r (read .0) (read .2) after (λ q. let e10 : r .state .token .kind ≡ stopKind = a in omega arith) m)
 
-      pub body-wrong : (q : Parsed) → (r .state .token .kind ≡ 9 → ⊥) → (r .state .token .kind ≡ 10 → ⊥) → Refused (r .state) (wrongNumber (r .state .token .kind)) q → Gives bodyWords bodyLength s st entry mid n q (readBody s k (cursorOf s entry st))
+      pub body-wrong : (q : Parsed) → (r .state .token .kind ≡ commaKind → ⊥) → (r .state .token .kind ≡ stopKind → ⊥) → Refused (r .state) (wrongNumber (r .state .token .kind)) q → Gives bodyWords bodyLength s st entry mid n q (readBody s k (cursorOf s entry st))
       unfolding bodyAfter
       body-wrong q f a h =
-          subst⁻¹ (Gives bodyWords bodyLength s st entry mid n q) (behind neither (after-neither 10 (r .state .token .kind) f a))
+          subst⁻¹ (Gives bodyWords bodyLength s st entry mid n q) (behind neither (after-neither stopKind (r .state .token .kind) f a))
           (refused-wrong bodyWords bodyLength s st (r .state) entry mid n q (namesFrom s (met mid) 0 (r .state .count)) h (one-kept 0 literalWords bodyWords bodyLength also done words-also (λ l b. refl) words-done refl s st entry mid n r (read .0) (read .2) n-in))

@@ -10,12 +10,12 @@ use lib.Seq.{take-set-lt, take-set-le, set-append-left, take-suc-set, take-take,
 use lib.Dec.{eqb, lit<}
 use borrow.Author.Tests.{eq-eqb, ne-eqb, eqb-true, eqb-false}
 use Rattle.syntax.specs.Terms.{Term, Terms, Atom, nil, cons, arity, termOf, Literal, call, equation, truth, falsity, literalOf, sameName, true-name, fail-name}
-use Rattle.syntax.specs.Limits.{variables}
+use Rattle.syntax.specs.Limits.{variables, brackets}
 use Rattle.syntax.specs.Spans.{namesFrom, met, Held}
 use Rattle.syntax.proofs.Spans.{met-kept}
-use Rattle.syntax.specs.Tokens.{spelling, equalsKind, endKind}
+use Rattle.syntax.specs.Tokens.{spelling, equalsKind, endKind, nameKind, openKind}
 use Rattle.syntax.specs.Reading.{Cursor, Read, fault, ok, andThen, next, wrongNumber, readTerm, readAtom, atomAt, readRight, afterAtom, afterTerm, literalWith, readLiteral, readAtomWith, atomWith, readList}
-use Rattle.syntax.specs.Words.{nodeWords, termWords, termsWords, atomWords, literalWords}
+use Rattle.syntax.specs.Words.{nodeWords, termWords, termsWords, atomWords, literalWords, truthKind, falsityKind, callKind, equationKind}
 use Rattle.syntax.specs.declared.State.{State}
 use Rattle.reading.specs.Gives.{cursorOf, onward, left, Standing, Moved, Ready, Faulted, Given, Gives, GivenWith, GivesWith, Refused, one}
 use Rattle.reading.specs.Atoms.{readAtomAt}
@@ -44,36 +44,36 @@ front entry mid exit w n a h e f =
 
 -- ---- the right side of an equation
 
-pub right-given : (s : List ℕ) (st past : State) (entry mid exit : List ℕ) (n used : ℕ) (r : Parsed) → Moved s st past → mid ≡ set entry n 3 → Gives termWords one s past mid exit used r (readTerm 16 s (cursorOf s mid past)) → Gives termWords one s (onward s st) (set entry n 3) exit used r (readTerm 16 s (cursorOf s (set entry n 3) (onward s st)))
+pub right-given : (s : List ℕ) (st past : State) (entry mid exit : List ℕ) (n used : ℕ) (r : Parsed) → Moved s st past → mid ≡ set entry n equationKind → Gives termWords one s past mid exit used r (readTerm brackets s (cursorOf s mid past)) → Gives termWords one s (onward s st) (set entry n equationKind) exit used r (readTerm brackets s (cursorOf s (set entry n equationKind) (onward s st)))
 right-given s st past entry mid exit n used r m e g =
-    subst (λ (x : State). Gives termWords one s x (set entry n 3) exit used r (readTerm 16 s (cursorOf s (set entry n 3) x))) (m .is)
-    (subst (λ (x : List ℕ). Gives termWords one s past x exit used r (readTerm 16 s (cursorOf s x past))) e g)
+    subst (λ (x : State). Gives termWords one s x (set entry n equationKind) exit used r (readTerm brackets s (cursorOf s (set entry n equationKind) x))) (m .is)
+    (subst (λ (x : List ℕ). Gives termWords one s past x exit used r (readTerm brackets s (cursorOf s x past))) e g)
 
 -- its first word is stored before the words of the variables
-pub right-asked : {s : List ℕ} {st past : State} {entry mid : List ℕ} {n used : ℕ} → Ready s st entry used 0 → n < used → mid ≡ set entry n 3 → Moved s st past → Ready s past mid used 0
+pub right-asked : {s : List ℕ} {st past : State} {entry mid : List ℕ} {n used : ℕ} → Ready s st entry used 0 → n < used → mid ≡ set entry n equationKind → Moved s st past → Ready s past mid used 0
 right-asked {s} {st} {past} {entry} {mid} {n} {used} ready low e m =
     let room : used + nodeWords * left s st + 0 + variables ≤ length entry = ready .room in
     let small : length entry < 2 ^ 31 = ready .small in
-    let l : length mid ≡ length entry = ap length e ∙ length-set entry n 3 in
+    let l : length mid ≡ length entry = ap length e ∙ length-set entry n equationKind in
     let f : st .token .at + st .token .len ≤ past .token .at = m .forward in
-    let same : met mid ≡ met entry = ap met e ∙ met-kept entry n 3 (omega arith) in
+    let same : met mid ≡ met entry = ap met e ∙ met-kept entry n equationKind (omega arith) in
     record { standing = m .standing; held = held-kept same (held-of m (ready .held)); room = omega arith; small = omega arith }
 
 -- ---- what an atom alone stands for
 
-pub number-long : (size : ℕ) (name : List ℕ) → (size ≡ 3 → ⊥) → 2 ≡ atomNumber (eqb size 3) name
-number-long size name n = simp (ne-eqb size 3 n)
+pub number-long : (size : ℕ) (name : List ℕ) → (size ≡ nodeWords → ⊥) → callKind ≡ atomNumber (eqb size nodeWords) name
+number-long size name n = simp (ne-eqb size nodeWords n)
 
-module _ (size : ℕ) (name : List ℕ) (e : size ≡ 3) (b : Bool) (eb : b ≡ sameName name true-name) where
-  pub number-true : b ≡ true → 0 ≡ atomNumber (eqb size 3) name
-  number-true f = simp (eq-eqb size 3 e, sym eb ∙ f)
+module _ (size : ℕ) (name : List ℕ) (e : size ≡ nodeWords) (b : Bool) (eb : b ≡ sameName name true-name) where
+  pub number-true : b ≡ true → truthKind ≡ atomNumber (eqb size nodeWords) name
+  number-true f = simp (eq-eqb size nodeWords e, sym eb ∙ f)
 
   module _ (nb : b ≡ false) (c : Bool) (ec : c ≡ sameName name fail-name) where
-    pub number-fail : c ≡ true → 1 ≡ atomNumber (eqb size 3) name
-    number-fail f = simp (eq-eqb size 3 e, sym eb ∙ nb, sym ec ∙ f)
+    pub number-fail : c ≡ true → falsityKind ≡ atomNumber (eqb size nodeWords) name
+    number-fail f = simp (eq-eqb size nodeWords e, sym eb ∙ nb, sym ec ∙ f)
 
-    pub number-call : c ≡ false → 2 ≡ atomNumber (eqb size 3) name
-    number-call f = simp (eq-eqb size 3 e, sym eb ∙ nb, sym ec ∙ f)
+    pub number-call : c ≡ false → callKind ≡ atomNumber (eqb size nodeWords) name
+    number-call f = simp (eq-eqb size nodeWords e, sym eb ∙ nb, sym ec ∙ f)
 
 -- ---- what an atom alone is
 
@@ -101,15 +101,15 @@ unfolding numbered literalOf
 other-by a number e z = other-words a (eqb (arity (a .args)) 0 && sameName (a .name) true-name) (eqb (arity (a .args)) 0 && sameName (a .name) fail-name) (λ q. z (e ∙ q)) ∙ ap (λ (k : ℕ). k ∷ []) (sym e)
 
 -- an atom of three words has no arguments, and only such a one
-bare-test : (ts : Terms) → eqb (3 + length (termsWords ts)) 3 ≡ eqb (arity ts) 0
+bare-test : (ts : Terms) → eqb (nodeWords + length (termsWords ts)) nodeWords ≡ eqb (arity ts) 0
 unfolding termWords
 bare-test nil = refl
 bare-test (cons t ts) =
     let some : 1 ≤ length (termWords t) = term-some t in
     let sum : length (termWords t ++ termsWords ts) ≡ length (termWords t) + length (termsWords ts) = length-append (termWords t) (termsWords ts) in
-    ne-eqb (3 + length (termWords t ++ termsWords ts)) 3 (λ e. omega arith) ∙ sym (ne-eqb (suc (arity ts)) 0 (λ e. omega arith))
+    ne-eqb (nodeWords + length (termWords t ++ termsWords ts)) nodeWords (λ e. omega arith) ∙ sym (ne-eqb (suc (arity ts)) 0 (λ e. omega arith))
 
-atom-length : (a : Atom) → length (atomWords a) ≡ 3 + length (termsWords (a .args))
+atom-length : (a : Atom) → length (atomWords a) ≡ nodeWords + length (termsWords (a .args))
 unfolding termWords
 atom-length a = omega arith
 
@@ -125,7 +125,7 @@ named-list s st (ok ts after) = refl
 
 named-all : (left : ℕ) (s : List ℕ) (st : Cursor) → AllOk (λ (a : Atom). a .name ≡ spelling s (st .token .at) (st .token .len)) (readAtomAt left s st)
 unfolding AllOk readAtomAt readAtomWith atomWith
-named-all left s st = by (eqb (next s st .token .kind) 7)
+named-all left s st = by (eqb (next s st .token .kind) openKind)
   where
     by : (b : Bool) → AllOk (λ (a : Atom). a .name ≡ spelling s (st .token .at) (st .token .len)) (atomWith (λ x. readList left s x) s st b)
     by true = named-list s st (readList left s (next s st))
@@ -143,7 +143,7 @@ module _ (s : List ℕ) (st : State) (entry : List ℕ) (n : ℕ) (ready : Ready
 
   -- an equation of which the left side was read
   module _ (mid : List ℕ) (r : Parsed) (t : Term) (g : Given s st entry mid (n + 1) r (termWords t) 1 (cursorOf s mid (r .state))) (l : length mid ≡ length entry) where
-    pub right-ready : r .state .token .kind ≡ 11 → Ready s (r .state) mid (r .used) 0 × ((r .state .token .kind ≡ 11) × (n < r .used))
+    pub right-ready : r .state .token .kind ≡ equalsKind → Ready s (r .state) mid (r .used) 0 × ((r .state .token .kind ≡ equalsKind) × (n < r .used))
     right-ready e =
         let room : n + nodeWords * left s st + 1 + variables ≤ length entry = ready .room in
         let small : length entry < 2 ^ 31 = ready .small in
@@ -151,7 +151,7 @@ module _ (s : List ℕ) (st : State) (entry : List ℕ) (n : ℕ) (ready : Ready
         let fits : length (termWords t) + nodeWords * left s (r .state) + 1 ≤ nodeWords * left s st + 1 = g .room in
         (record { standing = g .standing; held = g .held; room = omega arith; small = omega arith }, (e, omega arith))
 
-    right-fault : (exit : List ℕ) (q : Parsed) (k b : ℕ) → Faulted (set mid n 3) exit (r .used) q k b → Faulted entry exit n q k b
+    right-fault : (exit : List ℕ) (q : Parsed) (k b : ℕ) → Faulted (set mid n equationKind) exit (r .used) q k b → Faulted entry exit n q k b
     right-fault exit q k b h =
         let used : r .used ≡ (n + 1) + length (termWords t) = g .used-is in
         let inn : n + 1 ≤ length entry = n-in in
@@ -159,10 +159,10 @@ module _ (s : List ℕ) (st : State) (entry : List ℕ) (n : ℕ) (ready : Ready
           number-is = h .number-is;
           some = h .some;
           byte-is = h .byte-is;
-          kept = shorter n (r .used) (set mid n 3) exit (omega arith) (h .kept) ∙ take-set-le n mid n 3 (omega arith) ∙ kept-before n (n + 1) (length (termWords t)) entry mid (termWords t) (omega arith) inn (g .table-is);
+          kept = shorter n (r .used) (set mid n equationKind) exit (omega arith) (h .kept) ∙ take-set-le n mid n equationKind (omega arith) ∙ kept-before n (n + 1) (length (termWords t)) entry mid (termWords t) (omega arith) inn (g .table-is);
         }
 
-    right-words : (exit : List ℕ) (q : Parsed) (u : Term) (end : Cursor) → r .state .token .kind ≡ equalsKind → Given s (onward s (r .state)) (set mid n 3) exit (r .used) q (termWords u) 1 end → GivenWith 0 s st entry exit n q (literalWords (equation t u)) 1 end
+    right-words : (exit : List ℕ) (q : Parsed) (u : Term) (end : Cursor) → r .state .token .kind ≡ equalsKind → Given s (onward s (r .state)) (set mid n equationKind) exit (r .used) q (termWords u) 1 end → GivenWith 0 s st entry exit n q (literalWords (equation t u)) 1 end
     unfolding literalWords
     right-words exit q u end e h =
         let m : Moved s (r .state) (onward s (r .state)) = moved-onward s (r .state) (g .standing) in
@@ -174,68 +174,68 @@ module _ (s : List ℕ) (st : State) (entry : List ℕ) (n : ℕ) (ready : Ready
         let fits′ : length (termWords u) + nodeWords * left s (q .state) + 1 ≤ nodeWords * left s (onward s (r .state)) + 1 = h .room in
         let f : r .state .token .at + r .state .token .len ≤ onward s (r .state) .token .at = m .forward in
         let both : length (termWords t ++ termWords u) ≡ length (termWords t) + length (termWords u) = length-append (termWords t) (termWords u) in
-        let left′ : take (n + length (3 ∷ termWords t)) (set mid n 3) ≡ take n entry ++ (3 ∷ termWords t) = front entry mid (set mid n 3) (termWords t) n 3 n-in (g .table-is) refl in
-        let k : r .used ≡ n + length (3 ∷ termWords t) = omega arith in
-        let ends : take ((n + length (3 ∷ termWords t)) + length (termWords u)) exit ≡ take (n + length (3 ∷ termWords t)) (set mid n 3) ++ termWords u = subst (λ (x : ℕ). take (x + length (termWords u)) exit ≡ take x (set mid n 3) ++ termWords u) k (h .table-is) in
+        let left′ : take (n + length (equationKind ∷ termWords t)) (set mid n equationKind) ≡ take n entry ++ (equationKind ∷ termWords t) = front entry mid (set mid n equationKind) (termWords t) n equationKind n-in (g .table-is) refl in
+        let k : r .used ≡ n + length (equationKind ∷ termWords t) = omega arith in
+        let ends : take ((n + length (equationKind ∷ termWords t)) + length (termWords u)) exit ≡ take (n + length (equationKind ∷ termWords t)) (set mid n equationKind) ++ termWords u = subst (λ (x : ℕ). take (x + length (termWords u)) exit ≡ take x (set mid n equationKind) ++ termWords u) k (h .table-is) in
         record {
           number-is = h .number-is;
           state-is = h .state-is;
           items-is = h .items-is;
           used-is = omega arith;
-          table-is = joined entry (set mid n 3) exit (3 ∷ termWords t) (termWords u) n left′ ends;
+          table-is = joined entry (set mid n equationKind) exit (equationKind ∷ termWords t) (termWords u) n left′ ends;
           standing = h .standing;
           held = h .held;
           room = omega arith;
         }
 
-    right-by : (exit : List ℕ) (q : Parsed) (d : Read Term) → r .state .token .kind ≡ equalsKind → Gives termWords one s (onward s (r .state)) (set mid n 3) exit (r .used) q d → GivesWith 0 literalWords one s st entry exit n q (andThen d (λ u after. ok (equation t u) after))
+    right-by : (exit : List ℕ) (q : Parsed) (d : Read Term) → r .state .token .kind ≡ equalsKind → Gives termWords one s (onward s (r .state)) (set mid n equationKind) exit (r .used) q d → GivesWith 0 literalWords one s st entry exit n q (andThen d (λ u after. ok (equation t u) after))
     unfolding andThen
     right-by exit q (fault k b) e h = right-fault exit q k b h
     right-by exit q (ok u end) e h = right-words exit q u end e h
 
     -- the reader past the equals sign, over the table with the literal's first word
-    behind-equals : cursorOf s (set mid n 3) (onward s (r .state)) ≡ next s (cursorOf s mid (r .state))
+    behind-equals : cursorOf s (set mid n equationKind) (onward s (r .state)) ≡ next s (cursorOf s mid (r .state))
     behind-equals =
         let room : n + nodeWords * left s st + 1 + variables ≤ length entry = ready .room in
-        cursor-kept s mid (set mid n 3) (onward s (r .state)) (met-kept mid n 3 (omega arith)) ∙ next-of mid (moved-onward s (r .state) (g .standing))
+        cursor-kept s mid (set mid n equationKind) (onward s (r .state)) (met-kept mid n equationKind (omega arith)) ∙ next-of mid (moved-onward s (r .state) (g .standing))
 
-    pub equation-given : (exit : List ℕ) (q : Parsed) → r .state .token .kind ≡ equalsKind → Gives termWords one s (onward s (r .state)) (set mid n 3) exit (r .used) q (readTerm 16 s (cursorOf s (set mid n 3) (onward s (r .state)))) → GivesWith 0 literalWords one s st entry exit n q (readRight s t (cursorOf s mid (r .state)))
+    pub equation-given : (exit : List ℕ) (q : Parsed) → r .state .token .kind ≡ equalsKind → Gives termWords one s (onward s (r .state)) (set mid n equationKind) exit (r .used) q (readTerm brackets s (cursorOf s (set mid n equationKind) (onward s (r .state)))) → GivesWith 0 literalWords one s st entry exit n q (readRight s t (cursorOf s mid (r .state)))
     unfolding readRight
-    equation-given exit q e h = right-by exit q (readTerm 16 s (next s (cursorOf s mid (r .state)))) e (subst (λ (x : Cursor). Gives termWords one s (onward s (r .state)) (set mid n 3) exit (r .used) q (readTerm 16 s x)) behind-equals h)
+    equation-given exit q e h = right-by exit q (readTerm brackets s (next s (cursorOf s mid (r .state)))) e (subst (λ (x : Cursor). Gives termWords one s (onward s (r .state)) (set mid n equationKind) exit (r .used) q (readTerm brackets s x)) behind-equals h)
 
     pub left-kept : take n mid ≡ take n entry
     left-kept = kept-before n (n + 1) (length (termWords t)) entry mid (termWords t) (omega arith) n-in (g .table-is)
 
   -- the literal by what stands behind its first term
   module _ (mid : List ℕ) (r : Parsed) (l : length mid ≡ length entry) where
-    module _ (g : Gives atomWords one s st entry mid (n + 1) r (readAtomAt 16 s (cursorOf s entry st))) where
+    module _ (g : Gives atomWords one s st entry mid (n + 1) r (readAtomAt brackets s (cursorOf s entry st))) where
       pub named-fault : (r .number ≡ 0 → ⊥) → GivesWith 0 literalWords one s st entry mid n r (literalWith s (cursorOf s entry st) true)
       unfolding literalWith readAtom readAtomAt
-      named-fault z = seq-fault 1 0 atomWords one literalWords one s st st entry mid n (n + 1) r (readAtomAt 16 s (cursorOf s entry st)) (λ a after. afterAtom s a after (eqb (after .token .kind) 11)) (omega arith) g z
+      named-fault z = seq-fault 1 0 atomWords one literalWords one s st st entry mid n (n + 1) r (readAtomAt brackets s (cursorOf s entry st)) (λ a after. afterAtom s a after (eqb (after .token .kind) equalsKind)) (omega arith) g z
 
       module _ (z : r .number ≡ 0) where
-        atom-read : (a : Atom) × (readAtomAt 16 s (cursorOf s entry st) ≡ ok a (cursorOf s mid (r .state))) × Given s st entry mid (n + 1) r (atomWords a) 1 (cursorOf s mid (r .state))
-        atom-read = seq-ok 1 atomWords one s st entry mid (n + 1) r (readAtomAt 16 s (cursorOf s entry st)) g z
+        atom-read : (a : Atom) × (readAtomAt brackets s (cursorOf s entry st) ≡ ok a (cursorOf s mid (r .state))) × Given s st entry mid (n + 1) r (atomWords a) 1 (cursorOf s mid (r .state))
+        atom-read = seq-ok 1 atomWords one s st entry mid (n + 1) r (readAtomAt brackets s (cursorOf s entry st)) g z
 
-        named-by : (b : Bool) → eqb (r .state .token .kind) 11 ≡ b → literalWith s (cursorOf s entry st) true ≡ afterAtom s (atom-read .0) (cursorOf s mid (r .state)) b
+        named-by : (b : Bool) → eqb (r .state .token .kind) equalsKind ≡ b → literalWith s (cursorOf s entry st) true ≡ afterAtom s (atom-read .0) (cursorOf s mid (r .state)) b
         unfolding literalWith readAtom readAtomAt andThen
-        named-by b e = ap (λ (d : Read Atom). andThen d (λ a after. afterAtom s a after (eqb (after .token .kind) 11))) (atom-read .1) ∙ ap (afterAtom s (atom-read .0) (cursorOf s mid (r .state))) e
+        named-by b e = ap (λ (d : Read Atom). andThen d (λ a after. afterAtom s a after (eqb (after .token .kind) equalsKind))) (atom-read .1) ∙ ap (afterAtom s (atom-read .0) (cursorOf s mid (r .state))) e
 
-        pub named-ready : r .state .token .kind ≡ 11 → Ready s (r .state) mid (r .used) 0 × ((r .state .token .kind ≡ 11) × (n < r .used))
+        pub named-ready : r .state .token .kind ≡ equalsKind → Ready s (r .state) mid (r .used) 0 × ((r .state .token .kind ≡ equalsKind) × (n < r .used))
         named-ready e = right-ready mid r (termOf (atom-read .0)) (atom-read .2) l e
 
-        pub named-equation : (exit : List ℕ) (q : Parsed) → r .state .token .kind ≡ 11 → Gives termWords one s (onward s (r .state)) (set mid n 3) exit (r .used) q (readTerm 16 s (cursorOf s (set mid n 3) (onward s (r .state)))) → GivesWith 0 literalWords one s st entry exit n q (literalWith s (cursorOf s entry st) true)
+        pub named-equation : (exit : List ℕ) (q : Parsed) → r .state .token .kind ≡ equalsKind → Gives termWords one s (onward s (r .state)) (set mid n equationKind) exit (r .used) q (readTerm brackets s (cursorOf s (set mid n equationKind) (onward s (r .state)))) → GivesWith 0 literalWords one s st entry exit n q (literalWith s (cursorOf s entry st) true)
         unfolding afterAtom
-        named-equation exit q e h = subst⁻¹ (GivesWith 0 literalWords one s st entry exit n q) (named-by true (eq-eqb (r .state .token .kind) 11 e)) (equation-given mid r (termOf (atom-read .0)) (atom-read .2) l exit q e h)
+        named-equation exit q e h = subst⁻¹ (GivesWith 0 literalWords one s st entry exit n q) (named-by true (eq-eqb (r .state .token .kind) equalsKind e)) (equation-given mid r (termOf (atom-read .0)) (atom-read .2) l exit q e h)
 
         -- the number that was stored is the atom's
-        size-is : r .used - (n + 1) ≡ 3 + length (termsWords (atom-read .0 .args))
-        size-is = let used : r .used ≡ (n + 1) + length (atomWords (atom-read .0)) = atom-read .2 .used-is in let k : length (atomWords (atom-read .0)) ≡ 3 + length (termsWords (atom-read .0 .args)) = atom-length (atom-read .0) in omega arith
+        size-is : r .used - (n + 1) ≡ nodeWords + length (termsWords (atom-read .0 .args))
+        size-is = let used : r .used ≡ (n + 1) + length (atomWords (atom-read .0)) = atom-read .2 .used-is in let k : length (atomWords (atom-read .0)) ≡ nodeWords + length (termsWords (atom-read .0 .args)) = atom-length (atom-read .0) in omega arith
 
-        number-is : atomNumber (eqb (r .used - (n + 1)) 3) (spelling s (st .token .at) (st .token .len)) ≡ atomNumber (eqb (arity (atom-read .0 .args)) 0) (atom-read .0 .name)
-        number-is = ap₂ (λ (b : Bool) (x : List ℕ). atomNumber b x) (ap (λ (k : ℕ). eqb k 3) size-is ∙ bare-test (atom-read .0 .args)) (sym (atom-named 16 s (cursorOf s entry st) (cursorOf s mid (r .state)) (atom-read .0) (atom-read .1)))
+        number-is : atomNumber (eqb (r .used - (n + 1)) nodeWords) (spelling s (st .token .at) (st .token .len)) ≡ atomNumber (eqb (arity (atom-read .0 .args)) 0) (atom-read .0 .name)
+        number-is = ap₂ (λ (b : Bool) (x : List ℕ). atomNumber b x) (ap (λ (k : ℕ). eqb k nodeWords) size-is ∙ bare-test (atom-read .0 .args)) (sym (atom-named brackets s (cursorOf s entry st) (cursorOf s mid (r .state)) (atom-read .0) (atom-read .1)))
 
-        module _ (number : ℕ) (en : number ≡ atomNumber (eqb (r .used - (n + 1)) 3) (spelling s (st .token .at) (st .token .len))) (exit : List ℕ) (ex : exit ≡ set mid n number) (ne : r .state .token .kind ≡ 11 → ⊥) where
+        module _ (number : ℕ) (en : number ≡ atomNumber (eqb (r .used - (n + 1)) nodeWords) (spelling s (st .token .at) (st .token .len))) (exit : List ℕ) (ex : exit ≡ set mid n number) (ne : r .state .token .kind ≡ equalsKind → ⊥) where
           same : met exit ≡ met mid
           same =
               let room : n + nodeWords * left s st + 1 + variables ≤ length entry = ready .room in
@@ -258,7 +258,7 @@ module _ (s : List ℕ) (st : State) (entry : List ℕ) (n : ℕ) (ready : Ready
                 held = held-kept same (atom-read .2 .held);
                 room = omega arith;
               } in
-              subst⁻¹ (GivesWith 0 literalWords one s st entry exit n (record { number = 0; used = r .used; items = 1; state = r .state })) (named-by false (ne-eqb (r .state .token .kind) 11 ne))
+              subst⁻¹ (GivesWith 0 literalWords one s st entry exit n (record { number = 0; used = r .used; items = 1; state = r .state })) (named-by false (ne-eqb (r .state .token .kind) equalsKind ne))
               (subst⁻¹ (λ (x : Literal). GivenWith 0 s st entry exit n (record { number = 0; used = r .used; items = 1; state = r .state }) (literalWords x) 1 (cursorOf s mid (r .state))) is-call result)
 
           pub named-other : (number ≡ 2 → ⊥) → GivesWith 0 literalWords one s st entry exit n (record { number = 0; used = n + 1; items = 1; state = r .state }) (literalWith s (cursorOf s entry st) true)
@@ -277,43 +277,43 @@ module _ (s : List ℕ) (st : State) (entry : List ℕ) (n : ℕ) (ready : Ready
                 held = held-kept same (atom-read .2 .held);
                 room = omega arith;
               } in
-              subst⁻¹ (GivesWith 0 literalWords one s st entry exit n (record { number = 0; used = n + 1; items = 1; state = r .state })) (named-by false (ne-eqb (r .state .token .kind) 11 ne))
+              subst⁻¹ (GivesWith 0 literalWords one s st entry exit n (record { number = 0; used = n + 1; items = 1; state = r .state })) (named-by false (ne-eqb (r .state .token .kind) equalsKind ne))
               (subst⁻¹ (λ (w : List ℕ). GivenWith 0 s st entry exit n (record { number = 0; used = n + 1; items = 1; state = r .state }) w 1 (cursorOf s mid (r .state))) words result)
 
     -- ---- a literal that begins with something else
-    module _ (g : Gives termWords one s st entry mid (n + 1) r (readTerm 16 s (cursorOf s entry st))) where
+    module _ (g : Gives termWords one s st entry mid (n + 1) r (readTerm brackets s (cursorOf s entry st))) where
       pub equation-fault : (r .number ≡ 0 → ⊥) → GivesWith 0 literalWords one s st entry mid n r (literalWith s (cursorOf s entry st) false)
       unfolding literalWith
-      equation-fault z = seq-fault 1 0 termWords one literalWords one s st st entry mid n (n + 1) r (readTerm 16 s (cursorOf s entry st)) (λ t after. afterTerm s t after (eqb (after .token .kind) 11)) (omega arith) g z
+      equation-fault z = seq-fault 1 0 termWords one literalWords one s st st entry mid n (n + 1) r (readTerm brackets s (cursorOf s entry st)) (λ t after. afterTerm s t after (eqb (after .token .kind) equalsKind)) (omega arith) g z
 
       module _ (z : r .number ≡ 0) where
-        term-read : (t : Term) × (readTerm 16 s (cursorOf s entry st) ≡ ok t (cursorOf s mid (r .state))) × Given s st entry mid (n + 1) r (termWords t) 1 (cursorOf s mid (r .state))
-        term-read = seq-ok 1 termWords one s st entry mid (n + 1) r (readTerm 16 s (cursorOf s entry st)) g z
+        term-read : (t : Term) × (readTerm brackets s (cursorOf s entry st) ≡ ok t (cursorOf s mid (r .state))) × Given s st entry mid (n + 1) r (termWords t) 1 (cursorOf s mid (r .state))
+        term-read = seq-ok 1 termWords one s st entry mid (n + 1) r (readTerm brackets s (cursorOf s entry st)) g z
 
-        unnamed-by : (b : Bool) → eqb (r .state .token .kind) 11 ≡ b → literalWith s (cursorOf s entry st) false ≡ afterTerm s (term-read .0) (cursorOf s mid (r .state)) b
+        unnamed-by : (b : Bool) → eqb (r .state .token .kind) equalsKind ≡ b → literalWith s (cursorOf s entry st) false ≡ afterTerm s (term-read .0) (cursorOf s mid (r .state)) b
         unfolding literalWith andThen
-        unnamed-by b e = ap (λ (d : Read Term). andThen d (λ t after. afterTerm s t after (eqb (after .token .kind) 11))) (term-read .1) ∙ ap (afterTerm s (term-read .0) (cursorOf s mid (r .state))) e
+        unnamed-by b e = ap (λ (d : Read Term). andThen d (λ t after. afterTerm s t after (eqb (after .token .kind) equalsKind))) (term-read .1) ∙ ap (afterTerm s (term-read .0) (cursorOf s mid (r .state))) e
 
-        pub equation-ready : r .state .token .kind ≡ 11 → Ready s (r .state) mid (r .used) 0 × ((r .state .token .kind ≡ 11) × (n < r .used))
+        pub equation-ready : r .state .token .kind ≡ equalsKind → Ready s (r .state) mid (r .used) 0 × ((r .state .token .kind ≡ equalsKind) × (n < r .used))
         equation-ready e = right-ready mid r (term-read .0) (term-read .2) l e
 
-        pub equation-read : (exit : List ℕ) (q : Parsed) → r .state .token .kind ≡ 11 → Gives termWords one s (onward s (r .state)) (set mid n 3) exit (r .used) q (readTerm 16 s (cursorOf s (set mid n 3) (onward s (r .state)))) → GivesWith 0 literalWords one s st entry exit n q (literalWith s (cursorOf s entry st) false)
+        pub equation-read : (exit : List ℕ) (q : Parsed) → r .state .token .kind ≡ equalsKind → Gives termWords one s (onward s (r .state)) (set mid n equationKind) exit (r .used) q (readTerm brackets s (cursorOf s (set mid n equationKind) (onward s (r .state)))) → GivesWith 0 literalWords one s st entry exit n q (literalWith s (cursorOf s entry st) false)
         unfolding afterTerm
-        equation-read exit q e h = subst⁻¹ (GivesWith 0 literalWords one s st entry exit n q) (unnamed-by true (eq-eqb (r .state .token .kind) 11 e)) (equation-given mid r (term-read .0) (term-read .2) l exit q e h)
+        equation-read exit q e h = subst⁻¹ (GivesWith 0 literalWords one s st entry exit n q) (unnamed-by true (eq-eqb (r .state .token .kind) equalsKind e)) (equation-given mid r (term-read .0) (term-read .2) l exit q e h)
 
-        pub equation-wrong : (q : Parsed) → (r .state .token .kind ≡ 11 → ⊥) → Refused (r .state) (wrongNumber (r .state .token .kind)) q → GivesWith 0 literalWords one s st entry mid n q (literalWith s (cursorOf s entry st) false)
+        pub equation-wrong : (q : Parsed) → (r .state .token .kind ≡ equalsKind → ⊥) → Refused (r .state) (wrongNumber (r .state .token .kind)) q → GivesWith 0 literalWords one s st entry mid n q (literalWith s (cursorOf s entry st) false)
         unfolding afterTerm
-        equation-wrong q ne f = subst⁻¹ (GivesWith 0 literalWords one s st entry mid n q) (unnamed-by false (ne-eqb (r .state .token .kind) 11 ne)) (refused-wrong-with 0 literalWords one s st (r .state) entry mid n q (namesFrom s (met mid) 0 (r .state .count)) f (left-kept mid r (term-read .0) (term-read .2) l))
+        equation-wrong q ne f = subst⁻¹ (GivesWith 0 literalWords one s st entry mid n q) (unnamed-by false (ne-eqb (r .state .token .kind) equalsKind ne)) (refused-wrong-with 0 literalWords one s st (r .state) entry mid n q (namesFrom s (met mid) 0 (r .state .count)) f (left-kept mid r (term-read .0) (term-read .2) l))
 
 -- ---- by what begins it
 
-pub literal-named : (s : List ℕ) (st : State) (entry exit : List ℕ) (n : ℕ) (r : Parsed) → st .token .kind ≡ 3 → GivesWith 0 literalWords one s st entry exit n r (literalWith s (cursorOf s entry st) true) → GivesWith 0 literalWords one s st entry exit n r (readLiteral s (cursorOf s entry st))
+pub literal-named : (s : List ℕ) (st : State) (entry exit : List ℕ) (n : ℕ) (r : Parsed) → st .token .kind ≡ nameKind → GivesWith 0 literalWords one s st entry exit n r (literalWith s (cursorOf s entry st) true) → GivesWith 0 literalWords one s st entry exit n r (readLiteral s (cursorOf s entry st))
 unfolding readLiteral
-literal-named s st entry exit n r e g = subst⁻¹ (λ (b : Bool). GivesWith 0 literalWords one s st entry exit n r (literalWith s (cursorOf s entry st) b)) (eq-eqb (st .token .kind) 3 e) g
+literal-named s st entry exit n r e g = subst⁻¹ (λ (b : Bool). GivesWith 0 literalWords one s st entry exit n r (literalWith s (cursorOf s entry st) b)) (eq-eqb (st .token .kind) nameKind e) g
 
-pub literal-other : (s : List ℕ) (st : State) (entry exit : List ℕ) (n : ℕ) (r : Parsed) → (st .token .kind ≡ 3 → ⊥) → GivesWith 0 literalWords one s st entry exit n r (literalWith s (cursorOf s entry st) false) → GivesWith 0 literalWords one s st entry exit n r (readLiteral s (cursorOf s entry st))
+pub literal-other : (s : List ℕ) (st : State) (entry exit : List ℕ) (n : ℕ) (r : Parsed) → (st .token .kind ≡ nameKind → ⊥) → GivesWith 0 literalWords one s st entry exit n r (literalWith s (cursorOf s entry st) false) → GivesWith 0 literalWords one s st entry exit n r (readLiteral s (cursorOf s entry st))
 unfolding readLiteral
-literal-other s st entry exit n r e g = subst⁻¹ (λ (b : Bool). GivesWith 0 literalWords one s st entry exit n r (literalWith s (cursorOf s entry st) b)) (ne-eqb (st .token .kind) 3 e) g
+literal-other s st entry exit n r e g = subst⁻¹ (λ (b : Bool). GivesWith 0 literalWords one s st entry exit n r (literalWith s (cursorOf s entry st) b)) (ne-eqb (st .token .kind) nameKind e) g
 
 -- ---- an atom alone, stored
 
@@ -338,19 +338,19 @@ module _ (s : List ℕ) (st : State) (r : Parsed) (entry exit : List ℕ) (n num
     stored = ex ∙ ap (set entry n) en;
   }
 
-module _ (s : List ℕ) (st : State) (entry : List ℕ) (n : ℕ) (ready : Ready s st entry n 1) (mid : List ℕ) (r : Parsed) (l : length mid ≡ length entry) (g : Gives atomWords one s st entry mid (n + 1) r (readAtomAt 16 s (cursorOf s entry st))) (z : r .number ≡ 0) where
+module _ (s : List ℕ) (st : State) (entry : List ℕ) (n : ℕ) (ready : Ready s st entry n 1) (mid : List ℕ) (r : Parsed) (l : length mid ≡ length entry) (g : Gives atomWords one s st entry mid (n + 1) r (readAtomAt brackets s (cursorOf s entry st))) (z : r .number ≡ 0) where
   pub alone-asked : (n + 1 ≤ r .used) × (n + 1 ≤ length mid)
   alone-asked =
-      let o : (a : Atom) × (readAtomAt 16 s (cursorOf s entry st) ≡ ok a (cursorOf s mid (r .state))) × Given s st entry mid (n + 1) r (atomWords a) 1 (cursorOf s mid (r .state)) = seq-ok 1 atomWords one s st entry mid (n + 1) r (readAtomAt 16 s (cursorOf s entry st)) g z in
+      let o : (a : Atom) × (readAtomAt brackets s (cursorOf s entry st) ≡ ok a (cursorOf s mid (r .state))) × Given s st entry mid (n + 1) r (atomWords a) 1 (cursorOf s mid (r .state)) = seq-ok 1 atomWords one s st entry mid (n + 1) r (readAtomAt brackets s (cursorOf s entry st)) g z in
       let used : r .used ≡ (n + 1) + length (atomWords (o .0)) = o .2 .used-is in
       let room : n + nodeWords * left s st + 1 + variables ≤ length entry = ready .room in
       (omega arith, omega arith)
 
-  alone-by : (exit : List ℕ) (q : Parsed) (b : Bool) → eqb (aloneNumber s st r n) 2 ≡ b → (r .state .token .kind ≡ 11 → ⊥) → exit ≡ set mid n (aloneNumber s st r n) → GivesWith 0 literalWords one s st entry exit n (record { number = 0; used = cond b (r .used) (n + 1); items = 1; state = r .state }) (literalWith s (cursorOf s entry st) true)
+  alone-by : (exit : List ℕ) (q : Parsed) (b : Bool) → eqb (aloneNumber s st r n) 2 ≡ b → (r .state .token .kind ≡ equalsKind → ⊥) → exit ≡ set mid n (aloneNumber s st r n) → GivesWith 0 literalWords one s st entry exit n (record { number = 0; used = cond b (r .used) (n + 1); items = 1; state = r .state }) (literalWith s (cursorOf s entry st) true)
   alone-by exit q true e ne ex = named-call s st entry n ready mid r l g z (aloneNumber s st r n) refl exit ex ne (eqb-true (aloneNumber s st r n) 2 e)
   alone-by exit q false e ne ex = named-other s st entry n ready mid r l g z (aloneNumber s st r n) refl exit ex ne (eqb-false (aloneNumber s st r n) 2 e)
 
-  pub named-alone : (exit : List ℕ) (q : Parsed) → (r .state .token .kind ≡ 11 → ⊥) → Alone s st r mid exit n q → GivesWith 0 literalWords one s st entry exit n q (literalWith s (cursorOf s entry st) true)
+  pub named-alone : (exit : List ℕ) (q : Parsed) → (r .state .token .kind ≡ equalsKind → ⊥) → Alone s st r mid exit n q → GivesWith 0 literalWords one s st entry exit n q (literalWith s (cursorOf s entry st) true)
   named-alone exit q ne a = subst⁻¹ (λ (x : Parsed). GivesWith 0 literalWords one s st entry exit n x (literalWith s (cursorOf s entry st) true)) (a .is) (alone-by exit q (eqb (aloneNumber s st r n) 2) refl ne (a .stored))
 
 pub number-asked : (b : Bool) (name : List ℕ) (k : ℕ) → k ≡ atomNumber b name → k < 2 ^ 32

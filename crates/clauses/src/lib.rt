@@ -1,7 +1,5 @@
 // Literals, bodies and clauses into the node table.
 use reading::Parsed;
-use reading::cursor::is_fail;
-use reading::cursor::is_true;
 use reading::cursor::next;
 use reading::cursor::put;
 use reading::cursor::put_node;
@@ -24,6 +22,8 @@ use syntax::NODE_WORDS;
 use syntax::STOP;
 use syntax::State;
 use syntax::TRUTH_KIND;
+use texts::is_fail;
+use texts::is_true;
 ghost use mathlib.Core.Path.{_≡_};
 ghost use Prim.Native.Nat.{_+_, _*_, _-_, _≤_, _<_, _^_};
 ghost use lib.ListN.{length, set, take};

@@ -5,4 +5,6 @@ pub mod Pigeonhole
 pub mod Pile
 pub mod State
 pub mod Step
+pub mod Symbols
 pub mod Witness
+pub mod Halves

@@ -4,11 +4,18 @@ use syntax::CLAUSES;
 use syntax::FIRST_NAME;
 use syntax::GOAL_BYTES;
 use syntax::GOAL_WORDS;
+use syntax::LENGTHS;
 use syntax::LITERALS;
 use syntax::LONGEST_PATH;
 use syntax::NODE_WORDS;
 use syntax::SHEET_BYTES;
 use syntax::SHEET_WORDS;
+ghost use mathlib.Core.Path.{_≡_};
+ghost use Prim.Native.Nat.{_<_, _^_};
+ghost use Rattle.layout.specs.Regions.{copies, copyCells, halfWord};
+ghost use Rattle.layout.specs.Halves.{half, stored};
+ghost use Rattle.layout.specs.Symbols.{symbolWord, symbolPlace, symbolText, symbolLength};
+ghost use Rattle.layout.specs.State.{cellOf, variableOf};
 
 pub const COPIES: usize = LONGEST_PATH + 1;
 
@@ -100,3 +107,79 @@ pub const WIDE_WORDS: usize = ROWS + ((SHEET_BYTES + GOAL_BYTES + 4) / 5 + 2) * 
 pub const DEEPEST: usize = (CELLS + 1) * BRACKETS;
 
 pub const OPEN_SIZE: usize = 2;
+
+// The texts that a name can stand in, and room for them and a length behind a place.
+const TEXTS: usize = 2;
+
+const SYMBOL_PLACES: usize = TEXTS * LENGTHS;
+
+// A symbol's word (specs/Symbols): the place of its name, the text, 0 for the sheet and 1 for the goal, and its length.
+pub fn pack_symbol(place: usize, text: usize, len: usize) -> u32
+    requires { ⌜ symbolWord place text len < 2 ^ 32 ⌝ }
+    ensures { λ r. ⌜ r ≡ symbolWord place text len ⌝ }
+{
+    let w = place * SYMBOL_PLACES + text * LENGTHS + len;
+    w as u32
+}
+
+// The place of a symbol's name.
+pub fn symbol_place(word: u32) -> usize
+    ensures { λ r. ⌜ r ≡ symbolPlace word ⌝ }
+{
+    let w = word as usize;
+    w / SYMBOL_PLACES
+}
+
+// Its text.
+pub fn symbol_text(word: u32) -> usize
+    ensures { λ r. ⌜ r ≡ symbolText word ⌝ }
+{
+    let w = word as usize;
+    w / LENGTHS % TEXTS
+}
+
+// Its length.
+pub fn symbol_length(word: u32) -> usize
+    ensures { λ r. ⌜ r ≡ symbolLength word ⌝ }
+{
+    let w = word as usize;
+    w % LENGTHS
+}
+
+// The cell of a copy's variable (specs/State).
+pub fn cell_of(copy: usize, number: usize) -> usize
+    requires { ⌜ (copy < copies) × (number < copyCells) ⌝ }
+    ensures { λ r. ⌜ r ≡ cellOf copy number ⌝ }
+{
+    copy * COPY_CELLS + number
+}
+
+// The copy whose variable a cell belongs to.
+pub fn cell_copy(cell: usize) -> usize
+    ensures { λ r. ⌜ r ≡ variableOf cell .copy ⌝ }
+{
+    cell / COPY_CELLS
+}
+
+// Half of a word (specs/Halves): the lower where h is 0, else the higher.
+pub fn half_of(h: usize, w: usize) -> usize
+    ensures { λ r. ⌜ r ≡ half h w ⌝ }
+{
+    if h == 0 {
+        return w % HALF_WORD;
+    }
+    w / HALF_WORD % HALF_WORD
+}
+
+// A word with another number in that half.
+pub fn with_half(h: usize, w: usize, i: usize) -> u32
+    requires { ⌜ i < halfWord ⌝ }
+    ensures { λ r. ⌜ r ≡ stored h w i ⌝ }
+{
+    if h == 0 {
+        let low = w / HALF_WORD % HALF_WORD * HALF_WORD + i;
+        return low as u32;
+    }
+    let high = i * HALF_WORD + w % HALF_WORD;
+    high as u32
+}

@@ -11,8 +11,9 @@ use lib.Dec.{T, leb, eqb, leb→le}
 use lib.ListN.{length, getD, take, drop, length-drop, drop-of-length-le}
 use lib.Seq.{drop-cons, getD-drop}
 use borrow.Author.Tests.{leb-true, leb-false, eqb-true, eqb-false, le-leb, lt-leb, eq-eqb, ne-eqb}
+use Rattle.syntax.specs.Limits.{wordBytes}
 use Rattle.syntax.specs.Bytes.{isBlank, isLower, isUpper, isDigit, classOf, inWord, inNumeral}
-use Rattle.syntax.specs.Tokens.{Gap, outside, inComment, Move, on, atToken, moveOf, skipped, run, word, dashFirst}
+use Rattle.syntax.specs.Tokens.{Gap, outside, inComment, Move, on, atToken, moveOf, skipped, run, word, dashFirst, nameKind, variableKind, numeralKind, neckKind, openKind, closeKind, commaKind, stopKind, overlongKind, endKind}
 use Rattle.syntax.specs.Tokens.{tokenOf, tokenFrom, tokenPlace, tokenAt}
 use Rattle.syntax.specs.Terms.{sameBytes}
 use Rattle.syntax.specs.declared.Token.{Token}
@@ -172,86 +173,19 @@ numeral-goes : (b : ℕ) → inNumeral b ≡ goesOn 5 b
 unfolding inNumeral goesOn
 numeral-goes b = numeral-tests (classOf b) _ refl _ refl _ refl
 
--- Comparisons, from the last byte on: the bytes of names that begin alike are soon told apart.
-and-right : (x : Bool) → (x && true) ≡ x
-and-right true = refl
-and-right false = refl
-
-and-off : (x : Bool) → (x && false) ≡ false
-and-off true = refl
-and-off false = refl
-
-and-over : (x y z : Bool) → (x && (y && z)) ≡ ((x && y) && z)
-and-over true y z = refl
-and-over false y z = refl
-
--- one byte more
-same-snoc : (x y : List ℕ) (k : ℕ) → k < length x → k < length y
-    → sameBytes (take (suc k) x) (take (suc k) y) ≡ (sameBytes (take k x) (take k y) && eqb (getD x k 0) (getD y k 0))
-unfolding sameBytes
-same-snoc [] y k p q = absurd (not-suc-le-zero p)
-same-snoc (c ∷ r) [] k p q = absurd (not-suc-le-zero q)
-same-snoc (c ∷ r) (d ∷ u) zero p q = and-right (eqb c d)
-same-snoc (c ∷ r) (d ∷ u) (suc k) p q =
-    ap (λ (v : Bool). eqb c d && v) (same-snoc r u k (le-of-suc-le-suc p) (le-of-suc-le-suc q))
-    ∙ and-over (eqb c d) (sameBytes (take k r) (take k u)) (eqb (getD r k 0) (getD u k 0))
-
-abbrev pub sameUpTo : List ℕ → ℕ → List ℕ → ℕ → ℕ → Bool
-sameUpTo s a t b i = sameBytes (take i (drop a s)) (take i (drop b t))
-
--- the parts are the same where their first i bytes are
-abbrev pub Alike : List ℕ → ℕ → List ℕ → ℕ → ℕ → ℕ → Type 0
-Alike s a t b n i = sameBytes (take n (drop a s)) (take n (drop b t)) ≡ sameUpTo s a t b i
-
-pub alike-first : (s : List ℕ) (a : ℕ) (t : List ℕ) (b n : ℕ) → Alike s a t b n n
-alike-first s a t b n = refl
-
-same-step : (s : List ℕ) (a : ℕ) (t : List ℕ) (b i : ℕ) → 0 < i → a + i ≤ length s → b + i ≤ length t
-    → sameUpTo s a t b i ≡ (sameUpTo s a t b (i - 1) && eqb (getD s (a + (i - 1)) 0) (getD t (b + (i - 1)) 0))
-same-step s a t b i h p q =
-    let m : i ≡ suc (i - 1) = omega arith in
-    let x : i - 1 < length (drop a s) = omega (arith, length-drop a s) in
-    let y : i - 1 < length (drop b t) = omega (arith, length-drop b t) in
-    ap (sameUpTo s a t b) m
-    ∙ same-snoc (drop a s) (drop b t) (i - 1) x y
-    ∙ ap (λ (v : ℕ). sameUpTo s a t b (i - 1) && eqb v (getD (drop b t) (i - 1) 0)) (getD-drop a s (i - 1) 0)
-    ∙ ap (λ (v : ℕ). sameUpTo s a t b (i - 1) && eqb (getD s (a + (i - 1)) 0) v) (getD-drop b t (i - 1) 0)
-
-pub alike-on : (s : List ℕ) (a : ℕ) (t : List ℕ) (b n i : ℕ) → 0 < i → i ≤ n → (a + n ≤ length s) × (b + n ≤ length t)
-    → getD s (a + (i - 1)) 0 ≡ getD t (b + (i - 1)) 0 → Alike s a t b n i → Alike s a t b n (i - 1)
-alike-on s a t b n i h l p e w =
-    w
-    ∙ same-step s a t b i h (omega (arith, p .0)) (omega (arith, p .1))
-    ∙ ap (λ (v : Bool). sameUpTo s a t b (i - 1) && v) (eq-eqb _ _ e)
-    ∙ and-right (sameUpTo s a t b (i - 1))
-
-pub alike-differ : (s : List ℕ) (a : ℕ) (t : List ℕ) (b n i : ℕ) → 0 < i → i ≤ n → (a + n ≤ length s) × (b + n ≤ length t)
-    → (getD s (a + (i - 1)) 0 ≡ getD t (b + (i - 1)) 0 → ⊥) → Alike s a t b n i → false ≡ sameBytes (take n (drop a s)) (take n (drop b t))
-alike-differ s a t b n i h l p e w =
-    sym
-    (w
-    ∙ same-step s a t b i h (omega (arith, p .0)) (omega (arith, p .1))
-    ∙ ap (λ (v : Bool). sameUpTo s a t b (i - 1) && v) (ne-eqb _ _ e)
-    ∙ and-off (sameUpTo s a t b (i - 1)))
-
-pub alike-end : (s : List ℕ) (a : ℕ) (t : List ℕ) (b n i : ℕ) → i ≤ 0 → Alike s a t b n i
-    → true ≡ sameBytes (take n (drop a s)) (take n (drop b t))
-unfolding sameBytes
-alike-end s a t b n i h w = let z : i ≡ 0 = omega arith in sym (w ∙ simp z)
-
 -- Tokens.
-pub word-in : (kind i n e : ℕ) → e ≡ i + 1 + n → e - i ≤ 31 → record { kind = kind; at = i; len = e - i } ≡ word kind i (suc n)
+pub word-in : (kind i n e : ℕ) → e ≡ i + 1 + n → e - i ≤ wordBytes → record { kind = kind; at = i; len = e - i } ≡ word kind i (suc n)
 unfolding word
 word-in kind i n e p h =
     let q : e - i ≡ suc n = omega arith in
-    let l : leb (suc n) 31 ≡ true = le-leb (suc n) 31 (omega arith) in
+    let l : leb (suc n) wordBytes ≡ true = le-leb (suc n) wordBytes (omega arith) in
     simp (q, l)
 
-pub word-over : (kind i n e : ℕ) → e ≡ i + 1 + n → 31 < e - i → record { kind = 15; at = i; len = e - i } ≡ word kind i (suc n)
+pub word-over : (kind i n e : ℕ) → e ≡ i + 1 + n → wordBytes < e - i → record { kind = overlongKind; at = i; len = e - i } ≡ word kind i (suc n)
 unfolding word
 word-over kind i n e p h =
     let q : e - i ≡ suc n = omega arith in
-    let l : leb (suc n) 31 ≡ false = lt-leb (suc n) 31 (omega arith) in
+    let l : leb (suc n) wordBytes ≡ false = lt-leb (suc n) wordBytes (omega arith) in
     simp (q, l)
 
 dash-first : (s : List ℕ) (i : ℕ) → dashFirst (drop i s) ≡ eqb (getD s i 0) 45
@@ -267,7 +201,7 @@ dash-inside [] e = let z : _≡_ {A = Bool} false true = e in let w : _≡_ {A =
 dash-inside (b ∷ r) e = omega arith
 
 pub colon-neck : (s : List ℕ) (i b : ℕ) → b ≡ getD s (i + 1) 0 → b ≡ 45
-    → record { kind = 6; at = i; len = 2 } ≡ tokenOf 6 i (drop (i + 1) s)
+    → record { kind = neckKind; at = i; len = 2 } ≡ tokenOf 6 i (drop (i + 1) s)
 unfolding tokenOf
 colon-neck s i b p e = let q : getD s (i + 1) 0 ≡ 45 = cc in simp (dash-first, q)
 
@@ -277,20 +211,20 @@ unfolding tokenOf
 colon-alone s i b p e = simp (dash-first, ← p, ne-eqb _ _ e)
 
 -- the tokens that more than one byte can make
-pub of-name : (i : ℕ) (r : List ℕ) → word 3 i (suc (run (goesOn 3) r)) ≡ tokenOf 3 i r
+pub of-name : (i : ℕ) (r : List ℕ) → word nameKind i (suc (run (goesOn 3) r)) ≡ tokenOf 3 i r
 unfolding tokenOf inWord goesOn
 of-name i r = refl
 
-pub of-variable : (i : ℕ) (r : List ℕ) → word 4 i (suc (run (goesOn 3) r)) ≡ tokenOf 4 i r
+pub of-variable : (i : ℕ) (r : List ℕ) → word variableKind i (suc (run (goesOn 3) r)) ≡ tokenOf 4 i r
 unfolding tokenOf inWord goesOn
 of-variable i r = refl
 
-pub of-numeral : (i : ℕ) (r : List ℕ) → word 5 i (suc (run (goesOn 5) r)) ≡ tokenOf 5 i r
+pub of-numeral : (i : ℕ) (r : List ℕ) → word numeralKind i (suc (run (goesOn 5) r)) ≡ tokenOf 5 i r
 unfolding tokenOf
-of-numeral i r = ap (λ (n : ℕ). word 5 i (suc n)) (sym (run-same inNumeral (goesOn 5) numeral-goes r))
+of-numeral i r = ap (λ (n : ℕ). word numeralKind i (suc n)) (sym (run-same inNumeral (goesOn 5) numeral-goes r))
 
 -- the token at a place, by the class of the byte there
-pub token-none : (s : List ℕ) (from i : ℕ) → i ≡ tokenPlace s from → length s ≤ i → record { kind = 16; at = i; len = 0 } ≡ tokenAt s from
+pub token-none : (s : List ℕ) (from i : ℕ) → i ≡ tokenPlace s from → length s ≤ i → record { kind = endKind; at = i; len = 0 } ≡ tokenAt s from
 unfolding tokenAt tokenFrom
 token-none s from i p le = simp (← p, drop-of-length-le s le)
 
@@ -320,25 +254,25 @@ token-sign s from n k lt b c high =
     token-byte s from from k (ahead-token s from from k lt e (λ z. omega arith) (λ z. omega arith) (ahead-first s from)) lt e (λ z. omega arith)
     (λ z. omega arith) (λ z. omega arith) (λ z. omega arith)
 
-pub comma-there : (s : List ℕ) (from : ℕ) (t : Token) → from < length s → getD s from 0 ≡ 44 → t ≡ record { kind = 9; at = from; len = 1 }
+pub comma-there : (s : List ℕ) (from : ℕ) (t : Token) → from < length s → getD s from 0 ≡ 44 → t ≡ record { kind = commaKind; at = from; len = 1 }
     → t ≡ tokenAt s from
 unfolding classOf
-comma-there s from t lt b e = e ∙ token-sign s from 44 9 lt b refl (omega arith)
+comma-there s from t lt b e = e ∙ token-sign s from 44 commaKind lt b refl (omega arith)
 
-pub open-there : (s : List ℕ) (from : ℕ) (t : Token) → from < length s → getD s from 0 ≡ 40 → t ≡ record { kind = 7; at = from; len = 1 }
+pub open-there : (s : List ℕ) (from : ℕ) (t : Token) → from < length s → getD s from 0 ≡ 40 → t ≡ record { kind = openKind; at = from; len = 1 }
     → t ≡ tokenAt s from
 unfolding classOf
-open-there s from t lt b e = e ∙ token-sign s from 40 7 lt b refl (omega arith)
+open-there s from t lt b e = e ∙ token-sign s from 40 openKind lt b refl (omega arith)
 
-pub close-there : (s : List ℕ) (from : ℕ) (t : Token) → from < length s → getD s from 0 ≡ 41 → t ≡ record { kind = 8; at = from; len = 1 }
+pub close-there : (s : List ℕ) (from : ℕ) (t : Token) → from < length s → getD s from 0 ≡ 41 → t ≡ record { kind = closeKind; at = from; len = 1 }
     → t ≡ tokenAt s from
 unfolding classOf
-close-there s from t lt b e = e ∙ token-sign s from 41 8 lt b refl (omega arith)
+close-there s from t lt b e = e ∙ token-sign s from 41 closeKind lt b refl (omega arith)
 
-pub stop-there : (s : List ℕ) (from : ℕ) (t : Token) → from < length s → getD s from 0 ≡ 46 → t ≡ record { kind = 10; at = from; len = 1 }
+pub stop-there : (s : List ℕ) (from : ℕ) (t : Token) → from < length s → getD s from 0 ≡ 46 → t ≡ record { kind = stopKind; at = from; len = 1 }
     → t ≡ tokenAt s from
 unfolding classOf
-stop-there s from t lt b e = e ∙ token-sign s from 46 10 lt b refl (omega arith)
+stop-there s from t lt b e = e ∙ token-sign s from 46 stopKind lt b refl (omega arith)
 
 -- what holds of a token by cases of its first byte's class
 by-class : (P : Token → Type 0) (t3 t4 t5 t6 : Bool) (name variable numeral colon other : Token) → P name → P variable → P numeral
@@ -351,19 +285,19 @@ by-class P false false false true name variable numeral colon other a b c d e = 
 by-class P false false false false name variable numeral colon other a b c d e = e refl refl refl
 
 of-cases : (P : Token → Type 0) (c i : ℕ) (r : List ℕ) → ((k n : ℕ) → k ≤ 5 → n ≤ length r → P (word k i (suc n)))
-    → ((t : Bool) → dashFirst r ≡ t → P (record { kind = cond t 6 0; at = i; len = cond t 2 1 }))
+    → ((t : Bool) → dashFirst r ≡ t → P (record { kind = cond t neckKind 0; at = i; len = cond t 2 1 }))
     → ((c ≡ 3 → ⊥) → (c ≡ 4 → ⊥) → (c ≡ 5 → ⊥) → P (record { kind = c; at = i; len = 1 })) → P (tokenOf c i r)
 unfolding tokenOf
 of-cases P c i r words colon other =
     by-class P (eqb c 3) (eqb c 4) (eqb c 5) (eqb c 6)
-    (word 3 i (suc (run inWord r)))
-    (word 4 i (suc (run inWord r)))
-    (word 5 i (suc (run inNumeral r)))
-    (record { kind = cond (dashFirst r) 6 0; at = i; len = cond (dashFirst r) 2 1 })
+    (word nameKind i (suc (run inWord r)))
+    (word variableKind i (suc (run inWord r)))
+    (word numeralKind i (suc (run inNumeral r)))
+    (record { kind = cond (dashFirst r) neckKind 0; at = i; len = cond (dashFirst r) 2 1 })
     (record { kind = c; at = i; len = 1 })
-    (words 3 (run inWord r) (omega arith) (run-inside inWord r))
-    (words 4 (run inWord r) (omega arith) (run-inside inWord r))
-    (words 5 (run inNumeral r) (omega arith) (run-inside inNumeral r))
+    (words nameKind (run inWord r) (omega arith) (run-inside inWord r))
+    (words variableKind (run inWord r) (omega arith) (run-inside inWord r))
+    (words numeralKind (run inNumeral r) (omega arith) (run-inside inNumeral r))
     (colon (dashFirst r) refl)
     (λ n3 n4 n5. other (eqb-false c 3 n3) (eqb-false c 4 n4) (eqb-false c 5 n5))
 
@@ -406,34 +340,34 @@ token-inside s p h =
 pub past-is : (s : List ℕ) (p : ℕ) (t : Token) → t ≡ tokenAt s p → t .at + t .len ≡ (tokenAt s p) .at + (tokenAt s p) .len
 past-is s p t e = ap (λ (u : Token). u .at + u .len) e
 
--- A name, variable or numeral has at most 31 bytes.
-word-short : (k n : ℕ) (t : Bool) → leb n 31 ≡ t → cond t k 15 ≤ 5 → n ≤ 31
-word-short k n true e h = leb-true n 31 e
+-- A name, variable or numeral has at most wordBytes bytes.
+word-short : (k n : ℕ) (t : Bool) → leb n wordBytes ≡ t → cond t k overlongKind ≤ 5 → n ≤ wordBytes
+word-short k n true e h = leb-true n wordBytes e
 word-short k n false e h = absurd (omega arith)
 
-colon-len : (t : Bool) → (0 < cond t 2 1) × (cond t 2 1 ≤ 31)
+colon-len : (t : Bool) → (0 < cond t 2 1) × (cond t 2 1 ≤ wordBytes)
 colon-len true = omega arith
 colon-len false = omega arith
 
-from-short : (i : ℕ) (l : List ℕ) → (tokenFrom i l) .kind ≤ 5 → (tokenFrom i l) .len ≤ 31
+from-short : (i : ℕ) (l : List ℕ) → (tokenFrom i l) .kind ≤ 5 → (tokenFrom i l) .len ≤ wordBytes
 unfolding tokenFrom word
 from-short i [] h = omega arith
 from-short i (b ∷ r) h =
-    of-cases (λ t. t .kind ≤ 5 → t .len ≤ 31) (classOf b) i r (λ k n h m. word-short k (suc n) (leb (suc n) 31) refl)
+    of-cases (λ t. t .kind ≤ 5 → t .len ≤ wordBytes) (classOf b) i r (λ k n h m. word-short k (suc n) (leb (suc n) wordBytes) refl)
     (λ t e h. colon-len t .1)
     (λ n3 n4 n5 h. omega arith)
     h
 
-pub token-word-short : (s : List ℕ) (p k : ℕ) → (tokenAt s p) .kind ≡ k → T (leb k 5) → (tokenAt s p) .len ≤ 31
+pub token-word-short : (s : List ℕ) (p k : ℕ) → (tokenAt s p) .kind ≡ k → T (leb k 5) → (tokenAt s p) .len ≤ wordBytes
 unfolding tokenAt
 token-word-short s p k e h = from-short (tokenPlace s p) (drop (tokenPlace s p) s) (omega (arith, e, leb→le k 5 h))
 
 -- Every token but the end has a byte.
-from-some : (i : ℕ) (l : List ℕ) → ((tokenFrom i l) .kind ≡ 16 → ⊥) → 0 < (tokenFrom i l) .len
+from-some : (i : ℕ) (l : List ℕ) → ((tokenFrom i l) .kind ≡ endKind → ⊥) → 0 < (tokenFrom i l) .len
 unfolding tokenFrom word
 from-some i [] h = absurd (h refl)
 from-some i (b ∷ r) h = of-cases (λ t. 0 < t .len) (classOf b) i r (λ k n h m. omega arith) (λ t e. colon-len t .0) (λ n3 n4 n5. omega arith)
 
-pub token-some : (s : List ℕ) (p : ℕ) → ((tokenAt s p) .kind ≡ 16 → ⊥) → 0 < (tokenAt s p) .len
+pub token-some : (s : List ℕ) (p : ℕ) → ((tokenAt s p) .kind ≡ endKind → ⊥) → 0 < (tokenAt s p) .len
 unfolding tokenAt
 token-some s p h = from-some (tokenPlace s p) (drop (tokenPlace s p) s) h

@@ -14,12 +14,13 @@ use syntax::OVERLONG;
 use syntax::STOP;
 use syntax::Token;
 use syntax::VARIABLE;
+use syntax::WORD_BYTES;
+use texts::byte_at;
 ghost use mathlib.Core.Path.{_≡_};
 ghost use Prim.Native.Nat.{suc, _+_, _≤_, _<_};
-ghost use lib.ListN.{length, getD, take, drop};
+ghost use lib.ListN.{length, getD, drop};
 ghost use Rattle.syntax.specs.Bytes.{classOf};
 ghost use Rattle.syntax.specs.Tokens.{run, word, tokenOf, tokenPlace, tokenAt};
-ghost use Rattle.syntax.specs.Terms.{sameBytes};
 ghost use Rattle.lexer.specs.Classes.{Classified};
 ghost use Rattle.lexer.specs.Runs.{goesOn};
 
@@ -34,9 +35,6 @@ const LINE_FEED: u8 = 10;
 
 const DASH: u8 = 45;
 
-// The most bytes of a name, variable or numeral.
-const LONGEST: usize = 31;
-
 // The table of classes. A constant array is put into memory wherever it is used, so a token is scanned with one copy of it.
 fn class_table() -> [u8; 256]
     ensures { λ r. ⌜ Classified r ⌝ }
@@ -50,16 +48,6 @@ fn class(table: &[u8; 256], b: u8) -> usize
     ensures { λ r. ⌜ r ≡ classOf b ⌝ }
 {
     table[b as usize] as usize
-}
-
-// The byte at a position, 0 past the end.
-pub fn byte_at(s: &[u8], i: usize) -> u8
-    ensures { λ r. ⌜ r ≡ getD (now (s .entry)) i 0 ⌝ }
-{
-    if i < s.len() {
-        return s[i];
-    }
-    0
 }
 
 // Where the first token from a position on begins, past blanks and comments; the length where only these are left.
@@ -124,7 +112,7 @@ fn word_token(table: &[u8; 256], s: &[u8], at: usize, kind: usize, least: usize)
 {
     let end = run_end(table, s, at + 1, least);
     let len = end - at;
-    if len <= LONGEST {
+    if len <= WORD_BYTES {
         return Token { kind, at, len };
     }
     Token {
@@ -226,21 +214,4 @@ pub fn past_at(s: &[u8], from: usize) -> usize
 {
     let token = token_at(s, from);
     token.at + token.len
-}
-
-// Whether the `n` bytes of `s` from `a` on and those of `t` from `b` on are the same, from the last one on.
-pub fn same_bytes(s: &[u8], a: usize, t: &[u8], b: usize, n: usize) -> bool
-    requires { ⌜ (a + n ≤ length (now s)) × (b + n ≤ length (now t)) ⌝ }
-    ensures { λ r. ⌜ r ≡ sameBytes (take n (drop a (now (s .entry)))) (take n (drop b (now (t .entry)))) ⌝ }
-{
-    let mut i = n;
-    while 0 < i {
-        i -= 1;
-        let p = a + i;
-        let q = b + i;
-        if s[p] != t[q] {
-            return false;
-        }
-    }
-    true
 }

@@ -6,6 +6,7 @@ use mathlib.Core.Bool.{_&&_}
 use mathlib.Core.List.{List, [], _∷_}
 use lib.Dec.{T}
 use lib.ListN.{length, getD, set, length-set, length-append}
+use Rattle.syntax.specs.Limits.{clauses as mostClauses}
 use Rattle.syntax.specs.Limits.{clauses as mostClauses, literals as mostLiterals}
 use Rattle.syntax.specs.Terms.{termOf, Body, Clause, Sheet}
 use Rattle.syntax.specs.Words.{atomWords, bodyWords, bodyLength, clauseWords, clausesWords}
@@ -162,7 +163,7 @@ module _ (table : List ℕ) (p : ℕ) (nodes : List ℕ) (q clauses : ℕ) (code
         → (clauseRecord k + 1 + 1 < length code) × ((bodyPlace k < 4294967296) × (after < 4294967296))
     pair-ready ss sh cl w =
         let a : after ≡ nextFor sh (cl .head) k = after-is ss sh cl w in
-        let b : nextFor sh (cl .head) k ≤ 257 = next-bound ss sh nodes clauses code (w .headed) (cl .head) k (w .high) in
+        let b : nextFor sh (cl .head) k ≤ mostClauses + 1 = next-bound ss sh nodes clauses code (w .headed) (cl .head) k (w .high) in
         let c : k ≤ mostClauses = clause-small ss sh cl w in
         let d : codeWords ≤ length code = w .headed .room in
         (omega arith, (omega arith, omega arith))

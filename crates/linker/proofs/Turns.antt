@@ -73,7 +73,7 @@ first-bound a j (cl ∷ cls) =
     let l : firstFor a (suc j) cls ≤ suc j + length cls = first-bound a (suc j) cls in
     choice-bound (isFor a cl) j (firstFor a (suc j) cls) (j + suc (length cls)) (omega arith) (omega arith)
 
-pub next-bound : (ss : List Symbol) (sh : Sheet) (nodes : List ℕ) (clauses : ℕ) (code : List ℕ) → Headed ss sh nodes clauses code → (a : Atom) (k : ℕ) → k ≤ clauses → nextFor sh a k ≤ 257
+pub next-bound : (ss : List Symbol) (sh : Sheet) (nodes : List ℕ) (clauses : ℕ) (code : List ℕ) → Headed ss sh nodes clauses code → (a : Atom) (k : ℕ) → k ≤ clauses → nextFor sh a k ≤ mostClauses + 1
 unfolding nextFor
 next-bound ss sh nodes clauses code w a k l =
     let b : firstFor a (suc k) (drop k (sh .clauses)) ≤ suc k + length (drop k (sh .clauses)) = first-bound a (suc k) (drop k (sh .clauses)) in
@@ -137,7 +137,7 @@ module _ (table : List ℕ) (p : ℕ) (nodes : List ℕ) (q clauses : ℕ) (code
   unfolding otherOf literalNodes
   other-bound ss sh truth w = omega arith
   other-bound ss sh falsity w = omega arith
-  other-bound ss sh (call a) w = let z : nextFor sh a 0 ≤ 257 = next-bound ss sh nodes clauses code (w .headed) a 0 (omega arith) in omega arith
+  other-bound ss sh (call a) w = let z : nextFor sh a 0 ≤ mostClauses + 1 = next-bound ss sh nodes clauses code (w .headed) a 0 (omega arith) in omega arith
   other-bound ss sh (equation t u) w =
       let z : q + length (loadedWords ss t) ≤ length nodes = end-inside nodes q (loadedWords ss t) (w .node) (has-left nodes q (loadedWords ss t) (loadedWords ss u) (w .stand)) in
       let y : length nodes ≤ places = w .headed .nodes-short in

@@ -8,6 +8,7 @@ use mathlib.Core.Option.{some}
 use lib.Dec.{T}
 use lib.ListN.{length, getD, set, length-set}
 use lib.Seq.{getD-set-same, getD-set-other}
+use Rattle.syntax.specs.Limits.{clauses as mostClauses}
 use Rattle.syntax.specs.Limits.{clauses as mostClauses, literals as mostLiterals}
 use Rattle.syntax.specs.Terms.{termOf, Literal, call, equation, truth, falsity, Body, done, also, Clause, Sheet}
 use Rattle.syntax.specs.Words.{bodyLength}
@@ -166,10 +167,10 @@ abbrev pub SameHeads : List ℕ → List ℕ → Type 0
 SameHeads code new = (j : ℕ) → j ≤ mostClauses → headAt new j ≡ headAt code j
 
 module _ (ss : List Symbol) (nodes : List ℕ) where
-  pub heads-kept : (code new : List ℕ) → SameHeads code new → (k : ℕ) (cls : List Clause) → k + length cls ≤ 257 → HeadsStand ss nodes code k cls → HeadsStand ss nodes new k cls
+  pub heads-kept : (code new : List ℕ) → SameHeads code new → (k : ℕ) (cls : List Clause) → k + length cls ≤ mostClauses + 1 → HeadsStand ss nodes code k cls → HeadsStand ss nodes new k cls
   heads-kept code new f k [] l h = tt
   heads-kept code new f k (cl ∷ cls) l h =
-      let z : k + suc (length cls) ≤ 257 = l in
+      let z : k + suc (length cls) ≤ mostClauses + 1 = l in
       (subst⁻¹ (λ (i : ℕ). Stands ss nodes i (termOf (cl .head))) (f k (omega arith)) (h .0), heads-kept code new f (k + 1) cls (omega arith) (h .1))
 
 pub headed-kept : (ss : List Symbol) (sh : Sheet) (nodes : List ℕ) (clauses : ℕ) (code new : List ℕ) → length new ≡ length code → SameHeads code new → Headed ss sh nodes clauses code → Headed ss sh nodes clauses new
@@ -210,11 +211,11 @@ module _ (ss : List Symbol) where
       heads-below (q + length (clauseNodes ss cl)) cls (set code (clauseRecord k) q) (k + 1) i (omega arith) ∙ getD-set-other code (clauseRecord k) i q 0 (λ e. omega arith)
 
   pub heads-written : (nodes : List ℕ) (q : ℕ) (cls : List Clause) (code : List ℕ) (k : ℕ) → Has nodes q (clausesNodes ss cls) → T (clausesLoadable ss cls) → ClausesLimited cls
-      → k + length cls ≤ 257 → bodies ≤ length code → HeadsStand ss nodes (putHeads ss q cls code k) k cls
+      → k + length cls ≤ mostClauses + 1 → bodies ≤ length code → HeadsStand ss nodes (putHeads ss q cls code k) k cls
   unfolding putHeads clausesNodes clausesLoadable clauseNodes
   heads-written nodes q [] code k h t s l r = tt
   heads-written nodes q (cl ∷ cls) code k h t s l r =
-      let z : k + suc (length cls) ≤ 257 = l in
+      let z : k + suc (length cls) ≤ mostClauses + 1 = l in
       let n : length (set code (clauseRecord k) q) ≡ length code = simp length-set in
       let oks : T (isLoadable ss (termOf (cl .head)) && bodyLoadable ss (cl .body)) × T (clausesLoadable ss cls) = both (isLoadable ss (termOf (cl .head)) && bodyLoadable ss (cl .body)) (clausesLoadable ss cls) t in
       let ok : T (isLoadable ss (termOf (cl .head))) × T (bodyLoadable ss (cl .body)) = both (isLoadable ss (termOf (cl .head))) (bodyLoadable ss (cl .body)) (oks .0) in
@@ -253,11 +254,11 @@ module _ (ss : List Symbol) (sh : Sheet) where
         ∙ pair-heads code k (bodyPlace k) (nextFor sh (cl .head) k) j u;
   }
 
-  pub clauses-kept : (q : ℕ) (cls : List Clause) (code : List ℕ) (k : ℕ) → k + length cls ≤ 257 → Kept code (putClauses ss sh q cls code k) k
+  pub clauses-kept : (q : ℕ) (cls : List Clause) (code : List ℕ) (k : ℕ) → k + length cls ≤ mostClauses + 1 → Kept code (putClauses ss sh q cls code k) k
   unfolding putClauses
   clauses-kept q [] code k l = record { long = refl; records = λ i u. refl; bodies = λ i a u. refl; heads = λ j u. refl }
   clauses-kept q (cl ∷ cls) code k l =
-      let z : k + suc (length cls) ≤ 257 = l in
+      let z : k + suc (length cls) ≤ mostClauses + 1 = l in
       let one : Kept code (putClause ss sh q cl code k) k = clause-kept q cl code k (omega arith) in
       let more : Kept (putClause ss sh q cl code k) (putClauses ss sh (q + length (clauseNodes ss cl)) cls (putClause ss sh q cl code k) (k + 1)) (k + 1) = clauses-kept (q + length (clauseNodes ss cl)) cls (putClause ss sh q cl code k) (k + 1) (omega arith) in
       record {
@@ -290,12 +291,12 @@ module _ (ss : List Symbol) (sh : Sheet) where
     }
 
     -- every clause stands, all but its head
-    pub clauses-written : (q : ℕ) (cls : List Clause) (code : List ℕ) (k : ℕ) → Has nodes q (clausesNodes ss cls) → T (clausesLoadable ss cls) → ClausesLimited cls → k + length cls ≤ 257 → codeWords ≤ length code
+    pub clauses-written : (q : ℕ) (cls : List Clause) (code : List ℕ) (k : ℕ) → Has nodes q (clausesNodes ss cls) → T (clausesLoadable ss cls) → ClausesLimited cls → k + length cls ≤ mostClauses + 1 → codeWords ≤ length code
         → (n : ℕ) (cl : Clause) → nth cls n ≡ some cl → BodyPart ss sh nodes (putClauses ss sh q cls code k) (k + n) cl
     unfolding putClauses clausesNodes clausesLoadable nth
     clauses-written q [] code k h t s l r n cl e = absurd (some-none cl (sym e))
     clauses-written q (c ∷ cls) code k h t s l r zero cl e =
-        let z : k + suc (length cls) ≤ 257 = l in
+        let z : k + suc (length cls) ≤ mostClauses + 1 = l in
         let few : bodyLength (c .body) ≤ mostLiterals = s .0 .body .few in
         let oks : T (isLoadable ss (termOf (c .head)) && bodyLoadable ss (c .body)) × T (clausesLoadable ss cls) = both (isLoadable ss (termOf (c .head)) && bodyLoadable ss (c .body)) (clausesLoadable ss cls) t in
         let ok : T (isLoadable ss (termOf (c .head))) × T (bodyLoadable ss (c .body)) = both (isLoadable ss (termOf (c .head))) (bodyLoadable ss (c .body)) (oks .0) in
@@ -305,7 +306,7 @@ module _ (ss : List Symbol) (sh : Sheet) where
         subst (λ (x : Clause). BodyPart ss sh nodes (putClauses ss sh (q + length (clauseNodes ss c)) cls (putClause ss sh q c code k) (k + 1)) (k + 0) x) (some-eq c cl e)
         (subst (λ (i : ℕ). BodyPart ss sh nodes (putClauses ss sh (q + length (clauseNodes ss c)) cls (putClause ss sh q c code k) (k + 1)) i c) (let y : k ≡ k + 0 = omega arith in y) kept)
     clauses-written q (c ∷ cls) code k h t s l r (suc n) cl e =
-        let z : k + suc (length cls) ≤ 257 = l in
+        let z : k + suc (length cls) ≤ mostClauses + 1 = l in
         let m : length (putClause ss sh q c code k) ≡ length code = clause-kept q c code k (omega arith) .long in
         let oks : T (isLoadable ss (termOf (c .head)) && bodyLoadable ss (c .body)) × T (clausesLoadable ss cls) = both (isLoadable ss (termOf (c .head)) && bodyLoadable ss (c .body)) (clausesLoadable ss cls) t in
         subst (λ (i : ℕ). BodyPart ss sh nodes (putClauses ss sh (q + length (clauseNodes ss c)) cls (putClause ss sh q c code k) (k + 1)) i cl) (let y : k + 1 + n ≡ k + suc n = omega arith in y)

@@ -2,6 +2,8 @@
 // list of three entries lent each time: the line of the verdict is printed, and then the list, an entry to a line.
 // `F`, words of four bytes, lowest first, a name and a text: the first word is a number of arguments, the others are
 // entries of the text, in which the predicate is looked for, and what the search tells is printed.
+use cases::BYTE;
+use cases::TWO_BYTES;
 use cases::wide;
 use libc::STDOUT_FILENO;
 use lists::Lent;
@@ -74,9 +76,9 @@ fn print_lent(sheet: &[u8], lent: Lent)
 fn word_of(bytes: &[u8], at: usize) -> u32
     requires { ⌜ at + 3 < length (now bytes) ⌝ }
 {
-    let low = wide(bytes[at]) + 256 * wide(bytes[at + 1]);
-    let high = wide(bytes[at + 2]) + 256 * wide(bytes[at + 3]);
-    (low + 65536 * high) as u32
+    let low = wide(bytes[at]) + BYTE * wide(bytes[at + 1]);
+    let high = wide(bytes[at + 2]) + BYTE * wide(bytes[at + 3]);
+    (low + TWO_BYTES * high) as u32
 }
 
 fn word_count(bytes: &[u8]) -> usize

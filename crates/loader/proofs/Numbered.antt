@@ -1,5 +1,5 @@
 -- Laws of numbering copied nodes, one for each way out of the functions. Assumes nothing.
-use Prim.Native.Nat.{ℕ, suc, _+_, _-_, _/_, _%_, _≤_, _<_}
+use Prim.Native.Nat.{ℕ, suc, _+_, _≤_, _<_}
 use native.Mathlib.Omega.{arith}
 use mathlib.Core.Path.{_≡_, refl, sym, ap, _∙_, subst}
 use mathlib.Core.Bool.{Bool, false, cond, _||_}
@@ -15,7 +15,7 @@ use Rattle.layout.specs.Regions.{nodesWords}
 use Rattle.machine.proofs.Tests.{or-right}
 use Rattle.words.specs.Tables.{Has}
 use Rattle.layout.specs.Nodes.{Symbol, symbolOf, isListed}
-use Rattle.loader.specs.Flat.{Flat, flatWords, written, arities}
+use Rattle.loader.specs.Flat.{Flat, flatWords, flatSymbol, flatArity, written}
 use Rattle.loader.specs.Listing.{wordName, symbolsOf, Listed, withSymbol, Counted, Interned, withNode, withAll, numberedWhat, numberedAll, NodeInside, AllInside, Copied, NodeNumbered, NodesNumbered}
 use Rattle.loader.proofs.Writing.{written-nil, written-two}
 use Rattle.loader.proofs.Finding.{decide, below-or, listed-append, listed-one, self-symbol, symbol-stays, with-old, with-new}
@@ -24,24 +24,24 @@ module _ (sheet goal : List ℕ) where
   -- ---- one node
 
   abbrev with-choice : List Symbol → ℕ → Bool → List Symbol
-  with-choice ss v b = cond b ss (withSymbol ss (wordName sheet goal ((v - firstName) / arities)) ((v - firstName) % arities))
+  with-choice ss v b = cond b ss (withSymbol ss (wordName sheet goal (flatSymbol v)) (flatArity v))
 
   pub with-variable : (ss : List Symbol) (v : ℕ) → v < firstName → withNode sheet goal ss v ≡ ss
   unfolding withNode
   with-variable ss v l = ap (with-choice ss v) (lt-ltb v firstName l)
 
-  pub with-name : (ss : List Symbol) (v : ℕ) → firstName ≤ v → withNode sheet goal ss v ≡ withSymbol ss (wordName sheet goal ((v - firstName) / arities)) ((v - firstName) % arities)
+  pub with-name : (ss : List Symbol) (v : ℕ) → firstName ≤ v → withNode sheet goal ss v ≡ withSymbol ss (wordName sheet goal (flatSymbol v)) (flatArity v)
   unfolding withNode
   with-name ss v l = ap (with-choice ss v) (le-ltb v firstName l)
 
   abbrev number-choice : List Symbol → ℕ → Bool → ℕ
-  number-choice ss v b = cond b v (firstName + symbolOf ss (wordName sheet goal ((v - firstName) / arities)) ((v - firstName) % arities))
+  number-choice ss v b = cond b v (firstName + symbolOf ss (wordName sheet goal (flatSymbol v)) (flatArity v))
 
   pub number-variable : (ss : List Symbol) (v : ℕ) → v < firstName → numberedWhat sheet goal ss v ≡ v
   unfolding numberedWhat
   number-variable ss v l = ap (number-choice ss v) (lt-ltb v firstName l)
 
-  pub number-name : (ss : List Symbol) (v : ℕ) → firstName ≤ v → numberedWhat sheet goal ss v ≡ firstName + symbolOf ss (wordName sheet goal ((v - firstName) / arities)) ((v - firstName) % arities)
+  pub number-name : (ss : List Symbol) (v : ℕ) → firstName ≤ v → numberedWhat sheet goal ss v ≡ firstName + symbolOf ss (wordName sheet goal (flatSymbol v)) (flatArity v)
   unfolding numberedWhat
   number-name ss v l = ap (number-choice ss v) (le-ltb v firstName l)
 
@@ -59,7 +59,7 @@ module _ (sheet goal : List ℕ) where
     where
       go : (v < firstName) ⊎ (firstName ≤ v) → (more : List Symbol) × (withNode sheet goal ss v ≡ ss ++ more)
       go (inl l) = ([], with-variable ss v l ∙ sym (append-nil ss))
-      go (inr l) = (with-symbol-more ss (wordName sheet goal ((v - firstName) / arities)) ((v - firstName) % arities) .0, with-name ss v l ∙ with-symbol-more ss (wordName sheet goal ((v - firstName) / arities)) ((v - firstName) % arities) .1)
+      go (inr l) = (with-symbol-more ss (wordName sheet goal (flatSymbol v)) (flatArity v) .0, with-name ss v l ∙ with-symbol-more ss (wordName sheet goal (flatSymbol v)) (flatArity v) .1)
 
   pub with-all-more : (ss : List Symbol) (xs : List Flat) → (more : List Symbol) × (withAll sheet goal ss xs ≡ ss ++ more)
   unfolding withAll
@@ -80,10 +80,10 @@ module _ (sheet goal : List ℕ) where
           (or-right (isListed ss f n) (isListed (record { name = f; arguments = n } ∷ []) f n)
           (subst T (sym (listed-one (record { name = f; arguments = n }) f n ∙ ap (λ (b : Bool). b || false) (self-symbol f n))) tt)))
 
-  pub name-listed : (ss : List Symbol) (v : ℕ) → firstName ≤ v → T (isListed (withNode sheet goal ss v) (wordName sheet goal ((v - firstName) / arities)) ((v - firstName) % arities))
+  pub name-listed : (ss : List Symbol) (v : ℕ) → firstName ≤ v → T (isListed (withNode sheet goal ss v) (wordName sheet goal (flatSymbol v)) (flatArity v))
   name-listed ss v l =
-      subst (λ (k : List Symbol). T (isListed k (wordName sheet goal ((v - firstName) / arities)) ((v - firstName) % arities))) (sym (with-name ss v l))
-      (symbol-listed ss (wordName sheet goal ((v - firstName) / arities)) ((v - firstName) % arities))
+      subst (λ (k : List Symbol). T (isListed k (wordName sheet goal (flatSymbol v)) (flatArity v))) (sym (with-name ss v l))
+      (symbol-listed ss (wordName sheet goal (flatSymbol v)) (flatArity v))
 
   number-stays : (ss : List Symbol) (xs : List Flat) (v : ℕ) → numberedWhat sheet goal (withAll sheet goal (withNode sheet goal ss v) xs) v ≡ numberedWhat sheet goal (withNode sheet goal ss v) v
   number-stays ss xs v = go (below-or v firstName)
@@ -92,8 +92,8 @@ module _ (sheet goal : List ℕ) where
       go (inl l) = number-variable (withAll sheet goal (withNode sheet goal ss v) xs) v l ∙ sym (number-variable (withNode sheet goal ss v) v l)
       go (inr l) =
           number-name (withAll sheet goal (withNode sheet goal ss v) xs) v l
-          ∙ (ap (λ (k : List Symbol). firstName + symbolOf k (wordName sheet goal ((v - firstName) / arities)) ((v - firstName) % arities)) (with-all-more (withNode sheet goal ss v) xs .1)
-          ∙ (ap (λ (k : ℕ). firstName + k) (symbol-stays (withNode sheet goal ss v) (with-all-more (withNode sheet goal ss v) xs .0) (wordName sheet goal ((v - firstName) / arities)) ((v - firstName) % arities) (name-listed ss v l))
+          ∙ (ap (λ (k : List Symbol). firstName + symbolOf k (wordName sheet goal (flatSymbol v)) (flatArity v)) (with-all-more (withNode sheet goal ss v) xs .1)
+          ∙ (ap (λ (k : ℕ). firstName + k) (symbol-stays (withNode sheet goal ss v) (with-all-more (withNode sheet goal ss v) xs .0) (wordName sheet goal (flatSymbol v)) (flatArity v) (name-listed ss v l))
           ∙ sym (number-name (withNode sheet goal ss v) v l)))
 
   -- ---- a node's turn
@@ -110,15 +110,15 @@ module _ (sheet goal : List ℕ) where
       }
 
   pub node-name : (nodes : List ℕ) (p : ℕ) (symbols : List ℕ) (count k r : ℕ) (after : List ℕ) → firstName ≤ getD nodes p 0
-      → Interned sheet goal symbols count ((getD nodes p 0 - firstName) / arities) ((getD nodes p 0 - firstName) % arities) after k → Counted count k r
+      → Interned sheet goal symbols count (flatSymbol (getD nodes p 0)) (flatArity (getD nodes p 0)) after k → Counted count k r
       → NodeNumbered sheet goal nodes p symbols count (set nodes p (k + firstName)) after r
   node-name nodes p symbols count k r after l i c =
-      let same : withNode sheet goal (symbolsOf sheet goal symbols count) (getD nodes p 0) ≡ withSymbol (symbolsOf sheet goal symbols count) (wordName sheet goal ((getD nodes p 0 - firstName) / arities)) ((getD nodes p 0 - firstName) % arities) = with-name (symbolsOf sheet goal symbols count) (getD nodes p 0) l in
-      let n : k ≡ symbolOf (withSymbol (symbolsOf sheet goal symbols count) (wordName sheet goal ((getD nodes p 0 - firstName) / arities)) ((getD nodes p 0 - firstName) % arities)) (wordName sheet goal ((getD nodes p 0 - firstName) / arities)) ((getD nodes p 0 - firstName) % arities) = i .number in
-      let e : k + firstName ≡ firstName + symbolOf (withSymbol (symbolsOf sheet goal symbols count) (wordName sheet goal ((getD nodes p 0 - firstName) / arities)) ((getD nodes p 0 - firstName) % arities)) (wordName sheet goal ((getD nodes p 0 - firstName) / arities)) ((getD nodes p 0 - firstName) % arities) = omega arith in
+      let same : withNode sheet goal (symbolsOf sheet goal symbols count) (getD nodes p 0) ≡ withSymbol (symbolsOf sheet goal symbols count) (wordName sheet goal (flatSymbol (getD nodes p 0))) (flatArity (getD nodes p 0)) = with-name (symbolsOf sheet goal symbols count) (getD nodes p 0) l in
+      let n : k ≡ symbolOf (withSymbol (symbolsOf sheet goal symbols count) (wordName sheet goal (flatSymbol (getD nodes p 0))) (flatArity (getD nodes p 0))) (wordName sheet goal (flatSymbol (getD nodes p 0))) (flatArity (getD nodes p 0)) = i .number in
+      let e : k + firstName ≡ firstName + symbolOf (withSymbol (symbolsOf sheet goal symbols count) (wordName sheet goal (flatSymbol (getD nodes p 0))) (flatArity (getD nodes p 0))) (wordName sheet goal (flatSymbol (getD nodes p 0))) (flatArity (getD nodes p 0)) = omega arith in
       record {
         nodes-are = ap (set nodes p)
-            (e ∙ (ap (λ (ss : List Symbol). firstName + symbolOf ss (wordName sheet goal ((getD nodes p 0 - firstName) / arities)) ((getD nodes p 0 - firstName) % arities)) (sym same)
+            (e ∙ (ap (λ (ss : List Symbol). firstName + symbolOf ss (wordName sheet goal (flatSymbol (getD nodes p 0))) (flatArity (getD nodes p 0))) (sym same)
             ∙ sym (number-name (withNode sheet goal (symbolsOf sheet goal symbols count) (getD nodes p 0)) (getD nodes p 0) l)));
         symbols-are = i .symbols-are r c ∙ sym same;
         listed = i .listed r c;

@@ -1,5 +1,5 @@
 -- Laws of names by their words, one for each way out of the functions. Assumes nothing.
-use Prim.Native.Nat.{ℕ, min, _+_, _-_, _/_, _%_, _≤_}
+use Prim.Native.Nat.{ℕ, min, _+_, _-_, _≤_}
 use native.Mathlib.Omega.{arith}
 use mathlib.Core.Path.{_≡_, refl, sym, ap, ap₂, _∙_, subst}
 use mathlib.Core.Bool.{Bool, true, false, cond, _&&_}
@@ -10,7 +10,8 @@ use Rattle.syntax.specs.Terms.{sameBytes}
 use Rattle.layout.specs.Regions.{mostNodes}
 use Rattle.machine.proofs.Tests.{name-eq}
 use Rattle.layout.specs.Nodes.{isSymbol}
-use Rattle.spelling.specs.Words.{textOf, symbolPlace, symbolLength, symbolText}
+use Rattle.spelling.specs.Words.{textOf}
+use Rattle.layout.specs.Symbols.{symbolPlace, symbolLength, symbolText}
 use Rattle.loader.specs.Listing.{wordName, Inside, symbolAt}
 
 -- ---- a word's text
@@ -21,23 +22,37 @@ sheet-text sheet goal w e = ap (λ (k : ℕ). cond (eqb k 0) sheet goal) e
 pub goal-text : (sheet goal : List ℕ) (w : ℕ) → (symbolText w ≡ 0 → ⊥) → textOf w sheet goal ≡ goal
 goal-text sheet goal w n = ap (λ (k : ℕ). cond (eqb k 0) sheet goal) (let e : symbolText w ≡ 1 = omega (arith, n) in e)
 
-module _ (s sheet goal : List ℕ) (w at len : ℕ) (text : textOf w sheet goal ≡ s) (place : at ≡ symbolPlace w) (long : len ≡ symbolLength w) where
+-- A word's name is the part of a text at a place.
+pub record Part (s sheet goal : List ℕ) (w at len : ℕ) : Type 0 where
+  pub text : textOf w sheet goal ≡ s
+  pub place : at ≡ symbolPlace w
+  pub long : len ≡ symbolLength w
+
+pub in-sheet : (sheet goal : List ℕ) (w : ℕ) {t at len : ℕ} → t ≡ symbolText w → at ≡ symbolPlace w → len ≡ symbolLength w → t ≡ 0 → Part sheet sheet goal w at len
+in-sheet sheet goal w e p l z = record { text = sheet-text sheet goal w (sym e ∙ z); place = p; long = l }
+
+pub in-goal : (sheet goal : List ℕ) (w : ℕ) {t at len : ℕ} → t ≡ symbolText w → at ≡ symbolPlace w → len ≡ symbolLength w → (t ≡ 0 → ⊥) → Part goal sheet goal w at len
+in-goal sheet goal w e p l n = record { text = goal-text sheet goal w (λ z. n (e ∙ z)); place = p; long = l }
+
+module _ {s sheet goal : List ℕ} {w at len : ℕ} (part : Part s sheet goal w at len) where
   pub word-name : take len (drop at s) ≡ wordName sheet goal w
   unfolding wordName
-  word-name = ap (λ (n : ℕ). take n (drop at s)) long ∙ ap₂ (λ (a : ℕ) (l : List ℕ). take (symbolLength w) (drop a l)) place (sym text)
+  word-name = ap (λ (n : ℕ). take n (drop at s)) (part .long) ∙ ap₂ (λ (a : ℕ) (l : List ℕ). take (symbolLength w) (drop a l)) (part .place) (sym (part .text))
 
   pub inside-text : Inside sheet goal w → at + len ≤ length s
   unfolding Inside
   inside-text h =
       let i : symbolPlace w + symbolLength w ≤ length (textOf w sheet goal) = h in
-      let e : length (textOf w sheet goal) ≡ length s = ap length text in
+      let e : length (textOf w sheet goal) ≡ length s = ap length (part .text) in
+      let p : at ≡ symbolPlace w = part .place in
+      let l : len ≡ symbolLength w = part .long in
       omega arith
 
-  pub part-is : (other : List ℕ) (r : Bool) → r ≡ sameBytes (take len (drop at s)) other → r ≡ sameBytes (wordName sheet goal w) other
-  part-is other r e = e ∙ ap (λ (x : List ℕ). sameBytes x other) word-name
+  pub part-is : (other : List ℕ) {r : Bool} → r ≡ sameBytes (take len (drop at s)) other → r ≡ sameBytes (wordName sheet goal w) other
+  part-is other e = e ∙ ap (λ (x : List ℕ). sameBytes x other) word-name
 
-  pub name-is : (other : List ℕ) (r : Bool) → r ≡ sameBytes other (take len (drop at s)) → r ≡ sameBytes other (wordName sheet goal w)
-  name-is other r e = e ∙ ap (sameBytes other) word-name
+  pub name-is : (other : List ℕ) {r : Bool} → r ≡ sameBytes other (take len (drop at s)) → r ≡ sameBytes other (wordName sheet goal w)
+  name-is other e = e ∙ ap (sameBytes other) word-name
 
 -- ---- words of other names
 
@@ -56,9 +71,10 @@ not-same a b n = go (sameBytes a b) refl
     go false e = refl
     go true e = absurd (n (ap length (name-eq a b (subst T (sym e) tt))))
 
-pub other-length : (sheet goal : List ℕ) (v w : ℕ) → Inside sheet goal v → Inside sheet goal w → (symbolLength v ≡ symbolLength w → ⊥) → false ≡ sameBytes (wordName sheet goal v) (wordName sheet goal w)
-other-length sheet goal v w h k n =
-    not-same (wordName sheet goal v) (wordName sheet goal w) (λ e. n (sym (name-long sheet goal v h) ∙ (e ∙ name-long sheet goal w k)))
+pub other-length : (sheet goal : List ℕ) (v w : ℕ) {m n : ℕ} → Inside sheet goal v → Inside sheet goal w → m ≡ symbolLength v → n ≡ symbolLength w → (m ≡ n → ⊥)
+    → false ≡ sameBytes (wordName sheet goal v) (wordName sheet goal w)
+other-length sheet goal v w h k em en n =
+    not-same (wordName sheet goal v) (wordName sheet goal w) (λ e. n (em ∙ (sym (name-long sheet goal v h) ∙ (e ∙ (name-long sheet goal w k ∙ sym en)))))
 
 -- ---- a symbol
 

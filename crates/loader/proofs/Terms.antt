@@ -1,24 +1,27 @@
 -- Copied and numbered nodes are the nodes of the terms. Assumes nothing.
-use Prim.Native.Nat.{ℕ, suc, _+_, _-_, _*_, _/_, _%_, _≤_, _<_}
+use Prim.Native.Nat.{ℕ, suc, _+_, _*_, _/_, _≤_, _<_}
 use native.Mathlib.Omega.{arith}
 use mathlib.Core.Path.{_≡_, refl, sym, ap, ap₂, _∙_, subst}
 use mathlib.Core.Bool.{Bool, _&&_}
 use mathlib.Core.List.{List, [], _∷_, _++_}
 use lib.Dec.{T, lt→ltb}
 use lib.ListN.{length}
-use Rattle.syntax.specs.Limits.{wordBytes, lengths, arguments, variables}
+use Rattle.syntax.specs.Limits.{lengths, arguments, variables}
 use Rattle.syntax.specs.Terms.{Term, Terms, variable, compound, nil, cons, arity, termOf, Literal, Body, call, equation, truth, falsity, done, also, Clause}
 use Rattle.syntax.specs.Words.{functor, termsWords, firstName}
+use Rattle.syntax.proofs.Words.{functor-arity, functor-length}
 use Rattle.marking.specs.Standing.{NameAt, Stands, AllStand, stands-variable, stands-compound, stand-nil, stand-cons, LiteralStands, call-stands, equation-stands, truth-stands, falsity-stands, BodyStands, done-stands, also-stands, ClauseStands, ClausesStand, no-clauses, clause-stands}
 use Rattle.machine.proofs.Tests.{and}
 use Rattle.layout.specs.Nodes.{Symbol, symbolOf, isListed, loadedWords, loadedAll, isLoadable, areLoadable}
 use Rattle.layout.specs.Program.{literalNodes, bodyNodes, clauseNodes, clausesNodes, literalLoadable, bodyLoadable, clausesLoadable}
-use Rattle.spelling.specs.Words.{textOf, symbolWord, symbolPlace, symbolLength, symbolText, texts}
-use Rattle.loader.specs.Flat.{Parsed, parsedWords, termParsed, termsParsed, literalParsed, bodyParsed, clauseParsed, clausesParsed, Flat, flatWords, flatWhat, flatAll, arities}
+use Rattle.spelling.specs.Words.{textOf}
+use Rattle.layout.specs.Symbols.{symbolWord, symbolPlace, symbolLength, symbolText}
+use Rattle.layout.proofs.Symbols.{word-length, word-text, word-place}
+use Rattle.loader.specs.Flat.{Parsed, parsedWords, termParsed, termsParsed, literalParsed, bodyParsed, clauseParsed, clausesParsed, Flat, flatWords, flatName, flatSymbol, flatArity, flatWhat, flatAll}
 use Rattle.loader.specs.Listing.{wordName, Inside, withNode, withAll, numberedWhat, numberedAll, AllInside}
 use Rattle.loader.proofs.Runs.{flat-variable, flat-name}
 use Rattle.loader.proofs.Bodies.{terms-words}
-use Rattle.loader.proofs.Spelt.{word-name}
+use Rattle.loader.proofs.Spelt.{Part, word-name}
 use Rattle.loader.proofs.Finding.{stays-listed}
 use Rattle.loader.proofs.Numbered.{number-variable, number-name, with-all-more, name-listed}
 
@@ -52,14 +55,14 @@ module _ (sheet goal : List ℕ) where
   -- every name of the nodes is among the symbols
   abbrev pub AllListed : List Symbol → List Flat → Type 0
   AllListed ss [] = Unit {0}
-  AllListed ss (x ∷ xs) = (firstName ≤ x .what → T (isListed ss (wordName sheet goal ((x .what - firstName) / arities)) ((x .what - firstName) % arities))) × AllListed ss xs
+  AllListed ss (x ∷ xs) = (firstName ≤ x .what → T (isListed ss (wordName sheet goal (flatSymbol (x .what))) (flatArity (x .what)))) × AllListed ss xs
 
   pub all-listed : (ss : List Symbol) (xs : List Flat) → AllListed (withAll sheet goal ss xs) xs
   unfolding withAll
   all-listed ss [] = tt
   all-listed ss (x ∷ xs) = (
-    λ l. subst (λ (k : List Symbol). T (isListed k (wordName sheet goal ((x .what - firstName) / arities)) ((x .what - firstName) % arities))) (sym (with-all-more sheet goal (withNode sheet goal ss (x .what)) xs .1))
-        (stays-listed (withNode sheet goal ss (x .what)) (with-all-more sheet goal (withNode sheet goal ss (x .what)) xs .0) (wordName sheet goal ((x .what - firstName) / arities)) ((x .what - firstName) % arities) (name-listed sheet goal ss (x .what) l)),
+    λ l. subst (λ (k : List Symbol). T (isListed k (wordName sheet goal (flatSymbol (x .what))) (flatArity (x .what)))) (sym (with-all-more sheet goal (withNode sheet goal ss (x .what)) xs .1))
+        (stays-listed (withNode sheet goal ss (x .what)) (with-all-more sheet goal (withNode sheet goal ss (x .what)) xs .0) (wordName sheet goal (flatSymbol (x .what))) (flatArity (x .what)) (name-listed sheet goal ss (x .what) l)),
     all-listed (withNode sheet goal ss (x .what)) xs,
   )
 
@@ -91,53 +94,42 @@ module _ (sheet goal : List ℕ) where
     -- what the word of a name says
     record Word (b n : ℕ) (f : List ℕ) (v : ℕ) : Type 0 where
       high : firstName ≤ v
-      name : wordName sheet goal ((v - firstName) / arities) ≡ f
-      arguments : (v - firstName) % arities ≡ n
-      inside : Inside sheet goal ((v - firstName) / arities)
+      name : wordName sheet goal (flatSymbol v) ≡ f
+      arguments : flatArity v ≡ n
+      inside : Inside sheet goal (flatSymbol v)
 
-    word : (b n : ℕ) (f : List ℕ) → NameAt s b f → n ≤ arguments → Word b n f (flatWhat text (functor n (length f)) b)
+    symbol-is : (x n : ℕ) → n ≤ arguments → flatSymbol (flatName x n) ≡ x
+    symbol-is x n m = omega arith
+
+    arity-is : (x n : ℕ) → n ≤ arguments → flatArity (flatName x n) ≡ n
+    arity-is x n m = omega arith
+
+    word-by : (b n : ℕ) (f : List ℕ) (v : ℕ) → NameAt s b f → n ≤ arguments → v ≡ flatName (symbolWord b text (length f)) n → Word b n f v
     unfolding Inside
-    word b n f k m =
-        let short : length f ≤ wordBytes = k .short in
-        let v : firstName + symbolWord b text ((functor n (length f) - firstName) % lengths) * arities + (functor n (length f) - firstName) / lengths ≡ flatWhat text (functor n (length f)) b = flat-name text (functor n (length f)) b (omega arith) in
-        let low : (functor n (length f) - firstName) % lengths ≡ length f = low-is n (length f) short in
-        let few : (functor n (length f) - firstName) / lengths ≡ n = high-is n (length f) short in
-        let is : flatWhat text (functor n (length f)) b ≡ firstName + symbolWord b text (length f) * arities + n = omega arith in
-        let at : (flatWhat text (functor n (length f)) b - firstName) / arities ≡ symbolWord b text (length f) = ap (λ (y : ℕ). (y - firstName) / arities) is ∙ word-is (symbolWord b text (length f)) n m in
-        let place : b ≡ (flatWhat text (functor n (length f)) b - firstName) / arities / (texts * lengths) = sym (ap (λ (y : ℕ). symbolPlace y) at ∙ place-is b text (length f) one short) in
-        let long : length f ≡ (flatWhat text (functor n (length f)) b - firstName) / arities % lengths = sym (ap (λ (y : ℕ). symbolLength y) at ∙ long-is b text (length f) short) in
-        let which : (flatWhat text (functor n (length f)) b - firstName) / arities / lengths % texts ≡ text = ap (λ (y : ℕ). symbolText y) at ∙ text-is b text (length f) one short in
-        let source : textOf ((flatWhat text (functor n (length f)) b - firstName) / arities) sheet goal ≡ s = reads ((flatWhat text (functor n (length f)) b - firstName) / arities) which in
-        let e : length (textOf ((flatWhat text (functor n (length f)) b - firstName) / arities) sheet goal) ≡ length s = ap length source in
+    word-by b n f v k m e =
+        let short : length f < lengths = omega (arith, k .short) in
+        let at : flatSymbol v ≡ symbolWord b text (length f) = ap flatSymbol e ∙ symbol-is (symbolWord b text (length f)) n m in
+        let place : b ≡ symbolPlace (flatSymbol v) = sym (ap symbolPlace at ∙ word-place b text (length f) short (omega arith)) in
+        let long : length f ≡ symbolLength (flatSymbol v) = sym (ap symbolLength at ∙ word-length b text (length f) short) in
+        let which : symbolText (flatSymbol v) ≡ text = ap symbolText at ∙ word-text b text (length f) short (omega arith) in
+        let source : textOf (flatSymbol v) sheet goal ≡ s = reads (flatSymbol v) which in
+        let part : Part s sheet goal (flatSymbol v) b (length f) = record { text = source; place = place; long = long } in
+        let room : length (textOf (flatSymbol v) sheet goal) ≡ length s = ap length source in
         let i : b + length f ≤ length s = k .inside in
-        let z : (flatWhat text (functor n (length f)) b - firstName) / arities / (texts * lengths) + (flatWhat text (functor n (length f)) b - firstName) / arities % lengths ≤ length (textOf ((flatWhat text (functor n (length f)) b - firstName) / arities) sheet goal) = omega arith in
+        let z : symbolPlace (flatSymbol v) + symbolLength (flatSymbol v) ≤ length (textOf (flatSymbol v) sheet goal) = omega (arith, place, long, room, i) in
         record {
           high = omega arith;
-          name = sym (word-name s sheet goal ((flatWhat text (functor n (length f)) b - firstName) / arities) b (length f) source place long) ∙ sym (k .spelt);
-          arguments = ap (λ (y : ℕ). (y - firstName) % arities) is ∙ arguments-is (symbolWord b text (length f)) n m;
+          name = sym (word-name part) ∙ sym (k .spelt);
+          arguments = ap flatArity e ∙ arity-is (symbolWord b text (length f)) n m;
           inside = z;
         }
-      where
-        low-is : (n l : ℕ) → l ≤ wordBytes → (functor n l - firstName) % lengths ≡ l
-        low-is n l h = omega arith
 
-        high-is : (n l : ℕ) → l ≤ wordBytes → (functor n l - firstName) / lengths ≡ n
-        high-is n l h = omega arith
-
-        word-is : (x n : ℕ) → n ≤ arguments → (firstName + x * arities + n - firstName) / arities ≡ x
-        word-is x n h = omega arith
-
-        arguments-is : (x n : ℕ) → n ≤ arguments → (firstName + x * arities + n - firstName) % arities ≡ n
-        arguments-is x n h = omega arith
-
-        place-is : (b t l : ℕ) → t ≤ 1 → l ≤ wordBytes → symbolPlace (symbolWord b t l) ≡ b
-        place-is b t l h k = omega arith
-
-        long-is : (b t l : ℕ) → l ≤ wordBytes → symbolLength (symbolWord b t l) ≡ l
-        long-is b t l k = omega arith
-
-        text-is : (b t l : ℕ) → t ≤ 1 → l ≤ wordBytes → symbolText (symbolWord b t l) ≡ t
-        text-is b t l h k = omega arith
+    word : (b n : ℕ) (f : List ℕ) → NameAt s b f → n ≤ arguments → Word b n f (flatWhat text (functor n (length f)) b)
+    word b n f k m =
+        let short : length f < lengths = omega (arith, k .short) in
+        word-by b n f (flatWhat text (functor n (length f)) b) k m
+        (sym (flat-name text (functor n (length f)) b (omega arith))
+        ∙ ap₂ (λ (l a : ℕ). flatName (symbolWord b text l) a) (functor-length n (length f) short) (functor-arity n (length f) short))
 
     -- ---- the names are in the text
 
@@ -216,7 +208,7 @@ module _ (sheet goal : List ℕ) where
           let inner : Fine (areLoadable ss ts) (loadedAll ss ts) (termsParsed ts) = terms-fine ts a (h .1) in
           let listed : T (isListed ss f (arity ts)) =
           subst (λ (g : List ℕ). T (isListed ss g (arity ts))) (w .name)
-          (subst (λ (m : ℕ). T (isListed ss (wordName sheet goal ((flatWhat text (functor (arity ts) (length f)) b - firstName) / arities)) m)) (w .arguments) (h .0 (w .high))) in
+          (subst (λ (m : ℕ). T (isListed ss (wordName sheet goal (flatSymbol (flatWhat text (functor (arity ts) (length f)) b))) m)) (w .arguments) (h .0 (w .high))) in
           let number : firstName + symbolOf ss f (arity ts) ≡ numberedWhat sheet goal ss (flatWhat text (functor (arity ts) (length f)) b) =
           sym (number-name sheet goal ss (flatWhat text (functor (arity ts) (length f)) b) (w .high) ∙ ap₂ (λ (g : List ℕ) (m : ℕ). firstName + symbolOf ss g m) (w .name) (w .arguments)) in (
             and (isListed ss f (arity ts)) (areLoadable ss ts) listed (inner .0),

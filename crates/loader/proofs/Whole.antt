@@ -1,5 +1,5 @@
 -- Laws of loading as a whole. Assumes nothing.
-use Prim.Native.Nat.{ℕ, suc, _+_, _*_, _/_, _%_, _≤_, _<_}
+use Prim.Native.Nat.{ℕ, suc, _+_, _*_, _≤_, _<_}
 use native.Mathlib.Omega.{arith}
 use mathlib.Core.Path.{_≡_, refl, sym, ap, ap₂, _∙_, subst}
 use mathlib.Core.List.{List, [], _∷_, _++_}
@@ -12,7 +12,8 @@ use Rattle.words.proofs.Laws.{has-inside}
 use Rattle.layout.specs.Regions.{loadedNode, mostNodes, nodesWords}
 use Rattle.layout.specs.Nodes.{Symbol, nameOf}
 use Rattle.layout.specs.Program.{bodyNodes, clausesNodes, programNodes, bodyLoadable, clausesLoadable}
-use Rattle.spelling.specs.Words.{textOf, nameAt, Placed, Names, symbolText}
+use Rattle.spelling.specs.Words.{textOf, nameAt, Placed, Names}
+use Rattle.layout.specs.Symbols.{symbolText}
 use Rattle.loader.specs.Flat.{parsedWords, bodyParsed, clausesParsed, Flat, flatWords, flatAll, written, BodyHere, ClausesHere}
 use Rattle.loader.specs.Listing.{wordName, Inside, symbolAt, symbolsOf, Listed, withAll, numberedAll, Copied, NodesNumbered}
 use Rattle.loader.specs.Loading.{Loadable, Loaded}
@@ -90,7 +91,7 @@ module _ (sheet table : List ℕ) (clauses : ℕ) (goal goals : List ℕ) (liter
         let d : length goals ≤ goalWords = w .goals-short in
         omega arith
 
-    clauses-few : length clauses-words * 3 ≤ 131080
+    clauses-few : length clauses-words * 3 ≤ sheetWords * 2
     clauses-few =
         let a : length clauses-words * 3 ≡ length (parsedWords (clausesParsed (w .sh .clauses))) * 2 = flat-length 0 (clausesParsed (w .sh .clauses)) in
         let b : length (parsedWords (clausesParsed (w .sh .clauses))) ≤ length (clausesWords (w .sh .clauses)) = clauses-long (w .sh .clauses) in

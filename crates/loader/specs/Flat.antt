@@ -5,13 +5,13 @@ use mathlib.Core.Bool.{cond}
 use mathlib.Core.List.{List, [], _∷_, _++_}
 use lib.Dec.{ltb}
 use lib.ListN.{length, set}
-use Rattle.spelling.specs.Words.{symbolWord}
-use Rattle.syntax.specs.Limits.{sheetBytes, wordBytes, lengths, arguments}
+use Rattle.syntax.specs.Limits.{sheetBytes, wordBytes, arguments}
 use Rattle.syntax.specs.Terms.{Term, Terms, variable, compound, nil, cons, arity, termOf, Literal, Body, call, equation, truth, falsity, done, also, Clause}
-use Rattle.syntax.specs.Words.{functor, termsWords, bodyWords, bodyLength, clauseWords, clausesWords, firstName, nodeWords}
+use Rattle.syntax.specs.Words.{functor, functorArity, functorLength, termsWords, bodyWords, bodyLength, clauseWords, clausesWords, firstName, nodeWords}
 use Rattle.marking.specs.Standing.{BodyStands, ClauseStands, ClausesStand}
 use Rattle.words.specs.Tables.{Has}
 use Rattle.layout.specs.Regions.{loadedNode}
+use Rattle.layout.specs.Symbols.{symbolWord}
 
 -- ---- nodes as they were read
 
@@ -67,9 +67,19 @@ flatWords (x ∷ xs) = (x .what) ∷ (x .size) ∷ flatWords xs
 abbrev pub arities : ℕ
 arities = 32
 
--- The first word of a copy: a variable's number; or, from `firstName` on, the symbol's word and the number of arguments in one number.
+-- The symbol's word and the number of arguments in one number.
+abbrev pub flatName : ℕ → ℕ → ℕ
+flatName word n = firstName + word * arities + n
+
+abbrev pub flatSymbol : ℕ → ℕ
+flatSymbol v = (v - firstName) / arities
+
+abbrev pub flatArity : ℕ → ℕ
+flatArity v = (v - firstName) % arities
+
+-- The first word of a copy: a variable's number; or, from `firstName` on, that number.
 unfoldable pub flatWhat : ℕ → ℕ → ℕ → ℕ
-flatWhat text what byte = cond (ltb what firstName) what (firstName + symbolWord byte text ((what - firstName) % lengths) * arities + (what - firstName) / lengths)
+flatWhat text what byte = cond (ltb what firstName) what (flatName (symbolWord byte text (functorLength what)) (functorArity what))
 
 unfoldable pub flatAll : ℕ → List Parsed → List Flat
 flatAll text [] = []

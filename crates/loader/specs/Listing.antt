@@ -1,5 +1,5 @@
 -- The symbols that the words of a table list, and the numbers that the names of copied nodes get.
-use Prim.Native.Nat.{ℕ, zero, suc, _+_, _-_, _/_, _%_, _<_, _≤_}
+use Prim.Native.Nat.{ℕ, zero, suc, _+_, _<_, _≤_}
 use mathlib.Core.Path.{_≡_}
 use mathlib.Core.Bool.{cond}
 use mathlib.Core.List.{List, [], _∷_, _++_}
@@ -10,8 +10,9 @@ use Rattle.syntax.specs.Limits.{arguments}
 use Rattle.layout.specs.Regions.{mostNodes}
 use Rattle.words.specs.Tables.{Has}
 use Rattle.layout.specs.Nodes.{Symbol, symbolOf, isListed}
-use Rattle.spelling.specs.Words.{textOf, symbolPlace, symbolLength, symbolName}
-use Rattle.loader.specs.Flat.{Flat, flatWords, written, arities}
+use Rattle.layout.specs.Symbols.{symbolPlace, symbolLength}
+use Rattle.spelling.specs.Words.{textOf, symbolName}
+use Rattle.loader.specs.Flat.{Flat, flatWords, flatSymbol, flatArity, written}
 
 -- ---- symbols
 
@@ -57,7 +58,7 @@ pub record Interned (sheet goal symbols : List ℕ) (count w arguments : ℕ) (a
 
 -- the symbols once the name of a copied node is listed, and once all names are
 unfoldable pub withNode : List ℕ → List ℕ → List Symbol → ℕ → List Symbol
-withNode sheet goal ss v = cond (ltb v firstName) ss (withSymbol ss (wordName sheet goal ((v - firstName) / arities)) ((v - firstName) % arities))
+withNode sheet goal ss v = cond (ltb v firstName) ss (withSymbol ss (wordName sheet goal (flatSymbol v)) (flatArity v))
 
 unfoldable pub withAll : List ℕ → List ℕ → List Symbol → List Flat → List Symbol
 withAll sheet goal ss [] = ss
@@ -65,7 +66,7 @@ withAll sheet goal ss (x ∷ xs) = withAll sheet goal (withNode sheet goal ss (x
 
 -- the node with its symbol's number, and all of them
 unfoldable pub numberedWhat : List ℕ → List ℕ → List Symbol → ℕ → ℕ
-numberedWhat sheet goal ss v = cond (ltb v firstName) v (firstName + symbolOf ss (wordName sheet goal ((v - firstName) / arities)) ((v - firstName) % arities))
+numberedWhat sheet goal ss v = cond (ltb v firstName) v (firstName + symbolOf ss (wordName sheet goal (flatSymbol v)) (flatArity v))
 
 unfoldable pub numberedAll : List ℕ → List ℕ → List Symbol → List Flat → List Flat
 numberedAll sheet goal ss [] = []
@@ -73,7 +74,7 @@ numberedAll sheet goal ss (x ∷ xs) = record { what = numberedWhat sheet goal s
 
 -- the names of copied nodes are in the texts
 abbrev pub NodeInside : List ℕ → List ℕ → ℕ → Type 0
-NodeInside sheet goal v = firstName ≤ v → Inside sheet goal ((v - firstName) / arities)
+NodeInside sheet goal v = firstName ≤ v → Inside sheet goal (flatSymbol v)
 
 abbrev pub AllInside : List ℕ → List ℕ → List Flat → Type 0
 AllInside sheet goal [] = Unit {0}

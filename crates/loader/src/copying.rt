@@ -1,10 +1,11 @@
 // The nodes of terms copied one behind the other, a name by its place.
-use crate::symbols::LENGTHS;
-use crate::symbols::SYMBOL_PLACES;
 use layout::LOADED_NODE;
+use layout::pack_symbol;
 use syntax::CLAUSE_START;
 use syntax::FIRST_NAME;
 use syntax::NODE_WORDS;
+use syntax::arity_of;
+use syntax::length_of;
 use words::CLAUSE_LITERALS;
 use words::past;
 use words::past_clause;
@@ -33,9 +34,12 @@ fn name_word(what: u32, byte: u32, text: u32) -> u32
     if what < NAMED {
         return what;
     }
-    let named = what - NAMED;
-    let word = byte * SYMBOL_PLACES + text * LENGTHS + named % LENGTHS;
-    NAMED + word * ARITIES + named / LENGTHS
+    let name = what as usize;
+    let place = byte as usize;
+    let which = text as usize;
+    let word = pack_symbol(place, which, length_of(name));
+    let arguments = arity_of(name);
+    NAMED + word * ARITIES + arguments as u32
 }
 
 // The words of a node without its arguments: as read, and as copied.

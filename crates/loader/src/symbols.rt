@@ -1,39 +1,30 @@
 // Symbols: for number k, the word with the place, the text and the length of its name, and `MOST_NODES` words on its number of arguments.
 use layout::MOST_NODES;
+use layout::symbol_length;
+use layout::symbol_place;
+use layout::symbol_text;
+use texts::same_bytes;
 ghost use mathlib.Core.Path.{_≡_};
-ghost use Prim.Native.Nat.{_+_, _%_, _≤_, _<_};
+ghost use Prim.Native.Nat.{_+_, _≤_, _<_};
 ghost use lib.ListN.{length, getD};
-ghost use Rattle.spelling.specs.Words.{symbolLength, texts};
-ghost use Rattle.syntax.specs.Limits.{lengths, arguments};
+ghost use Rattle.syntax.specs.Limits.{arguments};
 ghost use Rattle.syntax.specs.Terms.{sameBytes};
 ghost use Rattle.syntax.specs.Tokens.{spelling};
 ghost use Rattle.layout.specs.Regions.{mostNodes};
 ghost use Rattle.layout.specs.Nodes.{isSymbol, symbolOf};
+ghost use Rattle.layout.specs.Symbols.{symbolLength};
 ghost use Rattle.loader.specs.Listing.{wordName, Inside, Listed, symbolAt, symbolsOf};
-
-// How many lengths a name can have, how many texts it can stand in, and room for both behind its place.
-pub const LENGTHS: u32 = syntax::LENGTHS as u32;
-
-const TEXTS: u32 = 2;
-
-pub const SYMBOL_PLACES: u32 = TEXTS * LENGTHS;
-
-fn wide(x: u32) -> usize
-    ensures { λ r. ⌜ r ≡ x ⌝ }
-{
-    x as usize
-}
 
 // Whether the name of a word is the part of a text at a place.
 fn same_part(text: &[u8], at: usize, len: usize, sheet: &[u8], goal: &[u8], w: u32) -> bool
     requires { ⌜ (at + len ≤ length (now text)) × (Inside (now sheet) (now goal) w × (len ≡ symbolLength w)) ⌝ }
     ensures { λ r. ⌜ r ≡ sameBytes (wordName (now (sheet .entry)) (now (goal .entry)) w) (spelling (now (text .entry)) at len) ⌝ }
 {
-    let place = wide(w / SYMBOL_PLACES);
-    if w / LENGTHS % TEXTS == 0 {
-        return lexer::same_bytes(sheet, place, text, at, len);
+    let place = symbol_place(w);
+    if symbol_text(w) == 0 {
+        return same_bytes(sheet, place, text, at, len);
     }
-    lexer::same_bytes(goal, place, text, at, len)
+    same_bytes(goal, place, text, at, len)
 }
 
 // Whether two words have the same name.
@@ -41,12 +32,12 @@ fn same_name(sheet: &[u8], goal: &[u8], v: u32, w: u32) -> bool
     requires { ⌜ Inside (now sheet) (now goal) v × Inside (now sheet) (now goal) w ⌝ }
     ensures { λ r. ⌜ r ≡ sameBytes (wordName (now (sheet .entry)) (now (goal .entry)) v) (wordName (now (sheet .entry)) (now (goal .entry)) w) ⌝ }
 {
-    let len = wide(w % LENGTHS);
-    if v % LENGTHS != w % LENGTHS {
+    let len = symbol_length(w);
+    if symbol_length(v) != len {
         return false;
     }
-    let at = wide(w / SYMBOL_PLACES);
-    if w / LENGTHS % TEXTS == 0 {
+    let at = symbol_place(w);
+    if symbol_text(w) == 0 {
         return same_part(sheet, at, len, sheet, goal, v);
     }
     same_part(goal, at, len, sheet, goal, v)

@@ -9,7 +9,7 @@ use lib.Dec.{eqb, leb}
 use lib.ListN.{length, getD, take, drop, length-drop}
 use lib.Seq.{length-take-le, take-length}
 use borrow.Author.Tests.{eq-eqb, ne-eqb, le-leb, lt-leb, leb-true}
-use Rattle.lexer.proofs.Laws.{alike-on, alike-differ, alike-end}
+use Rattle.texts.proofs.Laws.{alike-on, alike-differ, alike-end}
 use Rattle.syntax.specs.Terms.{sameBytes, samePredicate}
 use Rattle.syntax.specs.Tokens.{spelling}
 use Rattle.syntax.specs.Words.{declarationSize}

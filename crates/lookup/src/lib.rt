@@ -1,6 +1,6 @@
 // The search for a predicate's declaration in a list of entries: it ends at the first match and tells how many entries it compared.
-use lexer::same_bytes;
 use syntax::DECLARATION_SIZE;
+use texts::same_bytes;
 use words::word_at;
 ghost use mathlib.Core.Path.{_≡_};
 ghost use mathlib.Core.Bool.{_&&_};

@@ -1,5 +1,5 @@
 -- Laws of names in a table and of equations, one for each way out of the functions. Assumes nothing.
-use Prim.Native.Nat.{ℕ, suc, _+_, _-_, _*_, _%_, _/_, _≤_, _<_}
+use Prim.Native.Nat.{ℕ, suc, _+_, _-_, _*_, _≤_, _<_}
 use native.Mathlib.Omega.{arith}
 use mathlib.Core.Path.{_≡_, refl, sym, ap, ap₂, _∙_, subst, subst⁻¹}
 use mathlib.Core.Bool.{Bool, true, false, _&&_}
@@ -7,9 +7,9 @@ use mathlib.Core.List.{List, [], _∷_}
 use lib.Dec.{eqb}
 use lib.ListN.{length, getD, take, drop, length-append}
 use borrow.Author.Tests.{eq-eqb, eqb-true}
-use Rattle.syntax.specs.Limits.{lengths}
 use Rattle.syntax.specs.Terms.{Term, Terms, variable, compound, nil, cons, arity, sameBytes, samePredicate}
-use Rattle.syntax.specs.Words.{termWords, termsWords, firstName, functor}
+use Rattle.syntax.specs.Words.{termWords, termsWords, firstName, functor, functorArity, functorLength}
+use Rattle.syntax.proofs.Words.{functor-arity, functor-length}
 use Rattle.rules.specs.Modes.{Known, everything, equateVariable, equateSame, equate, equateAll}
 use Rattle.marking.specs.Functors.{sameFunctor}
 use Rattle.words.specs.Tables.{Has}
@@ -69,20 +69,19 @@ named s table p (compound at f ts) h (stands-compound n a k) l =
       stand = k;
     }
 
--- the length of the name
-pub len-is : {s table : List ℕ} {p : ℕ} {t : Term} (v : ℕ) → v ≡ getD table p 0 → (n : Named s table p t) → (v - firstName) % lengths ≡ length (n .name)
-len-is v e n = omega (arith, n .what, n .name-at .short)
+-- the length of the name, and the number of arguments
+pub len-is : {s table : List ℕ} {p : ℕ} {t : Term} (v : ℕ) → v ≡ getD table p 0 → (n : Named s table p t) → functorLength v ≡ length (n .name)
+len-is v e n = ap functorLength (e ∙ n .what) ∙ functor-length (arity (n .args)) (length (n .name)) (omega (arith, n .name-at .short))
 
--- the number of arguments
-pub arity-is : {s table : List ℕ} {p : ℕ} {t : Term} (v : ℕ) → v ≡ getD table p 0 → (n : Named s table p t) → (v - firstName) / lengths ≡ arity (n .args)
-arity-is v e n = omega (arith, n .what, n .name-at .short)
+pub arity-is : {s table : List ℕ} {p : ℕ} {t : Term} (v : ℕ) → v ≡ getD table p 0 → (n : Named s table p t) → functorArity v ≡ arity (n .args)
+arity-is v e n = ap functorArity (e ∙ n .what) ∙ functor-arity (arity (n .args)) (length (n .name)) (omega (arith, n .name-at .short))
 
-pub name-inside : {s table : List ℕ} {p : ℕ} {t : Term} (v a : ℕ) → v ≡ getD table p 0 → a ≡ getD table (p + 2) 0 → (n : Named s table p t) → a + (v - firstName) % lengths ≤ length s
-name-inside v a e f n = omega (arith, len-is v e n, n .place, n .name-at .inside)
+pub name-inside : {s table : List ℕ} {p : ℕ} {t : Term} (v a len : ℕ) → v ≡ getD table p 0 → a ≡ getD table (p + 2) 0 → len ≡ functorLength v → (n : Named s table p t) → a + len ≤ length s
+name-inside v a len e f el n = omega (arith, len-is v e n, n .place, n .name-at .inside)
 
-pub name-is : {s table : List ℕ} {p : ℕ} {t : Term} (v a : ℕ) → v ≡ getD table p 0 → a ≡ getD table (p + 2) 0 → (n : Named s table p t)
-    → take ((v - firstName) % lengths) (drop a s) ≡ n .name
-name-is {s} v a e f n = ap₂ (λ (l k : ℕ). take l (drop k s)) (len-is v e n) (f ∙ n .place) ∙ sym (n .name-at .spelt)
+pub name-is : {s table : List ℕ} {p : ℕ} {t : Term} (v a len : ℕ) → v ≡ getD table p 0 → a ≡ getD table (p + 2) 0 → len ≡ functorLength v → (n : Named s table p t)
+    → take len (drop a s) ≡ n .name
+name-is {s} v a len e f el n = ap₂ (λ (l k : ℕ). take l (drop k s)) (el ∙ len-is v e n) (f ∙ n .place) ∙ sym (n .name-at .spelt)
 
 differ : (f : List ℕ) (m : ℕ) (g : List ℕ) (n : ℕ) (t : Bool) → eqb m n ≡ t → (functor m (length f) ≡ functor n (length g) → ⊥) → samePredicate f m g n ≡ false
 differ f m g n true e h =
@@ -90,7 +89,7 @@ differ f m g n true e h =
     ap₂ (λ (x y : Bool). x && y) e (lengths-differ f g (λ l. h (omega arith)))
 differ f m g n false e h = ap (λ (x : Bool). x && sameBytes f g) e
 
-module _ (s table : List ℕ) (p q v x : ℕ) (ev : v ≡ getD table p 0) (ex : x ≡ getD table q 0) (l : (firstName ≤ getD table p 0) × (firstName ≤ getD table q 0)) where
+module _ {s table : List ℕ} {p q v x : ℕ} (ev : v ≡ getD table p 0) (ex : x ≡ getD table q 0) (l : (firstName ≤ getD table p 0) × (firstName ≤ getD table q 0)) where
   left-named : (w : PairAt s table p q) → Named s table p (w .left)
   left-named w = named s table p (w .left) (w .has-left) (w .left-stands) (l .0)
 
@@ -103,17 +102,17 @@ module _ (s table : List ℕ) (p q v x : ℕ) (ev : v ≡ getD table p 0) (ex : 
       let b : Named s table q (w .right) = right-named w in
       sym (ap₂ sameFunctor (a .is) (b .is) ∙ differ (a .name) (arity (a .args)) (b .name) (arity (b .args)) _ refl (λ e. d (ev ∙ a .what ∙ e ∙ sym (b .what) ∙ sym ex)))
 
-  module _ (e : v ≡ x) (a b : ℕ) (ea : a ≡ getD table (p + 2) 0) (eb : b ≡ getD table (q + 2) 0) where
-    pub functors-inside : PairAt s table p q → (a + (v - firstName) % lengths ≤ length s) × (b + (v - firstName) % lengths ≤ length s)
+  module _ (e : v ≡ x) {a b len : ℕ} (ea : a ≡ getD table (p + 2) 0) (eb : b ≡ getD table (q + 2) 0) (el : len ≡ functorLength v) where
+    pub functors-inside : PairAt s table p q → (a + len ≤ length s) × (b + len ≤ length s)
     functors-inside w =
-        (name-inside v a ev ea (left-named w), name-inside v b (e ∙ ex) eb (right-named w))
+        (name-inside v a len ev ea el (left-named w), name-inside v b len (e ∙ ex) eb el (right-named w))
 
-    pub functors-same : (r : Bool) → r ≡ sameBytes (take ((v - firstName) % lengths) (drop a s)) (take ((v - firstName) % lengths) (drop b s)) → (w : PairAt s table p q) → r ≡ sameFunctor (w .left) (w .right)
-    functors-same r h w =
+    pub functors-same : {r : Bool} → r ≡ sameBytes (take len (drop a s)) (take len (drop b s)) → (w : PairAt s table p q) → r ≡ sameFunctor (w .left) (w .right)
+    functors-same h w =
         let m : Named s table p (w .left) = left-named w in
         let n : Named s table q (w .right) = right-named w in
         let k : arity (m .args) ≡ arity (n .args) = sym (arity-is v ev m) ∙ arity-is v (e ∙ ex) n in
-        h ∙ ap₂ sameBytes (name-is v a ev ea m) (name-is v b (e ∙ ex) eb n)
+        h ∙ ap₂ sameBytes (name-is v a len ev ea el m) (name-is v b len (e ∙ ex) eb el n)
         ∙ sym (ap₂ sameFunctor (m .is) (n .is) ∙ ap (λ (t : Bool). t && sameBytes (m .name) (n .name)) (eq-eqb _ _ k))
 
 -- ---- equations

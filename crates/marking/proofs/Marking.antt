@@ -1,5 +1,5 @@
 -- Laws of declarations and of arguments with a mark, one for each way out of the functions. Assumes nothing.
-use Prim.Native.Nat.{ℕ, zero, suc, _+_, _-_, _*_, _%_, _/_, _≤_, _<_}
+use Prim.Native.Nat.{ℕ, zero, suc, _+_, _-_, _*_, _≤_, _<_}
 use native.Mathlib.Numerals.{add-one}
 use native.Mathlib.Omega.{arith}
 use mathlib.Core.Path.{_≡_, refl, sym, ap, ap₂, _∙_, subst, subst⁻¹}
@@ -9,15 +9,16 @@ use mathlib.Core.Option.{Option, none, some}
 use lib.Dec.{eqb}
 use lib.ListN.{length, getD, take, drop, length-append}
 use borrow.Author.Tests.{eq-eqb, ne-eqb}
-use Rattle.syntax.specs.Limits.{arguments, lengths}
+use Rattle.syntax.specs.Limits.{arguments}
 use Rattle.syntax.specs.Terms.{Term, Terms, nil, cons, arity, Atom, termOf, Mark, input, output, free, Declaration, samePredicate}
 use Rattle.syntax.specs.Tokens.{spelling}
-use Rattle.syntax.specs.Words.{termWords, termsWords, declarationWords, declarationsWords, markNumber, marksNumber, firstName, markNumbers, declarationSize}
+use Rattle.syntax.specs.Words.{termWords, termsWords, declarationWords, declarationsWords, markNumber, marksNumber, firstMark, otherMarks, firstName, functorArity, functorLength, declarationSize}
+use Rattle.syntax.proofs.Words.{mark-some, marks-first, marks-others}
 use Rattle.syntax.specs.declared.Refusal.the-variants.{Undeclared}
 use Rattle.rules.specs.Modes.{Known, openByte, marksOf, orNoMarks, marksFor, sameMark, listOf, ifMarked, OpenArgument, firstOpen, groundIf, groundMarked, groundTerm, undeclared, undeclaredAtom}
 use Rattle.marking.specs.Standing.{NameAt, AllNumbered, numbered-cons, Stands, AllStand, stands-compound, DeclarationsStand, declaration-stands}
 use Rattle.words.specs.Tables.{Has}
-use Rattle.marking.specs.Tables.{TermAt, DeclarationAt, DeclarationsAt, AtomAt, NamedAt, MarkedAt}
+use Rattle.marking.specs.Tables.{TermAt, TermsAt, DeclarationAt, DeclarationsAt, AtomAt, NamedAt, MarkedAt}
 use Rattle.marking.specs.Answers.{checkedOf, groundnessOf, firstOpenOf, nameOf, position}
 use Rattle.marking.specs.declared.terms.Groundness.{Groundness}
 use Rattle.marking.specs.declared.terms.Groundness.the-variants.{Ground, Open}
@@ -26,7 +27,7 @@ use Rattle.marking.specs.declared.marks.FirstOpen.the-variants.{Nowhere,
 use Rattle.marking.specs.declared.marks.Name.{Name}
 use Rattle.marking.specs.declared.Checked.the-variants.{Fine, Fault}
 use Rattle.words.proofs.Laws.{Node, node, has-left, has-right, has-inside}
-use Rattle.marking.proofs.Places.{Says, says as atom-words, sized, cons-long}
+use Rattle.marking.proofs.Places.{Says, says as atom-words, sized, past-ends, cons-long, Parted, parted}
 use Rattle.lookup.specs.declared.Lookup.{Lookup}
 use Rattle.lookup.specs.declared.Lookup.the-variants.{Found, Missing}
 use Rattle.lookup.specs.Searching.{matches, lookFrom, lookUp, storedEntry, storedEntries}
@@ -125,13 +126,13 @@ name-room {table} {p} w = atom-words table p (w .atom) (w .has) .inside
 pub name-least : {table : List ℕ} {p : ℕ} (v : ℕ) → v ≡ getD table p 0 → NamedAt table p → firstName ≤ v
 name-least {table} {p} v e w = omega (arith, atom-words table p (w .atom) (w .has) .what)
 
-pub name-is : {table : List ℕ} {p : ℕ} (v at : ℕ) → v ≡ getD table p 0 → at ≡ getD table (p + 2) 0 → (w : NamedAt table p)
-    → record { at = at; len = (v - firstName) % lengths; arguments = (v - firstName) / lengths } ≡ nameOf (w .atom)
-name-is {table} {p} v at ev ea w =
+pub name-is : {table : List ℕ} {p v at len n : ℕ} → v ≡ getD table p 0 → at ≡ getD table (p + 2) 0 → len ≡ functorLength v → n ≡ functorArity v → (w : NamedAt table p)
+    → record { at = at; len = len; arguments = n } ≡ nameOf (w .atom)
+name-is {table} {p} {v} {at} {len} {n} ev ea el en w =
     let o : Says table p (w .atom) = atom-words table p (w .atom) (w .has) in
     let place : at ≡ w .atom .at = ea ∙ o .place in
-    let long : (v - firstName) % lengths ≡ length (w .atom .name) = omega (arith, o .what, w .short) in
-    let count : (v - firstName) / lengths ≡ arity (w .atom .args) = omega (arith, o .what, w .short) in
+    let long : len ≡ length (w .atom .name) = omega (arith, o .what, w .short) in
+    let count : n ≡ arity (w .atom .args) = omega (arith, o .what, w .short) in
     cc
 
 -- an atom of a text has a short name, and arguments that stand in the text
@@ -330,11 +331,6 @@ module _ (s declared : List ℕ) (n : ℕ) (g table : List ℕ) (p i : ℕ)
 
 -- ---- arguments with a mark
 
-mark-some : (m : Mark) → 1 ≤ markNumber m
-mark-some input = omega arith
-mark-some output = omega arith
-mark-some free = omega arith
-
 same-number : (m k : Mark) → eqb (markNumber k) (markNumber m) ≡ sameMark m k
 unfolding sameMark
 same-number input input = refl
@@ -347,36 +343,30 @@ same-number free input = refl
 same-number free output = refl
 same-number free free = refl
 
-lowest : (k : Mark) (ks : List Mark) → (marksNumber (k ∷ ks) % markNumbers ≡ markNumber k) × (marksNumber (k ∷ ks) / markNumbers ≡ marksNumber ks)
-unfolding marksNumber
-lowest input ks = omega arith
-lowest output ks = omega arith
-lowest free ks = omega arith
-
 -- an open argument of number n, or what comes after it
 abbrev openOr : Option ℕ → ℕ → Option OpenArgument → Option OpenArgument
 openOr o n rest = elim o as (λ _. Option OpenArgument) [ none ↦ rest | some b ↦ some (record { argument = n; byte = b }) ]
 
--- the first argument and the others, with their marks
-pub record Marked (table : List ℕ) (p stop marks mark : ℕ) (m : Mark) (ms : List Mark) (ts : Terms) : Type 0 where
+-- the first argument, and the others from `next` on with the marks `left`
+pub record Marked (table : List ℕ) (p stop marks mark next left : ℕ) (m : Mark) (ms : List Mark) (ts : Terms) : Type 0 where
   pub first : TermAt table p
-  pub rest : MarkedAt table (p + length (termWords (first .term))) stop (marks / markNumbers) mark
+  pub rest : MarkedAt table next stop left mark
   pub fault-is : (τ : Known) (n : ℕ)
-      → firstOpen m τ ms (listOf ts) n ≡ openOr (ifMarked (eqb (marks % markNumbers) mark) (openByte τ (first .term))) n (firstOpen (rest .wanted) τ (rest .listed) (listOf (rest .terms)) (suc n))
-  pub ground-is : (τ : Known) → groundMarked m ms (listOf ts) τ ≡ groundMarked (rest .wanted) (rest .listed) (listOf (rest .terms)) (groundIf (eqb (marks % markNumbers) mark) (first .term) τ)
+      → firstOpen m τ ms (listOf ts) n ≡ openOr (ifMarked (eqb (firstMark marks) mark) (openByte τ (first .term))) n (firstOpen (rest .wanted) τ (rest .listed) (listOf (rest .terms)) (suc n))
+  pub ground-is : (τ : Known) → groundMarked m ms (listOf ts) τ ≡ groundMarked (rest .wanted) (rest .listed) (listOf (rest .terms)) (groundIf (eqb (firstMark marks) mark) (first .term) τ)
 
 -- the mark of the first argument, and what is left of the marks
 record Lowest (marks mark : ℕ) (m : Mark) (ms : List Mark) (t : Term) (ts : Terms) : Type 0 where
   left : List Mark
-  number : marks / markNumbers ≡ marksNumber left
+  number : otherMarks marks ≡ marksNumber left
   fault-is : (τ : Known) (n : ℕ)
-      → firstOpen m τ ms (t ∷ listOf ts) n ≡ openOr (ifMarked (eqb (marks % markNumbers) mark) (openByte τ t)) n (firstOpen m τ left (listOf ts) (suc n))
-  ground-is : (τ : Known) → groundMarked m ms (t ∷ listOf ts) τ ≡ groundMarked m left (listOf ts) (groundIf (eqb (marks % markNumbers) mark) t τ)
+      → firstOpen m τ ms (t ∷ listOf ts) n ≡ openOr (ifMarked (eqb (firstMark marks) mark) (openByte τ t)) n (firstOpen m τ left (listOf ts) (suc n))
+  ground-is : (τ : Known) → groundMarked m ms (t ∷ listOf ts) τ ≡ groundMarked m left (listOf ts) (groundIf (eqb (firstMark marks) mark) t τ)
 
 no-marks : (marks mark : ℕ) (m : Mark) (t : Term) (ts : Terms) → marks ≡ marksNumber [] → mark ≡ markNumber m → Lowest marks mark m [] t ts
 unfolding marksNumber firstOpen ifMarked groundMarked groundIf
 no-marks marks mark m t ts em ew =
-    let no : eqb (marks % markNumbers) mark ≡ false = ne-eqb (marks % markNumbers) mark (λ e. omega (arith, mark-some m)) in
+    let no : eqb (firstMark marks) mark ≡ false = ne-eqb (firstMark marks) mark (λ e. omega (arith, mark-some m)) in
     record {
       left = [];
       number = omega arith;
@@ -387,10 +377,10 @@ no-marks marks mark m t ts em ew =
 one-mark : (marks mark : ℕ) (m k : Mark) (ks : List Mark) (t : Term) (ts : Terms) → marks ≡ marksNumber (k ∷ ks) → mark ≡ markNumber m → Lowest marks mark m (k ∷ ks) t ts
 unfolding firstOpen ifMarked groundMarked groundIf
 one-mark marks mark m k ks t ts em ew =
-    let is : eqb (marks % markNumbers) mark ≡ sameMark m k = ap₂ eqb (ap (λ (x : ℕ). x % markNumbers) em ∙ lowest k ks .0) ew ∙ same-number m k in
+    let is : eqb (firstMark marks) mark ≡ sameMark m k = ap₂ eqb (ap firstMark em ∙ marks-first k ks) ew ∙ same-number m k in
     record {
       left = ks;
-      number = ap (λ (x : ℕ). x / markNumbers) em ∙ lowest k ks .1;
+      number = ap otherMarks em ∙ marks-others k ks;
       fault-is = λ τ n. sym (ap (λ (b : Bool). openOr (ifMarked b (openByte τ t)) n (firstOpen m τ ks (listOf ts) (suc n))) is);
       ground-is = λ τ. sym (ap (λ (b : Bool). groundMarked m ks (listOf ts) (groundIf b t τ)) is);
     }
@@ -399,21 +389,24 @@ lowest-of : (marks mark : ℕ) (m : Mark) (ms : List Mark) (t : Term) (ts : Term
 lowest-of marks mark m [] t ts em ew = no-marks marks mark m t ts em ew
 lowest-of marks mark m (k ∷ ks) t ts em ew = one-mark marks mark m k ks t ts em ew
 
-marked-by : (table : List ℕ) (p stop marks mark : ℕ) (m : Mark) (ms : List Mark) (ts : Terms) → p < stop → Has table p (termsWords ts)
-    → stop ≡ p + length (termsWords ts) → AllNumbered ts → marks ≡ marksNumber ms → mark ≡ markNumber m → Marked table p stop marks mark m ms ts
+marked-by : (table : List ℕ) (p stop marks mark next left : ℕ) (m : Mark) (ms : List Mark) (ts : Terms) → p < stop → ((u : TermAt table p) → next ≡ p + length (termWords (u .term)))
+    → left ≡ otherMarks marks → Has table p (termsWords ts) → stop ≡ p + length (termsWords ts) → AllNumbered ts → marks ≡ marksNumber ms → mark ≡ markNumber m
+    → Marked table p stop marks mark next left m ms ts
 unfolding termWords
-marked-by table p stop marks mark m ms nil l h e k em ew = absurd (omega arith)
-marked-by table p stop marks mark m ms (cons t ts) l h e (numbered-cons k ks) em ew =
+marked-by table p stop marks mark next left m ms nil l n el h e k em ew = absurd (omega arith)
+marked-by table p stop marks mark next left m ms (cons t ts) l n el h e (numbered-cons k ks) em ew =
     let o : Lowest marks mark m ms t ts = lowest-of marks mark m ms t ts em ew in
+    let first : TermAt table p = record { term = t; has = has-left table p (termWords t) (termsWords ts) h; numbered = k } in
+    let on : next ≡ p + length (termWords t) = n first in
     record {
-      first = record { term = t; has = has-left table p (termWords t) (termsWords ts) h; numbered = k };
+      first = first;
       rest = record {
         terms = ts;
-        has = has-right table p (termWords t) (termsWords ts) h;
+        has = subst⁻¹ (λ (j : ℕ). Has table j (termsWords ts)) on (has-right table p (termWords t) (termsWords ts) h);
         ends = omega (arith, length-append (termWords t) (termsWords ts));
         numbered = ks;
         listed = o .left;
-        number = o .number;
+        number = el ∙ o .number;
         wanted = m;
         wanted-is = ew;
       };
@@ -428,14 +421,15 @@ none-marked [] m ts p stop l e = ((λ τ n. refl), (λ τ. refl))
 none-marked (k ∷ ks) m nil p stop l e = ((λ τ n. refl), (λ τ. refl))
 none-marked (k ∷ ks) m (cons t ts) p stop l e = absurd (omega (arith, cons-long t ts))
 
-pub other-passes : (table : List ℕ) (p marks mark : ℕ) (τ : Known) → (marks % markNumbers ≡ mark → ⊥) → (w : TermAt table p) → Ground ≡ groundnessOf (ifMarked (eqb (marks % markNumbers) mark) (openByte τ (w .term)))
+-- the test of an argument, by its mark
+pub other-passes : {table : List ℕ} {p mark k : ℕ} (τ : Known) (marks : ℕ) → k ≡ firstMark marks → (k ≡ mark → ⊥) → (w : TermAt table p) → Ground ≡ groundnessOf (ifMarked (eqb (firstMark marks) mark) (openByte τ (w .term)))
 unfolding ifMarked
-other-passes table p marks mark τ n w = sym (ap (λ (b : Bool). groundnessOf (ifMarked b (openByte τ (w .term)))) (ne-eqb (marks % markNumbers) mark n))
+other-passes {mark = mark} τ marks e n w = sym (ap (λ (b : Bool). groundnessOf (ifMarked b (openByte τ (w .term)))) (ne-eqb (firstMark marks) mark (λ q. n (e ∙ q))))
 
-pub same-tested : (table : List ℕ) (p marks mark : ℕ) (τ : Known) → marks % markNumbers ≡ mark → (g : Groundness) → ((w : TermAt table p) → g ≡ groundnessOf (openByte τ (w .term)))
-    → (w : TermAt table p) → g ≡ groundnessOf (ifMarked (eqb (marks % markNumbers) mark) (openByte τ (w .term)))
+pub same-tested : {table : List ℕ} {p mark k : ℕ} (τ : Known) (marks : ℕ) → k ≡ firstMark marks → k ≡ mark → {g : Groundness} → ((w : TermAt table p) → g ≡ groundnessOf (openByte τ (w .term)))
+    → (w : TermAt table p) → g ≡ groundnessOf (ifMarked (eqb (firstMark marks) mark) (openByte τ (w .term)))
 unfolding ifMarked
-same-tested table p marks mark τ e g h w = h w ∙ sym (ap (λ (b : Bool). groundnessOf (ifMarked b (openByte τ (w .term)))) (eq-eqb (marks % markNumbers) mark e))
+same-tested {mark = mark} τ marks e q h w = h w ∙ sym (ap (λ (b : Bool). groundnessOf (ifMarked b (openByte τ (w .term)))) (eq-eqb (firstMark marks) mark (sym e ∙ q)))
 
 or-found : (o : Option ℕ) (n b : ℕ) (rest : Option OpenArgument) → groundnessOf o ≡ Open b → At n b ≡ firstOpenOf (openOr o n rest)
 or-found none n b rest e = let z : _≡_ {A = ℕ} 0 1 = cc in absurd (omega arith)
@@ -445,70 +439,66 @@ or-rest : (o : Option ℕ) (n : ℕ) (rest : Option OpenArgument) → groundness
 or-rest none n rest e = refl
 or-rest (some i) n rest e = let z : _≡_ {A = ℕ} 0 1 = cc in absurd (omega arith)
 
-ends-inside : (table : List ℕ) (p : ℕ) (ts : Terms) → Has table p (termsWords ts) → 0 < length (termsWords ts) → p + length (termsWords ts) ≤ length table
-ends-inside table p ts h l = has-inside table p (termsWords ts) h l
+abbrev terms-of : {table : List ℕ} {p stop marks mark : ℕ} → MarkedAt table p stop marks mark → TermsAt table p stop
+terms-of w = record { terms = w .terms; has = w .has; ends = w .ends; numbered = w .numbered }
 
-module _ (table : List ℕ) (p stop marks mark : ℕ) (τ : Known) where
-  pub none-open : (number : ℕ) → stop ≤ p → (w : MarkedAt table p stop marks mark) → Nowhere ≡ firstOpenOf (firstOpen (w .wanted) τ (w .listed) (listOf (w .terms)) number)
-  none-open number l w = sym (ap firstOpenOf (none-marked (w .listed) (w .wanted) (w .terms) p stop l (w .ends) .0 τ number))
+module _ {table : List ℕ} {p stop marks mark : ℕ} where
+  pub none-open : (τ : Known) (number : ℕ) → stop ≤ p → (w : MarkedAt table p stop marks mark) → Nowhere ≡ firstOpenOf (firstOpen (w .wanted) τ (w .listed) (listOf (w .terms)) number)
+  none-open τ number l w = sym (ap firstOpenOf (none-marked (w .listed) (w .wanted) (w .terms) p stop l (w .ends) .0 τ number))
 
-  pub none-given : stop ≤ p → (w : MarkedAt table p stop marks mark) → τ ≡ groundMarked (w .wanted) (w .listed) (listOf (w .terms)) τ
-  none-given l w = sym (none-marked (w .listed) (w .wanted) (w .terms) p stop l (w .ends) .1 τ)
+  pub none-given : (τ : Known) → stop ≤ p → (w : MarkedAt table p stop marks mark) → τ ≡ groundMarked (w .wanted) (w .listed) (listOf (w .terms)) τ
+  none-given τ l w = sym (none-marked (w .listed) (w .wanted) (w .terms) p stop l (w .ends) .1 τ)
 
   module _ (l : p < stop) where
-    pub marked : (w : MarkedAt table p stop marks mark) → Marked table p stop marks mark (w .wanted) (w .listed) (w .terms)
-    marked w = marked-by table p stop marks mark (w .wanted) (w .listed) (w .terms) l (w .has) (w .ends) (w .numbered) (w .number) (w .wanted-is)
-
     pub marked-first : MarkedAt table p stop marks mark → TermAt table p
-    marked-first w = marked w .first
+    marked-first w = parted l (terms-of w) .first
 
-    pub found-open : (number : ℕ) (g : Groundness) → ((w : TermAt table p) → g ≡ groundnessOf (ifMarked (eqb (marks % markNumbers) mark) (openByte τ (w .term)))) → (byte : ℕ) → g ≡ Open byte
-        → (w : MarkedAt table p stop marks mark) → At number byte ≡ firstOpenOf (firstOpen (w .wanted) τ (w .listed) (listOf (w .terms)) number)
-    found-open number g h byte e w =
-        let q : Marked table p stop marks mark (w .wanted) (w .listed) (w .terms) = marked w in
-        or-found (ifMarked (eqb (marks % markNumbers) mark) (openByte τ (q .first .term))) number byte (firstOpen (q .rest .wanted) τ (q .rest .listed) (listOf (q .rest .terms)) (suc number)) (sym (h (q .first)) ∙ e)
-        ∙ sym (ap firstOpenOf (q .fault-is τ number))
+    pub marked-further : {next : ℕ} → next ≡ p + getD table (p + 1) 0 → MarkedAt table p stop marks mark → (p + 3 ≤ next) × ((next ≤ stop) × (stop ≤ length table))
+    marked-further n w =
+        let q : Parted table p stop (w .terms) = parted l (terms-of w) in
+        omega (arith, sized table p (q .first) .is, sized table p (q .first) .long, q .rest .ends, w .ends, has-inside table p (termsWords (w .terms)) (w .has) (omega (arith, w .ends)))
 
-    module _ (next : ℕ) (n : (u : TermAt table p) → next ≡ p + length (termWords (u .term))) where
-      pub marked-further : MarkedAt table p stop marks mark → (p + 3 ≤ next) × ((next ≤ stop) × (stop ≤ length table))
-      marked-further w =
-          omega
-          (arith, n (marked w .first), sized table p (marked w .first) .long, marked w .rest .ends, ends-inside table p (w .terms) (w .has) (omega (arith, w .ends)), w .ends)
+    module _ {next left : ℕ} (n : next ≡ p + getD table (p + 1) 0) (el : left ≡ otherMarks marks) where
+      marked : (w : MarkedAt table p stop marks mark) → Marked table p stop marks mark next left (w .wanted) (w .listed) (w .terms)
+      marked w = marked-by table p stop marks mark next left (w .wanted) (w .listed) (w .terms) l (past-ends n) el (w .has) (w .ends) (w .numbered) (w .number) (w .wanted-is)
 
-      pub marked-rest : MarkedAt table p stop marks mark → MarkedAt table next stop (marks / markNumbers) mark
-      marked-rest w = subst⁻¹ (λ (k : ℕ). MarkedAt table k stop (marks / markNumbers) mark) (n (marked w .first)) (marked w .rest)
+      pub marked-rest : MarkedAt table p stop marks mark → MarkedAt table next stop left mark
+      marked-rest w = marked w .rest
 
-      pub open-on : (number more : ℕ) (g : Groundness) → ((w : TermAt table p) → g ≡ groundnessOf (ifMarked (eqb (marks % markNumbers) mark) (openByte τ (w .term)))) → g ≡ Ground → more ≡ number + 1
-          → (r : FirstOpen) → ((w : MarkedAt table next stop (marks / markNumbers) mark) → r ≡ firstOpenOf (firstOpen (w .wanted) τ (w .listed) (listOf (w .terms)) more))
+      pub open-on : (τ : Known) (number : ℕ) {more : ℕ} {g : Groundness} → ((w : TermAt table p) → g ≡ groundnessOf (ifMarked (eqb (firstMark marks) mark) (openByte τ (w .term)))) → g ≡ Ground → more ≡ number + 1
+          → {r : FirstOpen} → ((w : MarkedAt table next stop left mark) → r ≡ firstOpenOf (firstOpen (w .wanted) τ (w .listed) (listOf (w .terms)) more))
           → (w : MarkedAt table p stop marks mark) → r ≡ firstOpenOf (firstOpen (w .wanted) τ (w .listed) (listOf (w .terms)) number)
-      open-on number more g h e em r k w =
-          let q : Marked table p stop marks mark (w .wanted) (w .listed) (w .terms) = marked w in
-          let k1 : (u : MarkedAt table (p + length (termWords (q .first .term))) stop (marks / markNumbers) mark) → r ≡ firstOpenOf (firstOpen (u .wanted) τ (u .listed) (listOf (u .terms)) more) =
-          subst (λ (j : ℕ). (u : MarkedAt table j stop (marks / markNumbers) mark) → r ≡ firstOpenOf (firstOpen (u .wanted) τ (u .listed) (listOf (u .terms)) more)) (n (q .first)) k in
-          k1 (q .rest)
+      open-on τ number h e em k w =
+          let q : Marked table p stop marks mark next left (w .wanted) (w .listed) (w .terms) = marked w in
+          k (q .rest)
           ∙ ap (λ (j : ℕ). firstOpenOf (firstOpen (q .rest .wanted) τ (q .rest .listed) (listOf (q .rest .terms)) j)) (em ∙ add-one number)
-          ∙ or-rest (ifMarked (eqb (marks % markNumbers) mark) (openByte τ (q .first .term))) number (firstOpen (q .rest .wanted) τ (q .rest .listed) (listOf (q .rest .terms)) (suc number)) (sym (h (q .first)) ∙ e)
+          ∙ or-rest (ifMarked (eqb (firstMark marks) mark) (openByte τ (q .first .term))) number (firstOpen (q .rest .wanted) τ (q .rest .listed) (listOf (q .rest .terms)) (suc number)) (sym (h (q .first)) ∙ e)
           ∙ sym (ap firstOpenOf (q .fault-is τ number))
 
-      given-on : (b : Bool) (σ r : Known) (w : MarkedAt table p stop marks mark) → eqb (marks % markNumbers) mark ≡ b → σ ≡ groundIf b (marked w .first .term) τ
-          → ((u : MarkedAt table next stop (marks / markNumbers) mark) → r ≡ groundMarked (u .wanted) (u .listed) (listOf (u .terms)) σ)
+      given-on : (τ : Known) (b : Bool) (σ r : Known) (w : MarkedAt table p stop marks mark) → eqb (firstMark marks) mark ≡ b → σ ≡ groundIf b (marked w .first .term) τ
+          → ((u : MarkedAt table next stop left mark) → r ≡ groundMarked (u .wanted) (u .listed) (listOf (u .terms)) σ)
           → r ≡ groundMarked (w .wanted) (w .listed) (listOf (w .terms)) τ
-      given-on b σ r w e es k =
-          let q : Marked table p stop marks mark (w .wanted) (w .listed) (w .terms) = marked w in
-          let k1 : (u : MarkedAt table (p + length (termWords (q .first .term))) stop (marks / markNumbers) mark) → r ≡ groundMarked (u .wanted) (u .listed) (listOf (u .terms)) σ =
-          subst (λ (j : ℕ). (u : MarkedAt table j stop (marks / markNumbers) mark) → r ≡ groundMarked (u .wanted) (u .listed) (listOf (u .terms)) σ) (n (q .first)) k in
-          k1 (q .rest)
+      given-on τ b σ r w e es k =
+          let q : Marked table p stop marks mark next left (w .wanted) (w .listed) (w .terms) = marked w in
+          k (q .rest)
           ∙ ap (groundMarked (q .rest .wanted) (q .rest .listed) (listOf (q .rest .terms))) (es ∙ ap (λ (x : Bool). groundIf x (q .first .term) τ) (sym e))
           ∙ sym (q .ground-is τ)
 
-      pub given-same : marks % markNumbers ≡ mark → (σ r : Known) → ((u : TermAt table p) → σ ≡ groundTerm (u .term) τ)
-          → ((u : MarkedAt table next stop (marks / markNumbers) mark) → r ≡ groundMarked (u .wanted) (u .listed) (listOf (u .terms)) σ)
+      pub given-same : (τ : Known) {k : ℕ} → k ≡ firstMark marks → k ≡ mark → {σ r : Known} → ((u : TermAt table p) → σ ≡ groundTerm (u .term) τ)
+          → ((u : MarkedAt table next stop left mark) → r ≡ groundMarked (u .wanted) (u .listed) (listOf (u .terms)) σ)
           → (w : MarkedAt table p stop marks mark) → r ≡ groundMarked (w .wanted) (w .listed) (listOf (w .terms)) τ
       unfolding groundIf
-      given-same e σ r h k w = given-on true σ r w (eq-eqb (marks % markNumbers) mark e) (h (marked w .first)) k
+      given-same τ ek e {σ} {r} h k w = given-on τ true σ r w (eq-eqb (firstMark marks) mark (sym ek ∙ e)) (h (marked w .first)) k
 
-      pub given-other : (marks % markNumbers ≡ mark → ⊥) → (r : Known)
-          → ((u : MarkedAt table next stop (marks / markNumbers) mark) → r ≡ groundMarked (u .wanted) (u .listed) (listOf (u .terms)) τ)
+      pub given-other : (τ : Known) {k : ℕ} → k ≡ firstMark marks → (k ≡ mark → ⊥) → {r : Known}
+          → ((u : MarkedAt table next stop left mark) → r ≡ groundMarked (u .wanted) (u .listed) (listOf (u .terms)) τ)
           → (w : MarkedAt table p stop marks mark) → r ≡ groundMarked (w .wanted) (w .listed) (listOf (w .terms)) τ
       unfolding groundIf
-      given-other e r k w = given-on false τ r w (ne-eqb (marks % markNumbers) mark e) refl k
+      given-other τ ek e {r} k w = given-on τ false τ r w (ne-eqb (firstMark marks) mark (λ q. e (ek ∙ q))) refl k
+
+    pub found-open : (τ : Known) (number : ℕ) {g : Groundness} → ((w : TermAt table p) → g ≡ groundnessOf (ifMarked (eqb (firstMark marks) mark) (openByte τ (w .term)))) → {byte : ℕ} → g ≡ Open byte
+        → (w : MarkedAt table p stop marks mark) → At number byte ≡ firstOpenOf (firstOpen (w .wanted) τ (w .listed) (listOf (w .terms)) number)
+    found-open τ number h {byte} e w =
+        let q : Marked table p stop marks mark (p + getD table (p + 1) 0) (otherMarks marks) (w .wanted) (w .listed) (w .terms) = marked refl refl w in
+        or-found (ifMarked (eqb (firstMark marks) mark) (openByte τ (q .first .term))) number byte (firstOpen (q .rest .wanted) τ (q .rest .listed) (listOf (q .rest .terms)) (suc number)) (sym (h (q .first)) ∙ e)
+        ∙ sym (ap firstOpenOf (q .fault-is τ number))

@@ -8,23 +8,24 @@ use lookup::Lookup;
 use lookup::is_match;
 use lookup::look_among;
 use syntax::DECLARATION_SIZE;
-use syntax::FIRST_NAME;
 use syntax::INPUT;
-use syntax::LENGTHS;
-use syntax::MARK_NUMBERS;
 use syntax::NODE_WORDS;
 use syntax::OUTPUT;
 use syntax::Refusal;
+use syntax::arity_of;
+use syntax::first_mark;
+use syntax::length_of;
+use syntax::other_marks;
 use words::past;
 use words::word_at;
 ghost use mathlib.Core.Path.{_≡_};
 ghost use mathlib.Core.Bool.{true};
-ghost use Prim.Native.Nat.{_+_, _%_, _≤_, _<_};
+ghost use Prim.Native.Nat.{_+_, _≤_, _<_};
 ghost use lib.Dec.{eqb};
 ghost use lib.ListN.{length};
 ghost use Rattle.syntax.specs.Tokens.{spelling};
 ghost use Rattle.syntax.specs.Terms.{arity, input, output};
-ghost use Rattle.syntax.specs.Words.{markNumbers, marksNumber};
+ghost use Rattle.syntax.specs.Words.{firstMark, marksNumber};
 ghost use Rattle.rules.specs.Modes.{openByte, marksFor, listOf, ifMarked, firstOpen, groundMarked, undeclaredAtom, openInput, openOutput};
 ghost use Rattle.marking.specs.Tables.{TermAt, DeclarationsAt, AtomAt, NamedAt, MarkedAt, JudgedAt};
 ghost use Rattle.marking.specs.Answers.{checkedOf, groundnessOf, firstOpenOf, nameOf, position};
@@ -41,12 +42,12 @@ fn name_at(table: &[u32], p: usize) -> Name
     requires { ⌜ NamedAt (now table) p ⌝ }
     ensures { λ r. ⌜ ((w : NamedAt (now (table .entry)) p) → r ≡ nameOf (w .atom)) ⌝ }
 {
-    let what = word_at(table, p) - FIRST_NAME;
+    let what = word_at(table, p);
     let at = word_at(table, p + 2);
     Name {
         at,
-        len: what % LENGTHS,
-        arguments: what / LENGTHS,
+        len: length_of(what),
+        arguments: arity_of(what),
     }
 }
 
@@ -166,9 +167,9 @@ pub enum FirstOpen {
 // The ground test of a term whose mark is the lowest of `marks`; with another mark it passes.
 fn marked_test(table: &[u32], p: usize, marks: usize, mark: usize, known: Known) -> Groundness
     requires { ⌜ TermAt (now table) p ⌝ }
-    ensures { λ r. ⌜ ((w : TermAt (now (table .entry)) p) → r ≡ groundnessOf (ifMarked (eqb (marks % markNumbers) mark) (openByte known (w .term)))) ⌝ }
+    ensures { λ r. ⌜ ((w : TermAt (now (table .entry)) p) → r ≡ groundnessOf (ifMarked (eqb (firstMark marks) mark) (openByte known (w .term)))) ⌝ }
 {
-    if marks % MARK_NUMBERS != mark {
+    if first_mark(marks) != mark {
         return Groundness::Ground;
     }
     ground_test(table, p, known)
@@ -199,7 +200,7 @@ fn first_open(
         },
         Groundness::Ground => {
             let next = past(table, p);
-            let rest = marks / MARK_NUMBERS;
+            let rest = other_marks(marks);
             let more = number + 1;
             first_open(table, next, stop, rest, mark, known, more)
         }
@@ -222,8 +223,8 @@ pub fn ground_marked(
         return known;
     }
     let next = past(table, p);
-    let rest = marks / MARK_NUMBERS;
-    if marks % MARK_NUMBERS == mark {
+    let rest = other_marks(marks);
+    if first_mark(marks) == mark {
         let after = ground_term(table, p, known);
         return ground_marked(table, next, stop, rest, mark, after);
     }

@@ -2,9 +2,10 @@
 // brackets go.
 use crate::Known;
 use syntax::FIRST_NAME;
-use syntax::LENGTHS;
 use syntax::NODE_WORDS;
 use syntax::VARIABLES;
+use syntax::length_of;
+use texts::same_bytes;
 use words::past;
 use words::word_at;
 ghost use mathlib.Core.Path.{_≡_};
@@ -129,8 +130,8 @@ fn same_functor(s: &[u8], table: &[u32], p: usize, q: usize) -> bool
     }
     let a = word_at(table, p + 2);
     let b = word_at(table, q + 2);
-    let len = (v - FIRST_NAME) % LENGTHS;
-    lexer::same_bytes(s, a, s, b, len)
+    let len = length_of(v);
+    same_bytes(s, a, s, b, len)
 }
 
 // One pass over an equation of two terms of the text.

@@ -14,7 +14,9 @@ use Rattle.layout.specs.Regions.{copies, memo, rowsWord, slots, slotCount, keys
 use Rattle.layout.specs.Nodes.{Symbol, termAt}
 use Rattle.layout.specs.State.{wordOf, valueOf}
 use Rattle.layout.proofs.State.{node-word, copy-word}
-use Rattle.memos.specs.Memos.{classesMade, rowsMade, keyOf, termOf, linkOf, half, stored, numberIn, Numbered, Rowed, Entered, Same, Belongs, Shows, Links, Memo, Found, Reaches, Cleared, Kept, Opens, Assigns, Fresh, Joins, Begins, Remembers, Weighed, counted, shift}
+use Rattle.layout.specs.Halves.{half, stored}
+use Rattle.layout.proofs.Halves.{half-stored, half-apart}
+use Rattle.memos.specs.Memos.{classesMade, rowsMade, keyOf, termOf, linkOf, numberIn, Numbered, Rowed, Entered, Same, Belongs, Shows, Links, Memo, Found, Reaches, Cleared, Kept, Opens, Assigns, Fresh, Joins, Begins, Remembers, Weighed, counted, shift}
 
 -- ---- what its words mean
 
@@ -275,21 +277,8 @@ reaches-on scratch i r w h e n l s es =
 
 -- ---- looking terms up
 
-half-low : (h w : ℕ) → h ≡ 0 → w % halfWord ≡ half h w
-unfolding half
-half-low zero w e = refl
-half-low (suc h) w e = absurd (omega arith)
-
-half-high : (h w : ℕ) → (h ≡ 0 → ⊥) → w / halfWord % halfWord ≡ half h w
-unfolding half
-half-high zero w n = absurd (n refl)
-half-high (suc h) w n = refl
-
-pub number-low : (scratch : List ℕ) (k v w : ℕ) → w ≡ getD scratch (memoRow k + v % rowWords) 0 → v / rowWords % 2 ≡ 0 → w % halfWord ≡ numberIn scratch k v
-number-low scratch k v w e z = half-low (v / rowWords % 2) w z ∙ ap (half (v / rowWords % 2)) e
-
-pub number-high : (scratch : List ℕ) (k v w : ℕ) → w ≡ getD scratch (memoRow k + v % rowWords) 0 → (v / rowWords % 2 ≡ 0 → ⊥) → w / halfWord % halfWord ≡ numberIn scratch k v
-number-high scratch k v w e n = half-high (v / rowWords % 2) w n ∙ ap (half (v / rowWords % 2)) e
+pub number-of-half : (scratch : List ℕ) (k v w r : ℕ) → w ≡ getD scratch (memoRow k + v % rowWords) 0 → r ≡ half (v / rowWords % 2) w → r ≡ numberIn scratch k v
+number-of-half scratch k v w r e h = h ∙ ap (half (v / rowWords % 2)) e
 
 pub rowed-at : (scratch : List ℕ) (key k n w : ℕ) → k < keyCount → n ≡ rowsMade scratch → k < n → w ≡ keyOf scratch k → w ≡ key → memoRow k + rowWords ≤ length scratch → (k + 1 ≡ 0) ⊎ Rowed scratch key (k + 1 - 1)
 rowed-at scratch key k n w small e below f g fits =
@@ -457,28 +446,6 @@ module _ (before clean : List ℕ) (k s key : ℕ) (is : k ≡ rowsMade before) 
 
 -- ---- a number in a row
 
-pub half-stored : (h w i : ℕ) → i < halfWord → half h (stored h w i) ≡ i
-unfolding half stored
-half-stored zero w i l = omega arith
-half-stored (suc h) w i l = omega arith
-
-half-apart : (h g w i : ℕ) → h < 2 → g < 2 → (g ≡ h → ⊥) → i < halfWord → half g (stored h w i) ≡ half g w
-unfolding half stored
-half-apart zero zero w i a b n l = absurd (n refl)
-half-apart zero (suc g) w i a b n l = omega arith
-half-apart (suc h) zero w i a b n l = omega arith
-half-apart (suc h) (suc g) w i a b n l = absurd (n (let z : suc g ≡ suc h = omega arith in z))
-
-stored-low : (h w i : ℕ) → h ≡ 0 → w / halfWord % halfWord * halfWord + i ≡ stored h w i
-unfolding stored
-stored-low zero w i e = refl
-stored-low (suc h) w i e = absurd (omega arith)
-
-stored-high : (h w i : ℕ) → (h ≡ 0 → ⊥) → i * halfWord + w % halfWord ≡ stored h w i
-unfolding stored
-stored-high zero w i n = absurd (n refl)
-stored-high (suc h) w i n = refl
-
 quarter : (v : ℕ) → v / rowWords / 2 ≡ v / copies
 quarter v = omega arith
 
@@ -498,11 +465,8 @@ word-same u v e f g =
 abbrev pub placed : List ℕ → ℕ → ℕ → ℕ → List ℕ
 placed before k v i = set before (memoRow k + v % rowWords) (stored (v / rowWords % 2) (getD before (memoRow k + v % rowWords) 0) i)
 
-pub placed-low : (before : List ℕ) (k v i w : ℕ) → w ≡ getD before (memoRow k + v % rowWords) 0 → v / rowWords % 2 ≡ 0 → set before (memoRow k + v % rowWords) (w / halfWord % halfWord * halfWord + i) ≡ placed before k v i
-placed-low before k v i w e z = ap (set before (memoRow k + v % rowWords)) (stored-low (v / rowWords % 2) w i z ∙ ap (λ (x : ℕ). stored (v / rowWords % 2) x i) e)
-
-pub placed-high : (before : List ℕ) (k v i w : ℕ) → w ≡ getD before (memoRow k + v % rowWords) 0 → (v / rowWords % 2 ≡ 0 → ⊥) → set before (memoRow k + v % rowWords) (i * halfWord + w % halfWord) ≡ placed before k v i
-placed-high before k v i w e n = ap (set before (memoRow k + v % rowWords)) (stored-high (v / rowWords % 2) w i n ∙ ap (λ (x : ℕ). stored (v / rowWords % 2) x i) e)
+pub placed-half : (before : List ℕ) (k v i w r : ℕ) → w ≡ getD before (memoRow k + v % rowWords) 0 → r ≡ stored (v / rowWords % 2) w i → set before (memoRow k + v % rowWords) r ≡ placed before k v i
+placed-half before k v i w r e h = ap (set before (memoRow k + v % rowWords)) (h ∙ ap (λ (x : ℕ). stored (v / rowWords % 2) x i) e)
 
 module _ (before : List ℕ) (k v i : ℕ) (w : Rowed before (v / copies) k) (small : i < classCount) where
   abbrev at : ℕ

@@ -6,7 +6,8 @@ use mathlib.Core.Logic.{_⊎_}
 use lib.ListN.{length, getD}
 use Rattle.syntax.specs.Limits.{longestPath}
 use Rattle.machine.specs.Substitution.{RTerm, Binding, resolve}
-use Rattle.layout.specs.Regions.{copies, memo, rowsWord, keys, keyCount, classes, classCount, classOf, weights, rows, rowWords, halfWord, memoRow}
+use Rattle.layout.specs.Regions.{copies, memo, rowsWord, keys, keyCount, classes, classCount, classOf, weights, rows, rowWords, memoRow}
+use Rattle.layout.specs.Halves.{half, stored}
 use Rattle.layout.specs.Nodes.{Symbol}
 use Rattle.layout.specs.State.{valueOf}
 
@@ -39,15 +40,6 @@ termOf scratch i = getD scratch (classOf i) 0
 
 abbrev pub linkOf : List ℕ → ℕ → ℕ
 linkOf scratch i = getD scratch (classOf i + 1) 0
-
--- A word has two numbers, each in one half: the lower, for 0, and the higher.
-unfoldable pub half : ℕ → ℕ → ℕ
-half zero w = w % halfWord
-half (suc n) w = w / halfWord % halfWord
-
-unfoldable pub stored : ℕ → ℕ → ℕ → ℕ
-stored zero w i = w / halfWord % halfWord * halfWord + i
-stored (suc n) w i = i * halfWord + w % halfWord
 
 -- the number in row k of the term whose word is v less the shift
 abbrev pub numberIn : List ℕ → ℕ → ℕ → ℕ

@@ -8,7 +8,6 @@ use layout::CLASS_COUNT;
 use layout::CLASS_SIZE;
 use layout::CLASSES;
 use layout::COPIES;
-use layout::HALF_WORD;
 use layout::HEIGHTS;
 use layout::KEY_COUNT;
 use layout::KEYS;
@@ -19,15 +18,18 @@ use layout::ROWS_WORD;
 use layout::SLOT_COUNT;
 use layout::SLOTS;
 use layout::WEIGHTS;
+use layout::half_of;
+use layout::with_half;
 use words::word_at;
 ghost use mathlib.Core.Path.{_≡_};
 ghost use mathlib.Core.Bool.{true};
 ghost use mathlib.Core.Logic.{_⊎_};
 ghost use Prim.Native.Nat.{_+_, _*_, _/_, _%_, _-_, _≤_, _<_, _^_};
 ghost use lib.ListN.{length, getD, set};
+ghost use Rattle.layout.specs.Halves.{stored};
 ghost use Rattle.layout.specs.Regions.{pairs, memo, keyCount, classCount, classOf, rowWords, halfWord, memoRow};
 ghost use Rattle.bindings.specs.Scratch.{Roomy};
-ghost use Rattle.memos.specs.Memos.{classesMade, linkOf, numberIn, stored, Rowed, Entered, Found, Cleared, Opens, Assigns, Fresh, Reaches, Joins};
+ghost use Rattle.memos.specs.Memos.{classesMade, linkOf, numberIn, Rowed, Entered, Found, Cleared, Opens, Assigns, Fresh, Reaches, Joins};
 ghost use Rattle.memos.specs.Memos.{Begins, Remembers, Weighed, counted, heavy};
 
 // So many pairs are only counted: most unifications are done before.
@@ -79,10 +81,7 @@ fn number_in(scratch: &[u32], k: usize, v: usize) -> usize
 {
     let at = ROWS + k * ROW_WORDS + v % ROW_WORDS;
     let w = word_at(scratch, at);
-    if v / ROW_WORDS % 2 == 0 {
-        return w % HALF_WORD;
-    }
-    w / HALF_WORD % HALF_WORD
+    half_of(v / ROW_WORDS % 2, w)
 }
 
 // The number of a term's class, or 0 where it has none.
@@ -208,11 +207,7 @@ fn put_number(scratch: &mut [u32], k: usize, v: usize, i: usize)
 {
     let at = ROWS + k * ROW_WORDS + v % ROW_WORDS;
     let w = word_at(scratch, at);
-    if v / ROW_WORDS % 2 == 0 {
-        scratch[at] = (w / HALF_WORD % HALF_WORD * HALF_WORD + i) as u32;
-        return;
-    }
-    scratch[at] = (i * HALF_WORD + w % HALF_WORD) as u32;
+    scratch[at] = with_half(v / ROW_WORDS % 2, w, i);
 }
 
 // A term into the class of number i, where there is room.

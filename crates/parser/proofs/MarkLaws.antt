@@ -11,40 +11,25 @@ use lib.Seq.{take-suc-set}
 use lib.Dec.{eqb, lit<, lit≤}
 use lib.Pow.{pow-add}
 use borrow.Author.Tests.{eq-eqb, ne-eqb}
-use Rattle.syntax.specs.Terms.{Mark, input, output, free, Declaration, sameName, mode-name}
-use Rattle.syntax.specs.Tokens.{spelling}
+use Rattle.syntax.specs.Limits.{sheetBytes, arguments}
+use Rattle.syntax.specs.Terms.{Mark, Declaration, sameName, mode-name}
+use Rattle.syntax.specs.Tokens.{spelling, nameKind, openKind, closeKind, commaKind, stopKind}
 use Rattle.syntax.specs.Reading.{Cursor, begin, standing, Read, fault, ok, andThen, next, wrong, wrongNumber, beyond, full, Sign, mark, noMark, signOf, isMark, readMarks, marksWith, marksAfter, marksOf, After, more, last, neither, afterOf, declarationOf, declarationEnd, declarationFrom, isMode, afterNeck, readDeclaration}
-use Rattle.syntax.specs.Words.{markNumber, marksNumber, declarationWords}
+use Rattle.syntax.specs.Words.{markNumber, signNumber, marksNumber, declarationWords, markNumbers, withMark, declarationSize}
+use Rattle.syntax.proofs.Words.{mark-some, mark-small as number-small}
 use Rattle.syntax.specs.declared.State.{State}
 use Rattle.reading.specs.Gives.{left, Standing, Moved, Faulted, Refused}
 use Rattle.reading.specs.declared.Parsed.{Parsed}
-use Rattle.reading.proofs.Laws.{length-spelling}
+use Rattle.texts.proofs.Laws.{length-spelling}
 use Rattle.reading.proofs.Reading.{three, wrong-positive}
 use Rattle.reading.proofs.Starts.{after-more, after-last, after-neither}
-use Rattle.parser.specs.Marks.{signNumber, Stopped, Marked, MarksGive, DeclarationGiven, DeclarationGives}
+use Rattle.parser.specs.Marks.{Stopped, Marked, MarksGive, DeclarationGiven, DeclarationGives}
 
 -- ---- the number of a mark
 
-pub sign-plus : (k : ℕ) → k ≡ 12 → 1 ≡ signNumber (signOf k)
-sign-plus k e = simp (eq-eqb k 12 e)
-
-pub sign-minus : (k : ℕ) → (k ≡ 12 → ⊥) → k ≡ 13 → 2 ≡ signNumber (signOf k)
-sign-minus k f e = simp (ne-eqb k 12 f, eq-eqb k 13 e)
-
-pub sign-star : (k : ℕ) → (k ≡ 12 → ⊥) → (k ≡ 13 → ⊥) → k ≡ 14 → 3 ≡ signNumber (signOf k)
-sign-star k f g e = simp (ne-eqb k 12 f, ne-eqb k 13 g, eq-eqb k 14 e)
-
-pub sign-none : (k : ℕ) → (k ≡ 12 → ⊥) → (k ≡ 13 → ⊥) → (k ≡ 14 → ⊥) → 0 ≡ signNumber (signOf k)
-sign-none k f g h = simp (ne-eqb k 12 f, ne-eqb k 13 g, ne-eqb k 14 h)
-
-mark-range : (m : Mark) → (0 < markNumber m) × (markNumber m < 4)
-mark-range input = (lit< tt, lit< tt)
-mark-range output = (lit< tt, lit< tt)
-mark-range free = (lit< tt, lit< tt)
-
 -- a number says which mark it is, if any
 no-sign : (x : Sign) → signNumber x ≡ 0 → x ≡ noMark
-no-sign (mark m) e = let r : (0 < markNumber m) × (markNumber m < 4) = mark-range m in absurd (omega (arith, e, r .0))
+no-sign (mark m) e = absurd (omega (arith, e, mark-some m))
 no-sign noMark e = refl
 
 some-sign : (x : Sign) → (signNumber x ≡ 0 → ⊥) → (m : Mark) × (x ≡ mark m) × (signNumber x ≡ markNumber m)
@@ -53,17 +38,17 @@ some-sign noMark z = absurd (z refl)
 
 -- ---- powers of four
 
-four-more : (k : ℕ) → (k ≡ 0 → ⊥) → 4 ^ k ≡ 4 * 4 ^ (k - 1)
-four-more k z = let d : k ≡ 1 + (k - 1) = omega (arith, z) in ap (λ (j : ℕ). 4 ^ j) d ∙ pow-add 4 1 (k - 1)
+four-more : (k : ℕ) → (k ≡ 0 → ⊥) → markNumbers ^ k ≡ markNumbers * markNumbers ^ (k - 1)
+four-more k z = let d : k ≡ 1 + (k - 1) = omega (arith, z) in ap (λ (j : ℕ). markNumbers ^ j) d ∙ pow-add markNumbers 1 (k - 1)
 
-four-least : (k : ℕ) → 1 ≤ 4 ^ k
+four-least : (k : ℕ) → 1 ≤ markNumbers ^ k
 four-least zero = lit≤ tt
-four-least (suc k) = let h : 1 ≤ 4 ^ k = four-least k in let e : 4 ^ suc k ≡ 4 * 4 ^ k = ap (λ (j : ℕ). 4 ^ j) (let d : suc k ≡ 1 + k = omega arith in d) ∙ pow-add 4 1 k in omega arith
+four-least (suc k) = let h : 1 ≤ markNumbers ^ k = four-least k in let e : markNumbers ^ suc k ≡ markNumbers * markNumbers ^ k = ap (λ (j : ℕ). markNumbers ^ j) (let d : suc k ≡ 1 + k = omega arith in d) ∙ pow-add markNumbers 1 k in omega arith
 
-four-most : (d k : ℕ) → k + d ≡ 8 → 4 ^ k ≤ 65536
-four-most d k e = let p : 4 ^ (k + d) ≡ 4 ^ k * 4 ^ d = pow-add 4 k d in let q : 4 ^ (k + d) ≡ 65536 = ap (λ (j : ℕ). 4 ^ j) e in times-le (4 ^ k) (4 ^ d) (sym p ∙ q) (four-least d)
+four-most : (d k : ℕ) → k + d ≡ arguments → markNumbers ^ k ≤ markNumbers ^ arguments
+four-most d k e = let p : markNumbers ^ (k + d) ≡ markNumbers ^ k * markNumbers ^ d = pow-add markNumbers k d in let q : markNumbers ^ (k + d) ≡ markNumbers ^ arguments = ap (λ (j : ℕ). markNumbers ^ j) e in times-le (markNumbers ^ k) (markNumbers ^ d) (sym p ∙ q) (four-least d)
   where
-    times-le : (a b : ℕ) → a * b ≡ 65536 → 1 ≤ b → a ≤ 65536
+    times-le : (a b : ℕ) → a * b ≡ markNumbers ^ arguments → 1 ≤ b → a ≤ markNumbers ^ arguments
     times-le a zero e h = absurd (omega arith)
     times-le a (suc b) e h = let x : a * suc b ≡ a * b + a = mul-suc a b in omega arith
 
@@ -94,8 +79,8 @@ module _ (s : List ℕ) (k : ℕ) (st : State) (m : ℕ) (em : m ≡ signNumber 
     mark-is : m ≡ markNumber (sign .0)
     mark-is = em ∙ sign .2
 
-    pub mark-small : m < 4
-    mark-small = subst⁻¹ (λ (x : ℕ). x < 4) mark-is (mark-range (sign .0) .1)
+    pub mark-small : m < markNumbers
+    mark-small = subst⁻¹ (λ (x : ℕ). x < markNumbers) mark-is (number-small (sign .0))
 
     pub marks-full : (r : Parsed) → k ≡ 0 → Refused st 6 r → MarksGive s st k r (readMarks s k (begin (st .token)))
     unfolding readMarks full beyond
@@ -105,59 +90,59 @@ module _ (s : List ℕ) (k : ℕ) (st : State) (m : ℕ) (em : m ≡ signNumber 
         (record { number-is = f .number-is; some = lit< tt; byte-is = ap (λ (y : State). y .token .at) (f .state-is) }))
 
     module _ (nz : k ≡ 0 → ⊥) (after : State) (stands : Standing s st) (mv : Moved s st after) where
-      behind : (x : After) → afterOf 8 (after .token .kind) ≡ x → readMarks s k (begin (st .token)) ≡ marksAfter (λ st1. readMarks s (k - 1) st1) s (sign .0) (begin (after .token)) x
+      behind : (x : After) → afterOf closeKind (after .token .kind) ≡ x → readMarks s k (begin (st .token)) ≡ marksAfter (λ st1. readMarks s (k - 1) st1) s (sign .0) (begin (after .token)) x
       unfolding readMarks marksWith
       behind x e =
           let d : k ≡ suc (k - 1) = omega (arith, nz) in
           ap (λ (j : ℕ). readMarks s j (begin (st .token))) d
           ∙ ap (marksWith (λ st1. readMarks s (k - 1) st1) s (begin (st .token))) (sign .1)
-          ∙ ap (λ (y : Cursor). marksAfter (λ st1. readMarks s (k - 1) st1) s (sign .0) y (afterOf 8 (y .token .kind))) (sym (next-begin mv))
+          ∙ ap (λ (y : Cursor). marksAfter (λ st1. readMarks s (k - 1) st1) s (sign .0) y (afterOf closeKind (y .token .kind))) (sym (next-begin mv))
           ∙ ap (marksAfter (λ st1. readMarks s (k - 1) st1) s (sign .0) (begin (after .token))) e
 
-      pub marks-wrong : (r : Parsed) → (after .token .kind ≡ 9 → ⊥) → (after .token .kind ≡ 8 → ⊥) → Refused after (wrongNumber (after .token .kind)) r → MarksGive s st k r (readMarks s k (begin (st .token)))
+      pub marks-wrong : (r : Parsed) → (after .token .kind ≡ commaKind → ⊥) → (after .token .kind ≡ closeKind → ⊥) → Refused after (wrongNumber (after .token .kind)) r → MarksGive s st k r (readMarks s k (begin (st .token)))
       unfolding marksAfter
-      marks-wrong r f e g = subst⁻¹ (MarksGive s st k r) (behind neither (after-neither 8 (after .token .kind) f e)) (stopped-wrong after r g)
+      marks-wrong r f e g = subst⁻¹ (MarksGive s st k r) (behind neither (after-neither closeKind (after .token .kind) f e)) (stopped-wrong after r g)
 
-      pub marks-last : (past : State) → (after .token .kind ≡ 9 → ⊥) → after .token .kind ≡ 8 → Moved s after past → MarksGive s st k (record { number = 0; used = m; items = 1; state = past }) (readMarks s k (begin (st .token)))
+      pub marks-last : (past : State) → (after .token .kind ≡ commaKind → ⊥) → after .token .kind ≡ closeKind → Moved s after past → MarksGive s st k (record { number = 0; used = m; items = 1; state = past }) (readMarks s k (begin (st .token)))
       unfolding marksAfter marksNumber
       marks-last past f e p =
-          let four : 4 ^ k ≡ 4 * 4 ^ (k - 1) = four-more k nz in
-          let least : 1 ≤ 4 ^ (k - 1) = four-least (k - 1) in
-          let small : m < 4 = mark-small in
+          let four : markNumbers ^ k ≡ markNumbers * markNumbers ^ (k - 1) = four-more k nz in
+          let least : 1 ≤ markNumbers ^ (k - 1) = four-least (k - 1) in
+          let small : m < markNumbers = mark-small in
           let is : m ≡ markNumber (sign .0) = mark-is in
           let a : st .token .at + st .token .len ≤ after .token .at = mv .forward in
           let b : after .token .at + after .token .len ≤ past .token .at = p .forward in
-          subst⁻¹ (MarksGive s st k (record { number = 0; used = m; items = 1; state = past })) (behind last (after-last 8 (after .token .kind) f e))
+          subst⁻¹ (MarksGive s st k (record { number = 0; used = m; items = 1; state = past })) (behind last (after-last closeKind (after .token .kind) f e))
           (subst (λ (y : Cursor). Marked s st k (record { number = 0; used = m; items = 1; state = past }) (sign .0 ∷ []) y) (next-begin p)
           (record { number-is = refl; state-is = refl; items-is = refl; used-is = omega arith; few = omega (arith, nz); small = omega arith; standing = p .standing; forward = omega arith }))
 
-      module _ (past : State) (q : Parsed) (eight : k ≤ 8) (comma : after .token .kind ≡ 9) (p : Moved s after past) (h : MarksGive s past (k - 1) q (readMarks s (k - 1) (begin (past .token)))) where
+      module _ (past : State) (q : Parsed) (eight : k ≤ arguments) (comma : after .token .kind ≡ commaKind) (p : Moved s after past) (h : MarksGive s past (k - 1) q (readMarks s (k - 1) (begin (past .token)))) where
         marks-small-by : (d : Read (List Mark)) → MarksGive s past (k - 1) q d → q .number ≡ 0 → (q .used < 2 ^ 20) × (q .items < 2 ^ 20)
         marks-small-by (fault f b) g e = let x : q .number ≡ f = g .number-is in let y : 0 < f = g .some in absurd (omega arith)
         marks-small-by (ok ms end) g e =
             let u : q .used ≡ marksNumber ms = g .used-is in
             let i : q .items ≡ length ms = g .items-is in
-            let s1 : marksNumber ms + 1 ≤ 4 ^ (k - 1) = g .small in
+            let s1 : marksNumber ms + 1 ≤ markNumbers ^ (k - 1) = g .small in
             let f : length ms ≤ k - 1 = g .few in
-            let most : 4 ^ (k - 1) ≤ 65536 = four-most (8 - (k - 1)) (k - 1) (omega arith) in
+            let most : markNumbers ^ (k - 1) ≤ markNumbers ^ arguments = four-most (arguments - (k - 1)) (k - 1) (omega arith) in
             (omega arith, omega arith)
 
         pub marks-small : q .number ≡ 0 → (q .used < 2 ^ 20) × (q .items < 2 ^ 20)
         marks-small e = marks-small-by (readMarks s (k - 1) (begin (past .token))) h e
 
-        more-by : (d : Read (List Mark)) (r : Parsed) → MarksGive s past (k - 1) q d → (r .number ≡ q .number) × ((r .state ≡ q .state) × (q .number ≡ 0 → (r .used ≡ m + 4 * q .used) × (r .items ≡ q .items + 1))) → MarksGive s st k r (andThen d (λ ms end. ok (sign .0 ∷ ms) end))
+        more-by : (d : Read (List Mark)) (r : Parsed) → MarksGive s past (k - 1) q d → (r .number ≡ q .number) × ((r .state ≡ q .state) × (q .number ≡ 0 → (r .used ≡ withMark m (q .used)) × (r .items ≡ q .items + 1))) → MarksGive s st k r (andThen d (λ ms end. ok (sign .0 ∷ ms) end))
         unfolding andThen marksNumber
         more-by (fault f b) r g e = record { number-is = e .0 ∙ g .number-is; some = g .some; byte-is = ap (λ (y : State). y .token .at) (e .1 .0) ∙ g .byte-is }
         more-by (ok ms end) r g e =
-            let o : (r .used ≡ m + 4 * q .used) × (r .items ≡ q .items + 1) = e .1 .1 (g .number-is) in
-            let used : r .used ≡ m + 4 * q .used = o .0 in
+            let o : (r .used ≡ withMark m (q .used)) × (r .items ≡ q .items + 1) = e .1 .1 (g .number-is) in
+            let used : r .used ≡ withMark m (q .used) = o .0 in
             let items : r .items ≡ q .items + 1 = o .1 in
             let u : q .used ≡ marksNumber ms = g .used-is in
             let i : q .items ≡ length ms = g .items-is in
-            let s1 : marksNumber ms + 1 ≤ 4 ^ (k - 1) = g .small in
+            let s1 : marksNumber ms + 1 ≤ markNumbers ^ (k - 1) = g .small in
             let f : length ms ≤ k - 1 = g .few in
-            let four : 4 ^ k ≡ 4 * 4 ^ (k - 1) = four-more k nz in
-            let small : m < 4 = mark-small in
+            let four : markNumbers ^ k ≡ markNumbers * markNumbers ^ (k - 1) = four-more k nz in
+            let small : m < markNumbers = mark-small in
             let is : m ≡ markNumber (sign .0) = mark-is in
             let a : st .token .at + st .token .len ≤ after .token .at = mv .forward in
             let b : after .token .at + after .token .len ≤ past .token .at = p .forward in
@@ -173,29 +158,29 @@ module _ (s : List ℕ) (k : ℕ) (st : State) (m : ℕ) (em : m ≡ signNumber 
               forward = subst⁻¹ (λ (y : State). st .token .at ≤ y .token .at) (e .1 .0) (omega arith);
             }
 
-        pub marks-more : (r : Parsed) → (r .number ≡ q .number) × ((r .state ≡ q .state) × (q .number ≡ 0 → (r .used ≡ m + 4 * q .used) × (r .items ≡ q .items + 1))) → MarksGive s st k r (readMarks s k (begin (st .token)))
+        pub marks-more : (r : Parsed) → (r .number ≡ q .number) × ((r .state ≡ q .state) × (q .number ≡ 0 → (r .used ≡ withMark m (q .used)) × (r .items ≡ q .items + 1))) → MarksGive s st k r (readMarks s k (begin (st .token)))
         unfolding marksAfter
-        marks-more r e = subst⁻¹ (MarksGive s st k r) (behind more (after-more 8 (after .token .kind) comma) ∙ ap (λ (y : Cursor). andThen (readMarks s (k - 1) y) (λ ms end. ok (sign .0 ∷ ms) end)) (sym (next-begin p))) (more-by (readMarks s (k - 1) (begin (past .token))) r h e)
+        marks-more r e = subst⁻¹ (MarksGive s st k r) (behind more (after-more closeKind (after .token .kind) comma) ∙ ap (λ (y : Cursor). andThen (readMarks s (k - 1) y) (λ ms end. ok (sign .0 ∷ ms) end)) (sym (next-begin p))) (more-by (readMarks s (k - 1) (begin (past .token))) r h e)
 
 -- ---- the marks behind a name, or none
 
-some-by : (s : List ℕ) (st inner : State) (r : Parsed) (d : Read (List Mark)) → Moved s st inner → MarksGive s inner 8 r d → MarksGive s st 8 r d
+some-by : (s : List ℕ) (st inner : State) (r : Parsed) (d : Read (List Mark)) → Moved s st inner → MarksGive s inner arguments r d → MarksGive s st arguments r d
 some-by s st inner r (fault f b) m g = g
 some-by s st inner r (ok ms after) m g =
     let a : st .token .at + st .token .len ≤ inner .token .at = m .forward in
     let b : inner .token .at ≤ r .state .token .at = g .forward in
     record { number-is = g .number-is; state-is = g .state-is; items-is = g .items-is; used-is = g .used-is; few = g .few; small = g .small; standing = g .standing; forward = omega arith }
 
-pub some-open : (s : List ℕ) (st inner : State) (r : Parsed) → st .token .kind ≡ 7 → Moved s st inner → MarksGive s inner 8 r (readMarks s 8 (begin (inner .token))) → MarksGive s st 8 r (marksOf s (begin (st .token)) (eqb (st .token .kind) 7))
+pub some-open : (s : List ℕ) (st inner : State) (r : Parsed) → st .token .kind ≡ openKind → Moved s st inner → MarksGive s inner arguments r (readMarks s arguments (begin (inner .token))) → MarksGive s st arguments r (marksOf s (begin (st .token)) (eqb (st .token .kind) openKind))
 unfolding marksOf
 some-open s st inner r e m g =
-    subst⁻¹ (λ (b : Bool). MarksGive s st 8 r (marksOf s (begin (st .token)) b)) (eq-eqb (st .token .kind) 7 e)
-    (subst (λ (y : Cursor). MarksGive s st 8 r (readMarks s 8 y)) (next-begin m) (some-by s st inner r (readMarks s 8 (begin (inner .token))) m g))
+    subst⁻¹ (λ (b : Bool). MarksGive s st arguments r (marksOf s (begin (st .token)) b)) (eq-eqb (st .token .kind) openKind e)
+    (subst (λ (y : Cursor). MarksGive s st arguments r (readMarks s arguments y)) (next-begin m) (some-by s st inner r (readMarks s arguments (begin (inner .token))) m g))
 
-pub some-none : (s : List ℕ) (st : State) → Standing s st → (st .token .kind ≡ 7 → ⊥) → MarksGive s st 8 (record { number = 0; used = 0; items = 0; state = st }) (marksOf s (begin (st .token)) (eqb (st .token .kind) 7))
+pub some-none : (s : List ℕ) (st : State) → Standing s st → (st .token .kind ≡ openKind → ⊥) → MarksGive s st arguments (record { number = 0; used = 0; items = 0; state = st }) (marksOf s (begin (st .token)) (eqb (st .token .kind) openKind))
 unfolding marksOf marksNumber
 some-none s st h e =
-    subst⁻¹ (λ (b : Bool). MarksGive s st 8 (record { number = 0; used = 0; items = 0; state = st }) (marksOf s (begin (st .token)) b)) (ne-eqb (st .token .kind) 7 e)
+    subst⁻¹ (λ (b : Bool). MarksGive s st arguments (record { number = 0; used = 0; items = 0; state = st }) (marksOf s (begin (st .token)) b)) (ne-eqb (st .token .kind) openKind e)
     (record { number-is = refl; state-is = refl; items-is = refl; used-is = refl; few = lit≤ tt; small = lit≤ tt; standing = h; forward = omega arith })
 
 -- ---- declarations
@@ -215,60 +200,60 @@ unfolding wrong
 declaration-refused s from st entry n r f = record { number-is = f .number-is; some = wrong-positive (st .token .kind); byte-is = ap (λ (x : State). x .token .at) (f .state-is); kept = refl }
 
 module _ (s : List ℕ) (st : State) (entry : List ℕ) (n : ℕ) (stands : Standing s st) where
-  pub declared-wrong : (r : Parsed) → (st .token .kind ≡ 3 → ⊥) → Refused st (wrongNumber (st .token .kind)) r → DeclarationGives s st entry entry n r (declarationFrom s (begin (st .token)) (eqb (st .token .kind) 3))
+  pub declared-wrong : (r : Parsed) → (st .token .kind ≡ nameKind → ⊥) → Refused st (wrongNumber (st .token .kind)) r → DeclarationGives s st entry entry n r (declarationFrom s (begin (st .token)) (eqb (st .token .kind) nameKind))
   unfolding declarationFrom
-  declared-wrong r e f = subst⁻¹ (λ (b : Bool). DeclarationGives s st entry entry n r (declarationFrom s (begin (st .token)) b)) (ne-eqb (st .token .kind) 3 e) (declaration-refused s st st entry n r f)
+  declared-wrong r e f = subst⁻¹ (λ (b : Bool). DeclarationGives s st entry entry n r (declarationFrom s (begin (st .token)) b)) (ne-eqb (st .token .kind) nameKind e) (declaration-refused s st st entry n r f)
 
-  module _ (past : State) (r : Parsed) (name : st .token .kind ≡ 3) (m : Moved s st past) (g : MarksGive s past 8 r (marksOf s (begin (past .token)) (eqb (past .token .kind) 7))) where
+  module _ (past : State) (r : Parsed) (name : st .token .kind ≡ nameKind) (m : Moved s st past) (g : MarksGive s past arguments r (marksOf s (begin (past .token)) (eqb (past .token .kind) openKind))) where
     abbrev ended : List Mark → Cursor → Read Declaration
-    ended ms after = declarationEnd s (declarationOf s (begin (st .token)) ms) after (eqb (after .token .kind) 10)
+    ended ms after = declarationEnd s (declarationOf s (begin (st .token)) ms) after (eqb (after .token .kind) stopKind)
 
-    whole : declarationFrom s (begin (st .token)) (eqb (st .token .kind) 3) ≡ andThen (marksOf s (begin (past .token)) (eqb (past .token .kind) 7)) ended
+    whole : declarationFrom s (begin (st .token)) (eqb (st .token .kind) nameKind) ≡ andThen (marksOf s (begin (past .token)) (eqb (past .token .kind) openKind)) ended
     unfolding declarationFrom
-    whole = ap (declarationFrom s (begin (st .token))) (eq-eqb (st .token .kind) 3 name) ∙ ap (λ (y : Cursor). andThen (marksOf s y (eqb (y .token .kind) 7)) ended) (sym (next-begin m))
+    whole = ap (declarationFrom s (begin (st .token))) (eq-eqb (st .token .kind) nameKind name) ∙ ap (λ (y : Cursor). andThen (marksOf s y (eqb (y .token .kind) openKind)) ended) (sym (next-begin m))
 
-    fault-by : (d : Read (List Mark)) → MarksGive s past 8 r d → (r .number ≡ 0 → ⊥) → DeclarationGives s st entry entry n r (andThen d ended)
+    fault-by : (d : Read (List Mark)) → MarksGive s past arguments r d → (r .number ≡ 0 → ⊥) → DeclarationGives s st entry entry n r (andThen d ended)
     unfolding andThen
     fault-by (fault k b) h z = record { number-is = h .number-is; some = h .some; byte-is = h .byte-is; kept = refl }
     fault-by (ok ms after) h z = absurd (z (h .number-is))
 
-    pub declared-fault : (r .number ≡ 0 → ⊥) → DeclarationGives s st entry entry n r (declarationFrom s (begin (st .token)) (eqb (st .token .kind) 3))
-    declared-fault z = subst⁻¹ (DeclarationGives s st entry entry n r) whole (fault-by (marksOf s (begin (past .token)) (eqb (past .token .kind) 7)) g z)
+    pub declared-fault : (r .number ≡ 0 → ⊥) → DeclarationGives s st entry entry n r (declarationFrom s (begin (st .token)) (eqb (st .token .kind) nameKind))
+    declared-fault z = subst⁻¹ (DeclarationGives s st entry entry n r) whole (fault-by (marksOf s (begin (past .token)) (eqb (past .token .kind) openKind)) g z)
 
     module _ (z : r .number ≡ 0) where
-      read-by : (d : Read (List Mark)) → MarksGive s past 8 r d → (ms : List Mark) × (d ≡ ok ms (begin (r .state .token))) × Marked s past 8 r ms (begin (r .state .token))
+      read-by : (d : Read (List Mark)) → MarksGive s past arguments r d → (ms : List Mark) × (d ≡ ok ms (begin (r .state .token))) × Marked s past arguments r ms (begin (r .state .token))
       read-by (fault k b) h = let x : r .number ≡ k = h .number-is in let y : 0 < k = h .some in absurd (omega arith)
-      read-by (ok ms after) h = (ms, ap (ok ms) (sym (h .state-is)), subst⁻¹ (Marked s past 8 r ms) (h .state-is) h)
+      read-by (ok ms after) h = (ms, ap (ok ms) (sym (h .state-is)), subst⁻¹ (Marked s past arguments r ms) (h .state-is) h)
 
-      read : (ms : List Mark) × (marksOf s (begin (past .token)) (eqb (past .token .kind) 7) ≡ ok ms (begin (r .state .token))) × Marked s past 8 r ms (begin (r .state .token))
-      read = read-by (marksOf s (begin (past .token)) (eqb (past .token .kind) 7)) g
+      read : (ms : List Mark) × (marksOf s (begin (past .token)) (eqb (past .token .kind) openKind) ≡ ok ms (begin (r .state .token))) × Marked s past arguments r ms (begin (r .state .token))
+      read = read-by (marksOf s (begin (past .token)) (eqb (past .token .kind) openKind)) g
 
       pub declared-standing : Standing s (r .state)
       declared-standing = read .2 .standing
 
-      by-stop : (b : Bool) → eqb (r .state .token .kind) 10 ≡ b → declarationFrom s (begin (st .token)) (eqb (st .token .kind) 3) ≡ declarationEnd s (declarationOf s (begin (st .token)) (read .0)) (begin (r .state .token)) b
+      by-stop : (b : Bool) → eqb (r .state .token .kind) stopKind ≡ b → declarationFrom s (begin (st .token)) (eqb (st .token .kind) nameKind) ≡ declarationEnd s (declarationOf s (begin (st .token)) (read .0)) (begin (r .state .token)) b
       unfolding andThen
       by-stop b e = whole ∙ ap (λ (d : Read (List Mark)). andThen d ended) (read .1) ∙ ap (declarationEnd s (declarationOf s (begin (st .token)) (read .0)) (begin (r .state .token))) e
 
-      pub declared-stop : (q : Parsed) → (r .state .token .kind ≡ 10 → ⊥) → Refused (r .state) (wrongNumber (r .state .token .kind)) q → DeclarationGives s st entry entry n q (declarationFrom s (begin (st .token)) (eqb (st .token .kind) 3))
+      pub declared-stop : (q : Parsed) → (r .state .token .kind ≡ stopKind → ⊥) → Refused (r .state) (wrongNumber (r .state .token .kind)) q → DeclarationGives s st entry entry n q (declarationFrom s (begin (st .token)) (eqb (st .token .kind) nameKind))
       unfolding declarationEnd
-      declared-stop q e f = subst⁻¹ (DeclarationGives s st entry entry n q) (by-stop false (ne-eqb (r .state .token .kind) 10 e)) (declaration-refused s st (r .state) entry n q f)
+      declared-stop q e f = subst⁻¹ (DeclarationGives s st entry entry n q) (by-stop false (ne-eqb (r .state .token .kind) stopKind e)) (declaration-refused s st (r .state) entry n q f)
 
-      pub declared-asked : n + 4 ≤ length entry → ((n + 3 ≤ length entry) × ((st .token .at < 2 ^ 32) × ((st .token .len < 2 ^ 32) × (r .items < 2 ^ 32)))) × (r .used < 2 ^ 32)
+      pub declared-asked : n + declarationSize ≤ length entry → ((n + 3 ≤ length entry) × ((st .token .at < 2 ^ 32) × ((st .token .len < 2 ^ 32) × (r .items < 2 ^ 32)))) × (r .used < 2 ^ 32)
       declared-asked h =
           let inside : st .token .at + st .token .len ≤ length s = stands .inside in
-          let short : length s ≤ 16384 = stands .short in
+          let short : length s ≤ sheetBytes = stands .short in
           let u : r .used ≡ marksNumber (read .0) = read .2 .used-is in
           let i : r .items ≡ length (read .0) = read .2 .items-is in
-          let few : length (read .0) ≤ 8 = read .2 .few in
-          let small : marksNumber (read .0) + 1 ≤ 4 ^ 8 = read .2 .small in
+          let few : length (read .0) ≤ arguments = read .2 .few in
+          let small : marksNumber (read .0) + 1 ≤ markNumbers ^ arguments = read .2 .small in
           ((omega arith, (omega arith, (omega arith, omega arith))), omega arith)
 
-      pub declared-end : (end : State) (mid exit : List ℕ) → n + 4 ≤ length entry → r .state .token .kind ≡ 10 → Moved s (r .state) end → mid ≡ set (set (set entry n (st .token .at)) (n + 1) (st .token .len)) (n + 2) (r .items) → exit ≡ set mid (n + 3) (r .used) → DeclarationGives s st entry exit n (record { number = 0; used = n + 4; items = 1; state = end }) (declarationFrom s (begin (st .token)) (eqb (st .token .kind) 3))
+      pub declared-end : (end : State) (mid exit : List ℕ) → n + declarationSize ≤ length entry → r .state .token .kind ≡ stopKind → Moved s (r .state) end → mid ≡ set (set (set entry n (st .token .at)) (n + 1) (st .token .len)) (n + 2) (r .items) → exit ≡ set mid (n + 3) (r .used) → DeclarationGives s st entry exit n (record { number = 0; used = n + declarationSize; items = 1; state = end }) (declarationFrom s (begin (st .token)) (eqb (st .token .kind) nameKind))
       unfolding declarationEnd declarationWords
       declared-end end mid exit h e p em ex =
-          let a : 0 < st .token .len = stands .some (λ x. let e3 : st .token .kind ≡ 3 = name in omega arith) in
-          let b : 0 < r .state .token .len = read .2 .standing .some (λ x. let e10 : r .state .token .kind ≡ 10 = e in omega arith) in
+          let a : 0 < st .token .len = stands .some (λ x. let e3 : st .token .kind ≡ nameKind = name in omega arith) in
+          let b : 0 < r .state .token .len = read .2 .standing .some (λ x. let e10 : r .state .token .kind ≡ stopKind = e in omega arith) in
           let f1 : st .token .at + st .token .len ≤ past .token .at = m .forward in
           let f2 : past .token .at ≤ r .state .token .at = read .2 .forward in
           let f3 : r .state .token .at + r .state .token .len ≤ end .token .at = p .forward in
@@ -276,11 +261,11 @@ module _ (s : List ℕ) (st : State) (entry : List ℕ) (n : ℕ) (stands : Stan
           let lens : length (spelling s (st .token .at) (st .token .len)) ≡ st .token .len = length-spelling s (st .token .at) (st .token .len) (stands .inside) in
           let stored : exit ≡ set (set (set (set entry n (st .token .at)) (n + 1) (length (spelling s (st .token .at) (st .token .len)))) (n + 2) (length (read .0))) (n + 3) (marksNumber (read .0)) =
           ex ∙ ap₂ (λ (x : List ℕ) (u : ℕ). set x (n + 3) u) em (read .2 .used-is) ∙ ap₂ (λ (x i : ℕ). set (set (set (set entry n (st .token .at)) (n + 1) x) (n + 2) i) (n + 3) (marksNumber (read .0))) (sym lens) (read .2 .items-is) in
-          subst⁻¹ (DeclarationGives s st entry exit n (record { number = 0; used = n + 4; items = 1; state = end })) (by-stop true (eq-eqb (r .state .token .kind) 10 e))
+          subst⁻¹ (DeclarationGives s st entry exit n (record { number = 0; used = n + declarationSize; items = 1; state = end })) (by-stop true (eq-eqb (r .state .token .kind) stopKind e))
           (record {
             number-is = refl;
             state-is = next-begin p;
-            table-is = ap (take (n + 4)) stored ∙ four entry n (st .token .at) (length (spelling s (st .token .at) (st .token .len))) (length (read .0)) (marksNumber (read .0)) h;
+            table-is = ap (take (n + declarationSize)) stored ∙ four entry n (st .token .at) (length (spelling s (st .token .at) (st .token .len))) (length (read .0)) (marksNumber (read .0)) h;
             standing = p .standing;
             less = omega arith;
           })
@@ -291,14 +276,14 @@ module _ (s : List ℕ) (st past : State) (entry : List ℕ) (n : ℕ) (m : Move
   unfolding readDeclaration
   by-mode b e = ap (λ (y : Cursor). afterNeck s y (isMode s y)) (sym (next-begin m)) ∙ ap (afterNeck s (begin (past .token))) e
 
-  pub declaration-wrong : (r : Parsed) → (past .token .kind ≡ 3 → ⊥) → Refused past (wrongNumber (past .token .kind)) r → DeclarationGives s st entry entry n r (readDeclaration s (begin (st .token)))
+  pub declaration-wrong : (r : Parsed) → (past .token .kind ≡ nameKind → ⊥) → Refused past (wrongNumber (past .token .kind)) r → DeclarationGives s st entry entry n r (readDeclaration s (begin (st .token)))
   unfolding afterNeck isMode
-  declaration-wrong r e f = subst⁻¹ (DeclarationGives s st entry entry n r) (by-mode false (simp (ne-eqb (past .token .kind) 3 e))) (declaration-refused s st past entry n r f)
+  declaration-wrong r e f = subst⁻¹ (DeclarationGives s st entry entry n r) (by-mode false (simp (ne-eqb (past .token .kind) nameKind e))) (declaration-refused s st past entry n r f)
 
-  module _ (name : past .token .kind ≡ 3) (b : Bool) (eb : b ≡ sameName (spelling s (past .token .at) (past .token .len)) mode-name) where
+  module _ (name : past .token .kind ≡ nameKind) (b : Bool) (eb : b ≡ sameName (spelling s (past .token .at) (past .token .len)) mode-name) where
     pub declaration-other : (r : Parsed) → b ≡ false → Refused past (wrongNumber (past .token .kind)) r → DeclarationGives s st entry entry n r (readDeclaration s (begin (st .token)))
     unfolding afterNeck isMode
-    declaration-other r e f = subst⁻¹ (DeclarationGives s st entry entry n r) (by-mode false (simp (eq-eqb (past .token .kind) 3 name, sym eb ∙ e))) (declaration-refused s st past entry n r f)
+    declaration-other r e f = subst⁻¹ (DeclarationGives s st entry entry n r) (by-mode false (simp (eq-eqb (past .token .kind) nameKind name, sym eb ∙ e))) (declaration-refused s st past entry n r f)
 
     further : (behind : State) (exit : List ℕ) (r : Parsed) (d : Read Declaration) → Moved s past behind → DeclarationGives s behind entry exit n r d → DeclarationGives s st entry exit n r d
     further behind exit r (fault k x) p g = g
@@ -308,8 +293,8 @@ module _ (s : List ℕ) (st past : State) (entry : List ℕ) (n : ℕ) (m : Move
         let less : left s (r .state) < left s behind = g .less in
         record { number-is = g .number-is; state-is = g .state-is; table-is = g .table-is; standing = g .standing; less = omega arith }
 
-    pub declaration-mode : (behind : State) (exit : List ℕ) (r : Parsed) → b ≡ true → Moved s past behind → DeclarationGives s behind entry exit n r (declarationFrom s (begin (behind .token)) (eqb (behind .token .kind) 3)) → DeclarationGives s st entry exit n r (readDeclaration s (begin (st .token)))
+    pub declaration-mode : (behind : State) (exit : List ℕ) (r : Parsed) → b ≡ true → Moved s past behind → DeclarationGives s behind entry exit n r (declarationFrom s (begin (behind .token)) (eqb (behind .token .kind) nameKind)) → DeclarationGives s st entry exit n r (readDeclaration s (begin (st .token)))
     unfolding afterNeck isMode
     declaration-mode behind exit r e p g =
-        subst⁻¹ (DeclarationGives s st entry exit n r) (by-mode true (simp (eq-eqb (past .token .kind) 3 name, sym eb ∙ e)) ∙ ap (λ (y : Cursor). declarationFrom s y (eqb (y .token .kind) 3)) (sym (next-begin p)))
-        (further behind exit r (declarationFrom s (begin (behind .token)) (eqb (behind .token .kind) 3)) p g)
+        subst⁻¹ (DeclarationGives s st entry exit n r) (by-mode true (simp (eq-eqb (past .token .kind) nameKind name, sym eb ∙ e)) ∙ ap (λ (y : Cursor). declarationFrom s y (eqb (y .token .kind) nameKind)) (sym (next-begin p)))
+        (further behind exit r (declarationFrom s (begin (behind .token)) (eqb (behind .token .kind) nameKind)) p g)

@@ -4,16 +4,11 @@ use mathlib.Core.Path.{_≡_}
 use mathlib.Core.List.{List, _++_}
 use lib.ListN.{length, take}
 use Rattle.syntax.specs.Terms.{Mark, Declaration}
-use Rattle.syntax.specs.Reading.{Cursor, begin, Read, fault, ok, Sign, mark, noMark}
-use Rattle.syntax.specs.Words.{markNumbers, markNumber, marksNumber, declarationWords, declarationSize}
+use Rattle.syntax.specs.Reading.{Cursor, begin, Read, fault, ok}
+use Rattle.syntax.specs.Words.{markNumbers, marksNumber, declarationWords, declarationSize}
 use Rattle.syntax.specs.declared.State.{State}
 use Rattle.reading.specs.Gives.{Standing, Faulted, left}
 use Rattle.reading.specs.declared.Parsed.{Parsed}
-
--- a mark's number, 0 for none
-abbrev pub signNumber : Sign → ℕ
-signNumber (mark m) = markNumber m
-signNumber noMark = 0
 
 -- the fault's number and byte
 pub record Stopped (r : Parsed) (k b : ℕ) : Type 0 where

@@ -1,6 +1,5 @@
 // Declarations into their table.
 use reading::Parsed;
-use reading::cursor::is_mode;
 use reading::cursor::next;
 use reading::cursor::put;
 use reading::cursor::put_node;
@@ -10,44 +9,24 @@ use syntax::ARGUMENTS;
 use syntax::CLOSE;
 use syntax::COMMA;
 use syntax::DECLARATION_SIZE;
-use syntax::FREE;
-use syntax::INPUT;
-use syntax::MARK_NUMBERS;
-use syntax::MINUS;
 use syntax::NAME;
 use syntax::NODE_WORDS;
 use syntax::OPEN;
-use syntax::OUTPUT;
-use syntax::PLUS;
-use syntax::STAR;
 use syntax::STOP;
 use syntax::State;
+use syntax::mark_number;
+use syntax::pack_mark;
+use texts::is_mode;
 ghost use mathlib.Core.Path.{_≡_};
 ghost use Prim.Native.Nat.{_+_, _*_, _≤_, _<_, _^_};
 ghost use lib.ListN.{length};
 ghost use lib.Dec.{eqb};
 ghost use Rattle.syntax.specs.Limits.{arguments};
 ghost use Rattle.syntax.specs.Tokens.{nameKind, openKind};
-ghost use Rattle.syntax.specs.Words.{markNumbers, declarationSize};
-ghost use Rattle.syntax.specs.Reading.{begin, signOf, readMarks, marksOf, declarationFrom, readDeclaration};
+ghost use Rattle.syntax.specs.Words.{markNumbers, withMark, declarationSize};
+ghost use Rattle.syntax.specs.Reading.{begin, readMarks, marksOf, declarationFrom, readDeclaration};
 ghost use Rattle.reading.specs.Gives.{Standing};
-ghost use Rattle.parser.specs.Marks.{signNumber, MarksGive, DeclarationGives};
-
-// The number of a mark, 0 for none.
-fn mark_number(kind: usize) -> usize
-    ensures { λ r. ⌜ r ≡ signNumber (signOf kind) ⌝ }
-{
-    if kind == PLUS {
-        return INPUT;
-    }
-    if kind == MINUS {
-        return OUTPUT;
-    }
-    if kind == STAR {
-        return FREE;
-    }
-    0
-}
+ghost use Rattle.parser.specs.Marks.{MarksGive, DeclarationGives};
 
 // A list of marks after its opening bracket, at most k: `used` is their number, the first mark lowest.
 fn read_marks(s: &[u8], k: usize, st: State) -> Parsed
@@ -88,12 +67,12 @@ fn read_marks(s: &[u8], k: usize, st: State) -> Parsed
 fn marked(m: usize, more: Parsed) -> Parsed
     requires { ⌜ (more .number ≡ 0 → (more .used < 2 ^ 20) × (more .items < 2 ^ 20)) ⌝ }
     requires { ⌜ m < markNumbers ⌝ }
-    ensures { λ r. ⌜ (r .number ≡ more .number) × ((r .state ≡ more .state) × (more .number ≡ 0 → (r .used ≡ m + markNumbers * more .used) × (r .items ≡ more .items + 1))) ⌝ }
+    ensures { λ r. ⌜ (r .number ≡ more .number) × ((r .state ≡ more .state) × (more .number ≡ 0 → (r .used ≡ withMark m (more .used)) × (r .items ≡ more .items + 1))) ⌝ }
 {
     if more.number != 0 {
         return more;
     }
-    let used = m + MARK_NUMBERS * more.used;
+    let used = pack_mark(m, more.used);
     let items = more.items + 1;
     let state = more.state;
     Parsed {

@@ -11,7 +11,7 @@ use lib.ListN.{length, getD, set, take, drop, length-take, length-drop, length-s
 use lib.Seq.{take-suc-set, take-set-le}
 use lib.Dec.{eqb, lit<}
 use borrow.Author.Tests.{eq-eqb, ne-eqb, lt-ltb, le-ltb}
-use Rattle.syntax.specs.Tokens.{tokenAt, spelling, variableKind, endKind}
+use Rattle.syntax.specs.Tokens.{tokenAt, spelling, variableKind, endKind, overlongKind}
 use Rattle.syntax.specs.Limits.{sheetBytes, wordBytes, lengths, variables}
 use Rattle.syntax.specs.Spans.{packed, spanned, Inside, namesFrom, met, Held}
 use Rattle.syntax.proofs.Spans.{packed-inside, packed-spelt, names-length, names-new, held-new, met-three, met-new, met-length}
@@ -66,14 +66,6 @@ past-ready {s} {st} {past} {table} {n} {spare} ready m =
     record { standing = m .standing; held = held-of m (ready .held); room = omega arith; small = ready .small }
 
 -- ---- the number of a variable
-
-pub anonymous-long : (s : List ℕ) (t : Token) → (t .len ≡ 1 → ⊥) → false ≡ isAnonymous s t
-unfolding isAnonymous
-anonymous-long s t n = simp (ne-eqb (t .len) 1 n)
-
-pub anonymous-one : (s : List ℕ) (t : Token) (b : ℕ) → t .len ≡ 1 → b ≡ getD s (t .at) 0 → eqb b 95 ≡ isAnonymous s t
-unfolding isAnonymous
-anonymous-one s t b e eb = simp (eq-eqb (t .len) 1 e, ← eb)
 
 -- a word of the last ones
 getD-drop : (k : ℕ) (l : List ℕ) (i : ℕ) → getD l (k + i) 0 ≡ getD (drop k l) i 0
@@ -140,30 +132,30 @@ three l n a b c h =
     e2 : n + 2 ≡ suc (n + 1)
     e2 = omega arith
 
-pub leaf-given : (s : List ℕ) (st : State) (entry exit : List ℕ) (n what b : ℕ) (after : State) → Ready s st entry n 0 → (st .token .kind ≡ 16 → ⊥) → exit ≡ set (set (set entry n what) (n + 1) 3) (n + 2) b → Moved s st after → Given s st entry exit n (record { number = 0; used = n + 3; items = 1; state = after }) (what ∷ 3 ∷ b ∷ []) 1 (next s (cursorOf s entry st))
+pub leaf-given : (s : List ℕ) (st : State) (entry exit : List ℕ) (n what b : ℕ) (after : State) → Ready s st entry n 0 → (st .token .kind ≡ endKind → ⊥) → exit ≡ set (set (set entry n what) (n + 1) nodeWords) (n + 2) b → Moved s st after → Given s st entry exit n (record { number = 0; used = n + nodeWords; items = 1; state = after }) (what ∷ nodeWords ∷ b ∷ []) 1 (next s (cursorOf s entry st))
 leaf-given s st entry exit n what b after ready k e m =
     let some : 0 < st .token .len = ready .standing .some k in
     let inside : st .token .at + st .token .len ≤ length s = ready .standing .inside in
     let room : n + nodeWords * left s st + 0 + variables ≤ length entry = ready .room in
     let forward : st .token .at + st .token .len ≤ after .token .at = m .forward in
-    let kept : met exit ≡ met entry = ap met e ∙ met-three entry n what 3 b (omega arith) in
+    let kept : met exit ≡ met entry = ap met e ∙ met-three entry n what nodeWords b (omega arith) in
     record {
       number-is = refl;
       state-is = cursor-kept s entry exit after kept ∙ next-of entry m;
       items-is = refl;
       used-is = refl;
-      table-is = ap (take (n + 3)) e ∙ three entry n what 3 b (omega arith);
+      table-is = ap (take (n + nodeWords)) e ∙ three entry n what nodeWords b (omega arith);
       standing = m .standing;
       held = held-kept kept (held-of m (ready .held));
       room = omega arith;
     }
 
 -- a token's node has room, and its place fits a word
-pub node-room : (s : List ℕ) (st : State) (table : List ℕ) (n : ℕ) → Ready s st table n 0 → (st .token .kind ≡ 16 → ⊥) → (n + 3 ≤ length table) × (st .token .at < 2 ^ 32)
+pub node-room : (s : List ℕ) (st : State) (table : List ℕ) (n : ℕ) → Ready s st table n 0 → (st .token .kind ≡ endKind → ⊥) → (n + nodeWords ≤ length table) × (st .token .at < 2 ^ 32)
 node-room s st table n ready k =
     let some : 0 < st .token .len = ready .standing .some k in
     let inside : st .token .at + st .token .len ≤ length s = ready .standing .inside in
-    let short : length s ≤ 16384 = ready .standing .short in
+    let short : length s ≤ sheetBytes = ready .standing .short in
     let room : n + nodeWords * left s st + 0 + variables ≤ length table = ready .room in
     omega arith
 
@@ -175,7 +167,7 @@ refused-beyond words items s from st entry exit n r names f k = record { number-
 
 pub wrong-positive : (k : ℕ) → 0 < wrongNumber k
 unfolding wrongNumber
-wrong-positive k = by-cases (eqb k 0) (eqb k 15)
+wrong-positive k = by-cases (eqb k 0) (eqb k overlongKind)
   where
     by-cases : (a b : Bool) → 0 < cond a 3 (cond b 4 5)
     by-cases true b = lit< tt
@@ -243,16 +235,16 @@ module _ (s : List ℕ) (st new : State) (entry mid : List ℕ) (n : ℕ) (e : n
       ∙ names-new s (met entry) (st .count) (packed (st .token .at) (st .token .len)) count-in
       ∙ ap (λ (x : List ℕ). namesFrom s (met entry) 0 (st .count) ++ (x ∷ [])) (packed-spelt s (st .token .at) (st .token .len) (omega arith)))
 
-  pub new-given : (exit : List ℕ) (r : Parsed) → Given s new mid exit n r ((st .count) ∷ 3 ∷ (new .token .at) ∷ []) 1 (next s (cursorOf s mid new)) → Gives termWords one s st entry exit n r (newVariable s (cursorOf s entry st))
+  pub new-given : (exit : List ℕ) (r : Parsed) → Given s new mid exit n r ((st .count) ∷ nodeWords ∷ (new .token .at) ∷ []) 1 (next s (cursorOf s mid new)) → Gives termWords one s st entry exit n r (newVariable s (cursorOf s entry st))
   unfolding termWords
   new-given exit r g =
       let room : n + nodeWords * left s st + 0 + variables ≤ length entry = table-room in
       let c : Cursor = cursorOf s entry st in
       let count : length (namesFrom s (met entry) 0 (st .count)) ≡ st .count = names-length s (met entry) 0 (st .count) in
       let token : new .token ≡ st .token = ap (λ (x : State). x .token) e in
-      let words : (st .count) ∷ 3 ∷ (new .token .at) ∷ [] ≡ length (namesFrom s (met entry) 0 (st .count)) ∷ 3 ∷ (st .token .at) ∷ [] = ap₂ (λ (x : ℕ) (t : Token). x ∷ 3 ∷ (t .at) ∷ []) (sym count) token in
+      let words : (st .count) ∷ nodeWords ∷ (new .token .at) ∷ [] ≡ length (namesFrom s (met entry) 0 (st .count)) ∷ nodeWords ∷ (st .token .at) ∷ [] = ap₂ (λ (x : ℕ) (t : Token). x ∷ nodeWords ∷ (t .at) ∷ []) (sym count) token in
       let front : take n mid ≡ take n entry = ap (take n) em ∙ take-set-le n entry (length entry - variables + st .count) (packed (st .token .at) (st .token .len)) (omega arith) in
-      let room′ : 3 + nodeWords * left s (r .state) + 1 ≤ nodeWords * (length s - st .token .at) + 1 = subst (λ (t : Token). 3 + nodeWords * left s (r .state) + 1 ≤ nodeWords * (length s - t .at) + 1) token (g .room) in
+      let room′ : nodeWords + nodeWords * left s (r .state) + 1 ≤ nodeWords * (length s - st .token .at) + 1 = subst (λ (t : Token). nodeWords + nodeWords * left s (r .state) + 1 ≤ nodeWords * (length s - t .at) + 1) token (g .room) in
       subst⁻¹ (Gives termWords one s st entry exit n r) (new-ok s (cursorOf s entry st) (omega arith))
       (record {
         number-is = g .number-is;
@@ -265,7 +257,7 @@ module _ (s : List ℕ) (st new : State) (entry mid : List ℕ) (n : ℕ) (e : n
         room = room′;
       })
 
-pub leaf-ready : (s : List ℕ) (st : State) (table : List ℕ) (n v : ℕ) → Ready s st table n 0 → v < st .count → st .token .kind ≡ 4 → Ready s st table n 0 × ((v < 2 ^ 32) × (st .token .kind ≡ 16 → ⊥))
+pub leaf-ready : (s : List ℕ) (st : State) (table : List ℕ) (n v : ℕ) → Ready s st table n 0 → v < st .count → st .token .kind ≡ variableKind → Ready s st table n 0 × ((v < 2 ^ 32) × (st .token .kind ≡ endKind → ⊥))
 leaf-ready s st table n v ready h k = let few : st .count ≤ variables = ready .standing .few in (ready, (omega arith, not-end k))
 
 module _ (s : List ℕ) (st : State) (entry exit : List ℕ) (n : ℕ) (r : Parsed) where
@@ -283,24 +275,24 @@ module _ (s : List ℕ) (st : State) (entry exit : List ℕ) (n : ℕ) (r : Pars
     unfolding readVariable
     named-old e g = subst (λ (u : Bool). Gives termWords one s st entry exit n r (elim u as (λ _. Read Term) [ true ↦ newVariable s (cursorOf s entry st) | false ↦ oldVariable s (cursorOf s entry st) (found s entry st) ])) (sym e ∙ eb) g
 
-    old-by : (o : Option ℕ) (v : ℕ) → FoundAs o (st .count) v → v < st .count → Given s st entry exit n r (v ∷ 3 ∷ (st .token .at) ∷ []) 1 (next s (cursorOf s entry st)) → Gives termWords one s st entry exit n r (oldVariable s (cursorOf s entry st) o)
+    old-by : (o : Option ℕ) (v : ℕ) → FoundAs o (st .count) v → v < st .count → Given s st entry exit n r (v ∷ nodeWords ∷ (st .token .at) ∷ []) 1 (next s (cursorOf s entry st)) → Gives termWords one s st entry exit n r (oldVariable s (cursorOf s entry st) o)
     unfolding oldVariable termWords
     old-by none v e h g = absurd (omega (arith, e))
-    old-by (some i) v e h g = subst (λ (x : ℕ). Given s st entry exit n r (x ∷ 3 ∷ (st .token .at) ∷ []) 1 (next s (cursorOf s entry st))) (e .0) g
+    old-by (some i) v e h g = subst (λ (x : ℕ). Given s st entry exit n r (x ∷ nodeWords ∷ (st .token .at) ∷ []) 1 (next s (cursorOf s entry st))) (e .0) g
 
     new-by : (o : Option ℕ) (v : ℕ) → FoundAs o (st .count) v → st .count ≤ v → Gives termWords one s st entry exit n r (newVariable s (cursorOf s entry st)) → Gives termWords one s st entry exit n r (oldVariable s (cursorOf s entry st) o)
     unfolding oldVariable
     new-by none v e h g = g
     new-by (some i) v e h g = absurd (omega (arith, e .0, e .1))
 
-    pub variable-old : b ≡ false → (v : ℕ) → FoundAs (found s entry st) (st .count) v → v < st .count → Given s st entry exit n r (v ∷ 3 ∷ (st .token .at) ∷ []) 1 (next s (cursorOf s entry st)) → Gives termWords one s st entry exit n r (readVariable s (cursorOf s entry st))
+    pub variable-old : b ≡ false → (v : ℕ) → FoundAs (found s entry st) (st .count) v → v < st .count → Given s st entry exit n r (v ∷ nodeWords ∷ (st .token .at) ∷ []) 1 (next s (cursorOf s entry st)) → Gives termWords one s st entry exit n r (readVariable s (cursorOf s entry st))
     variable-old e v f h g = named-old e (old-by (found s entry st) v f h g)
 
     pub variable-new : b ≡ false → (v : ℕ) → FoundAs (found s entry st) (st .count) v → st .count ≤ v → Gives termWords one s st entry exit n r (newVariable s (cursorOf s entry st)) → Gives termWords one s st entry exit n r (readVariable s (cursorOf s entry st))
     variable-new e v f h g = named-old e (new-by (found s entry st) v f h g)
 
   module _ (v : ℕ) (f : MetAs (isAnonymous s (st .token)) (found s entry st) (st .count) v) where
-    pub variable-met : v < st .count → Given s st entry exit n r (v ∷ 3 ∷ (st .token .at) ∷ []) 1 (next s (cursorOf s entry st)) → Gives termWords one s st entry exit n r (readVariable s (cursorOf s entry st))
+    pub variable-met : v < st .count → Given s st entry exit n r (v ∷ nodeWords ∷ (st .token .at) ∷ []) 1 (next s (cursorOf s entry st)) → Gives termWords one s st entry exit n r (readVariable s (cursorOf s entry st))
     variable-met h g = by (isAnonymous s (st .token)) refl f
       where
         by : (b : Bool) → b ≡ isAnonymous s (st .token) → MetAs b (found s entry st) (st .count) v → Gives termWords one s st entry exit n r (readVariable s (cursorOf s entry st))

@@ -4,29 +4,30 @@ use mathlib.Core.Path.{_≡_, sym}
 use mathlib.Core.Bool.{Bool, true, false, cond}
 use lib.Dec.{eqb}
 use borrow.Author.Tests.{eq-eqb, ne-eqb}
+use Rattle.syntax.specs.Tokens.{nameKind, variableKind, numeralKind, commaKind}
 use Rattle.syntax.specs.Reading.{Start, aVariable, aNumeral, aName, nothing, startOf, begins, After, more, last, neither, afterOf, wrongNumber}
 use Rattle.reading.specs.Gives.{fullNumber}
 
-pub start-variable : (k : ℕ) → k ≡ 4 → startOf k ≡ aVariable
-start-variable k e = simp (eq-eqb k 4 e)
+pub start-variable : (k : ℕ) → k ≡ variableKind → startOf k ≡ aVariable
+start-variable k e = simp (eq-eqb k variableKind e)
 
-pub start-numeral : (k : ℕ) → (k ≡ 4 → ⊥) → k ≡ 5 → startOf k ≡ aNumeral
-start-numeral k f e = simp (ne-eqb k 4 f, eq-eqb k 5 e)
+pub start-numeral : (k : ℕ) → (k ≡ variableKind → ⊥) → k ≡ numeralKind → startOf k ≡ aNumeral
+start-numeral k f e = simp (ne-eqb k variableKind f, eq-eqb k numeralKind e)
 
-pub start-name : (k : ℕ) → (k ≡ 4 → ⊥) → (k ≡ 5 → ⊥) → k ≡ 3 → startOf k ≡ aName
-start-name k f g e = simp (ne-eqb k 4 f, ne-eqb k 5 g, eq-eqb k 3 e)
+pub start-name : (k : ℕ) → (k ≡ variableKind → ⊥) → (k ≡ numeralKind → ⊥) → k ≡ nameKind → startOf k ≡ aName
+start-name k f g e = simp (ne-eqb k variableKind f, ne-eqb k numeralKind g, eq-eqb k nameKind e)
 
-pub start-nothing : (k : ℕ) → (k ≡ 4 → ⊥) → (k ≡ 5 → ⊥) → (k ≡ 3 → ⊥) → startOf k ≡ nothing
-start-nothing k f g h = simp (ne-eqb k 4 f, ne-eqb k 5 g, ne-eqb k 3 h)
+pub start-nothing : (k : ℕ) → (k ≡ variableKind → ⊥) → (k ≡ numeralKind → ⊥) → (k ≡ nameKind → ⊥) → startOf k ≡ nothing
+start-nothing k f g h = simp (ne-eqb k variableKind f, ne-eqb k numeralKind g, ne-eqb k nameKind h)
 
-pub begins-variable : (k : ℕ) → k ≡ 4 → true ≡ begins (startOf k)
+pub begins-variable : (k : ℕ) → k ≡ variableKind → true ≡ begins (startOf k)
 begins-variable k e = simp (start-variable k e)
 
-pub begins-numeral : (k : ℕ) → (k ≡ 4 → ⊥) → k ≡ 5 → true ≡ begins (startOf k)
+pub begins-numeral : (k : ℕ) → (k ≡ variableKind → ⊥) → k ≡ numeralKind → true ≡ begins (startOf k)
 begins-numeral k f e = simp (start-numeral k f e)
 
-pub begins-name : (k : ℕ) → (k ≡ 4 → ⊥) → (k ≡ 5 → ⊥) → eqb k 3 ≡ begins (startOf k)
-begins-name k f g = by-test (eqb k 3) (simp (ne-eqb k 4 f, ne-eqb k 5 g))
+pub begins-name : (k : ℕ) → (k ≡ variableKind → ⊥) → (k ≡ numeralKind → ⊥) → eqb k nameKind ≡ begins (startOf k)
+begins-name k f g = by-test (eqb k nameKind) (simp (ne-eqb k variableKind f, ne-eqb k numeralKind g))
   where
     by-test : (b : Bool) → startOf k ≡ (cond b aName nothing) → b ≡ begins (startOf k)
     by-test true e = simp e
@@ -39,11 +40,11 @@ pub full-wrong : (k : ℕ) (b : Bool) (r : ℕ) → b ≡ begins (startOf k) →
 full-wrong k b r e f g = simp (sym e, f, g)
 
 module _ (stop : ℕ) (k : ℕ) where
-  pub after-more : k ≡ 9 → afterOf stop k ≡ more
-  after-more e = simp (eq-eqb k 9 e)
+  pub after-more : k ≡ commaKind → afterOf stop k ≡ more
+  after-more e = simp (eq-eqb k commaKind e)
 
-  pub after-last : (k ≡ 9 → ⊥) → k ≡ stop → afterOf stop k ≡ last
-  after-last f e = simp (ne-eqb k 9 f, eq-eqb k stop e)
+  pub after-last : (k ≡ commaKind → ⊥) → k ≡ stop → afterOf stop k ≡ last
+  after-last f e = simp (ne-eqb k commaKind f, eq-eqb k stop e)
 
-  pub after-neither : (k ≡ 9 → ⊥) → (k ≡ stop → ⊥) → afterOf stop k ≡ neither
-  after-neither f e = simp (ne-eqb k 9 f, ne-eqb k stop e)
+  pub after-neither : (k ≡ commaKind → ⊥) → (k ≡ stop → ⊥) → afterOf stop k ≡ neither
+  after-neither f e = simp (ne-eqb k commaKind f, ne-eqb k stop e)

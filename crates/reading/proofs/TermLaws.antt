@@ -9,32 +9,36 @@ use lib.ListN.{length, set, take, length-append}
 use lib.Dec.{eqb}
 use borrow.Author.Tests.{eq-eqb, ne-eqb}
 use Rattle.syntax.specs.Terms.{Term, Terms, Atom, variable, compound, nil, cons, arity, termOf}
-use Rattle.syntax.specs.Tokens.{spelling, commaKind, endKind}
+use Rattle.syntax.specs.Tokens.{spelling, commaKind, endKind, nameKind, variableKind, numeralKind, openKind, closeKind}
 use Rattle.syntax.specs.Numerals.{trimmed, dropped}
 use Rattle.syntax.proofs.Numerals.{trimmed-short}
 use Rattle.syntax.specs.Reading.{Cursor, numeralAt, spelt, Read, fault, ok, andThen, next, wrongNumber, wrong, beyond, full, readVariable, readTerm, readTermWith, termWith, readAtomWith, atomWith, atomAt, readList, readArguments, argumentsAfter, startOf, begins, afterOf, After, more, last, neither, Start, aVariable, aNumeral, aName, nothing}
 use Rattle.syntax.specs.Words.{nodeWords, termWords, termsWords, atomWords, functor}
-use Rattle.syntax.specs.Limits.{sheetBytes, variables}
+use Rattle.syntax.specs.Limits.{sheetBytes, variables, arguments}
 use Rattle.syntax.specs.Spans.{namesFrom, met, Held}
 use Rattle.syntax.proofs.Spans.{met-three}
 use Rattle.syntax.specs.declared.State.{State}
 use Rattle.reading.specs.Atoms.{readAtomAt}
 use Rattle.reading.specs.Gives.{cursorOf, onward, left, Standing, Moved, Ready, Faulted, Given, Gives, GivenWith, GivesWith, Refused, Counted, fullNumber, one}
 use Rattle.reading.specs.declared.Parsed.{Parsed}
-use Rattle.reading.proofs.Laws.{length-spelling}
+use Rattle.texts.proofs.Laws.{length-spelling}
 use Rattle.reading.proofs.Reading.{refused-beyond, refused-wrong, next-of, held-of, cursor-kept, held-kept}
 use Rattle.reading.proofs.Starts.{start-variable, start-numeral, start-name, start-nothing, after-more, after-last, after-neither}
 use Rattle.reading.proofs.Sequence.{seq-fault, seq-ok, shorter, kept-before, joined, header}
 
--- the words of a name or numeral without arguments
-leaf-words : (s : List ℕ) (st : Cursor) → st .token .at + st .token .len ≤ length s → (64 + st .token .len) ∷ 3 ∷ (st .token .at) ∷ [] ≡ termWords (termOf (atomAt s st nil))
+-- the words of a name without arguments
+leaf-words : (s : List ℕ) (st : Cursor) (what : ℕ) → st .token .at + st .token .len ≤ length s → what ≡ functor 0 (st .token .len) → what ∷ nodeWords ∷ (st .token .at) ∷ [] ≡ termWords (termOf (atomAt s st nil))
 unfolding termWords
-leaf-words s st h = ap (λ (k : ℕ). k ∷ 3 ∷ (st .token .at) ∷ []) (sym (ap (λ (k : ℕ). 64 + 0 * 32 + k) (length-spelling s (st .token .at) (st .token .len) h)))
+leaf-words s st what h is = ap (λ (k : ℕ). k ∷ nodeWords ∷ (st .token .at) ∷ []) (is ∙ sym (ap (functor 0) (length-spelling s (st .token .at) (st .token .len) h)))
 
 -- the words of a name with arguments
-atom-words : (s : List ℕ) (st : Cursor) (ts : Terms) → st .token .at + st .token .len ≤ length s → functor (arity ts) (st .token .len) ∷ (3 + length (termsWords ts)) ∷ (st .token .at) ∷ termsWords ts ≡ atomWords (atomAt s st ts)
+atom-words : (s : List ℕ) (st : Cursor) (ts : Terms) → st .token .at + st .token .len ≤ length s → functor (arity ts) (st .token .len) ∷ (nodeWords + length (termsWords ts)) ∷ (st .token .at) ∷ termsWords ts ≡ atomWords (atomAt s st ts)
 unfolding termWords
-atom-words s st ts h = ap (λ (k : ℕ). functor (arity ts) k ∷ (3 + length (termsWords ts)) ∷ (st .token .at) ∷ termsWords ts) (sym (length-spelling s (st .token .at) (st .token .len) h))
+atom-words s st ts h = ap (λ (k : ℕ). functor (arity ts) k ∷ (nodeWords + length (termsWords ts)) ∷ (st .token .at) ∷ termsWords ts) (sym (length-spelling s (st .token .at) (st .token .len) h))
+
+-- the node of a name whose arguments were read
+pub closed-words : (entry exit : List ℕ) (n what w size at : ℕ) → exit ≡ set (set (set entry n what) (n + 1) size) (n + 2) at → what ≡ w → exit ≡ set (set (set entry n w) (n + 1) size) (n + 2) at
+closed-words entry exit n what w size at e q = e ∙ ap (λ (k : ℕ). set (set (set entry n k) (n + 1) size) (n + 2) at) q
 
 -- a term takes a word at least
 mutual
@@ -48,106 +52,120 @@ mutual
   arity-words nil = omega arith
   arity-words (cons t ts) = let a : 1 ≤ length (termWords t) = term-some t in let b : arity ts ≤ length (termsWords ts) = arity-words ts in simp length-append (omega arith)
 
--- what `leaf` asks for a name or a numeral
-pub leaf-asked : (s : List ℕ) (st : State) (table : List ℕ) (n k : ℕ) → Ready s st table n 0 → st .token .kind ≡ k → (k ≡ 16 → ⊥) → Ready s st table n 0 × ((64 + st .token .len < 2 ^ 32) × (st .token .kind ≡ 16 → ⊥))
-leaf-asked s st table n k ready e z =
+-- a name's first word fits
+pub name-fits : (s : List ℕ) (st : State) (table : List ℕ) (n : ℕ) → Ready s st table n 0 → functor 0 (st .token .len) < 2 ^ 32
+name-fits s st table n ready =
     let inside : st .token .at + st .token .len ≤ length s = ready .standing .inside in
     let short : length s ≤ sheetBytes = ready .standing .short in
-    (ready, (omega arith, λ q. z (sym e ∙ q)))
+    omega arith
+
+-- what `leaf` asks for a name
+pub leaf-asked : (s : List ℕ) (st : State) (table : List ℕ) (n what : ℕ) → Ready s st table n 0 → st .token .kind ≡ nameKind → what ≡ functor 0 (st .token .len) → Ready s st table n 0 × ((what < 2 ^ 32) × (st .token .kind ≡ endKind → ⊥))
+leaf-asked s st table n what ready k e = (ready, (omega (arith, name-fits s st table n ready), λ q. absurd (omega (arith, k, q))))
 
 -- ---- numerals
 
--- what `leaf_at` asks for a numeral
-pub numeral-asked : (s : List ℕ) (st : State) (table : List ℕ) (n p : ℕ) → Ready s st table n 0 → st .token .kind ≡ 5 → p ≡ st .token .at + dropped (spelling s (st .token .at) (st .token .len)) → Ready s st table n 0 × ((64 + (st .token .at + st .token .len - p) < 2 ^ 32) × ((p < 2 ^ 32) × (st .token .kind ≡ 16 → ⊥)))
-numeral-asked s st table n p ready k e =
-    let inside : st .token .at + st .token .len ≤ length s = ready .standing .inside in
-    let short : length s ≤ sheetBytes = ready .standing .short in
-    let long : length (spelling s (st .token .at) (st .token .len)) ≡ st .token .len = length-spelling s (st .token .at) (st .token .len) inside in
-    (ready, (omega arith, (omega arith, λ q. absurd (omega (arith, k, q)))))
+-- the byte of the first digit kept, and how many digits are kept
+module _ (s : List ℕ) (st : State) (table : List ℕ) (n p : ℕ) (ready : Ready s st table n 0) (e : p ≡ st .token .at + dropped (spelling s (st .token .at) (st .token .len))) where
+  abbrev kept : ℕ
+  kept = st .token .at + st .token .len - p
 
-pub numeral-low : (s : List ℕ) (st : State) (table : List ℕ) (n p : ℕ) → Ready s st table n 0 → p ≡ st .token .at + dropped (spelling s (st .token .at) (st .token .len)) → p ≤ st .token .at + st .token .len
-numeral-low s st table n p ready e =
-    let inside : st .token .at + st .token .len ≤ length s = ready .standing .inside in
-    let long : length (spelling s (st .token .at) (st .token .len)) ≡ st .token .len = length-spelling s (st .token .at) (st .token .len) inside in
-    omega arith
+  pub numeral-low : p ≤ st .token .at + st .token .len
+  numeral-low =
+      let inside : st .token .at + st .token .len ≤ length s = ready .standing .inside in
+      let long : length (spelling s (st .token .at) (st .token .len)) ≡ st .token .len = length-spelling s (st .token .at) (st .token .len) inside in
+      omega arith
 
-numeral-words : (s : List ℕ) (st : Cursor) (p : ℕ) → st .token .at + st .token .len ≤ length s → p ≡ st .token .at + dropped (spelt s st) → (64 + (st .token .at + st .token .len - p)) ∷ 3 ∷ p ∷ [] ≡ termWords (termOf (numeralAt s st))
+  pub numeral-fits : functor 0 kept < 2 ^ 32
+  numeral-fits = omega (arith, name-fits s st table n ready)
+
+  -- what `leaf_at` asks for a numeral
+  pub numeral-asked : (what : ℕ) → st .token .kind ≡ numeralKind → what ≡ functor 0 kept → Ready s st table n 0 × ((what < 2 ^ 32) × ((p < 2 ^ 32) × (st .token .kind ≡ endKind → ⊥)))
+  numeral-asked what k is =
+      let inside : st .token .at + st .token .len ≤ length s = ready .standing .inside in
+      let short : length s ≤ sheetBytes = ready .standing .short in
+      (ready, (omega (arith, numeral-fits), (omega (arith, numeral-low), λ q. absurd (omega (arith, k, q)))))
+
+numeral-words : (s : List ℕ) (st : Cursor) (p what : ℕ) → st .token .at + st .token .len ≤ length s → p ≡ st .token .at + dropped (spelt s st) → what ≡ functor 0 (st .token .at + st .token .len - p)
+    → what ∷ nodeWords ∷ p ∷ [] ≡ termWords (termOf (numeralAt s st))
 unfolding termWords
-numeral-words s st p inside e =
+numeral-words s st p what inside e is =
     let long : length (spelt s st) ≡ st .token .len = length-spelling s (st .token .at) (st .token .len) inside in
     let less : length (trimmed (spelt s st)) ≤ length (spelt s st) = trimmed-short (spelt s st) in
-    let left : st .token .at + st .token .len - p ≡ length (trimmed (spelt s st)) = omega (arith, long, less, e) in
-    ap₂ (λ (k b : ℕ). (64 + k) ∷ 3 ∷ b ∷ []) left e
+    let left : what ≡ functor 0 (length (trimmed (spelt s st))) = omega (arith, long, less, e, is) in
+    ap₂ (λ (k b : ℕ). k ∷ nodeWords ∷ b ∷ []) left e
 
-pub numeral-given : (s : List ℕ) (st : State) (entry exit : List ℕ) (n p : ℕ) (r : Parsed) → Ready s st entry n 0 → p ≡ st .token .at + dropped (spelling s (st .token .at) (st .token .len)) → Given s st entry exit n r ((64 + (st .token .at + st .token .len - p)) ∷ 3 ∷ p ∷ []) 1 (next s (cursorOf s entry st)) → Given s st entry exit n r (termWords (termOf (numeralAt s (cursorOf s entry st)))) 1 (next s (cursorOf s entry st))
-numeral-given s st entry exit n p r ready e g =
-    subst (λ (w : List ℕ). Given s st entry exit n r w 1 (next s (cursorOf s entry st))) (numeral-words s (cursorOf s entry st) p (ready .standing .inside) e) g
+pub numeral-given : (s : List ℕ) (st : State) (entry exit : List ℕ) (n p what : ℕ) (r : Parsed) → Ready s st entry n 0 → p ≡ st .token .at + dropped (spelling s (st .token .at) (st .token .len)) → what ≡ functor 0 (st .token .at + st .token .len - p)
+    → Given s st entry exit n r (what ∷ nodeWords ∷ p ∷ []) 1 (next s (cursorOf s entry st)) → Given s st entry exit n r (termWords (termOf (numeralAt s (cursorOf s entry st)))) 1 (next s (cursorOf s entry st))
+numeral-given s st entry exit n p what r ready e is g =
+    subst (λ (w : List ℕ). Given s st entry exit n r w 1 (next s (cursorOf s entry st))) (numeral-words s (cursorOf s entry st) p what (ready .standing .inside) e is) g
 
 -- ---- atoms
 
 module _ (most : ℕ) (s : List ℕ) (st : Cursor) where
   -- the definition, by what stands behind the name
-  atom-open : (past : Cursor) → past ≡ next s st → past .token .kind ≡ 7 → readAtomAt most s st ≡ andThen (readList most s past) (λ ts after. ok (atomAt s st ts) after)
+  atom-open : (past : Cursor) → past ≡ next s st → past .token .kind ≡ openKind → readAtomAt most s st ≡ andThen (readList most s past) (λ ts after. ok (atomAt s st ts) after)
   unfolding readAtomAt readAtomWith atomWith
-  atom-open past e k = ap (λ (b : Bool). atomWith (λ x. readList most s x) s st b) (ap (λ (x : Cursor). eqb (x .token .kind) 7) (sym e) ∙ eq-eqb (past .token .kind) 7 k) ∙ ap (λ (x : Cursor). andThen (readList most s x) (λ ts after. ok (atomAt s st ts) after)) (sym e)
+  atom-open past e k = ap (λ (b : Bool). atomWith (λ x. readList most s x) s st b) (ap (λ (x : Cursor). eqb (x .token .kind) openKind) (sym e) ∙ eq-eqb (past .token .kind) openKind k) ∙ ap (λ (x : Cursor). andThen (readList most s x) (λ ts after. ok (atomAt s st ts) after)) (sym e)
 
-  atom-alone : (past : Cursor) → past ≡ next s st → (past .token .kind ≡ 7 → ⊥) → readAtomAt most s st ≡ ok (atomAt s st nil) (next s st)
+  atom-alone : (past : Cursor) → past ≡ next s st → (past .token .kind ≡ openKind → ⊥) → readAtomAt most s st ≡ ok (atomAt s st nil) (next s st)
   unfolding readAtomAt readAtomWith atomWith
-  atom-alone past e k = ap (λ (b : Bool). atomWith (λ x. readList most s x) s st b) (ap (λ (x : Cursor). eqb (x .token .kind) 7) (sym e) ∙ ne-eqb (past .token .kind) 7 k)
+  atom-alone past e k = ap (λ (b : Bool). atomWith (λ x. readList most s x) s st b) (ap (λ (x : Cursor). eqb (x .token .kind) openKind) (sym e) ∙ ne-eqb (past .token .kind) openKind k)
 
-  list-down : (past inner : Cursor) → (most ≡ 0 → ⊥) → inner ≡ next s past → readList most s past ≡ readArguments (λ x. readTerm (most - 1) s x) s 8 inner
+  list-down : (past inner : Cursor) → (most ≡ 0 → ⊥) → inner ≡ next s past → readList most s past ≡ readArguments (λ x. readTerm (most - 1) s x) s arguments inner
   unfolding readList readTerm
   list-down past inner z e =
       let d : most ≡ suc (most - 1) = omega (arith, z) in
-      ap (λ (l : ℕ). readList l s past) d ∙ ap (readArguments (λ x. readTerm (most - 1) s x) s 8) (sym e)
+      ap (λ (l : ℕ). readList l s past) d ∙ ap (readArguments (λ x. readTerm (most - 1) s x) s arguments) (sym e)
 
 module _ (most : ℕ) (s : List ℕ) (st : State) where
   module _ (entry : List ℕ) (n : ℕ) (r : Parsed) (ready : Ready s st entry n 0) where
-    pub atom-bare : (exit : List ℕ) (past : State) → Moved s st past → (past .token .kind ≡ 7 → ⊥) → Given s st entry exit n r ((64 + st .token .len) ∷ 3 ∷ (st .token .at) ∷ []) 1 (next s (cursorOf s entry st)) → Gives atomWords one s st entry exit n r (readAtomAt most s (cursorOf s entry st))
-    atom-bare exit past m k g =
+    pub atom-bare : (exit : List ℕ) (past : State) (what : ℕ) → Moved s st past → (past .token .kind ≡ openKind → ⊥) → what ≡ functor 0 (st .token .len)
+        → Given s st entry exit n r (what ∷ nodeWords ∷ (st .token .at) ∷ []) 1 (next s (cursorOf s entry st)) → Gives atomWords one s st entry exit n r (readAtomAt most s (cursorOf s entry st))
+    atom-bare exit past what m k is g =
         subst⁻¹ (Gives atomWords one s st entry exit n r) (atom-alone most s (cursorOf s entry st) (cursorOf s entry past) (next-of entry m) k)
-        (subst (λ (w : List ℕ). Given s st entry exit n r w 1 (next s (cursorOf s entry st))) (leaf-words s (cursorOf s entry st) (ready .standing .inside)) g)
+        (subst (λ (w : List ℕ). Given s st entry exit n r w 1 (next s (cursorOf s entry st))) (leaf-words s (cursorOf s entry st) what (ready .standing .inside) is) g)
 
-    pub atom-deep : (past : State) → Moved s st past → past .token .kind ≡ 7 → most ≡ 0 → Refused past 6 r → Gives atomWords one s st entry entry n r (readAtomAt most s (cursorOf s entry st))
+    pub atom-deep : (past : State) → Moved s st past → past .token .kind ≡ openKind → most ≡ 0 → Refused past 6 r → Gives atomWords one s st entry entry n r (readAtomAt most s (cursorOf s entry st))
     unfolding readList andThen beyond
     atom-deep past m k z f =
         subst⁻¹ (Gives atomWords one s st entry entry n r) (atom-open most s (cursorOf s entry st) (cursorOf s entry past) (next-of entry m) k ∙ ap (λ (l : ℕ). andThen (readList l s (cursorOf s entry past)) (λ ts after. ok (atomAt s (cursorOf s entry st) ts) after)) z)
         (refused-beyond atomWords one s st past entry entry n r (namesFrom s (met entry) 0 (past .count)) f refl)
 
-  module _ (entry exit mid : List ℕ) (n : ℕ) (past inner : State) (ready : Ready s st entry n 0) (name : st .token .kind ≡ 3) (m : Moved s st past) (k : past .token .kind ≡ 7) (z : most ≡ 0 → ⊥) (m′ : Moved s past inner) where
-    whole : readAtomAt most s (cursorOf s entry st) ≡ andThen (readArguments (λ x. readTerm (most - 1) s x) s 8 (cursorOf s entry inner)) (λ ts after. ok (atomAt s (cursorOf s entry st) ts) after)
+  module _ (entry exit mid : List ℕ) (n : ℕ) (past inner : State) (ready : Ready s st entry n 0) (name : st .token .kind ≡ nameKind) (m : Moved s st past) (k : past .token .kind ≡ openKind) (z : most ≡ 0 → ⊥) (m′ : Moved s past inner) where
+    whole : readAtomAt most s (cursorOf s entry st) ≡ andThen (readArguments (λ x. readTerm (most - 1) s x) s arguments (cursorOf s entry inner)) (λ ts after. ok (atomAt s (cursorOf s entry st) ts) after)
     whole = atom-open most s (cursorOf s entry st) (cursorOf s entry past) (next-of entry m) k ∙ ap (λ (d : Read Terms). andThen d (λ ts after. ok (atomAt s (cursorOf s entry st) ts) after)) (list-down most s (cursorOf s entry st) (cursorOf s entry past) (cursorOf s entry inner) z (next-of entry m′))
 
     -- the name takes a byte and the bracket another
     space : 2 * nodeWords + nodeWords * left s inner ≤ nodeWords * left s st
     space =
-        let a : 0 < st .token .len = ready .standing .some (λ e. let q : st .token .kind ≡ 3 = name in omega arith) in
-        let b : 0 < past .token .len = m .standing .some (λ e. let q : past .token .kind ≡ 7 = k in omega arith) in
+        let a : 0 < st .token .len = ready .standing .some (λ e. let q : st .token .kind ≡ nameKind = name in omega arith) in
+        let b : 0 < past .token .len = m .standing .some (λ e. let q : past .token .kind ≡ openKind = k in omega arith) in
         let i : past .token .at + past .token .len ≤ length s = m .standing .inside in
         let f : st .token .at + st .token .len ≤ past .token .at = m .forward in
         let g : past .token .at + past .token .len ≤ inner .token .at = m′ .forward in
         let h : inner .token .at + inner .token .len ≤ length s = m′ .standing .inside in
         omega arith
 
-    pub list-ready : Ready s inner entry (n + 3) 0
+    pub list-ready : Ready s inner entry (n + nodeWords) 0
     list-ready =
         let room : n + nodeWords * left s st + 0 + variables ≤ length entry = ready .room in
         let sp : 2 * nodeWords + nodeWords * left s inner ≤ nodeWords * left s st = space in
         record { standing = m′ .standing; held = held-of m′ (held-of m (ready .held)); room = omega arith; small = ready .small }
 
-    pub atom-fault : (r : Parsed) → Gives termsWords arity s inner entry exit (n + 3) r (readArguments (λ x. readTerm (most - 1) s x) s 8 (cursorOf s entry inner)) → (r .number ≡ 0 → ⊥) → Gives atomWords one s st entry exit n r (readAtomAt most s (cursorOf s entry st))
-    atom-fault r g q = subst⁻¹ (Gives atomWords one s st entry exit n r) whole (seq-fault 1 1 termsWords arity atomWords one s st inner entry exit n (n + 3) r (readArguments (λ x. readTerm (most - 1) s x) s 8 (cursorOf s entry inner)) (λ ts after. ok (atomAt s (cursorOf s entry st) ts) after) (omega arith) g q)
+    pub atom-fault : (r : Parsed) → Gives termsWords arity s inner entry exit (n + nodeWords) r (readArguments (λ x. readTerm (most - 1) s x) s arguments (cursorOf s entry inner)) → (r .number ≡ 0 → ⊥) → Gives atomWords one s st entry exit n r (readAtomAt most s (cursorOf s entry st))
+    atom-fault r g q = subst⁻¹ (Gives atomWords one s st entry exit n r) whole (seq-fault 1 1 termsWords arity atomWords one s st inner entry exit n (n + nodeWords) r (readArguments (λ x. readTerm (most - 1) s x) s arguments (cursorOf s entry inner)) (λ ts after. ok (atomAt s (cursorOf s entry st) ts) after) (omega arith) g q)
 
-    module _ (r : Parsed) (g : Gives termsWords arity s inner entry mid (n + 3) r (readArguments (λ x. readTerm (most - 1) s x) s 8 (cursorOf s entry inner))) (e : r .number ≡ 0) where
+    module _ (r : Parsed) (g : Gives termsWords arity s inner entry mid (n + nodeWords) r (readArguments (λ x. readTerm (most - 1) s x) s arguments (cursorOf s entry inner))) (e : r .number ≡ 0) where
       -- what `close` asks
-      pub close-ready : length mid ≡ length entry → (n + 3 ≤ length mid) × ((st .token .at < 2 ^ 31) × ((st .token .len < 2 ^ 15) × ((r .items < 2 ^ 20) × ((n ≤ r .used) × (r .used < 2 ^ 31)))))
+      pub close-ready : length mid ≡ length entry → (n + nodeWords ≤ length mid) × ((st .token .at < 2 ^ 31) × ((st .token .len < 2 ^ 15) × ((r .items < 2 ^ 20) × ((n ≤ r .used) × (r .used < 2 ^ 31)))))
       close-ready l =
-          let o : (ts : Terms) × (readArguments (λ x. readTerm (most - 1) s x) s 8 (cursorOf s entry inner) ≡ ok ts (cursorOf s mid (r .state))) × Given s inner entry mid (n + 3) r (termsWords ts) (arity ts) (cursorOf s mid (r .state)) = seq-ok 1 termsWords arity s inner entry mid (n + 3) r (readArguments (λ x. readTerm (most - 1) s x) s 8 (cursorOf s entry inner)) g e in
+          let o : (ts : Terms) × (readArguments (λ x. readTerm (most - 1) s x) s arguments (cursorOf s entry inner) ≡ ok ts (cursorOf s mid (r .state))) × Given s inner entry mid (n + nodeWords) r (termsWords ts) (arity ts) (cursorOf s mid (r .state)) = seq-ok 1 termsWords arity s inner entry mid (n + nodeWords) r (readArguments (λ x. readTerm (most - 1) s x) s arguments (cursorOf s entry inner)) g e in
           let room : n + nodeWords * left s st + 0 + variables ≤ length entry = ready .room in
           let inside : st .token .at + st .token .len ≤ length s = ready .standing .inside in
           let short : length s ≤ sheetBytes = ready .standing .short in
           let small : length entry < 2 ^ 31 = ready .small in
-          let used : r .used ≡ (n + 3) + length (termsWords (o .0)) = o .2 .used-is in
+          let used : r .used ≡ (n + nodeWords) + length (termsWords (o .0)) = o .2 .used-is in
           let items : r .items ≡ arity (o .0) = o .2 .items-is in
           let fits : length (termsWords (o .0)) + nodeWords * left s (r .state) + 1 ≤ nodeWords * left s inner + 1 = o .2 .room in
           let sp : 2 * nodeWords + nodeWords * left s inner ≤ nodeWords * left s st = space in
@@ -157,16 +175,16 @@ module _ (most : ℕ) (s : List ℕ) (st : State) where
       pub atom-list : length mid ≡ length entry → (q : Parsed) → q ≡ record { number = 0; used = r .used; items = 1; state = r .state } → exit ≡ set (set (set mid n (functor (r .items) (st .token .len))) (n + 1) (r .used - n)) (n + 2) (st .token .at) → Gives atomWords one s st entry exit n q (readAtomAt most s (cursorOf s entry st))
       unfolding andThen
       atom-list l q eq ex =
-          let o : (ts : Terms) × (readArguments (λ x. readTerm (most - 1) s x) s 8 (cursorOf s entry inner) ≡ ok ts (cursorOf s mid (r .state))) × Given s inner entry mid (n + 3) r (termsWords ts) (arity ts) (cursorOf s mid (r .state)) = seq-ok 1 termsWords arity s inner entry mid (n + 3) r (readArguments (λ x. readTerm (most - 1) s x) s 8 (cursorOf s entry inner)) g e in
+          let o : (ts : Terms) × (readArguments (λ x. readTerm (most - 1) s x) s arguments (cursorOf s entry inner) ≡ ok ts (cursorOf s mid (r .state))) × Given s inner entry mid (n + nodeWords) r (termsWords ts) (arity ts) (cursorOf s mid (r .state)) = seq-ok 1 termsWords arity s inner entry mid (n + nodeWords) r (readArguments (λ x. readTerm (most - 1) s x) s arguments (cursorOf s entry inner)) g e in
           let ts : Terms = o .0 in
-          let given : Given s inner entry mid (n + 3) r (termsWords ts) (arity ts) (cursorOf s mid (r .state)) = o .2 in
+          let given : Given s inner entry mid (n + nodeWords) r (termsWords ts) (arity ts) (cursorOf s mid (r .state)) = o .2 in
           let room : n + nodeWords * left s st + 0 + variables ≤ length entry = ready .room in
           let sp : 2 * nodeWords + nodeWords * left s inner ≤ nodeWords * left s st = space in
-          let used : r .used ≡ (n + 3) + length (termsWords ts) = given .used-is in
+          let used : r .used ≡ (n + nodeWords) + length (termsWords ts) = given .used-is in
           let fits : length (termsWords ts) + nodeWords * left s (r .state) + 1 ≤ nodeWords * left s inner + 1 = given .room in
-          let size : r .used - n ≡ 3 + length (termsWords ts) = omega arith in
-          let words : List ℕ = functor (arity ts) (st .token .len) ∷ (3 + length (termsWords ts)) ∷ (st .token .at) ∷ termsWords ts in
-          let stored : exit ≡ set (set (set mid n (functor (arity ts) (st .token .len))) (n + 1) (3 + length (termsWords ts))) (n + 2) (st .token .at) =
+          let size : r .used - n ≡ nodeWords + length (termsWords ts) = omega arith in
+          let words : List ℕ = functor (arity ts) (st .token .len) ∷ (nodeWords + length (termsWords ts)) ∷ (st .token .at) ∷ termsWords ts in
+          let stored : exit ≡ set (set (set mid n (functor (arity ts) (st .token .len))) (n + 1) (nodeWords + length (termsWords ts))) (n + 2) (st .token .at) =
           ex ∙ ap₂ (λ (i z : ℕ). set (set (set mid n (functor i (st .token .len))) (n + 1) z) (n + 2) (st .token .at)) (given .items-is) size in
           let same : met exit ≡ met mid = ap met ex ∙ met-three mid n (functor (r .items) (st .token .len)) (r .used - n) (st .token .at) (omega arith) in
           let result : Given s st entry exit n (record { number = 0; used = r .used; items = 1; state = r .state }) words 1 (cursorOf s mid (r .state)) = record {
@@ -174,7 +192,7 @@ module _ (most : ℕ) (s : List ℕ) (st : State) where
             state-is = cursor-kept s mid exit (r .state) same;
             items-is = refl;
             used-is = omega arith;
-            table-is = header entry mid exit (termsWords ts) n (functor (arity ts) (st .token .len)) (3 + length (termsWords ts)) (st .token .at) (omega arith) (given .table-is) stored;
+            table-is = header entry mid exit (termsWords ts) n (functor (arity ts) (st .token .len)) (nodeWords + length (termsWords ts)) (st .token .at) (omega arith) (given .table-is) stored;
             standing = given .standing;
             held = held-kept same (given .held);
             room = omega arith;
@@ -192,11 +210,11 @@ module _ (most : ℕ) (s : List ℕ) (st : Cursor) where
 
 module _ (most : ℕ) (s : List ℕ) (st : State) where
   module _ (entry exit : List ℕ) (n : ℕ) (r : Parsed) where
-    pub term-variable : st .token .kind ≡ 4 → Gives termWords one s st entry exit n r (readVariable s (cursorOf s entry st)) → Gives termWords one s st entry exit n r (readTerm most s (cursorOf s entry st))
+    pub term-variable : st .token .kind ≡ variableKind → Gives termWords one s st entry exit n r (readVariable s (cursorOf s entry st)) → Gives termWords one s st entry exit n r (readTerm most s (cursorOf s entry st))
     unfolding termWith
     term-variable e g = subst⁻¹ (Gives termWords one s st entry exit n r) (term-by most s (cursorOf s entry st) aVariable (start-variable (st .token .kind) e)) g
 
-    pub term-numeral : (st .token .kind ≡ 4 → ⊥) → st .token .kind ≡ 5 → Given s st entry exit n r (termWords (termOf (numeralAt s (cursorOf s entry st)))) 1 (next s (cursorOf s entry st)) → Gives termWords one s st entry exit n r (readTerm most s (cursorOf s entry st))
+    pub term-numeral : (st .token .kind ≡ variableKind → ⊥) → st .token .kind ≡ numeralKind → Given s st entry exit n r (termWords (termOf (numeralAt s (cursorOf s entry st)))) 1 (next s (cursorOf s entry st)) → Gives termWords one s st entry exit n r (readTerm most s (cursorOf s entry st))
     unfolding termWith
     term-numeral f e g = subst⁻¹ (Gives termWords one s st entry exit n r) (term-by most s (cursorOf s entry st) aNumeral (start-numeral (st .token .kind) f e)) g
 
@@ -205,11 +223,11 @@ module _ (most : ℕ) (s : List ℕ) (st : State) where
     atom-term (fault k b) g = g
     atom-term (ok a after) g = g
 
-    pub term-name : (st .token .kind ≡ 4 → ⊥) → (st .token .kind ≡ 5 → ⊥) → st .token .kind ≡ 3 → Gives atomWords one s st entry exit n r (readAtomAt most s (cursorOf s entry st)) → Gives termWords one s st entry exit n r (readTerm most s (cursorOf s entry st))
+    pub term-name : (st .token .kind ≡ variableKind → ⊥) → (st .token .kind ≡ numeralKind → ⊥) → st .token .kind ≡ nameKind → Gives atomWords one s st entry exit n r (readAtomAt most s (cursorOf s entry st)) → Gives termWords one s st entry exit n r (readTerm most s (cursorOf s entry st))
     unfolding termWith readAtomAt
     term-name f h e g = subst⁻¹ (Gives termWords one s st entry exit n r) (term-by most s (cursorOf s entry st) aName (start-name (st .token .kind) f h e)) (atom-term (readAtomAt most s (cursorOf s entry st)) g)
 
-    pub term-other : (st .token .kind ≡ 4 → ⊥) → (st .token .kind ≡ 5 → ⊥) → (st .token .kind ≡ 3 → ⊥) → Refused st (wrongNumber (st .token .kind)) r → Gives termWords one s st entry entry n r (readTerm most s (cursorOf s entry st))
+    pub term-other : (st .token .kind ≡ variableKind → ⊥) → (st .token .kind ≡ numeralKind → ⊥) → (st .token .kind ≡ nameKind → ⊥) → Refused st (wrongNumber (st .token .kind)) r → Gives termWords one s st entry entry n r (readTerm most s (cursorOf s entry st))
     unfolding termWith
     term-other f h e g = subst⁻¹ (Gives termWords one s st entry entry n r) (term-by most s (cursorOf s entry st) nothing (start-nothing (st .token .kind) f h e)) (refused-wrong termWords one s st st entry entry n r (namesFrom s (met entry) 0 (st .count)) g refl)
 
@@ -287,7 +305,7 @@ module _ {A L : Type 0} (over : ℕ) (wa : A → List ℕ) (wl : L → List ℕ)
       let b : il (o .0) ≤ length (wl (o .0)) = few (o .0) in
       omega arith
 
-  pub one-last : (after : State) → (r .state .token .kind ≡ 16 → ⊥) → Moved s (r .state) after → Given s st entry mid n (record { number = 0; used = r .used; items = 1; state = after }) (wl (put a empty)) (il (put a empty)) (next s (cursorOf s mid (r .state)))
+  pub one-last : (after : State) → (r .state .token .kind ≡ endKind → ⊥) → Moved s (r .state) after → Given s st entry mid n (record { number = 0; used = r .used; items = 1; state = after }) (wl (put a empty)) (il (put a empty)) (next s (cursorOf s mid (r .state)))
   one-last after z m =
       let less : nodeWords + nodeWords * left s after ≤ nodeWords * left s (r .state) = past-less after z m in
       let fits : length (wa a) + nodeWords * left s (r .state) + over ≤ nodeWords * left s st + 1 = g .room in
@@ -321,7 +339,7 @@ module _ (most : ℕ) (s : List ℕ) (k : ℕ) (st : Cursor) where
   whole-list = readArguments (λ x. readTerm most s x) s k st
 
   abbrev go-on : Term → Cursor → Read Terms
-  go-on t after = argumentsAfter (λ st1. readArguments (λ x. readTerm most s x) s (k - 1) st1) s t after (afterOf 8 (after .token .kind))
+  go-on t after = argumentsAfter (λ st1. readArguments (λ x. readTerm most s x) s (k - 1) st1) s t after (afterOf closeKind (after .token .kind))
 
   arguments-some : (k ≡ 0 → ⊥) → whole-list ≡ andThen (readTerm most s st) go-on
   unfolding readArguments
@@ -346,7 +364,7 @@ module _ (most : ℕ) (s : List ℕ) (k : ℕ) (st : State) where
       n-in = let room : n + nodeWords * left s st + 0 + variables ≤ length entry = ready .room in omega arith
 
       -- the whole, by what stands behind the term
-      behind : (x : After) → afterOf 8 (r .state .token .kind) ≡ x → whole-list most s k (cursorOf s entry st) ≡ argumentsAfter (λ st1. readArguments (λ y. readTerm most s y) s (k - 1) st1) s (read .0) (cursorOf s mid (r .state)) x
+      behind : (x : After) → afterOf closeKind (r .state .token .kind) ≡ x → whole-list most s k (cursorOf s entry st) ≡ argumentsAfter (λ st1. readArguments (λ y. readTerm most s y) s (k - 1) st1) s (read .0) (cursorOf s mid (r .state)) x
       unfolding andThen
       behind x a = arguments-some most s k (cursorOf s entry st) z ∙ ap (λ (d : Read Term). andThen d (go-on most s k (cursorOf s entry st))) (read .1) ∙ ap (argumentsAfter (λ st1. readArguments (λ y. readTerm most s y) s (k - 1) st1) s (read .0) (cursorOf s mid (r .state))) a
 
@@ -364,23 +382,23 @@ module _ (most : ℕ) (s : List ℕ) (k : ℕ) (st : State) where
       pub arguments-ready : (after : State) → r .state .token .kind ≡ commaKind → Moved s (r .state) after → length mid ≡ length entry → Ready s after mid (r .used) 0
       arguments-ready after a m l = behind-ready 1 termWords termsWords arity cons nil words-cons (λ t ts. refl) words-nil refl s st entry mid n r (read .0) (read .2) 0 ready after (comma-some a) m l
 
-      pub arguments-more : (exit : List ℕ) (after : State) (q p : Parsed) → r .state .token .kind ≡ 9 → Moved s (r .state) after → Gives termsWords arity s after mid exit (r .used) q (readArguments (λ x. readTerm most s x) s (k - 1) (cursorOf s mid after)) → Counted q p → Gives termsWords arity s st entry exit n p (readArguments (λ x. readTerm most s x) s k (cursorOf s entry st))
+      pub arguments-more : (exit : List ℕ) (after : State) (q p : Parsed) → r .state .token .kind ≡ commaKind → Moved s (r .state) after → Gives termsWords arity s after mid exit (r .used) q (readArguments (λ x. readTerm most s x) s (k - 1) (cursorOf s mid after)) → Counted q p → Gives termsWords arity s st entry exit n p (readArguments (λ x. readTerm most s x) s k (cursorOf s entry st))
       unfolding argumentsAfter
       arguments-more exit after q p a m h ep =
-          subst⁻¹ (Gives termsWords arity s st entry exit n p) (behind more (after-more 8 (r .state .token .kind) a) ∙ ap (λ (x : Cursor). andThen (readArguments (λ y. readTerm most s y) s (k - 1) x) (λ ts end. ok (cons (read .0) ts) end)) (sym (next-of mid m)))
+          subst⁻¹ (Gives termsWords arity s st entry exit n p) (behind more (after-more closeKind (r .state .token .kind) a) ∙ ap (λ (x : Cursor). andThen (readArguments (λ y. readTerm most s y) s (k - 1) x) (λ ts end. ok (cons (read .0) ts) end)) (sym (next-of mid m)))
           (one-more 1 termWords termsWords arity cons nil words-cons (λ t ts. refl) words-nil refl s st entry mid n r (read .0) (read .2) exit after q p (readArguments (λ x. readTerm most s x) s (k - 1) (cursorOf s mid after)) (comma-some a) m h ep n-in)
 
       pub arguments-few : (exit : List ℕ) (after : State) (q : Parsed) → Moved s (r .state) after → Gives termsWords arity s after mid exit (r .used) q (readArguments (λ x. readTerm most s x) s (k - 1) (cursorOf s mid after)) → q .number ≡ 0 → q .items < 2 ^ 31
       arguments-few exit after q m h zero-is = few-items 1 termWords termsWords arity cons nil words-cons (λ t ts. refl) words-nil refl s st entry mid n r (read .0) (read .2) arity-words exit after q (readArguments (λ x. readTerm most s x) s (k - 1) (cursorOf s mid after)) (r .used) (m .standing) h zero-is
 
-      pub arguments-last : (after : State) → (r .state .token .kind ≡ 9 → ⊥) → r .state .token .kind ≡ 8 → Moved s (r .state) after → Gives termsWords arity s st entry mid n (record { number = 0; used = r .used; items = 1; state = after }) (readArguments (λ x. readTerm most s x) s k (cursorOf s entry st))
+      pub arguments-last : (after : State) → (r .state .token .kind ≡ commaKind → ⊥) → r .state .token .kind ≡ closeKind → Moved s (r .state) after → Gives termsWords arity s st entry mid n (record { number = 0; used = r .used; items = 1; state = after }) (readArguments (λ x. readTerm most s x) s k (cursorOf s entry st))
       unfolding argumentsAfter
       arguments-last after f a m =
-          subst⁻¹ (Gives termsWords arity s st entry mid n (record { number = 0; used = r .used; items = 1; state = after })) (behind last (after-last 8 (r .state .token .kind) f a))
-          (one-last 1 termWords termsWords arity cons nil words-cons (λ t ts. refl) words-nil refl s st entry mid n r (read .0) (read .2) after (λ q. let e8 : r .state .token .kind ≡ 8 = a in omega arith) m)
+          subst⁻¹ (Gives termsWords arity s st entry mid n (record { number = 0; used = r .used; items = 1; state = after })) (behind last (after-last closeKind (r .state .token .kind) f a))
+          (one-last 1 termWords termsWords arity cons nil words-cons (λ t ts. refl) words-nil refl s st entry mid n r (read .0) (read .2) after (λ q. let e8 : r .state .token .kind ≡ closeKind = a in omega arith) m)
 
-      pub arguments-wrong : (q : Parsed) → (r .state .token .kind ≡ 9 → ⊥) → (r .state .token .kind ≡ 8 → ⊥) → Refused (r .state) (wrongNumber (r .state .token .kind)) q → Gives termsWords arity s st entry mid n q (readArguments (λ x. readTerm most s x) s k (cursorOf s entry st))
+      pub arguments-wrong : (q : Parsed) → (r .state .token .kind ≡ commaKind → ⊥) → (r .state .token .kind ≡ closeKind → ⊥) → Refused (r .state) (wrongNumber (r .state .token .kind)) q → Gives termsWords arity s st entry mid n q (readArguments (λ x. readTerm most s x) s k (cursorOf s entry st))
       unfolding argumentsAfter
       arguments-wrong q f a h =
-          subst⁻¹ (Gives termsWords arity s st entry mid n q) (behind neither (after-neither 8 (r .state .token .kind) f a))
+          subst⁻¹ (Gives termsWords arity s st entry mid n q) (behind neither (after-neither closeKind (r .state .token .kind) f a))
           (refused-wrong termsWords arity s st (r .state) entry mid n q (namesFrom s (met mid) 0 (r .state .count)) h (one-kept 1 termWords termsWords arity cons nil words-cons (λ t ts. refl) words-nil refl s st entry mid n r (read .0) (read .2) n-in))

@@ -6,15 +6,15 @@ use syntax::State;
 use syntax::Token;
 use syntax::span_at;
 use syntax::span_length;
+use texts::same_bytes;
 ghost use mathlib.Core.Path.{_≡_};
 ghost use Prim.Native.Nat.{_+_, _*_, _-_, _≤_, _<_, _^_};
 ghost use lib.ListN.{length, set, getD};
 ghost use Rattle.syntax.specs.Reading.{wrongNumber};
 ghost use Rattle.syntax.specs.Words.{nodeWords};
 ghost use Rattle.syntax.specs.Spans.{spanned, Inside};
-ghost use mathlib.Core.List.{[], _∷_};
 ghost use Rattle.syntax.specs.Tokens.{spelling};
-ghost use Rattle.syntax.specs.Terms.{sameName, true-name, fail-name, mode-name};
+ghost use Rattle.syntax.specs.Terms.{sameName};
 ghost use Rattle.reading.specs.Gives.{Standing, Moved, Refused};
 
 // The reader past the token at hand.
@@ -76,7 +76,7 @@ pub fn same_span(s: &[u8], t: Token, first: u32) -> bool
     let a = span_at(first);
     let m = span_length(first);
     if m == len {
-        return lexer::same_bytes(s, a, s, at, len);
+        return same_bytes(s, a, s, at, len);
     }
     false
 }
@@ -87,45 +87,4 @@ pub fn put(table: &mut [u32], n: usize, word: usize)
     ensures { λ _. ⌜ now (table .exit) ≡ set (now (table .entry)) n word ⌝ }
 {
     table[n] = word as u32;
-}
-
-// Whether a name is the one of these four bytes.
-fn is_four(s: &[u8], at: usize, len: usize, a: u8, b: u8, c: u8, d: u8) -> bool
-    requires { ⌜ at + len ≤ length (now s) ⌝ }
-    ensures { λ r. ⌜ r ≡ sameName (spelling (now (s .entry)) at len) (a ∷ b ∷ c ∷ d ∷ []) ⌝ }
-{
-    if len != 4 {
-        return false;
-    }
-    if lexer::byte_at(s, at) != a {
-        return false;
-    }
-    if lexer::byte_at(s, at + 1) != b {
-        return false;
-    }
-    if lexer::byte_at(s, at + 2) != c {
-        return false;
-    }
-    lexer::byte_at(s, at + 3) == d
-}
-
-pub fn is_true(s: &[u8], at: usize, len: usize) -> bool
-    requires { ⌜ at + len ≤ length (now s) ⌝ }
-    ensures { λ r. ⌜ r ≡ sameName (spelling (now (s .entry)) at len) true-name ⌝ }
-{
-    is_four(s, at, len, 116, 114, 117, 101)
-}
-
-pub fn is_fail(s: &[u8], at: usize, len: usize) -> bool
-    requires { ⌜ at + len ≤ length (now s) ⌝ }
-    ensures { λ r. ⌜ r ≡ sameName (spelling (now (s .entry)) at len) fail-name ⌝ }
-{
-    is_four(s, at, len, 102, 97, 105, 108)
-}
-
-pub fn is_mode(s: &[u8], at: usize, len: usize) -> bool
-    requires { ⌜ at + len ≤ length (now s) ⌝ }
-    ensures { λ r. ⌜ r ≡ sameName (spelling (now (s .entry)) at len) mode-name ⌝ }
-{
-    is_four(s, at, len, 109, 111, 100, 101)
 }

@@ -9,8 +9,6 @@ use crate::cursor::wrong;
 use syntax::ARGUMENTS;
 use syntax::CLOSE;
 use syntax::COMMA;
-use syntax::FIRST_NAME;
-use syntax::LENGTHS;
 use syntax::NAME;
 use syntax::NODE_WORDS;
 use syntax::NUMERAL;
@@ -19,7 +17,10 @@ use syntax::State;
 use syntax::Token;
 use syntax::VARIABLE;
 use syntax::VARIABLES;
+use syntax::pack_functor;
 use syntax::pack_span;
+use texts::first_kept;
+use texts::is_anonymous;
 ghost use mathlib.Core.Path.{_≡_};
 ghost use mathlib.Core.List.{[], _∷_};
 ghost use Prim.Native.Nat.{_+_, _*_, _-_, _≤_, _<_, _^_};
@@ -27,28 +28,11 @@ ghost use lib.ListN.{length, set};
 ghost use Rattle.syntax.specs.Limits.{sheetBytes, variables};
 ghost use Rattle.syntax.specs.Spans.{packed, met, Held};
 ghost use Rattle.syntax.specs.Terms.{arity, termOf};
-ghost use Rattle.syntax.specs.Numerals.{dropped};
 ghost use Rattle.syntax.specs.Tokens.{spelling, nameKind, variableKind, numeralKind, endKind};
 ghost use Rattle.syntax.specs.Reading.{isAnonymous, numeralAt, newVariable, readVariable, readTerm, readList, readAtomWith, readArguments, startOf};
 ghost use Rattle.reading.specs.Atoms.{readAtomAt};
 ghost use Rattle.syntax.specs.Words.{nodeWords, termWords, termsWords, atomWords, functor};
 ghost use Rattle.reading.specs.Gives.{cursorOf, found, Standing, Ready, Given, Gives, FoundAs, MetAs, Refused, Counted, fullNumber, one};
-
-// The underscore, and the digit 0.
-const UNDERSCORE: u8 = 95;
-
-const ZERO: u8 = 48;
-
-// Whether a token is `_` alone.
-fn is_anonymous(s: &[u8], t: Token) -> bool
-    ensures { λ r. ⌜ r ≡ isAnonymous (now (s .entry)) t ⌝ }
-{
-    if t.len != 1 {
-        return false;
-    }
-    let at = t.at;
-    lexer::byte_at(s, at) == UNDERSCORE
-}
 
 // The number of the variable at hand: that of the same one met before, or one more than all of these.
 fn number_of(s: &[u8], st: State, table: &[u32]) -> usize
@@ -129,23 +113,6 @@ fn leaf(s: &[u8], st: State, table: &mut [u32], n: usize, what: usize) -> Parsed
     leaf_at(s, st, table, n, what, at)
 }
 
-// The byte of the first digit that a numeral keeps: leading zeros are dropped, but never its last digit.
-fn first_kept(s: &[u8], at: usize, len: usize) -> usize
-    requires { ⌜ at + len ≤ length (now s) ⌝ }
-    ensures { λ r. ⌜ r ≡ at + dropped (spelling (now (s .entry)) at len) ⌝ }
-{
-    let mut p = at;
-    let mut left = len;
-    while 1 < left {
-        if s[p] != ZERO {
-            return p;
-        }
-        p += 1;
-        left -= 1;
-    }
-    p
-}
-
 // The numeral at hand, without its leading zeros.
 fn read_numeral(s: &[u8], st: State, table: &mut [u32], n: usize) -> Parsed
     requires { ⌜ Ready (now s) st (now table) n 0 ⌝ }
@@ -158,7 +125,7 @@ fn read_numeral(s: &[u8], st: State, table: &mut [u32], n: usize) -> Parsed
     let p = first_kept(s, at, len);
     let past = at + len;
     let kept = past - p;
-    let what = FIRST_NAME + kept;
+    let what = pack_functor(0, kept);
     leaf_at(s, st, table, n, what, p)
 }
 
@@ -226,7 +193,7 @@ pub fn read_atom(s: &[u8], left: usize, st: State, table: &mut [u32], n: usize) 
     let u = past.token;
     let kind = u.kind;
     if kind != OPEN {
-        let what = FIRST_NAME + len;
+        let what = pack_functor(0, len);
         return leaf(s, st, table, n, what);
     }
     if left == 0 {
@@ -250,7 +217,7 @@ fn close(st: State, r: Parsed, table: &mut [u32], n: usize) -> Parsed
     let t = st.token;
     let at = t.at;
     let used = r.used;
-    let what = FIRST_NAME + r.items * LENGTHS + t.len;
+    let what = pack_functor(r.items, t.len);
     let size = used - n;
     put_node(table, n, what, size, at);
     let state = r.state;

@@ -1,8 +1,8 @@
 // Refusal 7 of document 01: a declaration that repeats an earlier predicate, or names `true` or `fail` without arguments.
 use marking::marks::find;
-use reading::cursor::is_fail;
-use reading::cursor::is_true;
 use syntax::DECLARATION_SIZE;
+use texts::is_fail;
+use texts::is_true;
 use words::word_at;
 ghost use mathlib.Core.Path.{_≡_};
 ghost use mathlib.Core.List.{[]};

@@ -3,14 +3,18 @@ use Prim.Native.Nat.{ℕ, zero, suc, _+_, _-_, _*_, _≤_, _<_}
 use native.Mathlib.Omega.{arith}
 use mathlib.Core.Path.{_≡_, refl, sym, ap, ap₂, _∙_, subst, subst⁻¹}
 use mathlib.Core.Bool.{Bool, true, false, cond}
-use mathlib.Core.List.{List, [], _∷_, _++_}
+use mathlib.Core.List.{List, _++_}
 use lib.Dec.{leb, eqb}
-use lib.ListN.{length, getD, take, List·getD-append}
+use lib.ListN.{length, take, List·getD-append}
 use lib.Seq.{length-take-le, getD-take}
-use borrow.Author.Tests.{le-leb, lt-leb, eq-eqb, ne-eqb}
+use borrow.Author.Tests.{ne-eqb}
 use Rattle.syntax.specs.Terms.{Sheet, Goal}
+use Rattle.syntax.specs.declared.Kind.{Kind}
 use Rattle.syntax.specs.declared.Kind.the-variants.{Wanted, Done, Steps, Deep}
-use Rattle.machine.specs.Machine.{Alternative, step}
+use Rattle.settings.specs.declared.Standing.{Standing}
+use Rattle.settings.specs.declared.Standing.the-variants.{Over, Open}
+use Rattle.settings.specs.Ends.{endedBy}
+use Rattle.machine.specs.Machine.{Alternative}
 use Rattle.machine.specs.Answers.{line}
 use Rattle.machine.specs.Runs.{isEmpty, isAnswer, goesDeeper}
 use Rattle.layout.specs.Regions.{alternatives, alternativeSize, mostAlternatives, stateWords, stack}
@@ -26,62 +30,59 @@ use Rattle.engine.specs.Steps.{Running, Steppable, Stepped}
 use Rattle.engine.specs.declared.Pile.{Pile}
 use Rattle.runs.specs.declared.Next.{Next}
 use Rattle.runs.specs.declared.Next.the-variants.{End, Answer, Step}
-use Rattle.runs.specs.Running.{nextOf, Tellable, Spelt, Under, Rewindable, Same, Rewound, Answering, Answered}
+use Rattle.runs.specs.Running.{nextOf, Tellable, Rewindable, Same, Rewound, Answering, Answered}
 use Rattle.runs.proofs.EndLaws.{answer-flat}
 
 -- ---- what comes next
 
-module _ (wanted answers left : ℕ) (sh : Sheet) (pile : List Alternative) where
-  abbrev picks : Bool → Bool → Bool → Bool → Bool → Next
-  picks a b c d e = cond b (End Done) (cond a (End Wanted) (cond c (End Steps) (cond d Answer (cond e (End Deep) Step))))
+-- the pile is empty where its height is 0
+empty-is : (ss : List Symbol) (sh : Sheet) (g : Goal) (nodes code state : List ℕ) (h : ℕ) → isEmpty (pileOf ss sh g nodes code state h) ≡ eqb h 0
+unfolding isEmpty pileOf
+empty-is ss sh g nodes code state zero = refl
+empty-is ss sh g nodes code state (suc h) = sym (ne-eqb (suc h) 0 (λ e. omega arith))
 
-  picked : nextOf wanted answers left sh pile ≡ picks (leb wanted answers) (isEmpty pile) (eqb left 0) (isAnswer pile) (goesDeeper sh pile)
+-- an end that the counts tell, or what comes else
+abbrev onward : Standing → Next → Next
+onward (Over k) rest = End k
+onward Open rest = rest
+
+by-counts : (a b c : Bool) (rest : Next) → cond a (End Done) (cond b (End Wanted) (cond c (End Steps) rest)) ≡ onward (cond a (Over Done) (cond b (Over Wanted) (cond c (Over Steps) Open))) rest
+by-counts true b c rest = refl
+by-counts false true c rest = refl
+by-counts false false true rest = refl
+by-counts false false false rest = refl
+
+module _ {nodes code state : List ℕ} {h n : ℕ} (wanted answers left : ℕ) {s : Standing} (e : s ≡ endedBy h wanted answers left) (w : Running nodes code state h n) where
+  abbrev pile : List Alternative
+  pile = pileOf (w .ss) (w .sh) (w .g) nodes code state h
+
+  abbrev next : Next
+  next = nextOf wanted answers left (w .sh) pile
+
+  abbrev rest : Bool → Bool → Next
+  rest a d = cond a Answer (cond d (End Deep) Step)
+
+  next-by : next ≡ onward s (rest (isAnswer pile) (goesDeeper (w .sh) pile))
   unfolding nextOf
-  picked = refl
+  next-by =
+      ap (λ (x : Bool). cond x (End Done) (cond (leb wanted answers) (End Wanted) (cond (eqb left 0) (End Steps) (rest (isAnswer pile) (goesDeeper (w .sh) pile))))) (empty-is (w .ss) (w .sh) (w .g) nodes code state h)
+      ∙ by-counts (eqb h 0) (leb wanted answers) (eqb left 0) (rest (isAnswer pile) (goesDeeper (w .sh) pile))
+      ∙ ap (λ (x : Standing). onward x (rest (isAnswer pile) (goesDeeper (w .sh) pile))) (sym e)
 
-  picks-to : (a b c d e : Bool) → leb wanted answers ≡ a → isEmpty pile ≡ b → eqb left 0 ≡ c → isAnswer pile ≡ d → goesDeeper sh pile ≡ e → nextOf wanted answers left sh pile ≡ picks a b c d e
-  picks-to a b c d e p q r s t =
-      picked
-      ∙ ap (λ (x : Bool). picks x (isEmpty pile) (eqb left 0) (isAnswer pile) (goesDeeper sh pile)) p
-      ∙ ap (λ (x : Bool). picks a x (eqb left 0) (isAnswer pile) (goesDeeper sh pile)) q
-      ∙ ap (λ (x : Bool). picks a b x (isAnswer pile) (goesDeeper sh pile)) r
-      ∙ ap (λ (x : Bool). picks a b c x (goesDeeper sh pile)) s
-      ∙ ap (λ (x : Bool). picks a b c d x) t
+  pub next-over : {k : Kind} → s ≡ Over k → End k ≡ next
+  next-over q = sym (next-by ∙ ap (λ (x : Standing). onward x (rest (isAnswer pile) (goesDeeper (w .sh) pile))) q)
 
-pile-empty : (ss : List Symbol) (sh : Sheet) (g : Goal) (nodes code state : List ℕ) (h : ℕ) → h ≡ 0 → isEmpty (pileOf ss sh g nodes code state h) ≡ true
-unfolding isEmpty pileOf
-pile-empty ss sh g nodes code state zero q = refl
-pile-empty ss sh g nodes code state (suc h) q = absurd (omega arith)
+  next-open : (a d : Bool) → s ≡ Open → a ≡ isAnswer pile → d ≡ goesDeeper (w .sh) pile → next ≡ rest a d
+  next-open a d q ea ed = next-by ∙ ap (λ (x : Standing). onward x (rest (isAnswer pile) (goesDeeper (w .sh) pile))) q ∙ ap₂ rest (sym ea) (sym ed)
 
-pile-filled : (ss : List Symbol) (sh : Sheet) (g : Goal) (nodes code state : List ℕ) (h : ℕ) → (h ≡ 0 → ⊥) → isEmpty (pileOf ss sh g nodes code state h) ≡ false
-unfolding isEmpty pileOf
-pile-filled ss sh g nodes code state zero q = absurd (q refl)
-pile-filled ss sh g nodes code state (suc h) q = refl
+  pub next-answer : s ≡ Open → true ≡ isAnswer pile → Answer ≡ next
+  next-answer q ea = sym (next-open true (goesDeeper (w .sh) pile) q ea refl)
 
-pub next-done : (allowance wanted answers steps : ℕ) {nodes code state : List ℕ} {h n : ℕ} (w : Running nodes code state h n) → h ≡ 0 → End Done ≡ nextOf wanted answers (allowance - steps) (w .sh) (pileOf (w .ss) (w .sh) (w .g) nodes code state h)
-next-done allowance wanted answers steps {nodes} {code} {state} {h} {n} w z = sym (picks-to wanted answers (allowance - steps) (w .sh) (pileOf (w .ss) (w .sh) (w .g) nodes code state h) (leb wanted answers) true (eqb (allowance - steps) 0) (isAnswer (pileOf (w .ss) (w .sh) (w .g) nodes code state h)) (goesDeeper (w .sh) (pileOf (w .ss) (w .sh) (w .g) nodes code state h)) refl (pile-empty (w .ss) (w .sh) (w .g) nodes code state h z) refl refl refl)
+  pub next-deep : s ≡ Open → false ≡ isAnswer pile → true ≡ goesDeeper (w .sh) pile → End Deep ≡ next
+  next-deep q ea ed = sym (next-open false true q ea ed)
 
-module _ {nodes code state : List ℕ} {allowance wanted h n answers steps : ℕ} (few : steps ≤ allowance) (w : Running nodes code state h n) where
-  module _ (z : h ≡ 0 → ⊥) where
-    pub next-wanted : wanted ≤ answers → End Wanted ≡ nextOf wanted answers (allowance - steps) (w .sh) (pileOf (w .ss) (w .sh) (w .g) nodes code state h)
-    next-wanted l = sym (picks-to wanted answers (allowance - steps) (w .sh) (pileOf (w .ss) (w .sh) (w .g) nodes code state h) true false (eqb (allowance - steps) 0) (isAnswer (pileOf (w .ss) (w .sh) (w .g) nodes code state h)) (goesDeeper (w .sh) (pileOf (w .ss) (w .sh) (w .g) nodes code state h)) (le-leb wanted answers l) (pile-filled (w .ss) (w .sh) (w .g) nodes code state h z) refl refl refl)
-
-    module _ (l : answers < wanted) where
-      pub next-steps : steps ≡ allowance → End Steps ≡ nextOf wanted answers (allowance - steps) (w .sh) (pileOf (w .ss) (w .sh) (w .g) nodes code state h)
-      next-steps e = sym (picks-to wanted answers (allowance - steps) (w .sh) (pileOf (w .ss) (w .sh) (w .g) nodes code state h) false false true (isAnswer (pileOf (w .ss) (w .sh) (w .g) nodes code state h)) (goesDeeper (w .sh) (pileOf (w .ss) (w .sh) (w .g) nodes code state h)) (lt-leb wanted answers l) (pile-filled (w .ss) (w .sh) (w .g) nodes code state h z) (eq-eqb (allowance - steps) 0 (omega arith)) refl refl)
-
-      module _ (e : steps ≡ allowance → ⊥) where
-        more : eqb (allowance - steps) 0 ≡ false
-        more = ne-eqb (allowance - steps) 0 (λ q. e (omega arith))
-
-        pub next-answer : true ≡ isAnswer (pileOf (w .ss) (w .sh) (w .g) nodes code state h) → Answer ≡ nextOf wanted answers (allowance - steps) (w .sh) (pileOf (w .ss) (w .sh) (w .g) nodes code state h)
-        next-answer a = sym (picks-to wanted answers (allowance - steps) (w .sh) (pileOf (w .ss) (w .sh) (w .g) nodes code state h) false false false true (goesDeeper (w .sh) (pileOf (w .ss) (w .sh) (w .g) nodes code state h)) (lt-leb wanted answers l) (pile-filled (w .ss) (w .sh) (w .g) nodes code state h z) more (sym a) refl)
-
-        pub next-deep : false ≡ isAnswer (pileOf (w .ss) (w .sh) (w .g) nodes code state h) → true ≡ goesDeeper (w .sh) (pileOf (w .ss) (w .sh) (w .g) nodes code state h) → End Deep ≡ nextOf wanted answers (allowance - steps) (w .sh) (pileOf (w .ss) (w .sh) (w .g) nodes code state h)
-        next-deep a d = sym (picks-to wanted answers (allowance - steps) (w .sh) (pileOf (w .ss) (w .sh) (w .g) nodes code state h) false false false false true (lt-leb wanted answers l) (pile-filled (w .ss) (w .sh) (w .g) nodes code state h z) more (sym a) (sym d))
-
-        pub next-step : false ≡ isAnswer (pileOf (w .ss) (w .sh) (w .g) nodes code state h) → false ≡ goesDeeper (w .sh) (pileOf (w .ss) (w .sh) (w .g) nodes code state h) → Step ≡ nextOf wanted answers (allowance - steps) (w .sh) (pileOf (w .ss) (w .sh) (w .g) nodes code state h)
-        next-step a d = sym (picks-to wanted answers (allowance - steps) (w .sh) (pileOf (w .ss) (w .sh) (w .g) nodes code state h) false false false false false (lt-leb wanted answers l) (pile-filled (w .ss) (w .sh) (w .g) nodes code state h z) more (sym a) (sym d))
+  pub next-step : s ≡ Open → false ≡ isAnswer pile → false ≡ goesDeeper (w .sh) pile → Step ≡ next
+  next-step q ea ed = sym (next-open false false q ea ed)
 
 -- ---- the trail rewound
 

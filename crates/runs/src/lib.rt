@@ -9,6 +9,8 @@ use engine::step;
 use layout::ALTERNATIVE_SIZE;
 use layout::ALTERNATIVES;
 use layout::STACK;
+use settings::Standing;
+use settings::ended;
 use syntax::Kind;
 use syntax::Report;
 use words::word_at;
@@ -79,22 +81,20 @@ fn next_of(
     ensures { λ r. ⌜ ((nodes : List ℕ) (w : Running nodes (now (code .entry)) (now (state .entry)) h n)
         → r ≡ nextOf wanted answers (allowance - steps) (w .sh) (pileOf (w .ss) (w .sh) (w .g) nodes (now (code .entry)) (now (state .entry)) h)) ⌝ }
 {
-    if h == 0 {
-        return Next::End(Kind::Done);
+    let left = allowance - steps;
+    let standing = ended(h, wanted, answers, left);
+    match standing {
+        Standing::Over(kind) => Next::End(kind),
+        Standing::Open => {
+            if is_answer(code, state, h, n) {
+                return Next::Answer;
+            }
+            if goes_deeper(code, state, h, n) {
+                return Next::End(Kind::Deep);
+            }
+            Next::Step
+        }
     }
-    if wanted <= answers {
-        return Next::End(Kind::Wanted);
-    }
-    if steps == allowance {
-        return Next::End(Kind::Steps);
-    }
-    if is_answer(code, state, h, n) {
-        return Next::Answer;
-    }
-    if goes_deeper(code, state, h, n) {
-        return Next::End(Kind::Deep);
-    }
-    Next::Step
 }
 
 // The trail undone to the top's mark, which is its length then.

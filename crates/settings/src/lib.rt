@@ -1,8 +1,10 @@
-// The settings of a run: document 01's refusal 1.
+// The settings of a run, document 01's refusal 1, and the ends of a run that its counts tell.
+use syntax::Kind;
 use syntax::MOST_ANSWERS;
 use syntax::MOST_STEPS;
 ghost use mathlib.Core.Path.{_≡_};
 ghost use Rattle.machine.specs.Runs.{inRange};
+ghost use Rattle.settings.specs.Ends.{endedBy};
 
 // Whether a run takes these settings: 1 to 65,536 steps, 1 to 64 answers.
 pub fn in_range(allowance: usize, wanted: usize) -> bool
@@ -18,4 +20,26 @@ pub fn in_range(allowance: usize, wanted: usize) -> bool
         return false;
     }
     wanted <= MOST_ANSWERS
+}
+
+// How a run stands before its next step, as far as its counts tell.
+pub enum Standing {
+    Over(Kind),
+    Open,
+}
+
+// The ends are looked for in their order: no alternative left on the pile, as many answers as are wanted, no step left of the allowance.
+pub fn ended(height: usize, wanted: usize, answers: usize, left: usize) -> Standing
+    ensures { λ r. ⌜ r ≡ endedBy height wanted answers left ⌝ }
+{
+    if height == 0 {
+        return Standing::Over(Kind::Done);
+    }
+    if wanted <= answers {
+        return Standing::Over(Kind::Wanted);
+    }
+    if left == 0 {
+        return Standing::Over(Kind::Steps);
+    }
+    Standing::Open
 }

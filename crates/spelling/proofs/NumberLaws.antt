@@ -2,7 +2,7 @@
 use Prim.Native.Nat.{ℕ, suc, _+_, _≤_, _<_, _^_}
 use native.Mathlib.Nat.{add-zero}
 use native.Mathlib.Omega.{arith}
-use mathlib.Core.Path.{_≡_, refl, sym, ap, _∙_, subst}
+use mathlib.Core.Path.{_≡_, refl, sym, ap, _∙_, subst, ap₂}
 use mathlib.Core.Bool.{Bool, true, false}
 use mathlib.Core.List.{List, [], _∷_, _++_}
 use mathlib.Core.Option.{Option, none, some}
@@ -20,8 +20,14 @@ use Rattle.machine.specs.Answers.{Piece, unbound, placeOf, numbered, bytesOf}
 use Rattle.machine.proofs.Tests.{variable-eq, variable-refl}
 use Rattle.layout.specs.State.{variableOf}
 use Rattle.layout.proofs.State.{cell-eq}
-use Rattle.spelling.specs.Words.{nameAt, numberIn, Numbers, symbolPlace, symbolText, symbolLength, symbolName, textOf}
+use Rattle.spelling.specs.Words.{nameAt, numberIn, Numbers, symbolName, textOf}
+use Rattle.layout.specs.Symbols.{symbolPlace, symbolText, symbolLength}
 use Rattle.spelling.specs.Telling.{Numbered, Told}
+
+-- ---- a part of a text, by its place and length as they were taken out of a word
+
+pub put-part : (text : List ℕ) {out out′ : List ℕ} {at a b l m r : ℕ} → a ≡ b → l ≡ m → Put out at (spelling text a l) out′ r → Put out at (spelling text b m) out′ r
+put-part text {out} {out′} {at} {r = r} e f p = subst (λ (x : List ℕ). Put out at x out′ r) (ap₂ (spelling text) e f) p
 
 -- ---- names
 

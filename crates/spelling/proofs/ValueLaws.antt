@@ -2,7 +2,7 @@
 use Prim.Native.Nat.{ℕ, zero, suc, _+_, _-_, _*_, _/_, _%_, _≤_, _<_, _^_}
 use native.Mathlib.Numerals.{add-one}
 use native.Mathlib.Omega.{arith}
-use mathlib.Core.Path.{_≡_, refl, sym, ap, _∙_, subst}
+use mathlib.Core.Path.{_≡_, refl, sym, ap, _∙_, subst, subst⁻¹}
 use mathlib.Core.Logic.{_⊎_, inl, inr}
 use mathlib.Core.Bool.{Bool, true, false, _&&_}
 use mathlib.Core.List.{List, [], _∷_, _++_, append-assoc}
@@ -12,7 +12,7 @@ use lib.ListN.{length, getD, take, drop, length-take, length-drop, length-append
 use lib.Seq.{drop-cons}
 use Rattle.syntax.specs.Limits.{variables, wordBytes}
 use Rattle.syntax.specs.Spans.{spanAt, spanLength, spanned, Inside, namesFrom}
-use Rattle.layout.specs.Regions.{copyCells, cells, deepest, openSize}
+use Rattle.layout.specs.Regions.{copies, copyCells, cells, deepest, openSize}
 use Rattle.syntax.specs.Quote.{bytes}
 use Rattle.syntax.specs.Terms.{sameBytes}
 use Rattle.syntax.specs.Tokens.{spelling}
@@ -21,6 +21,8 @@ use Rattle.buffers.proofs.Laws.{then, nothing}
 use Rattle.machine.specs.Substitution.{Variable, RTerm, var, Binding, resolve}
 use Rattle.machine.specs.Answers.{Piece, unbound, written, spelt, bytesOf, isAnonymous, allAnonymous, valuesFrom}
 use Rattle.layout.specs.Nodes.{Symbol, Node, termAt}
+use Rattle.bindings.specs.declared.At.{At}
+use Rattle.bindings.specs.Cells.{atOf}
 use Rattle.layout.specs.State.{variableOf, nodeOf, copyOf, cellAt, trailAt, valueOf, bindings, Entry}
 use Rattle.layout.proofs.State.{copy-small, resolve-bound, resolve-unbound}
 use Rattle.spelling.specs.Words.{Numbers, left, depth, Named}
@@ -122,26 +124,6 @@ module _ (ss : List Symbol) (n : ℕ) (nodes state symbols sheet goal stack : Li
   pub value-free : w ≡ 0 → valueIn (bindings ss nodes state n) i ≡ var (variableOf i)
   value-free z = as-cell ∙ resolve-unbound ss nodes state n i (v .setting .store) small (sym e ∙ z)
 
-  pub value-bound : (w ≡ 0 → ⊥) → valueIn (bindings ss nodes state n) i ≡ resolve (bindings ss nodes state n) (termAt ss nodes (nodeOf w) (copyOf w))
-  unfolding valueOf
-  value-bound z =
-      as-cell
-      ∙ (resolve-bound ss nodes state n i (v .setting .store) small (λ q. z (e ∙ q))
-      ∙ ap (λ (x : ℕ). resolve (bindings ss nodes state n) (termAt ss nodes (nodeOf x) (copyOf x))) (sym e))
-
-  pub value-facing : (w ≡ 0 → ⊥) → Ample stack openSize → Facing ss n nodes state symbols sheet goal stack (nodeOf w) (copyOf w) 0
-  value-facing z room =
-      let b : cellAt state i ≡ 0 → ⊥ = (λ q. z (e ∙ q)) in
-      let o : (j : ℕ) × (j < n) × (trailAt state j ≡ i) = v .setting .store .only i small b in
-      let t : Entry ss nodes state (o .0) = v .setting .store .entry (o .0) (o .1) in
-      record {
-        setting = v .setting;
-        node = subst (λ (x : ℕ). Node ss nodes (nodeOf x)) (ap (cellAt state) (o .2) ∙ sym e) (t .node);
-        copy = copy-small w;
-        shallow = (let k : depth (valueIn (bindings ss nodes state n) i) ≤ deepest = v .shallow in let q : depth (valueIn (bindings ss nodes state n) i) ≡ depth (resolve (bindings ss nodes state n) (termAt ss nodes (nodeOf w) (copyOf w))) = ap depth (value-bound z) in omega arith);
-        room = room;
-      }
-
   -- an unbound variable
   pub value-unbound : (limit : ℕ) (met : List Variable) (old new numbers : List ℕ) (at next : ℕ) (rest : List Piece) → w ≡ 0 → Told (bytesOf met (unbound (variableOf i) ∷ rest)) old at new next numbers rest
       → Walked limit (bytesOf met (spelt (valueIn (bindings ss nodes state n) i) rest)) old at new next numbers rest
@@ -149,16 +131,39 @@ module _ (ss : List Symbol) (n : ℕ) (nodes state symbols sheet goal stack : Li
   value-unbound limit met old new numbers at next rest z t =
       walked-told limit (told-whole (ap (λ (x : RTerm). bytesOf met (spelt x rest)) (value-free z)) t)
 
-  -- a term, and then the rows that it laid
-  pub value-walked : (limit : ℕ) (met : List Variable) (old mid new nums numbers after : List ℕ) (at m next rows : ℕ) (rest : List Piece) → (w ≡ 0 → ⊥)
-      → Spelling ss nodes (bindings ss nodes state n) (bytesOf met (spelt (resolve (bindings ss nodes state n) (termAt ss nodes (nodeOf w) (copyOf w))) (left ss nodes (bindings ss nodes state n) stack 0 rest))) old at mid nums after m rows rest
-      → ((met′ : List Variable) → Setting ss n nodes state symbols sheet goal after rows → Numbers nums met′ → Walked limit (bytesOf met′ (left ss nodes (bindings ss nodes state n) after rows rest)) mid m new next numbers rest)
-      → Walked limit (bytesOf met (spelt (valueIn (bindings ss nodes state n) i) rest)) old at new next numbers rest
-  unfolding left
-  value-walked limit met old mid new nums numbers after at m next rows rest z s f =
-      let x : Told (bytesOf met (spelt (valueIn (bindings ss nodes state n) i) rest)) old at mid m nums (left ss nodes (bindings ss nodes state n) after rows rest) = told-whole (ap (λ (r : RTerm). bytesOf met (spelt r rest)) (value-bound z)) (s .told) in
-      let y : Walked limit (bytesOf (x .met) (left ss nodes (bindings ss nodes state n) after rows rest)) mid m new next numbers rest = f (x .met) (record { store = v .setting .store; names = v .setting .names; rows = s .rows }) (x .numbers-are) in
-      walked-after limit x y
+  -- a bound one, whose word was taken apart
+  module _ (z : w ≡ 0 → ⊥) (t : At) (et : t ≡ atOf w) where
+    pub value-bound : valueIn (bindings ss nodes state n) i ≡ resolve (bindings ss nodes state n) (termAt ss nodes (t .node) (t .copy))
+    unfolding valueOf
+    value-bound =
+        as-cell
+        ∙ (resolve-bound ss nodes state n i (v .setting .store) small (λ q. z (e ∙ q))
+        ∙ (ap (λ (x : ℕ). resolve (bindings ss nodes state n) (termAt ss nodes (nodeOf x) (copyOf x))) (sym e)
+        ∙ ap (λ (a : At). resolve (bindings ss nodes state n) (termAt ss nodes (a .node) (a .copy))) (sym et)))
+
+    pub value-facing : Ample stack openSize → Facing ss n nodes state symbols sheet goal stack (t .node) (t .copy) 0
+    value-facing room =
+        let b : cellAt state i ≡ 0 → ⊥ = (λ q. z (e ∙ q)) in
+        let o : (j : ℕ) × (j < n) × (trailAt state j ≡ i) = v .setting .store .only i small b in
+        let entry : Entry ss nodes state (o .0) = v .setting .store .entry (o .0) (o .1) in
+        record {
+          setting = v .setting;
+          node = subst⁻¹ (λ (a : At). Node ss nodes (a .node)) et (subst (λ (x : ℕ). Node ss nodes (nodeOf x)) (ap (cellAt state) (o .2) ∙ sym e) (entry .node));
+          copy = subst⁻¹ (λ (a : At). a .copy < copies) et (copy-small w);
+          shallow = (let k : depth (valueIn (bindings ss nodes state n) i) ≤ deepest = v .shallow in let q : depth (valueIn (bindings ss nodes state n) i) ≡ depth (resolve (bindings ss nodes state n) (termAt ss nodes (t .node) (t .copy))) = ap depth value-bound in omega arith);
+          room = room;
+        }
+
+    -- the term, and then the rows that it laid
+    pub value-walked : (limit : ℕ) (met : List Variable) (old mid new nums numbers after : List ℕ) (at m next rows : ℕ) (rest : List Piece)
+        → Spelling ss nodes (bindings ss nodes state n) (bytesOf met (spelt (resolve (bindings ss nodes state n) (termAt ss nodes (t .node) (t .copy))) (left ss nodes (bindings ss nodes state n) stack 0 rest))) old at mid nums after m rows rest
+        → ((met′ : List Variable) → Setting ss n nodes state symbols sheet goal after rows → Numbers nums met′ → Walked limit (bytesOf met′ (left ss nodes (bindings ss nodes state n) after rows rest)) mid m new next numbers rest)
+        → Walked limit (bytesOf met (spelt (valueIn (bindings ss nodes state n) i) rest)) old at new next numbers rest
+    unfolding left
+    value-walked limit met old mid new nums numbers after at m next rows rest s f =
+        let x : Told (bytesOf met (spelt (valueIn (bindings ss nodes state n) i) rest)) old at mid m nums (left ss nodes (bindings ss nodes state n) after rows rest) = told-whole (ap (λ (r : RTerm). bytesOf met (spelt r rest)) value-bound) (s .told) in
+        let y : Walked limit (bytesOf (x .met) (left ss nodes (bindings ss nodes state n) after rows rest)) mid m new next numbers rest = f (x .met) (record { store = v .setting .store; names = v .setting .names; rows = s .rows }) (x .numbers-are) in
+        walked-after limit x y
 
 -- ---- what stands before a value
 
@@ -176,12 +181,12 @@ gap-short (suc more) = omega arith
 
 -- ---- between a term and its rows
 
-module _ (nodes state symbols sheet goal stack : List ℕ) (i w : ℕ) (numbers : List ℕ) (at : ℕ) (v : SomeValued nodes state symbols sheet goal stack i) (k : Counting numbers at) (e : w ≡ getD state i 0) (z : w ≡ 0 → ⊥) (room : Ample stack openSize)
+module _ (nodes state symbols sheet goal stack : List ℕ) (i w : ℕ) (numbers : List ℕ) (at : ℕ) (v : SomeValued nodes state symbols sheet goal stack i) (k : Counting numbers at) (e : w ≡ getD state i 0) (z : w ≡ 0 → ⊥) (t : At) (et : t ≡ atOf w) (room : Ample stack openSize)
     (out nums after mid : List ℕ) (m rows : ℕ)
-    (f : (ss : List Symbol) (n : ℕ) (met : List Variable) (rest : List Piece) → Facing ss n nodes state symbols sheet goal stack (nodeOf w) (copyOf w) 0 → Numbers numbers met
-    → Spelling ss nodes (bindings ss nodes state n) (bytesOf met (spelt (resolve (bindings ss nodes state n) (termAt ss nodes (nodeOf w) (copyOf w))) (left ss nodes (bindings ss nodes state n) stack 0 rest))) out at mid nums after m rows rest) where
-  first : Spelling (v .ss) nodes (bindings (v .ss) nodes state (v .n)) (bytesOf (k .met) (spelt (resolve (bindings (v .ss) nodes state (v .n)) (termAt (v .ss) nodes (nodeOf w) (copyOf w))) (left (v .ss) nodes (bindings (v .ss) nodes state (v .n)) stack 0 []))) out at mid nums after m rows []
-  first = f (v .ss) (v .n) (k .met) [] (value-facing (v .ss) (v .n) nodes state symbols sheet goal stack i w (v .is) e z room) (k .numbers-are)
+    (f : (ss : List Symbol) (n : ℕ) (met : List Variable) (rest : List Piece) → Facing ss n nodes state symbols sheet goal stack (t .node) (t .copy) 0 → Numbers numbers met
+    → Spelling ss nodes (bindings ss nodes state n) (bytesOf met (spelt (resolve (bindings ss nodes state n) (termAt ss nodes (t .node) (t .copy))) (left ss nodes (bindings ss nodes state n) stack 0 rest))) out at mid nums after m rows rest) where
+  first : Spelling (v .ss) nodes (bindings (v .ss) nodes state (v .n)) (bytesOf (k .met) (spelt (resolve (bindings (v .ss) nodes state (v .n)) (termAt (v .ss) nodes (t .node) (t .copy))) (left (v .ss) nodes (bindings (v .ss) nodes state (v .n)) stack 0 []))) out at mid nums after m rows []
+  first = f (v .ss) (v .n) (k .met) [] (value-facing (v .ss) (v .n) nodes state symbols sheet goal stack i w (v .is) e z t et room) (k .numbers-are)
 
   pub value-setting : SomeSetting nodes state symbols sheet goal after rows
   value-setting = record { ss = v .ss; n = v .n; is = record { store = v .is .setting .store; names = v .is .setting .names; rows = first .rows } }

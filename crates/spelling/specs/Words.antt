@@ -6,33 +6,17 @@ use mathlib.Core.List.{List}
 use mathlib.Core.Option.{none, some}
 use lib.Dec.{eqb}
 use lib.ListN.{length, getD}
-use Rattle.syntax.specs.Limits.{lengths, variables}
+use Rattle.syntax.specs.Limits.{variables}
 use Rattle.syntax.specs.Tokens.{spelling}
 use Rattle.syntax.specs.Spans.{Inside}
 use Rattle.machine.specs.Substitution.{Variable, RTerm, RTerms, var, app, rnil, rcons, Binding, resolve}
 use Rattle.machine.specs.Answers.{Piece, speltArgs, speltMore, placeOf}
 use Rattle.layout.specs.Regions.{copies, cells, deepest, openSize}
 use Rattle.layout.specs.Nodes.{Symbol, nameOf, Row, termsAt}
+use Rattle.layout.specs.Symbols.{symbolPlace, symbolText, symbolLength}
 use Rattle.layout.specs.State.{variableOf}
 
 -- ---- symbols
-
--- the texts that a name can stand in: the sheet, 0, and the goal, 1
-abbrev pub texts : ℕ
-texts = 2
-
--- A symbol's word: the place of its name, the text, and its length.
-abbrev pub symbolWord : ℕ → ℕ → ℕ → ℕ
-symbolWord place text len = place * (texts * lengths) + text * lengths + len
-
-abbrev pub symbolPlace : ℕ → ℕ
-symbolPlace w = w / (texts * lengths)
-
-abbrev pub symbolText : ℕ → ℕ
-symbolText w = w / lengths % texts
-
-abbrev pub symbolLength : ℕ → ℕ
-symbolLength w = w % lengths
 
 abbrev pub textOf : ℕ → List ℕ → List ℕ → List ℕ
 textOf w sheet goal = cond (eqb (symbolText w) 0) sheet goal

@@ -5,7 +5,9 @@ use buffers::append_part;
 use layout::CELLS;
 use layout::COPIES;
 use layout::OPEN_SIZE;
-use syntax::LENGTHS;
+use layout::symbol_length;
+use layout::symbol_place;
+use layout::symbol_text;
 use words::word_at;
 ghost use mathlib.Core.Path.{_≡_};
 ghost use mathlib.Core.List.{List, _∷_};
@@ -19,11 +21,6 @@ ghost use Rattle.machine.specs.Answers.{Piece, unbound, bytesOf};
 ghost use Rattle.layout.specs.State.{variableOf};
 ghost use Rattle.spelling.specs.Words.{nameAt, Placed, Numbers, rowWord, endWord, newRow, movedRow, rowPlace, rowMore, spanWord, rowLast, rowCopy};
 ghost use Rattle.spelling.specs.Telling.{Numbered, Told};
-
-// A symbol's word (specs/Words).
-const TEXTS: usize = 2;
-
-const SYMBOL_PLACES: usize = TEXTS * LENGTHS;
 
 // The arguments from place to last in a copy that are still to be spelt; more is 0 where none of their list is spelt yet.
 pub struct Row {
@@ -46,11 +43,10 @@ pub fn append_name(
     ensures wrote { λ r. ⌜ Put (now (out .entry)) at (nameAt (now (symbols .entry)) (now (sheet .entry)) (now (goal .entry)) k) (now (out .exit)) r ⌝ }
     ensures near { λ r. ⌜ r ≤ at + wordBytes ⌝ }
 {
-    let w = word_at(symbols, k);
-    let len = w % LENGTHS;
-    let place = w / SYMBOL_PLACES;
-    let text = w / LENGTHS % TEXTS;
-    if text == 0 {
+    let w = symbols[k];
+    let len = symbol_length(w);
+    let place = symbol_place(w);
+    if symbol_text(w) == 0 {
         return append_part(sheet, place, len, out, at);
     }
     append_part(goal, place, len, out, at)

@@ -2,10 +2,11 @@
 use crate::records::append_unbound;
 use crate::walk::append_rows;
 use crate::walk::append_term;
+use bindings::store::unpack;
 use buffers::append_byte;
 use buffers::append_part;
-use layout::COPIES;
-use syntax::LENGTHS;
+use syntax::span_at;
+use syntax::span_length;
 use words::word_at;
 ghost use mathlib.Core.Path.{_≡_};
 ghost use mathlib.Core.Logic.{_⊎_};
@@ -24,16 +25,14 @@ ghost use Rattle.spelling.specs.Words.{Numbers, Named};
 ghost use Rattle.spelling.specs.Telling.{Ample, Counting, Counted, Valued, SomeValued, Values, SomeValues, Walked, Lined, valueIn, gap};
 
 // Whether a packed name of the goal is `_` alone.
-pub fn is_anonymous(goal: &[u8], w: usize) -> bool
+pub fn is_anonymous(goal: &[u8], w: u32) -> bool
     requires { ⌜ Inside (now goal) w ⌝ }
     ensures { λ r. ⌜ r ≡ isAnonymous (spanned (now (goal .entry)) w) ⌝ }
 {
-    let len = w % LENGTHS;
-    let place = w / LENGTHS;
-    if len != 1 {
+    if span_length(w) != 1 {
         return false;
     }
-    lexer::byte_at(goal, place) == 95
+    texts::byte_at(goal, span_at(w)) == 95
 }
 
 // Whether no variable is to be given.
@@ -43,7 +42,7 @@ pub fn all_anonymous(goal: &[u8], names: &[u32], count: usize) -> bool
 {
     let mut i = 0;
     while i < count {
-        let w = word_at(names, i);
+        let w = names[i];
         let plain = is_anonymous(goal, w);
         if !plain {
             return false;
@@ -80,8 +79,9 @@ pub fn append_value(
     if w == 0 {
         return append_unbound(numbers, i, out, at);
     }
-    let p = (w - 1) / COPIES;
-    let c = (w - 1) % COPIES;
+    let bound = unpack(w);
+    let p = bound.node;
+    let c = bound.copy;
     let t = append_term(
         nodes,
         state,
@@ -125,14 +125,14 @@ fn append_gap(more: usize, out: &mut [u8], at: usize) -> usize
 }
 
 // A variable and the sign behind it.
-pub fn append_variable(goal: &[u8], w: usize, more: usize, out: &mut [u8], at: usize) -> usize
+pub fn append_variable(goal: &[u8], w: u32, more: usize, out: &mut [u8], at: usize) -> usize
     requires { ⌜ (Inside (now goal) w) × (at + 300 < 2 ^ 64) ⌝ }
     ensures wrote { λ r. ⌜ Put (now (out .entry)) at (gap more ++ (spanned (now (goal .entry)) w ++ bytes " = ")) (now (out .exit)) r ⌝ }
     ensures near { λ r. ⌜ (at ≤ r) × (r ≤ at + (wordBytes + 5)) ⌝ }
 {
     let past = append_gap(more, out, at);
-    let place = w / LENGTHS;
-    let len = w % LENGTHS;
+    let place = span_at(w);
+    let len = span_length(w);
     let past_name = append_part(goal, place, len, out, past);
     append_part(b" = ", 0, 3, out, past_name)
 }
@@ -146,7 +146,7 @@ pub struct Listed {
 // The goal's variable i with its value, unless it is `_`.
 pub fn append_binding(
     goal: &[u8],
-    w: usize,
+    w: u32,
     i: usize,
     more: usize,
     nodes: &[u32],
@@ -223,7 +223,7 @@ pub fn append_values(
         if limit < past {
             return past;
         }
-        let w = word_at(names, i);
+        let w = names[i];
         let listed = append_binding(
             goal,
             w,

@@ -6,8 +6,8 @@ use crate::records::put_row;
 use crate::records::row_at;
 use bindings::store::deref;
 use buffers::append_byte;
-use layout::COPY_CELLS;
 use layout::LOADED_NODE;
+use layout::cell_of;
 use syntax::FIRST_NAME;
 use words::word_at;
 ghost use mathlib.Core.Path.{_≡_};
@@ -54,7 +54,7 @@ fn append_head(
 {
     let w = word_at(nodes, p);
     if w < FIRST_NAME {
-        let x = c * COPY_CELLS + w;
+        let x = cell_of(c, w);
         let past = append_unbound(numbers, x, out, at);
         return Walk { at: past, height };
     }

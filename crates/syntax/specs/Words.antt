@@ -1,8 +1,9 @@
 -- How what was read stands in a table of 32-bit words.
-use Prim.Native.Nat.{ℕ, suc, _+_, _*_}
+use Prim.Native.Nat.{ℕ, suc, _+_, _-_, _*_, _/_, _%_}
 use mathlib.Core.List.{List, [], _∷_, _++_}
 use lib.ListN.{length}
 use Rattle.syntax.specs.Limits.{sheetBytes, goalBytes, lengths, declarations}
+use Rattle.syntax.specs.Reading.{Sign, mark, noMark}
 use Rattle.syntax.specs.Terms.{Term, Terms, variable, compound, nil, cons, Atom, termOf, arity, Literal, Body, call, equation, truth, falsity, done, also, Mark, input, output, free, Declaration, Clause, Sheet}
 
 -- A node's first word is a variable's number, below this, or a name's, from this on.
@@ -12,6 +13,12 @@ firstName = 64
 -- A name's first word: its number of arguments and its length.
 abbrev pub functor : ℕ → ℕ → ℕ
 functor arguments len = firstName + arguments * lengths + len
+
+abbrev pub functorArity : ℕ → ℕ
+functorArity w = (w - firstName) / lengths
+
+abbrev pub functorLength : ℕ → ℕ
+functorLength w = (w - firstName) % lengths
 
 -- the words of a node without its arguments
 abbrev pub nodeWords : ℕ
@@ -80,9 +87,24 @@ markNumber input = 1
 markNumber output = 2
 markNumber free = 3
 
+-- the number of the mark that a token is, 0 for none
+abbrev pub signNumber : Sign → ℕ
+signNumber (mark m) = markNumber m
+signNumber noMark = 0
+
+-- a mark's number before those of others
+abbrev pub withMark : ℕ → ℕ → ℕ
+withMark m others = m + markNumbers * others
+
 unfoldable pub marksNumber : List Mark → ℕ
 marksNumber [] = 0
-marksNumber (m ∷ ms) = markNumber m + markNumbers * marksNumber ms
+marksNumber (m ∷ ms) = withMark (markNumber m) (marksNumber ms)
+
+abbrev pub firstMark : ℕ → ℕ
+firstMark w = w % markNumbers
+
+abbrev pub otherMarks : ℕ → ℕ
+otherMarks w = w / markNumbers
 
 -- the words of a declaration
 abbrev pub declarationSize : ℕ

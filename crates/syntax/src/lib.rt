@@ -1,9 +1,13 @@
 // The declared types that cross crates, and the numbers of a refusal. Document 01 is the paper "Rule sheets".
 ghost use mathlib.Core.Path.{_≡_};
-ghost use Prim.Native.Nat.{_≤_};
-ghost use Rattle.syntax.specs.Limits.{sheetBytes};
+ghost use Prim.Native.Nat.{_≤_, _<_, _^_};
+ghost use lib.Dec.{ltb};
+ghost use Rattle.syntax.specs.Limits.{sheetBytes, goalBytes};
+ghost use Rattle.syntax.specs.Reading.{signOf};
 ghost use Rattle.syntax.specs.Refusals.{numbersOf};
+ghost use Rattle.syntax.specs.Verdicts.{faultOf};
 ghost use Rattle.syntax.specs.Spans.{packed, spanAt, spanLength};
+ghost use Rattle.syntax.specs.Words.{firstName, functor, functorArity, functorLength, signNumber, withMark, firstMark, otherMarks};
 
 // The kinds of token. A byte's class has the same number where one byte is a token.
 pub const NO_TOKEN: usize = 0;
@@ -302,6 +306,35 @@ pub fn numbers(refusal: Refusal) -> Five
     }
 }
 
+// Whether a sheet of so many bytes is too long, and a goal.
+pub fn is_long_sheet(bytes: usize) -> bool
+    ensures { λ r. ⌜ r ≡ ltb sheetBytes bytes ⌝ }
+{
+    SHEET_BYTES < bytes
+}
+
+pub fn is_long_goal(bytes: usize) -> bool
+    ensures { λ r. ⌜ r ≡ ltb goalBytes bytes ⌝ }
+{
+    GOAL_BYTES < bytes
+}
+
+// A fault of reading, 3 to 6, as a refusal.
+pub fn fault_of(number: usize, byte: usize) -> Refusal
+    ensures { λ r. ⌜ r ≡ faultOf number byte ⌝ }
+{
+    if number == 3 {
+        return Refusal::NoToken(byte);
+    }
+    if number == 4 {
+        return Refusal::Overlong(byte);
+    }
+    if number == 5 {
+        return Refusal::Misplaced(byte);
+    }
+    Refusal::OverLimit(byte)
+}
+
 // A part of a text in one word (specs/Spans): its place and its length.
 pub fn pack_span(at: usize, len: usize) -> u32
     requires { ⌜ (at ≤ sheetBytes) × (len ≤ sheetBytes) ⌝ }
@@ -325,4 +358,66 @@ pub fn span_length(word: u32) -> usize
 {
     let w = word as usize;
     w % LENGTHS
+}
+
+// A name's first word (specs/Words): its number of arguments and its length.
+pub fn pack_functor(arguments: usize, len: usize) -> usize
+    requires { ⌜ functor arguments len < 2 ^ 32 ⌝ }
+    ensures { λ r. ⌜ r ≡ functor arguments len ⌝ }
+{
+    FIRST_NAME + arguments * LENGTHS + len
+}
+
+// The number of arguments of a name, by its first word.
+pub fn arity_of(what: usize) -> usize
+    requires { ⌜ firstName ≤ what ⌝ }
+    ensures { λ r. ⌜ r ≡ functorArity what ⌝ }
+{
+    (what - FIRST_NAME) / LENGTHS
+}
+
+// Its length.
+pub fn length_of(what: usize) -> usize
+    requires { ⌜ firstName ≤ what ⌝ }
+    ensures { λ r. ⌜ r ≡ functorLength what ⌝ }
+{
+    (what - FIRST_NAME) % LENGTHS
+}
+
+// The number of the mark that a token of a kind is, 0 for none.
+pub fn mark_number(kind: usize) -> usize
+    ensures { λ r. ⌜ r ≡ signNumber (signOf kind) ⌝ }
+{
+    if kind == PLUS {
+        return INPUT;
+    }
+    if kind == MINUS {
+        return OUTPUT;
+    }
+    if kind == STAR {
+        return FREE;
+    }
+    0
+}
+
+// The numbers of marks in one (specs/Words): the first mark's, and that of the others.
+pub fn pack_mark(mark: usize, others: usize) -> usize
+    requires { ⌜ withMark mark others < 2 ^ 32 ⌝ }
+    ensures { λ r. ⌜ r ≡ withMark mark others ⌝ }
+{
+    mark + MARK_NUMBERS * others
+}
+
+// The first of such marks, 0 where there is none.
+pub fn first_mark(marks: usize) -> usize
+    ensures { λ r. ⌜ r ≡ firstMark marks ⌝ }
+{
+    marks % MARK_NUMBERS
+}
+
+// The others.
+pub fn other_marks(marks: usize) -> usize
+    ensures { λ r. ⌜ r ≡ otherMarks marks ⌝ }
+{
+    marks / MARK_NUMBERS
 }

@@ -10,9 +10,9 @@ use lib.Dec.{leb, eqb, leb·suc-suc}
 use borrow.Author.Tests.{le-leb, lt-leb}
 use Rattle.syntax.specs.Terms.{Sheet, Goal, Declaration}
 use Rattle.syntax.specs.Reading.{Cursor, Read, fault, ok, readGoal}
-use Rattle.syntax.specs.Words.{declarationsWords, declarationWords, bodyWords, bodyLength}
+use Rattle.syntax.specs.Words.{declarationsWords, declarationWords, bodyWords, bodyLength, declarationSize}
 use Rattle.syntax.specs.Verdicts.{Outcome, refused, accepted, faultOf, goalFrom, goalOutcome, goalVerdict, sheetOf, sheetVerdict, readVerdict, readGoalVerdict, nthEntry, outcomeEntry, entryAt}
-use Rattle.syntax.specs.Limits.{variables}
+use Rattle.syntax.specs.Limits.{variables, goalBytes}
 use Rattle.syntax.specs.Spans.{met, Held}
 use Rattle.syntax.proofs.Spans.{met-length}
 use Rattle.syntax.specs.declared.Text.{Text}
@@ -51,7 +51,7 @@ one-entry declared d n p q e h =
 later : (declared : List ℕ) (n i q : ℕ) → cond (leb (suc n) (suc i)) Nothing (As (record { at = getD declared q 0; len = getD declared (q + 1) 0; arguments = getD declared (q + 2) 0 })) ≡ cond (leb n i) Nothing (As (record { at = getD declared q 0; len = getD declared (q + 1) 0; arguments = getD declared (q + 2) 0 }))
 later declared n i q = ap (λ (b : Bool). cond b Nothing (As (record { at = getD declared q 0; len = getD declared (q + 1) 0; arguments = getD declared (q + 2) 0 }))) (leb·suc-suc n i)
 
-pub entry-from : (declared : List ℕ) (ds : List Declaration) (p i q : ℕ) → q ≡ p + 4 * i → Has declared p (declarationsWords ds) → nthEntry ds i ≡ cond (leb (length ds) i) Nothing (As (record { at = getD declared q 0; len = getD declared (q + 1) 0; arguments = getD declared (q + 2) 0 }))
+pub entry-from : (declared : List ℕ) (ds : List Declaration) (p i q : ℕ) → q ≡ p + declarationSize * i → Has declared p (declarationsWords ds) → nthEntry ds i ≡ cond (leb (length ds) i) Nothing (As (record { at = getD declared q 0; len = getD declared (q + 1) 0; arguments = getD declared (q + 2) 0 }))
 unfolding nthEntry declarationsWords declarationWords
 entry-from declared [] p i q e h = simp (le-leb 0 i (omega arith))
 entry-from declared (d ∷ ds) p zero q e h =
@@ -59,8 +59,8 @@ entry-from declared (d ∷ ds) p zero q e h =
     let here : q ≡ p = omega arith in
     one-entry declared d (length ds) p q here first
 entry-from declared (d ∷ ds) p (suc i) q e h =
-    let next : p + 4 ≡ p + length (declarationWords d) = refl in
-    entry-from declared ds (p + 4) i q (omega arith) (has-right declared p (declarationWords d) (declarationsWords ds) h) ∙ sym (later declared (length ds) i q)
+    let next : p + declarationSize ≡ p + length (declarationWords d) = refl in
+    entry-from declared ds (p + declarationSize) i q (omega arith) (has-right declared p (declarationWords d) (declarationsWords ds) h) ∙ sym (later declared (length ds) i q)
 
 -- words that stand in a table are no longer than it
 pub long-by : (declared ws : List ℕ) → Has declared 0 ws → length ws ≤ length declared
@@ -97,12 +97,12 @@ module _ (s declared table : List ℕ) (v : Verdict) (e : v ≡ readVerdict s) (
     words-has : Has declared 0 (declarationsWords (of .0 .declarations))
     words-has = subst (λ (x : Sheet). Has declared 0 (declarationsWords (x .declarations))) (tabled .is) (tabled .stands .has-declarations)
 
-    pub entries-long : 4 * n ≤ length declared
-    entries-long = let l : length (declarationsWords (of .0 .declarations)) ≤ length declared = long-by declared (declarationsWords (of .0 .declarations)) words-has in let f4 : length (declarationsWords (of .0 .declarations)) ≡ 4 * length (of .0 .declarations) = four-words (of .0 .declarations) in let c : n ≡ length (of .0 .declarations) = of .2 in omega arith
+    pub entries-long : declarationSize * n ≤ length declared
+    entries-long = let l : length (declarationsWords (of .0 .declarations)) ≤ length declared = long-by declared (declarationsWords (of .0 .declarations)) words-has in let f4 : length (declarationsWords (of .0 .declarations)) ≡ declarationSize * length (of .0 .declarations) = four-words (of .0 .declarations) in let c : n ≡ length (of .0 .declarations) = of .2 in omega arith
 
     pub entry-is : (i : ℕ) (d : Declared) → d ≡ entryWords declared n i → d ≡ entryAt s i
     unfolding entryAt outcomeEntry
-    entry-is i d ed = ed ∙ ap (λ (m : ℕ). entryWords declared m i) (of .2) ∙ sym (entry-from declared (of .0 .declarations) 0 i (4 * i) (omega arith) words-has) ∙ ap (λ (o : Outcome Sheet). outcomeEntry o i) (sym (of .1))
+    entry-is i d ed = ed ∙ ap (λ (m : ℕ). entryWords declared m i) (of .2) ∙ sym (entry-from declared (of .0 .declarations) 0 i (declarationSize * i) (omega arith) words-has) ∙ ap (λ (o : Outcome Sheet). outcomeEntry o i) (sym (of .1))
 
   pub entry-refused : (t : Text) (q : Refusal) → v ≡ Refused t q → (i : ℕ) → Nothing ≡ entryAt s i
   unfolding entryAt outcomeEntry
@@ -117,16 +117,16 @@ goal-answer s table q r e f = record {
   holds = λ g a. absurd (never q g (sym e ∙ a));
 }
 
-pub goal-long : (s table : List ℕ) (r : GoalRead) → 1024 < length s → r ≡ record { verdict = Refused inGoal TooLong; literals = 0; count = 0 } → GoalTabled s table r
+pub goal-long : (s table : List ℕ) (r : GoalRead) → goalBytes < length s → r ≡ record { verdict = Refused inGoal TooLong; literals = 0; count = 0 } → GoalTabled s table r
 goal-long s table r h f = goal-answer s table TooLong r is f
   where
     is : goalOutcome s ≡ refused TooLong
-    is = unfold goalOutcome in ap (λ (b : Bool). elim b as (λ _. Outcome Goal) [ true ↦ goalFrom (readGoal s) | false ↦ refused TooLong ]) (lt-leb (length s) 1024 h)
+    is = unfold goalOutcome in ap (λ (b : Bool). elim b as (λ _. Outcome Goal) [ true ↦ goalFrom (readGoal s) | false ↦ refused TooLong ]) (lt-leb (length s) goalBytes h)
 
-module _ (s table : List ℕ) (p : Parsed) (short : length s ≤ 1024) (g : GoalLoads s table p (readGoal s)) where
+module _ (s table : List ℕ) (p : Parsed) (short : length s ≤ goalBytes) (g : GoalLoads s table p (readGoal s)) where
   goal-from : goalOutcome s ≡ goalFrom (readGoal s)
   unfolding goalOutcome
-  goal-from = ap (λ (b : Bool). elim b as (λ _. Outcome Goal) [ true ↦ goalFrom (readGoal s) | false ↦ refused TooLong ]) (le-leb (length s) 1024 short)
+  goal-from = ap (λ (b : Bool). elim b as (λ _. Outcome Goal) [ true ↦ goalFrom (readGoal s) | false ↦ refused TooLong ]) (le-leb (length s) goalBytes short)
 
   goal-fault-by : (d : Read Goal) → readGoal s ≡ d → GoalLoads s table p d → (p .number ≡ 0 → ⊥) → goalOutcome s ≡ refused (faultOf (p .number) (p .state .token .at))
   unfolding goalFrom

@@ -8,9 +8,10 @@ use mathlib.Core.Option.{Option, none, some}
 use lib.ListN.{length, getD, take}
 use lib.Dec.{leb, eqb}
 use borrow.Author.Tests.{eq-eqb, ne-eqb, le-leb, lt-leb}
+use Rattle.syntax.specs.Limits.{sheetBytes}
 use Rattle.syntax.specs.Terms.{Sheet, Goal, Declaration, Clause}
 use Rattle.syntax.specs.Reading.{Read, fault, ok, readSheet, firstRepeat}
-use Rattle.syntax.specs.Words.{declarationsWords, clausesWords, declarationWords}
+use Rattle.syntax.specs.Words.{declarationsWords, clausesWords, declarationWords, declarationSize}
 use Rattle.syntax.specs.Verdicts.{Outcome, refused, accepted, faultOf, sheetFrom, withoutRepeats, sheetOf, sheetVerdict, readVerdict}
 use Rattle.syntax.specs.Reading.{Cursor}
 use Rattle.syntax.specs.declared.Text.the-variants.{Sheet as inSheet}
@@ -28,42 +29,28 @@ use Rattle.tables.specs.Tables.{Tabled}
 use Rattle.modes.proofs.Accepted.{read-stands}
 use Rattle.words.proofs.Laws.{has-taken}
 
--- ---- the number of a fault
-
-pub fault-3 : (n b : ℕ) → n ≡ 3 → NoToken b ≡ faultOf n b
-fault-3 n b e = simp (eq-eqb n 3 e)
-
-pub fault-4 : (n b : ℕ) → (n ≡ 3 → ⊥) → n ≡ 4 → Overlong b ≡ faultOf n b
-fault-4 n b f e = simp (ne-eqb n 3 f, eq-eqb n 4 e)
-
-pub fault-5 : (n b : ℕ) → (n ≡ 3 → ⊥) → (n ≡ 4 → ⊥) → n ≡ 5 → Misplaced b ≡ faultOf n b
-fault-5 n b f g e = simp (ne-eqb n 3 f, ne-eqb n 4 g, eq-eqb n 5 e)
-
-pub fault-6 : (n b : ℕ) → (n ≡ 3 → ⊥) → (n ≡ 4 → ⊥) → (n ≡ 5 → ⊥) → OverLimit b ≡ faultOf n b
-fault-6 n b f g h = simp (ne-eqb n 3 f, ne-eqb n 4 g, ne-eqb n 5 h)
-
 -- the four words of each declaration
-pub four-words : (ds : List Declaration) → length (declarationsWords ds) ≡ 4 * length ds
+pub four-words : (ds : List Declaration) → length (declarationsWords ds) ≡ declarationSize * length ds
 unfolding declarationsWords declarationWords
 four-words [] = refl
-four-words (d ∷ ds) = let h : length (declarationsWords ds) ≡ 4 * length ds = four-words ds in omega arith
+four-words (d ∷ ds) = let h : length (declarationsWords ds) ≡ declarationSize * length ds = four-words ds in omega arith
 
 -- ---- the answer to a sheet
 
 pub never : {A : Type 0} (r : Refusal) (x : A) → _≡_ {A = Outcome A} (refused r) (accepted x) → ⊥
 never r x e = let z : _≡_ {A = ℕ} 0 1 = cc in omega arith
 
-pub sheet-long : (s declared table : List ℕ) (v : Verdict) → 16384 < length s → v ≡ Refused inSheet TooLong → (v ≡ readVerdict s) × ((sh : Sheet) → sheetOf s ≡ accepted sh → Tabled s declared table sh)
+pub sheet-long : (s declared table : List ℕ) (v : Verdict) → sheetBytes < length s → v ≡ Refused inSheet TooLong → (v ≡ readVerdict s) × ((sh : Sheet) → sheetOf s ≡ accepted sh → Tabled s declared table sh)
 unfolding readVerdict sheetVerdict
 sheet-long s declared table v h e = (e ∙ ap sheetVerdict (sym is), λ sh a. absurd (never TooLong sh (sym is ∙ a)))
   where
     is : sheetOf s ≡ refused TooLong
-    is = unfold sheetOf in ap (λ (b : Bool). elim b as (λ _. Outcome Sheet) [ true ↦ sheetFrom (readSheet s) | false ↦ refused TooLong ]) (lt-leb (length s) 16384 h)
+    is = unfold sheetOf in ap (λ (b : Bool). elim b as (λ _. Outcome Sheet) [ true ↦ sheetFrom (readSheet s) | false ↦ refused TooLong ]) (lt-leb (length s) sheetBytes h)
 
-module _ (s declared table : List ℕ) (r : Loaded) (short : length s ≤ 16384) (g : Loads s declared table r (readSheet s)) where
+module _ (s declared table : List ℕ) (r : Loaded) (short : length s ≤ sheetBytes) (g : Loads s declared table r (readSheet s)) where
   sheet-from : sheetOf s ≡ sheetFrom (readSheet s)
   unfolding sheetOf
-  sheet-from = ap (λ (b : Bool). elim b as (λ _. Outcome Sheet) [ true ↦ sheetFrom (readSheet s) | false ↦ refused TooLong ]) (le-leb (length s) 16384 short)
+  sheet-from = ap (λ (b : Bool). elim b as (λ _. Outcome Sheet) [ true ↦ sheetFrom (readSheet s) | false ↦ refused TooLong ]) (le-leb (length s) sheetBytes short)
 
   fault-by : (d : Read Sheet) → readSheet s ≡ d → Loads s declared table r d → (r .number ≡ 0 → ⊥) → sheetOf s ≡ refused (faultOf (r .number) (r .byte))
   unfolding sheetFrom
@@ -86,7 +73,7 @@ module _ (s declared table : List ℕ) (r : Loaded) (short : length s ≤ 16384)
     read = read-by (readSheet s) refl g
 
     has-declarations : Has declared 0 (declarationsWords (read .0 .declarations))
-    has-declarations = has-taken declared (4 * r .declarations) (declarationsWords (read .0 .declarations)) (read .3 .holds .declared-is)
+    has-declarations = has-taken declared (declarationSize * r .declarations) (declarationsWords (read .0 .declarations)) (read .3 .holds .declared-is)
 
     has-clauses : Has table 0 (clausesWords (read .0 .clauses))
     has-clauses = has-taken table (r .used) (clausesWords (read .0 .clauses)) (read .3 .holds .table-is)

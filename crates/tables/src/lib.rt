@@ -3,37 +3,22 @@ use marking::Checked;
 use parser::sheets::read_items;
 use repeats::first_repeat;
 use syntax::DECLARED_WORDS;
-use syntax::GOAL_BYTES;
 use syntax::GOAL_WORDS;
 use syntax::Refusal;
-use syntax::SHEET_BYTES;
 use syntax::SHEET_WORDS;
 use syntax::Text;
 use syntax::Verdict;
+use syntax::fault_of;
+use syntax::is_long_goal;
+use syntax::is_long_sheet;
 ghost use mathlib.Core.Path.{_≡_};
 ghost use Prim.Native.Nat.{_≤_, _<_, _^_};
 ghost use lib.ListN.{length};
 ghost use Rattle.syntax.specs.Words.{sheetWords, goalWords, declaredWords};
 ghost use Rattle.syntax.specs.Terms.{Sheet};
-ghost use Rattle.syntax.specs.Verdicts.{faultOf, accepted, sheetOf, readVerdict};
+ghost use Rattle.syntax.specs.Verdicts.{accepted, sheetOf, readVerdict};
 ghost use Rattle.rules.specs.Checking.{checkedSheet, checkVerdict};
 ghost use Rattle.tables.specs.Tables.{Tabled, GoalTabled};
-
-// A fault of reading, 3 to 6, as a refusal.
-fn fault_of(number: usize, byte: usize) -> Refusal
-    ensures { λ r. ⌜ r ≡ faultOf number byte ⌝ }
-{
-    if number == 3 {
-        return Refusal::NoToken(byte);
-    }
-    if number == 4 {
-        return Refusal::Overlong(byte);
-    }
-    if number == 5 {
-        return Refusal::Misplaced(byte);
-    }
-    Refusal::OverLimit(byte)
-}
 
 // The refusal of a sheet.
 fn sheet_refused(refusal: Refusal) -> Verdict
@@ -52,7 +37,7 @@ pub fn load(sheet: &[u8], declared: &mut [u32], table: &mut [u32]) -> Verdict
     ensures holds { λ r. ⌜ ((sh : Sheet) → sheetOf (now (sheet .entry)) ≡ accepted sh → Tabled (now (sheet .entry)) (now (declared .exit))
         (now (table .exit)) sh) ⌝ }
 {
-    if SHEET_BYTES < sheet.len() {
+    if is_long_sheet(sheet.len()) {
         return sheet_refused(Refusal::TooLong);
     }
     let r = read_items(sheet, declared, table);
@@ -106,7 +91,7 @@ pub fn load_goal(goal: &[u8], table: &mut [u32]) -> GoalRead
     requires { ⌜ (goalWords ≤ length (now table)) × (length (now table) < 2 ^ 31) ⌝ }
     ensures { λ r. ⌜ GoalTabled (now (goal .entry)) (now (table .exit)) r ⌝ }
 {
-    if GOAL_BYTES < goal.len() {
+    if is_long_goal(goal.len()) {
         return goal_refused(Refusal::TooLong);
     }
     let r = parser::sheets::read_goal(goal, table);

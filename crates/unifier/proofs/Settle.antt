@@ -333,40 +333,47 @@ module _ (nodes scratch : List ℕ) (h p c q d : ℕ) (g : Crossed nodes scratch
             },
           ))
 
--- the same, over the words as they are read
-module _ (nodes scratch : List ℕ) (h p c q d : ℕ) (g : Crossed nodes scratch h p c q d) (w z : ℕ) (ew : w ≡ getD nodes p 0) (ez : z ≡ getD nodes q 0) where
-  pub read-same : w < firstName → z < firstName → cellOf c w ≡ cellOf d z → Settled nodes scratch scratch h p c q d g (Go h)
-  read-same =
-      subst⁻¹ (λ (i : ℕ). i < firstName → z < firstName → cellOf c i ≡ cellOf d z → Settled nodes scratch scratch h p c q d g (Go h)) ew
-      (subst⁻¹ (λ (j : ℕ). getD nodes p 0 < firstName → j < firstName → cellOf c (getD nodes p 0) ≡ cellOf d j → Settled nodes scratch scratch h p c q d g (Go h)) ez (settle-same nodes scratch h p c q d g))
+-- the same, over the words as they are read and the cells as they are computed
+module _ {nodes scratch : List ℕ} {h p c q d : ℕ} (g : Crossed nodes scratch h p c q d) {w z : ℕ} (ew : w ≡ getD nodes p 0) (ez : z ≡ getD nodes q 0) where
+  lower : {v k : ℕ} → v ≡ k → v < firstName → k < firstName
+  lower e l = subst (λ (k : ℕ). k < firstName) e l
 
-  pub read-earlier : w < firstName → z < firstName → cellOf c w < cellOf d z → Settled nodes scratch scratch h p c q d g (Bind h (cellOf d z) p c)
-  read-earlier =
-      subst⁻¹ (λ (i : ℕ). i < firstName → z < firstName → cellOf c i < cellOf d z → Settled nodes scratch scratch h p c q d g (Bind h (cellOf d z) p c)) ew
-      (subst⁻¹ (λ (j : ℕ). getD nodes p 0 < firstName → j < firstName → cellOf c (getD nodes p 0) < cellOf d j → Settled nodes scratch scratch h p c q d g (Bind h (cellOf d j) p c)) ez (settle-earlier nodes scratch h p c q d g))
+  higher : {v k : ℕ} → v ≡ k → firstName ≤ v → firstName ≤ k
+  higher e l = subst (λ (k : ℕ). firstName ≤ k) e l
 
-  pub read-later : w < firstName → z < firstName → (cellOf c w ≡ cellOf d z → ⊥) → cellOf d z ≤ cellOf c w → Settled nodes scratch scratch h p c q d g (Bind h (cellOf c w) q d)
-  read-later lp lq n o =
-      subst⁻¹ (λ (i : ℕ). i < firstName → z < firstName → cellOf d z < cellOf c i → Settled nodes scratch scratch h p c q d g (Bind h (cellOf c i) q d)) ew
-      (subst⁻¹ (λ (j : ℕ). getD nodes p 0 < firstName → j < firstName → cellOf d j < cellOf c (getD nodes p 0) → Settled nodes scratch scratch h p c q d g (Bind h (cellOf c (getD nodes p 0)) q d)) ez (settle-later nodes scratch h p c q d g)) lp lq (omega (arith, n))
+  left-cell : {i : ℕ} → i ≡ cellOf c w → i ≡ cellOf c (getD nodes p 0)
+  left-cell e = e ∙ ap (cellOf c) ew
 
-  pub read-left : w < firstName → firstName ≤ z → Settled nodes scratch scratch h p c q d g (Bind h (cellOf c w) q d)
-  read-left =
-      subst⁻¹ (λ (i : ℕ). i < firstName → firstName ≤ z → Settled nodes scratch scratch h p c q d g (Bind h (cellOf c i) q d)) ew
-      (subst⁻¹ (λ (j : ℕ). getD nodes p 0 < firstName → firstName ≤ j → Settled nodes scratch scratch h p c q d g (Bind h (cellOf c (getD nodes p 0)) q d)) ez (settle-left nodes scratch h p c q d g))
+  right-cell : {j : ℕ} → j ≡ cellOf d z → j ≡ cellOf d (getD nodes q 0)
+  right-cell e = e ∙ ap (cellOf d) ez
 
-  pub read-right : firstName ≤ w → z < firstName → Settled nodes scratch scratch h p c q d g (Bind h (cellOf d z) p c)
-  read-right =
-      subst⁻¹ (λ (i : ℕ). firstName ≤ i → z < firstName → Settled nodes scratch scratch h p c q d g (Bind h (cellOf d z) p c)) ew
-      (subst⁻¹ (λ (j : ℕ). firstName ≤ getD nodes p 0 → j < firstName → Settled nodes scratch scratch h p c q d g (Bind h (cellOf d j) p c)) ez (settle-right nodes scratch h p c q d g))
+  pub read-left : w < firstName → firstName ≤ z → {i : ℕ} → i ≡ cellOf c w → {r : Turn} → r ≡ Bind h i q d → Settled nodes scratch scratch h p c q d g r
+  read-left lp hq ex {r} er = settle-as nodes scratch h p c q d g r (er ∙ ap (λ (k : ℕ). Bind h k q d) (left-cell ex)) (settle-left nodes scratch h p c q d g (lower ew lp) (higher ez hq))
+
+  pub read-right : firstName ≤ w → z < firstName → {j : ℕ} → j ≡ cellOf d z → {r : Turn} → r ≡ Bind h j p c → Settled nodes scratch scratch h p c q d g r
+  read-right hp lq ey {r} er = settle-as nodes scratch h p c q d g r (er ∙ ap (λ (k : ℕ). Bind h k p c) (right-cell ey)) (settle-right nodes scratch h p c q d g (higher ew hp) (lower ez lq))
+
+  module _ (lp : w < firstName) (lq : z < firstName) {i j : ℕ} (ex : i ≡ cellOf c w) (ey : j ≡ cellOf d z) where
+    pub read-same : i ≡ j → Settled nodes scratch scratch h p c q d g (Go h)
+    read-same e = settle-same nodes scratch h p c q d g (lower ew lp) (lower ez lq) (sym (left-cell ex) ∙ (e ∙ right-cell ey))
+
+    pub read-earlier : i < j → {r : Turn} → r ≡ Bind h j p c → Settled nodes scratch scratch h p c q d g r
+    read-earlier l {r} er =
+        settle-as nodes scratch h p c q d g r (er ∙ ap (λ (k : ℕ). Bind h k p c) (right-cell ey))
+        (settle-earlier nodes scratch h p c q d g (lower ew lp) (lower ez lq) (omega (arith, left-cell ex, right-cell ey, l)))
+
+    pub read-later : (i ≡ j → ⊥) → j ≤ i → {r : Turn} → r ≡ Bind h i q d → Settled nodes scratch scratch h p c q d g r
+    read-later n o {r} er =
+        settle-as nodes scratch h p c q d g r (er ∙ ap (λ (k : ℕ). Bind h k q d) (left-cell ex))
+        (settle-later nodes scratch h p c q d g (lower ew lp) (lower ez lq) (omega (arith, left-cell ex, right-cell ey, n, o)))
 
   pub read-clash : firstName ≤ w → firstName ≤ z → (w ≡ z → ⊥) → Settled nodes scratch scratch h p c q d g Clash
-  read-clash hp hq n = settle-clash nodes scratch h p c q d g (subst (λ (k : ℕ). firstName ≤ k) ew hp) (subst (λ (k : ℕ). firstName ≤ k) ez hq) (λ e. n (ew ∙ (e ∙ sym ez)))
+  read-clash hp hq n = settle-clash nodes scratch h p c q d g (higher ew hp) (higher ez hq) (λ e. n (ew ∙ (e ∙ sym ez)))
 
   pub read-openable : firstName ≤ w → firstName ≤ z → w ≡ z → Openable scratch h p c q d
-  read-openable hp hq e = record { nodes = nodes; crossed = g; name = subst (λ (k : ℕ). firstName ≤ k) ew hp; same = sym ew ∙ (e ∙ ez) }
+  read-openable hp hq e = record { nodes = nodes; crossed = g; name = higher ew hp; same = sym ew ∙ (e ∙ ez) }
 
-  pub read-open : (hp : firstName ≤ w) (hq : firstName ≤ z) (e : w ≡ z) (after : List ℕ) (r : Turn) → ((k : Openable scratch h p c q d) → Settled (k .nodes) scratch after h p c q d (k .crossed) r) → Settled nodes scratch after h p c q d g r
+  pub read-open : firstName ≤ w → firstName ≤ z → w ≡ z → (after : List ℕ) (r : Turn) → ((k : Openable scratch h p c q d) → Settled (k .nodes) scratch after h p c q d (k .crossed) r) → Settled nodes scratch after h p c q d g r
   unfolding read-openable
   read-open hp hq e after r k = k (read-openable hp hq e)
 

@@ -10,11 +10,11 @@ use bindings::stack::side_at;
 use bindings::store::bind;
 use bindings::store::deref;
 use bindings::store::pack;
-use layout::COPY_CELLS;
 use layout::LOADED_NODE;
 use layout::PAIR_SIZE;
 use layout::SIDE_SIZE;
 use layout::STACK;
+use layout::cell_of;
 use memos::forget;
 use memos::known;
 use memos::remember;
@@ -93,9 +93,9 @@ fn settle(
     let w = word_at(nodes, p);
     let z = word_at(nodes, q);
     if w < FIRST_NAME {
-        let x = c * COPY_CELLS + w;
+        let x = cell_of(c, w);
         if z < FIRST_NAME {
-            let y = d * COPY_CELLS + z;
+            let y = cell_of(d, z);
             if x == y {
                 return Turn::Go(h);
             }
@@ -107,7 +107,7 @@ fn settle(
         return bind_to(h, x, q, d);
     }
     if z < FIRST_NAME {
-        let v = d * COPY_CELLS + z;
+        let v = cell_of(d, z);
         return bind_to(h, v, p, c);
     }
     if w != z {

@@ -3,27 +3,19 @@ use Rattle.answers.proofs.LineLaws.{numbers-clear, counting-clear}
 use borrow.Author.Needs.{needs}
 use Rattle.answers.proofs.append_afresh.Statement.{statement}
 use Rattle.answers.proofs.append_afresh.Tie as tie
-use Rattle.answers.proofs.append_afresh.Reads as reads
-use Rattle.answers.proofs.append_afresh.Lts as lts
-use Rattle.spelling.proofs.values.append_values.Reads as append-values-reads
 
--- src/lib.rt:57:9
 slice-aggregate-append-values : tie.Need-slice-aggregate-append-values
 slice-aggregate-append-values c = search needs
 
--- src/lib.rt:49:5
 append-values-requires : tie.Need-append-values-requires
 append-values-requires c κs = let pre = c .before .before .before .before .before .before .before .before .before .before .before .pre in (pre .0, (counting-clear (pre .1 .0), pre .1))
 
--- src/lib.rt:31:1
 same-length : tie.Need-same-length
 same-length c = search needs
 
--- src/lib.rt:31:1
 same-length-2 : tie.Need-same-length-2
 same-length-2 c = search needs
 
--- src/lib.rt:31:1
 returns : tie.Need-returns
 returns c = λ ss n v. c .before .before .before .before .before .append-values .ensures .0 ss n [] v numbers-clear
 

@@ -3,48 +3,34 @@ use Rattle.answers.proofs.LineLaws.{numbers-again, counting-again}
 use borrow.Author.Needs.{needs}
 use Rattle.answers.proofs.append_again.Statement.{statement}
 use Rattle.answers.proofs.append_again.Tie as tie
-use Rattle.answers.proofs.append_again.Reads as reads
-use Rattle.answers.proofs.append_again.Lts as lts
-use Rattle.answers.proofs.append_afresh.Reads as append-afresh-reads
-use Rattle.spelling.proofs.values.append_values.Reads as append-values-reads
 
--- src/lib.rt:84:8
 slice-read-if1 : tie.Need-slice-read-if1
 slice-read-if1 c = search needs
 
--- src/lib.rt:85:9
 append-values-requires : tie.Need-append-values-requires
 append-values-requires c κs = let pre = c .before .before .before .before .before .before .before .before .before .before .before .before .before .before .pre in (pre .0, (counting-again _ _ (pre .1 .0) (c .before .before .before .if1 .taken) (pre .1 .1 .0), pre .1 .1))
 
--- src/lib.rt:85:9
 same-length : tie.Need-same-length
 same-length c = search needs
 
--- src/lib.rt:85:9
 same-length-2 : tie.Need-same-length-2
 same-length-2 c = search needs
 
--- src/lib.rt:85:9
 same-length-3 : tie.Need-same-length-3
 same-length-3 c = search needs
 
--- src/lib.rt:85:9
 returns : tie.Need-returns
 returns c = let c6 = c .before .before .before .before .before .before in let c10 = c6 .before .before .before .before in let c21 = c10 .before .before .before .before .before .before .before .before .before .before .before in λ ss n v. c6 .append-values .ensures .0 ss n [] v (numbers-again _ (c21 .pre .1 .0) (c10 .if1 .taken))
 
--- src/lib.rt:100:5
 append-afresh-requires : tie.Need-append-afresh-requires
 append-afresh-requires c κs = search needs
 
--- src/lib.rt:66:1
 same-length-4 : tie.Need-same-length-4
 same-length-4 c = search needs
 
--- src/lib.rt:66:1
 same-length-5 : tie.Need-same-length-5
 same-length-5 c = search needs
 
--- src/lib.rt:66:1
 returns-2 : tie.Need-returns-2
 returns-2 c = search needs
 

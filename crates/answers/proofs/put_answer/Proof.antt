@@ -2,41 +2,28 @@ use Rattle.answers.proofs.LineLaws.{line-fits-yes, line-fits-values}
 use borrow.Author.Needs.{needs}
 use Rattle.answers.proofs.put_answer.Statement.{statement}
 use Rattle.answers.proofs.put_answer.Tie as tie
-use Rattle.answers.proofs.put_answer.Reads as reads
-use Rattle.answers.proofs.put_answer.Lts as lts
-use Rattle.answers.proofs.put_values.Reads as put-values-reads
-use Rattle.answers.proofs.put_yes.Reads as put-yes-reads
-use Rattle.spelling.proofs.values.all_anonymous.Reads as all-anonymous-reads
 
--- src/lib.rt:152:8
 all-anonymous-requires : tie.Need-all-anonymous-requires
 all-anonymous-requires c κs = search needs
 
--- src/lib.rt:153:9
 put-yes-requires : tie.Need-put-yes-requires
 put-yes-requires c κs = search needs
 
--- src/lib.rt:153:9
 same-length : tie.Need-same-length
 same-length c = search needs
 
--- src/lib.rt:153:9
 returns : tie.Need-returns
 returns c = let c4 = c .before .before .before .before in let c5 = c4 .before in λ ss n g v q. line-fits-yes g _ _ (c5 .all-anonymous .result) _ _ _ _ (c5 .all-anonymous .ensures) (c4 .if1 .taken) q (c .before .before .put-yes .ensures)
 
--- src/lib.rt:155:5
 put-values-requires : tie.Need-put-values-requires
 put-values-requires c κs = search needs
 
--- src/lib.rt:136:1
 same-length-2 : tie.Need-same-length-2
 same-length-2 c = search needs
 
--- src/lib.rt:136:1
 same-length-3 : tie.Need-same-length-3
 same-length-3 c = search needs
 
--- src/lib.rt:136:1
 returns-2 : tie.Need-returns-2
 returns-2 c = let c4 = c .before .before .before .before in let c7 = c4 .before .before .before in let c8 = c7 .before in let all-anonymous = c8 .all-anonymous in λ ss n g v q. line-fits-values g _ _ (all-anonymous .result) _ _ _ _ (all-anonymous .ensures) (c7 .if1 .left) q (c4 .put-values .ensures ss n v)
 

@@ -7,31 +7,22 @@ use Rattle.answers.proofs.LineLaws.{fitted-short, fitted-yes}
 use borrow.Author.Needs.{needs}
 use Rattle.answers.proofs.put_yes.Statement.{statement}
 use Rattle.answers.proofs.put_yes.Tie as tie
-use Rattle.answers.proofs.put_yes.Reads as reads
-use Rattle.answers.proofs.put_yes.Lts as lts
-use Rattle.buffers.proofs.append_part.Reads as append-part-reads
 
--- src/lib.rt:24:8
 sub-if1 : tie.Need-sub-if1
 sub-if1 c = search needs
 
--- src/lib.rt:25:9
 returns : tie.Need-returns
 returns c = fitted-short _ _ _ (let z : length (bytes "yes\n") ≡ 4 = refl in omega (arith, c .if1 .taken, c .before .before .pre))
 
--- src/lib.rt:27:17
 slice-aggregate-append-part : tie.Need-slice-aggregate-append-part
 slice-aggregate-append-part c = search needs
 
--- src/lib.rt:27:5
 append-part-requires : tie.Need-append-part-requires
 append-part-requires c κs = search needs
 
--- src/lib.rt:19:1
 same-length : tie.Need-same-length
 same-length c = search needs
 
--- src/lib.rt:19:1
 returns-2 : tie.Need-returns-2
 returns-2 c = let c5 = c .before .before .before .before .before in let c7 = c5 .before .before in fitted-yes _ _ _ _ (omega (arith, c5 .if1 .left, c7 .pre)) (c .before .before .append-part .ensures)
 

@@ -32,101 +32,49 @@ append-decimal-below t =
     (falls 1 append-decimal-kinds.ps _<_ μ-append-decimal t)
     append-decimal.Pre
 
-append-decimal-add-append-byte : (t : ℕ) → append-decimal-lts.Need-add-append-byte (
-  append-byte-reads.Asked,
-  append-byte-reads.Learnt,
-  append-decimal-below t,
-  append-decimal.Post,
-) (append-decimal-at t) append-decimal.Post
-append-decimal-add-append-byte t c = omega arith
-
-append-decimal-cast-append-byte : (t : ℕ) → append-decimal-lts.Need-cast-append-byte (
-  append-byte-reads.Asked,
-  append-byte-reads.Learnt,
-  append-decimal-below t,
-  append-decimal.Post,
-) (append-decimal-at t) append-decimal.Post
-append-decimal-cast-append-byte t c = omega arith
-
-append-decimal-append-byte-requires : (t : ℕ) → append-decimal-lts.Need-append-byte-requires (
-  append-byte-reads.Asked,
-  append-byte-reads.Learnt,
-  append-decimal-below t,
-  append-decimal.Post,
-) (append-decimal-at t) append-decimal.Post
-append-decimal-append-byte-requires t c κs = omega arith
-
-append-decimal-same-length : (t : ℕ) → append-decimal-lts.Need-same-length (
-  append-byte-reads.Asked,
-  append-byte-reads.Learnt,
-  append-decimal-below t,
-  append-decimal.Post,
-) (append-decimal-at t) append-decimal.Post
-append-decimal-same-length t c = c .before .before .append-byte .kept .1 .0
-
-append-decimal-returns : (t : ℕ) → append-decimal-lts.Need-returns (
-  append-byte-reads.Asked,
-  append-byte-reads.Learnt,
-  append-decimal-below t,
-  append-decimal.Post,
-) (append-decimal-at t) append-decimal.Post
-append-decimal-returns t c = first-digit (search needs) (c .before .before .append-byte .ensures)
-
-append-decimal-append-decimal-requires : (t : ℕ) → append-decimal-lts.Need-append-decimal-requires (
-  append-byte-reads.Asked,
-  append-byte-reads.Learnt,
-  append-decimal-below t,
-  append-decimal.Post,
-) (append-decimal-at t) append-decimal.Post
-append-decimal-append-decimal-requires t c κs = omega arith
-
-append-decimal-add-append-byte-2 : (t : ℕ) → append-decimal-lts.Need-add-append-byte-2 (
-  append-byte-reads.Asked,
-  append-byte-reads.Learnt,
-  append-decimal-below t,
-  append-decimal.Post,
-) (append-decimal-at t) append-decimal.Post
-append-decimal-add-append-byte-2 t c = omega arith
-
-append-decimal-cast-append-byte-2 : (t : ℕ) → append-decimal-lts.Need-cast-append-byte-2 (
-  append-byte-reads.Asked,
-  append-byte-reads.Learnt,
-  append-decimal-below t,
-  append-decimal.Post,
-) (append-decimal-at t) append-decimal.Post
-append-decimal-cast-append-byte-2 t c = omega arith
-
-append-decimal-append-byte-requires-2 : (t : ℕ) → append-decimal-lts.Need-append-byte-requires-2 (
-  append-byte-reads.Asked,
-  append-byte-reads.Learnt,
-  append-decimal-below t,
-  append-decimal.Post,
-) (append-decimal-at t) append-decimal.Post
-append-decimal-append-byte-requires-2 t c κs = omega (arith, decimal-few (c .before .before .before .before .before .before .before .args .n / 10) (omega arith))
-
-append-decimal-same-length-2 : (t : ℕ) → append-decimal-lts.Need-same-length-2 (
-  append-byte-reads.Asked,
-  append-byte-reads.Learnt,
-  append-decimal-below t,
-  append-decimal.Post,
-) (append-decimal-at t) append-decimal.Post
-append-decimal-same-length-2 t c = c .before .before .append-byte2 .kept .1 .0 ∙ c .before .before .before .before .before .before .append-decimal .kept .1 .0
-
-append-decimal-returns-2 : (t : ℕ) → append-decimal-lts.Need-returns-2 (
-  append-byte-reads.Asked,
-  append-byte-reads.Learnt,
-  append-decimal-below t,
-  append-decimal.Post,
-) (append-decimal-at t) append-decimal.Post
-append-decimal-returns-2 t c = next-digit (search needs) (c .before .before .before .before .before .before .append-decimal .ensures) (c .before .before .append-byte2 .ensures)
-
-pub +append-decimal-spec : {M : Type 1} → statement M
-+append-decimal-spec = close μ-append-decimal λ t. append-decimal-lts.spec (
+abbrev append-decimal-claims : ℕ → append-decimal-lts.Claims
+append-decimal-claims t = (
   append-byte-reads.Asked,
   append-byte-reads.Learnt,
   append-decimal-below t,
   append-decimal.Post,
 )
+
+append-decimal-add-append-byte : (t : ℕ) → append-decimal-lts.Need-add-append-byte (append-decimal-claims t) (append-decimal-at t) append-decimal.Post
+append-decimal-add-append-byte t c = omega arith
+
+append-decimal-cast-append-byte : (t : ℕ) → append-decimal-lts.Need-cast-append-byte (append-decimal-claims t) (append-decimal-at t) append-decimal.Post
+append-decimal-cast-append-byte t c = omega arith
+
+append-decimal-append-byte-requires : (t : ℕ) → append-decimal-lts.Need-append-byte-requires (append-decimal-claims t) (append-decimal-at t) append-decimal.Post
+append-decimal-append-byte-requires t c κs = omega arith
+
+append-decimal-same-length : (t : ℕ) → append-decimal-lts.Need-same-length (append-decimal-claims t) (append-decimal-at t) append-decimal.Post
+append-decimal-same-length t c = c .before .before .append-byte .kept .1 .0
+
+append-decimal-returns : (t : ℕ) → append-decimal-lts.Need-returns (append-decimal-claims t) (append-decimal-at t) append-decimal.Post
+append-decimal-returns t c = first-digit (search needs) (c .before .before .append-byte .ensures)
+
+append-decimal-append-decimal-requires : (t : ℕ) → append-decimal-lts.Need-append-decimal-requires (append-decimal-claims t) (append-decimal-at t) append-decimal.Post
+append-decimal-append-decimal-requires t c κs = omega arith
+
+append-decimal-add-append-byte-2 : (t : ℕ) → append-decimal-lts.Need-add-append-byte-2 (append-decimal-claims t) (append-decimal-at t) append-decimal.Post
+append-decimal-add-append-byte-2 t c = omega arith
+
+append-decimal-cast-append-byte-2 : (t : ℕ) → append-decimal-lts.Need-cast-append-byte-2 (append-decimal-claims t) (append-decimal-at t) append-decimal.Post
+append-decimal-cast-append-byte-2 t c = omega arith
+
+append-decimal-append-byte-requires-2 : (t : ℕ) → append-decimal-lts.Need-append-byte-requires-2 (append-decimal-claims t) (append-decimal-at t) append-decimal.Post
+append-decimal-append-byte-requires-2 t c κs = omega (arith, decimal-few (c .before .before .before .before .before .before .before .args .n / 10) (omega arith))
+
+append-decimal-same-length-2 : (t : ℕ) → append-decimal-lts.Need-same-length-2 (append-decimal-claims t) (append-decimal-at t) append-decimal.Post
+append-decimal-same-length-2 t c = c .before .before .append-byte2 .kept .1 .0 ∙ c .before .before .before .before .before .before .append-decimal .kept .1 .0
+
+append-decimal-returns-2 : (t : ℕ) → append-decimal-lts.Need-returns-2 (append-decimal-claims t) (append-decimal-at t) append-decimal.Post
+append-decimal-returns-2 t c = next-digit (search needs) (c .before .before .before .before .before .before .append-decimal .ensures) (c .before .before .append-byte2 .ensures)
+
+pub +append-decimal-spec : {M : Type 1} → statement M
++append-decimal-spec = close μ-append-decimal λ t. append-decimal-lts.spec (append-decimal-claims t)
     (append-decimal-at t)
     append-decimal.Post
     (append-decimal-add-append-byte t)

@@ -2,36 +2,25 @@ use Rattle.engine.proofs.StepLaws.{deeper-none, run-room, run-inside, d
 use borrow.Author.Needs.{needs}
 use Rattle.engine.proofs.goes_deeper.Statement.{statement}
 use Rattle.engine.proofs.goes_deeper.Tie as tie
-use Rattle.engine.proofs.goes_deeper.Reads as reads
-use Rattle.engine.proofs.goes_deeper.Lts as lts
-use Rattle.engine.proofs.records.stand_at.Reads as stand-at-reads
-use Rattle.words.proofs.word_at.Reads as word-at-reads
 
--- src/lib.rt:72:9
 returns : tie.Need-returns
 returns c = λ nodes w. deeper-none w (c .if1 .taken)
 
--- src/lib.rt:74:13
 sub-j : tie.Need-sub-j
 sub-j c = search needs
 
--- src/lib.rt:75:9
 stand-at-requires : tie.Need-stand-at-requires
 stand-at-requires c κs = run-room (c .before .before .before .pre .1) (c .if1 .left)
 
--- src/lib.rt:76:8
 word-at-requires : tie.Need-word-at-requires
 word-at-requires c κs = run-inside (c .before .before .before .before .pre .1) (c .before .if1 .left) (c .stand-at .ensures)
 
--- src/lib.rt:77:9
 returns-2 : tie.Need-returns-2
 returns-2 c = λ nodes w. deeper-other w (c .before .before .before .if1 .left) (c .before .before .stand-at .ensures) (c .before .word-at .ensures) (c .if2 .taken)
 
--- src/lib.rt:80:9
 returns-3 : tie.Need-returns-3
 returns-3 c = let c4 = c .before .before .before .before in let c5 = c4 .before in λ nodes w. deeper-last w (c5 .if1 .left) (c4 .stand-at .ensures) (c .before .before .before .word-at .ensures) (c .if3 .taken)
 
--- src/lib.rt:67:1
 returns-4 : tie.Need-returns-4
 returns-4 c = let c4 = c .before .before .before .before in let c5 = c4 .before in let c6 = c5 .before in λ nodes w. deeper-end w (c6 .if1 .left) (c5 .stand-at .ensures) (c4 .word-at .ensures) (c .before .before .before .if2 .left) (c .before .if3 .left)
 

@@ -2,24 +2,16 @@ use Rattle.engine.proofs.StepLaws.{start-layable, start-end}
 use borrow.Author.Needs.{needs}
 use Rattle.engine.proofs.start.Statement.{statement}
 use Rattle.engine.proofs.start.Tie as tie
-use Rattle.engine.proofs.start.Reads as reads
-use Rattle.engine.proofs.start.Lts as lts
-use Rattle.engine.proofs.laying.lay.Reads as lay-reads
-use Rattle.words.proofs.word_at.Reads as word-at-reads
 
--- src/lib.rt:49:9
 word-at-requires : tie.Need-word-at-requires
 word-at-requires c κs = search needs
 
--- src/lib.rt:50:5
 lay-requires : tie.Need-lay-requires
 lay-requires c κs = start-layable (c .before .before .before .before .pre .1) (c .before .word-at .ensures)
 
--- src/lib.rt:45:1
 same-length : tie.Need-same-length
 same-length c = search needs
 
--- src/lib.rt:45:1
 returns : tie.Need-returns
 returns c = λ nodes w. start-end w (c .before .before .before .before .word-at .ensures) (c .before .before .lay .last .1 .0) (c .before .before .lay .ensures)
 

@@ -2,37 +2,25 @@ use Rattle.engine.proofs.StepLaws.{step-room, step-stored, step-mark, s
 use borrow.Author.Needs.{needs}
 use Rattle.engine.proofs.step.Statement.{statement}
 use Rattle.engine.proofs.step.Tie as tie
-use Rattle.engine.proofs.step.Reads as reads
-use Rattle.engine.proofs.step.Lts as lts
-use Rattle.engine.proofs.calls.work.Reads as work-reads
-use Rattle.engine.proofs.records.stand_at.Reads as stand-at-reads
-use Rattle.bindings.proofs.store.undo.Reads as undo-reads
 
--- src/lib.rt:38:13
 sub-j : tie.Need-sub-j
 sub-j c = search needs
 
--- src/lib.rt:39:9
 stand-at-requires : tie.Need-stand-at-requires
 stand-at-requires c κs = step-room (c .before .before .before .before .before .pre)
 
--- src/lib.rt:40:5
 undo-requires : tie.Need-undo-requires
 undo-requires c κs = let c7 = c .before .before .before .before .before .before .before in (step-stored (c7 .pre) (c .before .stand-at .ensures), step-mark (c7 .pre) (c .before .stand-at .ensures))
 
--- src/lib.rt:41:5
 work-requires : tie.Need-work-requires
 work-requires c κs = let c4 = c .before .before .before .before in let c6 = c4 .before .before in let c12 = c6 .before .before .before .before .before .before in step-steppable (c12 .pre) (c6 .stand-at .ensures) (c4 .undo .ensures)
 
--- src/lib.rt:27:1
 same-length : tie.Need-same-length
 same-length c = search needs
 
--- src/lib.rt:27:1
 same-length-2 : tie.Need-same-length-2
 same-length-2 c = search needs
 
--- src/lib.rt:27:1
 returns : tie.Need-returns
 returns c = let c4 = c .before .before .before .before in let c9 = c4 .before .before .before .before .before in let c11 = c9 .before .before in λ w. step-end w (c11 .stand-at .ensures) (c9 .undo .ensures) (c4 .work .last .1 .1 .0) (c4 .work .last .1 .1 .1 .0) (c4 .work .result) (c4 .work .ensures)
 

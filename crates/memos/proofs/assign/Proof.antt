@@ -5,40 +5,28 @@ use Rattle.memos.proofs.Remembering.{assigned-none, assigned, row-then}
 use borrow.Author.Needs.{needs}
 use Rattle.memos.proofs.assign.Statement.{statement}
 use Rattle.memos.proofs.assign.Tie as tie
-use Rattle.memos.proofs.assign.Reads as reads
-use Rattle.memos.proofs.assign.Lts as lts
-use Rattle.memos.proofs.put_number.Reads as put-number-reads
-use Rattle.memos.proofs.row_for.Reads as row-for-reads
 
--- src/lib.rt:229:13
 add-v : tie.Need-add-v
 add-v c = search needs
 
--- src/lib.rt:230:9
 row-for-requires : tie.Need-row-for-requires
 row-for-requires c κs = search needs
 
--- src/lib.rt:232:9
 same-length : tie.Need-same-length
 same-length c = search needs
 
--- src/lib.rt:232:9
 returns : tie.Need-returns
 returns c = let c6 = c .before .before .before .before .before .before in assigned-none (c6 .args .scratch .now) _ (c6 .args .term) (c6 .args .i) ((c6 .args .term + shift) / copies) (c .before .before .before .row-for .result) (c .before .before .before .row-for .ensures)
 
--- src/lib.rt:234:13
 sub-k : tie.Need-sub-k
 sub-k c = search needs
 
--- src/lib.rt:235:5
 put-number-requires : tie.Need-put-number-requires
 put-number-requires c κs = let c4 = c .before .before .before .before in let c7 = c4 .before .before .before in row-then _ _ (c4 .row-for .result) (c7 .args .i) (c4 .row-for .ensures .row) (c .before .if1 .left) (c7 .pre .1 .1)
 
--- src/lib.rt:225:1
 same-length-2 : tie.Need-same-length-2
 same-length-2 c = search needs
 
--- src/lib.rt:225:1
 returns-2 : tie.Need-returns-2
 returns-2 c = let c4 = c .before .before .before .before in let c7 = c4 .before .before .before in let c10 = c7 .before .before .before in assigned (c10 .args .scratch .now) _ (c10 .args .term) (c10 .args .i) (c7 .row-for .result) (c7 .row-for .ensures) (c4 .if1 .left) (c10 .pre .1 .1) _ (c .before .before .put-number .ensures)
 

@@ -4,26 +4,19 @@ use lib.ListN.{length-set}
 use borrow.Author.Needs.{needs}
 use Rattle.memos.proofs.begin.Statement.{statement}
 use Rattle.memos.proofs.begin.Tie as tie
-use Rattle.memos.proofs.begin.Reads as reads
-use Rattle.memos.proofs.begin.Lts as lts
 
--- src/lib.rt:319:5
 slice-write-scratch : tie.Need-slice-write-scratch
 slice-write-scratch c = search needs
 
--- src/lib.rt:320:21
 cast-scratch : tie.Need-cast-scratch
 cast-scratch c = search needs
 
--- src/lib.rt:320:5
 slice-write-scratch-2 : tie.Need-slice-write-scratch-2
 slice-write-scratch-2 c = simp length-set (omega arith)
 
--- src/lib.rt:315:1
 same-length : tie.Need-same-length
 same-length c = search needs
 
--- src/lib.rt:315:1
 returns : tie.Need-returns
 returns c = search (begins, needs)
 

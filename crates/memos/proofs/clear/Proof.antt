@@ -5,8 +5,6 @@ use Rattle.memos.specs.Memos.{Cleared}
 use Prim.Native.Nat.{_-_, _≤_}
 use Rattle.memos.proofs.clear.Statement.{statement}
 use Rattle.memos.proofs.clear.Tie as tie
-use Rattle.memos.proofs.clear.Reads as reads
-use Rattle.memos.proofs.clear.Lts as lts
 
 abbrev Inv-loop : tie.InvT-loop
 Inv-loop scratch₀ base k₀ scratch k = (k ≤ rowWords) × Cleared scratch₀ scratch base k
@@ -14,39 +12,30 @@ Inv-loop scratch₀ base k₀ scratch k = (k ≤ rowWords) × Cleared scratch₀
 abbrev μ-loop : tie.MeasureT-loop
 μ-loop scratch₀ base k₀ scratch k = rowWords - k
 
--- src/lib.rt:171:5
 loop-holds : tie.Need-loop-holds Inv-loop μ-loop
 loop-holds c = (omega arith, cleared-none (c .args .scratch .now) (c .args .base))
 
--- src/lib.rt:172:17
 add-scratch : tie.Need-add-scratch Inv-loop μ-loop
 add-scratch c = omega (arith, c .loop-test .taken, c .before .before .pre)
 
--- src/lib.rt:172:9
 mul-scratch : tie.Need-mul-scratch Inv-loop μ-loop
 mul-scratch c = omega (arith, c .loop-test .taken, c .before .before .pre, c .before .loop .inv .1 .long)
 
--- src/lib.rt:172:9
 slice-write-scratch : tie.Need-slice-write-scratch Inv-loop μ-loop
 slice-write-scratch c = omega (arith, c .loop-test .taken, c .before .before .pre, c .before .loop .inv .1 .long)
 
--- src/lib.rt:173:9
 add-k : tie.Need-add-k Inv-loop μ-loop
 add-k c = omega (arith, c .loop-test .taken)
 
--- src/lib.rt:171:5
 loop-less : tie.Need-loop-less Inv-loop μ-loop
 loop-less c = omega (arith, c .loop-test .taken)
 
--- src/lib.rt:171:5
 loop-again : tie.Need-loop-again Inv-loop μ-loop
 loop-again c = (omega (arith, c .loop-test .taken), cleared-more (c .before .before .args .scratch .now) (c .before .loop .scratch) (c .before .before .args .base) (c .before .loop .k) (omega (arith, c .loop-test .taken, c .before .before .pre)) (c .before .loop .inv .1))
 
--- src/lib.rt:166:1
 same-length : tie.Need-same-length Inv-loop μ-loop
 same-length c = c .before .loop .inv .1 .long
 
--- src/lib.rt:166:1
 returns : tie.Need-returns Inv-loop μ-loop
 returns c = cleared-all (c .before .before .args .scratch .now) (c .before .loop .scratch) (c .before .before .args .base) (c .before .loop .k) (omega (arith, c .before .loop .inv .0, c .loop-test .left)) (c .before .loop .inv .1)
 

@@ -2,70 +2,49 @@ use Rattle.memos.proofs.Remembering.{begins-remembers}
 use borrow.Author.Needs.{needs}
 use Rattle.memos.proofs.enter.Statement.{statement}
 use Rattle.memos.proofs.enter.Tie as tie
-use Rattle.memos.proofs.enter.Reads as reads
-use Rattle.memos.proofs.enter.Lts as lts
-use Rattle.words.proofs.word_at.Reads as word-at-reads
-use Rattle.memos.proofs.begin.Reads as begin-reads
-use Rattle.memos.proofs.is_crowded.Reads as is-crowded-reads
-use Rattle.memos.proofs.place.Reads as place-reads
 
--- src/lib.rt:361:9
 word-at-requires : tie.Need-word-at-requires
 word-at-requires c κs = search needs
 
--- src/lib.rt:363:24
 add-begin : tie.Need-add-begin
 add-begin c = search needs
 
--- src/lib.rt:363:9
 begin-requires : tie.Need-begin-requires
 begin-requires c κs = search needs
 
--- src/lib.rt:364:9
 same-length : tie.Need-same-length
 same-length c = search needs
 
--- src/lib.rt:364:9
 returns : tie.Need-returns
 returns c = let c8 = c .before .before .before .before .before .before .before .before in begins-remembers (c8 .args .scratch .now) _ (c8 .args .left) (c8 .args .right) (c .before .before .begin .ensures)
 
--- src/lib.rt:367:9
 begin-requires-2 : tie.Need-begin-requires-2
 begin-requires-2 c κs = search needs
 
--- src/lib.rt:368:9
 same-length-2 : tie.Need-same-length-2
 same-length-2 c = search needs
 
--- src/lib.rt:368:9
 returns-2 : tie.Need-returns-2
 returns-2 c = let c9 = c .before .before .before .before .before .before .before .before .before in begins-remembers (c9 .args .scratch .now) _ (c9 .args .left) (c9 .args .right) (c .before .before .begin2 .ensures)
 
--- src/lib.rt:370:8
 is-crowded-requires : tie.Need-is-crowded-requires
 is-crowded-requires c κs = search needs
 
--- src/lib.rt:371:9
 begin-requires-3 : tie.Need-begin-requires-3
 begin-requires-3 c κs = search needs
 
--- src/lib.rt:372:9
 same-length-3 : tie.Need-same-length-3
 same-length-3 c = search needs
 
--- src/lib.rt:372:9
 returns-3 : tie.Need-returns-3
 returns-3 c = let c12 = c .before .before .before .before .before .before .before .before .before .before .before .before in begins-remembers (c12 .args .scratch .now) _ (c12 .args .left) (c12 .args .right) (c .before .before .begin3 .ensures)
 
--- src/lib.rt:374:5
 place-requires : tie.Need-place-requires
 place-requires c κs = search needs
 
--- src/lib.rt:357:1
 same-length-4 : tie.Need-same-length-4
 same-length-4 c = search needs
 
--- src/lib.rt:357:1
 returns-4 : tie.Need-returns-4
 returns-4 c = search needs
 

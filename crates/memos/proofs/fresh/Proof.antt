@@ -4,63 +4,46 @@ use lib.ListN.{length-set}
 use borrow.Author.Needs.{needs}
 use Rattle.memos.proofs.fresh.Statement.{statement}
 use Rattle.memos.proofs.fresh.Tie as tie
-use Rattle.memos.proofs.fresh.Reads as reads
-use Rattle.memos.proofs.fresh.Lts as lts
-use Rattle.words.proofs.word_at.Reads as word-at-reads
 
--- src/lib.rt:243:9
 word-at-requires : tie.Need-word-at-requires
 word-at-requires c κs = search needs
 
--- src/lib.rt:244:24
 mul-at : tie.Need-mul-at
 mul-at c = search needs
 
--- src/lib.rt:244:14
 add-at : tie.Need-add-at
 add-at c = search needs
 
--- src/lib.rt:245:19
 cast-scratch : tie.Need-cast-scratch
 cast-scratch c = search needs
 
--- src/lib.rt:245:5
 mul-scratch : tie.Need-mul-scratch
 mul-scratch c = search needs
 
--- src/lib.rt:245:5
 slice-write-scratch : tie.Need-slice-write-scratch
 slice-write-scratch c = search needs
 
--- src/lib.rt:246:13
 add-scratch : tie.Need-add-scratch
 add-scratch c = search needs
 
--- src/lib.rt:246:5
 mul-scratch-2 : tie.Need-mul-scratch-2
 mul-scratch-2 c = search needs
 
--- src/lib.rt:246:5
 slice-write-scratch-2 : tie.Need-slice-write-scratch-2
 slice-write-scratch-2 c = simp length-set (omega arith)
 
--- src/lib.rt:247:22
 add-scratch-2 : tie.Need-add-scratch-2
 add-scratch-2 c = search needs
 
--- src/lib.rt:247:21
 cast-scratch-2 : tie.Need-cast-scratch-2
 cast-scratch-2 c = search needs
 
--- src/lib.rt:247:5
 slice-write-scratch-3 : tie.Need-slice-write-scratch-3
 slice-write-scratch-3 c = simp length-set (omega arith)
 
--- src/lib.rt:239:1
 same-length : tie.Need-same-length
 same-length c = search needs
 
--- src/lib.rt:239:1
 returns : tie.Need-returns
 returns c = fresh-class (c .before .before .before .args .scratch .now) (c .word-at .result) (c .before .before .before .args .term) (c .before .before .before .pre .0) (c .word-at .ensures) (omega (arith, c .word-at .ensures, c .before .before .before .pre .1 .0)) (omega (arith, c .word-at .ensures, c .before .before .before .pre .1 .1 .0))
 

@@ -2,36 +2,25 @@ use Rattle.memos.proofs.Remembering.{merged}
 use borrow.Author.Needs.{needs}
 use Rattle.memos.proofs.merge.Statement.{statement}
 use Rattle.memos.proofs.merge.Tie as tie
-use Rattle.memos.proofs.merge.Reads as reads
-use Rattle.memos.proofs.merge.Lts as lts
-use Rattle.memos.proofs.join.Reads as join-reads
-use Rattle.memos.proofs.root_of.Reads as root-of-reads
 
--- src/lib.rt:306:9
 root-of-requires : tie.Need-root-of-requires
 root-of-requires c κs = search needs
 
--- src/lib.rt:307:9
 root-of-requires-2 : tie.Need-root-of-requires-2
 root-of-requires-2 c κs = search needs
 
--- src/lib.rt:309:9
 same-length : tie.Need-same-length
 same-length c = search needs
 
--- src/lib.rt:309:9
 returns : tie.Need-returns
 returns c = search needs
 
--- src/lib.rt:311:5
 join-requires : tie.Need-join-requires
 join-requires c κs = search needs
 
--- src/lib.rt:302:1
 same-length-2 : tie.Need-same-length-2
 same-length-2 c = search needs
 
--- src/lib.rt:302:1
 returns-2 : tie.Need-returns-2
 returns-2 c = let c5 = c .before .before .before .before .before in let c7 = c5 .before .before in let c10 = c7 .before .before .before in merged (c10 .args .scratch .now) _ (c10 .args .i) (c10 .args .j) (c7 .root-of .result) (c5 .root-of2 .result) (c7 .root-of .ensures .1) (c5 .root-of2 .ensures .1) (c .before .before .join .ensures)
 

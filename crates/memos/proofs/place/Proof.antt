@@ -2,66 +2,46 @@ use Rattle.memos.proofs.Remembering.{assigned-left, assigned-right, mer
 use borrow.Author.Needs.{needs}
 use Rattle.memos.proofs.place.Statement.{statement}
 use Rattle.memos.proofs.place.Tie as tie
-use Rattle.memos.proofs.place.Reads as reads
-use Rattle.memos.proofs.place.Lts as lts
-use Rattle.memos.proofs.assign.Reads as assign-reads
-use Rattle.memos.proofs.merge.Reads as merge-reads
-use Rattle.memos.proofs.number_of.Reads as number-of-reads
-use Rattle.memos.proofs.pair_up.Reads as pair-up-reads
 
--- src/lib.rt:339:9
 number-of-requires : tie.Need-number-of-requires
 number-of-requires c κs = search needs
 
--- src/lib.rt:340:9
 number-of-requires-2 : tie.Need-number-of-requires-2
 number-of-requires-2 c κs = search needs
 
--- src/lib.rt:343:13
 pair-up-requires : tie.Need-pair-up-requires
 pair-up-requires c κs = search needs
 
--- src/lib.rt:344:13
 same-length : tie.Need-same-length
 same-length c = search needs
 
--- src/lib.rt:344:13
 returns : tie.Need-returns
 returns c = search needs
 
--- src/lib.rt:346:9
 assign-requires : tie.Need-assign-requires
 assign-requires c κs = let c8 = c .before .before .before .before .before .before .before .before in (c8 .pre .0, (c8 .pre .1 .1 .1 .0, small-number (c8 .args .scratch .now) (c8 .args .right) (c .before .before .before .number-of2 .result) (c .before .before .before .number-of2 .ensures)))
 
--- src/lib.rt:347:9
 same-length-2 : tie.Need-same-length-2
 same-length-2 c = search needs
 
--- src/lib.rt:347:9
 returns-2 : tie.Need-returns-2
 returns-2 c = let c4 = c .before .before .before .before in let c6 = c4 .before .before in let c11 = c6 .before .before .before .before .before in assigned-left (c11 .args .scratch .now) _ (c11 .args .left) (c11 .args .right) (c6 .number-of2 .result) (c11 .pre .1 .0) (of-number (c11 .args .scratch .now) (c11 .args .right) (c6 .number-of2 .result) (c6 .number-of2 .ensures) (c4 .if2 .left)) (c .before .before .assign .ensures)
 
--- src/lib.rt:350:9
 assign-requires-2 : tie.Need-assign-requires-2
 assign-requires-2 c κs = let c5 = c .before .before .before .before .before in let c8 = c5 .before .before .before in (c8 .pre .0, (c8 .pre .1 .1 .1 .1, small-number (c8 .args .scratch .now) (c8 .args .left) (c5 .number-of .result) (c5 .number-of .ensures)))
 
--- src/lib.rt:351:9
 same-length-3 : tie.Need-same-length-3
 same-length-3 c = search needs
 
--- src/lib.rt:351:9
 returns-3 : tie.Need-returns-3
 returns-3 c = let c5 = c .before .before .before .before .before in let c8 = c5 .before .before .before in let c11 = c8 .before .before .before in assigned-right (c11 .args .scratch .now) _ (c11 .args .left) (c11 .args .right) (c8 .number-of .result) (c11 .pre .1 .0) (of-number (c11 .args .scratch .now) (c11 .args .left) (c8 .number-of .result) (c8 .number-of .ensures) (c5 .if1 .left)) (c .before .before .assign2 .ensures)
 
--- src/lib.rt:353:5
 merge-requires : tie.Need-merge-requires
 merge-requires c κs = let c5 = c .before .before .before .before .before in let c8 = c5 .before .before .before in (c8 .pre .0, (small-number (c8 .args .scratch .now) (c8 .args .left) (c5 .number-of .result) (c5 .number-of .ensures), small-number (c8 .args .scratch .now) (c8 .args .right) (c .before .before .before .number-of2 .result) (c .before .before .before .number-of2 .ensures)))
 
--- src/lib.rt:335:1
 same-length-4 : tie.Need-same-length-4
 same-length-4 c = search needs
 
--- src/lib.rt:335:1
 returns-4 : tie.Need-returns-4
 returns-4 c = let c4 = c .before .before .before .before in let c5 = c4 .before in let c6 = c5 .before in let c8 = c6 .before .before in let c11 = c8 .before .before .before in merged-both (c11 .args .scratch .now) _ (c11 .args .left) (c11 .args .right) (c8 .number-of .result) (c6 .number-of2 .result) (c11 .pre .1 .0) (of-number (c11 .args .scratch .now) (c11 .args .left) (c8 .number-of .result) (c8 .number-of .ensures) (c5 .if1 .left)) (of-number (c11 .args .scratch .now) (c11 .args .right) (c6 .number-of2 .result) (c6 .number-of2 .ensures) (c4 .if3 .left)) (c .before .before .merge .ensures)
 

@@ -6,9 +6,6 @@ use mathlib.Core.Path.{refl}
 use Rattle.memos.specs.Memos.{Reaches}
 use Rattle.memos.proofs.root_of.Statement.{statement}
 use Rattle.memos.proofs.root_of.Tie as tie
-use Rattle.memos.proofs.root_of.Reads as reads
-use Rattle.memos.proofs.root_of.Lts as lts
-use Rattle.memos.proofs.link_at.Reads as link-at-reads
 
 abbrev Inv-loop : tie.InvT-loop
 Inv-loop scratch i r₀ k₀ r k = (r < classCount) × Reaches scratch i r
@@ -16,39 +13,30 @@ Inv-loop scratch i r₀ k₀ r k = (r < classCount) × Reaches scratch i r
 abbrev μ-loop : tie.MeasureT-loop
 μ-loop scratch i r₀ k₀ r k = classCount - k
 
--- src/lib.rt:112:5
 loop-holds : tie.Need-loop-holds Inv-loop μ-loop
 loop-holds c = (c .before .pre .1, reaches-begin (c .before .args .scratch .now) (c .before .args .i))
 
--- src/lib.rt:113:13
 link-at-requires : tie.Need-link-at-requires Inv-loop μ-loop
 link-at-requires c κs = (c .before .before .before .pre .0, c .before .loop .inv .0)
 
--- src/lib.rt:115:13
 returns : tie.Need-returns Inv-loop μ-loop
 returns c = (c .before .before .before .loop .inv .0, c .before .before .before .loop .inv .1)
 
--- src/lib.rt:118:13
 returns-2 : tie.Need-returns-2 Inv-loop μ-loop
 returns-2 c = let c4 = c .before .before .before .before in (c4 .loop .inv .0, c4 .loop .inv .1)
 
--- src/lib.rt:120:13
 sub-r : tie.Need-sub-r Inv-loop μ-loop
 sub-r c = omega (arith, c .before .if1 .left)
 
--- src/lib.rt:121:9
 add-k : tie.Need-add-k Inv-loop μ-loop
 add-k c = omega (arith, c .before .before .before .loop-test .taken)
 
--- src/lib.rt:112:5
 loop-less : tie.Need-loop-less Inv-loop μ-loop
 loop-less c = omega (arith, c .before .before .before .loop-test .taken)
 
--- src/lib.rt:112:5
 loop-again : tie.Need-loop-again Inv-loop μ-loop
 loop-again c = let c4 = c .before .before .before .before in let c6 = c4 .before .before in (omega (arith, c .if2 .left, c .before .if1 .left), reaches-on (c6 .args .scratch .now) (c6 .args .i) (c4 .loop .r) (c .before .before .link-at .result) (c4 .loop .inv .1) (c .before .before .link-at .ensures) (c .before .if1 .left) (c .if2 .left) _ refl)
 
--- src/lib.rt:105:1
 returns-3 : tie.Need-returns-3 Inv-loop μ-loop
 returns-3 c = (c .before .loop .inv .0, c .before .loop .inv .1)
 

@@ -5,63 +5,46 @@ use Rattle.memos.proofs.Remembering.{rowed-at}
 use borrow.Author.Needs.{needs}
 use Rattle.memos.proofs.row_of.Statement.{statement}
 use Rattle.memos.proofs.row_of.Tie as tie
-use Rattle.memos.proofs.row_of.Reads as reads
-use Rattle.memos.proofs.row_of.Lts as lts
-use Rattle.words.proofs.word_at.Reads as word-at-reads
 
--- src/lib.rt:66:30
 add-word-at : tie.Need-add-word-at
 add-word-at c = search needs
 
--- src/lib.rt:66:9
 word-at-requires : tie.Need-word-at-requires
 word-at-requires c κs = search needs
 
--- src/lib.rt:68:9
 returns : tie.Need-returns
 returns c = inl refl
 
--- src/lib.rt:70:8
 word-at-requires-2 : tie.Need-word-at-requires-2
 word-at-requires-2 c κs = search needs
 
--- src/lib.rt:71:9
 returns-2 : tie.Need-returns-2
 returns-2 c = inl refl
 
--- src/lib.rt:73:25
 add-word-at-2 : tie.Need-add-word-at-2
 add-word-at-2 c = search needs
 
--- src/lib.rt:73:8
 word-at-requires-3 : tie.Need-word-at-requires-3
 word-at-requires-3 c κs = search needs
 
--- src/lib.rt:74:9
 returns-3 : tie.Need-returns-3
 returns-3 c = inl refl
 
--- src/lib.rt:76:32
 mul-if4 : tie.Need-mul-if4
 mul-if4 c = search needs
 
--- src/lib.rt:76:24
 add-if4 : tie.Need-add-if4
 add-if4 c = search needs
 
--- src/lib.rt:76:24
 add-if4-2 : tie.Need-add-if4-2
 add-if4-2 c = search needs
 
--- src/lib.rt:77:9
 returns-4 : tie.Need-returns-4
 returns-4 c = inl refl
 
--- src/lib.rt:79:5
 add-result : tie.Need-add-result
 add-result c = search needs
 
--- src/lib.rt:61:1
 returns-5 : tie.Need-returns-5
 returns-5 c = let c4 = c .before .before .before .before in let c5 = c4 .before in let c6 = c5 .before in let c8 = c6 .before .before in rowed-at (c8 .args .scratch .now) (c8 .args .key) (c6 .word-at .result) (c4 .word-at2 .result) (c .before .before .word-at3 .result) (omega (arith, c5 .if1 .left)) (c4 .word-at2 .ensures) (omega (arith, c .before .before .before .if2 .left)) (c .before .before .word-at3 .ensures) (c .before .if3 .left) (omega (arith, c .if4 .left))
 

@@ -5,37 +5,26 @@ use Rattle.rules.specs.Checking.{faultName, textAtFault, nameSpan}
 use borrow.Author.Needs.{needs}
 use Rattle.names.proofs.fault_name.Statement.{statement}
 use Rattle.names.proofs.fault_name.Tie as tie
-use Rattle.names.proofs.fault_name.Reads as reads
-use Rattle.names.proofs.fault_name.Lts as lts
-use Rattle.names.proofs.name_span.Reads as name-span-reads
-use Rattle.names.proofs.part_at_fault.Reads as part-at-fault-reads
 
--- src/lib.rt:86:20
 enum-told : tie.Need-enum-told
 enum-told c = search needs
 
--- src/lib.rt:86:13
 slice-aggregate-result : tie.Need-slice-aggregate-result
 slice-aggregate-result c = search needs
 
--- src/lib.rt:86:13
 returns : tie.Need-returns
 unfolding faultName
 returns c = let c5 = c .before .before .before .before .before in sym (ap (faultName (c5 .args .sheet .now) (c5 .args .goal .now)) (c .before .enum-told .given .1))
 
--- src/lib.rt:88:28
 enum-known-verdict : tie.Need-enum-known-verdict
 enum-known-verdict c = search needs
 
--- src/lib.rt:89:17
 name-span-requires : tie.Need-name-span-requires
 name-span-requires c κs = search needs
 
--- src/lib.rt:92:13
 part-at-fault-requires : tie.Need-part-at-fault-requires
 part-at-fault-requires c κs = search needs
 
--- src/lib.rt:92:13
 returns-2 : tie.Need-returns-2
 unfolding faultName
 returns-2 c = let c7 = c .before .before .before .before .before .before .before in c .part-at-fault .ensures

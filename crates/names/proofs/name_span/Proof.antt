@@ -5,34 +5,25 @@ use Rattle.names.proofs.Unnamed.{unnamed}
 use borrow.Author.Needs.{needs}
 use Rattle.names.proofs.name_span.Statement.{statement}
 use Rattle.names.proofs.name_span.Tie as tie
-use Rattle.names.proofs.name_span.Reads as reads
-use Rattle.names.proofs.name_span.Lts as lts
 
--- src/lib.rt:23:13
 enum-known-refusal : tie.Need-enum-known-refusal
 enum-known-refusal c = search needs
 
--- src/lib.rt:30:13
 enum-known-refusal-2 : tie.Need-enum-known-refusal-2
 enum-known-refusal-2 c = search needs
 
--- src/lib.rt:36:13
 enum-known-refusal-3 : tie.Need-enum-known-refusal-3
 enum-known-refusal-3 c = search needs
 
--- src/lib.rt:16:1
 returns : tie.Need-returns
 returns c = (sym (ap (λ (r : Refusal). nameSpan r .0) (c .before .refusal .given .1)), sym (ap (λ (r : Refusal). nameSpan r .1) (c .before .refusal .given .1)))
 
--- src/lib.rt:16:1
 returns-2 : tie.Need-returns-2
 returns-2 c = (sym (ap (λ (r : Refusal). nameSpan r .0) (c .before .refusal2 .given .1)), sym (ap (λ (r : Refusal). nameSpan r .1) (c .before .refusal2 .given .1)))
 
--- src/lib.rt:16:1
 returns-3 : tie.Need-returns-3
 returns-3 c = (sym (ap (λ (r : Refusal). nameSpan r .0) (c .before .refusal3 .given .1)), sym (ap (λ (r : Refusal). nameSpan r .1) (c .before .refusal3 .given .1)))
 
--- src/lib.rt:16:1
 returns-4 : tie.Need-returns-4
 returns-4 c = unnamed (c .before .args .refusal) (c .match .keys4)
 

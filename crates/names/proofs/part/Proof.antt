@@ -3,64 +3,48 @@ use native.Mathlib.Omega.{arith}
 use borrow.Author.Needs.{needs}
 use Rattle.names.proofs.part.Statement.{statement}
 use Rattle.names.proofs.part.Tie as tie
-use Rattle.names.proofs.part.Reads as reads
-use Rattle.names.proofs.part.Lts as lts
 
--- src/lib.rt:49:16
 sub-result : tie.Need-sub-result
 sub-result c = search needs
 
--- src/lib.rt:49:16
 part-result-start : tie.Need-part-result-start
 part-result-start c = search needs
 
--- src/lib.rt:49:16
 part-result-end : tie.Need-part-result-end
 part-result-end c = search needs
 
--- src/lib.rt:49:9
 returns : tie.Need-returns
 returns c = at-end (c .before .before .args .text .now) (c .before .before .args .at) (c .before .before .args .len) (omega arith)
 
--- src/lib.rt:51:16
 sub-left : tie.Need-sub-left
 sub-left c = search needs
 
--- src/lib.rt:53:16
 sub-result-2 : tie.Need-sub-result-2
 sub-result-2 c = search needs
 
--- src/lib.rt:53:16
 part-result-start-2 : tie.Need-part-result-start-2
 part-result-start-2 c = search needs
 
--- src/lib.rt:53:16
 part-result-end-2 : tie.Need-part-result-end-2
 part-result-end-2 c = search needs
 
--- src/lib.rt:53:9
 returns-2 : tie.Need-returns-2
 returns-2 c = to-end (c .before .before .before .args .text .now) (c .before .before .before .args .at) (c .before .before .before .args .len) (omega arith)
 
--- src/lib.rt:55:15
 add-end : tie.Need-add-end
 add-end c = search needs
 
--- src/lib.rt:56:5
 sub-result-3 : tie.Need-sub-result-3
 sub-result-3 c = search needs
 
--- src/lib.rt:56:5
 part-result-start-3 : tie.Need-part-result-start-3
 part-result-start-3 c = search needs
 
--- src/lib.rt:56:5
 part-result-end-3 : tie.Need-part-result-end-3
 part-result-end-3 c = search needs
 
--- src/lib.rt:44:1
 returns-3 : tie.Need-returns-3
-returns-3 c = within (c .before .before .before .args .text .now) (c .before .before .before .args .at) (c .before .before .before .args .len)
+returns-3 c = let c3 = c .before .before .before in let args = c3 .args in within (args .text .now) (args .at) (args .len)
 
 pub part-spec : {M : Type 1} → statement M
 part-spec =

@@ -6,43 +6,31 @@ use Rattle.names.proofs.Parts.{of-none}
 use borrow.Author.Needs.{needs}
 use Rattle.names.proofs.part_at_fault.Statement.{statement}
 use Rattle.names.proofs.part_at_fault.Tie as tie
-use Rattle.names.proofs.part_at_fault.Reads as reads
-use Rattle.names.proofs.part_at_fault.Lts as lts
-use Rattle.names.proofs.part.Reads as part-reads
 
--- src/lib.rt:65:13
 enum-told : tie.Need-enum-told
 enum-told c = search needs
 
--- src/lib.rt:65:13
 part-requires : tie.Need-part-requires
 part-requires c κs = search needs
 
--- src/lib.rt:65:13
 returns : tie.Need-returns
 returns c = let c5 = c .before .before .before .before .before in c .part .ensures ∙ sym (ap (λ (t : Text). spelling (textAtFault (c5 .args .sheet .now) (c5 .args .goal .now) t) (c5 .args .at) (c5 .args .len)) (c .before .enum-told .given .1))
 
--- src/lib.rt:68:13
 enum-told-2 : tie.Need-enum-told-2
 enum-told-2 c = search needs
 
--- src/lib.rt:68:13
 part-requires-2 : tie.Need-part-requires-2
 part-requires-2 c κs = search needs
 
--- src/lib.rt:68:13
 returns-2 : tie.Need-returns-2
 returns-2 c = let c5 = c .before .before .before .before .before in c .part2 .ensures ∙ sym (ap (λ (t : Text). spelling (textAtFault (c5 .args .sheet .now) (c5 .args .goal .now) t) (c5 .args .at) (c5 .args .len)) (c .before .enum-told2 .given .1))
 
--- src/lib.rt:71:20
 enum-told-3 : tie.Need-enum-told-3
 enum-told-3 c = search needs
 
--- src/lib.rt:71:13
 slice-aggregate-result : tie.Need-slice-aggregate-result
 slice-aggregate-result c = search needs
 
--- src/lib.rt:71:13
 returns-3 : tie.Need-returns-3
 returns-3 c = let c5 = c .before .before .before .before .before in of-none (c5 .args .at) (c5 .args .len) ∙ sym (ap (λ (t : Text). spelling (textAtFault (c5 .args .sheet .now) (c5 .args .goal .now) t) (c5 .args .at) (c5 .args .len)) (c .before .enum-told3 .given .1))
 

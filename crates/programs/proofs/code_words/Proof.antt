@@ -3,7 +3,6 @@ use Rattle.programs.proofs.ProgramLaws.{zeros}
 use Rattle.programs.proofs.code_words.Statement.{statement}
 use Rattle.programs.proofs.code_words.Tie as tie
 
--- src/lib.rt:17:1
 returns : tie.Need-returns
 returns c = zeros codeWords
 

@@ -2,71 +2,49 @@ use Rattle.programs.proofs.ProgramLaws.{loads, links, linked, program-r
 use borrow.Author.Needs.{needs}
 use Rattle.programs.proofs.run_program.Statement.{statement}
 use Rattle.programs.proofs.run_program.Tie as tie
-use Rattle.programs.proofs.run_program.Reads as reads
-use Rattle.programs.proofs.run_program.Lts as lts
-use Rattle.linker.proofs.link.Reads as link-reads
-use Rattle.loader.proofs.load_nodes.Reads as load-nodes-reads
-use Rattle.programs.proofs.code_words.Reads as code-words-reads
-use Rattle.programs.proofs.node_words.Reads as node-words-reads
-use Rattle.programs.proofs.run_linked.Reads as run-linked-reads
 
--- src/lib.rt:97:21
 node-words-requires : tie.Need-node-words-requires
 node-words-requires c κs = search needs
 
--- src/lib.rt:98:23
 node-words-requires-2 : tie.Need-node-words-requires-2
 node-words-requires-2 c κs = search needs
 
--- src/lib.rt:99:20
 code-words-requires : tie.Need-code-words-requires
 code-words-requires c κs = search needs
 
--- src/lib.rt:100:62
 slice-aggregate-load-nodes : tie.Need-slice-aggregate-load-nodes
 slice-aggregate-load-nodes c = search needs
 
--- src/lib.rt:100:74
 slice-aggregate-load-nodes-2 : tie.Need-slice-aggregate-load-nodes-2
 slice-aggregate-load-nodes-2 c = search needs
 
--- src/lib.rt:100:5
 load-nodes-requires : tie.Need-load-nodes-requires
 load-nodes-requires c κs = loads (c .before .before .before .before .before .before .before .before .before .before .before .pre) (c .before .before .before .before .node-words .ensures) (c .before .before .before .node-words2 .ensures)
 
--- src/lib.rt:101:43
 slice-aggregate-link : tie.Need-slice-aggregate-link
 slice-aggregate-link c = search needs
 
--- src/lib.rt:101:51
 slice-aggregate-link-2 : tie.Need-slice-aggregate-link-2
 slice-aggregate-link-2 c = search needs
 
--- src/lib.rt:101:5
 link-requires : tie.Need-link-requires
 link-requires c κs = let c4 = c .before .before .before .before in let c7 = c4 .before .before .before in let c8 = c7 .before in let c9 = c8 .before in let c16 = c9 .before .before .before .before .before .before .before in links (c16 .pre) (c9 .node-words .ensures) (c8 .node-words2 .ensures) (c4 .load-nodes .kept .1 .1 .1 .1 .1 .1 .0) (c4 .load-nodes .ensures) (c7 .code-words .ensures)
 
--- src/lib.rt:103:36
 slice-aggregate-run-linked : tie.Need-slice-aggregate-run-linked
 slice-aggregate-run-linked c = search needs
 
--- src/lib.rt:103:44
 slice-aggregate-run-linked-2 : tie.Need-slice-aggregate-run-linked-2
 slice-aggregate-run-linked-2 c = search needs
 
--- src/lib.rt:103:51
 slice-aggregate-run-linked-3 : tie.Need-slice-aggregate-run-linked-3
 slice-aggregate-run-linked-3 c = search needs
 
--- src/lib.rt:102:5
 run-linked-requires : tie.Need-run-linked-requires
 run-linked-requires c κs = let c5 = c .before .before .before .before .before in let c10 = c5 .before .before .before .before .before in let c13 = c10 .before .before .before in let c14 = c13 .before in let c15 = c14 .before in let c22 = c15 .before .before .before .before .before .before .before in linked (c22 .pre) (c15 .node-words .ensures) (c14 .node-words2 .ensures) (c10 .load-nodes .kept .1 .1 .1 .1 .1 .1 .0) (c10 .load-nodes .ensures) (c13 .code-words .ensures) (c5 .link .ensures)
 
--- src/lib.rt:81:1
 same-length : tie.Need-same-length
 same-length c = search needs
 
--- src/lib.rt:81:1
 returns : tie.Need-returns
 returns c = let c8 = c .before .before .before .before .before .before .before .before in let c13 = c8 .before .before .before .before .before in let c16 = c13 .before .before .before in let c17 = c16 .before in let c18 = c17 .before in λ w. program-runs w (c18 .node-words .ensures) (c17 .node-words2 .ensures) (c13 .load-nodes .kept .1 .1 .1 .1 .1 .1 .0) (c13 .load-nodes .ensures) (c16 .code-words .ensures) (c8 .link .ensures) (c .before .before .run-linked .ensures)
 

@@ -3,7 +3,6 @@ use Rattle.programs.proofs.ProgramLaws.{zeros}
 use Rattle.programs.proofs.state_words.Statement.{statement}
 use Rattle.programs.proofs.state_words.Tie as tie
 
--- src/lib.rt:24:1
 returns : tie.Need-returns
 returns c = zeros stateWords
 

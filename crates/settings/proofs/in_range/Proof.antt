@@ -11,10 +11,10 @@ returns-2 : tie.Need-returns-2
 returns-2 c = range-many-steps (c .before .before .args .allowance) (c .before .before .args .wanted) (c .before .if1 .left) (c .if2 .taken)
 
 returns-3 : tie.Need-returns-3
-returns-3 c = range-no-answers (c .before .before .before .args .allowance) (c .before .before .before .args .wanted) (c .before .before .if1 .left) (c .before .if2 .left) (c .if3 .taken)
+returns-3 c = let c3 = c .before .before .before in range-no-answers (c3 .args .allowance) (c3 .args .wanted) (c .before .before .if1 .left) (c .before .if2 .left) (c .if3 .taken)
 
 returns-4 : tie.Need-returns-4
-returns-4 c = range-answers (c .before .before .before .args .allowance) (c .before .before .before .args .wanted) (c .before .before .if1 .left) (c .before .if2 .left) (c .if3 .left)
+returns-4 c = let c3 = c .before .before .before in range-answers (c3 .args .allowance) (c3 .args .wanted) (c .before .before .if1 .left) (c .before .if2 .left) (c .if3 .left)
 
 pub in-range-spec : {M : Type 1} → statement M
 in-range-spec =

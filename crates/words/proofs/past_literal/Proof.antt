@@ -14,7 +14,7 @@ returns : tie.Need-returns
 returns c = past-none (c .before .before .before .args .table .now) (c .before .before .before .args .p) (c .before .word-at .result) (c .before .word-at .ensures) (c .if1 .taken)
 
 past-requires : tie.Need-past-requires
-past-requires c κs = first-inside (c .before .before .before .args .table .now) (c .before .before .before .args .p) (c .before .word-at .result) (c .before .word-at .ensures) (c .if1 .left) (c .before .before .before .pre .0) (c .before .before .before .pre .1)
+past-requires c κs = let c3 = c .before .before .before in first-inside (c3 .args .table .now) (c3 .args .p) (c .before .word-at .result) (c .before .word-at .ensures) (c .if1 .left) (c3 .pre .0) (c3 .pre .1)
 
 returns-2 : tie.Need-returns-2
 returns-2 c = let c5 = c .before .before .before .before .before in past-call (c5 .args .table .now) (c5 .args .p) (c .before .before .before .word-at .result) (c .before .before .before .word-at .ensures) (c .before .past .result) (c .before .past .ensures) (c .if2 .taken)

@@ -2,17 +2,10 @@ use Rattle.bindings.proofs.Apart.{apart-checked, constant-inside, const
 use borrow.Author.Needs.{needs}
 use Rattle.bindings.proofs.occurrence.stands.Statement.{statement}
 use Rattle.bindings.proofs.occurrence.stands.Tie as tie
-use Rattle.bindings.proofs.occurrence.stands.Reads as reads
-use Rattle.bindings.proofs.occurrence.stands.Lts as lts
-use Rattle.bindings.proofs.occurrence.apart.Reads as apart-reads
-use Rattle.bindings.proofs.occurrence.is_constant.Reads as is-constant-reads
-use Rattle.bindings.proofs.occurrence.occurs.Reads as occurs-reads
 
--- src/occurrence.rt:161:8
 apart-requires : tie.Need-apart-requires
 apart-requires c κs = search needs
 
--- src/occurrence.rt:162:9
 returns : tie.Need-returns
 returns c = let c5 = c .before .before .before .before .before in λ g. apart-checked (c5 .args .nodes .now) (c5 .args .state .now) (c5 .args .scratch .now) (c5 .args .x) (c5 .args .q) (c5 .args .d) (c5 .args .k) g (c5 .pre .1) (c .before .apart .ensures (c .if1 .taken))
 
@@ -25,11 +18,9 @@ returns-2 c = let c7 = c .before .before .before .before .before .before .before
 occurs-requires : tie.Need-occurs-requires
 occurs-requires c κs = search needs
 
--- src/occurrence.rt:148:1
 same-length : tie.Need-same-length
 same-length c = search needs
 
--- src/occurrence.rt:148:1
 returns-3 : tie.Need-returns-3
 returns-3 c = search needs
 

@@ -6,35 +6,25 @@ use Rattle.bindings.specs.Scratch.{sideWords, pairWords}
 use borrow.Author.Needs.{needs}
 use Rattle.bindings.proofs.stack.put_pair.Statement.{statement}
 use Rattle.bindings.proofs.stack.put_pair.Tie as tie
-use Rattle.bindings.proofs.stack.put_pair.Reads as reads
-use Rattle.bindings.proofs.stack.put_pair.Lts as lts
-use Rattle.bindings.proofs.stack.put_side.Reads as put-side-reads
 
--- src/stack.rt:44:21
 mul-i : tie.Need-mul-i
 mul-i c = search needs
 
--- src/stack.rt:44:13
 add-i : tie.Need-add-i
 add-i c = search needs
 
--- src/stack.rt:45:5
 put-side-requires : tie.Need-put-side-requires
 put-side-requires c κs = search needs
 
--- src/stack.rt:46:23
 add-put-side : tie.Need-add-put-side
 add-put-side c = search needs
 
--- src/stack.rt:46:5
 put-side-requires-2 : tie.Need-put-side-requires-2
 put-side-requires-2 c κs = search needs
 
--- src/stack.rt:40:1
 same-length : tie.Need-same-length
 same-length c = search needs
 
--- src/stack.rt:40:1
 returns : tie.Need-returns
 unfolding pairWords
 returns c = let c6 = c .before .before .before .before .before .before in let c9 = c6 .before .before .before in c .before .before .put-side2 .ensures ∙ ap (λ (s : List ℕ). sideWords s (pairOf (c9 .args .k) + sideSize) (c9 .args .other) (c9 .args .there) (c9 .args .second)) (c6 .put-side .ensures)

@@ -2,31 +2,22 @@ use Rattle.bindings.specs.declared.stack.Side.{Side}
 use borrow.Author.Needs.{needs}
 use Rattle.bindings.proofs.stack.side_at.Statement.{statement}
 use Rattle.bindings.proofs.stack.side_at.Tie as tie
-use Rattle.bindings.proofs.stack.side_at.Reads as reads
-use Rattle.bindings.proofs.stack.side_at.Lts as lts
-use Rattle.words.proofs.word_at.Reads as word-at-reads
 
--- src/stack.rt:24:9
 word-at-requires : tie.Need-word-at-requires
 word-at-requires c κs = search needs
 
--- src/stack.rt:25:31
 add-word-at : tie.Need-add-word-at
 add-word-at c = search needs
 
--- src/stack.rt:25:9
 word-at-requires-2 : tie.Need-word-at-requires-2
 word-at-requires-2 c κs = search needs
 
--- src/stack.rt:26:33
 add-word-at-2 : tie.Need-add-word-at-2
 add-word-at-2 c = search needs
 
--- src/stack.rt:26:9
 word-at-requires-3 : tie.Need-word-at-requires-3
 word-at-requires-3 c κs = search needs
 
--- src/stack.rt:20:1
 returns : tie.Need-returns
 returns c = λ k. record { root = c .before .before .word-at .ensures k; at = c .before .word-at2 .ensures k; copy = c .word-at3 .ensures k }
 

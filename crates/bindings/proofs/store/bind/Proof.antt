@@ -3,45 +3,34 @@ use mathlib.Core.Path.{ap}
 use borrow.Author.Needs.{needs}
 use Rattle.bindings.proofs.store.bind.Statement.{statement}
 use Rattle.bindings.proofs.store.bind.Tie as tie
-use Rattle.bindings.proofs.store.bind.Reads as reads
-use Rattle.bindings.proofs.store.bind.Lts as lts
 
--- src/store.rt:48:14
 add-at : tie.Need-add-at
 add-at c = search needs
 
 pack-requires : tie.Need-pack-requires
 pack-requires c κs = search needs
 
--- src/store.rt:49:16
 cast-state : tie.Need-cast-state
 cast-state c = search needs
 
--- src/store.rt:49:5
 mul-state : tie.Need-mul-state
 mul-state c = search needs
 
--- src/store.rt:49:5
 slice-write-state : tie.Need-slice-write-state
 slice-write-state c = search needs
 
--- src/store.rt:50:17
 cast-state-2 : tie.Need-cast-state-2
 cast-state-2 c = search needs
 
--- src/store.rt:50:5
 mul-state-2 : tie.Need-mul-state-2
 mul-state-2 c = search needs
 
--- src/store.rt:50:5
 slice-write-state-2 : tie.Need-slice-write-state-2
 slice-write-state-2 c = search needs
 
--- src/store.rt:43:1
 same-length : tie.Need-same-length
 same-length c = search needs
 
--- src/store.rt:43:1
 returns : tie.Need-returns
 unfolding boundWords
 returns c = ap (boundWords (c .before .before .args .state .now) (c .before .before .args .n) (c .before .before .args .x)) (c .pack .ensures)

@@ -9,8 +9,6 @@ use Rattle.bindings.specs.Cells.{Stored, Undone}
 use Rattle.bindings.proofs.Deref.{undone-begin, undone-next, next-entry}
 use Rattle.bindings.proofs.store.undo.Statement.{statement}
 use Rattle.bindings.proofs.store.undo.Tie as tie
-use Rattle.bindings.proofs.store.undo.Reads as reads
-use Rattle.bindings.proofs.store.undo.Lts as lts
 
 abbrev Inv-loop : tie.InvT-loop
 Inv-loop state₀ mark n i₀ state i = (mark ≤ i) × ((i ≤ n) × Undone state₀ state i n)
@@ -18,51 +16,39 @@ Inv-loop state₀ mark n i₀ state i = (mark ≤ i) × ((i ≤ n) × Undone sta
 abbrev μ-loop : tie.MeasureT-loop
 μ-loop state₀ mark n i₀ state i = i
 
--- src/store.rt:60:5
 loop-holds : tie.Need-loop-holds Inv-loop μ-loop
 loop-holds c = (search needs, (search needs, undone-begin (c .args .state .now) (c .args .n)))
 
--- src/store.rt:61:9
 sub-i : tie.Need-sub-i Inv-loop μ-loop
 sub-i c = omega arith
 
--- src/store.rt:62:18
 add-at : tie.Need-add-at Inv-loop μ-loop
 add-at c = omega (arith, next-entry (c .before .before .args .state .now) (c .before .loop .state) (c .before .before .args .mark) (c .before .loop .i) (c .before .before .args .n) (c .loop-test .taken) (c .before .before .pre .0) (c .before .loop .inv .1 .1))
 
--- src/store.rt:63:17
 mul-x : tie.Need-mul-x Inv-loop μ-loop
 mul-x c = omega (arith, next-entry (c .before .before .args .state .now) (c .before .loop .state) (c .before .before .args .mark) (c .before .loop .i) (c .before .before .args .n) (c .loop-test .taken) (c .before .before .pre .0) (c .before .loop .inv .1 .1))
 
--- src/store.rt:63:17
 slice-read-x : tie.Need-slice-read-x Inv-loop μ-loop
 slice-read-x c = omega (arith, next-entry (c .before .before .before .args .state .now) (c .before .before .loop .state) (c .before .before .before .args .mark) (c .before .before .loop .i) (c .before .before .before .args .n) (c .before .loop-test .taken) (c .before .before .before .pre .0) (c .before .before .loop .inv .1 .1))
 
--- src/store.rt:63:17
 cast-x : tie.Need-cast-x Inv-loop μ-loop
 cast-x c = omega (arith, c .slice-known .given (trail + (c .before .before .loop .i - 1)))
 
--- src/store.rt:64:9
 mul-state : tie.Need-mul-state Inv-loop μ-loop
 mul-state c = omega (arith, next-entry (c .before .before .before .args .state .now) (c .before .before .loop .state) (c .before .before .before .args .mark) (c .before .before .loop .i) (c .before .before .before .args .n) (c .before .loop-test .taken) (c .before .before .before .pre .0) (c .before .before .loop .inv .1 .1))
 
--- src/store.rt:64:9
 slice-write-state : tie.Need-slice-write-state Inv-loop μ-loop
 slice-write-state c = omega (arith, next-entry (c .before .before .before .args .state .now) (c .before .before .loop .state) (c .before .before .before .args .mark) (c .before .before .loop .i) (c .before .before .before .args .n) (c .before .loop-test .taken) (c .before .before .before .pre .0) (c .before .before .loop .inv .1 .1))
 
--- src/store.rt:60:5
 loop-less : tie.Need-loop-less Inv-loop μ-loop
 loop-less c = omega arith
 
--- src/store.rt:60:5
 loop-again : tie.Need-loop-again Inv-loop μ-loop
 loop-again c = (omega arith, (omega arith, undone-next (c .before .before .before .args .state .now) (c .before .before .loop .state) (c .before .before .before .args .mark) (c .before .before .loop .i) (c .before .before .before .args .n) (c .before .loop-test .taken) (c .before .before .before .pre .0) (c .before .before .loop .inv .1 .1)))
 
--- src/store.rt:54:1
 same-length : tie.Need-same-length Inv-loop μ-loop
 same-length c = c .before .loop .inv .1 .1 .keeps .long
 
--- src/store.rt:54:1
 returns : tie.Need-returns Inv-loop μ-loop
 returns c = subst (λ (k : ℕ). Undone (c .before .before .args .state .now) (c .before .loop .state) k (c .before .before .args .n)) (let e : c .before .loop .i ≡ c .before .before .args .mark = omega arith in e) (c .before .loop .inv .1 .1)
 

@@ -3,78 +3,55 @@ use Rattle.engine.proofs.ReadLaws.{work-room, work-inside, kind-read, w
 use borrow.Author.Needs.{needs}
 use Rattle.engine.proofs.calls.work.Statement.{statement}
 use Rattle.engine.proofs.calls.work.Tie as tie
-use Rattle.engine.proofs.calls.work.Reads as reads
-use Rattle.engine.proofs.calls.work.Lts as lts
-use Rattle.engine.proofs.calls.work_call.Reads as work-call-reads
-use Rattle.engine.proofs.calls.work_equation.Reads as work-equation-reads
-use Rattle.engine.proofs.laying.lay.Reads as lay-reads
-use Rattle.engine.proofs.records.stand_at.Reads as stand-at-reads
-use Rattle.words.proofs.word_at.Reads as word-at-reads
 
--- src/calls.rt:124:13
 sub-j : tie.Need-sub-j
 sub-j c = search needs
 
--- src/calls.rt:125:9
 stand-at-requires : tie.Need-stand-at-requires
 stand-at-requires c κs = work-room (c .before .before .before .before .before .pre)
 
--- src/calls.rt:127:9
 word-at-requires : tie.Need-word-at-requires
 word-at-requires c κs = omega (arith, work-inside (c .before .before .before .before .before .before .pre) (c .stand-at .ensures))
 
--- src/calls.rt:129:9
 work-call-requires : tie.Need-work-call-requires
 work-call-requires c κs = let c4 = c .before .before .before .before in let c10 = c4 .before .before .before .before .before .before in ((c10 .pre), ((c4 .stand-at .ensures), kind-read (c10 .pre) (c4 .stand-at .ensures) (c .before .before .before .word-at .ensures) (c .before .before .if1 .taken)))
 
--- src/calls.rt:129:9
 same-length : tie.Need-same-length
 same-length c = search needs
 
--- src/calls.rt:129:9
 same-length-2 : tie.Need-same-length-2
 same-length-2 c = search needs
 
--- src/calls.rt:129:9
 returns : tie.Need-returns
 returns c = search needs
 
--- src/calls.rt:132:9
 work-equation-requires : tie.Need-work-equation-requires
 work-equation-requires c κs = let c4 = c .before .before .before .before in let c5 = c4 .before in let c11 = c5 .before .before .before .before .before .before in ((c11 .pre), ((c5 .stand-at .ensures), kind-read (c11 .pre) (c5 .stand-at .ensures) (c4 .word-at .ensures) (c .before .before .if2 .taken)))
 
--- src/calls.rt:132:9
 same-length-3 : tie.Need-same-length-3
 same-length-3 c = search needs
 
--- src/calls.rt:132:9
 same-length-4 : tie.Need-same-length-4
 same-length-4 c = search needs
 
--- src/calls.rt:132:9
 returns-2 : tie.Need-returns-2
 returns-2 c = search needs
 
 next-literal-requires : tie.Need-next-literal-requires
 next-literal-requires c κs = omega (arith, work-inside (c .before .before .before .before .before .before .before .before .before .before .pre) (c .before .before .before .before .stand-at .ensures))
 
--- src/calls.rt:137:9
 lay-requires : tie.Need-lay-requires
 lay-requires c κs = let c5 = c .before .before .before .before .before in let c6 = c5 .before in let c12 = c6 .before .before .before .before .before .before in truth-layable (c12 .pre) (c6 .stand-at .ensures) (c5 .word-at .ensures) (c .before .before .if3 .taken) (c .before .next-literal .ensures)
 
--- src/calls.rt:138:9
 same-length-5 : tie.Need-same-length-5
 same-length-5 c = search needs
 
--- src/calls.rt:138:9
 returns-3 : tie.Need-returns-3
 returns-3 c = let c4 = c .before .before .before .before in let c5 = c4 .before in let c8 = c5 .before .before .before in let c9 = c8 .before in λ w. truth-end w (c9 .stand-at .ensures) (c8 .word-at .ensures) (c5 .if3 .taken) (c4 .next-literal .ensures) (c .before .before .lay .last .1 .0) (c .before .before .lay .ensures)
 
--- src/calls.rt:114:1
 same-length-6 : tie.Need-same-length-6
 same-length-6 c = search needs
 
--- src/calls.rt:114:1
 returns-4 : tie.Need-returns-4
 returns-4 c = λ w. work-pops w (c .before .before .before .before .stand-at .ensures) (c .before .before .before .word-at .ensures) (c .before .before .if1 .left) (c .before .if2 .left) (c .if3 .left)
 

@@ -4,10 +4,6 @@ use Rattle.engine.specs.Moves.{Climbable}
 use Rattle.engine.proofs.LayLaws.{Along, along-begin, along-inside, along-frame, along-stops, along-goal, along-less, along-next, along-fits}
 use Rattle.engine.proofs.laying.first_literal.Statement.{statement}
 use Rattle.engine.proofs.laying.first_literal.Tie as tie
-use Rattle.engine.proofs.laying.first_literal.Reads as reads
-use Rattle.engine.proofs.laying.first_literal.Lts as lts
-use Rattle.engine.proofs.records.caller_at.Reads as caller-at-reads
-use Rattle.words.proofs.word_at.Reads as word-at-reads
 
 abbrev Inv-loop : tie.InvT-loop
 Inv-loop code state c l copy₀ literal₀ copy literal = (w : Climbable code state c l) → Along (w .sh) (w .g) code state (w .path) c l copy literal
@@ -15,34 +11,27 @@ Inv-loop code state c l copy₀ literal₀ copy literal = (w : Climbable code st
 abbrev μ-loop : tie.MeasureT-loop
 μ-loop code state c l copy₀ literal₀ copy literal = copy
 
--- src/laying.rt:28:5
 loop-holds : tie.Need-loop-holds Inv-loop μ-loop
 loop-holds c = λ w. along-begin w
 
--- src/laying.rt:29:12
 word-at-requires : tie.Need-word-at-requires Inv-loop μ-loop
 word-at-requires c κs = let c4 = c .before .before .before .before in along-inside (c4 .pre) (c .before .loop .inv (c4 .pre))
 
--- src/laying.rt:30:13
 returns : tie.Need-returns Inv-loop μ-loop
 returns c = λ w. along-stops w (c .before .before .before .loop .inv w) (c .before .word-at .result) (c .before .word-at .ensures) (c .if1 .taken)
 
--- src/laying.rt:32:13
 caller-at-requires : tie.Need-caller-at-requires Inv-loop μ-loop
 caller-at-requires c κs = let c6 = c .before .before .before .before .before .before in along-frame (c6 .pre) (c .before .before .before .loop .inv (c6 .pre))
 
 next-literal-requires : tie.Need-next-literal-requires Inv-loop μ-loop
 next-literal-requires c κs = let c4 = c .before .before .before .before in let c7 = c4 .before .before .before in omega (arith, along-fits (c7 .pre) (c4 .loop .inv (c7 .pre)) (c .before .before .before .loop-test .taken) (c .before .before .word-at .result) (c .before .before .word-at .ensures) (c .before .if1 .left) (c .caller-at .result) (c .caller-at .ensures))
 
--- src/laying.rt:28:5
 loop-less : tie.Need-loop-less Inv-loop μ-loop
 loop-less c = let c4 = c .before .before .before .before in let c5 = c4 .before in let c8 = c5 .before .before .before in along-less (c8 .pre) (c5 .loop .inv (c8 .pre)) (c4 .loop-test .taken) (c .before .before .before .word-at .result) (c .before .before .before .word-at .ensures) (c .before .before .if1 .left) (c .before .caller-at .result) (c .before .caller-at .ensures)
 
--- src/laying.rt:28:5
 loop-again : tie.Need-loop-again Inv-loop μ-loop
 loop-again c = let c4 = c .before .before .before .before in let c5 = c4 .before in λ w. along-next w (c5 .loop .inv w) (c4 .loop-test .taken) (c .before .before .before .word-at .result) (c .before .before .before .word-at .ensures) (c .before .before .if1 .left) (c .before .caller-at .result) (c .before .caller-at .ensures) (c .next-literal .ensures)
 
--- src/laying.rt:22:1
 returns-2 : tie.Need-returns-2 Inv-loop μ-loop
 returns-2 c = λ w. along-goal w (c .before .loop .inv w) (c .loop-test .left)
 

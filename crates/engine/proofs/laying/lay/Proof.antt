@@ -2,29 +2,19 @@ use Rattle.engine.proofs.LayLaws.{lay-inside, lay-room, lay-end}
 use borrow.Author.Needs.{needs}
 use Rattle.engine.proofs.laying.lay.Statement.{statement}
 use Rattle.engine.proofs.laying.lay.Tie as tie
-use Rattle.engine.proofs.laying.lay.Reads as reads
-use Rattle.engine.proofs.laying.lay.Lts as lts
-use Rattle.engine.proofs.laying.first_literal.Reads as first-literal-reads
-use Rattle.engine.proofs.laying.topmost.Reads as topmost-reads
-use Rattle.engine.proofs.records.put_stand.Reads as put-stand-reads
 
--- src/laying.rt:55:9
 first-literal-requires : tie.Need-first-literal-requires
 first-literal-requires c κs = search needs
 
--- src/laying.rt:58:9
 topmost-requires : tie.Need-topmost-requires
 topmost-requires c κs = lay-inside (c .before .before .before .before .pre) (c .first-literal .result) (c .first-literal .ensures)
 
--- src/laying.rt:59:5
 put-stand-requires : tie.Need-put-stand-requires
 put-stand-requires c κs = lay-room (c .before .before .before .before .before .before .pre) (c .before .before .first-literal .result) (c .before .before .first-literal .ensures) (c .before .topmost .result) (c .before .topmost .ensures)
 
--- src/laying.rt:51:1
 same-length : tie.Need-same-length
 same-length c = search needs
 
--- src/laying.rt:51:1
 returns : tie.Need-returns
 returns c = let c4 = c .before .before .before .before in let c5 = c4 .before in λ w. lay-end w (c5 .first-literal .result) (c5 .first-literal .ensures) (c4 .topmost .result) (c4 .topmost .ensures) (c .before .before .put-stand .last .0) (c .before .before .put-stand .ensures)
 

@@ -5,66 +5,49 @@ use Rattle.engine.specs.Words.{frameWords}
 use borrow.Author.Needs.{needs}
 use Rattle.engine.proofs.records.put_frame.Statement.{statement}
 use Rattle.engine.proofs.records.put_frame.Tie as tie
-use Rattle.engine.proofs.records.put_frame.Reads as reads
-use Rattle.engine.proofs.records.put_frame.Lts as lts
 
--- src/records.rt:96:22
 mul-i : tie.Need-mul-i
 mul-i c = search needs
 
--- src/records.rt:96:13
 add-i : tie.Need-add-i
 add-i c = search needs
 
--- src/records.rt:97:16
 cast-state : tie.Need-cast-state
 cast-state c = search needs
 
--- src/records.rt:97:5
 mul-state : tie.Need-mul-state
 mul-state c = search needs
 
--- src/records.rt:97:5
 slice-write-state : tie.Need-slice-write-state
 slice-write-state c = search needs
 
--- src/records.rt:98:20
 cast-state-2 : tie.Need-cast-state-2
 cast-state-2 c = search needs
 
--- src/records.rt:98:11
 add-state : tie.Need-add-state
 add-state c = search needs
 
--- src/records.rt:98:5
 mul-state-2 : tie.Need-mul-state-2
 mul-state-2 c = search needs
 
--- src/records.rt:98:5
 slice-write-state-2 : tie.Need-slice-write-state-2
 slice-write-state-2 c = simp length-set (omega arith)
 
--- src/records.rt:99:20
 cast-state-3 : tie.Need-cast-state-3
 cast-state-3 c = search needs
 
--- src/records.rt:99:11
 add-state-2 : tie.Need-add-state-2
 add-state-2 c = search needs
 
--- src/records.rt:99:5
 mul-state-3 : tie.Need-mul-state-3
 mul-state-3 c = search needs
 
--- src/records.rt:99:5
 slice-write-state-3 : tie.Need-slice-write-state-3
 slice-write-state-3 c = simp length-set (omega arith)
 
--- src/records.rt:92:1
 same-length : tie.Need-same-length
 same-length c = search needs
 
--- src/records.rt:92:1
 returns : tie.Need-returns
 unfolding frameWords
 returns c = refl

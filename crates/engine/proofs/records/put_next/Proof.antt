@@ -3,38 +3,28 @@ use Rattle.engine.specs.Words.{nextWords}
 use borrow.Author.Needs.{needs}
 use Rattle.engine.proofs.records.put_next.Statement.{statement}
 use Rattle.engine.proofs.records.put_next.Tie as tie
-use Rattle.engine.proofs.records.put_next.Reads as reads
-use Rattle.engine.proofs.records.put_next.Lts as lts
 
--- src/records.rt:87:28
 mul-i : tie.Need-mul-i
 mul-i c = search needs
 
--- src/records.rt:87:13
 add-i : tie.Need-add-i
 add-i c = search needs
 
--- src/records.rt:87:13
 add-i-2 : tie.Need-add-i-2
 add-i-2 c = search needs
 
--- src/records.rt:88:16
 cast-state : tie.Need-cast-state
 cast-state c = search needs
 
--- src/records.rt:88:5
 mul-state : tie.Need-mul-state
 mul-state c = search needs
 
--- src/records.rt:88:5
 slice-write-state : tie.Need-slice-write-state
 slice-write-state c = search needs
 
--- src/records.rt:83:1
 same-length : tie.Need-same-length
 same-length c = search needs
 
--- src/records.rt:83:1
 returns : tie.Need-returns
 unfolding nextWords
 returns c = refl

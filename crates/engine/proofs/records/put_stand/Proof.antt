@@ -5,98 +5,73 @@ use Rattle.engine.specs.Words.{standWords}
 use borrow.Author.Needs.{needs}
 use Rattle.engine.proofs.records.put_stand.Statement.{statement}
 use Rattle.engine.proofs.records.put_stand.Tie as tie
-use Rattle.engine.proofs.records.put_stand.Reads as reads
-use Rattle.engine.proofs.records.put_stand.Lts as lts
 
--- src/records.rt:74:28
 mul-i : tie.Need-mul-i
 mul-i c = search needs
 
--- src/records.rt:74:13
 add-i : tie.Need-add-i
 add-i c = search needs
 
--- src/records.rt:75:16
 cast-state : tie.Need-cast-state
 cast-state c = search needs
 
--- src/records.rt:75:5
 mul-state : tie.Need-mul-state
 mul-state c = search needs
 
--- src/records.rt:75:5
 slice-write-state : tie.Need-slice-write-state
 slice-write-state c = search needs
 
--- src/records.rt:76:20
 cast-state-2 : tie.Need-cast-state-2
 cast-state-2 c = search needs
 
--- src/records.rt:76:11
 add-state : tie.Need-add-state
 add-state c = search needs
 
--- src/records.rt:76:5
 mul-state-2 : tie.Need-mul-state-2
 mul-state-2 c = search needs
 
--- src/records.rt:76:5
 slice-write-state-2 : tie.Need-slice-write-state-2
 slice-write-state-2 c = simp length-set (omega arith)
 
--- src/records.rt:77:20
 cast-state-3 : tie.Need-cast-state-3
 cast-state-3 c = search needs
 
--- src/records.rt:77:11
 add-state-2 : tie.Need-add-state-2
 add-state-2 c = search needs
 
--- src/records.rt:77:5
 mul-state-3 : tie.Need-mul-state-3
 mul-state-3 c = search needs
 
--- src/records.rt:77:5
 slice-write-state-3 : tie.Need-slice-write-state-3
 slice-write-state-3 c = simp length-set (omega arith)
 
--- src/records.rt:78:20
 cast-state-4 : tie.Need-cast-state-4
 cast-state-4 c = search needs
 
--- src/records.rt:78:11
 add-state-3 : tie.Need-add-state-3
 add-state-3 c = search needs
 
--- src/records.rt:78:5
 mul-state-4 : tie.Need-mul-state-4
 mul-state-4 c = search needs
 
--- src/records.rt:78:5
 slice-write-state-4 : tie.Need-slice-write-state-4
 slice-write-state-4 c = simp length-set (omega arith)
 
--- src/records.rt:79:20
 cast-state-5 : tie.Need-cast-state-5
 cast-state-5 c = search needs
 
--- src/records.rt:79:11
 add-state-4 : tie.Need-add-state-4
 add-state-4 c = search needs
 
--- src/records.rt:79:5
 mul-state-5 : tie.Need-mul-state-5
 mul-state-5 c = search needs
 
--- src/records.rt:79:5
 slice-write-state-5 : tie.Need-slice-write-state-5
 slice-write-state-5 c = simp length-set (omega arith)
 
--- src/records.rt:62:1
 same-length : tie.Need-same-length
 same-length c = search needs
 
--- src/records.rt:62:1
 returns : tie.Need-returns
 unfolding standWords
 returns c = refl

@@ -2,55 +2,40 @@ use Rattle.engine.specs.declared.records.Stand.{Stand}
 use borrow.Author.Needs.{needs}
 use Rattle.engine.proofs.records.stand_at.Statement.{statement}
 use Rattle.engine.proofs.records.stand_at.Tie as tie
-use Rattle.engine.proofs.records.stand_at.Reads as reads
-use Rattle.engine.proofs.records.stand_at.Lts as lts
-use Rattle.words.proofs.word_at.Reads as word-at-reads
 
--- src/records.rt:36:28
 mul-i : tie.Need-mul-i
 mul-i c = search needs
 
--- src/records.rt:36:13
 add-i : tie.Need-add-i
 add-i c = search needs
 
--- src/records.rt:37:9
 word-at-requires : tie.Need-word-at-requires
 word-at-requires c κs = search needs
 
--- src/records.rt:38:34
 add-word-at : tie.Need-add-word-at
 add-word-at c = search needs
 
--- src/records.rt:38:9
 word-at-requires-2 : tie.Need-word-at-requires-2
 word-at-requires-2 c κs = search needs
 
--- src/records.rt:39:31
 add-word-at-2 : tie.Need-add-word-at-2
 add-word-at-2 c = search needs
 
--- src/records.rt:39:9
 word-at-requires-3 : tie.Need-word-at-requires-3
 word-at-requires-3 c κs = search needs
 
--- src/records.rt:40:31
 add-word-at-3 : tie.Need-add-word-at-3
 add-word-at-3 c = search needs
 
--- src/records.rt:40:9
 word-at-requires-4 : tie.Need-word-at-requires-4
 word-at-requires-4 c κs = search needs
 
--- src/records.rt:41:31
 add-word-at-4 : tie.Need-add-word-at-4
 add-word-at-4 c = search needs
 
--- src/records.rt:41:9
 word-at-requires-5 : tie.Need-word-at-requires-5
 word-at-requires-5 c κs = search needs
 
--- src/records.rt:32:1
 returns : tie.Need-returns
 returns c = λ k. record { copy = c .before .before .before .before .word-at .ensures k; literal = c .before .before .before .word-at2 .ensures k; next = c .before .before .word-at3 .ensures k; mark = c .before .word-at4 .ensures k; path = c .word-at5 .ensures k }
 

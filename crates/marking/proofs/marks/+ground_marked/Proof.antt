@@ -1,5 +1,6 @@
 -- `marking::marks::ground_marked` meets its contract. The measure is what is left of the words. Assumes nothing.
-use Rattle.marking.proofs.Places.{node-inside, past-ends}
+use Rattle.marking.proofs.Places.{node-inside}
+use borrow.Author.Needs.{needs}
 use Prim.Native.Nat.{_<_, _-_, ℕ}
 use native.Mathlib.Omega.{arith}
 use Rattle.marking.proofs.Marking.{none-given, marked-first, marked-further, marked-rest, given-same, given-other}
@@ -11,6 +12,8 @@ use Rattle.marking.proofs.marks.ground_marked.Reads as ground-marked
 use Rattle.marking.proofs.marks.ground_marked.Kinds as ground-marked-kinds
 use Rattle.marking.proofs.marks.+ground_marked.Lts-ground_marked as ground-marked-lts
 use Rattle.words.proofs.past.Reads as past-reads
+use Rattle.syntax.proofs.first_mark.Reads as first-mark-reads
+use Rattle.syntax.proofs.other_marks.Reads as other-marks-reads
 use Rattle.marking.proofs.terms.ground_term.Reads as ground-term-reads
 
 abbrev μ-ground-marked : Measures 1 ground-marked-kinds.ps ℕ
@@ -28,89 +31,55 @@ ground-marked-below t =
     (falls 1 ground-marked-kinds.ps _<_ μ-ground-marked t)
     ground-marked.Pre
 
-ground-marked-returns : (t : ℕ) → ground-marked-lts.Need-returns (
+abbrev ground-marked-claims : ℕ → ground-marked-lts.Claims
+ground-marked-claims t = (
   past-reads.Asked,
   past-reads.Learnt,
-  ground-term-reads.Asked,
-  ground-term-reads.Learnt,
-  ground-marked-below t,
-  ground-marked.Post,
-) (ground-marked-at t) ground-marked.Post
-ground-marked-returns t c = none-given (c .before .before .args .table .now) (c .before .before .args .p) (c .before .before .args .stop) (c .before .before .args .marks) (c .before .before .args .mark) (c .before .before .args .known) (c .if1 .taken)
-
-ground-marked-past-requires : (t : ℕ) → ground-marked-lts.Need-past-requires (
-  past-reads.Asked,
-  past-reads.Learnt,
-  ground-term-reads.Asked,
-  ground-term-reads.Learnt,
-  ground-marked-below t,
-  ground-marked.Post,
-) (ground-marked-at t) ground-marked.Post
-ground-marked-past-requires t c κs = node-inside (marked-first (c .before .before .args .table .now) (c .before .before .args .p) (c .before .before .args .stop) (c .before .before .args .marks) (c .before .before .args .mark) (c .before .before .args .known) (c .if1 .left) (c .before .before .pre .1))
-
-ground-marked-ground-term-requires : (t : ℕ) → ground-marked-lts.Need-ground-term-requires (
-  past-reads.Asked,
-  past-reads.Learnt,
-  ground-term-reads.Asked,
-  ground-term-reads.Learnt,
-  ground-marked-below t,
-  ground-marked.Post,
-) (ground-marked-at t) ground-marked.Post
-ground-marked-ground-term-requires t c κs = marked-first (c .before .before .before .before .args .table .now) (c .before .before .before .before .args .p) (c .before .before .before .before .args .stop) (c .before .before .before .before .args .marks) (c .before .before .before .before .args .mark) (c .before .before .before .before .args .known) (c .before .before .if1 .left) (c .before .before .before .before .pre .1)
-
-ground-marked-ground-marked-requires : (t : ℕ) → ground-marked-lts.Need-ground-marked-requires (
-  past-reads.Asked,
-  past-reads.Learnt,
-  ground-term-reads.Asked,
-  ground-term-reads.Learnt,
-  ground-marked-below t,
-  ground-marked.Post,
-) (ground-marked-at t) ground-marked.Post
-ground-marked-ground-marked-requires t c κs = (omega (arith, marked-further (c .before .before .before .before .before .args .table .now) (c .before .before .before .before .before .args .p) (c .before .before .before .before .before .args .stop) (c .before .before .before .before .before .args .marks) (c .before .before .before .before .before .args .mark) (c .before .before .before .before .before .args .known) (c .before .before .before .if1 .left) (c .before .before .past .result) (past-ends (c .before .before .past .ensures)) (c .before .before .before .before .before .pre .1)), marked-rest (c .before .before .before .before .before .args .table .now) (c .before .before .before .before .before .args .p) (c .before .before .before .before .before .args .stop) (c .before .before .before .before .before .args .marks) (c .before .before .before .before .before .args .mark) (c .before .before .before .before .before .args .known) (c .before .before .before .if1 .left) (c .before .before .past .result) (past-ends (c .before .before .past .ensures)) (c .before .before .before .before .before .pre .1))
-
-ground-marked-returns-2 : (t : ℕ) → ground-marked-lts.Need-returns-2 (
-  past-reads.Asked,
-  past-reads.Learnt,
-  ground-term-reads.Asked,
-  ground-term-reads.Learnt,
-  ground-marked-below t,
-  ground-marked.Post,
-) (ground-marked-at t) ground-marked.Post
-ground-marked-returns-2 t c = given-same (c .before .before .before .before .before .before .args .table .now) (c .before .before .before .before .before .before .args .p) (c .before .before .before .before .before .before .args .stop) (c .before .before .before .before .before .before .args .marks) (c .before .before .before .before .before .before .args .mark) (c .before .before .before .before .before .before .args .known) (c .before .before .before .before .if1 .left) (c .before .before .before .past .result) (past-ends (c .before .before .before .past .ensures)) (c .before .before .if2 .taken) (c .before .ground-term .result) (c .ground-marked .result) (c .before .ground-term .ensures) (c .ground-marked .ensures)
-
-ground-marked-ground-marked-requires-2 : (t : ℕ) → ground-marked-lts.Need-ground-marked-requires-2 (
-  past-reads.Asked,
-  past-reads.Learnt,
-  ground-term-reads.Asked,
-  ground-term-reads.Learnt,
-  ground-marked-below t,
-  ground-marked.Post,
-) (ground-marked-at t) ground-marked.Post
-ground-marked-ground-marked-requires-2 t c κs = (omega (arith, marked-further (c .before .before .before .before .args .table .now) (c .before .before .before .before .args .p) (c .before .before .before .before .args .stop) (c .before .before .before .before .args .marks) (c .before .before .before .before .args .mark) (c .before .before .before .before .args .known) (c .before .before .if1 .left) (c .before .past .result) (past-ends (c .before .past .ensures)) (c .before .before .before .before .pre .1)), marked-rest (c .before .before .before .before .args .table .now) (c .before .before .before .before .args .p) (c .before .before .before .before .args .stop) (c .before .before .before .before .args .marks) (c .before .before .before .before .args .mark) (c .before .before .before .before .args .known) (c .before .before .if1 .left) (c .before .past .result) (past-ends (c .before .past .ensures)) (c .before .before .before .before .pre .1))
-
-ground-marked-returns-3 : (t : ℕ) → ground-marked-lts.Need-returns-3 (
-  past-reads.Asked,
-  past-reads.Learnt,
-  ground-term-reads.Asked,
-  ground-term-reads.Learnt,
-  ground-marked-below t,
-  ground-marked.Post,
-) (ground-marked-at t) ground-marked.Post
-ground-marked-returns-3 t c = given-other (c .before .before .before .before .before .args .table .now) (c .before .before .before .before .before .args .p) (c .before .before .before .before .before .args .stop) (c .before .before .before .before .before .args .marks) (c .before .before .before .before .before .args .mark) (c .before .before .before .before .before .args .known) (c .before .before .before .if1 .left) (c .before .before .past .result) (past-ends (c .before .before .past .ensures)) (c .before .if2 .left) (c .ground-marked2 .result) (c .ground-marked2 .ensures)
-
-pub +ground-marked-spec : {M : Type 1} → statement M
-+ground-marked-spec = close μ-ground-marked λ t. ground-marked-lts.spec (
-  past-reads.Asked,
-  past-reads.Learnt,
+  other-marks-reads.Asked,
+  other-marks-reads.Learnt,
+  first-mark-reads.Asked,
+  first-mark-reads.Learnt,
   ground-term-reads.Asked,
   ground-term-reads.Learnt,
   ground-marked-below t,
   ground-marked.Post,
 )
+
+ground-marked-returns : (t : ℕ) → ground-marked-lts.Need-returns (ground-marked-claims t) (ground-marked-at t) ground-marked.Post
+ground-marked-returns t c = none-given (c .before .before .args .known) (c .if1 .taken)
+
+ground-marked-past-requires : (t : ℕ) → ground-marked-lts.Need-past-requires (ground-marked-claims t) (ground-marked-at t) ground-marked.Post
+ground-marked-past-requires t c κs = node-inside (marked-first (c .if1 .left) (c .before .before .pre .1))
+
+ground-marked-other-marks-requires : (t : ℕ) → ground-marked-lts.Need-other-marks-requires (ground-marked-claims t) (ground-marked-at t) ground-marked.Post
+ground-marked-other-marks-requires t c κs = search needs
+
+ground-marked-first-mark-requires : (t : ℕ) → ground-marked-lts.Need-first-mark-requires (ground-marked-claims t) (ground-marked-at t) ground-marked.Post
+ground-marked-first-mark-requires t c κs = search needs
+
+ground-marked-ground-term-requires : (t : ℕ) → ground-marked-lts.Need-ground-term-requires (ground-marked-claims t) (ground-marked-at t) ground-marked.Post
+ground-marked-ground-term-requires t c κs = let c4 = c .before .before .before .before in marked-first (c4 .if1 .left) (c4 .before .before .pre .1)
+
+ground-marked-ground-marked-requires : (t : ℕ) → ground-marked-lts.Need-ground-marked-requires (ground-marked-claims t) (ground-marked-at t) ground-marked.Post
+ground-marked-ground-marked-requires t c κs = let c5 = c .before .before .before .before .before in let pre = c5 .before .before .pre .1 in (omega (arith, marked-further (c5 .if1 .left) (c .before .before .before .before .past .ensures) pre), marked-rest (c5 .if1 .left) (c .before .before .before .before .past .ensures) (c .before .before .before .other-marks .ensures) pre)
+
+ground-marked-returns-2 : (t : ℕ) → ground-marked-lts.Need-returns-2 (ground-marked-claims t) (ground-marked-at t) ground-marked.Post
+ground-marked-returns-2 t c = let c6 = c .before .before .before .before .before .before in given-same (c6 .if1 .left) (c .before .before .before .before .before .past .ensures) (c .before .before .before .before .other-marks .ensures) (c6 .before .before .args .known) (c .before .before .before .first-mark .ensures) (c .before .before .if2 .taken) (c .before .ground-term .ensures) (c .ground-marked .ensures)
+
+ground-marked-ground-marked-requires-2 : (t : ℕ) → ground-marked-lts.Need-ground-marked-requires-2 (ground-marked-claims t) (ground-marked-at t) ground-marked.Post
+ground-marked-ground-marked-requires-2 t c κs = let c4 = c .before .before .before .before in let pre = c4 .before .before .pre .1 in (omega (arith, marked-further (c4 .if1 .left) (c .before .before .before .past .ensures) pre), marked-rest (c4 .if1 .left) (c .before .before .before .past .ensures) (c .before .before .other-marks .ensures) pre)
+
+ground-marked-returns-3 : (t : ℕ) → ground-marked-lts.Need-returns-3 (ground-marked-claims t) (ground-marked-at t) ground-marked.Post
+ground-marked-returns-3 t c = let c5 = c .before .before .before .before .before in given-other (c5 .if1 .left) (c .before .before .before .before .past .ensures) (c .before .before .before .other-marks .ensures) (c5 .before .before .args .known) (c .before .before .first-mark .ensures) (c .before .if2 .left) (c .ground-marked2 .ensures)
+
+pub +ground-marked-spec : {M : Type 1} → statement M
++ground-marked-spec = close μ-ground-marked λ t. ground-marked-lts.spec (ground-marked-claims t)
     (ground-marked-at t)
     ground-marked.Post
     (ground-marked-returns t)
     (ground-marked-past-requires t)
+    (ground-marked-other-marks-requires t)
+    (ground-marked-first-mark-requires t)
     (ground-marked-ground-term-requires t)
     (ground-marked-ground-marked-requires t)
     (ground-marked-returns-2 t)

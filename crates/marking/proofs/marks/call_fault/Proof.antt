@@ -26,10 +26,10 @@ name-at-requires : tie.Need-name-at-requires
 name-at-requires c κs = judged-name (c .before .before .before .before .before .before .pre)
 
 returns : tie.Need-returns
-returns c = call-fine (c .before .before .before .before .before .args .table .now) (c .before .before .before .before .before .args .p) (c .before .before .before .before .before .args .marks) (c .before .before .before .past .result) (past-ends (c .before .before .before .past .ensures)) (c .before .before .before .before .before .args .known) input (c .before .before .first-open .result) (c .before .before .first-open .ensures) (c .enum-told .given .1) (c .before .before .before .before .before .args .clause) (c .before .before .before .before .before .args .literal)
+returns c = let c3 = c .before .before .before in let c5 = c3 .before .before in let args = c5 .args in call-fine (args .table .now) (args .p) (args .marks) (c3 .past .result) (past-ends (c3 .past .ensures)) (args .known) input (c .before .before .first-open .result) (c .before .before .first-open .ensures) (c .enum-told .given .1) (args .clause) (args .literal)
 
 returns-2 : tie.Need-returns-2
-returns-2 c = call-faulty (c .before .before .before .before .before .before .before .args .table .now) (c .before .before .before .before .before .before .before .args .p) (c .before .before .before .before .before .before .before .args .marks) (c .before .before .before .before .before .past .result) (past-ends (c .before .before .before .before .before .past .ensures)) (c .before .before .before .before .before .before .before .args .known) input (c .before .before .before .before .first-open .result) (c .before .before .before .before .first-open .ensures) (c .before .before .found .given .0 .0) (c .before .before .found .given .0 .1 .0) (c .before .before .found .given .1) (c .name-at .result) (c .name-at .ensures) (c .before .before .before .before .before .before .before .args .clause) (c .before .before .before .before .before .before .before .args .literal)
+returns-2 c = let c4 = c .before .before .before .before in let c5 = c4 .before in let c7 = c5 .before .before in let args = c7 .args in call-faulty (args .table .now) (args .p) (args .marks) (c5 .past .result) (past-ends (c5 .past .ensures)) (args .known) input (c4 .first-open .result) (c4 .first-open .ensures) (c .before .before .found .given .0 .0) (c .before .before .found .given .0 .1 .0) (c .before .before .found .given .1) (c .name-at .result) (c .name-at .ensures) (args .clause) (args .literal)
 
 pub call-fault-spec : {M : Type 1} → statement M
 call-fault-spec =

@@ -4,14 +4,17 @@ use borrow.Author.Needs.{needs}
 use Rattle.marking.proofs.marks.marked_test.Statement.{statement}
 use Rattle.marking.proofs.marks.marked_test.Tie as tie
 
+first-mark-requires : tie.Need-first-mark-requires
+first-mark-requires c κs = search needs
+
 returns : tie.Need-returns
-returns c = other-passes (c .before .before .args .table .now) (c .before .before .args .p) (c .before .before .args .marks) (c .before .before .args .mark) (c .before .before .args .known) (c .if1 .taken)
+returns c = other-passes (c .before .before .before .args .known) (c .before .before .before .args .marks) (c .before .first-mark .ensures) (c .if1 .taken)
 
 ground-test-requires : tie.Need-ground-test-requires
 ground-test-requires c κs = search needs
 
 returns-2 : tie.Need-returns-2
-returns-2 c = same-tested (c .before .before .before .args .table .now) (c .before .before .before .args .p) (c .before .before .before .args .marks) (c .before .before .before .args .mark) (c .before .before .before .args .known) (c .before .if1 .left) (c .ground-test .result) (c .ground-test .ensures)
+returns-2 c = let c4 = c .before .before .before .before in same-tested (c4 .args .known) (c4 .args .marks) (c .before .before .first-mark .ensures) (c .before .if1 .left) (c .ground-test .ensures)
 
 pub marked-test-spec : {M : Type 1} → statement M
-marked-test-spec = tie.close (tie.spec returns ground-test-requires returns-2)
+marked-test-spec = tie.close (tie.spec first-mark-requires returns ground-test-requires returns-2)

@@ -41,251 +41,8 @@ abbrev equate-all-below : ℕ → In 2 equate-all-kinds.ps
 equate-all-below t =
     and 2 equate-all-kinds.ps (falls 2 equate-all-kinds.ps _<_ μ-equate-all t) equate-all.Pre
 
-equate-word-at-requires : (t : ℕ) → equate-lts.Need-word-at-requires (
-  word-at-reads.Asked,
-  word-at-reads.Learnt,
-  equate-variable-reads.Asked,
-  equate-variable-reads.Learnt,
-  same-functor-reads.Asked,
-  same-functor-reads.Learnt,
-  past-reads.Asked,
-  past-reads.Learnt,
-  equate-all-below t,
-  equate-all.Post,
-) (equate-at t) equate.Post
-equate-word-at-requires t c κs = omega (arith, room-three (c .before .before .args .table .now) (c .before .before .args .p) (left-at (c .before .before .pre .1)))
-
-equate-equate-variable-requires : (t : ℕ) → equate-lts.Need-equate-variable-requires (
-  word-at-reads.Asked,
-  word-at-reads.Learnt,
-  equate-variable-reads.Asked,
-  equate-variable-reads.Learnt,
-  same-functor-reads.Asked,
-  same-functor-reads.Learnt,
-  past-reads.Asked,
-  past-reads.Learnt,
-  equate-all-below t,
-  equate-all.Post,
-) (equate-at t) equate.Post
-equate-equate-variable-requires t c κs = (left-at (c .before .before .before .before .pre .1), right-at (c .before .before .before .before .pre .1))
-
-equate-returns : (t : ℕ) → equate-lts.Need-returns (
-  word-at-reads.Asked,
-  word-at-reads.Learnt,
-  equate-variable-reads.Asked,
-  equate-variable-reads.Learnt,
-  same-functor-reads.Asked,
-  same-functor-reads.Learnt,
-  past-reads.Asked,
-  past-reads.Learnt,
-  equate-all-below t,
-  equate-all.Post,
-) (equate-at t) equate.Post
-equate-returns t c = equated-left (c .before .before .before .before .before .args .s .now) (c .before .before .before .before .before .args .table .now) (c .before .before .before .before .before .args .p) (c .before .before .before .before .before .args .q) (c .before .before .before .before .before .args .known) (c .before .before .word-at .result) (c .before .before .word-at .ensures) (c .before .if1 .taken) (c .equate-variable .result) (c .equate-variable .ensures)
-
-equate-word-at-requires-2 : (t : ℕ) → equate-lts.Need-word-at-requires-2 (
-  word-at-reads.Asked,
-  word-at-reads.Learnt,
-  equate-variable-reads.Asked,
-  equate-variable-reads.Learnt,
-  same-functor-reads.Asked,
-  same-functor-reads.Learnt,
-  past-reads.Asked,
-  past-reads.Learnt,
-  equate-all-below t,
-  equate-all.Post,
-) (equate-at t) equate.Post
-equate-word-at-requires-2 t c κs = omega (arith, room-three (c .before .before .before .before .args .table .now) (c .before .before .before .before .args .q) (right-at (c .before .before .before .before .pre .1)))
-
-equate-equate-variable-requires-2 : (t : ℕ) → equate-lts.Need-equate-variable-requires-2 (
-  word-at-reads.Asked,
-  word-at-reads.Learnt,
-  equate-variable-reads.Asked,
-  equate-variable-reads.Learnt,
-  same-functor-reads.Asked,
-  same-functor-reads.Learnt,
-  past-reads.Asked,
-  past-reads.Learnt,
-  equate-all-below t,
-  equate-all.Post,
-) (equate-at t) equate.Post
-equate-equate-variable-requires-2 t c κs = (left-at (c .before .before .before .before .before .before .pre .1), right-at (c .before .before .before .before .before .before .pre .1))
-
-equate-returns-2 : (t : ℕ) → equate-lts.Need-returns-2 (
-  word-at-reads.Asked,
-  word-at-reads.Learnt,
-  equate-variable-reads.Asked,
-  equate-variable-reads.Learnt,
-  same-functor-reads.Asked,
-  same-functor-reads.Learnt,
-  past-reads.Asked,
-  past-reads.Learnt,
-  equate-all-below t,
-  equate-all.Post,
-) (equate-at t) equate.Post
-equate-returns-2 t c = equated-right (c .before .before .before .before .before .before .before .args .s .now) (c .before .before .before .before .before .before .before .args .table .now) (c .before .before .before .before .before .before .before .args .p) (c .before .before .before .before .before .before .before .args .q) (c .before .before .before .before .before .before .before .args .known) (c .before .before .word-at2 .result) (c .before .before .word-at2 .ensures) (c .before .if2 .taken) (c .equate-variable2 .result) (c .equate-variable2 .ensures)
-
-equate-same-functor-requires : (t : ℕ) → equate-lts.Need-same-functor-requires (
-  word-at-reads.Asked,
-  word-at-reads.Learnt,
-  equate-variable-reads.Asked,
-  equate-variable-reads.Learnt,
-  same-functor-reads.Asked,
-  same-functor-reads.Learnt,
-  past-reads.Asked,
-  past-reads.Learnt,
-  equate-all-below t,
-  equate-all.Post,
-) (equate-at t) equate.Post
-equate-same-functor-requires t c κs = (c .before .before .before .before .before .before .pre .1, omega (arith, c .before .before .before .word-at .ensures, c .before .word-at2 .ensures))
-
-equate-returns-3 : (t : ℕ) → equate-lts.Need-returns-3 (
-  word-at-reads.Asked,
-  word-at-reads.Learnt,
-  equate-variable-reads.Asked,
-  equate-variable-reads.Learnt,
-  same-functor-reads.Asked,
-  same-functor-reads.Learnt,
-  past-reads.Asked,
-  past-reads.Learnt,
-  equate-all-below t,
-  equate-all.Post,
-) (equate-at t) equate.Post
-unfolding everything
-equate-returns-3 t c = clashed (c .before .before .before .before .before .before .before .before .args .s .now) (c .before .before .before .before .before .before .before .before .args .table .now) (c .before .before .before .before .before .before .before .before .args .p) (c .before .before .before .before .before .before .before .before .args .q) (c .before .before .before .before .before .before .before .before .args .known) (c .before .before .before .before .before .word-at .result) (c .before .before .before .word-at2 .result) (c .before .before .before .before .before .word-at .ensures) (c .before .before .before .word-at2 .ensures) (c .before .before .before .before .if1 .left) (c .before .before .if2 .left) (c .before .same-functor .result) (c .before .same-functor .ensures) (not-true _ (c .if3 .taken))
-
-equate-add-from : (t : ℕ) → equate-lts.Need-add-from (
-  word-at-reads.Asked,
-  word-at-reads.Learnt,
-  equate-variable-reads.Asked,
-  equate-variable-reads.Learnt,
-  same-functor-reads.Asked,
-  same-functor-reads.Learnt,
-  past-reads.Asked,
-  past-reads.Learnt,
-  equate-all-below t,
-  equate-all.Post,
-) (equate-at t) equate.Post
-equate-add-from t c = omega (arith, room-three (c .before .before .before .before .before .before .before .before .args .table .now) (c .before .before .before .before .before .before .before .before .args .p) (left-at (c .before .before .before .before .before .before .before .before .pre .1)))
-
-equate-past-requires : (t : ℕ) → equate-lts.Need-past-requires (
-  word-at-reads.Asked,
-  word-at-reads.Learnt,
-  equate-variable-reads.Asked,
-  equate-variable-reads.Learnt,
-  same-functor-reads.Asked,
-  same-functor-reads.Learnt,
-  past-reads.Asked,
-  past-reads.Learnt,
-  equate-all-below t,
-  equate-all.Post,
-) (equate-at t) equate.Post
-equate-past-requires t c κs = node-inside (left-at (c .before .before .before .before .before .before .before .before .pre .1))
-
-equate-add-other : (t : ℕ) → equate-lts.Need-add-other (
-  word-at-reads.Asked,
-  word-at-reads.Learnt,
-  equate-variable-reads.Asked,
-  equate-variable-reads.Learnt,
-  same-functor-reads.Asked,
-  same-functor-reads.Learnt,
-  past-reads.Asked,
-  past-reads.Learnt,
-  equate-all-below t,
-  equate-all.Post,
-) (equate-at t) equate.Post
-equate-add-other t c = omega (arith, room-three (c .before .before .before .before .before .before .before .before .before .args .table .now) (c .before .before .before .before .before .before .before .before .before .args .q) (right-at (c .before .before .before .before .before .before .before .before .before .pre .1)))
-
-equate-equate-all-requires : (t : ℕ) → equate-lts.Need-equate-all-requires (
-  word-at-reads.Asked,
-  word-at-reads.Learnt,
-  equate-variable-reads.Asked,
-  equate-variable-reads.Learnt,
-  same-functor-reads.Asked,
-  same-functor-reads.Learnt,
-  past-reads.Asked,
-  past-reads.Learnt,
-  equate-all-below t,
-  equate-all.Post,
-) (equate-at t) equate.Post
-equate-equate-all-requires t c κs = (omega (arith, c .past .ensures, size-least (c .before .before .before .before .before .before .before .before .before .args .table .now) (c .before .before .before .before .before .before .before .before .before .args .p) (left-at (c .before .before .before .before .before .before .before .before .before .pre .1))), pairs-at (c .before .before .before .before .before .before .before .before .before .args .s .now) (c .before .before .before .before .before .before .before .before .before .args .table .now) (c .before .before .before .before .before .before .before .before .before .args .p) (c .before .before .before .before .before .before .before .before .before .args .q) (c .before .before .before .before .before .before .before .before .before .args .known) (c .before .before .before .before .before .before .word-at .result) (c .before .before .before .before .word-at2 .result) (c .before .before .before .before .before .before .word-at .ensures) (c .before .before .before .before .word-at2 .ensures) (c .before .before .before .before .before .if1 .left) (c .before .before .before .if2 .left) (c .before .before .same-functor .result) (c .before .before .same-functor .ensures) (not-false _ (c .before .if3 .left)) (c .past .result) (past-ends (c .past .ensures)) (c .before .before .before .before .before .before .before .before .before .pre .1))
-
-equate-returns-4 : (t : ℕ) → equate-lts.Need-returns-4 (
-  word-at-reads.Asked,
-  word-at-reads.Learnt,
-  equate-variable-reads.Asked,
-  equate-variable-reads.Learnt,
-  same-functor-reads.Asked,
-  same-functor-reads.Learnt,
-  past-reads.Asked,
-  past-reads.Learnt,
-  equate-all-below t,
-  equate-all.Post,
-) (equate-at t) equate.Post
-equate-returns-4 t c = descended (c .before .before .before .before .before .before .before .before .before .before .args .s .now) (c .before .before .before .before .before .before .before .before .before .before .args .table .now) (c .before .before .before .before .before .before .before .before .before .before .args .p) (c .before .before .before .before .before .before .before .before .before .before .args .q) (c .before .before .before .before .before .before .before .before .before .before .args .known) (c .before .before .before .before .before .before .before .word-at .result) (c .before .before .before .before .before .word-at2 .result) (c .before .before .before .before .before .before .before .word-at .ensures) (c .before .before .before .before .before .word-at2 .ensures) (c .before .before .before .before .before .before .if1 .left) (c .before .before .before .before .if2 .left) (c .before .before .before .same-functor .result) (c .before .before .before .same-functor .ensures) (not-false _ (c .before .before .if3 .left)) (c .before .past .result) (past-ends (c .before .past .ensures)) (c .equate-all .result) (c .equate-all .ensures)
-
-equate-all-returns : (t : ℕ) → equate-all-lts.Need-returns (
-  equate-below t,
-  equate.Post,
-  past-reads.Asked,
-  past-reads.Learnt,
-  equate-all-below t,
-  equate-all.Post,
-) (equate-all-at t) equate-all.Post
-equate-all-returns t c = none-equated (c .before .before .before .args .s .now) (c .before .before .before .args .table .now) (c .before .before .before .args .p) (c .before .before .before .args .stop) (c .before .before .before .args .q) (c .before .before .before .args .known) (c .if1 .taken)
-
-equate-all-equate-requires : (t : ℕ) → equate-all-lts.Need-equate-requires (
-  equate-below t,
-  equate.Post,
-  past-reads.Asked,
-  past-reads.Learnt,
-  equate-all-below t,
-  equate-all.Post,
-) (equate-all-at t) equate-all.Post
-equate-all-equate-requires t c κs = (omega (arith, pair-fits (c .before .before .before .args .s .now) (c .before .before .before .args .table .now) (c .before .before .before .args .p) (c .before .before .before .args .stop) (c .before .before .before .args .q) (c .before .before .before .args .known) (c .if1 .left) (c .before .before .before .pre .1)), split (c .before .before .before .args .s .now) (c .before .before .before .args .table .now) (c .before .before .before .args .p) (c .before .before .before .args .stop) (c .before .before .before .args .q) (c .before .before .before .args .known) (c .if1 .left) (c .before .before .before .pre .1) .first)
-
-equate-all-past-requires : (t : ℕ) → equate-all-lts.Need-past-requires (
-  equate-below t,
-  equate.Post,
-  past-reads.Asked,
-  past-reads.Learnt,
-  equate-all-below t,
-  equate-all.Post,
-) (equate-all-at t) equate-all.Post
-equate-all-past-requires t c κs = node-inside (left-at (split (c .before .before .before .before .args .s .now) (c .before .before .before .before .args .table .now) (c .before .before .before .before .args .p) (c .before .before .before .before .args .stop) (c .before .before .before .before .args .q) (c .before .before .before .before .args .known) (c .before .if1 .left) (c .before .before .before .before .pre .1) .first))
-
-equate-all-past-requires-2 : (t : ℕ) → equate-all-lts.Need-past-requires-2 (
-  equate-below t,
-  equate.Post,
-  past-reads.Asked,
-  past-reads.Learnt,
-  equate-all-below t,
-  equate-all.Post,
-) (equate-all-at t) equate-all.Post
-equate-all-past-requires-2 t c κs = node-inside (right-at (split (c .before .before .before .before .before .args .s .now) (c .before .before .before .before .before .args .table .now) (c .before .before .before .before .before .args .p) (c .before .before .before .before .before .args .stop) (c .before .before .before .before .before .args .q) (c .before .before .before .before .before .args .known) (c .before .before .if1 .left) (c .before .before .before .before .before .pre .1) .first))
-
-equate-all-equate-all-requires : (t : ℕ) → equate-all-lts.Need-equate-all-requires (
-  equate-below t,
-  equate.Post,
-  past-reads.Asked,
-  past-reads.Learnt,
-  equate-all-below t,
-  equate-all.Post,
-) (equate-all-at t) equate-all.Post
-equate-all-equate-all-requires t c κs = (omega (arith, pair-further (c .before .before .before .before .before .before .args .s .now) (c .before .before .before .before .before .before .args .table .now) (c .before .before .before .before .before .before .args .p) (c .before .before .before .before .before .before .args .stop) (c .before .before .before .before .before .before .args .q) (c .before .before .before .before .before .before .args .known) (c .before .before .before .if1 .left) (c .before .past .result) (c .past2 .result) (past-ends (c .before .past .ensures)) (past-ends (c .past2 .ensures)) (c .before .before .before .before .before .before .pre .1)), others-at (c .before .before .before .before .before .before .args .s .now) (c .before .before .before .before .before .before .args .table .now) (c .before .before .before .before .before .before .args .p) (c .before .before .before .before .before .before .args .stop) (c .before .before .before .before .before .before .args .q) (c .before .before .before .before .before .before .args .known) (c .before .before .before .if1 .left) (c .before .past .result) (c .past2 .result) (past-ends (c .before .past .ensures)) (past-ends (c .past2 .ensures)) (c .before .before .before .before .before .before .pre .1))
-
-equate-all-returns-2 : (t : ℕ) → equate-all-lts.Need-returns-2 (
-  equate-below t,
-  equate.Post,
-  past-reads.Asked,
-  past-reads.Learnt,
-  equate-all-below t,
-  equate-all.Post,
-) (equate-all-at t) equate-all.Post
-equate-all-returns-2 t c = others-equated (c .before .before .before .before .before .before .before .args .s .now) (c .before .before .before .before .before .before .before .args .table .now) (c .before .before .before .before .before .before .before .args .p) (c .before .before .before .before .before .before .before .args .stop) (c .before .before .before .before .before .before .before .args .q) (c .before .before .before .before .before .before .before .args .known) (c .before .before .before .before .if1 .left) (c .before .before .past .result) (c .before .past2 .result) (past-ends (c .before .before .past .ensures)) (past-ends (c .before .past2 .ensures)) (c .before .before .before .equate .result) (c .before .before .before .equate .ensures) (c .equate-all .result) (c .equate-all .ensures)
-
-pub +equate+equate-all-spec : {M : Type 1} → statement M
-+equate+equate-all-spec = close μ-equate μ-equate-all (λ t. equate-lts.spec (
+abbrev equate-claims : ℕ → equate-lts.Claims
+equate-claims t = (
   word-at-reads.Asked,
   word-at-reads.Learnt,
   equate-variable-reads.Asked,
@@ -297,6 +54,77 @@ pub +equate+equate-all-spec : {M : Type 1} → statement M
   equate-all-below t,
   equate-all.Post,
 )
+
+abbrev equate-all-claims : ℕ → equate-all-lts.Claims
+equate-all-claims t = (
+  equate-below t,
+  equate.Post,
+  past-reads.Asked,
+  past-reads.Learnt,
+  equate-all-below t,
+  equate-all.Post,
+)
+
+equate-word-at-requires : (t : ℕ) → equate-lts.Need-word-at-requires (equate-claims t) (equate-at t) equate.Post
+equate-word-at-requires t c κs = omega (arith, room-three (c .before .before .args .table .now) (c .before .before .args .p) (left-at (c .before .before .pre .1)))
+
+equate-equate-variable-requires : (t : ℕ) → equate-lts.Need-equate-variable-requires (equate-claims t) (equate-at t) equate.Post
+equate-equate-variable-requires t c κs = (left-at (c .before .before .before .before .pre .1), right-at (c .before .before .before .before .pre .1))
+
+equate-returns : (t : ℕ) → equate-lts.Need-returns (equate-claims t) (equate-at t) equate.Post
+equate-returns t c = let c5 = c .before .before .before .before .before in let args = c5 .args in equated-left (args .s .now) (args .table .now) (args .p) (args .q) (args .known) (c .before .before .word-at .result) (c .before .before .word-at .ensures) (c .before .if1 .taken) (c .equate-variable .result) (c .equate-variable .ensures)
+
+equate-word-at-requires-2 : (t : ℕ) → equate-lts.Need-word-at-requires-2 (equate-claims t) (equate-at t) equate.Post
+equate-word-at-requires-2 t c κs = let c4 = c .before .before .before .before in omega (arith, room-three (c4 .args .table .now) (c4 .args .q) (right-at (c4 .pre .1)))
+
+equate-equate-variable-requires-2 : (t : ℕ) → equate-lts.Need-equate-variable-requires-2 (equate-claims t) (equate-at t) equate.Post
+equate-equate-variable-requires-2 t c κs = let c6 = c .before .before .before .before .before .before in (left-at (c6 .pre .1), right-at (c6 .pre .1))
+
+equate-returns-2 : (t : ℕ) → equate-lts.Need-returns-2 (equate-claims t) (equate-at t) equate.Post
+equate-returns-2 t c = let c7 = c .before .before .before .before .before .before .before in let args = c7 .args in equated-right (args .s .now) (args .table .now) (args .p) (args .q) (args .known) (c .before .before .word-at2 .result) (c .before .before .word-at2 .ensures) (c .before .if2 .taken) (c .equate-variable2 .result) (c .equate-variable2 .ensures)
+
+equate-same-functor-requires : (t : ℕ) → equate-lts.Need-same-functor-requires (equate-claims t) (equate-at t) equate.Post
+equate-same-functor-requires t c κs = (c .before .before .before .before .before .before .pre .1, omega (arith, c .before .before .before .word-at .ensures, c .before .word-at2 .ensures))
+
+equate-returns-3 : (t : ℕ) → equate-lts.Need-returns-3 (equate-claims t) (equate-at t) equate.Post
+unfolding everything
+equate-returns-3 t c = let c3 = c .before .before .before in let c5 = c3 .before .before in let c8 = c5 .before .before .before in let args = c8 .args in clashed (args .s .now) (args .table .now) (args .p) (args .q) (args .known) (c5 .word-at .result) (c3 .word-at2 .result) (c5 .word-at .ensures) (c3 .word-at2 .ensures) (c3 .before .if1 .left) (c .before .before .if2 .left) (c .before .same-functor .result) (c .before .same-functor .ensures) (not-true _ (c .if3 .taken))
+
+equate-add-from : (t : ℕ) → equate-lts.Need-add-from (equate-claims t) (equate-at t) equate.Post
+equate-add-from t c = let c8 = c .before .before .before .before .before .before .before .before in omega (arith, room-three (c8 .args .table .now) (c8 .args .p) (left-at (c8 .pre .1)))
+
+equate-past-requires : (t : ℕ) → equate-lts.Need-past-requires (equate-claims t) (equate-at t) equate.Post
+equate-past-requires t c κs = node-inside (left-at (c .before .before .before .before .before .before .before .before .pre .1))
+
+equate-add-other : (t : ℕ) → equate-lts.Need-add-other (equate-claims t) (equate-at t) equate.Post
+equate-add-other t c = let c9 = c .before .before .before .before .before .before .before .before .before in omega (arith, room-three (c9 .args .table .now) (c9 .args .q) (right-at (c9 .pre .1)))
+
+equate-equate-all-requires : (t : ℕ) → equate-lts.Need-equate-all-requires (equate-claims t) (equate-at t) equate.Post
+equate-equate-all-requires t c κs = let c4 = c .before .before .before .before in let c6 = c4 .before .before in let c9 = c6 .before .before .before in let args = c9 .args in (omega (arith, c .past .ensures, size-least (args .table .now) (args .p) (left-at (c9 .pre .1))), pairs-at (args .s .now) (args .table .now) (args .p) (args .q) (args .known) (c6 .word-at .result) (c4 .word-at2 .result) (c6 .word-at .ensures) (c4 .word-at2 .ensures) (c4 .before .if1 .left) (c .before .before .before .if2 .left) (c .before .before .same-functor .result) (c .before .before .same-functor .ensures) (not-false _ (c .before .if3 .left)) (c .past .result) (past-ends (c .past .ensures)) (c9 .pre .1))
+
+equate-returns-4 : (t : ℕ) → equate-lts.Need-returns-4 (equate-claims t) (equate-at t) equate.Post
+equate-returns-4 t c = let c3 = c .before .before .before in let c5 = c3 .before .before in let c7 = c5 .before .before in let c10 = c7 .before .before .before in let args = c10 .args in descended (args .s .now) (args .table .now) (args .p) (args .q) (args .known) (c7 .word-at .result) (c5 .word-at2 .result) (c7 .word-at .ensures) (c5 .word-at2 .ensures) (c5 .before .if1 .left) (c3 .before .if2 .left) (c3 .same-functor .result) (c3 .same-functor .ensures) (not-false _ (c .before .before .if3 .left)) (c .before .past .result) (past-ends (c .before .past .ensures)) (c .equate-all .result) (c .equate-all .ensures)
+
+equate-all-returns : (t : ℕ) → equate-all-lts.Need-returns (equate-all-claims t) (equate-all-at t) equate-all.Post
+equate-all-returns t c = let c3 = c .before .before .before in let args = c3 .args in none-equated (args .s .now) (args .table .now) (args .p) (args .stop) (args .q) (args .known) (c .if1 .taken)
+
+equate-all-equate-requires : (t : ℕ) → equate-all-lts.Need-equate-requires (equate-all-claims t) (equate-all-at t) equate-all.Post
+equate-all-equate-requires t c κs = let c3 = c .before .before .before in let args = c3 .args in (omega (arith, pair-fits (args .s .now) (args .table .now) (args .p) (args .stop) (args .q) (args .known) (c .if1 .left) (c3 .pre .1)), split (args .s .now) (args .table .now) (args .p) (args .stop) (args .q) (args .known) (c .if1 .left) (c3 .pre .1) .first)
+
+equate-all-past-requires : (t : ℕ) → equate-all-lts.Need-past-requires (equate-all-claims t) (equate-all-at t) equate-all.Post
+equate-all-past-requires t c κs = let c4 = c .before .before .before .before in let args = c4 .args in node-inside (left-at (split (args .s .now) (args .table .now) (args .p) (args .stop) (args .q) (args .known) (c .before .if1 .left) (c4 .pre .1) .first))
+
+equate-all-past-requires-2 : (t : ℕ) → equate-all-lts.Need-past-requires-2 (equate-all-claims t) (equate-all-at t) equate-all.Post
+equate-all-past-requires-2 t c κs = let c5 = c .before .before .before .before .before in let args = c5 .args in node-inside (right-at (split (args .s .now) (args .table .now) (args .p) (args .stop) (args .q) (args .known) (c .before .before .if1 .left) (c5 .pre .1) .first))
+
+equate-all-equate-all-requires : (t : ℕ) → equate-all-lts.Need-equate-all-requires (equate-all-claims t) (equate-all-at t) equate-all.Post
+equate-all-equate-all-requires t c κs = let c3 = c .before .before .before in let c6 = c3 .before .before .before in let args = c6 .args in (omega (arith, pair-further (args .s .now) (args .table .now) (args .p) (args .stop) (args .q) (args .known) (c3 .if1 .left) (c .before .past .result) (c .past2 .result) (past-ends (c .before .past .ensures)) (past-ends (c .past2 .ensures)) (c6 .pre .1)), others-at (args .s .now) (args .table .now) (args .p) (args .stop) (args .q) (args .known) (c3 .if1 .left) (c .before .past .result) (c .past2 .result) (past-ends (c .before .past .ensures)) (past-ends (c .past2 .ensures)) (c6 .pre .1))
+
+equate-all-returns-2 : (t : ℕ) → equate-all-lts.Need-returns-2 (equate-all-claims t) (equate-all-at t) equate-all.Post
+equate-all-returns-2 t c = let c3 = c .before .before .before in let c7 = c3 .before .before .before .before in let args = c7 .args in others-equated (args .s .now) (args .table .now) (args .p) (args .stop) (args .q) (args .known) (c3 .before .if1 .left) (c .before .before .past .result) (c .before .past2 .result) (past-ends (c .before .before .past .ensures)) (past-ends (c .before .past2 .ensures)) (c3 .equate .result) (c3 .equate .ensures) (c .equate-all .result) (c .equate-all .ensures)
+
+pub +equate+equate-all-spec : {M : Type 1} → statement M
++equate+equate-all-spec = close μ-equate μ-equate-all (λ t. equate-lts.spec (equate-claims t)
     (equate-at t)
     equate.Post
     (equate-word-at-requires t)
@@ -312,14 +140,7 @@ pub +equate+equate-all-spec : {M : Type 1} → statement M
     (equate-add-other t)
     (equate-equate-all-requires t)
     (equate-returns-4 t))
-    λ t. equate-all-lts.spec (
-      equate-below t,
-      equate.Post,
-      past-reads.Asked,
-      past-reads.Learnt,
-      equate-all-below t,
-      equate-all.Post,
-    )
+    λ t. equate-all-lts.spec (equate-all-claims t)
     (equate-all-at t)
     equate-all.Post
     (equate-all-returns t)

@@ -48,197 +48,84 @@ ground-test-all-below t =
     (falls 1 ground-test-all-kinds.ps _<_ μ-ground-test-all t)
     ground-test-all.Pre
 
-ground-test-word-at-requires : (t : ℕ) → ground-test-lts.Need-word-at-requires (
+abbrev ground-test-claims : ℕ → ground-test-lts.Claims
+ground-test-claims t = (
   word-at-reads.Asked,
   word-at-reads.Learnt,
   past-reads.Asked,
   past-reads.Learnt,
   ground-test-all-below t,
   ground-test-all.Post,
-) (ground-test-at t) ground-test.Post
+)
+
+abbrev ground-test-all-claims : ℕ → ground-test-all-lts.Claims
+ground-test-all-claims t = (
+  ground-test-below t,
+  ground-test.Post,
+  past-reads.Asked,
+  past-reads.Learnt,
+  ground-test-all-below t,
+  ground-test-all.Post,
+)
+
+ground-test-word-at-requires : (t : ℕ) → ground-test-lts.Need-word-at-requires (ground-test-claims t) (ground-test-at t) ground-test.Post
 ground-test-word-at-requires t c κs = omega (arith, room-three (c .before .args .table .now) (c .before .args .p) (c .before .pre .1))
 
-ground-test-array-read-if2 : (t : ℕ) → ground-test-lts.Need-array-read-if2 (
-  word-at-reads.Asked,
-  word-at-reads.Learnt,
-  past-reads.Asked,
-  past-reads.Learnt,
-  ground-test-all-below t,
-  ground-test-all.Post,
-) (ground-test-at t) ground-test.Post
-ground-test-array-read-if2 t c = variable-below (c .before .before .before .args .table .now) (c .before .before .before .args .p) (c .before .word-at .result) (c .before .before .before .pre .1) (c .before .word-at .ensures) (c .if1 .taken)
+ground-test-array-read-if2 : (t : ℕ) → ground-test-lts.Need-array-read-if2 (ground-test-claims t) (ground-test-at t) ground-test.Post
+ground-test-array-read-if2 t c = let c3 = c .before .before .before in variable-below (c3 .args .table .now) (c3 .args .p) (c .before .word-at .result) (c3 .pre .1) (c .before .word-at .ensures) (c .if1 .taken)
 
-ground-test-returns : (t : ℕ) → ground-test-lts.Need-returns (
-  word-at-reads.Asked,
-  word-at-reads.Learnt,
-  past-reads.Asked,
-  past-reads.Learnt,
-  ground-test-all-below t,
-  ground-test-all.Post,
-) (ground-test-at t) ground-test.Post
-ground-test-returns t c = variable-ground (c .before .before .before .before .args .table .now) (c .before .before .before .before .args .p) (c .before .before .before .before .args .t3) (c .before .before .word-at .result) (c .before .before .word-at .ensures) (c .before .if1 .taken) (c .if2 .taken)
+ground-test-returns : (t : ℕ) → ground-test-lts.Need-returns (ground-test-claims t) (ground-test-at t) ground-test.Post
+ground-test-returns t c = let c4 = c .before .before .before .before in let args = c4 .args in variable-ground (args .table .now) (args .p) (args .t3) (c .before .before .word-at .result) (c .before .before .word-at .ensures) (c .before .if1 .taken) (c .if2 .taken)
 
-ground-test-add-word-at : (t : ℕ) → ground-test-lts.Need-add-word-at (
-  word-at-reads.Asked,
-  word-at-reads.Learnt,
-  past-reads.Asked,
-  past-reads.Learnt,
-  ground-test-all-below t,
-  ground-test-all.Post,
-) (ground-test-at t) ground-test.Post
-ground-test-add-word-at t c = omega (arith, room-three (c .before .before .before .before .args .table .now) (c .before .before .before .before .args .p) (c .before .before .before .before .pre .1))
+ground-test-add-word-at : (t : ℕ) → ground-test-lts.Need-add-word-at (ground-test-claims t) (ground-test-at t) ground-test.Post
+ground-test-add-word-at t c = let c4 = c .before .before .before .before in omega (arith, room-three (c4 .args .table .now) (c4 .args .p) (c4 .pre .1))
 
-ground-test-word-at-requires-2 : (t : ℕ) → ground-test-lts.Need-word-at-requires-2 (
-  word-at-reads.Asked,
-  word-at-reads.Learnt,
-  past-reads.Asked,
-  past-reads.Learnt,
-  ground-test-all-below t,
-  ground-test-all.Post,
-) (ground-test-at t) ground-test.Post
-ground-test-word-at-requires-2 t c κs = omega (arith, room-three (c .before .before .before .before .args .table .now) (c .before .before .before .before .args .p) (c .before .before .before .before .pre .1))
+ground-test-word-at-requires-2 : (t : ℕ) → ground-test-lts.Need-word-at-requires-2 (ground-test-claims t) (ground-test-at t) ground-test.Post
+ground-test-word-at-requires-2 t c κs = let c4 = c .before .before .before .before in omega (arith, room-three (c4 .args .table .now) (c4 .args .p) (c4 .pre .1))
 
-ground-test-returns-2 : (t : ℕ) → ground-test-lts.Need-returns-2 (
-  word-at-reads.Asked,
-  word-at-reads.Learnt,
-  past-reads.Asked,
-  past-reads.Learnt,
-  ground-test-all-below t,
-  ground-test-all.Post,
-) (ground-test-at t) ground-test.Post
-ground-test-returns-2 t c = variable-open (c .before .before .before .before .before .args .table .now) (c .before .before .before .before .before .args .p) (c .before .before .before .before .before .args .t3) (c .before .before .before .word-at .result) (c .before .before .before .word-at .ensures) (c .before .before .if1 .taken) (c .before .if2 .left) (c .word-at2 .result) (c .word-at2 .ensures)
+ground-test-returns-2 : (t : ℕ) → ground-test-lts.Need-returns-2 (ground-test-claims t) (ground-test-at t) ground-test.Post
+ground-test-returns-2 t c = let c3 = c .before .before .before in let c5 = c3 .before .before in let args = c5 .args in variable-open (args .table .now) (args .p) (args .t3) (c3 .word-at .result) (c3 .word-at .ensures) (c .before .before .if1 .taken) (c .before .if2 .left) (c .word-at2 .result) (c .word-at2 .ensures)
 
-ground-test-add-from : (t : ℕ) → ground-test-lts.Need-add-from (
-  word-at-reads.Asked,
-  word-at-reads.Learnt,
-  past-reads.Asked,
-  past-reads.Learnt,
-  ground-test-all-below t,
-  ground-test-all.Post,
-) (ground-test-at t) ground-test.Post
+ground-test-add-from : (t : ℕ) → ground-test-lts.Need-add-from (ground-test-claims t) (ground-test-at t) ground-test.Post
 ground-test-add-from t c = omega (arith, room-three (c .before .before .before .args .table .now) (c .before .before .before .args .p) (c .before .before .before .pre .1))
 
-ground-test-past-requires : (t : ℕ) → ground-test-lts.Need-past-requires (
-  word-at-reads.Asked,
-  word-at-reads.Learnt,
-  past-reads.Asked,
-  past-reads.Learnt,
-  ground-test-all-below t,
-  ground-test-all.Post,
-) (ground-test-at t) ground-test.Post
+ground-test-past-requires : (t : ℕ) → ground-test-lts.Need-past-requires (ground-test-claims t) (ground-test-at t) ground-test.Post
 ground-test-past-requires t c κs = node-inside (c .before .before .before .pre .1)
 
-ground-test-ground-test-all-requires : (t : ℕ) → ground-test-lts.Need-ground-test-all-requires (
-  word-at-reads.Asked,
-  word-at-reads.Learnt,
-  past-reads.Asked,
-  past-reads.Learnt,
-  ground-test-all-below t,
-  ground-test-all.Post,
-) (ground-test-at t) ground-test.Post
-ground-test-ground-test-all-requires t c κs = (omega (arith, c .past .ensures, size-least (c .before .before .before .before .args .table .now) (c .before .before .before .before .args .p) (c .before .before .before .before .pre .1)), inner-at (c .before .before .word-at .result) (c .past .result) (c .before .before .word-at .ensures) (c .before .if1 .left) (past-ends (c .past .ensures)) (c .before .before .before .before .pre .1))
+ground-test-ground-test-all-requires : (t : ℕ) → ground-test-lts.Need-ground-test-all-requires (ground-test-claims t) (ground-test-at t) ground-test.Post
+ground-test-ground-test-all-requires t c κs = let c4 = c .before .before .before .before in (omega (arith, c .past .ensures, size-least (c4 .args .table .now) (c4 .args .p) (c4 .pre .1)), inner-at (c .before .before .word-at .result) (c .past .result) (c .before .before .word-at .ensures) (c .before .if1 .left) (past-ends (c .past .ensures)) (c4 .pre .1))
 
-ground-test-returns-3 : (t : ℕ) → ground-test-lts.Need-returns-3 (
-  word-at-reads.Asked,
-  word-at-reads.Learnt,
-  past-reads.Asked,
-  past-reads.Learnt,
-  ground-test-all-below t,
-  ground-test-all.Post,
-) (ground-test-at t) ground-test.Post
-ground-test-returns-3 t c = test-inner (c .before .before .before .before .before .args .table .now) (c .before .before .before .before .before .args .p) (c .before .before .before .before .before .args .t3) (c .before .before .before .word-at .result) (c .before .before .before .word-at .ensures) (c .before .past .result) (c .before .before .if1 .left) (past-ends (c .before .past .ensures)) (c .ground-test-all .result) (c .ground-test-all .ensures)
+ground-test-returns-3 : (t : ℕ) → ground-test-lts.Need-returns-3 (ground-test-claims t) (ground-test-at t) ground-test.Post
+ground-test-returns-3 t c = let c3 = c .before .before .before in let c5 = c3 .before .before in let args = c5 .args in test-inner (args .table .now) (args .p) (args .t3) (c3 .word-at .result) (c3 .word-at .ensures) (c .before .past .result) (c .before .before .if1 .left) (past-ends (c .before .past .ensures)) (c .ground-test-all .result) (c .ground-test-all .ensures)
 
-ground-test-all-returns : (t : ℕ) → ground-test-all-lts.Need-returns (
-  ground-test-below t,
-  ground-test.Post,
-  past-reads.Asked,
-  past-reads.Learnt,
-  ground-test-all-below t,
-  ground-test-all.Post,
-) (ground-test-all-at t) ground-test-all.Post
+ground-test-all-returns : (t : ℕ) → ground-test-all-lts.Need-returns (ground-test-all-claims t) (ground-test-all-at t) ground-test-all.Post
 ground-test-all-returns t c = none-tested (c .before .before .args .table .now) (c .before .before .args .p) (c .before .before .args .stop) (c .before .before .args .known) (c .if1 .taken)
 
-ground-test-all-ground-test-requires : (t : ℕ) → ground-test-all-lts.Need-ground-test-requires (
-  ground-test-below t,
-  ground-test.Post,
-  past-reads.Asked,
-  past-reads.Learnt,
-  ground-test-all-below t,
-  ground-test-all.Post,
-) (ground-test-all-at t) ground-test-all.Post
+ground-test-all-ground-test-requires : (t : ℕ) → ground-test-all-lts.Need-ground-test-requires (ground-test-all-claims t) (ground-test-all-at t) ground-test-all.Post
 ground-test-all-ground-test-requires t c κs = (omega (arith, first-fits (c .if1 .left) (c .before .before .pre .1)), parted (c .if1 .left) (c .before .before .pre .1) .first)
 
-ground-test-all-enum-told : (t : ℕ) → ground-test-all-lts.Need-enum-told (
-  ground-test-below t,
-  ground-test.Post,
-  past-reads.Asked,
-  past-reads.Learnt,
-  ground-test-all-below t,
-  ground-test-all.Post,
-) (ground-test-all-at t) ground-test-all.Post
+ground-test-all-enum-told : (t : ℕ) → ground-test-all-lts.Need-enum-told (ground-test-all-claims t) (ground-test-all-at t) ground-test-all.Post
 ground-test-all-enum-told t c = search needs
 
-ground-test-all-enum-told-2 : (t : ℕ) → ground-test-all-lts.Need-enum-told-2 (
-  ground-test-below t,
-  ground-test.Post,
-  past-reads.Asked,
-  past-reads.Learnt,
-  ground-test-all-below t,
-  ground-test-all.Post,
-) (ground-test-all-at t) ground-test-all.Post
+ground-test-all-enum-told-2 : (t : ℕ) → ground-test-all-lts.Need-enum-told-2 (ground-test-all-claims t) (ground-test-all-at t) ground-test-all.Post
 ground-test-all-enum-told-2 t c = search needs
 
-ground-test-all-past-requires : (t : ℕ) → ground-test-all-lts.Need-past-requires (
-  ground-test-below t,
-  ground-test.Post,
-  past-reads.Asked,
-  past-reads.Learnt,
-  ground-test-all-below t,
-  ground-test-all.Post,
-) (ground-test-all-at t) ground-test-all.Post
+ground-test-all-past-requires : (t : ℕ) → ground-test-all-lts.Need-past-requires (ground-test-all-claims t) (ground-test-all-at t) ground-test-all.Post
 ground-test-all-past-requires t c κs = node-inside (parted (c .before .before .before .if1 .left) (c .before .before .before .before .before .pre .1) .first)
 
 ground-test-all-ground-test-all-requires :
-    (t : ℕ) → ground-test-all-lts.Need-ground-test-all-requires (
-      ground-test-below t,
-      ground-test.Post,
-      past-reads.Asked,
-      past-reads.Learnt,
-      ground-test-all-below t,
-      ground-test-all.Post,
-    ) (ground-test-all-at t) ground-test-all.Post
-ground-test-all-ground-test-all-requires t c κs = (omega (arith, next-further (c .past .result) (c .before .before .before .before .if1 .left) (past-ends (c .past .ensures)) (c .before .before .before .before .before .before .pre .1)), rest-at (c .before .before .before .before .before .before .args .table .now) (c .before .before .before .before .before .before .args .p) (c .before .before .before .before .before .before .args .stop) (c .before .before .before .before .before .before .args .known) (c .before .before .before .before .if1 .left) (c .past .result) (past-ends (c .past .ensures)) (c .before .before .before .before .before .before .pre .1))
+    (t : ℕ) → ground-test-all-lts.Need-ground-test-all-requires (ground-test-all-claims t) (ground-test-all-at t) ground-test-all.Post
+ground-test-all-ground-test-all-requires t c κs = let c4 = c .before .before .before .before in let c6 = c4 .before .before in let args = c6 .args in (omega (arith, next-further (c .past .result) (c4 .if1 .left) (past-ends (c .past .ensures)) (c6 .pre .1)), rest-at (args .table .now) (args .p) (args .stop) (args .known) (c4 .if1 .left) (c .past .result) (past-ends (c .past .ensures)) (c6 .pre .1))
 
-ground-test-all-returns-2 : (t : ℕ) → ground-test-all-lts.Need-returns-2 (
-  ground-test-below t,
-  ground-test.Post,
-  past-reads.Asked,
-  past-reads.Learnt,
-  ground-test-all-below t,
-  ground-test-all.Post,
-) (ground-test-all-at t) ground-test-all.Post
-ground-test-all-returns-2 t c = first-open (c .before .before .before .before .before .args .table .now) (c .before .before .before .before .before .args .p) (c .before .before .before .before .before .args .stop) (c .before .before .before .before .before .args .known) (c .before .before .before .if1 .left) (c .before .before .ground-test .result) (c .before .before .ground-test .ensures) (c .enum-told .given .0 .0) (c .enum-told .given .1)
+ground-test-all-returns-2 : (t : ℕ) → ground-test-all-lts.Need-returns-2 (ground-test-all-claims t) (ground-test-all-at t) ground-test-all.Post
+ground-test-all-returns-2 t c = let c5 = c .before .before .before .before .before in let args = c5 .args in first-open (args .table .now) (args .p) (args .stop) (args .known) (c .before .before .before .if1 .left) (c .before .before .ground-test .result) (c .before .before .ground-test .ensures) (c .enum-told .given .0 .0) (c .enum-told .given .1)
 
-ground-test-all-returns-3 : (t : ℕ) → ground-test-all-lts.Need-returns-3 (
-  ground-test-below t,
-  ground-test.Post,
-  past-reads.Asked,
-  past-reads.Learnt,
-  ground-test-all-below t,
-  ground-test-all.Post,
-) (ground-test-all-at t) ground-test-all.Post
-ground-test-all-returns-3 t c = rest-tested (c .before .before .before .before .before .before .before .args .table .now) (c .before .before .before .before .before .before .before .args .p) (c .before .before .before .before .before .before .before .args .stop) (c .before .before .before .before .before .before .before .args .known) (c .before .before .before .before .before .if1 .left) (c .before .past .result) (past-ends (c .before .past .ensures)) (c .before .before .before .before .ground-test .result) (c .before .before .before .before .ground-test .ensures) (c .before .before .enum-told2 .given .1) (c .ground-test-all .result) (c .ground-test-all .ensures)
+ground-test-all-returns-3 : (t : ℕ) → ground-test-all-lts.Need-returns-3 (ground-test-all-claims t) (ground-test-all-at t) ground-test-all.Post
+ground-test-all-returns-3 t c = let c4 = c .before .before .before .before in let c7 = c4 .before .before .before in let args = c7 .args in rest-tested (args .table .now) (args .p) (args .stop) (args .known) (c4 .before .if1 .left) (c .before .past .result) (past-ends (c .before .past .ensures)) (c4 .ground-test .result) (c4 .ground-test .ensures) (c .before .before .enum-told2 .given .1) (c .ground-test-all .result) (c .ground-test-all .ensures)
 
 pub +ground-test+ground-test-all-spec : {M : Type 1} → statement M
 +ground-test+ground-test-all-spec =
-    close μ-ground-test μ-ground-test-all (λ t. ground-test-lts.spec (
-      word-at-reads.Asked,
-      word-at-reads.Learnt,
-      past-reads.Asked,
-      past-reads.Learnt,
-      ground-test-all-below t,
-      ground-test-all.Post,
-    )
+    close μ-ground-test μ-ground-test-all (λ t. ground-test-lts.spec (ground-test-claims t)
     (ground-test-at t)
     ground-test.Post
     (ground-test-word-at-requires t)
@@ -251,14 +138,7 @@ pub +ground-test+ground-test-all-spec : {M : Type 1} → statement M
     (ground-test-past-requires t)
     (ground-test-ground-test-all-requires t)
     (ground-test-returns-3 t))
-    λ t. ground-test-all-lts.spec (
-      ground-test-below t,
-      ground-test.Post,
-      past-reads.Asked,
-      past-reads.Learnt,
-      ground-test-all-below t,
-      ground-test-all.Post,
-    )
+    λ t. ground-test-all-lts.spec (ground-test-all-claims t)
     (ground-test-all-at t)
     ground-test-all.Post
     (ground-test-all-returns t)

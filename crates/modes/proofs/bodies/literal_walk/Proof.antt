@@ -27,7 +27,7 @@ returns-3 : tie.Need-returns-3
 returns-3 c = let c4 = c .before .before .before .before in let c9 = c4 .before .before .before .before .before in λ d w. walked-call (c4 .word-at .result) (c4 .word-at .ensures) (c .before .if3 .taken) (d .list) (c9 .args .clause) (c9 .args .literal) (c9 .args .known) (walkOf (c .call-walk .result)) ((c .call-walk .ensures) d) w
 
 past-requires : tie.Need-past-requires
-past-requires c κs = node-inside (first-term (c .before .before .before .word-at .result) (c .before .before .before .word-at .ensures) (at-least _ (c .before .before .if1 .left) (c .before .if2 .left)) (c .before .before .before .before .before .before .before .before .pre .1))
+past-requires c κs = let c3 = c .before .before .before in let c8 = c3 .before .before .before .before .before in node-inside (first-term (c3 .word-at .result) (c3 .word-at .ensures) (at-least _ (c .before .before .if1 .left) (c .before .if2 .left)) (c8 .pre .1))
 
 settle-requires : tie.Need-settle-requires
 settle-requires c κs = let c4 = c .before .before .before .before in let c9 = c4 .before .before .before .before .before in sides-at (c4 .word-at .result) (c4 .word-at .ensures) (c .past .result) (past-ends (c .past .ensures)) (at-least _ (c .before .before .before .if1 .left) (c .before .before .if2 .left)) (c .before .if3 .left) (c9 .pre .1)

@@ -2,7 +2,7 @@
 use Prim.Native.Nat.{ℕ, _<_, _+_, _*_}
 use borrow.Author.Needs.{needs}
 use native.Mathlib.Omega.{arith}
-use Rattle.reading.proofs.TermLaws.{leaf-asked, atom-bare, atom-deep, atom-fault, atom-list, list-ready, close-ready, term-variable, term-numeral, term-name, term-other, arguments-full, arguments-fault, arguments-standing, arguments-ready, arguments-few, arguments-more, arguments-last, arguments-wrong}
+use Rattle.reading.proofs.TermLaws.{name-fits, leaf-asked, atom-bare, atom-deep, atom-fault, atom-list, list-ready, close-ready, term-variable, term-numeral, term-name, term-other, arguments-full, arguments-fault, arguments-standing, arguments-ready, arguments-few, arguments-more, arguments-last, arguments-wrong}
 use borrow.Fn.Kinds.{In}
 use borrow.Fn.PlainCycle.{Measures, is, falls, and}
 use Rattle.reading.proofs.terms.read_arguments.Reads as read-arguments
@@ -14,6 +14,7 @@ use Rattle.reading.proofs.terms.+read_arguments+read_atom+read_term.Lts
 use Rattle.reading.proofs.terms.read_term.Reads as read-term
 use Rattle.reading.proofs.terms.read_term.Kinds as read-term-kinds
 use Rattle.reading.proofs.terms.+read_arguments+read_atom+read_term.Lts-read_term as read-term-lts
+use Rattle.syntax.proofs.pack_functor.Reads as pack-functor-reads
 use Rattle.reading.proofs.cursor.next.Reads as next-reads
 use Rattle.reading.proofs.cursor.refuse.Reads as refuse-reads
 use Rattle.reading.proofs.cursor.wrong.Reads as wrong-reads
@@ -65,7 +66,8 @@ abbrev read-term-below : ℕ → In 2 read-term-kinds.ps
 read-term-below t =
     and 2 read-term-kinds.ps (falls 2 read-term-kinds.ps _<_ μ-read-term t) read-term.Pre
 
-read-arguments-full-requires : (t : ℕ) → read-arguments-lts.Need-full-requires (
+abbrev read-arguments-claims : ℕ → read-arguments-lts.Claims
+read-arguments-claims t = (
   full-reads.Asked,
   full-reads.Learnt,
   read-term-below t,
@@ -78,637 +80,171 @@ read-arguments-full-requires : (t : ℕ) → read-arguments-lts.Need-full-requir
   counted-reads.Learnt,
   wrong-reads.Asked,
   wrong-reads.Learnt,
-) (read-arguments-at t) read-arguments.Post
+)
+
+abbrev read-atom-claims : ℕ → read-atom-lts.Claims
+read-atom-claims t = (
+  next-reads.Asked,
+  next-reads.Learnt,
+  pack-functor-reads.Asked,
+  pack-functor-reads.Learnt,
+  leaf-reads.Asked,
+  leaf-reads.Learnt,
+  refuse-reads.Asked,
+  refuse-reads.Learnt,
+  read-arguments-below t,
+  read-arguments.Post,
+  close-reads.Asked,
+  close-reads.Learnt,
+)
+
+abbrev read-term-claims : ℕ → read-term-lts.Claims
+read-term-claims t = (
+  read-variable-reads.Asked,
+  read-variable-reads.Learnt,
+  read-numeral-reads.Asked,
+  read-numeral-reads.Learnt,
+  read-atom-below t,
+  read-atom.Post,
+  wrong-reads.Asked,
+  wrong-reads.Learnt,
+)
+
+read-arguments-full-requires : (t : ℕ) → read-arguments-lts.Need-full-requires (read-arguments-claims t) (read-arguments-at t) read-arguments.Post
 read-arguments-full-requires t c κs = search needs
 
-read-arguments-returns : (t : ℕ) → read-arguments-lts.Need-returns (
-  full-reads.Asked,
-  full-reads.Learnt,
-  read-term-below t,
-  read-term.Post,
-  next-reads.Asked,
-  next-reads.Learnt,
-  read-arguments-below t,
-  read-arguments.Post,
-  counted-reads.Asked,
-  counted-reads.Learnt,
-  wrong-reads.Asked,
-  wrong-reads.Learnt,
-) (read-arguments-at t) read-arguments.Post
-read-arguments-returns t c = arguments-full (c .before .before .before .before .args .left) (c .before .before .before .before .args .s .now) (c .before .before .before .before .args .k) (c .before .before .before .before .args .st) (c .before .before .before .before .args .table .now) (c .before .before .before .before .args .n) (c .full .result) (c .before .if1 .taken) (c .full .ensures)
+read-arguments-returns : (t : ℕ) → read-arguments-lts.Need-returns (read-arguments-claims t) (read-arguments-at t) read-arguments.Post
+read-arguments-returns t c = let c4 = c .before .before .before .before in let args = c4 .args in arguments-full (args .left) (args .s .now) (args .k) (args .st) (args .table .now) (args .n) (c .full .result) (c .before .if1 .taken) (c .full .ensures)
 
-read-arguments-read-term-requires : (t : ℕ) → read-arguments-lts.Need-read-term-requires (
-  full-reads.Asked,
-  full-reads.Learnt,
-  read-term-below t,
-  read-term.Post,
-  next-reads.Asked,
-  next-reads.Learnt,
-  read-arguments-below t,
-  read-arguments.Post,
-  counted-reads.Asked,
-  counted-reads.Learnt,
-  wrong-reads.Asked,
-  wrong-reads.Learnt,
-) (read-arguments-at t) read-arguments.Post
+read-arguments-read-term-requires : (t : ℕ) → read-arguments-lts.Need-read-term-requires (read-arguments-claims t) (read-arguments-at t) read-arguments.Post
 read-arguments-read-term-requires t c κs = (omega arith, search needs)
 
-read-arguments-same-length : (t : ℕ) → read-arguments-lts.Need-same-length (
-  full-reads.Asked,
-  full-reads.Learnt,
-  read-term-below t,
-  read-term.Post,
-  next-reads.Asked,
-  next-reads.Learnt,
-  read-arguments-below t,
-  read-arguments.Post,
-  counted-reads.Asked,
-  counted-reads.Learnt,
-  wrong-reads.Asked,
-  wrong-reads.Learnt,
-) (read-arguments-at t) read-arguments.Post
+read-arguments-same-length : (t : ℕ) → read-arguments-lts.Need-same-length (read-arguments-claims t) (read-arguments-at t) read-arguments.Post
 read-arguments-same-length t c = search needs
 
-read-arguments-returns-2 : (t : ℕ) → read-arguments-lts.Need-returns-2 (
-  full-reads.Asked,
-  full-reads.Learnt,
-  read-term-below t,
-  read-term.Post,
-  next-reads.Asked,
-  next-reads.Learnt,
-  read-arguments-below t,
-  read-arguments.Post,
-  counted-reads.Asked,
-  counted-reads.Learnt,
-  wrong-reads.Asked,
-  wrong-reads.Learnt,
-) (read-arguments-at t) read-arguments.Post
-read-arguments-returns-2 t c = arguments-fault (c .before .before .before .before .before .before .before .before .before .args .left) (c .before .before .before .before .before .before .before .before .before .args .s .now) (c .before .before .before .before .before .before .before .before .before .args .k) (c .before .before .before .before .before .before .before .before .before .args .st) (c .before .before .before .before .before .before .before .before .before .args .table .now) (c .before .before .before .before .read-term .last .1 .1 .1 .0) (c .before .before .before .before .before .before .before .before .before .args .n) (c .before .before .before .before .read-term .result) (c .before .before .before .before .before .before .before .before .before .pre .1) (c .before .before .before .before .before .before .if1 .left) (c .before .before .before .before .read-term .ensures) (c .if2 .taken)
+read-arguments-returns-2 : (t : ℕ) → read-arguments-lts.Need-returns-2 (read-arguments-claims t) (read-arguments-at t) read-arguments.Post
+read-arguments-returns-2 t c = let c4 = c .before .before .before .before in let c9 = c4 .before .before .before .before .before in let args = c9 .args in arguments-fault (args .left) (args .s .now) (args .k) (args .st) (args .table .now) (c4 .read-term .last .1 .1 .1 .0) (args .n) (c4 .read-term .result) (c9 .pre .1) (c4 .before .before .if1 .left) (c4 .read-term .ensures) (c .if2 .taken)
 
-read-arguments-next-requires : (t : ℕ) → read-arguments-lts.Need-next-requires (
-  full-reads.Asked,
-  full-reads.Learnt,
-  read-term-below t,
-  read-term.Post,
-  next-reads.Asked,
-  next-reads.Learnt,
-  read-arguments-below t,
-  read-arguments.Post,
-  counted-reads.Asked,
-  counted-reads.Learnt,
-  wrong-reads.Asked,
-  wrong-reads.Learnt,
-) (read-arguments-at t) read-arguments.Post
-read-arguments-next-requires t c κs = arguments-standing (c .before .before .before .before .before .before .before .before .before .before .before .before .args .left) (c .before .before .before .before .before .before .before .before .before .before .before .before .args .s .now) (c .before .before .before .before .before .before .before .before .before .before .before .before .args .k) (c .before .before .before .before .before .before .before .before .before .before .before .before .args .st) (c .before .before .before .before .before .before .before .before .before .before .before .before .args .table .now) (c .before .before .before .before .before .before .before .read-term .last .1 .1 .1 .0) (c .before .before .before .before .before .before .before .before .before .before .before .before .args .n) (c .before .before .before .before .before .before .before .read-term .result) (c .before .before .before .before .before .before .before .before .before .before .before .before .pre .1) (c .before .before .before .before .before .before .before .before .before .if1 .left) (c .before .before .before .before .before .before .before .read-term .ensures) (c .before .before .before .if2 .left)
+read-arguments-next-requires : (t : ℕ) → read-arguments-lts.Need-next-requires (read-arguments-claims t) (read-arguments-at t) read-arguments.Post
+read-arguments-next-requires t c κs = let c7 = c .before .before .before .before .before .before .before in let c9 = c7 .before .before in let c12 = c9 .before .before .before in let args = c12 .args in arguments-standing (args .left) (args .s .now) (args .k) (args .st) (args .table .now) (c7 .read-term .last .1 .1 .1 .0) (args .n) (c7 .read-term .result) (c12 .pre .1) (c9 .if1 .left) (c7 .read-term .ensures) (c .before .before .before .if2 .left)
 
-read-arguments-sub-fewer : (t : ℕ) → read-arguments-lts.Need-sub-fewer (
-  full-reads.Asked,
-  full-reads.Learnt,
-  read-term-below t,
-  read-term.Post,
-  next-reads.Asked,
-  next-reads.Learnt,
-  read-arguments-below t,
-  read-arguments.Post,
-  counted-reads.Asked,
-  counted-reads.Learnt,
-  wrong-reads.Asked,
-  wrong-reads.Learnt,
-) (read-arguments-at t) read-arguments.Post
+read-arguments-sub-fewer : (t : ℕ) → read-arguments-lts.Need-sub-fewer (read-arguments-claims t) (read-arguments-at t) read-arguments.Post
 read-arguments-sub-fewer t c = omega arith
 
-read-arguments-read-arguments-requires : (t : ℕ) → read-arguments-lts.Need-read-arguments-requires (
-  full-reads.Asked,
-  full-reads.Learnt,
-  read-term-below t,
-  read-term.Post,
-  next-reads.Asked,
-  next-reads.Learnt,
-  read-arguments-below t,
-  read-arguments.Post,
-  counted-reads.Asked,
-  counted-reads.Learnt,
-  wrong-reads.Asked,
-  wrong-reads.Learnt,
-) (read-arguments-at t) read-arguments.Post
-read-arguments-read-arguments-requires t c κs = (omega arith, arguments-ready (c .before .before .before .before .before .before .before .before .before .before .before .before .before .before .args .left) (c .before .before .before .before .before .before .before .before .before .before .before .before .before .before .args .s .now) (c .before .before .before .before .before .before .before .before .before .before .before .before .before .before .args .k) (c .before .before .before .before .before .before .before .before .before .before .before .before .before .before .args .st) (c .before .before .before .before .before .before .before .before .before .before .before .before .before .before .args .table .now) (c .before .before .before .before .before .before .before .before .before .read-term .last .1 .1 .1 .0) (c .before .before .before .before .before .before .before .before .before .before .before .before .before .before .args .n) (c .before .before .before .before .before .before .before .before .before .read-term .result) (c .before .before .before .before .before .before .before .before .before .before .before .before .before .before .pre .1) (c .before .before .before .before .before .before .before .before .before .before .before .if1 .left) (c .before .before .before .before .before .before .before .before .before .read-term .ensures) (c .before .before .before .before .before .if2 .left) (c .before .next .result) (c .before .before .if3 .taken) (c .before .next .ensures) (c .before .before .before .before .before .before .before .before .before .read-term .kept .1 .1 .1 .0))
+read-arguments-read-arguments-requires : (t : ℕ) → read-arguments-lts.Need-read-arguments-requires (read-arguments-claims t) (read-arguments-at t) read-arguments.Post
+read-arguments-read-arguments-requires t c κs = let c9 = c .before .before .before .before .before .before .before .before .before in let c11 = c9 .before .before in let c14 = c11 .before .before .before in let args = c14 .args in (omega arith, arguments-ready (args .left) (args .s .now) (args .k) (args .st) (args .table .now) (c9 .read-term .last .1 .1 .1 .0) (args .n) (c9 .read-term .result) (c14 .pre .1) (c11 .if1 .left) (c9 .read-term .ensures) (c .before .before .before .before .before .if2 .left) (c .before .next .result) (c .before .before .if3 .taken) (c .before .next .ensures) (c9 .read-term .kept .1 .1 .1 .0))
 
-read-arguments-counted-requires : (t : ℕ) → read-arguments-lts.Need-counted-requires (
-  full-reads.Asked,
-  full-reads.Learnt,
-  read-term-below t,
-  read-term.Post,
-  next-reads.Asked,
-  next-reads.Learnt,
-  read-arguments-below t,
-  read-arguments.Post,
-  counted-reads.Asked,
-  counted-reads.Learnt,
-  wrong-reads.Asked,
-  wrong-reads.Learnt,
-) (read-arguments-at t) read-arguments.Post
-read-arguments-counted-requires t c κs = arguments-few (c .before .before .before .before .before .before .before .before .before .before .before .before .before .before .before .before .before .args .left) (c .before .before .before .before .before .before .before .before .before .before .before .before .before .before .before .before .before .args .s .now) (c .before .before .before .before .before .before .before .before .before .before .before .before .before .before .before .before .before .args .k) (c .before .before .before .before .before .before .before .before .before .before .before .before .before .before .before .before .before .args .st) (c .before .before .before .before .before .before .before .before .before .before .before .before .before .before .before .before .before .args .table .now) (c .before .before .before .before .before .before .before .before .before .before .before .before .read-term .last .1 .1 .1 .0) (c .before .before .before .before .before .before .before .before .before .before .before .before .before .before .before .before .before .args .n) (c .before .before .before .before .before .before .before .before .before .before .before .before .read-term .result) (c .before .before .before .before .before .before .before .before .before .before .before .before .before .before .before .before .before .pre .1) (c .before .before .before .before .before .before .before .before .before .before .before .before .before .before .if1 .left) (c .before .before .before .before .before .before .before .before .before .before .before .before .read-term .ensures) (c .before .before .before .before .before .before .before .before .if2 .left) (c .before .before .read-arguments .last .1 .1 .1 .1 .0) (c .before .before .before .before .next .result) (c .before .before .read-arguments .result) (c .before .before .before .before .next .ensures) (c .before .before .read-arguments .ensures)
+read-arguments-counted-requires : (t : ℕ) → read-arguments-lts.Need-counted-requires (read-arguments-claims t) (read-arguments-at t) read-arguments.Post
+read-arguments-counted-requires t c κs = let c4 = c .before .before .before .before in let c8 = c4 .before .before .before .before in let c12 = c8 .before .before .before .before in let c14 = c12 .before .before in let c17 = c14 .before .before .before in let args = c17 .args in arguments-few (args .left) (args .s .now) (args .k) (args .st) (args .table .now) (c12 .read-term .last .1 .1 .1 .0) (args .n) (c12 .read-term .result) (c17 .pre .1) (c14 .if1 .left) (c12 .read-term .ensures) (c8 .if2 .left) (c .before .before .read-arguments .last .1 .1 .1 .1 .0) (c4 .next .result) (c .before .before .read-arguments .result) (c4 .next .ensures) (c .before .before .read-arguments .ensures)
 
-read-arguments-same-length-2 : (t : ℕ) → read-arguments-lts.Need-same-length-2 (
-  full-reads.Asked,
-  full-reads.Learnt,
-  read-term-below t,
-  read-term.Post,
-  next-reads.Asked,
-  next-reads.Learnt,
-  read-arguments-below t,
-  read-arguments.Post,
-  counted-reads.Asked,
-  counted-reads.Learnt,
-  wrong-reads.Asked,
-  wrong-reads.Learnt,
-) (read-arguments-at t) read-arguments.Post
+read-arguments-same-length-2 : (t : ℕ) → read-arguments-lts.Need-same-length-2 (read-arguments-claims t) (read-arguments-at t) read-arguments.Post
 read-arguments-same-length-2 t c = search needs
 
-read-arguments-returns-3 : (t : ℕ) → read-arguments-lts.Need-returns-3 (
-  full-reads.Asked,
-  full-reads.Learnt,
-  read-term-below t,
-  read-term.Post,
-  next-reads.Asked,
-  next-reads.Learnt,
-  read-arguments-below t,
-  read-arguments.Post,
-  counted-reads.Asked,
-  counted-reads.Learnt,
-  wrong-reads.Asked,
-  wrong-reads.Learnt,
-) (read-arguments-at t) read-arguments.Post
-read-arguments-returns-3 t c = arguments-more (c .before .before .before .before .before .before .before .before .before .before .before .before .before .before .before .before .before .before .args .left) (c .before .before .before .before .before .before .before .before .before .before .before .before .before .before .before .before .before .before .args .s .now) (c .before .before .before .before .before .before .before .before .before .before .before .before .before .before .before .before .before .before .args .k) (c .before .before .before .before .before .before .before .before .before .before .before .before .before .before .before .before .before .before .args .st) (c .before .before .before .before .before .before .before .before .before .before .before .before .before .before .before .before .before .before .args .table .now) (c .before .before .before .before .before .before .before .before .before .before .before .before .before .read-term .last .1 .1 .1 .0) (c .before .before .before .before .before .before .before .before .before .before .before .before .before .before .before .before .before .before .args .n) (c .before .before .before .before .before .before .before .before .before .before .before .before .before .read-term .result) (c .before .before .before .before .before .before .before .before .before .before .before .before .before .before .before .before .before .before .pre .1) (c .before .before .before .before .before .before .before .before .before .before .before .before .before .before .before .if1 .left) (c .before .before .before .before .before .before .before .before .before .before .before .before .before .read-term .ensures) (c .before .before .before .before .before .before .before .before .before .if2 .left) (c .before .before .before .read-arguments .last .1 .1 .1 .1 .0) (c .before .before .before .before .before .next .result) (c .before .before .before .read-arguments .result) (c .counted .result) (c .before .before .before .before .before .before .if3 .taken) (c .before .before .before .before .before .next .ensures) (c .before .before .before .read-arguments .ensures) (c .counted .ensures)
+read-arguments-returns-3 : (t : ℕ) → read-arguments-lts.Need-returns-3 (read-arguments-claims t) (read-arguments-at t) read-arguments.Post
+read-arguments-returns-3 t c = let c3 = c .before .before .before in let c5 = c3 .before .before in let c9 = c5 .before .before .before .before in let c13 = c9 .before .before .before .before in let c15 = c13 .before .before in let c18 = c15 .before .before .before in let args = c18 .args in arguments-more (args .left) (args .s .now) (args .k) (args .st) (args .table .now) (c13 .read-term .last .1 .1 .1 .0) (args .n) (c13 .read-term .result) (c18 .pre .1) (c15 .if1 .left) (c13 .read-term .ensures) (c9 .if2 .left) (c3 .read-arguments .last .1 .1 .1 .1 .0) (c5 .next .result) (c3 .read-arguments .result) (c .counted .result) (c5 .before .if3 .taken) (c5 .next .ensures) (c3 .read-arguments .ensures) (c .counted .ensures)
 
-read-arguments-next-requires-2 : (t : ℕ) → read-arguments-lts.Need-next-requires-2 (
-  full-reads.Asked,
-  full-reads.Learnt,
-  read-term-below t,
-  read-term.Post,
-  next-reads.Asked,
-  next-reads.Learnt,
-  read-arguments-below t,
-  read-arguments.Post,
-  counted-reads.Asked,
-  counted-reads.Learnt,
-  wrong-reads.Asked,
-  wrong-reads.Learnt,
-) (read-arguments-at t) read-arguments.Post
-read-arguments-next-requires-2 t c κs = arguments-standing (c .before .before .before .before .before .before .before .before .before .before .before .before .before .args .left) (c .before .before .before .before .before .before .before .before .before .before .before .before .before .args .s .now) (c .before .before .before .before .before .before .before .before .before .before .before .before .before .args .k) (c .before .before .before .before .before .before .before .before .before .before .before .before .before .args .st) (c .before .before .before .before .before .before .before .before .before .before .before .before .before .args .table .now) (c .before .before .before .before .before .before .before .before .read-term .last .1 .1 .1 .0) (c .before .before .before .before .before .before .before .before .before .before .before .before .before .args .n) (c .before .before .before .before .before .before .before .before .read-term .result) (c .before .before .before .before .before .before .before .before .before .before .before .before .before .pre .1) (c .before .before .before .before .before .before .before .before .before .before .if1 .left) (c .before .before .before .before .before .before .before .before .read-term .ensures) (c .before .before .before .before .if2 .left)
+read-arguments-next-requires-2 : (t : ℕ) → read-arguments-lts.Need-next-requires-2 (read-arguments-claims t) (read-arguments-at t) read-arguments.Post
+read-arguments-next-requires-2 t c κs = let c8 = c .before .before .before .before .before .before .before .before in let c10 = c8 .before .before in let c13 = c10 .before .before .before in let args = c13 .args in arguments-standing (args .left) (args .s .now) (args .k) (args .st) (args .table .now) (c8 .read-term .last .1 .1 .1 .0) (args .n) (c8 .read-term .result) (c13 .pre .1) (c10 .if1 .left) (c8 .read-term .ensures) (c .before .before .before .before .if2 .left)
 
-read-arguments-same-length-3 : (t : ℕ) → read-arguments-lts.Need-same-length-3 (
-  full-reads.Asked,
-  full-reads.Learnt,
-  read-term-below t,
-  read-term.Post,
-  next-reads.Asked,
-  next-reads.Learnt,
-  read-arguments-below t,
-  read-arguments.Post,
-  counted-reads.Asked,
-  counted-reads.Learnt,
-  wrong-reads.Asked,
-  wrong-reads.Learnt,
-) (read-arguments-at t) read-arguments.Post
+read-arguments-same-length-3 : (t : ℕ) → read-arguments-lts.Need-same-length-3 (read-arguments-claims t) (read-arguments-at t) read-arguments.Post
 read-arguments-same-length-3 t c = search needs
 
-read-arguments-returns-4 : (t : ℕ) → read-arguments-lts.Need-returns-4 (
-  full-reads.Asked,
-  full-reads.Learnt,
-  read-term-below t,
-  read-term.Post,
-  next-reads.Asked,
-  next-reads.Learnt,
-  read-arguments-below t,
-  read-arguments.Post,
-  counted-reads.Asked,
-  counted-reads.Learnt,
-  wrong-reads.Asked,
-  wrong-reads.Learnt,
-) (read-arguments-at t) read-arguments.Post
-read-arguments-returns-4 t c = arguments-last (c .before .before .before .before .before .before .before .before .before .before .before .before .before .before .args .left) (c .before .before .before .before .before .before .before .before .before .before .before .before .before .before .args .s .now) (c .before .before .before .before .before .before .before .before .before .before .before .before .before .before .args .k) (c .before .before .before .before .before .before .before .before .before .before .before .before .before .before .args .st) (c .before .before .before .before .before .before .before .before .before .before .before .before .before .before .args .table .now) (c .before .before .before .before .before .before .before .before .before .read-term .last .1 .1 .1 .0) (c .before .before .before .before .before .before .before .before .before .before .before .before .before .before .args .n) (c .before .before .before .before .before .before .before .before .before .read-term .result) (c .before .before .before .before .before .before .before .before .before .before .before .before .before .before .pre .1) (c .before .before .before .before .before .before .before .before .before .before .before .if1 .left) (c .before .before .before .before .before .before .before .before .before .read-term .ensures) (c .before .before .before .before .before .if2 .left) (c .next2 .result) (c .before .before .if3 .left) (c .before .if4 .taken) (c .next2 .ensures)
+read-arguments-returns-4 : (t : ℕ) → read-arguments-lts.Need-returns-4 (read-arguments-claims t) (read-arguments-at t) read-arguments.Post
+read-arguments-returns-4 t c = let c9 = c .before .before .before .before .before .before .before .before .before in let c11 = c9 .before .before in let c14 = c11 .before .before .before in let args = c14 .args in arguments-last (args .left) (args .s .now) (args .k) (args .st) (args .table .now) (c9 .read-term .last .1 .1 .1 .0) (args .n) (c9 .read-term .result) (c14 .pre .1) (c11 .if1 .left) (c9 .read-term .ensures) (c .before .before .before .before .before .if2 .left) (c .next2 .result) (c .before .before .if3 .left) (c .before .if4 .taken) (c .next2 .ensures)
 
-read-arguments-wrong-requires : (t : ℕ) → read-arguments-lts.Need-wrong-requires (
-  full-reads.Asked,
-  full-reads.Learnt,
-  read-term-below t,
-  read-term.Post,
-  next-reads.Asked,
-  next-reads.Learnt,
-  read-arguments-below t,
-  read-arguments.Post,
-  counted-reads.Asked,
-  counted-reads.Learnt,
-  wrong-reads.Asked,
-  wrong-reads.Learnt,
-) (read-arguments-at t) read-arguments.Post
+read-arguments-wrong-requires : (t : ℕ) → read-arguments-lts.Need-wrong-requires (read-arguments-claims t) (read-arguments-at t) read-arguments.Post
 read-arguments-wrong-requires t c κs = search needs
 
-read-arguments-same-length-4 : (t : ℕ) → read-arguments-lts.Need-same-length-4 (
-  full-reads.Asked,
-  full-reads.Learnt,
-  read-term-below t,
-  read-term.Post,
-  next-reads.Asked,
-  next-reads.Learnt,
-  read-arguments-below t,
-  read-arguments.Post,
-  counted-reads.Asked,
-  counted-reads.Learnt,
-  wrong-reads.Asked,
-  wrong-reads.Learnt,
-) (read-arguments-at t) read-arguments.Post
+read-arguments-same-length-4 : (t : ℕ) → read-arguments-lts.Need-same-length-4 (read-arguments-claims t) (read-arguments-at t) read-arguments.Post
 read-arguments-same-length-4 t c = search needs
 
-read-arguments-returns-5 : (t : ℕ) → read-arguments-lts.Need-returns-5 (
-  full-reads.Asked,
-  full-reads.Learnt,
-  read-term-below t,
-  read-term.Post,
-  next-reads.Asked,
-  next-reads.Learnt,
-  read-arguments-below t,
-  read-arguments.Post,
-  counted-reads.Asked,
-  counted-reads.Learnt,
-  wrong-reads.Asked,
-  wrong-reads.Learnt,
-) (read-arguments-at t) read-arguments.Post
-read-arguments-returns-5 t c = arguments-wrong (c .before .before .before .before .before .before .before .before .before .before .before .before .before .before .args .left) (c .before .before .before .before .before .before .before .before .before .before .before .before .before .before .args .s .now) (c .before .before .before .before .before .before .before .before .before .before .before .before .before .before .args .k) (c .before .before .before .before .before .before .before .before .before .before .before .before .before .before .args .st) (c .before .before .before .before .before .before .before .before .before .before .before .before .before .before .args .table .now) (c .before .before .before .before .before .before .before .before .before .read-term .last .1 .1 .1 .0) (c .before .before .before .before .before .before .before .before .before .before .before .before .before .before .args .n) (c .before .before .before .before .before .before .before .before .before .read-term .result) (c .before .before .before .before .before .before .before .before .before .before .before .before .before .before .pre .1) (c .before .before .before .before .before .before .before .before .before .before .before .if1 .left) (c .before .before .before .before .before .before .before .before .before .read-term .ensures) (c .before .before .before .before .before .if2 .left) (c .wrong .result) (c .before .before .if3 .left) (c .before .if4 .left) (c .wrong .ensures)
+read-arguments-returns-5 : (t : ℕ) → read-arguments-lts.Need-returns-5 (read-arguments-claims t) (read-arguments-at t) read-arguments.Post
+read-arguments-returns-5 t c = let c9 = c .before .before .before .before .before .before .before .before .before in let c11 = c9 .before .before in let c14 = c11 .before .before .before in let args = c14 .args in arguments-wrong (args .left) (args .s .now) (args .k) (args .st) (args .table .now) (c9 .read-term .last .1 .1 .1 .0) (args .n) (c9 .read-term .result) (c14 .pre .1) (c11 .if1 .left) (c9 .read-term .ensures) (c .before .before .before .before .before .if2 .left) (c .wrong .result) (c .before .before .if3 .left) (c .before .if4 .left) (c .wrong .ensures)
 
-read-atom-next-requires : (t : ℕ) → read-atom-lts.Need-next-requires (
-  next-reads.Asked,
-  next-reads.Learnt,
-  leaf-reads.Asked,
-  leaf-reads.Learnt,
-  refuse-reads.Asked,
-  refuse-reads.Learnt,
-  read-arguments-below t,
-  read-arguments.Post,
-  close-reads.Asked,
-  close-reads.Learnt,
-) (read-atom-at t) read-atom.Post
+read-atom-next-requires : (t : ℕ) → read-atom-lts.Need-next-requires (read-atom-claims t) (read-atom-at t) read-atom.Post
 read-atom-next-requires t c κs = search needs
 
-read-atom-add-what : (t : ℕ) → read-atom-lts.Need-add-what (
-  next-reads.Asked,
-  next-reads.Learnt,
-  leaf-reads.Asked,
-  leaf-reads.Learnt,
-  refuse-reads.Asked,
-  refuse-reads.Learnt,
-  read-arguments-below t,
-  read-arguments.Post,
-  close-reads.Asked,
-  close-reads.Learnt,
-) (read-atom-at t) read-atom.Post
-read-atom-add-what t c = omega arith
+read-atom-pack-functor-requires : (t : ℕ) → read-atom-lts.Need-pack-functor-requires (read-atom-claims t) (read-atom-at t) read-atom.Post
+read-atom-pack-functor-requires t c κs = search (name-fits, needs)
 
-read-atom-leaf-requires : (t : ℕ) → read-atom-lts.Need-leaf-requires (
-  next-reads.Asked,
-  next-reads.Learnt,
-  leaf-reads.Asked,
-  leaf-reads.Learnt,
-  refuse-reads.Asked,
-  refuse-reads.Learnt,
-  read-arguments-below t,
-  read-arguments.Post,
-  close-reads.Asked,
-  close-reads.Learnt,
-) (read-atom-at t) read-atom.Post
+read-atom-leaf-requires : (t : ℕ) → read-atom-lts.Need-leaf-requires (read-atom-claims t) (read-atom-at t) read-atom.Post
 read-atom-leaf-requires t c κs = search (leaf-asked, needs)
 
-read-atom-same-length : (t : ℕ) → read-atom-lts.Need-same-length (
-  next-reads.Asked,
-  next-reads.Learnt,
-  leaf-reads.Asked,
-  leaf-reads.Learnt,
-  refuse-reads.Asked,
-  refuse-reads.Learnt,
-  read-arguments-below t,
-  read-arguments.Post,
-  close-reads.Asked,
-  close-reads.Learnt,
-) (read-atom-at t) read-atom.Post
+read-atom-same-length : (t : ℕ) → read-atom-lts.Need-same-length (read-atom-claims t) (read-atom-at t) read-atom.Post
 read-atom-same-length t c = search needs
 
-read-atom-returns : (t : ℕ) → read-atom-lts.Need-returns (
-  next-reads.Asked,
-  next-reads.Learnt,
-  leaf-reads.Asked,
-  leaf-reads.Learnt,
-  refuse-reads.Asked,
-  refuse-reads.Learnt,
-  read-arguments-below t,
-  read-arguments.Post,
-  close-reads.Asked,
-  close-reads.Learnt,
-) (read-atom-at t) read-atom.Post
+read-atom-returns : (t : ℕ) → read-atom-lts.Need-returns (read-atom-claims t) (read-atom-at t) read-atom.Post
 read-atom-returns t c = search (atom-bare, needs)
 
-read-atom-refuse-requires : (t : ℕ) → read-atom-lts.Need-refuse-requires (
-  next-reads.Asked,
-  next-reads.Learnt,
-  leaf-reads.Asked,
-  leaf-reads.Learnt,
-  refuse-reads.Asked,
-  refuse-reads.Learnt,
-  read-arguments-below t,
-  read-arguments.Post,
-  close-reads.Asked,
-  close-reads.Learnt,
-) (read-atom-at t) read-atom.Post
+read-atom-refuse-requires : (t : ℕ) → read-atom-lts.Need-refuse-requires (read-atom-claims t) (read-atom-at t) read-atom.Post
 read-atom-refuse-requires t c κs = search needs
 
-read-atom-returns-2 : (t : ℕ) → read-atom-lts.Need-returns-2 (
-  next-reads.Asked,
-  next-reads.Learnt,
-  leaf-reads.Asked,
-  leaf-reads.Learnt,
-  refuse-reads.Asked,
-  refuse-reads.Learnt,
-  read-arguments-below t,
-  read-arguments.Post,
-  close-reads.Asked,
-  close-reads.Learnt,
-) (read-atom-at t) read-atom.Post
+read-atom-returns-2 : (t : ℕ) → read-atom-lts.Need-returns-2 (read-atom-claims t) (read-atom-at t) read-atom.Post
 read-atom-returns-2 t c = search (atom-deep, needs)
 
-read-atom-next-requires-2 : (t : ℕ) → read-atom-lts.Need-next-requires-2 (
-  next-reads.Asked,
-  next-reads.Learnt,
-  leaf-reads.Asked,
-  leaf-reads.Learnt,
-  refuse-reads.Asked,
-  refuse-reads.Learnt,
-  read-arguments-below t,
-  read-arguments.Post,
-  close-reads.Asked,
-  close-reads.Learnt,
-) (read-atom-at t) read-atom.Post
+read-atom-next-requires-2 : (t : ℕ) → read-atom-lts.Need-next-requires-2 (read-atom-claims t) (read-atom-at t) read-atom.Post
 read-atom-next-requires-2 t c κs = search needs
 
-read-atom-add-m : (t : ℕ) → read-atom-lts.Need-add-m (
-  next-reads.Asked,
-  next-reads.Learnt,
-  leaf-reads.Asked,
-  leaf-reads.Learnt,
-  refuse-reads.Asked,
-  refuse-reads.Learnt,
-  read-arguments-below t,
-  read-arguments.Post,
-  close-reads.Asked,
-  close-reads.Learnt,
-) (read-atom-at t) read-atom.Post
+read-atom-add-m : (t : ℕ) → read-atom-lts.Need-add-m (read-atom-claims t) (read-atom-at t) read-atom.Post
 read-atom-add-m t c = omega arith
 
-read-atom-sub-fewer : (t : ℕ) → read-atom-lts.Need-sub-fewer (
-  next-reads.Asked,
-  next-reads.Learnt,
-  leaf-reads.Asked,
-  leaf-reads.Learnt,
-  refuse-reads.Asked,
-  refuse-reads.Learnt,
-  read-arguments-below t,
-  read-arguments.Post,
-  close-reads.Asked,
-  close-reads.Learnt,
-) (read-atom-at t) read-atom.Post
+read-atom-sub-fewer : (t : ℕ) → read-atom-lts.Need-sub-fewer (read-atom-claims t) (read-atom-at t) read-atom.Post
 read-atom-sub-fewer t c = omega arith
 
-read-atom-read-arguments-requires : (t : ℕ) → read-atom-lts.Need-read-arguments-requires (
-  next-reads.Asked,
-  next-reads.Learnt,
-  leaf-reads.Asked,
-  leaf-reads.Learnt,
-  refuse-reads.Asked,
-  refuse-reads.Learnt,
-  read-arguments-below t,
-  read-arguments.Post,
-  close-reads.Asked,
-  close-reads.Learnt,
-) (read-atom-at t) read-atom.Post
-read-atom-read-arguments-requires t c κs = (omega arith, list-ready (c .before .before .before .before .before .before .before .before .before .args .left) (c .before .before .before .before .before .before .before .before .before .args .s .now) (c .before .before .before .before .before .before .before .before .before .args .st) (c .before .before .before .before .before .before .before .before .before .args .table .now) (c .before .before .before .before .before .before .before .before .before .args .table .now) (c .before .before .before .before .before .before .before .before .before .args .table .now) (c .before .before .before .before .before .before .before .before .before .args .n) (c .before .before .before .before .before .next .result) (c .before .next2 .result) (c .before .before .before .before .before .before .before .before .before .pre .1 .0) (c .before .before .before .before .before .before .before .before .before .pre .1 .1) (c .before .before .before .before .before .next .ensures) (c .before .before .before .if1 .left) (c .before .before .if2 .left) (c .before .next2 .ensures))
+read-atom-read-arguments-requires : (t : ℕ) → read-atom-lts.Need-read-arguments-requires (read-atom-claims t) (read-atom-at t) read-atom.Post
+read-atom-read-arguments-requires t c κs = let c5 = c .before .before .before .before .before in let c9 = c5 .before .before .before .before in let args = c9 .args in (omega arith, list-ready (args .left) (args .s .now) (args .st) (args .table .now) (args .table .now) (args .table .now) (args .n) (c5 .next .result) (c .before .next2 .result) (c9 .pre .1 .0) (c9 .pre .1 .1) (c5 .next .ensures) (c .before .before .before .if1 .left) (c .before .before .if2 .left) (c .before .next2 .ensures))
 
-read-atom-same-length-2 : (t : ℕ) → read-atom-lts.Need-same-length-2 (
-  next-reads.Asked,
-  next-reads.Learnt,
-  leaf-reads.Asked,
-  leaf-reads.Learnt,
-  refuse-reads.Asked,
-  refuse-reads.Learnt,
-  read-arguments-below t,
-  read-arguments.Post,
-  close-reads.Asked,
-  close-reads.Learnt,
-) (read-atom-at t) read-atom.Post
+read-atom-same-length-2 : (t : ℕ) → read-atom-lts.Need-same-length-2 (read-atom-claims t) (read-atom-at t) read-atom.Post
 read-atom-same-length-2 t c = search needs
 
-read-atom-returns-3 : (t : ℕ) → read-atom-lts.Need-returns-3 (
-  next-reads.Asked,
-  next-reads.Learnt,
-  leaf-reads.Asked,
-  leaf-reads.Learnt,
-  refuse-reads.Asked,
-  refuse-reads.Learnt,
-  read-arguments-below t,
-  read-arguments.Post,
-  close-reads.Asked,
-  close-reads.Learnt,
-) (read-atom-at t) read-atom.Post
-read-atom-returns-3 t c = atom-fault (c .before .before .before .before .before .before .before .before .before .before .before .before .before .before .args .left) (c .before .before .before .before .before .before .before .before .before .before .before .before .before .before .args .s .now) (c .before .before .before .before .before .before .before .before .before .before .before .before .before .before .args .st) (c .before .before .before .before .before .before .before .before .before .before .before .before .before .before .args .table .now) (c .before .before .before .before .read-arguments .last .1 .1 .1 .1 .0) (c .before .before .before .before .read-arguments .last .1 .1 .1 .1 .0) (c .before .before .before .before .before .before .before .before .before .before .before .before .before .before .args .n) (c .before .before .before .before .before .before .before .before .before .before .next .result) (c .before .before .before .before .before .before .next2 .result) (c .before .before .before .before .before .before .before .before .before .before .before .before .before .before .pre .1 .0) (c .before .before .before .before .before .before .before .before .before .before .before .before .before .before .pre .1 .1) (c .before .before .before .before .before .before .before .before .before .before .next .ensures) (c .before .before .before .before .before .before .before .before .if1 .left) (c .before .before .before .before .before .before .before .if2 .left) (c .before .before .before .before .before .before .next2 .ensures) (c .before .before .before .before .read-arguments .result) (c .before .before .before .before .read-arguments .ensures) (c .if3 .taken)
+read-atom-returns-3 : (t : ℕ) → read-atom-lts.Need-returns-3 (read-atom-claims t) (read-atom-at t) read-atom.Post
+read-atom-returns-3 t c = let c4 = c .before .before .before .before in let c6 = c4 .before .before in let c7 = c6 .before in let c8 = c7 .before in let c10 = c8 .before .before in let c14 = c10 .before .before .before .before in let args = c14 .args in atom-fault (args .left) (args .s .now) (args .st) (args .table .now) (c4 .read-arguments .last .1 .1 .1 .1 .0) (c4 .read-arguments .last .1 .1 .1 .1 .0) (args .n) (c10 .next .result) (c6 .next2 .result) (c14 .pre .1 .0) (c14 .pre .1 .1) (c10 .next .ensures) (c8 .if1 .left) (c7 .if2 .left) (c6 .next2 .ensures) (c4 .read-arguments .result) (c4 .read-arguments .ensures) (c .if3 .taken)
 
-read-atom-close-requires : (t : ℕ) → read-atom-lts.Need-close-requires (
-  next-reads.Asked,
-  next-reads.Learnt,
-  leaf-reads.Asked,
-  leaf-reads.Learnt,
-  refuse-reads.Asked,
-  refuse-reads.Learnt,
-  read-arguments-below t,
-  read-arguments.Post,
-  close-reads.Asked,
-  close-reads.Learnt,
-) (read-atom-at t) read-atom.Post
-read-atom-close-requires t c κs = close-ready (c .before .before .before .before .before .before .before .before .before .before .before .before .before .before .before .args .left) (c .before .before .before .before .before .before .before .before .before .before .before .before .before .before .before .args .s .now) (c .before .before .before .before .before .before .before .before .before .before .before .before .before .before .before .args .st) (c .before .before .before .before .before .before .before .before .before .before .before .before .before .before .before .args .table .now) (c .before .before .before .before .before .read-arguments .last .1 .1 .1 .1 .0) (c .before .before .before .before .before .read-arguments .last .1 .1 .1 .1 .0) (c .before .before .before .before .before .before .before .before .before .before .before .before .before .before .before .args .n) (c .before .before .before .before .before .before .before .before .before .before .before .next .result) (c .before .before .before .before .before .before .before .next2 .result) (c .before .before .before .before .before .before .before .before .before .before .before .before .before .before .before .pre .1 .0) (c .before .before .before .before .before .before .before .before .before .before .before .before .before .before .before .pre .1 .1) (c .before .before .before .before .before .before .before .before .before .before .before .next .ensures) (c .before .before .before .before .before .before .before .before .before .if1 .left) (c .before .before .before .before .before .before .before .before .if2 .left) (c .before .before .before .before .before .before .before .next2 .ensures) (c .before .before .before .before .before .read-arguments .result) (c .before .before .before .before .before .read-arguments .ensures) (c .before .if3 .left) (c .before .before .before .before .before .read-arguments .kept .1 .1 .1 .1 .0)
+read-atom-close-requires : (t : ℕ) → read-atom-lts.Need-close-requires (read-atom-claims t) (read-atom-at t) read-atom.Post
+read-atom-close-requires t c κs = let c5 = c .before .before .before .before .before in let c7 = c5 .before .before in let c8 = c7 .before in let c9 = c8 .before in let c11 = c9 .before .before in let c15 = c11 .before .before .before .before in let args = c15 .args in close-ready (args .left) (args .s .now) (args .st) (args .table .now) (c5 .read-arguments .last .1 .1 .1 .1 .0) (c5 .read-arguments .last .1 .1 .1 .1 .0) (args .n) (c11 .next .result) (c7 .next2 .result) (c15 .pre .1 .0) (c15 .pre .1 .1) (c11 .next .ensures) (c9 .if1 .left) (c8 .if2 .left) (c7 .next2 .ensures) (c5 .read-arguments .result) (c5 .read-arguments .ensures) (c .before .if3 .left) (c5 .read-arguments .kept .1 .1 .1 .1 .0)
 
-read-atom-same-length-3 : (t : ℕ) → read-atom-lts.Need-same-length-3 (
-  next-reads.Asked,
-  next-reads.Learnt,
-  leaf-reads.Asked,
-  leaf-reads.Learnt,
-  refuse-reads.Asked,
-  refuse-reads.Learnt,
-  read-arguments-below t,
-  read-arguments.Post,
-  close-reads.Asked,
-  close-reads.Learnt,
-) (read-atom-at t) read-atom.Post
+read-atom-same-length-3 : (t : ℕ) → read-atom-lts.Need-same-length-3 (read-atom-claims t) (read-atom-at t) read-atom.Post
 read-atom-same-length-3 t c = search needs
 
-read-atom-returns-4 : (t : ℕ) → read-atom-lts.Need-returns-4 (
-  next-reads.Asked,
-  next-reads.Learnt,
-  leaf-reads.Asked,
-  leaf-reads.Learnt,
-  refuse-reads.Asked,
-  refuse-reads.Learnt,
-  read-arguments-below t,
-  read-arguments.Post,
-  close-reads.Asked,
-  close-reads.Learnt,
-) (read-atom-at t) read-atom.Post
-read-atom-returns-4 t c = atom-list (c .before .before .before .before .before .before .before .before .before .before .before .before .before .before .before .before .before .before .args .left) (c .before .before .before .before .before .before .before .before .before .before .before .before .before .before .before .before .before .before .args .s .now) (c .before .before .before .before .before .before .before .before .before .before .before .before .before .before .before .before .before .before .args .st) (c .before .before .before .before .before .before .before .before .before .before .before .before .before .before .before .before .before .before .args .table .now) (c .before .before .close .last .1 .1 .0) (c .before .before .before .before .before .before .before .before .read-arguments .last .1 .1 .1 .1 .0) (c .before .before .before .before .before .before .before .before .before .before .before .before .before .before .before .before .before .before .args .n) (c .before .before .before .before .before .before .before .before .before .before .before .before .before .before .next .result) (c .before .before .before .before .before .before .before .before .before .before .next2 .result) (c .before .before .before .before .before .before .before .before .before .before .before .before .before .before .before .before .before .before .pre .1 .0) (c .before .before .before .before .before .before .before .before .before .before .before .before .before .before .before .before .before .before .pre .1 .1) (c .before .before .before .before .before .before .before .before .before .before .before .before .before .before .next .ensures) (c .before .before .before .before .before .before .before .before .before .before .before .before .if1 .left) (c .before .before .before .before .before .before .before .before .before .before .before .if2 .left) (c .before .before .before .before .before .before .before .before .before .before .next2 .ensures) (c .before .before .before .before .before .before .before .before .read-arguments .result) (c .before .before .before .before .before .before .before .before .read-arguments .ensures) (c .before .before .before .before .if3 .left) (c .before .before .before .before .before .before .before .before .read-arguments .kept .1 .1 .1 .1 .0) (c .before .before .close .result) (c .before .before .close .ensures .0) (c .before .before .close .ensures .1)
+read-atom-returns-4 : (t : ℕ) → read-atom-lts.Need-returns-4 (read-atom-claims t) (read-atom-at t) read-atom.Post
+read-atom-returns-4 t c = let c8 = c .before .before .before .before .before .before .before .before in let c10 = c8 .before .before in let c11 = c10 .before in let c12 = c11 .before in let c14 = c12 .before .before in let c18 = c14 .before .before .before .before in let args = c18 .args in atom-list (args .left) (args .s .now) (args .st) (args .table .now) (c .before .before .close .last .1 .1 .0) (c8 .read-arguments .last .1 .1 .1 .1 .0) (args .n) (c14 .next .result) (c10 .next2 .result) (c18 .pre .1 .0) (c18 .pre .1 .1) (c14 .next .ensures) (c12 .if1 .left) (c11 .if2 .left) (c10 .next2 .ensures) (c8 .read-arguments .result) (c8 .read-arguments .ensures) (c .before .before .before .before .if3 .left) (c8 .read-arguments .kept .1 .1 .1 .1 .0) (c .before .before .close .result) (c .before .before .close .ensures .0) (c .before .before .close .ensures .1)
 
-read-term-read-variable-requires : (t : ℕ) → read-term-lts.Need-read-variable-requires (
-  read-variable-reads.Asked,
-  read-variable-reads.Learnt,
-  read-numeral-reads.Asked,
-  read-numeral-reads.Learnt,
-  read-atom-below t,
-  read-atom.Post,
-  wrong-reads.Asked,
-  wrong-reads.Learnt,
-) (read-term-at t) read-term.Post
+read-term-read-variable-requires : (t : ℕ) → read-term-lts.Need-read-variable-requires (read-term-claims t) (read-term-at t) read-term.Post
 read-term-read-variable-requires t c κs = search needs
 
-read-term-same-length : (t : ℕ) → read-term-lts.Need-same-length (
-  read-variable-reads.Asked,
-  read-variable-reads.Learnt,
-  read-numeral-reads.Asked,
-  read-numeral-reads.Learnt,
-  read-atom-below t,
-  read-atom.Post,
-  wrong-reads.Asked,
-  wrong-reads.Learnt,
-) (read-term-at t) read-term.Post
+read-term-same-length : (t : ℕ) → read-term-lts.Need-same-length (read-term-claims t) (read-term-at t) read-term.Post
 read-term-same-length t c = search needs
 
-read-term-returns : (t : ℕ) → read-term-lts.Need-returns (
-  read-variable-reads.Asked,
-  read-variable-reads.Learnt,
-  read-numeral-reads.Asked,
-  read-numeral-reads.Learnt,
-  read-atom-below t,
-  read-atom.Post,
-  wrong-reads.Asked,
-  wrong-reads.Learnt,
-) (read-term-at t) read-term.Post
+read-term-returns : (t : ℕ) → read-term-lts.Need-returns (read-term-claims t) (read-term-at t) read-term.Post
 read-term-returns t c = search (term-variable, needs)
 
-read-term-read-numeral-requires : (t : ℕ) → read-term-lts.Need-read-numeral-requires (
-  read-variable-reads.Asked,
-  read-variable-reads.Learnt,
-  read-numeral-reads.Asked,
-  read-numeral-reads.Learnt,
-  read-atom-below t,
-  read-atom.Post,
-  wrong-reads.Asked,
-  wrong-reads.Learnt,
-) (read-term-at t) read-term.Post
+read-term-read-numeral-requires : (t : ℕ) → read-term-lts.Need-read-numeral-requires (read-term-claims t) (read-term-at t) read-term.Post
 read-term-read-numeral-requires t c κs = search needs
 
-read-term-same-length-2 : (t : ℕ) → read-term-lts.Need-same-length-2 (
-  read-variable-reads.Asked,
-  read-variable-reads.Learnt,
-  read-numeral-reads.Asked,
-  read-numeral-reads.Learnt,
-  read-atom-below t,
-  read-atom.Post,
-  wrong-reads.Asked,
-  wrong-reads.Learnt,
-) (read-term-at t) read-term.Post
+read-term-same-length-2 : (t : ℕ) → read-term-lts.Need-same-length-2 (read-term-claims t) (read-term-at t) read-term.Post
 read-term-same-length-2 t c = search needs
 
-read-term-returns-2 : (t : ℕ) → read-term-lts.Need-returns-2 (
-  read-variable-reads.Asked,
-  read-variable-reads.Learnt,
-  read-numeral-reads.Asked,
-  read-numeral-reads.Learnt,
-  read-atom-below t,
-  read-atom.Post,
-  wrong-reads.Asked,
-  wrong-reads.Learnt,
-) (read-term-at t) read-term.Post
+read-term-returns-2 : (t : ℕ) → read-term-lts.Need-returns-2 (read-term-claims t) (read-term-at t) read-term.Post
 read-term-returns-2 t c = search (term-numeral, needs)
 
-read-term-read-atom-requires : (t : ℕ) → read-term-lts.Need-read-atom-requires (
-  read-variable-reads.Asked,
-  read-variable-reads.Learnt,
-  read-numeral-reads.Asked,
-  read-numeral-reads.Learnt,
-  read-atom-below t,
-  read-atom.Post,
-  wrong-reads.Asked,
-  wrong-reads.Learnt,
-) (read-term-at t) read-term.Post
+read-term-read-atom-requires : (t : ℕ) → read-term-lts.Need-read-atom-requires (read-term-claims t) (read-term-at t) read-term.Post
 read-term-read-atom-requires t c κs = (omega arith, search needs)
 
-read-term-same-length-3 : (t : ℕ) → read-term-lts.Need-same-length-3 (
-  read-variable-reads.Asked,
-  read-variable-reads.Learnt,
-  read-numeral-reads.Asked,
-  read-numeral-reads.Learnt,
-  read-atom-below t,
-  read-atom.Post,
-  wrong-reads.Asked,
-  wrong-reads.Learnt,
-) (read-term-at t) read-term.Post
+read-term-same-length-3 : (t : ℕ) → read-term-lts.Need-same-length-3 (read-term-claims t) (read-term-at t) read-term.Post
 read-term-same-length-3 t c = search needs
 
-read-term-returns-3 : (t : ℕ) → read-term-lts.Need-returns-3 (
-  read-variable-reads.Asked,
-  read-variable-reads.Learnt,
-  read-numeral-reads.Asked,
-  read-numeral-reads.Learnt,
-  read-atom-below t,
-  read-atom.Post,
-  wrong-reads.Asked,
-  wrong-reads.Learnt,
-) (read-term-at t) read-term.Post
+read-term-returns-3 : (t : ℕ) → read-term-lts.Need-returns-3 (read-term-claims t) (read-term-at t) read-term.Post
 read-term-returns-3 t c = search (term-name, needs)
 
-read-term-wrong-requires : (t : ℕ) → read-term-lts.Need-wrong-requires (
-  read-variable-reads.Asked,
-  read-variable-reads.Learnt,
-  read-numeral-reads.Asked,
-  read-numeral-reads.Learnt,
-  read-atom-below t,
-  read-atom.Post,
-  wrong-reads.Asked,
-  wrong-reads.Learnt,
-) (read-term-at t) read-term.Post
+read-term-wrong-requires : (t : ℕ) → read-term-lts.Need-wrong-requires (read-term-claims t) (read-term-at t) read-term.Post
 read-term-wrong-requires t c κs = search needs
 
-read-term-returns-4 : (t : ℕ) → read-term-lts.Need-returns-4 (
-  read-variable-reads.Asked,
-  read-variable-reads.Learnt,
-  read-numeral-reads.Asked,
-  read-numeral-reads.Learnt,
-  read-atom-below t,
-  read-atom.Post,
-  wrong-reads.Asked,
-  wrong-reads.Learnt,
-) (read-term-at t) read-term.Post
+read-term-returns-4 : (t : ℕ) → read-term-lts.Need-returns-4 (read-term-claims t) (read-term-at t) read-term.Post
 read-term-returns-4 t c = search (term-other, needs)
 
 pub +read-arguments+read-atom+read-term-spec : {M : Type 1} → statement M
 +read-arguments+read-atom+read-term-spec =
-    close μ-read-arguments μ-read-atom μ-read-term (λ t. read-arguments-lts.spec (
-      full-reads.Asked,
-      full-reads.Learnt,
-      read-term-below t,
-      read-term.Post,
-      next-reads.Asked,
-      next-reads.Learnt,
-      read-arguments-below t,
-      read-arguments.Post,
-      counted-reads.Asked,
-      counted-reads.Learnt,
-      wrong-reads.Asked,
-      wrong-reads.Learnt,
-    )
+    close μ-read-arguments μ-read-atom μ-read-term (λ t. read-arguments-lts.spec (read-arguments-claims t)
     (read-arguments-at t)
     read-arguments.Post
     (read-arguments-full-requires t)
@@ -728,22 +264,11 @@ pub +read-arguments+read-atom+read-term-spec : {M : Type 1} → statement M
     (read-arguments-wrong-requires t)
     (read-arguments-same-length-4 t)
     (read-arguments-returns-5 t))
-    (λ t. read-atom-lts.spec (
-      next-reads.Asked,
-      next-reads.Learnt,
-      leaf-reads.Asked,
-      leaf-reads.Learnt,
-      refuse-reads.Asked,
-      refuse-reads.Learnt,
-      read-arguments-below t,
-      read-arguments.Post,
-      close-reads.Asked,
-      close-reads.Learnt,
-    )
+    (λ t. read-atom-lts.spec (read-atom-claims t)
     (read-atom-at t)
     read-atom.Post
     (read-atom-next-requires t)
-    (read-atom-add-what t)
+    (read-atom-pack-functor-requires t)
     (read-atom-leaf-requires t)
     (read-atom-same-length t)
     (read-atom-returns t)
@@ -758,16 +283,7 @@ pub +read-arguments+read-atom+read-term-spec : {M : Type 1} → statement M
     (read-atom-close-requires t)
     (read-atom-same-length-3 t)
     (read-atom-returns-4 t))
-    λ t. read-term-lts.spec (
-      read-variable-reads.Asked,
-      read-variable-reads.Learnt,
-      read-numeral-reads.Asked,
-      read-numeral-reads.Learnt,
-      read-atom-below t,
-      read-atom.Post,
-      wrong-reads.Asked,
-      wrong-reads.Learnt,
-    )
+    λ t. read-term-lts.spec (read-term-claims t)
     (read-term-at t)
     read-term.Post
     (read-term-read-variable-requires t)

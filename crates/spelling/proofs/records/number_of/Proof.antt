@@ -31,7 +31,7 @@ same-length : tie.Need-same-length
 same-length c = search needs
 
 returns-2 : tie.Need-returns-2
-returns-2 c = λ met h. number-new met (c .before .before .before .args .x) (c .before .before .before .args .numbers .now) (c .before .before .before .pre .0) (c .before .if1 .left) h
+returns-2 c = let c3 = c .before .before .before in λ met h. number-new met (c3 .args .x) (c3 .args .numbers .now) (c3 .pre .0) (c .before .if1 .left) h
 
 pub number-of-spec : {M : Type 1} → statement M
 number-of-spec =

@@ -1,8 +1,7 @@
 use native.Mathlib.Omega.{arith}
-use mathlib.Core.Path.{refl, sym, ap, _∙_}
-use Prim.Native.Nat.{ℕ, _+_, _*_, _-_}
+use mathlib.Core.Path.{sym, ap, _∙_}
+use Prim.Native.Nat.{ℕ, _+_, _-_}
 use Rattle.syntax.specs.Words.{firstName}
-use Rattle.layout.specs.Regions.{copyCells}
 use Rattle.spelling.proofs.WalkLaws.{head-inside, head-small, head-placed, head-room, head-variable, head-leaf, head-open, few-met}
 use borrow.Author.Needs.{needs}
 use Rattle.spelling.proofs.walk.append_head.Statement.{statement}
@@ -11,11 +10,8 @@ use Rattle.spelling.proofs.walk.append_head.Tie as tie
 word-at-requires : tie.Need-word-at-requires
 word-at-requires c κs = omega (arith, head-inside _ _ _ _ _ _ _ _ _ _ (c .before .before .before .before .before .before .before .pre .0 .is))
 
-mul-x : tie.Need-mul-x
-mul-x c = search needs
-
-add-x : tie.Need-add-x
-add-x c = search needs
+cell-of-requires : tie.Need-cell-of-requires
+cell-of-requires c κs = search needs
 
 append-unbound-requires : tie.Need-append-unbound-requires
 append-unbound-requires c κs = search needs
@@ -27,7 +23,7 @@ same-length-2 : tie.Need-same-length-2
 same-length-2 c = search needs
 
 returns : tie.Need-returns
-returns c = let c4 = c .before .before .before .before in let c7 = c4 .before .before .before in let c8 = c7 .before in let c16 = c8 .before .before .before .before .before .before .before .before in let word-at = c8 .word-at in let append-unbound = c4 .append-unbound in ((λ ss b met rest h n. head-variable ss b _ _ _ _ _ _ _ _ h met (word-at .result) (c16 .args .c * copyCells + word-at .result) _ _ _ _ _ rest (word-at .ensures) (c7 .if1 .taken) refl (append-unbound .ensures .0 met n)), (append-unbound .ensures .1 .0, (append-unbound .ensures .1 .1, omega arith)))
+returns c = let c4 = c .before .before .before .before in let c7 = c4 .before .before .before in let c9 = c7 .before .before in let word-at = c9 .word-at in let append-unbound = c4 .append-unbound in ((λ ss b met rest h n. head-variable ss b _ _ _ _ _ _ _ _ h met (word-at .result) (c7 .cell-of .result) _ _ _ _ _ rest (word-at .ensures) (c7 .before .if1 .taken) (c7 .cell-of .ensures) (append-unbound .ensures .0 met n)), (append-unbound .ensures .1 .0, (append-unbound .ensures .1 .1, omega arith)))
 
 append-name-requires : tie.Need-append-name-requires
 append-name-requires c κs = (head-placed _ _ _ _ _ _ _ _ _ _ (c .before .before .before .before .before .before .before .before .before .before .pre .0 .is) _ (omega (arith, c .before .before .word-at .ensures)) (ap (λ (x : ℕ). x - firstName) (c .before .before .word-at .ensures)), omega arith)
@@ -70,8 +66,7 @@ append-head-spec =
     tie.close
     (tie.spec
     word-at-requires
-    mul-x
-    add-x
+    cell-of-requires
     append-unbound-requires
     same-length
     same-length-2
