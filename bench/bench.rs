@@ -9,7 +9,7 @@ unsafe extern "C" {
     /// crates/exports (include/pilvaust.h): 0 where the sheet is accepted, and its counts among the numbers.
     fn pilvaust_read(sheet: *const u8, len: usize, numbers: *mut usize, numbers_len: usize) -> usize;
     fn pilvaust_check(sheet: *const u8, len: usize, numbers: *mut usize, numbers_len: usize) -> usize;
-    /// The same: 0 where the run ended, and its report among the numbers.
+    /// The same, `stored` being the mark for a sheet stored earlier: 0 where the run ended, and its report among the numbers.
     fn pilvaust_run(
         sheet: *const u8,
         len: usize,
@@ -17,6 +17,7 @@ unsafe extern "C" {
         goal_len: usize,
         allowance: usize,
         wanted: usize,
+        stored: bool,
         text: *mut u8,
         room: usize,
         numbers: *mut usize,
@@ -105,6 +106,7 @@ fn run(case: &Case, allowance: usize) -> Report {
             goal.len(),
             allowance,
             ANSWERS,
+            false,
             text.as_mut_ptr(),
             ROOM,
             numbers.as_mut_ptr(),

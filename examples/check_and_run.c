@@ -32,7 +32,7 @@ static int run(const char *sheet, const char *goal)
 {
     size_t numbers[PILVAUST_RUN_NUMBERS];
     uint8_t text[4096];
-    if (pilvaust_run((const uint8_t *)sheet, strlen(sheet), (const uint8_t *)goal, strlen(goal), 65536, 16, text, sizeof text, numbers,
+    if (pilvaust_run((const uint8_t *)sheet, strlen(sheet), (const uint8_t *)goal, strlen(goal), 65536, 16, false, text, sizeof text, numbers,
                      PILVAUST_RUN_NUMBERS) != PILVAUST_NONE)
         return show_fault(numbers, sheet, goal);
     fwrite(text, 1, numbers[PILVAUST_WRITTEN], stdout);

@@ -15,6 +15,7 @@
 #ifndef PILVAUST_H
 #define PILVAUST_H
 
+#include <stdbool.h>
 #include <stddef.h>
 #include <stdint.h>
 
@@ -23,7 +24,7 @@ extern "C" {
 #endif
 
 /* The version of this page: pilvaust_version() of the library has to be the same. */
-#define PILVAUST_VERSION 1
+#define PILVAUST_VERSION 2
 
 #define PILVAUST_STACK 524288
 #define PILVAUST_RUN_STACK 4718592
@@ -62,7 +63,8 @@ enum {
     PILVAUST_REPEATED,    /* a predicate is declared twice, or `true` or `fail` is */
     PILVAUST_UNDECLARED,  /* a head or call has a predicate without declaration */
     PILVAUST_OPEN_INPUT,  /* a + argument of a call is not known ground; the byte is that of the open variable */
-    PILVAUST_OPEN_OUTPUT  /* a - argument of a head is not known ground after the body; the same */
+    PILVAUST_OPEN_OUTPUT, /* a - argument of a head is not known ground after the body; the same */
+    PILVAUST_UNWRITTEN = 16 /* a declared predicate has no clause; the byte is that of its name in the declaration. It is tested after 8, before 9 */
 };
 
 /* How a run ended: as many answers as wanted, no alternative left, the allowance used, no room for the next line, a path of 255. */
@@ -70,7 +72,7 @@ enum { PILVAUST_END_WANTED, PILVAUST_END_DONE, PILVAUST_END_STEPS, PILVAUST_END_
 
 size_t pilvaust_version(void);
 
-/* Read a sheet (refusals 2 to 7), check a sheet (2 to 10), check a goal over a sheet (the sheet's refusals, then the goal's). Returned is the number of
+/* Read a sheet (refusals 2 to 7), check a sheet (2 to 10 and 16), check a goal over a sheet (the sheet's refusals, then the goal's). Returned is the number of
  * the refusal, PILVAUST_NONE where the text is accepted; `numbers` has room for PILVAUST_VERDICT_NUMBERS. */
 size_t pilvaust_read(const uint8_t *sheet, size_t sheet_len, size_t *numbers, size_t numbers_len);
 size_t pilvaust_check(const uint8_t *sheet, size_t sheet_len, size_t *numbers, size_t numbers_len);
@@ -80,10 +82,11 @@ size_t pilvaust_check_goal(const uint8_t *sheet, size_t sheet_len, const uint8_t
  * nothing is written. */
 size_t pilvaust_entry(const uint8_t *sheet, size_t sheet_len, size_t i, size_t *numbers, size_t numbers_len);
 
-/* Run a goal over a sheet: at most `allowance` steps, until `wanted` answers are written into the text, a line each. Returned is the number of the
- * refusal, PILVAUST_NONE where the run ended; `numbers` has room for PILVAUST_RUN_NUMBERS. */
-size_t pilvaust_run(const uint8_t *sheet, size_t sheet_len, const uint8_t *goal, size_t goal_len, size_t allowance, size_t wanted, uint8_t *text,
-                    size_t text_len, size_t *numbers, size_t numbers_len);
+/* Run a goal over a sheet: at most `allowance` steps, until `wanted` answers are written into the text, a line each. `stored` is the mark for a sheet
+ * stored earlier, from before PILVAUST_UNWRITTEN: with it that refusal is passed over, and nothing else. Returned is the number of the refusal,
+ * PILVAUST_NONE where the run ended; `numbers` has room for PILVAUST_RUN_NUMBERS. */
+size_t pilvaust_run(const uint8_t *sheet, size_t sheet_len, const uint8_t *goal, size_t goal_len, size_t allowance, size_t wanted, bool stored,
+                    uint8_t *text, size_t text_len, size_t *numbers, size_t numbers_len);
 
 #ifdef __cplusplus
 }

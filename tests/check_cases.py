@@ -5,6 +5,7 @@ from itertools import product
 
 import examples
 import random_sheets
+import written
 
 SEED = 1_705
 TERMS = [
@@ -34,8 +35,8 @@ def worked_examples(add):
         if len(sheet) < 16_384:
             add("K", sheet, b"true.")
     for goal, _ in examples.GOALS:
-        add("K", b":-mode p.", goal)
-    for *_, sheet, goal, _ in examples.RUNS + examples.SETTINGS:
+        add("K", b":-mode p. p.", goal)
+    for *_, sheet, goal, _ in examples.RUNS + examples.SETTINGS + examples.STORED:
         add("C", sheet)
         add("K", sheet, goal)
 
@@ -300,35 +301,82 @@ def chance_equations(add, rng):
         add("K", marked("p", "+" * 5), "%s, %s." % (", ".join(body), random_sheets.atom("p", names)))
 
 
+def one_missing(count, place):
+    """So many declarations, then a clause for each but one."""
+    names = ["%s%s" % (chr(97 + n % 26), "xyz"[n // 26 - 1] if n > 25 else "") for n in range(count)]
+    modes = "".join(":-mode %s." % name for name in names)
+    return modes + "".join(name + "." for n, name in enumerate(names) if n != place)
+
+
+def unwritten(add):
+    """Declared predicates without a clause: each place among few and among many, which of several, against the other refusals, `seen`."""
+    for count in range(65):
+        for place in range(-1, count) if count < 7 or count == 64 else (count * 5 // 7,):
+            add("C", one_missing(count, place))
+    # the clauses in another order, and before the declarations
+    for first, second, third in product(("p.", "q.", "r.", ""), repeat=3):
+        add("C", ":-mode p. :-mode q. :-mode r. " + first + second + third)
+        add("C", first + ":-mode p. " + second + ":-mode q. " + third + ":-mode r.")
+    # one name with several numbers of arguments; names of which one begins the other
+    for clause in ("p.", "p(a).", "p(a,b).", "p :- p(a).", "p(X) :- p.", "p(a,b) :- p, p(a)."):
+        add("C", ":-mode p. :-mode p(+). :-mode p(*,*). " + clause)
+        add("C", ":-mode p(*,*). :-mode p(+). :-mode p. " + clause)
+    for name in ("p", "pp", "ppp", "pq", "qp"):
+        add("C", ":-mode pp. :-mode p. :-mode pq. " + name + ".")
+    # 7, 8, 9 and 10 in one sheet with 16
+    modes = (":-mode p(+,-).", ":-mode q.", ":-mode u.")
+    for again, clause in product(("", ":-mode p(-,-).", ":-mode q."), ("p(X,a).", "p(X,a) :- w.", "p(X,Y).", "p(X,a) :- p(Y,Z).", "q :- p(Y,Z).", "q. w.")):
+        add("C", " ".join(modes) + again + clause)
+        add("C", " ".join(modes) + again + clause + "q.u.p(a,a).")
+        add("K", " ".join(modes) + again + clause, "p(")
+        add("K", " ".join(modes) + again + clause + "q.u.p(a,a).", "q, u, w.")
+    # exempt: `seen` with three arguments, called or not, with and without clauses
+    for name, marks in product(("seen", "see", "seeN", "seen_", "sees", "Xseen"), ("", "+", "+,+", "+,+,+", "*,*,*", "-,-,-", "+,+,+,+")):
+        listed = "(%s)" % marks if marks else ""
+        add("C", ":-mode %s%s." % (name, listed))
+        add("C", ":-mode p. :-mode %s%s. p." % (name, listed))
+    for sheet in (":-mode seen(*,*,*).", ":-mode seen(+,+,-). seen(a,b,c).", ":-mode seen(-,-,-). seen(X,Y,Z).", ":-mode seen(*,*,*). :-mode seen(*). seen(a)."):
+        add("C", sheet)
+        add("K", sheet, "seen(X,Y,Z).")
+        add("C", sheet + ":-mode p. p :- seen(a,b,X).")
+        add("C", sheet + ":-mode p. :-mode q. p :- seen(a,b,X).")
+
+
 def by_chance(add, rng):
-    for _ in range(420):
+    """A clause for each predicate in most of them; with the others 16 comes before what they would be refused with."""
+    full = written.completing(add, 1)
+    for n in range(260):
         lines, predicates = random_sheets.well_marked_sheet(rng)
         goal = random_sheets.well_marked_goal(rng, predicates)
-        add("K", "\n".join(lines), goal)
+        put = full if n % 10 else add
+        put("K", "\n".join(lines), goal)
         for _ in range(rng.randint(1, 2)):
             lines = random_sheets.damaged(rng, lines)
-            add("C", "\n".join(lines))
-        add("K", "\n".join(lines), random_sheets.chance_goal(rng, predicates))
-    for _ in range(700):
+            put("C", "\n".join(lines))
+        put("K", "\n".join(lines), random_sheets.chance_goal(rng, predicates))
+    for n in range(430):
         lines, predicates = random_sheets.chance_sheet(rng)
         rng.shuffle(lines)
-        add("C", "\n".join(lines))
+        put = full if n % 10 else add
+        put("C", "\n".join(lines))
         modes = "\n".join(random_sheets.declarations(predicates))
-        add("K", modes, random_sheets.chance_goal(rng, predicates))
+        full("K", modes, random_sheets.chance_goal(rng, predicates))
 
 
 def make(add, rng):
+    full = written.completing(add, 1)
     worked_examples(add)
-    equations(add)
-    numerals(add)
-    literal_orders(add, rng)
-    mark_pairs(add, rng)
-    wide_atoms(add)
-    fault_places(add)
-    undeclared(add)
-    many_variables(add)
-    many_items(add)
+    equations(full)
+    numerals(full)
+    literal_orders(full, rng)
+    mark_pairs(full, rng)
+    wide_atoms(full)
+    fault_places(full)
+    undeclared(full)
+    many_variables(full)
+    many_items(full)
     by_chance(add, rng)
-    open_places(add)
-    chains(add)
-    chance_equations(add, random.Random(SEED + 14))
+    open_places(full)
+    chains(full)
+    chance_equations(full, random.Random(SEED + 14))
+    unwritten(add)

@@ -2,7 +2,8 @@
 
 CHECKS: sheet, what the checker prints.  GOALS: goal, how reading it answers.
 RUNS: sheet, goal, what the runner prints.  SETTINGS: allowance, wanted, room,
-sheet, goal, what the runner would print with these settings.
+sheet, goal, what the runner would print with these settings.  STORED: sheet,
+goal, what the runner would print with the mark for a sheet stored earlier.
 The outputs are written by hand from the papers, never taken from the engine.
 """
 
@@ -39,7 +40,7 @@ CHECKS = [
     (b"p(.", "refused sheet 5 2 0 0 0"),
     (b":- mode p(+). :- mode p(-).", "refused sheet 7 22 0 0 0"),
     # paper 01, the traps
-    (b":- mode p(+,-). :- mode q. q :- p(X,X).", "refused sheet 9 34 1 1 1 p"),
+    (b":- mode p(+,-). :- mode q. q :- p(X,X). p(a,a).", "refused sheet 9 34 1 1 1 p"),
     (b":- mode p(*,-). p(X,X).", "refused sheet 10 20 1 0 2 p"),
     (b":- mode p(-). p(X) :- true, fail.", "accepted 1 1"),
     # tokens
@@ -54,7 +55,7 @@ CHECKS = [
     (b":--mode p.", "refused sheet 5 2 0 0 0"),
     (b": -mode p.", "refused sheet 3 0 0 0 0"),
     (b"p:", "refused sheet 3 1 0 0 0"),
-    (b":-mode p(+).:-mode q.p(a).p % (\n(b):-q,q.", "accepted 2 2"),
+    (b":-mode p(+).:-mode q.p(a).p % (\n(b):-q,q.q.", "accepted 2 3"),
     (b"p(" + b"a" * 31 + b",X" + b"b" * 30 + b"," + b"1" * 32 + b")",
      "refused sheet 4 66 0 0 0"),
     # order among 2 to 6
@@ -95,13 +96,13 @@ CHECKS = [
     (b":-mode true.", "refused sheet 7 7 0 0 0"),
     (b":-mode fail(-).:-mode fail.", "refused sheet 7 22 0 0 0"),
     (b":-mode p.:-mode q.:-mode true.:-mode q.", "refused sheet 7 25 0 0 0"),
-    (b":-mode p.:-mode p(+).:-mode p(-,-).", "accepted 3 0"),
+    (b":-mode p.:-mode p(+).:-mode p(-,-). p. p(a). p(a,b).", "accepted 3 3"),
     (b"p :- q. :-mode p. :-mode p.", "refused sheet 7 25 0 0 0"),
     (b":-mode p(-). p(X). p(a) :- r.", "refused sheet 8 0 2 1 0 r"),
     (b"p(a). :-mode p(-).", "accepted 1 1"),
     # modes
-    (b":-mode p(-,+). :-mode q. q :- p(X,X).", "refused sheet 9 34 1 1 2 p"),
-    (b":-mode p(-). :-mode q(+). p(X) :- fail, q(Y), q(_).", "accepted 2 1"),
+    (b":-mode p(-,+). :-mode q. q :- p(X,X). p(a,a).", "refused sheet 9 34 1 1 2 p"),
+    (b":-mode p(-). :-mode q(+). p(X) :- fail, q(Y), q(_). q(a).", "accepted 2 2"),
     (b":-mode p(-,-). p(X,_) :- a = f(a).", "accepted 1 1"),
     (b":-mode p(-). p(X) :- a = 1.", "accepted 1 1"),
     # paper 02 (iii): equal without leading zeros; before, these were accepted by a clash
@@ -132,6 +133,23 @@ CHECKS = [
     (b":-mode p(*,-). p(X,f(a,g(X))).", "refused sheet 10 25 1 0 2 p"),
     (b":-mode p(+,+,+). p(X,Y,Z) :- p(Y,f(X,a),g(_,W)).",
      "refused sheet 9 42 1 1 3 p"),
+    # paper 02, (x): the first declared predicate without a clause, between 8 and 9; `seen` of three arguments is exempt
+    (b":-mode p(-). :-mode q. p(X).", "refused sheet 16 20 0 0 0"),
+    (b":-mode p(-). :-mode q. p(X) :- r.", "refused sheet 8 0 1 1 0 r"),
+    (b":-mode seen(+,+,+).", "accepted 1 0"),
+    (b":-mode seen(+,+).", "refused sheet 16 7 0 0 0"),
+    (b":-mode seen.", "refused sheet 16 7 0 0 0"),
+    (b":-mode seen(+,+,+,+).", "refused sheet 16 7 0 0 0"),
+    (b":-mode seem(+,+,+).", "refused sheet 16 7 0 0 0"),
+    (b":-mode seens(+,+,+).", "refused sheet 16 7 0 0 0"),
+    (b":-mode p. :-mode q. :-mode r. q.", "refused sheet 16 7 0 0 0"),
+    (b":-mode p. :-mode q. :-mode r. p.", "refused sheet 16 17 0 0 0"),
+    (b":-mode p. :-mode p(+). p(a).", "refused sheet 16 7 0 0 0"),
+    (b"q. :-mode p. :-mode q.", "refused sheet 16 10 0 0 0"),
+    (b":-mode p. :-mode q. p :- q.", "refused sheet 16 17 0 0 0"),
+    (b":-mode p. :-mode p.", "refused sheet 7 17 0 0 0"),
+    (b":-mode p(+). :-mode q. p(X) :- p(Y).", "refused sheet 16 20 0 0 0"),
+    (b":- mode rinsed(-). :- mode rinse_end(-). rinse_end(a).", "refused sheet 16 8 0 0 0"),
 ]
 
 GOALS = [
@@ -157,7 +175,7 @@ RUNS = [
     (b"", b"", "refused goal 5 0 0 0 0"),
     (b"p(.", b"", "refused sheet 5 2 0 0 0"),
     (b"", b"p.", "refused goal 8 0 0 1 0 p"),
-    (b":-mode p(-,+).", b"true, p(X,Y), q.", "refused goal 8 0 0 3 0 q"),
+    (b":-mode p(-,+). p(a,a).", b"true, p(X,Y), q.", "refused goal 8 0 0 3 0 q"),
     # paper 02 (iii): numerals without leading zeros, in facts, goals and answers; names are not touched
     (b":-mode p(*). p(007). p(00).", b"p(7), p(X).", "X = 7\nX = 0\nend done 2 8"),
     (b"", b"01 = 1.", "yes\nend done 1 2"),
@@ -167,7 +185,7 @@ RUNS = [
     (b"", b"X = " + b"0" * 30 + b"1, X = 1.", "X = 1\nend done 1 3"),
     (b"", b"X = " + b"0" * 32 + b".", "refused goal 4 4 0 0 0"),
     (b"", b"X = 10, Y = 010, X = Y, Z = 100.", "X = 10, Y = 10, Z = 100\nend done 1 5"),
-    (b":-mode p(-,+).", b"true, p(X,f(Y)).", "refused goal 9 12 0 2 2 p"),
+    (b":-mode p(-,+). p(a,a).", b"true, p(X,f(Y)).", "refused goal 9 12 0 2 2 p"),
     # paper 02, (xiv): goals too
     (b":-mode p(+). p(a).", b"f(X,Y) = f(Y,a), p(X).", "X = a, Y = a\nend done 1 4"),
     (b":-mode p(+). p(a).", b"f(X,Y) = f(Y,Z), p(X).", "refused goal 9 19 0 2 1 p"),
@@ -178,7 +196,10 @@ RUNS = [
     (b":-mode p(*). :-mode q(*). q(c). p(a). q(d). p(b).", b"p(b).",
      "yes\nend done 1 4"),
     (b":-mode l. l :- l.", b"l.", "end deep 0 255"),
-    (b":-mode p.", b"p.", "end done 0 1"),
+    # paper 02, (x): neither program gives the mark; `seen` is called without a clause
+    (b":-mode p.", b"true.", "refused sheet 16 7 0 0 0"),
+    (b":-mode p.", b"p(", "refused sheet 16 7 0 0 0"),
+    (b":-mode seen(*,*,*).", b"seen(X,Y,Z).", "end done 0 1"),
     (b"", b"A = f(B,C), C = D.",
      "A = f(_1,_2), B = _1, C = _2, D = _2\nend done 1 3"),
     (b"", b"__ = _1, _ = _X.", "__ = _1, _1 = _1, _X = _2\nend done 1 3"),
@@ -208,6 +229,19 @@ SETTINGS = [
     (65_536, 0, 4, b"", b"true.", "refused 1 0 0 0 0"),
     (65_536, 65, 4, b"", b"true.", "refused 1 0 0 0 0"),
     (65_536, 64, 4, b"", b"true.", "yes\nend done 1 2"),
+]
+
+STORED = [
+    (b":-mode p.", b"p.", "end done 0 1"),
+    (b":-mode p.", b"true.", "yes\nend done 1 2"),
+    (b":-mode p. :-mode q(+,-). p :- q(a,X). p.", b"p.", "yes\nend done 1 5"),
+    (b":-mode p. :-mode q(-). q(X).", b"p.", "refused sheet 10 25 1 0 1 q"),
+    (b":-mode p. :-mode q(+). q(X) :- q(Y).", b"p.", "refused sheet 9 33 1 1 1 q"),
+    (b":-mode p. :-mode q. q :- r.", b"p.", "refused sheet 8 0 1 1 0 r"),
+    (b":-mode p. :-mode p.", b"p.", "refused sheet 7 17 0 0 0"),
+    (b":-mode p.", b"q.", "refused goal 8 0 0 1 0 q"),
+    (b":-mode p(+).", b"p(X).", "refused goal 9 2 0 1 1 p"),
+    (b":-mode p(-). p(a).", b"p(X).", "X = a\nend done 1 3"),
 ]
 
 # Sheet (free of faults 2 to 8), goal, most steps; open inputs, open outputs, steps.

@@ -6,6 +6,7 @@ import engine
 import examples
 import random_sheets
 import read_cases
+import written
 
 SEED = 1_723
 HELD = [(20_001, 41, 11), (20_002, 42, 12), (20_003, 43, 13)]  # entries that no sheet has
@@ -65,27 +66,27 @@ def refusals(add):
             add(b" ".join(lines + [fault]))
             add(b" ".join([fault] + lines))
             add(b" ".join(lines[:2] + [fault] + lines[2:]))
-    whole = b"".join(modes(range(4)))
+    whole = written.completed(b"".join(modes(range(4))))
     for size in (16_384, 16_385):
         add(b"\n" * (size - len(whole)) + whole)
 
 
 def worked_examples(add):
     for sheet, _ in examples.CHECKS:
-        add(sheet)
-    for *_, sheet, _, _ in examples.RUNS + examples.SETTINGS:
-        add(sheet)
+        add(sheet, as_it_stands=True)
+    for *_, sheet, _, _ in examples.RUNS + examples.SETTINGS + examples.STORED:
+        add(sheet, as_it_stands=True)
 
 
 def by_chance(add, rng):
-    for _ in range(200):
+    for n in range(150):
         lines, _ = random_sheets.well_marked_sheet(rng)
         add("\n".join(lines).encode())
         rng.shuffle(lines)
         add("\n".join(random_sheets.damaged(rng, lines)).encode())
         lines, _ = random_sheets.chance_sheet(rng)
         rng.shuffle(lines)
-        add("\n".join(lines).encode())
+        add("\n".join(lines).encode(), as_it_stands=n % 10 == 0)
     for _ in range(200):
         tokens = sum(([b":-", b"mode", b"m%d" % n, b"."] for n in range(rng.randint(0, 3))), [])
         tokens += read_cases.random_text(rng, "S")

@@ -22,6 +22,7 @@ import list_cases
 import read_cases
 import run_cases
 import test_engine
+import written
 
 ROOT = Path(__file__).resolve().parent.parent
 MOST_BYTES, MOST_TEXT = 900_000, 20_000
@@ -92,13 +93,13 @@ def make_run(cases):
 
     def add(
         sheet, goal,
-        allowance=run_cases.ALLOWANCE, wanted=run_cases.WANTED, room=run_cases.ROOM,
+        allowance=run_cases.ALLOWANCE, wanted=run_cases.WANTED, room=run_cases.ROOM, stored=False,
     ):
         texts = as_bytes(sheet), as_bytes(goal)
-        fields = [number_field(allowance, 3), number_field(wanted, 2), number_field(room, 3)]
-        record = b"R" + b"".join([*fields, *map(text_field, texts)])
+        sizes = (allowance, 3), (wanted, 2), (room, 3), (stored, 1)
+        record = b"R" + b"".join([*(number_field(*field) for field in sizes), *map(text_field, texts)])
         if record not in reports:
-            reports[record] = engine.run(*texts, allowance, wanted, room)
+            reports[record] = engine.run(*texts, allowance, wanted, room, stored)
             cases.add(record, reports[record])
         if isinstance(reports[record], engine.Report) and texts not in counted:
             counted.add(texts)
@@ -110,9 +111,11 @@ def make_run(cases):
 
 
 def make_list(cases):
-    def add(sheet):
+    def add(sheet, as_it_stands=False):
+        """Read, and checked with a clause for each predicate or as it stands."""
+        checked = sheet if as_it_stands else written.completed(sheet)
         cases.add(b"L" + text_field(sheet), engine.read_lent(sheet, list_cases.HELD))
-        cases.add(b"M" + text_field(sheet), engine.check_lent(sheet, list_cases.HELD))
+        cases.add(b"M" + text_field(checked), engine.check_lent(checked, list_cases.HELD))
 
     def add_search(text, words, name, arguments):
         lent = b"".join(number_field(word, 4) for word in [arguments, *words])

@@ -5,6 +5,7 @@ from itertools import product
 import engine
 import examples
 import random_sheets
+import written
 
 SEED = 1_717
 ALLOWANCE, WANTED, ROOM = 65_536, 16, 4_096  # the runner's own
@@ -17,7 +18,6 @@ SMALL = [
           "X = f(Y,Y), Y = g(Z), Z = 0.", "f(f(X)) = f(f(f(Y))), X = X.", "_1 = _2, _2 = f(_3).",
           "Low_1 = f(Xx,_y), _y = rinse_2."]),
     (":-mode p. p.", ["p.", "p, p.", "p, fail.", "p, X = Y, p."]),
-    (":-mode p.", ["p.", "true, p.", "X = a, p, X = b."]),
     (":-mode p. p. p. p :- fail. p :- true.", ["p.", "p, p."]),
     (":-mode p(-). p(a). p(b). p(c).", ["p(X).", "p(b).", "p(X), p(Y).", "p(X), X = b.",
                                        "p(X), p(X).", "p(_).", "p(X), p(Y), X = Y.", "p(f(X))."]),
@@ -97,23 +97,23 @@ def around(number, least, most):
     return [n for n in (number - 1, number, number + 1) if least <= n <= most]
 
 
-def edges(add, sheet, goal, every_step=False):
+def edges(add, sheet, goal, every_step=False, stored=False):
     """The whole run, then each end of it one short, just reached and one beyond."""
-    whole = add(sheet, goal)
+    whole = add(sheet, goal, stored=stored)
     if isinstance(whole, engine.Refusal):
         return
     steps = range(1, min(whole.steps, 40) + 2) if every_step else [1]
     for allowance in [*steps, *around(whole.steps, 1, ALLOWANCE)]:
-        add(sheet, goal, allowance=allowance)
+        add(sheet, goal, allowance=allowance, stored=stored)
     for wanted in [1, *around(whole.answers, 1, 64)]:
-        add(sheet, goal, wanted=wanted)
-        add(sheet, goal, wanted=wanted, allowance=max(whole.steps, 1))
+        add(sheet, goal, wanted=wanted, stored=stored)
+        add(sheet, goal, wanted=wanted, allowance=max(whole.steps, 1), stored=stored)
     lines = whole.text.splitlines(keepends=True)
     for count in sorted({0, 1, len(lines)}):
         size = sum(map(len, lines[:count]))
         for room in around(size, 0, ROOM):
-            add(sheet, goal, room=room)
-            add(sheet, goal, room=room, wanted=max(count, 1))
+            add(sheet, goal, room=room, stored=stored)
+            add(sheet, goal, room=room, wanted=max(count, 1), stored=stored)
 
 
 def worked_examples(add):
@@ -127,6 +127,39 @@ def worked_examples(add):
             add(sheet, "")
     for goal, _ in examples.GOALS:
         add(":-mode p. p.", goal)
+    for sheet, goal, _ in examples.STORED:
+        edges(add, sheet, goal, stored=True)
+        add(sheet, goal)
+
+
+def stored_sheets(add):
+    """Declared predicates without a clause: with the mark they are called and fail, without it the sheet is refused; the mark with every other
+    refusal, and with a sheet that needs none."""
+    for sheet, goals in (
+        (":-mode p.", ["p.", "true, p.", "X = a, p, X = b.", "p, p.", "X = f(X), p."]),
+        (":-mode p(*). :-mode q(*). q(a). q(X) :- p(X). q(b).", ["q(X).", "q(X), p(X).", "p(X).", "q(X), q(Y)."]),
+        (":-mode p(-). :-mode q(+,-). p(X) :- q(a,X). p(b).", ["p(X).", "p(b).", "q(a,X), p(X)."]),
+        (":-mode l. :-mode k. l :- l. l :- k.", ["l.", "k, l."]),
+        (":-mode seen(*,*,*). :-mode p(*). p(X) :- seen(X,Y,Z). p(a).", ["p(X).", "seen(X,Y,Z).", "p(X), p(Y)."]),
+        (":-mode seen(-,-,-). seen(a,b,c). :-mode p.", ["seen(X,Y,Z).", "p."]),
+    ):
+        for goal in goals:
+            edges(add, sheet, goal, every_step=True, stored=True)
+            add(sheet, goal)
+    for sheet in (
+        ":-mode p. :-mode p.", ":-mode p. :-mode q. q :- r.", ":-mode p. :-mode q(-). q(X).", ":-mode p. :-mode q(+). q(X) :- q(Y).",
+        ":-mode p. :-mode q(+,-). q(X,X).", ":-mode p. !", ":-mode p. p(", ":-mode seen(+,+).", ":-mode seen(+,+,+).", ":-mode p. p.", "", "p.",
+    ):
+        for goal in ("true.", "p.", "q.", "q(X).", "p(", "X = a, q(X,Y)."):
+            for stored in (False, True):
+                add(sheet, goal, stored=stored)
+        add(sheet, "p.", allowance=0, stored=True)
+    for count in (1, 2, 3, 63, 64):
+        modes = "".join(":-mode p%d." % n for n in range(count))
+        for stored in (False, True):
+            add(modes, "p0, true.", stored=stored)
+            add(modes + "p0.", "p0, p%d." % (count - 1), stored=stored)
+            add(modes + "".join("p%d." % n for n in range(count - 1)), "p0, p%d." % (count - 1), stored=stored)
 
 
 def settings(add):
@@ -169,7 +202,7 @@ def path_limit(add):
     for height in (251, 252, 253, 254):
         for tail in tails if height in (252, 253) else tails[:2]:
             sheet = tower("c", height - 16) + modes + "d(z)%s. d(s(N)) :- d(N)." % tail
-            add(sheet, "c(_V), X = %s, d(X)." % nested(15, "s(_V)"))
+            add(sheet, "c(_V), X = %s, d(X)." % nested(15, "s(_V)"), stored=True)
     for sheet, goals in (
         (":-mode l. l :- l.", ["true, l.", "l, fail."]),
         (":-mode l. l :- true, l.", ["l.", "X = a, l."]),
@@ -339,23 +372,27 @@ def sixty_four(add):
 
 
 def by_chance(add, rng):
-    """Accepted sheets and goals; runs with several answers are kept the most."""
+    """Accepted sheets and goals, by turns with the mark and with clauses for all; runs with several answers are kept the most."""
     made = 0
-    while made < 1_100:
+    while made < 950:
         sheet, goal = random_sheets.runnable(rng)
         if len(sheet) > 330:
             continue
-        whole = engine.run(sheet.encode(), goal.encode(), 3_000, WANTED, ROOM)
+        sheet, stored = sheet.encode(), made % 2 == 0
+        if not stored:
+            sheet = written.completed(sheet)
+        whole = engine.run(sheet, goal.encode(), 3_000, WANTED, ROOM, stored)
         kept = {0: 0.15, 1: 0.3}.get(whole.answers, 0.3 if whole.kind == "wanted" else 1)
         if rng.random() < kept:
             made += 1
-            add(sheet, goal, allowance=3_000)
+            add(sheet, goal, allowance=3_000, stored=stored)
             add(sheet, goal, allowance=rng.randint(1, whole.steps + 1),
-                wanted=rng.randint(1, 8), room=rng.randint(0, len(whole.text) + 8))
+                wanted=rng.randint(1, 8), room=rng.randint(0, len(whole.text) + 8), stored=stored)
 
 
 def make(add, rng):
     worked_examples(add)
+    stored_sheets(add)
     settings(add)
     steps_and_ends(add)
     numerals(add)

@@ -83,7 +83,7 @@ def main():
     trials, programs, several = [], [PRELUDE], 0
     for number in range(TRIES):
         sheet, goal = (text.encode() for text in random_sheets.runnable(rng))
-        report = engine.run(sheet, goal, ALLOWANCE, WANTED, ROOM)
+        report = engine.run(sheet, goal, ALLOWANCE, WANTED, ROOM, stored=True)
         if report.kind == "done" and (report.answers > 1 or rng.random() < 0.2):
             trials.append((sheet, goal, report.text.decode()))
             several += report.answers > 1

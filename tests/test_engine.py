@@ -26,7 +26,7 @@ def lines(answer):
 
 def reading_of(line, sheet):
     """What reading alone answers where checking answers with the line."""
-    if line.startswith("refused") and line.split()[2] in ("8", "9", "10"):
+    if line.startswith("refused") and line.split()[2] in ("8", "9", "10", "16"):
         modes = sheet.count(b":-mode") + sheet.count(b":- mode")
         return "accepted %d %d" % (modes, sheet.count(b".") - modes)
     return line
@@ -50,13 +50,14 @@ def test_checking():
 
 
 def test_lists():
-    """Two declarations and a clause that does not check, with lists of 0 to 3 entries lent."""
+    """Two declarations and a clause that does not check, then clauses that do, then none; lists of 0 to 3 entries lent."""
     sheet = b":-mode p(+). :- mode qq. p(X) :- r."
     found, held = [(7, 1, 1), (21, 2, 0)], [(90, 91, 92), (93, 94, 95), (96, 97, 98)]
     for size in range(4):
         wanted = found[:size] + held[2:size]
         expect(size, engine.read_lent(sheet, held[:size]), ((2, 1), wanted))
-        expect(size, engine.check_lent(sheet[:-11], held[:size]), ((2, 0), wanted))
+        expect(size, engine.check_lent(sheet[:-2] + b"qq. qq.", held[:size]), ((2, 2), wanted))
+        expect(size, engine.check_lent(sheet[:-11], held[:size]).entries, held[:size])
         expect(size, engine.check_lent(sheet, held[:size]).entries, held[:size])
         expect(size, engine.read_lent(sheet + b"!", held[:size]).entries, held[:size])
 
@@ -83,6 +84,8 @@ def test_running():
     for allowance, wanted, room, sheet, goal, output in examples.SETTINGS:
         report = engine.run(sheet, goal, allowance, wanted, room)
         expect((allowance, wanted, room, sheet, goal), lines(report), output)
+    for sheet, goal, output in examples.STORED:
+        expect((sheet, goal), lines(engine.run(sheet, goal, 65_536, 16, 4_096, True)), output)
 
 
 def test_counts():

@@ -11,7 +11,7 @@ use Rattle.syntax.specs.Limits.{declarations}
 use Rattle.syntax.specs.Verdicts.{sheetOf, sheetVerdict, readVerdict}
 use Rattle.syntax.specs.declared.Entry.{Entry}
 use Rattle.syntax.specs.declared.Verdict.{Verdict}
-use Rattle.rules.specs.Checking.{checkedSheet, checkVerdict}
+use Rattle.rules.specs.Checking.{checkedSheet, verdictWith, checkVerdict}
 use Rattle.listings.specs.Listings.{entryFrom, pasted}
 
 pub pasted-none : (f : ℕ → Entry) (es : List Entry) → es ≡ pasted f 0 es
@@ -42,5 +42,5 @@ unfolding readVerdict
 read-is s v e = e
 
 pub check-is : (s : List ℕ) (v : Verdict) → v ≡ sheetVerdict (checkedSheet s) → v ≡ checkVerdict s
-unfolding checkVerdict
+unfolding verdictWith
 check-is s v e = e

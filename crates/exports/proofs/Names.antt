@@ -2,7 +2,7 @@
 use Prim.Native.Nat.{ℕ, suc, _+_, _≤_}
 use native.Mathlib.Omega.{arith}
 use mathlib.Core.Path.{_≡_, refl, sym, ap, _∙_, subst}
-use mathlib.Core.Bool.{Bool, true, false, cond}
+use mathlib.Core.Bool.{Bool, true, false, cond, _||_}
 use mathlib.Core.List.{List, [], _∷_}
 use mathlib.Core.Option.{Option, none, some}
 use lib.Dec.{leb, eqb}
@@ -12,18 +12,19 @@ use Rattle.syntax.specs.Terms.{Atom, Literal, Body, call, equation, truth, fals
 use Rattle.syntax.specs.Reading.{Read, fault, ok, readSheet, readGoal, firstRepeat}
 use Rattle.syntax.specs.Verdicts.{faultOf, Outcome, refused, accepted, withoutRepeats, sheetFrom, goalFrom, sheetOf, goalOutcome, sheetVerdict}
 use Rattle.syntax.specs.declared.Refusal.{Refusal}
-use Rattle.syntax.specs.declared.Refusal.the-variants.{Settings, TooLong, NoToken, Overlong, Misplaced, OverLimit, Repeated}
+use Rattle.syntax.specs.declared.Refusal.the-variants.{Settings, TooLong, NoToken, Overlong, Misplaced, OverLimit, Repeated, Unwritten}
 use Rattle.syntax.specs.declared.Run.{Run}
 use Rattle.syntax.specs.declared.Run.the-variants.{Refused as stopped-by}
 use Rattle.syntax.specs.declared.Text.{Text}
 use Rattle.syntax.specs.declared.Text.the-variants.{Sheet as inSheet, Goal as inGoal, Neither}
 use Rattle.syntax.specs.declared.Verdict.{Verdict}
 use Rattle.syntax.specs.declared.Verdict.the-variants.{Accepted, Refused}
-use Rattle.rules.specs.Modes.{Known, nothing, OpenArgument, Walk, faulted, known, marksOf, marksFor, firstOpen, undeclared, undeclaredAtom, undeclaredLiteral, undeclaredBody, undeclaredClause, undeclaredClauses, undeclaredInSheet, undeclaredInGoal, openInput, openOutput, literalFault, afterLiteral, walkOn, bodyFault, headFault, startKnown, clauseFault, clausesFault, sheetFault, walkFault, goalFault}
-use Rattle.rules.specs.Checking.{nameSpan, faultless, checkedFrom, checkedSheet, checkVerdict, checkedGoalFrom, checkedGoal, goalAnswer, checkGoalFrom, checkGoalVerdict}
+use Rattle.rules.specs.Modes.{Known, nothing, OpenArgument, Walk, faulted, known, marksOf, marksFor, firstOpen, undeclared, undeclaredAtom, undeclaredLiteral, undeclaredBody, undeclaredClause, undeclaredClauses, undeclaredInSheet, undeclaredInGoal, openInput, openOutput, literalFault, afterLiteral, walkOn, bodyFault, headFault, startKnown, clauseFault, clausesFault, firstOf, sheetFault, walkFault, goalFault}
+use Rattle.rules.specs.Written.{isWritten, isExempt, firstUnwritten, unwritten}
+use Rattle.rules.specs.Checking.{nameSpan, faultless, checkedFrom, checkedWith, checkedSheet, verdictWith, checkVerdict, checkedGoalFrom, checkedGoal, goalAnswer, checkGoalFrom, checkGoalVerdict}
 use Rattle.marking.specs.Standing.{Stands, stands-compound, LiteralStands, call-stands, equation-stands, truth-stands, falsity-stands, BodyStands, done-stands, also-stands, ClauseStands, ClausesStand, no-clauses, clause-stands, SheetStands, GoalStands}
 use Rattle.modes.proofs.Accepted.{read-stands, goal-stands}
-use Rattle.machine.specs.Runs.{RunOutcome, stopped, ran, Ended, reported, run, overGoal, overSheet, inRange, runOutcome, runAnswer}
+use Rattle.machine.specs.Runs.{RunOutcome, stopped, ran, Ended, reported, run, overGoal, overSheet, inRange, RunSettings, runOutcome, runAnswer}
 use Rattle.exports.specs.Names.{NameInside}
 
 -- what holds of a refusal, if there is one
@@ -138,11 +139,27 @@ module _ (s : List ℕ) where
   walk-in (faulted r) h = h
   walk-in (known σ) h = tt
 
-  sheet-in : (sh : Sheet) → SheetStands s sh → IfSome In (sheetFault sh)
+  -- 16 hands back no name
+  first-16 : (cs : List Clause) (ds : List Declaration) → IfSome In (firstUnwritten cs ds)
+  unfolding firstUnwritten
+  first-16 cs [] = tt
+  first-16 cs (d ∷ ds) = by (isWritten cs d || isExempt d) (first-16 cs ds)
+    where
+      by : (b : Bool) → IfSome In (firstUnwritten cs ds) → IfSome In (elim b as (λ _. Option Refusal) [ true ↦ firstUnwritten cs ds | false ↦ some (Unwritten (d .at)) ])
+      by true h = h
+      by false h = omega arith
+
+  sheet-16 : (stored : Bool) (sh : Sheet) → IfSome In (unwritten stored sh)
+  unfolding unwritten
+  sheet-16 true sh = tt
+  sheet-16 false sh = first-16 (sh .clauses) (sh .declarations)
+
+  sheet-in : (stored : Bool) (sh : Sheet) → SheetStands s sh → IfSome In (sheetFault stored sh)
   unfolding sheetFault undeclaredInSheet
-  sheet-in sh w =
-      first (undeclaredInSheet sh) (clausesFault (sh .declarations) 1 (sh .clauses)) (clauses-8 (sh .declarations) 1 (sh .clauses) (w .clauses))
-      (clauses-9 (sh .declarations) 1 (sh .clauses) (w .clauses))
+  sheet-in stored sh w =
+      first (undeclaredInSheet sh) (firstOf (unwritten stored sh) (clausesFault (sh .declarations) 1 (sh .clauses)))
+      (clauses-8 (sh .declarations) 1 (sh .clauses) (w .clauses))
+      (first (unwritten stored sh) (clausesFault (sh .declarations) 1 (sh .clauses)) (sheet-16 stored sh) (clauses-9 (sh .declarations) 1 (sh .clauses) (w .clauses)))
 
   goal-in : (sh : Sheet) (g : Goal) → GoalStands s g → IfSome In (goalFault sh g)
   unfolding goalFault undeclaredInGoal
@@ -164,24 +181,24 @@ module _ (s : List ℕ) where
   faultless-in x none h = tt
   faultless-in x (some r) h = h
 
-  repeats-in : (sh : Sheet) (o : Option ℕ) → SheetStands s sh → IfRefused In (checkedFrom (withoutRepeats sh o))
+  repeats-in : (stored : Bool) (sh : Sheet) (o : Option ℕ) → SheetStands s sh → IfRefused In (checkedFrom stored (withoutRepeats sh o))
   unfolding withoutRepeats checkedFrom
-  repeats-in sh none w = faultless-in sh (sheetFault sh) (sheet-in sh w)
-  repeats-in sh (some b) w = omega arith
+  repeats-in stored sh none w = faultless-in sh (sheetFault stored sh) (sheet-in stored sh w)
+  repeats-in stored sh (some b) w = omega arith
 
-  sheet-read-in : (x : Read Sheet) → readSheet s ≡ x → IfRefused In (checkedFrom (sheetFrom x))
+  sheet-read-in : (stored : Bool) (x : Read Sheet) → readSheet s ≡ x → IfRefused In (checkedFrom stored (sheetFrom x))
   unfolding sheetFrom checkedFrom
-  sheet-read-in (fault n b) e = spelling-in b (eqb n 3) (eqb n 4) (eqb n 5)
-  sheet-read-in (ok sh st) e = repeats-in sh (firstRepeat [] (sh .declarations)) (read-stands s sh st e)
+  sheet-read-in stored (fault n b) e = spelling-in b (eqb n 3) (eqb n 4) (eqb n 5)
+  sheet-read-in stored (ok sh st) e = repeats-in stored sh (firstRepeat [] (sh .declarations)) (read-stands s sh st e)
 
-  sheet-sized-in : (b : Bool) → IfRefused In (checkedFrom (elim b as (λ _. Outcome Sheet) [ true ↦ sheetFrom (readSheet s) | false ↦ refused TooLong ]))
+  sheet-sized-in : (stored b : Bool) → IfRefused In (checkedFrom stored (elim b as (λ _. Outcome Sheet) [ true ↦ sheetFrom (readSheet s) | false ↦ refused TooLong ]))
   unfolding checkedFrom
-  sheet-sized-in true = sheet-read-in (readSheet s) refl
-  sheet-sized-in false = omega arith
+  sheet-sized-in stored true = sheet-read-in stored (readSheet s) refl
+  sheet-sized-in stored false = omega arith
 
-  checked-in : IfRefused In (checkedSheet s)
-  unfolding checkedSheet sheetOf
-  checked-in = sheet-sized-in (leb (length s) sheetBytes)
+  checked-in : (stored : Bool) → IfRefused In (checkedWith stored s)
+  unfolding checkedWith sheetOf
+  checked-in stored = sheet-sized-in stored (leb (length s) sheetBytes)
 
   goal-read-in : (sh : Sheet) (x : Read Goal) → readGoal s ≡ x → IfRefused In (checkedGoalFrom sh (goalFrom x))
   unfolding goalFrom checkedGoalFrom
@@ -225,27 +242,27 @@ module _ (s g : List ℕ) where
 
   -- of a sheet that is checked
   pub check-name : (t : Text) (r : Refusal) → checkVerdict s ≡ Refused t r → NameInside s g t r
-  unfolding checkVerdict
-  check-name t r e = subst OfVerdict e (of-sheet (checkedSheet s) (checked-in s))
+  unfolding verdictWith
+  check-name t r e = subst OfVerdict e (of-sheet (checkedSheet s) (checked-in s false))
 
   -- of a goal over it
   pub check-goal-name : (t : Text) (r : Refusal) → checkGoalVerdict s g ≡ Refused t r → NameInside s g t r
   unfolding checkGoalVerdict
-  check-goal-name t r e = subst OfVerdict e (of-both (checkedSheet s) (checked-in s))
+  check-goal-name t r e = subst OfVerdict e (of-both (checkedSheet s) (checked-in s false))
 
-  module _ (allowance wanted room : ℕ) where
-    run-goal-in : (sh : Sheet) (o : Outcome Goal) → IfRefused (In g) o → OfRun (overGoal sh allowance wanted room o)
+  module _ (asked : RunSettings) (room : ℕ) where
+    run-goal-in : (sh : Sheet) (o : Outcome Goal) → IfRefused (In g) o → OfRun (overGoal sh (asked .allowance) (asked .wanted) room o)
     unfolding overGoal reported
     run-goal-in sh (refused r) h = h
     run-goal-in sh (accepted x) h = tt
 
-    run-sheet-in : (o : Outcome Sheet) → IfRefused (In s) o → OfRun (overSheet g allowance wanted room o)
+    run-sheet-in : (o : Outcome Sheet) → IfRefused (In s) o → OfRun (overSheet g (asked .allowance) (asked .wanted) room o)
     unfolding overSheet
     run-sheet-in (refused r) h = h
     run-sheet-in (accepted sh) h = run-goal-in sh (checkedGoal sh g) (checked-goal-in g sh)
 
-    ranged-in : (b : Bool) → OfRun (elim b as (λ _. RunOutcome) [ true ↦ overSheet g allowance wanted room (checkedSheet s) | false ↦ stopped Neither Settings ])
-    ranged-in true = run-sheet-in (checkedSheet s) (checked-in s)
+    ranged-in : (b : Bool) → OfRun (elim b as (λ _. RunOutcome) [ true ↦ overSheet g (asked .allowance) (asked .wanted) room (checkedWith (asked .stored) s) | false ↦ stopped Neither Settings ])
+    ranged-in true = run-sheet-in (checkedWith (asked .stored) s) (checked-in s (asked .stored))
     ranged-in false = omega arith
 
     answer-in : (o : RunOutcome) → OfRun o → (t : Text) (r : Refusal) → runAnswer o ≡ stopped-by t r → NameInside s g t r
@@ -254,6 +271,6 @@ module _ (s g : List ℕ) where
     answer-in (ran report text) h t r e = absurd (let z : _≡_ {A = ℕ} 0 1 = cc in omega arith)
 
     -- of a run
-    pub run-name : (t : Text) (r : Refusal) → runAnswer (runOutcome s g allowance wanted room) ≡ stopped-by t r → NameInside s g t r
+    pub run-name : (t : Text) (r : Refusal) → runAnswer (runOutcome s g asked room) ≡ stopped-by t r → NameInside s g t r
     unfolding runOutcome
-    run-name t r e = answer-in (runOutcome s g allowance wanted room) (ranged-in (inRange allowance wanted)) t r e
+    run-name t r e = answer-in (runOutcome s g asked room) (ranged-in (inRange (asked .allowance) (asked .wanted))) t r e

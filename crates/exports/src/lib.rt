@@ -1,5 +1,6 @@
 // Reading, checking and running for programs in other languages: include/pilvaust.h. Each answer is a list of numbers (packing/specs/Numbers), of
 // which a lent slice takes as many as fit; later ones stay as they were.
+use syntax::RunSettings;
 ghost use mathlib.Core.Path.{_≡_};
 ghost use lib.ListN.{length};
 ghost use lib.Seq.{sets};
@@ -7,7 +8,7 @@ ghost use Rattle.syntax.specs.Verdicts.{readVerdict, entryAt};
 ghost use Rattle.rules.specs.Checking.{checkVerdict, checkGoalVerdict};
 ghost use Rattle.machine.specs.Runs.{runOutcome, runText};
 ghost use Rattle.packing.specs.Numbers.{version, verdictNumbers, entryNumbers, refusalIn};
-ghost use Rattle.exports.specs.Runs.{outcomeNumbers};
+ghost use Rattle.exports.specs.Runs.{asking, outcomeNumbers};
 
 // The version of the functions below and of their numbers.
 #[no_mangle]
@@ -54,22 +55,28 @@ pub extern "C" fn pilvaust_entry(sheet: &[u8], i: usize, numbers: &mut [usize]) 
     packing::put_entry(pilvaust::entry(sheet, i), numbers)
 }
 
-// A goal run over a sheet, with at most so many steps and answers, which are written into the text: the run's numbers, and returned the number of
-// its refusal, 0 where it ended.
+// A goal run over a sheet, with at most so many steps and answers, which are written into the text; `stored` is the mark for a sheet stored
+// earlier. The run's numbers, and returned the number of its refusal, 0 where it ended.
 #[no_mangle]
 pub extern "C" fn pilvaust_run(
     sheet: &[u8],
     goal: &[u8],
     allowance: usize,
     wanted: usize,
+    stored: bool,
     text: &mut [u8],
     numbers: &mut [usize],
 ) -> usize
-    ensures is { λ r. ⌜ r ≡ refusalIn (outcomeNumbers (runOutcome (now (sheet .entry)) (now (goal .entry)) allowance wanted (length (now (text .entry))))) ⌝ }
-    ensures text { λ _. ⌜ now (text .exit) ≡ sets (now (text .entry)) 0 (runText (runOutcome (now (sheet .entry)) (now (goal .entry)) allowance wanted (length (now (text .entry))))) ⌝ }
-    ensures numbers { λ _. ⌜ now (numbers .exit) ≡ sets (now (numbers .entry)) 0 (outcomeNumbers (runOutcome (now (sheet .entry)) (now (goal .entry)) allowance wanted (length (now (text .entry))))) ⌝ }
+    ensures is { λ r. ⌜ r ≡ refusalIn (outcomeNumbers (runOutcome (now (sheet .entry)) (now (goal .entry)) (asking allowance wanted stored) (length (now (text .entry))))) ⌝ }
+    ensures text { λ _. ⌜ now (text .exit) ≡ sets (now (text .entry)) 0 (runText (runOutcome (now (sheet .entry)) (now (goal .entry)) (asking allowance wanted stored) (length (now (text .entry))))) ⌝ }
+    ensures numbers { λ _. ⌜ now (numbers .exit) ≡ sets (now (numbers .entry)) 0 (outcomeNumbers (runOutcome (now (sheet .entry)) (now (goal .entry)) (asking allowance wanted stored) (length (now (text .entry))))) ⌝ }
 {
-    let r = pilvaust::run_written(sheet, goal, allowance, wanted, text);
+    let asked = RunSettings {
+        allowance,
+        wanted,
+        stored,
+    };
+    let r = pilvaust::run_written(sheet, goal, asked, text);
     let run = r.run;
     packing::put_run(run, r.bytes, numbers)
 }

@@ -2,6 +2,7 @@
 use Prim.Native.Nat.{ℕ, _≤_}
 use native.Mathlib.Omega.{arith}
 use mathlib.Core.Path.{_≡_}
+use mathlib.Core.Bool.{Bool}
 use mathlib.Core.List.{List}
 use lib.ListN.{length}
 use Rattle.syntax.specs.Limits.{clauses}
@@ -9,7 +10,7 @@ use Rattle.syntax.specs.Terms.{Term, Terms, Body, Sheet, Goal}
 use Rattle.syntax.specs.Words.{bodyLength}
 use Rattle.syntax.specs.Verdicts.{accepted, goalOutcome}
 use Rattle.syntax.proofs.Induction.{Kept, sheet-read, goal-read}
-use Rattle.rules.specs.Checking.{checkedSheet}
+use Rattle.rules.specs.Checking.{checkedWith}
 use Rattle.rules.proofs.Accepting.{checked-sheet, read-goal}
 use Rattle.layout.specs.Nodes.{bracketsOf, bracketsAll}
 use Rattle.layout.specs.Limits.{LiteralLimited, EachLimited, ClauseLimited, ClausesLimited, SheetLimited, GoalLimited}
@@ -65,8 +66,8 @@ kept s =
 pub goal-limited : (s : List ℕ) (g : Goal) → goalOutcome s ≡ accepted g → GoalLimited g
 goal-limited s g e = read-goal s GoalLimited (goal-read (kept s)) g e
 
--- a sheet that checking accepts
-pub checked-sheet-limited : (s : List ℕ) (sh : Sheet) → checkedSheet s ≡ accepted sh → SheetLimited sh
-checked-sheet-limited s sh e =
-    let h : Holds clauses sh = checked-sheet s (Holds clauses) (sheet-read (kept s)) sh e in
+-- a sheet that checking accepts, with the mark or without it
+pub checked-sheet-limited : (stored : Bool) (s : List ℕ) (sh : Sheet) → checkedWith stored s ≡ accepted sh → SheetLimited sh
+checked-sheet-limited stored s sh e =
+    let h : Holds clauses sh = checked-sheet s (Holds clauses) (sheet-read (kept s)) stored sh e in
     record { clauses = h .0; few = h .1 }

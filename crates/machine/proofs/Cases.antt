@@ -2,28 +2,31 @@
 use Prim.Native.Nat.{ℕ}
 use Prim.Native.String.{String}
 use mathlib.Core.Path.{_≡_, refl}
+use mathlib.Core.Bool.{Bool, true, false}
 use mathlib.Core.List.{List, [], _∷_, map}
 use Rattle.syntax.specs.Quote.{bytes}
 use Rattle.syntax.specs.declared.Text.the-variants.{Sheet as inSheet, Goal as inGoal, Neither}
-use Rattle.syntax.specs.declared.Refusal.the-variants.{Settings, Misplaced, Undeclared, OpenInput, OpenOutput}
-use Rattle.machine.specs.Runs.{Kind, Wanted, Done, Steps, Full, Deep, RunOutcome, ran, stopped}
+use Rattle.syntax.specs.declared.Refusal.the-variants.{Settings, Misplaced, Undeclared, OpenInput, OpenOutput, Unwritten}
+use Rattle.machine.specs.Runs.{Kind, Wanted, Done, Steps, Full, Deep, RunSettings, RunOutcome, ran, stopped}
 use Rattle.machine.proofs.Compute.{computed}
 
 pub record Case : Type 0 where
   pub sheet : List ℕ
   pub goal : List ℕ
-  pub allowance : ℕ
-  pub wanted : ℕ
+  pub asked : RunSettings
   pub room : ℕ
   pub expected : RunOutcome
 
 abbrev ended : Kind → ℕ → ℕ → String → RunOutcome
 ended k answers steps text = ran (record { kind = k; answers = answers; steps = steps }) (bytes text)
 
--- allowance, wanted answers, room, sheet, goal
+-- the mark of a sheet stored earlier, allowance, wanted answers, room, sheet, goal
+abbrev withMark : Bool → ℕ → ℕ → ℕ → String → String → RunOutcome → Case
+withMark stored allowance wanted room sheet goal expected =
+    record { sheet = bytes sheet; goal = bytes goal; asked = record { allowance = allowance; wanted = wanted; stored = stored }; room = room; expected = expected }
+
 abbrev within : ℕ → ℕ → ℕ → String → String → RunOutcome → Case
-within allowance wanted room sheet goal expected =
-    record { sheet = bytes sheet; goal = bytes goal; allowance = allowance; wanted = wanted; room = room; expected = expected }
+within allowance wanted room sheet goal expected = withMark false allowance wanted room sheet goal expected
 
 -- with the runner's settings
 abbrev runner : String → String → RunOutcome → Case
@@ -32,6 +35,10 @@ runner sheet goal expected = within 65536 16 4096 sheet goal expected
 -- the same with an allowance that is enough for a short run
 abbrev short : String → String → RunOutcome → Case
 short sheet goal expected = within 300 16 4096 sheet goal expected
+
+-- and with the mark
+abbrev stored : String → String → RunOutcome → Case
+stored sheet goal expected = withMark true 300 16 4096 sheet goal expected
 
 abbrev cases : List Case
 cases =
@@ -47,11 +54,10 @@ cases =
     within 2 1 4 "" "true." (ended Done 1 2 "yes\n") ∷
     runner "" "A = f(B,C), C = D." (ended Done 1 3 "A = f(_1,_2), B = _1, C = _2, D = _2\n") ∷
     runner "" "" (stopped inGoal (Misplaced 0)) ∷
-    -- `fail`, alone and behind `true`; a clash; a declared predicate without clauses; a head that does not unify
+    -- `fail`, alone and behind `true`; a clash; a head that does not unify
     short "" "fail." (ended Done 0 1 "") ∷
     short "" "true, fail, true." (ended Done 0 2 "") ∷
     short "" "a = b." (ended Done 0 1 "") ∷
-    short ":-mode p." "p." (ended Done 0 1 "") ∷
     short ":-mode p(+). p(a)." "p(b)." (ended Done 0 2 "") ∷
     -- bindings of an alternative that went are not kept; clauses from the top; an equation in a body
     short ":-mode p(*). p(X) :- X = a, fail. p(b)." "p(X)." (ended Done 1 6 "X = b\n") ∷
@@ -113,12 +119,22 @@ cases =
     short ":-mode p(-). p(X) :- true." "p" (stopped inSheet (OpenOutput 15 1 1 13 1)) ∷
     short "" "p(X)." (stopped inGoal (Undeclared 0 1 0 1)) ∷
     short ":-mode p(+). p(a)." "p(X)." (stopped inGoal (OpenInput 2 0 1 1 0 1)) ∷
+    -- document 02, (x): a declared predicate without clauses is refused, before the goal is looked at, and called with the mark; `seen` with three
+    -- arguments is called without it; the mark passes over nothing else
+    short ":-mode p." "p" (stopped inSheet (Unwritten 7)) ∷
+    short ":-mode p. :-mode q. p." "q." (stopped inSheet (Unwritten 17)) ∷
+    stored ":-mode p." "p." (ended Done 0 1 "") ∷
+    stored ":-mode p. :-mode q(+,-). p :- q(a,X). p." "p." (ended Done 1 5 "yes\n") ∷
+    short ":-mode seen(*,*,*)." "seen(X,Y,Z)." (ended Done 0 1 "") ∷
+    stored ":-mode p. :-mode q(-). q(X)." "p." (stopped inSheet (OpenOutput 25 1 1 23 1)) ∷
+    stored ":-mode p." "q." (stopped inGoal (Undeclared 0 1 0 1)) ∷
+    withMark true 0 1 0 ":-mode p." "p." (stopped Neither Settings) ∷
     -- traps of the modes: a call's outputs give nothing to its own inputs, * arguments of a head give nothing, and after `fail` all is ground
     short ":-mode p(+,-). p(a,a)." "p(X,X)." (stopped inGoal (OpenInput 2 0 1 1 0 1)) ∷
     short ":-mode p(*,-). p(X,X)." "p(a,Y)." (stopped inSheet (OpenOutput 19 1 2 15 1)) ∷
     short ":-mode p(-). p(X) :- fail." "p(X)." (ended Done 0 3 "") ∷
     []
 
-all-cases : map (λ (c : Case). computed (c .sheet) (c .goal) (c .allowance) (c .wanted) (c .room)) cases ≡ map (λ (c : Case). c .expected) cases
+all-cases : map (λ (c : Case). computed (c .sheet) (c .goal) (c .asked) (c .room)) cases ≡ map (λ (c : Case). c .expected) cases
 unfolding computed
 all-cases = refl

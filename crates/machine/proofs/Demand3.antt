@@ -9,7 +9,8 @@ use lib.Dec.{T, leb}
 use lib.ListN.{length}
 use Rattle.syntax.specs.Terms.{Atom, termOf, Literal, call, equation, truth, falsity, Mark, input, output, Declaration, Clause, Sheet, Goal}
 use Rattle.syntax.specs.declared.Refusal.{Refusal}
-use Rattle.rules.specs.Modes.{Known, nothing, marksFor, listOf, clauseFault, clausesFault, undeclaredInSheet, sheetFault, Walk, faulted, known, walkFault, bodyFault, undeclaredInGoal, goalFault}
+use Rattle.rules.specs.Modes.{Known, nothing, marksFor, listOf, clauseFault, clausesFault, sheetFault, Walk, faulted, known, walkFault, bodyFault, undeclaredInGoal, goalFault}
+use Rattle.rules.proofs.Agreement.{sheet-marks}
 use Rattle.machine.specs.Substitution.{RTerm, copied, Binding}
 use Rattle.machine.specs.Unification.{unify}
 use Rattle.machine.specs.Unifiers.{MostGeneral, Unified}
@@ -45,11 +46,10 @@ clauses-pass ds n (x ∷ xs) e zero cl h =
     (n, subst (λ (y : Clause). clauseFault ds n y ≡ none) (some-eq x cl h) (none-then (clauseFault ds n x) (clausesFault ds (suc n) xs) e .0))
 clauses-pass ds n (x ∷ xs) e (suc k) cl h = clauses-pass ds (suc n) xs (none-then (clauseFault ds n x) (clausesFault ds (suc n) xs) e .1) k cl h
 
-sheet-passes : (sh : Sheet) → sheetFault sh ≡ none → (n : ℕ) (cl : Clause) → clauseAt sh n ≡ some cl → Passes sh cl
-unfolding sheetFault clauseAt
-sheet-passes sh e zero cl h = absurd (some-none cl (sym h))
-sheet-passes sh e (suc n) cl h =
-    clauses-pass (sh .declarations) 1 (sh .clauses) (none-then (undeclaredInSheet sh) (clausesFault (sh .declarations) 1 (sh .clauses)) e .1) n cl h
+sheet-passes : (stored : Bool) (sh : Sheet) → sheetFault stored sh ≡ none → (n : ℕ) (cl : Clause) → clauseAt sh n ≡ some cl → Passes sh cl
+unfolding clauseAt
+sheet-passes stored sh e zero cl h = absurd (some-none cl (sym h))
+sheet-passes stored sh e (suc n) cl h = clauses-pass (sh .declarations) 1 (sh .clauses) (sheet-marks stored sh e) n cl h
 
 -- ---- one step keeps all alternatives safe
 
@@ -189,11 +189,12 @@ start-good sh g e = (
   tt,
 )
 
-tally-zero : (sh : Sheet) (g : Goal) → sheetFault sh ≡ none → goalFault sh g ≡ none → (n : ℕ) → Zero sh (tally sh g n)
+tally-zero : (stored : Bool) (sh : Sheet) (g : Goal) → sheetFault stored sh ≡ none → goalFault sh g ≡ none → (n : ℕ) → Zero sh (tally sh g n)
 unfolding tally
-tally-zero sh g s e zero = record { good = start-good sh g e; inputs = refl; outputs = refl }
-tally-zero sh g s e (suc n) = counted-zero sh (sheet-passes sh s) (tally sh g n) (tally-zero sh g s e n)
+tally-zero stored sh g s e zero = record { good = start-good sh g e; inputs = refl; outputs = refl }
+tally-zero stored sh g s e (suc n) = counted-zero sh (sheet-passes stored sh s) (tally sh g n) (tally-zero stored sh g s e n)
 
--- DEMAND 3. The sheet is accepted, the goal is accepted, and n is any number of steps: both counts are zero, past every end of a run.
-pub demand-3 : (sh : Sheet) (g : Goal) → sheetFault sh ≡ none → goalFault sh g ≡ none → (n : ℕ) → BothZero sh g n
-demand-3 sh g s e n = record { inputs = tally-zero sh g s e n .inputs; outputs = tally-zero sh g s e n .outputs }
+-- DEMAND 3. The sheet is accepted, with the mark of one stored earlier or without it, the goal is accepted, and n is any number of steps: both
+-- counts are zero, past every end of a run.
+pub demand-3 : (stored : Bool) (sh : Sheet) (g : Goal) → sheetFault stored sh ≡ none → goalFault sh g ≡ none → (n : ℕ) → BothZero sh g n
+demand-3 stored sh g s e n = record { inputs = tally-zero stored sh g s e n .inputs; outputs = tally-zero stored sh g s e n .outputs }

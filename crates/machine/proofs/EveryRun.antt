@@ -16,9 +16,9 @@ use Rattle.syntax.specs.declared.Text.{Text}
 use Rattle.syntax.specs.declared.Text.the-variants.{Sheet as inSheet, Goal as inGoal, Neither}
 use Rattle.syntax.specs.declared.Verdict.the-variants.{Accepted, Refused}
 use Rattle.rules.specs.Modes.{sheetFault, goalFault}
-use Rattle.rules.specs.Checking.{faultless, checkedFrom, checkedSheet, checkedGoalFrom, checkedGoal, goalAnswer, checkGoalFrom, checkGoalVerdict}
+use Rattle.rules.specs.Checking.{faultless, checkedFrom, checkedWith, checkedSheet, checkedGoalFrom, checkedGoal, goalAnswer, checkGoalFrom, checkGoalVerdict}
 use Rattle.machine.specs.Machine.{Alternative, step, pileAfter}
-use Rattle.machine.specs.Runs.{Kind, Wanted, Done, Steps, Progress, isEmpty, endings, firstEnd, advance, advanced, endOr, runFrom, begun, run, Report, RunOutcome, stopped, ran, overGoal, overSheet, inRange, runOutcome}
+use Rattle.machine.specs.Runs.{Kind, Wanted, Done, Steps, Progress, isEmpty, endings, firstEnd, advance, advanced, endOr, runFrom, begun, run, Report, RunSettings, RunOutcome, stopped, ran, overGoal, overSheet, inRange, runOutcome}
 use Rattle.machine.specs.Counts.{countedOn, countedStep, tally}
 use Rattle.machine.specs.Claims.{BothZero, EndsAfter, Beginning, ZeroOver, RunOver}
 use Rattle.machine.proofs.Demand3.{demand-3}
@@ -117,10 +117,10 @@ tally-pile sh g (suc n) = go (tally sh g n .pile) refl ∙ ap (step sh) (tally-p
 -- ---- demand 3 in every run
 
 -- In every run: whatever its settings, its steps are those that the tally went over, and the counts are zero.
-pub demand-3-run : (sh : Sheet) (g : Goal) → sheetFault sh ≡ none → goalFault sh g ≡ none → (allowance wanted room : ℕ)
+pub demand-3-run : (stored : Bool) (sh : Sheet) (g : Goal) → sheetFault stored sh ≡ none → goalFault sh g ≡ none → (allowance wanted room : ℕ)
     → (tally sh g (run sh g allowance wanted room .at .steps) .pile ≡ run sh g allowance wanted room .at .pile) × BothZero sh g (run sh g allowance wanted room .at .steps)
-demand-3-run sh g s e allowance wanted room =
-    (tally-pile sh g n ∙ sym (run-begins sh g allowance wanted room .pile), demand-3 sh g s e n)
+demand-3-run stored sh g s e allowance wanted room =
+    (tally-pile sh g n ∙ sym (run-begins sh g allowance wanted room .pile), demand-3 stored sh g s e n)
   where
     n : ℕ
     n = run sh g allowance wanted room .at .steps
@@ -138,13 +138,15 @@ unfolding faultless
 faultless-none x y none e = (refl, accepted-eq x y e)
 faultless-none x y (some r) e = absurd (refused-accepted r y e)
 
-sheet-passes : (s : List ℕ) (sh : Sheet) → checkedSheet s ≡ accepted sh → sheetFault sh ≡ none
-unfolding checkedSheet checkedFrom
-sheet-passes s sh e = go (sheetOf s) e
+sheet-passes : (stored : Bool) (s : List ℕ) (sh : Sheet) → checkedWith stored s ≡ accepted sh → sheetFault stored sh ≡ none
+unfolding checkedWith checkedFrom
+sheet-passes stored s sh e = go (sheetOf s) e
   where
-    go : (o : Outcome Sheet) → checkedFrom o ≡ accepted sh → sheetFault sh ≡ none
+    go : (o : Outcome Sheet) → checkedFrom stored o ≡ accepted sh → sheetFault stored sh ≡ none
     go (refused r) q = absurd (refused-accepted r sh q)
-    go (accepted x) q = subst (λ (y : Sheet). sheetFault y ≡ none) (faultless-none x sh (sheetFault x) q .1) (faultless-none x sh (sheetFault x) q .0)
+    go (accepted x) q =
+        let f : (sheetFault stored x ≡ none) × (x ≡ sh) = faultless-none x sh (sheetFault stored x) q in
+        subst (λ (y : Sheet). sheetFault stored y ≡ none) (f .1) (f .0)
 
 goal-passes : (sh : Sheet) (s : List ℕ) (g : Goal) → checkedGoal sh s ≡ accepted g → goalFault sh g ≡ none
 unfolding checkedGoal checkedGoalFrom
@@ -154,46 +156,60 @@ goal-passes sh s g e = go (goalOutcome s) e
     go (refused r) q = absurd (refused-accepted r g q)
     go (accepted x) q = subst (λ (y : Goal). goalFault sh y ≡ none) (faultless-none x g (goalFault sh x) q .1) (faultless-none x g (goalFault sh x) q .0)
 
--- DEMAND 3 over texts: a sheet and a goal that checking accepts, and any number of steps.
-pub demand-3-texts : (sheet goal : List ℕ) (sh : Sheet) (g : Goal) → checkedSheet sheet ≡ accepted sh → checkedGoal sh goal ≡ accepted g → (n : ℕ) → BothZero sh g n
-demand-3-texts sheet goal sh g s e n = demand-3 sh g (sheet-passes sheet sh s) (goal-passes sh goal g e) n
+-- DEMAND 3 over texts: a sheet, marked as stored earlier or not, and a goal that checking accepts, and any number of steps.
+pub demand-3-texts : (stored : Bool) (sheet goal : List ℕ) (sh : Sheet) (g : Goal) → checkedWith stored sheet ≡ accepted sh → checkedGoal sh goal ≡ accepted g
+    → (n : ℕ) → BothZero sh g n
+demand-3-texts stored sheet goal sh g s e n = demand-3 stored sh g (sheet-passes stored sheet sh s) (goal-passes sh goal g e) n
 
-zero-over : (sheet goal : List ℕ) (sh : Sheet) (g : Goal) → checkedSheet sheet ≡ accepted sh → checkedGoal sh goal ≡ accepted g → ZeroOver sheet goal
-zero-over sheet goal sh g s e = record { sh = sh; g = g; sheet-accepted = s; goal-accepted = e; zero = demand-3-texts sheet goal sh g s e }
+zero-over : (stored : Bool) (sheet goal : List ℕ) (sh : Sheet) (g : Goal) → checkedWith stored sheet ≡ accepted sh → checkedGoal sh goal ≡ accepted g
+    → ZeroOver stored sheet goal
+zero-over stored sheet goal sh g s e =
+    record { sh = sh; g = g; sheet-accepted = s; goal-accepted = e; zero = demand-3-texts stored sheet goal sh g s e }
 
--- The same from the verdict that checking gives of two texts.
-pub demand-3-verdict : (sheet goal : List ℕ) (declarations clauses : ℕ) → checkGoalVerdict sheet goal ≡ Accepted declarations clauses → ZeroOver sheet goal
+-- The same from the verdict that checking gives of two texts, which is without the mark.
+pub demand-3-verdict : (sheet goal : List ℕ) (declarations clauses : ℕ) → checkGoalVerdict sheet goal ≡ Accepted declarations clauses → ZeroOver false sheet goal
 unfolding checkGoalVerdict checkGoalFrom goalAnswer
 demand-3-verdict sheet goal d c e = over-sheet (checkedSheet sheet) refl e
   where
     refused-verdict : (t : Text) (r : Refusal) → Refused t r ≡ Accepted d c → ⊥
     refused-verdict t r q = let z : _≡_ {A = ℕ} 0 1 = cc in omega arith
 
-    over-goal : (sh : Sheet) → checkedSheet sheet ≡ accepted sh → (o : Outcome Goal) → checkedGoal sh goal ≡ o → goalAnswer sh o ≡ Accepted d c → ZeroOver sheet goal
+    over-goal : (sh : Sheet) → checkedSheet sheet ≡ accepted sh → (o : Outcome Goal) → checkedGoal sh goal ≡ o → goalAnswer sh o ≡ Accepted d c
+        → ZeroOver false sheet goal
     over-goal sh s (refused r) h q = absurd (refused-verdict inGoal r q)
-    over-goal sh s (accepted g) h q = zero-over sheet goal sh g s h
+    over-goal sh s (accepted g) h q = zero-over false sheet goal sh g s h
 
-    over-sheet : (o : Outcome Sheet) → checkedSheet sheet ≡ o → checkGoalFrom goal o ≡ Accepted d c → ZeroOver sheet goal
+    over-sheet : (o : Outcome Sheet) → checkedSheet sheet ≡ o → checkGoalFrom goal o ≡ Accepted d c → ZeroOver false sheet goal
     over-sheet (refused r) h q = absurd (refused-verdict inSheet r q)
     over-sheet (accepted sh) h q = over-goal sh h (checkedGoal sh goal) refl q
 
--- DEMAND 3 in every run over texts, whatever the allowance, the wanted answers and the room.
-pub demand-3-runs : (sheet goal : List ℕ) (allowance wanted room : ℕ) (r : Report) (text : List ℕ) → runOutcome sheet goal allowance wanted room ≡ ran r text → RunOver sheet goal allowance wanted room r text
+-- DEMAND 3 in every run over texts, whatever the allowance, the wanted answers, the mark and the room.
+pub demand-3-runs : (sheet goal : List ℕ) (asked : RunSettings) (room : ℕ) (r : Report) (text : List ℕ) → runOutcome sheet goal asked room ≡ ran r text
+    → RunOver sheet goal asked room r text
 unfolding runOutcome overSheet overGoal zero-over
-demand-3-runs sheet goal allowance wanted room r text e = ranged (inRange allowance wanted) e
+demand-3-runs sheet goal asked room r text e = ranged (inRange (asked .allowance) (asked .wanted)) e
   where
     stopped-ran : (t : Text) (x : Refusal) → stopped t x ≡ ran r text → ⊥
     stopped-ran t x q = let z : _≡_ {A = ℕ} 0 1 = cc in omega arith
 
-    over-goal : (sh : Sheet) → checkedSheet sheet ≡ accepted sh → (o : Outcome Goal) → checkedGoal sh goal ≡ o → overGoal sh allowance wanted room o ≡ ran r text → RunOver sheet goal allowance wanted room r text
+    over-goal : (sh : Sheet) → checkedWith (asked .stored) sheet ≡ accepted sh → (o : Outcome Goal) → checkedGoal sh goal ≡ o
+        → overGoal sh (asked .allowance) (asked .wanted) room o ≡ ran r text → RunOver sheet goal asked room r text
     over-goal sh s (refused x) h q = absurd (stopped-ran inGoal x q)
     over-goal sh s (accepted g) h q =
-        record { texts = zero-over sheet goal sh g s h; reports = q; beginning = run-begins sh g allowance wanted room; tallied = tally-pile sh g }
+        record {
+          texts = zero-over (asked .stored) sheet goal sh g s h;
+          reports = q;
+          beginning = run-begins sh g (asked .allowance) (asked .wanted) room;
+          tallied = tally-pile sh g;
+        }
 
-    over-sheet : (o : Outcome Sheet) → checkedSheet sheet ≡ o → overSheet goal allowance wanted room o ≡ ran r text → RunOver sheet goal allowance wanted room r text
+    over-sheet : (o : Outcome Sheet) → checkedWith (asked .stored) sheet ≡ o → overSheet goal (asked .allowance) (asked .wanted) room o ≡ ran r text
+        → RunOver sheet goal asked room r text
     over-sheet (refused x) h q = absurd (stopped-ran inSheet x q)
     over-sheet (accepted sh) h q = over-goal sh h (checkedGoal sh goal) refl q
 
-    ranged : (b : Bool) → _≡_ {A = RunOutcome} (elim b [ true ↦ overSheet goal allowance wanted room (checkedSheet sheet) | false ↦ stopped Neither Settings ]) (ran r text) → RunOver sheet goal allowance wanted room r text
-    ranged true q = over-sheet (checkedSheet sheet) refl q
+    ranged : (b : Bool)
+        → _≡_ {A = RunOutcome} (elim b [ true ↦ overSheet goal (asked .allowance) (asked .wanted) room (checkedWith (asked .stored) sheet) | false ↦ stopped Neither Settings ]) (ran r text)
+        → RunOver sheet goal asked room r text
+    ranged true q = over-sheet (checkedWith (asked .stored) sheet) refl q
     ranged false q = absurd (stopped-ran Neither Settings q)

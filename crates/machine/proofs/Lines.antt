@@ -18,7 +18,7 @@ use Rattle.machine.specs.Substitution.{Variable, sameVariable, isLater, 
 use Rattle.machine.specs.Unification.{Difference, same, clash, apart, differVariables, differMixed, orElse, differ, differAll, bound, rounds, places, unify}
 use Rattle.machine.specs.Machine.{Pending, Alternative, path, pending, nth, clauseAt, gone, equated, movedOn, laid, tried, onTop, called, worked, workedOn, outcome, start}
 use Rattle.machine.specs.Answers.{Piece, byte, unbound, written, spelt, speltArgs, speltMore, placeOf, numbered, bytesOf, isAnonymous, allAnonymous, valuesFrom, line}
-use Rattle.machine.specs.Runs.{Kind, Done, Wanted, Steps, Full, Deep, Progress, isEmpty, isAnswer, lineWith, nextLine, goesDeeper, endings, firstEnd, oneIf, advance, endOr, runFrom, begun, run, Report, ran, reported, runOutcome}
+use Rattle.machine.specs.Runs.{Kind, Done, Wanted, Steps, Full, Deep, Progress, isEmpty, isAnswer, lineWith, nextLine, goesDeeper, endings, firstEnd, oneIf, advance, endOr, runFrom, begun, run, Report, RunSettings, ran, reported, runOutcome}
 use Rattle.machine.specs.Claims.{RunOver}
 use Rattle.machine.proofs.Names.{Feedless, FeedlessAll, InLiteral, InBody, InClause, InClauses, EachFeedless, InGoal, sheet-names, goal-names}
 use Rattle.machine.proofs.Piles.{All, all-step}
@@ -405,13 +405,13 @@ record Written (room : ℕ) (r : Report) (text : List ℕ) : Type 0 where
   lines : InLines (r .answers) text
   fits : length text ≤ room
 
-run-written : (sheet goal : List ℕ) (allowance wanted room : ℕ) (r : Report) (text : List ℕ) → runOutcome sheet goal allowance wanted room ≡ ran r text
+run-written : (sheet goal : List ℕ) (asked : RunSettings) (room : ℕ) (r : Report) (text : List ℕ) → runOutcome sheet goal asked room ≡ ran r text
     → Written room r text
 unfolding reported
-run-written sheet goal allowance wanted room r text e = go (o .reports)
+run-written sheet goal asked room r text e = go (o .reports)
   where
-    o : RunOver sheet goal allowance wanted room r text
-    o = demand-3-runs sheet goal allowance wanted room r text e
+    o : RunOver sheet goal asked room r text
+    o = demand-3-runs sheet goal asked room r text e
 
     sh : Sheet
     sh = o .texts .sh
@@ -420,33 +420,33 @@ run-written sheet goal allowance wanted room r text e = go (o .reports)
     g = o .texts .g
 
     clauses : InClauses (sh .clauses)
-    clauses = sheet-names sheet sh (o .texts .sheet-accepted)
+    clauses = sheet-names (asked .stored) sheet sh (o .texts .sheet-accepted)
 
     names : InGoal g
     names = goal-names goal sh g (o .texts .goal-accepted)
 
     at : Progress
-    at = run sh g allowance wanted room .at
+    at = run sh g (asked .allowance) (asked .wanted) room .at
 
-    lined : Lined sh g wanted room clauses names at
-    lined = run-lined sh g wanted room clauses names allowance
+    lined : Lined sh g (asked .wanted) room clauses names at
+    lined = run-lined sh g (asked .wanted) room clauses names (asked .allowance)
 
-    go : reported (run sh g allowance wanted room) ≡ ran r text → Written room r text
+    go : reported (run sh g (asked .allowance) (asked .wanted) room) ≡ ran r text → Written room r text
     go q =
         let answers-are : at .answers ≡ r .answers = cc in
         let text-is : at .text ≡ text = cc in
         record { lines = subst (λ (l : List ℕ). InLines (r .answers) l) text-is (subst (λ (n : ℕ). InLines n (at .text)) answers-are (lined .lines)); fits = subst (λ (l : List ℕ). length l ≤ room) text-is (lined .fits) }
 
 -- The text of a run has as many line feeds as the run has answers, and ends behind the last of them.
-pub run-lines : (sheet goal : List ℕ) (allowance wanted room : ℕ) (r : Report) (text : List ℕ) → runOutcome sheet goal allowance wanted room ≡ ran r text
+pub run-lines : (sheet goal : List ℕ) (asked : RunSettings) (room : ℕ) (r : Report) (text : List ℕ) → runOutcome sheet goal asked room ≡ ran r text
     → InLines (r .answers) text
-run-lines sheet goal allowance wanted room r text e = run-written sheet goal allowance wanted room r text e .lines
+run-lines sheet goal asked room r text e = run-written sheet goal asked room r text e .lines
 
 -- So of what a run leaves in the text that it is lent, as many lines as it has answers are all that it wrote.
-pub lines-of-a-run : (sheet goal : List ℕ) (allowance wanted : ℕ) (old : List ℕ) (r : Report) (text : List ℕ)
-    → runOutcome sheet goal allowance wanted (length old) ≡ ran r text → take (pastLines (r .answers) (sets old 0 text)) (sets old 0 text) ≡ text
-lines-of-a-run sheet goal allowance wanted old r text e =
-    let w : Written (length old) r text = run-written sheet goal allowance wanted (length old) r text e in
+pub lines-of-a-run : (sheet goal : List ℕ) (asked : RunSettings) (old : List ℕ) (r : Report) (text : List ℕ)
+    → runOutcome sheet goal asked (length old) ≡ ran r text → take (pastLines (r .answers) (sets old 0 text)) (sets old 0 text) ≡ text
+lines-of-a-run sheet goal asked old r text e =
+    let w : Written (length old) r text = run-written sheet goal asked (length old) r text e in
     let whole : sets old 0 text ≡ text ++ drop (0 + length text) old = sets-eq text old 0 (let z : 0 + length text ≤ length old = omega (arith, w .fits) in z) in
     let end : pastLines (r .answers) (text ++ drop (0 + length text) old) ≡ length text = lines-end text (drop (0 + length text) old) (r .answers) (w .lines) in
     rw whole (rw end (take-at text (drop (0 + length text) old) (length text) refl))

@@ -15,7 +15,7 @@ use Rattle.syntax.specs.Terms.{Term, Terms, variable, compound, nil, cons, term
 use Rattle.syntax.specs.Reading.{Cursor, spelt, standing, next, withNew, atStart}
 use Rattle.syntax.specs.Verdicts.{accepted}
 use Rattle.syntax.proofs.Induction.{Kept, sheet-read, goal-read}
-use Rattle.rules.specs.Checking.{checkedSheet, checkedGoal}
+use Rattle.rules.specs.Checking.{checkedWith, checkedGoal}
 use Rattle.rules.proofs.Accepting.{checked-sheet, checked-goal}
 use Rattle.buffers.specs.Feeds.{feeds}
 use Rattle.buffers.proofs.Feeding.{feedless-rest, feedless-cons}
@@ -212,8 +212,8 @@ kept s =
 
 -- ---- what checking accepts
 
-pub sheet-names : (s : List ℕ) (sh : Sheet) → checkedSheet s ≡ accepted sh → InClauses (sh .clauses)
-sheet-names s sh e = checked-sheet s (λ x. InClauses (x .clauses)) (sheet-read (kept s)) sh e
+pub sheet-names : (stored : Bool) (s : List ℕ) (sh : Sheet) → checkedWith stored s ≡ accepted sh → InClauses (sh .clauses)
+sheet-names stored s sh e = checked-sheet s (λ x. InClauses (x .clauses)) (sheet-read (kept s)) stored sh e
 
 pub goal-names : (s : List ℕ) (sh : Sheet) (g : Goal) → checkedGoal sh s ≡ accepted g → InGoal g
 goal-names s sh g e = checked-goal s InGoal (goal-read (kept s)) sh g e

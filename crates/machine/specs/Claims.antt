@@ -1,13 +1,14 @@
 -- What the theorems about runs and counts say.
 use Prim.Native.Nat.{ℕ, _+_, _≤_, _<_}
 use mathlib.Core.Path.{_≡_}
+use mathlib.Core.Bool.{Bool}
 use mathlib.Core.List.{List}
 use mathlib.Core.Option.{none, some}
 use Rattle.syntax.specs.Terms.{Sheet, Goal}
 use Rattle.syntax.specs.Verdicts.{accepted}
-use Rattle.rules.specs.Checking.{checkedSheet, checkedGoal}
+use Rattle.rules.specs.Checking.{checkedWith, checkedGoal}
 use Rattle.machine.specs.Machine.{pileAfter}
-use Rattle.machine.specs.Runs.{Progress, endings, firstEnd, advanced, Ended, run, Report, ran, reported}
+use Rattle.machine.specs.Runs.{Progress, endings, firstEnd, advanced, Ended, run, Report, RunSettings, ran, reported}
 use Rattle.machine.specs.Counts.{tally}
 
 -- After n steps from the goal alone the count of open inputs is zero, and so is the count of open outputs.
@@ -31,18 +32,18 @@ pub record Beginning (sh : Sheet) (g : Goal) (allowance : ℕ) (e : Ended) : Typ
   pub pile : e .at .pile ≡ pileAfter sh g (e .at .steps)
   pub steps : e .at .steps ≤ allowance
 
--- A sheet and a goal over it that are both accepted as texts, and both counts zero after any number of steps.
-pub record ZeroOver (sheet goal : List ℕ) : Type 0 where
+-- A sheet, marked as stored earlier or not, and a goal over it that are both accepted as texts, and both counts zero after any number of steps.
+pub record ZeroOver (stored : Bool) (sheet goal : List ℕ) : Type 0 where
   pub sh : Sheet
   pub g : Goal
-  pub sheet-accepted : checkedSheet sheet ≡ accepted sh
+  pub sheet-accepted : checkedWith stored sheet ≡ accepted sh
   pub goal-accepted : checkedGoal sh goal ≡ accepted g
   pub zero : (n : ℕ) → BothZero sh g n
 
 -- A run over two texts that is not refused: its report and text are those of the run, whose steps are the beginning of a list with both counts zero:
 -- the piles that were tallied are those of that list.
-pub record RunOver (sheet goal : List ℕ) (allowance wanted room : ℕ) (report : Report) (text : List ℕ) : Type 0 where
-  pub texts : ZeroOver sheet goal
-  pub reports : reported (run (texts .sh) (texts .g) allowance wanted room) ≡ ran report text
-  pub beginning : Beginning (texts .sh) (texts .g) allowance (run (texts .sh) (texts .g) allowance wanted room)
+pub record RunOver (sheet goal : List ℕ) (asked : RunSettings) (room : ℕ) (report : Report) (text : List ℕ) : Type 0 where
+  pub texts : ZeroOver (asked .stored) sheet goal
+  pub reports : reported (run (texts .sh) (texts .g) (asked .allowance) (asked .wanted) room) ≡ ran report text
+  pub beginning : Beginning (texts .sh) (texts .g) (asked .allowance) (run (texts .sh) (texts .g) (asked .allowance) (asked .wanted) room)
   pub tallied : (n : ℕ) → tally (texts .sh) (texts .g) n .pile ≡ pileAfter (texts .sh) (texts .g) n

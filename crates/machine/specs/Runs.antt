@@ -14,10 +14,11 @@ pub use Rattle.syntax.specs.declared.Kind.{Kind}
 pub use Rattle.syntax.specs.declared.Kind.the-variants.{Wanted, Done, Steps, Full, Deep}
 pub use Rattle.syntax.specs.declared.Report.{Report}
 use Rattle.syntax.specs.declared.Run.{Run}
+pub use Rattle.syntax.specs.declared.RunSettings.{RunSettings}
 use Rattle.syntax.specs.declared.Run.the-variants.{Ended as ended-by, Refused as refused-by}
 use Rattle.syntax.specs.declared.Refusal.{Refusal}
 use Rattle.syntax.specs.declared.Refusal.the-variants.{Settings}
-use Rattle.rules.specs.Checking.{checkedSheet, checkedGoal}
+use Rattle.rules.specs.Checking.{checkedWith, checkedGoal}
 use Rattle.machine.specs.Machine.{Pending, Alternative, path, clauseAt, step, start}
 use Rattle.machine.specs.Answers.{line}
 
@@ -161,10 +162,12 @@ overSheet goal allowance wanted room (accepted sh) = overGoal sh allowance wante
 unfoldable pub inRange : ℕ → ℕ → Bool
 inRange allowance wanted = (leb 1 allowance && leb allowance mostSteps) && (leb 1 wanted && leb wanted mostAnswers)
 
--- "A run tests 1, then the sheet, then the goal": sheet, goal, allowance, wanted answers, room for text.
-unfoldable pub runOutcome : List ℕ → List ℕ → ℕ → ℕ → ℕ → RunOutcome
-runOutcome sheet goal allowance wanted room =
-    elim (inRange allowance wanted) [ true ↦ overSheet goal allowance wanted room (checkedSheet sheet) | false ↦ stopped Neither Settings ]
+-- "A run tests 1, then the sheet, then the goal": sheet, goal, settings, room for text. "Sheets stored earlier still run: a run … takes a mark for
+-- them" (document 02, (x)).
+unfoldable pub runOutcome : List ℕ → List ℕ → RunSettings → ℕ → RunOutcome
+runOutcome sheet goal asked room =
+    elim (inRange (asked .allowance) (asked .wanted))
+    [ true ↦ overSheet goal (asked .allowance) (asked .wanted) room (checkedWith (asked .stored) sheet) | false ↦ stopped Neither Settings ]
 
 -- what a run gives back, and what it writes: a refusal writes nothing
 unfoldable pub runAnswer : RunOutcome → Run

@@ -38,7 +38,7 @@ pub struct Name {
 }
 
 // The name of the atom at a place.
-fn name_at(table: &[u32], p: usize) -> Name
+pub fn name_at(table: &[u32], p: usize) -> Name
     requires { ⌜ NamedAt (now table) p ⌝ }
     ensures { λ r. ⌜ ((w : NamedAt (now (table .entry)) p) → r ≡ nameOf (w .atom)) ⌝ }
 {

@@ -5,7 +5,7 @@ use mathlib.Core.Path.{_≡_, sym, ap, _∙_}
 use mathlib.Core.List.{List, [], _∷_}
 use lib.ListN.{length, drop, length-drop, length-append}
 use lib.Seq.{length-take-le}
-use Rattle.syntax.specs.Limits.{variables, wordBytes}
+use Rattle.syntax.specs.Limits.{variables, wordBytes, declarations}
 use Rattle.syntax.specs.Tokens.{spelling, numeralKind}
 use Rattle.syntax.specs.Terms.{Terms, nil, arity, Sheet, Goal}
 use Rattle.syntax.specs.Numerals.{trimmed, dropped}
@@ -65,9 +65,13 @@ numeral-here {s} {t} p l =
 abbrev Listed : List ℕ → ℕ → Terms → Type 0
 Listed s k ts = AllStand s ts × (arity ts ≤ k)
 
+-- a sheet of at most k declarations
+abbrev Within : List ℕ → ℕ → Sheet → Type 0
+Within s k sh = SheetStands s sh × (length (sh .declarations) ≤ k)
+
 kept : (s : List ℕ)
     → Kept s (Reader s) (λ left. Stands s) (λ left k. Listed s k) (LiteralStands s) (λ k. BodyStands s) (ClauseStands s) (DeclarationStands s)
-    (λ ds cs. SheetStands s) (λ g st. GoalStands s g)
+    (λ ds cs. Within s ds) (λ g st. GoalStands s g)
 kept s =
     record {
       at-start = reader-start s;
@@ -88,15 +92,19 @@ kept s =
       one-literal = also-stands;
       clause = λ h b r. record { head = h; body = b };
       declaration = λ r e l. record { name = name-here (r .placed) (omega (arith, e)); few = l };
-      no-items = record { declarations = no-declarations; clauses = no-clauses };
-      one-declaration = λ d h. record { declarations = declaration-stands d (h .declarations); clauses = h .clauses };
-      one-clause = λ c h. record { declarations = h .declarations; clauses = clause-stands c (h .clauses) };
+      no-items = (record { declarations = no-declarations; clauses = no-clauses }, omega arith);
+      one-declaration = λ d h. (record { declarations = declaration-stands d (h .0 .declarations); clauses = h .0 .clauses }, omega (arith, h .1));
+      one-clause = λ c h. (record { declarations = h .0 .declarations; clauses = clause-stands c (h .0 .clauses) }, h .1);
       goal = λ b r. b;
     }
 
 -- what the definition of reading accepts of a sheet stands in its text
 pub read-stands : (s : List ℕ) (sh : Sheet) (st : Cursor) → readSheet s ≡ ok sh st → SheetStands s sh
-read-stands s sh st e = sheet-read (kept s) sh st e
+read-stands s sh st e = sheet-read (kept s) sh st e .0
+
+-- and has no more declarations than a sheet may have
+pub read-few : (s : List ℕ) (sh : Sheet) (st : Cursor) → readSheet s ≡ ok sh st → length (sh .declarations) ≤ declarations
+read-few s sh st e = sheet-read (kept s) sh st e .1
 
 -- the same of a goal
 pub goal-stands : (s : List ℕ) (g : Goal) (st : Cursor) → readGoal s ≡ ok g st → GoalStands s g

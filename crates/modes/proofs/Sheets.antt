@@ -10,7 +10,7 @@ use lib.ListN.{length, getD}
 use Rattle.syntax.specs.Terms.{Atom, termOf, Mark, input, output, Declaration, Clause}
 use Rattle.syntax.specs.Words.{clauseStart, termWords, atomWords, bodyWords, bodyLength, clauseWords, clausesWords, markNumber, marksNumber}
 use Rattle.syntax.specs.declared.Refusal.{Refusal}
-use Rattle.rules.specs.Modes.{Known, nothing, marksFor, listOf, firstOpen, groundMarked, openOutput, undeclaredAtom, undeclaredBody, undeclaredClause, undeclaredClauses, undeclaredInSheet, undeclaredInGoal, startKnown, headFault, clauseFault, clausesFault, sheetFault, goalFault, walkFault, Walk, bodyFault}
+use Rattle.rules.specs.Modes.{Known, nothing, marksFor, listOf, firstOpen, groundMarked, openOutput, undeclaredAtom, undeclaredBody, undeclaredClause, undeclaredClauses, undeclaredInGoal, startKnown, headFault, clauseFault, clausesFault, goalFault, walkFault, Walk, bodyFault}
 use Rattle.marking.specs.Standing.{ClausesStand, clause-stands}
 use Rattle.words.specs.Tables.{Has}
 use Rattle.marking.specs.Tables.{TermAt, MarkedAt, JudgedAt, DeclarationsAt, AtomAt, BodyAt, ClauseAt, ClausesAt, SheetAt, GoalAt}
@@ -211,20 +211,6 @@ sheet-declarations w = record { list = w .sheet .declarations; has = w .has-decl
 
 abbrev pub sheet-clauses : {s declared : List ℕ} {n : ℕ} {table : List ℕ} {cs : ℕ} → SheetAt s declared n table cs → ClausesAt s table 0 cs
 sheet-clauses w = record { list = w .sheet .clauses; has = w .has-clauses; count = w .clauses-count; stand = w .stands .clauses }
-
-module _ (s declared : List ℕ) (n : ℕ) (table : List ℕ) (cs : ℕ) (f : Checked)
-    (ef : (d : DeclarationsAt s declared n) (w : ClausesAt s table 0 cs) → f ≡ checkedOf (undeclaredClauses (d .list) 1 (w .list))) where
-  pub sheet-undeclared : isFault f ≡ true → (w : SheetAt s declared n table cs) → f ≡ checkedOf (sheetFault (w .sheet))
-  unfolding sheetFault undeclaredInSheet
-  sheet-undeclared t w =
-      fault-stays (undeclaredInSheet (w .sheet)) (clausesFault (w .sheet .declarations) 1 (w .sheet .clauses)) f (ef (sheet-declarations w) (sheet-clauses w)) t
-
-  pub sheet-faults : isFault f ≡ false → (r : Checked) → ((d : DeclarationsAt s declared n) (w : ClausesAt s table 0 cs) → r ≡ checkedOf (clausesFault (d .list) 1 (w .list)))
-      → (w : SheetAt s declared n table cs) → r ≡ checkedOf (sheetFault (w .sheet))
-  unfolding sheetFault undeclaredInSheet
-  sheet-faults t r h w =
-      h (sheet-declarations w) (sheet-clauses w)
-      ∙ sym (ap checkedOf (fine-goes (undeclaredInSheet (w .sheet)) (clausesFault (w .sheet .declarations) 1 (w .sheet .clauses)) f (ef (sheet-declarations w) (sheet-clauses w)) t))
 
 abbrev pub goal-declarations : {s declared : List ℕ} {n : ℕ} {g table : List ℕ} {literals : ℕ} → GoalAt s declared n g table literals → DeclarationsAt s declared n
 goal-declarations w = record { list = w .sheet .declarations; has = w .has-declarations; count = w .declarations-count; stand = w .declarations-stand }

@@ -4,14 +4,12 @@ pub mod clause_faults;
 
 use bodies::body_walk;
 use bodies::undeclared_body;
-use clause_faults::clauses_fault;
-use clause_faults::undeclared_clauses;
 use marking::Checked;
 use marking::Known;
 use syntax::VARIABLES;
 ghost use mathlib.Core.Path.{_≡_};
-ghost use Rattle.rules.specs.Modes.{sheetFault, goalFault};
-ghost use Rattle.marking.specs.Tables.{SheetAt, GoalAt};
+ghost use Rattle.rules.specs.Modes.{goalFault};
+ghost use Rattle.marking.specs.Tables.{GoalAt};
 ghost use Rattle.marking.specs.Answers.{checkedOf};
 ghost use Rattle.modes.specs.Answers.{isFault};
 
@@ -29,18 +27,6 @@ pub fn is_fault(c: Checked) -> bool
         Checked::Fine => false,
         Checked::Fault(_) => true,
     }
-}
-
-// Refusals 8 to 10 of a sheet whose `n` declarations and `cs` clauses stand in the tables.
-pub fn check_sheet(s: &[u8], declared: &[u32], n: usize, table: &[u32], cs: usize) -> Checked
-    requires { ⌜ SheetAt (now s) (now declared) n (now table) cs ⌝ }
-    ensures { λ r. ⌜ ((w : SheetAt (now (s .entry)) (now (declared .entry)) n (now (table .entry)) cs) → r ≡ checkedOf (sheetFault (w .sheet))) ⌝ }
-{
-    let fault = undeclared_clauses(s, declared, n, table, cs);
-    if is_fault(fault) {
-        return fault;
-    }
-    clauses_fault(s, declared, n, table, cs)
 }
 
 // Refusals 8 and 9 of a goal whose literals stand in the table, by the sheet's `n` declarations.

@@ -15,9 +15,9 @@ use Rattle.syntax.specs.declared.Verdict.the-variants.{Accepted, Refused}
 use Rattle.reports.specs.Reports.{kindNumber}
 use Rattle.rules.specs.Checking.{nameSpan}
 
--- which of these lists a library gives
+-- which of these lists, and of the functions that give them, a library has
 abbrev pub version : ℕ
-version = 1
+version = 2
 
 -- "it also says which of the two texts was at fault, neither for 1"
 abbrev pub textNumber : Text → ℕ

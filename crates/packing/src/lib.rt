@@ -14,7 +14,7 @@ ghost use Rattle.buffers.specs.Buffers.{Put};
 ghost use Rattle.packing.specs.Numbers.{version, textNumber, faultNumbers, verdictNumbers, runNumbers, entryNumbers, refusalIn};
 
 // The lists of numbers that this library gives.
-const VERSION: usize = 1;
+const VERSION: usize = 2;
 
 // How many numbers a fault has,
 const FAULT: usize = 8;

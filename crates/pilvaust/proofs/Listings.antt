@@ -19,7 +19,7 @@ use Rattle.syntax.specs.declared.Verdict.the-variants.{Accepted, Refused}
 use Rattle.syntax.specs.declared.Entry.{Entry}
 use Rattle.syntax.specs.declared.Declared.{Declared}
 use Rattle.syntax.specs.declared.Declared.the-variants.{As, Nothing}
-use Rattle.rules.specs.Checking.{checkedSheet, checkVerdict}
+use Rattle.rules.specs.Checking.{checkedSheet, verdictWith, checkVerdict}
 use Rattle.words.specs.Tables.{Has}
 use Rattle.tables.specs.Tables.{Tabled}
 use Rattle.listings.specs.Listings.{overlay, declaredOf, listedOf, entryFrom, pasted, Lists}
@@ -80,5 +80,5 @@ module _ (s words table : List ℕ) (size : declaredWords ≡ length words) (roo
   read-lists v k e h c = lists (sheetOf s) v k e h c
 
   pub check-lists : (v : Verdict) (k : ℕ) → v ≡ checkVerdict s → ((sh : Sheet) → checkedSheet s ≡ accepted sh → Tabled s words table sh) → k ≡ listedOf v room → Lists (checkedSheet s) room (record { verdict = v; count = k; words = words })
-  unfolding checkVerdict
+  unfolding verdictWith
   check-lists v k e h c = lists (checkedSheet s) v k e h c

@@ -92,14 +92,14 @@ module _ (s declared : List ℕ) (n : ℕ) (w : DeclarationsAt s declared n) (i 
   words = subst (Has declared 0) (ap declarationsWords whole ∙ words-append earlier (one ∷ drop (suc i) (w .list))) (w .has)
 
   -- the four words of the declaration at the place
-  one-has : Has declared (4 * i) (declarationWords one)
+  pub one-has : Has declared (4 * i) (declarationWords one)
   unfolding declarationsWords
   one-has =
       let p : 0 + length (declarationsWords earlier) ≡ 4 * i = (let f : length (declarationsWords earlier) ≡ 4 * length earlier = words-four earlier in let e : length earlier ≡ i = earlier-long in omega arith) in
       has-left declared (4 * i) (declarationWords one) (declarationsWords (drop (suc i) (w .list)))
       (subst (λ (k : ℕ). Has declared k (declarationWords one ++ declarationsWords (drop (suc i) (w .list)))) p (has-right declared 0 (declarationsWords earlier) (declarationWords one ++ declarationsWords (drop (suc i) (w .list))) words))
 
-  one-stands : DeclarationStands s one
+  pub one-stands : DeclarationStands s one
   one-stands = stand-first (stand-right earlier (one ∷ drop (suc i) (w .list)) (subst (DeclarationsStand s) whole (w .stand)))
 
   pub earlier-at : DeclarationsAt s declared i
@@ -131,10 +131,10 @@ module _ (s declared : List ℕ) (n : ℕ) (w : DeclarationsAt s declared n) (i 
     pub name-inside : at + len ≤ length s
     name-inside = let inside : one .at + length (one .name) ≤ length s = one-stands .name .inside in let a : at ≡ one .at = ea ∙ at-is in let l : len ≡ length (one .name) = el ∙ len-is in omega arith
 
-    name-is : spelling s at len ≡ one .name
+    pub name-is : spelling s at len ≡ one .name
     name-is = ap₂ (λ (a l : ℕ). spelling s a l) (ea ∙ at-is) (el ∙ len-is) ∙ sym (one-stands .name .spelt)
 
-    arity-is : marks ≡ length (one .marks)
+    pub arity-is : marks ≡ length (one .marks)
     arity-is = em ∙ marks-is
 
     module _ (j : ℕ) (found : (v : DeclarationsAt s declared i) → j ≡ position (v .list) (spelling s at len) marks) where

@@ -13,7 +13,7 @@ use Rattle.syntax.specs.Verdicts.{Outcome, refused, accepted, withoutRepeats, s
 use Rattle.syntax.specs.declared.Refusal.{Refusal}
 use Rattle.syntax.specs.declared.Refusal.the-variants.{TooLong}
 use Rattle.rules.specs.Modes.{sheetFault, goalFault}
-use Rattle.rules.specs.Checking.{faultless, checkedFrom, checkedSheet, checkedGoalFrom, checkedGoal}
+use Rattle.rules.specs.Checking.{faultless, checkedFrom, checkedWith, checkedGoalFrom, checkedGoal}
 
 -- on a refusal nothing; else what was accepted has a property
 abbrev Fine : {A : Type 0} → (A → Type 0) → Outcome A → Type 0
@@ -47,15 +47,15 @@ module _ (s : List ℕ) (P : Sheet → Type 0) (read : (sh : Sheet) (st : Cursor
       by true = sheet-from (readSheet s) refl
       by false = tt
 
-  checked-fine : (o : Outcome Sheet) → Fine P o → Fine P (checkedFrom o)
+  checked-fine : (stored : Bool) (o : Outcome Sheet) → Fine P o → Fine P (checkedFrom stored o)
   unfolding checkedFrom
-  checked-fine (refused r) h = tt
-  checked-fine (accepted sh) h = faultless-fine P sh (sheetFault sh) h
+  checked-fine stored (refused r) h = tt
+  checked-fine stored (accepted sh) h = faultless-fine P sh (sheetFault stored sh) h
 
-  -- a sheet that checking accepts
-  pub checked-sheet : (sh : Sheet) → checkedSheet s ≡ accepted sh → P sh
-  unfolding checkedSheet
-  checked-sheet sh e = accepted-fine P (checkedFrom (sheetOf s)) sh (checked-fine (sheetOf s) sheet-fine) e
+  -- a sheet that checking accepts, with the mark or without it
+  pub checked-sheet : (stored : Bool) (sh : Sheet) → checkedWith stored s ≡ accepted sh → P sh
+  unfolding checkedWith
+  checked-sheet stored sh e = accepted-fine P (checkedFrom stored (sheetOf s)) sh (checked-fine stored (sheetOf s) sheet-fine) e
 
 module _ (s : List ℕ) (P : Goal → Type 0) (read : (g : Goal) (st : Cursor) → readGoal s ≡ ok g st → P g) where
   goal-from : (r : Read Goal) → readGoal s ≡ r → Fine P (goalFrom r)

@@ -1,7 +1,8 @@
--- Computed cases: document 01's starred cases of checking, its traps, the order of the refusals, and document 02's (ii).
+-- Computed cases: document 01's starred cases of checking, its traps, the order of the refusals, and document 02's (ii), (iii), (x) and (xiv).
 use Prim.Native.Nat.{ℕ}
 use Prim.Native.String.{String}
 use mathlib.Core.Path.{_≡_, refl}
+use mathlib.Core.Bool.{true}
 use mathlib.Core.List.{List, [], _∷_, map}
 use Rattle.syntax.specs.Quote.{bytes}
 use Rattle.syntax.specs.Bytes.{classOf, inWord, inNumeral}
@@ -18,7 +19,8 @@ use Rattle.syntax.specs.declared.Verdict.the-variants.{Accepted, Refused}
 use Rattle.syntax.specs.declared.Text.{Text}
 use Rattle.syntax.specs.declared.Text.the-variants.{Sheet, Goal}
 use Rattle.rules.specs.Modes.{nothing, everything, isGround, openUnless, openByte, groundTerm, groundBoth, equateVariable, equateSame, equate, further, goOver, passes, settle, marksOf, orNoMarks, marksFor, sameMark, ifMarked, firstOpen, groundIf, groundMarked, undeclared, undeclaredAtom, undeclaredLiteral, undeclaredBody, undeclaredClause, undeclaredClauses, undeclaredInSheet, undeclaredInGoal, openInput, openOutput, literalFault, afterLiteral, walkOn, bodyFault, startKnown, headFault, clauseFault, clausesFault, sheetFault, walkFault, goalFault}
-use Rattle.rules.specs.Checking.{faultless, checkedFrom, checkedSheet, checkVerdict, checkedGoalFrom, checkedGoal, goalAnswer, checkGoalFrom, checkGoalVerdict, faultName}
+use Rattle.rules.specs.Written.{isWritten, firstUnwritten, unwritten}
+use Rattle.rules.specs.Checking.{faultless, checkedFrom, checkedWith, verdictWith, checkVerdict, checkedGoalFrom, checkedGoal, goalAnswer, checkGoalFrom, checkGoalVerdict, faultName}
 
 -- what the checker prints, before it is spelt
 data Answer : Type 0 where
@@ -29,17 +31,20 @@ abbrev answer : Verdict → List ℕ → Answer
 answer (Accepted declarations clauses) name = accepted declarations clauses
 answer (Refused text refusal) name = refused text (numbersOf refusal) name
 
--- a sheet, or a sheet and a goal, with the answer
+-- a sheet, one with document 02 (x)'s mark, or a sheet and a goal, with the answer
 data Case : Type 0 where
   sheet : String → Answer → Case
+  stored : String → Answer → Case
   goal : String → String → Answer → Case
 
 abbrev told : Case → Answer
 told (sheet s a) = a
+told (stored s a) = a
 told (goal s g a) = a
 
 abbrev answered : Case → Answer
 answered (sheet s a) = answer (checkVerdict (bytes s)) (faultName (bytes s) [] (checkVerdict (bytes s)))
+answered (stored s a) = answer (verdictWith true (bytes s)) (faultName (bytes s) [] (verdictWith true (bytes s)))
 answered (goal s g a) =
     answer (checkGoalVerdict (bytes s) (bytes g)) (faultName (bytes s) (bytes g) (checkGoalVerdict (bytes s) (bytes g)))
 
@@ -58,10 +63,10 @@ cases =
     ∷ sheet ":- mode next(+,-). :- mode ends(+,-). next(off,rinse). ends(S,T) :- next(U,T)." (refused Sheet (five 9 73 2 1 1) (bytes "next"))
     ∷ sheet ":- mode next(+,-). :- mode ends(+,-). next(off,rinse). ends(S,T) :- next(S,U)." (refused Sheet (five 10 62 2 0 2) (bytes "ends"))
     -- the traps: outputs before inputs, * head arguments, reading on after `fail`
-    ∷ sheet ":- mode p(+,-). :- mode q(*). q(X) :- p(X,X)." (refused Sheet (five 9 40 1 1 1) (bytes "p"))
+    ∷ sheet ":- mode p(+,-). :- mode q(*). q(X) :- p(X,X). p(a,a)." (refused Sheet (five 9 40 1 1 1) (bytes "p"))
     ∷ sheet ":- mode p(*,-). p(X,X)." (refused Sheet (five 10 20 1 0 2) (bytes "p"))
-    ∷ sheet ":- mode p(-). :- mode q(+). p(X) :- fail, q(Y)." (accepted 2 1)
-    ∷ sheet ":- mode p(-). :- mode q(+). p(X) :- true, q(Y)." (refused Sheet (five 9 44 1 2 1) (bytes "q"))
+    ∷ sheet ":- mode p(-). :- mode q(+). p(X) :- fail, q(Y). q(a)." (accepted 2 2)
+    ∷ sheet ":- mode p(-). :- mode q(+). p(X) :- true, q(Y). q(a)." (refused Sheet (five 9 44 1 2 1) (bytes "q"))
     -- equations: pairs from the left, a variable inside the other side, clashes at the top and below
     ∷ sheet ":- mode p(-). p(X) :- f(Y,X) = f(a,Y)." (accepted 1 1)
     ∷ sheet ":- mode p(-). p(X) :- X = f(X)." (refused Sheet (five 10 16 1 0 1) (bytes "p"))
@@ -85,8 +90,8 @@ cases =
     -- * arguments give and ask nothing; `_` is a variable of its own; the lowest argument of the first fault
     ∷ sheet ":- mode p(*). :- mode q(-). p(X). q(X) :- p(X)." (refused Sheet (five 10 36 2 0 1) (bytes "q"))
     ∷ sheet ":- mode p(+). :- mode q(+). p(X). q(_) :- p(_)." (refused Sheet (five 9 44 2 1 1) (bytes "p"))
-    ∷ sheet ":- mode p(*,+,+). :- mode q(-). q(X) :- p(X,Y,X)." (refused Sheet (five 9 44 1 1 2) (bytes "p"))
-    ∷ sheet ":- mode p(-). :- mode q(+). p(X). p(X) :- q(X)." (refused Sheet (five 10 30 1 0 1) (bytes "p"))
+    ∷ sheet ":- mode p(*,+,+). :- mode q(-). q(X) :- p(X,Y,X). p(a,a,a)." (refused Sheet (five 9 44 1 1 2) (bytes "p"))
+    ∷ sheet ":- mode p(-). :- mode q(+). p(X). p(X) :- q(X). q(a)." (refused Sheet (five 10 30 1 0 1) (bytes "p"))
     -- document 02, (ii): the first open variable in the argument, where it stands there; nested, twice, anonymous, in a goal
     ∷ sheet ":-mode p(+). p(X) :- Y = Z, p(f(X,g(Z),Y))." (refused Sheet (five 9 36 1 2 1) (bytes "p"))
     ∷ sheet ":-mode p(-,-). p(X,f(a,Y,X)) :- X=b." (refused Sheet (five 10 23 1 0 2) (bytes "p"))
@@ -109,16 +114,34 @@ cases =
     ∷ sheet ":- mode p(-). p(X) :- a1 = a01." (accepted 1 1)
     -- 7 before 8; refusals up to 7 hand back no name
     ∷ sheet "q. :- mode p(+). :- mode p(-)." (refused Sheet (five 7 25 0 0 0) [])
+    -- document 02, (x): the first declared predicate without a clause, name and number of arguments; `seen` with three is exempt
+    ∷ sheet ":-mode p. :-mode q. p." (refused Sheet (five 16 17 0 0 0) [])
+    ∷ sheet ":-mode p. :-mode q. :-mode r. q." (refused Sheet (five 16 7 0 0 0) [])
+    ∷ sheet ":-mode p. :-mode p(+). p(a)." (refused Sheet (five 16 7 0 0 0) [])
+    ∷ sheet ":-mode seen(+,+,+)." (accepted 1 0)
+    ∷ sheet ":-mode seen(+,+)." (refused Sheet (five 16 7 0 0 0) [])
+    ∷ sheet ":-mode seem(+,+,+)." (refused Sheet (five 16 7 0 0 0) [])
+    -- 7 and 8 before it, 9 and 10 behind it; with the mark it is passed over
+    ∷ sheet ":-mode p. :-mode p." (refused Sheet (five 7 17 0 0 0) [])
+    ∷ sheet ":-mode p(-). :-mode q. p(X) :- r." (refused Sheet (five 8 0 1 1 0) (bytes "r"))
+    ∷ sheet ":-mode p(-). :-mode q. p(X)." (refused Sheet (five 16 20 0 0 0) [])
+    ∷ sheet ":-mode p(+). :-mode q. p(X) :- p(Y)." (refused Sheet (five 16 20 0 0 0) [])
+    ∷ stored ":-mode p. :-mode p." (refused Sheet (five 7 17 0 0 0) [])
+    ∷ stored ":-mode p(-). :-mode q. p(X) :- r." (refused Sheet (five 8 0 1 1 0) (bytes "r"))
+    ∷ stored ":-mode p(-). :-mode q. p(X)." (refused Sheet (five 10 25 1 0 1) (bytes "p"))
+    ∷ stored ":-mode p(+). :-mode q. p(X) :- p(Y)." (refused Sheet (five 9 33 1 1 1) (bytes "p"))
+    ∷ stored ":-mode p. :-mode q. p." (accepted 2 1)
+    ∷ goal ":-mode p." "p." (refused Sheet (five 16 7 0 0 0) [])
     -- goals: the sheet first, then 2 to 6, 8 and 9
     ∷ goal ":- mode plus(+,+,-).\nplus(z,N,N).\nplus(s(M),N,s(P)) :- plus(M,N,P).\n" "plus(s(z),z,X)." (accepted 1 2)
-    ∷ goal ":- mode plus(+,+,-)." "X = a, plus(X,Y,Z)." (refused Goal (five 9 14 0 2 2) (bytes "plus"))
-    ∷ goal ":- mode p(-). :- mode q(+)." "p(X), q(X), true, qqq(X), q(Y)." (refused Goal (five 8 0 0 4 0) (bytes "qqq"))
-    ∷ goal ":- mode q(+)." "fail, q(X)." (accepted 1 0)
+    ∷ goal ":- mode plus(+,+,-). plus(z,z,z)." "X = a, plus(X,Y,Z)." (refused Goal (five 9 14 0 2 2) (bytes "plus"))
+    ∷ goal ":- mode p(-). :- mode q(+). p(a). q(a)." "p(X), q(X), true, qqq(X), q(Y)." (refused Goal (five 8 0 0 4 0) (bytes "qqq"))
+    ∷ goal ":- mode q(+). q(a)." "fail, q(X)." (accepted 1 1)
     ∷ goal ":- mode p(-). p(X)." "p(" (refused Sheet (five 10 16 1 0 1) (bytes "p"))
     ∷ goal "" "" (refused Goal (five 5 0 0 0 0) [])
     ∷ []
 
 -- each case gets the answer that it is told with
 as-told : map answered cases ≡ map told cases
-unfolding trimmed classOf inWord inNumeral skipped run word dashFirst tokenOf tokenFrom tokenPlace tokenAt sameBytes literalOf andThen standing next wrongNumber wrong beyond full numberOf isAnonymous withNew newVariable oldVariable readVariable atomWith readAtomWith termWith readTermWith argumentsAfter readArguments readList readTerm readAtom readRight afterAtom afterTerm literalWith readLiteral bodyAfter readBody clauseAfter readClause marksAfter marksWith readMarks marksBehind declarationEnd declarationFrom isMode afterNeck readDeclaration itemWith readItems atStart readSheet goalEnd readGoal declares repeats firstRepeat withoutRepeats sheetFrom goalFrom sheetOf goalOutcome sheetVerdict nothing everything isGround groundTerm groundBoth equateVariable equateSame equate further goOver passes settle marksOf orNoMarks marksFor sameMark openUnless openByte ifMarked firstOpen groundIf groundMarked undeclared undeclaredAtom undeclaredLiteral undeclaredBody undeclaredClause undeclaredClauses undeclaredInSheet undeclaredInGoal openInput openOutput literalFault afterLiteral walkOn bodyFault startKnown headFault clauseFault clausesFault sheetFault walkFault goalFault faultless checkedFrom checkedSheet checkVerdict checkedGoalFrom checkedGoal goalAnswer checkGoalFrom checkGoalVerdict faultName
+unfolding trimmed classOf inWord inNumeral skipped run word dashFirst tokenOf tokenFrom tokenPlace tokenAt sameBytes literalOf andThen standing next wrongNumber wrong beyond full numberOf isAnonymous withNew newVariable oldVariable readVariable atomWith readAtomWith termWith readTermWith argumentsAfter readArguments readList readTerm readAtom readRight afterAtom afterTerm literalWith readLiteral bodyAfter readBody clauseAfter readClause marksAfter marksWith readMarks marksBehind declarationEnd declarationFrom isMode afterNeck readDeclaration itemWith readItems atStart readSheet goalEnd readGoal declares repeats firstRepeat withoutRepeats sheetFrom goalFrom sheetOf goalOutcome sheetVerdict nothing everything isGround groundTerm groundBoth equateVariable equateSame equate further goOver passes settle marksOf orNoMarks marksFor sameMark openUnless openByte ifMarked firstOpen groundIf groundMarked undeclared undeclaredAtom undeclaredLiteral undeclaredBody undeclaredClause undeclaredClauses undeclaredInSheet undeclaredInGoal openInput openOutput literalFault afterLiteral walkOn bodyFault startKnown headFault clauseFault clausesFault sheetFault walkFault goalFault isWritten firstUnwritten unwritten faultless checkedFrom checkedWith verdictWith checkedGoalFrom checkedGoal goalAnswer checkGoalFrom checkGoalVerdict faultName
 as-told = refl

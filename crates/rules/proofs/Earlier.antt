@@ -2,7 +2,7 @@
 -- Assumes nothing.
 use Prim.Native.Nat.{ℕ, suc}
 use mathlib.Core.Path.{_≡_, refl, sym, ap, _∙_}
-use mathlib.Core.Bool.{Bool, true, false, cond}
+use mathlib.Core.Bool.{Bool, true, false, cond, _||_}
 use mathlib.Core.List.{List, [], _∷_}
 use mathlib.Core.Option.{Option, none, some}
 use lib.Dec.{leb, eqb}
@@ -12,10 +12,11 @@ use Rattle.syntax.specs.Limits.{sheetBytes, goalBytes}
 use Rattle.syntax.specs.Reading.{Read, fault, ok, readSheet, readGoal, firstRepeat}
 use Rattle.syntax.specs.Verdicts.{Outcome, refused, accepted, faultOf, withoutRepeats, sheetFrom, goalFrom, sheetOf, goalOutcome, sheetVerdict}
 use Rattle.syntax.specs.declared.Refusal.{Refusal}
-use Rattle.syntax.specs.declared.Refusal.the-variants.{TooLong, NoToken, Overlong, Misplaced, OverLimit}
+use Rattle.syntax.specs.declared.Refusal.the-variants.{TooLong, NoToken, Overlong, Misplaced, OverLimit, Unwritten}
 use Rattle.syntax.specs.declared.Verdict.{Verdict}
-use Rattle.rules.specs.Modes.{Known, nothing, openUnless, openByte, marksOf, marksFor, sameMark, listOf, ifMarked, OpenArgument, firstOpen, undeclared, undeclaredAtom, undeclaredLiteral, undeclaredBody, undeclaredClause, undeclaredClauses, undeclaredInSheet, undeclaredInGoal, openInput, openOutput, literalFault, afterLiteral, Walk, faulted, known, walkOn, bodyFault, startKnown, headFault, clauseFault, clausesFault, sheetFault, walkFault, goalFault}
-use Rattle.rules.specs.Checking.{faultless, checkedFrom, checkedSheet, checkVerdict, checkedGoalFrom, checkedGoal, goalAnswer, checkGoalFrom, checkGoalVerdict}
+use Rattle.rules.specs.Modes.{Known, nothing, openUnless, openByte, marksOf, marksFor, sameMark, listOf, ifMarked, OpenArgument, firstOpen, undeclared, undeclaredAtom, undeclaredLiteral, undeclaredBody, undeclaredClause, undeclaredClauses, undeclaredInSheet, undeclaredInGoal, openInput, openOutput, literalFault, afterLiteral, Walk, faulted, known, walkOn, bodyFault, startKnown, headFault, clauseFault, clausesFault, firstOf, sheetFault, walkFault, goalFault}
+use Rattle.rules.specs.Written.{isWritten, isExempt, firstUnwritten, unwritten}
+use Rattle.rules.specs.Checking.{faultless, checkedFrom, checkedWith, checkedSheet, verdictWith, checkVerdict, checkedGoalFrom, checkedGoal, goalAnswer, checkGoalFrom, checkGoalVerdict}
 use Rattle.rules.specs.Earlier as earlier
 use Rattle.rules.specs.Earlier.{withoutBytes, withoutByte, faultWithout, walkWithout, outcomeWithout, verdictWithout}
 use Rattle.rules.proofs.Terms.{isNone, ground-none}
@@ -139,11 +140,28 @@ unfolding clausesFault earlier.clausesFault
 clauses-earlier ds c [] = refl
 clauses-earlier ds c (cl ∷ cls) = first-of (clauseFault ds c cl) (clausesFault ds (suc c) cls) _ _ (clause-earlier ds c cl) (clauses-earlier ds (suc c) cls)
 
-pub sheet-fault-earlier : (sh : Sheet) → faultWithout (sheetFault sh) ≡ earlier.sheetFault withoutBytes sh
+first-unwritten-same : (cs : List Clause) (ds : List Declaration) → faultWithout (firstUnwritten cs ds) ≡ firstUnwritten cs ds
+unfolding firstUnwritten
+first-unwritten-same cs [] = refl
+first-unwritten-same cs (d ∷ ds) = by (isWritten cs d || isExempt d) (first-unwritten-same cs ds)
+  where
+    by : (b : Bool) → faultWithout (firstUnwritten cs ds) ≡ firstUnwritten cs ds
+        → faultWithout (elim b as (λ _. Option Refusal) [ true ↦ firstUnwritten cs ds | false ↦ some (Unwritten (d .at)) ])
+        ≡ elim b as (λ _. Option Refusal) [ true ↦ firstUnwritten cs ds | false ↦ some (Unwritten (d .at)) ]
+    by true h = h
+    by false h = refl
+
+unwritten-same : (stored : Bool) (sh : Sheet) → faultWithout (unwritten stored sh) ≡ unwritten stored sh
+unfolding unwritten
+unwritten-same true sh = refl
+unwritten-same false sh = first-unwritten-same (sh .clauses) (sh .declarations)
+
+pub sheet-fault-earlier : (stored : Bool) (sh : Sheet) → faultWithout (sheetFault stored sh) ≡ earlier.sheetFault withoutBytes stored sh
 unfolding sheetFault earlier.sheetFault undeclaredInSheet
-sheet-fault-earlier sh =
-    first-of (undeclaredClauses (sh .declarations) 1 (sh .clauses)) (clausesFault (sh .declarations) 1 (sh .clauses)) _ _
-    (clauses-same (sh .declarations) 1 (sh .clauses)) (clauses-earlier (sh .declarations) 1 (sh .clauses))
+sheet-fault-earlier stored sh =
+    first-of (undeclaredClauses (sh .declarations) 1 (sh .clauses)) (firstOf (unwritten stored sh) (clausesFault (sh .declarations) 1 (sh .clauses))) _ _
+    (clauses-same (sh .declarations) 1 (sh .clauses))
+    (first-of (unwritten stored sh) (clausesFault (sh .declarations) 1 (sh .clauses)) _ _ (unwritten-same stored sh) (clauses-earlier (sh .declarations) 1 (sh .clauses)))
 
 walk-fault : (w : Walk) → faultWithout (walkFault w) ≡ walkFault (walkWithout w)
 unfolding walkFault
@@ -207,13 +225,15 @@ faultless-without x none = refl
 faultless-without x (some r) = refl
 
 -- The sheet that checking accepts, or its refusal, is that of before but for this byte.
-pub checked-sheet-earlier : (s : List ℕ) → outcomeWithout {A = Sheet} (checkedSheet s) ≡ earlier.checkedSheet withoutBytes s
-unfolding checkedSheet earlier.checkedSheet
-checked-sheet-earlier s = by (sheetOf s) (sheet-same s)
+pub checked-sheet-earlier : (stored : Bool) (s : List ℕ) → outcomeWithout {A = Sheet} (checkedWith stored s) ≡ earlier.checkedWith withoutBytes stored s
+unfolding checkedWith earlier.checkedWith
+checked-sheet-earlier stored s = by (sheetOf s) (sheet-same s)
   where
-    by : (o : Outcome Sheet) → outcomeWithout {A = Sheet} o ≡ o → outcomeWithout {A = Sheet} (checkedFrom o) ≡ earlier.checkedFrom withoutBytes o
+    by : (o : Outcome Sheet) → outcomeWithout {A = Sheet} o ≡ o → outcomeWithout {A = Sheet} (checkedFrom stored o) ≡ earlier.checkedFrom withoutBytes stored o
     by (refused r) e = unfold checkedFrom in unfold earlier.checkedFrom in e
-    by (accepted sh) e = unfold checkedFrom in unfold earlier.checkedFrom in (faultless-without sh (sheetFault sh) ∙ ap (faultless sh) (sheet-fault-earlier sh))
+    by (accepted sh) e =
+        unfold checkedFrom in unfold earlier.checkedFrom in
+        (faultless-without sh (sheetFault stored sh) ∙ ap (faultless sh) (sheet-fault-earlier stored sh))
 
 -- The same of a goal over a sheet.
 pub checked-goal-earlier : (sh : Sheet) (g : List ℕ) → outcomeWithout {A = Goal} (checkedGoal sh g) ≡ earlier.checkedGoal withoutBytes sh g
@@ -231,8 +251,8 @@ verdict-without (accepted sh) = refl
 
 -- "refusals 9 and 10 carry it in their byte place, which was 0": with this byte set to 0, the verdict on a sheet is that of before.
 pub verdict-earlier : (s : List ℕ) → verdictWithout (checkVerdict s) ≡ earlier.checkVerdict withoutBytes s
-unfolding checkVerdict earlier.checkVerdict
-verdict-earlier s = verdict-without (checkedSheet s) ∙ ap sheetVerdict (checked-sheet-earlier s)
+unfolding verdictWith earlier.checkVerdict
+verdict-earlier s = verdict-without (checkedSheet s) ∙ ap sheetVerdict (checked-sheet-earlier false s)
 
 answer-without : (sh : Sheet) (o : Outcome Goal) → verdictWithout (goalAnswer sh o) ≡ goalAnswer sh (outcomeWithout {A = Goal} o)
 unfolding goalAnswer sheetVerdict
@@ -242,7 +262,7 @@ answer-without sh (accepted g) = refl
 -- The same of a sheet and a goal.
 pub goal-verdict-earlier : (s g : List ℕ) → verdictWithout (checkGoalVerdict s g) ≡ earlier.checkGoalVerdict withoutBytes s g
 unfolding checkGoalVerdict earlier.checkGoalVerdict
-goal-verdict-earlier s g = by (checkedSheet s) ∙ ap (earlier.checkGoalFrom withoutBytes g) (checked-sheet-earlier s)
+goal-verdict-earlier s g = by (checkedSheet s) ∙ ap (earlier.checkGoalFrom withoutBytes g) (checked-sheet-earlier false s)
   where
     by : (o : Outcome Sheet) → verdictWithout (checkGoalFrom g o) ≡ earlier.checkGoalFrom withoutBytes g (outcomeWithout o)
     by (refused r) = unfold checkGoalFrom in unfold earlier.checkGoalFrom in refl

@@ -18,8 +18,9 @@ use Rattle.syntax.specs.declared.Refusal.{Refusal}
 use Rattle.syntax.specs.declared.Refusal.the-variants.{OpenInput, OpenOutput}
 use Rattle.syntax.specs.declared.Verdict.{Verdict}
 use Rattle.syntax.specs.declared.Verdict.the-variants.{Accepted, Refused}
-use Rattle.rules.specs.Modes.{Known, knows, nothing, everything, isGround, openByte, groundTerm, groundTerms, groundBoth, equateVariable, equateSame, equate, equateAll, settle, marksFor, sameMark, listOf, ifMarked, OpenArgument, firstOpen, groundIf, groundMarked, undeclaredInSheet, undeclaredInGoal, openInput, openOutput, literalFault, afterLiteral, Walk, faulted, known, walkOn, bodyFault, startKnown, headFault, clauseFault, clausesFault, sheetFault, walkFault, goalFault}
-use Rattle.rules.specs.Checking.{faultless, checkedFrom, checkedSheet, checkVerdict, checkedGoalFrom, checkedGoal, goalAnswer, checkGoalFrom, checkGoalVerdict}
+use Rattle.rules.specs.Modes.{Known, knows, nothing, everything, isGround, openByte, groundTerm, groundTerms, groundBoth, equateVariable, equateSame, equate, equateAll, settle, marksFor, sameMark, listOf, ifMarked, OpenArgument, firstOpen, groundIf, groundMarked, undeclaredInSheet, undeclaredInGoal, openInput, openOutput, literalFault, afterLiteral, Walk, faulted, known, walkOn, bodyFault, startKnown, headFault, clauseFault, clausesFault, firstOf, sheetFault, walkFault, goalFault}
+use Rattle.rules.specs.Written.{unwritten}
+use Rattle.rules.specs.Checking.{faultless, checkedFrom, checkedWith, verdictWith, checkVerdict, checkedGoalFrom, checkedGoal, goalAnswer, checkGoalFrom, checkGoalVerdict}
 use Rattle.rules.specs.Earlier as earlier
 use Rattle.rules.specs.Earlier.{singlePass, ByMarks, NotBefore, later-clause, later-test, later-literal, later-argument, Moved, stays, now-accepted, later, goal-tested}
 use Rattle.rules.proofs.Terms.{isNone, ground-none, ground-grows}
@@ -183,9 +184,6 @@ data FaultMoved (P : Refusal → Type 0) : Option Refusal → Option Refusal →
   no-fault : FaultMoved P none none
   gone : {r : Refusal} → P r → FaultMoved P (some r) none
   moved : {r q : Refusal} → P r → P q → NotBefore (numbersOf r) (numbersOf q) → FaultMoved P (some r) (some q)
-
-abbrev firstOf : Option Refusal → Option Refusal → Option Refusal
-firstOf o x = elim o [ none ↦ x | some r ↦ some r ]
 
 -- a fault, or else that of what comes behind it
 module _ {P Q R : Refusal → Type 0} (before : (r q : Refusal) → P r → Q q → NotBefore (numbersOf r) (numbersOf q)) (left : (r : Refusal) → P r → R r) (right : (r : Refusal) → Q r → R r) where
@@ -378,14 +376,15 @@ by-marks f no-fault = same
 by-marks f (gone {r = r} h) = gone (f r h)
 by-marks f (moved {r = r} {q = q} h k n) = moved (f r h) (f q k) n
 
--- behind refusal 8, which is the same
+-- behind another refusal, 8 or 16, which is the same
 behind : (o : Option Refusal) {x y : Option Refusal} → Fault x y → Fault (firstOf o x) (firstOf o y)
 behind none m = m
 behind (some r) m = same
 
-sheet-moved : (sh : Sheet) → Fault (earlier.sheetFault singlePass sh) (sheetFault sh)
+sheet-moved : (stored : Bool) (sh : Sheet) → Fault (earlier.sheetFault singlePass stored sh) (sheetFault stored sh)
 unfolding earlier.sheetFault sheetFault
-sheet-moved sh = behind (undeclaredInSheet sh) (by-marks (λ r h. h .marks) (clauses-moved (sh .declarations) (sh .clauses) 1))
+sheet-moved stored sh =
+    behind (undeclaredInSheet sh) (behind (unwritten stored sh) (by-marks (λ r h. h .marks) (clauses-moved (sh .declarations) (sh .clauses) 1)))
 
 goal-moved : (sh : Sheet) (g : Goal) → Fault (earlier.goalFault singlePass sh g) (goalFault sh g)
 unfolding earlier.goalFault goalFault
@@ -400,7 +399,7 @@ goal-moved sh g = behind (undeclaredInGoal sh g) (by (body-moved (sh .declaratio
 
 -- What (xiv) does to the answer to a sheet.
 pub verdict-moved : (s : List ℕ) → Moved (earlier.checkVerdict singlePass s) (checkVerdict s)
-unfolding earlier.checkVerdict checkVerdict earlier.checkedSheet checkedSheet
+unfolding earlier.checkVerdict verdictWith earlier.checkedWith checkedWith
 verdict-moved s = by (sheetOf s)
   where
     with-fault : (sh : Sheet) {o p : Option Refusal} → Fault o p → Moved (sheetVerdict (faultless sh o)) (sheetVerdict (faultless sh p))
@@ -408,9 +407,9 @@ verdict-moved s = by (sheetOf s)
     with-fault sh (gone h) = unfold faultless in unfold sheetVerdict in (now-accepted h)
     with-fault sh (moved h k n) = unfold faultless in unfold sheetVerdict in (later h k n)
 
-    by : (o : Outcome Sheet) → Moved (sheetVerdict (earlier.checkedFrom singlePass o)) (sheetVerdict (checkedFrom o))
+    by : (o : Outcome Sheet) → Moved (sheetVerdict (earlier.checkedFrom singlePass false o)) (sheetVerdict (checkedFrom false o))
     by (refused r) = unfold earlier.checkedFrom in unfold checkedFrom in stays
-    by (accepted sh) = unfold earlier.checkedFrom in unfold checkedFrom in (with-fault sh (sheet-moved sh))
+    by (accepted sh) = unfold earlier.checkedFrom in unfold checkedFrom in (with-fault sh (sheet-moved false sh))
 
 -- The same of a goal over a sheet that both accept.
 answer-moved : (sh : Sheet) (g : List ℕ) → Moved (goalAnswer sh (earlier.checkedGoal singlePass sh g)) (goalAnswer sh (checkedGoal sh g))
@@ -428,7 +427,7 @@ answer-moved sh g = by (goalOutcome g)
 
 -- What (xiv) does to the answer to a sheet and a goal.
 pub goal-verdict-moved : (s g : List ℕ) → Moved (earlier.checkGoalVerdict singlePass s g) (checkGoalVerdict s g)
-unfolding earlier.checkGoalVerdict checkGoalVerdict earlier.checkedSheet checkedSheet earlier.checkGoalFrom checkGoalFrom
+unfolding earlier.checkGoalVerdict checkGoalVerdict earlier.checkedWith checkedWith earlier.checkGoalFrom checkGoalFrom
 goal-verdict-moved s g = by (sheetOf s)
   where
     tested : {r : Refusal} → ByMarks r → (sh : Sheet) (o : Outcome Goal) → Moved (Refused inSheet r) (goalAnswer sh o)
@@ -441,9 +440,9 @@ goal-verdict-moved s g = by (sheetOf s)
     with-fault sh (gone h) = unfold faultless in (tested h sh (checkedGoal sh g))
     with-fault sh (moved h k n) = unfold faultless in (later h k n)
 
-    by : (o : Outcome Sheet) → Moved (earlier.checkGoalFrom singlePass g (earlier.checkedFrom singlePass o)) (checkGoalFrom g (checkedFrom o))
+    by : (o : Outcome Sheet) → Moved (earlier.checkGoalFrom singlePass g (earlier.checkedFrom singlePass false o)) (checkGoalFrom g (checkedFrom false o))
     by (refused r) = unfold earlier.checkedFrom in unfold checkedFrom in stays
-    by (accepted sh) = unfold earlier.checkedFrom in unfold checkedFrom in (with-fault sh (sheet-moved sh))
+    by (accepted sh) = unfold earlier.checkedFrom in unfold checkedFrom in (with-fault sh (sheet-moved false sh))
 
 -- ---- what it leaves alone
 

@@ -4,6 +4,7 @@ pub mod Marks
 pub mod Growth
 pub mod Passes
 pub mod Bodies
+pub mod Written
 pub mod Agreement
 pub mod Cases
 pub mod Earlier

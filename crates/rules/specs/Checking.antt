@@ -1,5 +1,6 @@
--- The answers to a sheet and to a goal over it, refusals 2 to 10 in document 01's order, and the name handed back.
+-- The answers to a sheet and to a goal over it, refusals 2 to 10 and 16 in their order, and the name handed back.
 use Prim.Native.Nat.{ℕ}
+use mathlib.Core.Bool.{Bool, false}
 use mathlib.Core.List.{List, []}
 use mathlib.Core.Option.{Option, none, some}
 use Rattle.syntax.specs.Terms.{Sheet, Goal}
@@ -8,7 +9,7 @@ use Rattle.syntax.specs.Verdicts.{Outcome, refused, accepted, sheetOf, goalOutc
 use Rattle.syntax.specs.declared.Text.{Text}
 use Rattle.syntax.specs.declared.Text.the-variants.{Sheet as inSheet, Goal as inGoal, Neither}
 use Rattle.syntax.specs.declared.Refusal.{Refusal}
-use Rattle.syntax.specs.declared.Refusal.the-variants.{Settings, TooLong, NoToken, Overlong, Misplaced, OverLimit, Repeated, Undeclared, OpenInput, OpenOutput}
+use Rattle.syntax.specs.declared.Refusal.the-variants.{Settings, TooLong, NoToken, Overlong, Misplaced, OverLimit, Repeated, Undeclared, OpenInput, OpenOutput, Unwritten}
 use Rattle.syntax.specs.declared.Verdict.{Verdict}
 use Rattle.syntax.specs.declared.Verdict.the-variants.{Accepted, Refused}
 use Rattle.rules.specs.Modes.{sheetFault, goalFault}
@@ -19,17 +20,24 @@ faultless x none = accepted x
 faultless x (some r) = refused r
 
 -- a refusal of reading stands
-unfoldable pub checkedFrom : Outcome Sheet → Outcome Sheet
-checkedFrom (refused r) = refused r
-checkedFrom (accepted sh) = faultless sh (sheetFault sh)
+unfoldable pub checkedFrom : Bool → Outcome Sheet → Outcome Sheet
+checkedFrom stored (refused r) = refused r
+checkedFrom stored (accepted sh) = faultless sh (sheetFault stored sh)
 
--- "Reading alone stops after 7; checking goes on to 10."
-unfoldable pub checkedSheet : List ℕ → Outcome Sheet
-checkedSheet s = checkedFrom (sheetOf s)
+-- "Reading alone stops after 7; checking goes on to 10", with 16 unless the sheet is marked as stored earlier (document 02, (x))
+unfoldable pub checkedWith : Bool → List ℕ → Outcome Sheet
+checkedWith stored s = checkedFrom stored (sheetOf s)
 
--- the answer to a sheet that is checked
-unfoldable pub checkVerdict : List ℕ → Verdict
-checkVerdict s = sheetVerdict (checkedSheet s)
+-- checking gives no mark
+abbrev pub checkedSheet : List ℕ → Outcome Sheet
+checkedSheet s = checkedWith false s
+
+-- the answer to a sheet by the mark, and to one that is checked
+unfoldable pub verdictWith : Bool → List ℕ → Verdict
+verdictWith stored s = sheetVerdict (checkedWith stored s)
+
+abbrev pub checkVerdict : List ℕ → Verdict
+checkVerdict s = verdictWith false s
 
 -- the same of a goal over a sheet
 unfoldable pub checkedGoalFrom : Sheet → Outcome Goal → Outcome Goal
@@ -66,6 +74,7 @@ nameSpan (Repeated byte) = (0, 0)
 nameSpan (Undeclared clause literal at len) = (at, len)
 nameSpan (OpenInput byte clause literal argument at len) = (at, len)
 nameSpan (OpenOutput byte clause argument at len) = (at, len)
+nameSpan (Unwritten byte) = (0, 0)
 
 -- the text that a refusal speaks of
 abbrev pub textAtFault : List ℕ → List ℕ → Text → List ℕ

@@ -1,8 +1,8 @@
--- Checking as it was before document 02's (ii), and as it was before its (xiv): one definition, over what each of them changed. Theorems say that
--- nothing else changed, and how (xiv) moves a verdict.
+-- Checking as it was before document 02's (ii), and as it was before its (xiv): one definition, over what each of them changed, with 16 of (x) in both.
+-- Theorems say that nothing else changed, and how (xiv) moves a verdict.
 use Prim.Native.Nat.{ℕ, suc, _≤_, _<_}
 use mathlib.Core.Path.{_≡_}
-use mathlib.Core.Bool.{true, false}
+use mathlib.Core.Bool.{Bool, false}
 use mathlib.Core.List.{List, [], _∷_}
 use mathlib.Core.Option.{Option, none, some}
 use Rattle.syntax.specs.Terms.{Term, Atom, Literal, Body, call, equation, truth, falsity, done, also, Mark, input, output, Declaration, Clause, Sheet, Goal}
@@ -12,11 +12,12 @@ use Rattle.syntax.specs.declared.Five.{Five}
 use Rattle.syntax.specs.declared.Text.{Text}
 use Rattle.syntax.specs.declared.Text.the-variants.{Sheet as inSheet, Goal as inGoal}
 use Rattle.syntax.specs.declared.Refusal.{Refusal}
-use Rattle.syntax.specs.declared.Refusal.the-variants.{Settings, TooLong, NoToken, Overlong, Misplaced, OverLimit, Repeated, Undeclared, OpenInput, OpenOutput}
+use Rattle.syntax.specs.declared.Refusal.the-variants.{Settings, TooLong, NoToken, Overlong, Misplaced, OverLimit, Repeated, Undeclared, OpenInput, OpenOutput, Unwritten}
 use Rattle.syntax.specs.declared.Verdict.{Verdict}
 use Rattle.syntax.specs.declared.Verdict.the-variants.{Accepted, Refused}
 use Rattle.rules.specs.Modes.{Known, nothing, everything, isGround, openUnless, openByte, equate, settle, marksFor, sameMark, listOf, ifMarked}
-use Rattle.rules.specs.Modes.{OpenArgument, groundMarked, undeclaredInSheet, undeclaredInGoal, openInput, openOutput, Walk, faulted, known, walkOn, startKnown, walkFault}
+use Rattle.rules.specs.Modes.{OpenArgument, groundMarked, undeclaredInSheet, undeclaredInGoal, openInput, openOutput, Walk, faulted, known, walkOn, startKnown, firstOf, walkFault}
+use Rattle.rules.specs.Written.{unwritten}
 use Rattle.rules.specs.Checking.{faultless, goalAnswer}
 
 -- The ground test: none, or the byte that is told of a term that is not ground; and what an equation makes known ground.
@@ -67,22 +68,22 @@ unfoldable pub clausesFault : Ways → List Declaration → ℕ → List Clause 
 clausesFault way ds c [] = none
 clausesFault way ds c (cl ∷ cls) = elim (clauseFault way ds c cl) [ none ↦ clausesFault way ds (suc c) cls | some r ↦ some r ]
 
-unfoldable pub sheetFault : Ways → Sheet → Option Refusal
-sheetFault way sh = elim (undeclaredInSheet sh) [ none ↦ clausesFault way (sh .declarations) 1 (sh .clauses) | some r ↦ some r ]
+unfoldable pub sheetFault : Ways → Bool → Sheet → Option Refusal
+sheetFault way stored sh = firstOf (undeclaredInSheet sh) (firstOf (unwritten stored sh) (clausesFault way (sh .declarations) 1 (sh .clauses)))
 
 unfoldable pub goalFault : Ways → Sheet → Goal → Option Refusal
 goalFault way sh g = elim (undeclaredInGoal sh g) [ none ↦ walkFault (bodyFault way (sh .declarations) 0 1 nothing (g .body)) | some r ↦ some r ]
 
-unfoldable pub checkedFrom : Ways → Outcome Sheet → Outcome Sheet
-checkedFrom way (refused r) = refused r
-checkedFrom way (accepted sh) = faultless sh (sheetFault way sh)
+unfoldable pub checkedFrom : Ways → Bool → Outcome Sheet → Outcome Sheet
+checkedFrom way stored (refused r) = refused r
+checkedFrom way stored (accepted sh) = faultless sh (sheetFault way stored sh)
 
-unfoldable pub checkedSheet : Ways → List ℕ → Outcome Sheet
-checkedSheet way s = checkedFrom way (sheetOf s)
+unfoldable pub checkedWith : Ways → Bool → List ℕ → Outcome Sheet
+checkedWith way stored s = checkedFrom way stored (sheetOf s)
 
 -- the answer to a sheet
 unfoldable pub checkVerdict : Ways → List ℕ → Verdict
-checkVerdict way s = sheetVerdict (checkedSheet way s)
+checkVerdict way s = sheetVerdict (checkedWith way false s)
 
 unfoldable pub checkedGoalFrom : Ways → Sheet → Outcome Goal → Outcome Goal
 checkedGoalFrom way sh (refused r) = refused r
@@ -97,7 +98,7 @@ checkGoalFrom way g (accepted sh) = goalAnswer sh (checkedGoal way sh g)
 
 -- the answer to a sheet and a goal
 unfoldable pub checkGoalVerdict : Ways → List ℕ → List ℕ → Verdict
-checkGoalVerdict way s g = checkGoalFrom way g (checkedSheet way s)
+checkGoalVerdict way s g = checkGoalFrom way g (checkedWith way false s)
 
 -- ---- (ii): this byte set to 0
 
@@ -113,6 +114,7 @@ withoutByte (Repeated byte) = Repeated byte
 withoutByte (Undeclared clause literal at len) = Undeclared clause literal at len
 withoutByte (OpenInput byte clause literal argument at len) = OpenInput 0 clause literal argument at len
 withoutByte (OpenOutput byte clause argument at len) = OpenOutput 0 clause argument at len
+withoutByte (Unwritten byte) = Unwritten byte
 
 abbrev pub faultWithout : Option Refusal → Option Refusal
 faultWithout none = none

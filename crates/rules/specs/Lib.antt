@@ -1,3 +1,4 @@
+pub mod Written
 pub mod Modes
 pub mod Checking
 pub mod Judgment

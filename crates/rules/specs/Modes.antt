@@ -9,6 +9,7 @@ use Rattle.syntax.specs.Terms.{input, output, free, Declaration, Clause, Sheet,
 use Rattle.syntax.specs.Limits.{variables}
 use Rattle.syntax.specs.declared.Refusal.{Refusal}
 use Rattle.syntax.specs.declared.Refusal.the-variants.{Undeclared, OpenInput, OpenOutput}
+use Rattle.rules.specs.Written.{unwritten}
 
 -- "Within a clause each variable is known ground or unknown": a flag for each variable number, of which a clause has at most `variables`.
 abbrev pub Known : Type 0
@@ -289,9 +290,14 @@ unfoldable pub clausesFault : List Declaration → ℕ → List Clause → Optio
 clausesFault ds c [] = none
 clausesFault ds c (cl ∷ cls) = elim (clauseFault ds c cl) [ none ↦ clausesFault ds (suc c) cls | some r ↦ some r ]
 
--- "then 8 over the whole sheet …. Then each clause in turn"
-unfoldable pub sheetFault : Sheet → Option Refusal
-sheetFault sh = elim (undeclaredInSheet sh) [ none ↦ clausesFault (sh .declarations) 1 (sh .clauses) | some r ↦ some r ]
+-- what the first of two tests finds, or else the second
+abbrev pub firstOf : Option Refusal → Option Refusal → Option Refusal
+firstOf o p = elim o [ none ↦ p | some r ↦ some r ]
+
+-- "then 8 over the whole sheet …. Then each clause in turn"; document 02, (x): "16, over the whole sheet, between 8 and 9", unless the sheet is
+-- marked as stored earlier
+unfoldable pub sheetFault : Bool → Sheet → Option Refusal
+sheetFault stored sh = firstOf (undeclaredInSheet sh) (firstOf (unwritten stored sh) (clausesFault (sh .declarations) 1 (sh .clauses)))
 
 -- a goal has no 10
 unfoldable pub walkFault : Walk → Option Refusal

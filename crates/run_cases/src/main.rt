@@ -1,9 +1,10 @@
-// Answers each record of the file `cases`: `R`, the allowance in 3 bytes, the wanted answers in 2 and the room in 3, lowest first, a sheet
-// and a goal. What the runner would print with these settings is printed.
+// Answers each record of the file `cases`: `R`, the allowance in 3 bytes, the wanted answers in 2 and the room in 3, lowest first, a byte that
+// is 1 for the mark of a sheet stored earlier, a sheet and a goal. What the runner would print with these settings is printed.
 use cases::BYTE;
 use cases::TWO_BYTES;
 use cases::wide;
 use syntax::Run;
+use syntax::RunSettings;
 use syntax::Verdict;
 ghost use mathlib.Core.Path.{_≡_};
 ghost use Prim.Native.Nat.{_+_, _≤_, _<_};
@@ -14,7 +15,7 @@ ghost use Rattle.run_cases.specs.Rooms.{textRoom};
 const TEXT_ROOM: usize = 200000;
 
 // The bytes of a record before its texts.
-const SETTINGS: usize = 9;
+const SETTINGS: usize = 10;
 
 // A number of two bytes, and one of three.
 fn two(cases: &[u8], at: usize) -> usize
@@ -49,8 +50,8 @@ fn print_run<'a>(sheet: &'a [u8], goal: &'a [u8], run: Run, text: &[u8]) {
 }
 
 // Runs with a text, and prints what comes of it.
-fn run_with<'a>(sheet: &'a [u8], goal: &'a [u8], allowance: usize, wanted: usize, text: &mut [u8]) {
-    let run = pilvaust::run(sheet, goal, allowance, wanted, text);
+fn run_with<'a>(sheet: &'a [u8], goal: &'a [u8], asked: RunSettings, text: &mut [u8]) {
+    let run = pilvaust::run(sheet, goal, asked, text);
     print_run(sheet, goal, run, text);
 }
 
@@ -61,12 +62,12 @@ fn text_room() -> [u8; TEXT_ROOM]
 }
 
 // Runs with so much room; a record that asks for more than there is is passed over.
-fn answer_run<'a>(sheet: &'a [u8], goal: &'a [u8], allowance: usize, wanted: usize, room: usize) {
+fn answer_run<'a>(sheet: &'a [u8], goal: &'a [u8], asked: RunSettings, room: usize) {
     if TEXT_ROOM < room {
         return;
     }
     let mut text = text_room();
-    run_with(sheet, goal, allowance, wanted, &mut text[..room]);
+    run_with(sheet, goal, asked, &mut text[..room]);
 }
 
 // Answers the record at a place and returns the place past it.
@@ -81,19 +82,19 @@ fn answer(cases: &[u8], at: usize) -> usize
     let allowance = three(cases, at + 1);
     let wanted = two(cases, at + 4);
     let room = three(cases, at + 6);
+    let stored = cases[at + 9] == 1;
+    let asked = RunSettings {
+        allowance,
+        wanted,
+        stored,
+    };
     let sheet = cases::text_at(cases, at + SETTINGS);
     let start = sheet.start;
     let end = sheet.end;
     let goal = cases::text_at(cases, end);
     let from = goal.start;
     let to = goal.end;
-    answer_run(
-        &cases[start..end],
-        &cases[from..to],
-        allowance,
-        wanted,
-        room,
-    );
+    answer_run(&cases[start..end], &cases[from..to], asked, room);
     to
 }
 

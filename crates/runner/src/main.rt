@@ -4,6 +4,7 @@
 use syntax::GOAL_BYTES;
 use syntax::MOST_STEPS;
 use syntax::Run;
+use syntax::RunSettings;
 use syntax::SHEET_BYTES;
 use syntax::Verdict;
 
@@ -27,7 +28,12 @@ fn main() {
     libc::close(second);
     let clauses = &sheet[..n];
     let asked = &goal[..m];
-    match pilvaust::run(clauses, asked, MOST_STEPS, ANSWERS, &mut text) {
+    let settings = RunSettings {
+        allowance: MOST_STEPS,
+        wanted: ANSWERS,
+        stored: false,
+    };
+    match pilvaust::run(clauses, asked, settings, &mut text) {
         Run::Ended(report) => {
             printing::print_lines(&text, report.answers);
             printing::print_report(report);

@@ -1,5 +1,6 @@
 -- What the two programs print (document 01, "Two programs and what they print").
 use Prim.Native.Nat.{ℕ}
+use mathlib.Core.Bool.{false}
 use mathlib.Core.List.{List, [], _++_}
 use Rattle.syntax.specs.Limits.{mostSteps}
 use Rattle.syntax.specs.declared.Verdict.{Verdict}
@@ -7,7 +8,7 @@ use Rattle.syntax.specs.declared.Verdict.the-variants.{Refused}
 use Rattle.lines.specs.Lines.{lineOf}
 use Rattle.reports.specs.Reports.{reportLine}
 use Rattle.rules.specs.Checking.{checkVerdict, faultName}
-use Rattle.machine.specs.Runs.{RunOutcome, stopped, ran, runOutcome}
+use Rattle.machine.specs.Runs.{RunSettings, RunOutcome, stopped, ran, runOutcome}
 
 -- a verdict, with the name that it hands back of the two texts
 unfoldable pub verdictLine : List ℕ → List ℕ → Verdict → List ℕ
@@ -29,6 +30,10 @@ runnerAnswers = 16
 abbrev pub runnerText : ℕ
 runnerText = 4096
 
--- the runner's output for two files, with the most steps
+-- the most steps, and no mark: "the runner gives none" (document 02, (x))
+abbrev pub runnerSettings : RunSettings
+runnerSettings = record { allowance = mostSteps; wanted = runnerAnswers; stored = false }
+
+-- the runner's output for two files
 unfoldable pub runner : List ℕ → List ℕ → List ℕ
-runner sheet goal = runLines sheet goal (runOutcome sheet goal mostSteps runnerAnswers runnerText)
+runner sheet goal = runLines sheet goal (runOutcome sheet goal runnerSettings runnerText)

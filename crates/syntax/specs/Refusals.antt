@@ -1,8 +1,9 @@
--- The numbers of the refusals (document 01, "The ten numbers"; document 02, (ii): "refusals 9 and 10 carry it in their byte place").
+-- The numbers of the refusals (document 01, "The ten numbers"; document 02, (ii): "refusals 9 and 10 carry it in their byte place"; (x): "the byte
+-- being the first such name", "New numbers: 16").
 use Prim.Native.Nat.{ℕ}
 use Rattle.syntax.specs.declared.Five.{Five}
 use Rattle.syntax.specs.declared.Refusal.{Refusal}
-use Rattle.syntax.specs.declared.Refusal.the-variants.{Settings, TooLong, NoToken, Overlong, Misplaced, OverLimit, Repeated, Undeclared, OpenInput, OpenOutput}
+use Rattle.syntax.specs.declared.Refusal.the-variants.{Settings, TooLong, NoToken, Overlong, Misplaced, OverLimit, Repeated, Undeclared, OpenInput, OpenOutput, Unwritten}
 
 abbrev pub five : ℕ → ℕ → ℕ → ℕ → ℕ → Five
 five n b c l a = record { number = n; byte = b; clause = c; literal = l; argument = a }
@@ -19,3 +20,4 @@ numbersOf (Repeated byte) = five 7 byte 0 0 0
 numbersOf (Undeclared clause literal at len) = five 8 0 clause literal 0
 numbersOf (OpenInput byte clause literal argument at len) = five 9 byte clause literal argument
 numbersOf (OpenOutput byte clause argument at len) = five 10 byte clause 0 argument
+numbersOf (Unwritten byte) = five 16 byte 0 0 0

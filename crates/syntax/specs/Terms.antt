@@ -90,6 +90,13 @@ fail-name = bytes "fail"
 abbrev pub mode-name : List ℕ
 mode-name = bytes "mode"
 
+-- the predicate of a logger's records, `seen` with three arguments (document 02, (ix) and (x))
+abbrev pub seen-name : List ℕ
+seen-name = bytes "seen"
+
+abbrev pub seenArguments : ℕ
+seenArguments = 3
+
 -- the bare atoms `true` and `fail` are truth and falsehood; every other atom is a call
 unfoldable pub literalOf : Atom → Literal
 literalOf a =

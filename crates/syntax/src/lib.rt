@@ -127,8 +127,9 @@ pub enum Text {
     Neither,
 }
 
-// The ten refusals of document 01, in its order. Those that hand a name back carry its place and length. The byte of an open input or output
-// is that of the first variable in the argument that is not known ground.
+// The ten refusals of document 01, in its order, and those of document 02. Those that hand a name back carry its place and length. The byte
+// of an open input or output is that of the first variable in the argument that is not known ground, the byte of an unwritten predicate that
+// of its name in the declaration.
 pub enum Refusal {
     Settings,
     TooLong,
@@ -158,12 +159,21 @@ pub enum Refusal {
         at: usize,
         len: usize,
     },
+    Unwritten(usize),
 }
 
 // The answer to a text: accepted, with the counts of declarations and clauses, or the refusal and the text at fault.
 pub enum Verdict {
     Accepted { declarations: usize, clauses: usize },
     Refused { text: Text, refusal: Refusal },
+}
+
+// What a run is asked for: the most steps, the most answers, and document 02 (x)'s mark for a sheet stored earlier, with which declared
+// predicates may have no clause.
+pub struct RunSettings {
+    pub allowance: usize,
+    pub wanted: usize,
+    pub stored: bool,
 }
 
 // How a run ends. Document 02 (vii) looks for `Done` before `Wanted`; the others are looked for in this order.
@@ -210,7 +220,7 @@ pub enum Declared {
     Nothing,
 }
 
-// The five numbers that document 01 gives a refusal.
+// The five numbers that documents 01 and 02 give a refusal.
 pub fn numbers(refusal: Refusal) -> Five
     ensures { λ r. ⌜ r ≡ numbersOf refusal ⌝ }
 {
@@ -302,6 +312,13 @@ pub fn numbers(refusal: Refusal) -> Five
             clause: clause,
             literal: 0,
             argument: argument,
+        },
+        Refusal::Unwritten(byte) => Five {
+            number: 16,
+            byte: byte,
+            clause: 0,
+            literal: 0,
+            argument: 0,
         },
     }
 }

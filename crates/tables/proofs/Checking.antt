@@ -1,20 +1,25 @@
 -- Laws of checking a sheet and a goal: one for each way out of the functions. Assumes nothing.
-use Prim.Native.Nat.{ℕ}
+use Prim.Native.Nat.{ℕ, _≤_}
 use native.Mathlib.Omega.{arith}
 use mathlib.Core.Path.{_≡_, refl, sym, ap, ap₂, _∙_, subst, subst⁻¹}
-use mathlib.Core.List.{List}
+use mathlib.Core.Bool.{Bool, true, false}
+use mathlib.Core.List.{List, []}
 use mathlib.Core.Option.{Option, none, some}
+use lib.Dec.{leb}
 use lib.ListN.{length}
+use Rattle.syntax.specs.Limits.{sheetBytes, declarations}
 use Rattle.syntax.specs.Terms.{Sheet, Goal}
+use Rattle.syntax.specs.Reading.{Cursor, Read, fault, ok, readSheet, firstRepeat}
 use Rattle.syntax.specs.Words.{declarationsWords}
-use Rattle.syntax.specs.Verdicts.{Outcome, refused, accepted, sheetOf, sheetVerdict, readVerdict, goalOutcome, goalVerdict}
+use Rattle.syntax.specs.Verdicts.{Outcome, refused, accepted, withoutRepeats, sheetFrom, sheetOf, sheetVerdict, readVerdict, goalOutcome, goalVerdict}
 use Rattle.syntax.specs.declared.Text.{Text}
 use Rattle.syntax.specs.declared.Text.the-variants.{Sheet as inSheet, Goal as inGoal}
 use Rattle.syntax.specs.declared.Refusal.{Refusal}
+use Rattle.syntax.specs.declared.Refusal.the-variants.{TooLong}
 use Rattle.syntax.specs.declared.Verdict.{Verdict}
 use Rattle.syntax.specs.declared.Verdict.the-variants.{Accepted, Refused}
 use Rattle.rules.specs.Modes.{sheetFault, goalFault}
-use Rattle.rules.specs.Checking.{faultless, checkedFrom, checkedSheet, checkVerdict, checkedGoalFrom, checkedGoal, goalAnswer, checkGoalFrom, checkGoalVerdict}
+use Rattle.rules.specs.Checking.{faultless, checkedFrom, checkedWith, checkedSheet, verdictWith, checkVerdict, checkedGoalFrom, checkedGoal, goalAnswer, checkGoalFrom, checkGoalVerdict}
 use Rattle.marking.specs.Standing.{SheetStands, DeclarationsStand}
 use Rattle.words.specs.Tables.{Has}
 use Rattle.marking.specs.Tables.{SheetAt, GoalAt}
@@ -23,6 +28,8 @@ use Rattle.marking.specs.declared.Checked.{Checked}
 use Rattle.marking.specs.declared.Checked.the-variants.{Fine, Fault}
 use Rattle.tables.specs.Tables.{Tabled, GoalStanding, GoalTabled, Over}
 use Rattle.tables.specs.declared.GoalRead.{GoalRead}
+use Rattle.written.specs.Flags.{DeclaredOnce}
+use Rattle.modes.proofs.Accepted.{read-few}
 use Rattle.tables.proofs.Laws.{never}
 use Rattle.tables.proofs.Entries.{counted-sheet, refused-sheet}
 
@@ -40,12 +47,35 @@ fault-some (some r) q e = ap some (let z : r ≡ q = cc in z)
 
 -- ---- a sheet
 
-module _ (s declared table : List ℕ) (v : Verdict) (e : v ≡ readVerdict s) (holds : (sh : Sheet) → sheetOf s ≡ accepted sh → Tabled s declared table sh) where
-  pub checked-refused : (t : Text) (q : Refusal) → v ≡ Refused t q → (v ≡ checkVerdict s) × ((sh : Sheet) → checkedSheet s ≡ accepted sh → Tabled s declared table sh)
-  unfolding checkVerdict readVerdict checkedSheet checkedFrom
+-- what reading accepts: each predicate is declared once, and there are no more declarations than there may be
+once-accepted : (s : List ℕ) (sh : Sheet) → sheetOf s ≡ accepted sh → (firstRepeat [] (sh .declarations) ≡ none) × (length (sh .declarations) ≤ declarations)
+unfolding sheetOf
+once-accepted s sh e = by (leb (length s) sheetBytes) e
+  where
+    Once : Sheet → Type 0
+    Once x = (firstRepeat [] (x .declarations) ≡ none) × (length (x .declarations) ≤ declarations)
+
+    unrepeated : (x : Sheet) (o : Option ℕ) → withoutRepeats x o ≡ accepted sh → (o ≡ none) × (x ≡ sh)
+    unrepeated x none q = unfold withoutRepeats in (refl, same x sh q)
+    unrepeated x (some b) q = unfold withoutRepeats in absurd (never _ sh q)
+
+    from : (r : Read Sheet) → readSheet s ≡ r → sheetFrom r ≡ accepted sh → Once sh
+    from (fault n b) p q = unfold sheetFrom in absurd (never _ sh q)
+    from (ok x st) p q = unfold sheetFrom in
+        let u : (firstRepeat [] (x .declarations) ≡ none) × (x ≡ sh) = unrepeated x (firstRepeat [] (x .declarations)) q in
+        subst Once (u .1) (u .0, read-few s x st p)
+
+    by : (b : Bool) → _≡_ {A = Outcome Sheet} (elim b [ true ↦ sheetFrom (readSheet s) | false ↦ refused TooLong ]) (accepted sh) → Once sh
+    by true q = from (readSheet s) refl q
+    by false q = absurd (never TooLong sh q)
+
+module _ (stored : Bool) (s declared table : List ℕ) (v : Verdict) (e : v ≡ readVerdict s) (holds : (sh : Sheet) → sheetOf s ≡ accepted sh → Tabled s declared table sh) where
+  pub checked-refused : (t : Text) (q : Refusal) → v ≡ Refused t q
+      → (v ≡ verdictWith stored s) × ((sh : Sheet) → checkedWith stored s ≡ accepted sh → Tabled s declared table sh)
+  unfolding verdictWith readVerdict checkedWith checkedFrom
   checked-refused t q f =
       let o : (sheetOf s ≡ refused q) × (t ≡ inSheet) = refused-sheet s v t q e f in
-      let c : checkedFrom (sheetOf s) ≡ refused q = ap checkedFrom (o .0) in
+      let c : checkedFrom stored (sheetOf s) ≡ refused q = ap (checkedFrom stored) (o .0) in
       (e ∙ ap sheetVerdict (o .0 ∙ sym c), λ sh a. absurd (never q sh (sym c ∙ a)))
 
   module _ (n k : ℕ) (f : v ≡ Accepted n k) where
@@ -55,7 +85,7 @@ module _ (s declared table : List ℕ) (v : Verdict) (e : v ≡ readVerdict s) (
     tabled : Tabled s declared table (of .0)
     tabled = holds (of .0) (of .1)
 
-    pub sheet-stands-at : SheetAt s declared n table k
+    sheet-stands-at : SheetAt s declared n table k
     sheet-stands-at = record {
       sheet = of .0;
       has-declarations = subst (λ (x : Sheet). Has declared 0 (declarationsWords (x .declarations))) (tabled .is) (tabled .stands .has-declarations);
@@ -65,21 +95,28 @@ module _ (s declared table : List ℕ) (v : Verdict) (e : v ≡ readVerdict s) (
       stands = subst (SheetStands s) (tabled .is) (tabled .stands .stands);
     }
 
-    module _ (ck : Checked) (ec : (w : SheetAt s declared n table k) → ck ≡ checkedOf (sheetFault (w .sheet))) where
-      checked : ck ≡ checkedOf (sheetFault (of .0))
-      unfolding sheet-stands-at
-      checked = ec sheet-stands-at
+    pub declared-once : DeclaredOnce s declared n table k
+    unfolding sheet-stands-at
+    declared-once =
+        let o : (firstRepeat [] (of .0 .declarations) ≡ none) × (length (of .0 .declarations) ≤ declarations) = once-accepted s (of .0) (of .1) in
+        record { stands = sheet-stands-at; few = omega (arith, o .1, of .2); once = o .0 }
 
-      pub checked-fine : ck ≡ Fine → (Accepted n k ≡ checkVerdict s) × ((sh : Sheet) → checkedSheet s ≡ accepted sh → Tabled s declared table sh)
-      unfolding checkVerdict readVerdict checkedSheet checkedFrom faultless
+    module _ (ck : Checked) (ec : (w : DeclaredOnce s declared n table k) → ck ≡ checkedOf (sheetFault stored (w .stands .sheet))) where
+      checked : ck ≡ checkedOf (sheetFault stored (of .0))
+      unfolding sheet-stands-at declared-once
+      checked = ec declared-once
+
+      pub checked-fine : ck ≡ Fine → (Accepted n k ≡ verdictWith stored s) × ((sh : Sheet) → checkedWith stored s ≡ accepted sh → Tabled s declared table sh)
+      unfolding verdictWith readVerdict checkedWith checkedFrom faultless
       checked-fine g =
-          let c : checkedFrom (sheetOf s) ≡ accepted (of .0) = ap checkedFrom (of .1) ∙ ap (faultless (of .0)) (fine-none (sheetFault (of .0)) (sym g ∙ checked)) in
+          let c : checkedFrom stored (sheetOf s) ≡ accepted (of .0) = ap (checkedFrom stored) (of .1) ∙ ap (faultless (of .0)) (fine-none (sheetFault stored (of .0)) (sym g ∙ checked)) in
           (sym f ∙ e ∙ ap sheetVerdict (of .1 ∙ sym c), λ sh a. subst (Tabled s declared table) (same (of .0) sh (sym c ∙ a)) tabled)
 
-      pub checked-fault : (q : Refusal) → ck ≡ Fault q → (u : Verdict) → u ≡ Refused inSheet q → (u ≡ checkVerdict s) × ((sh : Sheet) → checkedSheet s ≡ accepted sh → Tabled s declared table sh)
-      unfolding checkVerdict checkedSheet checkedFrom faultless sheetVerdict
+      pub checked-fault : (q : Refusal) → ck ≡ Fault q → (u : Verdict) → u ≡ Refused inSheet q
+          → (u ≡ verdictWith stored s) × ((sh : Sheet) → checkedWith stored s ≡ accepted sh → Tabled s declared table sh)
+      unfolding verdictWith checkedWith checkedFrom faultless sheetVerdict
       checked-fault q g u h =
-          let c : checkedFrom (sheetOf s) ≡ refused q = ap checkedFrom (of .1) ∙ ap (faultless (of .0)) (fault-some (sheetFault (of .0)) q (sym g ∙ checked)) in
+          let c : checkedFrom stored (sheetOf s) ≡ refused q = ap (checkedFrom stored) (of .1) ∙ ap (faultless (of .0)) (fault-some (sheetFault stored (of .0)) q (sym g ∙ checked)) in
           (h ∙ ap sheetVerdict (sym c), λ sh a. absurd (never q sh (sym c ∙ a)))
 
 -- ---- a goal over a sheet
@@ -147,30 +184,39 @@ unfolding sheetVerdict
 checked-accepted-by (refused r) n k e = absurd (let z : _≡_ {A = ℕ} 0 1 = cc in omega arith)
 checked-accepted-by (accepted sh) n k e = (sh, refl, cc, cc)
 
+module _ (stored : Bool) (s declared table : List ℕ) (v : Verdict) (e : v ≡ verdictWith stored s)
+    (holds : (sh : Sheet) → checkedWith stored s ≡ accepted sh → Tabled s declared table sh) (n k : ℕ) (f : v ≡ Accepted n k) where
+  pub checked-sheet : (sh : Sheet) × (checkedWith stored s ≡ accepted sh) × (n ≡ length (sh .declarations)) × (k ≡ length (sh .clauses))
+  unfolding verdictWith
+  checked-sheet = checked-accepted-by (checkedWith stored s) n k (sym e ∙ f)
+
+  pub checked-tabled : Tabled s declared table (checked-sheet .0)
+  checked-tabled = holds (checked-sheet .0) (checked-sheet .1)
+
+-- checking, which gives no mark
 module _ (s declared table g : List ℕ) (v : Verdict) (e : v ≡ checkVerdict s) (holds : (sh : Sheet) → checkedSheet s ≡ accepted sh → Tabled s declared table sh) where
   pub both-refused : (t : Text) (q : Refusal) → v ≡ Refused t q → v ≡ checkGoalVerdict s g
-  unfolding checkGoalVerdict checkVerdict checkGoalFrom
+  unfolding checkGoalVerdict verdictWith checkGoalFrom
   both-refused t q f =
       let o : (checkedSheet s ≡ refused q) × (t ≡ inSheet) = checked-refused-by (checkedSheet s) t q (sym e ∙ f) in
       f ∙ ap (λ (y : Text). Refused y q) (o .1) ∙ sym (ap (checkGoalFrom g) (o .0))
 
   module _ (n k : ℕ) (f : v ≡ Accepted n k) where
-    pub checked-sheet : (sh : Sheet) × (checkedSheet s ≡ accepted sh) × (n ≡ length (sh .declarations)) × (k ≡ length (sh .clauses))
-    unfolding checkVerdict
-    checked-sheet = checked-accepted-by (checkedSheet s) n k (sym e ∙ f)
+    of-checked : (sh : Sheet) × (checkedSheet s ≡ accepted sh) × (n ≡ length (sh .declarations)) × (k ≡ length (sh .clauses))
+    of-checked = checked-sheet false s declared table v e holds n k f
 
-    pub checked-tabled : Tabled s declared table (checked-sheet .0)
-    checked-tabled = holds (checked-sheet .0) (checked-sheet .1)
+    in-tables : Tabled s declared table (of-checked .0)
+    in-tables = holds (of-checked .0) (of-checked .1)
 
     pub over-at : Over s declared n k
     over-at = record {
-      sheet = checked-sheet .0;
-      has = subst (λ (x : Sheet). Has declared 0 (declarationsWords (x .declarations))) (checked-tabled .is) (checked-tabled .stands .has-declarations);
-      count = checked-sheet .2;
-      clauses = checked-sheet .3;
-      stand = subst (λ (x : Sheet). DeclarationsStand s (x .declarations)) (checked-tabled .is) (checked-tabled .stands .stands .declarations);
+      sheet = of-checked .0;
+      has = subst (λ (x : Sheet). Has declared 0 (declarationsWords (x .declarations))) (in-tables .is) (in-tables .stands .has-declarations);
+      count = of-checked .2;
+      clauses = of-checked .3;
+      stand = subst (λ (x : Sheet). DeclarationsStand s (x .declarations)) (in-tables .is) (in-tables .stands .stands .declarations);
     }
 
     pub both-answered : (u : Verdict) → ((w : Over s declared n k) → u ≡ goalAnswer (w .sheet) (checkedGoal (w .sheet) g)) → u ≡ checkGoalVerdict s g
     unfolding checkGoalVerdict checkGoalFrom over-at
-    both-answered u h = h over-at ∙ sym (ap (checkGoalFrom g) (checked-sheet .1))
+    both-answered u h = h over-at ∙ sym (ap (checkGoalFrom g) (of-checked .1))

@@ -11,13 +11,14 @@ use syntax::Verdict;
 use syntax::fault_of;
 use syntax::is_long_goal;
 use syntax::is_long_sheet;
+use written::check_sheet;
 ghost use mathlib.Core.Path.{_≡_};
 ghost use Prim.Native.Nat.{_≤_, _<_, _^_};
 ghost use lib.ListN.{length};
 ghost use Rattle.syntax.specs.Words.{sheetWords, goalWords, declaredWords};
 ghost use Rattle.syntax.specs.Terms.{Sheet};
 ghost use Rattle.syntax.specs.Verdicts.{accepted, sheetOf, readVerdict};
-ghost use Rattle.rules.specs.Checking.{checkedSheet, checkVerdict};
+ghost use Rattle.rules.specs.Checking.{checkedWith, verdictWith};
 ghost use Rattle.tables.specs.Tables.{Tabled, GoalTabled};
 
 // The refusal of a sheet.
@@ -128,11 +129,11 @@ fn goal_refused(refusal: Refusal) -> GoalRead
     }
 }
 
-// A sheet into its tables, held against its marks.
-pub fn load_checked(sheet: &[u8], declared: &mut [u32], table: &mut [u32]) -> Verdict
+// A sheet into its tables, held against its marks. One stored earlier may have declared predicates without clauses.
+pub fn load_checked(sheet: &[u8], declared: &mut [u32], table: &mut [u32], stored: bool) -> Verdict
     requires { ⌜ (declaredWords ≤ length (now declared)) × ((sheetWords ≤ length (now table)) × (length (now table) < 2 ^ 31)) ⌝ }
-    ensures is { λ r. ⌜ r ≡ checkVerdict (now (sheet .entry)) ⌝ }
-    ensures holds { λ r. ⌜ ((sh : Sheet) → checkedSheet (now (sheet .entry)) ≡ accepted sh
+    ensures is { λ r. ⌜ r ≡ verdictWith stored (now (sheet .entry)) ⌝ }
+    ensures holds { λ r. ⌜ ((sh : Sheet) → checkedWith stored (now (sheet .entry)) ≡ accepted sh
         → Tabled (now (sheet .entry)) (now (declared .exit)) (now (table .exit)) sh) ⌝ }
 {
     let v = load(sheet, declared, table);
@@ -145,7 +146,7 @@ pub fn load_checked(sheet: &[u8], declared: &mut [u32], table: &mut [u32]) -> Ve
             declarations,
             clauses,
         } => {
-            let fault = modes::check_sheet(sheet, declared, declarations, table, clauses);
+            let fault = check_sheet(sheet, declared, declarations, table, clauses, stored);
             match fault {
                 Checked::Fine => v,
                 Checked::Fault(refusal) => sheet_refused(refusal),

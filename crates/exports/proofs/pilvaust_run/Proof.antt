@@ -6,7 +6,7 @@ use borrow.Author.Needs.{needs}
 use Rattle.machine.specs.Runs.{runOutcome}
 use Rattle.packing.specs.Numbers.{runNumbers}
 use Rattle.packing.proofs.Laws.{Given, given-as}
-use Rattle.exports.specs.Runs.{outcomeNumbers}
+use Rattle.exports.specs.Runs.{asking, outcomeNumbers}
 use Rattle.exports.proofs.pilvaust_run.Statement.{statement}
 use Rattle.exports.proofs.pilvaust_run.Tie as tie
 
@@ -27,7 +27,7 @@ returns c =
     let c2 = c .before .before in
     let c6 = c2 .before .before .before .before in
     let a = c6 .before .before .before .before .before .before .args in
-    let ns : List ℕ = outcomeNumbers (runOutcome (a .sheet .now) (a .goal .now) (a .allowance) (a .wanted) (length (a .text .now))) in
+    let ns : List ℕ = outcomeNumbers (runOutcome (a .sheet .now) (a .goal .now) (asking (a .allowance) (a .wanted) (a .stored)) (length (a .text .now))) in
     let e : ns ≡ runNumbers (c6 .run-written .result .run) (c6 .run-written .result .bytes) =
     sym (ap₂ runNumbers (c6 .run-written .ensures .0) (c6 .run-written .ensures .1 .0)) in
     let h : Given ns (a .numbers .now) (c2 .put-run .last .1 .1 .0) (c2 .put-run .result) = given-as _ ns (a .numbers .now) _ _ e (c2 .put-run .ensures) in

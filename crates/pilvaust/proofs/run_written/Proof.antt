@@ -12,7 +12,7 @@ run-refused-requires : tie.Need-run-refused-requires
 run-refused-requires c κs = search needs
 
 returns : tie.Need-returns
-returns c = let c6 = c .before .before .before .before .before .before in out-of-range (c6 .args .sheet .now) (c6 .args .goal .now) (c6 .args .allowance) (c6 .args .wanted) (c .before .before .in-range .result) (c .before .before .in-range .ensures) (c .before .if1 .taken) (c .run-refused .result) (c .run-refused .ensures) (c6 .args .text .now)
+returns c = let c6 = c .before .before .before .before .before .before in out-of-range (c6 .args .sheet .now) (c6 .args .goal .now) (c6 .args .asked) (c .before .before .in-range .result) (c .before .before .in-range .ensures) (c .before .if1 .taken) (c .run-refused .result) (c .run-refused .ensures) (c6 .args .text .now)
 
 declared-room-requires : tie.Need-declared-room-requires
 declared-room-requires c κs = search needs
@@ -45,16 +45,16 @@ slice-aggregate-run-goal-2 : tie.Need-slice-aggregate-run-goal-2
 slice-aggregate-run-goal-2 c = search needs
 
 run-goal-requires : tie.Need-run-goal-requires
-run-goal-requires c κs = let c4 = c .before .before .before .before in let c8 = c4 .before .before .before .before in let c11 = c8 .before .before .before in let c13 = c11 .before .before in let c14 = c13 .before in let c18 = c14 .before .before .before .before in ready-at (c18 .args .sheet .now) (c18 .args .goal .now) (c18 .args .allowance) (c18 .args .wanted) (c14 .in-range .result) (c14 .in-range .ensures) (c13 .if1 .left) (c8 .load-checked .last .1 .0) (c8 .load-checked .last .1 .1 .0) (c8 .load-checked .result) (c8 .load-checked .ensures .0) (c8 .load-checked .ensures .1) (c4 .declarations .given .0 .0) (c4 .declarations .given .0 .1 .0) (c4 .declarations .given .1) (omega (arith, (c8 .load-checked .kept .1 .1 .0), (c11 .node-room .ensures)))
+run-goal-requires c κs = let c4 = c .before .before .before .before in let c8 = c4 .before .before .before .before in let c11 = c8 .before .before .before in let c13 = c11 .before .before in let c14 = c13 .before in let c18 = c14 .before .before .before .before in ready-at (c18 .args .sheet .now) (c18 .args .goal .now) (c18 .args .asked) (c14 .in-range .result) (c14 .in-range .ensures) (c13 .if1 .left) (c8 .load-checked .last .1 .0) (c8 .load-checked .last .1 .1 .0) (c8 .load-checked .result) (c8 .load-checked .ensures .0) (c8 .load-checked .ensures .1) (c4 .declarations .given .0 .0) (c4 .declarations .given .0 .1 .0) (c4 .declarations .given .1) (omega (arith, (c8 .load-checked .kept .1 .1 .0), (c11 .node-room .ensures)))
 
 returns-2 : tie.Need-returns-2
-returns-2 c = let c6 = c .before .before .before .before .before .before in let c11 = c6 .before .before .before .before .before in let c12 = c11 .before in let c16 = c12 .before .before .before .before in sheet-stops (c16 .args .sheet .now) (c16 .args .goal .now) (c16 .args .allowance) (c16 .args .wanted) (c12 .in-range .result) (c12 .in-range .ensures) (c11 .if1 .left) (c6 .load-checked .last .1 .0) (c6 .load-checked .last .1 .1 .0) (c6 .load-checked .result) (c6 .load-checked .ensures .0) (c6 .load-checked .ensures .1) (c .before .before .at-fault .given .0 .0) (c .before .before .at-fault .given .0 .1 .0) (c .before .before .at-fault .given .1) (c .run-refused2 .result) (c .run-refused2 .ensures) (c16 .args .text .now)
+returns-2 c = let c6 = c .before .before .before .before .before .before in let c11 = c6 .before .before .before .before .before in let c12 = c11 .before in let c16 = c12 .before .before .before .before in sheet-stops (c16 .args .sheet .now) (c16 .args .goal .now) (c16 .args .asked) (c12 .in-range .result) (c12 .in-range .ensures) (c11 .if1 .left) (c6 .load-checked .last .1 .0) (c6 .load-checked .last .1 .1 .0) (c6 .load-checked .result) (c6 .load-checked .ensures .0) (c6 .load-checked .ensures .1) (c .before .before .at-fault .given .0 .0) (c .before .before .at-fault .given .0 .1 .0) (c .before .before .at-fault .given .1) (c .run-refused2 .result) (c .run-refused2 .ensures) (c16 .args .text .now)
 
 same-length : tie.Need-same-length
 same-length c = search needs
 
 returns-3 : tie.Need-returns-3
-returns-3 c = let c7 = c .before .before .before .before .before .before .before in let c11 = c7 .before .before .before .before in let c14 = c11 .before .before .before in let c16 = c14 .before .before in let c17 = c16 .before in let c21 = c17 .before .before .before .before in sheet-runs (c21 .args .sheet .now) (c21 .args .goal .now) (c21 .args .allowance) (c21 .args .wanted) (c17 .in-range .result) (c17 .in-range .ensures) (c16 .if1 .left) (c11 .load-checked .last .1 .0) (c11 .load-checked .last .1 .1 .0) (c11 .load-checked .result) (c11 .load-checked .ensures .0) (c11 .load-checked .ensures .1) (c7 .declarations .given .0 .0) (c7 .declarations .given .0 .1 .0) (c7 .declarations .given .1) (omega (arith, (c11 .load-checked .kept .1 .1 .0), (c14 .node-room .ensures))) (c .before .before .run-goal .result) (c21 .args .text .now) (c .before .before .run-goal .last .1 .1 .1 .1 .1 .1 .0) (c .before .before .run-goal .ensures)
+returns-3 c = let c7 = c .before .before .before .before .before .before .before in let c11 = c7 .before .before .before .before in let c14 = c11 .before .before .before in let c16 = c14 .before .before in let c17 = c16 .before in let c21 = c17 .before .before .before .before in sheet-runs (c21 .args .sheet .now) (c21 .args .goal .now) (c21 .args .asked) (c17 .in-range .result) (c17 .in-range .ensures) (c16 .if1 .left) (c11 .load-checked .last .1 .0) (c11 .load-checked .last .1 .1 .0) (c11 .load-checked .result) (c11 .load-checked .ensures .0) (c11 .load-checked .ensures .1) (c7 .declarations .given .0 .0) (c7 .declarations .given .0 .1 .0) (c7 .declarations .given .1) (omega (arith, (c11 .load-checked .kept .1 .1 .0), (c14 .node-room .ensures))) (c .before .before .run-goal .result) (c21 .args .text .now) (c .before .before .run-goal .last .1 .1 .1 .1 .1 .1 .0) (c .before .before .run-goal .ensures)
 
 pub run-written-spec : {M : Type 1} → statement M
 run-written-spec =

@@ -35,6 +35,9 @@ enum-known-refusal-7 c = search needs
 enum-known-refusal-8 : tie.Need-enum-known-refusal-8
 enum-known-refusal-8 c = search needs
 
+enum-known-refusal-9 : tie.Need-enum-known-refusal-9
+enum-known-refusal-9 c = search needs
+
 returns : tie.Need-returns
 returns c = sym (ap numbersOf (c .enum-told .given .1))
 
@@ -65,6 +68,9 @@ returns-9 c = sym (ap numbersOf (c .before .refusal7 .given .1))
 returns-10 : tie.Need-returns-10
 returns-10 c = sym (ap numbersOf (c .before .refusal8 .given .1))
 
+returns-11 : tie.Need-returns-11
+returns-11 c = sym (ap numbersOf (c .before .refusal9 .given .1))
+
 pub numbers-spec : {M : Type 1} → statement M
 numbers-spec =
     tie.close
@@ -79,6 +85,7 @@ numbers-spec =
     enum-known-refusal-6
     enum-known-refusal-7
     enum-known-refusal-8
+    enum-known-refusal-9
     returns
     returns-2
     returns-3
@@ -88,4 +95,5 @@ numbers-spec =
     returns-7
     returns-8
     returns-9
-    returns-10)
+    returns-10
+    returns-11)

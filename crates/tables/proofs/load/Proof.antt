@@ -18,7 +18,10 @@ returns : tie.Need-returns
 returns c = let c6 = c .before .before .before .before .before .before in let args = c6 .args in sheet-long (args .sheet .now) (args .declared .now) (args .table .now) (c .sheet-refused .result) (ltb-true sheetBytes (length (args .sheet .now)) (sym (c .before .before .is-long-sheet .ensures) ∙ c .before .if1 .taken)) (c .sheet-refused .ensures)
 
 read-items-requires : tie.Need-read-items-requires
-read-items-requires c κs = search needs
+read-items-requires c κs =
+    let c3 = c .before .before .before in
+    let o = c3 .before .before .before .before in
+    (ltb-false sheetBytes (length (o .args .sheet .now)) (sym (c3 .is-long-sheet .ensures) ∙ c .before .before .if1 .left), o .pre)
 
 fault-of-requires : tie.Need-fault-of-requires
 fault-of-requires c κs = search needs

@@ -1,5 +1,5 @@
 -- `tables::load_checked` meets its contract: each way out is a law of `Checking`. Assumes nothing.
-use Rattle.tables.proofs.Checking.{checked-refused, sheet-stands-at, checked-fine, checked-fault}
+use Rattle.tables.proofs.Checking.{checked-refused, declared-once, checked-fine, checked-fault}
 use borrow.Author.Needs.{needs}
 use Rattle.tables.proofs.load_checked.Statement.{statement}
 use Rattle.tables.proofs.load_checked.Tie as tie
@@ -14,7 +14,7 @@ enum-known-v : tie.Need-enum-known-v
 enum-known-v c = search needs
 
 check-sheet-requires : tie.Need-check-sheet-requires
-check-sheet-requires c κs = let c9 = c .before .before .before .before .before .before .before .before .before in let c15 = c9 .before .before .before .before .before .before in sheet-stands-at (c15 .args .sheet .now) (c9 .load .last .1 .0) (c9 .load .last .1 .1 .0) (c9 .load .result) (c9 .load .ensures .0) (c9 .load .ensures .1) (c .before .before .before .v .given .0 .0) (c .before .before .before .v .given .0 .1 .0) (c .before .before .before .v .given .1)
+check-sheet-requires c κs = let c9 = c .before .before .before .before .before .before .before .before .before in let c15 = c9 .before .before .before .before .before .before in declared-once (c15 .args .stored) (c15 .args .sheet .now) (c9 .load .last .1 .0) (c9 .load .last .1 .1 .0) (c9 .load .result) (c9 .load .ensures .0) (c9 .load .ensures .1) (c .before .before .before .v .given .0 .0) (c .before .before .before .v .given .0 .1 .0) (c .before .before .before .v .given .1)
 
 enum-told-2 : tie.Need-enum-told-2
 enum-told-2 c = search needs
@@ -32,7 +32,7 @@ same-length-2 : tie.Need-same-length-2
 same-length-2 c = search needs
 
 returns : tie.Need-returns
-returns c = let c6 = c .before .before .before .before .before .before in let c12 = c6 .before .before .before .before .before .before in checked-refused (c12 .args .sheet .now) (c6 .load .last .1 .0) (c6 .load .last .1 .1 .0) (c6 .load .result) (c6 .load .ensures .0) (c6 .load .ensures .1) (c .enum-told .given .0 .0) (c .enum-told .given .0 .1 .0) (c .enum-told .given .1)
+returns c = let c6 = c .before .before .before .before .before .before in let c12 = c6 .before .before .before .before .before .before in checked-refused (c12 .args .stored) (c12 .args .sheet .now) (c6 .load .last .1 .0) (c6 .load .last .1 .1 .0) (c6 .load .result) (c6 .load .ensures .0) (c6 .load .ensures .1) (c .enum-told .given .0 .0) (c .enum-told .given .0 .1 .0) (c .enum-told .given .1)
 
 same-length-3 : tie.Need-same-length-3
 same-length-3 c = search needs
@@ -41,7 +41,7 @@ same-length-4 : tie.Need-same-length-4
 same-length-4 c = search needs
 
 returns-2 : tie.Need-returns-2
-returns-2 c = let c6 = c .before .before .before .before .before .before in let c12 = c6 .before .before .before .before .before .before in let c18 = c12 .before .before .before .before .before .before in checked-fine (c18 .args .sheet .now) (c12 .load .last .1 .0) (c12 .load .last .1 .1 .0) (c12 .load .result) (c12 .load .ensures .0) (c12 .load .ensures .1) (c6 .v .given .0 .0) (c6 .v .given .0 .1 .0) (c6 .v .given .1) (c .before .before .check-sheet .result) (c .before .before .check-sheet .ensures) (c .enum-told2 .given .1)
+returns-2 c = let c6 = c .before .before .before .before .before .before in let c12 = c6 .before .before .before .before .before .before in let c18 = c12 .before .before .before .before .before .before in checked-fine (c18 .args .stored) (c18 .args .sheet .now) (c12 .load .last .1 .0) (c12 .load .last .1 .1 .0) (c12 .load .result) (c12 .load .ensures .0) (c12 .load .ensures .1) (c6 .v .given .0 .0) (c6 .v .given .0 .1 .0) (c6 .v .given .1) (c .before .before .check-sheet .result) (c .before .before .check-sheet .ensures) (c .enum-told2 .given .1)
 
 same-length-5 : tie.Need-same-length-5
 same-length-5 c = search needs
@@ -50,7 +50,7 @@ same-length-6 : tie.Need-same-length-6
 same-length-6 c = search needs
 
 returns-3 : tie.Need-returns-3
-returns-3 c = let c4 = c .before .before .before .before in let c8 = c4 .before .before .before .before in let c14 = c8 .before .before .before .before .before .before in let c20 = c14 .before .before .before .before .before .before in checked-fault (c20 .args .sheet .now) (c14 .load .last .1 .0) (c14 .load .last .1 .1 .0) (c14 .load .result) (c14 .load .ensures .0) (c14 .load .ensures .1) (c8 .v .given .0 .0) (c8 .v .given .0 .1 .0) (c8 .v .given .1) (c4 .check-sheet .result) (c4 .check-sheet .ensures) (c .before .before .fault .given .0 .0) (c .before .before .fault .given .1) (c .sheet-refused .result) (c .sheet-refused .ensures)
+returns-3 c = let c4 = c .before .before .before .before in let c8 = c4 .before .before .before .before in let c14 = c8 .before .before .before .before .before .before in let c20 = c14 .before .before .before .before .before .before in checked-fault (c20 .args .stored) (c20 .args .sheet .now) (c14 .load .last .1 .0) (c14 .load .last .1 .1 .0) (c14 .load .result) (c14 .load .ensures .0) (c14 .load .ensures .1) (c8 .v .given .0 .0) (c8 .v .given .0 .1 .0) (c8 .v .given .1) (c4 .check-sheet .result) (c4 .check-sheet .ensures) (c .before .before .fault .given .0 .0) (c .before .before .fault .given .1) (c .sheet-refused .result) (c .sheet-refused .ensures)
 
 pub load-checked-spec : {M : Type 1} → statement M
 load-checked-spec =

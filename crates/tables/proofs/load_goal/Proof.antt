@@ -1,4 +1,5 @@
 -- `tables::load_goal` meets its contract: each way out is a law of `Entries`. Assumes nothing.
+use Prim.Native.Nat.{_≤_}
 use mathlib.Core.Path.{sym, _∙_}
 use lib.ListN.{length}
 use borrow.Author.Tests.{ltb-true, ltb-false}
@@ -19,7 +20,11 @@ returns : tie.Need-returns
 returns c = let c5 = c .before .before .before .before .before in let args = c5 .args in goal-long (args .goal .now) (args .table .now) (c .goal-refused .result) (ltb-true goalBytes (length (args .goal .now)) (sym (c .before .before .is-long-goal .ensures) ∙ c .before .if1 .taken)) (c .goal-refused .ensures)
 
 read-goal-requires : tie.Need-read-goal-requires
-read-goal-requires c κs = search needs
+read-goal-requires c κs =
+    let c2 = c .before .before in
+    let o = c2 .before .before .before in
+    let short : length (o .args .goal .now) ≤ goalBytes = ltb-false goalBytes (length (o .args .goal .now)) (sym (c2 .is-long-goal .ensures) ∙ c .before .if1 .left) in
+    (omega arith, (omega (arith, o .pre .0), o .pre .1))
 
 fault-of-requires : tie.Need-fault-of-requires
 fault-of-requires c κs = search needs
