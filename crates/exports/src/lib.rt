@@ -40,7 +40,8 @@ pub extern "C" fn pilvaust_check(sheet: &[u8], numbers: &mut [usize]) -> usize
 #[no_mangle]
 pub extern "C" fn pilvaust_check_goal(sheet: &[u8], goal: &[u8], numbers: &mut [usize]) -> usize
     ensures is { λ r. ⌜ r ≡ refusalIn (verdictNumbers (checkGoalVerdict (now (sheet .entry)) (now (goal .entry)))) ⌝ }
-    ensures numbers { λ _. ⌜ now (numbers .exit) ≡ sets (now (numbers .entry)) 0 (verdictNumbers (checkGoalVerdict (now (sheet .entry)) (now (goal .entry)))) ⌝ }
+    ensures numbers { λ _. ⌜ now (numbers .exit) ≡ sets (now (numbers .entry)) 0
+        (verdictNumbers (checkGoalVerdict (now (sheet .entry)) (now (goal .entry)))) ⌝ }
 {
     packing::put_verdict(pilvaust::check_goal(sheet, goal), numbers)
 }
@@ -67,9 +68,12 @@ pub extern "C" fn pilvaust_run(
     text: &mut [u8],
     numbers: &mut [usize],
 ) -> usize
-    ensures is { λ r. ⌜ r ≡ refusalIn (outcomeNumbers (runOutcome (now (sheet .entry)) (now (goal .entry)) (asking allowance wanted stored) (length (now (text .entry))))) ⌝ }
-    ensures text { λ _. ⌜ now (text .exit) ≡ sets (now (text .entry)) 0 (runText (runOutcome (now (sheet .entry)) (now (goal .entry)) (asking allowance wanted stored) (length (now (text .entry))))) ⌝ }
-    ensures numbers { λ _. ⌜ now (numbers .exit) ≡ sets (now (numbers .entry)) 0 (outcomeNumbers (runOutcome (now (sheet .entry)) (now (goal .entry)) (asking allowance wanted stored) (length (now (text .entry))))) ⌝ }
+    ensures is { λ r. ⌜ r ≡ refusalIn (outcomeNumbers (runOutcome (now (sheet .entry)) (now (goal .entry)) (asking allowance wanted stored)
+        (length (now (text .entry))))) ⌝ }
+    ensures text { λ _. ⌜ now (text .exit) ≡ sets (now (text .entry)) 0 (runText (runOutcome (now (sheet .entry)) (now (goal .entry))
+        (asking allowance wanted stored) (length (now (text .entry))))) ⌝ }
+    ensures numbers { λ _. ⌜ now (numbers .exit) ≡ sets (now (numbers .entry)) 0
+        (outcomeNumbers (runOutcome (now (sheet .entry)) (now (goal .entry)) (asking allowance wanted stored) (length (now (text .entry))))) ⌝ }
 {
     let asked = RunSettings {
         allowance,

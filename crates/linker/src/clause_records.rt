@@ -35,7 +35,8 @@ fn clause_nodes(table: &[u32], p: usize) -> usize
 // The places of the heads, written into the records of the clauses.
 pub fn put_heads(table: &[u32], clauses: usize, q: usize, code: &mut [u32])
     requires { ⌜ ((ss : List Symbol) × ((cls : List Clause) × HeadsTo ss cls (now table) 0 q clauses (now code) 1)) ⌝ }
-    ensures { λ _. ⌜ ((ss : List Symbol) (cls : List Clause) → HeadsTo ss cls (now (table .entry)) 0 q clauses (now (code .entry)) 1 → now (code .exit) ≡ putHeads ss q cls (now (code .entry)) 1) ⌝ }
+    ensures { λ _. ⌜ ((ss : List Symbol) (cls : List Clause) → HeadsTo ss cls (now (table .entry)) 0 q clauses (now (code .entry)) 1 → now (code .exit)
+        ≡ putHeads ss q cls (now (code .entry)) 1) ⌝ }
 {
     let mut at = 0;
     let mut node = q;
@@ -61,7 +62,8 @@ fn put_clause(
     k: usize,
 )
     requires { ⌜ ((ss : List Symbol) × ((sh : Sheet) × ((cl : Clause) × ClauseTo ss sh cl (now table) p (now nodes) q clauses (now code) k))) ⌝ }
-    ensures { λ _. ⌜ ((ss : List Symbol) (sh : Sheet) (cl : Clause) → ClauseTo ss sh cl (now (table .entry)) p (now (nodes .entry)) q clauses (now (code .entry)) k → now (code .exit) ≡ putClause ss sh q cl (now (code .entry)) k) ⌝ }
+    ensures { λ _. ⌜ ((ss : List Symbol) (sh : Sheet) (cl : Clause) → ClauseTo ss sh cl (now (table .entry)) p (now (nodes .entry)) q clauses
+        (now (code .entry)) k → now (code .exit) ≡ putClause ss sh q cl (now (code .entry)) k) ⌝ }
 {
     let word = word_at(nodes, q);
     let after = next_for(nodes, code, clauses, word, k);
@@ -76,7 +78,8 @@ fn put_clause(
 // The same for all clauses.
 pub fn put_clauses(table: &[u32], clauses: usize, nodes: &[u32], q: usize, code: &mut [u32])
     requires { ⌜ ((ss : List Symbol) × ((sh : Sheet) × ((cls : List Clause) × ClausesTo ss sh cls (now table) 0 (now nodes) q clauses (now code) 1))) ⌝ }
-    ensures { λ _. ⌜ ((ss : List Symbol) (sh : Sheet) (cls : List Clause) → ClausesTo ss sh cls (now (table .entry)) 0 (now (nodes .entry)) q clauses (now (code .entry)) 1 → now (code .exit) ≡ putClauses ss sh q cls (now (code .entry)) 1) ⌝ }
+    ensures { λ _. ⌜ ((ss : List Symbol) (sh : Sheet) (cls : List Clause) → ClausesTo ss sh cls (now (table .entry)) 0 (now (nodes .entry)) q clauses
+        (now (code .entry)) 1 → now (code .exit) ≡ putClauses ss sh q cls (now (code .entry)) 1) ⌝ }
 {
     let mut at = 0;
     let mut node = q;

@@ -52,7 +52,8 @@ pub record Interned (sheet goal symbols : List ℕ) (count w arguments : ℕ) (a
   pub number : k ≡ symbolOf (withSymbol (symbolsOf sheet goal symbols count) (wordName sheet goal w) arguments) (wordName sheet goal w) arguments
   pub low : k ≤ count
   pub listed : (r : ℕ) → Counted count k r → Listed sheet goal after r
-  pub symbols-are : (r : ℕ) → Counted count k r → symbolsOf sheet goal after r ≡ withSymbol (symbolsOf sheet goal symbols count) (wordName sheet goal w) arguments
+  pub symbols-are : (r : ℕ) → Counted count k r → symbolsOf sheet goal after r ≡ withSymbol (symbolsOf sheet goal symbols count) (wordName sheet goal w)
+      arguments
 
 -- ---- nodes
 

@@ -17,7 +17,8 @@ ghost use lib.ListN.{length};
 ghost use Rattle.syntax.specs.Words.{nodeWords, sheetWords, goalWords};
 ghost use Rattle.syntax.specs.Limits.{arguments};
 ghost use Rattle.layout.specs.Regions.{loadedNode, nodesWords, copies};
-ghost use Rattle.loader.specs.Flat.{flatWhat, Fits, flatWords, flatAll, bodyParsed, clauseParsed, clausesParsed, written, RunAt, BodyHere, ClauseHere, ClausesHere};
+ghost use Rattle.loader.specs.Flat.{flatWhat, Fits, flatWords, flatAll, bodyParsed, clauseParsed, clausesParsed, written, RunAt, BodyHere, ClauseHere};
+ghost use Rattle.loader.specs.Flat.{ClausesHere};
 
 // From this word on a node is a name.
 pub const NAMED: u32 = FIRST_NAME as u32;
@@ -63,9 +64,11 @@ fn copy_nodes(
     nodes: &mut [u32],
     at: usize,
 ) -> usize
-    requires { ⌜ (text ≤ 1) × ((length (now table) ≤ sheetWords) × ((nodesWords ≤ length (now nodes)) × (at * nodeWords ≤ from * loadedNode + goalWords * loadedNode))) ⌝ }
+    requires { ⌜ (text ≤ 1) × ((length (now table) ≤ sheetWords) × ((nodesWords ≤ length (now nodes))
+        × (at * nodeWords ≤ from * loadedNode + goalWords * loadedNode))) ⌝ }
     requires { ⌜ RunAt (now table) from stop ⌝ }
-    ensures { λ r. ⌜ ((w : RunAt (now (table .entry)) from stop) → (now (nodes .exit) ≡ written (now (nodes .entry)) at (flatWords (flatAll text (w .run)))) × (r ≡ at + length (flatWords (flatAll text (w .run))))) ⌝ }
+    ensures { λ r. ⌜ ((w : RunAt (now (table .entry)) from stop) → (now (nodes .exit) ≡ written (now (nodes .entry)) at (flatWords (flatAll text (w .run))))
+        × (r ≡ at + length (flatWords (flatAll text (w .run))))) ⌝ }
 {
     let mut p = from;
     let mut q = at;
@@ -90,9 +93,12 @@ pub fn copy_body(
     nodes: &mut [u32],
     at: usize,
 ) -> usize
-    requires { ⌜ (text ≤ 1) × ((length (now table) ≤ sheetWords) × ((nodesWords ≤ length (now nodes)) × (at * nodeWords ≤ from * loadedNode + goalWords * loadedNode))) ⌝ }
+    requires { ⌜ (text ≤ 1) × ((length (now table) ≤ sheetWords) × ((nodesWords ≤ length (now nodes))
+        × (at * nodeWords ≤ from * loadedNode + goalWords * loadedNode))) ⌝ }
     requires { ⌜ BodyHere (now table) from literals ⌝ }
-    ensures { λ r. ⌜ ((w : BodyHere (now (table .entry)) from literals) → (now (nodes .exit) ≡ written (now (nodes .entry)) at (flatWords (flatAll text (bodyParsed (w .body))))) × (r ≡ at + length (flatWords (flatAll text (bodyParsed (w .body)))))) ⌝ }
+    ensures { λ r. ⌜ ((w : BodyHere (now (table .entry)) from literals) → (now (nodes .exit)
+        ≡ written (now (nodes .entry)) at (flatWords (flatAll text (bodyParsed (w .body)))))
+        × (r ≡ at + length (flatWords (flatAll text (bodyParsed (w .body)))))) ⌝ }
 {
     let mut p = from;
     let mut q = at;
@@ -111,7 +117,9 @@ pub fn copy_body(
 fn copy_clause(table: &[u32], p: usize, nodes: &mut [u32], at: usize) -> usize
     requires { ⌜ (length (now table) ≤ sheetWords) × ((nodesWords ≤ length (now nodes)) × (at * nodeWords ≤ p * loadedNode + goalWords * loadedNode)) ⌝ }
     requires { ⌜ ClauseHere (now table) p ⌝ }
-    ensures { λ r. ⌜ ((w : ClauseHere (now (table .entry)) p) → (now (nodes .exit) ≡ written (now (nodes .entry)) at (flatWords (flatAll 0 (clauseParsed (w .clause))))) × (r ≡ at + length (flatWords (flatAll 0 (clauseParsed (w .clause)))))) ⌝ }
+    ensures { λ r. ⌜ ((w : ClauseHere (now (table .entry)) p) → (now (nodes .exit)
+        ≡ written (now (nodes .entry)) at (flatWords (flatAll 0 (clauseParsed (w .clause)))))
+        × (r ≡ at + length (flatWords (flatAll 0 (clauseParsed (w .clause)))))) ⌝ }
 {
     let literals = word_at(table, p + CLAUSE_LITERALS);
     let head = p + CLAUSE_START;
@@ -124,7 +132,9 @@ fn copy_clause(table: &[u32], p: usize, nodes: &mut [u32], at: usize) -> usize
 pub fn copy_clauses(table: &[u32], clauses: usize, nodes: &mut [u32], at: usize) -> usize
     requires { ⌜ (length (now table) ≤ sheetWords) × ((nodesWords ≤ length (now nodes)) × (at * nodeWords ≤ goalWords * loadedNode)) ⌝ }
     requires { ⌜ ClausesHere (now table) 0 clauses ⌝ }
-    ensures { λ r. ⌜ ((w : ClausesHere (now (table .entry)) 0 clauses) → (now (nodes .exit) ≡ written (now (nodes .entry)) at (flatWords (flatAll 0 (clausesParsed (w .list))))) × (r ≡ at + length (flatWords (flatAll 0 (clausesParsed (w .list)))))) ⌝ }
+    ensures { λ r. ⌜ ((w : ClausesHere (now (table .entry)) 0 clauses) → (now (nodes .exit)
+        ≡ written (now (nodes .entry)) at (flatWords (flatAll 0 (clausesParsed (w .list)))))
+        × (r ≡ at + length (flatWords (flatAll 0 (clausesParsed (w .list)))))) ⌝ }
 {
     let mut p = 0;
     let mut q = at;

@@ -21,7 +21,8 @@ pub fn load_nodes(
     symbols: &mut [u32],
 )
     requires { ⌜ Loadable (now sheet) (now table) clauses (now goal) (now goals) literals (now nodes) (now symbols) ⌝ }
-    ensures { λ _. ⌜ ((w : Loadable (now (sheet .entry)) (now (table .entry)) clauses (now (goal .entry)) (now (goals .entry)) literals (now (nodes .entry)) (now (symbols .entry))) → Loaded (now (sheet .entry)) (now (goal .entry)) (w .sh) (w .g) (now (nodes .exit)) (now (symbols .exit))) ⌝ }
+    ensures { λ _. ⌜ ((w : Loadable (now (sheet .entry)) (now (table .entry)) clauses (now (goal .entry)) (now (goals .entry)) literals (now (nodes .entry))
+        (now (symbols .entry))) → Loaded (now (sheet .entry)) (now (goal .entry)) (w .sh) (w .g) (now (nodes .exit)) (now (symbols .exit))) ⌝ }
 {
     let middle = copy_body(goals, 0, literals, 1, nodes, 0);
     let stop = copy_clauses(table, clauses, nodes, middle);

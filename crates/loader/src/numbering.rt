@@ -20,7 +20,8 @@ fn intern(
     w: u32,
     arguments: u32,
 ) -> usize
-    requires { ⌜ (Listed (now sheet) (now goal) (now symbols) count × (count < mostNodes)) × ((nodesWords ≤ length (now symbols)) × Inside (now sheet) (now goal) w) ⌝ }
+    requires { ⌜ (Listed (now sheet) (now goal) (now symbols) count × (count < mostNodes))
+        × ((nodesWords ≤ length (now symbols)) × Inside (now sheet) (now goal) w) ⌝ }
     ensures { λ r. ⌜ Interned (now (sheet .entry)) (now (goal .entry)) (now (symbols .entry)) count w arguments (now (symbols .exit)) r ⌝ }
 {
     let k = find_symbol(sheet, goal, symbols, count, w, arguments);
@@ -53,9 +54,11 @@ fn number_node(
     symbols: &mut [u32],
     count: usize,
 ) -> usize
-    requires { ⌜ (Listed (now sheet) (now goal) (now symbols) count × (count < mostNodes)) × ((nodesWords ≤ length (now symbols)) × (p < length (now nodes))) ⌝ }
+    requires { ⌜ (Listed (now sheet) (now goal) (now symbols) count × (count < mostNodes))
+        × ((nodesWords ≤ length (now symbols)) × (p < length (now nodes))) ⌝ }
     requires { ⌜ NodeInside (now sheet) (now goal) (getD (now nodes) p 0) ⌝ }
-    ensures { λ r. ⌜ NodeNumbered (now (sheet .entry)) (now (goal .entry)) (now (nodes .entry)) p (now (symbols .entry)) count (now (nodes .exit)) (now (symbols .exit)) r ⌝ }
+    ensures { λ r. ⌜ NodeNumbered (now (sheet .entry)) (now (goal .entry)) (now (nodes .entry)) p (now (symbols .entry)) count (now (nodes .exit))
+        (now (symbols .exit)) r ⌝ }
 {
     let v = nodes[p];
     if v < NAMED {
@@ -85,7 +88,8 @@ pub fn number_nodes(
 ) -> usize
     requires { ⌜ (nodesWords ≤ length (now symbols)) × (stop ≤ nodesWords) ⌝ }
     requires { ⌜ Copied (now sheet) (now goal) (now nodes) stop ⌝ }
-    ensures { λ r. ⌜ ((w : Copied (now (sheet .entry)) (now (goal .entry)) (now (nodes .entry)) stop) → NodesNumbered (now (sheet .entry)) (now (goal .entry)) (w .flats) (now (nodes .entry)) (now (nodes .exit)) (now (symbols .exit)) r) ⌝ }
+    ensures { λ r. ⌜ ((w : Copied (now (sheet .entry)) (now (goal .entry)) (now (nodes .entry)) stop)
+        → NodesNumbered (now (sheet .entry)) (now (goal .entry)) (w .flats) (now (nodes .entry)) (now (nodes .exit)) (now (symbols .exit)) r) ⌝ }
 {
     let mut p = 0;
     let mut count = 0;

@@ -46,7 +46,8 @@ fn same_name(sheet: &[u8], goal: &[u8], v: u32, w: u32) -> bool
 // Whether the symbol of a number has the name of a word and so many arguments.
 fn is_symbol(sheet: &[u8], goal: &[u8], symbols: &[u32], k: usize, w: u32, arguments: u32) -> bool
     requires { ⌜ (mostNodes + k < length (now symbols)) × (Inside (now sheet) (now goal) (getD (now symbols) k 0) × Inside (now sheet) (now goal) w) ⌝ }
-    ensures { λ r. ⌜ r ≡ isSymbol (wordName (now (sheet .entry)) (now (goal .entry)) w) arguments (symbolAt (now (sheet .entry)) (now (goal .entry)) (now (symbols .entry)) k) ⌝ }
+    ensures { λ r. ⌜ r ≡ isSymbol (wordName (now (sheet .entry)) (now (goal .entry)) w) arguments (symbolAt (now (sheet .entry)) (now (goal .entry))
+        (now (symbols .entry)) k) ⌝ }
 {
     let j = MOST_NODES + k;
     if symbols[j] != arguments {
@@ -65,7 +66,8 @@ pub fn find_symbol(
     arguments: u32,
 ) -> usize
     requires { ⌜ Listed (now sheet) (now goal) (now symbols) count × Inside (now sheet) (now goal) w ⌝ }
-    ensures { λ r. ⌜ r ≡ symbolOf (symbolsOf (now (sheet .entry)) (now (goal .entry)) (now (symbols .entry)) count) (wordName (now (sheet .entry)) (now (goal .entry)) w) arguments ⌝ }
+    ensures { λ r. ⌜ r ≡ symbolOf (symbolsOf (now (sheet .entry)) (now (goal .entry)) (now (symbols .entry)) count)
+        (wordName (now (sheet .entry)) (now (goal .entry)) w) arguments ⌝ }
 {
     let mut k = 0;
     while k < count {

@@ -22,7 +22,8 @@ pub enum Lookup {
 // are known to lie within the text. The last byte is compared first, since names of a sheet often begin alike.
 fn is_at(text: &[u8], place: usize, g: &[u8], at: usize, len: usize) -> bool
     requires { ⌜ at + len ≤ length (now g) ⌝ }
-    ensures { λ r. ⌜ r ≡ (leb (place + len) (length (now (text .entry))) && sameBytes (spelling (now (text .entry)) place len) (spelling (now (g .entry)) at len)) ⌝ }
+    ensures { λ r. ⌜ r ≡ (leb (place + len) (length (now (text .entry))) && sameBytes (spelling (now (text .entry)) place len)
+        (spelling (now (g .entry)) at len)) ⌝ }
 {
     let size = text.len();
     if size < len {

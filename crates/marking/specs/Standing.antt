@@ -3,7 +3,8 @@ use Prim.Native.Nat.{ℕ, _+_, _≤_, _<_}
 use mathlib.Core.Path.{_≡_}
 use mathlib.Core.List.{List, [], _∷_}
 use lib.ListN.{length}
-use Rattle.syntax.specs.Terms.{Term, Terms, variable, compound, nil, cons, arity, Atom, termOf, Literal, Body, call, equation, truth, falsity, done, also, Declaration, Clause, Sheet, Goal}
+use Rattle.syntax.specs.Terms.{Term, Terms, variable, compound, nil, cons, arity, Atom, termOf, Literal, Body, call, equation, truth, falsity, done, also}
+use Rattle.syntax.specs.Terms.{Declaration, Clause, Sheet, Goal}
 use Rattle.syntax.specs.Tokens.{spelling}
 use Rattle.syntax.specs.Limits.{variables, arguments, wordBytes, declarations}
 

@@ -6,9 +6,11 @@ use mathlib.Core.List.{List, _∷_}
 use lib.ListN.{length}
 use Rattle.syntax.specs.Limits.{wordBytes}
 use Rattle.syntax.specs.Terms.{Term, Terms, arity, Atom, termOf, Literal, Body, Mark, Declaration, Clause, Sheet, Goal}
-use Rattle.syntax.specs.Words.{termWords, termsWords, atomWords, literalWords, bodyWords, bodyLength, clauseWords, clausesWords, markNumber, marksNumber, declarationWords, declarationsWords}
+use Rattle.syntax.specs.Words.{termWords, termsWords, atomWords, literalWords, bodyWords, bodyLength, clauseWords, clausesWords, markNumber, marksNumber}
+use Rattle.syntax.specs.Words.{declarationWords, declarationsWords}
 use Rattle.words.specs.Tables.{Has}
-use Rattle.marking.specs.Standing.{Numbered, AllNumbered, Stands, AllStand, LiteralStands, BodyStands, ClauseStands, ClausesStand, DeclarationStands, DeclarationsStand, SheetStands, GoalStands}
+use Rattle.marking.specs.Standing.{Numbered, AllNumbered, Stands, AllStand, LiteralStands, BodyStands, ClauseStands, ClausesStand, DeclarationStands}
+use Rattle.marking.specs.Standing.{DeclarationsStand, SheetStands, GoalStands}
 
 -- a term stands at p
 pub record TermAt (table : List ℕ) (p : ℕ) : Type 0 where

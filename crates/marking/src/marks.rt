@@ -75,7 +75,8 @@ pub fn find(
 pub fn find_atom(s: &[u8], declared: &[u32], n: usize, g: &[u8], table: &[u32], p: usize) -> usize
     requires { ⌜ DeclarationsAt (now s) (now declared) n ⌝ }
     requires { ⌜ AtomAt (now g) (now table) p ⌝ }
-    ensures { λ r. ⌜ ((d : DeclarationsAt (now (s .entry)) (now (declared .entry)) n) (w : AtomAt (now (g .entry)) (now (table .entry)) p) → r ≡ position (d .list) (w .atom .name) (arity (w .atom .args))) ⌝ }
+    ensures { λ r. ⌜ ((d : DeclarationsAt (now (s .entry)) (now (declared .entry)) n) (w : AtomAt (now (g .entry)) (now (table .entry)) p) → r
+        ≡ position (d .list) (w .atom .name) (arity (w .atom .args))) ⌝ }
 {
     let name = name_at(table, p);
     let at = name.at;
@@ -97,7 +98,8 @@ pub fn is_near(
 ) -> bool
     requires { ⌜ DeclarationsAt (now s) (now declared) n ⌝ }
     requires { ⌜ AtomAt (now g) (now table) p ⌝ }
-    ensures { λ r. ⌜ (r ≡ true → (d : DeclarationsAt (now (s .entry)) (now (declared .entry)) n) (w : AtomAt (now (g .entry)) (now (table .entry)) p) → position (d .list) (w .atom .name) (arity (w .atom .args)) < n) ⌝ }
+    ensures { λ r. ⌜ (r ≡ true → (d : DeclarationsAt (now (s .entry)) (now (declared .entry)) n) (w : AtomAt (now (g .entry)) (now (table .entry)) p)
+        → position (d .list) (w .atom .name) (arity (w .atom .args)) < n) ⌝ }
 {
     if n <= near {
         return false;
@@ -114,7 +116,8 @@ pub fn is_near(
 pub fn marks_of(s: &[u8], declared: &[u32], n: usize, g: &[u8], table: &[u32], p: usize) -> usize
     requires { ⌜ DeclarationsAt (now s) (now declared) n ⌝ }
     requires { ⌜ AtomAt (now g) (now table) p ⌝ }
-    ensures { λ r. ⌜ ((d : DeclarationsAt (now (s .entry)) (now (declared .entry)) n) (w : AtomAt (now (g .entry)) (now (table .entry)) p) → r ≡ marksNumber (marksFor (d .list) (w .atom))) ⌝ }
+    ensures { λ r. ⌜ ((d : DeclarationsAt (now (s .entry)) (now (declared .entry)) n) (w : AtomAt (now (g .entry)) (now (table .entry)) p) → r
+        ≡ marksNumber (marksFor (d .list) (w .atom))) ⌝ }
 {
     let i = find_atom(s, declared, n, g, table, p);
     if i < n {
@@ -138,7 +141,8 @@ pub fn undeclared_atom(
 ) -> Checked
     requires { ⌜ DeclarationsAt (now s) (now declared) n ⌝ }
     requires { ⌜ AtomAt (now g) (now table) p ⌝ }
-    ensures { λ r. ⌜ ((d : DeclarationsAt (now (s .entry)) (now (declared .entry)) n) (w : AtomAt (now (g .entry)) (now (table .entry)) p) → r ≡ checkedOf (undeclaredAtom (d .list) clause literal (w .atom))) ⌝ }
+    ensures { λ r. ⌜ ((d : DeclarationsAt (now (s .entry)) (now (declared .entry)) n) (w : AtomAt (now (g .entry)) (now (table .entry)) p) → r
+        ≡ checkedOf (undeclaredAtom (d .list) clause literal (w .atom))) ⌝ }
 {
     if is_near(s, declared, n, g, table, p, near) {
         return Checked::Fine;
@@ -187,7 +191,8 @@ fn first_open(
 ) -> FirstOpen
     requires { ⌜ MarkedAt (now table) p stop marks mark ⌝ }
     requires { ⌜ number + stop ≤ length (now table) + p ⌝ }
-    ensures { λ r. ⌜ ((w : MarkedAt (now (table .entry)) p stop marks mark) → r ≡ firstOpenOf (firstOpen (w .wanted) known (w .listed) (listOf (w .terms)) number)) ⌝ }
+    ensures { λ r. ⌜ ((w : MarkedAt (now (table .entry)) p stop marks mark) → r ≡ firstOpenOf (firstOpen (w .wanted) known (w .listed) (listOf (w .terms))
+        number)) ⌝ }
 {
     if stop <= p {
         return FirstOpen::Nowhere;
@@ -241,7 +246,8 @@ pub fn call_fault(
     literal: usize,
 ) -> Checked
     requires { ⌜ JudgedAt (now table) p marks ⌝ }
-    ensures { λ r. ⌜ ((w : JudgedAt (now (table .entry)) p marks) → r ≡ checkedOf (openInput clause literal (w .atom) (firstOpen input known (w .listed) (listOf (w .atom .args)) 1))) ⌝ }
+    ensures { λ r. ⌜ ((w : JudgedAt (now (table .entry)) p marks) → r
+        ≡ checkedOf (openInput clause literal (w .atom) (firstOpen input known (w .listed) (listOf (w .atom .args)) 1))) ⌝ }
 {
     let from = p + NODE_WORDS;
     let stop = past(table, p);
@@ -267,7 +273,8 @@ pub fn call_fault(
 // The fault of a head after its body, by its marks: the first - argument that is not ground.
 pub fn head_fault(table: &[u32], p: usize, marks: usize, known: Known, clause: usize) -> Checked
     requires { ⌜ JudgedAt (now table) p marks ⌝ }
-    ensures { λ r. ⌜ ((w : JudgedAt (now (table .entry)) p marks) → r ≡ checkedOf (openOutput clause (w .atom) (firstOpen output known (w .listed) (listOf (w .atom .args)) 1))) ⌝ }
+    ensures { λ r. ⌜ ((w : JudgedAt (now (table .entry)) p marks) → r
+        ≡ checkedOf (openOutput clause (w .atom) (firstOpen output known (w .listed) (listOf (w .atom .args)) 1))) ⌝ }
 {
     let from = p + NODE_WORDS;
     let stop = past(table, p);

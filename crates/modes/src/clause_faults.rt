@@ -46,7 +46,8 @@ fn undeclared_clause(
 ) -> Checked
     requires { ⌜ DeclarationsAt (now s) (now declared) n ⌝ }
     requires { ⌜ ClauseAt (now s) (now table) p ⌝ }
-    ensures { λ r. ⌜ ((d : DeclarationsAt (now (s .entry)) (now (declared .entry)) n) (w : ClauseAt (now (s .entry)) (now (table .entry)) p) → r ≡ checkedOf (undeclaredClause (d .list) clause (w .clause))) ⌝ }
+    ensures { λ r. ⌜ ((d : DeclarationsAt (now (s .entry)) (now (declared .entry)) n) (w : ClauseAt (now (s .entry)) (now (table .entry)) p) → r
+        ≡ checkedOf (undeclaredClause (d .list) clause (w .clause))) ⌝ }
 {
     let literals = word_at(table, p + 2);
     let head = p + CLAUSE_START;
@@ -68,7 +69,8 @@ pub fn undeclared_clauses(
 ) -> Checked
     requires { ⌜ DeclarationsAt (now s) (now declared) n ⌝ }
     requires { ⌜ ClausesAt (now s) (now table) 0 clauses ⌝ }
-    ensures { λ r. ⌜ ((d : DeclarationsAt (now (s .entry)) (now (declared .entry)) n) (w : ClausesAt (now (s .entry)) (now (table .entry)) 0 clauses) → r ≡ checkedOf (undeclaredClauses (d .list) 1 (w .list))) ⌝ }
+    ensures { λ r. ⌜ ((d : DeclarationsAt (now (s .entry)) (now (declared .entry)) n) (w : ClausesAt (now (s .entry)) (now (table .entry)) 0 clauses) → r
+        ≡ checkedOf (undeclaredClauses (d .list) 1 (w .list))) ⌝ }
 {
     let mut at = 0;
     let mut i = 0;
@@ -97,7 +99,8 @@ fn clause_fault(
 ) -> Checked
     requires { ⌜ DeclarationsAt (now s) (now declared) n ⌝ }
     requires { ⌜ ClauseAt (now s) (now table) p ⌝ }
-    ensures { λ r. ⌜ ((d : DeclarationsAt (now (s .entry)) (now (declared .entry)) n) (w : ClauseAt (now (s .entry)) (now (table .entry)) p) → r ≡ checkedOf (clauseFault (d .list) clause (w .clause))) ⌝ }
+    ensures { λ r. ⌜ ((d : DeclarationsAt (now (s .entry)) (now (declared .entry)) n) (w : ClauseAt (now (s .entry)) (now (table .entry)) p) → r
+        ≡ checkedOf (clauseFault (d .list) clause (w .clause))) ⌝ }
 {
     let literals = word_at(table, p + 2);
     let head = p + CLAUSE_START;
@@ -118,7 +121,8 @@ fn clause_fault(
 pub fn clauses_fault(s: &[u8], declared: &[u32], n: usize, table: &[u32], clauses: usize) -> Checked
     requires { ⌜ DeclarationsAt (now s) (now declared) n ⌝ }
     requires { ⌜ ClausesAt (now s) (now table) 0 clauses ⌝ }
-    ensures { λ r. ⌜ ((d : DeclarationsAt (now (s .entry)) (now (declared .entry)) n) (w : ClausesAt (now (s .entry)) (now (table .entry)) 0 clauses) → r ≡ checkedOf (clausesFault (d .list) 1 (w .list))) ⌝ }
+    ensures { λ r. ⌜ ((d : DeclarationsAt (now (s .entry)) (now (declared .entry)) n) (w : ClausesAt (now (s .entry)) (now (table .entry)) 0 clauses) → r
+        ≡ checkedOf (clausesFault (d .list) 1 (w .list))) ⌝ }
 {
     let mut at = 0;
     let mut i = 0;

@@ -67,7 +67,8 @@ fn read_marks(s: &[u8], k: usize, st: State) -> Parsed
 fn marked(m: usize, more: Parsed) -> Parsed
     requires { ⌜ (more .number ≡ 0 → (more .used < 2 ^ 20) × (more .items < 2 ^ 20)) ⌝ }
     requires { ⌜ m < markNumbers ⌝ }
-    ensures { λ r. ⌜ (r .number ≡ more .number) × ((r .state ≡ more .state) × (more .number ≡ 0 → (r .used ≡ withMark m (more .used)) × (r .items ≡ more .items + 1))) ⌝ }
+    ensures { λ r. ⌜ (r .number ≡ more .number) × ((r .state ≡ more .state) × (more .number ≡ 0 → (r .used ≡ withMark m (more .used))
+        × (r .items ≡ more .items + 1))) ⌝ }
 {
     if more.number != 0 {
         return more;
@@ -106,7 +107,8 @@ fn read_some_marks(s: &[u8], st: State) -> Parsed
 fn read_declared(s: &[u8], st: State, table: &mut [u32], n: usize) -> Parsed
     requires { ⌜ Standing (now s) st ⌝ }
     requires { ⌜ n + declarationSize ≤ length (now table) ⌝ }
-    ensures { λ r. ⌜ DeclarationGives (now (s .entry)) st (now (table .entry)) (now (table .exit)) n r (declarationFrom (now (s .entry)) (begin (st .token)) (eqb (st .token .kind) nameKind)) ⌝ }
+    ensures { λ r. ⌜ DeclarationGives (now (s .entry)) st (now (table .entry)) (now (table .exit)) n r (declarationFrom (now (s .entry)) (begin (st .token))
+        (eqb (st .token .kind) nameKind)) ⌝ }
 {
     let t = st.token;
     let kind = t.kind;
@@ -140,7 +142,8 @@ fn read_declared(s: &[u8], st: State, table: &mut [u32], n: usize) -> Parsed
 pub fn read_declaration(s: &[u8], st: State, table: &mut [u32], n: usize) -> Parsed
     requires { ⌜ Standing (now s) st ⌝ }
     requires { ⌜ n + declarationSize ≤ length (now table) ⌝ }
-    ensures { λ r. ⌜ DeclarationGives (now (s .entry)) st (now (table .entry)) (now (table .exit)) n r (readDeclaration (now (s .entry)) (begin (st .token))) ⌝ }
+    ensures { λ r. ⌜ DeclarationGives (now (s .entry)) st (now (table .entry)) (now (table .exit)) n r
+        (readDeclaration (now (s .entry)) (begin (st .token))) ⌝ }
 {
     let past = next(s, st);
     let t = past.token;

@@ -60,15 +60,16 @@ pub record Faulted (entry exit : List ℕ) (n : ℕ) (r : Parsed) (k b : ℕ) : 
 
 -- Otherwise: the reader after what was read, how many things those are, and the words before n followed by the words of what was read. Of a
 -- node's words for each byte that was read, and one more, at least `spare` are left over.
-pub record GivenWith (spare : ℕ) (s : List ℕ) (from : State) (entry exit : List ℕ) (n : ℕ) (r : Parsed) (words : List ℕ) (items : ℕ) (after : Cursor) : Type 0 where
-  pub number-is : r .number ≡ 0
-  pub state-is : cursorOf s exit (r .state) ≡ after
-  pub items-is : r .items ≡ items
-  pub used-is : r .used ≡ n + length words
-  pub table-is : take (n + length words) exit ≡ take n entry ++ words
-  pub standing : Standing s (r .state)
-  pub held : Held s (met exit) (r .state .count)
-  pub room : length words + nodeWords * left s (r .state) + spare ≤ nodeWords * left s from + 1
+pub record GivenWith (spare : ℕ) (s : List ℕ) (from : State) (entry exit : List ℕ) (n : ℕ) (r : Parsed) (words : List ℕ) (items : ℕ) (after : Cursor) : Type 0
+  where
+    pub number-is : r .number ≡ 0
+    pub state-is : cursorOf s exit (r .state) ≡ after
+    pub items-is : r .items ≡ items
+    pub used-is : r .used ≡ n + length words
+    pub table-is : take (n + length words) exit ≡ take n entry ++ words
+    pub standing : Standing s (r .state)
+    pub held : Held s (met exit) (r .state .count)
+    pub room : length words + nodeWords * left s (r .state) + spare ≤ nodeWords * left s from + 1
 
 -- the variable at hand among those met
 abbrev pub found : List ℕ → List ℕ → State → Option ℕ

@@ -74,7 +74,8 @@ fn with_new(st: State, table: &mut [u32]) -> State
     requires { ⌜ (st .token .at ≤ sheetBytes) × (st .token .len ≤ sheetBytes) ⌝ }
     requires { ⌜ (st .count < variables) × ((variables ≤ length (now table)) × (length (now table) < 2 ^ 31)) ⌝ }
     ensures is { λ r. ⌜ r ≡ record { token = st .token; count = st .count + 1 } ⌝ }
-    ensures stored { λ r. ⌜ now (table .exit) ≡ set (now (table .entry)) (length (now (table .entry)) - variables + st .count) (packed (st .token .at) (st .token .len)) ⌝ }
+    ensures stored { λ r. ⌜ now (table .exit) ≡ set (now (table .entry)) (length (now (table .entry)) - variables + st .count)
+        (packed (st .token .at) (st .token .len)) ⌝ }
 {
     let token = st.token;
     let w = pack_span(token.at, token.len);
@@ -89,7 +90,8 @@ fn with_new(st: State, table: &mut [u32]) -> State
 fn leaf_at(s: &[u8], st: State, table: &mut [u32], n: usize, what: usize, at: usize) -> Parsed
     requires { ⌜ Ready (now s) st (now table) n 0 ⌝ }
     requires { ⌜ (what < 2 ^ 32) × ((at < 2 ^ 32) × (st .token .kind ≡ endKind → ⊥)) ⌝ }
-    ensures { λ r. ⌜ Given (now (s .entry)) st (now (table .entry)) (now (table .exit)) n r (what ∷ nodeWords ∷ at ∷ []) 1 (Rattle.syntax.specs.Reading.next (now (s .entry)) (cursorOf (now (s .entry)) (now (table .entry)) st)) ⌝ }
+    ensures { λ r. ⌜ Given (now (s .entry)) st (now (table .entry)) (now (table .exit)) n r (what ∷ nodeWords ∷ at ∷ []) 1
+        (Rattle.syntax.specs.Reading.next (now (s .entry)) (cursorOf (now (s .entry)) (now (table .entry)) st)) ⌝ }
 {
     put_node(table, n, what, NODE_WORDS, at);
     let after = next(s, st);
@@ -106,7 +108,8 @@ fn leaf_at(s: &[u8], st: State, table: &mut [u32], n: usize, what: usize, at: us
 fn leaf(s: &[u8], st: State, table: &mut [u32], n: usize, what: usize) -> Parsed
     requires { ⌜ Ready (now s) st (now table) n 0 ⌝ }
     requires { ⌜ (what < 2 ^ 32) × (st .token .kind ≡ endKind → ⊥) ⌝ }
-    ensures { λ r. ⌜ Given (now (s .entry)) st (now (table .entry)) (now (table .exit)) n r (what ∷ nodeWords ∷ (st .token .at) ∷ []) 1 (Rattle.syntax.specs.Reading.next (now (s .entry)) (cursorOf (now (s .entry)) (now (table .entry)) st)) ⌝ }
+    ensures { λ r. ⌜ Given (now (s .entry)) st (now (table .entry)) (now (table .exit)) n r (what ∷ nodeWords ∷ (st .token .at) ∷ []) 1
+        (Rattle.syntax.specs.Reading.next (now (s .entry)) (cursorOf (now (s .entry)) (now (table .entry)) st)) ⌝ }
 {
     let t = st.token;
     let at = t.at;
@@ -117,7 +120,9 @@ fn leaf(s: &[u8], st: State, table: &mut [u32], n: usize, what: usize) -> Parsed
 fn read_numeral(s: &[u8], st: State, table: &mut [u32], n: usize) -> Parsed
     requires { ⌜ Ready (now s) st (now table) n 0 ⌝ }
     requires { ⌜ st .token .kind ≡ numeralKind ⌝ }
-    ensures { λ r. ⌜ Given (now (s .entry)) st (now (table .entry)) (now (table .exit)) n r (termWords (termOf (numeralAt (now (s .entry)) (cursorOf (now (s .entry)) (now (table .entry)) st)))) 1 (Rattle.syntax.specs.Reading.next (now (s .entry)) (cursorOf (now (s .entry)) (now (table .entry)) st)) ⌝ }
+    ensures { λ r. ⌜ Given (now (s .entry)) st (now (table .entry)) (now (table .exit)) n r
+        (termWords (termOf (numeralAt (now (s .entry)) (cursorOf (now (s .entry)) (now (table .entry)) st)))) 1
+        (Rattle.syntax.specs.Reading.next (now (s .entry)) (cursorOf (now (s .entry)) (now (table .entry)) st)) ⌝ }
 {
     let t = st.token;
     let at = t.at;
@@ -133,7 +138,8 @@ fn read_numeral(s: &[u8], st: State, table: &mut [u32], n: usize) -> Parsed
 fn new_variable(s: &[u8], st: State, table: &mut [u32], n: usize) -> Parsed
     requires { ⌜ Ready (now s) st (now table) n 0 ⌝ }
     requires { ⌜ st .token .kind ≡ variableKind ⌝ }
-    ensures { λ r. ⌜ Gives termWords one (now (s .entry)) st (now (table .entry)) (now (table .exit)) n r (newVariable (now (s .entry)) (cursorOf (now (s .entry)) (now (table .entry)) st)) ⌝ }
+    ensures { λ r. ⌜ Gives termWords one (now (s .entry)) st (now (table .entry)) (now (table .exit)) n r
+        (newVariable (now (s .entry)) (cursorOf (now (s .entry)) (now (table .entry)) st)) ⌝ }
 {
     let count = st.count;
     if count < VARIABLES {
@@ -146,7 +152,8 @@ fn new_variable(s: &[u8], st: State, table: &mut [u32], n: usize) -> Parsed
 fn read_variable(s: &[u8], st: State, table: &mut [u32], n: usize) -> Parsed
     requires { ⌜ Ready (now s) st (now table) n 0 ⌝ }
     requires { ⌜ st .token .kind ≡ variableKind ⌝ }
-    ensures { λ r. ⌜ Gives termWords one (now (s .entry)) st (now (table .entry)) (now (table .exit)) n r (readVariable (now (s .entry)) (cursorOf (now (s .entry)) (now (table .entry)) st)) ⌝ }
+    ensures { λ r. ⌜ Gives termWords one (now (s .entry)) st (now (table .entry)) (now (table .exit)) n r
+        (readVariable (now (s .entry)) (cursorOf (now (s .entry)) (now (table .entry)) st)) ⌝ }
 {
     let count = st.count;
     let v = known_number(s, st, table);
@@ -185,7 +192,8 @@ pub fn full(st: State) -> Parsed
 pub fn read_atom(s: &[u8], left: usize, st: State, table: &mut [u32], n: usize) -> Parsed
     requires { ⌜ Ready (now s) st (now table) n 0 ⌝ }
     requires { ⌜ st .token .kind ≡ nameKind ⌝ }
-    ensures { λ r. ⌜ Gives atomWords one (now (s .entry)) st (now (table .entry)) (now (table .exit)) n r (readAtomAt left (now (s .entry)) (cursorOf (now (s .entry)) (now (table .entry)) st)) ⌝ }
+    ensures { λ r. ⌜ Gives atomWords one (now (s .entry)) st (now (table .entry)) (now (table .exit)) n r
+        (readAtomAt left (now (s .entry)) (cursorOf (now (s .entry)) (now (table .entry)) st)) ⌝ }
 {
     let t = st.token;
     let len = t.len;
@@ -211,8 +219,10 @@ pub fn read_atom(s: &[u8], left: usize, st: State, table: &mut [u32], n: usize) 
 
 // The node of the name at hand, whose arguments were read.
 fn close(st: State, r: Parsed, table: &mut [u32], n: usize) -> Parsed
-    requires { ⌜ (n + nodeWords ≤ length (now table)) × ((st .token .at < 2 ^ 31) × ((st .token .len < 2 ^ 15) × ((r .items < 2 ^ 20) × ((n ≤ r .used) × (r .used < 2 ^ 31))))) ⌝ }
-    ensures { λ q. ⌜ (q ≡ record { number = 0; used = r .used; items = 1; state = r .state }) × (now (table .exit) ≡ set (set (set (now (table .entry)) n (functor (r .items) (st .token .len))) (n + 1) (r .used - n)) (n + 2) (st .token .at)) ⌝ }
+    requires { ⌜ (n + nodeWords ≤ length (now table)) × ((st .token .at < 2 ^ 31)
+        × ((st .token .len < 2 ^ 15) × ((r .items < 2 ^ 20) × ((n ≤ r .used) × (r .used < 2 ^ 31))))) ⌝ }
+    ensures { λ q. ⌜ (q ≡ record { number = 0; used = r .used; items = 1; state = r .state })
+        × (now (table .exit) ≡ set (set (set (now (table .entry)) n (functor (r .items) (st .token .len))) (n + 1) (r .used - n)) (n + 2) (st .token .at)) ⌝ }
 {
     let t = st.token;
     let at = t.at;
@@ -231,7 +241,8 @@ fn close(st: State, r: Parsed, table: &mut [u32], n: usize) -> Parsed
 
 pub fn read_term(s: &[u8], left: usize, st: State, table: &mut [u32], n: usize) -> Parsed
     requires { ⌜ Ready (now s) st (now table) n 0 ⌝ }
-    ensures { λ r. ⌜ Gives termWords one (now (s .entry)) st (now (table .entry)) (now (table .exit)) n r (readTerm left (now (s .entry)) (cursorOf (now (s .entry)) (now (table .entry)) st)) ⌝ }
+    ensures { λ r. ⌜ Gives termWords one (now (s .entry)) st (now (table .entry)) (now (table .exit)) n r
+        (readTerm left (now (s .entry)) (cursorOf (now (s .entry)) (now (table .entry)) st)) ⌝ }
 {
     let t = st.token;
     let kind = t.kind;
@@ -252,7 +263,8 @@ pub fn read_term(s: &[u8], left: usize, st: State, table: &mut [u32], n: usize) 
 // A list of terms after its opening bracket, of at most k.
 fn read_arguments(s: &[u8], left: usize, k: usize, st: State, table: &mut [u32], n: usize) -> Parsed
     requires { ⌜ Ready (now s) st (now table) n 0 ⌝ }
-    ensures { λ r. ⌜ Gives termsWords arity (now (s .entry)) st (now (table .entry)) (now (table .exit)) n r (readArguments (λ x. readTerm left (now (s .entry)) x) (now (s .entry)) k (cursorOf (now (s .entry)) (now (table .entry)) st)) ⌝ }
+    ensures { λ r. ⌜ Gives termsWords arity (now (s .entry)) st (now (table .entry)) (now (table .exit)) n r
+        (readArguments (λ x. readTerm left (now (s .entry)) x) (now (s .entry)) k (cursorOf (now (s .entry)) (now (table .entry)) st)) ⌝ }
 {
     if k == 0 {
         return full(st);

@@ -9,7 +9,8 @@ use Rattle.syntax.specs.Verdicts.{Outcome, refused, accepted, sheetOf, goalOutc
 use Rattle.syntax.specs.declared.Text.{Text}
 use Rattle.syntax.specs.declared.Text.the-variants.{Sheet as inSheet, Goal as inGoal, Neither}
 use Rattle.syntax.specs.declared.Refusal.{Refusal}
-use Rattle.syntax.specs.declared.Refusal.the-variants.{Settings, TooLong, NoToken, Overlong, Misplaced, OverLimit, Repeated, Undeclared, OpenInput, OpenOutput, Unwritten}
+use Rattle.syntax.specs.declared.Refusal.the-variants.{Settings, TooLong, NoToken, Overlong, Misplaced, OverLimit, Repeated, Undeclared, OpenInput, OpenOutput}
+use Rattle.syntax.specs.declared.Refusal.the-variants.{Unwritten}
 use Rattle.syntax.specs.declared.Verdict.{Verdict}
 use Rattle.syntax.specs.declared.Verdict.the-variants.{Accepted, Refused}
 use Rattle.rules.specs.Modes.{sheetFault, goalFault}

@@ -12,11 +12,13 @@ use Rattle.syntax.specs.declared.Five.{Five}
 use Rattle.syntax.specs.declared.Text.{Text}
 use Rattle.syntax.specs.declared.Text.the-variants.{Sheet as inSheet, Goal as inGoal}
 use Rattle.syntax.specs.declared.Refusal.{Refusal}
-use Rattle.syntax.specs.declared.Refusal.the-variants.{Settings, TooLong, NoToken, Overlong, Misplaced, OverLimit, Repeated, Undeclared, OpenInput, OpenOutput, Unwritten}
+use Rattle.syntax.specs.declared.Refusal.the-variants.{Settings, TooLong, NoToken, Overlong, Misplaced, OverLimit, Repeated, Undeclared, OpenInput, OpenOutput}
+use Rattle.syntax.specs.declared.Refusal.the-variants.{Unwritten}
 use Rattle.syntax.specs.declared.Verdict.{Verdict}
 use Rattle.syntax.specs.declared.Verdict.the-variants.{Accepted, Refused}
 use Rattle.rules.specs.Modes.{Known, nothing, everything, isGround, openUnless, openByte, equate, settle, marksFor, sameMark, listOf, ifMarked}
-use Rattle.rules.specs.Modes.{OpenArgument, groundMarked, undeclaredInSheet, undeclaredInGoal, openInput, openOutput, Walk, faulted, known, walkOn, startKnown, firstOf, walkFault}
+use Rattle.rules.specs.Modes.{OpenArgument, groundMarked, undeclaredInSheet, undeclaredInGoal, openInput, openOutput, Walk, faulted, known, walkOn}
+use Rattle.rules.specs.Modes.{startKnown, firstOf, walkFault}
 use Rattle.rules.specs.Written.{unwritten}
 use Rattle.rules.specs.Checking.{faultless, goalAnswer}
 

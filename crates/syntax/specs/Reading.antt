@@ -7,9 +7,11 @@ use mathlib.Core.Option.{Option, none, some}
 use lib.Dec.{leb, ltb, eqb}
 use lib.ListN.{length, getD}
 use Rattle.syntax.specs.Limits.{brackets, arguments, variables, literals, declarations, clauses}
-use Rattle.syntax.specs.Tokens.{tokenAt, spelling, noToken, nameKind, variableKind, numeralKind, neckKind, openKind, closeKind, commaKind, stopKind, equalsKind, plusKind, minusKind, starKind, overlongKind, endKind}
+use Rattle.syntax.specs.Tokens.{tokenAt, spelling, noToken, nameKind, variableKind, numeralKind, neckKind, openKind, closeKind, commaKind, stopKind}
+use Rattle.syntax.specs.Tokens.{equalsKind, plusKind, minusKind, starKind, overlongKind, endKind}
 use Rattle.syntax.specs.Numerals.{trimmed, dropped}
-use Rattle.syntax.specs.Terms.{Term, Terms, variable, compound, nil, cons, Atom, termOf, Literal, Body, equation, done, also, literalOf, Mark, input, output, free, Declaration, Clause, Sheet, Goal, arity, sameName, samePredicate, true-name, fail-name, mode-name}
+use Rattle.syntax.specs.Terms.{Term, Terms, variable, compound, nil, cons, Atom, termOf, Literal, Body, equation, done, also, literalOf, Mark, input}
+use Rattle.syntax.specs.Terms.{output, free, Declaration, Clause, Sheet, Goal, arity, sameName, samePredicate, true-name, fail-name, mode-name}
 use Rattle.syntax.specs.declared.Token.{Token}
 
 -- Where the reader stands: the token at hand, and the spellings of the variables that the clause or goal has so far, the first one met first.
@@ -341,7 +343,8 @@ declares (d ∷ ds) name n = samePredicate (d .name) (length (d .marks)) name n 
 
 unfoldable pub repeats : List Declaration → Declaration → Bool
 repeats earlier d =
-    declares earlier (d .name) (length (d .marks)) || (samePredicate (d .name) (length (d .marks)) true-name 0 || samePredicate (d .name) (length (d .marks)) fail-name 0)
+    declares earlier (d .name) (length (d .marks)) || (samePredicate (d .name) (length (d .marks)) true-name 0
+    || samePredicate (d .name) (length (d .marks)) fail-name 0)
 
 -- the byte of the first declaration at fault
 unfoldable pub firstRepeat : List Declaration → List Declaration → Option ℕ

@@ -3,7 +3,8 @@
 use Prim.Native.Nat.{ℕ}
 use Rattle.syntax.specs.declared.Five.{Five}
 use Rattle.syntax.specs.declared.Refusal.{Refusal}
-use Rattle.syntax.specs.declared.Refusal.the-variants.{Settings, TooLong, NoToken, Overlong, Misplaced, OverLimit, Repeated, Undeclared, OpenInput, OpenOutput, Unwritten}
+use Rattle.syntax.specs.declared.Refusal.the-variants.{Settings, TooLong, NoToken, Overlong, Misplaced, OverLimit, Repeated, Undeclared, OpenInput}
+use Rattle.syntax.specs.declared.Refusal.the-variants.{OpenOutput, Unwritten}
 
 abbrev pub five : ℕ → ℕ → ℕ → ℕ → ℕ → Five
 five n b c l a = record { number = n; byte = b; clause = c; literal = l; argument = a }

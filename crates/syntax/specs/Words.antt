@@ -4,7 +4,8 @@ use mathlib.Core.List.{List, [], _∷_, _++_}
 use lib.ListN.{length}
 use Rattle.syntax.specs.Limits.{sheetBytes, goalBytes, lengths, declarations}
 use Rattle.syntax.specs.Reading.{Sign, mark, noMark}
-use Rattle.syntax.specs.Terms.{Term, Terms, variable, compound, nil, cons, Atom, termOf, arity, Literal, Body, call, equation, truth, falsity, done, also, Mark, input, output, free, Declaration, Clause, Sheet}
+use Rattle.syntax.specs.Terms.{Term, Terms, variable, compound, nil, cons, Atom, termOf, arity, Literal, Body, call, equation, truth, falsity, done, also}
+use Rattle.syntax.specs.Terms.{Mark, input, output, free, Declaration, Clause, Sheet}
 
 -- A node's first word is a variable's number, below this, or a name's, from this on.
 abbrev pub firstName : ℕ

@@ -36,8 +36,10 @@ pub record Half (ss : List Symbol) (nodes : List ℕ) (b : List Binding) (top : 
   pub copy : (k : ℕ) → k < h → s k .copy < copies
   pub below : (k : ℕ) → k < h → s k .copy ≤ top
   pub row : (k : ℕ) → k < h → Row ss nodes (s k .at) (endOf nodes (s k))
-  pub small : (k : ℕ) → 1 ≤ k → k < h → (newer : List Binding) → sizeOf (newer ++ b) (rowOf ss nodes (s k)) < nodesOf (resolve (newer ++ b) (wholeOf ss nodes (s k)))
-  pub down : (k : ℕ) → 1 ≤ k → k + 1 < h → (newer : List Binding) → nodesOf (resolve (newer ++ b) (wholeOf ss nodes (s (k + 1)))) < nodesOf (resolve (newer ++ b) (wholeOf ss nodes (s k)))
+  pub small : (k : ℕ) → 1 ≤ k → k < h → (newer : List Binding) → sizeOf (newer ++ b) (rowOf ss nodes (s k))
+      < nodesOf (resolve (newer ++ b) (wholeOf ss nodes (s k)))
+  pub down : (k : ℕ) → 1 ≤ k → k + 1 < h → (newer : List Binding) → nodesOf (resolve (newer ++ b) (wholeOf ss nodes (s (k + 1))))
+      < nodesOf (resolve (newer ++ b) (wholeOf ss nodes (s k)))
 
 -- A pair was opened by way of a bound cell: below 16,384 one that stands for the left whole, else one for the right.
 pub record Via (b : List Binding) (v : ℕ) (left right : RTerm) : Type 0 where
@@ -65,4 +67,6 @@ nothing = app [] rnil
 -- Newer bindings that make two terms before the rows equal, and what is left of the rows of a pair and of each pair above it, make the wholes of that
 -- pair equal.
 pub record Closes (ss : List Symbol) (nodes : List ℕ) (b : List Binding) (l r : ℕ → Side) (h : ℕ) (t u : RTerm) : Type 0 where
-  pub wholes : (k : ℕ) → k < h → (newer : List Binding) → resolve (newer ++ b) t ≡ resolve (newer ++ b) u → ((j : ℕ) → k ≤ j → j < h → SameRows ss nodes (newer ++ b) (l j) (r j)) → resolve (newer ++ b) (wholeOf ss nodes (l k)) ≡ resolve (newer ++ b) (wholeOf ss nodes (r k))
+  pub wholes : (k : ℕ) → k < h → (newer : List Binding) → resolve (newer ++ b) t ≡ resolve (newer ++ b) u
+      → ((j : ℕ) → k ≤ j → j < h → SameRows ss nodes (newer ++ b) (l j) (r j)) → resolve (newer ++ b) (wholeOf ss nodes (l k))
+      ≡ resolve (newer ++ b) (wholeOf ss nodes (r k))

@@ -55,9 +55,12 @@ pub record Binds (ss : List Symbol) (nodes state : List ℕ) (b : List Binding) 
   pub copy-below : c ≤ top
   pub down : getD nodes p 0 < firstName → cellOf c (getD nodes p 0) < x
   pub stands : T (occurs (variableOf x) (resolve b (termAt ss nodes p c))) → unifyRows b ls rs ≡ none
-  pub free : (T (occurs (variableOf x) (resolve b (termAt ss nodes p c))) → ⊥) → unifyRows b ls rs ≡ unifyRows (record { variable = variableOf x; term = resolve b (termAt ss nodes p c) } ∷ b) (rowsOf ss nodes (leftAt after) k) (rowsOf ss nodes (rightAt after) k)
+  pub free : (T (occurs (variableOf x) (resolve b (termAt ss nodes p c))) → ⊥) → unifyRows b ls rs
+      ≡ unifyRows (record { variable = variableOf x; term = resolve b (termAt ss nodes p c) } ∷ b) (rowsOf ss nodes (leftAt after) k)
+      (rowsOf ss nodes (rightAt after) k)
   pub memo : Memo ss nodes b after
-  pub closes : (T (occurs (variableOf x) (resolve b (termAt ss nodes p c))) → ⊥) → Closes ss nodes (record { variable = variableOf x; term = resolve b (termAt ss nodes p c) } ∷ b) (leftAt after) (rightAt after) k nothing nothing
+  pub closes : (T (occurs (variableOf x) (resolve b (termAt ss nodes p c))) → ⊥)
+      → Closes ss nodes (record { variable = variableOf x; term = resolve b (termAt ss nodes p c) } ∷ b) (leftAt after) (rightAt after) k nothing nothing
 
 abbrev pub Turns : List Symbol → List ℕ → List ℕ → List Binding → ℕ → RTerms → RTerms → ℕ → List ℕ → Turn → Type 0
 Turns ss nodes state b top ls rs size after (Go k) = Goes ss nodes b top ls rs size after k
@@ -67,7 +70,8 @@ Turns ss nodes state b top ls rs size after (Bind k x p c) = Binds ss nodes stat
 -- what `turn` promises of n bindings and a stack of height h
 abbrev pub Turned : (nodes state before after : List ℕ) (n h : ℕ) → Work nodes state before n h → Turn → Type 0
 Turned nodes state before after n h g t =
-    SameMarks before after × Turns (g .ss) nodes state (bindings (g .ss) nodes state n) (g .top) (rowsOf (g .ss) nodes (leftAt before) h) (rowsOf (g .ss) nodes (rightAt before) h) (2 * sizeOf (bindings (g .ss) nodes state n) (rowsOf (g .ss) nodes (leftAt before) h) + h) after t
+    SameMarks before after × Turns (g .ss) nodes state (bindings (g .ss) nodes state n) (g .top) (rowsOf (g .ss) nodes (leftAt before) h)
+    (rowsOf (g .ss) nodes (rightAt before) h) (2 * sizeOf (bindings (g .ss) nodes state n) (rowsOf (g .ss) nodes (leftAt before) h) + h) after t
 
 -- a term that is dereferenced
 pub record Reached (ss : List Symbol) (nodes state : List ℕ) (top p c : ℕ) : Type 0 where
@@ -86,10 +90,14 @@ pub record Crossed (nodes scratch : List ℕ) (h p c q d : ℕ) : Type 0 where
   pub left : Reached (work .ss) nodes state (work .top) p c
   pub right : Reached (work .ss) nodes state (work .top) q d
   pub via : ℕ
-  pub via-is : getD nodes p 0 ≡ getD nodes q 0 → firstName ≤ getD nodes p 0 → Via (bindings (work .ss) nodes state n) via (termAt (work .ss) nodes p c) (termAt (work .ss) nodes q d)
-  pub inside : 2 ≤ h → (newer : List Binding) → nodesOf (resolve (newer ++ bindings (work .ss) nodes state n) (termAt (work .ss) nodes p c)) < nodesOf (resolve (newer ++ bindings (work .ss) nodes state n) (wholeOf (work .ss) nodes (leftAt scratch (h - 1))))
-  pub inside-right : 2 ≤ h → (newer : List Binding) → nodesOf (resolve (newer ++ bindings (work .ss) nodes state n) (termAt (work .ss) nodes q d)) < nodesOf (resolve (newer ++ bindings (work .ss) nodes state n) (wholeOf (work .ss) nodes (rightAt scratch (h - 1))))
-  pub closes : Closes (work .ss) nodes (bindings (work .ss) nodes state n) (leftAt scratch) (rightAt scratch) h (termAt (work .ss) nodes p c) (termAt (work .ss) nodes q d)
+  pub via-is : getD nodes p 0 ≡ getD nodes q 0 → firstName ≤ getD nodes p 0 → Via (bindings (work .ss) nodes state n) via (termAt (work .ss) nodes p c)
+      (termAt (work .ss) nodes q d)
+  pub inside : 2 ≤ h → (newer : List Binding) → nodesOf (resolve (newer ++ bindings (work .ss) nodes state n) (termAt (work .ss) nodes p c))
+      < nodesOf (resolve (newer ++ bindings (work .ss) nodes state n) (wholeOf (work .ss) nodes (leftAt scratch (h - 1))))
+  pub inside-right : 2 ≤ h → (newer : List Binding) → nodesOf (resolve (newer ++ bindings (work .ss) nodes state n) (termAt (work .ss) nodes q d))
+      < nodesOf (resolve (newer ++ bindings (work .ss) nodes state n) (wholeOf (work .ss) nodes (rightAt scratch (h - 1))))
+  pub closes : Closes (work .ss) nodes (bindings (work .ss) nodes state n) (leftAt scratch) (rightAt scratch) h (termAt (work .ss) nodes p c)
+      (termAt (work .ss) nodes q d)
 
 -- The same with two names that are the same.
 pub record Openable (scratch : List ℕ) (h p c q d : ℕ) : Type 0 where
@@ -100,7 +108,10 @@ pub record Openable (scratch : List ℕ) (h p c q d : ℕ) : Type 0 where
 
 abbrev pub Settled : (nodes before after : List ℕ) (h p c q d : ℕ) → Crossed nodes before h p c q d → Turn → Type 0
 Settled nodes before after h p c q d g t =
-    SameMarks before after × Turns (g .work .ss) nodes (g .state) (bindings (g .work .ss) nodes (g .state) (g .n)) (g .work .top) (rcons (termAt (g .work .ss) nodes p c) (rowsOf (g .work .ss) nodes (leftAt before) h)) (rcons (termAt (g .work .ss) nodes q d) (rowsOf (g .work .ss) nodes (rightAt before) h)) (2 * sizeOf (bindings (g .work .ss) nodes (g .state) (g .n)) (rcons (termAt (g .work .ss) nodes p c) (rowsOf (g .work .ss) nodes (leftAt before) h)) + h) after t
+    SameMarks before after × Turns (g .work .ss) nodes (g .state) (bindings (g .work .ss) nodes (g .state) (g .n)) (g .work .top)
+    (rcons (termAt (g .work .ss) nodes p c) (rowsOf (g .work .ss) nodes (leftAt before) h))
+    (rcons (termAt (g .work .ss) nodes q d) (rowsOf (g .work .ss) nodes (rightAt before) h)) (2 * sizeOf (bindings (g .work .ss) nodes (g .state) (g .n))
+    (rcons (termAt (g .work .ss) nodes p c) (rowsOf (g .work .ss) nodes (leftAt before) h)) + h) after t
 
 -- Two terms before the rows of a stack, a variable on at least one side; from the second pair on both stand strictly inside the wholes of the
 -- top pair.
@@ -115,13 +126,19 @@ pub record Crossable (nodes state scratch : List ℕ) (h p c q d : ℕ) : Type 0
   pub below : c ≤ work .top
   pub below-right : d ≤ work .top
   pub variable : (getD nodes p 0 < firstName) ⊎ (getD nodes q 0 < firstName)
-  pub inside : 2 ≤ h → (newer : List Binding) → nodesOf (resolve (newer ++ bindings (work .ss) nodes state n) (termAt (work .ss) nodes p c)) < nodesOf (resolve (newer ++ bindings (work .ss) nodes state n) (wholeOf (work .ss) nodes (leftAt scratch (h - 1))))
-  pub inside-right : 2 ≤ h → (newer : List Binding) → nodesOf (resolve (newer ++ bindings (work .ss) nodes state n) (termAt (work .ss) nodes q d)) < nodesOf (resolve (newer ++ bindings (work .ss) nodes state n) (wholeOf (work .ss) nodes (rightAt scratch (h - 1))))
-  pub closes : Closes (work .ss) nodes (bindings (work .ss) nodes state n) (leftAt scratch) (rightAt scratch) h (termAt (work .ss) nodes p c) (termAt (work .ss) nodes q d)
+  pub inside : 2 ≤ h → (newer : List Binding) → nodesOf (resolve (newer ++ bindings (work .ss) nodes state n) (termAt (work .ss) nodes p c))
+      < nodesOf (resolve (newer ++ bindings (work .ss) nodes state n) (wholeOf (work .ss) nodes (leftAt scratch (h - 1))))
+  pub inside-right : 2 ≤ h → (newer : List Binding) → nodesOf (resolve (newer ++ bindings (work .ss) nodes state n) (termAt (work .ss) nodes q d))
+      < nodesOf (resolve (newer ++ bindings (work .ss) nodes state n) (wholeOf (work .ss) nodes (rightAt scratch (h - 1))))
+  pub closes : Closes (work .ss) nodes (bindings (work .ss) nodes state n) (leftAt scratch) (rightAt scratch) h (termAt (work .ss) nodes p c)
+      (termAt (work .ss) nodes q d)
 
 abbrev pub Crosses : (nodes state before after : List ℕ) (h p c q d : ℕ) → Crossable nodes state before h p c q d → Turn → Type 0
 Crosses nodes state before after h p c q d g t =
-    SameMarks before after × Turns (g .work .ss) nodes state (bindings (g .work .ss) nodes state (g .n)) (g .work .top) (rcons (termAt (g .work .ss) nodes p c) (rowsOf (g .work .ss) nodes (leftAt before) h)) (rcons (termAt (g .work .ss) nodes q d) (rowsOf (g .work .ss) nodes (rightAt before) h)) (2 * sizeOf (bindings (g .work .ss) nodes state (g .n)) (rcons (termAt (g .work .ss) nodes p c) (rowsOf (g .work .ss) nodes (leftAt before) h)) + h) after t
+    SameMarks before after × Turns (g .work .ss) nodes state (bindings (g .work .ss) nodes state (g .n)) (g .work .top)
+    (rcons (termAt (g .work .ss) nodes p c) (rowsOf (g .work .ss) nodes (leftAt before) h))
+    (rcons (termAt (g .work .ss) nodes q d) (rowsOf (g .work .ss) nodes (rightAt before) h)) (2 * sizeOf (bindings (g .work .ss) nodes state (g .n))
+    (rcons (termAt (g .work .ss) nodes p c) (rowsOf (g .work .ss) nodes (leftAt before) h)) + h) after t
 
 -- The top pair of a stack, and where its rows first have a variable on a side.
 pub record Meetable (nodes state scratch : List ℕ) (h : ℕ) (l r : Side) (p q : ℕ) : Type 0 where
@@ -166,7 +183,8 @@ Ends ss nodes state b top ls rs after (Bind k x p c) = Binds ss nodes state b to
 
 abbrev pub Advanced : (nodes state before after : List ℕ) (n h : ℕ) → Work nodes state before n h → Turn → Type 0
 Advanced nodes state before after n h g t =
-    SameMarks before after × Ends (g .ss) nodes state (bindings (g .ss) nodes state n) (g .top) (rowsOf (g .ss) nodes (leftAt before) h) (rowsOf (g .ss) nodes (rightAt before) h) after t
+    SameMarks before after × Ends (g .ss) nodes state (bindings (g .ss) nodes state n) (g .top) (rowsOf (g .ss) nodes (leftAt before) h)
+    (rowsOf (g .ss) nodes (rightAt before) h) after t
 
 -- ---- the whole
 
@@ -214,4 +232,5 @@ pub record Unifies (ss : List Symbol) (nodes before after scratch later : List �
   pub keeps : Keeps n before after
   pub clean : Clean later
   pub long : length later ≡ length scratch
-  pub answer : (t u : Term) → Stands ss nodes p t → Stands ss nodes q u → unify (bindings ss nodes before n) (copied c t) (copied d u) ≡ answered (r .equal) (bindings ss nodes after (r .trail))
+  pub answer : (t u : Term) → Stands ss nodes p t → Stands ss nodes q u → unify (bindings ss nodes before n) (copied c t) (copied d u)
+      ≡ answered (r .equal) (bindings ss nodes after (r .trail))

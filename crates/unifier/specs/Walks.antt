@@ -35,11 +35,14 @@ pub record Meets (ss : List Symbol) (nodes : List ℕ) (p e q f i j : ℕ) : Typ
   pub beside : Beside ss nodes i e j f
   pub some : i < e
   pub variable : (getD nodes i 0 < firstName) ⊎ (getD nodes j 0 < firstName)
-  pub means : (b : List Binding) (c d : ℕ) (l r : RTerms) → unifyRows b (followed (termsAt ss nodes p e c) l) (followed (termsAt ss nodes q f d) r) ≡ unifyRows b (followed (termsAt ss nodes i e c) l) (followed (termsAt ss nodes j f d) r)
+  pub means : (b : List Binding) (c d : ℕ) (l r : RTerms) → unifyRows b (followed (termsAt ss nodes p e c) l) (followed (termsAt ss nodes q f d) r)
+      ≡ unifyRows b (followed (termsAt ss nodes i e c) l) (followed (termsAt ss nodes j f d) r)
   pub less : (b : List Binding) (c : ℕ) → sizeOf b (termsAt ss nodes i e c) ≤ sizeOf b (termsAt ss nodes p e c)
   pub less-right : (b : List Binding) (d : ℕ) → sizeOf b (termsAt ss nodes j f d) ≤ sizeOf b (termsAt ss nodes q f d)
 
 abbrev pub Walks : List Symbol → List ℕ → ℕ → ℕ → ℕ → ℕ → Walked → Type 0
-Walks ss nodes p e q f Done = (b : List Binding) (c d : ℕ) (l r : RTerms) → unifyRows b (followed (termsAt ss nodes p e c) l) (followed (termsAt ss nodes q f d) r) ≡ unifyRows b l r
-Walks ss nodes p e q f Clash = (b : List Binding) (c d : ℕ) (l r : RTerms) → unifyRows b (followed (termsAt ss nodes p e c) l) (followed (termsAt ss nodes q f d) r) ≡ none
+Walks ss nodes p e q f Done = (b : List Binding) (c d : ℕ) (l r : RTerms) → unifyRows b (followed (termsAt ss nodes p e c) l)
+    (followed (termsAt ss nodes q f d) r) ≡ unifyRows b l r
+Walks ss nodes p e q f Clash = (b : List Binding) (c d : ℕ) (l r : RTerms) → unifyRows b (followed (termsAt ss nodes p e c) l)
+    (followed (termsAt ss nodes q f d) r) ≡ none
 Walks ss nodes p e q f (Met i j) = Meets ss nodes p e q f i j

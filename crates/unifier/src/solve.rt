@@ -24,7 +24,8 @@ ghost use mathlib.Core.Path.{_≡_};
 ghost use Rattle.bindings.specs.Queues.{Closed};
 ghost use Rattle.bindings.specs.Scratch.{leftAt, rightAt};
 ghost use Rattle.unifier.specs.declared.solve.Turn.the-variants.{Bind};
-ghost use Rattle.unifier.specs.Turns.{Crossed, Crossable, Crosses, Meetable, Turnable, Turned, Openable, Passable, Ready, Advanced, Solvable, Solved, Unifiable, Unifies};
+ghost use Rattle.unifier.specs.Turns.{Crossed, Crossable, Crosses, Meetable, Turnable, Turned, Openable, Passable, Ready, Advanced, Solvable, Solved};
+ghost use Rattle.unifier.specs.Turns.{Unifiable, Unifies};
 ghost use Rattle.unifier.specs.Stacks.{rowsOf};
 
 // What a turn comes to: on with a stack of this height, names that differ, or a variable to be bound.
@@ -49,7 +50,8 @@ pub struct Unified {
 // else their arguments are looked at next.
 fn open_pair(scratch: &mut [u32], h: usize, p: usize, c: usize, q: usize, d: usize) -> Turn
     requires { ⌜ Openable (now scratch) h p c q d ⌝ }
-    ensures { λ r. ⌜ ((g : Openable (now (scratch .entry)) h p c q d) → Rattle.unifier.specs.Turns.Settled (g .nodes) (now (scratch .entry)) (now (scratch .exit)) h p c q d (g .crossed) r) ⌝ }
+    ensures { λ r. ⌜ ((g : Openable (now (scratch .entry)) h p c q d) → Rattle.unifier.specs.Turns.Settled (g .nodes) (now (scratch .entry))
+        (now (scratch .exit)) h p c q d (g .crossed) r) ⌝ }
 {
     let left = pack(p, c);
     let right = pack(q, d);
@@ -88,7 +90,8 @@ fn settle(
     d: usize,
 ) -> Turn
     requires { ⌜ Crossed (now nodes) (now scratch) h p c q d ⌝ }
-    ensures { λ r. ⌜ ((g : Crossed (now (nodes .entry)) (now (scratch .entry)) h p c q d) → Rattle.unifier.specs.Turns.Settled (now (nodes .entry)) (now (scratch .entry)) (now (scratch .exit)) h p c q d g r) ⌝ }
+    ensures { λ r. ⌜ ((g : Crossed (now (nodes .entry)) (now (scratch .entry)) h p c q d)
+        → Rattle.unifier.specs.Turns.Settled (now (nodes .entry)) (now (scratch .entry)) (now (scratch .exit)) h p c q d g r) ⌝ }
 {
     let w = word_at(nodes, p);
     let z = word_at(nodes, q);
@@ -128,7 +131,8 @@ fn cross(
     d: usize,
 ) -> Turn
     requires { ⌜ Crossable (now nodes) (now state) (now scratch) h p c q d ⌝ }
-    ensures { λ r. ⌜ ((g : Crossable (now (nodes .entry)) (now (state .entry)) (now (scratch .entry)) h p c q d) → Crosses (now (nodes .entry)) (now (state .entry)) (now (scratch .entry)) (now (scratch .exit)) h p c q d g r) ⌝ }
+    ensures { λ r. ⌜ ((g : Crossable (now (nodes .entry)) (now (state .entry)) (now (scratch .entry)) h p c q d)
+        → Crosses (now (nodes .entry)) (now (state .entry)) (now (scratch .entry)) (now (scratch .exit)) h p c q d g r) ⌝ }
 {
     let a = deref(nodes, state, p, c);
     let b = deref(nodes, state, q, d);
@@ -147,7 +151,8 @@ fn meet(
     q: usize,
 ) -> Turn
     requires { ⌜ Meetable (now nodes) (now state) (now scratch) h l r p q ⌝ }
-    ensures { λ t. ⌜ ((g : Meetable (now (nodes .entry)) (now (state .entry)) (now (scratch .entry)) h l r p q) → Turned (now (nodes .entry)) (now (state .entry)) (now (scratch .entry)) (now (scratch .exit)) (g .n) h (g .work) t) ⌝ }
+    ensures { λ t. ⌜ ((g : Meetable (now (nodes .entry)) (now (state .entry)) (now (scratch .entry)) h l r p q)
+        → Turned (now (nodes .entry)) (now (state .entry)) (now (scratch .entry)) (now (scratch .exit)) (g .n) h (g .work) t) ⌝ }
 {
     let i = p + size_at(nodes, p);
     let j = q + size_at(nodes, q);
@@ -163,7 +168,8 @@ fn meet(
 // The top pair's rows are done: its two terms, the left one of so many words, are equal from now on.
 fn pass(scratch: &mut [u32], h: usize, size: usize, l: Side, r: Side) -> Turn
     requires { ⌜ Passable (now scratch) h l r ⌝ }
-    ensures { λ t. ⌜ ((g : Passable (now (scratch .entry)) h l r) → Turned (g .nodes) (g .state) (now (scratch .entry)) (now (scratch .exit)) (g .n) h (g .work) t) ⌝ }
+    ensures { λ t. ⌜ ((g : Passable (now (scratch .entry)) h l r) → Turned (g .nodes) (g .state) (now (scratch .entry)) (now (scratch .exit)) (g .n) h
+        (g .work) t) ⌝ }
 {
     let root = l.root;
     let c = l.copy;
@@ -178,7 +184,8 @@ fn pass(scratch: &mut [u32], h: usize, size: usize, l: Side, r: Side) -> Turn
 // One turn at the top of a stack of height h.
 fn next_turn(nodes: &[u32], state: &[u32], scratch: &mut [u32], h: usize) -> Turn
     requires { ⌜ Turnable (now nodes) (now state) (now scratch) h ⌝ }
-    ensures { λ t. ⌜ ((g : Turnable (now (nodes .entry)) (now (state .entry)) (now (scratch .entry)) h) → Turned (now (nodes .entry)) (now (state .entry)) (now (scratch .entry)) (now (scratch .exit)) (g .n) h (g .work) t) ⌝ }
+    ensures { λ t. ⌜ ((g : Turnable (now (nodes .entry)) (now (state .entry)) (now (scratch .entry)) h)
+        → Turned (now (nodes .entry)) (now (state .entry)) (now (scratch .entry)) (now (scratch .exit)) (g .n) h (g .work) t) ⌝ }
 {
     let k = h - 1;
     let base = STACK + k * PAIR_SIZE;
@@ -200,7 +207,8 @@ fn next_turn(nodes: &[u32], state: &[u32], scratch: &mut [u32], h: usize) -> Tur
 // Turns, until the stack is empty or a turn does not go on. There are n bindings; they stay as they are, so the turns end.
 fn advance(nodes: &[u32], state: &[u32], scratch: &mut [u32], n: usize, h: usize) -> Turn
     requires { ⌜ Ready (now nodes) (now state) (now scratch) n h ⌝ }
-    ensures { λ t. ⌜ ((g : Ready (now (nodes .entry)) (now (state .entry)) (now (scratch .entry)) n h) → Advanced (now (nodes .entry)) (now (state .entry)) (now (scratch .entry)) (now (scratch .exit)) n h (g .work) t) ⌝ }
+    ensures { λ t. ⌜ ((g : Ready (now (nodes .entry)) (now (state .entry)) (now (scratch .entry)) n h)
+        → Advanced (now (nodes .entry)) (now (state .entry)) (now (scratch .entry)) (now (scratch .exit)) n h (g .work) t) ⌝ }
 {
     let mut k = h;
     while 0 < k {
@@ -217,7 +225,10 @@ fn advance(nodes: &[u32], state: &[u32], scratch: &mut [u32], n: usize, h: usize
 fn solve_pair(nodes: &[u32], state: &mut [u32], scratch: &mut [u32], m: usize, k: usize) -> Unified
     requires { ⌜ Solvable (now nodes) (now state) (now scratch) m ⌝ }
     requires { ⌜ Closed k (now state) ⌝ }
-    ensures { λ r. ⌜ ((g : Solvable (now (nodes .entry)) (now (state .entry)) (now (scratch .entry)) m) → Solved (g .work .ss) (now (nodes .entry)) (now (state .entry)) (now (state .exit)) (now (scratch .entry)) (now (scratch .exit)) (g .work .top) m (rowsOf (g .work .ss) (now (nodes .entry)) (leftAt (now (scratch .entry))) 1) (rowsOf (g .work .ss) (now (nodes .entry)) (rightAt (now (scratch .entry))) 1) r) ⌝ }
+    ensures { λ r. ⌜ ((g : Solvable (now (nodes .entry)) (now (state .entry)) (now (scratch .entry)) m)
+        → Solved (g .work .ss) (now (nodes .entry)) (now (state .entry)) (now (state .exit)) (now (scratch .entry)) (now (scratch .exit)) (g .work .top) m
+        (rowsOf (g .work .ss) (now (nodes .entry)) (leftAt (now (scratch .entry))) 1)
+        (rowsOf (g .work .ss) (now (nodes .entry)) (rightAt (now (scratch .entry))) 1) r) ⌝ }
 {
     let mut n = m;
     let mut h = 1;
@@ -272,7 +283,8 @@ pub fn unify_closed(
 ) -> Unified
     requires { ⌜ Unifiable (now nodes) (now state) (now scratch) p c q d n ⌝ }
     requires { ⌜ Closed k (now state) ⌝ }
-    ensures { λ r. ⌜ ((g : Unifiable (now (nodes .entry)) (now (state .entry)) (now (scratch .entry)) p c q d n) → Unifies (g .ss) (now (nodes .entry)) (now (state .entry)) (now (state .exit)) (now (scratch .entry)) (now (scratch .exit)) (g .top) p c q d n r) ⌝ }
+    ensures { λ r. ⌜ ((g : Unifiable (now (nodes .entry)) (now (state .entry)) (now (scratch .entry)) p c q d n)
+        → Unifies (g .ss) (now (nodes .entry)) (now (state .entry)) (now (state .exit)) (now (scratch .entry)) (now (scratch .exit)) (g .top) p c q d n r) ⌝ }
 {
     forget(scratch);
     put_pair(scratch, 0, p, p, c, q, q, d);
@@ -291,7 +303,8 @@ pub fn unify(
     n: usize,
 ) -> Unified
     requires { ⌜ Unifiable (now nodes) (now state) (now scratch) p c q d n ⌝ }
-    ensures { λ r. ⌜ ((g : Unifiable (now (nodes .entry)) (now (state .entry)) (now (scratch .entry)) p c q d n) → Unifies (g .ss) (now (nodes .entry)) (now (state .entry)) (now (state .exit)) (now (scratch .entry)) (now (scratch .exit)) (g .top) p c q d n r) ⌝ }
+    ensures { λ r. ⌜ ((g : Unifiable (now (nodes .entry)) (now (state .entry)) (now (scratch .entry)) p c q d n)
+        → Unifies (g .ss) (now (nodes .entry)) (now (state .entry)) (now (state .exit)) (now (scratch .entry)) (now (scratch .exit)) (g .top) p c q d n r) ⌝ }
 {
     unify_closed(nodes, state, scratch, p, c, q, d, n, 0)
 }

@@ -17,7 +17,8 @@ pub enum Walked {
 
 pub fn unify_term(nodes: &[u32], p: usize, q: usize) -> Walked
     requires { ⌜ Pairable (now nodes) p q ⌝ }
-    ensures { λ r. ⌜ ((g : Pairable (now (nodes .entry)) p q) → Walks (g .ss) (now (nodes .entry)) p (p + getD (now (nodes .entry)) (p + 1) 0) q (q + getD (now (nodes .entry)) (q + 1) 0) r) ⌝ }
+    ensures { λ r. ⌜ ((g : Pairable (now (nodes .entry)) p q) → Walks (g .ss) (now (nodes .entry)) p (p + getD (now (nodes .entry)) (p + 1) 0) q
+        (q + getD (now (nodes .entry)) (q + 1) 0) r) ⌝ }
 {
     let w = word_at(nodes, p);
     let z = word_at(nodes, q);
@@ -76,7 +77,8 @@ fn begin_list(nodes: &[u32], p: usize, e: usize, q: usize) -> Walked
 // As `unify_term`, its arguments by `begin_list`.
 fn begin_term(nodes: &[u32], p: usize, q: usize) -> Walked
     requires { ⌜ Pairable (now nodes) p q ⌝ }
-    ensures { λ r. ⌜ ((g : Pairable (now (nodes .entry)) p q) → Walks (g .ss) (now (nodes .entry)) p (p + getD (now (nodes .entry)) (p + 1) 0) q (q + getD (now (nodes .entry)) (q + 1) 0) r) ⌝ }
+    ensures { λ r. ⌜ ((g : Pairable (now (nodes .entry)) p q) → Walks (g .ss) (now (nodes .entry)) p (p + getD (now (nodes .entry)) (p + 1) 0) q
+        (q + getD (now (nodes .entry)) (q + 1) 0) r) ⌝ }
 {
     let w = word_at(nodes, p);
     let z = word_at(nodes, q);

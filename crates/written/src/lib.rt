@@ -44,7 +44,9 @@ const SEEN_ARGUMENTS: usize = 3;
 fn declares(s: &[u8], declared: &[u32], n: usize, i: usize, name: Name) -> bool
     requires { ⌜ DeclarationsAt (now s) (now declared) n ⌝ }
     requires { ⌜ name .at + name .len ≤ length (now s) ⌝ }
-    ensures { λ r. ⌜ (r ≡ true → (d : DeclarationsAt (now (s .entry)) (now (declared .entry)) n) → (i < n) × (samePredicate (nth (d .list) i .name) (length (nth (d .list) i .marks)) (spelling (now (s .entry)) (name .at) (name .len)) (name .arguments) ≡ true)) ⌝ }
+    ensures { λ r. ⌜ (r ≡ true → (d : DeclarationsAt (now (s .entry)) (now (declared .entry)) n) → (i < n)
+        × (samePredicate (nth (d .list) i .name) (length (nth (d .list) i .marks)) (spelling (now (s .entry)) (name .at) (name .len)) (name .arguments)
+        ≡ true)) ⌝ }
 {
     if n <= i {
         return false;
@@ -68,7 +70,8 @@ fn head_declaration(
 ) -> usize
     requires { ⌜ DeclarationsAt (now s) (now declared) n ⌝ }
     requires { ⌜ AtomAt (now s) (now table) p ⌝ }
-    ensures { λ r. ⌜ ((d : DeclarationsAt (now (s .entry)) (now (declared .entry)) n) (w : AtomAt (now (s .entry)) (now (table .entry)) p) → firstRepeat [] (d .list) ≡ none → Finds (d .list) (w .atom) r) ⌝ }
+    ensures { λ r. ⌜ ((d : DeclarationsAt (now (s .entry)) (now (declared .entry)) n) (w : AtomAt (now (s .entry)) (now (table .entry)) p)
+        → firstRepeat [] (d .list) ≡ none → Finds (d .list) (w .atom) r) ⌝ }
 {
     let name = name_at(table, p);
     if declares(s, declared, n, near, name) {
@@ -83,7 +86,8 @@ fn head_declaration(
 // The declarations that a clause is of, one pass over the heads.
 fn head_flags(s: &[u8], declared: &[u32], n: usize, table: &[u32], clauses: usize) -> Flags
     requires { ⌜ DeclaredOnce (now s) (now declared) n (now table) clauses ⌝ }
-    ensures { λ r. ⌜ ((w : DeclaredOnce (now (s .entry)) (now (declared .entry)) n (now (table .entry)) clauses) → Flagged r (w .stands .sheet .declarations) (w .stands .sheet .clauses)) ⌝ }
+    ensures { λ r. ⌜ ((w : DeclaredOnce (now (s .entry)) (now (declared .entry)) n (now (table .entry)) clauses)
+        → Flagged r (w .stands .sheet .declarations) (w .stands .sheet .clauses)) ⌝ }
 {
     let mut flags = [false; FLAGS];
     let mut at = 0;
@@ -132,7 +136,8 @@ fn stands(s: &[u8], declared: &[u32], n: usize, i: usize, written: bool) -> bool
 // The first declaration without a clause that may not stand so.
 fn first_unwritten(s: &[u8], declared: &[u32], n: usize, table: &[u32], clauses: usize) -> Checked
     requires { ⌜ DeclaredOnce (now s) (now declared) n (now table) clauses ⌝ }
-    ensures { λ r. ⌜ ((w : DeclaredOnce (now (s .entry)) (now (declared .entry)) n (now (table .entry)) clauses) → r ≡ checkedOf (firstUnwritten (w .stands .sheet .clauses) (w .stands .sheet .declarations))) ⌝ }
+    ensures { λ r. ⌜ ((w : DeclaredOnce (now (s .entry)) (now (declared .entry)) n (now (table .entry)) clauses) → r
+        ≡ checkedOf (firstUnwritten (w .stands .sheet .clauses) (w .stands .sheet .declarations))) ⌝ }
 {
     let flags = head_flags(s, declared, n, table, clauses);
     let mut i = 0;
@@ -157,7 +162,8 @@ fn unwritten_fault(
     stored: bool,
 ) -> Checked
     requires { ⌜ DeclaredOnce (now s) (now declared) n (now table) clauses ⌝ }
-    ensures { λ r. ⌜ ((w : DeclaredOnce (now (s .entry)) (now (declared .entry)) n (now (table .entry)) clauses) → r ≡ checkedOf (unwritten stored (w .stands .sheet))) ⌝ }
+    ensures { λ r. ⌜ ((w : DeclaredOnce (now (s .entry)) (now (declared .entry)) n (now (table .entry)) clauses) → r
+        ≡ checkedOf (unwritten stored (w .stands .sheet))) ⌝ }
 {
     if stored {
         return Checked::Fine;
@@ -175,7 +181,8 @@ pub fn check_sheet(
     stored: bool,
 ) -> Checked
     requires { ⌜ DeclaredOnce (now s) (now declared) n (now table) clauses ⌝ }
-    ensures { λ r. ⌜ ((w : DeclaredOnce (now (s .entry)) (now (declared .entry)) n (now (table .entry)) clauses) → r ≡ checkedOf (sheetFault stored (w .stands .sheet))) ⌝ }
+    ensures { λ r. ⌜ ((w : DeclaredOnce (now (s .entry)) (now (declared .entry)) n (now (table .entry)) clauses) → r
+        ≡ checkedOf (sheetFault stored (w .stands .sheet))) ⌝ }
 {
     let undeclared = undeclared_clauses(s, declared, n, table, clauses);
     if is_fault(undeclared) {
