@@ -217,12 +217,22 @@ fn paths() -> Case {
         path(X,X,here).\n\
         path(X,Y,to(Z,P)) :- edge(X,Z), path(Z,Y,P).\n"
         .to_string();
-    for from in 0..10 {
-        for to in from + 1..10.min(from + 3) {
-            sheet += &format!("edge(n{from},n{to}).\n");
-        }
-    }
+    sheet += &edges();
     Case { name: "paths", sheet, goal: "path(n0,n9,P).".to_string(), answers: 55 }
+}
+
+fn edges() -> String {
+    let from = |from: usize| (from + 1..10.min(from + 3)).map(move |to| format!("edge(n{from},n{to}).\n"));
+    (0..10).flat_map(from).collect()
+}
+
+/// The same paths, with both ways to go on in one clause.
+fn sides() -> Case {
+    let sheet = ":- mode edge(+,-).\n\
+        :- mode path(+,+,-).\n\
+        path(X,Y,P) :- (X = Y, P = here; edge(X,Z), path(Z,Y,Q), P = to(Z,Q)).\n"
+        .to_string();
+    Case { name: "sides", sheet: sheet + &edges(), goal: "path(n0,n9,P).".to_string(), answers: 55 }
 }
 
 /// Two towers of 4,096 levels, each 16 times 16 equations with 16 levels each, unified.
@@ -384,7 +394,7 @@ fn runs_beside_swi() {
         "{:10} {:>10} {:>10} {:>6} {:>6} {:>9} {:>10} {:>9}",
         "running", "run", "SWI", "ratio", "steps", "a step", "one step", "further"
     );
-    for case in [reverse(), plus(), paths(), towers()] {
+    for case in [reverse(), plus(), paths(), sides(), towers()] {
         let report = run(&case, STEPS);
         assert_eq!((report.kind, report.answers), (DONE, case.answers), "{}", case.name);
         let steps = report.steps as f64;

@@ -10,7 +10,7 @@
  * Threads. There is no global state: calls may run at once on any threads, each with numbers and text of its own.
  *
  * Stack. Tables stand on the native stack. PILVAUST_STACK bytes are enough for pilvaust_read, _check, _check_goal and _entry (measured: 321 KB), and
- * PILVAUST_RUN_STACK for pilvaust_run (measured: 4,112 KB). A main thread has 8 MB as a rule, other threads often 2 MB or less: give them as much
+ * PILVAUST_RUN_STACK for pilvaust_run (measured: 4,400 KB). A main thread has 8 MB as a rule, other threads often 2 MB or less: give them as much
  * (pthread_attr_setstacksize). On a smaller stack the program ends by a fault at the stack's guard page. */
 #ifndef PILVAUST_H
 #define PILVAUST_H

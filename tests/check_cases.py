@@ -16,6 +16,7 @@ LITERALS = [
     "true", "fail", "X = Y", "Y = a", "a = b", "X = X", "f(X,Y) = f(Y,a)",
     "f(Y,X) = f(a,Y)", "i(X)", "o(X)", "i(Y)", "o(Y)", "io(X,Y)", "io(Y,X)", "n(X)",
 ]
+SIDES = ["true", "fail", "a = b", "X = a", "Y = a", "X = Y", "i(X)", "o(X)", "o(Y)", "io(Y,X)"]
 LITERAL_MODES = ":-mode p(-).:-mode i(+).:-mode o(-).:-mode io(+,-).:-mode n(*)."
 
 
@@ -74,7 +75,7 @@ def numerals(add):
 def literal_orders(add, rng):
     for body in product(LITERALS, repeat=2):
         add("C", LITERAL_MODES + "p(X) :- %s." % ", ".join(body))
-    for body in rng.sample(list(product(LITERALS, repeat=3)), 350):
+    for body in rng.sample(list(product(LITERALS, repeat=3)), 160):
         add("C", LITERAL_MODES + "p(X) :- %s." % ", ".join(body))
         add("K", LITERAL_MODES, ", ".join(body) + ".")
 
@@ -201,7 +202,8 @@ def many_items(add):
     declared = "".join(":-mode %s(+,-).\n" % name for name in modes)
     for count in (255, 256):
         facts = ["p%d(a,X) :- X = a.\n" % (n % 64) for n in range(count)]
-        for last in (facts[-1], "p63(a,X).", "p63(X,_).", "p63(X,Y) :- p62(Y,X).", "p64(a,b)."):
+        lasts = facts[-1], "p63(X,_).", "p63(a,X).", "p63(X,Y) :- p62(Y,X).", "p64(a,b)."
+        for last in lasts if count == 256 else lasts[:2]:
             add("C", declared + "".join(facts[:-1]) + last)
         add("C", "".join(facts) + declared)
         add("K", declared + "".join(facts), "p63(a,X), p0(X,Y), p7(Y,_).")
@@ -342,10 +344,86 @@ def unwritten(add):
         add("C", sheet + ":-mode p. :-mode q. p :- seen(a,b,X).")
 
 
+def side_pairs(add):
+    """Every pair of small sides: a head's output behind the bracket, an input behind it in a clause that knows Y, and in a goal."""
+    for pair in product(SIDES, repeat=2):
+        add("C", LITERAL_MODES + "p(X) :- (%s;%s)." % pair)
+        add("C", LITERAL_MODES + "p(X) :- Y = b, (%s;%s), i(X)." % pair)
+        add("K", LITERAL_MODES, "(%s;%s), i(X)." % pair)
+    # which of three outputs each side gives
+    subsets = [[name for bit, name in enumerate("XYZ") if chosen >> bit & 1] for chosen in range(8)]
+    for left, right in product(subsets, repeat=2):
+        sides = [",".join("%s=a" % name for name in side) or "true" for side in (left, right)]
+        add("C", ":-mode p(-,-,-). p(X,Y,Z) :- (%s;%s)." % tuple(sides))
+
+
+def bracket_shapes(add, rng):
+    """Brackets in brackets, before, behind and between literals, one after the other."""
+    shapes = [
+        "((A;B);C)", "(A;(B;C))", "(A,(B;C);D)", "(A;(B;C),D)", "((A;B),C;D)", "(A;B),(C;D)", "A,(B;C),D", "(A,B;C,D)", "((A;B);(C;D))",
+        "(((A;B);C);D)", "(A;(B;(C;D)))",
+    ]
+    for shape in shapes:
+        for _ in range(16):
+            names = dict(zip("ABCD", (rng.choice(LITERALS) for _ in range(4))))
+            body = "".join(names.get(sign, sign) for sign in shape)
+            if rng.random() < 0.7:
+                add("C", LITERAL_MODES + "p(X) :- %s." % body)
+            else:
+                add("K", LITERAL_MODES, body + ", i(X).")
+
+
+def sixteen(place, literal, shape):
+    """Sixteen literals, `true` but for one, in brackets on the left, on the right, or two by two."""
+    body = ["true"] * 16
+    body[place - 1] = literal
+    if shape == "left":
+        return "(" * 15 + body[0] + "".join(";%s)" % one for one in body[1:])
+    if shape == "right":
+        return "".join("(%s;" % one for one in body[:-1]) + body[-1] + ")" * 15
+    return ",".join("(%s;%s)" % (body[n], body[n + 1]) for n in range(0, 16, 2))
+
+
+def bracket_places(add):
+    """8 and 9 at each literal of sixteen in brackets; the open variable's byte; a call that only a bracket has; 64 variables."""
+    modes = ":-mode p(*,+). :-mode q. "
+    for place in range(1, 17):
+        literals = ("p(X,X)", "r(X)", "p(X,_)") if place % 2 else ("p", "p(_,X)", "r")
+        for shape, literal in zip(("left", "right", "pairs"), literals):
+            add("C", modes + "q :- %s." % sixteen(place, literal, shape))
+            add("K", modes, sixteen(place, literal, shape) + ".")
+    for term in ("f(a,X)", "f(X,g(Y))", "f(g(a),_)", "g(f(Y,X),Z)"):
+        for body in ("(p(a,%s);true)", "(X = a;p(a,%s))", "(X = a,p(a,%s);true)", "(X = a;X = b),p(X,%s)", "(Y = b;X = a),p(Y,%s)", "((true;Y = a,p(a,%s));true)"):
+            add("C", modes + "q :- %s." % (body % term))
+            add("K", modes, body % term + ".")
+        for body in ("(X=a;Y=a)", "(X=a,Y=b;Y=a)", "(X=a;fail),Y=X", "(f(X,Y)=f(Y,a);(Y=b;Y=c),X=Y)"):
+            add("C", ":-mode r(-). r(%s) :- %s." % (term, body))
+    for body in ("(q;true)", "(true;q)", "((true;q);true)", "(q;q)", "(r;q)", "(p;p),q"):
+        add("C", ":-mode p. :-mode q. p :- %s." % body)
+        add("C", ":-mode p. :-mode q. p :- %s. q :- (p;p)." % body)
+    names = variables(64)
+    eights = ["n(%s)" % ",".join(names[n : n + 8]) for n in range(0, 64, 8)]
+    for left, right in (("V63=a", "V63=b"), ("V63=a", "V62=b"), ("V63=a", "fail"), ("V32=V31", "V63=a"), ("V0=a,V63=V0", "V63=a"), ("V63=V62", "V62=a")):
+        body = "%s,(%s;%s)" % (",".join(eights), left, right)
+        add("C", ":-mode p(-). :-mode n(%s). p(V63) :- %s." % (",".join("*" * 8), body))
+        add("K", ":-mode p(+). :-mode n(%s)." % ",".join("*" * 8), body + ",p(f(V32,V63)).")
+
+
+def bracket_equations(add):
+    """Equations that need further passes, in a side and in both; the bracket itself is not gone over again."""
+    chains = ("f(X,Y)=f(Y,a)", "f(X,Y,Z)=f(Y,Z,a)", "f(X,Y)=f(Y,Z)", "f(Y,X)=f(a,Y)", "X=Y,Y=a", "Y=a,X=Y", "f(X,b)=f(Y,a)")
+    for left, right in product(chains, repeat=2):
+        add("C", ":-mode p(-). p(X) :- (%s;%s)." % (left, right))
+    for chain in chains:
+        for body in ("(%s;Z=a),X=Z", "(X=Y;X=Y),%s", "((%s;fail);(fail;X=b))", "(Z=a;Z=b),%s"):
+            add("C", ":-mode p(-). p(X) :- %s." % (body % chain))
+            add("K", ":-mode p(+). p(a).", "%s, p(X)." % (body % chain))
+
+
 def by_chance(add, rng):
     """A clause for each predicate in most of them; with the others 16 comes before what they would be refused with."""
     full = written.completing(add, 1)
-    for n in range(260):
+    for n in range(180):
         lines, predicates = random_sheets.well_marked_sheet(rng)
         goal = random_sheets.well_marked_goal(rng, predicates)
         put = full if n % 10 else add
@@ -354,7 +432,7 @@ def by_chance(add, rng):
             lines = random_sheets.damaged(rng, lines)
             put("C", "\n".join(lines))
         put("K", "\n".join(lines), random_sheets.chance_goal(rng, predicates))
-    for n in range(430):
+    for n in range(310):
         lines, predicates = random_sheets.chance_sheet(rng)
         rng.shuffle(lines)
         put = full if n % 10 else add
@@ -379,4 +457,8 @@ def make(add, rng):
     open_places(full)
     chains(full)
     chance_equations(full, random.Random(SEED + 14))
+    side_pairs(full)
+    bracket_shapes(full, random.Random(SEED + 1))
+    bracket_places(full)
+    bracket_equations(full)
     unwritten(add)

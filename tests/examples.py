@@ -18,6 +18,8 @@ EIGHT = b"a,a,a,a,a,a,a,a,"
 EIGHT_MARKS = b"+,+,+,+,+,+,+,+,"
 LONG = b"a" * 32
 
+TRUES = b"true," * 16
+
 # Numerals, and names with the same digits; the last is over the limit of 31 bytes.
 NUMERALS = [
     "0", "00", "0" * 31, "7", "07", "007", "0" * 30 + "7", "70", "070", "700", "1", "10", "010",
@@ -150,6 +152,80 @@ CHECKS = [
     (b":-mode p. :-mode p.", "refused sheet 7 17 0 0 0"),
     (b":-mode p(+). :-mode q. p(X) :- p(Y).", "refused sheet 16 20 0 0 0"),
     (b":- mode rinsed(-). :- mode rinse_end(-). rinse_end(a).", "refused sheet 16 8 0 0 0"),
+    # paper 02, (i): two bodies of one literal or more, with a semicolon between; a literal, not a term and not a head
+    (b":-mode p. p:-(true;fail,true),((true;fail);true).", "accepted 1 1"),
+    (b":-mode p. p :- ( true % ;\n ; true ) .", "accepted 1 1"),
+    (b"(a;b):-c.", "refused sheet 5 0 0 0 0"),
+    (b";", "refused sheet 5 0 0 0 0"),
+    (b"p;q.", "refused sheet 5 1 0 0 0"),
+    (b"p :- q;r.", "refused sheet 5 6 0 0 0"),
+    (b"p :- ().", "refused sheet 5 6 0 0 0"),
+    (b"p :- (q).", "refused sheet 5 7 0 0 0"),
+    (b"p :- (;q).", "refused sheet 5 6 0 0 0"),
+    (b"p :- (q;).", "refused sheet 5 8 0 0 0"),
+    (b"p :- (q,;r).", "refused sheet 5 8 0 0 0"),
+    (b"p :- (q;r;s).", "refused sheet 5 9 0 0 0"),
+    (b"p :- ((q;r)).", "refused sheet 5 11 0 0 0"),
+    (b"p :- (q;r) = X.", "refused sheet 5 11 0 0 0"),
+    (b"p :- X = (q;r).", "refused sheet 5 9 0 0 0"),
+    (b"p((q;r)).", "refused sheet 5 2 0 0 0"),
+    (b"p :- q((r;s)).", "refused sheet 5 7 0 0 0"),
+    (b"p :- (X;r).", "refused sheet 5 7 0 0 0"),
+    (b"p :- (q.", "refused sheet 5 7 0 0 0"),
+    (b"p :- (q;r", "refused sheet 5 9 0 0 0"),
+    (b"p :- (q;r)(s;t).", "refused sheet 5 10 0 0 0"),
+    (b":-mode p(+;-).", "refused sheet 5 10 0 0 0"),
+    # 16 literals, the brackets not counted: the opening one is good behind them, the first literal inside is not
+    (b":-mode p. p:-" + b"(true;true)," * 7 + b"(true;true).", "accepted 1 1"),
+    (b"p:-" + b"(true;true)," * 8 + b"true", "refused sheet 6 99 0 0 0"),
+    (b"p :- " + TRUES + b"(true;true).", "refused sheet 6 86 0 0 0"),
+    (b"p :- " + TRUES + b"().", "refused sheet 5 86 0 0 0"),
+    (b"p :- " + TRUES + b"(!", "refused sheet 3 86 0 0 0"),
+    (b"p :- " + TRUES + b"(" + LONG, "refused sheet 4 86 0 0 0"),
+    (b"p :- " + TRUES + b"(" * 16 + b"X", "refused sheet 6 101 0 0 0"),
+    (b"p :- " + TRUES + b"(" * 16 + b";", "refused sheet 5 101 0 0 0"),
+    (b"p :- " + TRUES + b"(" * 17, "refused sheet 6 101 0 0 0"),
+    # 16 brackets open, for the terms inside too; closed ones do not count
+    (b"p :- " + b"(" * 17 + b"true", "refused sheet 6 21 0 0 0"),
+    (b"p :- " + b"(" * 16 + b"q(a)", "refused sheet 6 22 0 0 0"),
+    (b"p :- " + b"(" * 15 + b"q(f(a))", "refused sheet 6 23 0 0 0"),
+    (b"p:-" + b"(" * 16 + b"true" + b";true)" * 16 + b".", "refused sheet 6 114 0 0 0"),
+    (b":-mode p. p:-" + b"(" * 15 + b"f(a)=f(a)" + b";true)" * 15 + b".", "accepted 1 1"),
+    (b":-mode p. p:-" + b"(true;" * 15 + b"f(a)=f(a)" + b")" * 15 + b".", "accepted 1 1"),
+    (b":-mode p. p:-(true;true)," + b"f(" * 16 + b"a" + b")" * 16 + b"=a.", "accepted 1 1"),
+    (b"p:-(" + b"f(" * 15 + b"a" + b")" * 15 + b"=a;" + b"f(" * 16, "refused sheet 6 84 0 0 0"),
+    # literal numbers left to right through both sides
+    (b":-mode p. p :- (q; r).", "refused sheet 8 0 1 1 0 q"),
+    (b":-mode p. p :- (true; q), r.", "refused sheet 8 0 1 2 0 q"),
+    (b":-mode p. p :- (true, (p; p); true), q.", "refused sheet 8 0 1 5 0 q"),
+    (b":-mode p(+). p(X) :- (true; p(Y)), p(Z).", "refused sheet 9 30 1 2 1 p"),
+    (b":-mode p(+). p(X) :- (p(Y); p(Z)).", "refused sheet 9 24 1 1 1 p"),
+    (b":-mode p(+). p(X) :- ((true; true), true; true), p(Y).", "refused sheet 9 51 1 5 1 p"),
+    # both sides begin from what was known before the bracket; known after it is what both leave
+    (b":-mode p(+). p(X) :- (Y = a; p(Y)).", "refused sheet 9 31 1 2 1 p"),
+    (b":-mode p(+). p(X) :- (p(X), Y = X, p(Y); p(X)).", "accepted 1 1"),
+    (b":-mode p(-). p(X) :- (X = a; true).", "refused sheet 10 15 1 0 1 p"),
+    (b":-mode p(-). p(X) :- (true; X = a).", "refused sheet 10 15 1 0 1 p"),
+    (b":-mode p(-). p(X) :- (X = a; X = b).", "accepted 1 1"),
+    (b":-mode p(-). p(X) :- (X = a; fail).", "accepted 1 1"),
+    (b":-mode p(-). p(X) :- (a = b; X = a).", "accepted 1 1"),
+    (b":-mode p(-). p(X) :- (fail; fail).", "accepted 1 1"),
+    (b":-mode p(-). p(X) :- ((X = a; fail); X = b).", "accepted 1 1"),
+    (b":-mode p(-). p(X) :- ((X = a; true); X = b).", "refused sheet 10 15 1 0 1 p"),
+    (b":-mode p(-). p(X) :- (Y = a; Y = b), X = Y.", "accepted 1 1"),
+    (b":-mode p(-). p(X) :- (Y = a; Z = a), X = Y.", "refused sheet 10 15 1 0 1 p"),
+    (b":-mode p(-,-). p(X,Y) :- (X = a, Y = b; Y = c).", "refused sheet 10 17 1 0 1 p"),
+    (b":-mode p(-,-). p(X,Y) :- (Y = b, X = a; Y = c), X = Y.", "accepted 1 1"),
+    (b":-mode p(-). p(X) :- X = a, (true; true).", "accepted 1 1"),
+    # with (xiv): an equation in a side is gone over again, the bracket is not
+    (b":-mode p(-). p(X) :- (f(X,Y) = f(Y,a); X = b).", "accepted 1 1"),
+    (b":-mode p(-). p(X) :- (X = Y, Y = a; X = b).", "refused sheet 10 15 1 0 1 p"),
+    (b":-mode p(-). p(X) :- (X = Y; X = Y), Y = a.", "refused sheet 10 15 1 0 1 p"),
+    # with (x): a call in a bracket is no clause
+    (b":-mode p. :-mode q. p :- (q; true).", "refused sheet 16 17 0 0 0"),
+    # with (viii): the sides count together
+    (b"p(_,_,_,_,_,_,_,_):-" + b"(q(_,_,_,_,_,_,_,_);q(_,_,_,_,_,_,_,_))," * 3 + b"(X=Y;q(A,B,C,D,E,F,Y,G",
+     "refused sheet 6 161 0 0 0"),
 ]
 
 GOALS = [
@@ -164,6 +240,18 @@ GOALS = [
     (b":- mode p.", "refused goal 5 0 0 0 0"),
     (b"!" * 1_025, "refused goal 2 0 0 0 0"),
     (b"true." + b" " * 1_019, "accepted 0 0"),
+    # paper 02, (i)
+    (b"(true;true).", "accepted 0 0"),
+    (b"((X=a;X=b);X=c).", "accepted 0 0"),
+    (b"(true).", "refused goal 5 5 0 0 0"),
+    (b"(true;true;true).", "refused goal 5 10 0 0 0"),
+    (b"(true;).", "refused goal 5 6 0 0 0"),
+    (b"(true;true) = X.", "refused goal 5 12 0 0 0"),
+    (b"true;true.", "refused goal 5 4 0 0 0"),
+    (b"true.;", "refused goal 5 5 0 0 0"),
+    (b"(" * 17, "refused goal 6 16 0 0 0"),
+    (TRUES + b"(", "refused goal 5 81 0 0 0"),
+    (TRUES + b"(true", "refused goal 6 81 0 0 0"),
 ]
 
 RUNS = [
@@ -203,6 +291,29 @@ RUNS = [
     (b"", b"A = f(B,C), C = D.",
      "A = f(_1,_2), B = _1, C = _2, D = _2\nend done 1 3"),
     (b"", b"__ = _1, _ = _X.", "__ = _1, _1 = _1, _X = _2\nend done 1 3"),
+    # paper 02, (i): one step for the bracket; the right side waits below the left one, with the bindings from before it
+    (b"", b"(true;true).", "yes\nyes\nend done 2 5"),
+    (b"", b"(fail;true).", "yes\nend done 1 4"),
+    (b"", b"(fail;fail).", "end done 0 3"),
+    (b"", b"(true).", "refused goal 5 5 0 0 0"),
+    (b"", b"((X=a;X=b);X=c).", "X = a\nX = b\nX = c\nend done 3 8"),
+    (b"", b"(X=a;(X=b;X=c)).", "X = a\nX = b\nX = c\nend done 3 8"),
+    (b"", b"(X=a,X=b;X=c).", "X = c\nend done 1 5"),
+    (b"", b"(X=a;Y=b), Z = f(X,Y).",
+     "X = a, Y = _1, Z = f(a,_1)\nX = _1, Y = b, Z = f(_1,b)\nend done 2 7"),
+    (b"", b"(X=a;X=b),(Y=c;Y=X).",
+     "X = a, Y = c\nX = a, Y = a\nX = b, Y = c\nX = b, Y = b\nend done 4 13"),
+    (b"", b"X=f(Y),(Y=a,X=f(b);Y=c).", "X = f(c), Y = c\nend done 1 6"),
+    (b":-mode p(+). p(a).", b"(X = a; true), p(X).", "refused goal 9 17 0 3 1 p"),
+    (b":-mode p(+). p(a).", b"(X = a; X = b), p(X).", "X = a\nend done 1 8"),
+    (b":-mode p(-). p(X) :- (X = a; X = b). p(c).", b"p(X).",
+     "X = a\nX = b\nX = c\nend done 3 9"),
+    # path unchanged: a bracket at path 255 is no deep
+    (b":-mode l. l:-(l;true).", b"l.", "end deep 0 510"),
+    (b":-mode l. l:-(true;l).", b"l.", "yes\n" * 16 + "end wanted 16 64"),
+    # as many alternatives as there can be, 4,096, and at most 16 for each call and for the goal
+    (b":-mode p. p:-" + b"(" * 15 + b"p" + b";true)" * 15 + b".", b"(" * 15 + b"p" + b";true)" * 15 + b".",
+     "end deep 0 4095"),
     # bindings of an alternative that went are not kept
     (b":-mode p(*,*). p(a,b). p(X,X).", b"p(X,Y), Y = X.",
      "X = _1, Y = _1\nend done 1 6"),
@@ -224,6 +335,17 @@ SETTINGS = [
     (2, 1, 6, b"", b"X = a.", "X = a\nend done 1 2"),
     (1, 1, 6, b"", b"X = a.", "end steps 0 1"),
     (2, 1, 5, b"", b"X = a.", "end full 0 1"),
+    # brackets: the right side is an alternative, also where it only fails; with none left `done` comes first
+    (9, 1, 12, b"", b"(X=a;X=b).", "X = a\nend wanted 1 3"),
+    (9, 2, 12, b"", b"(X=a;X=b).", "X = a\nX = b\nend done 2 5"),
+    (9, 1, 12, b"", b"(X=a;fail).", "X = a\nend wanted 1 3"),
+    (9, 1, 12, b"", b"(fail;X=a).", "X = a\nend done 1 4"),
+    (5, 9, 12, b"", b"(X=a;X=b).", "X = a\nX = b\nend done 2 5"),
+    (4, 9, 12, b"", b"(X=a;X=b).", "X = a\nend steps 1 4"),
+    (3, 9, 12, b"", b"(X=a;X=b).", "X = a\nend steps 1 3"),
+    (1, 9, 12, b"", b"(X=a;X=b).", "end steps 0 1"),
+    (9, 9, 11, b"", b"(X=a;X=b).", "X = a\nend full 1 4"),
+    (9, 9, 5, b"", b"(X=a;X=b).", "end full 0 2"),
     (0, 1, 4, b"", b"true.", "refused 1 0 0 0 0"),
     (65_537, 1, 4, b"p(", b"", "refused 1 0 0 0 0"),
     (65_536, 0, 4, b"", b"true.", "refused 1 0 0 0 0"),
@@ -242,6 +364,8 @@ STORED = [
     (b":-mode p.", b"q.", "refused goal 8 0 0 1 0 q"),
     (b":-mode p(+).", b"p(X).", "refused goal 9 2 0 1 1 p"),
     (b":-mode p(-). p(a).", b"p(X).", "X = a\nend done 1 3"),
+    (b":-mode p.", b"(p;true).", "yes\nend done 1 4"),
+    (b":-mode p. :-mode q. q :- (p; p; q).", b"q.", "refused sheet 5 30 0 0 0"),
 ]
 
 # Sheet (free of faults 2 to 8), goal, most steps; open inputs, open outputs, steps.
@@ -261,4 +385,13 @@ COUNTS = [
     # each alternative on its own, and past deep
     (b":-mode p(-). p(X). p(X) :- true. p(a).", b"p(X).", 100, (0, 2, 8)),
     (b":-mode l. l :- l.", b"l.", 1_000, (0, 0, 1_000)),
+    # both sides of a bracket, each with the calls before it: an output that one side leaves open, an input that one leaves open
+    (b":-mode p(-). p(X) :- (X = a; true).", b"p(X).", 100, (0, 1, 7)),
+    (b":-mode p(-). p(X) :- (true; true).", b"p(X).", 100, (0, 2, 7)),
+    (b":-mode p(-). p(X) :- (X = a; X = b).", b"p(X).", 100, (0, 0, 7)),
+    (b":-mode p(-). p(X) :- (X = a; fail).", b"p(X).", 100, (0, 0, 6)),
+    (b":-mode p(+). p(X).", b"(X = a; true), p(X).", 100, (2, 0, 9)),
+    (b":-mode p(+). p(X).", b"(Y = a; p(Y)).", 100, (2, 0, 6)),
+    (b":-mode p(-). p(X).", b"p(X), (X = a; X = b).", 100, (0, 1, 7)),
+    (b":-mode p(-). :-mode q(-). p(X) :- (q(X); q(X)). q(X).", b"p(X).", 100, (0, 4, 9)),
 ]

@@ -16,6 +16,7 @@ FAULTS = [
     b":- mode p(" + examples.EIGHT_MARKS + b"+).", b":- mode n0.", b":- mode n2(+,-).",
     b":- mode true.", b":- mode fail.", b"p.", b"n0(a).", b"n0 :- p.", b"n0 :- n1(X).",
     b"n0 :- n2(a,X), n2(X,a).", b"n2(a,X).", b"n2(X,Y) :- n2(X,Z).", b":- mode p. p :- n3(a,X,X).",
+    b";", b"n0 :- (n0;n1(X)).", b"n2(X,Y) :- (Y = a;true).",
 ]
 
 
@@ -79,7 +80,7 @@ def worked_examples(add):
 
 
 def by_chance(add, rng):
-    for n in range(150):
+    for n in range(120):
         lines, _ = random_sheets.well_marked_sheet(rng)
         add("\n".join(lines).encode())
         rng.shuffle(lines)
@@ -87,7 +88,7 @@ def by_chance(add, rng):
         lines, _ = random_sheets.chance_sheet(rng)
         rng.shuffle(lines)
         add("\n".join(lines).encode(), as_it_stands=n % 10 == 0)
-    for _ in range(200):
+    for _ in range(160):
         tokens = sum(([b":-", b"mode", b"m%d" % n, b"."] for n in range(rng.randint(0, 3))), [])
         tokens += read_cases.random_text(rng, "S")
         add(read_cases.spelt(rng, tokens))

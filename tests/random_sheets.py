@@ -6,10 +6,16 @@ CONSTANTS = ["a", "b", "c", "z", "0", "1"]
 FUNCTORS = [("s", 1), ("s", 1), ("f", 2), ("g", 1)]
 NAMES = "pqrtuvwxy"
 MARKS = "+-*"
+BRACKETS = 3  # the most in a clause or goal, so that its literals stay within the limit
 
 
 def atom(name, arguments):
     return name + "(" + ",".join(arguments) + ")" if arguments else name
+
+
+def bracket(left, right):
+    """A bracket of two bodies; without blanks behind its commas, so that a body can be taken apart by them."""
+    return "(" + ",".join(left) + ";" + ",".join(right) + ")"
 
 
 def clause_text(head, body):
@@ -34,6 +40,7 @@ class ClauseMaker:
     def __init__(self, rng):
         self.rng = rng
         self.ground, self.open, self.made = [], [], 0
+        self.brackets = BRACKETS
 
     def term(self, *choices, depth=2, share=0.5):
         """A term and its variables; each variable comes from one of the choices."""
@@ -60,7 +67,7 @@ class ClauseMaker:
         for name in names:
             if name in self.open:
                 self.open.remove(name)
-                self.ground.append(name)
+                self.ground = self.ground + [name]
 
     def call(self, choices):
         name, marks = self.rng.choice(choices)
@@ -102,9 +109,32 @@ class ClauseMaker:
             right = left if self.rng.random() < 0.5 else self.term("ground", depth=1)[0]
         return self.rng.choice((left + " = " + right, right + " = " + left))
 
+    def now_ground(self, ground):
+        """These are known ground, all others are not."""
+        met = self.ground + self.open
+        self.ground = [name for name in met if name in ground]
+        self.open = [name for name in met if name not in ground]
+
+    def side(self, choices):
+        return self.literals(self.rng.choice((1, 1, 2)), choices)
+
+    def either(self, choices):
+        """Both sides go on from what is known before; known after is what both leave."""
+        self.brackets -= 1
+        before = self.ground
+        left = self.side(choices)
+        after = self.ground
+        self.now_ground(before)
+        right = self.side(choices)
+        self.now_ground([name for name in self.ground if name in after])
+        return bracket(left, right)
+
     def literals(self, count, choices):
         made = []
         for _ in range(count):
+            if self.brackets and self.rng.random() < 0.15:
+                made.append(self.either(choices))
+                continue
             chance = self.rng.random()
             if choices and chance < 0.72:
                 made.append(self.call(choices))
@@ -197,11 +227,13 @@ def chance_atom(rng, predicates):
     return atom(name, [random_term(rng, 1, lambda: rng.choice(names)) for _ in marks])
 
 
-def chance_literals(rng, predicates):
+def chance_literals(rng, predicates, most=4):
     made = []
-    for _ in range(rng.randint(1, 4)):
+    for _ in range(rng.randint(1, most)):
         chance = rng.random()
-        if chance < 0.65:
+        if most == 4 and rng.random() < 0.12:
+            made.append(bracket(*(chance_literals(rng, predicates, most=2) for _ in range(2))))
+        elif chance < 0.65:
             made.append(chance_atom(rng, predicates))
         elif chance < 0.9:
             sides = [random_term(rng, 2, lambda: rng.choice("XYZ")) for _ in range(2)]
@@ -251,7 +283,7 @@ def damaged(rng, lines):
         return lines
     head, arrow, body = line.removesuffix(".").partition(" :- ")
     literals = body.split(", ") if arrow else []
-    change = rng.choice(("variable", "variable", "constant", "swap", "drop", "add", "head"))
+    change = rng.choice(("variable", "variable", "constant", "swap", "drop", "add", "head", "bracket"))
     if change == "swap" and len(literals) > 1:
         rng.shuffle(literals)
     elif change == "drop" and literals:
@@ -259,6 +291,10 @@ def damaged(rng, lines):
     elif change == "add":
         other = rng.choice(("true", "fail", "X = Y", "a = b", "X = a"))
         literals.insert(rng.randint(0, len(literals)), other)
+    elif change == "bracket" and literals:
+        at_literal = rng.randrange(len(literals))
+        sides = [literals[at_literal]], [rng.choice(("true", "fail", "X = Y", "X = a"))]
+        literals[at_literal] = bracket(*rng.sample(sides, 2))
     elif change == "head":
         head = head.replace(rng.choice("abc"), rng.choice("XYZ"))
     else:

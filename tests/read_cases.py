@@ -3,7 +3,7 @@
 import examples
 
 SEED = 1_701
-EDGE_BYTES = b"aZ_0(),.=+-*:%! \n\r\0\x7f\xff"
+EDGE_BYTES = b"aZ_0(),.=+-*;:%! \n\r\0\x7f\xff"
 LONG = b"w" * 32
 
 # One way to each place of the grammar, and what is tried there.
@@ -13,14 +13,17 @@ SHEET_PLACES = [
     b"p:-X=", b"p:-X=Y", b"p:-X=7", b"p:-X=f", b"p:-X=f(a)", b"p:-f=", b"p:-f(a)=",
     b"p:-q,", b"p:-q,r", b"p.", b"p:-q.", b"p(a).", b":-", b":-mode", b":-mode p",
     b":-mode p(", b":-mode p(+", b":-mode p(+,", b":-mode p(+,-)", b":-mode p.",
-    b":-mode p(*).", b"% p(", b"% p(\n",
+    b":-mode p(*).", b"% p(", b"% p(\n", b"p:-(", b"p:-(q", b"p:-(q(a)", b"p:-(X", b"p:-(X=", b"p:-(X=a", b"p:-(q,",
+    b"p:-(q;", b"p:-(q;r", b"p:-(q;r,", b"p:-(q;r)", b"p:-(q;r),", b"p:-q,(", b"p:-((", b"p:-((q;r)", b"p:-((q;r),",
+    b"p:-((q;r);", b"p:-(q;(", b"p:-(q;(r;s)", b"p:-(q;r).", b"(",
 ]
 GOAL_PLACES = [
     b"", b"p", b"p(", b"p(a", b"p(f(a", b"p(a,", b"p(a)", b"X", b"7", b"X=", b"X=a",
     b"X=f(Y)", b"f=", b"f(X)=", b"p,", b"true,fail", b"p.", b"X=a.", b"% p.", b"p.\n",
+    b"(", b"(p", b"(p,", b"(p;", b"(p;X", b"(p;q", b"(p;q)", b"(p;q),", b"((p;q)", b"(p;(q;r)", b"(p;q).",
 ]
 NEXT_TOKENS = [
-    b"a", b"X", b"_", b"7", b"(", b")", b",", b".", b"=", b"+", b"-", b"*", b":-",
+    b"a", b"X", b"_", b"7", b"(", b")", b",", b";", b".", b"=", b"+", b"-", b"*", b":-",
     b"mode", b":", b"!", b"%", b"\xe9", LONG, b"",
 ]
 
@@ -98,6 +101,68 @@ def bracket_limits(add):
     add("S", b"p(" + repeated(b"f(a)", 8) + b")." * 3)
     for item in (nested(b"f", 15), nested(b"f", 14), nested(b"f", 16)):
         add("S", b"p(" + repeated(item, 8) + b").")
+
+
+def around(brackets, core, side=b"q"):
+    """The core on the left of so many brackets, and on the right."""
+    return b"(" * brackets + core + (b";" + side + b")") * brackets, (b"(" + side + b";") * brackets + core + b")" * brackets
+
+
+def either_brackets(add):
+    """Brackets with a semicolon: 15 to 18 open at once with the terms inside, behind closed ones, cut short, with a limit and a fault at one token."""
+    for depth in range(19):
+        for inner in sorted({0, 1, max(16 - depth, 0), max(17 - depth, 0)}):
+            for text in around(depth, nested(b"f", inner) + (b"=a" if inner % 2 else b"")):
+                add("S", b"p:-" + text + b".")
+                add("G", text + b".")
+    for token in NEXT_TOKENS:
+        for depth in (15, 16, 17):
+            add("S", b"p:-" + b"(" * depth + token)
+            add("S", b"p:-" + b"(q;" * min(depth, 15) + token)
+            add("G", b"(" * depth + b"f" + token)
+            add("G", b"(q;r)," + b"(" * depth + b"X=f" + token)
+    deepest = b"a"  # what takes most native stack: so many brackets, each behind as many literals as there can be, and the terms of bracket_limits
+    for terms in range(17):
+        depth = min(16 - terms, 15)
+        left, right = around(depth, deepest + b"=a")
+        before = repeated(b"q", 15 - depth) + b"," if depth < 15 else b""
+        for text in (before + left, before + right, left.replace(b"(" * depth, b"(" * depth + before, 1)):
+            add("S", b"p:-" + text + b".")
+            add("G", text + b".")
+        deepest = b"f(" + repeated(b"a", 7) + b"," + deepest + b")"
+    for text in (b"(a;b):-c.", b"p:-((q;r)).", b"p((q;r)).", b"p:-q((r;s)).", b"p:-(q;r)=X.", b"p:-X=(q;r).", b"p:-f((q;r))=X.", b"p:-(q;r)(s;t).",
+                 b"p:-(q:-r;s).", b"p:-(q;r.s).", b":-mode p((+;-)).", b":-(mode p).", b"p:-(q=r;1=X,s=t(u)).", b"p:-(true;fail),(fail;true)."):
+        add("S", text)
+        add("G", text.removeprefix(b"p:-"))
+
+
+def either_literals(add):
+    """15 to 18 literals in brackets of every kind, and what follows the sixteenth in one."""
+    for count in (15, 16, 17, 18):
+        half, third = repeated(b"q", count // 2), repeated(b"X=a", count // 3)
+        shapes = [
+            b"(" + half + b";" + repeated(b"q", count - count // 2) + b")", repeated(b"q", count - 2) + b",(q;q)",
+            b"(q;" + repeated(b"q", count - 1) + b")", b"(" + repeated(b"q", count - 1) + b";q)", *around(count - 1, b"q"),
+            b"(" + third + b";(" + third + b";" + repeated(b"q", count - 2 * (count // 3)) + b"))",
+            b"((" + third + b";" + third + b")," + repeated(b"q(X)", count - 2 * (count // 3) - 1) + b";q)",
+        ]
+        if count % 2 == 0:
+            shapes.append(repeated(b"(true;fail)", count // 2))
+        for shape in shapes:
+            for end in (b".", b"", b",q.", b",(", b",(q;q)."):
+                add("S", b"p:-" + shape + end)
+                add("G", shape + end)
+    for token in NEXT_TOKENS:
+        for start in (repeated(b"q", 16) + b",(", repeated(b"q", 16) + b",((", b"(" + repeated(b"q", 16) + b";", repeated(b"(q;r)", 8) + b",",
+                      b"(" + repeated(b"q", 16) + b",", b"(" + repeated(b"q", 16), repeated(b"q", 14) + b",(q;q", repeated(b"q", 15) + b",(q;"):
+            add("S", b"p:-" + start + token)
+            add("G", start + token)
+    names = variables(64)
+    sides = [in_atoms(b"q", names[n : n + 8]) for n in range(0, 64, 8)]
+    full = b",".join(b"(%s;%s)" % (sides[n], sides[n + 1]) for n in range(0, 8, 2))
+    for last in (b".", b",V0=V63.", b",(V0=V63;W=W).", b",(_=V0;q).", b",W", b",(W", b",(q;W"):
+        add("S", b"p:-" + full + last)
+        add("G", full + last)
 
 
 def argument_limits(add):
@@ -244,7 +309,7 @@ def make_entries(add):
 def make_tokens(add):
     """Tokens by number, at the end of the text and past it."""
     for text in (
-        b"", b" ", b"% x", b"% x\n", b"p", b"p.", b" p :- q(X,_1,007). % z\n", b":-:-(),.=+-*", b"a" * 30 + b"B 1",
+        b";", b"p:-(q;X=1),;;.", b"", b" ", b"% x", b"% x\n", b"p", b"p.", b" p :- q(X,_1,007). % z\n", b":-:-(),.=+-*", b"a" * 30 + b"B 1",
         b":- mode plus(+,+,-).\nplus(z,N,N).\nplus(s(M),N,s(P)) :- plus(M,N,P).\n", b"1a_Z9 Aa1 _ __ 0",
     ):
         for number in range(40):
@@ -280,15 +345,23 @@ def random_atom(rng, depth):
     return tokens
 
 
-def random_literals(rng):
+def random_body(rng, depth, count):
+    """The tokens of a body of so many literals, brackets among them as far as the depth goes."""
     tokens = []
-    for _ in range(rng.choice((1, 1, 1, 2, 2, 3, 4, rng.randint(5, 16)))):
-        if rng.random() < 0.3:
+    for _ in range(count):
+        if depth and rng.random() < 0.15:
+            sides = [random_body(rng, depth - 1, rng.choice((1, 1, 2))) for _ in range(2)]
+            tokens += [b"(", *sides[0], b";", *sides[1], b")"]
+        elif rng.random() < 0.3:
             tokens += random_term(rng, 2) + [b"="] + random_term(rng, 2)
         else:
             tokens += random_atom(rng, 2)
         tokens.append(b",")
-    return tokens[:-1] + [b"."]
+    return tokens[:-1]
+
+
+def random_literals(rng):
+    return random_body(rng, 3, rng.choice((1, 1, 1, 2, 2, 3, 4, rng.randint(5, 14)))) + [b"."]
 
 
 def random_item(rng):
@@ -344,7 +417,7 @@ def damaged_bytes(rng, text):
 
 
 def by_chance(add, rng):
-    for _ in range(600):
+    for _ in range(380):
         kind = rng.choice("SSG")
         tokens = random_text(rng, kind)
         add(kind, spelt(rng, tokens))
@@ -362,6 +435,8 @@ def make(add, rng):
     length_limits(add)
     word_limits(add)
     bracket_limits(add)
+    either_brackets(add)
+    either_literals(add)
     argument_limits(add)
     variable_limits(add)
     literal_limits(add)

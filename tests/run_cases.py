@@ -78,6 +78,27 @@ LARGER = [
     (":-mode b(-). b(0). b(1).", ["b(A),b(B),b(C),b(D),b(E),b(F).", "b(A),b(B),b(A)."]),
 ]
 
+# Brackets: bindings of the left side undone for the right one, answers of one side and of both, brackets in brackets, in goals and in clauses.
+BRACKETED = [
+    ("", ["(true;true).", "(X=a;X=b).", "((X=a;X=b);X=c).", "(X=a;X=b),(Y=c;Y=X).", "(X=a;Y=b), Z = f(X,Y).",
+          "X=f(Y,Z),(Y=a,Z=b,fail;(Y=c;Z=d)).", "(X=Y,Y=Z,Z=a,X=b;X=c).", "(X=f(X);X=g(Y),(Y=a;Y=b)).",
+          "((fail;X=a),true;fail),(true;X=b).", "(true,(X=_;fail),true;X=b),Y=g(X,_)."]),
+    (":-mode p(-). p(a). p(b).", ["(p(X);X=c).", "(p(X),X=b;p(Y),X=f(Y)).", "p(X),(X=a;X=b)."]),
+    (":-mode p(*,*). p(X,Y) :- (X=a,Y=b;Y=X). p(X,f(X)) :- (X=Y;true),(Y=c;X=d).", ["p(X,Y).", "p(X,f(Z)).", "(p(X,a);p(b,X))."]),
+    (":-mode q. q :- (fail;(true;fail)). q.", ["q,q."]),
+]
+LARGER_BRACKETED = [
+    (":-mode next(+,-). next(on,low). next(low,off). next(off,rinse). next(rinse,on).\n:-mode ends(+,-). ends(S,T) :- next(S,U), (T = U; ends(U,T)).",
+     ["ends(on,X).", "ends(off,X), X = low.", "(ends(end,X);next(on,X))."]),
+    (":-mode mem(-,+). mem(X,c(H,T)) :- (X = H; mem(X,T)).\n:-mode add(+,+,-). add(M,N,P) :- (M = z, P = N; M = s(A), add(A,N,B), P = s(B)).",
+     ["mem(X,c(a,c(b,c(c,nil)))).", "mem(X,c(s(z),c(z,nil))), add(X,X,Y).", "add(s(s(z)),s(z),X)."]),
+    (":-mode b(-). b(X) :- (X = 0; X = 1).", ["b(A),b(B),b(C),b(D).", "b(A),b(B),(A = B; A = 0, B = 1).", "b(A),b(B),b(C),b(D),b(E),b(F),fail."]),
+    (":-mode l. l :- (l; true).", ["l.", "(fail;l).", "(true;l),l."]),
+    (":-mode l. l :- (true; l).", ["l.", "l, fail.", "l, l."]),
+    (":-mode l. l :- (true; true), l.", ["l.", "(l;true)."]),
+    (":-mode l. l. l :- (fail; l), (true; fail).", ["l."]),
+]
+
 
 def nested(depth, core):
     return "s(" * depth + core + ")" * depth
@@ -173,12 +194,67 @@ def settings(add):
 
 
 def steps_and_ends(add):
-    for sheet, goals in SMALL:
+    for sheet, goals in SMALL + BRACKETED:
         for goal in goals:
             edges(add, sheet, goal, every_step=True)
-    for sheet, goals in LARGER:
+    for sheet, goals in LARGER + LARGER_BRACKETED:
         for goal in goals:
             edges(add, sheet, goal)
+
+
+def all_brackets(core, side):
+    """As many brackets as a body can have, the core on their left and the side on each right."""
+    return "(" * 15 + core + (";" + side + ")") * 15
+
+
+def full_piles(add):
+    """As many alternatives as there can be: 16 for the goal and for each of 255 copies.  A loop gets there and is deep; p, q and t count the 255
+    copies (p 1, q 16 times 15, t 14), so that the pile is emptied again."""
+    for side in ("true", "fail"):
+        loop = ":-mode p. p:-%s." % all_brackets("p", side)
+        for goal in (all_brackets("p", side), "p"):
+            for allowance in (15, 16, 4_079, 4_080, 4_094, 4_095, 4_096):
+                add(loop, goal + ".", allowance=allowance)
+    for side, last in product(("true", "fail"), ("true", "fail", "X=a")):
+        rules = (
+            ("p(%s,A,%s,B,%s,C)" % tuple(nested(depth, "z") for depth in (15, 14, 13)), "q(A,B,A,C)"),
+            ("q(s(N),M,K,L)", "q(N,M,K,L)"), ("q(z,s(M),K,L)", "q(K,M,K,L)"), ("q(z,z,K,L)", "t(L)"), ("t(s(N))", "t(N)"),
+        )
+        sheet = ":-mode p(*,*,*,*,*,*).:-mode q(*,*,*,*).:-mode t(*).\n"
+        sheet += "".join("%s:-%s.\n" % (head, all_brackets(call, "fail")) for head, call in rules)
+        sheet += "t(z):-%s.\n" % all_brackets(last, side)
+        add(sheet, all_brackets("p(X,X,Y,Y,Z,Z)", "fail") + ".", wanted=64)
+        add(sheet, all_brackets("p(X,X,Y,Y,Z,Z)", side) + ".", wanted=17)
+
+
+def many_copies(add):
+    """Brackets before, behind and around the call in 238, 255 and 256 copies: l counts (k + 1) times (m + 1)."""
+    bodies = [
+        "(true;fail),CALL", "CALL,(true;fail)", "(CALL;fail)", "(fail;CALL)", "(CALL;true)", "(true;CALL)", "((CALL;fail);fail)",
+        "(true;fail),(CALL;fail),(true;fail)", "(X=a,X=b;X=c),CALL,(X=c;fail)", "(X=K,fail;CALL)", "(CALL,fail;true)", "CALL,(fail;true)",
+        "(X=f(X);CALL),(X=a;X=b)", all_brackets("CALL", "fail"), "CALL," + ",".join(["(true;fail)"] * 7),
+    ]
+    for number, body in enumerate(bodies):
+        for sizes in ((13, 16), (14, 16), (15, 15)) if number < 4 else ((14, 16),):
+            last = ("true", "(true;true)", "(fail;true)", "(X=K;fail)")[number % 4]
+            sheet = ":-mode l(*,*,*). l(z,z,K):-%s. l(s(N),M,K):-%s. l(z,s(M),K):-%s." % (
+                last, body.replace("CALL", "l(N,M,K)"), body.replace("CALL", "l(K,M,K)"))
+            goal = "K=%s,M=%s," % tuple(nested(depth, "z") for depth in sizes)
+            add(sheet, goal + "l(K,M,K).")
+            add(sheet, goal + "l(K,M,K),fail.")
+            add(sheet, goal + "l(K,M,K).", wanted=1)
+            add(sheet, goal + "(true;l(K,M,K)),(true;fail).", wanted=2)
+
+
+def undone_sides(add):
+    """64 variables bound in a left side and undone for the right one, by equations and by calls, in the goal and in copies of a clause."""
+    names = ["V%d" % n for n in range(64)]
+    eights = ["q(%s)" % ",".join(names[n : n + 8]) for n in range(0, 64, 8)]
+    modes = ":-mode q(%s). q(a,b,c,d,e,f,g,h). q(A,A,B,B,C,C,D,D)." % ",".join("*" * 8)
+    for left, right in ((",".join(eights) + ",fail", "V0=V63"), (",".join(eights[:4]), ",".join(eights[4:])), ("V0=V63,V63=V32", ",".join(eights))):
+        add(modes, "(%s;%s)." % (left, right), wanted=2)
+        add(modes, "V63=f(V0),(%s;%s),V1=V62." % (left, right), allowance=700)
+        add(modes + ":-mode l. l :- (%s;%s), l. l." % (left, right), "l.", allowance=9_000)
 
 
 def numerals(add):
@@ -374,9 +450,9 @@ def sixty_four(add):
 def by_chance(add, rng):
     """Accepted sheets and goals, by turns with the mark and with clauses for all; runs with several answers are kept the most."""
     made = 0
-    while made < 950:
+    while made < 500:
         sheet, goal = random_sheets.runnable(rng)
-        if len(sheet) > 330:
+        if len(sheet) > 300:
             continue
         sheet, stored = sheet.encode(), made % 2 == 0
         if not stored:
@@ -397,6 +473,9 @@ def make(add, rng):
     steps_and_ends(add)
     numerals(add)
     path_limit(add)
+    full_piles(add)
+    many_copies(add)
+    undone_sides(add)
     large_terms(add)
     crowds(add)
     filled(add)

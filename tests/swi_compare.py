@@ -50,19 +50,23 @@ def prolog_atom(number, atom):
     return prolog_term(engine.Compound(b"%d:%s" % (number, atom.name), atom.arguments))
 
 
+def prolog_literal(number, literal):
+    if isinstance(literal, engine.Either):
+        sides = (", ".join(prolog_literal(number, one) for one in side) for side in literal)
+        return "(%s)" % "; ".join(sides)
+    if isinstance(literal, engine.Equation):
+        return " = ".join(map(prolog_term, literal))
+    if engine.is_call(literal):
+        return prolog_atom(number, literal)
+    return literal.name.decode()
+
+
 def prolog_body(number, clause):
     """SWI-Prolog 9.0.4 misses the occurs check on arguments that are fresh
     variables of the caller's frame; in a term first, they are no such variables."""
     names = ["V%d" % number for number in range(len(clause.variables))]
-    parts = ["variables(%s)" % random_sheets.atom("v", names)]
-    for literal in clause.body:
-        if isinstance(literal, engine.Equation):
-            parts.append(" = ".join(map(prolog_term, literal)))
-        elif engine.is_call(literal):
-            parts.append(prolog_atom(number, literal))
-        else:
-            parts.append(literal.name.decode())
-    return ", ".join(parts)
+    first = "variables(%s)" % random_sheets.atom("v", names)
+    return ", ".join([first, *(prolog_literal(number, literal) for literal in clause.body)])
 
 
 def prolog_program(number, sheet, goal):
@@ -100,7 +104,8 @@ def main():
     differ = [trial for trial, text in zip(trials, theirs) if trial[2] != text]
     for sheet, goal, ours in differ[:3]:
         print("differs:\n%s\n?- %s\n%s" % (sheet.decode(), goal.decode(), ours))
-    print("%d tried, %d with several answers" % (len(trials), several))
+    brackets = sum(b";" in sheet + goal for sheet, goal, _ in trials)
+    print("%d tried, %d with several answers, %d with brackets" % (len(trials), several, brackets))
     print("%d differ" % len(differ))
     return bool(differ)
 

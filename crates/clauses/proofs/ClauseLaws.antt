@@ -10,12 +10,11 @@ use borrow.Author.Tests.{eq-eqb, ne-eqb}
 use Rattle.syntax.specs.Tokens.{nameKind, neckKind, stopKind}
 use Rattle.syntax.specs.Terms.{Atom, Body, done, also, Clause}
 use Rattle.syntax.specs.Reading.{Cursor, begin, Read, fault, ok, andThen, next, wrongNumber, readAtom, readBody, readClause, clauseAfter, clauseOf, Tail, tailOf, fact, rule, other}
-use Rattle.syntax.specs.Limits.{variables, brackets, literals}
+use Rattle.syntax.specs.Limits.{variables, brackets}
 use Rattle.syntax.specs.Spans.{namesFrom, met, Held}
 use Rattle.syntax.proofs.Spans.{names-length, met-three}
 use Rattle.syntax.specs.Words.{nodeWords, termWords, atomWords, bodyWords, bodyLength, clauseWords, clauseStart}
 use Rattle.syntax.specs.declared.State.{State}
-use Rattle.reading.specs.Atoms.{readAtomAt}
 use Rattle.reading.specs.Gives.{cursorOf, onward, fresh, left, Standing, Moved, Ready, Faulted, Given, Gives, GivenWith, GivesWith, Refused, one}
 use Rattle.reading.specs.declared.Parsed.{Parsed}
 use Rattle.reading.proofs.Reading.{refused-wrong, moved-onward, next-of, held-of, cursor-kept, held-kept}
@@ -34,9 +33,9 @@ tail-other k f e = simp (ne-eqb k stopKind f, ne-eqb k neckKind e)
 
 -- ---- the body of a clause
 
-module _ (s : List ℕ) (st past : State) (entry mid : List ℕ) (n used : ℕ) (r : Parsed) (ready : Ready s st entry used 1) (low : n + clauseStart ≤ used) (m : Moved s st past) (long : length mid ≡ length entry) (g : Gives bodyWords bodyLength s past entry mid used r (readBody s literals (cursorOf s entry past))) where
-  given-next : Gives bodyWords bodyLength s (onward s st) entry mid used r (readBody s literals (cursorOf s entry (onward s st)))
-  given-next = subst (λ (x : State). Gives bodyWords bodyLength s x entry mid used r (readBody s literals (cursorOf s entry x))) (m .is) g
+module _ (s : List ℕ) (st past : State) (entry mid : List ℕ) (n used : ℕ) (r : Parsed) (ready : Ready s st entry used 1) (low : n + clauseStart ≤ used) (m : Moved s st past) (long : length mid ≡ length entry) (g : Gives bodyWords bodyLength s past entry mid used r (readBody s (cursorOf s entry past))) where
+  given-next : Gives bodyWords bodyLength s (onward s st) entry mid used r (readBody s (cursorOf s entry (onward s st)))
+  given-next = subst (λ (x : State). Gives bodyWords bodyLength s x entry mid used r (readBody s (cursorOf s entry x))) (m .is) g
 
   pub ruled-fault : (r .number ≡ 0 → ⊥) → Ruled s st entry mid n used r
   ruled-fault z = record { mid = mid; body = r; long = long; given = given-next; faulted = λ q. (refl, refl); stored = λ e. absurd (z e) }
@@ -46,7 +45,7 @@ module _ (s : List ℕ) (st past : State) (entry mid : List ℕ) (n used : ℕ) 
 
   pub ruled-asked : r .number ≡ 0 → (n ≤ r .used) × ((n + clauseStart ≤ length mid) × ((r .used - n < 2 ^ 32) × ((r .state .count < 2 ^ 32) × (r .items < 2 ^ 32))))
   ruled-asked z =
-      let o : (b : Body) × (readBody s literals (cursorOf s entry past) ≡ ok b (cursorOf s mid (r .state))) × Given s past entry mid used r (bodyWords b) (bodyLength b) (cursorOf s mid (r .state)) = seq-ok 1 bodyWords bodyLength s past entry mid used r (readBody s literals (cursorOf s entry past)) g z in
+      let o : (b : Body) × (readBody s (cursorOf s entry past) ≡ ok b (cursorOf s mid (r .state))) × Given s past entry mid used r (bodyWords b) (bodyLength b) (cursorOf s mid (r .state)) = seq-ok 1 bodyWords bodyLength s past entry mid used r (readBody s (cursorOf s entry past)) g z in
       let u : r .used ≡ used + length (bodyWords (o .0)) = o .2 .used-is in
       let i : r .items ≡ bodyLength (o .0) = o .2 .items-is in
       let b : bodyLength (o .0) ≤ length (bodyWords (o .0)) = body-words (o .0) in
@@ -67,20 +66,20 @@ module _ (s : List ℕ) (st start : State) (entry : List ℕ) (n : ℕ) (ready :
         subst⁻¹ (λ (x : State). x .token .kind ≡ nameKind) eb name,
       )
 
-  module _ (mid : List ℕ) (r : Parsed) (l : length mid ≡ length entry) (g : Gives atomWords one s start entry mid (n + clauseStart) r (readAtomAt brackets s (cursorOf s entry start))) where
-    given-fresh : Gives atomWords one s (fresh st) entry mid (n + clauseStart) r (readAtomAt brackets s (cursorOf s entry (fresh st)))
-    given-fresh = subst (λ (x : State). Gives atomWords one s x entry mid (n + clauseStart) r (readAtomAt brackets s (cursorOf s entry x))) eb g
+  module _ (mid : List ℕ) (r : Parsed) (l : length mid ≡ length entry) (g : Gives atomWords one s start entry mid (n + clauseStart) r (readAtom brackets s (cursorOf s entry start))) where
+    given-fresh : Gives atomWords one s (fresh st) entry mid (n + clauseStart) r (readAtom brackets s (cursorOf s entry (fresh st)))
+    given-fresh = subst (λ (x : State). Gives atomWords one s x entry mid (n + clauseStart) r (readAtom brackets s (cursorOf s entry x))) eb g
 
     pub clause-fault : (r .number ≡ 0 → ⊥) → Gives clauseWords one s st entry mid n r (readClause s (begin (st .token)))
-    unfolding readClause readAtom readAtomAt namesFrom
-    clause-fault z = seq-fault 1 1 atomWords one clauseWords one s st (fresh st) entry mid n (n + clauseStart) r (readAtomAt brackets s (cursorOf s entry (fresh st))) (λ h after. clauseAfter s h after (tailOf (after .token .kind))) (omega arith) given-fresh z
+    unfolding readClause readAtom namesFrom
+    clause-fault z = seq-fault 1 1 atomWords one clauseWords one s st (fresh st) entry mid n (n + clauseStart) r (readAtom brackets s (cursorOf s entry (fresh st))) (λ h after. clauseAfter s h after (tailOf (after .token .kind))) (omega arith) given-fresh z
 
     module _ (z : r .number ≡ 0) where
-      read : (a : Atom) × (readAtomAt brackets s (cursorOf s entry (fresh st)) ≡ ok a (cursorOf s mid (r .state))) × Given s (fresh st) entry mid (n + clauseStart) r (atomWords a) 1 (cursorOf s mid (r .state))
-      read = seq-ok 1 atomWords one s (fresh st) entry mid (n + clauseStart) r (readAtomAt brackets s (cursorOf s entry (fresh st))) given-fresh z
+      read : (a : Atom) × (readAtom brackets s (cursorOf s entry (fresh st)) ≡ ok a (cursorOf s mid (r .state))) × Given s (fresh st) entry mid (n + clauseStart) r (atomWords a) 1 (cursorOf s mid (r .state))
+      read = seq-ok 1 atomWords one s (fresh st) entry mid (n + clauseStart) r (readAtom brackets s (cursorOf s entry (fresh st))) given-fresh z
 
       behind : (x : Tail) → tailOf (r .state .token .kind) ≡ x → readClause s (begin (st .token)) ≡ clauseAfter s (read .0) (cursorOf s mid (r .state)) x
-      unfolding readClause readAtom readAtomAt andThen namesFrom
+      unfolding readClause readAtom andThen namesFrom
       behind x e = ap (λ (d : Read Atom). andThen d (λ h after. clauseAfter s h after (tailOf (after .token .kind)))) (read .1) ∙ ap (clauseAfter s (read .0) (cursorOf s mid (r .state))) e
 
       pub clause-standing : Standing s (r .state)
@@ -102,7 +101,7 @@ module _ (s : List ℕ) (st start : State) (entry : List ℕ) (n : ℕ) (ready :
       kept = let room : n + nodeWords * left s st + 4 + variables ≤ length entry = ready .room in kept-before n (n + clauseStart) (length (atomWords (read .0))) entry mid (atomWords (read .0)) (omega arith) (omega arith) (read .2 .table-is)
 
       pub clause-fact : (past : State) (exit : List ℕ) → r .state .token .kind ≡ stopKind → Moved s (r .state) past → exit ≡ set (set (set mid n (r .used - n)) (n + 1) (r .state .count)) (n + 2) 0 → Gives clauseWords one s st entry exit n (record { number = 0; used = r .used; items = 1; state = past }) (readClause s (begin (st .token)))
-      unfolding clauseAfter clauseWords bodyWords
+      unfolding clauseAfter clauseWords bodyWords bodyLength
       clause-fact past exit e m ex =
           let aw : List ℕ = atomWords (read .0) in
           let used : r .used ≡ (n + clauseStart) + length (atomWords (read .0)) = read .2 .used-is in
@@ -130,7 +129,7 @@ module _ (s : List ℕ) (st start : State) (entry : List ℕ) (n : ℕ) (ready :
 
       pub clause-wrong : (q : Parsed) → (r .state .token .kind ≡ stopKind → ⊥) → (r .state .token .kind ≡ neckKind → ⊥) → Refused (r .state) (wrongNumber (r .state .token .kind)) q → Gives clauseWords one s st entry mid n q (readClause s (begin (st .token)))
       unfolding clauseAfter
-      clause-wrong q f e h = subst⁻¹ (Gives clauseWords one s st entry mid n q) (behind other (tail-other (r .state .token .kind) f e)) (refused-wrong clauseWords one s st (r .state) entry mid n q (namesFrom s (met mid) 0 (r .state .count)) h kept)
+      clause-wrong q f e h = subst⁻¹ (Gives clauseWords one s st entry mid n q) (behind other (tail-other (r .state .token .kind) f e)) (refused-wrong clauseWords one s st (r .state) entry mid n q (cursorOf s mid (r .state)) refl h kept)
 
       pub rule-asked : r .state .token .kind ≡ neckKind → Ready s (r .state) mid (r .used) 1 × (n + clauseStart ≤ r .used)
       rule-asked e =
@@ -191,5 +190,5 @@ module _ (s : List ℕ) (st start : State) (entry : List ℕ) (n : ℕ) (ready :
         pub clause-rule : (exit : List ℕ) (q : Parsed) → (r .state .token .kind ≡ stopKind → ⊥) → Ruled s (r .state) mid exit n (r .used) q → Gives clauseWords one s st entry exit n q (readClause s (begin (st .token)))
         unfolding clauseAfter
         clause-rule exit q f h =
-            let given : Gives bodyWords bodyLength s (onward s (r .state)) mid (h .mid) (r .used) (h .body) (readBody s literals (next s (cursorOf s mid (r .state)))) = subst (λ (x : Cursor). Gives bodyWords bodyLength s (onward s (r .state)) mid (h .mid) (r .used) (h .body) (readBody s literals x)) (next-of mid (moved-onward s (r .state) (read .2 .standing))) (h .given) in
-            subst⁻¹ (Gives clauseWords one s st entry exit n q) (behind rule (tail-rule (r .state .token .kind) f e)) (rule-by exit q (readBody s literals (next s (cursorOf s mid (r .state)))) (h .mid) (h .body) (h .long) given (h .faulted) (h .stored))
+            let given : Gives bodyWords bodyLength s (onward s (r .state)) mid (h .mid) (r .used) (h .body) (readBody s (next s (cursorOf s mid (r .state)))) = subst (λ (x : Cursor). Gives bodyWords bodyLength s (onward s (r .state)) mid (h .mid) (r .used) (h .body) (readBody s x)) (next-of mid (moved-onward s (r .state) (read .2 .standing))) (h .given) in
+            subst⁻¹ (Gives clauseWords one s st entry exit n q) (behind rule (tail-rule (r .state .token .kind) f e)) (rule-by exit q (readBody s (next s (cursorOf s mid (r .state)))) (h .mid) (h .body) (h .long) given (h .faulted) (h .stored))

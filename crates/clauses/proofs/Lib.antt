@@ -1,3 +1,4 @@
 pub mod LiteralLaws
 pub mod BodyLaws
+pub mod SideLaws
 pub mod ClauseLaws

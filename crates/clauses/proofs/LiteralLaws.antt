@@ -10,15 +10,14 @@ use lib.Seq.{take-set-lt, take-set-le, set-append-left, take-suc-set, take-take,
 use lib.Dec.{eqb, lit<}
 use borrow.Author.Tests.{eq-eqb, ne-eqb, eqb-true, eqb-false}
 use Rattle.syntax.specs.Terms.{Term, Terms, Atom, nil, cons, arity, termOf, Literal, call, equation, truth, falsity, literalOf, sameName, true-name, fail-name}
-use Rattle.syntax.specs.Limits.{variables, brackets}
+use Rattle.syntax.specs.Limits.{variables}
 use Rattle.syntax.specs.Spans.{namesFrom, met, Held}
 use Rattle.syntax.proofs.Spans.{met-kept}
 use Rattle.syntax.specs.Tokens.{spelling, equalsKind, endKind, nameKind, openKind}
-use Rattle.syntax.specs.Reading.{Cursor, Read, fault, ok, andThen, next, wrongNumber, readTerm, readAtom, atomAt, readRight, afterAtom, afterTerm, literalWith, readLiteral, readAtomWith, atomWith, readList}
-use Rattle.syntax.specs.Words.{nodeWords, termWords, termsWords, atomWords, literalWords, truthKind, falsityKind, callKind, equationKind}
+use Rattle.syntax.specs.Reading.{Cursor, Read, fault, ok, andThen, next, wrongNumber, readTerm, readAtom, atomAt, readRight, afterAtom, afterTerm, literalWith, readAtomWith, atomWith, readList}
+use Rattle.syntax.specs.Words.{nodeWords, termWords, termsWords, atomWords, literalWords, literalLength, truthKind, falsityKind, callKind, equationKind}
 use Rattle.syntax.specs.declared.State.{State}
 use Rattle.reading.specs.Gives.{cursorOf, onward, left, Standing, Moved, Ready, Faulted, Given, Gives, GivenWith, GivesWith, Refused, one}
-use Rattle.reading.specs.Atoms.{readAtomAt}
 use Rattle.reading.specs.declared.Parsed.{Parsed}
 use Rattle.reading.proofs.Reading.{refused-wrong-with, moved-onward, next-of, held-of, cursor-kept, held-kept}
 use Rattle.reading.proofs.TermLaws.{term-some}
@@ -44,10 +43,10 @@ front entry mid exit w n a h e f =
 
 -- ---- the right side of an equation
 
-pub right-given : (s : List ℕ) (st past : State) (entry mid exit : List ℕ) (n used : ℕ) (r : Parsed) → Moved s st past → mid ≡ set entry n equationKind → Gives termWords one s past mid exit used r (readTerm brackets s (cursorOf s mid past)) → Gives termWords one s (onward s st) (set entry n equationKind) exit used r (readTerm brackets s (cursorOf s (set entry n equationKind) (onward s st)))
-right-given s st past entry mid exit n used r m e g =
-    subst (λ (x : State). Gives termWords one s x (set entry n equationKind) exit used r (readTerm brackets s (cursorOf s (set entry n equationKind) x))) (m .is)
-    (subst (λ (x : List ℕ). Gives termWords one s past x exit used r (readTerm brackets s (cursorOf s x past))) e g)
+pub right-given : (most : ℕ) (s : List ℕ) (st past : State) (entry mid exit : List ℕ) (n used : ℕ) (r : Parsed) → Moved s st past → mid ≡ set entry n equationKind → Gives termWords one s past mid exit used r (readTerm most s (cursorOf s mid past)) → Gives termWords one s (onward s st) (set entry n equationKind) exit used r (readTerm most s (cursorOf s (set entry n equationKind) (onward s st)))
+right-given most s st past entry mid exit n used r m e g =
+    subst (λ (x : State). Gives termWords one s x (set entry n equationKind) exit used r (readTerm most s (cursorOf s (set entry n equationKind) x))) (m .is)
+    (subst (λ (x : List ℕ). Gives termWords one s past x exit used r (readTerm most s (cursorOf s x past))) e g)
 
 -- its first word is stored before the words of the variables
 pub right-asked : {s : List ℕ} {st past : State} {entry mid : List ℕ} {n used : ℕ} → Ready s st entry used 0 → n < used → mid ≡ set entry n equationKind → Moved s st past → Ready s past mid used 0
@@ -100,6 +99,16 @@ other-by : (a : Atom) (number : ℕ) → number ≡ atomNumber (eqb (arity (a .a
 unfolding numbered literalOf
 other-by a number e z = other-words a (eqb (arity (a .args)) 0 && sameName (a .name) true-name) (eqb (arity (a .args)) 0 && sameName (a .name) fail-name) (λ q. z (e ∙ q)) ∙ ap (λ (k : ℕ). k ∷ []) (sym e)
 
+-- an atom alone is one item
+alone-length : (a : Atom) → literalLength (literalOf a) ≡ 1
+unfolding literalOf literalLength
+alone-length a = by (eqb (arity (a .args)) 0 && sameName (a .name) true-name) (eqb (arity (a .args)) 0 && sameName (a .name) fail-name)
+  where
+    by : (x y : Bool) → literalLength (cond x truth (cond y falsity (call a))) ≡ 1
+    by true y = refl
+    by false true = refl
+    by false false = refl
+
 -- an atom of three words has no arguments, and only such a one
 bare-test : (ts : Terms) → eqb (nodeWords + length (termsWords ts)) nodeWords ≡ eqb (arity ts) 0
 unfolding termWords
@@ -123,21 +132,21 @@ unfolding AllOk andThen
 named-list s st (fault k b) = tt
 named-list s st (ok ts after) = refl
 
-named-all : (left : ℕ) (s : List ℕ) (st : Cursor) → AllOk (λ (a : Atom). a .name ≡ spelling s (st .token .at) (st .token .len)) (readAtomAt left s st)
-unfolding AllOk readAtomAt readAtomWith atomWith
+named-all : (left : ℕ) (s : List ℕ) (st : Cursor) → AllOk (λ (a : Atom). a .name ≡ spelling s (st .token .at) (st .token .len)) (readAtom left s st)
+unfolding AllOk readAtom readAtomWith atomWith
 named-all left s st = by (eqb (next s st .token .kind) openKind)
   where
     by : (b : Bool) → AllOk (λ (a : Atom). a .name ≡ spelling s (st .token .at) (st .token .len)) (atomWith (λ x. readList left s x) s st b)
     by true = named-list s st (readList left s (next s st))
     by false = refl
 
-atom-named : (left : ℕ) (s : List ℕ) (st end : Cursor) (a : Atom) → readAtomAt left s st ≡ ok a end → a .name ≡ spelling s (st .token .at) (st .token .len)
+atom-named : (left : ℕ) (s : List ℕ) (st end : Cursor) (a : Atom) → readAtom left s st ≡ ok a end → a .name ≡ spelling s (st .token .at) (st .token .len)
 unfolding AllOk
 atom-named left s st end a e = subst (AllOk (λ (a : Atom). a .name ≡ spelling s (st .token .at) (st .token .len))) e (named-all left s st)
 
 -- ---- a literal that begins with a name
 
-module _ (s : List ℕ) (st : State) (entry : List ℕ) (n : ℕ) (ready : Ready s st entry n 1) where
+module _ (most : ℕ) (s : List ℕ) (st : State) (entry : List ℕ) (n : ℕ) (ready : Ready s st entry n 1) where
   n-in : n + 1 ≤ length entry
   n-in = let room : n + nodeWords * left s st + 1 + variables ≤ length entry = ready .room in omega arith
 
@@ -162,8 +171,8 @@ module _ (s : List ℕ) (st : State) (entry : List ℕ) (n : ℕ) (ready : Ready
           kept = shorter n (r .used) (set mid n equationKind) exit (omega arith) (h .kept) ∙ take-set-le n mid n equationKind (omega arith) ∙ kept-before n (n + 1) (length (termWords t)) entry mid (termWords t) (omega arith) inn (g .table-is);
         }
 
-    right-words : (exit : List ℕ) (q : Parsed) (u : Term) (end : Cursor) → r .state .token .kind ≡ equalsKind → Given s (onward s (r .state)) (set mid n equationKind) exit (r .used) q (termWords u) 1 end → GivenWith 0 s st entry exit n q (literalWords (equation t u)) 1 end
-    unfolding literalWords
+    right-words : (exit : List ℕ) (q : Parsed) (u : Term) (end : Cursor) → r .state .token .kind ≡ equalsKind → Given s (onward s (r .state)) (set mid n equationKind) exit (r .used) q (termWords u) 1 end → GivenWith 0 s st entry exit n q (literalWords (equation t u)) (literalLength (equation t u)) end
+    unfolding literalWords literalLength
     right-words exit q u end e h =
         let m : Moved s (r .state) (onward s (r .state)) = moved-onward s (r .state) (g .standing) in
         let some : 0 < r .state .token .len = g .standing .some (λ x. let k : r .state .token .kind ≡ equalsKind = e in omega arith) in
@@ -188,7 +197,7 @@ module _ (s : List ℕ) (st : State) (entry : List ℕ) (n : ℕ) (ready : Ready
           room = omega arith;
         }
 
-    right-by : (exit : List ℕ) (q : Parsed) (d : Read Term) → r .state .token .kind ≡ equalsKind → Gives termWords one s (onward s (r .state)) (set mid n equationKind) exit (r .used) q d → GivesWith 0 literalWords one s st entry exit n q (andThen d (λ u after. ok (equation t u) after))
+    right-by : (exit : List ℕ) (q : Parsed) (d : Read Term) → r .state .token .kind ≡ equalsKind → Gives termWords one s (onward s (r .state)) (set mid n equationKind) exit (r .used) q d → GivesWith 0 literalWords literalLength s st entry exit n q (andThen d (λ u after. ok (equation t u) after))
     unfolding andThen
     right-by exit q (fault k b) e h = right-fault exit q k b h
     right-by exit q (ok u end) e h = right-words exit q u end e h
@@ -199,41 +208,41 @@ module _ (s : List ℕ) (st : State) (entry : List ℕ) (n : ℕ) (ready : Ready
         let room : n + nodeWords * left s st + 1 + variables ≤ length entry = ready .room in
         cursor-kept s mid (set mid n equationKind) (onward s (r .state)) (met-kept mid n equationKind (omega arith)) ∙ next-of mid (moved-onward s (r .state) (g .standing))
 
-    pub equation-given : (exit : List ℕ) (q : Parsed) → r .state .token .kind ≡ equalsKind → Gives termWords one s (onward s (r .state)) (set mid n equationKind) exit (r .used) q (readTerm brackets s (cursorOf s (set mid n equationKind) (onward s (r .state)))) → GivesWith 0 literalWords one s st entry exit n q (readRight s t (cursorOf s mid (r .state)))
+    pub equation-given : (exit : List ℕ) (q : Parsed) → r .state .token .kind ≡ equalsKind → Gives termWords one s (onward s (r .state)) (set mid n equationKind) exit (r .used) q (readTerm most s (cursorOf s (set mid n equationKind) (onward s (r .state)))) → GivesWith 0 literalWords literalLength s st entry exit n q (readRight most s t (cursorOf s mid (r .state)))
     unfolding readRight
-    equation-given exit q e h = right-by exit q (readTerm brackets s (next s (cursorOf s mid (r .state)))) e (subst (λ (x : Cursor). Gives termWords one s (onward s (r .state)) (set mid n equationKind) exit (r .used) q (readTerm brackets s x)) behind-equals h)
+    equation-given exit q e h = right-by exit q (readTerm most s (next s (cursorOf s mid (r .state)))) e (subst (λ (x : Cursor). Gives termWords one s (onward s (r .state)) (set mid n equationKind) exit (r .used) q (readTerm most s x)) behind-equals h)
 
     pub left-kept : take n mid ≡ take n entry
     left-kept = kept-before n (n + 1) (length (termWords t)) entry mid (termWords t) (omega arith) n-in (g .table-is)
 
   -- the literal by what stands behind its first term
   module _ (mid : List ℕ) (r : Parsed) (l : length mid ≡ length entry) where
-    module _ (g : Gives atomWords one s st entry mid (n + 1) r (readAtomAt brackets s (cursorOf s entry st))) where
-      pub named-fault : (r .number ≡ 0 → ⊥) → GivesWith 0 literalWords one s st entry mid n r (literalWith s (cursorOf s entry st) true)
-      unfolding literalWith readAtom readAtomAt
-      named-fault z = seq-fault 1 0 atomWords one literalWords one s st st entry mid n (n + 1) r (readAtomAt brackets s (cursorOf s entry st)) (λ a after. afterAtom s a after (eqb (after .token .kind) equalsKind)) (omega arith) g z
+    module _ (g : Gives atomWords one s st entry mid (n + 1) r (readAtom most s (cursorOf s entry st))) where
+      pub named-fault : (r .number ≡ 0 → ⊥) → GivesWith 0 literalWords literalLength s st entry mid n r (literalWith most s (cursorOf s entry st) true)
+      unfolding literalWith readAtom
+      named-fault z = seq-fault 1 0 atomWords one literalWords literalLength s st st entry mid n (n + 1) r (readAtom most s (cursorOf s entry st)) (λ a after. afterAtom most s a after (eqb (after .token .kind) equalsKind)) (omega arith) g z
 
       module _ (z : r .number ≡ 0) where
-        atom-read : (a : Atom) × (readAtomAt brackets s (cursorOf s entry st) ≡ ok a (cursorOf s mid (r .state))) × Given s st entry mid (n + 1) r (atomWords a) 1 (cursorOf s mid (r .state))
-        atom-read = seq-ok 1 atomWords one s st entry mid (n + 1) r (readAtomAt brackets s (cursorOf s entry st)) g z
+        atom-read : (a : Atom) × (readAtom most s (cursorOf s entry st) ≡ ok a (cursorOf s mid (r .state))) × Given s st entry mid (n + 1) r (atomWords a) 1 (cursorOf s mid (r .state))
+        atom-read = seq-ok 1 atomWords one s st entry mid (n + 1) r (readAtom most s (cursorOf s entry st)) g z
 
-        named-by : (b : Bool) → eqb (r .state .token .kind) equalsKind ≡ b → literalWith s (cursorOf s entry st) true ≡ afterAtom s (atom-read .0) (cursorOf s mid (r .state)) b
-        unfolding literalWith readAtom readAtomAt andThen
-        named-by b e = ap (λ (d : Read Atom). andThen d (λ a after. afterAtom s a after (eqb (after .token .kind) equalsKind))) (atom-read .1) ∙ ap (afterAtom s (atom-read .0) (cursorOf s mid (r .state))) e
+        named-by : (b : Bool) → eqb (r .state .token .kind) equalsKind ≡ b → literalWith most s (cursorOf s entry st) true ≡ afterAtom most s (atom-read .0) (cursorOf s mid (r .state)) b
+        unfolding literalWith readAtom andThen
+        named-by b e = ap (λ (d : Read Atom). andThen d (λ a after. afterAtom most s a after (eqb (after .token .kind) equalsKind))) (atom-read .1) ∙ ap (afterAtom most s (atom-read .0) (cursorOf s mid (r .state))) e
 
         pub named-ready : r .state .token .kind ≡ equalsKind → Ready s (r .state) mid (r .used) 0 × ((r .state .token .kind ≡ equalsKind) × (n < r .used))
         named-ready e = right-ready mid r (termOf (atom-read .0)) (atom-read .2) l e
 
-        pub named-equation : (exit : List ℕ) (q : Parsed) → r .state .token .kind ≡ equalsKind → Gives termWords one s (onward s (r .state)) (set mid n equationKind) exit (r .used) q (readTerm brackets s (cursorOf s (set mid n equationKind) (onward s (r .state)))) → GivesWith 0 literalWords one s st entry exit n q (literalWith s (cursorOf s entry st) true)
+        pub named-equation : (exit : List ℕ) (q : Parsed) → r .state .token .kind ≡ equalsKind → Gives termWords one s (onward s (r .state)) (set mid n equationKind) exit (r .used) q (readTerm most s (cursorOf s (set mid n equationKind) (onward s (r .state)))) → GivesWith 0 literalWords literalLength s st entry exit n q (literalWith most s (cursorOf s entry st) true)
         unfolding afterAtom
-        named-equation exit q e h = subst⁻¹ (GivesWith 0 literalWords one s st entry exit n q) (named-by true (eq-eqb (r .state .token .kind) equalsKind e)) (equation-given mid r (termOf (atom-read .0)) (atom-read .2) l exit q e h)
+        named-equation exit q e h = subst⁻¹ (GivesWith 0 literalWords literalLength s st entry exit n q) (named-by true (eq-eqb (r .state .token .kind) equalsKind e)) (equation-given mid r (termOf (atom-read .0)) (atom-read .2) l exit q e h)
 
         -- the number that was stored is the atom's
         size-is : r .used - (n + 1) ≡ nodeWords + length (termsWords (atom-read .0 .args))
         size-is = let used : r .used ≡ (n + 1) + length (atomWords (atom-read .0)) = atom-read .2 .used-is in let k : length (atomWords (atom-read .0)) ≡ nodeWords + length (termsWords (atom-read .0 .args)) = atom-length (atom-read .0) in omega arith
 
         number-is : atomNumber (eqb (r .used - (n + 1)) nodeWords) (spelling s (st .token .at) (st .token .len)) ≡ atomNumber (eqb (arity (atom-read .0 .args)) 0) (atom-read .0 .name)
-        number-is = ap₂ (λ (b : Bool) (x : List ℕ). atomNumber b x) (ap (λ (k : ℕ). eqb k nodeWords) size-is ∙ bare-test (atom-read .0 .args)) (sym (atom-named brackets s (cursorOf s entry st) (cursorOf s mid (r .state)) (atom-read .0) (atom-read .1)))
+        number-is = ap₂ (λ (b : Bool) (x : List ℕ). atomNumber b x) (ap (λ (k : ℕ). eqb k nodeWords) size-is ∙ bare-test (atom-read .0 .args)) (sym (atom-named most s (cursorOf s entry st) (cursorOf s mid (r .state)) (atom-read .0) (atom-read .1)))
 
         module _ (number : ℕ) (en : number ≡ atomNumber (eqb (r .used - (n + 1)) nodeWords) (spelling s (st .token .at) (st .token .len))) (exit : List ℕ) (ex : exit ≡ set mid n number) (ne : r .state .token .kind ≡ equalsKind → ⊥) where
           same : met exit ≡ met mid
@@ -241,8 +250,8 @@ module _ (s : List ℕ) (st : State) (entry : List ℕ) (n : ℕ) (ready : Ready
               let room : n + nodeWords * left s st + 1 + variables ≤ length entry = ready .room in
               ap met ex ∙ met-kept mid n number (omega arith)
 
-          pub named-call : number ≡ 2 → GivesWith 0 literalWords one s st entry exit n (record { number = 0; used = r .used; items = 1; state = r .state }) (literalWith s (cursorOf s entry st) true)
-          unfolding afterAtom literalOf literalWords
+          pub named-call : number ≡ 2 → GivesWith 0 literalWords literalLength s st entry exit n (record { number = 0; used = r .used; items = 1; state = r .state }) (literalWith most s (cursorOf s entry st) true)
+          unfolding afterAtom literalOf literalWords literalLength
           named-call two =
               let a : Atom = atom-read .0 in
               let is-call : literalOf (atom-read .0) ≡ call (atom-read .0) = call-by (atom-read .0) (sym number-is ∙ sym en ∙ two) in
@@ -258,10 +267,10 @@ module _ (s : List ℕ) (st : State) (entry : List ℕ) (n : ℕ) (ready : Ready
                 held = held-kept same (atom-read .2 .held);
                 room = omega arith;
               } in
-              subst⁻¹ (GivesWith 0 literalWords one s st entry exit n (record { number = 0; used = r .used; items = 1; state = r .state })) (named-by false (ne-eqb (r .state .token .kind) equalsKind ne))
-              (subst⁻¹ (λ (x : Literal). GivenWith 0 s st entry exit n (record { number = 0; used = r .used; items = 1; state = r .state }) (literalWords x) 1 (cursorOf s mid (r .state))) is-call result)
+              subst⁻¹ (GivesWith 0 literalWords literalLength s st entry exit n (record { number = 0; used = r .used; items = 1; state = r .state })) (named-by false (ne-eqb (r .state .token .kind) equalsKind ne))
+              (subst⁻¹ (λ (x : Literal). GivenWith 0 s st entry exit n (record { number = 0; used = r .used; items = 1; state = r .state }) (literalWords x) (literalLength x) (cursorOf s mid (r .state))) is-call result)
 
-          pub named-other : (number ≡ 2 → ⊥) → GivesWith 0 literalWords one s st entry exit n (record { number = 0; used = n + 1; items = 1; state = r .state }) (literalWith s (cursorOf s entry st) true)
+          pub named-other : (number ≡ 2 → ⊥) → GivesWith 0 literalWords literalLength s st entry exit n (record { number = 0; used = n + 1; items = 1; state = r .state }) (literalWith most s (cursorOf s entry st) true)
           unfolding afterAtom
           named-other two =
               let words : literalWords (literalOf (atom-read .0)) ≡ number ∷ [] = other-by (atom-read .0) number (en ∙ number-is) two in
@@ -277,43 +286,45 @@ module _ (s : List ℕ) (st : State) (entry : List ℕ) (n : ℕ) (ready : Ready
                 held = held-kept same (atom-read .2 .held);
                 room = omega arith;
               } in
-              subst⁻¹ (GivesWith 0 literalWords one s st entry exit n (record { number = 0; used = n + 1; items = 1; state = r .state })) (named-by false (ne-eqb (r .state .token .kind) equalsKind ne))
-              (subst⁻¹ (λ (w : List ℕ). GivenWith 0 s st entry exit n (record { number = 0; used = n + 1; items = 1; state = r .state }) w 1 (cursorOf s mid (r .state))) words result)
+              subst⁻¹ (GivesWith 0 literalWords literalLength s st entry exit n (record { number = 0; used = n + 1; items = 1; state = r .state })) (named-by false (ne-eqb (r .state .token .kind) equalsKind ne))
+              (subst⁻¹ (λ (w : List ℕ). GivenWith 0 s st entry exit n (record { number = 0; used = n + 1; items = 1; state = r .state }) w (literalLength (literalOf (atom-read .0))) (cursorOf s mid (r .state))) words
+              (subst⁻¹ (λ (i : ℕ). GivenWith 0 s st entry exit n (record { number = 0; used = n + 1; items = 1; state = r .state }) (number ∷ []) i (cursorOf s mid (r .state))) (alone-length (atom-read .0)) result))
 
     -- ---- a literal that begins with something else
-    module _ (g : Gives termWords one s st entry mid (n + 1) r (readTerm brackets s (cursorOf s entry st))) where
-      pub equation-fault : (r .number ≡ 0 → ⊥) → GivesWith 0 literalWords one s st entry mid n r (literalWith s (cursorOf s entry st) false)
+    module _ (g : Gives termWords one s st entry mid (n + 1) r (readTerm most s (cursorOf s entry st))) where
+      pub equation-fault : (r .number ≡ 0 → ⊥) → GivesWith 0 literalWords literalLength s st entry mid n r (literalWith most s (cursorOf s entry st) false)
       unfolding literalWith
-      equation-fault z = seq-fault 1 0 termWords one literalWords one s st st entry mid n (n + 1) r (readTerm brackets s (cursorOf s entry st)) (λ t after. afterTerm s t after (eqb (after .token .kind) equalsKind)) (omega arith) g z
+      equation-fault z = seq-fault 1 0 termWords one literalWords literalLength s st st entry mid n (n + 1) r (readTerm most s (cursorOf s entry st)) (λ t after. afterTerm most s t after (eqb (after .token .kind) equalsKind)) (omega arith) g z
 
       module _ (z : r .number ≡ 0) where
-        term-read : (t : Term) × (readTerm brackets s (cursorOf s entry st) ≡ ok t (cursorOf s mid (r .state))) × Given s st entry mid (n + 1) r (termWords t) 1 (cursorOf s mid (r .state))
-        term-read = seq-ok 1 termWords one s st entry mid (n + 1) r (readTerm brackets s (cursorOf s entry st)) g z
+        term-read : (t : Term) × (readTerm most s (cursorOf s entry st) ≡ ok t (cursorOf s mid (r .state))) × Given s st entry mid (n + 1) r (termWords t) 1 (cursorOf s mid (r .state))
+        term-read = seq-ok 1 termWords one s st entry mid (n + 1) r (readTerm most s (cursorOf s entry st)) g z
 
-        unnamed-by : (b : Bool) → eqb (r .state .token .kind) equalsKind ≡ b → literalWith s (cursorOf s entry st) false ≡ afterTerm s (term-read .0) (cursorOf s mid (r .state)) b
+        unnamed-by : (b : Bool) → eqb (r .state .token .kind) equalsKind ≡ b → literalWith most s (cursorOf s entry st) false ≡ afterTerm most s (term-read .0) (cursorOf s mid (r .state)) b
         unfolding literalWith andThen
-        unnamed-by b e = ap (λ (d : Read Term). andThen d (λ t after. afterTerm s t after (eqb (after .token .kind) equalsKind))) (term-read .1) ∙ ap (afterTerm s (term-read .0) (cursorOf s mid (r .state))) e
+        unnamed-by b e = ap (λ (d : Read Term). andThen d (λ t after. afterTerm most s t after (eqb (after .token .kind) equalsKind))) (term-read .1) ∙ ap (afterTerm most s (term-read .0) (cursorOf s mid (r .state))) e
 
         pub equation-ready : r .state .token .kind ≡ equalsKind → Ready s (r .state) mid (r .used) 0 × ((r .state .token .kind ≡ equalsKind) × (n < r .used))
         equation-ready e = right-ready mid r (term-read .0) (term-read .2) l e
 
-        pub equation-read : (exit : List ℕ) (q : Parsed) → r .state .token .kind ≡ equalsKind → Gives termWords one s (onward s (r .state)) (set mid n equationKind) exit (r .used) q (readTerm brackets s (cursorOf s (set mid n equationKind) (onward s (r .state)))) → GivesWith 0 literalWords one s st entry exit n q (literalWith s (cursorOf s entry st) false)
+        pub equation-read : (exit : List ℕ) (q : Parsed) → r .state .token .kind ≡ equalsKind → Gives termWords one s (onward s (r .state)) (set mid n equationKind) exit (r .used) q (readTerm most s (cursorOf s (set mid n equationKind) (onward s (r .state)))) → GivesWith 0 literalWords literalLength s st entry exit n q (literalWith most s (cursorOf s entry st) false)
         unfolding afterTerm
-        equation-read exit q e h = subst⁻¹ (GivesWith 0 literalWords one s st entry exit n q) (unnamed-by true (eq-eqb (r .state .token .kind) equalsKind e)) (equation-given mid r (term-read .0) (term-read .2) l exit q e h)
+        equation-read exit q e h = subst⁻¹ (GivesWith 0 literalWords literalLength s st entry exit n q) (unnamed-by true (eq-eqb (r .state .token .kind) equalsKind e)) (equation-given mid r (term-read .0) (term-read .2) l exit q e h)
 
-        pub equation-wrong : (q : Parsed) → (r .state .token .kind ≡ equalsKind → ⊥) → Refused (r .state) (wrongNumber (r .state .token .kind)) q → GivesWith 0 literalWords one s st entry mid n q (literalWith s (cursorOf s entry st) false)
+        pub equation-wrong : (q : Parsed) → (r .state .token .kind ≡ equalsKind → ⊥) → Refused (r .state) (wrongNumber (r .state .token .kind)) q → GivesWith 0 literalWords literalLength s st entry mid n q (literalWith most s (cursorOf s entry st) false)
         unfolding afterTerm
-        equation-wrong q ne f = subst⁻¹ (GivesWith 0 literalWords one s st entry mid n q) (unnamed-by false (ne-eqb (r .state .token .kind) equalsKind ne)) (refused-wrong-with 0 literalWords one s st (r .state) entry mid n q (namesFrom s (met mid) 0 (r .state .count)) f (left-kept mid r (term-read .0) (term-read .2) l))
+        equation-wrong q ne f = subst⁻¹ (GivesWith 0 literalWords literalLength s st entry mid n q) (unnamed-by false (ne-eqb (r .state .token .kind) equalsKind ne)) (refused-wrong-with 0 literalWords literalLength s st (r .state) entry mid n q (cursorOf s mid (r .state)) refl f (left-kept mid r (term-read .0) (term-read .2) l))
 
 -- ---- by what begins it
 
-pub literal-named : (s : List ℕ) (st : State) (entry exit : List ℕ) (n : ℕ) (r : Parsed) → st .token .kind ≡ nameKind → GivesWith 0 literalWords one s st entry exit n r (literalWith s (cursorOf s entry st) true) → GivesWith 0 literalWords one s st entry exit n r (readLiteral s (cursorOf s entry st))
-unfolding readLiteral
-literal-named s st entry exit n r e g = subst⁻¹ (λ (b : Bool). GivesWith 0 literalWords one s st entry exit n r (literalWith s (cursorOf s entry st) b)) (eq-eqb (st .token .kind) nameKind e) g
+module _ (most : ℕ) (s : List ℕ) (st : State) (entry exit : List ℕ) (n : ℕ) (r : Parsed) where
+  pub one-named : st .token .kind ≡ nameKind → GivesWith 0 literalWords literalLength s st entry exit n r (literalWith most s (cursorOf s entry st) true)
+      → GivesWith 0 literalWords literalLength s st entry exit n r (literalWith most s (cursorOf s entry st) (eqb (st .token .kind) nameKind))
+  one-named e g = subst⁻¹ (λ (b : Bool). GivesWith 0 literalWords literalLength s st entry exit n r (literalWith most s (cursorOf s entry st) b)) (eq-eqb (st .token .kind) nameKind e) g
 
-pub literal-other : (s : List ℕ) (st : State) (entry exit : List ℕ) (n : ℕ) (r : Parsed) → (st .token .kind ≡ nameKind → ⊥) → GivesWith 0 literalWords one s st entry exit n r (literalWith s (cursorOf s entry st) false) → GivesWith 0 literalWords one s st entry exit n r (readLiteral s (cursorOf s entry st))
-unfolding readLiteral
-literal-other s st entry exit n r e g = subst⁻¹ (λ (b : Bool). GivesWith 0 literalWords one s st entry exit n r (literalWith s (cursorOf s entry st) b)) (ne-eqb (st .token .kind) nameKind e) g
+  pub one-other : (st .token .kind ≡ nameKind → ⊥) → GivesWith 0 literalWords literalLength s st entry exit n r (literalWith most s (cursorOf s entry st) false)
+      → GivesWith 0 literalWords literalLength s st entry exit n r (literalWith most s (cursorOf s entry st) (eqb (st .token .kind) nameKind))
+  one-other e g = subst⁻¹ (λ (b : Bool). GivesWith 0 literalWords literalLength s st entry exit n r (literalWith most s (cursorOf s entry st) b)) (ne-eqb (st .token .kind) nameKind e) g
 
 -- ---- an atom alone, stored
 
@@ -338,20 +349,20 @@ module _ (s : List ℕ) (st : State) (r : Parsed) (entry exit : List ℕ) (n num
     stored = ex ∙ ap (set entry n) en;
   }
 
-module _ (s : List ℕ) (st : State) (entry : List ℕ) (n : ℕ) (ready : Ready s st entry n 1) (mid : List ℕ) (r : Parsed) (l : length mid ≡ length entry) (g : Gives atomWords one s st entry mid (n + 1) r (readAtomAt brackets s (cursorOf s entry st))) (z : r .number ≡ 0) where
+module _ (most : ℕ) (s : List ℕ) (st : State) (entry : List ℕ) (n : ℕ) (ready : Ready s st entry n 1) (mid : List ℕ) (r : Parsed) (l : length mid ≡ length entry) (g : Gives atomWords one s st entry mid (n + 1) r (readAtom most s (cursorOf s entry st))) (z : r .number ≡ 0) where
   pub alone-asked : (n + 1 ≤ r .used) × (n + 1 ≤ length mid)
   alone-asked =
-      let o : (a : Atom) × (readAtomAt brackets s (cursorOf s entry st) ≡ ok a (cursorOf s mid (r .state))) × Given s st entry mid (n + 1) r (atomWords a) 1 (cursorOf s mid (r .state)) = seq-ok 1 atomWords one s st entry mid (n + 1) r (readAtomAt brackets s (cursorOf s entry st)) g z in
+      let o : (a : Atom) × (readAtom most s (cursorOf s entry st) ≡ ok a (cursorOf s mid (r .state))) × Given s st entry mid (n + 1) r (atomWords a) 1 (cursorOf s mid (r .state)) = seq-ok 1 atomWords one s st entry mid (n + 1) r (readAtom most s (cursorOf s entry st)) g z in
       let used : r .used ≡ (n + 1) + length (atomWords (o .0)) = o .2 .used-is in
       let room : n + nodeWords * left s st + 1 + variables ≤ length entry = ready .room in
       (omega arith, omega arith)
 
-  alone-by : (exit : List ℕ) (q : Parsed) (b : Bool) → eqb (aloneNumber s st r n) 2 ≡ b → (r .state .token .kind ≡ equalsKind → ⊥) → exit ≡ set mid n (aloneNumber s st r n) → GivesWith 0 literalWords one s st entry exit n (record { number = 0; used = cond b (r .used) (n + 1); items = 1; state = r .state }) (literalWith s (cursorOf s entry st) true)
-  alone-by exit q true e ne ex = named-call s st entry n ready mid r l g z (aloneNumber s st r n) refl exit ex ne (eqb-true (aloneNumber s st r n) 2 e)
-  alone-by exit q false e ne ex = named-other s st entry n ready mid r l g z (aloneNumber s st r n) refl exit ex ne (eqb-false (aloneNumber s st r n) 2 e)
+  alone-by : (exit : List ℕ) (q : Parsed) (b : Bool) → eqb (aloneNumber s st r n) 2 ≡ b → (r .state .token .kind ≡ equalsKind → ⊥) → exit ≡ set mid n (aloneNumber s st r n) → GivesWith 0 literalWords literalLength s st entry exit n (record { number = 0; used = cond b (r .used) (n + 1); items = 1; state = r .state }) (literalWith most s (cursorOf s entry st) true)
+  alone-by exit q true e ne ex = named-call most s st entry n ready mid r l g z (aloneNumber s st r n) refl exit ex ne (eqb-true (aloneNumber s st r n) 2 e)
+  alone-by exit q false e ne ex = named-other most s st entry n ready mid r l g z (aloneNumber s st r n) refl exit ex ne (eqb-false (aloneNumber s st r n) 2 e)
 
-  pub named-alone : (exit : List ℕ) (q : Parsed) → (r .state .token .kind ≡ equalsKind → ⊥) → Alone s st r mid exit n q → GivesWith 0 literalWords one s st entry exit n q (literalWith s (cursorOf s entry st) true)
-  named-alone exit q ne a = subst⁻¹ (λ (x : Parsed). GivesWith 0 literalWords one s st entry exit n x (literalWith s (cursorOf s entry st) true)) (a .is) (alone-by exit q (eqb (aloneNumber s st r n) 2) refl ne (a .stored))
+  pub named-alone : (exit : List ℕ) (q : Parsed) → (r .state .token .kind ≡ equalsKind → ⊥) → Alone s st r mid exit n q → GivesWith 0 literalWords literalLength s st entry exit n q (literalWith most s (cursorOf s entry st) true)
+  named-alone exit q ne a = subst⁻¹ (λ (x : Parsed). GivesWith 0 literalWords literalLength s st entry exit n x (literalWith most s (cursorOf s entry st) true)) (a .is) (alone-by exit q (eqb (aloneNumber s st r n) 2) refl ne (a .stored))
 
 pub number-asked : (b : Bool) (name : List ℕ) (k : ℕ) → k ≡ atomNumber b name → k < 2 ^ 32
 number-asked b name k e = subst⁻¹ (λ (x : ℕ). x < 2 ^ 32) e (number-small b name)

@@ -3,7 +3,6 @@ use Prim.Native.Nat.{ℕ, _+_, _-_}
 use mathlib.Core.Path.{_≡_}
 use mathlib.Core.List.{List}
 use lib.ListN.{set, length}
-use Rattle.syntax.specs.Limits.{literals}
 use Rattle.syntax.specs.Reading.{readBody}
 use Rattle.syntax.specs.Words.{bodyWords, bodyLength}
 use Rattle.syntax.specs.declared.State.{State}
@@ -15,7 +14,7 @@ pub record Ruled (s : List ℕ) (st : State) (entry exit : List ℕ) (n used : �
   pub mid : List ℕ
   pub body : Parsed
   pub long : length mid ≡ length entry
-  pub given : Gives bodyWords bodyLength s (onward s st) entry mid used body (readBody s literals (cursorOf s entry (onward s st)))
+  pub given : Gives bodyWords bodyLength s (onward s st) entry mid used body (readBody s (cursorOf s entry (onward s st)))
   pub faulted : (body .number ≡ 0 → ⊥) → (r ≡ body) × (exit ≡ mid)
   pub stored : body .number ≡ 0 → (r ≡ record { number = body .number; used = body .used; items = 1; state = body .state })
       × (exit ≡ set (set (set mid n (body .used - n)) (n + 1) (body .state .count)) (n + 2) (body .items))

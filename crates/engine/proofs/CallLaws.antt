@@ -8,17 +8,17 @@ use mathlib.Core.Option.{Option, none, some}
 use lib.Dec.{T, leb}
 use lib.ListN.{length}
 use borrow.Author.Tests.{leb-false}
-use Rattle.syntax.specs.Words.{callKind}
+use Rattle.syntax.specs.Words.{literalLength, callKind}
 use Rattle.syntax.specs.Limits.{clauses, longestPath, literals}
 use Rattle.syntax.specs.Terms.{termOf, Atom, call, Body, also, Clause, Sheet, Goal}
 use Rattle.machine.specs.Substitution.{copied, Binding}
 use Rattle.machine.specs.Unification.{unify}
 use Rattle.machine.specs.Machine.{Pending, Alternative, pending, isFor, nextFor, topmost, clauseAt, movedOn, laid, tried, onTop, called, worked, step}
 use Rattle.machine.specs.Runs.{isThere, triesWith, triesFirst, goesDeeper}
-use Rattle.layout.specs.Regions.{copyCells, places, bodies, trail, alternatives, stateWords, frameOf, alternativeOf, literalSize, nextLiteral, frameSize, alternativeSize, clauseRecord, frames}
+use Rattle.layout.specs.Regions.{copyCells, places, bodies, trail, alternatives, stateWords, frameOf, alternativeOf, literalSize, nextLiteral, frameSize, alternativeSize, mostAlternatives, clauseRecord, frames}
 use Rattle.layout.specs.Nodes.{Symbol, Stands}
 use Rattle.layout.specs.State.{copyOf, cellAt, trailAt, bindings, Within}
-use Rattle.layout.specs.Program.{headAt, bodyAt, afterAt, kindAt, placeAt, otherAt, BodyStands}
+use Rattle.layout.specs.Program.{headAt, bodyAt, afterAt, kindAt, placeAt, otherAt}
 use Rattle.layout.specs.Pile.{Calls, restFrom, leftFrom, callsUpTo, copyAt, literalAt, nextAt, markAt, pathAt, alternativeAt, pileOf, NextFor, Piled}
 use Rattle.bindings.specs.Queues.{Closed}
 use Rattle.bindings.proofs.Apart.{closed-within}
@@ -30,10 +30,10 @@ use Rattle.engine.specs.Steps.{Steppable, Stepped}
 use Rattle.engine.specs.declared.Pile.{Pile}
 use Rattle.engine.proofs.WordLaws.{add-one, stand-written, next-written, frame-framed}
 use Rattle.engine.proofs.LayLaws.{lays-long, LayEnds}
-use Rattle.engine.proofs.TopLaws.{trail-low, head-eq, tail-eq, top-stacked, top-stands, top-inside, top-room, step-also, kept}
+use Rattle.engine.proofs.TopLaws.{trail-low, lays-stand, head-eq, tail-eq, top-stacked, top-stands, top-inside, top-room, step-also, kept}
 use Rattle.engine.proofs.WorkLaws.{pops-here}
-use Rattle.layout.proofs.Step.{calls-count, left-also, step-exhausted}
-use Rattle.layout.proofs.Pile.{SameFrames, path-high, calls-also, clause-low, kind-call, same-rest, same-left, next-for, next-clause, next-low, next-head, Written, Framed, Means, moved, Pushing, pushed-frames, pushed-place, pushed-left, pushed}
+use Rattle.layout.proofs.Step.{left-first, step-exhausted}
+use Rattle.layout.proofs.Pile.{HeadStands, SameFrames, calls-count, path-high, calls-also, clause-low, kind-call, same-rest, same-left, next-for, next-clause, next-low, next-head, Written, Framed, Means, moved, Pushing, pushed-frames, pushed-place, pushed-left, pushed}
 
 within-more : (k n : ℕ) (state : List ℕ) → Within k state n → Within (k + 1) state n
 within-more k n state w =
@@ -41,6 +41,10 @@ within-more k n state w =
       cell = λ i l. (let z : trailAt state i < (k + 1) * copyCells = w .cell i l in omega arith);
       copy = λ i l. (let z : copyOf (cellAt state (trailAt state i)) ≤ k = w .copy i l in omega arith);
     }
+
+one-call : (a : Atom) → literalLength (call a) ≡ 1
+unfolding literalLength
+one-call a = refl
 
 -- ---- a clause is tried
 
@@ -58,7 +62,7 @@ module _ (nodes code state scratch : List ℕ) (j k : ℕ) (w : Tryable nodes co
   first = calls-also (restFrom sh g code state (copyAt state j) (literalAt state j)) (w .atom) (w .calls)
 
   call-stands : Stands ss nodes (placeAt code (literalAt state j)) (termOf (w .atom))
-  call-stands = subst (BodyStands ss sh nodes code (literalAt state j)) (first .1) (top-stands ss sh g nodes code state j (markAt state j) (w .piled)) .1 .1
+  call-stands = subst (HeadStands ss sh nodes code (literalAt state j)) (first .1) (top-stands ss sh g nodes code state j (markAt state j) (w .piled)) .1
 
   head-stands : Stands ss nodes (headAt code k) (termOf (w .clause .head))
   head-stands = w .piled .program .clause k (w .clause) (w .there) .head
@@ -158,7 +162,7 @@ module _ (nodes code state scratch : List ℕ) (j k : ℕ) (w : Tryable nodes co
       room2 : alternativeOf (suc j) + alternativeSize ≤ length state2
       room2 =
           let p : pathAt state j < longestPath = w .low in
-          let a : j ≤ pathAt state j = path-high ss sh g nodes code state (suc j) (markAt state j) (w .piled) j (omega arith) in
+          let a : suc j < mostAlternatives = w .room in
           let l : stateWords ≤ length state = w .piled .long in
           let e : length state2 ≡ length state = state2-long in
           omega arith
@@ -166,7 +170,7 @@ module _ (nodes code state scratch : List ℕ) (j k : ℕ) (w : Tryable nodes co
       pub try-layable-top : Layable code state2 (suc j) (pathAt state j + 1) (bodyAt code k) (r .trail) (pathAt state j + 1)
       try-layable-top =
           let p : pathAt state j < longestPath = w .low in
-          let a : j ≤ pathAt state j = path-high ss sh g nodes code state (suc j) (markAt state j) (w .piled) j (omega arith) in
+          let a : suc j < mostAlternatives = w .room in
           let l : stateWords ≤ length state = w .piled .long in
           let e : length state2 ≡ length state = state2-long in
           record {
@@ -196,14 +200,13 @@ module _ (nodes code state scratch : List ℕ) (j k : ℕ) (w : Tryable nodes co
       unfolding laid answered onTop pileOf alternativeAt
       laid-on after e q =
           let a : q .spot .copy ≤ pathAt state j + 1 = q .climbs .copy in
-          let b : j ≤ pathAt state j = path-high ss sh g nodes code state (suc j) (markAt state j) (w .piled) j (omega arith) in
           let p : pathAt state j < longestPath = w .low in
           let l : stateWords ≤ length state = w .piled .long in
           let s : length state2 ≡ length state = state2-long in
           let written : Written (suc j) (q .spot .copy) (q .spot .literal) (q .next) (r .trail) (pathAt state j + 1) state2 after =
           subst⁻¹ (λ (x : List ℕ). Written (suc j) (q .spot .copy) (q .spot .literal) (q .next) (r .trail) (pathAt state j + 1) state2 x) (q .words) (stand-written state2 (suc j) (q .spot .copy) (q .spot .literal) (q .next) (r .trail) (pathAt state j + 1) room2) in
           let m : Means ss sh g nodes code after (suc (suc j)) (r .trail) (record { literals = leftFrom sh g code state2 (pathAt state j + 1) (q .spot .copy) (q .spot .literal); bindings = bindings ss nodes state1 (r .trail); next = q .next; calls = record { copy = copyAt state j; atom = w .atom } ∷ callsUpTo sh g code state (pathAt state j) } ∷ pileOf ss sh g nodes code state (suc j)) =
-          pushed ss sh g nodes code state state1 state2 j (markAt state j) (r .trail) (pathAt state j + 1) k (w .atom) (w .clause) pushing after (q .spot .copy) (q .spot .literal) (q .next) a (record { place = q .climbs .place; ends = q .climbs .ends; next = q .next-for }) written in
+          pushed ss sh g nodes code state state1 state2 j (markAt state j) (r .trail) (pathAt state j + 1) k (w .atom) (w .clause) pushing after (q .spot .copy) (q .spot .literal) (q .next) a (lays-stand q) written in
           let lits : leftFrom sh g code state2 (pathAt state j + 1) (q .spot .copy) (q .spot .literal) ≡ pending (suc (length (callsUpTo sh g code state (pathAt state j)))) (w .clause .body) (restAt sh g code state j) = q .climbs .same ∙ new-left in
           let nxt : q .next ≡ topmost sh (pending (suc (length (callsUpTo sh g code state (pathAt state j)))) (w .clause .body) (restAt sh g code state j)) = q .next-is ∙ ap (topmost sh) new-left in
           record {
@@ -256,12 +259,12 @@ module _ (nodes code state scratch : List ℕ) (j : ℕ) (w : Steppable nodes co
 
   call-step : step sh₁ (pileOf ss₁ sh₁ g₁ nodes code state (suc j)) ≡ called sh₁ (alternativeAt ss₁ sh₁ g₁ nodes code state j) (copyAt state j) (calling .0) (restAt sh₁ g₁ code state j) (clauseAt sh₁ (nextAt state j)) ++ pileOf ss₁ sh₁ g₁ nodes code state j
   unfolding worked alternativeAt
-  call-step = step-also ss₁ sh₁ g₁ nodes code state j (markAt state j) piled (call (calling .0)) (calling .1) (calling .2)
+  call-step = step-also ss₁ sh₁ g₁ nodes code state j (markAt state j) piled (call (calling .0)) (calling .1) (one-call (calling .0)) (calling .2)
 
   pub call-none-top : nextAt state j ≡ 0 → Stepped ss₁ sh₁ g₁ nodes code state state scratch scratch (suc j) (record { height = j; trail = markAt state j })
   call-none-top e =
       pops-here nodes code state scratch j w
-      (step-exhausted ss₁ sh₁ g₁ nodes code state j (top-stacked ss₁ sh₁ g₁ nodes code state j (markAt state j) piled .place) (calling .1) (calling .0) (calling .2) e)
+      (step-exhausted ss₁ sh₁ g₁ nodes code state j (piled .program) (top-stacked ss₁ sh₁ g₁ nodes code state j (markAt state j) piled) (calling .1) (calling .0) (calling .2) e)
 
   module _ (l : 1 ≤ nextAt state j) where
     clause-of : (a : Atom) → Calls (restFrom sh₁ g₁ code state (copyAt state j) (literalAt state j)) a → (cl : Clause) × (clauseAt sh₁ (nextAt state j) ≡ some cl) × T (isFor a cl)
@@ -293,12 +296,12 @@ module _ (nodes code state scratch : List ℕ) (j : ℕ) (w : Steppable nodes co
     call-room-top =
         let a : afterAt code (nextAt state j) ≤ length (sh₁ .clauses) = next-low sh₁ (calling .0) (afterAt code (nextAt state j)) (after-for (calling .0) is-calling) in
         let b : length (sh₁ .clauses) ≤ clauses = piled .program .few in
-        (top-room ss₁ sh₁ g₁ nodes code state j (markAt state j) piled, omega arith)
+        (top-room ss₁ sh₁ g₁ nodes code state j (markAt state j) piled (w .running .low), omega arith)
 
     tries : triesFirst sh₁ (alternativeAt ss₁ sh₁ g₁ nodes code state j) (leftFrom sh₁ g₁ code state (pathAt state j) (copyAt state j) (literalAt state j)) ≡ true
     unfolding triesFirst triesWith isThere alternativeAt
     tries =
-        ap (triesFirst sh₁ (alternativeAt ss₁ sh₁ g₁ nodes code state j)) (left-also sh₁ g₁ code state (pathAt state j) (copyAt state j) (literalAt state j) (top-stacked ss₁ sh₁ g₁ nodes code state j (markAt state j) piled .place) (call (calling .0)) (calling .1) (calling .2))
+        ap (triesFirst sh₁ (alternativeAt ss₁ sh₁ g₁ nodes code state j)) (left-first sh₁ g₁ code state (pathAt state j) (copyAt state j) (literalAt state j) (calling .2))
         ∙ ap isThere there
 
     deep : leb longestPath (length (callsUpTo sh₁ g₁ code state (pathAt state j))) ≡ false
@@ -313,7 +316,7 @@ module _ (nodes code state scratch : List ℕ) (j : ℕ) (w : Steppable nodes co
 
     module _ (state1 : List ℕ) (is : state1 ≡ nextWords state j (afterAt code (nextAt state j))) where
       written : Written j (copyAt state j) (literalAt state j) (afterAt code (nextAt state j)) (markAt state j) (pathAt state j) state state1
-      written = subst⁻¹ (λ (x : List ℕ). Written j (copyAt state j) (literalAt state j) (afterAt code (nextAt state j)) (markAt state j) (pathAt state j) state x) is (next-written state j (afterAt code (nextAt state j)) (top-room ss₁ sh₁ g₁ nodes code state j (markAt state j) piled))
+      written = subst⁻¹ (λ (x : List ℕ). Written j (copyAt state j) (literalAt state j) (afterAt code (nextAt state j)) (markAt state j) (pathAt state j) state x) is (next-written state j (afterAt code (nextAt state j)) (top-room ss₁ sh₁ g₁ nodes code state j (markAt state j) piled (w .running .low)))
 
       framed-same : SameFrames longestPath state state1
       framed-same i a b = written .others i (omega arith)
@@ -342,6 +345,7 @@ module _ (nodes code state scratch : List ℕ) (j : ℕ) (w : Steppable nodes co
       call-tryable-top =
           let a : pathAt state j < longestPath = path-low in
           let b : pathAt state1 j ≡ pathAt state j = written .path in
+          let c : suc j ≤ literals * (pathAt state j + 1) = path-high ss₁ sh₁ g₁ nodes code state j (w .running .low) in
           record {
             ss = ss₁;
             sh = sh₁;
@@ -349,6 +353,7 @@ module _ (nodes code state scratch : List ℕ) (j : ℕ) (w : Steppable nodes co
             piled = subst⁻¹ (Piled ss₁ sh₁ g₁ nodes code state1 (suc j)) (written .mark) (means .piled);
             filled = refl;
             low = omega arith;
+            room = (let d : suc j < mostAlternatives = omega arith in d);
             atom = calling .0;
             calls = subst⁻¹ (λ (y : Body). Calls y (calling .0)) same-here is-calling;
             clause = clause;

@@ -7,3 +7,4 @@ pub mod ReadLaws
 pub mod StepLaws
 pub mod Witness
 pub mod CallWitness
+pub mod SplitWitness

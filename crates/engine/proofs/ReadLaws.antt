@@ -7,7 +7,7 @@ use mathlib.Core.List.{List}
 use lib.ListN.{length, getD}
 use Rattle.syntax.specs.Words.{truthKind, callKind, equationKind}
 use Rattle.syntax.specs.Limits.{clauses, longestPath}
-use Rattle.layout.specs.Regions.{places, bodies, trail, mostAlternatives, frameOf, alternativeOf, literalSize, nextLiteral, frameSize, alternativeSize, clauseRecord}
+use Rattle.layout.specs.Regions.{splitKind, places, bodies, trail, stateWords, mostAlternatives, frameOf, alternativeOf, literalSize, nextLiteral, frameSize, alternativeSize, clauseRecord}
 use Rattle.layout.specs.Program.{headAt, bodyAt, afterAt, kindAt, placeAt, otherAt}
 use Rattle.layout.specs.Pile.{copyAt, literalAt, nextAt, markAt, pathAt}
 use Rattle.bindings.specs.Queues.{Closed}
@@ -20,8 +20,8 @@ use Rattle.engine.specs.declared.Pile.{Pile}
 use Rattle.engine.specs.declared.records.Stand.{Stand}
 use Rattle.layout.proofs.Pile.{clause-low}
 use Rattle.engine.proofs.LayLaws.{LayEnds}
-use Rattle.engine.proofs.TopLaws.{at-top, top-inside, top-low, top-room}
-use Rattle.engine.proofs.WorkLaws.{pops-other, truth-layable-top, truth-core, equation-unifiable-top, equation-fails-top, equation-layable-top, equation-core}
+use Rattle.engine.proofs.TopLaws.{at-top, top-inside, top-room}
+use Rattle.engine.proofs.WorkLaws.{pops-other, truth-layable-top, truth-core, equation-unifiable-top, equation-fails-top, equation-layable-top, equation-core, right-layable-top, left-layable-top, either-core}
 use Rattle.engine.proofs.CallLaws.{try-unifiable-top, try-closed-top, try-fails-top, try-frame-top, try-layable-top, try-core, call-none-top, call-inside-top, call-room-top, call-tryable-top, call-end-top}
 
 -- ---- what a callee promises, of equal numbers
@@ -62,7 +62,7 @@ module _ {code state : List ℕ} {j c c2 l l2 mark mark2 path path2 : ℕ} (ce :
 module _ (nodes code state scratch : List ℕ) (j : ℕ) (w : Steppable nodes code state scratch (suc j) (markAt state j)) where
   top-facts : (alternativeOf j + alternativeSize ≤ length state) × ((literalAt state j + literalSize ≤ length code) × (length code ≤ places))
   top-facts = (
-    top-room (w .running .ss) (w .running .sh) (w .running .g) nodes code state j (markAt state j) (w .running .piled),
+    top-room (w .running .ss) (w .running .sh) (w .running .g) nodes code state j (markAt state j) (w .running .piled) (w .running .low),
     (top-inside (w .running .ss) (w .running .sh) (w .running .g) nodes code state j (markAt state j) (w .running .piled), w .running .piled .program .short),
   )
 
@@ -106,12 +106,12 @@ module _ {nodes code state scratch : List ℕ} {h : ℕ} (w : Steppable nodes co
     other-read : {v k : ℕ} → v ≡ getD code (s .literal) 0 → (v ≡ k → ⊥) → kindAt code (literalAt state (h - 1)) ≡ k → ⊥
     other-read {v} {k} e z q = z (e ∙ (ap (λ (x : ℕ). getD code x 0) literal-is ∙ q))
 
-    pub work-pops : {v : ℕ} → v ≡ getD code (s .literal) 0 → (v ≡ callKind → ⊥) → (v ≡ equationKind → ⊥) → (v ≡ truthKind → ⊥)
+    pub work-pops : {v : ℕ} → v ≡ getD code (s .literal) 0 → (v ≡ callKind → ⊥) → (v ≡ equationKind → ⊥) → (v ≡ splitKind → ⊥) → (v ≡ truthKind → ⊥)
         → Stepped (w .running .ss) (w .running .sh) (w .running .g) nodes code state state scratch scratch h (record { height = h - 1; trail = s .mark })
-    work-pops e a b c =
+    work-pops e a b f c =
         subst⁻¹ (λ (x : ℕ). Stepped (w .running .ss) (w .running .sh) (w .running .g) nodes code state state scratch scratch h (record { height = h - 1; trail = x })) mark-is
-        (at-top (λ (h j : ℕ). (w : Steppable nodes code state scratch h (markAt state j)) → (kindAt code (literalAt state j) ≡ callKind → ⊥) → (kindAt code (literalAt state j) ≡ equationKind → ⊥) → (kindAt code (literalAt state j) ≡ truthKind → ⊥) → Stepped (w .running .ss) (w .running .sh) (w .running .g) nodes code state state scratch scratch h (record { height = j; trail = markAt state j }))
-        (λ j w x y z. pops-other nodes code state scratch j w x y z) h (w .some) w (other-read e a) (other-read e b) (other-read e c))
+        (at-top (λ (h j : ℕ). (w : Steppable nodes code state scratch h (markAt state j)) → (kindAt code (literalAt state j) ≡ callKind → ⊥) → (kindAt code (literalAt state j) ≡ equationKind → ⊥) → (kindAt code (literalAt state j) ≡ truthKind → ⊥) → (kindAt code (literalAt state j) ≡ splitKind → ⊥) → Stepped (w .running .ss) (w .running .sh) (w .running .g) nodes code state state scratch scratch h (record { height = j; trail = markAt state j }))
+        (λ j w x y z u. pops-other nodes code state scratch j w x y z u) h (w .some) w (other-read e a) (other-read e b) (other-read e c) (other-read e f))
 
     pub truth-layable : {v i : ℕ} → v ≡ getD code (s .literal) 0 → v ≡ truthKind → i ≡ nextLiteral (s .literal) → Layable code state (h - 1) (s .copy) i (s .mark) (s .path)
     truth-layable e q n =
@@ -125,6 +125,37 @@ module _ {nodes code state scratch : List ℕ} {h : ℕ} (w : Steppable nodes co
         subst⁻¹ (λ (x : ℕ). Stepped (w .running .ss) (w .running .sh) (w .running .g) nodes code state after scratch scratch h (record { height = h; trail = x })) mark-is
         (at-top (λ (h j : ℕ). (w : Steppable nodes code state scratch h (markAt state j)) → kindAt code (literalAt state j) ≡ truthKind → LayEnds code state after j (copyAt state j) (nextLiteral (literalAt state j)) (markAt state j) (pathAt state j) → Stepped (w .running .ss) (w .running .sh) (w .running .g) nodes code state after scratch scratch h (record { height = h; trail = markAt state j }))
         (λ j w x y. truth-core nodes code state scratch j w x after y) h (w .some) w (kind-read e q) (lay-ends copy-is (n ∙ ap (λ (x : ℕ). nextLiteral x) literal-is) mark-is path-is after k))
+
+    -- a bracket
+    module _ (kind : kindAt code (literalAt state (h - 1)) ≡ splitKind) {r : ℕ} (re : r ≡ getD code (s .literal + 2) 0) where
+      right-is : r ≡ otherAt code (literalAt state (h - 1))
+      right-is = re ∙ ap (λ (x : ℕ). getD code (x + 2) 0) literal-is
+
+      pub right-layable : Layable code state (h - 1) (s .copy) r (s .mark) (s .path)
+      right-layable =
+          layable-of copy-is right-is mark-is path-is
+          (at-top (λ (h j : ℕ). Steppable nodes code state scratch h (markAt state j) → kindAt code (literalAt state j) ≡ splitKind → Layable code state j (copyAt state j) (otherAt code (literalAt state j)) (markAt state j) (pathAt state j))
+          (λ j w x. right-layable-top nodes code state scratch j w x) h (w .some) w kind)
+
+      module _ {state1 : List ℕ} (k : LayEnds code state state1 (h - 1) (s .copy) r (s .mark) (s .path)) {i : ℕ} (n : i ≡ nextLiteral (s .literal)) where
+        right-ends : LayEnds code state state1 (h - 1) (copyAt state (h - 1)) (otherAt code (literalAt state (h - 1))) (markAt state (h - 1)) (pathAt state (h - 1))
+        right-ends = lay-ends copy-is right-is mark-is path-is state1 k
+
+        pub left-layable : Layable code state1 h (s .copy) i (s .mark) (s .path)
+        left-layable =
+            layable-of copy-is (n ∙ ap (λ (x : ℕ). nextLiteral x) literal-is) mark-is path-is
+            (at-top (λ (h j : ℕ). Steppable nodes code state scratch h (markAt state j) → kindAt code (literalAt state j) ≡ splitKind
+            → LayEnds code state state1 j (copyAt state j) (otherAt code (literalAt state j)) (markAt state j) (pathAt state j) → Layable code state1 h (copyAt state j) (nextLiteral (literalAt state j)) (markAt state j) (pathAt state j))
+            (λ j w x y. left-layable-top nodes code state scratch j w x state1 y) h (w .some) w kind right-ends)
+
+        pub either-end : (after : List ℕ) → LayEnds code state1 after h (s .copy) i (s .mark) (s .path)
+            → Stepped (w .running .ss) (w .running .sh) (w .running .g) nodes code state after scratch scratch h (record { height = h + 1; trail = s .mark })
+        either-end after y =
+            subst⁻¹ (λ (x : ℕ). Stepped (w .running .ss) (w .running .sh) (w .running .g) nodes code state after scratch scratch h (record { height = h + 1; trail = x })) mark-is
+            (at-top (λ (h j : ℕ). (w : Steppable nodes code state scratch h (markAt state j)) → kindAt code (literalAt state j) ≡ splitKind
+            → LayEnds code state state1 j (copyAt state j) (otherAt code (literalAt state j)) (markAt state j) (pathAt state j) → LayEnds code state1 after h (copyAt state j) (nextLiteral (literalAt state j)) (markAt state j) (pathAt state j)
+            → Stepped (w .running .ss) (w .running .sh) (w .running .g) nodes code state after scratch scratch h (record { height = h + 1; trail = markAt state j }))
+            (λ j w x u z. either-core nodes code state scratch j w x state1 u after z) h (w .some) w kind right-ends (lay-ends copy-is (n ∙ ap (λ (x : ℕ). nextLiteral x) literal-is) mark-is path-is after y))
 
     -- an equation
     module _ (kind : kindAt code (literalAt state (h - 1)) ≡ equationKind) {p q : ℕ} (pe : p ≡ getD code (s .literal + 1) 0) (qe : q ≡ getD code (s .literal + 2) 0) where
@@ -216,10 +247,11 @@ module _ {nodes code state scratch : List ℕ} {h : ℕ} (w : Steppable nodes co
 try-facts-top : (nodes code state scratch : List ℕ) (j k : ℕ) → Tryable nodes code state scratch (suc j) j k
     → (alternativeOf j + alternativeSize ≤ length state) × ((literalAt state j + literalSize ≤ length code) × ((length code ≤ places) × ((bodies ≤ length code) × ((k ≤ clauses) × ((pathAt state j < longestPath) × (suc j ≤ mostAlternatives))))))
 try-facts-top nodes code state scratch j k w =
-    let a : j < mostAlternatives = top-low (w .ss) (w .sh) (w .g) nodes code state j (markAt state j) (w .piled) in
+    let a : suc j < mostAlternatives = w .room in
+    let d : stateWords ≤ length state = w .piled .long in
     let b : k ≤ length (w .sh .clauses) = clause-low (w .sh) k (w .clause) (w .there) in
     let c : length (w .sh .clauses) ≤ clauses = w .piled .program .few in (
-      top-room (w .ss) (w .sh) (w .g) nodes code state j (markAt state j) (w .piled),
+      omega arith,
       (top-inside (w .ss) (w .sh) (w .g) nodes code state j (markAt state j) (w .piled), (w .piled .program .short, (w .piled .program .long, (omega arith, (w .low, omega arith))))),
     )
 

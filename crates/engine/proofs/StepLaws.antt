@@ -10,21 +10,22 @@ use lib.ListN.{length, getD}
 use borrow.Author.Tests.{eq-eqb, ne-eqb}
 use Rattle.syntax.specs.Words.{truthKind, falsityKind, callKind, equationKind}
 use Rattle.syntax.specs.Limits.{longestPath, literals}
-use Rattle.syntax.specs.Terms.{Atom, Literal, call, equation, truth, falsity, Body, done, also, Clause, Sheet}
+use Rattle.syntax.specs.Terms.{Atom, Literal, call, equation, truth, falsity, either, Body, done, also, Clause, Sheet}
 use Rattle.machine.specs.Machine.{Pending, Alternative, pending, topmost, clauseAt, step, start}
+use Rattle.machine.specs.Low.{Low}
 use Rattle.machine.specs.Runs.{isEmpty, isAnswer, isThere, triesWith, triesFirst, goesDeeper}
-use Rattle.layout.specs.Regions.{stateWords, alternativeOf, literalSize, endKind, nextLiteral, alternativeSize}
+use Rattle.layout.specs.Regions.{stateWords, alternativeOf, literalSize, endKind, splitKind, alternativeSize}
 use Rattle.layout.specs.Nodes.{Symbol}
-use Rattle.layout.specs.Program.{bodyAt, kindAt, LiteralStands, BodyStands}
-use Rattle.layout.specs.Pile.{Calls, restFrom, leftFrom, copyAt, literalAt, nextAt, markAt, pathAt, alternativeAt, pileOf, NextFor, Piled}
+use Rattle.layout.specs.Program.{bodyAt, kindAt}
+use Rattle.layout.specs.Pile.{Calls, restFrom, leftBehind, leftFrom, copyAt, literalAt, nextAt, markAt, pathAt, alternativeAt, pileOf, NextFor, Piled}
 use Rattle.bindings.specs.Cells.{Stored, Undone}
 use Rattle.engine.specs.Words.{standAt}
 use Rattle.engine.specs.Moves.{Layable, Lays}
 use Rattle.engine.specs.Steps.{Running, Steppable, Stepped, Startable, Started}
 use Rattle.engine.specs.declared.Pile.{Pile}
 use Rattle.engine.specs.declared.records.Stand.{Stand}
-use Rattle.layout.proofs.Step.{calls-count, left-also, left-done}
-use Rattle.layout.proofs.Pile.{clause-some, goal-place, goal-rest, goal-left, next-low, Written, Means, undone, started}
+use Rattle.layout.proofs.Step.{left-first, left-done}
+use Rattle.layout.proofs.Pile.{FirstStands, HeadStands, calls-count, body-stays, clause-some, goal-place, goal-rest, goal-left, next-low, Written, Means, undone, started}
 use Rattle.engine.proofs.WordLaws.{stand-written}
 use Rattle.engine.proofs.LayLaws.{lays-long, LayEnds}
 use Rattle.engine.proofs.TopLaws.{at-top, top-stacked, top-stands, top-inside, top-room}
@@ -42,7 +43,7 @@ module _ (nodes code state scratch : List ℕ) (j n : ℕ) (w : Steppable nodes 
   undo-steppable : Steppable nodes code mid scratch (suc j) (markAt mid j)
   undo-steppable =
       record {
-        running = record { ss = w .running .ss; sh = w .running .sh; g = w .running .g; piled = subst⁻¹ (Piled (w .running .ss) (w .running .sh) (w .running .g) nodes code mid (suc j)) same-mark (undo-means .piled) };
+        running = record { ss = w .running .ss; sh = w .running .sh; g = w .running .g; piled = subst⁻¹ (Piled (w .running .ss) (w .running .sh) (w .running .g) nodes code mid (suc j)) same-mark (undo-means .piled); low = subst⁻¹ Low (undo-means .is) (w .running .low) };
         some = w .some;
         goes = ap (goesDeeper (w .running .sh)) (undo-means .is) ∙ w .goes;
         roomy = w .roomy;
@@ -60,7 +61,7 @@ module _ {nodes code state scratch : List ℕ} {h n : ℕ} (w : Steppable nodes 
   pub step-room : alternativeOf (h - 1) + alternativeSize ≤ length state
   step-room =
       at-top (λ (h j : ℕ). Steppable nodes code state scratch h n → alternativeOf j + alternativeSize ≤ length state)
-      (λ j w. top-room (w .running .ss) (w .running .sh) (w .running .g) nodes code state j n (w .running .piled)) h (w .some) w
+      (λ j w. top-room (w .running .ss) (w .running .sh) (w .running .g) nodes code state j n (w .running .piled) (w .running .low)) h (w .some) w
 
   module _ {s : Stand} (is : s ≡ standAt state (h - 1)) where
     mark-is : s .mark ≡ markAt state (h - 1)
@@ -121,7 +122,7 @@ module _ (nodes code state : List ℕ) (w : Startable nodes code state) where
       let q : Lays (w .sh) (w .g) code state after 0 0 (bodyAt code 0) 0 0 = k goal-layable in
       let a : q .spot .copy ≤ 0 = q .climbs .copy in
       let c : q .spot .copy ≡ 0 = omega arith in
-      let l : q .spot .literal ≡ bodyAt code 0 = q .climbs .here c in
+      let l : q .spot .literal ≡ bodyAt code 0 = q .climbs .here (body-stays (w .program) 0 (omega arith)) c in
       let written : Written 0 0 (bodyAt code 0) (q .next) 0 0 state after =
       subst (λ (x : ℕ). Written 0 x (bodyAt code 0) (q .next) 0 0 state after) c
       (subst (λ (x : ℕ). Written 0 (q .spot .copy) x (q .next) 0 0 state after) l
@@ -146,19 +147,21 @@ module _ {nodes code state : List ℕ} (w : Startable nodes code state) where
 
 -- ---- what the next step would be
 
-literal-kind : (ss : List Symbol) (sh : Sheet) (nodes code : List ℕ) (l : ℕ) (x : Literal) → LiteralStands ss sh nodes code l x → kindAt code l ≡ endKind → ⊥
-literal-kind ss sh nodes code l (call a) s e = let z : kindAt code l ≡ callKind = s .0 in omega arith
-literal-kind ss sh nodes code l (equation t u) s e = let z : kindAt code l ≡ equationKind = s .0 in omega arith
-literal-kind ss sh nodes code l truth s e = let z : kindAt code l ≡ truthKind = s in omega arith
-literal-kind ss sh nodes code l falsity s e = let z : kindAt code l ≡ falsityKind = s in omega arith
+literal-kind : (ss : List Symbol) (sh : Sheet) (nodes code : List ℕ) (l : ℕ) (x : Literal) → FirstStands ss sh nodes code l x → kindAt code l ≡ endKind → ⊥
+literal-kind ss sh nodes code l (call a) s e = omega (arith, s .0, e)
+literal-kind ss sh nodes code l (equation t u) s e = omega (arith, s .0, e)
+literal-kind ss sh nodes code l truth s e = omega (arith, s, e)
+literal-kind ss sh nodes code l falsity s e = omega (arith, s, e)
+literal-kind ss sh nodes code l (either y z) s e = omega (arith, s, e)
 
 -- no call stands there, or it has no clause
-tries-none : (ss : List Symbol) (sh : Sheet) (nodes code : List ℕ) (l : ℕ) (a : Alternative) (x : Literal) → LiteralStands ss sh nodes code l x → (kindAt code l ≡ callKind → ⊥) → triesWith sh a x ≡ false
+tries-none : (ss : List Symbol) (sh : Sheet) (nodes code : List ℕ) (l : ℕ) (a : Alternative) (x : Literal) → FirstStands ss sh nodes code l x → (kindAt code l ≡ callKind → ⊥) → triesWith sh a x ≡ false
 unfolding triesWith
 tries-none ss sh nodes code l a (call at) s z = absurd (z (s .0))
 tries-none ss sh nodes code l a (equation t u) s z = refl
 tries-none ss sh nodes code l a truth s z = refl
 tries-none ss sh nodes code l a falsity s z = refl
+tries-none ss sh nodes code l a (either u v) s z = refl
 
 tries-last : (sh : Sheet) (a : Alternative) (x : Literal) → a .next ≡ 0 → triesWith sh a x ≡ false
 unfolding triesWith isThere clauseAt
@@ -166,6 +169,7 @@ tries-last sh a (call at) e = ap (λ (k : ℕ). isThere (clauseAt sh k)) e
 tries-last sh a (equation t u) e = refl
 tries-last sh a truth e = refl
 tries-last sh a falsity e = refl
+tries-last sh a (either y z) e = refl
 
 module _ (nodes code state : List ℕ) (j n : ℕ) (w : Running nodes code state (suc j) n) where
   abbrev left : List Pending
@@ -177,11 +181,11 @@ module _ (nodes code state : List ℕ) (j n : ℕ) (w : Running nodes code state
   abbrev top : Alternative
   top = alternativeAt (w .ss) (w .sh) (w .g) nodes code state j
 
-  stands : BodyStands (w .ss) (w .sh) nodes code (literalAt state j) body
+  stands : HeadStands (w .ss) (w .sh) nodes code (literalAt state j) body
   stands = top-stands (w .ss) (w .sh) (w .g) nodes code state j n (w .piled)
 
-  left-of : (x : Literal) (b : Body) → body ≡ also x b → left ≡ record { copy = copyAt state j; literal = x } ∷ leftFrom (w .sh) (w .g) code state (pathAt state j) (copyAt state j) (nextLiteral (literalAt state j))
-  left-of x b e = left-also (w .sh) (w .g) code state (pathAt state j) (copyAt state j) (literalAt state j) (top-stacked (w .ss) (w .sh) (w .g) nodes code state j n (w .piled) .place) x b e
+  left-of : (x : Literal) (b : Body) → body ≡ also x b → left ≡ record { copy = copyAt state j; literal = x } ∷ pending (copyAt state j) b (leftBehind (w .sh) (w .g) code state (pathAt state j) (copyAt state j))
+  left-of x b e = left-first (w .sh) (w .g) code state (pathAt state j) (copyAt state j) (literalAt state j) e
 
   left-end : body ≡ done → left ≡ []
   left-end e = left-done (w .sh) (w .g) code state (pathAt state j) (copyAt state j) (literalAt state j) (top-stacked (w .ss) (w .sh) (w .g) nodes code state j n (w .piled) .ends e) e
@@ -189,10 +193,10 @@ module _ (nodes code state : List ℕ) (j n : ℕ) (w : Running nodes code state
   empty-is : (b : Body) → body ≡ b → eqb (kindAt code (literalAt state j)) endKind ≡ isEmpty left
   unfolding isEmpty
   empty-is done e =
-      eq-eqb (kindAt code (literalAt state j)) endKind (subst (BodyStands (w .ss) (w .sh) nodes code (literalAt state j)) e stands .1)
+      eq-eqb (kindAt code (literalAt state j)) endKind (subst (HeadStands (w .ss) (w .sh) nodes code (literalAt state j)) e stands)
       ∙ sym (ap (λ (ls : List Pending). isEmpty ls) (left-end e))
   empty-is (also x b) e =
-      ne-eqb (kindAt code (literalAt state j)) endKind (literal-kind (w .ss) (w .sh) nodes code (literalAt state j) x (subst (BodyStands (w .ss) (w .sh) nodes code (literalAt state j)) e stands .1))
+      ne-eqb (kindAt code (literalAt state j)) endKind (literal-kind (w .ss) (w .sh) nodes code (literalAt state j) x (subst (HeadStands (w .ss) (w .sh) nodes code (literalAt state j)) e stands))
       ∙ sym (ap (λ (ls : List Pending). isEmpty ls) (left-of x b e))
 
   answer-top : eqb (kindAt code (literalAt state j)) endKind ≡ isAnswer (pileOf (w .ss) (w .sh) (w .g) nodes code state (suc j))
@@ -202,7 +206,7 @@ module _ (nodes code state : List ℕ) (j n : ℕ) (w : Running nodes code state
   first-other : (b : Body) → body ≡ b → (kindAt code (literalAt state j) ≡ callKind → ⊥) → triesFirst (w .sh) top left ≡ false
   unfolding triesFirst
   first-other done e z = ap (triesFirst (w .sh) top) (left-end e)
-  first-other (also x b) e z = ap (triesFirst (w .sh) top) (left-of x b e) ∙ tries-none (w .ss) (w .sh) nodes code (literalAt state j) top x (subst (BodyStands (w .ss) (w .sh) nodes code (literalAt state j)) e stands .1) z
+  first-other (also x b) e z = ap (triesFirst (w .sh) top) (left-of x b e) ∙ tries-none (w .ss) (w .sh) nodes code (literalAt state j) top x (subst (HeadStands (w .ss) (w .sh) nodes code (literalAt state j)) e stands) z
 
   first-last : (b : Body) → body ≡ b → top .next ≡ 0 → triesFirst (w .sh) top left ≡ false
   unfolding triesFirst
@@ -219,13 +223,14 @@ module _ (nodes code state : List ℕ) (j n : ℕ) (w : Running nodes code state
 
   first-call : (b : Body) → body ≡ b → kindAt code (literalAt state j) ≡ callKind → (nextAt state j ≡ 0 → ⊥) → triesFirst (w .sh) top left ≡ true
   unfolding triesFirst
-  first-call done e k z = absurd (let q : kindAt code (literalAt state j) ≡ endKind = subst (BodyStands (w .ss) (w .sh) nodes code (literalAt state j)) e stands .1 in omega arith)
+  first-call done e k z = absurd (let q : kindAt code (literalAt state j) ≡ endKind = subst (HeadStands (w .ss) (w .sh) nodes code (literalAt state j)) e stands in omega arith)
   first-call (also (call at) b) e k z =
       ap (triesFirst (w .sh) top) (left-of (call at) b e)
       ∙ tries-some at (top-stacked (w .ss) (w .sh) (w .g) nodes code state j n (w .piled) .next at (subst⁻¹ (λ (y : Body). Calls y at) e refl)) z
-  first-call (also (equation t u) b) e k z = absurd (let q : kindAt code (literalAt state j) ≡ equationKind = subst (BodyStands (w .ss) (w .sh) nodes code (literalAt state j)) e stands .1 .0 in omega arith)
-  first-call (also truth b) e k z = absurd (let q : kindAt code (literalAt state j) ≡ truthKind = subst (BodyStands (w .ss) (w .sh) nodes code (literalAt state j)) e stands .1 in omega arith)
-  first-call (also falsity b) e k z = absurd (let q : kindAt code (literalAt state j) ≡ falsityKind = subst (BodyStands (w .ss) (w .sh) nodes code (literalAt state j)) e stands .1 in omega arith)
+  first-call (also (equation t u) b) e k z = absurd (let q : kindAt code (literalAt state j) ≡ equationKind = subst (HeadStands (w .ss) (w .sh) nodes code (literalAt state j)) e stands .0 in omega arith)
+  first-call (also truth b) e k z = absurd (let q : kindAt code (literalAt state j) ≡ truthKind = subst (HeadStands (w .ss) (w .sh) nodes code (literalAt state j)) e stands in omega arith)
+  first-call (also falsity b) e k z = absurd (let q : kindAt code (literalAt state j) ≡ falsityKind = subst (HeadStands (w .ss) (w .sh) nodes code (literalAt state j)) e stands in omega arith)
+  first-call (also (either u v) b) e k z = absurd (let q : kindAt code (literalAt state j) ≡ splitKind = subst (HeadStands (w .ss) (w .sh) nodes code (literalAt state j)) e stands in omega arith)
 
   deeper-is : (t : Bool) → triesFirst (w .sh) top left ≡ t → goesDeeper (w .sh) (pileOf (w .ss) (w .sh) (w .g) nodes code state (suc j)) ≡ t && leb longestPath (pathAt state j)
   unfolding goesDeeper pileOf alternativeAt
@@ -256,7 +261,7 @@ module _ {nodes code state : List ℕ} {h n : ℕ} (w : Running nodes code state
 
     pub run-room : alternativeOf (h - 1) + alternativeSize ≤ length state
     run-room =
-        at-top (λ (h j : ℕ). Running nodes code state h n → alternativeOf j + alternativeSize ≤ length state) (λ j w. top-room (w .ss) (w .sh) (w .g) nodes code state j n (w .piled)) h filled w
+        at-top (λ (h j : ℕ). Running nodes code state h n → alternativeOf j + alternativeSize ≤ length state) (λ j w. top-room (w .ss) (w .sh) (w .g) nodes code state j n (w .piled) (w .low)) h filled w
 
     module _ {s : Stand} (is : s ≡ standAt state (h - 1)) where
       literal-is : s .literal ≡ literalAt state (h - 1)

@@ -1,22 +1,23 @@
 -- The top alternative: where it stands, and what its step comes to. Assumes nothing.
 use Prim.Native.Nat.{ℕ, zero, suc, _+_, _-_, _*_, _≤_, _<_}
 use native.Mathlib.Omega.{arith}
-use mathlib.Core.Path.{_≡_, refl, sym, ap, _∙_, subst, subst⁻¹}
+use mathlib.Core.Path.{_≡_, refl, sym, ap, _∙_, subst⁻¹}
 use mathlib.Core.List.{List, _∷_, _++_}
 use lib.ListN.{length}
-use Rattle.syntax.specs.Limits.{longestPath}
+use Rattle.syntax.specs.Limits.{longestPath, literals}
 use Rattle.syntax.specs.Terms.{Literal, Body, also, Sheet, Goal}
+use Rattle.syntax.specs.Words.{literalLength}
+use Rattle.machine.specs.Low.{Low}
 use Rattle.machine.specs.Machine.{Pending, Alternative, topmost, worked, workedOn, outcome, step}
-use Rattle.layout.specs.Regions.{cells, stateWords, alternativeOf, literalSize, nextLiteral, alternativeSize, mostAlternatives}
+use Rattle.layout.specs.Regions.{cells, stateWords, alternativeOf, literalSize, alternativeSize, mostAlternatives}
 use Rattle.layout.specs.Nodes.{Symbol}
 use Rattle.layout.specs.State.{trailAt, Store, Within, Keeps}
-use Rattle.layout.specs.Program.{BodyStands}
-use Rattle.layout.specs.Pile.{restFrom, copyAt, literalAt, markAt, pathAt, alternativeAt, pileOf, Stacked, Piled}
+use Rattle.layout.specs.Pile.{restFrom, copyAt, literalAt, markAt, pathAt, alternativeAt, pileOf, Place, Stacked, Piled}
 use Rattle.layout.proofs.Pigeonhole.{pigeonhole}
 use Rattle.engine.specs.Moves.{Climbing, Lays, restAt}
 use Rattle.engine.proofs.WordLaws.{less-one, stand-written}
-use Rattle.layout.proofs.Step.{left-also, Going}
-use Rattle.layout.proofs.Pile.{place-stands, place-next, kind-room, SameUpTo, keeps-same, same-place, same-frame, same-pathAt, same-markAt, same-stacked, same-pile, path-high, mark-top, Written, Means}
+use Rattle.layout.proofs.Step.{left-also, Fresh, Going}
+use Rattle.layout.proofs.Pile.{HeadStands, place-room, place-stands, SameUpTo, keeps-same, same-place, same-frame, same-pathAt, same-markAt, same-stacked, same-pile, path-high, mark-top, Written, Stand, Means}
 
 -- a law of the top, alternative j of suc j, for a height and the number below it
 pub at-top : (P : ℕ → ℕ → Type 0) → ((j : ℕ) → P (suc j) j) → (h : ℕ) → 1 ≤ h → P h (h - 1)
@@ -41,30 +42,41 @@ pub pile-tail : (ss : List Symbol) (sh : Sheet) (g : Goal) (nodes code a b : Lis
 unfolding pileOf
 pile-tail ss sh g nodes code a b j q = tail-eq (alternativeAt ss sh g nodes code a j) (alternativeAt ss sh g nodes code b j) (pileOf ss sh g nodes code a j) (pileOf ss sh g nodes code b j) q
 
+-- what is laid stands there as new
+pub lays-stand : {sh : Sheet} {g : Goal} {code before after : List ℕ} {j c l mark path : ℕ} (k : Lays sh g code before after j c l mark path)
+    → Stand sh g code before (k .spot .copy) (k .spot .literal) (k .next)
+lays-stand k = record { place = k .climbs .place; stays = k .climbs .stays; ends = k .climbs .ends; next = k .next-for }
+
+pub lays-fresh : {sh : Sheet} {g : Goal} {code before after : List ℕ} {j c l mark path : ℕ} (k : Lays sh g code before after j c l mark path)
+    → Fresh sh g code before path (k .spot .copy) (k .spot .literal) (k .next)
+lays-fresh {sh} k = record { stand = lays-stand k; topmost-is = k .next-is ∙ sym (ap (topmost sh) (k .climbs .same)) }
+
 module _ (ss : List Symbol) (sh : Sheet) (g : Goal) (nodes code state : List ℕ) (j n : ℕ) (piled : Piled ss sh g nodes code state (suc j) n) where
   pub top-stacked : Stacked sh g code state n j
   top-stacked = piled .each j (omega arith)
 
-  pub top-stands : BodyStands ss sh nodes code (literalAt state j) (restFrom sh g code state (copyAt state j) (literalAt state j))
-  top-stands = place-stands ss sh g nodes code state (copyAt state j) (literalAt state j) (piled .program) (top-stacked .place)
+  pub top-stands : HeadStands ss sh nodes code (literalAt state j) (restFrom sh g code state (copyAt state j) (literalAt state j))
+  top-stands = place-stands (piled .program) (top-stacked .place) (top-stacked .stays)
 
   pub top-inside : literalAt state j + literalSize ≤ length code
-  top-inside = kind-room ss sh nodes code (literalAt state j) (restFrom sh g code state (copyAt state j) (literalAt state j)) top-stands
+  top-inside = place-room (piled .program) (top-stacked .place)
 
-  pub top-low : j < mostAlternatives
-  top-low =
-      let a : j ≤ pathAt state j = path-high ss sh g nodes code state (suc j) n piled j (omega arith) in
-      let b : pathAt state j ≤ longestPath = top-stacked .low in
-      omega arith
+  -- the pile is low
+  module _ (low : Low (pileOf ss sh g nodes code state (suc j))) where
+    pub top-low : j < mostAlternatives
+    top-low =
+        let a : suc j ≤ literals * (pathAt state j + 1) = path-high ss sh g nodes code state j low in
+        let b : pathAt state j ≤ longestPath = top-stacked .low in
+        omega arith
 
-  pub top-room : alternativeOf j + alternativeSize ≤ length state
-  top-room = let a : j < mostAlternatives = top-low in let b : stateWords ≤ length state = piled .long in omega arith
+    pub top-room : alternativeOf j + alternativeSize ≤ length state
+    top-room = let a : j < mostAlternatives = top-low in let b : stateWords ≤ length state = piled .long in omega arith
 
-  -- a step, where the top stands at a literal
-  pub step-also : (x : Literal) (b : Body) → restFrom sh g code state (copyAt state j) (literalAt state j) ≡ also x b
+  -- a step, where the top stands at a literal that is no bracket
+  pub step-also : (x : Literal) (b : Body) → literalLength x ≡ 1 → restFrom sh g code state (copyAt state j) (literalAt state j) ≡ also x b
       → step sh (pileOf ss sh g nodes code state (suc j)) ≡ worked sh (alternativeAt ss sh g nodes code state j) (copyAt state j) (restAt sh g code state j) x ++ pileOf ss sh g nodes code state j
   unfolding step outcome workedOn pileOf alternativeAt
-  step-also x b e = ap (λ (ls : List Pending). workedOn sh (alternativeAt ss sh g nodes code state j) ls ++ pileOf ss sh g nodes code state j) (left-also sh g code state (pathAt state j) (copyAt state j) (literalAt state j) (top-stacked .place) x b e)
+  step-also x b one e = ap (λ (ls : List Pending). workedOn sh (alternativeAt ss sh g nodes code state j) ls ++ pileOf ss sh g nodes code state j) (left-also (pathAt state j) (piled .program) (top-stacked .place) (top-stacked .stays) one e)
 
   -- More bindings, and the words behind the trail as they were: the pile is the same.
   module _ (mark : markAt state j ≡ n) (state1 : List ℕ) (n1 : ℕ) (keeps : Keeps n state state1) (store1 : Store ss nodes state1 n1) (more : n ≤ n1) where
@@ -90,9 +102,9 @@ module _ (ss : List Symbol) (sh : Sheet) (g : Goal) (nodes code state : List ℕ
           is = same-pile ss sh g nodes code state state1 (suc j) longestPath n n same (λ i l. (piled .each i l, piled .each i l .low, mark-low i l));
         }
 
-    -- The literal goes: an alternative with these bindings is laid in the top's place.
-    module _ (within1 : Within (pathAt state j) state1 n1) (x : Literal) (b : Body) (is : restFrom sh g code state (copyAt state j) (literalAt state j) ≡ also x b) where
-      pub gone-climbing : Climbing ss sh g nodes code state1 (pathAt state j) (copyAt state j) (nextLiteral (literalAt state j))
+    -- The top goes on at another record of its copy: an alternative with these bindings is laid in its place.
+    module _ (within1 : Within (pathAt state j) state1 n1) (to : ℕ) (at : Place sh g code state (copyAt state j) to) where
+      pub gone-climbing : Climbing ss sh g nodes code state1 (pathAt state j) (copyAt state j) to
       gone-climbing =
           let p : pathAt state j ≤ longestPath = top-stacked .low in
           let c : copyAt state j ≤ pathAt state j = top-stacked .copy in
@@ -102,15 +114,14 @@ module _ (ss : List Symbol) (sh : Sheet) (g : Goal) (nodes code state : List ℕ
             low = p;
             frame = λ i l. same-frame sh g code state state1 longestPath (same .frame) i (omega arith) (top-stacked .frame i l);
             copy = c;
-            place = same-place sh g code state state1 longestPath (same .frame) (copyAt state j) (nextLiteral (literalAt state j)) (omega arith) (place-next sh g code state (copyAt state j) (literalAt state j) (top-stacked .place) x b is);
+            place = same-place sh g code state state1 longestPath (same .frame) (copyAt state j) to (omega arith) at;
           }
 
-      pub going : (after : List ℕ) (k : Lays sh g code state1 after j (copyAt state j) (nextLiteral (literalAt state j)) n1 (pathAt state j))
-          → Going ss sh g nodes code state state1 after j n n1 (pathAt state j) (k .spot .copy) (k .spot .literal) (k .next)
-      going after k =
+      pub going : j < mostAlternatives → (after : List ℕ) (k : Lays sh g code state1 after j (copyAt state j) to n1 (pathAt state j))
+          → Going ss sh g nodes code state state1 after j n n1 (pathAt state j) to (k .spot .copy) (k .spot .literal) (k .next)
+      going l after k =
           let a : k .spot .copy ≤ copyAt state j = k .climbs .copy in
           let c : copyAt state j ≤ pathAt state j = top-stacked .copy in
-          let l : j < mostAlternatives = top-low in
           let long : stateWords ≤ length state1 = kept .piled .long in
           record {
             piled = piled;
@@ -122,6 +133,6 @@ module _ (ss : List Symbol) (sh : Sheet) (g : Goal) (nodes code state : List ℕ
             more = more;
             copy = omega arith;
             left = k .climbs .same;
-            fresh = record { stand = record { place = k .climbs .place; ends = k .climbs .ends; next = k .next-for }; topmost-is = k .next-is ∙ sym (ap (topmost sh) (k .climbs .same)) };
+            fresh = lays-fresh k;
             written = subst⁻¹ (λ (s : List ℕ). Written j (k .spot .copy) (k .spot .literal) (k .next) n1 (pathAt state j) state1 s) (k .words) (stand-written state1 j (k .spot .copy) (k .spot .literal) (k .next) n1 (pathAt state j) (omega arith));
           }

@@ -1,13 +1,15 @@
 -- There is something to start and something to step: what `start` and `step` ask can be met. Assumes nothing.
 use Prim.Native.Nat.{ℕ, _≤_}
 use native.Mathlib.Omega.{arith}
-use mathlib.Core.Path.{_≡_, refl, ap}
+use mathlib.Core.Path.{_≡_, refl, ap, subst⁻¹}
 use mathlib.Core.Bool.{Bool, true, false}
 use mathlib.Core.List.{[]}
 use lib.Dec.{ltb}
 use lib.ListN.{length, getD, length-replicate, getD-replicate, List·getD-eq-default}
 use borrow.Author.Tests.{ltb-true, ltb-false}
+use Rattle.syntax.specs.Terms.{literalsIn}
 use Rattle.machine.specs.Machine.{pending}
+use Rattle.machine.specs.Low.{leftOf, Low}
 use Rattle.machine.specs.Runs.{triesWith, triesFirst, goesDeeper}
 use Rattle.layout.specs.Regions.{stateWords}
 use Rattle.layout.specs.Pile.{pileOf}
@@ -37,7 +39,11 @@ not-deeper : goesDeeper sheet (pileOf [] sheet goal [] code words 1) ≡ false
 unfolding goesDeeper triesFirst triesWith pending goal
 not-deeper = ap (goesDeeper sheet) (pile .is)
 
+low : Low (pileOf [] sheet goal [] code words 1)
+unfolding leftOf pending goal literalsIn
+low = subst⁻¹ Low (pile .is) (record { few = omega arith; height = omega arith; filled = (tt, tt) }, tt)
+
 -- the goal alone on the pile
 pub steppable : Steppable [] code words scratch 1 0
 steppable =
-    record { running = record { ss = []; sh = sheet; g = goal; piled = pile .piled }; some = omega arith; goes = not-deeper; roomy = unifiable .roomy; clean = unifiable .clean }
+    record { running = record { ss = []; sh = sheet; g = goal; piled = pile .piled; low = low }; some = omega arith; goes = not-deeper; roomy = unifiable .roomy; clean = unifiable .clean }

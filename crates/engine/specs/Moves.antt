@@ -10,16 +10,36 @@ use Rattle.machine.specs.Machine.{Pending, Alternative, topmost, clauseAt, trie
 use Rattle.layout.specs.Regions.{cells, stateWords, nextLiteral, mostAlternatives}
 use Rattle.layout.specs.Nodes.{Symbol}
 use Rattle.layout.specs.Program.{Program}
-use Rattle.layout.specs.Pile.{Calls, restFrom, leftFrom, copyAt, literalAt, markAt, pathAt, alternativeAt, pileOf, Place, Frame, NextFor, Piled}
+use Rattle.layout.specs.Pile.{Calls, restFrom, leftFrom, copyAt, literalAt, markAt, pathAt, alternativeAt, pileOf, Place, NoJump, Frame, NextFor, Piled}
 use Rattle.bindings.specs.Queues.{Clean}
 use Rattle.bindings.specs.Scratch.{Roomy}
 use Rattle.engine.specs.Words.{standWords}
 use Rattle.engine.specs.declared.Pile.{Pile}
 use Rattle.engine.specs.declared.records.Spot.{Spot}
 
+-- ---- past the end of a side
+
+-- l is a record of some copy's body, or its end
+pub record Settlable (code : List ℕ) (l : ℕ) : Type 0 where
+  pub ss : List Symbol
+  pub sh : Sheet
+  pub g : Goal
+  pub nodes : List ℕ
+  pub state : List ℕ
+  pub copy : ℕ
+  pub program : Program ss sh g nodes code
+  pub place : Place sh g code state copy l
+
+-- The same goes on from r, which is not the end of a side.
+pub record Settles (sh : Sheet) (g : Goal) (code state : List ℕ) (c l r : ℕ) : Type 0 where
+  pub here : NoJump code l → r ≡ l
+  pub place : Place sh g code state c r
+  pub stays : NoJump code r
+  pub same : restFrom sh g code state c r ≡ restFrom sh g code state c l
+
 -- ---- the first literal left
 
--- The copies 1 to path were made for calls of lower ones, and l is a literal of copy c, one of them or the goal, or the end of its body.
+-- The copies 1 to path were made for calls of lower ones, and l is a record of the body of copy c, one of them or the goal, or its end.
 pub record Climbing (ss : List Symbol) (sh : Sheet) (g : Goal) (nodes code state : List ℕ) (path c l : ℕ) : Type 0 where
   pub program : Program ss sh g nodes code
   pub long : stateWords ≤ length state
@@ -36,11 +56,12 @@ pub record Climbable (code state : List ℕ) (c l : ℕ) : Type 0 where
   pub path : ℕ
   pub climbing : Climbing ss sh g nodes code state path c l
 
--- The same literals are left from a spot that is no body's end, unless it is the goal's.
+-- The same literals are left from a spot that is no side's end, and no body's, unless it is the goal's.
 pub record Climbs (sh : Sheet) (g : Goal) (code state : List ℕ) (path c l : ℕ) (r : Spot) : Type 0 where
   pub copy : r .copy ≤ c
-  pub here : r .copy ≡ c → r .literal ≡ l
+  pub here : NoJump code l → r .copy ≡ c → r .literal ≡ l
   pub place : Place sh g code state (r .copy) (r .literal)
+  pub stays : NoJump code (r .literal)
   pub ends : restFrom sh g code state (r .copy) (r .literal) ≡ done → r .copy ≡ 0
   pub same : leftFrom sh g code state path (r .copy) (r .literal) ≡ leftFrom sh g code state path c l
 
@@ -74,6 +95,7 @@ pub record Tryable (nodes code state scratch : List ℕ) (h j k : ℕ) : Type 0 
   pub piled : Piled ss sh g nodes code state h (markAt state j)
   pub filled : h ≡ suc j
   pub low : pathAt state j < longestPath
+  pub room : h < mostAlternatives
   pub atom : Atom
   pub calls : Calls (restFrom sh g code state (copyAt state j) (literalAt state j)) atom
   pub clause : Clause

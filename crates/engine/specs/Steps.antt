@@ -6,6 +6,7 @@ use mathlib.Core.List.{List}
 use lib.ListN.{length, getD}
 use Rattle.syntax.specs.Terms.{Sheet, Goal}
 use Rattle.machine.specs.Machine.{step, start}
+use Rattle.machine.specs.Low.{Low}
 use Rattle.machine.specs.Runs.{goesDeeper}
 use Rattle.layout.specs.Regions.{stateWords}
 use Rattle.layout.specs.Nodes.{Symbol}
@@ -15,12 +16,13 @@ use Rattle.bindings.specs.Queues.{Clean}
 use Rattle.bindings.specs.Scratch.{Roomy}
 use Rattle.engine.specs.declared.Pile.{Pile}
 
--- some loaded program and words that mean a pile of it
+-- some loaded program and words that mean a pile of it, which is low
 pub record Running (nodes code state : List ℕ) (h n : ℕ) : Type 0 where
   pub ss : List Symbol
   pub sh : Sheet
   pub g : Goal
   pub piled : Piled ss sh g nodes code state h n
+  pub low : Low (pileOf ss sh g nodes code state h)
 
 -- The pile is not empty, and the step would not try a clause at the longest path. Scratch words have room, and no cell is marked.
 pub record Steppable (nodes code state scratch : List ℕ) (h n : ℕ) : Type 0 where

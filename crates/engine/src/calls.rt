@@ -7,6 +7,7 @@ use crate::records::put_frame;
 use crate::records::put_next;
 use crate::records::stand_at;
 use layout::CLAUSE_SIZE;
+use layout::SPLIT_KIND;
 use syntax::CALL_KIND;
 use syntax::EQUATION_KIND;
 use syntax::TRUTH_KIND;
@@ -14,8 +15,10 @@ use unifier::solve::unify;
 use unifier::solve::unify_closed;
 use words::word_at;
 ghost use mathlib.Core.Path.{_≡_};
-ghost use Prim.Native.Nat.{_-_};
+ghost use mathlib.Core.List.{List};
+ghost use Prim.Native.Nat.{ℕ, _-_};
 ghost use Rattle.syntax.specs.Words.{callKind, equationKind};
+ghost use Rattle.layout.specs.Regions.{splitKind};
 ghost use Rattle.layout.specs.Program.{kindAt};
 ghost use Rattle.layout.specs.Pile.{literalAt, nextAt, markAt};
 ghost use Rattle.engine.specs.Words.{standAt};
@@ -121,6 +124,30 @@ fn work_equation(
     Pile { height: j, trail }
 }
 
+// A bracket: the right side takes the top's place, and the left side is laid on it.
+fn work_either(code: &[u32], state: &mut [u32], h: usize, s: Stand) -> Pile
+    requires { ⌜ ((nodes : List ℕ) × (scratch : List ℕ) × Steppable nodes (now code) (now state) scratch h (markAt (now state) (h - 1))) ⌝ }
+    requires { ⌜ s ≡ standAt (now state) (h - 1) ⌝ }
+    requires { ⌜ kindAt (now code) (literalAt (now state) (h - 1)) ≡ splitKind ⌝ }
+    ensures { λ r. ⌜ ((nodes scratch : List ℕ) (w : Steppable nodes (now (code .entry)) (now (state .entry)) scratch h
+        (markAt (now (state .entry)) (h - 1))) → Stepped (w .running .ss) (w .running .sh) (w .running .g) nodes (now (code .entry))
+        (now (state .entry)) (now (state .exit)) scratch scratch h r) ⌝ }
+{
+    let j = h - 1;
+    let c = s.copy;
+    let l = s.literal;
+    let trail = s.mark;
+    let path = s.path;
+    let right = word_at(code, l + 2);
+    let left = next_literal(l);
+    lay(code, state, j, c, right, trail, path);
+    lay(code, state, h, c, left, trail, path);
+    Pile {
+        height: h + 1,
+        trail,
+    }
+}
+
 // By the literal: `fail` and a goal's end leave the pile below.
 pub fn work(nodes: &[u32], code: &[u32], state: &mut [u32], scratch: &mut [u32], h: usize) -> Pile
     requires { ⌜ Steppable (now nodes) (now code) (now state) (now scratch) h (markAt (now state) (h - 1)) ⌝ }
@@ -137,6 +164,9 @@ pub fn work(nodes: &[u32], code: &[u32], state: &mut [u32], scratch: &mut [u32],
     }
     if kind == EQUATION_KIND {
         return work_equation(nodes, code, state, scratch, h, s);
+    }
+    if kind == SPLIT_KIND {
+        return work_either(code, state, h, s);
     }
     let trail = s.mark;
     if kind == TRUTH_KIND {

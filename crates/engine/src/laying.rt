@@ -3,6 +3,7 @@ use crate::records::Spot;
 use crate::records::caller_at;
 use crate::records::put_stand;
 use layout::END_KIND;
+use layout::JUMP_KIND;
 use layout::LITERAL_SIZE;
 use syntax::CALL_KIND;
 use words::word_at;
@@ -11,7 +12,7 @@ ghost use Prim.Native.Nat.{_+_, _≤_, _<_, _^_};
 ghost use lib.ListN.{length};
 ghost use Rattle.layout.specs.Regions.{literalSize, nextLiteral};
 ghost use Rattle.engine.specs.Words.{topmostAt};
-ghost use Rattle.engine.specs.Moves.{Climbable, Climbs, Layable, Lays};
+ghost use Rattle.engine.specs.Moves.{Settlable, Settles, Climbable, Climbs, Layable, Lays};
 
 // The record behind a literal's.
 pub fn next_literal(l: usize) -> usize
@@ -21,6 +22,20 @@ pub fn next_literal(l: usize) -> usize
     l + LITERAL_SIZE
 }
 
+// The record from which the same goes on as from l: where a side of a bracket has ended, the one behind the bracket.
+fn settled(code: &[u32], l: usize) -> usize
+    requires { ⌜ Settlable (now code) l ⌝ }
+    ensures { λ r. ⌜ ((w : Settlable (now (code .entry)) l) → Settles (w .sh) (w .g) (now (code .entry)) (w .state) (w .copy) l r) ⌝ }
+{
+    let mut literal = l;
+    let mut kind = word_at(code, literal);
+    while kind == JUMP_KIND {
+        literal = word_at(code, literal + 2);
+        kind = word_at(code, literal);
+    }
+    literal
+}
+
 // The first literal left from l of copy c on. Where a body has ended, the caller goes on behind its call.
 fn first_literal(code: &[u32], state: &[u32], c: usize, l: usize) -> Spot
     requires { ⌜ Climbable (now code) (now state) c l ⌝ }
@@ -28,14 +43,15 @@ fn first_literal(code: &[u32], state: &[u32], c: usize, l: usize) -> Spot
         (w .path) c l r) ⌝ }
 {
     let mut copy = c;
-    let mut literal = l;
+    let mut literal = settled(code, l);
     while 0 < copy {
         if word_at(code, literal) != END_KIND {
             return Spot { copy, literal };
         }
         let s = caller_at(state, copy);
         copy = s.copy;
-        literal = next_literal(s.literal);
+        let next = next_literal(s.literal);
+        literal = settled(code, next);
     }
     Spot { copy, literal }
 }

@@ -8,7 +8,7 @@ use mathlib.Core.Option.{Option, none, some}
 use lib.Dec.{leb, eqb}
 use lib.ListN.{length}
 use Rattle.syntax.specs.Limits.{sheetBytes, goalBytes}
-use Rattle.syntax.specs.Terms.{Atom, Literal, Body, call, equation, truth, falsity, done, also, Mark, Declaration, Clause, Sheet, Goal, termOf}
+use Rattle.syntax.specs.Terms.{Atom, Literal, Body, call, equation, truth, falsity, either, done, also, literalsIn, literalsOf, Mark, Declaration, Clause, Sheet, Goal, termOf}
 use Rattle.syntax.specs.Reading.{Read, fault, ok, readSheet, readGoal, firstRepeat}
 use Rattle.syntax.specs.Verdicts.{faultOf, Outcome, refused, accepted, withoutRepeats, sheetFrom, goalFrom, sheetOf, goalOutcome, sheetVerdict}
 use Rattle.syntax.specs.declared.Refusal.{Refusal}
@@ -19,10 +19,10 @@ use Rattle.syntax.specs.declared.Text.{Text}
 use Rattle.syntax.specs.declared.Text.the-variants.{Sheet as inSheet, Goal as inGoal, Neither}
 use Rattle.syntax.specs.declared.Verdict.{Verdict}
 use Rattle.syntax.specs.declared.Verdict.the-variants.{Accepted, Refused}
-use Rattle.rules.specs.Modes.{Known, nothing, OpenArgument, Walk, faulted, known, marksOf, marksFor, firstOpen, undeclared, undeclaredAtom, undeclaredLiteral, undeclaredBody, undeclaredClause, undeclaredClauses, undeclaredInSheet, undeclaredInGoal, openInput, openOutput, literalFault, afterLiteral, walkOn, bodyFault, headFault, startKnown, clauseFault, clausesFault, firstOf, sheetFault, walkFault, goalFault}
+use Rattle.rules.specs.Modes.{Known, nothing, OpenArgument, Walk, faulted, known, marksOf, marksFor, firstOpen, undeclared, undeclaredAtom, undeclaredLiteral, undeclaredBody, undeclaredClause, undeclaredClauses, undeclaredInSheet, undeclaredInGoal, openInput, openOutput, groundMarked, unlessFault, walkOn, inBoth, callWalk, literalWalk, bodyFault, headFault, startKnown, clauseFault, clausesFault, firstOf, sheetFault, walkFault, goalFault}
 use Rattle.rules.specs.Written.{isWritten, isExempt, firstUnwritten, unwritten}
 use Rattle.rules.specs.Checking.{nameSpan, faultless, checkedFrom, checkedWith, checkedSheet, verdictWith, checkVerdict, checkedGoalFrom, checkedGoal, goalAnswer, checkGoalFrom, checkGoalVerdict}
-use Rattle.marking.specs.Standing.{Stands, stands-compound, LiteralStands, call-stands, equation-stands, truth-stands, falsity-stands, BodyStands, done-stands, also-stands, ClauseStands, ClausesStand, no-clauses, clause-stands, SheetStands, GoalStands}
+use Rattle.marking.specs.Standing.{Stands, stands-compound, LiteralStands, call-stands, equation-stands, truth-stands, falsity-stands, either-stands, BodyStands, done-stands, also-stands, ClauseStands, ClausesStand, no-clauses, clause-stands, SheetStands, GoalStands}
 use Rattle.modes.proofs.Accepted.{read-stands, goal-stands}
 use Rattle.machine.specs.Runs.{RunOutcome, stopped, ran, Ended, reported, run, overGoal, overSheet, inRange, RunSettings, runOutcome, runAnswer}
 use Rattle.exports.specs.Names.{NameInside}
@@ -64,18 +64,21 @@ module _ (s : List ℕ) where
   unfolding undeclaredAtom
   atom-8 ds c l a w = undeclared-in c l a (marksOf ds a) w
 
-  literal-8 : (ds : List Declaration) (c l : ℕ) (lit : Literal) → LiteralStands s lit → IfSome In (undeclaredLiteral ds c l lit)
-  unfolding undeclaredLiteral
-  literal-8 ds c l (call a) (call-stands w) = atom-8 ds c l a w
-  literal-8 ds c l (equation t u) w = tt
-  literal-8 ds c l truth w = tt
-  literal-8 ds c l falsity w = tt
+  mutual
+    unfolding undeclaredLiteral undeclaredBody
 
-  body-8 : (ds : List Declaration) (c l : ℕ) (b : Body) → BodyStands s b → IfSome In (undeclaredBody ds c l b)
-  unfolding undeclaredBody
-  body-8 ds c l done w = tt
-  body-8 ds c l (also lit b) (also-stands h k) =
-      first (undeclaredLiteral ds c l lit) (undeclaredBody ds c (suc l) b) (literal-8 ds c l lit h) (body-8 ds c (suc l) b k)
+    literal-8 : (ds : List Declaration) (c l : ℕ) (lit : Literal) → LiteralStands s lit → IfSome In (undeclaredLiteral ds c l lit)
+    literal-8 ds c l (call a) (call-stands w) = atom-8 ds c l a w
+    literal-8 ds c l (equation t u) w = tt
+    literal-8 ds c l truth w = tt
+    literal-8 ds c l falsity w = tt
+    literal-8 ds c l (either y z) (either-stands h k) =
+        first (undeclaredBody ds c l y) (undeclaredBody ds c (literalsOf y + l) z) (body-8 ds c l y h) (body-8 ds c (literalsOf y + l) z k)
+
+    body-8 : (ds : List Declaration) (c l : ℕ) (b : Body) → BodyStands s b → IfSome In (undeclaredBody ds c l b)
+    body-8 ds c l done w = tt
+    body-8 ds c l (also lit b) (also-stands h k) =
+        first (undeclaredLiteral ds c l lit) (undeclaredBody ds c (literalsIn lit + l) b) (literal-8 ds c l lit h) (body-8 ds c (literalsIn lit + l) b k)
 
   clause-8 : (ds : List Declaration) (c : ℕ) (cl : Clause) → ClauseStands s cl → IfSome In (undeclaredClause ds c cl)
   unfolding undeclaredClause
@@ -100,24 +103,37 @@ module _ (s : List ℕ) where
   output-in c a none w = tt
   output-in c a (some o) w = in-text a w
 
-  literal-9 : (ds : List Declaration) (c l : ℕ) (τ : Known) (lit : Literal) → LiteralStands s lit → IfSome In (literalFault ds c l τ lit)
-  unfolding literalFault
-  literal-9 ds c l τ (call a) (call-stands w) = input-in c l a _ w
-  literal-9 ds c l τ (equation t u) w = tt
-  literal-9 ds c l τ truth w = tt
-  literal-9 ds c l τ falsity w = tt
+  unless-in : (o : Option Refusal) (σ : Known) → IfSome In o → IfFaulted In (unlessFault o σ)
+  unfolding unlessFault
+  unless-in none σ h = tt
+  unless-in (some r) σ h = h
 
-  walk-on : (o : Option Refusal) (rest : Known → Walk) (σ : Known) → IfSome In o → IfFaulted In (rest σ) → IfFaulted In (walkOn o rest σ)
+  call-9 : (ds : List Declaration) (c l : ℕ) (τ : Known) (a : Atom) → Stands s (termOf a) → IfFaulted In (callWalk ds c l τ a)
+  unfolding callWalk
+  call-9 ds c l τ a w = unless-in _ _ (input-in c l a _ w)
+
+  walk-on : (x : Walk) (rest : Known → Walk) → IfFaulted In x → ((σ : Known) → IfFaulted In (rest σ)) → IfFaulted In (walkOn x rest)
   unfolding walkOn
-  walk-on none rest σ h k = k
-  walk-on (some r) rest σ h k = h
+  walk-on (faulted r) rest h k = h
+  walk-on (known σ) rest h k = k σ
 
-  body-9 : (ds : List Declaration) (c l : ℕ) (τ : Known) (b : Body) → BodyStands s b → IfFaulted In (bodyFault ds c l τ b)
-  unfolding bodyFault
-  body-9 ds c l τ done w = tt
-  body-9 ds c l τ (also lit b) (also-stands h k) =
-      walk-on (literalFault ds c l τ lit) (λ σ. bodyFault ds c (suc l) σ b) (afterLiteral ds lit τ) (literal-9 ds c l τ lit h)
-      (body-9 ds c (suc l) (afterLiteral ds lit τ) b k)
+  mutual
+    unfolding literalWalk bodyFault
+
+    literal-9 : (ds : List Declaration) (c l : ℕ) (τ : Known) (lit : Literal) → LiteralStands s lit → IfFaulted In (literalWalk ds c l τ lit)
+    literal-9 ds c l τ (call a) (call-stands w) = call-9 ds c l τ a w
+    literal-9 ds c l τ (equation t u) w = tt
+    literal-9 ds c l τ truth w = tt
+    literal-9 ds c l τ falsity w = tt
+    literal-9 ds c l τ (either y z) (either-stands h k) =
+        walk-on (bodyFault ds c l τ y) (λ σ. walkOn (bodyFault ds c (literalsOf y + l) τ z) (λ ρ. known (inBoth σ ρ))) (body-9 ds c l τ y h)
+        (λ σ. walk-on (bodyFault ds c (literalsOf y + l) τ z) (λ ρ. known (inBoth σ ρ)) (body-9 ds c (literalsOf y + l) τ z k) (λ ρ. tt))
+
+    body-9 : (ds : List Declaration) (c l : ℕ) (τ : Known) (b : Body) → BodyStands s b → IfFaulted In (bodyFault ds c l τ b)
+    body-9 ds c l τ done w = tt
+    body-9 ds c l τ (also lit b) (also-stands h k) =
+        walk-on (literalWalk ds c l τ lit) (λ σ. bodyFault ds c (literalsIn lit + l) σ b) (literal-9 ds c l τ lit h)
+        (λ σ. body-9 ds c (literalsIn lit + l) σ b k)
 
   head-10 : (ds : List Declaration) (c : ℕ) (h : Atom) (x : Walk) → Stands s (termOf h) → IfFaulted In x → IfSome In (headFault ds c h x)
   unfolding headFault

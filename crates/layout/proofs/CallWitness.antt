@@ -5,19 +5,20 @@ use mathlib.Core.Path.{_≡_, refl, sym, ap₂, _∙_, subst, subst⁻¹}
 use mathlib.Core.List.{List, [], _∷_}
 use mathlib.Core.Option.{some}
 use lib.ListN.{length, set, replicate, length-replicate}
-use Rattle.syntax.specs.Words.{firstName}
+use Rattle.syntax.specs.Words.{firstName, literalLength, bodyLength}
 use Rattle.syntax.specs.Limits.{clauses, literals, arguments, variables, declarations}
 use Rattle.syntax.specs.Quote.{bytes}
-use Rattle.syntax.specs.Terms.{nil, Atom, termOf, call, Body, done, also, sameBytes, Clause, Sheet, Goal}
+use Rattle.syntax.specs.Terms.{nil, Atom, termOf, call, Body, done, also, literalsOf, sameBytes, Clause, Sheet, Goal}
 use Rattle.machine.specs.Machine.{pending, firstFor, nextFor, nth, clauseAt}
+use Rattle.machine.specs.Low.{BodyShort, ClausesShort}
 use Rattle.machine.proofs.Tests.{some-eq, some-none}
-use Rattle.layout.specs.Regions.{places, bodies, stateWords, frameOf, alternativeOf, literalSize, nextLiteral, frameSize, alternativeSize}
+use Rattle.layout.specs.Regions.{places, bodies, stateWords, frameOf, alternativeOf, literalFrom, endKind, jumpKind, nextLiteral, frameSize, alternativeSize}
 use Rattle.layout.specs.Nodes.{Symbol, isSymbol, symbolOf, isListed, loadedWords, isLoadable, bracketsOf, Stands}
 use Rattle.layout.specs.State.{bindings}
 use Rattle.layout.specs.Program.{bodyAt, BodyStands, ClauseStands, Program}
-use Rattle.layout.specs.Pile.{Calls, restFrom, copyAt, literalAt, pathAt, NextFor, Piled}
+use Rattle.layout.specs.Pile.{Calls, restFrom, copyAt, literalAt, pathAt, NoJump, NextFor, Piled}
 use Rattle.layout.proofs.State.{keeps-refl}
-use Rattle.layout.proofs.Pile.{place-next, rest-next, goal-place, goal-rest, next-for, Written, Framed, Stand, Means, Pushing, pushed, started, written, framed}
+use Rattle.layout.proofs.Pile.{place-next, rest-next, goal-place, goal-rest, body-stays, next-for, Written, Framed, Stand, Means, Pushing, pushed, started, written, framed}
 use Rattle.layout.proofs.Witness.{zeros, zeros-long, zeros-words}
 
 unfoldable pub symbols : List Symbol
@@ -66,16 +67,16 @@ unfolding sheet nextFor firstFor
 no-other = refl
 
 goal-stands : BodyStands symbols sheet table code (bodyAt code 0) (goal .body)
-unfolding goal code
+unfolding goal code bodyLength
 goal-stands =
     let l : length code ≡ bodies = code-long in
-    ((let q : 8 + literalSize ≤ length code = omega arith in q), (refl, stands, sym topmost-clause), ((let q : (8 + 4) + literalSize ≤ length code = omega arith in q), refl))
+    record { room = (let q : literalFrom 8 2 ≤ length code = omega arith in q); items = ((refl, stands, sym topmost-clause), tt); ends = refl }
 
 clause-stands : ClauseStands symbols sheet table code 1 clause
-unfolding clause code
+unfolding clause code bodyLength
 clause-stands =
     let l : length code ≡ bodies = code-long in
-    record { head = stands; body = ((let q : 16 + literalSize ≤ length code = omega arith in q), refl); after = sym no-other }
+    record { head = stands; body = record { room = (let q : literalFrom 16 1 ≤ length code = omega arith in q); items = tt; ends = refl }; after = sym no-other }
 
 clauses-stand : (k : ℕ) (cl : Clause) → clauseAt sheet k ≡ some cl → ClauseStands symbols sheet table code k cl
 unfolding sheet clauseAt nth
@@ -91,10 +92,18 @@ small-table : length table ≤ places
 unfolding table
 small-table = omega arith
 
+clauses-short : ClausesShort (sheet .clauses)
+unfolding sheet clause literalsOf
+clauses-short = (record { few = omega arith; filled = tt }, tt)
+
+goal-short : BodyShort (goal .body)
+unfolding goal literalsOf
+goal-short = record { few = omega arith; filled = (tt, tt) }
+
 pub program : Program symbols sheet goal table code
 program =
     let l : length code ≡ bodies = code-long in
-    record { small = small-table; long = omega arith; short = omega arith; few = few-clauses; goal = goal-stands; clause = clauses-stand }
+    record { small = small-table; long = omega arith; short = omega arith; few = few-clauses; bodies-short = clauses-short; goal-short = goal-short; goal = goal-stands; clause = clauses-stand }
 
 -- ---- the goal alone
 
@@ -162,13 +171,25 @@ goal-is : restFrom sheet goal code framed-words 0 (bodyAt code 0) ≡ also (call
 unfolding goal
 goal-is = goal-rest sheet goal code framed-words
 
+goal-first : NoJump code (bodyAt code 0)
+goal-first = body-stays program 0 (omega arith)
+
+one-call : literalLength (call atom) ≡ 1
+unfolding literalLength
+one-call = refl
+
 end-rest : restFrom sheet goal code framed-words 0 (nextLiteral (bodyAt code 0)) ≡ done
-end-rest = rest-next sheet goal code framed-words 0 (bodyAt code 0) (goal-place sheet goal code framed-words) (call atom) done goal-is
+end-rest = rest-next program (goal-place sheet goal code framed-words) goal-first one-call goal-is
+
+end-stays : NoJump code (nextLiteral (bodyAt code 0))
+unfolding code
+end-stays e = let z : endKind ≡ jumpKind = e in omega arith
 
 end-stand : Stand sheet goal code framed-words 0 (nextLiteral (bodyAt code 0)) 0
 end-stand =
     record {
-      place = place-next sheet goal code framed-words 0 (bodyAt code 0) (goal-place sheet goal code framed-words) (call atom) done goal-is;
+      place = place-next program (goal-place sheet goal code framed-words) goal-first one-call goal-is;
+      stays = end-stays;
       ends = λ e. refl;
       next = λ a h. absurd (subst (λ (y : Body). Calls y a) end-rest h);
     }

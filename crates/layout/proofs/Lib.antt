@@ -3,7 +3,9 @@ pub mod Limits
 pub mod Nodes
 pub mod Pigeonhole
 pub mod Pile
+pub mod Places
 pub mod State
+pub mod SplitWitness
 pub mod Step
 pub mod Symbols
 pub mod Witness

@@ -10,15 +10,17 @@ use lib.ListN.{length, getD, drop, set, length-set}
 use lib.Seq.{getD-set-same, getD-set-other}
 use borrow.Author.Tests.{eqb-true, eqb-false, eq-eqb, ne-eqb}
 use Rattle.syntax.specs.Limits.{longestPath, literals}
-use Rattle.syntax.specs.Terms.{Term, termOf, Atom, Literal, call, equation, truth, falsity, Body, done, also, Clause, Sheet, Goal, arity, sameName, samePredicate}
-use Rattle.syntax.specs.Words.{bodyLength, truthKind, falsityKind, callKind, equationKind}
-use Rattle.machine.specs.Machine.{Pending, Alternative, pending, isFor, firstFor, nextFor, nth, clauseAt}
+use Rattle.syntax.specs.Terms.{Term, termOf, Atom, Literal, call, equation, truth, falsity, either, Body, done, also, Clause, Sheet, Goal, arity, sameName, samePredicate}
+use Rattle.syntax.specs.Words.{literalLength, bodyLength, truthKind, falsityKind, callKind, equationKind}
+use Rattle.machine.specs.Machine.{Pending, Alternative, path, pending, isFor, firstFor, nextFor, nth, clauseAt}
+use Rattle.machine.specs.Low.{Low}
 use Rattle.machine.proofs.Tests.{some-none, both, name-eq}
-use Rattle.layout.specs.Regions.{storeWords, frames, alternatives, mostAlternatives, stateWords, frameOf, alternativeOf, literalSize, endKind, nextLiteral, frameSize, alternativeSize, literalFrom}
+use Rattle.layout.specs.Regions.{storeWords, frames, alternatives, mostAlternatives, stateWords, frameOf, alternativeOf, literalSize, endKind, splitKind, jumpKind, nextLiteral, frameSize, alternativeSize, literalFrom}
 use Rattle.layout.specs.Nodes.{Symbol, Stands}
 use Rattle.layout.specs.State.{bindings, Store, Within, Agrees, Keeps}
-use Rattle.layout.specs.Program.{bodyAt, kindAt, placeAt, otherAt, BodyStands, Program}
-use Rattle.layout.specs.Pile.{bodyIn, bodyOf, dropBody, atomIn, firstAtom, Calls, clauseIn, callerOf, callOf, restFrom, leftBehind, leftFrom, callsUpTo, copyAt, literalAt, nextAt, markAt, pathAt, alternativeAt, pileOf, Place, Frame, NextFor, Stacked, Piled}
+use Rattle.layout.specs.Program.{bodyAt, kindAt, placeAt, otherAt, PlainStands, BodyStands, Program}
+use Rattle.layout.specs.Pile.{bodyIn, bodyOf, joined, dropBody, atomIn, firstAtom, Calls, clauseIn, callerOf, callOf, restFrom, leftBehind, leftFrom, callsUpTo, copyAt, literalAt, nextAt, markAt, pathAt, alternativeAt, pileOf, Place, NoJump, Frame, NextFor, Stacked, Piled}
+use Rattle.layout.proofs.Places.{Item, the-end, a-literal, a-split, a-jump, item-at, drop-none, body-first}
 use Rattle.layout.proofs.State.{bindings-agree, agrees, within-agrees, SameStore, same-agrees, store-same, bindings-same, no-entries}
 
 -- ---- bodies
@@ -26,16 +28,11 @@ use Rattle.layout.proofs.State.{bindings-agree, agrees, within-agrees, 
 body-clash : (x : Literal) (b : Body) → done ≡ also x b → ⊥
 body-clash x b e = let z : _≡_ {A = ℕ} 0 1 = cc in omega arith
 
--- a body whose rest behind i literals begins with a literal
-drop-also : (i : ℕ) (whole : Body) (x : Literal) (b : Body) → dropBody i whole ≡ also x b → (suc i ≤ bodyLength whole) × (dropBody (suc i) whole ≡ b)
-unfolding dropBody
-drop-also zero done x b e = absurd (body-clash x b e)
-drop-also zero (also y c) x b e = (omega arith, (let q : also y c ≡ also x b = e in let r : c ≡ b = cc in r))
-drop-also (suc i) done x b e = absurd (body-clash x b e)
-drop-also (suc i) (also y c) x b e =
-    let r : (suc i ≤ bodyLength c) × (dropBody (suc i) c ≡ b) = drop-also i c x b e in
-    let l : suc i ≤ bodyLength c = r .0 in
-    (omega arith, r .1)
+also-first : {x y : Literal} {b c : Body} → also x b ≡ also y c → x ≡ y
+also-first e = cc
+
+also-rest : {x y : Literal} {b c : Body} → also x b ≡ also y c → b ≡ c
+also-rest e = cc
 
 -- a body that begins with a call
 pub calls-also : (b : Body) (a : Atom) → Calls b a → (r : Body) × (b ≡ also (call a) r)
@@ -72,105 +69,225 @@ clause-body sh g (suc k) cl e = ap bodyIn e
 
 -- ---- places
 
-module _ (ss : List Symbol) (sh : Sheet) (nodes code : List ℕ) where
-  -- behind i literals stands the rest
-  stand-from : (i l : ℕ) (b : Body) → BodyStands ss sh nodes code l b → i ≤ bodyLength b → BodyStands ss sh nodes code (literalFrom l i) (dropBody i b)
-  unfolding dropBody
-  stand-from zero l b h q = subst (λ (y : ℕ). BodyStands ss sh nodes code y b) (let e : l ≡ l + 0 * literalSize = omega arith in e) h
-  stand-from (suc i) l done h q = absurd (let z : suc i ≤ 0 = q in omega arith)
-  stand-from (suc i) l (also x b) h q =
-      let z : suc i ≤ suc (bodyLength b) = q in
-      subst (λ (y : ℕ). BodyStands ss sh nodes code y (dropBody i b)) (let e : (nextLiteral l) + i * literalSize ≡ l + suc i * literalSize = omega arith in e) (stand-from i (nextLiteral l) b (h .2) (omega arith))
+-- the body of a number stands where its word says
+body-stands : (ss : List Symbol) (sh : Sheet) (nodes code : List ℕ) (g : Goal) (m : ℕ) → Program ss sh g nodes code → m ≤ length (sh .clauses)
+    → BodyStands ss sh nodes code (bodyAt code m) (bodyOf sh g m)
+unfolding bodyOf
+body-stands ss sh nodes code g zero pr l = pr .goal
+body-stands ss sh nodes code g (suc k) pr l =
+    let c : (cl : Clause) × (clauseAt sh (suc k) ≡ some cl) = clause-some sh (suc k) (omega arith) l in
+    subst⁻¹ (BodyStands ss sh nodes code (bodyAt code (suc k))) (clause-body sh g (suc k) (c .0) (c .1)) (pr .clause (suc k) (c .0) (c .1) .body)
 
-  -- the body of a number stands where its word says
-  body-stands : (g : Goal) (m : ℕ) → Program ss sh g nodes code → m ≤ length (sh .clauses) → BodyStands ss sh nodes code (bodyAt code m) (bodyOf sh g m)
-  unfolding bodyOf
-  body-stands g zero pr l = pr .goal
-  body-stands g (suc k) pr l =
-      let c : (cl : Clause) × (clauseAt sh (suc k) ≡ some cl) = clause-some sh (suc k) (omega arith) l in
-      subst⁻¹ (BodyStands ss sh nodes code (bodyAt code (suc k))) (clause-body sh g (suc k) (c .0) (c .1)) (pr .clause (suc k) (c .0) (c .1) .body)
+-- A bracket stands at l: its sides, each with what is behind it, go on from the next record and from the one that is named.
+pub record Parting (sh : Sheet) (g : Goal) (code state : List ℕ) (c l : ℕ) (y z r : Body) : Type 0 where
+  pub rest : restFrom sh g code state c l ≡ also (either y z) r
+  pub left : Place sh g code state c (nextLiteral l)
+  pub left-rest : restFrom sh g code state c (nextLiteral l) ≡ joined y r
+  pub right : Place sh g code state c (otherAt code l)
+  pub right-rest : restFrom sh g code state c (otherAt code l) ≡ joined z r
 
-module _ (sh : Sheet) (g : Goal) (code state : List ℕ) (c l : ℕ) (at : Place sh g code state c l) where
-  rest-is : restFrom sh g code state c l ≡ dropBody (at .index) (bodyOf sh g (clauseIn state c))
+-- A side ends at l: the record that is named is a later one, and the same goes on from there.
+pub record Jumping (sh : Sheet) (g : Goal) (code state : List ℕ) (c l : ℕ) : Type 0 where
+  pub later : l < otherAt code l
+  pub place : Place sh g code state c (otherAt code l)
+  pub rest : restFrom sh g code state c (otherAt code l) ≡ restFrom sh g code state c l
+
+-- what stands at a place, and what goes on from there
+pub data Here (ss : List Symbol) (sh : Sheet) (g : Goal) (nodes code state : List ℕ) (c l : ℕ) : Type 0 where
+  at-end : kindAt code l ≡ endKind → restFrom sh g code state c l ≡ done → Here ss sh g nodes code state c l
+  at-literal : (x : Literal) → PlainStands ss sh nodes code l x → Place sh g code state c (nextLiteral l)
+      → restFrom sh g code state c l ≡ also x (restFrom sh g code state c (nextLiteral l)) → Here ss sh g nodes code state c l
+  at-split : (y z r : Body) → kindAt code l ≡ splitKind → Parting sh g code state c l y z r → Here ss sh g nodes code state c l
+  at-jump : kindAt code l ≡ jumpKind → Jumping sh g code state c l → Here ss sh g nodes code state c l
+
+module _ (ss : List Symbol) (sh : Sheet) (g : Goal) (nodes code state : List ℕ) (c : ℕ) where
+  abbrev start : ℕ
+  start = bodyAt code (clauseIn state c)
+
+  abbrev stop : ℕ
+  stop = bodyLength (bodyOf sh g (clauseIn state c))
+
+  -- what goes on from record i
+  abbrev from : ℕ → Body
+  from i = restFrom sh g code state c (literalFrom start i)
+
+  from-is : (i : ℕ) → from i ≡ dropBody i (bodyOf sh g (clauseIn state c))
   unfolding restFrom
-  rest-is =
-      let q : l ≡ literalFrom (bodyAt code (clauseIn state c)) (at .index) = at .is in
-      let e : (l - bodyAt code (clauseIn state c)) / literalSize ≡ at .index = omega arith in
-      ap (λ (i : ℕ). dropBody i (bodyOf sh g (clauseIn state c))) e
+  from-is i =
+      let e : (literalFrom start i - start) / literalSize ≡ i = omega arith in
+      ap (λ (k : ℕ). dropBody k (bodyOf sh g (clauseIn state c))) e
 
-  -- behind a literal is a place, and what follows it
-  module _ (x : Literal) (b : Body) (e : restFrom sh g code state c l ≡ also x b) where
-    next-drop : (suc (at .index) ≤ bodyLength (bodyOf sh g (clauseIn state c))) × (dropBody (suc (at .index)) (bodyOf sh g (clauseIn state c)) ≡ b)
-    next-drop = drop-also (at .index) (bodyOf sh g (clauseIn state c)) x b (sym rest-is ∙ e)
+  module _ (low : clauseIn state c ≤ length (sh .clauses)) where
+    place-of : (i l : ℕ) → i ≤ stop → l ≡ literalFrom start i → Place sh g code state c l
+    place-of i l q e = record { clause = low; index = i; is = e; low = q }
 
-    pub place-next : Place sh g code state c (nextLiteral l)
-    place-next =
-        let q : l ≡ literalFrom (bodyAt code (clauseIn state c)) (at .index) = at .is in
-        record { clause = at .clause; index = suc (at .index); is = (let z : nextLiteral l ≡ bodyAt code (clauseIn state c) + suc (at .index) * literalSize = omega arith in z); low = next-drop .0 }
+    from-item : (i : ℕ) → Item ss sh nodes code start stop from i → Here ss sh g nodes code state c (literalFrom start i)
+    from-item i (the-end k e) = at-end k e
+    from-item i (a-literal x s q e) =
+        let next : nextLiteral (literalFrom start i) ≡ literalFrom start (suc i) = omega arith in
+        at-literal x s (place-of (suc i) (nextLiteral (literalFrom start i)) q next) (e ∙ ap (λ (y : ℕ). also x (restFrom sh g code state c y)) (sym next))
+    from-item i (a-split y z r m n q p e left right) =
+        let next : nextLiteral (literalFrom start i) ≡ literalFrom start (suc i) = omega arith in
+        at-split y z r (n .0)
+        (record {
+          rest = e;
+          left = place-of (suc i) (nextLiteral (literalFrom start i)) q next;
+          left-rest = ap (restFrom sh g code state c) next ∙ left;
+          right = place-of m (otherAt code (literalFrom start i)) p (n .1);
+          right-rest = ap (restFrom sh g code state c) (n .1) ∙ right;
+        })
+    from-item i (a-jump m n q p e) =
+        let other : otherAt code (literalFrom start i) ≡ literalFrom start m = n .1 in
+        at-jump (n .0)
+        (record {
+          later = (let y : literalFrom start i < otherAt code (literalFrom start i) = omega (arith, q) in y);
+          place = place-of m (otherAt code (literalFrom start i)) p other;
+          rest = ap (restFrom sh g code state c) other ∙ e;
+        })
 
-    pub rest-next : restFrom sh g code state c (nextLiteral l) ≡ b
-    unfolding restFrom
-    rest-next =
-        let q : l ≡ literalFrom (bodyAt code (clauseIn state c)) (at .index) = at .is in
-        let z : ((nextLiteral l) - bodyAt code (clauseIn state c)) / literalSize ≡ suc (at .index) = omega arith in
-        ap (λ (i : ℕ). dropBody i (bodyOf sh g (clauseIn state c))) z ∙ next-drop .1
+-- what stands at a literal's first record, and at the first of a body or its end
+abbrev pub FirstStands : List Symbol → Sheet → List ℕ → List ℕ → ℕ → Literal → Type 0
+FirstStands ss sh nodes code l (call a) = PlainStands ss sh nodes code l (call a)
+FirstStands ss sh nodes code l (equation t u) = PlainStands ss sh nodes code l (equation t u)
+FirstStands ss sh nodes code l truth = PlainStands ss sh nodes code l truth
+FirstStands ss sh nodes code l falsity = PlainStands ss sh nodes code l falsity
+FirstStands ss sh nodes code l (either y z) = kindAt code l ≡ splitKind
 
--- What is left of a copy's body from a place on stands there in the table.
-pub place-stands : (ss : List Symbol) (sh : Sheet) (g : Goal) (nodes code state : List ℕ) (c l : ℕ) → Program ss sh g nodes code → Place sh g code state c l → BodyStands ss sh nodes code l (restFrom sh g code state c l)
-place-stands ss sh g nodes code state c l pr at =
-    subst⁻¹ (BodyStands ss sh nodes code l) (rest-is sh g code state c l at)
-    (subst⁻¹ (λ (y : ℕ). BodyStands ss sh nodes code y (dropBody (at .index) (bodyOf sh g (clauseIn state c)))) (at .is)
-    (stand-from ss sh nodes code (at .index) (bodyAt code (clauseIn state c)) (bodyOf sh g (clauseIn state c)) (body-stands ss sh nodes code g (clauseIn state c) pr (at .clause)) (at .low)))
+abbrev pub HeadStands : List Symbol → Sheet → List ℕ → List ℕ → ℕ → Body → Type 0
+HeadStands ss sh nodes code l done = kindAt code l ≡ endKind
+HeadStands ss sh nodes code l (also x b) = FirstStands ss sh nodes code l x
 
--- ---- what a literal's kind tells
+plain-first : (ss : List Symbol) (sh : Sheet) (nodes code : List ℕ) (l : ℕ) (x : Literal) → PlainStands ss sh nodes code l x → FirstStands ss sh nodes code l x
+plain-first ss sh nodes code l (call a) s = s
+plain-first ss sh nodes code l (equation t u) s = s
+plain-first ss sh nodes code l truth s = s
+plain-first ss sh nodes code l falsity s = s
+plain-first ss sh nodes code l (either y z) s = absurd s
+
+plain-low : (ss : List Symbol) (sh : Sheet) (nodes code : List ℕ) (l : ℕ) (x : Literal) → PlainStands ss sh nodes code l x → kindAt code l < endKind
+plain-low ss sh nodes code l (call a) s = omega (arith, s .0)
+plain-low ss sh nodes code l (equation t u) s = omega (arith, s .0)
+plain-low ss sh nodes code l truth s = omega (arith, s)
+plain-low ss sh nodes code l falsity s = omega (arith, s)
+plain-low ss sh nodes code l (either y z) s = absurd s
+
+side-long : {x : Literal} {y z : Body} → either y z ≡ x → literalLength x ≡ 1 → ⊥
+unfolding literalLength
+side-long {x} {y} {z} e one = let two : literalLength (either y z) ≡ 1 = ap literalLength e ∙ one in omega (arith, two)
+
+module _ {ss : List Symbol} {sh : Sheet} {g : Goal} {nodes code state : List ℕ} {c l : ℕ} where
+  jump-by : kindAt code l ≡ jumpKind → Here ss sh g nodes code state c l → Jumping sh g code state c l
+  jump-by k (at-end e r) = absurd (omega (arith, k, e))
+  jump-by k (at-literal x s p r) = absurd (omega (arith, k, plain-low ss sh nodes code l x s))
+  jump-by k (at-split y z r e p) = absurd (omega (arith, k, e))
+  jump-by k (at-jump e j) = j
+
+  split-by : kindAt code l ≡ splitKind → Here ss sh g nodes code state c l → (y : Body) × (z : Body) × (r : Body) × Parting sh g code state c l y z r
+  split-by k (at-end e r) = absurd (omega (arith, k, e))
+  split-by k (at-literal x s p r) = absurd (omega (arith, k, plain-low ss sh nodes code l x s))
+  split-by k (at-split y z r e p) = (y, z, r, p)
+  split-by k (at-jump e j) = absurd (omega (arith, k, e))
+
+  head-by : NoJump code l → Here ss sh g nodes code state c l → HeadStands ss sh nodes code l (restFrom sh g code state c l)
+  head-by stays (at-end k e) = subst⁻¹ (HeadStands ss sh nodes code l) e k
+  head-by stays (at-literal x s p e) = subst⁻¹ (HeadStands ss sh nodes code l) e (plain-first ss sh nodes code l x s)
+  head-by stays (at-split y z r k p) = subst⁻¹ (HeadStands ss sh nodes code l) (p .rest) k
+  head-by stays (at-jump k j) = absurd (stays k)
+
+  next-by : NoJump code l → {x : Literal} {b : Body} → literalLength x ≡ 1 → restFrom sh g code state c l ≡ also x b → Here ss sh g nodes code state c l
+      → Place sh g code state c (nextLiteral l) × (restFrom sh g code state c (nextLiteral l) ≡ b)
+  next-by stays {x} {b} one e (at-end k r) = absurd (body-clash x b (sym r ∙ e))
+  next-by stays {x} {b} one e (at-literal y s p r) = (p, also-rest (sym r ∙ e))
+  next-by stays {x} {b} one e (at-split y z r k p) = absurd (side-long (also-first (sym (p .rest) ∙ e)) one)
+  next-by stays {x} {b} one e (at-jump k j) = absurd (stays k)
+
+module _ {ss : List Symbol} {sh : Sheet} {g : Goal} {nodes code state : List ℕ} {c l : ℕ} (program : Program ss sh g nodes code) (at : Place sh g code state c l) where
+  place-body : BodyStands ss sh nodes code (bodyAt code (clauseIn state c)) (bodyOf sh g (clauseIn state c))
+  place-body = body-stands ss sh nodes code g (clauseIn state c) program (at .clause)
+
+  pub place-here : Here ss sh g nodes code state c l
+  place-here =
+      subst⁻¹ (Here ss sh g nodes code state c) (at .is)
+      (from-item ss sh g nodes code state c (at .clause) (at .index)
+      (item-at ss sh nodes code (bodyAt code (clauseIn state c)) (bodyOf sh g (clauseIn state c)) (from ss sh g nodes code state c) place-body (from-is ss sh g nodes code state c) (at .index) (at .low)))
+
+  pub place-room : l + literalSize ≤ length code
+  place-room =
+      let e : l ≡ literalFrom (bodyAt code (clauseIn state c)) (at .index) = at .is in
+      let low : at .index ≤ bodyLength (bodyOf sh g (clauseIn state c)) = at .low in
+      let room : literalFrom (bodyAt code (clauseIn state c)) (bodyLength (bodyOf sh g (clauseIn state c)) + 1) ≤ length code = place-body .room in
+      omega arith
+
+  pub place-jump : kindAt code l ≡ jumpKind → Jumping sh g code state c l
+  place-jump k = jump-by k place-here
+
+  pub place-split : kindAt code l ≡ splitKind → (y : Body) × (z : Body) × (r : Body) × Parting sh g code state c l y z r
+  place-split k = split-by k place-here
+
+  module _ (stays : NoJump code l) where
+    -- what is left of a copy's body from a place on begins with what stands there
+    pub place-stands : HeadStands ss sh nodes code l (restFrom sh g code state c l)
+    place-stands = head-by stays place-here
+
+    -- behind a literal that is no bracket is a place, and what follows it
+    module _ {x : Literal} {b : Body} (one : literalLength x ≡ 1) (e : restFrom sh g code state c l ≡ also x b) where
+      pub place-next : Place sh g code state c (nextLiteral l)
+      place-next = next-by stays one e place-here .0
+
+      pub rest-next : restFrom sh g code state c (nextLiteral l) ≡ b
+      rest-next = next-by stays one e place-here .1
+
+-- ---- what a record's kind tells
 
 module _ (ss : List Symbol) (sh : Sheet) (nodes code : List ℕ) (l : ℕ) where
-  pub kind-room : (b : Body) → BodyStands ss sh nodes code l b → l + literalSize ≤ length code
-  kind-room done h = h .0
-  kind-room (also x b) h = h .0
+  pub kind-small : (b : Body) → HeadStands ss sh nodes code l b → kindAt code l ≤ splitKind
+  kind-small done h = omega (arith, h)
+  kind-small (also (call a) b) h = omega (arith, h .0)
+  kind-small (also (equation t u) b) h = omega (arith, h .0)
+  kind-small (also truth b) h = omega (arith, h)
+  kind-small (also falsity b) h = omega (arith, h)
+  kind-small (also (either y z) b) h = omega (arith, h)
 
-  pub kind-small : (b : Body) → BodyStands ss sh nodes code l b → kindAt code l ≤ endKind
-  kind-small done h = let e : kindAt code l ≡ endKind = h .1 in omega arith
-  kind-small (also (call a) b) h = let e : kindAt code l ≡ callKind = h .1 .0 in omega arith
-  kind-small (also (equation t u) b) h = let e : kindAt code l ≡ equationKind = h .1 .0 in omega arith
-  kind-small (also truth b) h = let e : kindAt code l ≡ truthKind = h .1 in omega arith
-  kind-small (also falsity b) h = let e : kindAt code l ≡ falsityKind = h .1 in omega arith
-
-  pub kind-done : (b : Body) → BodyStands ss sh nodes code l b → kindAt code l ≡ endKind → b ≡ done
+  pub kind-done : (b : Body) → HeadStands ss sh nodes code l b → kindAt code l ≡ endKind → b ≡ done
   kind-done done h k = refl
-  kind-done (also (call a) b) h k = absurd (let e : kindAt code l ≡ callKind = h .1 .0 in omega arith)
-  kind-done (also (equation t u) b) h k = absurd (let e : kindAt code l ≡ equationKind = h .1 .0 in omega arith)
-  kind-done (also truth b) h k = absurd (let e : kindAt code l ≡ truthKind = h .1 in omega arith)
-  kind-done (also falsity b) h k = absurd (let e : kindAt code l ≡ falsityKind = h .1 in omega arith)
+  kind-done (also (call a) b) h k = absurd (omega (arith, h .0, k))
+  kind-done (also (equation t u) b) h k = absurd (omega (arith, h .0, k))
+  kind-done (also truth b) h k = absurd (omega (arith, h, k))
+  kind-done (also falsity b) h k = absurd (omega (arith, h, k))
+  kind-done (also (either y z) b) h k = absurd (omega (arith, h, k))
 
-  pub kind-truth : (b : Body) → BodyStands ss sh nodes code l b → kindAt code l ≡ truthKind → (r : Body) × (b ≡ also truth r)
-  kind-truth done h k = absurd (let e : kindAt code l ≡ endKind = h .1 in omega arith)
-  kind-truth (also (call a) b) h k = absurd (let e : kindAt code l ≡ callKind = h .1 .0 in omega arith)
-  kind-truth (also (equation t u) b) h k = absurd (let e : kindAt code l ≡ equationKind = h .1 .0 in omega arith)
+  pub kind-truth : (b : Body) → HeadStands ss sh nodes code l b → kindAt code l ≡ truthKind → (r : Body) × (b ≡ also truth r)
+  kind-truth done h k = absurd (omega (arith, h, k))
+  kind-truth (also (call a) b) h k = absurd (omega (arith, h .0, k))
+  kind-truth (also (equation t u) b) h k = absurd (omega (arith, h .0, k))
   kind-truth (also truth b) h k = (b, refl)
-  kind-truth (also falsity b) h k = absurd (let e : kindAt code l ≡ falsityKind = h .1 in omega arith)
+  kind-truth (also falsity b) h k = absurd (omega (arith, h, k))
+  kind-truth (also (either y z) b) h k = absurd (omega (arith, h, k))
 
-  pub kind-falsity : (b : Body) → BodyStands ss sh nodes code l b → kindAt code l ≡ falsityKind → (r : Body) × (b ≡ also falsity r)
-  kind-falsity done h k = absurd (let e : kindAt code l ≡ endKind = h .1 in omega arith)
-  kind-falsity (also (call a) b) h k = absurd (let e : kindAt code l ≡ callKind = h .1 .0 in omega arith)
-  kind-falsity (also (equation t u) b) h k = absurd (let e : kindAt code l ≡ equationKind = h .1 .0 in omega arith)
-  kind-falsity (also truth b) h k = absurd (let e : kindAt code l ≡ truthKind = h .1 in omega arith)
+  pub kind-falsity : (b : Body) → HeadStands ss sh nodes code l b → kindAt code l ≡ falsityKind → (r : Body) × (b ≡ also falsity r)
+  kind-falsity done h k = absurd (omega (arith, h, k))
+  kind-falsity (also (call a) b) h k = absurd (omega (arith, h .0, k))
+  kind-falsity (also (equation t u) b) h k = absurd (omega (arith, h .0, k))
+  kind-falsity (also truth b) h k = absurd (omega (arith, h, k))
   kind-falsity (also falsity b) h k = (b, refl)
+  kind-falsity (also (either y z) b) h k = absurd (omega (arith, h, k))
 
   -- a call: its atom stands at its place, and its other word is the topmost clause
-  pub kind-call : (b : Body) → BodyStands ss sh nodes code l b → kindAt code l ≡ callKind → (a : Atom) × (r : Body) × (b ≡ also (call a) r) × Stands ss nodes (placeAt code l) (termOf a) × (otherAt code l ≡ nextFor sh a 0)
-  kind-call done h k = absurd (let e : kindAt code l ≡ endKind = h .1 in omega arith)
-  kind-call (also (call a) b) h k = (a, b, refl, h .1 .1, h .1 .2)
-  kind-call (also (equation t u) b) h k = absurd (let e : kindAt code l ≡ equationKind = h .1 .0 in omega arith)
-  kind-call (also truth b) h k = absurd (let e : kindAt code l ≡ truthKind = h .1 in omega arith)
-  kind-call (also falsity b) h k = absurd (let e : kindAt code l ≡ falsityKind = h .1 in omega arith)
+  pub kind-call : (b : Body) → HeadStands ss sh nodes code l b → kindAt code l ≡ callKind → (a : Atom) × (r : Body) × (b ≡ also (call a) r) × Stands ss nodes (placeAt code l) (termOf a) × (otherAt code l ≡ nextFor sh a 0)
+  kind-call done h k = absurd (omega (arith, h, k))
+  kind-call (also (call a) b) h k = (a, b, refl, h .1, h .2)
+  kind-call (also (equation t u) b) h k = absurd (omega (arith, h .0, k))
+  kind-call (also truth b) h k = absurd (omega (arith, h, k))
+  kind-call (also falsity b) h k = absurd (omega (arith, h, k))
+  kind-call (also (either y z) b) h k = absurd (omega (arith, h, k))
 
-  pub kind-equation : (b : Body) → BodyStands ss sh nodes code l b → kindAt code l ≡ equationKind → (t : Term) × (u : Term) × (r : Body) × (b ≡ also (equation t u) r) × Stands ss nodes (placeAt code l) t × Stands ss nodes (otherAt code l) u
-  kind-equation done h k = absurd (let e : kindAt code l ≡ endKind = h .1 in omega arith)
-  kind-equation (also (call a) b) h k = absurd (let e : kindAt code l ≡ callKind = h .1 .0 in omega arith)
-  kind-equation (also (equation t u) b) h k = (t, u, b, refl, h .1 .1, h .1 .2)
-  kind-equation (also truth b) h k = absurd (let e : kindAt code l ≡ truthKind = h .1 in omega arith)
-  kind-equation (also falsity b) h k = absurd (let e : kindAt code l ≡ falsityKind = h .1 in omega arith)
+  pub kind-equation : (b : Body) → HeadStands ss sh nodes code l b → kindAt code l ≡ equationKind → (t : Term) × (u : Term) × (r : Body) × (b ≡ also (equation t u) r) × Stands ss nodes (placeAt code l) t × Stands ss nodes (otherAt code l) u
+  kind-equation done h k = absurd (omega (arith, h, k))
+  kind-equation (also (call a) b) h k = absurd (omega (arith, h .0, k))
+  kind-equation (also (equation t u) b) h k = (t, u, b, refl, h .1, h .2)
+  kind-equation (also truth b) h k = absurd (omega (arith, h, k))
+  kind-equation (also falsity b) h k = absurd (omega (arith, h, k))
+  kind-equation (also (either y z) b) h k = absurd (omega (arith, h, k))
 
 -- ---- what is left behind a copy
 
@@ -206,26 +323,31 @@ pub record Climbed (sh : Sheet) (g : Goal) (code state : List ℕ) (k c l : ℕ)
   pub place : Place sh g code state (callerOf state (suc c)) (nextLiteral (callOf state (suc c)))
   pub below : callerOf state (suc c) < suc c
 
-pub frame-next : (sh : Sheet) (g : Goal) (code state : List ℕ) (k : ℕ) → Frame sh g code state k → Place sh g code state (callerOf state k) (nextLiteral (callOf state k))
-frame-next sh g code state k f =
-    let r : (r : Body) × (restFrom sh g code state (callerOf state k) (callOf state k) ≡ also (call (f .atom)) r) = calls-also (restFrom sh g code state (callerOf state k) (callOf state k)) (f .atom) (f .calls) in
-    place-next sh g code state (callerOf state k) (callOf state k) (f .place) (call (f .atom)) (r .0) (r .1)
+one-call : (a : Atom) → literalLength (call a) ≡ 1
+unfolding literalLength
+one-call a = refl
 
-pub climb : (sh : Sheet) (g : Goal) (code state : List ℕ) (k c l : ℕ) → ((i : ℕ) → i < k → Frame sh g code state (suc i)) → suc c ≤ k → restFrom sh g code state (suc c) l ≡ done → Climbed sh g code state k c l
-unfolding leftFrom pending
-climb sh g code state k c l frames low e =
-    let f : Frame sh g code state (suc c) = frames c (omega arith) in
-    let b : callerOf state (suc c) < suc c = f .below in
-    let up : leftBehind sh g code state c (callerOf state (suc c)) ≡ leftBehind sh g code state k (callerOf state (suc c)) =
-    left-same-top sh g code state c (callerOf state (suc c)) (omega arith) ∙ sym (left-same-top sh g code state k (callerOf state (suc c)) (omega arith)) in
-    record {
-      left = ap (λ (y : Body). pending (suc c) y (leftBehind sh g code state k (suc c))) e
-          ∙ (left-same-top sh g code state k (suc c) low
-          ∙ (left-here sh g code state c
-          ∙ ap (pending (callerOf state (suc c)) (restFrom sh g code state (callerOf state (suc c)) (nextLiteral (callOf state (suc c))))) up));
-      place = frame-next sh g code state (suc c) f;
-      below = b;
-    }
+module _ {ss : List Symbol} {sh : Sheet} {g : Goal} {nodes code : List ℕ} (program : Program ss sh g nodes code) (state : List ℕ) where
+  pub frame-next : (k : ℕ) → Frame sh g code state k → Place sh g code state (callerOf state k) (nextLiteral (callOf state k))
+  frame-next k f =
+      let r : (r : Body) × (restFrom sh g code state (callerOf state k) (callOf state k) ≡ also (call (f .atom)) r) = calls-also (restFrom sh g code state (callerOf state k) (callOf state k)) (f .atom) (f .calls) in
+      place-next program (f .place) (f .stays) (one-call (f .atom)) (r .1)
+
+  pub climb : (k c l : ℕ) → ((i : ℕ) → i < k → Frame sh g code state (suc i)) → suc c ≤ k → restFrom sh g code state (suc c) l ≡ done → Climbed sh g code state k c l
+  unfolding leftFrom pending
+  climb k c l frames low e =
+      let f : Frame sh g code state (suc c) = frames c (omega arith) in
+      let b : callerOf state (suc c) < suc c = f .below in
+      let up : leftBehind sh g code state c (callerOf state (suc c)) ≡ leftBehind sh g code state k (callerOf state (suc c)) =
+      left-same-top sh g code state c (callerOf state (suc c)) (omega arith) ∙ sym (left-same-top sh g code state k (callerOf state (suc c)) (omega arith)) in
+      record {
+        left = ap (λ (y : Body). pending (suc c) y (leftBehind sh g code state k (suc c))) e
+            ∙ (left-same-top sh g code state k (suc c) low
+            ∙ (left-here sh g code state c
+            ∙ ap (pending (callerOf state (suc c)) (restFrom sh g code state (callerOf state (suc c)) (nextLiteral (callOf state (suc c))))) up));
+        place = frame-next (suc c) f;
+        below = b;
+      }
 
 -- ---- words that are as they were
 
@@ -281,6 +403,7 @@ module _ (sh : Sheet) (g : Goal) (code before after : List ℕ) (k : ℕ) (same 
         clause = subst⁻¹ (λ (m : ℕ). m ≤ length (sh .clauses)) (same-clause before after k same (suc c) q) (f .clause);
         below = (let z : callerOf after (suc c) < suc c = omega arith in z);
         place = subst⁻¹ (λ (y : ℕ). Place sh g code after y (callOf after (suc c))) e (subst⁻¹ (Place sh g code after (callerOf before (suc c))) d (same-place (callerOf before (suc c)) (callOf before (suc c)) low (f .place)));
+        stays = subst⁻¹ (NoJump code) d (f .stays);
         atom = f .atom;
         calls = subst⁻¹ (λ (y : Body). Calls y (f .atom)) (ap₂ (restFrom sh g code after) e d ∙ same-rest (callerOf before (suc c)) (callOf before (suc c)) low) (f .calls);
       }
@@ -367,19 +490,18 @@ module _ (ss : List Symbol) (sh : Sheet) (g : Goal) (nodes code before after : L
       let x : nextAt after j ≡ nextAt before j = same-nextAt before after h k n same j low in
       let cp : copyAt before j ≤ pathAt before j = s .copy in
       let pl : pathAt before j ≤ longestPath = s .low in
-      let ph : j ≤ pathAt before j = s .high in
       let cl : copyAt before j ≤ k = omega arith in
       let r : restFrom sh g code after (copyAt after j) (literalAt after j) ≡ restFrom sh g code before (copyAt before j) (literalAt before j) =
       ap₂ (restFrom sh g code after) c l ∙ same-rest sh g code before after k (same .frame) (copyAt before j) (literalAt before j) cl in
       let ag : Agrees (markAt before j) before after = agrees-less (markAt before j) n before after mark (same .agree) in
       record {
         low = (let z : pathAt after j ≤ longestPath = omega arith in z);
-        high = (let z : j ≤ pathAt after j = omega arith in z);
         copy = (let z : copyAt after j ≤ pathAt after j = omega arith in z);
         mark = (let z : markAt after j ≤ n1 = omega arith in z);
         within = subst⁻¹ (λ (y : ℕ). Within y after (markAt after j)) p (subst⁻¹ (Within (pathAt before j) after) m (within-agrees (pathAt before j) (markAt before j) (markAt before j) before after (omega arith) ag (s .within)));
         frame = λ i z. same-frame sh g code before after k (same .frame) i (omega arith) (s .frame i (let y : i < pathAt after j = z in omega arith));
         place = subst⁻¹ (λ (y : ℕ). Place sh g code after y (literalAt after j)) c (subst⁻¹ (Place sh g code after (copyAt before j)) l (same-place sh g code before after k (same .frame) (copyAt before j) (literalAt before j) cl (s .place)));
+        stays = subst⁻¹ (NoJump code) l (s .stays);
         ends = λ e. c ∙ s .ends (sym r ∙ e);
         next = λ a w. subst⁻¹ (NextFor sh a) x (s .next a (subst (λ (y : Body). Calls y a) r w));
       }
@@ -406,10 +528,10 @@ body-place sh g code state c m e l =
     }
 
 body-rest : (sh : Sheet) (g : Goal) (code state : List ℕ) (c m : ℕ) → clauseIn state c ≡ m → restFrom sh g code state c (bodyAt code m) ≡ bodyOf sh g m
-unfolding restFrom dropBody
+unfolding restFrom
 body-rest sh g code state c m e =
     let z : (bodyAt code m - bodyAt code m) / literalSize ≡ 0 = omega arith in
-    ap (λ (y : ℕ). dropBody ((bodyAt code m - bodyAt code y) / literalSize) (bodyOf sh g y)) e ∙ ap (λ (i : ℕ). dropBody i (bodyOf sh g m)) z
+    ap (λ (y : ℕ). dropBody ((bodyAt code m - bodyAt code y) / literalSize) (bodyOf sh g y)) e ∙ (ap (λ (i : ℕ). dropBody i (bodyOf sh g m)) z ∙ drop-none (bodyOf sh g m))
 
 pub entered-place : (sh : Sheet) (g : Goal) (code state : List ℕ) (k m : ℕ) (cl : Clause) → clauseAt sh m ≡ some cl → clauseIn state (suc k) ≡ m → Place sh g code state (suc k) (bodyAt code m)
 entered-place sh g code state k m cl q e = body-place sh g code state (suc k) m e (clause-low sh m cl q)
@@ -424,6 +546,10 @@ goal-place sh g code state = body-place sh g code state 0 0 refl (omega arith)
 pub goal-rest : (sh : Sheet) (g : Goal) (code state : List ℕ) → restFrom sh g code state 0 (bodyAt code 0) ≡ g .body
 unfolding clauseIn bodyOf
 goal-rest sh g code state = body-rest sh g code state 0 0 refl
+
+-- a body's first record ends no side
+pub body-stays : {ss : List Symbol} {sh : Sheet} {g : Goal} {nodes code : List ℕ} → Program ss sh g nodes code → (m : ℕ) → m ≤ length (sh .clauses) → NoJump code (bodyAt code m)
+body-stays {ss} {sh} {g} {nodes} {code} program m l = body-first ss sh nodes code (bodyAt code m) (bodyOf sh g m) (body-stands ss sh nodes code g m program l)
 
 -- ---- next clauses
 
@@ -472,14 +598,31 @@ next-head sh a cl k h =
 
 -- ---- the height of a pile
 
-module _ (ss : List Symbol) (sh : Sheet) (g : Goal) (nodes code state : List ℕ) (h n : ℕ) (piled : Piled ss sh g nodes code state h n) where
-  pub path-high : (j : ℕ) → j < h → j ≤ pathAt state j
-  path-high j l = piled .each j l .high
+-- as many calls as copies made
+pub calls-count : (sh : Sheet) (g : Goal) (code state : List ℕ) (k : ℕ) → length (callsUpTo sh g code state k) ≡ k
+unfolding callsUpTo
+calls-count sh g code state zero = refl
+calls-count sh g code state (suc k) = ap suc (calls-count sh g code state k)
 
-pub height : (ss : List Symbol) (sh : Sheet) (g : Goal) (nodes code state : List ℕ) (h n : ℕ) → Piled ss sh g nodes code state h n → h ≤ mostAlternatives
-height ss sh g nodes code state zero n piled = omega arith
-height ss sh g nodes code state (suc h) n piled =
-    let a : h ≤ pathAt state h = path-high ss sh g nodes code state (suc h) n piled h (omega arith) in
+module _ (ss : List Symbol) (sh : Sheet) (g : Goal) (nodes code state : List ℕ) where
+  pub pile-count : (h : ℕ) → length (pileOf ss sh g nodes code state h) ≡ h
+  unfolding pileOf
+  pile-count zero = refl
+  pile-count (suc h) = ap suc (pile-count h)
+
+  -- the height over the top's path
+  pub path-high : (h : ℕ) → Low (pileOf ss sh g nodes code state (suc h)) → suc h ≤ literals * (pathAt state h + 1)
+  unfolding pileOf alternativeAt
+  path-high h low =
+      let a : suc (length (pileOf ss sh g nodes code state h)) ≤ literals * suc (path (alternativeAt ss sh g nodes code state h)) = low .0 .height in
+      let b : length (pileOf ss sh g nodes code state h) ≡ h = pile-count h in
+      let d : path (alternativeAt ss sh g nodes code state h) ≡ pathAt state h = calls-count sh g code state (pathAt state h) in
+      omega arith
+
+pub height : (ss : List Symbol) (sh : Sheet) (g : Goal) (nodes code state : List ℕ) (h n : ℕ) → Piled ss sh g nodes code state h n → Low (pileOf ss sh g nodes code state h) → h ≤ mostAlternatives
+height ss sh g nodes code state zero n piled low = omega arith
+height ss sh g nodes code state (suc h) n piled low =
+    let a : suc h ≤ literals * (pathAt state h + 1) = path-high ss sh g nodes code state h low in
     let b : pathAt state h ≤ longestPath = piled .each h (omega arith) .low in
     omega arith
 
@@ -523,6 +666,7 @@ pub record Framed (k m c l : ℕ) (before after : List ℕ) : Type 0 where
 -- an alternative can stand at l of copy c, with x for its next clause
 pub record Stand (sh : Sheet) (g : Goal) (code state : List ℕ) (c l x : ℕ) : Type 0 where
   pub place : Place sh g code state c l
+  pub stays : NoJump code l
   pub ends : restFrom sh g code state c l ≡ done → c ≡ 0
   pub next : (a : Atom) → Calls (restFrom sh g code state c l) a → NextFor sh a x
 
@@ -571,7 +715,7 @@ undone ss sh g nodes code state after h n m p e k store =
 
 -- an alternative is written on top of h others
 module _ (ss : List Symbol) (sh : Sheet) (g : Goal) (nodes code before after : List ℕ) (h n m p c l x : ℕ)
-    (piled : Piled ss sh g nodes code before h n) (mark-low : m ≤ n) (path-low : p ≤ longestPath) (enough : h ≤ p) (copy-low : c ≤ p)
+    (piled : Piled ss sh g nodes code before h n) (mark-low : m ≤ n) (path-low : p ≤ longestPath) (copy-low : c ≤ p)
     (paths : (j : ℕ) → j < h → pathAt before j ≤ p) (marks : (j : ℕ) → j < h → markAt before j ≤ m)
     (within : Within p before m) (frames : (i : ℕ) → i < p → Frame sh g code before (suc i)) (stand : Stand sh g code before c l x) (w : Written h c l x m p before after) where
   same-words : SameStore before after
@@ -595,12 +739,12 @@ module _ (ss : List Symbol) (sh : Sheet) (g : Goal) (nodes code before after : L
       let em : markAt after h ≡ m = w .mark in
       record {
         low = (let y : pathAt after h ≤ longestPath = omega arith in y);
-        high = (let y : h ≤ pathAt after h = omega arith in y);
         copy = (let y : copyAt after h ≤ pathAt after h = omega arith in y);
         mark = (let y : markAt after h ≤ n = omega arith in y);
         within = subst⁻¹ (λ (y : ℕ). Within y after (markAt after h)) ep (subst⁻¹ (Within p after) em (within-agrees p m m before after (omega arith) (agrees-less m n before after mark-low (same-below .agree)) within));
         frame = λ i q. (let y : i < pathAt after h = q in same-frame sh g code before after longestPath (same-below .frame) i (omega arith) (frames i (omega arith)));
         place = subst⁻¹ (λ (y : ℕ). Place sh g code after y (literalAt after h)) ec (subst⁻¹ (Place sh g code after c) (w .literal) (same-place sh g code before after longestPath (same-below .frame) c l (omega arith) (stand .place)));
+        stays = subst⁻¹ (NoJump code) (w .literal) (stand .stays);
         ends = λ e. ec ∙ stand .ends (sym rest-after ∙ e);
         next = λ a q. subst⁻¹ (NextFor sh a) (w .next) (stand .next a (subst (λ (y : Body). Calls y a) rest-after q));
       }
@@ -680,7 +824,7 @@ replaced ss sh g nodes code state state1 state2 h n n1 p c l x piled em ep keeps
     carried ss sh g nodes code state state1 h longestPath n n n1 (popped ss sh g nodes code state h n piled) (keeps-same h longestPath n state state1 keeps) (λ j q. piled .each j (omega arith) .low) (λ j q. piled .each j (omega arith) .mark) more store (keeps .long) in
     let path-low : pathAt state h ≤ longestPath = piled .each h (omega arith) .low in
     let all : Means ss sh g nodes code state2 (suc h) n1 (record { literals = leftFrom sh g code state1 p c l; bindings = bindings ss nodes state1 n1; next = x; calls = callsUpTo sh g code state1 p } ∷ pileOf ss sh g nodes code state1 h) =
-    topped ss sh g nodes code state1 state2 h n1 n1 p c l x (lower .piled) (omega arith) (omega arith) (let a : h ≤ pathAt state h = piled .each h (omega arith) .high in omega arith) low
+    topped ss sh g nodes code state1 state2 h n1 n1 p c l x (lower .piled) (omega arith) (omega arith) low
     (λ j q. let a : pathAt state1 j ≡ pathAt state j = keeps .others (alternativeOf j + 4) (omega arith) in let b : pathAt state j ≤ pathAt state h = piled .longer j h q (omega arith) in let y : pathAt state1 j ≤ p = omega arith in y)
     (λ j q. lower .piled .each j q .mark) within (λ i q. kept-frames ss sh g nodes code state state1 h n n piled keeps i (omega arith)) stand w in
     let calls : callsUpTo sh g code state1 p ≡ callsUpTo sh g code state p = subst (λ (y : ℕ). callsUpTo sh g code state1 y ≡ callsUpTo sh g code state y) ep (kept-calls ss sh g nodes code state state1 h n n piled keeps) in
@@ -696,8 +840,8 @@ pub moved : (ss : List Symbol) (sh : Sheet) (g : Goal) (nodes code state after :
     → Means ss sh g nodes code after (suc h) n (record { literals = leftFrom sh g code state (pathAt state h) (copyAt state h) (literalAt state h); bindings = bindings ss nodes state (markAt state h); next = x; calls = callsUpTo sh g code state (pathAt state h) } ∷ pileOf ss sh g nodes code state h)
 moved ss sh g nodes code state after h n x piled next w =
     let top : Stacked sh g code state n h = piled .each h (omega arith) in
-    topped ss sh g nodes code state after h n (markAt state h) (pathAt state h) (copyAt state h) (literalAt state h) x (popped ss sh g nodes code state h n piled) (top .mark) (top .low) (top .high) (top .copy)
-    (λ j q. piled .longer j h q (omega arith)) (λ j q. piled .later j h q (omega arith)) (top .within) (top .frame) (record { place = top .place; ends = top .ends; next = next }) w
+    topped ss sh g nodes code state after h n (markAt state h) (pathAt state h) (copyAt state h) (literalAt state h) x (popped ss sh g nodes code state h n piled) (top .mark) (top .low) (top .copy)
+    (λ j q. piled .longer j h q (omega arith)) (λ j q. piled .later j h q (omega arith)) (top .within) (top .frame) (record { place = top .place; stays = top .stays; ends = top .ends; next = next }) w
 
 -- ---- a clause's body is laid on top
 
@@ -769,6 +913,7 @@ module _ (ss : List Symbol) (sh : Sheet) (g : Goal) (nodes code state state1 sta
         clause = subst⁻¹ (λ (y : ℕ). y ≤ length (sh .clauses)) new-clause (clause-low sh m cl (t .clause));
         below = (let y : callerOf state2 (suc (pathAt state h)) < suc (pathAt state h) = omega arith in y);
         place = subst⁻¹ (λ (y : ℕ). Place sh g code state2 y (callOf state2 (suc (pathAt state h)))) new-caller (subst⁻¹ (Place sh g code state2 (copyAt state h)) new-call (same-place sh g code state state2 (pathAt state h) frames-both (copyAt state h) (literalAt state h) c (top-of .place)));
+        stays = subst⁻¹ (NoJump code) new-call (top-of .stays);
         atom = a;
         calls = subst⁻¹ (λ (y : Body). Calls y a) new-rest (t .calls);
       }
@@ -815,7 +960,7 @@ module _ (ss : List Symbol) (sh : Sheet) (g : Goal) (nodes code state state1 sta
   pushed state3 c l x low stand w =
       let agree : Agrees n1 state1 state2 = same-agrees ss nodes state1 state2 n1 (t .store) pushed-store in
       let all : Means ss sh g nodes code state3 (suc (suc h)) n1 (record { literals = leftFrom sh g code state2 p c l; bindings = bindings ss nodes state2 n1; next = x; calls = callsUpTo sh g code state2 p } ∷ pileOf ss sh g nodes code state2 (suc h)) =
-      topped ss sh g nodes code state2 state3 (suc h) n1 n1 p c l x (pushed-below .piled) (omega arith) (t .low) (let a : h ≤ pathAt state h = t .piled .each h (omega arith) .high in let r : p ≡ pathAt state h + 1 = t .path in omega arith) low paths (λ j q. pushed-below .piled .each j q .mark)
+      topped ss sh g nodes code state2 state3 (suc h) n1 n1 p c l x (pushed-below .piled) (omega arith) (t .low) low paths (λ j q. pushed-below .piled .each j q .mark)
       (within-agrees p n1 n1 state1 state2 (omega arith) agree (t .within)) pushed-frames stand w in
       let binds : bindings ss nodes state2 n1 ≡ bindings ss nodes state1 n1 = bindings-same ss nodes state1 state2 n1 (t .store) pushed-store in
       record {
@@ -854,11 +999,11 @@ started ss sh g nodes code state after x program long zeros next w =
       later = λ i j q r. absurd (let z : j < 0 = r in omega arith);
     } in
     let all : Means ss sh g nodes code after 1 0 (record { literals = leftFrom sh g code state 0 0 (bodyAt code 0); bindings = bindings ss nodes state 0; next = x; calls = callsUpTo sh g code state 0 } ∷ pileOf ss sh g nodes code state 0) =
-    topped ss sh g nodes code state after 0 0 0 0 0 (bodyAt code 0) x empty (omega arith) (omega arith) (omega arith) (omega arith)
+    topped ss sh g nodes code state after 0 0 0 0 0 (bodyAt code 0) x empty (omega arith) (omega arith) (omega arith)
     (λ j q. absurd (let z : j < 0 = q in omega arith)) (λ j q. absurd (let z : j < 0 = q in omega arith))
     (record { cell = λ i q. absurd (let z : i < 0 = q in omega arith); copy = λ i q. absurd (let z : i < 0 = q in omega arith) })
     (λ i q. absurd (let z : i < 0 = q in omega arith))
-    (record { place = goal-place sh g code state; ends = λ e. refl; next = λ a q. next a (subst (λ (y : Body). Calls y a) (goal-rest sh g code state) q) }) w in
+    (record { place = goal-place sh g code state; stays = body-stays program 0 (omega arith); ends = λ e. refl; next = λ a q. next a (subst (λ (y : Body). Calls y a) (goal-rest sh g code state) q) }) w in
     record {
       piled = all .piled;
       is = all .is ∙ (λ i. record { literals = goal-left sh g code state i; bindings = []; next = x; calls = [] } ∷ []);

@@ -9,15 +9,16 @@ use lib.Dec.{ltb}
 use lib.ListN.{length, getD, set, replicate, length-set, length-replicate, getD-replicate, List·getD-eq-default}
 use lib.Seq.{getD-set-same, getD-set-other}
 use borrow.Author.Tests.{ltb-true, ltb-false}
-use Rattle.syntax.specs.Words.{firstName}
+use Rattle.syntax.specs.Words.{firstName, bodyLength}
 use Rattle.syntax.specs.Limits.{clauses, literals, arguments, declarations}
 use Rattle.syntax.specs.Quote.{bytes}
-use Rattle.syntax.specs.Terms.{variable, compound, nil, cons, sameBytes, truth, done, also, Clause, Sheet, Goal}
+use Rattle.syntax.specs.Terms.{variable, compound, nil, cons, sameBytes, truth, done, also, literalsOf, Clause, Sheet, Goal}
 use Rattle.machine.specs.Substitution.{resolve}
 use Rattle.layout.specs.Regions.{bodies, storeWords, stateWords, alternativeOf, alternativeSize}
 use Rattle.layout.specs.Nodes.{Symbol, isSymbol, symbolOf, isListed, nameOf, loadedWords, isLoadable, bracketsOf, Node, decoded, termAt}
 use Rattle.layout.specs.State.{wordOf, bindings, Store, boundWords}
 use Rattle.machine.specs.Machine.{pending, nth, clauseAt}
+use Rattle.machine.specs.Low.{ClausesShort}
 use Rattle.machine.proofs.Tests.{some-none}
 use Rattle.layout.specs.Program.{bodyAt, kindAt, BodyStands, Program}
 use Rattle.layout.specs.Pile.{Piled}
@@ -80,21 +81,31 @@ code-end : kindAt code 8 ≡ 4
 unfolding code
 code-end = getD-set-same {A = ℕ} (set (replicate bodies 0) 1 4) 8 4 0 (let e : length (set (replicate {A = ℕ} bodies 0) 1 4) ≡ bodies = length-set {A = ℕ} (replicate bodies 0) 1 4 ∙ length-replicate {A = ℕ} bodies 0 in omega arith)
 
-no-clause : (k : ℕ) (cl : Clause) → clauseAt sheet k ≡ some cl → ⊥
+pub no-clause : (k : ℕ) (cl : Clause) → clauseAt sheet k ≡ some cl → ⊥
 unfolding sheet clauseAt nth
 no-clause zero cl e = some-none cl (sym e)
 no-clause (suc k) cl e = some-none cl (sym e)
 
+pub few-clauses : length (sheet .clauses) ≤ clauses
+unfolding sheet
+few-clauses = omega arith
+
+pub none-short : ClausesShort (sheet .clauses)
+unfolding sheet
+none-short = tt
+
 pub program : Program [] sheet goal [] code
-unfolding sheet goal
+unfolding sheet goal bodyLength literalsOf
 program =
     let l : length code ≡ bodies = code-long in
     record {
       small = omega arith;
       long = omega arith;
       short = omega arith;
-      few = omega arith;
-      goal = subst⁻¹ (λ (p : ℕ). BodyStands [] sheet [] code p (also truth done)) code-body (omega arith, code-truth, (omega arith, code-end));
+      few = few-clauses;
+      bodies-short = none-short;
+      goal-short = record { few = omega arith; filled = (tt, tt) };
+      goal = subst⁻¹ (λ (p : ℕ). BodyStands [] sheet [] code p (also truth done)) code-body (record { room = omega arith; items = (code-truth, tt); ends = code-end });
       clause = λ k cl e. absurd (no-clause k cl e);
     }
 

@@ -1,25 +1,27 @@
--- Document 01's limits on what was read: clauses in a sheet, literals in a body or goal, brackets open at once.
+-- Document 01's limits on what was read: clauses in a sheet, literals in a body or goal, brackets open at once. And no side of a bracket is empty.
 use Prim.Native.Nat.{ℕ, _≤_}
 use mathlib.Core.List.{List, [], _∷_}
 use lib.ListN.{length}
-use Rattle.syntax.specs.Limits.{clauses, brackets, literals}
-use Rattle.syntax.specs.Terms.{termOf, Literal, call, equation, truth, falsity, Body, done, also, Clause, Sheet, Goal}
-use Rattle.syntax.specs.Words.{bodyLength}
+use Rattle.syntax.specs.Limits.{clauses, brackets}
+use Rattle.syntax.specs.Terms.{termOf, Literal, call, equation, truth, falsity, either, Body, done, also, Clause, Sheet, Goal}
+use Rattle.machine.specs.Low.{BodyShort}
 use Rattle.layout.specs.Nodes.{bracketsOf}
 
-abbrev pub LiteralLimited : Literal → Type 0
-LiteralLimited (call a) = bracketsOf (termOf a) ≤ brackets
-LiteralLimited (equation t u) = (bracketsOf t ≤ brackets) × (bracketsOf u ≤ brackets)
-LiteralLimited truth = Unit {0}
-LiteralLimited falsity = Unit {0}
+abbrev mutual
+  pub LiteralLimited : Literal → Type 0
+  LiteralLimited (call a) = bracketsOf (termOf a) ≤ brackets
+  LiteralLimited (equation t u) = (bracketsOf t ≤ brackets) × (bracketsOf u ≤ brackets)
+  LiteralLimited truth = Unit {0}
+  LiteralLimited falsity = Unit {0}
+  LiteralLimited (either y z) = EachLimited y × EachLimited z
 
-abbrev pub EachLimited : Body → Type 0
-EachLimited done = Unit {0}
-EachLimited (also x b) = LiteralLimited x × EachLimited b
+  pub EachLimited : Body → Type 0
+  EachLimited done = Unit {0}
+  EachLimited (also x b) = LiteralLimited x × EachLimited b
 
 pub record BodyLimited (b : Body) : Type 0 where
   pub each : EachLimited b
-  pub few : bodyLength b ≤ literals
+  pub short : BodyShort b
 
 pub record ClauseLimited (cl : Clause) : Type 0 where
   pub head : bracketsOf (termOf (cl .head)) ≤ brackets

@@ -5,16 +5,16 @@ use mathlib.Core.Path.{_≡_}
 use mathlib.Core.Bool.{Bool, true, false}
 use mathlib.Core.List.{List, [], _∷_}
 use mathlib.Core.Option.{Option, none, some}
-use lib.Dec.{T, eqb}
+use lib.Dec.{T, leb, ltb, eqb}
 use lib.ListN.{length, getD}
-use Rattle.syntax.specs.Limits.{longestPath, literals}
-use Rattle.syntax.specs.Terms.{Atom, nil, Literal, call, equation, truth, falsity, Body, done, also, Clause, Sheet, Goal}
-use Rattle.syntax.specs.Words.{bodyLength}
+use Rattle.syntax.specs.Limits.{longestPath}
+use Rattle.syntax.specs.Terms.{Atom, nil, Literal, call, equation, truth, falsity, either, Body, done, also, Clause, Sheet, Goal}
+use Rattle.syntax.specs.Words.{literalLength, bodyLength}
 use Rattle.machine.specs.Machine.{Pending, Call, Alternative, pending, isFor, clauseAt}
-use Rattle.layout.specs.Regions.{storeWords, stateWords, frameOf, alternativeOf, literalSize, nextLiteral, literalFrom}
+use Rattle.layout.specs.Regions.{storeWords, stateWords, frameOf, alternativeOf, literalSize, jumpKind, nextLiteral, literalFrom}
 use Rattle.layout.specs.Nodes.{Symbol}
 use Rattle.layout.specs.State.{bindings, Store, Within}
-use Rattle.layout.specs.Program.{bodyAt, Program}
+use Rattle.layout.specs.Program.{bodyAt, kindAt, Program}
 
 -- ---- bodies
 
@@ -27,11 +27,29 @@ unfoldable pub bodyOf : Sheet → Goal → ℕ → Body
 bodyOf sh g zero = g .body
 bodyOf sh g (suc k) = bodyIn (clauseAt sh (suc k))
 
--- a body behind its first literals
+-- a body and then another
+unfoldable pub joined : Body → Body → Body
+joined done r = r
+joined (also x b) r = also x (joined b r)
+
+-- What goes on from record i of a literal, and of a body, with what is behind it: from a literal's first, it and what is behind; from within a side of a
+-- bracket, what goes on in that side; from the end of a side, what is behind.
+unfoldable mutual
+  pub fromLiteral : Literal → ℕ → Body → Body
+  fromLiteral (call a) i r = also (call a) r
+  fromLiteral (equation t u) i r = also (equation t u) r
+  fromLiteral truth i r = also truth r
+  fromLiteral falsity i r = also falsity r
+  fromLiteral (either y z) zero r = also (either y z) r
+  fromLiteral (either y z) (suc i) r = elim (leb i (bodyLength y)) [ true ↦ fromBody y i r | false ↦ fromBody z (i - (bodyLength y + 1)) r ]
+
+  pub fromBody : Body → ℕ → Body → Body
+  fromBody done i r = r
+  fromBody (also x b) i r = elim (ltb i (literalLength x)) [ true ↦ fromLiteral x i (joined b r) | false ↦ fromBody b (i - literalLength x) r ]
+
+-- what goes on from record i of a body
 unfoldable pub dropBody : ℕ → Body → Body
-dropBody zero b = b
-dropBody (suc i) done = done
-dropBody (suc i) (also x b) = dropBody i b
+dropBody i b = fromBody b i done
 
 -- the atom of the call that a body begins with
 unfoldable pub atomIn : Literal → Atom
@@ -39,6 +57,7 @@ atomIn (call a) = a
 atomIn (equation t u) = record { at = 0; name = []; args = nil }
 atomIn truth = record { at = 0; name = []; args = nil }
 atomIn falsity = record { at = 0; name = []; args = nil }
+atomIn (either y z) = record { at = 0; name = []; args = nil }
 
 unfoldable pub firstAtom : Body → Atom
 firstAtom done = record { at = 0; name = []; args = nil }
@@ -96,7 +115,7 @@ callsUpTo sh g code state (suc k) =
 
 -- ---- alternatives: six words each
 
--- where it stands: a copy and a literal
+-- where it stands: a copy and a record
 abbrev pub copyAt : List ℕ → ℕ → ℕ
 copyAt state j = getD state (alternativeOf j) 0
 
@@ -130,18 +149,23 @@ pileOf ss sh g nodes code state (suc h) = alternativeAt ss sh g nodes code state
 
 -- ---- words that mean a pile
 
--- l is a literal of copy c, or the end of its body
+-- l is a record of the body of copy c, or its end
 pub record Place (sh : Sheet) (g : Goal) (code state : List ℕ) (c l : ℕ) : Type 0 where
   pub clause : clauseIn state c ≤ length (sh .clauses)
   pub index : ℕ
   pub is : l ≡ literalFrom (bodyAt code (clauseIn state c)) index
   pub low : index ≤ bodyLength (bodyOf sh g (clauseIn state c))
 
+-- the record at l is not the end of a side
+abbrev pub NoJump : List ℕ → ℕ → Type 0
+NoJump code l = kindAt code l ≡ jumpKind → ⊥
+
 -- copy k was made for a call of a lower copy
 pub record Frame (sh : Sheet) (g : Goal) (code state : List ℕ) (k : ℕ) : Type 0 where
   pub clause : clauseIn state k ≤ length (sh .clauses)
   pub below : callerOf state k < k
   pub place : Place sh g code state (callerOf state k) (callOf state k)
+  pub stays : NoJump code (callOf state k)
   pub atom : Atom
   pub calls : Calls (restFrom sh g code state (callerOf state k) (callOf state k)) atom
 
@@ -150,15 +174,15 @@ abbrev pub NextFor : Sheet → Atom → ℕ → Type 0
 NextFor sh a zero = Unit {0}
 NextFor sh a (suc k) = (cl : Clause) × (clauseAt sh (suc k) ≡ some cl) × T (isFor a cl)
 
--- Alternative j, of a trail of n entries. Its path is not shorter than j, which bounds the height of the pile.
+-- Alternative j, of a trail of n entries.
 pub record Stacked (sh : Sheet) (g : Goal) (code state : List ℕ) (n j : ℕ) : Type 0 where
   pub low : pathAt state j ≤ longestPath
-  pub high : j ≤ pathAt state j
   pub copy : copyAt state j ≤ pathAt state j
   pub mark : markAt state j ≤ n
   pub within : Within (pathAt state j) state (markAt state j)
   pub frame : (k : ℕ) → k < pathAt state j → Frame sh g code state (suc k)
   pub place : Place sh g code state (copyAt state j) (literalAt state j)
+  pub stays : NoJump code (literalAt state j)
   pub ends : restFrom sh g code state (copyAt state j) (literalAt state j) ≡ done → copyAt state j ≡ 0
   pub next : (a : Atom) → Calls (restFrom sh g code state (copyAt state j) (literalAt state j)) a → NextFor sh a (nextAt state j)
 

@@ -5,25 +5,28 @@ use mathlib.Core.Bool.{Bool, true, _&&_}
 use mathlib.Core.List.{List, [], _∷_, _++_}
 use mathlib.Core.Option.{Option, none, some}
 use lib.ListN.{length, getD}
-use Rattle.syntax.specs.Words.{truthKind, falsityKind, callKind, equationKind}
+use Rattle.syntax.specs.Words.{truthKind, falsityKind, callKind, equationKind, literalLength, bodyLength}
 use Rattle.syntax.specs.Limits.{clauses}
-use Rattle.syntax.specs.Terms.{termOf, Literal, call, equation, truth, falsity, Body, done, also, Clause, Sheet, Goal}
+use Rattle.syntax.specs.Terms.{termOf, Literal, call, equation, truth, falsity, either, Body, done, also, Clause, Sheet, Goal}
 use Rattle.machine.specs.Machine.{nextFor, clauseAt}
-use Rattle.layout.specs.Regions.{places, bodies, literalSize, endKind, nextLiteral, clauseRecord}
+use Rattle.machine.specs.Low.{BodyShort, ClausesShort}
+use Rattle.layout.specs.Regions.{places, bodies, endKind, splitKind, jumpKind, literalFrom, clauseRecord}
 use Rattle.layout.specs.Nodes.{Symbol, loadedWords, isLoadable, Stands}
 
 -- ---- nodes
 
--- the nodes of a literal's terms, of a body's, of a clause's and of all clauses', one behind the other
-unfoldable pub literalNodes : List Symbol → Literal → List ℕ
-literalNodes ss (call a) = loadedWords ss (termOf a)
-literalNodes ss (equation t u) = loadedWords ss t ++ loadedWords ss u
-literalNodes ss truth = []
-literalNodes ss falsity = []
+-- the nodes of a literal's terms, of a body's, of a clause's and of all clauses', one behind the other; of a bracket, the left side's first
+unfoldable mutual
+  pub literalNodes : List Symbol → Literal → List ℕ
+  literalNodes ss (call a) = loadedWords ss (termOf a)
+  literalNodes ss (equation t u) = loadedWords ss t ++ loadedWords ss u
+  literalNodes ss truth = []
+  literalNodes ss falsity = []
+  literalNodes ss (either y z) = bodyNodes ss y ++ bodyNodes ss z
 
-unfoldable pub bodyNodes : List Symbol → Body → List ℕ
-bodyNodes ss done = []
-bodyNodes ss (also x b) = literalNodes ss x ++ bodyNodes ss b
+  pub bodyNodes : List Symbol → Body → List ℕ
+  bodyNodes ss done = []
+  bodyNodes ss (also x b) = literalNodes ss x ++ bodyNodes ss b
 
 unfoldable pub clauseNodes : List Symbol → Clause → List ℕ
 clauseNodes ss cl = loadedWords ss (termOf (cl .head)) ++ bodyNodes ss (cl .body)
@@ -37,15 +40,17 @@ unfoldable pub programNodes : List Symbol → Sheet → Goal → List ℕ
 programNodes ss sh g = bodyNodes ss (g .body) ++ clausesNodes ss (sh .clauses)
 
 -- all of these terms can stand in the table
-unfoldable pub literalLoadable : List Symbol → Literal → Bool
-literalLoadable ss (call a) = isLoadable ss (termOf a)
-literalLoadable ss (equation t u) = isLoadable ss t && isLoadable ss u
-literalLoadable ss truth = true
-literalLoadable ss falsity = true
+unfoldable mutual
+  pub literalLoadable : List Symbol → Literal → Bool
+  literalLoadable ss (call a) = isLoadable ss (termOf a)
+  literalLoadable ss (equation t u) = isLoadable ss t && isLoadable ss u
+  literalLoadable ss truth = true
+  literalLoadable ss falsity = true
+  literalLoadable ss (either y z) = bodyLoadable ss y && bodyLoadable ss z
 
-unfoldable pub bodyLoadable : List Symbol → Body → Bool
-bodyLoadable ss done = true
-bodyLoadable ss (also x b) = literalLoadable ss x && bodyLoadable ss b
+  pub bodyLoadable : List Symbol → Body → Bool
+  bodyLoadable ss done = true
+  bodyLoadable ss (also x b) = literalLoadable ss x && bodyLoadable ss b
 
 unfoldable pub clausesLoadable : List Symbol → List Clause → Bool
 clausesLoadable ss [] = true
@@ -64,8 +69,8 @@ bodyAt code k = getD code (clauseRecord k + 1) 0
 abbrev pub afterAt : List ℕ → ℕ → ℕ
 afterAt code k = getD code (clauseRecord k + 2) 0
 
--- A literal's record: its kind, or that of a body's end; the place of the atom or of the left term; the topmost clause for the call (0 for none) or
--- the place of the right term. The fourth word is not used.
+-- A record of a body: its kind; the place of the atom or of the left term; the topmost clause for the call (0 for none), the place of the right term,
+-- or another record. The fourth word is not used.
 abbrev pub kindAt : List ℕ → ℕ → ℕ
 kindAt code l = getD code l 0
 
@@ -75,17 +80,48 @@ placeAt code l = getD code (l + 1) 0
 abbrev pub otherAt : List ℕ → ℕ → ℕ
 otherAt code l = getD code (l + 2) 0
 
--- a literal stands at l
-abbrev pub LiteralStands : List Symbol → Sheet → List ℕ → List ℕ → ℕ → Literal → Type 0
-LiteralStands ss sh nodes code l (call a) = (kindAt code l ≡ callKind) × Stands ss nodes (placeAt code l) (termOf a) × (otherAt code l ≡ nextFor sh a 0)
-LiteralStands ss sh nodes code l (equation t u) = (kindAt code l ≡ equationKind) × Stands ss nodes (placeAt code l) t × Stands ss nodes (otherAt code l) u
-LiteralStands ss sh nodes code l truth = kindAt code l ≡ truthKind
-LiteralStands ss sh nodes code l falsity = kindAt code l ≡ falsityKind
+-- a record names another
+abbrev pub Names : List ℕ → ℕ → ℕ → ℕ → Type 0
+Names code kind l other = (kindAt code l ≡ kind) × (otherAt code l ≡ other)
 
--- the literals of a body stand from l on, one behind the other, and then its end
-abbrev pub BodyStands : List Symbol → Sheet → List ℕ → List ℕ → ℕ → Body → Type 0
-BodyStands ss sh nodes code l done = (l + literalSize ≤ length code) × (kindAt code l ≡ endKind)
-BodyStands ss sh nodes code l (also x b) = (l + literalSize ≤ length code) × LiteralStands ss sh nodes code l x × BodyStands ss sh nodes code (nextLiteral l) b
+-- the records of a bracket before its right side: its first, those of the left side, and that side's end
+abbrev pub rightOf : Body → ℕ
+rightOf left = bodyLength left + 2
+
+-- a literal that is no bracket stands at l
+abbrev pub PlainStands : List Symbol → Sheet → List ℕ → List ℕ → ℕ → Literal → Type 0
+PlainStands ss sh nodes code l (call a) = (kindAt code l ≡ callKind) × Stands ss nodes (placeAt code l) (termOf a) × (otherAt code l ≡ nextFor sh a 0)
+PlainStands ss sh nodes code l (equation t u) = (kindAt code l ≡ equationKind) × Stands ss nodes (placeAt code l) t × Stands ss nodes (otherAt code l) u
+PlainStands ss sh nodes code l truth = kindAt code l ≡ truthKind
+PlainStands ss sh nodes code l falsity = kindAt code l ≡ falsityKind
+PlainStands ss sh nodes code l (either y z) = ⊥
+
+-- In the body that begins at `start`, a literal stands from record n on. A bracket's first record names the first one of its right side; behind the
+-- literals of a side, a record names the one behind the bracket.
+abbrev mutual
+  pub LiteralStands : List Symbol → Sheet → List ℕ → List ℕ → ℕ → ℕ → Literal → Type 0
+  LiteralStands ss sh nodes code start n (call a) = PlainStands ss sh nodes code (literalFrom start n) (call a)
+  LiteralStands ss sh nodes code start n (equation t u) = PlainStands ss sh nodes code (literalFrom start n) (equation t u)
+  LiteralStands ss sh nodes code start n truth = PlainStands ss sh nodes code (literalFrom start n) truth
+  LiteralStands ss sh nodes code start n falsity = PlainStands ss sh nodes code (literalFrom start n) falsity
+  LiteralStands ss sh nodes code start n (either y z) =
+      Names code splitKind (literalFrom start n) (literalFrom start (n + rightOf y))
+      × ItemsStand ss sh nodes code start (n + 1) y
+      × Names code jumpKind (literalFrom start (n + 1 + bodyLength y)) (literalFrom start (n + literalLength (either y z)))
+      × ItemsStand ss sh nodes code start (n + rightOf y) z
+      × Names code jumpKind (literalFrom start (n + rightOf y + bodyLength z)) (literalFrom start (n + literalLength (either y z)))
+
+  -- the literals of a body stand from record n on, one behind the other
+  pub ItemsStand : List Symbol → Sheet → List ℕ → List ℕ → ℕ → ℕ → Body → Type 0
+  ItemsStand ss sh nodes code start n done = Unit {0}
+  ItemsStand ss sh nodes code start n (also x b) =
+      LiteralStands ss sh nodes code start n x × ItemsStand ss sh nodes code start (n + literalLength x) b
+
+-- a body stands from l on, and then its end
+pub record BodyStands (ss : List Symbol) (sh : Sheet) (nodes code : List ℕ) (l : ℕ) (b : Body) : Type 0 where
+  pub room : literalFrom l (bodyLength b + 1) ≤ length code
+  pub items : ItemsStand ss sh nodes code l 0 b
+  pub ends : kindAt code (literalFrom l (bodyLength b)) ≡ endKind
 
 -- the clause of number k
 pub record ClauseStands (ss : List Symbol) (sh : Sheet) (nodes code : List ℕ) (k : ℕ) (cl : Clause) : Type 0 where
@@ -99,5 +135,7 @@ pub record Program (ss : List Symbol) (sh : Sheet) (g : Goal) (nodes code : List
   pub long : bodies ≤ length code
   pub short : length code ≤ places
   pub few : length (sh .clauses) ≤ clauses
+  pub bodies-short : ClausesShort (sh .clauses)
+  pub goal-short : BodyShort (g .body)
   pub goal : BodyStands ss sh nodes code (bodyAt code 0) (g .body)
   pub clause : (k : ℕ) (cl : Clause) → clauseAt sh k ≡ some cl → ClauseStands ss sh nodes code k cl

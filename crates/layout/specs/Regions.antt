@@ -1,6 +1,6 @@
 -- The tables of a run: how many words each record has, how many records there are, and where each region begins. A region begins where the one
 -- before it ends.
-use Prim.Native.Nat.{ℕ, _+_, _*_, _/_}
+use Prim.Native.Nat.{ℕ, _+_, _-_, _*_, _/_}
 use Rattle.syntax.specs.Limits.{brackets, literals, clauses, longestPath}
 use Rattle.syntax.specs.Words.{firstName, nodeWords, sheetWords, goalWords}
 
@@ -31,7 +31,7 @@ nodesWords = mostNodes * loadedNode
 abbrev pub places : ℕ
 places = 65536
 
--- ---- code: a record for the goal and each clause, and then the literals of each with the body's end
+-- ---- code: a record for the goal and each clause, and then the records of each with the body's end
 
 abbrev pub clauseSize : ℕ
 clauseSize = 4
@@ -39,15 +39,27 @@ clauseSize = 4
 abbrev pub literalSize : ℕ
 literalSize = 4
 
--- the kind of a body's end; a literal's own kinds are those of `syntax`
+-- the kind of a body's end; a plain literal's own kinds are those of `syntax`
 abbrev pub endKind : ℕ
 endKind = 4
+
+-- the kinds of a bracket's records: where its sides part, and where a side ends
+abbrev pub splitKind : ℕ
+splitKind = 5
+
+abbrev pub jumpKind : ℕ
+jumpKind = 6
+
+-- The most records of a body before its end. A bracket has three of its own, and each side has a literal: with three more they are at most four for each
+-- literal.
+abbrev pub mostItems : ℕ
+mostItems = 4 * literals - 3
 
 abbrev pub bodies : ℕ
 bodies = (clauses + 1) * clauseSize
 
 abbrev pub bodySize : ℕ
-bodySize = (literals + 1) * literalSize
+bodySize = (mostItems + 1) * literalSize
 
 abbrev pub codeWords : ℕ
 codeWords = bodies + (clauses + 1) * bodySize
@@ -56,11 +68,11 @@ codeWords = bodies + (clauses + 1) * bodySize
 abbrev pub clauseRecord : ℕ → ℕ
 clauseRecord k = k * clauseSize
 
--- the literal of a number in the body that begins at a place
+-- the record of a number in the body that begins at a place
 abbrev pub literalFrom : ℕ → ℕ → ℕ
 literalFrom start i = start + i * literalSize
 
--- the record behind a literal's
+-- the record behind another
 abbrev pub nextLiteral : ℕ → ℕ
 nextLiteral l = l + literalSize
 
@@ -97,9 +109,9 @@ alternativeSize = 6
 abbrev pub alternativeOf : ℕ → ℕ
 alternativeOf j = alternatives + j * alternativeSize
 
--- the most alternatives
+-- The most alternatives: a copy adds at most its body's literals to those that can wait (machine's `Low`).
 abbrev pub mostAlternatives : ℕ
-mostAlternatives = copies
+mostAlternatives = literals * copies
 
 abbrev pub stateWords : ℕ
 stateWords = alternatives + mostAlternatives * alternativeSize

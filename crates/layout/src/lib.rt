@@ -35,9 +35,15 @@ pub const LITERAL_SIZE: usize = 4;
 
 pub const END_KIND: usize = 4;
 
+pub const SPLIT_KIND: usize = 5;
+
+pub const JUMP_KIND: usize = 6;
+
+pub const MOST_ITEMS: usize = 4 * LITERALS - 3;
+
 pub const BODIES: usize = (CLAUSES + 1) * CLAUSE_SIZE;
 
-pub const BODY_SIZE: usize = (LITERALS + 1) * LITERAL_SIZE;
+pub const BODY_SIZE: usize = (MOST_ITEMS + 1) * LITERAL_SIZE;
 
 pub const CODE_WORDS: usize = BODIES + (CLAUSES + 1) * BODY_SIZE;
 
@@ -56,7 +62,7 @@ pub const ALTERNATIVES: usize = FRAMES + COPIES * FRAME_SIZE;
 
 pub const ALTERNATIVE_SIZE: usize = 6;
 
-pub const MOST_ALTERNATIVES: usize = COPIES;
+pub const MOST_ALTERNATIVES: usize = LITERALS * COPIES;
 
 pub const STATE_WORDS: usize = ALTERNATIVES + MOST_ALTERNATIVES * ALTERNATIVE_SIZE;
 

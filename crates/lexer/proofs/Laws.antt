@@ -13,7 +13,7 @@ use lib.Seq.{drop-cons, getD-drop}
 use borrow.Author.Tests.{leb-true, leb-false, eqb-true, eqb-false, le-leb, lt-leb, eq-eqb, ne-eqb}
 use Rattle.syntax.specs.Limits.{wordBytes}
 use Rattle.syntax.specs.Bytes.{isBlank, isLower, isUpper, isDigit, classOf, inWord, inNumeral}
-use Rattle.syntax.specs.Tokens.{Gap, outside, inComment, Move, on, atToken, moveOf, skipped, run, word, dashFirst, nameKind, variableKind, numeralKind, neckKind, openKind, closeKind, commaKind, stopKind, overlongKind, endKind}
+use Rattle.syntax.specs.Tokens.{Gap, outside, inComment, Move, on, atToken, moveOf, skipped, run, word, dashFirst, nameKind, variableKind, numeralKind, neckKind, openKind, closeKind, commaKind, stopKind, overlongKind, endKind, semicolonKind}
 use Rattle.syntax.specs.Tokens.{tokenOf, tokenFrom, tokenPlace, tokenAt}
 use Rattle.syntax.specs.Terms.{sameBytes}
 use Rattle.syntax.specs.declared.Token.{Token}
@@ -23,23 +23,29 @@ use Rattle.lexer.specs.Runs.{goesOn}
 drop-next : (s : List ℕ) (i : ℕ) → i < length s → drop i s ≡ getD s i 0 ∷ drop (i + 1) s
 drop-next s i h = rw add-one (drop-cons s i 0 h)
 
--- Classes: the number of the first test that passes, counted from a number.
-firstOf : ℕ → List Bool → ℕ
-firstOf k [] = 0
-firstOf k (t ∷ ts) = cond t k (firstOf (suc k) ts)
+-- Classes: the number of the first test that passes, counted from a number, or another number.
+firstOf : ℕ → ℕ → List Bool → ℕ
+firstOf other k [] = other
+firstOf other k (t ∷ ts) = cond t k (firstOf other (suc k) ts)
 
-first-small : (k : ℕ) (ts : List Bool) → firstOf (suc k) ts ≤ k + length ts
+first-small : (other most k : ℕ) (ts : List Bool) → other ≤ most → k + length ts ≤ most → firstOf other (suc k) ts ≤ most
 unfolding firstOf
-first-small k [] = omega arith
-first-small k (true ∷ ts) = omega arith
-first-small k (false ∷ ts) = omega (arith, first-small (suc k) ts)
+first-small other most k [] o h = o
+first-small other most k (true ∷ ts) o h = omega arith
+first-small other most k (false ∷ ts) o h = first-small other most (suc k) ts o (omega arith)
 
-pub class-small : (b : ℕ) → classOf b ≤ 14
+semicolon-small : (t : Bool) → cond t semicolonKind 0 ≤ semicolonKind
+semicolon-small true = omega arith
+semicolon-small false = omega arith
+
+pub class-small : (b : ℕ) → classOf b ≤ semicolonKind
 unfolding classOf firstOf
 class-small b =
-    first-small 0
+    first-small (cond (eqb b 59) semicolonKind 0) semicolonKind 0
     (isBlank b ∷ eqb b 37 ∷ isLower b ∷ isUpper b ∷ isDigit b ∷ eqb b 58 ∷ eqb b 40 ∷ eqb b 41 ∷ eqb b 44 ∷ eqb b 46 ∷ eqb b 61 ∷ eqb b 43
     ∷ eqb b 45 ∷ eqb b 42 ∷ [])
+    (semicolon-small (eqb b 59))
+    (omega arith)
 
 -- Blanks and comments.
 skipped-by : (g : Gap) (m : Move) (b : ℕ) (r : List ℕ) → moveOf g b ≡ m

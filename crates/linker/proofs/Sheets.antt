@@ -7,21 +7,20 @@ use mathlib.Core.List.{List, [], _∷_}
 use lib.Dec.{T}
 use lib.ListN.{length, getD, set, length-set, length-append}
 use Rattle.syntax.specs.Limits.{clauses as mostClauses}
-use Rattle.syntax.specs.Limits.{clauses as mostClauses, literals as mostLiterals}
 use Rattle.syntax.specs.Terms.{termOf, Body, Clause, Sheet}
 use Rattle.syntax.specs.Words.{atomWords, bodyWords, bodyLength, clauseWords, clausesWords}
 use Rattle.machine.specs.Machine.{nextFor}
 use Rattle.machine.proofs.Tests.{both}
 use Rattle.words.specs.Tables.{Has, Inside}
 use Rattle.words.proofs.Laws.{has-left, has-right, size-is, term-inside}
-use Rattle.layout.specs.Regions.{places, bodies, codeWords, clauseRecord}
+use Rattle.layout.specs.Regions.{places, mostItems, bodies, codeWords, clauseRecord}
 use Rattle.layout.specs.Nodes.{Symbol, loadedWords, isLoadable}
 use Rattle.layout.specs.Limits.{ClausesLimited}
 use Rattle.layout.specs.Program.{bodyNodes, clauseNodes, clausesNodes, bodyLoadable, clausesLoadable}
 use Rattle.layout.proofs.Nodes.{size-word}
 use Rattle.linker.specs.Records.{putPair, putBody, putHeads, putClause, putClauses, sought, bodyPlace}
 use Rattle.linker.specs.Places.{Searchable, BodyTo, HeadsTo, ClauseTo, ClausesTo}
-use Rattle.linker.proofs.Sizes.{Says, says}
+use Rattle.linker.proofs.Sizes.{few-items, Says, says}
 use Rattle.linker.proofs.Seeking.{atom-word, atom-listed, searchable, next-is}
 use Rattle.linker.proofs.Writing.{SameHeads, pair-long, pair-heads, heads-long, headed-kept, Kept, clause-kept, clauses-kept}
 use Rattle.linker.proofs.Turns.{end-inside, loaded-fits, next-bound}
@@ -179,7 +178,7 @@ module _ (table : List ℕ) (p : ℕ) (nodes : List ℕ) (q clauses : ℕ) (code
           let z : getD table (p + 3 + 1) 0 ≡ length (atomWords (cl .head)) = size-is table (p + 3) (termOf (cl .head)) (said .head) in
           let long : length new ≡ length code = ap length n ∙ pair-long code (clauseRecord k + 1) (bodyPlace k) after in
           let many : literals ≡ bodyLength (cl .body) = m ∙ said .literals in
-          let few : bodyLength (cl .body) ≤ mostLiterals = w .short in
+          let few : bodyLength (cl .body) ≤ mostItems = w .short in
           let small : k ≤ mostClauses = clause-small ss sh cl w in
           let room : codeWords ≤ length code = w .headed .room in
           let fits : q + getD nodes (q + 1) 0 ≤ length nodes = head-node-fits ss sh cl w .1 in
@@ -236,7 +235,7 @@ split table at nodes node clauses code k l ss sh cl cls w =
     let first : Has nodes node (clauseNodes ss cl) = has-left nodes node (clauseNodes ss cl) (clausesNodes ss cls) (w .stand) in
     let inside : node < length nodes = atom-word ss nodes node (cl .head) (head-stands ss nodes node cl first) .0 in
     record {
-      clause = record { headed = w .headed; has = first-words table at cl cls (w .has); stand = first; head-loadable = ok .0; body-loadable = ok .1; short = w .limited .0 .body .few; low = w .low; high = l };
+      clause = record { headed = w .headed; has = first-words table at cl cls (w .has); stand = first; head-loadable = ok .0; body-loadable = ok .1; short = few-items (cl .body) (w .limited .0 .body .short); low = w .low; high = l };
       stand = has-right nodes node (clauseNodes ss cl) (clausesNodes ss cls) (w .stand);
       loadable = oks .1;
       limited = w .limited .1;

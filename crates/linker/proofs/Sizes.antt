@@ -1,17 +1,21 @@
--- Laws of literals and clauses as they were read: how many words they take, and how many their nodes take. Assumes nothing.
+-- Laws of items, bodies and clauses as they were read: how many words they take, and how many their nodes take. Assumes nothing.
 use Prim.Native.Nat.{ℕ, zero, suc, _+_, _-_, _*_, _/_, _≤_, _<_}
 use native.Mathlib.Omega.{arith}
-use mathlib.Core.Path.{_≡_, refl, sym, ap, _∙_, subst, subst⁻¹}
-use mathlib.Core.List.{List, _∷_, _++_}
+use mathlib.Core.Path.{_≡_, refl, sym, ap, ap₂, _∙_}
+use mathlib.Core.List.{List, [], _∷_, _++_, append-nil, append-assoc}
 use lib.Arith.{digits-div}
 use lib.ListN.{length, getD, length-append}
-use Rattle.syntax.specs.Terms.{Term, Terms, variable, compound, nil, cons, termOf, Literal, call, equation, truth, falsity, Body, done, also, Clause}
-use Rattle.syntax.specs.Words.{termWords, termsWords, atomWords, literalWords, bodyWords, bodyLength, clauseWords}
+use Rattle.syntax.specs.Terms.{Term, Terms, variable, compound, nil, cons, termOf, Literal, call, equation, truth, falsity, either, Body, done, also, literalsIn, literalsOf, Clause}
+use Rattle.syntax.specs.Words.{termWords, termsWords, atomWords, bodyWords, literalLength, bodyLength, clauseWords}
 use Rattle.words.specs.Tables.{Has}
+use Rattle.words.specs.Items.{Item, plain-call, plain-equation, plain-truth, plain-falsity, before-left, before-right, behind, itemWords, itemsWords, literalItems, items}
 use Rattle.words.proofs.Laws.{has-left, has-right, clause-says}
+use Rattle.words.proofs.Items.{body-words, body-many}
+use Rattle.machine.specs.Low.{LiteralFilled, BodyFilled, BodyShort}
+use Rattle.layout.specs.Regions.{mostItems}
 use Rattle.layout.specs.Nodes.{Symbol, loadedWords, loadedAll}
 use Rattle.layout.specs.Program.{literalNodes, bodyNodes, clauseNodes}
-use Rattle.linker.specs.Places.{BodyAt}
+use Rattle.linker.specs.Records.{itemNodes}
 
 -- ---- three words for two
 
@@ -31,50 +35,6 @@ nodes-of-is words marks n e =
     let o : (k : ℕ) × ((words - marks ≡ k * 3 + 0) × (n ≡ k * 2)) = halves n (words - marks) (omega arith) in
     ap (λ (d : ℕ). d / 3 * 2) (o .1 .0) ∙ (ap (λ (d : ℕ). d * 2) (digits-div (o .0) (omega arith)) ∙ sym (o .1 .1))
 
--- ---- bodies
-
--- What is left of a body, of whose literals i are behind, ends at stop.
-pub record BodyOn (table : List ℕ) (at i literals stop : ℕ) : Type 0 where
-  pub rest : Body
-  pub has : Has table at (bodyWords rest)
-  pub count : i + bodyLength rest ≡ literals
-  pub ends : at + length (bodyWords rest) ≡ stop
-
-pub on-begin : (table : List ℕ) (p literals : ℕ) (b : Body) → BodyAt table p literals b → BodyOn table p 0 literals (p + length (bodyWords b))
-on-begin table p literals b w = record { rest = b; has = w .has; count = (let e : literals ≡ bodyLength b = w .count in omega arith); ends = refl }
-
-module _ (table : List ℕ) (at i literals stop : ℕ) (l : i < literals) where
-  first-in : (b : Body) → Has table at (bodyWords b) → i + bodyLength b ≡ literals → (x : Literal) × Has table at (literalWords x)
-  unfolding bodyWords
-  first-in done h e = absurd (omega arith)
-  first-in (also x b) h e = (x, has-left table at (literalWords x) (bodyWords b) h)
-
-  pub on-first : BodyOn table at i literals stop → (x : Literal) × Has table at (literalWords x)
-  on-first w = first-in (w .rest) (w .has) (w .count)
-
-  next-in : (next : ℕ) → ((x : Literal) → Has table at (literalWords x) → next ≡ at + length (literalWords x))
-      → (b : Body) → Has table at (bodyWords b) → i + bodyLength b ≡ literals → at + length (bodyWords b) ≡ stop → BodyOn table next (i + 1) literals stop
-  unfolding bodyWords
-  next-in next n done h e s = absurd (omega arith)
-  next-in next n (also x b) h e s =
-      let q : next ≡ at + length (literalWords x) = n x (has-left table at (literalWords x) (bodyWords b) h) in
-      let z : length (literalWords x ++ bodyWords b) ≡ length (literalWords x) + length (bodyWords b) = length-append (literalWords x) (bodyWords b) in
-      let y : at + length (literalWords x ++ bodyWords b) ≡ stop = s in
-      let c : i + suc (bodyLength b) ≡ literals = e in
-      record { rest = b; has = subst⁻¹ (λ (k : ℕ). Has table k (bodyWords b)) q (has-right table at (literalWords x) (bodyWords b) h); count = omega arith; ends = omega arith }
-
-  pub on-next : (next : ℕ) → ((x : Literal) → Has table at (literalWords x) → next ≡ at + length (literalWords x)) → BodyOn table at i literals stop
-      → BodyOn table next (i + 1) literals stop
-  on-next next n w = next-in next n (w .rest) (w .has) (w .count) (w .ends)
-
-pub on-end : (table : List ℕ) (at i literals stop : ℕ) → literals ≤ i → BodyOn table at i literals stop → at ≡ stop
-unfolding bodyWords
-on-end table at i literals stop l w = go (w .rest) (w .count) (w .ends)
-  where
-    go : (b : Body) → i + bodyLength b ≡ literals → at + length (bodyWords b) ≡ stop → at ≡ stop
-    go done e s = let z : at + 0 ≡ stop = s in omega arith
-    go (also x b) e s = absurd (let z : i + suc (bodyLength b) ≡ literals = e in omega arith)
-
 -- ---- how many words the nodes take
 
 mutual
@@ -93,27 +53,90 @@ mutual
       let b : length (termWords t ++ termsWords ts) ≡ length (termWords t) + length (termsWords ts) = length-append (termWords t) (termsWords ts) in
       omega arith
 
-pub literal-nodes : (ss : List Symbol) (x : Literal) → length (literalNodes ss x) * 3 + 1 * 2 ≡ length (literalWords x) * 2
-unfolding literalNodes literalWords
-literal-nodes ss truth = refl
-literal-nodes ss falsity = refl
-literal-nodes ss (call a) = let e : length (loadedWords ss (termOf a)) * 3 ≡ length (termWords (termOf a)) * 2 = term-nodes ss (termOf a) in omega arith
-literal-nodes ss (equation t u) =
+pub item-nodes : (ss : List Symbol) (x : Item) → length (itemNodes ss x) * 3 + 1 * 2 ≡ length (itemWords x) * 2
+unfolding itemNodes itemWords
+item-nodes ss plain-truth = refl
+item-nodes ss plain-falsity = refl
+item-nodes ss (plain-call a) = let e : length (loadedWords ss (termOf a)) * 3 ≡ length (termWords (termOf a)) * 2 = term-nodes ss (termOf a) in omega arith
+item-nodes ss (plain-equation t u) =
     let e : length (loadedWords ss t) * 3 ≡ length (termWords t) * 2 = term-nodes ss t in
     let es : length (loadedWords ss u) * 3 ≡ length (termWords u) * 2 = term-nodes ss u in
     let a : length (loadedWords ss t ++ loadedWords ss u) ≡ length (loadedWords ss t) + length (loadedWords ss u) = length-append (loadedWords ss t) (loadedWords ss u) in
     let b : length (termWords t ++ termWords u) ≡ length (termWords t) + length (termWords u) = length-append (termWords t) (termWords u) in
     omega arith
+item-nodes ss (before-left n) = refl
+item-nodes ss (before-right n) = refl
+item-nodes ss behind = refl
+
+-- ---- the nodes of a body are those of its items
+
+unfoldable pub itemsNodes : List Symbol → List Item → List ℕ
+itemsNodes ss [] = []
+itemsNodes ss (x ∷ xs) = itemNodes ss x ++ itemsNodes ss xs
+
+items-append : (ss : List Symbol) (xs ys : List Item) → itemsNodes ss (xs ++ ys) ≡ itemsNodes ss xs ++ itemsNodes ss ys
+unfolding itemsNodes
+items-append ss [] ys = refl
+items-append ss (x ∷ xs) ys = ap (λ (l : List ℕ). itemNodes ss x ++ l) (items-append ss xs ys) ∙ sym (append-assoc (itemNodes ss x) (itemsNodes ss xs) (itemsNodes ss ys))
+
+mutual
+  unfolding literalItems itemsNodes itemNodes literalNodes
+
+  pub literal-items : (ss : List Symbol) (x : Literal) → itemsNodes ss (literalItems x) ≡ literalNodes ss x
+  literal-items ss (call a) = append-nil (loadedWords ss (termOf a))
+  literal-items ss (equation t u) = append-nil (loadedWords ss t ++ loadedWords ss u)
+  literal-items ss truth = refl
+  literal-items ss falsity = refl
+  literal-items ss (either y z) =
+      items-append ss (before-left (bodyLength y) ∷ items y) ((before-right (bodyLength z) ∷ items z) ++ (behind ∷ []))
+      ∙ ap₂ (λ (v w : List ℕ). v ++ w) (body-items ss y)
+      (items-append ss (before-right (bodyLength z) ∷ items z) (behind ∷ []) ∙ (append-nil (itemsNodes ss (items z)) ∙ body-items ss z))
+
+  pub body-items : (ss : List Symbol) (b : Body) → itemsNodes ss (items b) ≡ bodyNodes ss b
+  body-items ss done = refl
+  body-items ss (also x b) = items-append ss (literalItems x) (items b) ∙ ap₂ (λ (v w : List ℕ). v ++ w) (literal-items ss x) (body-items ss b)
+
+items-nodes : (ss : List Symbol) (xs : List Item) → length (itemsNodes ss xs) * 3 + length xs * 2 ≡ length (itemsWords xs) * 2
+unfolding itemsNodes itemsWords
+items-nodes ss [] = refl
+items-nodes ss (x ∷ xs) =
+    let e : length (itemNodes ss x) * 3 + 1 * 2 ≡ length (itemWords x) * 2 = item-nodes ss x in
+    let es : length (itemsNodes ss xs) * 3 + length xs * 2 ≡ length (itemsWords xs) * 2 = items-nodes ss xs in
+    let a : length (itemNodes ss x ++ itemsNodes ss xs) ≡ length (itemNodes ss x) + length (itemsNodes ss xs) = length-append (itemNodes ss x) (itemsNodes ss xs) in
+    let c : length (itemWords x ++ itemsWords xs) ≡ length (itemWords x) + length (itemsWords xs) = length-append (itemWords x) (itemsWords xs) in
+    omega arith
 
 pub body-nodes : (ss : List Symbol) (b : Body) → length (bodyNodes ss b) * 3 + bodyLength b * 2 ≡ length (bodyWords b) * 2
-unfolding bodyNodes bodyWords
-body-nodes ss done = refl
-body-nodes ss (also x b) =
-    let e : length (literalNodes ss x) * 3 + 1 * 2 ≡ length (literalWords x) * 2 = literal-nodes ss x in
-    let es : length (bodyNodes ss b) * 3 + bodyLength b * 2 ≡ length (bodyWords b) * 2 = body-nodes ss b in
-    let a : length (literalNodes ss x ++ bodyNodes ss b) ≡ length (literalNodes ss x) + length (bodyNodes ss b) = length-append (literalNodes ss x) (bodyNodes ss b) in
-    let c : length (literalWords x ++ bodyWords b) ≡ length (literalWords x) + length (bodyWords b) = length-append (literalWords x) (bodyWords b) in
-    omega arith
+body-nodes ss b =
+    let e : length (itemsNodes ss (items b)) * 3 + length (items b) * 2 ≡ length (itemsWords (items b)) * 2 = items-nodes ss (items b) in
+    let n : length (itemsNodes ss (items b)) ≡ length (bodyNodes ss b) = ap length (body-items ss b) in
+    let w : length (itemsWords (items b)) ≡ length (bodyWords b) = ap length (body-words b) in
+    omega (arith, body-many b)
+
+-- ---- how many items a body has
+
+mutual
+  unfolding literalLength literalsIn
+
+  literal-few : (x : Literal) → LiteralFilled x → literalLength x + 3 ≤ 4 * literalsIn x
+  literal-few (call a) f = omega arith
+  literal-few (equation t u) f = omega arith
+  literal-few truth f = omega arith
+  literal-few falsity f = omega arith
+  literal-few (either y z) f = omega (arith, side-few y (f .0 .0) (f .0 .1), side-few z (f .1 .0) (f .1 .1))
+
+  body-most : (b : Body) → BodyFilled b → bodyLength b ≤ 4 * literalsOf b
+  body-most done f = omega arith
+  body-most (also x b) f = omega (arith, literal-few x (f .0), body-most b (f .1))
+
+  side-few : (b : Body) → 0 < literalsOf b → BodyFilled b → bodyLength b + 3 ≤ 4 * literalsOf b
+  side-few done l f = absurd (omega arith)
+  side-few (also x b) l f = omega (arith, literal-few x (f .0), body-most b (f .1))
+
+pub few-items : (b : Body) → BodyShort b → bodyLength b ≤ mostItems
+unfolding literalLength literalsIn
+few-items done s = omega arith
+few-items (also x b) s = omega (arith, literal-few x (s .filled .0), body-most b (s .filled .1), s .few)
 
 -- ---- clauses
 

@@ -2,26 +2,33 @@
 use Prim.Native.Nat.{ℕ, zero, suc, _+_, _*_, _≤_, _<_}
 use native.Mathlib.Omega.{arith}
 use mathlib.Core.Path.{_≡_, sym, ap, _∙_, subst, subst⁻¹}
-use mathlib.Core.List.{List, _++_}
+use mathlib.Core.List.{List, [], _∷_, _++_}
 use mathlib.Core.Option.{some}
 use lib.ListN.{length, getD, length-append}
-use Rattle.syntax.specs.Limits.{clauses as mostClauses, literals as mostLiterals}
+use Rattle.syntax.specs.Limits.{clauses as mostClauses}
 use Rattle.syntax.specs.Terms.{termOf, Body, Clause, Sheet}
 use Rattle.syntax.specs.Words.{bodyWords, bodyLength}
-use Rattle.layout.specs.Regions.{places, bodies, codeWords, nextLiteral, literalFrom}
+use Rattle.layout.specs.Regions.{places, mostItems, bodies, codeWords, nextLiteral, literalFrom}
 use Rattle.machine.specs.Machine.{clauseAt}
+use Rattle.machine.specs.Low.{ClausesShort}
+use Rattle.layout.specs.Limits.{ClausesLimited}
 use Rattle.machine.proofs.Tests.{some-none}
 use Rattle.words.specs.Tables.{Has}
 use Rattle.layout.specs.Nodes.{Symbol, Stands}
 use Rattle.layout.specs.Program.{bodyNodes, clausesNodes, programNodes, headAt, bodyAt, BodyStands, ClauseStands, Program}
 use Rattle.words.proofs.Laws.{has-left, has-right}
 use Rattle.linker.specs.Linking.{Linkable}
-use Rattle.linker.specs.Records.{putPair, putBody, putHeads, putClauses}
-use Rattle.linker.specs.Places.{BodyAt, HeadsStand, Headed, BodyTo, HeadsTo, ClausesTo}
-use Rattle.linker.proofs.Sizes.{body-nodes}
+use Rattle.linker.specs.Records.{putPair, putBody, putHeads, putClauses, bodyPlace}
+use Rattle.words.specs.Items.{BodyAt, items}
+use Rattle.linker.specs.Places.{HeadsStand, Headed, BodyTo, HeadsTo, ClausesTo}
+use Rattle.linker.proofs.Sizes.{body-nodes, few-items}
 use Rattle.linker.proofs.Seeking.{heads-at}
-use Rattle.linker.proofs.Writing.{SameHeads, pair-long, pair-first, pair-heads, body-long, body-below, body-heads, body-written, body-kept, heads-long, heads-written, headed-kept, BodyPart, Kept, clauses-kept, clauses-written}
+use Rattle.linker.proofs.Writing.{SameHeads, pair-long, pair-first, pair-heads, body-long, body-below, body-heads, Written, body-written, body-kept, body-stands, heads-long, heads-written, headed-kept, BodyPart, Kept, clauses-kept, clauses-written}
 use Rattle.linker.proofs.Turns.{end-inside}
+
+clauses-short : (cls : List Clause) → ClausesLimited cls → ClausesShort cls
+clauses-short [] l = tt
+clauses-short (cl ∷ cls) l = (l .0 .body .short, clauses-short cls (l .1))
 
 program-nodes : (ss : List Symbol) (nodes : List ℕ) (b : Body) (cls : List Clause) → Has nodes 0 (bodyNodes ss b ++ clausesNodes ss cls)
     → Has nodes 0 (bodyNodes ss b) × Has nodes (length (bodyNodes ss b)) (clausesNodes ss cls) × (length (bodyNodes ss b) + length (clausesNodes ss cls) ≤ length nodes)
@@ -35,7 +42,7 @@ program-nodes ss nodes b cls h =
 
 module _ (table : List ℕ) (clauses : ℕ) (goals : List ℕ) (literals : ℕ) (nodes code : List ℕ) where
   pub goal-at : (w : Linkable table clauses goals literals nodes code) → BodyAt goals 0 literals (w .g .body)
-  goal-at w = record { has = w .has-goal; count = w .literals-count }
+  goal-at w = record { has = w .has-goal; many = w .literals-count }
 
   parts : (w : Linkable table clauses goals literals nodes code) → Has nodes 0 (bodyNodes (w .ss) (w .g .body)) × Has nodes (length (bodyNodes (w .ss) (w .g .body))) (clausesNodes (w .ss) (w .sh .clauses)) × (length (bodyNodes (w .ss) (w .g .body)) + length (clausesNodes (w .ss) (w .sh .clauses)) ≤ length nodes)
   unfolding programNodes
@@ -103,7 +110,7 @@ module _ (table : List ℕ) (clauses : ℕ) (goals : List ℕ) (literals : ℕ) 
               let m : length c1 ≡ length code = heads-length w in
               let c : codeWords ≤ length code = w .code-room in
               let a : literals ≡ bodyLength (w .g .body) = w .literals-count in
-              let b : bodyLength (w .g .body) ≤ mostLiterals = w .goal-limits .few in
+              let b : bodyLength (w .g .body) ≤ mostItems = few-items (w .g .body) (w .goal-limits .short) in
               record {
                 headed = headed-kept (w .ss) (w .sh) nodes clauses c1 c2 n (subst⁻¹ (SameHeads c1) e2 (pair-heads c1 0 bodies 0)) (headed w);
                 has = w .has-goal;
@@ -120,13 +127,13 @@ module _ (table : List ℕ) (clauses : ℕ) (goals : List ℕ) (literals : ℕ) 
             body-is w = e3 (w .ss) (w .sh) (w .g .body) (goal-ready w)
 
             body-length : (w : Linkable table clauses goals literals nodes code) → length c3 ≡ length c2
-            body-length w = ap length (body-is w) ∙ body-long (w .ss) (w .sh) 0 (w .g .body) c2 bodies
+            body-length w = ap length (body-is w) ∙ body-long (w .ss) (w .sh) 0 (items (w .g .body)) c2 bodies
 
             pub clauses-ready : (w : Linkable table clauses goals literals nodes code) → ClausesTo (w .ss) (w .sh) (w .sh .clauses) table 0 nodes node clauses c3 1
             clauses-ready w =
                 let a : clauses ≡ length (w .sh .clauses) = w .clauses-count in
                 record {
-                  headed = headed-kept (w .ss) (w .sh) nodes clauses c2 c3 (body-length w) (subst⁻¹ (SameHeads c2) (body-is w) (body-heads (w .ss) (w .sh) 0 (w .g .body) c2 bodies (omega arith))) (goal-ready w .headed);
+                  headed = headed-kept (w .ss) (w .sh) nodes clauses c2 c3 (body-length w) (subst⁻¹ (SameHeads c2) (body-is w) (body-heads (w .ss) (w .sh) 0 (items (w .g .body)) c2 bodies (omega arith))) (goal-ready w .headed);
                   has = w .has-clauses;
                   stand = clauses-stand w;
                   loadable = w .clauses-loadable;
@@ -135,17 +142,17 @@ module _ (table : List ℕ) (clauses : ℕ) (goals : List ℕ) (literals : ℕ) 
                   count = omega arith;
                 }
 
-            goal-stands : (w : Linkable table clauses goals literals nodes code) → BodyStands (w .ss) (w .sh) nodes c3 bodies (w .g .body)
-            goal-stands w =
+            goal-written : (w : Linkable table clauses goals literals nodes code) → Written (w .ss) (w .sh) c3 bodies 0 (w .g .body)
+            goal-written w =
                 let h : nextLiteral (literalFrom bodies literals) ≤ length c2 = goal-ready w .high in
                 let a : literals ≡ bodyLength (w .g .body) = w .literals-count in
-                subst⁻¹ (λ (i : List ℕ). BodyStands (w .ss) (w .sh) nodes i bodies (w .g .body)) (body-is w) (body-written (w .ss) (w .sh) nodes 0 (w .g .body) c2 bodies (parts w .0) (w .goal-loadable) (w .goal-limits .each) (omega arith))
+                subst⁻¹ (λ (i : List ℕ). Written (w .ss) (w .sh) i bodies 0 (w .g .body)) (body-is w) (body-written (w .ss) (w .sh) bodies 0 (w .g .body) c2 (omega arith))
 
             goal-place : (w : Linkable table clauses goals literals nodes code) → getD c3 1 0 ≡ bodies
             goal-place w =
                 let m : length c1 ≡ length code = heads-length w in
                 let c : codeWords ≤ length code = w .code-room in
-                ap (λ (i : List ℕ). getD i 1 0) (body-is w) ∙ (body-below (w .ss) (w .sh) 0 (w .g .body) c2 bodies 1 (omega arith) ∙ (ap (λ (i : List ℕ). getD i 1 0) e2 ∙ pair-first c1 1 bodies 0 (omega arith)))
+                ap (λ (i : List ℕ). getD i 1 0) (body-is w) ∙ (body-below (w .ss) (w .sh) 0 (items (w .g .body)) c2 bodies 1 (omega arith) ∙ (ap (λ (i : List ℕ). getD i 1 0) e2 ∙ pair-first c1 1 bodies 0 (omega arith)))
 
             module _ (c4 : List ℕ) (e4 : (ss : List Symbol) (sh : Sheet) (cls : List Clause) → ClausesTo ss sh cls table 0 nodes node clauses c3 1 → c4 ≡ putClauses ss sh node cls c3 1) where
               clauses-is : (w : Linkable table clauses goals literals nodes code) → c4 ≡ putClauses (w .ss) (w .sh) node (w .sh .clauses) c3 1
@@ -168,7 +175,8 @@ module _ (table : List ℕ) (clauses : ℕ) (goals : List ℕ) (literals : ℕ) 
                   let all : Headed (w .ss) (w .sh) nodes clauses c4 = headed-kept (w .ss) (w .sh) nodes clauses c3 c4 (kept w .long) (kept w .heads) (clauses-ready w .headed) in
                   record {
                     head = subst (λ (i : ℕ). Stands (w .ss) nodes (headAt c4 i) (termOf (cl .head))) (let q : 1 + n ≡ suc n = omega arith in q) (heads-at (w .ss) nodes c4 n 1 (w .sh .clauses) cl e (all .heads));
-                    body = subst⁻¹ (λ (i : ℕ). BodyStands (w .ss) (w .sh) nodes c4 i (cl .body)) (part .at) (part .body);
+                    body = subst⁻¹ (λ (i : ℕ). BodyStands (w .ss) (w .sh) nodes c4 i (cl .body)) (part .at)
+                        (body-stands (w .ss) (w .sh) (bodyPlace (suc n)) nodes c4 (part .node) (cl .body) (part .body) (part .stand) (part .loadable) (part .limited));
                     after = part .after;
                   }
 
@@ -177,13 +185,18 @@ module _ (table : List ℕ) (clauses : ℕ) (goals : List ℕ) (literals : ℕ) 
                   let a : length c4 ≡ length c3 = kept w .long in
                   let r : codeWords ≤ length c3 = clauses-ready w .headed .room in
                   let s3 : length c3 ≤ places = clauses-ready w .headed .short in
-                  let b : bodyLength (w .g .body) ≤ mostLiterals = w .goal-limits .few in
+                  let b : bodyLength (w .g .body) ≤ mostItems = few-items (w .g .body) (w .goal-limits .short) in
                   let place : bodyAt c4 0 ≡ bodies = kept w .records 1 (omega arith) ∙ goal-place w in
                   record {
                     small = w .nodes-short;
                     long = omega arith;
                     short = omega arith;
                     few = w .limits .few;
-                    goal = subst⁻¹ (λ (i : ℕ). BodyStands (w .ss) (w .sh) nodes c4 i (w .g .body)) place (body-kept (w .ss) (w .sh) nodes c3 c4 bodies (w .g .body) a (λ i u v. kept w .bodies i u (omega arith)) (goal-stands w));
+                    bodies-short = clauses-short (w .sh .clauses) (w .limits .clauses);
+                    goal-short = w .goal-limits .short;
+                    goal = subst⁻¹ (λ (i : ℕ). BodyStands (w .ss) (w .sh) nodes c4 i (w .g .body)) place
+                        (body-stands (w .ss) (w .sh) bodies nodes c4 0 (w .g .body)
+                        (body-kept (w .ss) (w .sh) bodies c3 c4 0 (w .g .body) a (λ i u v. kept w .bodies i u (omega arith)) (goal-written w))
+                        (parts w .0) (w .goal-loadable) (w .goal-limits .each));
                     clause = clause-stands w;
                   }

@@ -1,27 +1,29 @@
 -- Laws of the words that linking writes: what stands where they were written, and what they leave as it was. Assumes nothing.
 use Prim.Native.Nat.{ℕ, zero, suc, _+_, _*_, _≤_, _<_}
 use native.Mathlib.Omega.{arith}
-use mathlib.Core.Path.{_≡_, refl, sym, _∙_, subst, subst⁻¹}
+use mathlib.Core.Path.{_≡_, refl, sym, ap, _∙_, subst, subst⁻¹}
 use mathlib.Core.Bool.{_&&_}
-use mathlib.Core.List.{List, [], _∷_}
+use mathlib.Core.List.{List, [], _∷_, _++_}
 use mathlib.Core.Option.{some}
 use lib.Dec.{T}
-use lib.ListN.{length, getD, set, length-set}
+use lib.ListN.{length, getD, set, length-set, length-append}
 use lib.Seq.{getD-set-same, getD-set-other}
 use Rattle.syntax.specs.Limits.{clauses as mostClauses}
-use Rattle.syntax.specs.Limits.{clauses as mostClauses, literals as mostLiterals}
-use Rattle.syntax.specs.Terms.{termOf, Literal, call, equation, truth, falsity, Body, done, also, Clause, Sheet}
-use Rattle.syntax.specs.Words.{bodyLength}
-use Rattle.layout.specs.Regions.{places, endKind, bodies, codeWords, nextLiteral, clauseRecord, literalFrom}
+use Rattle.syntax.specs.Terms.{termOf, Literal, call, equation, truth, falsity, either, Body, done, also, Clause, Sheet}
+use Rattle.syntax.specs.Words.{literalLength, bodyLength}
+use Rattle.words.specs.Items.{Item, before-right, behind, literalItems, items}
+use Rattle.words.proofs.Items.{literal-many, body-many}
+use Rattle.layout.specs.Regions.{places, endKind, splitKind, jumpKind, mostItems, bodies, codeWords, nextLiteral, clauseRecord, literalFrom}
 use Rattle.machine.specs.Machine.{nextFor, nth}
 use Rattle.machine.proofs.Tests.{both, some-eq, some-none}
 use Rattle.words.specs.Tables.{Has}
 use Rattle.layout.specs.Nodes.{Symbol, loadedWords, isLoadable, Stands}
 use Rattle.layout.specs.Limits.{LiteralLimited, EachLimited, ClauseLimited, ClausesLimited}
-use Rattle.layout.specs.Program.{literalNodes, bodyNodes, clauseNodes, clausesNodes, literalLoadable, bodyLoadable, clausesLoadable, headAt, bodyAt, afterAt, kindAt, placeAt, otherAt, LiteralStands, BodyStands}
+use Rattle.layout.specs.Program.{literalNodes, bodyNodes, clauseNodes, clausesNodes, literalLoadable, bodyLoadable, clausesLoadable, headAt, bodyAt, afterAt, kindAt, placeAt, otherAt, Names, rightOf, LiteralStands, ItemsStand, BodyStands}
 use Rattle.words.proofs.Laws.{has-left, has-right}
-use Rattle.linker.specs.Records.{putPair, putRecord, kindOf, otherOf, putBody, bodyPlace, putHeads, putClause, putClauses}
+use Rattle.linker.specs.Records.{putPair, putRecord, kindOf, itemNodes, otherOf, putItems, putBody, bodyPlace, putHeads, putClause, putClauses}
 use Rattle.linker.specs.Places.{HeadsStand, Headed}
+use Rattle.linker.proofs.Sizes.{itemsNodes, literal-items, body-items, few-items}
 
 -- ---- two words, and a record
 
@@ -76,89 +78,184 @@ module _ (code : List ℕ) (l kind place other : ℕ) where
 -- ---- a body
 
 module _ (ss : List Symbol) (sh : Sheet) where
-  pub body-long : (q : ℕ) (b : Body) (code : List ℕ) (l : ℕ) → length (putBody ss sh q b code l) ≡ length code
-  unfolding putBody
-  body-long q done code l = simp length-set
-  body-long q (also x b) code l =
-      body-long (q + length (literalNodes ss x)) b (putRecord code l (kindOf x) q (otherOf ss sh q x)) (nextLiteral l) ∙ record-long code l (kindOf x) q (otherOf ss sh q x)
+  pub body-long : (q : ℕ) (xs : List Item) (code : List ℕ) (l : ℕ) → length (putItems ss sh q xs code l) ≡ length code
+  unfolding putItems
+  body-long q [] code l = simp length-set
+  body-long q (x ∷ xs) code l =
+      body-long (q + length (itemNodes ss x)) xs (putRecord code l (kindOf x) q (otherOf ss sh q l x)) (nextLiteral l) ∙ record-long code l (kindOf x) q (otherOf ss sh q l x)
 
-  pub body-below : (q : ℕ) (b : Body) (code : List ℕ) (l i : ℕ) → i < l → getD (putBody ss sh q b code l) i 0 ≡ getD code i 0
-  unfolding putBody
-  body-below q done code l i k = getD-set-other code l i endKind 0 (λ e. omega arith)
-  body-below q (also x b) code l i k =
-      body-below (q + length (literalNodes ss x)) b (putRecord code l (kindOf x) q (otherOf ss sh q x)) (nextLiteral l) i (omega arith) ∙ record-below code l (kindOf x) q (otherOf ss sh q x) i k
+  pub body-below : (q : ℕ) (xs : List Item) (code : List ℕ) (l i : ℕ) → i < l → getD (putItems ss sh q xs code l) i 0 ≡ getD code i 0
+  unfolding putItems
+  body-below q [] code l i k = getD-set-other code l i endKind 0 (λ e. omega arith)
+  body-below q (x ∷ xs) code l i k =
+      body-below (q + length (itemNodes ss x)) xs (putRecord code l (kindOf x) q (otherOf ss sh q l x)) (nextLiteral l) i (omega arith)
+      ∙ record-below code l (kindOf x) q (otherOf ss sh q l x) i k
 
-  pub body-above : (q : ℕ) (b : Body) (code : List ℕ) (l i : ℕ) → nextLiteral (literalFrom l (bodyLength b)) ≤ i → getD (putBody ss sh q b code l) i 0 ≡ getD code i 0
-  unfolding putBody
-  body-above q done code l i k = let z : nextLiteral (literalFrom l 0) ≤ i = k in getD-set-other code l i endKind 0 (λ e. omega arith)
-  body-above q (also x b) code l i k =
-      let z : nextLiteral (literalFrom l (suc (bodyLength b))) ≤ i = k in
-      body-above (q + length (literalNodes ss x)) b (putRecord code l (kindOf x) q (otherOf ss sh q x)) (nextLiteral l) i (omega arith) ∙ record-above code l (kindOf x) q (otherOf ss sh q x) i (omega arith)
+-- the record of an item at l, whose nodes stand at q
+pub record RecordAt (ss : List Symbol) (sh : Sheet) (code : List ℕ) (l q : ℕ) (x : Item) : Type 0 where
+  pub kind : kindAt code l ≡ kindOf x
+  pub place : placeAt code l ≡ q
+  pub other : otherAt code l ≡ otherOf ss sh q l x
 
-module _ (ss : List Symbol) (sh : Sheet) (nodes : List ℕ) where
-  literal-written : (q : ℕ) (x : Literal) (code : List ℕ) (l : ℕ) → Has nodes q (literalNodes ss x) → T (literalLoadable ss x) → LiteralLimited x → nextLiteral l ≤ length code
-      → LiteralStands ss sh nodes (putRecord code l (kindOf x) q (otherOf ss sh q x)) l x
-  unfolding literalNodes literalLoadable otherOf
-  literal-written q truth code l h k s r = record-kind code l 0 q 0 r
-  literal-written q falsity code l h k s r = record-kind code l 1 q 0 r
-  literal-written q (call a) code l h k s r = (
-    record-kind code l 2 q (nextFor sh a 0) r,
-    subst⁻¹ (λ (i : ℕ). Stands ss nodes i (termOf a)) (record-place code l 2 q (nextFor sh a 0) r) (record { words = h; loadable = k; shallow = s }),
-    record-other code l 2 q (nextFor sh a 0) r,
+-- the records of items from number n on, in the body that begins at `start`
+abbrev pub Records : List Symbol → Sheet → List ℕ → ℕ → ℕ → ℕ → List Item → Type 0
+Records ss sh code start n q [] = Unit {0}
+Records ss sh code start n q (x ∷ xs) = RecordAt ss sh code (literalFrom start n) q x × Records ss sh code start (n + 1) (q + length (itemNodes ss x)) xs
+
+-- those of a body, and its end
+pub record Written (ss : List Symbol) (sh : Sheet) (code : List ℕ) (start q : ℕ) (b : Body) : Type 0 where
+  pub room : nextLiteral (literalFrom start (bodyLength b)) ≤ length code
+  pub records : Records ss sh code start 0 q (items b)
+  pub ends : kindAt code (literalFrom start (bodyLength b)) ≡ endKind
+
+module _ (ss : List Symbol) (sh : Sheet) (start : ℕ) where
+  -- a record stays where its words stay
+  record-kept : (code new : List ℕ) (l q : ℕ) (x : Item) → ((i : ℕ) → l ≤ i → i < nextLiteral l → getD new i 0 ≡ getD code i 0) → RecordAt ss sh code l q x → RecordAt ss sh new l q x
+  record-kept code new l q x f w = record {
+    kind = f l (omega arith) (omega arith) ∙ w .kind;
+    place = f (l + 1) (omega arith) (omega arith) ∙ w .place;
+    other = f (l + 2) (omega arith) (omega arith) ∙ w .other;
+  }
+
+  records-kept : (code new : List ℕ) (n q : ℕ) (xs : List Item) → ((i : ℕ) → literalFrom start n ≤ i → i < literalFrom start (n + length xs) → getD new i 0 ≡ getD code i 0)
+      → Records ss sh code start n q xs → Records ss sh new start n q xs
+  records-kept code new n q [] f w = tt
+  records-kept code new n q (x ∷ xs) f w = (
+    record-kept code new (literalFrom start n) q x (λ i a u. f i a (let k : i < literalFrom start (n + suc (length xs)) = omega arith in k)) (w .0),
+    records-kept code new (n + 1) (q + length (itemNodes ss x)) xs (λ i a u. f i (omega arith) (let k : i < literalFrom start (n + suc (length xs)) = omega arith in k)) (w .1),
   )
-  literal-written q (equation t u) code l h k s r =
-      let ok : T (isLoadable ss t) × T (isLoadable ss u) = both (isLoadable ss t) (isLoadable ss u) k in (
-        record-kind code l 3 q (q + length (loadedWords ss t)) r,
-        subst⁻¹ (λ (i : ℕ). Stands ss nodes i t) (record-place code l 3 q (q + length (loadedWords ss t)) r) (record { words = has-left nodes q (loadedWords ss t) (loadedWords ss u) h; loadable = ok .0; shallow = s .0 }),
-        subst⁻¹ (λ (i : ℕ). Stands ss nodes i u) (record-other code l 3 q (q + length (loadedWords ss t)) r) (record { words = has-right nodes q (loadedWords ss t) (loadedWords ss u) h; loadable = ok .1; shallow = s .1 }),
+
+  -- what was written from record n on
+  records-written : (q : ℕ) (xs : List Item) (code : List ℕ) (n : ℕ) → nextLiteral (literalFrom start (n + length xs)) ≤ length code
+      → Records ss sh (putItems ss sh q xs code (literalFrom start n)) start n q xs × (kindAt (putItems ss sh q xs code (literalFrom start n)) (literalFrom start (n + length xs)) ≡ endKind)
+  unfolding putItems
+  records-written q [] code n r =
+      let e : literalFrom start (n + 0) ≡ literalFrom start n = omega arith in
+      (tt, ap (λ (i : ℕ). getD (set code (literalFrom start n) endKind) i 0) e ∙ getD-set-same code (literalFrom start n) endKind 0 (let z : nextLiteral (literalFrom start (n + 0)) ≤ length code = r in omega arith))
+  records-written q (x ∷ xs) code n r =
+      let z : nextLiteral (literalFrom start (n + suc (length xs))) ≤ length code = r in
+      let first : List ℕ = putRecord code (literalFrom start n) (kindOf x) q (otherOf ss sh q (literalFrom start n) x) in
+      let long : length (putRecord code (literalFrom start n) (kindOf x) q (otherOf ss sh q (literalFrom start n) x)) ≡ length code = record-long code (literalFrom start n) (kindOf x) q (otherOf ss sh q (literalFrom start n) x) in
+      let e : literalFrom start (n + 1) ≡ nextLiteral (literalFrom start n) = omega arith in
+      let m : literalFrom start (n + 1 + length xs) ≡ literalFrom start (n + suc (length xs)) = omega arith in
+      let room : nextLiteral (literalFrom start n) ≤ length code = omega arith in
+      let more = records-written (q + length (itemNodes ss x)) xs (putRecord code (literalFrom start n) (kindOf x) q (otherOf ss sh q (literalFrom start n) x)) (n + 1) (omega arith) in
+      let one : RecordAt ss sh (putRecord code (literalFrom start n) (kindOf x) q (otherOf ss sh q (literalFrom start n) x)) (literalFrom start n) q x = record {
+        kind = record-kind code (literalFrom start n) (kindOf x) q (otherOf ss sh q (literalFrom start n) x) room;
+        place = record-place code (literalFrom start n) (kindOf x) q (otherOf ss sh q (literalFrom start n) x) room;
+        other = record-other code (literalFrom start n) (kindOf x) q (otherOf ss sh q (literalFrom start n) x) room;
+      } in
+      subst (λ (i : ℕ). Records ss sh (putItems ss sh (q + length (itemNodes ss x)) xs (putRecord code (literalFrom start n) (kindOf x) q (otherOf ss sh q (literalFrom start n) x)) i) start n q (x ∷ xs)
+      × (kindAt (putItems ss sh (q + length (itemNodes ss x)) xs (putRecord code (literalFrom start n) (kindOf x) q (otherOf ss sh q (literalFrom start n) x)) i) (literalFrom start (n + suc (length xs))) ≡ endKind)) e (
+        (
+          record-kept (putRecord code (literalFrom start n) (kindOf x) q (otherOf ss sh q (literalFrom start n) x)) (putItems ss sh (q + length (itemNodes ss x)) xs (putRecord code (literalFrom start n) (kindOf x) q (otherOf ss sh q (literalFrom start n) x)) (literalFrom start (n + 1))) (literalFrom start n) q x
+              (λ i a u. body-below ss sh (q + length (itemNodes ss x)) xs (putRecord code (literalFrom start n) (kindOf x) q (otherOf ss sh q (literalFrom start n) x)) (literalFrom start (n + 1)) i (omega arith)) one,
+          more .0,
+        ),
+        ap (λ (i : ℕ). getD (putItems ss sh (q + length (itemNodes ss x)) xs (putRecord code (literalFrom start n) (kindOf x) q (otherOf ss sh q (literalFrom start n) x)) (literalFrom start (n + 1))) i 0) (sym m) ∙ more .1,
       )
 
-  literal-kept : (code new : List ℕ) (l : ℕ) (x : Literal) → ((i : ℕ) → l ≤ i → i < nextLiteral l → getD new i 0 ≡ getD code i 0) → LiteralStands ss sh nodes code l x
-      → LiteralStands ss sh nodes new l x
-  literal-kept code new l truth f h = f l (omega arith) (omega arith) ∙ h
-  literal-kept code new l falsity f h = f l (omega arith) (omega arith) ∙ h
-  literal-kept code new l (call a) f h = (
-    f l (omega arith) (omega arith) ∙ h .0,
-    subst⁻¹ (λ (i : ℕ). Stands ss nodes i (termOf a)) (f (l + 1) (omega arith) (omega arith)) (h .1),
-    f (l + 2) (omega arith) (omega arith) ∙ h .2,
-  )
-  literal-kept code new l (equation t u) f h = (
-    f l (omega arith) (omega arith) ∙ h .0,
-    subst⁻¹ (λ (i : ℕ). Stands ss nodes i t) (f (l + 1) (omega arith) (omega arith)) (h .1),
-    subst⁻¹ (λ (i : ℕ). Stands ss nodes i u) (f (l + 2) (omega arith) (omega arith)) (h .2),
-  )
-
-  -- what was written is the body
-  pub body-written : (q : ℕ) (b : Body) (code : List ℕ) (l : ℕ) → Has nodes q (bodyNodes ss b) → T (bodyLoadable ss b) → EachLimited b → nextLiteral (literalFrom l (bodyLength b)) ≤ length code
-      → BodyStands ss sh nodes (putBody ss sh q b code l) l b
-  unfolding putBody bodyNodes bodyLoadable
-  body-written q done code l h k s r =
-      let z : nextLiteral (literalFrom l 0) ≤ length code = r in
-      let n : length (set code l endKind) ≡ length code = simp length-set in
-      (omega arith, getD-set-same code l 4 0 (omega arith))
-  body-written q (also x b) code l h k s r =
-      let z : nextLiteral (literalFrom l (suc (bodyLength b))) ≤ length code = r in
-      let ok : T (literalLoadable ss x) × T (bodyLoadable ss b) = both (literalLoadable ss x) (bodyLoadable ss b) k in
-      let n : length (putRecord code l (kindOf x) q (otherOf ss sh q x)) ≡ length code = record-long code l (kindOf x) q (otherOf ss sh q x) in
-      let m : length (putBody ss sh (q + length (literalNodes ss x)) b (putRecord code l (kindOf x) q (otherOf ss sh q x)) (nextLiteral l)) ≡ length (putRecord code l (kindOf x) q (otherOf ss sh q x)) =
-      body-long ss sh (q + length (literalNodes ss x)) b (putRecord code l (kindOf x) q (otherOf ss sh q x)) (nextLiteral l) in (
-        omega arith,
-        literal-kept (putRecord code l (kindOf x) q (otherOf ss sh q x)) (putBody ss sh (q + length (literalNodes ss x)) b (putRecord code l (kindOf x) q (otherOf ss sh q x)) (nextLiteral l)) l x
-            (λ i a u. body-below ss sh (q + length (literalNodes ss x)) b (putRecord code l (kindOf x) q (otherOf ss sh q x)) (nextLiteral l) i u)
-            (literal-written q x code l (has-left nodes q (literalNodes ss x) (bodyNodes ss b) h) (ok .0) (s .0) (omega arith)),
-        body-written (q + length (literalNodes ss x)) b (putRecord code l (kindOf x) q (otherOf ss sh q x)) (nextLiteral l) (has-right nodes q (literalNodes ss x) (bodyNodes ss b) h) (ok .1) (s .1) (omega arith),
-      )
+  pub body-written : (q : ℕ) (b : Body) (code : List ℕ) → nextLiteral (literalFrom start (bodyLength b)) ≤ length code → Written ss sh (putBody ss sh q b code start) start q b
+  body-written q b code r =
+      let many : length (items b) ≡ bodyLength b = body-many b in
+      let z : literalFrom start 0 ≡ start = omega arith in
+      let e : literalFrom start (0 + length (items b)) ≡ literalFrom start (bodyLength b) = omega arith in
+      let o = records-written q (items b) code 0 (omega arith) in
+      let long : length (putItems ss sh q (items b) code start) ≡ length code = body-long ss sh q (items b) code start in
+      record {
+        room = omega arith;
+        records = subst (λ (i : ℕ). Records ss sh (putItems ss sh q (items b) code i) start 0 q (items b)) z (o .0);
+        ends = subst (λ (i : ℕ). kindAt (putItems ss sh q (items b) code start) i ≡ endKind) e (subst (λ (i : ℕ). kindAt (putItems ss sh q (items b) code i) (literalFrom start (0 + length (items b))) ≡ endKind) z (o .1));
+      }
 
   -- it stays where its words stay
-  pub body-kept : (code new : List ℕ) (l : ℕ) (b : Body) → length new ≡ length code → ((i : ℕ) → l ≤ i → i < nextLiteral (literalFrom l (bodyLength b)) → getD new i 0 ≡ getD code i 0)
-      → BodyStands ss sh nodes code l b → BodyStands ss sh nodes new l b
-  body-kept code new l done n f h = let z : nextLiteral l ≤ length code = h .0 in (omega arith, f l (omega arith) (omega arith) ∙ h .1)
-  body-kept code new l (also x b) n f h =
-      let z : nextLiteral l ≤ length code = h .0 in (
-        omega arith,
-        literal-kept code new l x (λ i a u. f i a (let k : i < nextLiteral (literalFrom l (suc (bodyLength b))) = omega arith in k)) (h .1),
-        body-kept code new (nextLiteral l) b n (λ i a u. f i (omega arith) (let k : i < nextLiteral (literalFrom l (suc (bodyLength b))) = omega arith in k)) (h .2),
-      )
+  pub body-kept : (code new : List ℕ) (q : ℕ) (b : Body) → length new ≡ length code → ((i : ℕ) → start ≤ i → i < nextLiteral (literalFrom start (bodyLength b)) → getD new i 0 ≡ getD code i 0)
+      → Written ss sh code start q b → Written ss sh new start q b
+  body-kept code new q b n f w =
+      let many : length (items b) ≡ bodyLength b = body-many b in
+      let r : nextLiteral (literalFrom start (bodyLength b)) ≤ length code = w .room in
+      record {
+        room = omega arith;
+        records = records-kept code new 0 q (items b) (λ i a u. f i (omega arith) (omega arith)) (w .records);
+        ends = f (literalFrom start (bodyLength b)) (omega arith) (omega arith) ∙ w .ends;
+      }
+
+  -- ---- the records of a body are the body
+
+  module _ (nodes code : List ℕ) where
+    records-left : (n q : ℕ) (xs ys : List Item) → Records ss sh code start n q (xs ++ ys) → Records ss sh code start n q xs
+    records-left n q [] ys r = tt
+    records-left n q (x ∷ xs) ys r = (r .0, records-left (n + 1) (q + length (itemNodes ss x)) xs ys (r .1))
+
+    -- at a place that was computed in another way
+    records-at : (n m q r : ℕ) (xs : List Item) → n ≡ m → q ≡ r → Records ss sh code start n q xs → Records ss sh code start m r xs
+    records-at n m q r xs e f w = subst (λ (i : ℕ). Records ss sh code start m i xs) f (subst (λ (i : ℕ). Records ss sh code start i q xs) e w)
+
+    records-right : (n q : ℕ) (xs ys : List Item) → Records ss sh code start n q (xs ++ ys) → Records ss sh code start (n + length xs) (q + length (itemsNodes ss xs)) ys
+    unfolding itemsNodes
+    records-right n q [] ys r = records-at n (n + 0) q (q + 0) ys (omega arith) (omega arith) r
+    records-right n q (x ∷ xs) ys r =
+        let a : length (itemNodes ss x ++ itemsNodes ss xs) ≡ length (itemNodes ss x) + length (itemsNodes ss xs) = length-append (itemNodes ss x) (itemsNodes ss xs) in
+        let e : n + 1 + length xs ≡ n + suc (length xs) = omega arith in
+        let f : q + length (itemNodes ss x) + length (itemsNodes ss xs) ≡ q + length (itemNodes ss x ++ itemsNodes ss xs) = omega arith in
+        records-at (n + 1 + length xs) (n + suc (length xs)) (q + length (itemNodes ss x) + length (itemsNodes ss xs)) (q + length (itemNodes ss x ++ itemsNodes ss xs)) ys e f
+        (records-right (n + 1) (q + length (itemNodes ss x)) xs ys (r .1))
+
+    -- a record that names another, at places that were computed in another way
+    names : (kind l m other there : ℕ) → l ≡ m → other ≡ there → kindAt code l ≡ kind → otherAt code l ≡ other → Names code kind m there
+    names kind l m other there e f k o = subst (λ (i : ℕ). Names code kind i there) e (k, o ∙ f)
+
+    mutual
+      unfolding literalItems literalNodes literalLoadable literalLength itemNodes otherOf
+
+      literal-stands : (x : Literal) (n q : ℕ) → Records ss sh code start n q (literalItems x) → Has nodes q (literalNodes ss x) → T (literalLoadable ss x) → LiteralLimited x
+          → LiteralStands ss sh nodes code start n x
+      literal-stands truth n q r h k s = r .0 .kind
+      literal-stands falsity n q r h k s = r .0 .kind
+      literal-stands (call a) n q r h k s =
+          (r .0 .kind, subst⁻¹ (λ (i : ℕ). Stands ss nodes i (termOf a)) (r .0 .place) (record { words = h; loadable = k; shallow = s }), r .0 .other)
+      literal-stands (equation t u) n q r h k s =
+          let ok : T (isLoadable ss t) × T (isLoadable ss u) = both (isLoadable ss t) (isLoadable ss u) k in (
+            r .0 .kind,
+            subst⁻¹ (λ (i : ℕ). Stands ss nodes i t) (r .0 .place) (record { words = has-left nodes q (loadedWords ss t) (loadedWords ss u) h; loadable = ok .0; shallow = s .0 }),
+            subst⁻¹ (λ (i : ℕ). Stands ss nodes i u) (r .0 .other) (record { words = has-right nodes q (loadedWords ss t) (loadedWords ss u) h; loadable = ok .1; shallow = s .1 }),
+          )
+      literal-stands (either y z) n q r h k s =
+          let ok : T (bodyLoadable ss y) × T (bodyLoadable ss z) = both (bodyLoadable ss y) (bodyLoadable ss z) k in
+          let my : length (items y) ≡ bodyLength y = body-many y in
+          let mz : length (items z) ≡ bodyLength z = body-many z in
+          let ny : length (itemsNodes ss (items y)) ≡ length (bodyNodes ss y) = ap length (body-items ss y) in
+          let right = records-right (n + 1) (q + 0) (items y) ((before-right (bodyLength z) ∷ items z) ++ (behind ∷ [])) (r .1) in
+          let last = records-right (n + 1 + length (items y) + 1) (q + 0 + length (itemsNodes ss (items y)) + 0) (items z) (behind ∷ []) (right .1) in (
+            names splitKind (literalFrom start n) (literalFrom start n) (literalFrom (literalFrom start n) (bodyLength y + 2)) (literalFrom start (n + rightOf y)) refl (omega arith) (r .0 .kind) (r .0 .other),
+            items-stand y (n + 1) q (records-at (n + 1) (n + 1) (q + 0) q (items y) refl (omega arith) (records-left (n + 1) (q + 0) (items y) ((before-right (bodyLength z) ∷ items z) ++ (behind ∷ [])) (r .1)))
+                (has-left nodes q (bodyNodes ss y) (bodyNodes ss z) h) (ok .0) (s .0),
+            names jumpKind (literalFrom start (n + 1 + length (items y))) (literalFrom start (n + 1 + bodyLength y)) (literalFrom (literalFrom start (n + 1 + length (items y))) (bodyLength z + 2))
+                (literalFrom start (n + (3 + (bodyLength y + bodyLength z)))) (omega arith) (omega arith) (right .0 .kind) (right .0 .other),
+            items-stand z (n + rightOf y) (q + length (bodyNodes ss y))
+                (records-at (n + 1 + length (items y) + 1) (n + rightOf y) (q + 0 + length (itemsNodes ss (items y)) + 0) (q + length (bodyNodes ss y)) (items z) (omega arith) (omega arith)
+                (records-left (n + 1 + length (items y) + 1) (q + 0 + length (itemsNodes ss (items y)) + 0) (items z) (behind ∷ []) (right .1)))
+                (has-right nodes q (bodyNodes ss y) (bodyNodes ss z) h) (ok .1) (s .1),
+            names jumpKind (literalFrom start (n + 1 + length (items y) + 1 + length (items z))) (literalFrom start (n + rightOf y + bodyLength z)) (nextLiteral (literalFrom start (n + 1 + length (items y) + 1 + length (items z))))
+                (literalFrom start (n + (3 + (bodyLength y + bodyLength z)))) (omega arith) (omega arith) (last .0 .kind) (last .0 .other),
+          )
+
+      items-stand : (b : Body) (n q : ℕ) → Records ss sh code start n q (items b) → Has nodes q (bodyNodes ss b) → T (bodyLoadable ss b) → EachLimited b → ItemsStand ss sh nodes code start n b
+      items-stand done n q r h k s = tt
+      items-stand (also x b) n q r h k s =
+          let ok : T (literalLoadable ss x) × T (bodyLoadable ss b) = both (literalLoadable ss x) (bodyLoadable ss b) k in
+          let m : length (literalItems x) ≡ literalLength x = literal-many x in
+          let l : length (itemsNodes ss (literalItems x)) ≡ length (literalNodes ss x) = ap length (literal-items ss x) in (
+            literal-stands x n q (records-left n q (literalItems x) (items b) r) (has-left nodes q (literalNodes ss x) (bodyNodes ss b) h) (ok .0) (s .0),
+            items-stand b (n + literalLength x) (q + length (literalNodes ss x))
+                (records-at (n + length (literalItems x)) (n + literalLength x) (q + length (itemsNodes ss (literalItems x))) (q + length (literalNodes ss x)) (items b) (omega arith) (omega arith) (records-right n q (literalItems x) (items b) r))
+                (has-right nodes q (literalNodes ss x) (bodyNodes ss b) h) (ok .1) (s .1),
+          )
+
+    pub body-stands : (q : ℕ) (b : Body) → Written ss sh code start q b → Has nodes q (bodyNodes ss b) → T (bodyLoadable ss b) → EachLimited b → BodyStands ss sh nodes code start b
+    body-stands q b w h k s =
+        let r : nextLiteral (literalFrom start (bodyLength b)) ≤ length code = w .room in
+        record { room = omega arith; items = items-stand b 0 q (w .records) h k s; ends = w .ends }
 
 -- ---- heads
 
@@ -192,8 +289,8 @@ headed-kept ss sh nodes clauses code new n f w =
 pub record-heads : (code : List ℕ) (l kind place other : ℕ) → bodies ≤ l → SameHeads code (putRecord code l kind place other)
 record-heads code l kind place other r j k = record-below code l kind place other (clauseRecord j) (omega arith)
 
-pub body-heads : (ss : List Symbol) (sh : Sheet) (q : ℕ) (b : Body) (code : List ℕ) (l : ℕ) → bodies ≤ l → SameHeads code (putBody ss sh q b code l)
-body-heads ss sh q b code l r j k = body-below ss sh q b code l (clauseRecord j) (omega arith)
+pub body-heads : (ss : List Symbol) (sh : Sheet) (q : ℕ) (xs : List Item) (code : List ℕ) (l : ℕ) → bodies ≤ l → SameHeads code (putItems ss sh q xs code l)
+body-heads ss sh q xs code l r j k = body-below ss sh q xs code l (clauseRecord j) (omega arith)
 
 pub pair-heads : (code : List ℕ) (k a b : ℕ) → SameHeads code (putPair code (clauseRecord k + 1) a b)
 pair-heads code k a b j l = pair-other code (clauseRecord k + 1) a b (clauseRecord j) (λ e. omega arith) (λ e. omega arith)
@@ -231,7 +328,11 @@ module _ (ss : List Symbol) where
 -- a clause of number k stands, all but its head
 pub record BodyPart (ss : List Symbol) (sh : Sheet) (nodes code : List ℕ) (k : ℕ) (cl : Clause) : Type 0 where
   pub at : bodyAt code k ≡ bodyPlace k
-  pub body : BodyStands ss sh nodes code (bodyPlace k) (cl .body)
+  pub node : ℕ
+  pub body : Written ss sh code (bodyPlace k) node (cl .body)
+  pub stand : Has nodes node (bodyNodes ss (cl .body))
+  pub loadable : T (bodyLoadable ss (cl .body))
+  pub limited : EachLimited (cl .body)
   pub after : afterAt code k ≡ nextFor sh (cl .head) k
 
 -- The clauses from number k on leave the words of those before: their records, and their bodies; and the places of all heads.
@@ -245,12 +346,12 @@ module _ (ss : List Symbol) (sh : Sheet) where
   pub clause-kept : (q : ℕ) (cl : Clause) (code : List ℕ) (k : ℕ) → k ≤ mostClauses → Kept code (putClause ss sh q cl code k) k
   unfolding putClause
   clause-kept q cl code k l = record {
-    long = body-long ss sh (q + length (loadedWords ss (termOf (cl .head)))) (cl .body) (putPair code (clauseRecord k + 1) (bodyPlace k) (nextFor sh (cl .head) k)) (bodyPlace k) ∙ pair-long code (clauseRecord k + 1) (bodyPlace k) (nextFor sh (cl .head) k);
-    records = λ i u. body-below ss sh (q + length (loadedWords ss (termOf (cl .head)))) (cl .body) (putPair code (clauseRecord k + 1) (bodyPlace k) (nextFor sh (cl .head) k)) (bodyPlace k) i (omega arith)
+    long = body-long ss sh (q + length (loadedWords ss (termOf (cl .head)))) (items (cl .body)) (putPair code (clauseRecord k + 1) (bodyPlace k) (nextFor sh (cl .head) k)) (bodyPlace k) ∙ pair-long code (clauseRecord k + 1) (bodyPlace k) (nextFor sh (cl .head) k);
+    records = λ i u. body-below ss sh (q + length (loadedWords ss (termOf (cl .head)))) (items (cl .body)) (putPair code (clauseRecord k + 1) (bodyPlace k) (nextFor sh (cl .head) k)) (bodyPlace k) i (omega arith)
         ∙ pair-other code (clauseRecord k + 1) (bodyPlace k) (nextFor sh (cl .head) k) i (λ e. omega arith) (λ e. omega arith);
-    bodies = λ i a u. body-below ss sh (q + length (loadedWords ss (termOf (cl .head)))) (cl .body) (putPair code (clauseRecord k + 1) (bodyPlace k) (nextFor sh (cl .head) k)) (bodyPlace k) i u
+    bodies = λ i a u. body-below ss sh (q + length (loadedWords ss (termOf (cl .head)))) (items (cl .body)) (putPair code (clauseRecord k + 1) (bodyPlace k) (nextFor sh (cl .head) k)) (bodyPlace k) i u
         ∙ pair-other code (clauseRecord k + 1) (bodyPlace k) (nextFor sh (cl .head) k) i (λ e. omega arith) (λ e. omega arith);
-    heads = λ j u. body-heads ss sh (q + length (loadedWords ss (termOf (cl .head)))) (cl .body) (putPair code (clauseRecord k + 1) (bodyPlace k) (nextFor sh (cl .head) k)) (bodyPlace k) (omega arith) j u
+    heads = λ j u. body-heads ss sh (q + length (loadedWords ss (termOf (cl .head)))) (items (cl .body)) (putPair code (clauseRecord k + 1) (bodyPlace k) (nextFor sh (cl .head) k)) (bodyPlace k) (omega arith) j u
         ∙ pair-heads code k (bodyPlace k) (nextFor sh (cl .head) k) j u;
   }
 
@@ -273,20 +374,28 @@ module _ (ss : List Symbol) (sh : Sheet) where
         → BodyPart ss sh nodes (putClause ss sh q cl code k) k cl
     unfolding putClause clauseNodes
     clause-written q cl code k l h t s r =
-        let few : bodyLength (cl .body) ≤ mostLiterals = s .body .few in
+        let few : bodyLength (cl .body) ≤ mostItems = few-items (cl .body) (s .body .short) in
         let n : length (putPair code (clauseRecord k + 1) (bodyPlace k) (nextFor sh (cl .head) k)) ≡ length code = pair-long code (clauseRecord k + 1) (bodyPlace k) (nextFor sh (cl .head) k) in
         record {
-          at = body-below ss sh (q + length (loadedWords ss (termOf (cl .head)))) (cl .body) (putPair code (clauseRecord k + 1) (bodyPlace k) (nextFor sh (cl .head) k)) (bodyPlace k) (clauseRecord k + 1) (omega arith)
+          at = body-below ss sh (q + length (loadedWords ss (termOf (cl .head)))) (items (cl .body)) (putPair code (clauseRecord k + 1) (bodyPlace k) (nextFor sh (cl .head) k)) (bodyPlace k) (clauseRecord k + 1) (omega arith)
               ∙ pair-first code (clauseRecord k + 1) (bodyPlace k) (nextFor sh (cl .head) k) (omega arith);
-          body = body-written ss sh nodes (q + length (loadedWords ss (termOf (cl .head)))) (cl .body) (putPair code (clauseRecord k + 1) (bodyPlace k) (nextFor sh (cl .head) k)) (bodyPlace k) (has-right nodes q (loadedWords ss (termOf (cl .head))) (bodyNodes ss (cl .body)) h) t (s .body .each) (omega arith);
-          after = body-below ss sh (q + length (loadedWords ss (termOf (cl .head)))) (cl .body) (putPair code (clauseRecord k + 1) (bodyPlace k) (nextFor sh (cl .head) k)) (bodyPlace k) (clauseRecord k + 2) (omega arith)
+          node = q + length (loadedWords ss (termOf (cl .head)));
+          body = body-written ss sh (bodyPlace k) (q + length (loadedWords ss (termOf (cl .head)))) (cl .body) (putPair code (clauseRecord k + 1) (bodyPlace k) (nextFor sh (cl .head) k)) (omega arith);
+          stand = has-right nodes q (loadedWords ss (termOf (cl .head))) (bodyNodes ss (cl .body)) h;
+          loadable = t;
+          limited = s .body .each;
+          after = body-below ss sh (q + length (loadedWords ss (termOf (cl .head)))) (items (cl .body)) (putPair code (clauseRecord k + 1) (bodyPlace k) (nextFor sh (cl .head) k)) (bodyPlace k) (clauseRecord k + 2) (omega arith)
               ∙ subst (λ (i : ℕ). getD (putPair code (clauseRecord k + 1) (bodyPlace k) (nextFor sh (cl .head) k)) i 0 ≡ nextFor sh (cl .head) k) (let e : clauseRecord k + 1 + 1 ≡ clauseRecord k + 2 = omega arith in e) (pair-second code (clauseRecord k + 1) (bodyPlace k) (nextFor sh (cl .head) k) (omega arith));
         }
 
-    part-kept : (code new : List ℕ) (k : ℕ) (cl : Clause) → k ≤ mostClauses → bodyLength (cl .body) ≤ mostLiterals → Kept code new (k + 1) → BodyPart ss sh nodes code k cl → BodyPart ss sh nodes new k cl
+    part-kept : (code new : List ℕ) (k : ℕ) (cl : Clause) → k ≤ mostClauses → bodyLength (cl .body) ≤ mostItems → Kept code new (k + 1) → BodyPart ss sh nodes code k cl → BodyPart ss sh nodes new k cl
     part-kept code new k cl l few s w = record {
       at = s .records (clauseRecord k + 1) (omega arith) ∙ w .at;
-      body = body-kept ss sh nodes code new (bodyPlace k) (cl .body) (s .long) (λ i a u. s .bodies i (omega arith) (omega arith)) (w .body);
+      node = w .node;
+      body = body-kept ss sh (bodyPlace k) code new (w .node) (cl .body) (s .long) (λ i a u. s .bodies i (omega arith) (omega arith)) (w .body);
+      stand = w .stand;
+      loadable = w .loadable;
+      limited = w .limited;
       after = s .records (clauseRecord k + 2) (omega arith) ∙ w .after;
     }
 
@@ -297,7 +406,7 @@ module _ (ss : List Symbol) (sh : Sheet) where
     clauses-written q [] code k h t s l r n cl e = absurd (some-none cl (sym e))
     clauses-written q (c ∷ cls) code k h t s l r zero cl e =
         let z : k + suc (length cls) ≤ mostClauses + 1 = l in
-        let few : bodyLength (c .body) ≤ mostLiterals = s .0 .body .few in
+        let few : bodyLength (c .body) ≤ mostItems = few-items (c .body) (s .0 .body .short) in
         let oks : T (isLoadable ss (termOf (c .head)) && bodyLoadable ss (c .body)) × T (clausesLoadable ss cls) = both (isLoadable ss (termOf (c .head)) && bodyLoadable ss (c .body)) (clausesLoadable ss cls) t in
         let ok : T (isLoadable ss (termOf (c .head))) × T (bodyLoadable ss (c .body)) = both (isLoadable ss (termOf (c .head))) (bodyLoadable ss (c .body)) (oks .0) in
         let first : BodyPart ss sh nodes (putClause ss sh q c code k) k c = clause-written q c code k (omega arith) (has-left nodes q (clauseNodes ss c) (clausesNodes ss cls) h) (ok .1) (s .0) r in

@@ -4,25 +4,22 @@ use mathlib.Core.Path.{_≡_}
 use mathlib.Core.List.{List, [], _∷_}
 use lib.Dec.{T}
 use lib.ListN.{length}
-use Rattle.syntax.specs.Terms.{termOf, Literal, Body, Clause, Sheet}
-use Rattle.syntax.specs.Words.{literalWords, bodyWords, bodyLength, clauseWords, clausesWords}
+use Rattle.syntax.specs.Terms.{termOf, Body, Clause, Sheet}
+use Rattle.syntax.specs.Words.{bodyWords, bodyLength, clauseWords, clausesWords}
 use Rattle.words.specs.Tables.{Has}
-use Rattle.syntax.specs.Limits.{clauses as mostClauses, literals as mostLiterals}
-use Rattle.layout.specs.Regions.{bodies, codeWords, places, nextLiteral, literalFrom}
+use Rattle.words.specs.Items.{Item, plain-call, plain-equation, plain-truth, plain-falsity, before-left, before-right, behind, itemWords}
+use Rattle.syntax.specs.Limits.{clauses as mostClauses}
+use Rattle.layout.specs.Regions.{mostItems, bodies, codeWords, places, nextLiteral, literalFrom}
 use Rattle.layout.specs.Nodes.{Symbol, Stands, isLoadable}
 use Rattle.layout.specs.Limits.{ClausesLimited}
-use Rattle.layout.specs.Program.{literalNodes, bodyNodes, clauseNodes, clausesNodes, literalLoadable, bodyLoadable, clausesLoadable, headAt}
+use Rattle.layout.specs.Program.{bodyNodes, clauseNodes, clausesNodes, bodyLoadable, clausesLoadable, headAt}
+use Rattle.linker.specs.Records.{itemNodes}
 
 -- every clause has its head's place
 pub record Searchable (nodes code : List ℕ) (clauses : ℕ) : Type 0 where
   pub few : clauses ≤ mostClauses
   pub long : bodies ≤ length code
   pub inside : (j : ℕ) → 1 ≤ j → j ≤ clauses → headAt code j < length nodes
-
--- so many literals stand from p on
-pub record BodyAt (table : List ℕ) (p literals : ℕ) (b : Body) : Type 0 where
-  pub has : Has table p (bodyWords b)
-  pub count : literals ≡ bodyLength b
 
 -- the heads of clauses, the first of number k, stand where their records say
 abbrev pub HeadsStand : List Symbol → List ℕ → List ℕ → ℕ → List Clause → Type 0
@@ -38,32 +35,49 @@ pub record Headed (ss : List Symbol) (sh : Sheet) (nodes : List ℕ) (clauses : 
   pub short : length code ≤ places
   pub nodes-short : length nodes ≤ places
 
--- a literal whose nodes stand at q
-pub record LiteralIn (ss : List Symbol) (sh : Sheet) (x : Literal) (table : List ℕ) (p : ℕ) (nodes : List ℕ) (q clauses : ℕ) (code : List ℕ) : Type 0 where
-  pub headed : Headed ss sh nodes clauses code
-  pub has : Has table p (literalWords x)
-  pub stand : Has nodes q (literalNodes ss x)
-  pub loadable : T (literalLoadable ss x)
-  pub node : q ≤ length nodes
+-- the terms of an item can stand in the table
+abbrev pub ItemLoadable : List Symbol → Item → Type 0
+ItemLoadable ss (plain-call a) = T (isLoadable ss (termOf a))
+ItemLoadable ss (plain-equation t u) = T (isLoadable ss t) × T (isLoadable ss u)
+ItemLoadable ss plain-truth = Unit {0}
+ItemLoadable ss plain-falsity = Unit {0}
+ItemLoadable ss (before-left n) = Unit {0}
+ItemLoadable ss (before-right n) = Unit {0}
+ItemLoadable ss behind = Unit {0}
 
--- and there is room for its record at l
-pub record LiteralTo (ss : List Symbol) (sh : Sheet) (x : Literal) (table : List ℕ) (p : ℕ) (nodes : List ℕ) (q clauses : ℕ) (code : List ℕ) (l : ℕ) : Type
+-- a side has no more items than a body can have
+abbrev pub SideSmall : Item → Type 0
+SideSmall (plain-call a) = Unit {0}
+SideSmall (plain-equation t u) = Unit {0}
+SideSmall plain-truth = Unit {0}
+SideSmall plain-falsity = Unit {0}
+SideSmall (before-left n) = n ≤ places
+SideSmall (before-right n) = n ≤ places
+SideSmall behind = Unit {0}
+
+-- an item whose nodes stand at q, with room for its record at l
+pub record ItemTo (ss : List Symbol) (sh : Sheet) (x : Item) (table : List ℕ) (p : ℕ) (nodes : List ℕ) (q clauses : ℕ) (code : List ℕ) (l : ℕ) : Type
     0 where
-  pub given : LiteralIn ss sh x table p nodes q clauses code
+  pub headed : Headed ss sh nodes clauses code
+  pub has : Has table p (itemWords x)
+  pub stand : Has nodes q (itemNodes ss x)
+  pub loadable : ItemLoadable ss x
+  pub small : SideSmall x
+  pub node : q ≤ length nodes
   pub low : bodies ≤ l
   pub high : nextLiteral l ≤ length code
 
--- a body of so many literals
-pub record BodyTo (ss : List Symbol) (sh : Sheet) (b : Body) (table : List ℕ) (p literals : ℕ) (nodes : List ℕ) (q clauses : ℕ) (code : List ℕ) (l : ℕ) :
+-- a body of so many items
+pub record BodyTo (ss : List Symbol) (sh : Sheet) (b : Body) (table : List ℕ) (p many : ℕ) (nodes : List ℕ) (q clauses : ℕ) (code : List ℕ) (l : ℕ) :
     Type 0 where
   pub headed : Headed ss sh nodes clauses code
   pub has : Has table p (bodyWords b)
-  pub count : literals ≡ bodyLength b
+  pub count : many ≡ bodyLength b
   pub stand : Has nodes q (bodyNodes ss b)
   pub loadable : T (bodyLoadable ss b)
   pub node : q ≤ length nodes
   pub low : bodies ≤ l
-  pub high : nextLiteral (literalFrom l literals) ≤ length code
+  pub high : nextLiteral (literalFrom l many) ≤ length code
 
 -- a clause of number k
 pub record ClauseTo (ss : List Symbol) (sh : Sheet) (cl : Clause) (table : List ℕ) (p : ℕ) (nodes : List ℕ) (q clauses : ℕ) (code : List ℕ)
@@ -73,7 +87,7 @@ pub record ClauseTo (ss : List Symbol) (sh : Sheet) (cl : Clause) (table : List 
   pub stand : Has nodes q (clauseNodes ss cl)
   pub head-loadable : T (isLoadable ss (termOf (cl .head)))
   pub body-loadable : T (bodyLoadable ss (cl .body))
-  pub short : bodyLength (cl .body) ≤ mostLiterals
+  pub short : bodyLength (cl .body) ≤ mostItems
   pub low : 1 ≤ k
   pub high : k ≤ clauses
 

@@ -1,43 +1,70 @@
 -- The words that linking writes, as the tables are when they were written.
 use Prim.Native.Nat.{ℕ, zero, suc, _+_, _*_}
 use mathlib.Core.Bool.{true, false}
-use mathlib.Core.List.{List, [], _∷_}
+use mathlib.Core.List.{List, [], _∷_, _++_}
 use lib.Dec.{eqb}
 use lib.ListN.{length, getD, set}
-use Rattle.syntax.specs.Terms.{termOf, Literal, call, equation, truth, falsity, Body, done, also, Clause, Sheet}
+use Rattle.syntax.specs.Terms.{termOf, Body, Clause, Sheet}
 use Rattle.machine.specs.Machine.{nextFor}
 use Rattle.syntax.specs.Words.{truthKind, falsityKind, callKind, equationKind}
-use Rattle.layout.specs.Regions.{endKind, nextLiteral, bodies, bodySize, clauseRecord}
+use Rattle.words.specs.Items.{Item, plain-call, plain-equation, plain-truth, plain-falsity, before-left, before-right, behind, items}
+use Rattle.layout.specs.Regions.{endKind, splitKind, jumpKind, nextLiteral, literalFrom, bodies, bodySize, clauseRecord}
 use Rattle.layout.specs.Nodes.{Symbol, loadedWords}
-use Rattle.layout.specs.Program.{literalNodes, clauseNodes, headAt}
+use Rattle.layout.specs.Program.{clauseNodes, headAt}
 
 -- two words at p
 unfoldable pub putPair : List ℕ → ℕ → ℕ → ℕ → List ℕ
 putPair code p a b = set (set code p a) (p + 1) b
 
--- a literal's record at l: its kind and two words
+-- a record at l: its kind and two words
 unfoldable pub putRecord : List ℕ → ℕ → ℕ → ℕ → ℕ → List ℕ
 putRecord code l kind place other = putPair (set code l kind) (l + 1) place other
 
--- a literal's kind
-abbrev pub kindOf : Literal → ℕ
-kindOf truth = truthKind
-kindOf falsity = falsityKind
-kindOf (call a) = callKind
-kindOf (equation t u) = equationKind
+-- the kind of an item's record
+abbrev pub kindOf : Item → ℕ
+kindOf plain-truth = truthKind
+kindOf plain-falsity = falsityKind
+kindOf (plain-call a) = callKind
+kindOf (plain-equation t u) = equationKind
+kindOf (before-left n) = splitKind
+kindOf (before-right n) = jumpKind
+kindOf behind = jumpKind
 
--- its third word, where its nodes stand at q: the topmost clause for a call, the place of the right term of an equation
-unfoldable pub otherOf : List Symbol → Sheet → ℕ → Literal → ℕ
-otherOf ss sh q truth = 0
-otherOf ss sh q falsity = 0
-otherOf ss sh q (call a) = nextFor sh a 0
-otherOf ss sh q (equation t u) = q + length (loadedWords ss t)
+-- the loaded nodes of an item: the words of a bracket have none
+unfoldable pub itemNodes : List Symbol → Item → List ℕ
+itemNodes ss (plain-call a) = loadedWords ss (termOf a)
+itemNodes ss (plain-equation t u) = loadedWords ss t ++ loadedWords ss u
+itemNodes ss plain-truth = []
+itemNodes ss plain-falsity = []
+itemNodes ss (before-left n) = []
+itemNodes ss (before-right n) = []
+itemNodes ss behind = []
 
--- the records of a body from l on, and its end, where its nodes stand from q on
-unfoldable pub putBody : List Symbol → Sheet → ℕ → Body → List ℕ → ℕ → List ℕ
-putBody ss sh q done code l = set code l endKind
-putBody ss sh q (also x b) code l =
-    putBody ss sh (q + length (literalNodes ss x)) b (putRecord code l (kindOf x) q (otherOf ss sh q x)) (nextLiteral l)
+-- the words around a side: the one before it, and the one behind it
+abbrev pub sideEnds : ℕ
+sideEnds = 2
+
+-- The third word of its record, which is at l, where its nodes stand at q: the topmost clause for a call, the place of the right term of an equation.
+-- Before a side it is the record behind the word that ends the side: of the left side, the right one's first; of the right side, the one behind the
+-- bracket, and so is the record that ends the right side.
+unfoldable pub otherOf : List Symbol → Sheet → ℕ → ℕ → Item → ℕ
+otherOf ss sh q l plain-truth = 0
+otherOf ss sh q l plain-falsity = 0
+otherOf ss sh q l (plain-call a) = nextFor sh a 0
+otherOf ss sh q l (plain-equation t u) = q + length (loadedWords ss t)
+otherOf ss sh q l (before-left n) = literalFrom l (n + sideEnds)
+otherOf ss sh q l (before-right n) = literalFrom l (n + sideEnds)
+otherOf ss sh q l behind = nextLiteral l
+
+-- the records of items from l on, and then the body's end, where their nodes stand from q on
+unfoldable pub putItems : List Symbol → Sheet → ℕ → List Item → List ℕ → ℕ → List ℕ
+putItems ss sh q [] code l = set code l endKind
+putItems ss sh q (x ∷ xs) code l =
+    putItems ss sh (q + length (itemNodes ss x)) xs (putRecord code l (kindOf x) q (otherOf ss sh q l x)) (nextLiteral l)
+
+-- those of a body
+abbrev pub putBody : List Symbol → Sheet → ℕ → Body → List ℕ → ℕ → List ℕ
+putBody ss sh q b code l = putItems ss sh q (items b) code l
 
 -- where the body of clause k begins; the goal's has the number 0
 abbrev pub bodyPlace : ℕ → ℕ

@@ -1,40 +1,85 @@
-// Records of literals. A literal stands at p of the table that it was read into, and its loaded nodes stand at q.
+// Records of a body's items. An item stands at p of the table that it was read into, and its loaded nodes stand at q.
+use crate::records::literal_from;
 use crate::records::next_literal;
 use crate::records::put_record;
 use crate::search::next_for;
 use crate::walk::nodes_of;
 use layout::END_KIND;
+use layout::JUMP_KIND;
+use layout::SPLIT_KIND;
+use syntax::BEHIND_KIND;
 use syntax::CALL_KIND;
+use syntax::EQUATION_KIND;
+use syntax::LEFT_KIND;
+use syntax::items_of_side;
+use syntax::kind_of_item;
 use words::past;
-use words::past_literal;
+use words::past_item;
 use words::put;
 use words::word_at;
 ghost use mathlib.Core.Path.{_≡_};
 ghost use mathlib.Core.List.{List};
-ghost use Rattle.syntax.specs.Terms.{Literal, Body, Sheet};
+ghost use Rattle.syntax.specs.Terms.{Body, Sheet};
+ghost use Rattle.words.specs.Tables.{Has};
+ghost use Rattle.words.specs.Items.{Item, itemWords};
 ghost use Rattle.layout.specs.Nodes.{Symbol};
 ghost use Rattle.linker.specs.Records.{putRecord, kindOf, otherOf, putBody};
-ghost use Rattle.linker.specs.Places.{LiteralIn, LiteralTo, BodyTo};
+ghost use Rattle.linker.specs.Places.{ItemTo, BodyTo};
 
-// The third word of a literal's record: the topmost clause for a call, the place of the right term of an equation.
-fn other_of(table: &[u32], p: usize, nodes: &[u32], q: usize, clauses: usize, code: &[u32]) -> usize
-    requires { ⌜ ((ss : List Symbol) × ((sh : Sheet) × ((x : Literal) × LiteralIn ss sh x (now table) p (now nodes) q clauses (now code)))) ⌝ }
-    ensures { λ r. ⌜ ((ss : List Symbol) (sh : Sheet) (x : Literal) → LiteralIn ss sh x (now (table .entry)) p (now (nodes .entry)) q clauses
-        (now (code .entry)) → r ≡ otherOf ss sh q x) ⌝ }
+// The words around a side: the one before it, and the one behind it.
+const SIDE_ENDS: usize = 2;
+
+// The kind of an item's record: of a plain literal its own; where a bracket begins its sides part, and at its other words a side ends.
+fn kind_of(table: &[u32], p: usize) -> usize
+    requires { ⌜ ((x : Item) × Has (now table) p (itemWords x)) ⌝ }
+    ensures { λ r. ⌜ ((x : Item) → Has (now (table .entry)) p (itemWords x) → r ≡ kindOf x) ⌝ }
 {
-    let kind = word_at(table, p);
-    if kind < CALL_KIND {
-        return 0;
+    let word = word_at(table, p);
+    if word <= EQUATION_KIND {
+        return word;
     }
-    if kind == CALL_KIND {
-        let word = word_at(nodes, q);
-        return next_for(nodes, code, clauses, word, 0);
+    let kind = kind_of_item(word);
+    if kind == LEFT_KIND {
+        return SPLIT_KIND;
     }
-    past(nodes, q)
+    JUMP_KIND
 }
 
-// The record of a literal.
-fn put_literal(
+// The third word of an item's record at l: the topmost clause for a call, the place of the right term of an equation, or the record behind the side that
+// the word of a bracket begins.
+fn other_of(
+    table: &[u32],
+    p: usize,
+    nodes: &[u32],
+    q: usize,
+    clauses: usize,
+    code: &[u32],
+    l: usize,
+) -> usize
+    requires { ⌜ ((ss : List Symbol) × ((sh : Sheet) × ((x : Item) × ItemTo ss sh x (now table) p (now nodes) q clauses (now code) l))) ⌝ }
+    ensures { λ r. ⌜ ((ss : List Symbol) (sh : Sheet) (x : Item) → ItemTo ss sh x (now (table .entry)) p (now (nodes .entry)) q clauses
+        (now (code .entry)) l → r ≡ otherOf ss sh q l x) ⌝ }
+{
+    let word = word_at(table, p);
+    if word < CALL_KIND {
+        return 0;
+    }
+    if word == CALL_KIND {
+        let name = word_at(nodes, q);
+        return next_for(nodes, code, clauses, name, 0);
+    }
+    if word == EQUATION_KIND {
+        return past(nodes, q);
+    }
+    if word == BEHIND_KIND {
+        return next_literal(l);
+    }
+    let items = items_of_side(word);
+    literal_from(l, items + SIDE_ENDS)
+}
+
+// The record of an item.
+fn put_item(
     table: &[u32],
     p: usize,
     nodes: &[u32],
@@ -43,37 +88,37 @@ fn put_literal(
     code: &mut [u32],
     l: usize,
 )
-    requires { ⌜ ((ss : List Symbol) × ((sh : Sheet) × ((x : Literal) × LiteralTo ss sh x (now table) p (now nodes) q clauses (now code) l))) ⌝ }
-    ensures { λ _. ⌜ ((ss : List Symbol) (sh : Sheet) (x : Literal) → LiteralTo ss sh x (now (table .entry)) p (now (nodes .entry)) q clauses
-        (now (code .entry)) l → now (code .exit) ≡ putRecord (now (code .entry)) l (kindOf x) q (otherOf ss sh q x)) ⌝ }
+    requires { ⌜ ((ss : List Symbol) × ((sh : Sheet) × ((x : Item) × ItemTo ss sh x (now table) p (now nodes) q clauses (now code) l))) ⌝ }
+    ensures { λ _. ⌜ ((ss : List Symbol) (sh : Sheet) (x : Item) → ItemTo ss sh x (now (table .entry)) p (now (nodes .entry)) q clauses
+        (now (code .entry)) l → now (code .exit) ≡ putRecord (now (code .entry)) l (kindOf x) q (otherOf ss sh q l x)) ⌝ }
 {
-    let kind = word_at(table, p);
-    let other = other_of(table, p, nodes, q, clauses, code);
+    let kind = kind_of(table, p);
+    let other = other_of(table, p, nodes, q, clauses, code, l);
     put_record(code, l, kind, q, other);
 }
 
-// The records of a body's literals from l on, and its end.
+// The records of a body's items from l on, and its end.
 pub fn put_body(
     table: &[u32],
     p: usize,
-    literals: usize,
+    items: usize,
     nodes: &[u32],
     q: usize,
     clauses: usize,
     code: &mut [u32],
     l: usize,
 )
-    requires { ⌜ ((ss : List Symbol) × ((sh : Sheet) × ((b : Body) × BodyTo ss sh b (now table) p literals (now nodes) q clauses (now code) l))) ⌝ }
-    ensures { λ _. ⌜ ((ss : List Symbol) (sh : Sheet) (b : Body) → BodyTo ss sh b (now (table .entry)) p literals (now (nodes .entry)) q clauses
+    requires { ⌜ ((ss : List Symbol) × ((sh : Sheet) × ((b : Body) × BodyTo ss sh b (now table) p items (now nodes) q clauses (now code) l))) ⌝ }
+    ensures { λ _. ⌜ ((ss : List Symbol) (sh : Sheet) (b : Body) → BodyTo ss sh b (now (table .entry)) p items (now (nodes .entry)) q clauses
         (now (code .entry)) l → now (code .exit) ≡ putBody ss sh q b (now (code .entry)) l) ⌝ }
 {
     let mut at = p;
     let mut node = q;
     let mut to = l;
     let mut i = 0;
-    while i < literals {
-        put_literal(table, at, nodes, node, clauses, code, to);
-        let next = past_literal(table, at);
+    while i < items {
+        put_item(table, at, nodes, node, clauses, code, to);
+        let next = past_item(table, at);
         let words = next - at;
         let size = nodes_of(words, 1);
         at = next;

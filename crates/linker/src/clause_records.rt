@@ -7,7 +7,7 @@ use layout::BODIES;
 use layout::BODY_SIZE;
 use layout::CLAUSE_SIZE;
 use syntax::CLAUSE_START;
-use words::CLAUSE_LITERALS;
+use words::CLAUSE_ITEMS;
 use words::past;
 use words::put;
 use words::word_at;
@@ -28,8 +28,8 @@ fn clause_nodes(table: &[u32], p: usize) -> usize
     ensures { λ r. ⌜ ((ss : List Symbol) (cl : Clause) → Has (now (table .entry)) p (clauseWords cl) → r ≡ length (clauseNodes ss cl)) ⌝ }
 {
     let size = word_at(table, p);
-    let literals = word_at(table, p + CLAUSE_LITERALS);
-    nodes_of(size, literals + CLAUSE_START)
+    let items = word_at(table, p + CLAUSE_ITEMS);
+    nodes_of(size, items + CLAUSE_START)
 }
 
 // The places of the heads, written into the records of the clauses.
@@ -69,10 +69,10 @@ fn put_clause(
     let after = next_for(nodes, code, clauses, word, k);
     let l = BODIES + k * BODY_SIZE;
     put_pair(code, k * CLAUSE_SIZE + 1, l, after);
-    let literals = word_at(table, p + CLAUSE_LITERALS);
+    let items = word_at(table, p + CLAUSE_ITEMS);
     let first = past(table, p + CLAUSE_START);
     let node = past(nodes, q);
-    put_body(table, first, literals, nodes, node, clauses, code, l);
+    put_body(table, first, items, nodes, node, clauses, code, l);
 }
 
 // The same for all clauses.

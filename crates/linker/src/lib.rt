@@ -1,4 +1,4 @@
-// Linking: a record for each clause and literal, with the next clauses to be tried.
+// Linking: a record for each clause and each item of a body, with the next clauses to be tried.
 mod bodies;
 mod clause_records;
 mod records;
@@ -11,7 +11,7 @@ use clause_records::put_heads;
 use layout::BODIES;
 use records::put_pair;
 use walk::nodes_of;
-use walk::past_body;
+use words::past_body;
 ghost use Rattle.layout.specs.Program.{Program};
 ghost use Rattle.linker.specs.Linking.{Linkable};
 

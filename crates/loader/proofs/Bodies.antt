@@ -1,15 +1,16 @@
--- Laws of copying literals and clauses, one for each way out of the functions. Assumes nothing.
+-- Laws of copying bodies, one for each way out of the functions. Assumes nothing.
 use Prim.Native.Nat.{ℕ, suc, _+_, _*_, _/_, _≤_, _<_}
 use native.Mathlib.Omega.{arith}
-use mathlib.Core.Path.{_≡_, refl, sym, ap, ap₂, _∙_, subst}
-use mathlib.Core.List.{List, [], _∷_, _++_}
+use mathlib.Core.Path.{_≡_, refl, sym, ap, ap₂, _∙_, subst, subst⁻¹}
+use mathlib.Core.List.{List, [], _∷_, _++_, append-nil, append-assoc}
 use lib.ListN.{length, length-append}
 use Rattle.syntax.specs.Limits.{sheetBytes, wordBytes, arguments, variables}
-use Rattle.syntax.specs.Terms.{Term, Terms, variable, compound, nil, cons, arity, termOf, Literal, Body, call, equation, truth, falsity, done, also}
-use Rattle.syntax.specs.Words.{truthKind, falsityKind, callKind, equationKind, functor, termWords, termsWords, literalWords, bodyWords, bodyLength, nodeWords, goalWords}
-use Rattle.marking.specs.Standing.{Stands, AllStand, stands-variable, stands-compound, stand-nil, stand-cons, LiteralStands, call-stands, equation-stands, truth-stands, falsity-stands, BodyStands, also-stands}
+use Rattle.syntax.specs.Terms.{Term, Terms, variable, compound, nil, cons, arity, termOf, Literal, Body, call, equation, truth, falsity, either, done, also}
+use Rattle.syntax.specs.Words.{truthKind, falsityKind, callKind, equationKind, leftKind, rightKind, behindKind, marker, functor, termWords, termsWords, bodyWords, bodyLength, nodeWords, goalWords}
+use Rattle.marking.specs.Standing.{Stands, AllStand, stands-variable, stands-compound, stand-nil, stand-cons, LiteralStands, call-stands, equation-stands, truth-stands, falsity-stands, either-stands, BodyStands, done-stands, also-stands}
 use Rattle.words.specs.Tables.{Has}
-use Rattle.words.proofs.Laws.{has-left, has-right, literal-room}
+use Rattle.words.specs.Items.{Item, plain-call, plain-equation, plain-truth, plain-falsity, before-left, before-right, behind, itemWords, itemsWords, literalItems, items}
+use Rattle.words.proofs.Items.{body-words, body-many, items-stand, first-stands, rest-stand, item-room}
 use Rattle.layout.specs.Regions.{loadedNode}
 use Rattle.loader.specs.Flat.{Parsed, parsedWords, termParsed, termsParsed, literalParsed, bodyParsed, flatWords, flatWhat, flatAll, AllFit, written, RunAt, BodyHere}
 use Rattle.loader.proofs.Writing.{written-nil, written-append}
@@ -62,125 +63,197 @@ module _ (s : List ℕ) (short : length s ≤ sheetBytes) where
     terms-fit nil stand-nil = tt
     terms-fit (cons t ts) (stand-cons a b) = fit-append (termParsed t) (termsParsed ts) (term-fits t a) (terms-fit ts b)
 
-  literal-fits : (l : Literal) → LiteralStands s l → AllFit (literalParsed l)
-  unfolding literalParsed
-  literal-fits (call a) (call-stands k) = term-fits (termOf a) k
-  literal-fits (equation t u) (equation-stands j k) = fit-append (termParsed t) (termParsed u) (term-fits t j) (term-fits u k)
-  literal-fits truth truth-stands = tt
-  literal-fits falsity falsity-stands = tt
+  mutual
+    unfolding literalParsed
 
--- ---- a literal: its kind, and then its nodes
+    literal-fits : (l : Literal) → LiteralStands s l → AllFit (literalParsed l)
+    literal-fits (call a) (call-stands k) = term-fits (termOf a) k
+    literal-fits (equation t u) (equation-stands j k) = fit-append (termParsed t) (termParsed u) (term-fits t j) (term-fits u k)
+    literal-fits truth truth-stands = tt
+    literal-fits falsity falsity-stands = tt
+    literal-fits (either y z) (either-stands j k) = fit-append (bodyParsed y) (bodyParsed z) (body-fits y j) (body-fits z k)
 
-kindOf : Literal → ℕ
-kindOf truth = truthKind
-kindOf falsity = falsityKind
-kindOf (call a) = callKind
-kindOf (equation t u) = equationKind
+    body-fits : (b : Body) → BodyStands s b → AllFit (bodyParsed b)
+    body-fits done done-stands = tt
+    body-fits (also x b) (also-stands j k) = fit-append (literalParsed x) (bodyParsed b) (literal-fits x j) (body-fits b k)
 
-literal-words : (l : Literal) → literalWords l ≡ kindOf l ∷ parsedWords (literalParsed l)
-unfolding literalWords literalParsed parsedWords kindOf
-literal-words truth = refl
-literal-words falsity = refl
-literal-words (call a) = ap (λ (x : List ℕ). callKind ∷ x) (term-words (termOf a))
-literal-words (equation t u) = ap (λ (x : List ℕ). equationKind ∷ x) (ap₂ (λ (a b : List ℕ). a ++ b) (term-words t) (term-words u) ∙ sym (parsed-append (termParsed t) (termParsed u)))
+-- ---- an item: its first word, and then its nodes
 
-pub literal-long : (l : Literal) → length (literalWords l) ≡ suc (length (parsedWords (literalParsed l)))
-literal-long l = ap length (literal-words l)
+unfoldable pub itemParsed : Item → List Parsed
+itemParsed (plain-call a) = termParsed (termOf a)
+itemParsed (plain-equation t u) = termParsed t ++ termParsed u
+itemParsed plain-truth = []
+itemParsed plain-falsity = []
+itemParsed (before-left n) = []
+itemParsed (before-right n) = []
+itemParsed behind = []
 
-abbrev literal-run : (s : List ℕ) → length s ≤ sheetBytes → (table : List ℕ) (p : ℕ) (l : Literal) → Has table p (literalWords l) → LiteralStands s l
-    → (next : ℕ) → next ≡ p + length (literalWords l) → RunAt table (p + 1) next
-literal-run s short table p l h k next e = record {
-  run = literalParsed l;
-  has = subst (Has table p) (literal-words l) h .2;
-  ends = (let z : length (literalWords l) ≡ suc (length (parsedWords (literalParsed l))) = literal-long l in let y : next ≡ (p + 1) + length (parsedWords (literalParsed l)) = omega arith in y);
-  fit = literal-fits s short l k;
-}
+unfoldable pub itemsParsed : List Item → List Parsed
+itemsParsed [] = []
+itemsParsed (x ∷ xs) = itemParsed x ++ itemsParsed xs
+
+unfoldable pub firstWord : Item → ℕ
+firstWord (plain-call a) = callKind
+firstWord (plain-equation t u) = equationKind
+firstWord plain-truth = truthKind
+firstWord plain-falsity = falsityKind
+firstWord (before-left n) = marker leftKind n
+firstWord (before-right n) = marker rightKind n
+firstWord behind = behindKind
+
+item-words : (x : Item) → itemWords x ≡ firstWord x ∷ parsedWords (itemParsed x)
+unfolding itemWords itemParsed parsedWords firstWord
+item-words (plain-call a) = ap (λ (x : List ℕ). callKind ∷ x) (term-words (termOf a))
+item-words (plain-equation t u) =
+    ap (λ (x : List ℕ). equationKind ∷ x) (ap₂ (λ (a b : List ℕ). a ++ b) (term-words t) (term-words u) ∙ sym (parsed-append (termParsed t) (termParsed u)))
+item-words plain-truth = refl
+item-words plain-falsity = refl
+item-words (before-left n) = refl
+item-words (before-right n) = refl
+item-words behind = refl
+
+item-long : (x : Item) → length (itemWords x) ≡ suc (length (parsedWords (itemParsed x)))
+item-long x = ap length (item-words x)
+
+-- ---- the nodes of a body are those of its items
+
+items-append : (xs ys : List Item) → itemsParsed (xs ++ ys) ≡ itemsParsed xs ++ itemsParsed ys
+unfolding itemsParsed
+items-append [] ys = refl
+items-append (x ∷ xs) ys = ap (λ (l : List Parsed). itemParsed x ++ l) (items-append xs ys) ∙ sym (append-assoc (itemParsed x) (itemsParsed xs) (itemsParsed ys))
+
+mutual
+  unfolding literalItems itemsParsed itemParsed literalParsed
+
+  literal-parsed : (x : Literal) → itemsParsed (literalItems x) ≡ literalParsed x
+  literal-parsed (call a) = append-nil (termParsed (termOf a))
+  literal-parsed (equation t u) = append-nil (termParsed t ++ termParsed u)
+  literal-parsed truth = refl
+  literal-parsed falsity = refl
+  literal-parsed (either y z) =
+      items-append (before-left (bodyLength y) ∷ items y) ((before-right (bodyLength z) ∷ items z) ++ (behind ∷ []))
+      ∙ ap₂ (λ (v w : List Parsed). v ++ w) (body-parsed y)
+      (items-append (before-right (bodyLength z) ∷ items z) (behind ∷ []) ∙ (append-nil (itemsParsed (items z)) ∙ body-parsed z))
+
+  body-parsed : (b : Body) → itemsParsed (items b) ≡ bodyParsed b
+  body-parsed done = refl
+  body-parsed (also x b) = items-append (literalItems x) (items b) ∙ ap₂ (λ (v w : List Parsed). v ++ w) (literal-parsed x) (body-parsed b)
+
+items-long : (xs : List Item) → length (parsedWords (itemsParsed xs)) ≤ length (itemsWords xs)
+unfolding itemsParsed itemsWords parsedWords
+items-long [] = (let z : 0 ≤ 0 = omega arith in z)
+items-long (x ∷ xs) =
+    let h : length (parsedWords (itemsParsed xs)) ≤ length (itemsWords xs) = items-long xs in
+    let a : length (parsedWords (itemParsed x ++ itemsParsed xs)) ≡ length (parsedWords (itemParsed x)) + length (parsedWords (itemsParsed xs)) =
+    ap length (parsed-append (itemParsed x) (itemsParsed xs)) ∙ length-append (parsedWords (itemParsed x)) (parsedWords (itemsParsed xs)) in
+    let d : length (itemWords x ++ itemsWords xs) ≡ length (itemWords x) + length (itemsWords xs) = length-append (itemWords x) (itemsWords xs) in
+    let l : length (itemWords x) ≡ suc (length (parsedWords (itemParsed x))) = item-long x in
+    let y : length (parsedWords (itemParsed x ++ itemsParsed xs)) ≤ length (itemWords x ++ itemsWords xs) = omega arith in
+    y
+
+pub body-long : (b : Body) → length (parsedWords (bodyParsed b)) ≤ length (bodyWords b)
+body-long b =
+    let l : length (parsedWords (itemsParsed (items b))) ≤ length (itemsWords (items b)) = items-long (items b) in
+    let v : length (parsedWords (itemsParsed (items b))) ≡ length (parsedWords (bodyParsed b)) = ap (λ (xs : List Parsed). length (parsedWords xs)) (body-parsed b) in
+    let w : length (itemsWords (items b)) ≡ length (bodyWords b) = ap length (body-words b) in
+    omega arith
 
 -- ---- bodies
 
--- What is left of a body, written behind what is copied so far, gives the whole.
-pub record Going (table : List ℕ) (literals text : ℕ) (before : List ℕ) (at : ℕ) (whole nodes : List ℕ) (p q i : ℕ) : Type 0 where
-  pub source : List ℕ
-  pub short : length source ≤ sheetBytes
-  pub rest : Body
-  pub has : Has table p (bodyWords rest)
-  pub count : literals ≡ i + bodyLength rest
-  pub stands : BodyStands source rest
-  pub same : written nodes q (flatWords (flatAll text (bodyParsed rest))) ≡ written before at whole
-  pub past : q + length (flatWords (flatAll text (bodyParsed rest))) ≡ at + length whole
+-- What is left of a body's items, written behind what is copied so far, gives the whole.
+pub record Going (table : List ℕ) (many text : ℕ) (before : List ℕ) (at : ℕ) (whole nodes : List ℕ) (p q i : ℕ) : Type 0 where
+  pub rest : List Item
+  pub has : Has table p (itemsWords rest)
+  pub count : many ≡ i + length rest
+  pub fit : AllFit (itemsParsed rest)
+  pub same : written nodes q (flatWords (flatAll text (itemsParsed rest))) ≡ written before at whole
+  pub past : q + length (flatWords (flatAll text (itemsParsed rest))) ≡ at + length whole
   pub near : q * nodeWords ≤ p * loadedNode + goalWords * loadedNode
 
-pub body-begin : (table : List ℕ) (from literals text : ℕ) (nodes : List ℕ) (at : ℕ) → at * nodeWords ≤ from * loadedNode + goalWords * loadedNode → (w : BodyHere table from literals)
-    → Going table literals text nodes at (flatWords (flatAll text (bodyParsed (w .body)))) nodes from at 0
-body-begin table from literals text nodes at l w = record {
-  source = w .text;
-  short = w .short;
-  rest = w .body;
-  has = w .has;
-  count = (let e : literals ≡ bodyLength (w .body) = w .count in let z : literals ≡ 0 + bodyLength (w .body) = omega arith in z);
-  stands = w .stands;
-  same = refl;
-  past = refl;
+pub body-begin : (table : List ℕ) (from many text : ℕ) (nodes : List ℕ) (at : ℕ) → at * nodeWords ≤ from * loadedNode + goalWords * loadedNode → (w : BodyHere table from many)
+    → Going table many text nodes at (flatWords (flatAll text (bodyParsed (w .body)))) nodes from at 0
+body-begin table from many text nodes at l w = record {
+  rest = items (w .body);
+  has = items-stand table from (w .body) (w .has);
+  count = (let z : many ≡ 0 + length (items (w .body)) = omega (arith, w .count, body-many (w .body)) in z);
+  fit = subst⁻¹ AllFit (body-parsed (w .body)) (body-fits (w .text) (w .short) (w .body) (w .stands));
+  same = ap (λ (xs : List Parsed). written nodes at (flatWords (flatAll text xs))) (body-parsed (w .body));
+  past = ap (λ (xs : List Parsed). at + length (flatWords (flatAll text xs))) (body-parsed (w .body));
   near = l;
 }
 
--- a turn: the literal, its nodes, and the body after it
-pub record BodyTurn (table : List ℕ) (literals text : ℕ) (before : List ℕ) (at : ℕ) (whole nodes : List ℕ) (p q i : ℕ) : Type 0 where
-  pub literal : Literal
-  pub has : Has table p (literalWords literal)
+-- a turn: the item, its nodes, and the body after it
+pub record BodyTurn (table : List ℕ) (many text : ℕ) (before : List ℕ) (at : ℕ) (whole nodes : List ℕ) (p q i : ℕ) : Type 0 where
+  pub item : Item
+  pub has : Has table p (itemWords item)
   pub inside : p < length table
   pub near : q * nodeWords ≤ (p + 1) * loadedNode + goalWords * loadedNode
-  pub run : (next : ℕ) → next ≡ p + length (literalWords literal) → RunAt table (p + 1) next
-  pub on : (next : ℕ) (after : List ℕ) (r : ℕ) (e : next ≡ p + length (literalWords literal))
+  pub run : (next : ℕ) → next ≡ p + length (itemWords item) → RunAt table (p + 1) next
+  pub on : (next : ℕ) (after : List ℕ) (r : ℕ) (e : next ≡ p + length (itemWords item))
       → (after ≡ written nodes q (flatWords (flatAll text (run next e .run)))) × (r ≡ q + length (flatWords (flatAll text (run next e .run))))
-      → Going table literals text before at whole after next r (i + 1)
+      → Going table many text before at whole after next r (i + 1)
 
-module _ (literals text : ℕ) (before : List ℕ) (at : ℕ) (whole nodes : List ℕ) (q i : ℕ) where
-  end-by : (b : Body) → literals ≡ i + bodyLength b → written nodes q (flatWords (flatAll text (bodyParsed b))) ≡ written before at whole
-      → q + length (flatWords (flatAll text (bodyParsed b))) ≡ at + length whole → literals ≤ i → (nodes ≡ written before at whole) × (q ≡ at + length whole)
-  unfolding bodyParsed flatWords flatAll
-  end-by done c s g l = (sym (written-nil nodes q) ∙ s, let z : q + 0 ≡ at + length whole = g in let y : q ≡ at + length whole = omega arith in y)
-  end-by (also x b) c s g l = absurd (let z : literals ≡ i + suc (bodyLength b) = c in omega arith)
+fit-left : (xs ys : List Parsed) → AllFit (xs ++ ys) → AllFit xs
+fit-left [] ys f = tt
+fit-left (x ∷ xs) ys f = (f .0, fit-left xs ys (f .1))
 
-module _ {table : List ℕ} {literals text : ℕ} {before : List ℕ} {at : ℕ} {whole nodes : List ℕ} {p q i : ℕ} where
-  turn-by : (source : List ℕ) → length source ≤ sheetBytes → (b : Body) → Has table p (bodyWords b) → literals ≡ i + bodyLength b → BodyStands source b
-      → written nodes q (flatWords (flatAll text (bodyParsed b))) ≡ written before at whole
-      → q + length (flatWords (flatAll text (bodyParsed b))) ≡ at + length whole
-      → q * nodeWords ≤ p * loadedNode + goalWords * loadedNode → i < literals → BodyTurn table literals text before at whole nodes p q i
-  unfolding bodyWords bodyParsed
-  turn-by source short done h c k s g n l = absurd (let z : literals ≡ i + 0 = c in omega arith)
-  turn-by source short (also x b) h c (also-stands kx kb) s g n l =
-      let hx : Has table p (literalWords x) = has-left table p (literalWords x) (bodyWords b) h in
-      let hb : Has table (p + length (literalWords x)) (bodyWords b) = has-right table p (literalWords x) (bodyWords b) h in
-      let c1 : literals ≡ i + suc (bodyLength b) = c in
-      let whole-is : flatWords (flatAll text (literalParsed x ++ bodyParsed b)) ≡ flatWords (flatAll text (literalParsed x)) ++ flatWords (flatAll text (bodyParsed b)) = flat-append text (literalParsed x) (bodyParsed b) in
-      let long : length (flatWords (flatAll text (literalParsed x ++ bodyParsed b))) ≡ length (flatWords (flatAll text (literalParsed x))) + length (flatWords (flatAll text (bodyParsed b))) = ap length whole-is ∙ length-append (flatWords (flatAll text (literalParsed x))) (flatWords (flatAll text (bodyParsed b))) in
-      let third : length (flatWords (flatAll text (literalParsed x))) * 3 ≡ length (parsedWords (literalParsed x)) * 2 = flat-length text (literalParsed x) in
-      let size : length (literalWords x) ≡ suc (length (parsedWords (literalParsed x))) = literal-long x in
-      let g1 : q + length (flatWords (flatAll text (literalParsed x ++ bodyParsed b))) ≡ at + length whole = g in
+fit-right : (xs ys : List Parsed) → AllFit (xs ++ ys) → AllFit ys
+fit-right [] ys f = f
+fit-right (x ∷ xs) ys f = fit-right xs ys (f .1)
+
+abbrev item-run : (table : List ℕ) (p : ℕ) (x : Item) → Has table p (itemWords x) → AllFit (itemParsed x) → (next : ℕ) → next ≡ p + length (itemWords x) → RunAt table (p + 1) next
+item-run table p x h k next e = record {
+  run = itemParsed x;
+  has = subst (Has table p) (item-words x) h .2;
+  ends = (let z : length (itemWords x) ≡ suc (length (parsedWords (itemParsed x))) = item-long x in let y : next ≡ (p + 1) + length (parsedWords (itemParsed x)) = omega arith in y);
+  fit = k;
+}
+
+module _ (many text : ℕ) (before : List ℕ) (at : ℕ) (whole nodes : List ℕ) (q i : ℕ) where
+  end-by : (xs : List Item) → many ≡ i + length xs → written nodes q (flatWords (flatAll text (itemsParsed xs))) ≡ written before at whole
+      → q + length (flatWords (flatAll text (itemsParsed xs))) ≡ at + length whole → many ≤ i → (nodes ≡ written before at whole) × (q ≡ at + length whole)
+  unfolding itemsParsed flatWords flatAll
+  end-by [] c s g l = (sym (written-nil nodes q) ∙ s, let z : q + 0 ≡ at + length whole = g in let y : q ≡ at + length whole = omega arith in y)
+  end-by (x ∷ xs) c s g l = absurd (let z : many ≡ i + suc (length xs) = c in omega arith)
+
+module _ (table : List ℕ) (many text : ℕ) (before : List ℕ) (at : ℕ) (whole nodes : List ℕ) (p q i : ℕ) where
+  turn-by : (xs : List Item) → Has table p (itemsWords xs) → many ≡ i + length xs → AllFit (itemsParsed xs)
+      → written nodes q (flatWords (flatAll text (itemsParsed xs))) ≡ written before at whole
+      → q + length (flatWords (flatAll text (itemsParsed xs))) ≡ at + length whole
+      → q * nodeWords ≤ p * loadedNode + goalWords * loadedNode → i < many → BodyTurn table many text before at whole nodes p q i
+  unfolding itemsParsed
+  turn-by [] h c k s g n l = absurd (let z : many ≡ i + 0 = c in omega arith)
+  turn-by (x ∷ xs) h c k s g n l =
+      let hx : Has table p (itemWords x) = first-stands table p x xs h in
+      let hb : Has table (p + length (itemWords x)) (itemsWords xs) = rest-stand table p x xs h in
+      let c1 : many ≡ i + suc (length xs) = c in
+      let whole-is : flatWords (flatAll text (itemParsed x ++ itemsParsed xs)) ≡ flatWords (flatAll text (itemParsed x)) ++ flatWords (flatAll text (itemsParsed xs)) = flat-append text (itemParsed x) (itemsParsed xs) in
+      let long : length (flatWords (flatAll text (itemParsed x ++ itemsParsed xs))) ≡ length (flatWords (flatAll text (itemParsed x))) + length (flatWords (flatAll text (itemsParsed xs))) = ap length whole-is ∙ length-append (flatWords (flatAll text (itemParsed x))) (flatWords (flatAll text (itemsParsed xs))) in
+      let third : length (flatWords (flatAll text (itemParsed x))) * 3 ≡ length (parsedWords (itemParsed x)) * 2 = flat-length text (itemParsed x) in
+      let size : length (itemWords x) ≡ suc (length (parsedWords (itemParsed x))) = item-long x in
+      let g1 : q + length (flatWords (flatAll text (itemParsed x ++ itemsParsed xs))) ≡ at + length whole = g in
       record {
-        literal = x;
+        item = x;
         has = hx;
-        inside = literal-room table p x hx;
+        inside = item-room table p x hx;
         near = omega arith;
-        run = λ next e. literal-run source short table p x hx kx next e;
+        run = λ next e. item-run table p x hx (fit-left (itemParsed x) (itemsParsed xs) k) next e;
         on = λ next after r e m. record {
-          source = source;
-          short = short;
-          rest = b;
-          has = subst (λ (k : ℕ). Has table k (bodyWords b)) (sym e) hb;
-          count = (let z : literals ≡ (i + 1) + bodyLength b = omega arith in z);
-          stands = kb;
-          same = ap₂ (λ (a : List ℕ) (k : ℕ). written a k (flatWords (flatAll text (bodyParsed b)))) (m .0) (m .1)
-              ∙ (sym (written-append nodes q (flatWords (flatAll text (literalParsed x))) (flatWords (flatAll text (bodyParsed b))))
+          rest = xs;
+          has = subst (λ (k : ℕ). Has table k (itemsWords xs)) (sym e) hb;
+          count = (let z : many ≡ (i + 1) + length xs = omega arith in z);
+          fit = fit-right (itemParsed x) (itemsParsed xs) k;
+          same = ap₂ (λ (a : List ℕ) (k : ℕ). written a k (flatWords (flatAll text (itemsParsed xs)))) (m .0) (m .1)
+              ∙ (sym (written-append nodes q (flatWords (flatAll text (itemParsed x))) (flatWords (flatAll text (itemsParsed xs))))
               ∙ (ap (written nodes q) (sym whole-is) ∙ s));
-          past = (let z : r ≡ q + length (flatWords (flatAll text (literalParsed x))) = m .1 in let y : r + length (flatWords (flatAll text (bodyParsed b))) ≡ at + length whole = omega arith in y);
-          near = (let z : r ≡ q + length (flatWords (flatAll text (literalParsed x))) = m .1 in let y : r * nodeWords ≤ next * loadedNode + goalWords * loadedNode = omega arith in y);
+          past = (let z : r ≡ q + length (flatWords (flatAll text (itemParsed x))) = m .1 in let y : r + length (flatWords (flatAll text (itemsParsed xs))) ≡ at + length whole = omega arith in y);
+          near = (let z : r ≡ q + length (flatWords (flatAll text (itemParsed x))) = m .1 in let y : r * nodeWords ≤ next * loadedNode + goalWords * loadedNode = omega arith in y);
         };
       }
 
-  pub body-turn : i < literals → Going table literals text before at whole nodes p q i → BodyTurn table literals text before at whole nodes p q i
-  body-turn l r = turn-by (r .source) (r .short) (r .rest) (r .has) (r .count) (r .stands) (r .same) (r .past) (r .near) l
+module _ {table : List ℕ} {many text : ℕ} {before : List ℕ} {at : ℕ} {whole nodes : List ℕ} {p q i : ℕ} where
+  pub body-turn : i < many → Going table many text before at whole nodes p q i → BodyTurn table many text before at whole nodes p q i
+  body-turn l r = turn-by table many text before at whole nodes p q i (r .rest) (r .has) (r .count) (r .fit) (r .same) (r .past) (r .near) l
 
-  pub body-end : literals ≤ i → Going table literals text before at whole nodes p q i → (nodes ≡ written before at whole) × (q ≡ at + length whole)
-  body-end l r = end-by literals text before at whole nodes q i (r .rest) (r .count) (r .same) (r .past) l
+  pub body-end : many ≤ i → Going table many text before at whole nodes p q i → (nodes ≡ written before at whole) × (q ≡ at + length whole)
+  body-end l r = end-by many text before at whole nodes q i (r .rest) (r .count) (r .same) (r .past) l

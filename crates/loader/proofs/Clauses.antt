@@ -5,15 +5,15 @@ use mathlib.Core.Path.{_≡_, refl, sym, ap, ap₂, _∙_, subst}
 use mathlib.Core.List.{List, [], _∷_, _++_}
 use lib.ListN.{length, getD, length-append}
 use Rattle.syntax.specs.Limits.{sheetBytes}
-use Rattle.syntax.specs.Terms.{termOf, Body, done, also, Clause}
-use Rattle.syntax.specs.Words.{clauseStart, termWords, atomWords, literalWords, bodyWords, bodyLength, clauseWords, clausesWords, nodeWords, goalWords}
+use Rattle.syntax.specs.Terms.{termOf, Clause}
+use Rattle.syntax.specs.Words.{clauseStart, termWords, atomWords, bodyWords, bodyLength, clauseWords, clausesWords, nodeWords, goalWords}
 use Rattle.marking.specs.Standing.{ClausesStand, clause-stands}
 use Rattle.words.specs.Tables.{Has, Inside}
 use Rattle.words.proofs.Laws.{has-left, has-right, Node, size-is, term-inside, clause-says}
 use Rattle.layout.specs.Regions.{loadedNode}
-use Rattle.loader.specs.Flat.{parsedWords, termParsed, literalParsed, bodyParsed, clauseParsed, clausesParsed, flatWords, flatAll, written, RunAt, BodyHere, ClauseHere, ClausesHere}
+use Rattle.loader.specs.Flat.{parsedWords, termParsed, bodyParsed, clauseParsed, clausesParsed, flatWords, flatAll, written, RunAt, BodyHere, ClauseHere, ClausesHere}
 use Rattle.loader.proofs.Writing.{written-nil, written-append}
-use Rattle.loader.proofs.Bodies.{parsed-append, flat-append, flat-length, term-words, term-fits, literal-long}
+use Rattle.loader.proofs.Bodies.{parsed-append, flat-append, flat-length, term-words, term-fits, body-long}
 
 -- ---- a clause
 
@@ -79,17 +79,6 @@ clause-parts {table} {p} w =
     }
 
 -- ---- how long the copies are
-
-pub body-long : (b : Body) → length (parsedWords (bodyParsed b)) ≤ length (bodyWords b)
-unfolding bodyParsed bodyWords parsedWords
-body-long done = omega arith
-body-long (also x b) =
-    let h : length (parsedWords (bodyParsed b)) ≤ length (bodyWords b) = body-long b in
-    let a : length (parsedWords (literalParsed x ++ bodyParsed b)) ≡ length (parsedWords (literalParsed x)) + length (parsedWords (bodyParsed b)) = ap length (parsed-append (literalParsed x) (bodyParsed b)) ∙ length-append (parsedWords (literalParsed x)) (parsedWords (bodyParsed b)) in
-    let d : length (literalWords x ++ bodyWords b) ≡ length (literalWords x) + length (bodyWords b) = length-append (literalWords x) (bodyWords b) in
-    let l : length (literalWords x) ≡ suc (length (parsedWords (literalParsed x))) = literal-long x in
-    let y : length (parsedWords (literalParsed x ++ bodyParsed b)) ≤ length (literalWords x ++ bodyWords b) = omega arith in
-    y
 
 pub clause-long : (c : Clause) → length (parsedWords (clauseParsed c)) + 3 ≤ length (clauseWords c)
 unfolding clauseParsed clauseWords

@@ -7,10 +7,10 @@ use mathlib.Core.List.{List, [], _∷_, _++_}
 use lib.Dec.{T, lt→ltb}
 use lib.ListN.{length}
 use Rattle.syntax.specs.Limits.{lengths, arguments, variables}
-use Rattle.syntax.specs.Terms.{Term, Terms, variable, compound, nil, cons, arity, termOf, Literal, Body, call, equation, truth, falsity, done, also, Clause}
+use Rattle.syntax.specs.Terms.{Term, Terms, variable, compound, nil, cons, arity, termOf, Literal, Body, call, equation, truth, falsity, either, done, also, Clause}
 use Rattle.syntax.specs.Words.{functor, termsWords, firstName}
 use Rattle.syntax.proofs.Words.{functor-arity, functor-length}
-use Rattle.marking.specs.Standing.{NameAt, Stands, AllStand, stands-variable, stands-compound, stand-nil, stand-cons, LiteralStands, call-stands, equation-stands, truth-stands, falsity-stands, BodyStands, done-stands, also-stands, ClauseStands, ClausesStand, no-clauses, clause-stands}
+use Rattle.marking.specs.Standing.{NameAt, Stands, AllStand, stands-variable, stands-compound, stand-nil, stand-cons, LiteralStands, call-stands, equation-stands, truth-stands, falsity-stands, either-stands, BodyStands, done-stands, also-stands, ClauseStands, ClausesStand, no-clauses, clause-stands}
 use Rattle.machine.proofs.Tests.{and}
 use Rattle.layout.specs.Nodes.{Symbol, symbolOf, isListed, loadedWords, loadedAll, isLoadable, areLoadable}
 use Rattle.layout.specs.Program.{literalNodes, bodyNodes, clauseNodes, clausesNodes, literalLoadable, bodyLoadable, clausesLoadable}
@@ -150,17 +150,19 @@ module _ (sheet goal : List ℕ) where
     inside-both : (xs ys : List Parsed) → AllInside sheet goal (flatAll text xs) → AllInside sheet goal (flatAll text ys) → AllInside sheet goal (flatAll text (xs ++ ys))
     inside-both xs ys a b = subst (AllInside sheet goal) (sym (flat-all-append text xs ys)) (inside-append (flatAll text xs) (flatAll text ys) a b)
 
-    literal-inside : (l : Literal) → LiteralStands s l → AllInside sheet goal (flatAll text (literalParsed l))
-    unfolding literalParsed flatAll
-    literal-inside (call a) (call-stands k) = term-inside (termOf a) k
-    literal-inside (equation t u) (equation-stands j k) = inside-both (termParsed t) (termParsed u) (term-inside t j) (term-inside u k)
-    literal-inside truth truth-stands = tt
-    literal-inside falsity falsity-stands = tt
+    mutual
+      unfolding literalParsed flatAll
 
-    pub body-inside : (b : Body) → BodyStands s b → AllInside sheet goal (flatAll text (bodyParsed b))
-    unfolding bodyParsed flatAll
-    body-inside done done-stands = tt
-    body-inside (also x b) (also-stands j k) = inside-both (literalParsed x) (bodyParsed b) (literal-inside x j) (body-inside b k)
+      literal-inside : (l : Literal) → LiteralStands s l → AllInside sheet goal (flatAll text (literalParsed l))
+      literal-inside (call a) (call-stands k) = term-inside (termOf a) k
+      literal-inside (equation t u) (equation-stands j k) = inside-both (termParsed t) (termParsed u) (term-inside t j) (term-inside u k)
+      literal-inside truth truth-stands = tt
+      literal-inside falsity falsity-stands = tt
+      literal-inside (either y z) (either-stands j k) = inside-both (bodyParsed y) (bodyParsed z) (body-inside y j) (body-inside z k)
+
+      pub body-inside : (b : Body) → BodyStands s b → AllInside sheet goal (flatAll text (bodyParsed b))
+      body-inside done done-stands = tt
+      body-inside (also x b) (also-stands j k) = inside-both (literalParsed x) (bodyParsed b) (literal-inside x j) (body-inside b k)
 
     clause-inside : (c : Clause) → ClauseStands s c → AllInside sheet goal (flatAll text (clauseParsed c))
     unfolding clauseParsed
@@ -222,21 +224,25 @@ module _ (sheet goal : List ℕ) where
           fine-both (isLoadable ss t) (areLoadable ss ts) (loadedWords ss t) (loadedAll ss ts) (termParsed t) (termsParsed ts)
           (term-fine t a (left-of (termParsed t) (termsParsed ts) h)) (terms-fine ts b (right-of (termParsed t) (termsParsed ts) h))
 
-    literal-fine : (l : Literal) → LiteralStands s l → AllListed ss (flatAll text (literalParsed l)) → Fine (literalLoadable ss l) (literalNodes ss l) (literalParsed l)
-    unfolding literalParsed literalLoadable literalNodes flatAll numberedAll flatWords
-    literal-fine (call a) (call-stands k) h = term-fine (termOf a) k h
-    literal-fine (equation t u) (equation-stands j k) h =
-        fine-both (isLoadable ss t) (isLoadable ss u) (loadedWords ss t) (loadedWords ss u) (termParsed t) (termParsed u)
-        (term-fine t j (left-of (termParsed t) (termParsed u) h)) (term-fine u k (right-of (termParsed t) (termParsed u) h))
-    literal-fine truth truth-stands h = (tt, refl)
-    literal-fine falsity falsity-stands h = (tt, refl)
+    mutual
+      unfolding literalParsed literalLoadable literalNodes flatAll numberedAll flatWords
 
-    pub body-fine : (b : Body) → BodyStands s b → AllListed ss (flatAll text (bodyParsed b)) → Fine (bodyLoadable ss b) (bodyNodes ss b) (bodyParsed b)
-    unfolding bodyParsed bodyLoadable bodyNodes flatAll numberedAll flatWords
-    body-fine done done-stands h = (tt, refl)
-    body-fine (also x b) (also-stands j k) h =
-        fine-both (literalLoadable ss x) (bodyLoadable ss b) (literalNodes ss x) (bodyNodes ss b) (literalParsed x) (bodyParsed b)
-        (literal-fine x j (left-of (literalParsed x) (bodyParsed b) h)) (body-fine b k (right-of (literalParsed x) (bodyParsed b) h))
+      literal-fine : (l : Literal) → LiteralStands s l → AllListed ss (flatAll text (literalParsed l)) → Fine (literalLoadable ss l) (literalNodes ss l) (literalParsed l)
+      literal-fine (call a) (call-stands k) h = term-fine (termOf a) k h
+      literal-fine (equation t u) (equation-stands j k) h =
+          fine-both (isLoadable ss t) (isLoadable ss u) (loadedWords ss t) (loadedWords ss u) (termParsed t) (termParsed u)
+          (term-fine t j (left-of (termParsed t) (termParsed u) h)) (term-fine u k (right-of (termParsed t) (termParsed u) h))
+      literal-fine truth truth-stands h = (tt, refl)
+      literal-fine falsity falsity-stands h = (tt, refl)
+      literal-fine (either y z) (either-stands j k) h =
+          fine-both (bodyLoadable ss y) (bodyLoadable ss z) (bodyNodes ss y) (bodyNodes ss z) (bodyParsed y) (bodyParsed z)
+          (body-fine y j (left-of (bodyParsed y) (bodyParsed z) h)) (body-fine z k (right-of (bodyParsed y) (bodyParsed z) h))
+
+      pub body-fine : (b : Body) → BodyStands s b → AllListed ss (flatAll text (bodyParsed b)) → Fine (bodyLoadable ss b) (bodyNodes ss b) (bodyParsed b)
+      body-fine done done-stands h = (tt, refl)
+      body-fine (also x b) (also-stands j k) h =
+          fine-both (literalLoadable ss x) (bodyLoadable ss b) (literalNodes ss x) (bodyNodes ss b) (literalParsed x) (bodyParsed b)
+          (literal-fine x j (left-of (literalParsed x) (bodyParsed b) h)) (body-fine b k (right-of (literalParsed x) (bodyParsed b) h))
 
     clause-fine : (c : Clause) → ClauseStands s c → AllListed ss (flatAll text (clauseParsed c)) → Fine (isLoadable ss (termOf (c .head)) && bodyLoadable ss (c .body)) (clauseNodes ss c) (clauseParsed c)
     unfolding clauseParsed clauseNodes

@@ -18,8 +18,8 @@ use Rattle.loader.specs.Flat.{parsedWords, bodyParsed, clausesParsed, Fl
 use Rattle.loader.specs.Listing.{wordName, Inside, symbolAt, symbolsOf, Listed, withAll, numberedAll, Copied, NodesNumbered}
 use Rattle.loader.specs.Loading.{Loadable, Loaded}
 use Rattle.loader.proofs.Writing.{length-written, written-append, has-written}
-use Rattle.loader.proofs.Bodies.{flat-length}
-use Rattle.loader.proofs.Clauses.{body-long, clauses-long}
+use Rattle.loader.proofs.Bodies.{flat-length, body-long}
+use Rattle.loader.proofs.Clauses.{clauses-long}
 use Rattle.loader.proofs.Spelt.{sheet-text, goal-text}
 use Rattle.loader.proofs.Finding.{length-symbols, symbols-at}
 use Rattle.loader.proofs.Terms.{words-append, numbered-append, inside-append, AllListed, all-listed, listed-left, listed-right, loadedOf, body-inside, clauses-inside, body-fine, clauses-fine}

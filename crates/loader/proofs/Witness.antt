@@ -6,7 +6,7 @@ use mathlib.Core.List.{List, [], _∷_}
 use lib.ListN.{length, replicate, length-replicate}
 use Rattle.syntax.specs.Limits.{sheetBytes, goalBytes, declarations}
 use Rattle.syntax.specs.Terms.{truth, done, also}
-use Rattle.syntax.specs.Words.{literalWords, bodyWords, clausesWords, sheetWords, goalWords}
+use Rattle.syntax.specs.Words.{literalWords, bodyLength, bodyWords, clausesWords, sheetWords, goalWords}
 use Rattle.marking.specs.Standing.{no-clauses, truth-stands, done-stands, also-stands}
 use Rattle.words.specs.Tables.{Has}
 use Rattle.layout.specs.Regions.{nodesWords}
@@ -28,6 +28,10 @@ has-truth : Has (0 ∷ []) 0 (bodyWords (also truth done))
 unfolding bodyWords literalWords
 has-truth = (let l : 0 < 1 = omega arith in l, refl, tt)
 
+one-item : 1 ≡ bodyLength (also truth done)
+unfolding bodyLength
+one-item = refl
+
 -- a sheet without clauses, and the goal `true`
 pub witness : Loadable [] [] 0 [] (0 ∷ []) 1 room room
 witness =
@@ -39,7 +43,7 @@ witness =
       clauses-count = refl;
       clauses-stand = no-clauses;
       has-goal = has-truth;
-      literals-count = refl;
+      literals-count = one-item;
       goal-stands = also-stands truth-stands done-stands;
       sheet-short = (let z : 0 ≤ sheetBytes = omega arith in z);
       goal-short = (let z : 0 ≤ goalBytes = omega arith in z);

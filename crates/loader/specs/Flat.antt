@@ -6,7 +6,8 @@ use mathlib.Core.List.{List, [], _∷_, _++_}
 use lib.Dec.{ltb}
 use lib.ListN.{length, set}
 use Rattle.syntax.specs.Limits.{sheetBytes, wordBytes, arguments}
-use Rattle.syntax.specs.Terms.{Term, Terms, variable, compound, nil, cons, arity, termOf, Literal, Body, call, equation, truth, falsity, done, also, Clause}
+use Rattle.syntax.specs.Terms.{Term, Terms, variable, compound, nil, cons, arity, termOf, Literal, Body, call, equation, truth, falsity, either, done, also}
+use Rattle.syntax.specs.Terms.{Clause}
 use Rattle.syntax.specs.Words.{functor, functorArity, functorLength, termsWords, bodyWords, bodyLength, clauseWords, clausesWords, firstName, nodeWords}
 use Rattle.marking.specs.Standing.{BodyStands, ClauseStands, ClausesStand}
 use Rattle.words.specs.Tables.{Has}
@@ -25,7 +26,7 @@ unfoldable pub parsedWords : List Parsed → List ℕ
 parsedWords [] = []
 parsedWords (x ∷ xs) = (x .what) ∷ (x .size) ∷ (x .byte) ∷ parsedWords xs
 
--- the nodes of a term, of terms, of a literal's terms, of a body's, of a clause's and of all clauses'
+-- the nodes of a term, of terms, of a literal's terms, of a body's, of a clause's and of all clauses'; of a bracket, the left side's first
 unfoldable mutual
   pub termParsed : Term → List Parsed
   termParsed (variable n b) = record { what = n; size = nodeWords; byte = b } ∷ []
@@ -35,15 +36,17 @@ unfoldable mutual
   termsParsed nil = []
   termsParsed (cons t ts) = termParsed t ++ termsParsed ts
 
-unfoldable pub literalParsed : Literal → List Parsed
-literalParsed (call a) = termParsed (termOf a)
-literalParsed (equation t u) = termParsed t ++ termParsed u
-literalParsed truth = []
-literalParsed falsity = []
+unfoldable mutual
+  pub literalParsed : Literal → List Parsed
+  literalParsed (call a) = termParsed (termOf a)
+  literalParsed (equation t u) = termParsed t ++ termParsed u
+  literalParsed truth = []
+  literalParsed falsity = []
+  literalParsed (either y z) = bodyParsed y ++ bodyParsed z
 
-unfoldable pub bodyParsed : Body → List Parsed
-bodyParsed done = []
-bodyParsed (also x b) = literalParsed x ++ bodyParsed b
+  pub bodyParsed : Body → List Parsed
+  bodyParsed done = []
+  bodyParsed (also x b) = literalParsed x ++ bodyParsed b
 
 unfoldable pub clauseParsed : Clause → List Parsed
 clauseParsed cl = termParsed (termOf (cl .head)) ++ bodyParsed (cl .body)
@@ -107,13 +110,13 @@ pub record RunAt (table : List ℕ) (from stop : ℕ) : Type 0 where
   pub ends : stop ≡ from + length (parsedWords run)
   pub fit : AllFit run
 
--- so many literals of a text stand from p on
-pub record BodyHere (table : List ℕ) (p literals : ℕ) : Type 0 where
+-- a body of so many items of a text stands from p on
+pub record BodyHere (table : List ℕ) (p items : ℕ) : Type 0 where
   pub text : List ℕ
   pub short : length text ≤ sheetBytes
   pub body : Body
   pub has : Has table p (bodyWords body)
-  pub count : literals ≡ bodyLength body
+  pub count : items ≡ bodyLength body
   pub stands : BodyStands text body
 
 -- a clause of a text stands at p

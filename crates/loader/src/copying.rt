@@ -6,10 +6,10 @@ use syntax::FIRST_NAME;
 use syntax::NODE_WORDS;
 use syntax::arity_of;
 use syntax::length_of;
-use words::CLAUSE_LITERALS;
+use words::CLAUSE_ITEMS;
 use words::past;
 use words::past_clause;
-use words::past_literal;
+use words::past_item;
 use words::word_at;
 ghost use mathlib.Core.Path.{_≡_};
 ghost use Prim.Native.Nat.{_+_, _*_, _/_, _≤_, _<_};
@@ -84,28 +84,28 @@ fn copy_nodes(
     q
 }
 
-// The nodes of so many literals from a place on.
+// The nodes of so many items from a place on. The words of brackets have none.
 pub fn copy_body(
     table: &[u32],
     from: usize,
-    literals: usize,
+    items: usize,
     text: u32,
     nodes: &mut [u32],
     at: usize,
 ) -> usize
     requires { ⌜ (text ≤ 1) × ((length (now table) ≤ sheetWords) × ((nodesWords ≤ length (now nodes))
         × (at * nodeWords ≤ from * loadedNode + goalWords * loadedNode))) ⌝ }
-    requires { ⌜ BodyHere (now table) from literals ⌝ }
-    ensures { λ r. ⌜ ((w : BodyHere (now (table .entry)) from literals) → (now (nodes .exit)
+    requires { ⌜ BodyHere (now table) from items ⌝ }
+    ensures { λ r. ⌜ ((w : BodyHere (now (table .entry)) from items) → (now (nodes .exit)
         ≡ written (now (nodes .entry)) at (flatWords (flatAll text (bodyParsed (w .body)))))
         × (r ≡ at + length (flatWords (flatAll text (bodyParsed (w .body)))))) ⌝ }
 {
     let mut p = from;
     let mut q = at;
     let mut i = 0;
-    while i < literals {
+    while i < items {
         let first = p + 1;
-        let next = past_literal(table, p);
+        let next = past_item(table, p);
         q = copy_nodes(table, first, next, text, nodes, q);
         p = next;
         i += 1;
@@ -121,11 +121,11 @@ fn copy_clause(table: &[u32], p: usize, nodes: &mut [u32], at: usize) -> usize
         ≡ written (now (nodes .entry)) at (flatWords (flatAll 0 (clauseParsed (w .clause)))))
         × (r ≡ at + length (flatWords (flatAll 0 (clauseParsed (w .clause)))))) ⌝ }
 {
-    let literals = word_at(table, p + CLAUSE_LITERALS);
+    let items = word_at(table, p + CLAUSE_ITEMS);
     let head = p + CLAUSE_START;
     let body = past(table, head);
     let q = copy_nodes(table, head, body, 0, nodes, at);
-    copy_body(table, body, literals, 0, nodes, q)
+    copy_body(table, body, items, 0, nodes, q)
 }
 
 // The nodes of so many clauses.

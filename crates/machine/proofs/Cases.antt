@@ -86,6 +86,16 @@ cases =
     short "" "f(A,B,C,D,E,F) = X, f(G,H,I,J) = Y." (ended Done 1 3 "A = _1, B = _2, C = _3, D = _4, E = _5, F = _6, X = f(_1,_2,_3,_4,_5,_6), G = _7, H = _8, I = _9, J = _10, Y = f(_7,_8,_9,_10)\n") ∷
     short "" "_ = a." (ended Done 1 2 "yes\n") ∷
     short "" "X=f(Y,g(Y,Z),h)." (ended Done 1 2 "X = f(_1,g(_1,_2),h), Y = _1, Z = _2\n") ∷
+    -- document 02, (i): the left side and then the right one, with the bindings from before the bracket; one step for a bracket; nested, in a body
+    short "" "(X=a;X=b),(Y=c;Y=X)." (ended Done 4 13 "X = a, Y = c\nX = a, Y = a\nX = b, Y = c\nX = b, Y = b\n") ∷
+    short "" "((X=a;X=b);X=c)." (ended Done 3 8 "X = a\nX = b\nX = c\n") ∷
+    short "" "(X=a;Y=b), Z = f(X,Y)." (ended Done 2 7 "X = a, Y = _1, Z = f(a,_1)\nX = _1, Y = b, Z = f(_1,b)\n") ∷
+    short "" "(X=a, fail; X=b)." (ended Done 1 5 "X = b\n") ∷
+    short ":-mode p(-). p(X) :- (X = a; X = b)." "p(X)." (ended Done 2 7 "X = a\nX = b\n") ∷
+    within 3 16 4096 "" "(true;true)." (ended Steps 1 3 "yes\n") ∷
+    -- it leaves the path as it was, and is no `deep` at the longest
+    runner ":-mode l. l:-(l;true)." "l." (ended Deep 0 510 "") ∷
+    runner ":-mode l. l:-(fail;l)." "l." (ended Deep 0 765 "") ∷
     -- the ends at their edges: steps, wanted, full, deep, and which comes first
     within 6 16 4096 ":- mode plus(+,+,-). plus(z,N,N). plus(s(M),N,s(P)) :- plus(M,N,P)." "plus(s(z),z,X)." (ended Steps 1 6 "X = s(z)\n") ∷
     within 7 16 4096 ":- mode plus(+,+,-). plus(z,N,N). plus(s(M),N,s(P)) :- plus(M,N,P)." "plus(s(z),z,X)." (ended Done 1 7 "X = s(z)\n") ∷
@@ -119,6 +129,7 @@ cases =
     short ":-mode p(-). p(X) :- true." "p" (stopped inSheet (OpenOutput 15 1 1 13 1)) ∷
     short "" "p(X)." (stopped inGoal (Undeclared 0 1 0 1)) ∷
     short ":-mode p(+). p(a)." "p(X)." (stopped inGoal (OpenInput 2 0 1 1 0 1)) ∷
+    short ":-mode p(+). p(a)." "(X = a; true), p(X)." (stopped inGoal (OpenInput 17 0 3 1 15 1)) ∷
     -- document 02, (x): a declared predicate without clauses is refused, before the goal is looked at, and called with the mark; `seen` with three
     -- arguments is called without it; the mark passes over nothing else
     short ":-mode p." "p" (stopped inSheet (Unwritten 7)) ∷

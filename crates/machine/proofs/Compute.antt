@@ -4,11 +4,11 @@ use mathlib.Core.List.{List}
 use mathlib.Core.Option.{Option, none, some}
 use Rattle.syntax.specs.Bytes.{classOf, inWord, inNumeral}
 use Rattle.syntax.specs.Tokens.{skipped, run as runOf, word, dashFirst, tokenOf, tokenFrom, tokenPlace, tokenAt}
-use Rattle.syntax.specs.Terms.{sameBytes, literalOf, Sheet, Goal}
+use Rattle.syntax.specs.Terms.{sameBytes, literalOf, literalsIn, Sheet, Goal}
 use Rattle.syntax.specs.Numerals.{trimmed}
-use Rattle.syntax.specs.Reading.{andThen, standing, next, wrongNumber, wrong, beyond, full, numberOf, isAnonymous, withNew, newVariable, oldVariable, readVariable, atomWith, readAtomWith, termWith, readTermWith, argumentsAfter, readArguments, readList, readTerm, readAtom, readRight, afterAtom, afterTerm, literalWith, readLiteral, bodyAfter, readBody, clauseAfter, readClause, marksAfter, marksWith, readMarks, marksOf, declarationEnd, declarationFrom, isMode, afterNeck, readDeclaration, itemWith, readItems, atStart, readSheet, goalEnd, readGoal, declares, repeats, firstRepeat}
+use Rattle.syntax.specs.Reading.{andThen, standing, next, wrongNumber, wrong, beyond, full, numberOf, isAnonymous, withNew, newVariable, oldVariable, readVariable, atomWith, readAtomWith, termWith, readTermWith, argumentsAfter, readArguments, readList, readTerm, readAtom, readRight, afterAtom, afterTerm, literalWith, plainWith, readPlain, bodyAfter, readBodyWith, readSides, readLiteral, readTo, readBody, clauseAfter, readClause, marksAfter, marksWith, readMarks, marksOf, declarationEnd, declarationFrom, isMode, afterNeck, readDeclaration, itemWith, readItems, atStart, readSheet, goalEnd, readGoal, declares, repeats, firstRepeat}
 use Rattle.syntax.specs.Verdicts.{Outcome, refused, accepted, withoutRepeats, sheetFrom, goalFrom, sheetOf, goalOutcome}
-use Rattle.rules.specs.Modes.{nothing, everything, isGround, openUnless, openByte, groundTerm, groundBoth, equateVariable, equateSame, equate, further, goOver, passes, settle, marksOf as marksOfAtom, orNoMarks, marksFor, sameMark, faulty, ifMarked, firstOpen, oneMore, countFaulty, groundIf, groundMarked, undeclared, undeclaredAtom, undeclaredLiteral, undeclaredBody, undeclaredClause, undeclaredClauses, undeclaredInSheet, undeclaredInGoal, openInput, openOutput, literalFault, afterLiteral, walkOn, bodyFault, startKnown, headFault, clauseFault, clausesFault, sheetFault, walkFault, goalFault}
+use Rattle.rules.specs.Modes.{nothing, everything, isGround, openUnless, openByte, groundTerm, groundBoth, equateVariable, equateSame, equate, further, goOver, passes, settle, marksOf as marksOfAtom, orNoMarks, marksFor, sameMark, faulty, ifMarked, firstOpen, oneMore, countFaulty, groundIf, groundMarked, undeclared, undeclaredAtom, undeclaredLiteral, undeclaredBody, undeclaredClause, undeclaredClauses, undeclaredInSheet, undeclaredInGoal, openInput, openOutput, unlessFault, walkOn, inBoth, callWalk, literalWalk, bodyFault, startKnown, headFault, clauseFault, clausesFault, sheetFault, walkFault, goalFault}
 use Rattle.rules.specs.Written.{isWritten, firstUnwritten, unwritten}
 use Rattle.rules.specs.Checking.{faultless, checkedFrom, checkedWith, checkedGoalFrom, checkedGoal}
 use Rattle.machine.specs.Substitution.{resolve, isBound}
@@ -20,7 +20,7 @@ use Rattle.machine.specs.Counts.{openArguments, inputsOf, inputsFirst, o
 use Rattle.machine.specs.Runs.{isEmpty, isAnswer, lineWith, nextLine, isThere, triesWith, triesFirst, goesDeeper, firstEnd, oneIf, advance, endOr, runFrom, begun, run, RunSettings, RunOutcome, reported, overGoal, overSheet, inRange, runOutcome}
 
 unfoldable pub computed : List ℕ → List ℕ → RunSettings → ℕ → RunOutcome
-unfolding trimmed classOf inWord inNumeral skipped runOf word dashFirst tokenOf tokenFrom tokenPlace tokenAt sameBytes literalOf andThen standing next wrongNumber wrong beyond full numberOf isAnonymous withNew newVariable oldVariable readVariable atomWith readAtomWith termWith readTermWith argumentsAfter readArguments readList readTerm readAtom readRight afterAtom afterTerm literalWith readLiteral bodyAfter readBody clauseAfter readClause marksAfter marksWith readMarks marksOf declarationEnd declarationFrom isMode afterNeck readDeclaration itemWith readItems atStart readSheet goalEnd readGoal declares repeats firstRepeat withoutRepeats sheetFrom goalFrom sheetOf goalOutcome nothing everything isGround groundTerm groundBoth equateVariable equateSame equate further goOver passes settle marksOfAtom orNoMarks marksFor sameMark faulty openUnless openByte ifMarked firstOpen oneMore countFaulty groundIf groundMarked undeclared undeclaredAtom undeclaredLiteral undeclaredBody undeclaredClause undeclaredClauses undeclaredInSheet undeclaredInGoal openInput openOutput literalFault afterLiteral walkOn bodyFault startKnown headFault clauseFault clausesFault sheetFault walkFault goalFault isWritten firstUnwritten unwritten faultless checkedFrom checkedWith checkedGoalFrom checkedGoal resolve isBound differVariables differMixed orElse differ bound rounds unify pending firstFor nextFor nextOf topmost nth clauseAt gone equated movedOn laid tried onTop called worked workedOn outcome step start pileAfter written spelt digits decimal placeOf numbered bytesOf isBlankName allAnonymous valuesFrom line isEmpty isAnswer lineWith nextLine isThere triesWith triesFirst goesDeeper firstEnd oneIf advance endOr runFrom begun run reported overGoal overSheet inRange runOutcome openArguments inputsOf inputsFirst openInputs isWithin isLeft shows showsNewly countIf outputsOver openOutputs countedOn countedStep tally
+unfolding literalsIn trimmed classOf inWord inNumeral skipped runOf word dashFirst tokenOf tokenFrom tokenPlace tokenAt sameBytes literalOf andThen standing next wrongNumber wrong beyond full numberOf isAnonymous withNew newVariable oldVariable readVariable atomWith readAtomWith termWith readTermWith argumentsAfter readArguments readList readTerm readAtom readRight afterAtom afterTerm literalWith plainWith readPlain bodyAfter readBodyWith readSides readLiteral readTo readBody clauseAfter readClause marksAfter marksWith readMarks marksOf declarationEnd declarationFrom isMode afterNeck readDeclaration itemWith readItems atStart readSheet goalEnd readGoal declares repeats firstRepeat withoutRepeats sheetFrom goalFrom sheetOf goalOutcome nothing everything isGround groundTerm groundBoth equateVariable equateSame equate further goOver passes settle marksOfAtom orNoMarks marksFor sameMark faulty openUnless openByte ifMarked firstOpen oneMore countFaulty groundIf groundMarked undeclared undeclaredAtom undeclaredLiteral undeclaredBody undeclaredClause undeclaredClauses undeclaredInSheet undeclaredInGoal openInput openOutput unlessFault walkOn inBoth callWalk literalWalk bodyFault startKnown headFault clauseFault clausesFault sheetFault walkFault goalFault isWritten firstUnwritten unwritten faultless checkedFrom checkedWith checkedGoalFrom checkedGoal resolve isBound differVariables differMixed orElse differ bound rounds unify pending firstFor nextFor nextOf topmost nth clauseAt gone equated movedOn laid tried onTop called worked workedOn outcome step start pileAfter written spelt digits decimal placeOf numbered bytesOf isBlankName allAnonymous valuesFrom line isEmpty isAnswer lineWith nextLine isThere triesWith triesFirst goesDeeper firstEnd oneIf advance endOr runFrom begun run reported overGoal overSheet inRange runOutcome openArguments inputsOf inputsFirst openInputs isWithin isLeft shows showsNewly countIf outputsOver openOutputs countedOn countedStep tally
 computed sheet goal asked room = runOutcome sheet goal asked room
 
 -- Both counts after n steps, of texts free of faults 2 to 7, whether the modes accept them or not.

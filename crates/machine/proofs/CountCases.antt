@@ -50,6 +50,14 @@ cases =
     counting ":-mode p(-). p(X) :- true, a = b." "p(X)." 9 0 0 ∷
     counting ":-mode p(-). p(X). p(Y)." "p(X), fail." 9 0 2 ∷
     counting ":-mode p(-). p(f(X,a)) :- b = b. p(c)." "p(Z)." 3 0 1 ∷
+    -- document 02, (i): both sides of a bracket are counted over; the bracket's own step shows nothing
+    counting ":-mode p(-). p(X) :- (true; X = a)." "p(Z)." 2 0 0 ∷
+    counting ":-mode p(-). p(X) :- (true; X = a)." "p(Z)." 3 0 1 ∷
+    counting ":-mode p(-). p(X) :- (true; X = a)." "p(Z)." 9 0 1 ∷
+    counting ":-mode p(-). p(X) :- (X = a; true)." "p(Z)." 4 0 0 ∷
+    counting ":-mode p(-). p(X) :- (X = a; true)." "p(Z)." 5 0 1 ∷
+    counting ":-mode p(+). p(a)." "(X = a; true), p(X)." 6 0 0 ∷
+    counting ":-mode p(+). p(a)." "(X = a; true), p(X)." 12 2 0 ∷
     -- arguments marked * are not counted; one argument counts once
     counting ":-mode p(*,-,+). p(X,f(Y,Y),Z)." "p(A,B,g(C,C))." 9 2 1 ∷
     []

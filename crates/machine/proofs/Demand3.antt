@@ -1,5 +1,5 @@
 -- Demand 3: for every accepted goal over an accepted sheet both counts are zero, after any number of steps of the machine from the goal alone.
-use Prim.Native.Nat.{ℕ, zero, suc, _+_}
+use Prim.Native.Nat.{ℕ, zero, suc, _+_, _≤_}
 use native.Mathlib.Omega.{arith}
 use mathlib.Core.Path.{_≡_, refl, sym, subst}
 use mathlib.Core.Bool.{Bool, true, false, not}
@@ -7,14 +7,14 @@ use mathlib.Core.List.{List, [], _∷_}
 use mathlib.Core.Option.{Option, none, some}
 use lib.Dec.{T, leb}
 use lib.ListN.{length}
-use Rattle.syntax.specs.Terms.{Atom, termOf, Literal, call, equation, truth, falsity, Mark, input, output, Declaration, Clause, Sheet, Goal}
+use Rattle.syntax.specs.Terms.{Atom, termOf, Literal, call, equation, truth, falsity, either, Body, Mark, input, output, Declaration, Clause, Sheet, Goal}
 use Rattle.syntax.specs.declared.Refusal.{Refusal}
 use Rattle.rules.specs.Modes.{Known, nothing, marksFor, listOf, clauseFault, clausesFault, sheetFault, Walk, faulted, known, walkFault, bodyFault, undeclaredInGoal, goalFault}
 use Rattle.rules.proofs.Agreement.{sheet-marks}
 use Rattle.machine.specs.Substitution.{RTerm, copied, Binding}
 use Rattle.machine.specs.Unification.{unify}
 use Rattle.machine.specs.Unifiers.{MostGeneral, Unified}
-use Rattle.machine.specs.Machine.{Pending, Call, Alternative, path, nth, clauseAt, gone, equated, movedOn, laid, tried, onTop, called, worked, workedOn, outcome, step, start}
+use Rattle.machine.specs.Machine.{Pending, Call, Alternative, path, pending, nth, clauseAt, gone, equated, movedOn, laid, tried, onTop, called, worked, workedOn, outcome, step, start}
 use Rattle.machine.specs.Counts.{openArguments, inputsOf, inputsFirst, openInputs, isLeft, shows, showsNewly, countIf, outputsOver, openOutputs, Tally, countedOn, countedStep, tally}
 use Rattle.machine.specs.Claims.{BothZero}
 use Rattle.machine.proofs.Tests.{both, some-eq, some-none}
@@ -22,7 +22,7 @@ use Rattle.machine.proofs.Piles.{All, all-append}
 use Rattle.machine.proofs.Terms.{Grows, grows-refl, grows-more}
 use Rattle.machine.proofs.Unifier.{unify-spec}
 use Rattle.machine.proofs.Grounding.{sound-nothing, marked-count}
-use Rattle.machine.proofs.Safety.{ClosedArguments, Shown, First, Safe, safe-shown, Bounded, bounded-up, bounded-pending, Ends, body-safe, clause-safe}
+use Rattle.machine.proofs.Safety.{ClosedArguments, Shown, First, Side, Safe, safe-shown, Bounded, bounded-up, bounded-pending, side-safe, Ends, body-safe, clause-safe}
 
 -- ---- safe alternatives
 
@@ -68,7 +68,7 @@ module _ (sh : Sheet) (passes : (n : ℕ) (cl : Clause) → clauseAt sh n ≡ so
   laid-good at cl p s h (some b) m = (
     record {
       safe = clause-safe sh (a .calls) c at rest (a .bindings) b s h (unified-grows m) cl (p .0) (p .1) (m .equal);
-      bounded = bounded-pending (suc (path a)) (cl .body) rest (bounded-up (path a) rest h);
+      bounded = bounded-pending (suc (path a)) (suc (path a)) (cl .body) rest (omega arith) (bounded-up (path a) rest h);
     },
     (moved-good at, tt),
   )
@@ -79,20 +79,27 @@ module _ (sh : Sheet) (passes : (n : ℕ) (cl : Clause) → clauseAt sh n ≡ so
   called-good at s h (some cl) e =
       laid-good at cl (passes (a .next) cl e) s h (unify (a .bindings) (copied c (termOf at)) (copied (suc (path a)) (termOf (cl .head)))) (unify-spec (a .bindings) (copied c (termOf at)) (copied (suc (path a)) (termOf (cl .head))))
 
-  gone-good : (b : List Binding) → Safe sh (a .calls) rest b → Bounded (path a) rest → All (Good sh) (gone sh a rest b ∷ [])
+  gone-good : (lits : List Pending) (b : List Binding) → Safe sh (a .calls) lits b → Bounded (path a) lits → Good sh (gone sh a lits b)
   unfolding gone
-  gone-good b s h = (record { safe = s; bounded = h }, tt)
+  gone-good lits b s h = record { safe = s; bounded = h }
 
-  worked-good : (l : Literal) → Safe sh (a .calls) (record { copy = c; literal = l } ∷ rest) (a .bindings) → Bounded (path a) rest → All (Good sh) (worked sh a c rest l)
+  side-good : (y : Body) → Side sh (a .calls) c y rest (λ b1. Safe sh (a .calls) rest b1) (a .bindings) → c ≤ path a → Bounded (path a) rest
+      → Good sh (gone sh a (pending c y rest) (a .bindings))
+  side-good y s l h =
+      gone-good (pending c y rest) (a .bindings) (side-safe sh (a .calls) c y rest (a .bindings) s) (bounded-pending (path a) c y rest l h)
+
+  worked-good : (l : Literal) → Safe sh (a .calls) (record { copy = c; literal = l } ∷ rest) (a .bindings) → c ≤ path a → Bounded (path a) rest
+      → All (Good sh) (worked sh a c rest l)
   unfolding worked equated Safe First
-  worked-good (call at) s h = called-good at s h (clauseAt sh (a .next)) refl
-  worked-good (equation t u) s h = go (unify (a .bindings) (copied c t) (copied c u)) (unify-spec (a .bindings) (copied c t) (copied c u))
+  worked-good (call at) s l h = called-good at s h (clauseAt sh (a .next)) refl
+  worked-good (equation t u) s l h = go (unify (a .bindings) (copied c t) (copied c u)) (unify-spec (a .bindings) (copied c t) (copied c u))
     where
       go : (r : Option (List Binding)) → Unified (a .bindings) (copied c t) (copied c u) r → All (Good sh) (equated sh a rest r)
       go none m = tt
-      go (some b) m = gone-good b (s .1 b (unified-grows m) (m .equal)) h
-  worked-good truth s h = gone-good (a .bindings) (s .1) h
-  worked-good falsity s h = tt
+      go (some b) m = (gone-good rest b (s .1 b (unified-grows m) (m .equal)) h, tt)
+  worked-good truth s l h = (gone-good rest (a .bindings) (s .1) h, tt)
+  worked-good falsity s l h = tt
+  worked-good (either y z) s l h = (side-good y (s .1 .0) l h, (side-good z (s .1 .1) l h, tt))
 
 outcome-good : (sh : Sheet) → ((n : ℕ) (cl : Clause) → clauseAt sh n ≡ some cl → Passes sh cl) → (a : Alternative) → Good sh a → All (Good sh) (outcome sh a)
 unfolding outcome workedOn Bounded
@@ -100,7 +107,7 @@ outcome-good sh passes a good = go (a .literals) (good .safe) (good .bounded)
   where
     go : (lits : List Pending) → Safe sh (a .calls) lits (a .bindings) → Bounded (path a) lits → All (Good sh) (workedOn sh a lits)
     go [] s h = tt
-    go (p ∷ ps) s h = worked-good sh passes a good (p .copy) ps (p .literal) s (h .1)
+    go (p ∷ ps) s h = worked-good sh passes a good (p .copy) ps (p .literal) s (h .0) (h .1)
 
 -- ---- a safe alternative adds nothing to the counts
 
@@ -113,15 +120,16 @@ inputs-zero : (sh : Sheet) (a : Alternative) → Good sh a → openInputs sh a �
 unfolding openInputs inputsFirst inputsOf Safe First
 inputs-zero sh a good = go (a .literals) (good .safe)
   where
-    of : (c : ℕ) (l : Literal) (P : List Binding → Type 0) → First sh c l (a .bindings) P → inputsOf sh (a .bindings) c l ≡ 0
-    of c (call at) P f = arguments-zero sh input (a .bindings) c at (f .0)
-    of c (equation t u) P f = refl
-    of c truth P f = refl
-    of c falsity P f = refl
+    of : (c : ℕ) (l : Literal) (ps : List Pending) (P : List Binding → Type 0) → First sh (a .calls) c l ps P (a .bindings) → inputsOf sh (a .bindings) c l ≡ 0
+    of c (call at) ps P f = arguments-zero sh input (a .bindings) c at (f .0)
+    of c (equation t u) ps P f = refl
+    of c truth ps P f = refl
+    of c falsity ps P f = refl
+    of c (either y z) ps P f = refl
 
     go : (lits : List Pending) → Safe sh (a .calls) lits (a .bindings) → inputsFirst sh (a .bindings) lits ≡ 0
     go [] s = refl
-    go (p ∷ ps) s = of (p .copy) (p .literal) (λ b1. Safe sh (a .calls) ps b1) (s .1)
+    go (p ∷ ps) s = of (p .copy) (p .literal) ps (λ b1. Safe sh (a .calls) ps b1) (s .1)
 
 outputs-over : (sh : Sheet) (before after : Alternative) (cs : List Call) → Shown sh (after .calls) (after .literals) (after .bindings) cs → outputsOver sh before after cs ≡ 0
 unfolding outputsOver showsNewly shows Shown countIf
@@ -183,8 +191,8 @@ start-good : (sh : Sheet) (g : Goal) → goalFault sh g ≡ none → All (Good s
 unfolding start Shown Bounded Safe
 start-good sh g e = (
   record {
-    safe = body-safe sh [] 0 [] [] (λ σ. Unit {0}) (λ l body b h. tt) (λ σ b h s q. tt) (g .body) 0 1 nothing [] (grows-refl []) (sound-nothing 0 []) (goal-ends sh g e);
-    bounded = bounded-pending 0 (g .body) [] tt;
+    safe = body-safe sh [] 0 [] [] (λ l ps f b h. tt) (g .body) 0 1 nothing (λ σ. Unit {0}) (sound-nothing 0 []) (goal-ends sh g e) (λ σ b h s q. tt);
+    bounded = bounded-pending 0 0 (g .body) [] (omega arith) tt;
   },
   tt,
 )

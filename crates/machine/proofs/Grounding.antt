@@ -11,8 +11,9 @@ use lib.Dec.{T, eqb, eqb-refl}
 use lib.ListN.{length, set, replicate}
 use Rattle.syntax.specs.Limits.{variables}
 use Rattle.syntax.specs.Terms.{Term, Terms, variable, compound, nil, cons, arity, Atom, termOf, Mark, Declaration, samePredicate, sameName}
-use Rattle.rules.specs.Modes.{Known, knows, nothing, isGround, areGround, groundTerm, groundTerms, groundBoth, equateVariable, equateSame, equate, equateAll, further, goOver, passes, settle, marksOf, orNoMarks, marksFor, sameMark, listOf, openByte, ifMarked, OpenArgument, firstOpen, faulty, oneMore, countFaulty, groundIf, groundMarked}
+use Rattle.rules.specs.Modes.{Known, knows, nothing, isGround, areGround, groundTerm, groundTerms, groundBoth, equateVariable, equateSame, equate, equateAll, further, goOver, passes, settle, marksOf, orNoMarks, marksFor, sameMark, listOf, openByte, ifMarked, OpenArgument, firstOpen, faulty, oneMore, countFaulty, groundIf, groundMarked, inBoth}
 use Rattle.rules.proofs.Terms.{isNone, ground-none}
+use Rattle.rules.proofs.Bodies.{both-knows}
 use Rattle.machine.specs.Substitution.{RTerm, RTerms, var, app, rnil, rcons, copied, copiedAll, closed, closedAll, Binding, resolve}
 use Rattle.machine.proofs.Tests.{both, and, either, name-refl}
 use Rattle.machine.proofs.Terms.{resolveAll, resolve-app, resolve-nil, resolve-cons, Grows}
@@ -201,6 +202,13 @@ sound-passes t u (suc k) τ c b s e =
 pub sound-settle : (t u : Term) (τ : Known) (c : ℕ) (b : List Binding) → Sound τ c b → Same b (copied c t) (copied c u) → Sound (settle t u τ) c b
 unfolding settle
 sound-settle t u τ c b s e = sound-passes t u variables τ c b s e
+
+-- what is known after both sides of a bracket is known after each of them
+pub sound-left : (σ ρ : Known) (c : ℕ) (b : List Binding) → Sound σ c b → Sound (inBoth σ ρ) c b
+sound-left σ ρ c b s i t = s i (both (knows σ i) (knows ρ i) (subst T (both-knows σ ρ i) t) .0)
+
+pub sound-right : (σ ρ : Known) (c : ℕ) (b : List Binding) → Sound ρ c b → Sound (inBoth σ ρ) c b
+sound-right σ ρ c b s i t = s i (both (knows σ i) (knows ρ i) (subst T (both-knows σ ρ i) t) .1)
 
 -- ---- marked arguments
 

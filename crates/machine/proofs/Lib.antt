@@ -11,6 +11,7 @@ pub mod Safety
 pub mod Demand3
 pub mod Reached
 pub mod Next
+pub mod Low
 pub mod EveryRun
 pub mod Turns
 pub mod Earlier

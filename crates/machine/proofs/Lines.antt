@@ -10,7 +10,7 @@ use lib.ListN.{length, take, drop, length-append}
 use lib.Seq.{sets, sets-eq, take-at}
 use borrow.Author.Tests.{ltb-false}
 use Rattle.syntax.specs.Quote.{bytes}
-use Rattle.syntax.specs.Terms.{Term, Terms, variable, compound, nil, cons, Atom, termOf, Literal, call, equation, truth, falsity, Body, done, also, Clause, Sheet, Goal, sameName}
+use Rattle.syntax.specs.Terms.{Term, Terms, variable, compound, nil, cons, Atom, termOf, Literal, call, equation, truth, falsity, either, Body, done, also, Clause, Sheet, Goal, sameName}
 use Rattle.buffers.specs.Feeds.{feeds, pastLines, InLines}
 use Rattle.buffers.proofs.Feeding.{feedless-first, feedless-rest, feed-line, byte-line, no-lines, lines-append, lines-end, feedless-line, feedless-decimal}
 use Rattle.buffers.specs.Buffers.{decimal}
@@ -185,14 +185,14 @@ module _ (sh : Sheet) (clauses : InClauses (sh .clauses)) where
         (unify-plain (copied c (termOf at)) (copied (suc (path a)) (termOf (cl .head))) (copied-plain c (termOf at) h)
         (copied-plain (suc (path a)) (termOf (cl .head)) (k .head)) (a .bindings) (good .bound))
 
-    gone-good : (b : List Binding) → EachPlain b → All Good (gone sh a rest b ∷ [])
+    gone-good : (lits : List Pending) → EachPending lits → (b : List Binding) → EachPlain b → Good (gone sh a lits b)
     unfolding gone
-    gone-good b h = (record { bound = h; literals = others }, tt)
+    gone-good lits k b h = record { bound = h; literals = k }
 
     equated-good : (r : Option (List Binding)) → IfSome r → All Good (equated sh a rest r)
     unfolding equated
     equated-good none h = tt
-    equated-good (some b) h = gone-good b h
+    equated-good (some b) h = (gone-good rest others b h, tt)
 
     worked-good : (l : Literal) → InLiteral l → All Good (worked sh a c rest l)
     unfolding worked
@@ -200,8 +200,12 @@ module _ (sh : Sheet) (clauses : InClauses (sh .clauses)) where
     worked-good (equation t u) h =
         equated-good (unify (a .bindings) (copied c t) (copied c u))
         (unify-plain (copied c t) (copied c u) (copied-plain c t (h .0)) (copied-plain c u (h .1)) (a .bindings) (good .bound))
-    worked-good truth h = gone-good (a .bindings) (good .bound)
+    worked-good truth h = (gone-good rest others (a .bindings) (good .bound), tt)
     worked-good falsity h = tt
+    worked-good (either y z) h = (side y (h .0), (side z (h .1), tt))
+      where
+        side : (x : Body) → InBody x → Good (gone sh a (pending c x rest) (a .bindings))
+        side x k = gone-good (pending c x rest) (pending-plain c x rest k others) (a .bindings) (good .bound)
 
   outcome-good : (a : Alternative) → Good a → All Good (outcome sh a)
   unfolding outcome workedOn

@@ -11,7 +11,7 @@ use borrow.Author.Tests.{eqb-true}
 use Rattle.syntax.specs.Bytes.{classOf, inWord, inNumeral}
 use Rattle.syntax.specs.Tokens.{Gap, outside, inComment, Move, on, atToken, moveOf, skipped, run, word, dashFirst, tokenOf, tokenFrom, tokenPlace, tokenAt, spelling}
 use Rattle.syntax.specs.Numerals.{zeroDigit, trimmed}
-use Rattle.syntax.specs.Terms.{Term, Terms, variable, compound, nil, cons, termOf, Literal, call, equation, truth, falsity, Body, done, also, Clause, Sheet, Goal}
+use Rattle.syntax.specs.Terms.{Term, Terms, variable, compound, nil, cons, termOf, Literal, call, equation, truth, falsity, either, Body, done, also, Clause, Sheet, Goal}
 use Rattle.syntax.specs.Reading.{Cursor, spelt, standing, next, withNew, atStart}
 use Rattle.syntax.specs.Verdicts.{accepted}
 use Rattle.syntax.proofs.Induction.{Kept, sheet-read, goal-read}
@@ -128,15 +128,17 @@ abbrev mutual
   FeedlessAll nil = Unit {0}
   FeedlessAll (cons t ts) = Feedless t × FeedlessAll ts
 
-abbrev pub InLiteral : Literal → Type 0
-InLiteral (call a) = Feedless (termOf a)
-InLiteral (equation t u) = Feedless t × Feedless u
-InLiteral truth = Unit {0}
-InLiteral falsity = Unit {0}
+abbrev mutual
+  pub InLiteral : Literal → Type 0
+  InLiteral (call a) = Feedless (termOf a)
+  InLiteral (equation t u) = Feedless t × Feedless u
+  InLiteral truth = Unit {0}
+  InLiteral falsity = Unit {0}
+  InLiteral (either y z) = InBody y × InBody z
 
-abbrev pub InBody : Body → Type 0
-InBody done = Unit {0}
-InBody (also l b) = InLiteral l × InBody b
+  pub InBody : Body → Type 0
+  InBody done = Unit {0}
+  InBody (also l b) = InLiteral l × InBody b
 
 pub record InClause (cl : Clause) : Type 0 where
   pub head : Feedless (termOf (cl .head))
@@ -182,13 +184,15 @@ unfolding withNew
 reader-new {s} {st} r = record { here = r .here; met = each-more (st .names) (spelt s st) (r .met) (r .here) }
 
 kept : (s : List ℕ)
-    → Kept s (Reader s) (λ left. Feedless) (λ left k. FeedlessAll) InLiteral (λ k. InBody) InClause (λ d. Unit {0}) (λ ds cs sh. InClauses (sh .clauses)) (λ g st. InGoal g)
+    → Kept s (Reader s) (λ left. Feedless) (λ left k. FeedlessAll) (λ n m. InLiteral) (λ n m. InBody) InClause
+    (λ d. Unit {0}) (λ ds cs sh. InClauses (sh .clauses)) (λ g st. InGoal g)
 unfolding atStart
 kept s =
     record {
       at-start = record { here = token-feedless s 0; met = tt };
       past-token = λ r. reader-next r;
       with-variable = λ r low. reader-new r;
+      with-literal = λ r. record { here = r .here; met = r .met };
       without-variables = λ r. record { here = r .here; met = tt };
       new-variable = λ r low. tt;
       old-variable = λ r low. tt;
@@ -196,10 +200,11 @@ kept s =
       named = λ r e h. (r .here, h);
       no-terms = tt;
       one-term = λ h hs. (h, hs);
-      called = λ h. h;
-      equated = λ h g. (h, g);
-      true-literal = tt;
-      false-literal = tt;
+      called = λ few low h. h;
+      equated = λ few low h g. (h, g);
+      true-literal = λ low. tt;
+      false-literal = λ low. tt;
+      two-sides = λ p q y z. (y, z);
       no-literals = tt;
       one-literal = λ h b. (h, b);
       clause = λ h b r. record { head = h; body = b };

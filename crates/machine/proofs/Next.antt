@@ -8,7 +8,7 @@ use mathlib.Core.Option.{Option, none, some}
 use mathlib.Core.Logic.{_⊎_, inl, inr}
 use lib.Dec.{T}
 use lib.ListN.{length, drop}
-use Rattle.syntax.specs.Terms.{Atom, termOf, Literal, call, equation, truth, falsity, Clause, Sheet, Goal}
+use Rattle.syntax.specs.Terms.{Atom, termOf, Literal, call, equation, truth, falsity, either, Clause, Sheet, Goal}
 use Rattle.machine.specs.Substitution.{copied, Binding}
 use Rattle.machine.specs.Unification.{unify}
 use Rattle.machine.specs.Machine.{Pending, Alternative, isFor, firstFor, nextFor, nextOf, topmost, nth, clauseAt, pending, gone, equated, movedOn, laid, tried, onTop, called, worked, workedOn, outcome, start}
@@ -71,6 +71,7 @@ topmost-right sh (p ∷ ps) = go (p .literal)
     go (equation t u) = refl
     go truth = refl
     go falsity = refl
+    go (either y z) = refl
 
 module _ (sh : Sheet) (a : Alternative) (c : ℕ) (rest : List Pending) where
   -- an alternative whose first literal is a call of an atom moves on
@@ -88,21 +89,22 @@ module _ (sh : Sheet) (a : Alternative) (c : ℕ) (rest : List Pending) where
   called-right at e none = tt
   called-right at e (some cl) = laid-right at e cl (unify (a .bindings) (copied c (termOf at)) (copied (suc (length (a .calls))) (termOf (cl .head))))
 
-  gone-right : (b : List Binding) → All (RightNext sh) (gone sh a rest b ∷ [])
+  gone-right : (lits : List Pending) (b : List Binding) → RightNext sh (gone sh a lits b)
   unfolding gone
-  gone-right b = (topmost-right sh rest, tt)
+  gone-right lits b = topmost-right sh lits
 
   equated-right : (r : Option (List Binding)) → All (RightNext sh) (equated sh a rest r)
   unfolding equated
   equated-right none = tt
-  equated-right (some b) = gone-right b
+  equated-right (some b) = (gone-right rest b, tt)
 
   worked-right : (l : Literal) → a .literals ≡ record { copy = c; literal = l } ∷ rest → All (RightNext sh) (worked sh a c rest l)
   unfolding worked
   worked-right (call at) e = called-right at e (clauseAt sh (a .next))
   worked-right (equation t u) e = equated-right (unify (a .bindings) (copied c t) (copied c u))
-  worked-right truth e = gone-right (a .bindings)
+  worked-right truth e = (gone-right rest (a .bindings), tt)
   worked-right falsity e = tt
+  worked-right (either y z) e = (gone-right (pending c y rest) (a .bindings), (gone-right (pending c z rest) (a .bindings), tt))
 
 outcome-right : (sh : Sheet) (a : Alternative) → All (RightNext sh) (outcome sh a)
 unfolding outcome workedOn

@@ -9,12 +9,12 @@ use mathlib.Core.Option.{Option, none, some}
 use mathlib.Core.Logic.{_⊎_, inl, inr}
 use lib.Dec.{T}
 use lib.ListN.{length}
-use Rattle.syntax.specs.Terms.{Term, Terms, variable, compound, nil, cons, Atom, termOf, Literal, call, equation, truth, falsity, Clause, Sheet, Goal}
+use Rattle.syntax.specs.Terms.{Term, Terms, variable, compound, nil, cons, Atom, termOf, Literal, call, equation, truth, falsity, either, Body, done, also, Clause, Sheet, Goal}
 use Rattle.machine.specs.Substitution.{Variable, sameVariable, RTerm, occurs, occursIn, copied, copiedAll, Binding, resolve, isBound}
 use Rattle.machine.specs.Unification.{Difference, same, clash, apart, differ, bound, rounds, places, unify}
-use Rattle.machine.specs.Machine.{Pending, Call, Alternative, path, clauseAt, gone, equated, movedOn, laid, tried, onTop, called, worked, workedOn, outcome, start}
-use Rattle.machine.specs.Reached.{Reached, inLiteral, inLiterals, inCalls, inBindings, inAlternative}
-use Rattle.machine.proofs.Tests.{either, variable-eq, variable-sym}
+use Rattle.machine.specs.Machine.{Pending, Call, Alternative, path, pending, clauseAt, gone, equated, movedOn, laid, tried, onTop, called, worked, workedOn, outcome, start}
+use Rattle.machine.specs.Reached.{Reached, inLiteral, inBody, inLiterals, inCalls, inBindings, inAlternative}
+use Rattle.machine.proofs.Tests.{either as or-either, variable-eq, variable-sym}
 use Rattle.machine.proofs.Piles.{All, all-reached}
 use Rattle.machine.proofs.Terms.{occurs-replace}
 use Rattle.machine.proofs.Unifier.{Apart, Differs, differ-spec}
@@ -56,7 +56,7 @@ Tidy (e ∷ b) = Fresh b (e .variable) (e .term) × Tidy b
 tidy-clear : (b : List Binding) → Tidy b → (t : RTerm) (v : Variable) → T (occurs v (resolve b t)) → T (isBound b v) → ⊥
 unfolding Tidy resolve isBound
 tidy-clear [] h t v o k = k
-tidy-clear (e ∷ b) h t v o k = go (occurs-replace (e .variable) v (e .term) (resolve b t) o) (either (sameVariable v (e .variable)) (isBound b v) k) (tidy-clear b (h .1) t v)
+tidy-clear (e ∷ b) h t v o k = go (occurs-replace (e .variable) v (e .term) (resolve b t) o) (or-either (sameVariable v (e .variable)) (isBound b v) k) (tidy-clear b (h .1) t v)
   where
     go : T (occurs v (e .term)) ⊎ (T (occurs v (resolve b t)) × (T (sameVariable (e .variable) v) → ⊥)) → T (sameVariable v (e .variable)) ⊎ T (isBound b v) → (T (occurs v (resolve b t)) → T (isBound b v) → ⊥) → ⊥
     go (inl x) (inl y) r = h .0 .away (subst (λ (z : Variable). T (occurs z (e .term))) (variable-eq v (e .variable) y) x)
@@ -106,7 +106,7 @@ mutual
   copied-copies : (c : ℕ) (ts : Terms) (w : Variable) → T (occursIn w (copiedAll c ts)) → w .copy ≡ c
   copied-copies c nil w o = absurd o
   copied-copies c (cons t ts) w o =
-      elim (either (occurs w (copied c t)) (occursIn w (copiedAll c ts)) o) [ inl x ↦ copied-copy c t w x | inr x ↦ copied-copies c ts w x ]
+      elim (or-either (occurs w (copied c t)) (occursIn w (copiedAll c ts)) o) [ inl x ↦ copied-copy c t w x | inr x ↦ copied-copies c ts w x ]
 
 copied-below : (n c : ℕ) → c ≤ n → (t : Term) (w : Variable) → T (occurs w (copied c t)) → w .copy ≤ n
 copied-below n c h t w o = let e : w .copy ≡ c = copied-copy c t w o in omega arith
@@ -153,7 +153,11 @@ module _ (sh : Sheet) (a : Alternative) (kept : Kept a) (c : ℕ) (rest : List P
   unfolding onTop laid Callers
   laid-kept at cl none s = (moved-kept at, tt)
   laid-kept at cl (some b) s = (
-    record { sorted = s; literals = bounded-pending (suc (path a)) (cl .body) rest (bounded-up (path a) rest others); callers = (here, kept .callers) },
+    record {
+      sorted = s;
+      literals = bounded-pending (suc (path a)) (suc (path a)) (cl .body) rest (omega arith) (bounded-up (path a) rest others);
+      callers = (here, kept .callers);
+    },
     (moved-kept at, tt),
   )
 
@@ -164,22 +168,26 @@ module _ (sh : Sheet) (a : Alternative) (kept : Kept a) (c : ℕ) (rest : List P
       laid-kept at cl (unify (a .bindings) (copied c (termOf at)) (copied (suc (path a)) (termOf (cl .head))))
       (unify-sorted (suc (path a)) (a .bindings) c (suc (path a)) (termOf at) (termOf (cl .head)) (omega arith) (omega arith) (sorted-up (kept .sorted)))
 
-  gone-kept : (b : List Binding) → Sorted (path a) b → All Kept (gone sh a rest b ∷ [])
+  gone-kept : (lits : List Pending) → Bounded (path a) lits → (b : List Binding) → Sorted (path a) b → Kept (gone sh a lits b)
   unfolding gone
-  gone-kept b s = (record { sorted = s; literals = others; callers = kept .callers }, tt)
+  gone-kept lits h b s = record { sorted = s; literals = h; callers = kept .callers }
 
   equated-kept : (r : Option (List Binding)) → IfSome (λ b. Sorted (path a) b) r → All Kept (equated sh a rest r)
   unfolding equated
   equated-kept none s = tt
-  equated-kept (some b) s = gone-kept b s
+  equated-kept (some b) s = (gone-kept rest others b s, tt)
 
   worked-kept : (l : Literal) → All Kept (worked sh a c rest l)
   unfolding worked
   worked-kept (call at) = called-kept at (clauseAt sh (a .next))
   worked-kept (equation t u) =
       equated-kept (unify (a .bindings) (copied c t) (copied c u)) (unify-sorted (path a) (a .bindings) c c t u here here (kept .sorted))
-  worked-kept truth = gone-kept (a .bindings) (kept .sorted)
+  worked-kept truth = (gone-kept rest others (a .bindings) (kept .sorted), tt)
   worked-kept falsity = tt
+  worked-kept (either y z) = (side y, (side z, tt))
+    where
+      side : (x : Body) → Kept (gone sh a (pending c x rest) (a .bindings))
+      side x = gone-kept (pending c x rest) (bounded-pending (path a) c x rest here others) (a .bindings) (kept .sorted)
 
 outcome-kept : (sh : Sheet) (a : Alternative) → Kept a → All Kept (outcome sh a)
 unfolding outcome workedOn Bounded
@@ -191,7 +199,7 @@ outcome-kept sh a kept = go (a .literals) (kept .literals)
 
 start-kept : (sh : Sheet) (g : Goal) → All Kept (start sh g)
 unfolding start Tidy Below Callers Bounded
-start-kept sh g = (record { sorted = record { tidy = tt; below = tt }; literals = bounded-pending 0 (g .body) [] tt; callers = tt }, tt)
+start-kept sh g = (record { sorted = record { tidy = tt; below = tt }; literals = bounded-pending 0 0 (g .body) [] (omega arith) tt; callers = tt }, tt)
 
 reached-kept : (sh : Sheet) (g : Goal) (a : Alternative) → Reached sh g a → Kept a
 reached-kept sh g = all-reached Kept sh g (outcome-kept sh) (start-kept sh g)
@@ -202,18 +210,26 @@ reached-kept sh g = all-reached Kept sh g (outcome-kept sh) (start-kept sh g)
 pub none-applies : (sh : Sheet) (g : Goal) (a : Alternative) → Reached sh g a → (t : RTerm) (v : Variable) → T (occurs v (resolve (a .bindings) t)) → T (isBound (a .bindings) v) → ⊥
 none-applies sh g a r = tidy-clear (a .bindings) (reached-kept sh g a r .sorted .tidy)
 
-literal-copy : (v : Variable) (c : ℕ) (l : Literal) → T (inLiteral v c l) → v .copy ≡ c
-unfolding inLiteral
-literal-copy v c (call a) o = copied-copies c (a .args) v o
-literal-copy v c (equation t u) o = elim (either (occurs v (copied c t)) (occurs v (copied c u)) o) [ inl x ↦ copied-copy c t v x | inr x ↦ copied-copy c u v x ]
-literal-copy v c truth o = absurd o
-literal-copy v c falsity o = absurd o
+mutual
+  unfolding inLiteral
+
+  literal-copy : (v : Variable) (c : ℕ) (l : Literal) → T (inLiteral v c l) → v .copy ≡ c
+  literal-copy v c (call a) o = copied-copies c (a .args) v o
+  literal-copy v c (equation t u) o =
+      elim (or-either (occurs v (copied c t)) (occurs v (copied c u)) o) [ inl x ↦ copied-copy c t v x | inr x ↦ copied-copy c u v x ]
+  literal-copy v c truth o = absurd o
+  literal-copy v c falsity o = absurd o
+  literal-copy v c (either y z) o = elim (or-either (inBody v c y) (inBody v c z) o) [ inl x ↦ body-copy v c y x | inr x ↦ body-copy v c z x ]
+
+  body-copy : (v : Variable) (c : ℕ) (b : Body) → T (inBody v c b) → v .copy ≡ c
+  body-copy v c done o = absurd o
+  body-copy v c (also l b) o = elim (or-either (inLiteral v c l) (inBody v c b) o) [ inl x ↦ literal-copy v c l x | inr x ↦ body-copy v c b x ]
 
 literals-copy : (n : ℕ) (v : Variable) (lits : List Pending) → Bounded n lits → T (inLiterals v lits) → v .copy ≤ n
 unfolding inLiterals Bounded
 literals-copy n v [] h o = absurd o
 literals-copy n v (p ∷ ps) h o =
-    elim (either (inLiteral v (p .copy) (p .literal)) (inLiterals v ps) o) [
+    elim (or-either (inLiteral v (p .copy) (p .literal)) (inLiterals v ps) o) [
       | inl x ↦ (let e : v .copy ≡ p .copy = literal-copy v (p .copy) (p .literal) x in let k : p .copy ≤ n = h .0 in omega arith)
       | inr x ↦ literals-copy n v ps (h .1) x
     ]
@@ -222,7 +238,7 @@ calls-copy : (v : Variable) (cs : List Call) → Callers cs → T (inCalls v cs)
 unfolding inCalls Callers
 calls-copy v [] h o = absurd o
 calls-copy v (c ∷ cs) h o =
-    elim (either (occursIn v (copiedAll (c .copy) (c .atom .args))) (inCalls v cs) o) [
+    elim (or-either (occursIn v (copiedAll (c .copy) (c .atom .args))) (inCalls v cs) o) [
       | inl x ↦ (let e : v .copy ≡ c .copy = copied-copies (c .copy) (c .atom .args) v x in let k : c .copy ≤ length cs = h .0 in omega arith)
       | inr x ↦ (let k : v .copy ≤ length cs = calls-copy v cs (h .1) x in omega arith)
     ]
@@ -230,20 +246,20 @@ calls-copy v (c ∷ cs) h o =
 bindings-copy : (n : ℕ) (v : Variable) (b : List Binding) → Below n b → T (inBindings v b) → v .copy ≤ n
 unfolding inBindings Below
 bindings-copy n v [] h o = absurd o
-bindings-copy n v (e ∷ b) h o = go (either (sameVariable v (e .variable) || occurs v (e .term)) (inBindings v b) o) (bindings-copy n v b (h .1))
+bindings-copy n v (e ∷ b) h o = go (or-either (sameVariable v (e .variable) || occurs v (e .term)) (inBindings v b) o) (bindings-copy n v b (h .1))
   where
     one : T (sameVariable v (e .variable)) ⊎ T (occurs v (e .term)) → v .copy ≤ n
     one (inl x) = subst (λ (w : Variable). w .copy ≤ n) (sym (variable-eq v (e .variable) x)) (h .0 .variable)
     one (inr x) = h .0 .term v x
 
     go : T (sameVariable v (e .variable) || occurs v (e .term)) ⊎ T (inBindings v b) → (T (inBindings v b) → v .copy ≤ n) → v .copy ≤ n
-    go (inl x) r = one (either (sameVariable v (e .variable)) (occurs v (e .term)) x)
+    go (inl x) r = one (or-either (sameVariable v (e .variable)) (occurs v (e .term)) x)
     go (inr x) r = r x
 
 -- Copies are new: a variable of the copy about to be made stands nowhere in the alternative.
 pub copies-new : (sh : Sheet) (g : Goal) (a : Alternative) → Reached sh g a → (i : ℕ) → T (inAlternative (record { copy = suc (path a); number = i }) a) → ⊥
 unfolding inAlternative
-copies-new sh g a r i o = go (either (inLiterals v (a .literals)) (inCalls v (a .calls) || inBindings v (a .bindings)) o)
+copies-new sh g a r i o = go (or-either (inLiterals v (a .literals)) (inCalls v (a .calls) || inBindings v (a .bindings)) o)
   where
     v : Variable
     v = record { copy = suc (path a); number = i }
@@ -260,4 +276,4 @@ copies-new sh g a r i o = go (either (inLiterals v (a .literals)) (inCalls v (a 
 
     go : T (inLiterals v (a .literals)) ⊎ T (inCalls v (a .calls) || inBindings v (a .bindings)) → ⊥
     go (inl x) = small (literals-copy (path a) v (a .literals) (kept .literals) x)
-    go (inr x) = rest (either (inCalls v (a .calls)) (inBindings v (a .bindings)) x)
+    go (inr x) = rest (or-either (inCalls v (a .calls)) (inBindings v (a .bindings)) x)

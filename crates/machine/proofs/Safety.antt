@@ -2,8 +2,8 @@
 --
 -- An alternative is safe when each call that it shows to have succeeded has closed outputs, and its first literal is safe as a continuation: a
 -- call's inputs are closed now, and whenever the bindings have grown so that its outputs are closed, the rest is safe; an equation: whenever the
--- two sides have become equal, the rest is safe; `true`: the rest is safe now; `fail`: nothing is asked.
-use Prim.Native.Nat.{ℕ, suc, _≤_}
+-- two sides have become equal, the rest is safe; `true`: the rest is safe now; `fail`: nothing is asked; a bracket: each side is safe before the rest.
+use Prim.Native.Nat.{ℕ, suc, _+_, _≤_}
 use native.Mathlib.Omega.{arith}
 use mathlib.Core.Path.{_≡_, refl, sym, subst}
 use mathlib.Core.Bool.{Bool, true, false, not, _||_}
@@ -11,15 +11,15 @@ use mathlib.Core.List.{List, [], _∷_}
 use mathlib.Core.Option.{Option, none, some}
 use lib.Dec.{T, T-not, eqb, eqb-refl, eqb→eq}
 use lib.ListN.{length}
-use Rattle.syntax.specs.Terms.{Term, Atom, termOf, Literal, call, equation, truth, falsity, Body, done, also, Mark, input, output, Declaration, Clause, Sheet}
+use Rattle.syntax.specs.Terms.{Term, Atom, termOf, Literal, call, equation, truth, falsity, either, Body, done, also, literalsIn, literalsOf, Mark, input, output, Declaration, Clause, Sheet}
 use Rattle.syntax.specs.declared.Refusal.{Refusal}
-use Rattle.rules.specs.Modes.{Known, nothing, marksFor, listOf, OpenArgument, firstOpen, openInput, openOutput, literalFault, afterLiteral, Walk, faulted, known, walkOn, bodyFault, startKnown, headFault, clauseFault}
+use Rattle.rules.specs.Modes.{Known, nothing, marksFor, listOf, OpenArgument, firstOpen, settle, groundMarked, openInput, openOutput, Walk, faulted, known, unlessFault, walkOn, inBoth, callWalk, literalWalk, bodyFault, startKnown, headFault, clauseFault}
 use Rattle.machine.specs.Substitution.{copied, Binding}
 use Rattle.machine.specs.Machine.{Pending, Call, pending}
 use Rattle.machine.specs.Counts.{isWithin, isLeft}
 use Rattle.machine.proofs.Tests.{neither, nor, some-none}
 use Rattle.machine.proofs.Terms.{Grows, grows-refl, grows-trans}
-use Rattle.machine.proofs.Grounding.{Same, Sound, sound-grows, sound-nothing, sound-settle, Marked, marked-grows, marked-known, sound-marked, marked-across}
+use Rattle.machine.proofs.Grounding.{Same, Sound, sound-grows, sound-nothing, sound-settle, sound-left, sound-right, Marked, marked-grows, marked-known, sound-marked, marked-across}
 
 -- the arguments of an atom of copy c that have a mark are closed
 abbrev pub ClosedArguments : Sheet → Mark → List Binding → ℕ → Atom → Type 0
@@ -34,16 +34,24 @@ Shown sh all lits b [] = Unit {0}
 Shown sh all lits b (c ∷ cs) =
     (T (not (isLeft all (suc (length cs)) lits)) → ClosedArguments sh output b (c .copy) (c .atom)) × Shown sh all lits b cs
 
--- a first literal, of copy c, is safe under bindings; `rest` says when the rest is
-unfoldable pub First : Sheet → ℕ → Literal → List Binding → (List Binding → Type 0) → Type 0
-First sh c (call a) b rest = ClosedArguments sh input b c a × ((b1 : List Binding) → Grows b b1 → ClosedArguments sh output b1 c a → rest b1)
-First sh c (equation t u) b rest = (b1 : List Binding) → Grows b b1 → Same b1 (copied c t) (copied c u) → rest b1
-First sh c truth b rest = rest b
-First sh c falsity b rest = Unit {0}
+-- A first literal of copy c before others is safe under bindings, and so is a side of a bracket; `rest` says when the others are.
+unfoldable mutual
+  pub First : Sheet → List Call → ℕ → Literal → List Pending → (List Binding → Type 0) → List Binding → Type 0
+  First sh calls c (call a) ps rest b =
+      ClosedArguments sh input b c a × ((b1 : List Binding) → Grows b b1 → ClosedArguments sh output b1 c a → rest b1)
+  First sh calls c (equation t u) ps rest b = (b1 : List Binding) → Grows b b1 → Same b1 (copied c t) (copied c u) → rest b1
+  First sh calls c truth ps rest b = rest b
+  First sh calls c falsity ps rest b = Unit {0}
+  First sh calls c (either y z) ps rest b = Side sh calls c y ps rest b × Side sh calls c z ps rest b
+
+  pub Side : Sheet → List Call → ℕ → Body → List Pending → (List Binding → Type 0) → List Binding → Type 0
+  Side sh calls c done ps rest b = rest b
+  Side sh calls c (also l y) ps rest b =
+      Shown sh calls (pending c (also l y) ps) b calls × First sh calls c l (pending c y ps) (λ b1. Side sh calls c y ps rest b1) b
 
 unfoldable pub Safe : Sheet → List Call → List Pending → List Binding → Type 0
 Safe sh calls [] b = Shown sh calls [] b calls
-Safe sh calls (p ∷ ps) b = Shown sh calls (p ∷ ps) b calls × First sh (p .copy) (p .literal) b (λ b1. Safe sh calls ps b1)
+Safe sh calls (p ∷ ps) b = Shown sh calls (p ∷ ps) b calls × First sh calls (p .copy) (p .literal) ps (λ b1. Safe sh calls ps b1) b
 
 pub safe-shown : (sh : Sheet) (calls : List Call) (lits : List Pending) (b : List Binding) → Safe sh calls lits b → Shown sh calls lits b calls
 unfolding Safe
@@ -60,10 +68,51 @@ unfolding Bounded
 bounded-up n [] h = tt
 bounded-up n (p ∷ ps) h = (let k : p .copy ≤ n = h .0 in omega arith, bounded-up n ps (h .1))
 
-pub bounded-pending : (n : ℕ) (body : Body) (rest : List Pending) → Bounded n rest → Bounded n (pending n body rest)
+pub bounded-pending : (n c : ℕ) (body : Body) (rest : List Pending) → c ≤ n → Bounded n rest → Bounded n (pending c body rest)
 unfolding Bounded pending
-bounded-pending n done rest h = h
-bounded-pending n (also l body) rest h = (omega arith, bounded-pending n body rest h)
+bounded-pending n c done rest l h = h
+bounded-pending n c (also x body) rest l h = (l, bounded-pending n c body rest l h)
+
+-- ---- a first literal with other calls, and what holds behind it weakened
+
+-- under bindings and whatever they grow to
+abbrev Carries : List Binding → (List Binding → Type 0) → (List Binding → Type 0) → Type 0
+Carries b P R = (b1 : List Binding) → Grows b b1 → P b1 → R b1
+
+-- `Fine` holds of the literals behind, and of a body's before them; with it what is shown with some calls is shown with others.
+module _ (sh : Sheet) (calls calls1 : List Call) (c : ℕ) (Fine : List Pending → Type 0)
+    (before : (y : Body) (ps : List Pending) → Fine ps → Fine (pending c y ps)) (b0 : List Binding)
+    (shown : (lits : List Pending) → Fine lits → Carries b0 (λ b. Shown sh calls lits b calls) (λ b. Shown sh calls1 lits b calls1)) where
+  mutual
+    unfolding First
+
+    first-over : (l : Literal) (ps : List Pending) → Fine ps → (b : List Binding) → Grows b0 b → (P R : List Binding → Type 0) → Carries b P R
+        → First sh calls c l ps P b → First sh calls1 c l ps R b
+    first-over (call a) ps q b g P R k f = (f .0, λ b1 h o. k b1 h (f .1 b1 h o))
+    first-over (equation t u) ps q b g P R k f = λ b1 h e. k b1 h (f b1 h e)
+    first-over truth ps q b g P R k f = k b (grows-refl b) f
+    first-over falsity ps q b g P R k f = tt
+    first-over (either y z) ps q b g P R k f = (side-over y ps q b g P R k (f .0), side-over z ps q b g P R k (f .1))
+
+    side-over : (y : Body) (ps : List Pending) → Fine ps → (b : List Binding) → Grows b0 b → (P R : List Binding → Type 0) → Carries b P R
+        → Side sh calls c y ps P b → Side sh calls1 c y ps R b
+    side-over done ps q b g P R k f = k b (grows-refl b) f
+    side-over (also l y) ps q b g P R k f = (
+      shown (pending c (also l y) ps) (before (also l y) ps q) b g (f .0),
+      first-over l (pending c y ps) (before y ps q) b g (λ b1. Side sh calls c y ps P b1) (λ b1. Side sh calls1 c y ps R b1)
+          (λ b1 h s. side-over y ps q b1 (grows-trans g h) P R (λ b2 i. k b2 (grows-trans h i)) s) (f .1),
+    )
+
+-- a side that is safe before safe literals makes safe literals with them
+pub side-safe : (sh : Sheet) (calls : List Call) (c : ℕ) (y : Body) (ps : List Pending) (b : List Binding)
+    → Side sh calls c y ps (λ b1. Safe sh calls ps b1) b → Safe sh calls (pending c y ps) b
+unfolding Side Safe pending
+side-safe sh calls c done ps b s = s
+side-safe sh calls c (also l y) ps b s = (
+  s .0,
+  first-over sh calls calls c (λ lits. Unit {0}) (λ x lits q. tt) b (λ lits q b1 g h. h) l (pending c y ps) tt b (grows-refl b)
+      (λ b1. Side sh calls c y ps (λ b2. Safe sh calls ps b2) b1) (λ b1. Safe sh calls (pending c y ps) b1) (λ b1 g h. side-safe sh calls c y ps b1 h) (s .1),
+)
 
 -- ---- what a new call changes: nothing for the old ones
 
@@ -111,23 +160,30 @@ shown-keep sh all all1 lits lits1 b b1 g (c ∷ cs) h s = (
 -- ---- safe for some calls, safe with one more whose outputs are closed
 
 module _ (sh : Sheet) (new : Call) (calls : List Call) where
-  lift-shown : (lits : List Pending) (b : List Binding) → Bounded (length calls) lits → ClosedArguments sh output b (new .copy) (new .atom) → Shown sh calls lits b calls → Shown sh (new ∷ calls) lits b (new ∷ calls)
+  -- the outputs of the new call are closed
+  abbrev Closing : List Binding → Type 0
+  Closing b = ClosedArguments sh output b (new .copy) (new .atom)
+
+  closing-later : {b b1 : List Binding} → Closing b → Grows b b1 → Closing b1
+  closing-later o g = arguments-grow sh output (new .copy) (new .atom) g o
+
+  lift-shown : (lits : List Pending) (b : List Binding) → Bounded (length calls) lits → Closing b → Shown sh calls lits b calls
+      → Shown sh (new ∷ calls) lits b (new ∷ calls)
   unfolding Shown
-  lift-shown lits b h o s =
-      (λ t. o, shown-keep sh calls (new ∷ calls) lits lits b b (grows-refl b) calls (λ k l t. subst (λ (x : Bool). T (not x)) (left-old new calls k lits h) t) s)
+  lift-shown lits b h o s = (
+    λ t. o,
+    shown-keep sh calls (new ∷ calls) lits lits b b (grows-refl b) calls (λ k l t. subst (λ (x : Bool). T (not x)) (left-old new calls k lits h) t) s,
+  )
 
-  lift-first : (c : ℕ) (l : Literal) (b : List Binding) (P Q : List Binding → Type 0) → ((b1 : List Binding) → Grows b b1 → P b1 → Q b1) → First sh c l b P → First sh c l b Q
-  unfolding First
-  lift-first c (call a) b P Q k f = (f .0, λ b1 g o. k b1 g (f .1 b1 g o))
-  lift-first c (equation t u) b P Q k f = λ b1 g e. k b1 g (f b1 g e)
-  lift-first c truth b P Q k f = k b (grows-refl b) f
-  lift-first c falsity b P Q k f = tt
-
-  lift-safe : (lits : List Pending) (b : List Binding) → Bounded (length calls) lits → ClosedArguments sh output b (new .copy) (new .atom) → Safe sh calls lits b → Safe sh (new ∷ calls) lits b
+  lift-safe : (lits : List Pending) (b : List Binding) → Bounded (length calls) lits → Closing b → Safe sh calls lits b → Safe sh (new ∷ calls) lits b
   unfolding Safe Bounded
   lift-safe [] b h o s = lift-shown [] b h o s
-  lift-safe (p ∷ ps) b h o s =
-      (lift-shown (p ∷ ps) b h o (s .0), lift-first (p .copy) (p .literal) b (λ b1. Safe sh calls ps b1) (λ b1. Safe sh (new ∷ calls) ps b1) (λ b1 g t. lift-safe ps b1 (h .1) (arguments-grow sh output (new .copy) (new .atom) g o) t) (s .1))
+  lift-safe (p ∷ ps) b h o s = (
+    lift-shown (p ∷ ps) b h o (s .0),
+    first-over sh calls (new ∷ calls) (p .copy) (Bounded (length calls)) (λ y lits q. bounded-pending (length calls) (p .copy) y lits (h .0) q)
+        b (λ lits q b1 g t. lift-shown lits b1 q (closing-later o g) t) (p .literal) ps (h .1) b (grows-refl b)
+        (λ b1. Safe sh calls ps b1) (λ b1. Safe sh (new ∷ calls) ps b1) (λ b1 g t. lift-safe ps b1 (h .1) (closing-later o g) t) (s .1),
+  )
 
 -- ---- a body that the modes pass is safe before what comes after it
 
@@ -136,44 +192,107 @@ abbrev pub Ends : (Known → Type 0) → Walk → Type 0
 Ends Q (faulted r) = ⊥
 Ends Q (known σ) = Q σ
 
-walked-on : (Q : Known → Type 0) (o : Option Refusal) (rest : Known → Walk) (σ : Known) → Ends Q (walkOn o rest σ) → (o ≡ none) × Ends Q (rest σ)
+walked-on : (Q : Known → Type 0) (w : Walk) (rest : Known → Walk) → Ends Q (walkOn w rest) → Ends (λ (σ : Known). Ends Q (rest σ)) w
 unfolding walkOn
-walked-on Q none rest σ e = (refl, e)
-walked-on Q (some r) rest σ e = absurd e
+walked-on Q (faulted r) rest e = e
+walked-on Q (known σ) rest e = e
+
+ends-some : (Q : Known → Type 0) (w : Walk) → Ends Q w → (σ : Known) × Q σ
+ends-some Q (faulted r) e = absurd e
+ends-some Q (known σ) e = (σ, e)
+
+ends-unless : (Q : Known → Type 0) (o : Option Refusal) (σ : Known) → Ends Q (unlessFault o σ) → (o ≡ none) × Q σ
+unfolding unlessFault
+ends-unless Q none σ e = (refl, e)
+ends-unless Q (some r) σ e = absurd e
 
 open-none : (c l : ℕ) (a : Atom) (o : Option OpenArgument) → openInput c l a o ≡ none → o ≡ none
 unfolding openInput
 open-none c l a none e = refl
 open-none c l a (some n) e = cc
 
--- a literal that passes is safe as a first one, before what is safe once it has gone
-literal-safe : (sh : Sheet) (c : ℕ) (τ : Known) (b : List Binding) (n l : ℕ) (P : List Binding → Type 0) → Sound τ c b → (lit : Literal) → literalFault (sh .declarations) n l τ lit ≡ none
-    → ((b1 : List Binding) → Grows b b1 → Sound (afterLiteral (sh .declarations) lit τ) c b1 → P b1) → First sh c lit b P
-unfolding First literalFault afterLiteral
-literal-safe sh c τ b n l P s (call a) f k = (inputs, λ b1 g o. k b1 g (sound-marked output marks arguments τ c b1 (sound-grows τ c g s) o))
-  where
-    marks : List Mark
-    marks = marksFor (sh .declarations) a
+-- nothing is left of a copy among some literals only if nothing is among others
+abbrev pub Follows : List Call → List Pending → List Pending → Type 0
+Follows calls ps rest = (k : ℕ) → T (not (isLeft calls k ps)) → T (not (isLeft calls k rest))
 
-    arguments : List Term
-    arguments = listOf (a .args)
+left-pending : (all : List Call) (k c : ℕ) (body : Body) (rest : List Pending) → T (not (isLeft all k (pending c body rest))) → T (not (isLeft all k rest))
+unfolding isLeft pending
+left-pending all k c done rest t = t
+left-pending all k c (also l body) rest t = left-pending all k c body rest (neither (isWithin all k c) (isLeft all k (pending c body rest)) t .1)
 
-    inputs : ClosedArguments sh input b c a
-    inputs = marked-known input τ c b s marks arguments 1 (open-none n l a (firstOpen input τ marks arguments 1) f)
-literal-safe sh c τ b n l P s (equation t u) f k = λ b1 g e. k b1 g (sound-settle t u τ c b1 (sound-grows τ c g s) e)
-literal-safe sh c τ b n l P s truth f k = k b (grows-refl b) s
-literal-safe sh c τ b n l P s falsity f k = tt
+-- Once a walk has passed from bindings b of copy c, leaving what Q tells of, P holds of the bindings then.
+abbrev Passing : ℕ → List Binding → (Known → Type 0) → (List Binding → Type 0) → Type 0
+Passing c b Q P = (σ : Known) (b1 : List Binding) → Grows b b1 → Sound σ c b1 → Q σ → P b1
 
-module _ (sh : Sheet) (calls : List Call) (c : ℕ) (rest : List Pending) (b0 : List Binding) (Q : Known → Type 0)
-    (shown : (l : Literal) (body : Body) (b : List Binding) → Grows b0 b → Shown sh calls (pending c (also l body) rest) b calls)
-    (after : (σ : Known) (b : List Binding) → Grows b0 b → Sound σ c b → Q σ → Safe sh calls rest b) where
-  pub body-safe : (body : Body) (n l : ℕ) (τ : Known) (b : List Binding) → Grows b0 b → Sound τ c b → Ends Q (bodyFault (sh .declarations) n l τ body) → Safe sh calls (pending c body rest) b
-  unfolding Safe bodyFault pending
-  body-safe done n l τ b g s e = after τ b g s e
-  body-safe (also lit body) n l τ b g s e =
-      let w : (literalFault (sh .declarations) n l τ lit ≡ none) × Ends Q (bodyFault (sh .declarations) n (suc l) (afterLiteral (sh .declarations) lit τ) body) =
-      walked-on Q (literalFault (sh .declarations) n l τ lit) (λ σ. bodyFault (sh .declarations) n (suc l) σ body) (afterLiteral (sh .declarations) lit τ) e in
-      (shown lit body b g, literal-safe sh c τ b n l (λ b1. Safe sh calls (pending c body rest) b1) s lit (w .0) (λ b1 h σ. body-safe body n (suc l) (afterLiteral (sh .declarations) lit τ) b1 (grows-trans g h) σ (w .1)))
+-- Literals that pass are safe before others that are safe once these have gone; `shown` is of literals before the rest.
+module _ (sh : Sheet) (calls : List Call) (c : ℕ) (rest : List Pending) (b0 : List Binding)
+    (shown : (l : Literal) (ps : List Pending) → Follows calls ps rest → (b : List Binding) → Grows b0 b
+    → Shown sh calls (record { copy = c; literal = l } ∷ ps) b calls) where
+  call-first : (a : Atom) (n l : ℕ) (τ : Known) (ps : List Pending) (b : List Binding) (Q : Known → Type 0) (P : List Binding → Type 0) → Sound τ c b
+      → Ends Q (callWalk (sh .declarations) n l τ a) → Passing c b Q P → First sh calls c (call a) ps P b
+  unfolding First callWalk
+  call-first a n l τ ps b Q P s e k = (inputs, λ b1 g o. k after b1 g (sound-marked output marks arguments τ c b1 (sound-grows τ c g s) o) (ends .1))
+    where
+      marks : List Mark
+      marks = marksFor (sh .declarations) a
+
+      arguments : List Term
+      arguments = listOf (a .args)
+
+      after : Known
+      after = groundMarked output marks arguments τ
+
+      ends : (openInput n l a (firstOpen input τ marks arguments 1) ≡ none) × Q after
+      ends = ends-unless Q (openInput n l a (firstOpen input τ marks arguments 1)) after e
+
+      inputs : ClosedArguments sh input b c a
+      inputs = marked-known input τ c b s marks arguments 1 (open-none n l a (firstOpen input τ marks arguments 1) (ends .0))
+
+  -- after the left side: the right one passes too, and what both leave is known
+  after-left : (right : Walk) (b : List Binding) (Q : Known → Type 0) (P : List Binding → Type 0) → Passing c b Q P
+      → Passing c b (λ σ. Ends Q (walkOn right (λ ρ. known (inBoth σ ρ)))) P
+  after-left right b Q P k σ b1 g s e =
+      let r : (ρ : Known) × Q (inBoth σ ρ) = ends-some (λ (ρ : Known). Q (inBoth σ ρ)) right (walked-on Q right (λ ρ. known (inBoth σ ρ)) e) in
+      k (inBoth σ (r .0)) b1 g (sound-left σ (r .0) c b1 s) (r .1)
+
+  mutual
+    unfolding First literalWalk pending
+
+    literal-first : (lit : Literal) (n l : ℕ) (τ : Known) (ps : List Pending) → Follows calls ps rest → (b : List Binding) → Grows b0 b
+        → (Q : Known → Type 0) (P : List Binding → Type 0) → Sound τ c b
+        → Ends Q (literalWalk (sh .declarations) n l τ lit) → Passing c b Q P → First sh calls c lit ps P b
+    literal-first (call a) n l τ ps f b g Q P s e k = call-first a n l τ ps b Q P s e k
+    literal-first (equation t u) n l τ ps f b g Q P s e k = λ b1 h q. k (settle t u τ) b1 h (sound-settle t u τ c b1 (sound-grows τ c h s) q) e
+    literal-first truth n l τ ps f b g Q P s e k = k τ b (grows-refl b) s e
+    literal-first falsity n l τ ps f b g Q P s e k = tt
+    literal-first (either y z) n l τ ps f b g Q P s e k =
+        let left : Walk = bodyFault (sh .declarations) n l τ y in
+        let right : Walk = bodyFault (sh .declarations) n (literalsOf y + l) τ z in
+        let behind : Known → Walk = λ σ. walkOn right (λ ρ. known (inBoth σ ρ)) in
+        let w : Ends (λ (σ : Known). Ends Q (behind σ)) left = walked-on Q left behind e in
+        let q : (σ : Known) × Ends Q (behind σ) = ends-some (λ (σ : Known). Ends Q (behind σ)) left w in (
+          body-side y n l τ ps f b g (λ (σ : Known). Ends Q (behind σ)) P s w (after-left right b Q P k),
+          body-side z n (literalsOf y + l) τ ps f b g (λ (ρ : Known). Q (inBoth (q .0) ρ)) P s (walked-on Q right (λ ρ. known (inBoth (q .0) ρ)) (q .1))
+              (λ ρ b1 h t x. k (inBoth (q .0) ρ) b1 h (sound-right (q .0) ρ c b1 t) x),
+        )
+
+    body-side : (y : Body) (n l : ℕ) (τ : Known) (ps : List Pending) → Follows calls ps rest → (b : List Binding) → Grows b0 b
+        → (Q : Known → Type 0) (P : List Binding → Type 0) → Sound τ c b
+        → Ends Q (bodyFault (sh .declarations) n l τ y) → Passing c b Q P → Side sh calls c y ps P b
+    body-side done n l τ ps f b g Q P s e k = k τ b (grows-refl b) s e
+    body-side (also lit y) n l τ ps f b g Q P s e k =
+        let behind : Known → Walk = λ σ. bodyFault (sh .declarations) n (literalsIn lit + l) σ y in
+        let more : Follows calls (pending c y ps) rest = λ i t. f i (left-pending calls i c y ps t) in (
+          shown lit (pending c y ps) more b g,
+          literal-first lit n l τ (pending c y ps) more b g (λ (σ : Known). Ends Q (behind σ)) (λ b1. Side sh calls c y ps P b1) s
+              (walked-on Q (literalWalk (sh .declarations) n l τ lit) behind e)
+              (λ σ b1 h t x. body-side y n (literalsIn lit + l) σ ps f b1 (grows-trans g h) Q P t x (λ ρ b2 i. k ρ b2 (grows-trans h i))),
+        )
+
+  pub body-safe : (body : Body) (n l : ℕ) (τ : Known) (Q : Known → Type 0) → Sound τ c b0 → Ends Q (bodyFault (sh .declarations) n l τ body)
+      → Passing c b0 Q (λ b. Safe sh calls rest b) → Safe sh calls (pending c body rest) b0
+  body-safe body n l τ Q s e after =
+      side-safe sh calls c body rest b0 (body-side body n l τ rest (λ k t. t) b0 (grows-refl b0) Q (λ b1. Safe sh calls rest b1) s e after)
 
 -- ---- a clause that passes, tried for a call that is safe
 
@@ -195,11 +314,6 @@ clause-ends : (ds : List Declaration) (n : ℕ) (cl : Clause) → clauseFault ds
 unfolding clauseFault
 clause-ends ds n cl e = head-ends ds n (cl .head) (bodyFault ds n 1 (startKnown ds (cl .head)) (cl .body)) e
 
-left-pending : (all : List Call) (k c : ℕ) (body : Body) (rest : List Pending) → T (not (isLeft all k (pending c body rest))) → T (not (isLeft all k rest))
-unfolding isLeft pending
-left-pending all k c done rest t = t
-left-pending all k c (also l body) rest t = left-pending all k c body rest (neither (isWithin all k c) (isLeft all k (pending c body rest)) t .1)
-
 module _ (sh : Sheet) (calls : List Call) (c : ℕ) (at : Atom) (rest : List Pending) (b b1 : List Binding)
     (safe : Safe sh calls (record { copy = c; literal = call at } ∷ rest) b) (bounded : Bounded (length calls) rest) (grows : Grows b b1) where
   -- the new call, and the copy that is made for it
@@ -209,11 +323,13 @@ module _ (sh : Sheet) (calls : List Call) (c : ℕ) (at : Atom) (rest : List Pen
   abbrev pub copy : ℕ
   copy = suc (length calls)
 
-  shown-within : (l : Literal) (body : Body) (b2 : List Binding) → Grows b1 b2 → Shown sh (new ∷ calls) (pending copy (also l body) rest) b2 (new ∷ calls)
-  unfolding Shown Safe isLeft pending
-  shown-within l body b2 g = (
-    λ t. absurd (itself (within-not copy (neither (isWithin (new ∷ calls) copy copy) (isLeft (new ∷ calls) copy (pending copy body rest)) t .0))),
-    shown-keep sh calls (new ∷ calls) (record { copy = c; literal = call at } ∷ rest) (pending copy (also l body) rest) b b2 (grows-trans grows g) calls older (safe .0),
+  shown-within : (l : Literal) (ps : List Pending) → Follows (new ∷ calls) ps rest → (b2 : List Binding) → Grows b1 b2
+      → Shown sh (new ∷ calls) (record { copy = copy; literal = l } ∷ ps) b2 (new ∷ calls)
+  unfolding Shown Safe isLeft
+  shown-within l ps f b2 g = (
+    λ t. absurd (itself (within-not copy (neither (isWithin (new ∷ calls) copy copy) (isLeft (new ∷ calls) copy ps) t .0))),
+    shown-keep sh calls (new ∷ calls) (record { copy = c; literal = call at } ∷ rest) (record { copy = copy; literal = l } ∷ ps) b b2
+        (grows-trans grows g) calls older (safe .0),
   )
     where
       within-not : (k : ℕ) → T (not (isWithin (new ∷ calls) k copy)) → T (not (eqb copy k || isWithin calls k c))
@@ -222,17 +338,20 @@ module _ (sh : Sheet) (calls : List Call) (c : ℕ) (at : Atom) (rest : List Pen
       itself : T (not (eqb copy copy || isWithin calls copy c)) → ⊥
       itself t = T-not (eqb copy copy) (neither (eqb copy copy) (isWithin calls copy c) t .0) (eqb-refl copy)
 
-      older : (k : ℕ) → k ≤ length calls → T (not (isLeft (new ∷ calls) k (pending copy (also l body) rest))) → T (not (isLeft calls k (record { copy = c; literal = call at } ∷ rest)))
+      older : (k : ℕ) → k ≤ length calls → T (not (isLeft (new ∷ calls) k (record { copy = copy; literal = l } ∷ ps)))
+          → T (not (isLeft calls k (record { copy = c; literal = call at } ∷ rest)))
       older k h t =
-          let p : T (not (isWithin (new ∷ calls) k copy)) × T (not (isLeft (new ∷ calls) k (pending copy body rest))) = neither (isWithin (new ∷ calls) k copy) (isLeft (new ∷ calls) k (pending copy body rest)) t in
+          let p : T (not (isWithin (new ∷ calls) k copy)) × T (not (isLeft (new ∷ calls) k ps)) =
+          neither (isWithin (new ∷ calls) k copy) (isLeft (new ∷ calls) k ps) t in
           nor (isWithin calls k c) (isLeft calls k rest)
           (neither (eqb copy k) (isWithin calls k c) (within-not k (p .0)) .1)
-          (subst (λ (x : Bool). T (not x)) (left-old new calls k rest bounded) (left-pending (new ∷ calls) k copy body rest (p .1)))
+          (subst (λ (x : Bool). T (not x)) (left-old new calls k rest bounded) (f k (p .1)))
 
   pub clause-safe : (cl : Clause) (n : ℕ) → clauseFault (sh .declarations) n cl ≡ none → Same b1 (copied c (termOf at)) (copied copy (termOf (cl .head))) → Safe sh (new ∷ calls) (pending copy (cl .body) rest) b1
   unfolding Safe First startKnown
   clause-safe cl n e q =
-      body-safe sh (new ∷ calls) copy rest b1 (OutputsKnown (sh .declarations) head) (λ l body b2 g. shown-within l body b2 g) after (cl .body) n 1 (startKnown (sh .declarations) head) b1 (grows-refl b1) begin (clause-ends (sh .declarations) n cl e)
+      body-safe sh (new ∷ calls) copy rest b1 shown-within (cl .body) n 1 (startKnown (sh .declarations) head)
+      (OutputsKnown (sh .declarations) head) begin (clause-ends (sh .declarations) n cl e) after
     where
       head : Atom
       head = cl .head

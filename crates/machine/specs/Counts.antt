@@ -4,7 +4,7 @@ use mathlib.Core.Bool.{Bool, true, false, not, _&&_, _||_}
 use mathlib.Core.List.{List, [], _∷_}
 use lib.Dec.{leb, eqb}
 use lib.ListN.{length}
-use Rattle.syntax.specs.Terms.{Atom, Literal, call, equation, truth, falsity, Mark, input, output, Sheet, Goal}
+use Rattle.syntax.specs.Terms.{Atom, Literal, call, equation, truth, falsity, either, Mark, input, output, Sheet, Goal}
 use Rattle.rules.specs.Modes.{marksFor, countFaulty, listOf}
 use Rattle.machine.specs.Substitution.{copied, closed, Binding, resolve}
 use Rattle.machine.specs.Machine.{Pending, Call, Alternative, path, outcome, step, start}
@@ -21,6 +21,7 @@ inputsOf sh b c (call a) = openArguments sh input b c a
 inputsOf sh b c (equation t u) = 0
 inputsOf sh b c truth = 0
 inputsOf sh b c falsity = 0
+inputsOf sh b c (either y z) = 0
 
 -- of the first of some literals
 unfoldable pub inputsFirst : Sheet → List Binding → List Pending → ℕ

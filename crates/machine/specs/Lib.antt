@@ -2,6 +2,7 @@ pub mod Substitution
 pub mod Unification
 pub mod Unifiers
 pub mod Machine
+pub mod Low
 pub mod Answers
 pub mod Runs
 pub mod Earlier

@@ -4,7 +4,7 @@ use mathlib.Core.Bool.{Bool, true, false}
 use mathlib.Core.List.{List, [], _∷_, _++_}
 use mathlib.Core.Option.{Option, none, some}
 use lib.ListN.{length, drop}
-use Rattle.syntax.specs.Terms.{Atom, termOf, Literal, call, equation, truth, falsity, Body, done, also, Clause, Sheet, Goal, arity, samePredicate}
+use Rattle.syntax.specs.Terms.{Atom, termOf, Literal, call, equation, truth, falsity, either, Body, done, also, Clause, Sheet, Goal, arity, samePredicate}
 use Rattle.machine.specs.Substitution.{copied, Binding}
 use Rattle.machine.specs.Unification.{unify}
 
@@ -56,6 +56,7 @@ nextOf sh (call a) = nextFor sh a 0
 nextOf sh (equation t u) = 0
 nextOf sh truth = 0
 nextOf sh falsity = 0
+nextOf sh (either y z) = 0
 
 -- for some literals, the first of them new: "the topmost whenever that literal is new"
 unfoldable pub topmost : Sheet → List Pending → ℕ
@@ -113,12 +114,14 @@ unfoldable pub called : Sheet → Alternative → ℕ → Atom → List Pending 
 called sh a c at rest none = []
 called sh a c at rest (some cl) = onTop (tried sh a c at rest cl) (movedOn sh a at)
 
--- what comes of an alternative whose first literal, of copy c, stands before the rest
+-- What comes of an alternative whose first literal, of copy c, stands before the rest. Of a bracket (document 02, (i)): "one step replaces the
+-- alternative by the right-hand one and lays the left-hand one on top, path unchanged".
 unfoldable pub worked : Sheet → Alternative → ℕ → List Pending → Literal → List Alternative
 worked sh a c rest (call at) = called sh a c at rest (clauseAt sh (a .next))
 worked sh a c rest (equation t u) = equated sh a rest (unify (a .bindings) (copied c t) (copied c u))
 worked sh a c rest truth = gone sh a rest (a .bindings) ∷ []
 worked sh a c rest falsity = []
+worked sh a c rest (either y z) = gone sh a (pending c y rest) (a .bindings) ∷ gone sh a (pending c z rest) (a .bindings) ∷ []
 
 -- "no literals left: an answer; the alternative goes"
 unfoldable pub workedOn : Sheet → Alternative → List Pending → List Alternative

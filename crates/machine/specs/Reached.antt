@@ -3,7 +3,7 @@ use Prim.Native.Nat.{ℕ}
 use mathlib.Core.Path.{_≡_}
 use mathlib.Core.Bool.{Bool, false, _||_}
 use mathlib.Core.List.{List, [], _∷_, List·Memᴰ}
-use Rattle.syntax.specs.Terms.{Literal, call, equation, truth, falsity, Sheet, Goal}
+use Rattle.syntax.specs.Terms.{Literal, call, equation, truth, falsity, either, Body, done, also, Sheet, Goal}
 use Rattle.machine.specs.Substitution.{Variable, sameVariable, occurs, occursIn, copied, copiedAll, Binding}
 use Rattle.machine.specs.Machine.{Pending, Call, Alternative, nextFor, pileAfter}
 
@@ -11,12 +11,18 @@ use Rattle.machine.specs.Machine.{Pending, Call, Alternative, nextFor, p
 abbrev pub Reached : Sheet → Goal → Alternative → Type 0
 Reached sh g a = (n : ℕ) × List·Memᴰ a (pileAfter sh g n)
 
--- a variable stands in a literal of copy c, in some literals, in some calls, in some bindings
-unfoldable pub inLiteral : Variable → ℕ → Literal → Bool
-inLiteral v c (call a) = occursIn v (copiedAll c (a .args))
-inLiteral v c (equation t u) = occurs v (copied c t) || occurs v (copied c u)
-inLiteral v c truth = false
-inLiteral v c falsity = false
+-- a variable stands in a literal or body of copy c, in some literals, in some calls, in some bindings
+unfoldable mutual
+  pub inLiteral : Variable → ℕ → Literal → Bool
+  inLiteral v c (call a) = occursIn v (copiedAll c (a .args))
+  inLiteral v c (equation t u) = occurs v (copied c t) || occurs v (copied c u)
+  inLiteral v c truth = false
+  inLiteral v c falsity = false
+  inLiteral v c (either y z) = inBody v c y || inBody v c z
+
+  pub inBody : Variable → ℕ → Body → Bool
+  inBody v c done = false
+  inBody v c (also l b) = inLiteral v c l || inBody v c b
 
 unfoldable pub inLiterals : Variable → List Pending → Bool
 inLiterals v [] = false
@@ -39,6 +45,7 @@ IsNext sh (call a) n = (m : ℕ) × (n ≡ nextFor sh a m)
 IsNext sh (equation t u) n = n ≡ 0
 IsNext sh truth n = n ≡ 0
 IsNext sh falsity n = n ≡ 0
+IsNext sh (either y z) n = n ≡ 0
 
 -- for some literals, by their first
 unfoldable pub IsNextOf : Sheet → List Pending → ℕ → Type 0

@@ -6,7 +6,7 @@ use mathlib.Core.Option.{Option, none, some}
 use lib.Dec.{leb, ltb, eqb}
 use lib.ListN.{length}
 use Rattle.syntax.specs.Limits.{longestPath, mostSteps, mostAnswers}
-use Rattle.syntax.specs.Terms.{Literal, call, equation, truth, falsity, Clause, Sheet, Goal}
+use Rattle.syntax.specs.Terms.{Literal, call, equation, truth, falsity, either, Clause, Sheet, Goal}
 use Rattle.syntax.specs.Verdicts.{Outcome, refused, accepted}
 use Rattle.syntax.specs.declared.Text.{Text}
 use Rattle.syntax.specs.declared.Text.the-variants.{Sheet as inSheet, Goal as inGoal, Neither}
@@ -59,6 +59,7 @@ triesWith sh a (call at) = isThere (clauseAt sh (a .next))
 triesWith sh a (equation t u) = false
 triesWith sh a truth = false
 triesWith sh a falsity = false
+triesWith sh a (either y z) = false
 
 unfoldable pub triesFirst : Sheet → Alternative → List Pending → Bool
 triesFirst sh a [] = false

@@ -4,13 +4,13 @@ use native.Mathlib.Omega.{arith}
 use native.Mathlib.Numerals.{add-one}
 use mathlib.Core.Path.{_≡_, refl, sym, ap, ap₂, _∙_}
 use mathlib.Core.Bool.{Bool, true, false, not, _&&_, _||_, true≢false}
-use mathlib.Core.List.{List}
-use lib.ListN.{length, getD, drop, drop-of-length-le}
-use lib.Seq.{drop-cons, getD-set-same}
+use mathlib.Core.List.{List, [], _∷_, _++_, append-assoc, append-nil}
+use lib.ListN.{length, getD, set, take, drop, drop-of-length-le, length-set}
+use lib.Seq.{drop-cons, getD-set-same, take-all, take-suc-set}
 use Rattle.syntax.specs.Limits.{variables}
 use Rattle.syntax.specs.Terms.{Term, Terms, variable, compound, nil, cons}
 use Rattle.syntax.specs.Words.{firstName}
-use Rattle.rules.specs.Modes.{Known, isGround, areGround, groundTerm, groundTerms, groundBoth, equateVariable, equate, further, settle}
+use Rattle.rules.specs.Modes.{Known, isGround, areGround, groundTerm, groundTerms, groundBoth, equateVariable, equate, further, settle, inBoth}
 use Rattle.rules.proofs.Terms.{both, grounding-keeps, all-grounding-keeps, ground-grows, nothing-given}
 use Rattle.rules.proofs.Equations.{left-ground}
 use Rattle.rules.proofs.Growth.{term-grown, equate-grown}
@@ -134,3 +134,45 @@ module _ {s table : List ℕ} {p q : ℕ} (τ : Known) {r : Known} (l : length �
       h (left-at w) (right-at w)
       ∙ settles-at-once (w .left) (w .right) τ (numbered (w .left-stands)) (numbered (w .right-stands)) l
       (λ σ. open-right table q σ (w .left) (w .right) (w .has-right) (omega arith))
+
+-- ---- what both sides of a bracket leave ground, from the left
+
+-- with so many flags stored
+pub record Halfway (left right both : Known) (i : ℕ) : Type 0 where
+  pub left-wide : length left ≡ variables
+  pub right-wide : length right ≡ variables
+  pub both-wide : length both ≡ variables
+  pub low : i ≤ variables
+  pub same : take i both ++ inBoth (drop i left) (drop i right) ≡ inBoth left right
+
+pub halfway-starts : {left right : Known} → length left ≡ variables → length right ≡ variables → Halfway left right left 0
+halfway-starts l r = record { left-wide = l; right-wide = r; both-wide = l; low = omega arith; same = refl }
+
+pub halfway-on : {left right both : Known} {i : ℕ} {b : Bool} → i < variables → b ≡ (getD left i false && getD right i false)
+    → Halfway left right both i → Halfway left right (set both i b) (i + 1)
+unfolding inBoth
+halfway-on {left} {right} {both} {i} {b} l e h =
+    let nl : i < length left = omega (arith, h .left-wide) in
+    let nr : i < length right = omega (arith, h .right-wide) in
+    let nb : i < length both = omega (arith, h .both-wide) in
+    let step : inBoth (drop i left) (drop i right) ≡ b ∷ inBoth (drop (i + 1) left) (drop (i + 1) right) =
+    ap₂ inBoth (drop-cons left i false nl) (drop-cons right i false nr) ∙ rw (← e, add-one) in
+    record {
+      left-wide = h .left-wide;
+      right-wide = h .right-wide;
+      both-wide = length-set both i b ∙ h .both-wide;
+      low = omega arith;
+      same =
+          ap (λ (x : Known). x ++ inBoth (drop (i + 1) left) (drop (i + 1) right)) (ap (λ (k : ℕ). take k (set both i b)) (add-one i) ∙ take-suc-set both i b nb)
+          ∙ append-assoc (take i both) (b ∷ []) (inBoth (drop (i + 1) left) (drop (i + 1) right))
+          ∙ ap (λ (x : Known). take i both ++ x) (sym step)
+          ∙ h .same;
+    }
+
+pub halfway-ends : {left right both : Known} {i : ℕ} → variables ≤ i → Halfway left right both i → both ≡ inBoth left right
+unfolding inBoth
+halfway-ends {left} {right} {both} {i} l h =
+    let e : drop i left ≡ [] = drop-of-length-le left {i = i} (omega (arith, h .left-wide)) in
+    sym (append-nil both)
+    ∙ ap₂ (λ (x y : Known). x ++ y) (sym (take-all i both (omega (arith, h .both-wide)))) (sym (ap (λ (x : Known). inBoth x (drop i right)) e))
+    ∙ h .same

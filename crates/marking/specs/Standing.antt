@@ -3,8 +3,8 @@ use Prim.Native.Nat.{ℕ, _+_, _≤_, _<_}
 use mathlib.Core.Path.{_≡_}
 use mathlib.Core.List.{List, [], _∷_}
 use lib.ListN.{length}
-use Rattle.syntax.specs.Terms.{Term, Terms, variable, compound, nil, cons, arity, Atom, termOf, Literal, Body, call, equation, truth, falsity, done, also}
-use Rattle.syntax.specs.Terms.{Declaration, Clause, Sheet, Goal}
+use Rattle.syntax.specs.Terms.{Term, Terms, variable, compound, nil, cons, arity, Atom, termOf, Literal, Body, call, equation, truth, falsity, either, done}
+use Rattle.syntax.specs.Terms.{also, Declaration, Clause, Sheet, Goal}
 use Rattle.syntax.specs.Tokens.{spelling}
 use Rattle.syntax.specs.Limits.{variables, arguments, wordBytes, declarations}
 
@@ -33,15 +33,17 @@ mutual
     stand-nil : AllStand s nil
     stand-cons : {t : Term} {ts : Terms} → Stands s t → AllStand s ts → AllStand s (cons t ts)
 
-pub data LiteralStands (s : List ℕ) : Literal → Type 0 where
-  call-stands : {a : Atom} → Stands s (termOf a) → LiteralStands s (call a)
-  equation-stands : {t u : Term} → Stands s t → Stands s u → LiteralStands s (equation t u)
-  truth-stands : LiteralStands s truth
-  falsity-stands : LiteralStands s falsity
+mutual
+  pub data LiteralStands (s : List ℕ) : Literal → Type 0 where
+    call-stands : {a : Atom} → Stands s (termOf a) → LiteralStands s (call a)
+    equation-stands : {t u : Term} → Stands s t → Stands s u → LiteralStands s (equation t u)
+    truth-stands : LiteralStands s truth
+    falsity-stands : LiteralStands s falsity
+    either-stands : {y z : Body} → BodyStands s y → BodyStands s z → LiteralStands s (either y z)
 
-pub data BodyStands (s : List ℕ) : Body → Type 0 where
-  done-stands : BodyStands s done
-  also-stands : {l : Literal} {b : Body} → LiteralStands s l → BodyStands s b → BodyStands s (also l b)
+  pub data BodyStands (s : List ℕ) : Body → Type 0 where
+    done-stands : BodyStands s done
+    also-stands : {l : Literal} {b : Body} → LiteralStands s l → BodyStands s b → BodyStands s (also l b)
 
 pub record ClauseStands (s : List ℕ) (c : Clause) : Type 0 where
   pub head : Stands s (termOf (c .head))

@@ -9,10 +9,11 @@ use texts::same_bytes;
 use words::past;
 use words::word_at;
 ghost use mathlib.Core.Path.{_≡_};
+ghost use mathlib.Core.Bool.{_&&_};
 ghost use Prim.Native.Nat.{_≤_};
 ghost use lib.ListN.{getD};
 ghost use Rattle.syntax.specs.Words.{firstName};
-ghost use Rattle.rules.specs.Modes.{isGround, openByte, openByteOf, groundTerm, groundTerms, equateVariable, equate, equateAll, further, settle};
+ghost use Rattle.rules.specs.Modes.{isGround, openByte, openByteOf, groundTerm, groundTerms, equateVariable, equate, equateAll, further, settle, inBoth};
 ghost use Rattle.marking.specs.Tables.{TermAt, TermsAt, PairAt, PairsAt};
 ghost use Rattle.marking.specs.Answers.{groundnessOf};
 ghost use Rattle.marking.specs.Functors.{sameFunctor};
@@ -211,4 +212,29 @@ pub fn settle(s: &[u8], table: &[u32], p: usize, q: usize, known: Known) -> Know
         return equate_variable(table, p, q, known);
     }
     go_over(s, table, p, q, known)
+}
+
+// Whether a variable is known ground behind a bracket, by whether each side leaves it so.
+fn both_ground(left: bool, right: bool) -> bool
+    ensures { λ r. ⌜ r ≡ (left && right) ⌝ }
+{
+    if left {
+        return right;
+    }
+    left
+}
+
+// What is known ground behind a bracket: what both sides leave ground.
+pub fn in_both(left: Known, right: Known) -> Known
+    ensures { λ r. ⌜ r ≡ inBoth left right ⌝ }
+{
+    let mut both = left;
+    let mut i = 0;
+    while i < VARIABLES {
+        let l = left[i];
+        let r = right[i];
+        both[i] = both_ground(l, r);
+        i = i + 1;
+    }
+    both
 }

@@ -10,11 +10,11 @@ use Rattle.syntax.specs.Tokens.{spelling, numeralKind}
 use Rattle.syntax.specs.Terms.{Terms, nil, arity, Sheet, Goal}
 use Rattle.syntax.specs.Numerals.{trimmed, dropped}
 use Rattle.syntax.proofs.Numerals.{trimmed-short, trimmed-spelling}
-use Rattle.syntax.specs.Reading.{Cursor, spelt, ok, standing, next, withNew, fresh, atStart, readSheet, readGoal}
+use Rattle.syntax.specs.Reading.{Cursor, spelt, ok, standing, next, withNew, counted, fresh, atStart, readSheet, readGoal}
 use Rattle.syntax.specs.declared.Token.{Token}
 use Rattle.syntax.proofs.Induction.{Kept, sheet-read, goal-read}
 use Rattle.lexer.proofs.Placed.{Placed, placed-first, placed-ends, placed-next, placed-short}
-use Rattle.marking.specs.Standing.{NameAt, Stands, AllStand, stands-variable, stands-compound, stand-nil, stand-cons, LiteralStands, call-stands, equation-stands, truth-stands, falsity-stands, BodyStands, done-stands, also-stands, ClauseStands, no-clauses, clause-stands, DeclarationStands, no-declarations, declaration-stands, SheetStands, GoalStands}
+use Rattle.marking.specs.Standing.{NameAt, Stands, AllStand, stands-variable, stands-compound, stand-nil, stand-cons, LiteralStands, call-stands, equation-stands, truth-stands, falsity-stands, either-stands, BodyStands, done-stands, also-stands, ClauseStands, no-clauses, clause-stands, DeclarationStands, no-declarations, declaration-stands, SheetStands, GoalStands}
 
 -- the token at hand is one of the text, and the variables are within their limit
 record Reader (s : List ℕ) (st : Cursor) : Type 0 where
@@ -32,6 +32,9 @@ reader-next r = record { placed = placed-next (r .placed); few = r .few }
 reader-new : {s : List ℕ} {st : Cursor} → Reader s st → length (st .names) < variables → Reader s (withNew s st)
 unfolding withNew
 reader-new {s} {st} r low = record { placed = r .placed; few = omega (arith, low, length-append (st .names) (spelt s st ∷ [])) }
+
+reader-counted : {s : List ℕ} {st : Cursor} → Reader s st → Reader s (counted st)
+reader-counted r = record { placed = r .placed; few = r .few }
 
 reader-fresh : {s : List ℕ} {st : Cursor} → Reader s st → Reader s (fresh st)
 reader-fresh r = record { placed = r .placed; few = omega arith }
@@ -70,13 +73,14 @@ abbrev Within : List ℕ → ℕ → Sheet → Type 0
 Within s k sh = SheetStands s sh × (length (sh .declarations) ≤ k)
 
 kept : (s : List ℕ)
-    → Kept s (Reader s) (λ left. Stands s) (λ left k. Listed s k) (LiteralStands s) (λ k. BodyStands s) (ClauseStands s) (DeclarationStands s)
+    → Kept s (Reader s) (λ left. Stands s) (λ left k. Listed s k) (λ n m. LiteralStands s) (λ n m. BodyStands s) (ClauseStands s) (DeclarationStands s)
     (λ ds cs. Within s ds) (λ g st. GoalStands s g)
 kept s =
     record {
       at-start = reader-start s;
       past-token = reader-next;
       with-variable = reader-new;
+      with-literal = reader-counted;
       without-variables = reader-fresh;
       new-variable = λ r low. stands-variable low;
       old-variable = λ r low. stands-variable (met-below r low);
@@ -84,10 +88,11 @@ kept s =
       named = λ r e h. stands-compound (name-here (r .placed) (omega (arith, e))) (h .1) (h .0);
       no-terms = (stand-nil, omega arith);
       one-term = λ h hs. (stand-cons h (hs .0), omega (arith, hs .1));
-      called = call-stands;
-      equated = equation-stands;
-      true-literal = truth-stands;
-      false-literal = falsity-stands;
+      called = λ few low h. call-stands h;
+      equated = λ few low h k. equation-stands h k;
+      true-literal = λ low. truth-stands;
+      false-literal = λ low. falsity-stands;
+      two-sides = λ some others h k. either-stands h k;
       no-literals = done-stands;
       one-literal = also-stands;
       clause = λ h b r. record { head = h; body = b };

@@ -1,4 +1,5 @@
 pub mod Walking
+pub mod Items
 pub mod Sheets
 pub mod Accepted
 pub mod Loaded

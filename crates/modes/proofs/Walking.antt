@@ -1,25 +1,28 @@
 -- Laws of literals and bodies in a table, one for each way out of the functions. Assumes nothing.
 use Prim.Native.Nat.{ℕ, zero, suc, _+_, _≤_, _<_}
-use native.Mathlib.Numerals.{add-one}
 use native.Mathlib.Omega.{arith}
 use mathlib.Core.Path.{_≡_, refl, sym, ap, ap₂, _∙_, subst, subst⁻¹}
 use mathlib.Core.Bool.{Bool, true, false}
-use mathlib.Core.List.{List, _∷_, _++_}
+use mathlib.Core.List.{List, [], _∷_, _++_}
 use mathlib.Core.Option.{Option, none, some}
-use lib.ListN.{length, getD}
-use Rattle.syntax.specs.Terms.{Term, Atom, termOf, Literal, Body, call, equation, truth, falsity, done, also, input, output, Declaration}
-use Rattle.syntax.specs.Words.{termWords, atomWords, literalWords, bodyWords, bodyLength, marksNumber, truthKind, falsityKind, callKind, equationKind}
+use lib.ListN.{length, getD, length-append}
+use Rattle.syntax.specs.Terms.{Term, Atom, termOf, Literal, Body, call, equation, truth, falsity, either, done, also, literalsIn, literalsOf, input, output, Declaration}
+use Rattle.syntax.specs.Words.{termWords, atomWords, literalWords, bodyWords, literalLength, bodyLength, sideWords, sideItems, marker, marksNumber, truthKind, falsityKind, callKind, equationKind, leftKind, rightKind, behindKind}
 use Rattle.syntax.specs.declared.Refusal.{Refusal}
-use Rattle.rules.specs.Modes.{Known, everything, marksFor, listOf, firstOpen, groundMarked, settle, openInput, undeclaredAtom, undeclaredLiteral, undeclaredBody, literalFault, afterLiteral, Walk, known, walkOn, bodyFault}
-use Rattle.marking.specs.Standing.{Stands, LiteralStands, call-stands, equation-stands, BodyStands, also-stands}
+use Rattle.syntax.proofs.Words.{marker-items}
+use Rattle.rules.specs.Modes.{Known, everything, marksFor, listOf, firstOpen, groundMarked, settle, openInput, Walk, known, unlessFault, walkOn, inBoth, callWalk, literalWalk, bodyFault}
+use Rattle.marking.specs.Standing.{Stands, LiteralStands, call-stands, equation-stands, either-stands, BodyStands, also-stands}
 use Rattle.words.specs.Tables.{Has}
+use Rattle.words.specs.Items.{Item, plain-call, plain-equation, plain-truth, plain-falsity, itemWords}
 use Rattle.marking.specs.Tables.{TermAt, PairAt, MarkedAt, JudgedAt, DeclarationsAt, AtomAt, LiteralAt, BodyAt}
 use Rattle.marking.specs.Answers.{checkedOf}
-use Rattle.modes.specs.Answers.{isFault, walkBy, walkOf, literalWalk}
+use Rattle.modes.specs.Answers.{isFault, walkBy, walkOf, Passes, PastLiteral, PastBody}
+use Rattle.modes.specs.Items.{SideAt}
 use Rattle.marking.specs.declared.Checked.{Checked}
 use Rattle.marking.specs.declared.Checked.the-variants.{Fine, Fault}
 use Rattle.modes.specs.declared.Walked.{Walked}
-use Rattle.words.proofs.Laws.{has-left, has-right, literal-room as room-of}
+use Rattle.modes.specs.declared.Passed.{Passed}
+use Rattle.words.proofs.Laws.{has-left, has-right, has-inside}
 use Rattle.marking.proofs.Equating.{numbered, all-numbered}
 use Rattle.marking.proofs.Marking.{in-text}
 use Rattle.marking.proofs.Judging.{judged-marked}
@@ -36,23 +39,72 @@ pub fine-goes : (o rest : Option Refusal) (f : Checked) → f ≡ checkedOf o �
 fine-goes none rest f e t = refl
 fine-goes (some r) rest f e t = let z : _≡_ {A = Bool} true false = sym (ap isFault e) ∙ t in let y : _≡_ {A = ℕ} 0 1 = cc in absurd (omega arith)
 
--- a literal's fault and what is known after it, as the walk has them
-pub walk-is : (o : Option Refusal) (f : Checked) (τ σ : Known) → f ≡ checkedOf o → τ ≡ σ → walkBy f τ ≡ walkOn o (λ ρ. known ρ) σ
-unfolding walkOn
+-- a call's fault and what is known after it, as the walk has them
+pub walk-is : (o : Option Refusal) (f : Checked) (τ σ : Known) → f ≡ checkedOf o → τ ≡ σ → walkBy f τ ≡ unlessFault o σ
+unfolding unlessFault
 walk-is none f τ σ e es = ap₂ walkBy e es
 walk-is (some r) f τ σ e es = ap (λ (x : Checked). walkBy x τ) e
 
-stays-by : (f : Checked) (τ : Known) (o : Option Refusal) (σ : Known) (rest : Known → Walk) → walkBy f τ ≡ walkOn o (λ ρ. known ρ) σ → isFault f ≡ true → walkBy f τ ≡ walkOn o rest σ
+stays-by : (f : Checked) (τ : Known) (x : Walk) (rest : Known → Walk) → walkBy f τ ≡ x → isFault f ≡ true → walkBy f τ ≡ walkOn x rest
 unfolding walkOn
-stays-by Fine τ o σ rest e t = let y : _≡_ {A = ℕ} 0 1 = cc in absurd (omega arith)
-stays-by (Fault r) τ none σ rest e t = let y : _≡_ {A = ℕ} 0 1 = cc in absurd (omega arith)
-stays-by (Fault r) τ (some q) σ rest e t = e
+stays-by Fine τ x rest e t = let y : _≡_ {A = ℕ} 0 1 = cc in absurd (omega arith)
+stays-by (Fault r) τ x rest e t = ap (λ (z : Walk). walkOn z rest) e
 
-goes-by : (f : Checked) (τ : Known) (o : Option Refusal) (σ : Known) (rest : Known → Walk) → walkBy f τ ≡ walkOn o (λ ρ. known ρ) σ → isFault f ≡ false → walkOn o rest σ ≡ rest τ
+goes-by : (f : Checked) (τ : Known) (x : Walk) (rest : Known → Walk) → walkBy f τ ≡ x → isFault f ≡ false → walkOn x rest ≡ rest τ
 unfolding walkOn
-goes-by (Fault r) τ o σ rest e t = let y : _≡_ {A = ℕ} 0 1 = cc in absurd (omega arith)
-goes-by Fine τ (some q) σ rest e t = let y : _≡_ {A = ℕ} 0 1 = cc in absurd (omega arith)
-goes-by Fine τ none σ rest e t = let y : σ ≡ τ = cc in ap rest y
+goes-by (Fault r) τ x rest e t = let y : _≡_ {A = ℕ} 0 1 = cc in absurd (omega arith)
+goes-by Fine τ x rest e t = sym (ap (λ (z : Walk). walkOn z rest) e)
+
+not-both : {b : Bool} {A : Type 0} → b ≡ true → b ≡ false → A
+not-both t f = let z : _≡_ {A = Bool} true false = sym t ∙ f in let y : _≡_ {A = ℕ} 0 1 = cc in absurd (omega arith)
+
+-- a walk that stops at a fault of its first part
+stopped : {r : Passed} {w : Walk} {next items literal : ℕ} (rest : Known → Walk) → isFault (r .fault) ≡ true → Passes r w next items literal
+    → (whole : Walk) → whole ≡ walkOn w rest → (stop all last : ℕ) → Passes r whole stop all last
+stopped {r} {w} rest t p whole e stop all last = record {
+  walk = stays-by (r .fault) (r .known) w rest (p .walk) t ∙ sym e;
+  next-is = λ f. not-both t f;
+  items-are = λ f. not-both t f;
+  literal-is = λ f. not-both t f;
+}
+
+-- ---- how many literals, items and words
+
+pub record Sizes (literals items words : ℕ) : Type 0 where
+  pub numbered : literals ≤ items
+  pub worded : items ≤ words
+
+mutual
+  unfolding literalsIn literalLength literalWords
+
+  pub literal-sizes : (x : Literal) → Sizes (literalsIn x) (literalLength x) (length (literalWords x))
+  literal-sizes (call a) = record { numbered = omega arith; worded = omega arith }
+  literal-sizes (equation t u) = record { numbered = omega arith; worded = omega arith }
+  literal-sizes truth = record { numbered = omega arith; worded = omega arith }
+  literal-sizes falsity = record { numbered = omega arith; worded = omega arith }
+  literal-sizes (either y z) =
+      let ys : Sizes (literalsOf y) (bodyLength y) (length (bodyWords y)) = body-sizes y in
+      let zs : Sizes (literalsOf z) (bodyLength z) (length (bodyWords z)) = body-sizes z in
+      let l : length (sideWords leftKind y ++ (sideWords rightKind z ++ (behindKind ∷ []))) ≡ length (sideWords leftKind y) + length (sideWords rightKind z ++ (behindKind ∷ [])) =
+      length-append (sideWords leftKind y) (sideWords rightKind z ++ (behindKind ∷ [])) in
+      let r : length (sideWords rightKind z ++ (behindKind ∷ [])) ≡ length (sideWords rightKind z) + 1 = length-append (sideWords rightKind z) (behindKind ∷ []) in
+      record { numbered = omega (arith, ys .numbered, zs .numbered); worded = omega (arith, ys .worded, zs .worded) }
+
+  pub body-sizes : (b : Body) → Sizes (literalsOf b) (bodyLength b) (length (bodyWords b))
+  body-sizes done = record { numbered = omega arith; worded = omega arith }
+  body-sizes (also x b) =
+      let xs : Sizes (literalsIn x) (literalLength x) (length (literalWords x)) = literal-sizes x in
+      let bs : Sizes (literalsOf b) (bodyLength b) (length (bodyWords b)) = body-sizes b in
+      let l : length (literalWords x ++ bodyWords b) ≡ length (literalWords x) + length (bodyWords b) = length-append (literalWords x) (bodyWords b) in
+      record { numbered = omega (arith, xs .numbered, bs .numbered); worded = omega (arith, xs .worded, bs .worded) }
+
+literal-some : (x : Literal) → 1 ≤ literalLength x
+unfolding literalLength
+literal-some (call a) = omega arith
+literal-some (equation t u) = omega arith
+literal-some truth = omega arith
+literal-some falsity = omega arith
+literal-some (either y z) = omega arith
 
 -- ---- literals
 
@@ -63,6 +115,8 @@ pub data View (g table : List ℕ) (p : ℕ) : Literal → Type 0 where
   view-call : {a : Atom} → getD table p 0 ≡ callKind → Has table (p + 1) (atomWords a) → Stands g (termOf a) → View g table p (call a)
   view-equation : {t u : Term} → getD table p 0 ≡ equationKind → Has table (p + 1) (termWords t) → Has table (p + 1 + length (termWords t)) (termWords u) → Stands g t → Stands g u
       → View g table p (equation t u)
+  view-either : {y z : Body} → getD table p 0 ≡ marker leftKind (bodyLength y) → Has table p (literalWords (either y z)) → BodyStands g y → BodyStands g z
+      → View g table p (either y z)
 
 view-by : (g table : List ℕ) (p : ℕ) (l : Literal) → Has table p (literalWords l) → LiteralStands g l → View g table p l
 unfolding literalWords
@@ -71,12 +125,18 @@ view-by g table p falsity h k = view-falsity (h .1)
 view-by g table p (call a) h (call-stands k) = view-call (h .1) (h .2) k
 view-by g table p (equation t u) h (equation-stands kt ku) =
     view-equation (h .1) (has-left table (p + 1) (termWords t) (termWords u) (h .2)) (has-right table (p + 1) (termWords t) (termWords u) (h .2)) kt ku
+view-by g table p (either y z) h (either-stands ky kz) = view-either (h .1) h ky kz
 
 pub view : {g table : List ℕ} {p : ℕ} (w : LiteralAt g table p) → View g table p (w .literal)
 view {g} {table} {p} w = view-by g table p (w .literal) (w .has) (w .stands)
 
-pub literal-words : {g table : List ℕ} {p : ℕ} → LiteralAt g table p → (l : Literal) × Has table p (literalWords l)
-literal-words w = (w .literal, w .has)
+room-of : (table : List ℕ) (p : ℕ) (x : Literal) → Has table p (literalWords x) → p < length table
+unfolding literalWords
+room-of table p truth h = h .0
+room-of table p falsity h = h .0
+room-of table p (call a) h = h .0
+room-of table p (equation t u) h = h .0
+room-of table p (either y z) h = h .0
 
 pub literal-room : {g table : List ℕ} {p : ℕ} → LiteralAt g table p → p < length table
 literal-room {g} {table} {p} w = room-of table p (w .literal) (w .has)
@@ -99,6 +159,7 @@ module _ {g table : List ℕ} {p : ℕ} (kind : ℕ) (e : kind ≡ getD table p 
   truth-by k (view-falsity q) = absurd (omega arith)
   truth-by k (view-call q h s) = absurd (omega arith)
   truth-by k (view-equation q ht hu st su) = absurd (omega arith)
+  truth-by k (view-either q h sy sz) = absurd (omega arith)
 
   pub truth-is : kind ≡ truthKind → (w : LiteralAt g table p) → w .literal ≡ truth
   truth-is k w = truth-by k (view w)
@@ -108,6 +169,7 @@ module _ {g table : List ℕ} {p : ℕ} (kind : ℕ) (e : kind ≡ getD table p 
   falsity-by k (view-falsity q) = refl
   falsity-by k (view-call q h s) = absurd (omega arith)
   falsity-by k (view-equation q ht hu st su) = absurd (omega arith)
+  falsity-by k (view-either q h sy sz) = absurd (omega arith)
 
   pub falsity-is : kind ≡ falsityKind → (w : LiteralAt g table p) → w .literal ≡ falsity
   falsity-is k w = falsity-by k (view w)
@@ -117,81 +179,67 @@ module _ {g table : List ℕ} {p : ℕ} (kind : ℕ) (e : kind ≡ getD table p 
   call-by k (view-falsity q) = absurd (omega arith)
   call-by k (view-call {a} q h s) = record { atom = record { atom = a; has = h; stands = s }; is = refl }
   call-by k (view-equation q ht hu st su) = absurd (omega arith)
+  call-by k (view-either q h sy sz) = absurd (omega arith)
 
   pub call-is : kind ≡ callKind → (w : LiteralAt g table p) → CallAt g table p (w .literal)
   call-is k w = call-by k (view w)
 
-  equation-by : {l : Literal} → callKind ≤ kind → (kind ≡ callKind → ⊥) → View g table p l → EquationAt g table p l
-  equation-by k n (view-truth q) = absurd (omega arith)
-  equation-by k n (view-falsity q) = absurd (omega arith)
-  equation-by k n (view-call q h s) = absurd (n (e ∙ q))
-  equation-by k n (view-equation {t} {u} q ht hu st su) = record {
-    left = record { term = t; has = ht; numbered = numbered st };
-    pair = record { left = t; right = u; has-left = ht; has-right = hu; left-stands = st; right-stands = su };
-    left-is = refl;
-    is = refl;
-  }
-
-  pub equation-is : callKind ≤ kind → (kind ≡ callKind → ⊥) → (w : LiteralAt g table p) → EquationAt g table p (w .literal)
-  equation-is k n w = equation-by k n (view w)
-
-  term-by : {l : Literal} → callKind ≤ kind → View g table p l → TermAt table (p + 1)
-  term-by k (view-truth q) = absurd (omega arith)
-  term-by k (view-falsity q) = absurd (omega arith)
-  term-by k (view-call {a} q h s) = record { term = termOf a; has = h; numbered = numbered s }
-  term-by k (view-equation {t} q ht hu st su) = record { term = t; has = ht; numbered = numbered st }
-
-  pub first-term : callKind ≤ kind → LiteralAt g table p → TermAt table (p + 1)
-  first-term k w = term-by k (view w)
-
-  module _ (next : ℕ) (n : (u : TermAt table (p + 1)) → next ≡ p + 1 + length (termWords (u .term))) where
-    module _ (l : callKind ≤ kind) (k : kind ≡ callKind → ⊥) where
-      equation-at : (w : LiteralAt g table p) → EquationAt g table p (w .literal)
-      equation-at w = equation-is l k w
-
-      pub sides-at : LiteralAt g table p → PairAt g table (p + 1) next
-      sides-at w = subst⁻¹ (PairAt g table (p + 1)) (n (equation-at w .left)) (equation-at w .pair)
-
-      pub walked-equation : (ds : List Declaration) (c m : ℕ) (τ after : Known) → ((u : PairAt g table (p + 1) next) → after ≡ settle (u .left) (u .right) τ)
-          → (w : LiteralAt g table p) → walkBy Fine after ≡ literalWalk ds c m τ (w .literal)
-      unfolding literalFault afterLiteral walkOn
-      walked-equation ds c m τ after h w =
-          let q : EquationAt g table p (w .literal) = equation-at w in
-          let r : (u : PairAt g table (p + 1) (p + 1 + length (termWords (q .left .term)))) → after ≡ settle (u .left) (u .right) τ =
-          subst (λ (j : ℕ). (u : PairAt g table (p + 1) j) → after ≡ settle (u .left) (u .right) τ) (n (q .left)) h in
-          ap known (r (q .pair)) ∙ sym (ap (literalWalk ds c m τ) (q .is))
-
-  -- ---- refusal 8
-  undeclared-by : {l : Literal} → (kind ≡ callKind → ⊥) → View g table p l → (ds : List Declaration) (c m : ℕ) → Fine ≡ checkedOf (undeclaredLiteral ds c m l)
-  unfolding undeclaredLiteral
-  undeclared-by k (view-truth q) ds c m = refl
-  undeclared-by k (view-falsity q) ds c m = refl
-  undeclared-by k (view-call q h s) ds c m = absurd (k (e ∙ q))
-  undeclared-by k (view-equation q ht hu st su) ds c m = refl
-
-  pub no-call : (kind ≡ callKind → ⊥) → (ds : List Declaration) (c m : ℕ) (w : LiteralAt g table p) → Fine ≡ checkedOf (undeclaredLiteral ds c m (w .literal))
-  no-call k ds c m w = undeclared-by k (view w) ds c m
-
   pub atom-at : kind ≡ callKind → LiteralAt g table p → AtomAt g table (p + 1)
   atom-at k w = call-is k w .atom
 
-  pub called : kind ≡ callKind → (ds : List Declaration) (c m : ℕ) (f : Checked) → ((a : AtomAt g table (p + 1)) → f ≡ checkedOf (undeclaredAtom ds c m (a .atom)))
-      → (w : LiteralAt g table p) → f ≡ checkedOf (undeclaredLiteral ds c m (w .literal))
-  unfolding undeclaredLiteral
-  called k ds c m f h w = h (call-is k w .atom) ∙ sym (ap (λ (l : Literal). checkedOf (undeclaredLiteral ds c m l)) (call-is k w .is))
-
-  -- ---- the walk past one literal
+  -- ---- the walk past one literal that is no bracket
   pub walked-truth : kind ≡ truthKind → (ds : List Declaration) (c m : ℕ) (τ : Known) (w : LiteralAt g table p) → walkBy Fine τ ≡ literalWalk ds c m τ (w .literal)
-  unfolding literalFault afterLiteral walkOn
+  unfolding literalWalk
   walked-truth k ds c m τ w = sym (ap (literalWalk ds c m τ) (truth-is k w))
 
   pub walked-falsity : kind ≡ falsityKind → (ds : List Declaration) (c m : ℕ) (τ : Known) (w : LiteralAt g table p) → walkBy Fine everything ≡ literalWalk ds c m τ (w .literal)
-  unfolding literalFault afterLiteral walkOn
+  unfolding literalWalk
   walked-falsity k ds c m τ w = sym (ap (literalWalk ds c m τ) (falsity-is k w))
 
-  pub walked-call : kind ≡ callKind → (ds : List Declaration) (c m : ℕ) (τ : Known) (x : Walk) → ((a : AtomAt g table (p + 1)) → x ≡ literalWalk ds c m τ (call (a .atom)))
+  pub walked-call : kind ≡ callKind → (ds : List Declaration) (c m : ℕ) (τ : Known) (x : Walk) → ((a : AtomAt g table (p + 1)) → x ≡ callWalk ds c m τ (a .atom))
       → (w : LiteralAt g table p) → x ≡ literalWalk ds c m τ (w .literal)
+  unfolding literalWalk
   walked-call k ds c m τ x h w = h (call-is k w .atom) ∙ sym (ap (literalWalk ds c m τ) (call-is k w .is))
+
+  module _ (least : callKind ≤ kind) (most : getD table p 0 < leftKind) where
+    term-by : {l : Literal} → View g table p l → TermAt table (p + 1)
+    term-by (view-truth q) = absurd (omega arith)
+    term-by (view-falsity q) = absurd (omega arith)
+    term-by (view-call {a} q h s) = record { term = termOf a; has = h; numbered = numbered s }
+    term-by (view-equation {t} q ht hu st su) = record { term = t; has = ht; numbered = numbered st }
+    term-by (view-either q h sy sz) = absurd (omega arith)
+
+    pub first-term : LiteralAt g table p → TermAt table (p + 1)
+    first-term w = term-by (view w)
+
+    module _ (k : kind ≡ callKind → ⊥) where
+      equation-by : {l : Literal} → View g table p l → EquationAt g table p l
+      equation-by (view-truth q) = absurd (omega arith)
+      equation-by (view-falsity q) = absurd (omega arith)
+      equation-by (view-call q h s) = absurd (k (e ∙ q))
+      equation-by (view-equation {t} {u} q ht hu st su) = record {
+        left = record { term = t; has = ht; numbered = numbered st };
+        pair = record { left = t; right = u; has-left = ht; has-right = hu; left-stands = st; right-stands = su };
+        left-is = refl;
+        is = refl;
+      }
+      equation-by (view-either q h sy sz) = absurd (omega arith)
+
+      module _ (next : ℕ) (n : (u : TermAt table (p + 1)) → next ≡ p + 1 + length (termWords (u .term))) where
+        equation-at : (w : LiteralAt g table p) → EquationAt g table p (w .literal)
+        equation-at w = equation-by (view w)
+
+        pub sides-at : LiteralAt g table p → PairAt g table (p + 1) next
+        sides-at w = subst⁻¹ (PairAt g table (p + 1)) (n (equation-at w .left)) (equation-at w .pair)
+
+        pub walked-equation : (ds : List Declaration) (c m : ℕ) (τ after : Known) → ((u : PairAt g table (p + 1) next) → after ≡ settle (u .left) (u .right) τ)
+            → (w : LiteralAt g table p) → walkBy Fine after ≡ literalWalk ds c m τ (w .literal)
+        unfolding literalWalk
+        walked-equation ds c m τ after h w =
+            let q : EquationAt g table p (w .literal) = equation-at w in
+            let r : (u : PairAt g table (p + 1) (p + 1 + length (termWords (q .left .term)))) → after ≡ settle (u .left) (u .right) τ =
+            subst (λ (j : ℕ). (u : PairAt g table (p + 1) j) → after ≡ settle (u .left) (u .right) τ) (n (q .left)) h in
+            ap known (r (q .pair)) ∙ sym (ap (literalWalk ds c m τ) (q .is))
 
 -- ---- a call
 
@@ -211,124 +259,281 @@ module _ (s declared : List ℕ) (n : ℕ) (g table : List ℕ) (p marks : ℕ)
       → ((u : JudgedAt table p marks) → f ≡ checkedOf (openInput c l (u .atom) (firstOpen input τ (u .listed) (listOf (u .atom .args)) 1)))
       → (stop : ℕ) → ((u : TermAt table p) → stop ≡ p + length (termWords (u .term))) → (after : Known)
       → ((u : MarkedAt table (p + 3) stop marks 2) → after ≡ groundMarked (u .wanted) (u .listed) (listOf (u .terms)) τ)
-      → (d : DeclarationsAt s declared n) (w : AtomAt g table p) → walkBy f after ≡ literalWalk (d .list) c l τ (call (w .atom))
-  unfolding literalFault afterLiteral
+      → (d : DeclarationsAt s declared n) (w : AtomAt g table p) → walkBy f after ≡ callWalk (d .list) c l τ (w .atom)
+  unfolding callWalk
   walked-fault τ c l f ef stop es after h d w =
       walk-is _ f after (groundMarked output (marksFor (d .list) (w .atom)) (listOf (w .atom .args)) τ) (ef (judged-at d w)) (h (judged-marked table p marks stop es output (judged-at d w)))
 
--- ---- bodies
+-- ---- a literal that is no bracket, as an item
 
--- what is left of a body from its i-th literal on, at a place
-pub record Ahead {A : Type 0} (g table : List ℕ) (at i literals : ℕ) (whole : A) (rest : ℕ → Body → A) : Type 0 where
+-- it is one item and counts for one literal
+record Plain (l : Literal) (w : List ℕ) : Type 0 where
+  item : Item
+  words : itemWords item ≡ w
+  one-item : literalLength l ≡ 1
+  one-literal : literalsIn l ≡ 1
+
+plain-by : {g table : List ℕ} {p : ℕ} {l : Literal} → getD table p 0 < leftKind → View g table p l → Plain l (literalWords l)
+unfolding itemWords literalWords literalLength literalsIn
+plain-by s (view-truth q) = record { item = plain-truth; words = refl; one-item = refl; one-literal = refl }
+plain-by s (view-falsity q) = record { item = plain-falsity; words = refl; one-item = refl; one-literal = refl }
+plain-by s (view-call {a} q h k) = record { item = plain-call a; words = refl; one-item = refl; one-literal = refl }
+plain-by s (view-equation {t} {u} q ht hu kt ku) = record { item = plain-equation t u; words = refl; one-item = refl; one-literal = refl }
+plain-by s (view-either q h ky kz) = absurd (omega arith)
+
+module _ {g table : List ℕ} {p : ℕ} (s : getD table p 0 < leftKind) where
+  plain : (w : LiteralAt g table p) → Plain (w .literal) (literalWords (w .literal))
+  plain w = plain-by s (view w)
+
+  pub plain-item : LiteralAt g table p → (x : Item) × Has table p (itemWords x)
+  plain-item w = (plain w .item, subst⁻¹ (Has table p) (plain w .words) (w .has))
+
+  pub plain-passes : (ds : List Declaration) (c literal : ℕ) (τ : Known) {next : ℕ} (r : Walked)
+      → ((i : Item) → Has table p (itemWords i) → next ≡ p + length (itemWords i)) → (w : LiteralAt g table p) → walkOf r ≡ literalWalk ds c literal τ (w .literal)
+      → PastLiteral (record { fault = r .fault; known = r .known; next = next; items = 1; literal = literal + 1 }) ds c literal τ p (w .literal)
+  plain-passes ds c literal τ r n w e = record {
+    walk = e;
+    next-is = λ t. n (plain w .item) (subst⁻¹ (Has table p) (plain w .words) (w .has)) ∙ ap (λ (ws : List ℕ). p + length ws) (plain w .words);
+    items-are = λ t. sym (plain w .one-item);
+    literal-is = λ t. omega (arith, plain w .one-literal);
+  }
+
+-- ---- a bracket
+
+-- the literal at p is a bracket
+pub record EitherAt (g table : List ℕ) (p : ℕ) (l : Literal) : Type 0 where
+  pub left : SideAt g table p
+  pub right : SideAt g table (p + 1 + length (bodyWords (left .body)))
+  pub is : l ≡ either (left .body) (right .body)
+  pub words : length (literalWords l) ≡ 3 + (length (bodyWords (left .body)) + length (bodyWords (right .body)))
+  pub room : p + length (literalWords l) ≤ length table
+
+either-by : {g table : List ℕ} {p : ℕ} {l : Literal} → leftKind ≤ getD table p 0 → View g table p l → EitherAt g table p l
+unfolding literalWords
+either-by s (view-truth q) = absurd (omega arith)
+either-by s (view-falsity q) = absurd (omega arith)
+either-by s (view-call q h k) = absurd (omega arith)
+either-by s (view-equation q ht hu kt ku) = absurd (omega arith)
+either-by {g} {table} {p} s (view-either {y} {z} q h ky kz) =
+    let m : length (sideWords leftKind y) ≡ suc (length (bodyWords y)) = refl in
+    let a : length (sideWords leftKind y ++ (sideWords rightKind z ++ (behindKind ∷ []))) ≡ length (sideWords leftKind y) + length (sideWords rightKind z ++ (behindKind ∷ [])) =
+    length-append (sideWords leftKind y) (sideWords rightKind z ++ (behindKind ∷ [])) in
+    let b : length (sideWords rightKind z ++ (behindKind ∷ [])) ≡ length (sideWords rightKind z) + 1 = length-append (sideWords rightKind z) (behindKind ∷ []) in
+    let r : Has table (p + length (sideWords leftKind y)) (sideWords rightKind z ++ (behindKind ∷ [])) =
+    has-right table p (sideWords leftKind y) (sideWords rightKind z ++ (behindKind ∷ [])) h in
+    let at : p + length (sideWords leftKind y) ≡ p + 1 + length (bodyWords y) = omega arith in
+    record {
+      left = record { body = y; kind = leftKind; small = omega arith; has = has-left table p (sideWords leftKind y) (sideWords rightKind z ++ (behindKind ∷ [])) h; stands = ky };
+      right = record {
+        body = z;
+        kind = rightKind;
+        small = omega arith;
+        has = subst (λ (k : ℕ). Has table k (sideWords rightKind z)) at (has-left table (p + length (sideWords leftKind y)) (sideWords rightKind z) (behindKind ∷ []) r);
+        stands = kz;
+      };
+      is = refl;
+      words = omega arith;
+      room = has-inside table p (literalWords (either y z)) h (omega arith);
+    }
+
+module _ {g table : List ℕ} {p : ℕ} (s : leftKind ≤ getD table p 0) where
+  pub either-at : (w : LiteralAt g table p) → EitherAt g table p (w .literal)
+  either-at w = either-by s (view w)
+
+  abbrev leftOf : LiteralAt g table p → Body
+  leftOf w = either-at w .left .body
+
+  abbrev rightOf : LiteralAt g table p → Body
+  rightOf w = either-at w .right .body
+
+  module _ (ds : List Declaration) (c literal : ℕ) (τ : Known) (l : Passed) (el : (u : SideAt g table p) → PastBody l ds c literal τ (p + 1) (u .body)) where
+    left-passes : (w : LiteralAt g table p) → PastBody l ds c literal τ (p + 1) (leftOf w)
+    left-passes w = el (either-at w .left)
+
+    from-left : (w : LiteralAt g table p) → literalWalk ds c literal τ (w .literal)
+        ≡ walkOn (bodyFault ds c literal τ (leftOf w)) (λ σ. walkOn (bodyFault ds c (literalsOf (leftOf w) + literal) τ (rightOf w)) (λ ρ. known (inBoth σ ρ)))
+    unfolding literalWalk
+    from-left w = ap (literalWalk ds c literal τ) (either-at w .is)
+
+    -- the left side has a fault
+    pub left-stops : isFault (l .fault) ≡ true → (w : LiteralAt g table p) → PastLiteral l ds c literal τ p (w .literal)
+    left-stops t w = stopped _ t (left-passes w) (literalWalk ds c literal τ (w .literal)) (from-left w) _ _ _
+
+    module _ (f : isFault (l .fault) ≡ false) where
+      -- the right side begins where the left one ends
+      pub right-at : LiteralAt g table p → SideAt g table (l .next)
+      right-at w = subst⁻¹ (SideAt g table) (left-passes w .next-is f) (either-at w .right)
+
+      pub right-literal : (w : LiteralAt g table p) → literal ≤ p + 1 → l .literal ≤ l .next + 1
+      right-literal w k =
+          let q : PastBody l ds c literal τ (p + 1) (leftOf w) = left-passes w in
+          omega (arith, q .next-is f, q .literal-is f, body-sizes (leftOf w) .numbered, body-sizes (leftOf w) .worded)
+
+      pub right-further : LiteralAt g table p → p < l .next
+      right-further w = omega (arith, left-passes w .next-is f)
+
+      module _ (r : Passed) (er : (u : SideAt g table (l .next)) → PastBody r ds c (l .literal) τ (l .next + 1) (u .body)) where
+        abbrev RightPasses : LiteralAt g table p → Type 0
+        RightPasses w = PastBody r ds c (literalsOf (leftOf w) + literal) τ (p + 1 + length (bodyWords (leftOf w)) + 1) (rightOf w)
+
+        abbrev RightAt : ℕ → ℕ → Type 0
+        RightAt next number = (u : SideAt g table next) → PastBody r ds c number τ (next + 1) (u .body)
+
+        right-passes : (w : LiteralAt g table p) → RightPasses w
+        right-passes w =
+            subst (λ (k : ℕ). RightAt (p + 1 + length (bodyWords (leftOf w))) k) (left-passes w .literal-is f)
+            (subst (λ (k : ℕ). RightAt k (l .literal)) (left-passes w .next-is f) er) (either-at w .right)
+
+        from-right : (w : LiteralAt g table p) → literalWalk ds c literal τ (w .literal)
+            ≡ walkOn (bodyFault ds c (literalsOf (leftOf w) + literal) τ (rightOf w)) (λ ρ. known (inBoth (l .known) ρ))
+        from-right w = from-left w ∙ goes-by (l .fault) (l .known) (bodyFault ds c literal τ (leftOf w)) _ (left-passes w .walk) f
+
+        -- the right side has a fault
+        pub right-stops : isFault (r .fault) ≡ true → (w : LiteralAt g table p) → PastLiteral r ds c literal τ p (w .literal)
+        right-stops t w = stopped _ t (right-passes w) (literalWalk ds c literal τ (w .literal)) (from-right w) _ _ _
+
+        module _ (h : isFault (r .fault) ≡ false) where
+          -- neither has one
+          pub both-pass : {both : Known} → both ≡ inBoth (l .known) (r .known) → (w : LiteralAt g table p)
+              → PastLiteral (record { fault = Fine; known = both; next = r .next + 1; items = l .items + r .items + 3; literal = r .literal }) ds c literal τ p (w .literal)
+          unfolding literalLength literalsIn
+          both-pass e w =
+              let q : EitherAt g table p (w .literal) = either-at w in
+              let k : RightPasses w = right-passes w in
+              let items : literalLength (w .literal) ≡ 3 + (bodyLength (leftOf w) + bodyLength (rightOf w)) = ap literalLength (q .is) in
+              let literals : literalsIn (w .literal) ≡ literalsOf (leftOf w) + literalsOf (rightOf w) = ap literalsIn (q .is) in
+              record {
+                walk = ap known e ∙ sym (from-right w ∙ goes-by (r .fault) (r .known) _ (λ ρ. known (inBoth (l .known) ρ)) (k .walk) h);
+                next-is = λ t. omega (arith, k .next-is h, q .words);
+                items-are = λ t. omega (arith, left-passes w .items-are f, k .items-are h);
+                literal-is = λ t. omega (arith, k .literal-is h);
+              }
+
+          pub both-room : (w : LiteralAt g table p) → (r .next < length table) × (l .items + r .items + 3 ≤ length table)
+          both-room w =
+              let q : EitherAt g table p (w .literal) = either-at w in
+              let k : RightPasses w = right-passes w in
+              let a : bodyLength (leftOf w) ≤ length (bodyWords (leftOf w)) = body-sizes (leftOf w) .worded in
+              let b : bodyLength (rightOf w) ≤ length (bodyWords (rightOf w)) = body-sizes (rightOf w) .worded in
+              (omega (arith, k .next-is h, q .words, q .room), omega (arith, left-passes w .items-are f, k .items-are h, q .words, q .room))
+
+-- a side of a bracket, by the word before it
+module _ {g table : List ℕ} {p items : ℕ} (e : items ≡ sideItems (getD table p 0)) where
+  pub side-items : (w : SideAt g table p) → items ≡ bodyLength (w .body)
+  side-items w = e ∙ ap sideItems (w .has .1) ∙ marker-items (w .kind) (bodyLength (w .body)) (w .small)
+
+  abbrev pub side-body : SideAt g table p → BodyAt g table (p + 1) items
+  side-body w = record { body = w .body; has = w .has .2; count = side-items w; stands = w .stands }
+
+-- ---- refusal 9 along a body or a side
+
+-- what is left of it, behind i items, at a place before the literal of that number, with what is known there; it ends at stop, before the literal last
+pub record Ahead (ds : List Declaration) (c : ℕ) (g table : List ℕ) (at i items number : ℕ) (τ : Known) (whole : Walk) (stop last : ℕ) : Type 0 where
   pub body : Body
   pub has : Has table at (bodyWords body)
-  pub count : literals ≡ i + bodyLength body
+  pub count : items ≡ i + bodyLength body
   pub stands : BodyStands g body
-  pub same : whole ≡ rest (suc i) body
+  pub same : whole ≡ bodyFault ds c number τ body
+  pub ends : at + length (bodyWords body) ≡ stop
+  pub numbers : literalsOf body + number ≡ last
 
 -- the first literal and the others
-pub record Turn (g table : List ℕ) (at i literals : ℕ) (b : Body) : Type 0 where
+pub record Turn (g table : List ℕ) (at i items : ℕ) (b : Body) : Type 0 where
   pub literal : LiteralAt g table at
   pub left : Body
   pub is : b ≡ also (literal .literal) left
   pub has : Has table (at + length (literalWords (literal .literal))) (bodyWords left)
-  pub count : literals ≡ i + 1 + bodyLength left
+  pub count : items ≡ i + literalLength (literal .literal) + bodyLength left
+  pub some : 1 ≤ literalLength (literal .literal)
   pub stands : BodyStands g left
 
-turn-by : (g table : List ℕ) (at i literals : ℕ) (b : Body) → i < literals → Has table at (bodyWords b) → literals ≡ i + bodyLength b → BodyStands g b → Turn g table at i literals b
-unfolding bodyWords
-turn-by g table at i literals done l h c k = absurd (omega arith)
-turn-by g table at i literals (also x b) l h c (also-stands k ks) = record {
+turn-by : (g table : List ℕ) (at i items : ℕ) (b : Body) → i < items → Has table at (bodyWords b) → items ≡ i + bodyLength b → BodyStands g b → Turn g table at i items b
+unfolding bodyWords bodyLength
+turn-by g table at i items done l h c k = absurd (omega arith)
+turn-by g table at i items (also x b) l h c (also-stands k ks) = record {
   literal = record { literal = x; has = has-left table at (literalWords x) (bodyWords b) h; stands = k };
   left = b;
   is = refl;
   has = has-right table at (literalWords x) (bodyWords b) h;
   count = omega arith;
+  some = literal-some x;
   stands = ks;
 }
 
-over : (i literals : ℕ) (b : Body) → literals ≤ i → literals ≡ i + bodyLength b → b ≡ done
-over i literals done l c = refl
-over i literals (also x b) l c = absurd (omega arith)
+over : (i items : ℕ) (b : Body) → items ≤ i → items ≡ i + bodyLength b → b ≡ done
+unfolding bodyLength
+over i items done l c = refl
+over i items (also x b) l c = absurd (omega (arith, literal-some x))
 
-pub turn : {A : Type 0} {g table : List ℕ} {at i literals : ℕ} {whole : A} {rest : ℕ → Body → A} → i < literals → (a : Ahead g table at i literals whole rest)
-    → Turn g table at i literals (a .body)
-turn {A} {g} {table} {at} {i} {literals} l a = turn-by g table at i literals (a .body) l (a .has) (a .count) (a .stands)
+pub begun : {ds : List Declaration} {c literal : ℕ} {τ : Known} {g table : List ℕ} {p items : ℕ} (w : BodyAt g table p items)
+    → Ahead ds c g table p 0 items literal τ (bodyFault ds c literal τ (w .body)) (p + length (bodyWords (w .body))) (literalsOf (w .body) + literal)
+begun w = record { body = w .body; has = w .has; count = omega (arith, w .count); stands = w .stands; same = refl; ends = refl; numbers = refl }
 
-pub ended : {A : Type 0} {g table : List ℕ} {at i literals : ℕ} {whole : A} {rest : ℕ → Body → A} → literals ≤ i → (a : Ahead g table at i literals whole rest) → whole ≡ rest (suc i) done
-ended {A} {g} {table} {at} {i} {literals} {whole} {rest} l a = a .same ∙ ap (rest (suc i)) (over i literals (a .body) l (a .count))
+module _ {ds : List Declaration} {c : ℕ} {g table : List ℕ} {at i items number : ℕ} {τ : Known} {whole : Walk} {stop last : ℕ} where
+  pub walk-ended : {many : ℕ} → items ≡ many → items ≤ i → Ahead ds c g table at i items number τ whole stop last
+      → Passes (record { fault = Fine; known = τ; next = at; items = items; literal = number }) whole stop many last
+  unfolding bodyFault bodyWords literalsOf
+  walk-ended m l a =
+      let d : a .body ≡ done = over i items (a .body) l (a .count) in
+      let none-left : length (bodyWords (a .body)) ≡ 0 = ap (λ (b : Body). length (bodyWords b)) d in
+      let no-number : literalsOf (a .body) ≡ 0 = ap literalsOf d in
+      record {
+        walk = sym (a .same ∙ ap (bodyFault ds c number τ) d);
+        next-is = λ t. omega (arith, a .ends);
+        items-are = λ t. m;
+        literal-is = λ t. omega (arith, a .numbers);
+      }
 
-pub begun : {A : Type 0} {g table : List ℕ} {p literals : ℕ} (rest : ℕ → Body → A) (w : BodyAt g table p literals) → Ahead g table p 0 literals (rest 1 (w .body)) rest
-begun rest w = record { body = w .body; has = w .has; count = omega (arith, w .count); stands = w .stands; same = refl }
+  module _ (l : i < items) (a : Ahead ds c g table at i items number τ whole stop last) where
+    pub turn : Turn g table at i items (a .body)
+    turn = turn-by g table at i items (a .body) l (a .has) (a .count) (a .stands)
 
--- one literal on: `more` is what the rest is once the literal is passed
-pub passed : {A : Type 0} {g table : List ℕ} {at i literals : ℕ} {whole : A} {rest : ℕ → Body → A} (l : i < literals) (a : Ahead g table at i literals whole rest)
-    → (next : ℕ) → ((w : LiteralAt g table at) → next ≡ at + length (literalWords (w .literal))) → (more : ℕ → Body → A)
-    → rest (suc i) (also (turn l a .literal .literal) (turn l a .left)) ≡ more (suc (suc i)) (turn l a .left)
-    → Ahead g table next (i + 1) literals whole more
-passed {A} {g} {table} {at} {i} {literals} {whole} {rest} l a next n more e =
-    let t : Turn g table at i literals (a .body) = turn l a in
-    record {
-      body = t .left;
-      has = subst⁻¹ (λ (k : ℕ). Has table k (bodyWords (t .left))) (n (t .literal)) (t .has);
-      count = omega (arith, t .count);
-      stands = t .stands;
-      same = a .same ∙ ap (rest (suc i)) (t .is) ∙ e ∙ ap (λ (k : ℕ). more (suc k) (t .left)) (sym (add-one i));
-    }
+    abbrev here : Literal
+    here = turn .literal .literal
 
--- ---- refusal 8 along a body
-
-module _ (ds : List Declaration) (c : ℕ) (g table : List ℕ) (at i literals : ℕ) (whole : Option Refusal) where
-  abbrev pub BodyLeft : Type 0
-  BodyLeft = Ahead g table at i literals whole (undeclaredBody ds c)
-
-  pub body-fine : literals ≤ i → BodyLeft → Fine ≡ checkedOf whole
-  unfolding undeclaredBody
-  body-fine l a = sym (ap checkedOf (ended l a))
-
-  module _ (l : i < literals) (f : Checked) (ef : (w : LiteralAt g table at) → f ≡ checkedOf (undeclaredLiteral ds c (i + 1) (w .literal))) where
-    here : (a : BodyLeft) → f ≡ checkedOf (undeclaredLiteral ds c (suc i) (turn l a .literal .literal))
-    here a = ef (turn l a .literal) ∙ ap (λ (k : ℕ). checkedOf (undeclaredLiteral ds c k (turn l a .literal .literal))) (add-one i)
-
-    pub body-undeclared : isFault f ≡ true → BodyLeft → f ≡ checkedOf whole
-    unfolding undeclaredBody
-    body-undeclared t a =
-        fault-stays (undeclaredLiteral ds c (suc i) (turn l a .literal .literal)) (undeclaredBody ds c (suc (suc i)) (turn l a .left)) f (here a) t
-        ∙ sym (ap checkedOf (a .same ∙ ap (undeclaredBody ds c (suc i)) (turn l a .is)))
-
-    pub body-on : isFault f ≡ false → (next : ℕ) → ((w : LiteralAt g table at) → next ≡ at + length (literalWords (w .literal))) → BodyLeft
-        → Ahead g table next (i + 1) literals whole (undeclaredBody ds c)
-    unfolding undeclaredBody
-    body-on t next n a =
-        passed l a next n (undeclaredBody ds c)
-        (fine-goes (undeclaredLiteral ds c (suc i) (turn l a .literal .literal)) (undeclaredBody ds c (suc (suc i)) (turn l a .left)) f (here a) t)
-
--- ---- refusal 9 along a body
-
-module _ (ds : List Declaration) (c : ℕ) (g table : List ℕ) (at i literals : ℕ) (τ : Known) (whole : Walk) where
-  abbrev pub WalkLeft : Type 0
-  WalkLeft = Ahead g table at i literals whole (λ k b. bodyFault ds c k τ b)
-
-  pub walk-ended : literals ≤ i → WalkLeft → walkBy Fine τ ≡ whole
-  unfolding bodyFault
-  walk-ended l a = sym (ended l a)
-
-  module _ (l : i < literals) (w : Walked) (ew : (u : LiteralAt g table at) → walkOf w ≡ literalWalk ds c (i + 1) τ (u .literal)) where
-    there : (a : WalkLeft) → walkOf w ≡ literalWalk ds c (suc i) τ (turn l a .literal .literal)
-    there a = ew (turn l a .literal) ∙ ap (λ (k : ℕ). literalWalk ds c k τ (turn l a .literal .literal)) (add-one i)
-
-    pub walk-faulted : isFault (w .fault) ≡ true → WalkLeft → walkOf w ≡ whole
+    whole-is : whole ≡ walkOn (literalWalk ds c number τ here) (λ σ. bodyFault ds c (literalsIn here + number) σ (turn .left))
     unfolding bodyFault
-    walk-faulted t a =
-        stays-by (w .fault) (w .known) (literalFault ds c (suc i) τ (turn l a .literal .literal)) (afterLiteral ds (turn l a .literal .literal) τ) (λ σ. bodyFault ds c (suc (suc i)) σ (turn l a .left)) (there a) t
-        ∙ sym (a .same ∙ ap (bodyFault ds c (suc i) τ) (turn l a .is))
+    whole-is = a .same ∙ ap (bodyFault ds c number τ) (turn .is)
 
-    pub walk-on : isFault (w .fault) ≡ false → (next : ℕ) → ((u : LiteralAt g table at) → next ≡ at + length (literalWords (u .literal))) → WalkLeft
-        → Ahead g table next (i + 1) literals whole (λ k b. bodyFault ds c k (w .known) b)
-    unfolding bodyFault
-    walk-on t next n a =
-        passed l a next n (λ k b. bodyFault ds c k (w .known) b)
-        (goes-by (w .fault) (w .known) (literalFault ds c (suc i) τ (turn l a .literal .literal)) (afterLiteral ds (turn l a .literal .literal) τ) (λ σ. bodyFault ds c (suc (suc i)) σ (turn l a .left)) (there a) t)
+    module _ (w : Passed) (ew : (u : LiteralAt g table at) → PastLiteral w ds c number τ at (u .literal)) where
+      pub walk-stopped : isFault (w .fault) ≡ true → (next count after : ℕ) → Passes w whole next count after
+      walk-stopped t next count after = stopped _ t (ew (turn .literal)) whole whole-is next count after
+
+      module _ (f : isFault (w .fault) ≡ false) where
+        -- how far it goes
+        pub further-on : (w .next ≡ at + length (literalWords here)) × (w .literal ≡ literalsIn here + number)
+            × (i < i + w .items) × (i + w .items ≤ items)
+        further-on =
+            let q : PastLiteral w ds c number τ at here = ew (turn .literal) in
+            (q .next-is f, q .literal-is f, omega (arith, q .items-are f, turn .some), omega (arith, q .items-are f, turn .count))
+
+        -- the place and the number rise together
+        pub rises : number ≤ at + 1 → (w .literal ≤ w .next + 1) × (at ≤ w .next)
+        rises k =
+            let s : Sizes (literalsIn here) (literalLength here) (length (literalWords here)) = literal-sizes here in
+            (omega (arith, further-on .0, further-on .1, s .numbered, s .worded), omega (arith, further-on .0))
+
+        pub walk-on : Ahead ds c g table (w .next) (i + w .items) items (w .literal) (w .known) whole stop last
+        unfolding bodyWords literalsOf
+        walk-on =
+            let t : Turn g table at i items (a .body) = turn in
+            let q : PastLiteral w ds c number τ at here = ew (t .literal) in
+            let long : length (literalWords here ++ bodyWords (t .left)) ≡ length (literalWords here) + length (bodyWords (t .left)) =
+            length-append (literalWords here) (bodyWords (t .left)) in
+            let words : length (bodyWords (a .body)) ≡ length (literalWords here ++ bodyWords (t .left)) = ap (λ (b : Body). length (bodyWords b)) (t .is) in
+            let literals : literalsOf (a .body) ≡ literalsIn here + literalsOf (t .left) = ap literalsOf (t .is) in
+            record {
+              body = t .left;
+              has = subst⁻¹ (λ (k : ℕ). Has table k (bodyWords (t .left))) (q .next-is f) (t .has);
+              count = omega (arith, t .count, q .items-are f);
+              stands = t .stands;
+              same =
+                  whole-is
+                  ∙ goes-by (w .fault) (w .known) _ (λ σ. bodyFault ds c (literalsIn here + number) σ (t .left)) (q .walk) f
+                  ∙ ap (λ (k : ℕ). bodyFault ds c k (w .known) (t .left)) (sym (q .literal-is f));
+              ends = omega (arith, q .next-is f, a .ends);
+              numbers = omega (arith, q .literal-is f, a .numbers);
+            }
 
 -- a first word that is neither 0 nor 1
 pub at-least : (kind : ℕ) → (kind ≡ truthKind → ⊥) → (kind ≡ falsityKind → ⊥) → callKind ≤ kind

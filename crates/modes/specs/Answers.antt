@@ -1,12 +1,16 @@
 -- The definitions' answers as the code gives them.
-use Prim.Native.Nat.{ℕ}
+use Prim.Native.Nat.{ℕ, _+_}
+use mathlib.Core.Path.{_≡_}
 use mathlib.Core.Bool.{Bool, true, false}
 use mathlib.Core.List.{List}
-use Rattle.syntax.specs.Terms.{Declaration, Literal}
-use Rattle.rules.specs.Modes.{Known, Walk, faulted, known, walkOn, literalFault, afterLiteral}
+use lib.ListN.{length}
+use Rattle.syntax.specs.Terms.{Literal, Body, Declaration, literalsIn, literalsOf}
+use Rattle.syntax.specs.Words.{literalWords, bodyWords, literalLength, bodyLength}
+use Rattle.rules.specs.Modes.{Known, Walk, faulted, known, literalWalk, bodyFault}
 use Rattle.marking.specs.declared.Checked.{Checked}
 use Rattle.marking.specs.declared.Checked.the-variants.{Fine, Fault}
 use Rattle.modes.specs.declared.Walked.{Walked}
+use Rattle.modes.specs.declared.Passed.{Passed}
 
 abbrev pub isFault : Checked → Bool
 isFault Fine = false
@@ -20,6 +24,17 @@ walkBy (Fault r) τ = faulted r
 abbrev pub walkOf : Walked → Walk
 walkOf w = walkBy (w .fault) (w .known)
 
--- one literal of a walk along a body
-abbrev pub literalWalk : List Declaration → ℕ → ℕ → Known → Literal → Walk
-literalWalk ds c l τ lit = walkOn (literalFault ds c l τ lit) (λ σ. known σ) (afterLiteral ds lit τ)
+-- what it gives along a part of a body that ends at a place, is so many items, and is followed by the literal of that number
+pub record Passes (r : Passed) (w : Walk) (next items literal : ℕ) : Type 0 where
+  pub walk : walkBy (r .fault) (r .known) ≡ w
+  pub next-is : isFault (r .fault) ≡ false → r .next ≡ next
+  pub items-are : isFault (r .fault) ≡ false → r .items ≡ items
+  pub literal-is : isFault (r .fault) ≡ false → r .literal ≡ literal
+
+-- along a literal that stands at p, number l of clause c, before which τ is known ground
+abbrev pub PastLiteral : Passed → List Declaration → ℕ → ℕ → Known → ℕ → Literal → Type 0
+PastLiteral r ds c l τ p x = Passes r (literalWalk ds c l τ x) (p + length (literalWords x)) (literalLength x) (literalsIn x + l)
+
+-- along a body that does, from that number on
+abbrev pub PastBody : Passed → List Declaration → ℕ → ℕ → Known → ℕ → Body → Type 0
+PastBody r ds c l τ p b = Passes r (bodyFault ds c l τ b) (p + length (bodyWords b)) (bodyLength b) (literalsOf b + l)

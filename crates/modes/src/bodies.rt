@@ -1,4 +1,5 @@
 // Literals and bodies of a text `g`, by the declarations of a sheet `s`.
+use crate::Passed;
 use crate::Walked;
 use crate::is_fault;
 use marking::Checked;
@@ -7,26 +8,36 @@ use marking::marks::call_fault;
 use marking::marks::ground_marked;
 use marking::marks::marks_of;
 use marking::marks::undeclared_atom;
+use marking::terms::in_both;
 use marking::terms::settle;
 use syntax::CALL_KIND;
 use syntax::FALSITY_KIND;
+use syntax::LEFT_KIND;
 use syntax::NODE_WORDS;
 use syntax::OUTPUT;
 use syntax::TRUTH_KIND;
 use syntax::VARIABLES;
+use syntax::items_of_side;
 use words::past;
-use words::past_literal;
+use words::past_item;
 use words::word_at;
 ghost use mathlib.Core.Path.{_≡_};
-ghost use Prim.Native.Nat.{_+_};
-ghost use Rattle.syntax.specs.Terms.{call};
-ghost use Rattle.rules.specs.Modes.{undeclaredLiteral, undeclaredBody, bodyFault};
+ghost use Prim.Native.Nat.{_+_, _≤_, _<_};
+ghost use lib.ListN.{getD};
+ghost use Rattle.syntax.specs.Words.{leftKind};
+ghost use Rattle.rules.specs.Modes.{undeclaredBody, callWalk, literalWalk, bodyFault};
 ghost use Rattle.marking.specs.Tables.{DeclarationsAt, AtomAt, LiteralAt, BodyAt};
 ghost use Rattle.marking.specs.Answers.{checkedOf};
-ghost use Rattle.modes.specs.Answers.{walkOf, literalWalk};
+ghost use Rattle.modes.specs.Answers.{walkOf, PastLiteral, PastBody};
+ghost use Rattle.words.specs.Tables.{Has};
+ghost use Rattle.words.specs.Items.{Item, itemWords};
+ghost use Rattle.modes.specs.Items.{ItemAt, SideAt, undeclaredItem, literalsAt};
 
-// The fault of a literal that is a call without declaration.
-fn undeclared_literal(
+// The words of a bracket beside its sides': before the left one, before the right one, behind it.
+const BRACKET_WORDS: usize = 3;
+
+// The fault of an item that is a call without declaration.
+fn undeclared_item(
     s: &[u8],
     declared: &[u32],
     n: usize,
@@ -38,9 +49,9 @@ fn undeclared_literal(
     near: usize,
 ) -> Checked
     requires { ⌜ DeclarationsAt (now s) (now declared) n ⌝ }
-    requires { ⌜ LiteralAt (now g) (now table) p ⌝ }
-    ensures { λ r. ⌜ ((d : DeclarationsAt (now (s .entry)) (now (declared .entry)) n) (w : LiteralAt (now (g .entry)) (now (table .entry)) p)
-        → r ≡ checkedOf (undeclaredLiteral (d .list) clause literal (w .literal))) ⌝ }
+    requires { ⌜ ItemAt (now g) (now table) p ⌝ }
+    ensures { λ r. ⌜ ((d : DeclarationsAt (now (s .entry)) (now (declared .entry)) n) (w : ItemAt (now (g .entry)) (now (table .entry)) p)
+        → r ≡ checkedOf (undeclaredItem (d .list) clause literal (w .item))) ⌝ }
 {
     if word_at(table, p) != CALL_KIND {
         return Checked::Fine;
@@ -49,7 +60,18 @@ fn undeclared_literal(
     undeclared_atom(s, declared, n, g, table, q, clause, literal, near)
 }
 
-// The first call of a body that has no declaration.
+// How many literals an item counts for: a word of a bracket counts for none.
+fn literals_at(table: &[u32], p: usize) -> usize
+    requires { ⌜ ((x : Item) × Has (now table) p (itemWords x)) ⌝ }
+    ensures { λ r. ⌜ ((x : Item) → Has (now (table .entry)) p (itemWords x) → r ≡ literalsAt x) ⌝ }
+{
+    if LEFT_KIND <= word_at(table, p) {
+        return 0;
+    }
+    1
+}
+
+// The first call of a body that has no declaration: item after item, inside brackets too.
 pub fn undeclared_body(
     s: &[u8],
     declared: &[u32],
@@ -57,25 +79,26 @@ pub fn undeclared_body(
     g: &[u8],
     table: &[u32],
     p: usize,
-    literals: usize,
+    items: usize,
     clause: usize,
     near: usize,
 ) -> Checked
     requires { ⌜ DeclarationsAt (now s) (now declared) n ⌝ }
-    requires { ⌜ BodyAt (now g) (now table) p literals ⌝ }
-    ensures { λ r. ⌜ ((d : DeclarationsAt (now (s .entry)) (now (declared .entry)) n) (w : BodyAt (now (g .entry)) (now (table .entry)) p literals)
+    requires { ⌜ BodyAt (now g) (now table) p items ⌝ }
+    ensures { λ r. ⌜ ((d : DeclarationsAt (now (s .entry)) (now (declared .entry)) n) (w : BodyAt (now (g .entry)) (now (table .entry)) p items)
         → r ≡ checkedOf (undeclaredBody (d .list) clause 1 (w .body))) ⌝ }
 {
     let mut at = p;
     let mut i = 0;
-    while i < literals {
-        let number = i + 1;
-        let fault = undeclared_literal(s, declared, n, g, table, at, clause, number, near);
+    let mut literal = 1;
+    while i < items {
+        let fault = undeclared_item(s, declared, n, g, table, at, clause, literal, near);
         if is_fault(fault) {
             return fault;
         }
-        at = past_literal(table, at);
-        i = number;
+        literal = literal + literals_at(table, at);
+        at = past_item(table, at);
+        i = i + 1;
     }
     Checked::Fine
 }
@@ -95,7 +118,7 @@ fn call_walk(
     requires { ⌜ DeclarationsAt (now s) (now declared) n ⌝ }
     requires { ⌜ AtomAt (now g) (now table) p ⌝ }
     ensures { λ r. ⌜ ((d : DeclarationsAt (now (s .entry)) (now (declared .entry)) n) (w : AtomAt (now (g .entry)) (now (table .entry)) p)
-        → walkOf r ≡ literalWalk (d .list) clause literal known (call (w .atom))) ⌝ }
+        → walkOf r ≡ callWalk (d .list) clause literal known (w .atom)) ⌝ }
 {
     let marks = marks_of(s, declared, n, g, table, p);
     let from = p + NODE_WORDS;
@@ -108,8 +131,8 @@ fn call_walk(
     }
 }
 
-// One literal: its fault, or what is known after it.
-fn literal_walk(
+// A literal that is no bracket: its fault, or what is known after it.
+fn plain_walk(
     s: &[u8],
     declared: &[u32],
     n: usize,
@@ -122,6 +145,7 @@ fn literal_walk(
 ) -> Walked
     requires { ⌜ DeclarationsAt (now s) (now declared) n ⌝ }
     requires { ⌜ LiteralAt (now g) (now table) p ⌝ }
+    requires { ⌜ getD (now table) p 0 < leftKind ⌝ }
     ensures { λ r. ⌜ ((d : DeclarationsAt (now (s .entry)) (now (declared .entry)) n) (w : LiteralAt (now (g .entry)) (now (table .entry)) p)
         → walkOf r ≡ literalWalk (d .list) clause literal known (w .literal)) ⌝ }
 {
@@ -150,7 +174,156 @@ fn literal_walk(
     }
 }
 
-// The literals of a body in turn: the first fault, or what is known after them.
+// One literal. A literal takes a word or more, so its number is at most its place and one.
+fn literal_walk(
+    s: &[u8],
+    declared: &[u32],
+    n: usize,
+    g: &[u8],
+    table: &[u32],
+    p: usize,
+    clause: usize,
+    literal: usize,
+    known: Known,
+) -> Passed
+    requires { ⌜ DeclarationsAt (now s) (now declared) n ⌝ }
+    requires { ⌜ LiteralAt (now g) (now table) p ⌝ }
+    requires { ⌜ literal ≤ p + 1 ⌝ }
+    ensures { λ r. ⌜ ((d : DeclarationsAt (now (s .entry)) (now (declared .entry)) n) (w : LiteralAt (now (g .entry)) (now (table .entry)) p)
+        → PastLiteral r (d .list) clause literal known p (w .literal)) ⌝ }
+{
+    if LEFT_KIND <= word_at(table, p) {
+        return either_walk(s, declared, n, g, table, p, clause, literal, known);
+    }
+    let w = plain_walk(s, declared, n, g, table, p, clause, literal, known);
+    let fault = w.fault;
+    let after = w.known;
+    let next = past_item(table, p);
+    let more = literal + 1;
+    Passed {
+        fault,
+        known: after,
+        next,
+        items: 1,
+        literal: more,
+    }
+}
+
+// A bracket: both sides from what is known before it; behind it is known what both leave.
+fn either_walk(
+    s: &[u8],
+    declared: &[u32],
+    n: usize,
+    g: &[u8],
+    table: &[u32],
+    p: usize,
+    clause: usize,
+    literal: usize,
+    known: Known,
+) -> Passed
+    requires { ⌜ DeclarationsAt (now s) (now declared) n ⌝ }
+    requires { ⌜ LiteralAt (now g) (now table) p ⌝ }
+    requires { ⌜ (leftKind ≤ getD (now table) p 0) × (literal ≤ p + 1) ⌝ }
+    ensures { λ r. ⌜ ((d : DeclarationsAt (now (s .entry)) (now (declared .entry)) n) (w : LiteralAt (now (g .entry)) (now (table .entry)) p)
+        → PastLiteral r (d .list) clause literal known p (w .literal)) ⌝ }
+{
+    let left = side_walk(s, declared, n, g, table, p, clause, literal, known);
+    let first_fault = left.fault;
+    if is_fault(first_fault) {
+        return left;
+    }
+    let middle = left.next;
+    let more = left.literal;
+    let one = left.known;
+    let right = side_walk(s, declared, n, g, table, middle, clause, more, known);
+    let second_fault = right.fault;
+    if is_fault(second_fault) {
+        return right;
+    }
+    let other = right.known;
+    let both = in_both(one, other);
+    let stop = right.next;
+    let next = stop + 1;
+    let a = left.items;
+    let b = right.items;
+    let items = a + b + BRACKET_WORDS;
+    Passed {
+        fault: Checked::Fine,
+        known: both,
+        next,
+        items,
+        literal: right.literal,
+    }
+}
+
+// A side of a bracket, behind the word before it.
+fn side_walk(
+    s: &[u8],
+    declared: &[u32],
+    n: usize,
+    g: &[u8],
+    table: &[u32],
+    p: usize,
+    clause: usize,
+    literal: usize,
+    known: Known,
+) -> Passed
+    requires { ⌜ DeclarationsAt (now s) (now declared) n ⌝ }
+    requires { ⌜ SideAt (now g) (now table) p ⌝ }
+    requires { ⌜ literal ≤ p + 1 ⌝ }
+    ensures { λ r. ⌜ ((d : DeclarationsAt (now (s .entry)) (now (declared .entry)) n) (w : SideAt (now (g .entry)) (now (table .entry)) p)
+        → PastBody r (d .list) clause literal known (p + 1) (w .body)) ⌝ }
+{
+    let items = items_of_side(word_at(table, p));
+    let q = p + 1;
+    literals_walk(s, declared, n, g, table, q, items, clause, literal, known)
+}
+
+// The literals of a body or of a side in turn: the first fault, or what is known after them.
+fn literals_walk(
+    s: &[u8],
+    declared: &[u32],
+    n: usize,
+    g: &[u8],
+    table: &[u32],
+    p: usize,
+    items: usize,
+    clause: usize,
+    literal: usize,
+    known: Known,
+) -> Passed
+    requires { ⌜ DeclarationsAt (now s) (now declared) n ⌝ }
+    requires { ⌜ BodyAt (now g) (now table) p items ⌝ }
+    requires { ⌜ literal ≤ p + 1 ⌝ }
+    ensures { λ r. ⌜ ((d : DeclarationsAt (now (s .entry)) (now (declared .entry)) n) (w : BodyAt (now (g .entry)) (now (table .entry)) p items)
+        → PastBody r (d .list) clause literal known p (w .body)) ⌝ }
+{
+    let mut at = p;
+    let mut i = 0;
+    let mut number = literal;
+    let mut flags = known;
+    while i < items {
+        let w = literal_walk(s, declared, n, g, table, at, clause, number, flags);
+        let fault = w.fault;
+        if is_fault(fault) {
+            return w;
+        }
+        flags = w.known;
+        at = w.next;
+        number = w.literal;
+        let gone = w.items;
+        i = i + gone;
+    }
+    Passed {
+        fault: Checked::Fine,
+        known: flags,
+        next: at,
+        items,
+        literal: number,
+    }
+}
+
+// The literals of a body, from number 1 on.
 pub fn body_walk(
     s: &[u8],
     declared: &[u32],
@@ -158,32 +331,20 @@ pub fn body_walk(
     g: &[u8],
     table: &[u32],
     p: usize,
-    literals: usize,
+    items: usize,
     clause: usize,
     known: Known,
 ) -> Walked
     requires { ⌜ DeclarationsAt (now s) (now declared) n ⌝ }
-    requires { ⌜ BodyAt (now g) (now table) p literals ⌝ }
-    ensures { λ r. ⌜ ((d : DeclarationsAt (now (s .entry)) (now (declared .entry)) n) (w : BodyAt (now (g .entry)) (now (table .entry)) p literals)
+    requires { ⌜ BodyAt (now g) (now table) p items ⌝ }
+    ensures { λ r. ⌜ ((d : DeclarationsAt (now (s .entry)) (now (declared .entry)) n) (w : BodyAt (now (g .entry)) (now (table .entry)) p items)
         → walkOf r ≡ bodyFault (d .list) clause 1 known (w .body)) ⌝ }
 {
-    let mut at = p;
-    let mut i = 0;
-    let mut flags = known;
-    while i < literals {
-        let number = i + 1;
-        let w = literal_walk(s, declared, n, g, table, at, clause, number, flags);
-        let fault = w.fault;
-        let after = w.known;
-        if is_fault(fault) {
-            return w;
-        }
-        flags = after;
-        at = past_literal(table, at);
-        i = number;
-    }
+    let r = literals_walk(s, declared, n, g, table, p, items, clause, 1, known);
+    let fault = r.fault;
+    let after = r.known;
     Walked {
-        fault: Checked::Fine,
-        known: flags,
+        fault,
+        known: after,
     }
 }

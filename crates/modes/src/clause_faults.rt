@@ -13,6 +13,7 @@ use syntax::CLAUSE_START;
 use syntax::INPUT;
 use syntax::NODE_WORDS;
 use syntax::VARIABLES;
+use words::CLAUSE_ITEMS;
 use words::past;
 use words::past_clause;
 use words::word_at;
@@ -49,14 +50,14 @@ fn undeclared_clause(
     ensures { λ r. ⌜ ((d : DeclarationsAt (now (s .entry)) (now (declared .entry)) n) (w : ClauseAt (now (s .entry)) (now (table .entry)) p) → r
         ≡ checkedOf (undeclaredClause (d .list) clause (w .clause))) ⌝ }
 {
-    let literals = word_at(table, p + 2);
+    let items = word_at(table, p + CLAUSE_ITEMS);
     let head = p + CLAUSE_START;
     let fault = undeclared_atom(s, declared, n, s, table, head, clause, 0, near);
     if is_fault(fault) {
         return fault;
     }
     let first = past(table, head);
-    undeclared_body(s, declared, n, s, table, first, literals, clause, near)
+    undeclared_body(s, declared, n, s, table, first, items, clause, near)
 }
 
 // The first head or call of a sheet that has no declaration.
@@ -102,13 +103,13 @@ fn clause_fault(
     ensures { λ r. ⌜ ((d : DeclarationsAt (now (s .entry)) (now (declared .entry)) n) (w : ClauseAt (now (s .entry)) (now (table .entry)) p) → r
         ≡ checkedOf (clauseFault (d .list) clause (w .clause))) ⌝ }
 {
-    let literals = word_at(table, p + 2);
+    let items = word_at(table, p + CLAUSE_ITEMS);
     let head = p + CLAUSE_START;
     let marks = marks_of(s, declared, n, s, table, head);
     let from = head + NODE_WORDS;
     let first = past(table, head);
     let start = ground_marked(table, from, first, marks, INPUT, [false; VARIABLES]);
-    let w = body_walk(s, declared, n, s, table, first, literals, clause, start);
+    let w = body_walk(s, declared, n, s, table, first, items, clause, start);
     let fault = w.fault;
     if is_fault(fault) {
         return fault;

@@ -19,6 +19,16 @@ pub struct Walked {
     pub known: Known,
 }
 
+// The same of a part of a body, for what goes on behind it: where there is no fault, the place past the part, how many items it is, and the number
+// of the next literal.
+pub struct Passed {
+    pub fault: Checked,
+    pub known: Known,
+    pub next: usize,
+    pub items: usize,
+    pub literal: usize,
+}
+
 // Whether there is a fault.
 pub fn is_fault(c: Checked) -> bool
     ensures { λ r. ⌜ r ≡ isFault c ⌝ }
@@ -29,23 +39,23 @@ pub fn is_fault(c: Checked) -> bool
     }
 }
 
-// Refusals 8 and 9 of a goal whose literals stand in the table, by the sheet's `n` declarations.
+// Refusals 8 and 9 of a goal whose items stand in the table, by the sheet's `n` declarations.
 pub fn check_goal(
     s: &[u8],
     declared: &[u32],
     n: usize,
     g: &[u8],
     table: &[u32],
-    literals: usize,
+    items: usize,
 ) -> Checked
-    requires { ⌜ GoalAt (now s) (now declared) n (now g) (now table) literals ⌝ }
-    ensures { λ r. ⌜ ((w : GoalAt (now (s .entry)) (now (declared .entry)) n (now (g .entry)) (now (table .entry)) literals)
+    requires { ⌜ GoalAt (now s) (now declared) n (now g) (now table) items ⌝ }
+    ensures { λ r. ⌜ ((w : GoalAt (now (s .entry)) (now (declared .entry)) n (now (g .entry)) (now (table .entry)) items)
         → r ≡ checkedOf (goalFault (w .sheet) (w .goal))) ⌝ }
 {
-    let fault = undeclared_body(s, declared, n, g, table, 0, literals, 0, 0);
+    let fault = undeclared_body(s, declared, n, g, table, 0, items, 0, 0);
     if is_fault(fault) {
         return fault;
     }
-    let w = body_walk(s, declared, n, g, table, 0, literals, 0, [false; VARIABLES]);
+    let w = body_walk(s, declared, n, g, table, 0, items, 0, [false; VARIABLES]);
     w.fault
 }

@@ -7,7 +7,7 @@ use mathlib.Core.List.{List, [], _∷_, _++_, append-assoc, append-nil}
 use lib.ListN.{length, set, take, length-append}
 use lib.Dec.{eqb, lit<}
 use borrow.Author.Tests.{eq-eqb, ne-eqb, eqb-false}
-use Rattle.syntax.specs.Limits.{wordBytes, variables, sheetBytes, literals, declarations, clauses}
+use Rattle.syntax.specs.Limits.{wordBytes, variables, sheetBytes, declarations, clauses}
 use Rattle.syntax.specs.Spans.{namesFrom, met, Held}
 use Rattle.syntax.proofs.Spans.{held-none}
 use Rattle.syntax.specs.Tokens.{tokenAt, variableKind, nameKind, neckKind, endKind}
@@ -27,9 +27,9 @@ use Rattle.parser.specs.declared.Loaded.{Loaded}
 
 -- ---- the first token
 
-pub started : (s : List ℕ) (t : Token) → length s ≤ sheetBytes → t ≡ tokenAt s 0 → (_≡_ {A = State} (record { token = t; count = 0 }) (record { token = tokenAt s 0; count = 0 })) × Standing s (record { token = t; count = 0 })
+pub started : (s : List ℕ) (t : Token) → length s ≤ sheetBytes → t ≡ tokenAt s 0 → (_≡_ {A = State} (record { token = t; count = 0; literals = 0 }) (record { token = tokenAt s 0; count = 0; literals = 0 })) × Standing s (record { token = t; count = 0; literals = 0 })
 started s t h e = (
-  ap (λ (x : Token). record { token = x; count = 0 }) e,
+  ap (λ (x : Token). record { token = x; count = 0; literals = 0 }) e,
   record {
     inside = subst⁻¹ (λ (x : Token). x .at + x .len ≤ length s) e (token-inside s 0 (omega arith));
     some = subst⁻¹ (λ (x : Token). (x .kind ≡ endKind → ⊥) → 0 < x .len) e (token-some s 0);
@@ -52,7 +52,7 @@ module _ (s : List ℕ) (st : State) (entry exit : List ℕ) (n : ℕ) (r : Pars
 
   pub clause-full : (cs : ℕ) → cs ≡ clauses → Refused st 6 r → Gives clauseWords one s st entry entry n r (clauseNext s (clauses - cs) (begin (st .token)))
   unfolding clauseNext
-  clause-full cs e f = subst⁻¹ (λ (b : Bool). Gives clauseWords one s st entry entry n r (elim b as (λ _. Read Clause) [ true ↦ beyond (begin (st .token)) | false ↦ readClause s (begin (st .token)) ])) (eq-eqb (clauses - cs) 0 (omega arith)) (refused-beyond clauseWords one s st st entry entry n r [] f refl)
+  clause-full cs e f = subst⁻¹ (λ (b : Bool). Gives clauseWords one s st entry entry n r (elim b as (λ _. Read Clause) [ true ↦ beyond (begin (st .token)) | false ↦ readClause s (begin (st .token)) ])) (eq-eqb (clauses - cs) 0 (omega arith)) (refused-beyond clauseWords one s st st entry entry n r (begin (st .token)) refl f refl)
 
   pub clause-one : (cs : ℕ) → cs ≤ clauses → (cs ≡ clauses → ⊥) → Gives clauseWords one s st entry exit n r (readClause s (begin (st .token))) → Gives clauseWords one s st entry exit n r (clauseNext s (clauses - cs) (begin (st .token)))
   unfolding clauseNext
@@ -137,7 +137,7 @@ clauses-more (c ∷ cl) x = ap (λ (w : List ℕ). clauseWords c ++ w) (clauses-
 
 -- ---- the loop
 
-pub loading-start : (s declared table : List ℕ) (st : State) → length s ≤ sheetBytes → sheetWords ≤ length table → st ≡ record { token = tokenAt s 0; count = 0 } → Standing s st → Loading s declared table 0 0 0 st
+pub loading-start : (s declared table : List ℕ) (st : State) → length s ≤ sheetBytes → sheetWords ≤ length table → st ≡ record { token = tokenAt s 0; count = 0; literals = 0 } → Standing s st → Loading s declared table 0 0 0 st
 unfolding readSheet declarationsWords clausesWords atStart
 loading-start s declared table st short long e stands = record {
   dl = [];
@@ -324,13 +324,13 @@ module _ (s declared table : List ℕ) (ds cs used : ℕ) (st : State) (l : Load
 
 -- ---- goals
 
-pub goal-ready : (s table : List ℕ) (st : State) → st ≡ record { token = tokenAt s 0; count = 0 } → Standing s st → nodeWords * length s + 1 + variables ≤ length table → length table < 2 ^ 31 → Ready s st table 0 1
+pub goal-ready : (s table : List ℕ) (st : State) → st ≡ record { token = tokenAt s 0; count = 0; literals = 0 } → Standing s st → nodeWords * length s + 1 + variables ≤ length table → length table < 2 ^ 31 → Ready s st table 0 1
 goal-ready s table st e stands long small = record { standing = stands; held = subst⁻¹ (λ (x : State). Held s (met table) (x .count)) e (held-none s (met table)); room = omega arith; small = small }
 
-module _ (s : List ℕ) (entry exit : List ℕ) (st : State) (is : st ≡ record { token = tokenAt s 0; count = 0 }) (r : Parsed) (g : Gives bodyWords bodyLength s st entry exit 0 r (readBody s literals (cursorOf s entry st))) where
-  goal-whole : readGoal s ≡ andThen (readBody s literals (cursorOf s entry st)) (λ b after. goalEnd s b after (eqb (after .token .kind) endKind))
+module _ (s : List ℕ) (entry exit : List ℕ) (st : State) (is : st ≡ record { token = tokenAt s 0; count = 0; literals = 0 }) (r : Parsed) (g : Gives bodyWords bodyLength s st entry exit 0 r (readBody s (cursorOf s entry st))) where
+  goal-whole : readGoal s ≡ andThen (readBody s (cursorOf s entry st)) (λ b after. goalEnd s b after (eqb (after .token .kind) endKind))
   unfolding readGoal atStart namesFrom
-  goal-whole = ap (λ (x : State). andThen (readBody s literals (cursorOf s entry x)) (λ b after. goalEnd s b after (eqb (after .token .kind) endKind))) (sym is)
+  goal-whole = ap (λ (x : State). andThen (readBody s (cursorOf s entry x)) (λ b after. goalEnd s b after (eqb (after .token .kind) endKind))) (sym is)
 
   goal-fault-by : (d : Read Body) → Gives bodyWords bodyLength s st entry exit 0 r d → (r .number ≡ 0 → ⊥) → GoalLoads s exit r (andThen d (λ b after. goalEnd s b after (eqb (after .token .kind) endKind)))
   unfolding andThen
@@ -338,11 +338,11 @@ module _ (s : List ℕ) (entry exit : List ℕ) (st : State) (is : st ≡ record
   goal-fault-by (ok b after) h z = absurd (z (h .number-is))
 
   pub goal-fault : (r .number ≡ 0 → ⊥) → GoalLoads s exit r (readGoal s)
-  goal-fault z = subst⁻¹ (GoalLoads s exit r) goal-whole (goal-fault-by (readBody s literals (cursorOf s entry st)) g z)
+  goal-fault z = subst⁻¹ (GoalLoads s exit r) goal-whole (goal-fault-by (readBody s (cursorOf s entry st)) g z)
 
   module _ (z : r .number ≡ 0) where
-    goal-read : (b : Body) × (readBody s literals (cursorOf s entry st) ≡ ok b (cursorOf s exit (r .state))) × Given s st entry exit 0 r (bodyWords b) (bodyLength b) (cursorOf s exit (r .state))
-    goal-read = seq-ok 1 bodyWords bodyLength s st entry exit 0 r (readBody s literals (cursorOf s entry st)) g z
+    goal-read : (b : Body) × (readBody s (cursorOf s entry st) ≡ ok b (cursorOf s exit (r .state))) × Given s st entry exit 0 r (bodyWords b) (bodyLength b) (cursorOf s exit (r .state))
+    goal-read = seq-ok 1 bodyWords bodyLength s st entry exit 0 r (readBody s (cursorOf s entry st)) g z
 
     goal-by : (b : Bool) → eqb (r .state .token .kind) endKind ≡ b → readGoal s ≡ goalEnd s (goal-read .0) (cursorOf s exit (r .state)) b
     unfolding andThen

@@ -1,8 +1,8 @@
 // Sheets and goals.
 use crate::Loaded;
 use crate::declarations::read_declaration;
-use clauses::read_body;
 use clauses::read_clause;
+use clauses::read_whole;
 use reading::Parsed;
 use reading::cursor::refuse;
 use reading::cursor::wrong;
@@ -10,7 +10,6 @@ use syntax::CLAUSES;
 use syntax::DECLARATION_SIZE;
 use syntax::DECLARATIONS;
 use syntax::END;
-use syntax::LITERALS;
 use syntax::NAME;
 use syntax::NECK;
 use syntax::State;
@@ -28,11 +27,15 @@ ghost use Rattle.parser.specs.Sheets.{declarationNext, clauseNext, Loads
 // The reader at a text's first token.
 pub fn start(s: &[u8]) -> State
     requires { ⌜ length (now s) ≤ sheetBytes ⌝ }
-    ensures is { λ r. ⌜ r ≡ record { token = tokenAt (now (s .entry)) 0; count = 0 } ⌝ }
+    ensures is { λ r. ⌜ r ≡ record { token = tokenAt (now (s .entry)) 0; count = 0; literals = 0 } ⌝ }
     ensures stands { λ r. ⌜ Standing (now (s .entry)) r ⌝ }
 {
     let token = lexer::token_at(s, 0);
-    State { token, count: 0 }
+    State {
+        token,
+        count: 0,
+        literals: 0,
+    }
 }
 
 // A declaration behind `ds` others.
@@ -131,7 +134,7 @@ pub fn read_goal(s: &[u8], table: &mut [u32]) -> Parsed
     ensures { λ r. ⌜ GoalLoads (now (s .entry)) (now (table .exit)) r (readGoal (now (s .entry))) ⌝ }
 {
     let st = start(s);
-    let r = read_body(s, LITERALS, st, table, 0);
+    let r = read_whole(s, st, table, 0);
     if r.number != 0 {
         return r;
     }

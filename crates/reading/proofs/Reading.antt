@@ -26,9 +26,9 @@ use Rattle.lexer.proofs.Laws.{token-inside, token-at-from, token-some, token-wo
 
 -- ---- the reader past a token
 
-pub moved : (s : List ℕ) (st : State) (t : Token) → Standing s st → t ≡ tokenAt s (st .token .at + st .token .len) → Moved s st (record { token = t; count = st .count })
+pub moved : (s : List ℕ) (st : State) (t : Token) → Standing s st → t ≡ tokenAt s (st .token .at + st .token .len) → Moved s st (record { token = t; count = st .count; literals = st .literals })
 moved s st t h e = record {
-  is = ap (λ (u : Token). record { token = u; count = st .count }) e;
+  is = ap (λ (u : Token). record { token = u; count = st .count; literals = st .literals }) e;
   standing = record {
     inside = subst⁻¹ (λ (u : Token). u .at + u .len ≤ length s) e (token-inside s (st .token .at + st .token .len) (h .inside));
     some = subst⁻¹ (λ (u : Token). (u .kind ≡ endKind → ⊥) → 0 < u .len) e (token-some s (st .token .at + st .token .len));
@@ -53,7 +53,7 @@ pub held-of : {s : List ℕ} {st r : State} {words : List ℕ} → Moved s st r 
 held-of {s} {st} {r} {words} m h = subst⁻¹ (λ (x : State). Held s words (x .count)) (m .is) h
 
 pub cursor-kept : (s entry exit : List ℕ) (st : State) → met exit ≡ met entry → cursorOf s exit st ≡ cursorOf s entry st
-cursor-kept s entry exit st e = ap (λ (m : List ℕ). record { token = st .token; names = namesFrom s m 0 (st .count) }) e
+cursor-kept s entry exit st e = ap (λ (m : List ℕ). record { token = st .token; names = namesFrom s m 0 (st .count); literals = st .literals }) e
 
 pub held-kept : {s a b : List ℕ} {k : ℕ} → b ≡ a → Held s a k → Held s b k
 held-kept {s} {k = k} e h = subst⁻¹ (λ (m : List ℕ). Held s m k) e h
@@ -161,10 +161,6 @@ node-room s st table n ready k =
 
 -- ---- faults
 
-pub refused-beyond : {A : Type 0} (words : A → List ℕ) (items : A → ℕ) (s : List ℕ) (from st : State) (entry exit : List ℕ) (n : ℕ) (r : Parsed) (names : List (List ℕ)) → Refused st 6 r → take n exit ≡ take n entry → Gives words items s from entry exit n r (beyond (record { token = st .token; names = names }))
-unfolding beyond
-refused-beyond words items s from st entry exit n r names f k = record { number-is = f .number-is; some = lit< tt; byte-is = ap (λ (x : State). x .token .at) (f .state-is); kept = k }
-
 pub wrong-positive : (k : ℕ) → 0 < wrongNumber k
 unfolding wrongNumber
 wrong-positive k = by-cases (eqb k 0) (eqb k overlongKind)
@@ -174,12 +170,30 @@ wrong-positive k = by-cases (eqb k 0) (eqb k overlongKind)
     by-cases false true = lit< tt
     by-cases false false = lit< tt
 
-pub refused-wrong-with : {A : Type 0} (spare : ℕ) (words : A → List ℕ) (items : A → ℕ) (s : List ℕ) (from st : State) (entry exit : List ℕ) (n : ℕ) (r : Parsed) (names : List (List ℕ)) → Refused st (wrongNumber (st .token .kind)) r → take n exit ≡ take n entry → GivesWith spare words items s from entry exit n r (wrong (record { token = st .token; names = names }))
-unfolding wrong
-refused-wrong-with spare words items s from st entry exit n r names f k = record { number-is = f .number-is; some = wrong-positive (st .token .kind); byte-is = ap (λ (x : State). x .token .at) (f .state-is); kept = k }
+-- The fault of a reader that stands for the state.
+module _ {A : Type 0} (spare : ℕ) (words : A → List ℕ) (items : A → ℕ) (s : List ℕ) (from st : State) (entry exit : List ℕ) (n : ℕ) (r : Parsed) (c : Cursor) (t : c .token ≡ st .token) where
+  pub refused-beyond-with : Refused st 6 r → take n exit ≡ take n entry → GivesWith spare words items s from entry exit n r (beyond c)
+  unfolding beyond
+  refused-beyond-with f k =
+      record { number-is = f .number-is; some = lit< tt; byte-is = ap (λ (x : State). x .token .at) (f .state-is) ∙ ap (λ (x : Token). x .at) (sym t); kept = k }
 
-pub refused-wrong : {A : Type 0} (words : A → List ℕ) (items : A → ℕ) (s : List ℕ) (from st : State) (entry exit : List ℕ) (n : ℕ) (r : Parsed) (names : List (List ℕ)) → Refused st (wrongNumber (st .token .kind)) r → take n exit ≡ take n entry → Gives words items s from entry exit n r (wrong (record { token = st .token; names = names }))
-refused-wrong words items s from st entry exit n r names f k = refused-wrong-with 1 words items s from st entry exit n r names f k
+  pub refused-wrong-with : Refused st (wrongNumber (st .token .kind)) r → take n exit ≡ take n entry → GivesWith spare words items s from entry exit n r (wrong c)
+  unfolding wrong
+  refused-wrong-with f k =
+      record {
+        number-is = f .number-is ∙ ap (λ (x : Token). wrongNumber (x .kind)) (sym t);
+        some = wrong-positive (c .token .kind);
+        byte-is = ap (λ (x : State). x .token .at) (f .state-is) ∙ ap (λ (x : Token). x .at) (sym t);
+        kept = k;
+      }
+
+-- the same with one word left over
+module _ {A : Type 0} (words : A → List ℕ) (items : A → ℕ) (s : List ℕ) (from st : State) (entry exit : List ℕ) (n : ℕ) (r : Parsed) (c : Cursor) (t : c .token ≡ st .token) where
+  pub refused-beyond : Refused st 6 r → take n exit ≡ take n entry → Gives words items s from entry exit n r (beyond c)
+  refused-beyond f k = refused-beyond-with 1 words items s from st entry exit n r c t f k
+
+  pub refused-wrong : Refused st (wrongNumber (st .token .kind)) r → take n exit ≡ take n entry → Gives words items s from entry exit n r (wrong c)
+  refused-wrong f k = refused-wrong-with 1 words items s from st entry exit n r c t f k
 
 -- ---- variables
 
@@ -198,7 +212,7 @@ pub new-stored : (table : List ℕ) (p w at len : ℕ) → w ≡ packed at len �
 new-stored table p w at len e = ap (set table p) e
 
 -- one variable more: the state and the table with its word
-module _ (s : List ℕ) (st new : State) (entry mid : List ℕ) (n : ℕ) (e : new ≡ record { token = st .token; count = st .count + 1 }) (em : mid ≡ set entry (length entry - variables + st .count) (packed (st .token .at) (st .token .len))) (h : st .count < variables) (k : st .token .kind ≡ variableKind) (ready : Ready s st entry n 0) where
+module _ (s : List ℕ) (st new : State) (entry mid : List ℕ) (n : ℕ) (e : new ≡ record { token = st .token; count = st .count + 1; literals = st .literals }) (em : mid ≡ set entry (length entry - variables + st .count) (packed (st .token .at) (st .token .len))) (h : st .count < variables) (k : st .token .kind ≡ variableKind) (ready : Ready s st entry n 0) where
   long : length mid ≡ length entry
   long = ap length em ∙ length-set entry (length entry - variables + st .count) (packed (st .token .at) (st .token .len))
 
@@ -230,7 +244,7 @@ module _ (s : List ℕ) (st new : State) (entry mid : List ℕ) (n : ℕ) (e : n
   cursor-new =
       let brief : st .token .len ≤ wordBytes = ready .standing .brief k in
       ap (cursorOf s mid) e
-      ∙ ap (λ (l : List (List ℕ)). record { token = st .token; names = l })
+      ∙ ap (λ (l : List (List ℕ)). record { token = st .token; names = l; literals = st .literals })
       (ap (λ (m : List ℕ). namesFrom s m 0 (st .count + 1)) met-is
       ∙ names-new s (met entry) (st .count) (packed (st .token .at) (st .token .len)) count-in
       ∙ ap (λ (x : List ℕ). namesFrom s (met entry) 0 (st .count) ++ (x ∷ [])) (packed-spelt s (st .token .at) (st .token .len) (omega arith)))
@@ -264,7 +278,7 @@ module _ (s : List ℕ) (st : State) (entry exit : List ℕ) (n : ℕ) (r : Pars
   pub new-refused : variables ≤ st .count → Refused st 6 r → Gives termWords one s st entry entry n r (newVariable s (cursorOf s entry st))
   new-refused h f =
       let count : length (namesFrom s (met entry) 0 (st .count)) ≡ st .count = names-length s (met entry) 0 (st .count) in
-      subst⁻¹ (Gives termWords one s st entry entry n r) (new-beyond s (cursorOf s entry st) (omega arith)) (refused-beyond termWords one s st st entry entry n r (namesFrom s (met entry) 0 (st .count)) f refl)
+      subst⁻¹ (Gives termWords one s st entry entry n r) (new-beyond s (cursorOf s entry st) (omega arith)) (refused-beyond termWords one s st st entry entry n r (cursorOf s entry st) refl f refl)
 
   module _ (b : Bool) (eb : b ≡ isAnonymous s (st .token)) where
     pub variable-anonymous : b ≡ true → Gives termWords one s st entry exit n r (newVariable s (cursorOf s entry st)) → Gives termWords one s st entry exit n r (readVariable s (cursorOf s entry st))

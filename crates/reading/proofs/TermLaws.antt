@@ -12,17 +12,16 @@ use Rattle.syntax.specs.Terms.{Term, Terms, Atom, variable, compound, nil, cons
 use Rattle.syntax.specs.Tokens.{spelling, commaKind, endKind, nameKind, variableKind, numeralKind, openKind, closeKind}
 use Rattle.syntax.specs.Numerals.{trimmed, dropped}
 use Rattle.syntax.proofs.Numerals.{trimmed-short}
-use Rattle.syntax.specs.Reading.{Cursor, numeralAt, spelt, Read, fault, ok, andThen, next, wrongNumber, wrong, beyond, full, readVariable, readTerm, readTermWith, termWith, readAtomWith, atomWith, atomAt, readList, readArguments, argumentsAfter, startOf, begins, afterOf, After, more, last, neither, Start, aVariable, aNumeral, aName, nothing}
+use Rattle.syntax.specs.Reading.{Cursor, numeralAt, spelt, Read, fault, ok, andThen, next, wrongNumber, wrong, beyond, full, readVariable, readTerm, readTermWith, termWith, readAtom, readAtomWith, atomWith, atomAt, readList, readArguments, argumentsAfter, startOf, begins, afterOf, After, more, last, neither, Start, aVariable, aNumeral, aName, nothing}
 use Rattle.syntax.specs.Words.{nodeWords, termWords, termsWords, atomWords, functor}
 use Rattle.syntax.specs.Limits.{sheetBytes, variables, arguments}
 use Rattle.syntax.specs.Spans.{namesFrom, met, Held}
 use Rattle.syntax.proofs.Spans.{met-three}
 use Rattle.syntax.specs.declared.State.{State}
-use Rattle.reading.specs.Atoms.{readAtomAt}
 use Rattle.reading.specs.Gives.{cursorOf, onward, left, Standing, Moved, Ready, Faulted, Given, Gives, GivenWith, GivesWith, Refused, Counted, fullNumber, one}
 use Rattle.reading.specs.declared.Parsed.{Parsed}
 use Rattle.texts.proofs.Laws.{length-spelling}
-use Rattle.reading.proofs.Reading.{refused-beyond, refused-wrong, next-of, held-of, cursor-kept, held-kept}
+use Rattle.reading.proofs.Reading.{refused-beyond, refused-wrong, refused-beyond-with, refused-wrong-with, next-of, held-of, cursor-kept, held-kept}
 use Rattle.reading.proofs.Starts.{start-variable, start-numeral, start-name, start-nothing, after-more, after-last, after-neither}
 use Rattle.reading.proofs.Sequence.{seq-fault, seq-ok, shorter, kept-before, joined, header}
 
@@ -104,12 +103,12 @@ numeral-given s st entry exit n p what r ready e is g =
 
 module _ (most : ℕ) (s : List ℕ) (st : Cursor) where
   -- the definition, by what stands behind the name
-  atom-open : (past : Cursor) → past ≡ next s st → past .token .kind ≡ openKind → readAtomAt most s st ≡ andThen (readList most s past) (λ ts after. ok (atomAt s st ts) after)
-  unfolding readAtomAt readAtomWith atomWith
+  atom-open : (past : Cursor) → past ≡ next s st → past .token .kind ≡ openKind → readAtom most s st ≡ andThen (readList most s past) (λ ts after. ok (atomAt s st ts) after)
+  unfolding readAtom readAtomWith atomWith
   atom-open past e k = ap (λ (b : Bool). atomWith (λ x. readList most s x) s st b) (ap (λ (x : Cursor). eqb (x .token .kind) openKind) (sym e) ∙ eq-eqb (past .token .kind) openKind k) ∙ ap (λ (x : Cursor). andThen (readList most s x) (λ ts after. ok (atomAt s st ts) after)) (sym e)
 
-  atom-alone : (past : Cursor) → past ≡ next s st → (past .token .kind ≡ openKind → ⊥) → readAtomAt most s st ≡ ok (atomAt s st nil) (next s st)
-  unfolding readAtomAt readAtomWith atomWith
+  atom-alone : (past : Cursor) → past ≡ next s st → (past .token .kind ≡ openKind → ⊥) → readAtom most s st ≡ ok (atomAt s st nil) (next s st)
+  unfolding readAtom readAtomWith atomWith
   atom-alone past e k = ap (λ (b : Bool). atomWith (λ x. readList most s x) s st b) (ap (λ (x : Cursor). eqb (x .token .kind) openKind) (sym e) ∙ ne-eqb (past .token .kind) openKind k)
 
   list-down : (past inner : Cursor) → (most ≡ 0 → ⊥) → inner ≡ next s past → readList most s past ≡ readArguments (λ x. readTerm (most - 1) s x) s arguments inner
@@ -121,19 +120,19 @@ module _ (most : ℕ) (s : List ℕ) (st : Cursor) where
 module _ (most : ℕ) (s : List ℕ) (st : State) where
   module _ (entry : List ℕ) (n : ℕ) (r : Parsed) (ready : Ready s st entry n 0) where
     pub atom-bare : (exit : List ℕ) (past : State) (what : ℕ) → Moved s st past → (past .token .kind ≡ openKind → ⊥) → what ≡ functor 0 (st .token .len)
-        → Given s st entry exit n r (what ∷ nodeWords ∷ (st .token .at) ∷ []) 1 (next s (cursorOf s entry st)) → Gives atomWords one s st entry exit n r (readAtomAt most s (cursorOf s entry st))
+        → Given s st entry exit n r (what ∷ nodeWords ∷ (st .token .at) ∷ []) 1 (next s (cursorOf s entry st)) → Gives atomWords one s st entry exit n r (readAtom most s (cursorOf s entry st))
     atom-bare exit past what m k is g =
         subst⁻¹ (Gives atomWords one s st entry exit n r) (atom-alone most s (cursorOf s entry st) (cursorOf s entry past) (next-of entry m) k)
         (subst (λ (w : List ℕ). Given s st entry exit n r w 1 (next s (cursorOf s entry st))) (leaf-words s (cursorOf s entry st) what (ready .standing .inside) is) g)
 
-    pub atom-deep : (past : State) → Moved s st past → past .token .kind ≡ openKind → most ≡ 0 → Refused past 6 r → Gives atomWords one s st entry entry n r (readAtomAt most s (cursorOf s entry st))
+    pub atom-deep : (past : State) → Moved s st past → past .token .kind ≡ openKind → most ≡ 0 → Refused past 6 r → Gives atomWords one s st entry entry n r (readAtom most s (cursorOf s entry st))
     unfolding readList andThen beyond
     atom-deep past m k z f =
         subst⁻¹ (Gives atomWords one s st entry entry n r) (atom-open most s (cursorOf s entry st) (cursorOf s entry past) (next-of entry m) k ∙ ap (λ (l : ℕ). andThen (readList l s (cursorOf s entry past)) (λ ts after. ok (atomAt s (cursorOf s entry st) ts) after)) z)
-        (refused-beyond atomWords one s st past entry entry n r (namesFrom s (met entry) 0 (past .count)) f refl)
+        (refused-beyond atomWords one s st past entry entry n r (cursorOf s entry past) refl f refl)
 
   module _ (entry exit mid : List ℕ) (n : ℕ) (past inner : State) (ready : Ready s st entry n 0) (name : st .token .kind ≡ nameKind) (m : Moved s st past) (k : past .token .kind ≡ openKind) (z : most ≡ 0 → ⊥) (m′ : Moved s past inner) where
-    whole : readAtomAt most s (cursorOf s entry st) ≡ andThen (readArguments (λ x. readTerm (most - 1) s x) s arguments (cursorOf s entry inner)) (λ ts after. ok (atomAt s (cursorOf s entry st) ts) after)
+    whole : readAtom most s (cursorOf s entry st) ≡ andThen (readArguments (λ x. readTerm (most - 1) s x) s arguments (cursorOf s entry inner)) (λ ts after. ok (atomAt s (cursorOf s entry st) ts) after)
     whole = atom-open most s (cursorOf s entry st) (cursorOf s entry past) (next-of entry m) k ∙ ap (λ (d : Read Terms). andThen d (λ ts after. ok (atomAt s (cursorOf s entry st) ts) after)) (list-down most s (cursorOf s entry st) (cursorOf s entry past) (cursorOf s entry inner) z (next-of entry m′))
 
     -- the name takes a byte and the bracket another
@@ -153,7 +152,7 @@ module _ (most : ℕ) (s : List ℕ) (st : State) where
         let sp : 2 * nodeWords + nodeWords * left s inner ≤ nodeWords * left s st = space in
         record { standing = m′ .standing; held = held-of m′ (held-of m (ready .held)); room = omega arith; small = ready .small }
 
-    pub atom-fault : (r : Parsed) → Gives termsWords arity s inner entry exit (n + nodeWords) r (readArguments (λ x. readTerm (most - 1) s x) s arguments (cursorOf s entry inner)) → (r .number ≡ 0 → ⊥) → Gives atomWords one s st entry exit n r (readAtomAt most s (cursorOf s entry st))
+    pub atom-fault : (r : Parsed) → Gives termsWords arity s inner entry exit (n + nodeWords) r (readArguments (λ x. readTerm (most - 1) s x) s arguments (cursorOf s entry inner)) → (r .number ≡ 0 → ⊥) → Gives atomWords one s st entry exit n r (readAtom most s (cursorOf s entry st))
     atom-fault r g q = subst⁻¹ (Gives atomWords one s st entry exit n r) whole (seq-fault 1 1 termsWords arity atomWords one s st inner entry exit n (n + nodeWords) r (readArguments (λ x. readTerm (most - 1) s x) s arguments (cursorOf s entry inner)) (λ ts after. ok (atomAt s (cursorOf s entry st) ts) after) (omega arith) g q)
 
     module _ (r : Parsed) (g : Gives termsWords arity s inner entry mid (n + nodeWords) r (readArguments (λ x. readTerm (most - 1) s x) s arguments (cursorOf s entry inner))) (e : r .number ≡ 0) where
@@ -172,7 +171,7 @@ module _ (most : ℕ) (s : List ℕ) (st : State) where
           let few : arity (o .0) ≤ length (termsWords (o .0)) = arity-words (o .0) in
           (omega arith, (omega arith, (omega arith, (omega arith, (omega arith, omega arith)))))
 
-      pub atom-list : length mid ≡ length entry → (q : Parsed) → q ≡ record { number = 0; used = r .used; items = 1; state = r .state } → exit ≡ set (set (set mid n (functor (r .items) (st .token .len))) (n + 1) (r .used - n)) (n + 2) (st .token .at) → Gives atomWords one s st entry exit n q (readAtomAt most s (cursorOf s entry st))
+      pub atom-list : length mid ≡ length entry → (q : Parsed) → q ≡ record { number = 0; used = r .used; items = 1; state = r .state } → exit ≡ set (set (set mid n (functor (r .items) (st .token .len))) (n + 1) (r .used - n)) (n + 2) (st .token .at) → Gives atomWords one s st entry exit n q (readAtom most s (cursorOf s entry st))
       unfolding andThen
       atom-list l q eq ex =
           let o : (ts : Terms) × (readArguments (λ x. readTerm (most - 1) s x) s arguments (cursorOf s entry inner) ≡ ok ts (cursorOf s mid (r .state))) × Given s inner entry mid (n + nodeWords) r (termsWords ts) (arity ts) (cursorOf s mid (r .state)) = seq-ok 1 termsWords arity s inner entry mid (n + nodeWords) r (readArguments (λ x. readTerm (most - 1) s x) s arguments (cursorOf s entry inner)) g e in
@@ -223,27 +222,28 @@ module _ (most : ℕ) (s : List ℕ) (st : State) where
     atom-term (fault k b) g = g
     atom-term (ok a after) g = g
 
-    pub term-name : (st .token .kind ≡ variableKind → ⊥) → (st .token .kind ≡ numeralKind → ⊥) → st .token .kind ≡ nameKind → Gives atomWords one s st entry exit n r (readAtomAt most s (cursorOf s entry st)) → Gives termWords one s st entry exit n r (readTerm most s (cursorOf s entry st))
-    unfolding termWith readAtomAt
-    term-name f h e g = subst⁻¹ (Gives termWords one s st entry exit n r) (term-by most s (cursorOf s entry st) aName (start-name (st .token .kind) f h e)) (atom-term (readAtomAt most s (cursorOf s entry st)) g)
+    pub term-name : (st .token .kind ≡ variableKind → ⊥) → (st .token .kind ≡ numeralKind → ⊥) → st .token .kind ≡ nameKind → Gives atomWords one s st entry exit n r (readAtom most s (cursorOf s entry st)) → Gives termWords one s st entry exit n r (readTerm most s (cursorOf s entry st))
+    unfolding termWith readAtom
+    term-name f h e g = subst⁻¹ (Gives termWords one s st entry exit n r) (term-by most s (cursorOf s entry st) aName (start-name (st .token .kind) f h e)) (atom-term (readAtom most s (cursorOf s entry st)) g)
 
     pub term-other : (st .token .kind ≡ variableKind → ⊥) → (st .token .kind ≡ numeralKind → ⊥) → (st .token .kind ≡ nameKind → ⊥) → Refused st (wrongNumber (st .token .kind)) r → Gives termWords one s st entry entry n r (readTerm most s (cursorOf s entry st))
     unfolding termWith
-    term-other f h e g = subst⁻¹ (Gives termWords one s st entry entry n r) (term-by most s (cursorOf s entry st) nothing (start-nothing (st .token .kind) f h e)) (refused-wrong termWords one s st st entry entry n r (namesFrom s (met entry) 0 (st .count)) g refl)
+    term-other f h e g = subst⁻¹ (Gives termWords one s st entry entry n r) (term-by most s (cursorOf s entry st) nothing (start-nothing (st .token .kind) f h e)) (refused-wrong termWords one s st st entry entry n r (cursorOf s entry st) refl g refl)
 
 -- ---- lists
 
-full-by : {A : Type 0} (words : A → List ℕ) (items : A → ℕ) (s : List ℕ) (from st : State) (entry : List ℕ) (n : ℕ) (r : Parsed) (b : Bool) (names : List (List ℕ)) → Refused st (fullNumber b (st .token .kind)) r → Gives words items s from entry entry n r (full b (record { token = st .token; names = names }))
-unfolding full
-full-by words items s from st entry n r true names g = refused-beyond words items s from st entry entry n r names g refl
-full-by words items s from st entry n r false names g = refused-wrong words items s from st entry entry n r names g refl
-
 -- a list or body that is full
-pub list-full : {A : Type 0} (words : A → List ℕ) (items : A → ℕ) (s : List ℕ) (from st : State) (entry : List ℕ) (n : ℕ) (r : Parsed) (names : List (List ℕ)) → Refused st (fullNumber (begins (startOf (st .token .kind))) (st .token .kind)) r → Gives words items s from entry entry n r (full (begins (startOf (st .token .kind))) (record { token = st .token; names = names }))
-list-full words items s from st entry n r names g = full-by words items s from st entry n r (begins (startOf (st .token .kind))) names g
+module _ {A : Type 0} (spare : ℕ) (words : A → List ℕ) (items : A → ℕ) (s : List ℕ) (from st : State) (entry : List ℕ) (n : ℕ) (r : Parsed) (c : Cursor) (t : c .token ≡ st .token) where
+  full-by : (b : Bool) → Refused st (fullNumber b (st .token .kind)) r → GivesWith spare words items s from entry entry n r (full b c)
+  unfolding full
+  full-by true g = refused-beyond-with spare words items s from st entry entry n r c t g refl
+  full-by false g = refused-wrong-with spare words items s from st entry entry n r c t g refl
+
+  pub list-full : Refused st (fullNumber (begins (startOf (st .token .kind))) (st .token .kind)) r → GivesWith spare words items s from entry entry n r (full (begins (startOf (st .token .kind))) c)
+  list-full g = full-by (begins (startOf (st .token .kind))) g
 
 -- One of a list was read; a list behind it is read by `rest`. The lists are `Terms` or a body, made by `put` from a thing and a list.
-module _ {A L : Type 0} (over : ℕ) (wa : A → List ℕ) (wl : L → List ℕ) (il : L → ℕ) (put : A → L → L) (empty : L) (words-put : (a : A) (l : L) → wl (put a l) ≡ wa a ++ wl l) (items-put : (a : A) (l : L) → il (put a l) ≡ suc (il l)) (words-empty : wl empty ≡ []) (items-empty : il empty ≡ 0) (s : List ℕ) (st : State) (entry mid : List ℕ) (n : ℕ) (r : Parsed) (a : A) (g : GivenWith over s st entry mid n r (wa a) 1 (cursorOf s mid (r .state))) where
+module _ {A L : Type 0} (over : ℕ) (wa : A → List ℕ) (ia : A → ℕ) (wl : L → List ℕ) (il : L → ℕ) (put : A → L → L) (empty : L) (words-put : (a : A) (l : L) → wl (put a l) ≡ wa a ++ wl l) (items-put : (a : A) (l : L) → il (put a l) ≡ ia a + il l) (words-empty : wl empty ≡ []) (items-empty : il empty ≡ 0) (s : List ℕ) (st : State) (entry mid : List ℕ) (n : ℕ) (r : Parsed) (a : A) (g : GivenWith over s st entry mid n r (wa a) (ia a) (cursorOf s mid (r .state))) where
   -- the token behind it takes a byte
   past-less : (after : State) → (r .state .token .kind ≡ endKind → ⊥) → Moved s (r .state) after → nodeWords + nodeWords * left s after ≤ nodeWords * left s (r .state)
   past-less after z m =
@@ -261,7 +261,7 @@ module _ {A L : Type 0} (over : ℕ) (wa : A → List ℕ) (wl : L → List ℕ)
       let fits : length (wa a) + nodeWords * left s (r .state) + over ≤ nodeWords * left s st + 1 = g .room in
       record { standing = m .standing; held = held-of m (g .held); room = omega arith; small = omega arith }
 
-  pub one-more : (exit : List ℕ) (after : State) (q p : Parsed) (d : Read L) → (r .state .token .kind ≡ endKind → ⊥) → Moved s (r .state) after → Gives wl il s after mid exit (r .used) q d → Counted q p → n ≤ length entry → Gives wl il s st entry exit n p (andThen d (λ l end. ok (put a l) end))
+  pub one-more : (exit : List ℕ) (after : State) (q p : Parsed) (d : Read L) → (r .state .token .kind ≡ endKind → ⊥) → Moved s (r .state) after → Gives wl il s after mid exit (r .used) q d → Counted q (r .items) p → n ≤ length entry → Gives wl il s st entry exit n p (andThen d (λ l end. ok (put a l) end))
   unfolding andThen
   one-more exit after q p (fault f b) z m h e k =
       let used : r .used ≡ n + length (wa a) = g .used-is in
@@ -277,12 +277,13 @@ module _ {A L : Type 0} (over : ℕ) (wa : A → List ℕ) (wl : L → List ℕ)
       let used′ : q .used ≡ r .used + length (wl l) = h .used-is in
       let used″ : p .used ≡ q .used = e .used-is in
       let items : q .items ≡ il l = h .items-is in
-      let items′ : p .items ≡ q .items + 1 = e .items-is (h .number-is) in
+      let items′ : p .items ≡ q .items + r .items = e .items-is (h .number-is) in
+      let items″ : r .items ≡ ia a = g .items-is in
       let fits : length (wa a) + nodeWords * left s (r .state) + over ≤ nodeWords * left s st + 1 = g .room in
       let fits′ : length (wl l) + nodeWords * left s (q .state) + 1 ≤ nodeWords * left s after + 1 = h .room in
       let both : length (wa a ++ wl l) ≡ length (wa a) + length (wl l) = length-append (wa a) (wl l) in
       let ends : take ((n + length (wa a)) + length (wl l)) exit ≡ take (n + length (wa a)) mid ++ wl l = subst (λ (u : ℕ). take (u + length (wl l)) exit ≡ take u mid ++ wl l) used (h .table-is) in
-      let result : Given s st entry exit n p (wa a ++ wl l) (suc (il l)) end = record {
+      let result : Given s st entry exit n p (wa a ++ wl l) (ia a + il l) end = record {
         number-is = e .number-is ∙ h .number-is;
         state-is = ap (cursorOf s exit) (e .state-is) ∙ h .state-is;
         items-is = omega arith;
@@ -305,23 +306,23 @@ module _ {A L : Type 0} (over : ℕ) (wa : A → List ℕ) (wl : L → List ℕ)
       let b : il (o .0) ≤ length (wl (o .0)) = few (o .0) in
       omega arith
 
-  pub one-last : (after : State) → (r .state .token .kind ≡ endKind → ⊥) → Moved s (r .state) after → Given s st entry mid n (record { number = 0; used = r .used; items = 1; state = after }) (wl (put a empty)) (il (put a empty)) (next s (cursorOf s mid (r .state)))
+  pub one-last : (after : State) → (r .state .token .kind ≡ endKind → ⊥) → Moved s (r .state) after → Given s st entry mid n (record { number = 0; used = r .used; items = r .items; state = after }) (wl (put a empty)) (il (put a empty)) (next s (cursorOf s mid (r .state)))
   one-last after z m =
       let less : nodeWords + nodeWords * left s after ≤ nodeWords * left s (r .state) = past-less after z m in
       let fits : length (wa a) + nodeWords * left s (r .state) + over ≤ nodeWords * left s st + 1 = g .room in
-      let result : Given s st entry mid n (record { number = 0; used = r .used; items = 1; state = after }) (wa a) 1 (cursorOf s mid after) = record {
+      let result : Given s st entry mid n (record { number = 0; used = r .used; items = r .items; state = after }) (wa a) (ia a) (cursorOf s mid after) = record {
         number-is = refl;
         state-is = refl;
-        items-is = refl;
+        items-is = g .items-is;
         used-is = g .used-is;
         table-is = g .table-is;
         standing = m .standing;
         held = held-of m (g .held);
         room = omega arith;
       } in
-      subst (λ (x : Cursor). Given s st entry mid n (record { number = 0; used = r .used; items = 1; state = after }) (wl (put a empty)) (il (put a empty)) x) (next-of mid m)
-      (subst⁻¹ (λ (w : List ℕ). Given s st entry mid n (record { number = 0; used = r .used; items = 1; state = after }) w (il (put a empty)) (cursorOf s mid after)) (words-put a empty ∙ ap (λ (w : List ℕ). wa a ++ w) words-empty ∙ append-nil (wa a))
-      (subst⁻¹ (λ (i : ℕ). Given s st entry mid n (record { number = 0; used = r .used; items = 1; state = after }) (wa a) i (cursorOf s mid after)) (items-put a empty ∙ ap suc items-empty) result))
+      subst (λ (x : Cursor). Given s st entry mid n (record { number = 0; used = r .used; items = r .items; state = after }) (wl (put a empty)) (il (put a empty)) x) (next-of mid m)
+      (subst⁻¹ (λ (w : List ℕ). Given s st entry mid n (record { number = 0; used = r .used; items = r .items; state = after }) w (il (put a empty)) (cursorOf s mid after)) (words-put a empty ∙ ap (λ (w : List ℕ). wa a ++ w) words-empty ∙ append-nil (wa a))
+      (subst⁻¹ (λ (i : ℕ). Given s st entry mid n (record { number = 0; used = r .used; items = r .items; state = after }) (wa a) i (cursorOf s mid after)) (items-put a empty ∙ ap (λ (i : ℕ). ia a + i) items-empty ∙ add-zero (ia a)) result))
 
   pub one-kept : n ≤ length entry → take n mid ≡ take n entry
   one-kept k = kept-before n n (length (wa a)) entry mid (wa a) (omega arith) k (g .table-is)
@@ -350,7 +351,7 @@ module _ (most : ℕ) (s : List ℕ) (k : ℕ) (st : Cursor) where
 module _ (most : ℕ) (s : List ℕ) (k : ℕ) (st : State) where
   pub arguments-full : (entry : List ℕ) (n : ℕ) (r : Parsed) → k ≡ 0 → Refused st (fullNumber (begins (startOf (st .token .kind))) (st .token .kind)) r → Gives termsWords arity s st entry entry n r (readArguments (λ x. readTerm most s x) s k (cursorOf s entry st))
   unfolding readArguments
-  arguments-full entry n r z g = subst⁻¹ (λ (j : ℕ). Gives termsWords arity s st entry entry n r (readArguments (λ x. readTerm most s x) s j (cursorOf s entry st))) z (list-full termsWords arity s st st entry n r (namesFrom s (met entry) 0 (st .count)) g)
+  arguments-full entry n r z g = subst⁻¹ (λ (j : ℕ). Gives termsWords arity s st entry entry n r (readArguments (λ x. readTerm most s x) s j (cursorOf s entry st))) z (list-full 1 termsWords arity s st st entry n r (cursorOf s entry st) refl g)
 
   module _ (entry mid : List ℕ) (n : ℕ) (r : Parsed) (ready : Ready s st entry n 0) (z : k ≡ 0 → ⊥) (g : Gives termWords one s st entry mid n r (readTerm most s (cursorOf s entry st))) where
     pub arguments-fault : (r .number ≡ 0 → ⊥) → Gives termsWords arity s st entry mid n r (readArguments (λ x. readTerm most s x) s k (cursorOf s entry st))
@@ -375,30 +376,34 @@ module _ (most : ℕ) (s : List ℕ) (k : ℕ) (st : State) where
       unfolding termWords
       words-cons t ts = refl
 
+      items-cons : (t : Term) (ts : Terms) → arity (cons t ts) ≡ 1 + arity ts
+      items-cons t ts = omega arith
+
       words-nil : termsWords nil ≡ []
       unfolding termWords
       words-nil = refl
 
       pub arguments-ready : (after : State) → r .state .token .kind ≡ commaKind → Moved s (r .state) after → length mid ≡ length entry → Ready s after mid (r .used) 0
-      arguments-ready after a m l = behind-ready 1 termWords termsWords arity cons nil words-cons (λ t ts. refl) words-nil refl s st entry mid n r (read .0) (read .2) 0 ready after (comma-some a) m l
+      arguments-ready after a m l = behind-ready 1 termWords one termsWords arity cons nil words-cons items-cons words-nil refl s st entry mid n r (read .0) (read .2) 0 ready after (comma-some a) m l
 
-      pub arguments-more : (exit : List ℕ) (after : State) (q p : Parsed) → r .state .token .kind ≡ commaKind → Moved s (r .state) after → Gives termsWords arity s after mid exit (r .used) q (readArguments (λ x. readTerm most s x) s (k - 1) (cursorOf s mid after)) → Counted q p → Gives termsWords arity s st entry exit n p (readArguments (λ x. readTerm most s x) s k (cursorOf s entry st))
+      pub arguments-more : (exit : List ℕ) (after : State) (q p : Parsed) → r .state .token .kind ≡ commaKind → Moved s (r .state) after → Gives termsWords arity s after mid exit (r .used) q (readArguments (λ x. readTerm most s x) s (k - 1) (cursorOf s mid after)) → Counted q 1 p → Gives termsWords arity s st entry exit n p (readArguments (λ x. readTerm most s x) s k (cursorOf s entry st))
       unfolding argumentsAfter
       arguments-more exit after q p a m h ep =
           subst⁻¹ (Gives termsWords arity s st entry exit n p) (behind more (after-more closeKind (r .state .token .kind) a) ∙ ap (λ (x : Cursor). andThen (readArguments (λ y. readTerm most s y) s (k - 1) x) (λ ts end. ok (cons (read .0) ts) end)) (sym (next-of mid m)))
-          (one-more 1 termWords termsWords arity cons nil words-cons (λ t ts. refl) words-nil refl s st entry mid n r (read .0) (read .2) exit after q p (readArguments (λ x. readTerm most s x) s (k - 1) (cursorOf s mid after)) (comma-some a) m h ep n-in)
+          (one-more 1 termWords one termsWords arity cons nil words-cons items-cons words-nil refl s st entry mid n r (read .0) (read .2) exit after q p (readArguments (λ x. readTerm most s x) s (k - 1) (cursorOf s mid after)) (comma-some a) m h (subst⁻¹ (λ (i : ℕ). Counted q i p) (read .2 .items-is) ep) n-in)
 
       pub arguments-few : (exit : List ℕ) (after : State) (q : Parsed) → Moved s (r .state) after → Gives termsWords arity s after mid exit (r .used) q (readArguments (λ x. readTerm most s x) s (k - 1) (cursorOf s mid after)) → q .number ≡ 0 → q .items < 2 ^ 31
-      arguments-few exit after q m h zero-is = few-items 1 termWords termsWords arity cons nil words-cons (λ t ts. refl) words-nil refl s st entry mid n r (read .0) (read .2) arity-words exit after q (readArguments (λ x. readTerm most s x) s (k - 1) (cursorOf s mid after)) (r .used) (m .standing) h zero-is
+      arguments-few exit after q m h zero-is = few-items 1 termWords one termsWords arity cons nil words-cons items-cons words-nil refl s st entry mid n r (read .0) (read .2) arity-words exit after q (readArguments (λ x. readTerm most s x) s (k - 1) (cursorOf s mid after)) (r .used) (m .standing) h zero-is
 
       pub arguments-last : (after : State) → (r .state .token .kind ≡ commaKind → ⊥) → r .state .token .kind ≡ closeKind → Moved s (r .state) after → Gives termsWords arity s st entry mid n (record { number = 0; used = r .used; items = 1; state = after }) (readArguments (λ x. readTerm most s x) s k (cursorOf s entry st))
       unfolding argumentsAfter
       arguments-last after f a m =
           subst⁻¹ (Gives termsWords arity s st entry mid n (record { number = 0; used = r .used; items = 1; state = after })) (behind last (after-last closeKind (r .state .token .kind) f a))
-          (one-last 1 termWords termsWords arity cons nil words-cons (λ t ts. refl) words-nil refl s st entry mid n r (read .0) (read .2) after (λ q. let e8 : r .state .token .kind ≡ closeKind = a in omega arith) m)
+          (subst (λ (i : ℕ). Given s st entry mid n (record { number = 0; used = r .used; items = i; state = after }) (termsWords (cons (read .0) nil)) (arity (cons (read .0) nil)) (next s (cursorOf s mid (r .state)))) (read .2 .items-is)
+          (one-last 1 termWords one termsWords arity cons nil words-cons items-cons words-nil refl s st entry mid n r (read .0) (read .2) after (λ q. let e8 : r .state .token .kind ≡ closeKind = a in omega arith) m))
 
       pub arguments-wrong : (q : Parsed) → (r .state .token .kind ≡ commaKind → ⊥) → (r .state .token .kind ≡ closeKind → ⊥) → Refused (r .state) (wrongNumber (r .state .token .kind)) q → Gives termsWords arity s st entry mid n q (readArguments (λ x. readTerm most s x) s k (cursorOf s entry st))
       unfolding argumentsAfter
       arguments-wrong q f a h =
           subst⁻¹ (Gives termsWords arity s st entry mid n q) (behind neither (after-neither closeKind (r .state .token .kind) f a))
-          (refused-wrong termsWords arity s st (r .state) entry mid n q (namesFrom s (met mid) 0 (r .state .count)) h (one-kept 1 termWords termsWords arity cons nil words-cons (λ t ts. refl) words-nil refl s st entry mid n r (read .0) (read .2) n-in))
+          (refused-wrong termsWords arity s st (r .state) entry mid n q (cursorOf s mid (r .state)) refl h (one-kept 1 termWords one termsWords arity cons nil words-cons items-cons words-nil refl s st entry mid n r (read .0) (read .2) n-in))

@@ -15,15 +15,15 @@ use Rattle.reading.specs.declared.Parsed.{Parsed}
 
 -- The reader that a state and a node table stand for.
 abbrev pub cursorOf : List ℕ → List ℕ → State → Cursor
-cursorOf s table st = record { token = st .token; names = namesFrom s (met table) 0 (st .count) }
+cursorOf s table st = record { token = st .token; names = namesFrom s (met table) 0 (st .count); literals = st .literals }
 
 -- The state past the token at hand.
 abbrev pub onward : List ℕ → State → State
-onward s st = record { token = tokenAt s (st .token .at + st .token .len); count = st .count }
+onward s st = record { token = tokenAt s (st .token .at + st .token .len); count = st .count; literals = st .literals }
 
--- The state with no variable met.
+-- The state with no variable and no literal met.
 abbrev pub fresh : State → State
-fresh st = record { token = st .token; count = 0 }
+fresh st = record { token = st .token; count = 0; literals = 0 }
 
 -- A reader stands within its text: the token at hand is inside, has a byte unless it is the end, and is short if it is a variable.
 pub record Standing (s : List ℕ) (st : State) : Type 0 where
@@ -109,9 +109,9 @@ pub record Refused (st : State) (number : ℕ) (r : Parsed) : Type 0 where
 abbrev pub fullNumber : Bool → ℕ → ℕ
 fullNumber more k = cond more 6 (wrongNumber k)
 
--- what was read behind a comma, counted with the one thing before it
-pub record Counted (q p : Parsed) : Type 0 where
+-- what was read, counted with so many things more
+pub record Counted (q : Parsed) (by : ℕ) (p : Parsed) : Type 0 where
   pub number-is : p .number ≡ q .number
   pub used-is : p .used ≡ q .used
   pub state-is : p .state ≡ q .state
-  pub items-is : q .number ≡ 0 → p .items ≡ q .items + 1
+  pub items-is : q .number ≡ 0 → p .items ≡ q .items + by

@@ -1,2 +1,1 @@
 pub mod Gives
-pub mod Atoms

@@ -26,7 +26,12 @@ pub fn next(s: &[u8], st: State) -> State
     let p = t.at + t.len;
     let token = lexer::token_at(s, p);
     let count = st.count;
-    State { token, count }
+    let literals = st.literals;
+    State {
+        token,
+        count,
+        literals,
+    }
 }
 
 // A fault of the given number at the token at hand.

@@ -29,8 +29,7 @@ ghost use Rattle.syntax.specs.Limits.{sheetBytes, variables};
 ghost use Rattle.syntax.specs.Spans.{packed, met, Held};
 ghost use Rattle.syntax.specs.Terms.{arity, termOf};
 ghost use Rattle.syntax.specs.Tokens.{spelling, nameKind, variableKind, numeralKind, endKind};
-ghost use Rattle.syntax.specs.Reading.{isAnonymous, numeralAt, newVariable, readVariable, readTerm, readList, readAtomWith, readArguments, startOf};
-ghost use Rattle.reading.specs.Atoms.{readAtomAt};
+ghost use Rattle.syntax.specs.Reading.{isAnonymous, numeralAt, newVariable, readVariable, readTerm, readList, readAtom, readArguments, startOf};
 ghost use Rattle.syntax.specs.Words.{nodeWords, termWords, termsWords, atomWords, functor};
 ghost use Rattle.reading.specs.Gives.{cursorOf, found, Standing, Ready, Given, Gives, FoundAs, MetAs, Refused, Counted, fullNumber, one};
 
@@ -73,7 +72,7 @@ fn known_number(s: &[u8], st: State, table: &[u32]) -> usize
 fn with_new(st: State, table: &mut [u32]) -> State
     requires { ⌜ (st .token .at ≤ sheetBytes) × (st .token .len ≤ sheetBytes) ⌝ }
     requires { ⌜ (st .count < variables) × ((variables ≤ length (now table)) × (length (now table) < 2 ^ 31)) ⌝ }
-    ensures is { λ r. ⌜ r ≡ record { token = st .token; count = st .count + 1 } ⌝ }
+    ensures is { λ r. ⌜ r ≡ record { token = st .token; count = st .count + 1; literals = st .literals } ⌝ }
     ensures stored { λ r. ⌜ now (table .exit) ≡ set (now (table .entry)) (length (now (table .entry)) - variables + st .count)
         (packed (st .token .at) (st .token .len)) ⌝ }
 {
@@ -83,7 +82,12 @@ fn with_new(st: State, table: &mut [u32]) -> State
     let p = from + st.count;
     table[p] = w;
     let count = st.count + 1;
-    State { token, count }
+    let literals = st.literals;
+    State {
+        token,
+        count,
+        literals,
+    }
 }
 
 // A node without arguments for the token at hand, at a byte of it, and the reader past it.
@@ -193,7 +197,7 @@ pub fn read_atom(s: &[u8], left: usize, st: State, table: &mut [u32], n: usize) 
     requires { ⌜ Ready (now s) st (now table) n 0 ⌝ }
     requires { ⌜ st .token .kind ≡ nameKind ⌝ }
     ensures { λ r. ⌜ Gives atomWords one (now (s .entry)) st (now (table .entry)) (now (table .exit)) n r
-        (readAtomAt left (now (s .entry)) (cursorOf (now (s .entry)) (now (table .entry)) st)) ⌝ }
+        (readAtom left (now (s .entry)) (cursorOf (now (s .entry)) (now (table .entry)) st)) ⌝ }
 {
     let t = st.token;
     let len = t.len;
@@ -282,7 +286,7 @@ fn read_arguments(s: &[u8], left: usize, k: usize, st: State, table: &mut [u32],
         let behind = next(s, after);
         let fewer = k - 1;
         let more = read_arguments(s, left, fewer, behind, table, used);
-        return counted(more);
+        return counted(more, 1);
     }
     if kind == CLOSE {
         let past = next(s, after);
@@ -296,16 +300,16 @@ fn read_arguments(s: &[u8], left: usize, k: usize, st: State, table: &mut [u32],
     wrong(after)
 }
 
-// What was read behind a comma, counted with the one thing before it.
-pub fn counted(more: Parsed) -> Parsed
-    requires { ⌜ (more .number ≡ 0 → more .items < 2 ^ 31) ⌝ }
-    ensures { λ r. ⌜ Counted more r ⌝ }
+// What was read behind a comma, counted with the things before it.
+pub fn counted(more: Parsed, by: usize) -> Parsed
+    requires { ⌜ (more .number ≡ 0 → more .items < 2 ^ 31) × (by < 2 ^ 31) ⌝ }
+    ensures { λ r. ⌜ Counted more by r ⌝ }
 {
     if more.number != 0 {
         return more;
     }
     let used = more.used;
-    let items = more.items + 1;
+    let items = more.items + by;
     let state = more.state;
     Parsed {
         number: 0,

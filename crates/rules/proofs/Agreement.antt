@@ -71,8 +71,8 @@ sheet-refused stored sh r e w m = never-both (sheetFault stored sh) r e (sheet-a
 goal-accepted : (sh : Sheet) (g : Goal) → WellModedGoal sh g → goalFault sh g ≡ none
 unfolding goalFault undeclaredInGoal walkFault
 goal-accepted sh g m =
-    both-none (undeclaredInGoal sh g) (walkFault (bodyFault (sh .declarations) 0 1 nothing (g .body))) (body-declared (m .1) 0 1)
-    (rw (body-holds (m .1) nothing-wide 0 1))
+    both-none (undeclaredInGoal sh g) (walkFault (bodyFault (sh .declarations) 0 1 nothing (g .body))) (body-declared (g .body) (m .1) 0 1)
+    (rw (body-holds (g .body) (m .1) nothing-wide 0 1))
 
 goal-derived : (sh : Sheet) (g : Goal) → goalFault sh g ≡ none → WellModedGoal sh g
 unfolding goalFault undeclaredInGoal walkFault

@@ -1,4 +1,4 @@
--- Computed cases: document 01's starred cases of checking, its traps, the order of the refusals, and document 02's (ii), (iii), (x) and (xiv).
+-- Computed cases: document 01's starred cases of checking, its traps, the order of the refusals, and document 02's (i), (ii), (iii), (x) and (xiv).
 use Prim.Native.Nat.{ℕ}
 use Prim.Native.String.{String}
 use mathlib.Core.Path.{_≡_, refl}
@@ -7,9 +7,9 @@ use mathlib.Core.List.{List, [], _∷_, map}
 use Rattle.syntax.specs.Quote.{bytes}
 use Rattle.syntax.specs.Bytes.{classOf, inWord, inNumeral}
 use Rattle.syntax.specs.Tokens.{skipped, run, word, dashFirst, tokenOf, tokenFrom, tokenPlace, tokenAt}
-use Rattle.syntax.specs.Terms.{sameBytes, literalOf}
+use Rattle.syntax.specs.Terms.{sameBytes, literalOf, literalsIn}
 use Rattle.syntax.specs.Numerals.{trimmed}
-use Rattle.syntax.specs.Reading.{andThen, standing, next, wrongNumber, wrong, beyond, full, numberOf, isAnonymous, withNew, newVariable, oldVariable, readVariable, atomWith, readAtomWith, termWith, readTermWith, argumentsAfter, readArguments, readList, readTerm, readAtom, readRight, afterAtom, afterTerm, literalWith, readLiteral, bodyAfter, readBody, clauseAfter, readClause, marksAfter, marksWith, readMarks, declarationEnd, declarationFrom, isMode, afterNeck, readDeclaration, itemWith, readItems, atStart, readSheet, goalEnd, readGoal, declares, repeats, firstRepeat}
+use Rattle.syntax.specs.Reading.{andThen, standing, next, wrongNumber, wrong, beyond, full, numberOf, isAnonymous, withNew, newVariable, oldVariable, readVariable, atomWith, readAtomWith, termWith, readTermWith, argumentsAfter, readArguments, readList, readTerm, readAtom, readRight, afterAtom, afterTerm, literalWith, plainWith, readPlain, bodyAfter, readBodyWith, readSides, readLiteral, readTo, readBody, clauseAfter, readClause, marksAfter, marksWith, readMarks, declarationEnd, declarationFrom, isMode, afterNeck, readDeclaration, itemWith, readItems, atStart, readSheet, goalEnd, readGoal, declares, repeats, firstRepeat}
 use Rattle.syntax.specs.Reading.{marksOf as marksBehind}
 use Rattle.syntax.specs.Refusals.{five, numbersOf}
 use Rattle.syntax.specs.Verdicts.{withoutRepeats, sheetFrom, goalFrom, sheetOf, goalOutcome, sheetVerdict}
@@ -18,7 +18,7 @@ use Rattle.syntax.specs.declared.Verdict.{Verdict}
 use Rattle.syntax.specs.declared.Verdict.the-variants.{Accepted, Refused}
 use Rattle.syntax.specs.declared.Text.{Text}
 use Rattle.syntax.specs.declared.Text.the-variants.{Sheet, Goal}
-use Rattle.rules.specs.Modes.{nothing, everything, isGround, openUnless, openByte, groundTerm, groundBoth, equateVariable, equateSame, equate, further, goOver, passes, settle, marksOf, orNoMarks, marksFor, sameMark, ifMarked, firstOpen, groundIf, groundMarked, undeclared, undeclaredAtom, undeclaredLiteral, undeclaredBody, undeclaredClause, undeclaredClauses, undeclaredInSheet, undeclaredInGoal, openInput, openOutput, literalFault, afterLiteral, walkOn, bodyFault, startKnown, headFault, clauseFault, clausesFault, sheetFault, walkFault, goalFault}
+use Rattle.rules.specs.Modes.{nothing, everything, isGround, openUnless, openByte, groundTerm, groundBoth, equateVariable, equateSame, equate, further, goOver, passes, settle, marksOf, orNoMarks, marksFor, sameMark, ifMarked, firstOpen, groundIf, groundMarked, undeclared, undeclaredAtom, undeclaredLiteral, undeclaredBody, undeclaredClause, undeclaredClauses, undeclaredInSheet, undeclaredInGoal, openInput, openOutput, unlessFault, walkOn, inBoth, callWalk, literalWalk, bodyFault, startKnown, headFault, clauseFault, clausesFault, sheetFault, walkFault, goalFault}
 use Rattle.rules.specs.Written.{isWritten, firstUnwritten, unwritten}
 use Rattle.rules.specs.Checking.{faultless, checkedFrom, checkedWith, verdictWith, checkVerdict, checkedGoalFrom, checkedGoal, goalAnswer, checkGoalFrom, checkGoalVerdict, faultName}
 
@@ -132,6 +132,20 @@ cases =
     ∷ stored ":-mode p(+). :-mode q. p(X) :- p(Y)." (refused Sheet (five 9 33 1 1 1) (bytes "p"))
     ∷ stored ":-mode p. :-mode q. p." (accepted 2 1)
     ∷ goal ":-mode p." "p." (refused Sheet (five 16 7 0 0 0) [])
+    -- document 02, (i): known ground after a bracket is what both sides leave so, each from what was before it; numbers run through both sides
+    ∷ sheet ":-mode p(-). p(X) :- (X = a; true)." (refused Sheet (five 10 15 1 0 1) (bytes "p"))
+    ∷ sheet ":-mode p(-). p(X) :- (true; X = a)." (refused Sheet (five 10 15 1 0 1) (bytes "p"))
+    ∷ sheet ":-mode p(-). p(X) :- (X = a; fail)." (accepted 1 1)
+    ∷ sheet ":-mode p(-). p(X) :- (X = a; X = b)." (accepted 1 1)
+    ∷ sheet ":-mode p(-). p(X) :- (Y = X, Y = a; Y = a), X = Y." (accepted 1 1)
+    ∷ sheet ":-mode p(+). p(X) :- (Y = a; p(Y))." (refused Sheet (five 9 31 1 2 1) (bytes "p"))
+    ∷ sheet ":-mode p(+). p(X) :- (true; p(Y)), p(Z)." (refused Sheet (five 9 30 1 2 1) (bytes "p"))
+    ∷ sheet ":-mode p(+). p(X) :- ((true; true), true; p(X)), p(Z)." (refused Sheet (five 9 51 1 5 1) (bytes "p"))
+    ∷ sheet ":-mode p. p :- (true; q), r." (refused Sheet (five 8 0 1 2 0) (bytes "q"))
+    ∷ sheet "p :- (true)." (refused Sheet (five 5 10 0 0 0) [])
+    ∷ sheet "(a;b):-c." (refused Sheet (five 5 0 0 0 0) [])
+    ∷ goal ":-mode p(+). p(a)." "(X = a; Y = b), p(X)." (refused Goal (five 9 18 0 3 1) (bytes "p"))
+    ∷ goal ":-mode p(+). p(a)." "(X = a; X = b), p(X)." (accepted 1 1)
     -- goals: the sheet first, then 2 to 6, 8 and 9
     ∷ goal ":- mode plus(+,+,-).\nplus(z,N,N).\nplus(s(M),N,s(P)) :- plus(M,N,P).\n" "plus(s(z),z,X)." (accepted 1 2)
     ∷ goal ":- mode plus(+,+,-). plus(z,z,z)." "X = a, plus(X,Y,Z)." (refused Goal (five 9 14 0 2 2) (bytes "plus"))
@@ -143,5 +157,5 @@ cases =
 
 -- each case gets the answer that it is told with
 as-told : map answered cases ≡ map told cases
-unfolding trimmed classOf inWord inNumeral skipped run word dashFirst tokenOf tokenFrom tokenPlace tokenAt sameBytes literalOf andThen standing next wrongNumber wrong beyond full numberOf isAnonymous withNew newVariable oldVariable readVariable atomWith readAtomWith termWith readTermWith argumentsAfter readArguments readList readTerm readAtom readRight afterAtom afterTerm literalWith readLiteral bodyAfter readBody clauseAfter readClause marksAfter marksWith readMarks marksBehind declarationEnd declarationFrom isMode afterNeck readDeclaration itemWith readItems atStart readSheet goalEnd readGoal declares repeats firstRepeat withoutRepeats sheetFrom goalFrom sheetOf goalOutcome sheetVerdict nothing everything isGround groundTerm groundBoth equateVariable equateSame equate further goOver passes settle marksOf orNoMarks marksFor sameMark openUnless openByte ifMarked firstOpen groundIf groundMarked undeclared undeclaredAtom undeclaredLiteral undeclaredBody undeclaredClause undeclaredClauses undeclaredInSheet undeclaredInGoal openInput openOutput literalFault afterLiteral walkOn bodyFault startKnown headFault clauseFault clausesFault sheetFault walkFault goalFault isWritten firstUnwritten unwritten faultless checkedFrom checkedWith verdictWith checkedGoalFrom checkedGoal goalAnswer checkGoalFrom checkGoalVerdict faultName
+unfolding literalsIn trimmed classOf inWord inNumeral skipped run word dashFirst tokenOf tokenFrom tokenPlace tokenAt sameBytes literalOf andThen standing next wrongNumber wrong beyond full numberOf isAnonymous withNew newVariable oldVariable readVariable atomWith readAtomWith termWith readTermWith argumentsAfter readArguments readList readTerm readAtom readRight afterAtom afterTerm literalWith plainWith readPlain bodyAfter readBodyWith readSides readLiteral readTo readBody clauseAfter readClause marksAfter marksWith readMarks marksBehind declarationEnd declarationFrom isMode afterNeck readDeclaration itemWith readItems atStart readSheet goalEnd readGoal declares repeats firstRepeat withoutRepeats sheetFrom goalFrom sheetOf goalOutcome sheetVerdict nothing everything isGround groundTerm groundBoth equateVariable equateSame equate further goOver passes settle marksOf orNoMarks marksFor sameMark openUnless openByte ifMarked firstOpen groundIf groundMarked undeclared undeclaredAtom undeclaredLiteral undeclaredBody undeclaredClause undeclaredClauses undeclaredInSheet undeclaredInGoal openInput openOutput unlessFault walkOn inBoth callWalk literalWalk bodyFault startKnown headFault clauseFault clausesFault sheetFault walkFault goalFault isWritten firstUnwritten unwritten faultless checkedFrom checkedWith verdictWith checkedGoalFrom checkedGoal goalAnswer checkGoalFrom checkGoalVerdict faultName
 as-told = refl

@@ -1,20 +1,20 @@
 -- Document 02's (ii) changes one place of the refusals 9 and 10 and nothing else: with that byte set to 0, verdicts are those of before.
 -- Assumes nothing.
-use Prim.Native.Nat.{ℕ, suc}
+use Prim.Native.Nat.{ℕ, suc, _+_}
 use mathlib.Core.Path.{_≡_, refl, sym, ap, _∙_}
 use mathlib.Core.Bool.{Bool, true, false, cond, _||_}
 use mathlib.Core.List.{List, [], _∷_}
 use mathlib.Core.Option.{Option, none, some}
 use lib.Dec.{leb, eqb}
 use lib.ListN.{length}
-use Rattle.syntax.specs.Terms.{Term, Atom, Literal, Body, call, equation, truth, falsity, done, also, Mark, input, output, Declaration, Clause, Sheet, Goal}
+use Rattle.syntax.specs.Terms.{Term, Atom, Literal, Body, call, equation, truth, falsity, either, done, also, literalsIn, literalsOf, Mark, input, output, Declaration, Clause, Sheet, Goal}
 use Rattle.syntax.specs.Limits.{sheetBytes, goalBytes}
 use Rattle.syntax.specs.Reading.{Read, fault, ok, readSheet, readGoal, firstRepeat}
 use Rattle.syntax.specs.Verdicts.{Outcome, refused, accepted, faultOf, withoutRepeats, sheetFrom, goalFrom, sheetOf, goalOutcome, sheetVerdict}
 use Rattle.syntax.specs.declared.Refusal.{Refusal}
 use Rattle.syntax.specs.declared.Refusal.the-variants.{TooLong, NoToken, Overlong, Misplaced, OverLimit, Unwritten}
 use Rattle.syntax.specs.declared.Verdict.{Verdict}
-use Rattle.rules.specs.Modes.{Known, nothing, openUnless, openByte, marksOf, marksFor, sameMark, listOf, ifMarked, OpenArgument, firstOpen, undeclared, undeclaredAtom, undeclaredLiteral, undeclaredBody, undeclaredClause, undeclaredClauses, undeclaredInSheet, undeclaredInGoal, openInput, openOutput, literalFault, afterLiteral, Walk, faulted, known, walkOn, bodyFault, startKnown, headFault, clauseFault, clausesFault, firstOf, sheetFault, walkFault, goalFault}
+use Rattle.rules.specs.Modes.{Known, nothing, openUnless, openByte, marksOf, marksFor, sameMark, listOf, ifMarked, OpenArgument, firstOpen, undeclared, undeclaredAtom, undeclaredLiteral, undeclaredBody, undeclaredClause, undeclaredClauses, undeclaredInSheet, undeclaredInGoal, groundMarked, openInput, openOutput, Walk, faulted, known, unlessFault, walkOn, inBoth, callWalk, literalWalk, bodyFault, startKnown, headFault, clauseFault, clausesFault, firstOf, sheetFault, walkFault, goalFault}
 use Rattle.rules.specs.Written.{isWritten, isExempt, firstUnwritten, unwritten}
 use Rattle.rules.specs.Checking.{faultless, checkedFrom, checkedWith, checkedSheet, verdictWith, checkVerdict, checkedGoalFrom, checkedGoal, goalAnswer, checkGoalFrom, checkGoalVerdict}
 use Rattle.rules.specs.Earlier as earlier
@@ -59,17 +59,21 @@ atom-same ds c l a = by (marksOf ds a)
     by none = unfold undeclared in refl
     by (some ms) = unfold undeclared in refl
 
-literal-same : (ds : List Declaration) (c l : ℕ) (lit : Literal) → faultWithout (undeclaredLiteral ds c l lit) ≡ undeclaredLiteral ds c l lit
-unfolding undeclaredLiteral
-literal-same ds c l (call a) = atom-same ds c l a
-literal-same ds c l (equation t u) = refl
-literal-same ds c l truth = refl
-literal-same ds c l falsity = refl
+mutual
+  unfolding undeclaredLiteral
 
-body-same : (ds : List Declaration) (c l : ℕ) (b : Body) → faultWithout (undeclaredBody ds c l b) ≡ undeclaredBody ds c l b
-unfolding undeclaredBody
-body-same ds c l done = refl
-body-same ds c l (also lit b) = first-of (undeclaredLiteral ds c l lit) (undeclaredBody ds c (suc l) b) _ _ (literal-same ds c l lit) (body-same ds c (suc l) b)
+  literal-same : (ds : List Declaration) (c l : ℕ) (lit : Literal) → faultWithout (undeclaredLiteral ds c l lit) ≡ undeclaredLiteral ds c l lit
+  literal-same ds c l (call a) = atom-same ds c l a
+  literal-same ds c l (equation t u) = refl
+  literal-same ds c l truth = refl
+  literal-same ds c l falsity = refl
+  literal-same ds c l (either y z) =
+      first-of (undeclaredBody ds c l y) (undeclaredBody ds c (literalsOf y + l) z) _ _ (body-same ds c l y) (body-same ds c (literalsOf y + l) z)
+
+  body-same : (ds : List Declaration) (c l : ℕ) (b : Body) → faultWithout (undeclaredBody ds c l b) ≡ undeclaredBody ds c l b
+  body-same ds c l done = refl
+  body-same ds c l (also lit b) =
+      first-of (undeclaredLiteral ds c l lit) (undeclaredBody ds c (literalsIn lit + l) b) _ _ (literal-same ds c l lit) (body-same ds c (literalsIn lit + l) b)
 
 clause-same : (ds : List Declaration) (c : ℕ) (cl : Clause) → faultWithout (undeclaredClause ds c cl) ≡ undeclaredClause ds c cl
 unfolding undeclaredClause
@@ -92,35 +96,49 @@ unfolding openOutput
 output-earlier c a none = refl
 output-earlier c a (some o) = refl
 
-literal-earlier : (ds : List Declaration) (c l : ℕ) (τ : Known) (lit : Literal) → faultWithout (literalFault ds c l τ lit) ≡ earlier.literalFault withoutBytes ds c l τ lit
-unfolding literalFault earlier.literalFault
-literal-earlier ds c l τ (call a) =
-    input-earlier c l a (firstOpen input τ (marksFor ds a) (listOf (a .args)) 1)
-    ∙ ap (openInput c l a) (first-earlier input τ (marksFor ds a) (listOf (a .args)) 1)
-literal-earlier ds c l τ (equation t u) = refl
-literal-earlier ds c l τ truth = refl
-literal-earlier ds c l τ falsity = refl
+unless-earlier : (o : Option Refusal) (σ : Known) → walkWithout (unlessFault o σ) ≡ unlessFault (faultWithout o) σ
+unfolding unlessFault
+unless-earlier none σ = refl
+unless-earlier (some r) σ = refl
 
-after-earlier : (ds : List Declaration) (lit : Literal) (τ : Known) → afterLiteral ds lit τ ≡ earlier.afterLiteral withoutBytes ds lit τ
-unfolding afterLiteral earlier.afterLiteral
-after-earlier ds (call a) τ = refl
-after-earlier ds (equation t u) τ = refl
-after-earlier ds truth τ = refl
-after-earlier ds falsity τ = refl
+call-earlier : (ds : List Declaration) (c l : ℕ) (τ : Known) (a : Atom) → walkWithout (callWalk ds c l τ a) ≡ earlier.callWalk withoutBytes ds c l τ a
+unfolding callWalk earlier.callWalk
+call-earlier ds c l τ a =
+    unless-earlier (openInput c l a (firstOpen input τ (marksFor ds a) (listOf (a .args)) 1)) σ
+    ∙ ap (λ (o : Option Refusal). unlessFault o σ)
+    (input-earlier c l a (firstOpen input τ (marksFor ds a) (listOf (a .args)) 1)
+    ∙ ap (openInput c l a) (first-earlier input τ (marksFor ds a) (listOf (a .args)) 1))
+  where
+    σ : Known
+    σ = groundMarked output (marksFor ds a) (listOf (a .args)) τ
 
-walk-on : (o p : Option Refusal) (rest more : Known → Walk) (σ : Known) → faultWithout o ≡ p → walkWithout (rest σ) ≡ more σ → walkWithout (walkOn o rest σ) ≡ walkOn p more σ
+walk-on : (w : Walk) {v : Walk} (rest more : Known → Walk) → walkWithout w ≡ v → ((σ : Known) → walkWithout (rest σ) ≡ more σ)
+    → walkWithout (walkOn w rest) ≡ walkOn v more
 unfolding walkOn
-walk-on none p rest more σ e h = h ∙ ap (λ (x : Option Refusal). walkOn x more σ) e
-walk-on (some r) p rest more σ e h = ap (λ (x : Option Refusal). walkOn x more σ) e
+walk-on (faulted r) rest more e h = ap (λ (x : Walk). walkOn x more) e
+walk-on (known σ) rest more e h = h σ ∙ ap (λ (x : Walk). walkOn x more) e
 
-body-earlier : (ds : List Declaration) (c l : ℕ) (τ : Known) (b : Body) → walkWithout (bodyFault ds c l τ b) ≡ earlier.bodyFault withoutBytes ds c l τ b
-unfolding bodyFault earlier.bodyFault
-body-earlier ds c l τ done = refl
-body-earlier ds c l τ (also lit b) =
-    walk-on (literalFault ds c l τ lit) (earlier.literalFault withoutBytes ds c l τ lit)
-    (λ σ. bodyFault ds c (suc l) σ b) (λ σ. earlier.bodyFault withoutBytes ds c (suc l) σ b) (afterLiteral ds lit τ)
-    (literal-earlier ds c l τ lit) (body-earlier ds c (suc l) (afterLiteral ds lit τ) b)
-    ∙ ap (walkOn (earlier.literalFault withoutBytes ds c l τ lit) (λ σ. earlier.bodyFault withoutBytes ds c (suc l) σ b)) (after-earlier ds lit τ)
+mutual
+  unfolding literalWalk earlier.literalWalk
+
+  literal-earlier : (ds : List Declaration) (c l : ℕ) (τ : Known) (lit : Literal)
+      → walkWithout (literalWalk ds c l τ lit) ≡ earlier.literalWalk withoutBytes ds c l τ lit
+  literal-earlier ds c l τ (call a) = call-earlier ds c l τ a
+  literal-earlier ds c l τ (equation t u) = refl
+  literal-earlier ds c l τ truth = refl
+  literal-earlier ds c l τ falsity = refl
+  literal-earlier ds c l τ (either y z) =
+      walk-on (bodyFault ds c l τ y) (λ σ. walkOn (bodyFault ds c (literalsOf y + l) τ z) (λ ρ. known (inBoth σ ρ)))
+      (λ σ. walkOn (earlier.bodyFault withoutBytes ds c (literalsOf y + l) τ z) (λ ρ. known (inBoth σ ρ)))
+      (body-earlier ds c l τ y)
+      (λ σ. walk-on (bodyFault ds c (literalsOf y + l) τ z) (λ ρ. known (inBoth σ ρ)) (λ ρ. known (inBoth σ ρ))
+      (body-earlier ds c (literalsOf y + l) τ z) (λ ρ. refl))
+
+  body-earlier : (ds : List Declaration) (c l : ℕ) (τ : Known) (b : Body) → walkWithout (bodyFault ds c l τ b) ≡ earlier.bodyFault withoutBytes ds c l τ b
+  body-earlier ds c l τ done = refl
+  body-earlier ds c l τ (also lit b) =
+      walk-on (literalWalk ds c l τ lit) (λ σ. bodyFault ds c (literalsIn lit + l) σ b) (λ σ. earlier.bodyFault withoutBytes ds c (literalsIn lit + l) σ b)
+      (literal-earlier ds c l τ lit) (λ σ. body-earlier ds c (literalsIn lit + l) σ b)
 
 head-earlier : (ds : List Declaration) (c : ℕ) (h : Atom) (w : Walk) → faultWithout (headFault ds c h w) ≡ earlier.headFault withoutBytes ds c h (walkWithout w)
 unfolding headFault earlier.headFault

@@ -1,14 +1,14 @@
 -- Document 02's (xiv): what was accepted with the single pass is accepted still; where 9 or 10 was the answer, it is accepted now, or refused at the
 -- same place or a later one; no other refusal moves. The walk along a body is monotone in what is known ground, and in the effect of equations.
 -- Assumes nothing.
-use Prim.Native.Nat.{ℕ, zero, suc, _≤_, _<_}
+use Prim.Native.Nat.{ℕ, zero, suc, _+_, _≤_, _<_}
 use mathlib.Core.Path.{_≡_, refl, sym, subst, _∙_}
-use mathlib.Core.Bool.{Bool, true, false, _||_, or-true, false≢true}
+use mathlib.Core.Bool.{Bool, true, false, _&&_, _||_, or-true, false≢true}
 use mathlib.Core.List.{List, [], _∷_}
 use mathlib.Core.Option.{Option, none, some}
 use native.Mathlib.Omega.{arith}
 use lib.ListN.{length, set, length-set}
-use Rattle.syntax.specs.Terms.{Term, Terms, variable, compound, nil, cons, arity, Atom, Literal, Body, call, equation, truth, falsity, done, also, Mark, input, output, Declaration, Clause, Sheet, Goal, samePredicate}
+use Rattle.syntax.specs.Terms.{Term, Terms, variable, compound, nil, cons, arity, Atom, Literal, Body, call, equation, truth, falsity, either, done, also, literalsIn, literalsOf, Mark, input, output, Declaration, Clause, Sheet, Goal, samePredicate}
 use Rattle.syntax.specs.Limits.{variables}
 use Rattle.syntax.specs.Refusals.{numbersOf}
 use Rattle.syntax.specs.Verdicts.{Outcome, refused, accepted, sheetOf, goalOutcome, sheetVerdict}
@@ -18,7 +18,7 @@ use Rattle.syntax.specs.declared.Refusal.{Refusal}
 use Rattle.syntax.specs.declared.Refusal.the-variants.{OpenInput, OpenOutput}
 use Rattle.syntax.specs.declared.Verdict.{Verdict}
 use Rattle.syntax.specs.declared.Verdict.the-variants.{Accepted, Refused}
-use Rattle.rules.specs.Modes.{Known, knows, nothing, everything, isGround, openByte, groundTerm, groundTerms, groundBoth, equateVariable, equateSame, equate, equateAll, settle, marksFor, sameMark, listOf, ifMarked, OpenArgument, firstOpen, groundIf, groundMarked, undeclaredInSheet, undeclaredInGoal, openInput, openOutput, literalFault, afterLiteral, Walk, faulted, known, walkOn, bodyFault, startKnown, headFault, clauseFault, clausesFault, firstOf, sheetFault, walkFault, goalFault}
+use Rattle.rules.specs.Modes.{Known, knows, nothing, everything, isGround, openByte, groundTerm, groundTerms, groundBoth, equateVariable, equateSame, equate, equateAll, settle, marksFor, sameMark, listOf, ifMarked, OpenArgument, firstOpen, groundIf, groundMarked, undeclaredInSheet, undeclaredInGoal, openInput, openOutput, Walk, faulted, known, unlessFault, walkOn, inBoth, callWalk, literalWalk, bodyFault, startKnown, headFault, clauseFault, clausesFault, firstOf, sheetFault, walkFault, goalFault}
 use Rattle.rules.specs.Written.{unwritten}
 use Rattle.rules.specs.Checking.{faultless, checkedFrom, checkedWith, verdictWith, checkVerdict, checkedGoalFrom, checkedGoal, goalAnswer, checkGoalFrom, checkGoalVerdict}
 use Rattle.rules.specs.Earlier as earlier
@@ -27,7 +27,7 @@ use Rattle.rules.proofs.Terms.{isNone, ground-none, ground-grows}
 use Rattle.rules.proofs.Growth.{Grown, grown-on, grown-everything, both-grown, equate-grown}
 use Rattle.rules.proofs.Growth.{stays as unchanged}
 use Rattle.rules.proofs.Passes.{settle-grown, settle-on}
-use Rattle.rules.proofs.Bodies.{nothing-wide, start-wide}
+use Rattle.rules.proofs.Bodies.{both-wide, both-knows, both-true, nothing-wide, start-wide}
 
 -- ---- monotone in what is known ground
 
@@ -121,12 +121,26 @@ settle-below t u τ σ h =
     subst (λ (ρ : Known). Grown (equate t u σ) ρ) (settle-on t u σ (h .grown .wide)) (settle-grown t u (equate t u σ) w) in
     below-on (equate-below t u τ σ h) g
 
-after-below : (ds : List Declaration) (lit : Literal) (τ σ : Known) → Below τ σ → Below (earlier.afterLiteral singlePass ds lit τ) (afterLiteral ds lit σ)
-unfolding earlier.afterLiteral afterLiteral
-after-below ds (call a) τ σ h = marked-below output (marksFor ds a) (listOf (a .args)) τ σ h
-after-below ds (equation t u) τ σ h = settle-below t u τ σ h
-after-below ds truth τ σ h = h
-after-below ds falsity τ σ h = below-same (grown-everything {τ = τ} (h .wide) .wide)
+and-first : (a b : Bool) → (a && b) ≡ true → a ≡ true
+and-first true b e = refl
+and-first false b e = e
+
+and-second : (a b : Bool) → (a && b) ≡ true → b ≡ true
+and-second true b e = e
+and-second false b e = absurd (false≢true e)
+
+-- after a bracket: what both sides leave
+both-sides-below : {τ σ π ρ : Known} → Below τ σ → Below π ρ → Below (inBoth τ π) (inBoth σ ρ)
+both-sides-below {τ} {σ} {π} {ρ} h k =
+    record {
+      wide = both-wide τ π (h .wide ∙ sym (k .wide)) ∙ h .wide;
+      grown = record {
+        wide = both-wide σ ρ (h .grown .wide ∙ sym (k .grown .wide)) ∙ h .grown .wide;
+        keeps = λ i e. both-knows σ ρ i ∙ both-true (knows σ i) (knows ρ i)
+            (h .grown .keeps i (and-first (knows τ i) (knows π i) (sym (both-knows τ π i) ∙ e)))
+            (k .grown .keeps i (and-second (knows τ i) (knows π i) (sym (both-knows τ π i) ∙ e)));
+      };
+    }
 
 -- ---- the first open argument
 
@@ -197,98 +211,143 @@ module _ {P Q R : Refusal → Type 0} (before : (r q : Refusal) → P r → Q q 
 
 -- ---- 9 along a body
 
--- 9, in clause c, at literal l or behind it
-record Nine (c l : ℕ) (r : Refusal) : Type 0 where
+-- 9, in clause c, at a literal from l on and before m
+record Nine (c l m : ℕ) (r : Refusal) : Type 0 where
   number : numbersOf r .number ≡ 9
   clause : numbersOf r .clause ≡ c
-  literal : l ≤ numbersOf r .literal
+  from : l ≤ numbersOf r .literal
+  before : numbersOf r .literal < m
 
-nine : (c l : ℕ) (a : Atom) (o : OpenArgument) → Nine c l (OpenInput (o .byte) c l (o .argument) (a .at) (length (a .name)))
-nine c l a o = record { number = refl; clause = refl; literal = omega arith }
+nine : {c l m : ℕ} (a : Atom) (o : OpenArgument) → l < m → Nine c l m (OpenInput (o .byte) c l (o .argument) (a .at) (length (a .name)))
+nine a o h = record { number = refl; clause = refl; from = omega arith; before = h }
 
-nine-from : {c l : ℕ} (r : Refusal) → Nine c (suc l) r → Nine c l r
-nine-from r h = record { number = h .number; clause = h .clause; literal = omega arith }
-
-data LiteralMoved (c l : ℕ) : Option Refusal → Option Refusal → Type 0 where
-  fine : LiteralMoved c l none none
-  gone : (a : Atom) (o : OpenArgument) → LiteralMoved c l (openInput c l a (some o)) none
-  moved : (a : Atom) (o p : OpenArgument) → o .argument ≤ p .argument → LiteralMoved c l (openInput c l a (some o)) (openInput c l a (some p))
-
-literal-moved : (ds : List Declaration) (c l : ℕ) (τ σ : Known) → Below τ σ → (lit : Literal) → LiteralMoved c l (earlier.literalFault singlePass ds c l τ lit) (literalFault ds c l σ lit)
-unfolding earlier.literalFault literalFault
-literal-moved ds c l τ σ h (call a) = by (first-moved input τ σ h (marksFor ds a) (listOf (a .args)) 1)
-  where
-    by : {x y : Option OpenArgument} → OpenMoved x y → LiteralMoved c l (openInput c l a x) (openInput c l a y)
-    by closed = unfold openInput in fine
-    by (gone {o = o}) = unfold openInput in (gone a o)
-    by (further {o = o} {p = p} k) = moved a o p k
-literal-moved ds c l τ σ h (equation t u) = fine
-literal-moved ds c l τ σ h truth = fine
-literal-moved ds c l τ σ h falsity = fine
+nine-wider : {c : ℕ} (l m l1 m1 : ℕ) → l1 ≤ l → m ≤ m1 → (r : Refusal) → Nine c l m r → Nine c l1 m1 r
+nine-wider l m l1 m1 p q r h = record { number = h .number; clause = h .clause; from = omega (arith, p, h .from); before = omega (arith, q, h .before) }
 
 abbrev IfFaulted : (Refusal → Type 0) → Walk → Type 0
 IfFaulted P (faulted r) = P r
 IfFaulted P (known σ) = Unit {0}
 
-literal-nine : (ds : List Declaration) (c l : ℕ) (σ : Known) (lit : Literal) → IfSome (Nine c l) (literalFault ds c l σ lit)
-unfolding literalFault openInput
-literal-nine ds c l σ (call a) = by (firstOpen input σ (marksFor ds a) (listOf (a .args)) 1)
-  where
-    by : (o : Option OpenArgument) → IfSome (Nine c l) (openInput c l a o)
-    by none = tt
-    by (some o) = nine c l a o
-literal-nine ds c l σ (equation t u) = tt
-literal-nine ds c l σ truth = tt
-literal-nine ds c l σ falsity = tt
+faulted-wider : (c l m l1 m1 : ℕ) → l1 ≤ l → m ≤ m1 → (w : Walk) → IfFaulted (Nine c l m) w → IfFaulted (Nine c l1 m1) w
+faulted-wider c l m l1 m1 p q (faulted r) h = nine-wider l m l1 m1 p q r h
+faulted-wider c l m l1 m1 p q (known σ) h = tt
 
-from-suc : (c l : ℕ) (w : Walk) → IfFaulted (Nine c (suc l)) w → IfFaulted (Nine c l) w
-from-suc c l (faulted r) h = nine-from r h
-from-suc c l (known σ) h = tt
-
-on-nine : (c l : ℕ) (o : Option Refusal) (rest : Known → Walk) (σ : Known) → IfSome (Nine c l) o → IfFaulted (Nine c (suc l)) (rest σ) → IfFaulted (Nine c l) (walkOn o rest σ)
+on-nine : (c l m k : ℕ) → l ≤ m → m ≤ k → (w : Walk) (rest : Known → Walk) → IfFaulted (Nine c l m) w
+    → ((σ : Known) → IfFaulted (Nine c m k) (rest σ)) → IfFaulted (Nine c l k) (walkOn w rest)
 unfolding walkOn
-on-nine c l none rest σ p q = from-suc c l (rest σ) q
-on-nine c l (some r) rest σ p q = p
+on-nine c l m k p q (faulted r) rest h f = nine-wider l m l k (omega arith) q r h
+on-nine c l m k p q (known σ) rest h f = faulted-wider c m k l k p (omega arith) (rest σ) (f σ)
 
-body-nine : (ds : List Declaration) (c : ℕ) (b : Body) (l : ℕ) (σ : Known) → IfFaulted (Nine c l) (bodyFault ds c l σ b)
-unfolding bodyFault
-body-nine ds c done l σ = tt
-body-nine ds c (also lit b) l σ =
-    on-nine c l (literalFault ds c l σ lit) (λ ρ. bodyFault ds c (suc l) ρ b) (afterLiteral ds lit σ) (literal-nine ds c l σ lit) (body-nine ds c b (suc l) (afterLiteral ds lit σ))
-
-data WalkMoved (c l : ℕ) : Walk → Walk → Type 0 where
-  through : {τ σ : Known} → Below τ σ → WalkMoved c l (known τ) (known σ)
-  gone : {r : Refusal} {σ : Known} → Nine c l r → WalkMoved c l (faulted r) (known σ)
-  moved : {r q : Refusal} → Nine c l r → Nine c l q → NotBefore (numbersOf r) (numbersOf q) → WalkMoved c l (faulted r) (faulted q)
-
-walk-from : {c l : ℕ} {w v : Walk} → WalkMoved c (suc l) w v → WalkMoved c l w v
-walk-from (through h) = through h
-walk-from (gone {r = r} h) = gone (nine-from r h)
-walk-from (moved {r = r} {q = q} h k n) = moved (nine-from r h) (nine-from q k) n
-
-on-moved : (c l : ℕ) {o p : Option Refusal} (rest more : Known → Walk) (τ σ : Known)
-    → LiteralMoved c l o p
-    → WalkMoved c (suc l) (rest τ) (more σ)
-    → IfFaulted (Nine c (suc l)) (more σ)
-    → WalkMoved c l (walkOn o rest τ) (walkOn p more σ)
-unfolding walkOn openInput
-on-moved c l rest more τ σ fine m f = walk-from m
-on-moved c l rest more τ σ (gone a o) m f = by (more σ) f
+call-nine : (ds : List Declaration) (c l m : ℕ) (σ : Known) (a : Atom) → l < m → IfFaulted (Nine c l m) (callWalk ds c l σ a)
+unfolding callWalk
+call-nine ds c l m σ a h = by (firstOpen input σ (marksFor ds a) (listOf (a .args)) 1)
   where
-    by : (w : Walk) → IfFaulted (Nine c (suc l)) w → WalkMoved c l (faulted (OpenInput (o .byte) c l (o .argument) (a .at) (length (a .name)))) w
-    by (known ρ) k = gone (nine c l a o)
-    by (faulted q) k = moved (nine c l a o) (nine-from q k) (later-literal (sym (k .clause)) (sym (k .number)) (k .literal))
-on-moved c l rest more τ σ (moved a o p k) m f = moved (nine c l a o) (nine c l a p) (later-argument refl refl refl k)
+    by : (o : Option OpenArgument) → IfFaulted (Nine c l m) (unlessFault (openInput c l a o) (groundMarked output (marksFor ds a) (listOf (a .args)) σ))
+    by none = unfold openInput in unfold unlessFault in tt
+    by (some o) = unfold openInput in unfold unlessFault in (nine a o h)
 
-body-moved : (ds : List Declaration) (c : ℕ) (b : Body) (l : ℕ) (τ σ : Known) → Below τ σ → WalkMoved c l (earlier.bodyFault singlePass ds c l τ b) (bodyFault ds c l σ b)
-unfolding earlier.bodyFault bodyFault
-body-moved ds c done l τ σ h = through h
-body-moved ds c (also lit b) l τ σ h =
-    on-moved c l (λ ρ. earlier.bodyFault singlePass ds c (suc l) ρ b) (λ ρ. bodyFault ds c (suc l) ρ b)
-    (earlier.afterLiteral singlePass ds lit τ) (afterLiteral ds lit σ)
-    (literal-moved ds c l τ σ h lit)
-    (body-moved ds c b (suc l) (earlier.afterLiteral singlePass ds lit τ) (afterLiteral ds lit σ) (after-below ds lit τ σ h))
-    (body-nine ds c b (suc l) (afterLiteral ds lit σ))
+-- a fault of a literal or body of clause c has the number of one of its literals, which count from l
+mutual
+  unfolding literalWalk literalsIn
+
+  literal-nine : (ds : List Declaration) (c : ℕ) (lit : Literal) (l : ℕ) (σ : Known) → IfFaulted (Nine c l (literalsIn lit + l)) (literalWalk ds c l σ lit)
+  literal-nine ds c (call a) l σ = call-nine ds c l (1 + l) σ a (omega arith)
+  literal-nine ds c (equation t u) l σ = tt
+  literal-nine ds c truth l σ = tt
+  literal-nine ds c falsity l σ = tt
+  literal-nine ds c (either y z) l σ =
+      let m : ℕ = literalsOf y + l in
+      let k : ℕ = literalsOf y + literalsOf z + l in
+      on-nine c l m k (omega arith) (omega arith) (bodyFault ds c l σ y) (λ τ. walkOn (bodyFault ds c m σ z) (λ ρ. known (inBoth τ ρ)))
+      (body-nine ds c y l σ)
+      (λ τ. on-nine c m k k (omega arith) (omega arith) (bodyFault ds c m σ z) (λ ρ. known (inBoth τ ρ))
+      (faulted-wider c m (literalsOf z + m) m k (omega arith) (omega arith) (bodyFault ds c m σ z) (body-nine ds c z m σ)) (λ ρ. tt))
+
+  body-nine : (ds : List Declaration) (c : ℕ) (b : Body) (l : ℕ) (σ : Known) → IfFaulted (Nine c l (literalsOf b + l)) (bodyFault ds c l σ b)
+  body-nine ds c done l σ = tt
+  body-nine ds c (also lit b) l σ =
+      let m : ℕ = literalsIn lit + l in
+      let k : ℕ = literalsIn lit + literalsOf b + l in
+      on-nine c l m k (omega arith) (omega arith) (literalWalk ds c l σ lit) (λ ρ. bodyFault ds c m ρ b)
+      (literal-nine ds c lit l σ)
+      (λ ρ. faulted-wider c m (literalsOf b + m) m k (omega arith) (omega arith) (bodyFault ds c m ρ b) (body-nine ds c b m ρ))
+
+data WalkMoved (c l m : ℕ) : Walk → Walk → Type 0 where
+  through : {τ σ : Known} → Below τ σ → WalkMoved c l m (known τ) (known σ)
+  gone : {r : Refusal} {σ : Known} → Nine c l m r → WalkMoved c l m (faulted r) (known σ)
+  moved : {r q : Refusal} → Nine c l m r → Nine c l m q → NotBefore (numbersOf r) (numbersOf q) → WalkMoved c l m (faulted r) (faulted q)
+
+walk-wider : {c : ℕ} (l m l1 m1 : ℕ) {w v : Walk} → l1 ≤ l → m ≤ m1 → WalkMoved c l m w v → WalkMoved c l1 m1 w v
+walk-wider l m l1 m1 p q (through h) = through h
+walk-wider l m l1 m1 p q (gone {r = r} h) = gone (nine-wider l m l1 m1 p q r h)
+walk-wider l m l1 m1 p q (moved {r = r} {q = x} h k n) = moved (nine-wider l m l1 m1 p q r h) (nine-wider l m l1 m1 p q x k) n
+
+-- one fault before m, the other from m on
+nine-later : {c l m k : ℕ} (r q : Refusal) → Nine c l m r → Nine c m k q → NotBefore (numbersOf r) (numbersOf q)
+nine-later r q h n = later-literal (h .clause ∙ sym (n .clause)) (h .number ∙ sym (n .number)) (omega (arith, h .before, n .from))
+
+on-moved : {c : ℕ} (l m k : ℕ) {w v : Walk} → l ≤ m → m ≤ k → (rest more : Known → Walk)
+    → WalkMoved c l m w v
+    → ((τ σ : Known) → Below τ σ → WalkMoved c m k (rest τ) (more σ))
+    → ((σ : Known) → IfFaulted (Nine c m k) (more σ))
+    → WalkMoved c l k (walkOn w rest) (walkOn v more)
+unfolding walkOn
+on-moved l m k p q rest more (through {τ = τ} {σ = σ} h) f g = walk-wider m k l k p (omega arith) (f τ σ h)
+on-moved {c} l m k p q rest more (gone {r = r} {σ = σ} h) f g = by (more σ) (g σ)
+  where
+    here : Nine c l k r
+    here = nine-wider l m l k (omega arith) q r h
+
+    by : (w : Walk) → IfFaulted (Nine c m k) w → WalkMoved c l k (faulted r) w
+    by (known ρ) n = gone here
+    by (faulted x) n = moved here (nine-wider m k l k p (omega arith) x n) (nine-later r x h n)
+on-moved l m k p q rest more (moved {r = r} {q = x} h n b) f g = moved (nine-wider l m l k (omega arith) q r h) (nine-wider l m l k (omega arith) q x n) b
+
+call-moved : (ds : List Declaration) (c l m : ℕ) (τ σ : Known) → Below τ σ → (a : Atom) → l < m
+    → WalkMoved c l m (earlier.callWalk singlePass ds c l τ a) (callWalk ds c l σ a)
+unfolding earlier.callWalk callWalk
+call-moved ds c l m τ σ h a low =
+    by (first-moved input τ σ h (marksFor ds a) (listOf (a .args)) 1) (marked-below output (marksFor ds a) (listOf (a .args)) τ σ h)
+  where
+    by : {x y : Option OpenArgument} {π ρ : Known} → OpenMoved x y → Below π ρ
+        → WalkMoved c l m (unlessFault (openInput c l a x) π) (unlessFault (openInput c l a y) ρ)
+    by closed k = unfold openInput in unfold unlessFault in (through k)
+    by (gone {o = o}) k = unfold openInput in unfold unlessFault in (gone (nine a o low))
+    by (further {o = o} {p = p} n) k = unfold openInput in unfold unlessFault in (moved (nine a o low) (nine a p low) (later-argument refl refl refl n))
+
+mutual
+  unfolding earlier.literalWalk literalWalk literalsIn
+
+  literal-moved : (ds : List Declaration) (c : ℕ) (lit : Literal) (l : ℕ) (τ σ : Known) → Below τ σ
+      → WalkMoved c l (literalsIn lit + l) (earlier.literalWalk singlePass ds c l τ lit) (literalWalk ds c l σ lit)
+  literal-moved ds c (call a) l τ σ h = call-moved ds c l (1 + l) τ σ h a (omega arith)
+  literal-moved ds c (equation t u) l τ σ h = through (settle-below t u τ σ h)
+  literal-moved ds c truth l τ σ h = through h
+  literal-moved ds c falsity l τ σ h = through (below-same (grown-everything {τ = τ} (h .wide) .wide))
+  literal-moved ds c (either y z) l τ σ h =
+      let m : ℕ = literalsOf y + l in
+      let k : ℕ = literalsOf y + literalsOf z + l in
+      let right : WalkMoved c m k (earlier.bodyFault singlePass ds c m τ z) (bodyFault ds c m σ z) =
+      walk-wider m (literalsOf z + m) m k (omega arith) (omega arith) (body-moved ds c z m τ σ h) in
+      let nines : IfFaulted (Nine c m k) (bodyFault ds c m σ z) =
+      faulted-wider c m (literalsOf z + m) m k (omega arith) (omega arith) (bodyFault ds c m σ z) (body-nine ds c z m σ) in
+      on-moved l m k (omega arith) (omega arith)
+      (λ π. walkOn (earlier.bodyFault singlePass ds c m τ z) (λ x. known (inBoth π x))) (λ ρ. walkOn (bodyFault ds c m σ z) (λ x. known (inBoth ρ x)))
+      (body-moved ds c y l τ σ h)
+      (λ π ρ b. on-moved m k k (omega arith) (omega arith) (λ x. known (inBoth π x)) (λ x. known (inBoth ρ x)) right
+      (λ v w d. through (both-sides-below b d)) (λ x. tt))
+      (λ ρ. on-nine c m k k (omega arith) (omega arith) (bodyFault ds c m σ z) (λ x. known (inBoth ρ x)) nines (λ x. tt))
+
+  body-moved : (ds : List Declaration) (c : ℕ) (b : Body) (l : ℕ) (τ σ : Known) → Below τ σ
+      → WalkMoved c l (literalsOf b + l) (earlier.bodyFault singlePass ds c l τ b) (bodyFault ds c l σ b)
+  body-moved ds c done l τ σ h = through h
+  body-moved ds c (also lit b) l τ σ h =
+      let m : ℕ = literalsIn lit + l in
+      let k : ℕ = literalsIn lit + literalsOf b + l in
+      on-moved l m k (omega arith) (omega arith) (λ ρ. earlier.bodyFault singlePass ds c m ρ b) (λ ρ. bodyFault ds c m ρ b)
+      (literal-moved ds c lit l τ σ h)
+      (λ π ρ d. walk-wider m (literalsOf b + m) m k (omega arith) (omega arith) (body-moved ds c b m π ρ d))
+      (λ ρ. faulted-wider c m (literalsOf b + m) m k (omega arith) (omega arith) (bodyFault ds c m ρ b) (body-nine ds c b m ρ))
 
 -- ---- 9 and 10 of a clause, and of clauses
 
@@ -302,13 +361,14 @@ record From (c : ℕ) (r : Refusal) : Type 0 where
   marks : ByMarks r
   clause : c ≤ numbersOf r .clause
 
-nine-within : {c l : ℕ} (r : Refusal) → Nine c l r → Within c r
+nine-within : {c l m : ℕ} (r : Refusal) → Nine c l m r → Within c r
 nine-within r h = record { marks = omega arith; clause = h .clause }
 
 ten : (c : ℕ) (a : Atom) (o : OpenArgument) → Within c (OpenOutput (o .byte) c (o .argument) (a .at) (length (a .name)))
 ten c a o = record { marks = omega arith; clause = refl }
 
-head-moved : (ds : List Declaration) (c : ℕ) (h : Atom) {w v : Walk} → WalkMoved c 1 w v → FaultMoved (Within c) (earlier.headFault singlePass ds c h w) (headFault ds c h v)
+head-moved : {m : ℕ} (ds : List Declaration) (c : ℕ) (h : Atom) {w v : Walk} → WalkMoved c 1 m w v
+    → FaultMoved (Within c) (earlier.headFault singlePass ds c h w) (headFault ds c h v)
 unfolding earlier.headFault headFault
 head-moved ds c h (through {τ = τ} {σ = σ} k) = by (first-moved output τ σ k (marksFor ds h) (listOf (h .args)) 1)
   where
@@ -330,15 +390,16 @@ clause-moved ds c cl =
 
 clause-within : (ds : List Declaration) (c : ℕ) (cl : Clause) → IfSome (Within c) (clauseFault ds c cl)
 unfolding clauseFault headFault
-clause-within ds c cl = by (bodyFault ds c 1 (startKnown ds (cl .head)) (cl .body)) (body-nine ds c (cl .body) 1 (startKnown ds (cl .head)))
+clause-within ds c cl =
+    by (literalsOf (cl .body) + 1) (bodyFault ds c 1 (startKnown ds (cl .head)) (cl .body)) (body-nine ds c (cl .body) 1 (startKnown ds (cl .head)))
   where
     out : (o : Option OpenArgument) → IfSome (Within c) (openOutput c (cl .head) o)
     out none = unfold openOutput in tt
     out (some o) = unfold openOutput in (ten c (cl .head) o)
 
-    by : (w : Walk) → IfFaulted (Nine c 1) w → IfSome (Within c) (headFault ds c (cl .head) w)
-    by (faulted r) n = nine-within r n
-    by (known σ) n = out (firstOpen output σ (marksFor ds (cl .head)) (listOf (cl .head .args)) 1)
+    by : (m : ℕ) (w : Walk) → IfFaulted (Nine c 1 m) w → IfSome (Within c) (headFault ds c (cl .head) w)
+    by m (faulted r) n = nine-within r n
+    by m (known σ) n = out (firstOpen output σ (marksFor ds (cl .head)) (listOf (cl .head .args)) 1)
 
 within-from : {c : ℕ} (r : Refusal) → Within c r → From c r
 within-from r h = record { marks = h .marks; clause = omega (arith, h .clause) }
@@ -390,7 +451,7 @@ goal-moved : (sh : Sheet) (g : Goal) → Fault (earlier.goalFault singlePass sh 
 unfolding earlier.goalFault goalFault
 goal-moved sh g = behind (undeclaredInGoal sh g) (by (body-moved (sh .declarations) 0 (g .body) 1 nothing nothing (below-same nothing-wide)))
   where
-    by : {w v : Walk} → WalkMoved 0 1 w v → Fault (walkFault w) (walkFault v)
+    by : {m : ℕ} {w v : Walk} → WalkMoved 0 1 m w v → Fault (walkFault w) (walkFault v)
     by (through h) = unfold walkFault in same
     by (gone {r = r} h) = unfold walkFault in (gone (nine-within r h .marks))
     by (moved {r = r} {q = q} h k n) = unfold walkFault in (moved (nine-within r h .marks) (nine-within q k .marks) n)

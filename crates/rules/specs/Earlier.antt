@@ -1,11 +1,12 @@
 -- Checking as it was before document 02's (ii), and as it was before its (xiv): one definition, over what each of them changed, with 16 of (x) in both.
 -- Theorems say that nothing else changed, and how (xiv) moves a verdict.
-use Prim.Native.Nat.{ℕ, suc, _≤_, _<_}
+use Prim.Native.Nat.{ℕ, suc, _+_, _≤_, _<_}
 use mathlib.Core.Path.{_≡_}
 use mathlib.Core.Bool.{Bool, false}
 use mathlib.Core.List.{List, [], _∷_}
 use mathlib.Core.Option.{Option, none, some}
-use Rattle.syntax.specs.Terms.{Term, Atom, Literal, Body, call, equation, truth, falsity, done, also, Mark, input, output, Declaration, Clause, Sheet, Goal}
+use Rattle.syntax.specs.Terms.{Term, Atom, Literal, Body, call, equation, truth, falsity, either, done, also, literalsIn, literalsOf, Mark, input, output}
+use Rattle.syntax.specs.Terms.{Declaration, Clause, Sheet, Goal}
 use Rattle.syntax.specs.Refusals.{numbersOf}
 use Rattle.syntax.specs.Verdicts.{Outcome, refused, accepted, sheetOf, goalOutcome, sheetVerdict}
 use Rattle.syntax.specs.declared.Five.{Five}
@@ -17,8 +18,8 @@ use Rattle.syntax.specs.declared.Refusal.the-variants.{Unwritten}
 use Rattle.syntax.specs.declared.Verdict.{Verdict}
 use Rattle.syntax.specs.declared.Verdict.the-variants.{Accepted, Refused}
 use Rattle.rules.specs.Modes.{Known, nothing, everything, isGround, openUnless, openByte, equate, settle, marksFor, sameMark, listOf, ifMarked}
-use Rattle.rules.specs.Modes.{OpenArgument, groundMarked, undeclaredInSheet, undeclaredInGoal, openInput, openOutput, Walk, faulted, known, walkOn}
-use Rattle.rules.specs.Modes.{startKnown, firstOf, walkFault}
+use Rattle.rules.specs.Modes.{OpenArgument, groundMarked, undeclaredInSheet, undeclaredInGoal, openInput, openOutput, Walk, faulted, known, unlessFault}
+use Rattle.rules.specs.Modes.{walkOn, inBoth, startKnown, firstOf, walkFault}
 use Rattle.rules.specs.Written.{unwritten}
 use Rattle.rules.specs.Checking.{faultless, goalAnswer}
 
@@ -43,21 +44,22 @@ firstOpen way m τ (k ∷ ks) [] n = none
 firstOpen way m τ (k ∷ ks) (t ∷ ts) n =
     elim (ifMarked (sameMark m k) (way .test τ t)) [ none ↦ firstOpen way m τ ks ts (suc n) | some b ↦ some (record { argument = n; byte = b }) ]
 
-unfoldable pub literalFault : Ways → List Declaration → ℕ → ℕ → Known → Literal → Option Refusal
-literalFault way ds c l τ (call a) = openInput c l a (firstOpen way input τ (marksFor ds a) (listOf (a .args)) 1)
-literalFault way ds c l τ (equation t u) = none
-literalFault way ds c l τ truth = none
-literalFault way ds c l τ falsity = none
+unfoldable pub callWalk : Ways → List Declaration → ℕ → ℕ → Known → Atom → Walk
+callWalk way ds c l τ a =
+    unlessFault (openInput c l a (firstOpen way input τ (marksFor ds a) (listOf (a .args)) 1)) (groundMarked output (marksFor ds a) (listOf (a .args)) τ)
 
-unfoldable pub afterLiteral : Ways → List Declaration → Literal → Known → Known
-afterLiteral way ds (call a) τ = groundMarked output (marksFor ds a) (listOf (a .args)) τ
-afterLiteral way ds (equation t u) τ = way .effect t u τ
-afterLiteral way ds truth τ = τ
-afterLiteral way ds falsity τ = everything
+unfoldable mutual
+  pub literalWalk : Ways → List Declaration → ℕ → ℕ → Known → Literal → Walk
+  literalWalk way ds c l τ (call a) = callWalk way ds c l τ a
+  literalWalk way ds c l τ (equation t u) = known (way .effect t u τ)
+  literalWalk way ds c l τ truth = known τ
+  literalWalk way ds c l τ falsity = known everything
+  literalWalk way ds c l τ (either y z) =
+      walkOn (bodyFault way ds c l τ y) (λ σ. walkOn (bodyFault way ds c (literalsOf y + l) τ z) (λ ρ. known (inBoth σ ρ)))
 
-unfoldable pub bodyFault : Ways → List Declaration → ℕ → ℕ → Known → Body → Walk
-bodyFault way ds c l τ done = known τ
-bodyFault way ds c l τ (also lit b) = walkOn (literalFault way ds c l τ lit) (λ σ. bodyFault way ds c (suc l) σ b) (afterLiteral way ds lit τ)
+  pub bodyFault : Ways → List Declaration → ℕ → ℕ → Known → Body → Walk
+  bodyFault way ds c l τ done = known τ
+  bodyFault way ds c l τ (also lit b) = walkOn (literalWalk way ds c l τ lit) (λ σ. bodyFault way ds c (literalsIn lit + l) σ b)
 
 unfoldable pub headFault : Ways → List Declaration → ℕ → Atom → Walk → Option Refusal
 headFault way ds c h (faulted r) = some r

@@ -1,15 +1,15 @@
 -- When a sheet and a goal are well-moded: the judgment τ ⊢ G / σ of Pfenning, lecture 17, sections 17.1 and 17.5, a constructor for each
 -- rule, with equations gone over again (document 02, (xiv)). Abstract substitutions are `Known`: g/x ∈ τ is `knows τ x ≡ true`, u/x ∈ τ is
--- `knows τ x ≡ false`, and τ + g/x is `set τ x true`. Its rules for disjunction and ∃ have no goals here. No rule is for a predicate without declaration.
+-- `knows τ x ≡ false`, and τ + g/x is `set τ x true`. Its rule for ∃ has no goals here. No rule is for a predicate without declaration.
 use Prim.Native.Nat.{ℕ}
 use mathlib.Core.Path.{_≡_}
 use mathlib.Core.Logic.{_≢_}
 use mathlib.Core.Bool.{true, false}
 use mathlib.Core.List.{List, [], _∷_}
 use lib.ListN.{length, set}
-use Rattle.syntax.specs.Terms.{Term, Terms, variable, compound, nil, cons, arity, Atom, Literal, Body, call, equation, truth, falsity, done, also, Mark}
+use Rattle.syntax.specs.Terms.{Term, Terms, variable, compound, nil, cons, arity, Atom, Literal, Body, call, equation, truth, falsity, either, done, also, Mark}
 use Rattle.syntax.specs.Terms.{input, output, Declaration, Clause, Sheet, Goal, samePredicate}
-use Rattle.rules.specs.Modes.{Known, knows, nothing, everything}
+use Rattle.rules.specs.Modes.{Known, knows, nothing, everything, inBoth}
 
 -- τ ⊢ t ground, and τ ⊢ t₁, …, tₙ ground
 mutual
@@ -127,6 +127,8 @@ mutual
     truth-unchanged : {τ : Known} → Moded ds τ truth τ
     -- falsehood: g/x for every x
     falsehood : {τ : Known} → Moded ds τ falsity everything
+    -- disjunction, both sides from the τ before it: σ ⊔ ρ has g/x where both have it
+    disjunction : {τ σ ρ : Known} {y z : Body} → BodyModed ds τ y σ → BodyModed ds τ z ρ → Moded ds τ (either y z) (inBoth σ ρ)
 
   pub data BodyModed (ds : List Declaration) : Known → Body → Known → Type 0 where
     -- a body without literals is truth

@@ -1,10 +1,11 @@
--- What is known ground, and the refusals 8 to 10 (document 01, "What is known ground" and "The ten numbers"; document 02, (ii) and (xiv)).
-use Prim.Native.Nat.{ℕ, zero, suc}
+-- What is known ground, and the refusals 8 to 10 (document 01, "What is known ground" and "The ten numbers"; document 02, (i), (ii) and (xiv)).
+use Prim.Native.Nat.{ℕ, zero, suc, _+_}
 use mathlib.Core.Bool.{Bool, true, false, not, _&&_, _||_}
 use mathlib.Core.List.{List, [], _∷_}
 use mathlib.Core.Option.{Option, none, some}
 use lib.ListN.{length, getD, set, replicate}
-use Rattle.syntax.specs.Terms.{Term, Terms, variable, compound, nil, cons, arity, Atom, Literal, Body, call, equation, truth, falsity, done, also, Mark}
+use Rattle.syntax.specs.Terms.{Term, Terms, variable, compound, nil, cons, arity, Atom, Literal, Body, call, equation, truth, falsity, either, done, also}
+use Rattle.syntax.specs.Terms.{literalsIn, literalsOf, Mark}
 use Rattle.syntax.specs.Terms.{input, output, free, Declaration, Clause, Sheet, Goal, samePredicate}
 use Rattle.syntax.specs.Limits.{variables}
 use Rattle.syntax.specs.declared.Refusal.{Refusal}
@@ -201,17 +202,23 @@ undeclared c l a (some ms) = none
 unfoldable pub undeclaredAtom : List Declaration → ℕ → ℕ → Atom → Option Refusal
 undeclaredAtom ds c l a = undeclared c l a (marksOf ds a)
 
--- an equation, `true` and `fail` have no predicate
-unfoldable pub undeclaredLiteral : List Declaration → ℕ → ℕ → Literal → Option Refusal
-undeclaredLiteral ds c l (call a) = undeclaredAtom ds c l a
-undeclaredLiteral ds c l (equation t u) = none
-undeclaredLiteral ds c l truth = none
-undeclaredLiteral ds c l falsity = none
+-- what the first of two tests finds, or else the second
+abbrev pub firstOf : Option Refusal → Option Refusal → Option Refusal
+firstOf o p = elim o [ none ↦ p | some r ↦ some r ]
 
--- "left to right": the literals of clause c from number l on; all of them count
-unfoldable pub undeclaredBody : List Declaration → ℕ → ℕ → Body → Option Refusal
-undeclaredBody ds c l done = none
-undeclaredBody ds c l (also lit b) = elim (undeclaredLiteral ds c l lit) [ none ↦ undeclaredBody ds c (suc l) b | some r ↦ some r ]
+-- "left to right": the literals of clause c from number l on; all of them count, those of a bracket too, its left side first. An equation, `true` and
+-- `fail` have no predicate.
+unfoldable mutual
+  pub undeclaredLiteral : List Declaration → ℕ → ℕ → Literal → Option Refusal
+  undeclaredLiteral ds c l (call a) = undeclaredAtom ds c l a
+  undeclaredLiteral ds c l (equation t u) = none
+  undeclaredLiteral ds c l truth = none
+  undeclaredLiteral ds c l falsity = none
+  undeclaredLiteral ds c l (either y z) = firstOf (undeclaredBody ds c l y) (undeclaredBody ds c (literalsOf y + l) z)
+
+  pub undeclaredBody : List Declaration → ℕ → ℕ → Body → Option Refusal
+  undeclaredBody ds c l done = none
+  undeclaredBody ds c l (also lit b) = firstOf (undeclaredLiteral ds c l lit) (undeclaredBody ds c (literalsIn lit + l) b)
 
 -- "head before body"; "literal 0 is the head"
 unfoldable pub undeclaredClause : List Declaration → ℕ → Clause → Option Refusal
@@ -242,35 +249,47 @@ unfoldable pub openOutput : ℕ → Atom → Option OpenArgument → Option Refu
 openOutput c a none = none
 openOutput c a (some o) = some (OpenOutput (o .byte) c (o .argument) (a .at) (length (a .name)))
 
--- "Call: each + argument must be ground"; literal l of clause c, before which τ is known ground
-unfoldable pub literalFault : List Declaration → ℕ → ℕ → Known → Literal → Option Refusal
-literalFault ds c l τ (call a) = openInput c l a (firstOpen input τ (marksFor ds a) (listOf (a .args)) 1)
-literalFault ds c l τ (equation t u) = none
-literalFault ds c l τ truth = none
-literalFault ds c l τ falsity = none
-
--- What is known ground after a literal. A call: "then the variables of its - arguments become ground. * arguments give and ask nothing."
--- "`true` changes nothing. After `fail` every variable of the clause is ground."
-unfoldable pub afterLiteral : List Declaration → Literal → Known → Known
-afterLiteral ds (call a) τ = groundMarked output (marksFor ds a) (listOf (a .args)) τ
-afterLiteral ds (equation t u) τ = settle t u τ
-afterLiteral ds truth τ = τ
-afterLiteral ds falsity τ = everything
-
 -- what a walk along a body gives: its first fault, or what is known ground after it
 pub data Walk : Type 0 where
   faulted : Refusal → Walk
   known : Known → Walk
 
--- after one literal: its fault, or `rest` walks on from what it leaves
-unfoldable pub walkOn : Option Refusal → (Known → Walk) → Known → Walk
-walkOn none rest σ = rest σ
-walkOn (some r) rest σ = faulted r
+-- a fault, or what is known ground where there is none
+unfoldable pub unlessFault : Option Refusal → Known → Walk
+unlessFault none σ = known σ
+unlessFault (some r) σ = faulted r
 
--- the literals of clause c from number l on, before which τ is known ground
-unfoldable pub bodyFault : List Declaration → ℕ → ℕ → Known → Body → Walk
-bodyFault ds c l τ done = known τ
-bodyFault ds c l τ (also lit b) = walkOn (literalFault ds c l τ lit) (λ σ. bodyFault ds c (suc l) σ b) (afterLiteral ds lit τ)
+-- after one walk: its fault, or `rest` walks on from what it leaves
+unfoldable pub walkOn : Walk → (Known → Walk) → Walk
+walkOn (faulted r) rest = faulted r
+walkOn (known σ) rest = rest σ
+
+-- "known ground is what both sides leave ground"
+unfoldable pub inBoth : Known → Known → Known
+inBoth [] ρ = []
+inBoth (b ∷ σ) [] = []
+inBoth (b ∷ σ) (c ∷ ρ) = (b && c) ∷ inBoth σ ρ
+
+-- "Call: each + argument must be ground; then the variables of its - arguments become ground. * arguments give and ask nothing."; literal l of clause c,
+-- before which τ is known ground
+unfoldable pub callWalk : List Declaration → ℕ → ℕ → Known → Atom → Walk
+callWalk ds c l τ a =
+    unlessFault (openInput c l a (firstOpen input τ (marksFor ds a) (listOf (a .args)) 1)) (groundMarked output (marksFor ds a) (listOf (a .args)) τ)
+
+-- The literals of clause c from number l on, before which τ is known ground. "`true` changes nothing. After `fail` every variable of the clause is
+-- ground." Of a bracket, "each side begins from what was known ground before the bracket".
+unfoldable mutual
+  pub literalWalk : List Declaration → ℕ → ℕ → Known → Literal → Walk
+  literalWalk ds c l τ (call a) = callWalk ds c l τ a
+  literalWalk ds c l τ (equation t u) = known (settle t u τ)
+  literalWalk ds c l τ truth = known τ
+  literalWalk ds c l τ falsity = known everything
+  literalWalk ds c l τ (either y z) =
+      walkOn (bodyFault ds c l τ y) (λ σ. walkOn (bodyFault ds c (literalsOf y + l) τ z) (λ ρ. known (inBoth σ ρ)))
+
+  pub bodyFault : List Declaration → ℕ → ℕ → Known → Body → Walk
+  bodyFault ds c l τ done = known τ
+  bodyFault ds c l τ (also lit b) = walkOn (literalWalk ds c l τ lit) (λ σ. bodyFault ds c (literalsIn lit + l) σ b)
 
 -- "At the start exactly the variables in the head's + arguments are ground"
 unfoldable pub startKnown : List Declaration → Atom → Known
@@ -289,10 +308,6 @@ clauseFault ds c cl = headFault ds c (cl .head) (bodyFault ds c 1 (startKnown ds
 unfoldable pub clausesFault : List Declaration → ℕ → List Clause → Option Refusal
 clausesFault ds c [] = none
 clausesFault ds c (cl ∷ cls) = elim (clauseFault ds c cl) [ none ↦ clausesFault ds (suc c) cls | some r ↦ some r ]
-
--- what the first of two tests finds, or else the second
-abbrev pub firstOf : Option Refusal → Option Refusal → Option Refusal
-firstOf o p = elim o [ none ↦ p | some r ↦ some r ]
 
 -- "then 8 over the whole sheet …. Then each clause in turn"; document 02, (x): "16, over the whole sheet, between 8 and 9", unless the sheet is
 -- marked as stored earlier

@@ -3,24 +3,25 @@ use Prim.Native.Nat.{ℕ, zero, suc, _+_, _-_, _*_, _≤_, _<_}
 use native.Mathlib.Omega.{arith}
 use mathlib.Core.Path.{_≡_, refl, sym, ap, ap₂, _∙_, subst, subst⁻¹}
 use mathlib.Core.Bool.{Bool, true, false, cond}
-use mathlib.Core.List.{List, _++_}
+use mathlib.Core.List.{List, [], _∷_, _++_}
 use lib.Dec.{leb, eqb}
-use lib.ListN.{length, take, List·getD-append}
+use lib.ListN.{length, getD, take, List·getD-append}
 use lib.Seq.{length-take-le, getD-take}
-use borrow.Author.Tests.{ne-eqb}
+use borrow.Author.Tests.{le-leb, lt-leb, eq-eqb, ne-eqb}
 use Rattle.syntax.specs.Terms.{Sheet, Goal}
 use Rattle.syntax.specs.declared.Kind.{Kind}
 use Rattle.syntax.specs.declared.Kind.the-variants.{Wanted, Done, Steps, Deep}
 use Rattle.settings.specs.declared.Standing.{Standing}
 use Rattle.settings.specs.declared.Standing.the-variants.{Over, Open}
 use Rattle.settings.specs.Ends.{endedBy}
-use Rattle.machine.specs.Machine.{Alternative}
+use Rattle.machine.specs.Machine.{Alternative, step}
 use Rattle.machine.specs.Answers.{line}
 use Rattle.machine.specs.Runs.{isEmpty, isAnswer, goesDeeper}
 use Rattle.layout.specs.Regions.{alternatives, alternativeSize, mostAlternatives, stateWords, stack}
 use Rattle.layout.specs.Nodes.{Symbol}
 use Rattle.layout.specs.State.{bindings}
 use Rattle.layout.specs.Pile.{pileOf, Piled, markAt}
+use Rattle.machine.specs.Low.{Low}
 use Rattle.layout.proofs.Pile.{height, undone, Means}
 use Rattle.bindings.specs.Cells.{Stored, Undone}
 use Rattle.syntax.specs.Spans.{namesFrom}
@@ -30,7 +31,7 @@ use Rattle.engine.specs.Steps.{Running, Steppable, Stepped}
 use Rattle.engine.specs.declared.Pile.{Pile}
 use Rattle.runs.specs.declared.Next.{Next}
 use Rattle.runs.specs.declared.Next.the-variants.{End, Answer, Step}
-use Rattle.runs.specs.Running.{nextOf, Tellable, Rewindable, Same, Rewound, Answering, Answered}
+use Rattle.runs.specs.Running.{nextOf, Tellable, Spelt, Under, Rewindable, Same, Rewound, Answering, Answered}
 use Rattle.runs.proofs.EndLaws.{answer-flat}
 
 -- ---- what comes next
@@ -88,7 +89,7 @@ module _ {nodes code state : List ℕ} {h n : ℕ} (wanted answers left : ℕ) {
 
 module _ {state : List ℕ} {h n : ℕ} (w : Rewindable state h n) where
   pub rewind-room : alternatives + (h - 1) * alternativeSize + 3 < length state
-  rewind-room = let x : h ≤ mostAlternatives = height (w .ss) (w .sh) (w .g) (w .nodes) (w .code) state h n (w .piled) in let y : stateWords ≤ length state = w .piled .long in let z : 1 ≤ h = w .some in omega arith
+  rewind-room = let x : h ≤ mostAlternatives = height (w .ss) (w .sh) (w .g) (w .nodes) (w .code) state h n (w .piled) (w .low) in let y : stateWords ≤ length state = w .piled .long in let z : 1 ≤ h = w .some in omega arith
 
   pub rewind-stored : Stored state n
   rewind-stored = record { ss = w .ss; nodes = w .nodes; store = w .piled .store }
@@ -139,7 +140,7 @@ part-marks xs zs l e =
 
 module _ {sheet goal names : List ℕ} {count : ℕ} {nodes code symbols state scratch text : List ℕ} {h n at : ℕ} (w : Answering sheet goal names count nodes code symbols state scratch text h n at) where
   pub answer-rewinds : Rewindable state h n
-  answer-rewinds = record { ss = w .ss; sh = w .sh; g = w .g; nodes = nodes; code = code; piled = w .under .piled; some = w .some }
+  answer-rewinds = record { ss = w .ss; sh = w .sh; g = w .g; nodes = nodes; code = code; piled = w .under .piled; low = w .under .low; some = w .some }
 
   module _ {mid : List ℕ} {m : ℕ} (x : Rewound state mid h n m) where
     same-pile : Same (w .ss) (w .sh) (w .g) nodes code state mid h m
@@ -157,7 +158,7 @@ module _ {sheet goal names : List ℕ} {count : ℕ} {nodes code symbols state s
     pub answer-steps : {scratch1 : List ℕ} → SameMarks scratch scratch1 → Steppable nodes code mid scratch1 h m
     answer-steps {scratch1} y =
         record {
-          running = record { ss = w .ss; sh = w .sh; g = w .g; piled = same-pile .piled };
+          running = record { ss = w .ss; sh = w .sh; g = w .g; piled = same-pile .piled; low = subst⁻¹ Low (same-pile .is) (w .under .low) };
           some = w .some;
           goes = ap (goesDeeper (w .sh)) (same-pile .is) ∙ answer-flat (w .sh) (pileOf (w .ss) (w .sh) (w .g) nodes code state h) (w .answer);
           roomy = (let r : Roomy scratch = w .under .lent .roomy in let e : length scratch1 ≡ length scratch = y .long in omega arith);

@@ -11,6 +11,8 @@ use Rattle.syntax.specs.declared.Kind.{Kind}
 use Rattle.syntax.specs.declared.Kind.the-variants.{Full, Steps}
 use Rattle.machine.specs.Machine.{Alternative, step, start}
 use Rattle.machine.specs.Runs.{Progress, Ended, isAnswer, goesDeeper, runFrom, begun, run}
+use Rattle.machine.specs.Low.{Low}
+use Rattle.machine.proofs.Low.{low-start}
 use Rattle.layout.specs.Nodes.{Symbol}
 use Rattle.layout.specs.Program.{Program}
 use Rattle.layout.specs.Pile.{pileOf, Piled}
@@ -38,7 +40,7 @@ go-begin {k = k} {wanted = wanted} = record { state-long = refl; scratch-long = 
 module _ {sheet goal names : List ℕ} {count : ℕ} {nodes code symbols state₀ scratch₀ text₀ : List ℕ} {k wanted h₀ n₀ answers₀ steps₀ at₀ : ℕ} {state scratch text : List ℕ} {h n answers steps at : ℕ} (i : Going sheet goal names count nodes code symbols state₀ scratch₀ text₀ k wanted h₀ n₀ answers₀ steps₀ at₀ state scratch text h n answers steps at) where
   module _ {kind : Kind} (w : Underway sheet goal names count nodes code symbols state₀ scratch₀ text₀ (record { height = h₀; trail = n₀; answers = answers₀; steps = steps₀; at = at₀; kind = kind })) where
     running : Running nodes code state h n
-    running = record { ss = w .ss; sh = w .sh; g = w .g; piled = i .on kind w .under .piled }
+    running = record { ss = w .ss; sh = w .sh; g = w .g; piled = i .on kind w .under .piled; low = i .on kind w .under .low }
 
     text-same : length text ≡ length (w .old)
     text-same = ap length (i .on kind w .text-is) ∙ length-sets (w .old) 0 (i .on kind w .written)
@@ -165,7 +167,7 @@ module _ {sheet goal names : List ℕ} {count : ℕ} {nodes code symbols state s
           old = text;
           progress = begun (w .sh) (w .g);
           carries = record {
-            under = record { piled = started-here .piled; lent = w .lent };
+            under = record { piled = started-here .piled; low = subst⁻¹ Low (started-here .is) (low-start (w .sh) (w .g) (w .program .goal-short)); lent = w .lent };
             is = ap (λ (q : List Alternative). record { pile = q; answers = 0; steps = 0; text = [] }) (sym (started-here .is));
             at-is = refl;
             fits = omega arith;

@@ -15,6 +15,8 @@ use Rattle.syntax.specs.declared.Kind.{Kind}
 use Rattle.syntax.specs.declared.Kind.the-variants.{Full}
 use Rattle.buffers.proofs.Laws.{sets-append}
 use Rattle.machine.specs.Machine.{Alternative, step, start}
+use Rattle.machine.specs.Low.{Low}
+use Rattle.machine.proofs.Low.{low-step}
 use Rattle.machine.specs.Answers.{line}
 use Rattle.machine.specs.Runs.{Progress, Ended, isEmpty, isAnswer, nextLine, goesDeeper, runFrom, begun, run}
 use Rattle.layout.specs.Nodes.{Symbol}
@@ -83,10 +85,11 @@ module _ {ss : List Symbol} {sh : Sheet} {g : Goal} {nodes code : List ℕ} {fin
           carries = record { under = o .under; is = refl; at-is = o .at-is; fits = o .fits; text-is = o .text-is };
         })
 
-    later : (state1 scratch1 : List ℕ) (h1 n1 : ℕ) → Piled ss sh g nodes code state1 h1 n1 → Clean scratch1 → length scratch1 ≡ length scratch → Under ss sh g nodes code state1 scratch1 (length old) h1 n1
-    later state1 scratch1 h1 n1 p c e =
+    later : (state1 scratch1 : List ℕ) (h1 n1 : ℕ) → Piled ss sh g nodes code state1 h1 n1 → Low (pileOf ss sh g nodes code state1 h1) → Clean scratch1 → length scratch1 ≡ length scratch → Under ss sh g nodes code state1 scratch1 (length old) h1 n1
+    later state1 scratch1 h1 n1 p low c e =
         record {
           piled = p;
+          low = low;
           lent = record { roomy = roomy-same scratch scratch1 e (o .under .lent .roomy); clean = c; deep = (let x : Tellable scratch (length old) = o .under .lent .deep in omega arith) };
         }
 
@@ -110,7 +113,7 @@ module _ {ss : List Symbol} {sh : Sheet} {g : Goal} {nodes code : List ℕ} {fin
           let z : allowance - steps - 1 ≡ allowance - (steps + 1) = omega arith in
           let y : suc steps ≡ steps + 1 = omega arith in
           record {
-            under = later state1 scratch1 h1 n1 p c l;
+            under = later state1 scratch1 h1 n1 p (subst⁻¹ Low e (low-step sh (p .program .bodies-short) (pileOf ss sh g nodes code state h) (o .under .low))) c l;
             written = o .written;
             at-is = o .at-is;
             fits = o .fits;
@@ -135,6 +138,9 @@ module _ {ss : List Symbol} {sh : Sheet} {g : Goal} {nodes code : List ℕ} {fin
       answer-few = let x : 0 < allowance - steps = left-some (allowance - steps) (answers-here .more) in omega arith
 
       module _ (state1 : List ℕ) (m : ℕ) (p : Piled ss sh g nodes code state1 h m) (e : pileOf ss sh g nodes code state1 h ≡ pileOf ss sh g nodes code state h) (mark : markAt state1 (h - 1) ≡ m) where
+        same-low : Low (pileOf ss sh g nodes code state1 h)
+        same-low = subst⁻¹ Low e (o .under .low)
+
         line-here : (k : ℕ) → h ≡ suc k → nextLine g (pileOf ss sh g nodes code state h) ≡ line g (bindings ss nodes state1 (markAt state1 k))
         line-here k z =
             ap (nextLine g) (sym e ∙ ap (pileOf ss sh g nodes code state1) z)
@@ -175,7 +181,7 @@ module _ {ss : List Symbol} {sh : Sheet} {g : Goal} {nodes code : List ℕ} {fin
                     answers-is = refl;
                     steps-is = refl;
                     carries = record {
-                      under = later state1 scratch2 h m p c2 l2;
+                      under = later state1 scratch2 h m p same-low c2 l2;
                       is = ap (λ (v : List Alternative). record { pile = v; answers = answers; steps = steps; text = o .written }) (sym e);
                       at-is = o .at-is;
                       fits = o .fits;
@@ -202,7 +208,7 @@ module _ {ss : List Symbol} {sh : Sheet} {g : Goal} {nodes code : List ℕ} {fin
               let w : allowance - steps - 1 ≡ allowance - (steps + 1) = omega arith in
               let y : suc steps ≡ steps + 1 = omega arith in
               record {
-                under = later state2 scratch2 h2 n2 p2 c2 l2;
+                under = later state2 scratch2 h2 n2 p2 (subst⁻¹ Low e2 (low-step sh (p2 .program .bodies-short) (pileOf ss sh g nodes code state1 h) same-low)) c2 l2;
                 written = o .written ++ line g (bindings ss nodes state1 m);
                 at-is = past ∙ ap (λ (a : ℕ). a + L) (o .at-is) ∙ sym (length-append (o .written) (line g (bindings ss nodes state1 m)));
                 fits = omega arith;

@@ -10,6 +10,7 @@ use Rattle.syntax.specs.Terms.{Sheet, Goal}
 use Rattle.syntax.specs.declared.Report.{Report}
 use Rattle.syntax.specs.declared.Kind.the-variants.{Wanted, Done, Steps, Deep}
 use Rattle.machine.specs.Machine.{Alternative, start}
+use Rattle.machine.specs.Low.{Low}
 use Rattle.machine.specs.Answers.{line}
 use Rattle.machine.specs.Runs.{Progress, Ended, isEmpty, isAnswer, goesDeeper, runFrom, begun, run}
 use Rattle.layout.specs.Regions.{deepest, openSize, stack, stateWords}
@@ -58,9 +59,10 @@ pub record Lent (scratch : List ℕ) (room : ℕ) : Type 0 where
   pub clean : Clean scratch
   pub deep : Tellable scratch room
 
--- words that mean a pile, and what is lent
+-- words that mean a low pile, and what is lent
 pub record Under (ss : List Symbol) (sh : Sheet) (g : Goal) (nodes code state scratch : List ℕ) (room h n : ℕ) : Type 0 where
   pub piled : Piled ss sh g nodes code state h n
+  pub low : Low (pileOf ss sh g nodes code state h)
   pub lent : Lent scratch room
 
 -- Where a run stands: the rest of it is the rest of a whole, which ends so.
@@ -106,7 +108,7 @@ pub record Runs (sh : Sheet) (g : Goal) (allowance wanted : ℕ) (old new : List
 
 -- ---- what the functions ask and promise
 
--- words that mean a pile that is not empty, whatever the program
+-- words that mean a low pile that is not empty, whatever the program
 pub record Rewindable (state : List ℕ) (h n : ℕ) : Type 0 where
   pub ss : List Symbol
   pub sh : Sheet
@@ -114,6 +116,7 @@ pub record Rewindable (state : List ℕ) (h n : ℕ) : Type 0 where
   pub nodes : List ℕ
   pub code : List ℕ
   pub piled : Piled ss sh g nodes code state h n
+  pub low : Low (pileOf ss sh g nodes code state h)
   pub some : 1 ≤ h
 
 -- the same pile, and the trail is the top's

@@ -63,5 +63,5 @@ expected =
     ∷ []
 
 pub starred : printed ≡ expected
-unfolding printed expected checker runner verdictLine runLines Bytes.classOf Bytes.inWord Bytes.inNumeral Reading.andThen Reading.standing Reading.next Reading.wrongNumber Reading.wrong Reading.beyond Reading.full Reading.numberOf Reading.isAnonymous Reading.withNew Reading.newVariable Reading.oldVariable Reading.readVariable Reading.atomWith Reading.readAtomWith Reading.termWith Reading.readTermWith Reading.argumentsAfter Reading.readArguments Reading.readList Reading.readTerm Reading.readAtom Reading.readRight Reading.afterAtom Reading.afterTerm Reading.literalWith Reading.readLiteral Reading.bodyAfter Reading.readBody Reading.clauseAfter Reading.readClause Reading.marksAfter Reading.marksWith Reading.readMarks Reading.marksOf Reading.declarationEnd Reading.declarationFrom Reading.isMode Reading.afterNeck Reading.readDeclaration Reading.itemWith Reading.readItems Reading.atStart Reading.readSheet Reading.goalEnd Reading.readGoal Reading.declares Reading.repeats Reading.firstRepeat Terms.sameBytes Terms.literalOf Tokens.skipped Tokens.run Tokens.word Tokens.dashFirst Tokens.tokenOf Tokens.tokenFrom Tokens.tokenPlace Tokens.tokenAt Verdicts.withoutRepeats Verdicts.sheetFrom Verdicts.goalFrom Verdicts.sheetOf Verdicts.goalOutcome Verdicts.sheetVerdict Verdicts.goalVerdict Verdicts.readVerdict Verdicts.readGoalVerdict Written.isWritten Written.firstUnwritten Written.unwritten Checking.faultless Checking.checkedFrom Checking.checkedWith Checking.verdictWith Checking.checkedGoalFrom Checking.checkedGoal Checking.goalAnswer Checking.checkGoalFrom Checking.checkGoalVerdict Checking.faultName Modes.nothing Modes.everything Modes.isGround Modes.groundTerm Modes.groundBoth Modes.equateVariable Modes.equateSame Modes.equate Modes.further Modes.goOver Modes.passes Modes.settle Modes.marksOf Modes.orNoMarks Modes.marksFor Modes.sameMark Modes.openUnless Modes.openByte Modes.ifMarked Modes.firstOpen Modes.faulty Modes.oneMore Modes.countFaulty Modes.groundIf Modes.groundMarked Modes.undeclared Modes.undeclaredAtom Modes.undeclaredLiteral Modes.undeclaredBody Modes.undeclaredClause Modes.undeclaredClauses Modes.undeclaredInSheet Modes.undeclaredInGoal Modes.openInput Modes.openOutput Modes.literalFault Modes.afterLiteral Modes.walkOn Modes.bodyFault Modes.startKnown Modes.headFault Modes.clauseFault Modes.clausesFault Modes.sheetFault Modes.walkFault Modes.goalFault Answers.written Answers.spelt Answers.placeOf Answers.numbered Answers.bytesOf Answers.isAnonymous Answers.allAnonymous Answers.valuesFrom Answers.line Machine.pending Machine.firstFor Machine.nextFor Machine.nextOf Machine.topmost Machine.nth Machine.clauseAt Machine.gone Machine.equated Machine.movedOn Machine.laid Machine.tried Machine.onTop Machine.called Machine.worked Machine.workedOn Machine.outcome Machine.step Machine.start Machine.pileAfter Runs.isEmpty Runs.isAnswer Runs.lineWith Runs.nextLine Runs.isThere Runs.triesWith Runs.triesFirst Runs.goesDeeper Runs.firstEnd Runs.oneIf Runs.advance Runs.advanced Runs.endOr Runs.runFrom Runs.begun Runs.run Runs.reported Runs.overGoal Runs.overSheet Runs.inRange Runs.runOutcome Substitution.resolve Substitution.isBound Unification.differVariables Unification.differMixed Unification.orElse Unification.differ Unification.bound Unification.rounds Unification.unify Buffers.digits Buffers.decimal Lines.lineOf Reports.reportLine
+unfolding printed expected checker runner verdictLine runLines Bytes.classOf Bytes.inWord Bytes.inNumeral Reading.andThen Reading.standing Reading.next Reading.wrongNumber Reading.wrong Reading.beyond Reading.full Reading.numberOf Reading.isAnonymous Reading.withNew Reading.newVariable Reading.oldVariable Reading.readVariable Reading.atomWith Reading.readAtomWith Reading.termWith Reading.readTermWith Reading.argumentsAfter Reading.readArguments Reading.readList Reading.readTerm Reading.readAtom Reading.readRight Reading.afterAtom Reading.afterTerm Reading.literalWith Reading.plainWith Reading.readPlain Reading.bodyAfter Reading.readBodyWith Reading.readSides Reading.readLiteral Reading.readTo Reading.readBody Reading.clauseAfter Reading.readClause Reading.marksAfter Reading.marksWith Reading.readMarks Reading.marksOf Reading.declarationEnd Reading.declarationFrom Reading.isMode Reading.afterNeck Reading.readDeclaration Reading.itemWith Reading.readItems Reading.atStart Reading.readSheet Reading.goalEnd Reading.readGoal Reading.declares Reading.repeats Reading.firstRepeat Terms.sameBytes Terms.literalOf Terms.literalsIn Tokens.skipped Tokens.run Tokens.word Tokens.dashFirst Tokens.tokenOf Tokens.tokenFrom Tokens.tokenPlace Tokens.tokenAt Verdicts.withoutRepeats Verdicts.sheetFrom Verdicts.goalFrom Verdicts.sheetOf Verdicts.goalOutcome Verdicts.sheetVerdict Verdicts.goalVerdict Verdicts.readVerdict Verdicts.readGoalVerdict Written.isWritten Written.firstUnwritten Written.unwritten Checking.faultless Checking.checkedFrom Checking.checkedWith Checking.verdictWith Checking.checkedGoalFrom Checking.checkedGoal Checking.goalAnswer Checking.checkGoalFrom Checking.checkGoalVerdict Checking.faultName Modes.nothing Modes.everything Modes.isGround Modes.groundTerm Modes.groundBoth Modes.equateVariable Modes.equateSame Modes.equate Modes.further Modes.goOver Modes.passes Modes.settle Modes.marksOf Modes.orNoMarks Modes.marksFor Modes.sameMark Modes.openUnless Modes.openByte Modes.ifMarked Modes.firstOpen Modes.faulty Modes.oneMore Modes.countFaulty Modes.groundIf Modes.groundMarked Modes.undeclared Modes.undeclaredAtom Modes.undeclaredLiteral Modes.undeclaredBody Modes.undeclaredClause Modes.undeclaredClauses Modes.undeclaredInSheet Modes.undeclaredInGoal Modes.openInput Modes.openOutput Modes.unlessFault Modes.walkOn Modes.inBoth Modes.callWalk Modes.literalWalk Modes.bodyFault Modes.startKnown Modes.headFault Modes.clauseFault Modes.clausesFault Modes.sheetFault Modes.walkFault Modes.goalFault Answers.written Answers.spelt Answers.placeOf Answers.numbered Answers.bytesOf Answers.isAnonymous Answers.allAnonymous Answers.valuesFrom Answers.line Machine.pending Machine.firstFor Machine.nextFor Machine.nextOf Machine.topmost Machine.nth Machine.clauseAt Machine.gone Machine.equated Machine.movedOn Machine.laid Machine.tried Machine.onTop Machine.called Machine.worked Machine.workedOn Machine.outcome Machine.step Machine.start Machine.pileAfter Runs.isEmpty Runs.isAnswer Runs.lineWith Runs.nextLine Runs.isThere Runs.triesWith Runs.triesFirst Runs.goesDeeper Runs.firstEnd Runs.oneIf Runs.advance Runs.advanced Runs.endOr Runs.runFrom Runs.begun Runs.run Runs.reported Runs.overGoal Runs.overSheet Runs.inRange Runs.runOutcome Substitution.resolve Substitution.isBound Unification.differVariables Unification.differMixed Unification.orElse Unification.differ Unification.bound Unification.rounds Unification.unify Buffers.digits Buffers.decimal Lines.lineOf Reports.reportLine
 starred = refl

@@ -7,7 +7,7 @@ use Rattle.syntax.specs.Quote.{bytes}
 use Rattle.syntax.specs.Bytes.{classOf, inWord, inNumeral}
 use Rattle.syntax.specs.Tokens.{skipped, run, word, dashFirst, tokenOf, tokenFrom, tokenPlace, tokenAt}
 use Rattle.syntax.specs.Terms.{sameBytes, literalOf}
-use Rattle.syntax.specs.Reading.{andThen, standing, next, wrongNumber, wrong, beyond, full, numberOf, isAnonymous, withNew, newVariable, oldVariable, readVariable, atomWith, readAtomWith, termWith, readTermWith, argumentsAfter, readArguments, readList, readTerm, readAtom, readRight, afterAtom, afterTerm, literalWith, readLiteral, bodyAfter, readBody, clauseAfter, readClause, marksAfter, marksWith, readMarks, marksOf, declarationEnd, declarationFrom, isMode, afterNeck, readDeclaration, itemWith, readItems, atStart, readSheet, goalEnd, readGoal, declares, repeats, firstRepeat}
+use Rattle.syntax.specs.Reading.{andThen, standing, next, wrongNumber, wrong, beyond, full, numberOf, isAnonymous, withNew, newVariable, oldVariable, readVariable, atomWith, readAtomWith, termWith, readTermWith, argumentsAfter, readArguments, readList, readTerm, readAtom, readRight, afterAtom, afterTerm, literalWith, plainWith, readPlain, readLiteral, bodyAfter, readBodyWith, readSides, readTo, readBody, clauseAfter, readClause, marksAfter, marksWith, readMarks, marksOf, declarationEnd, declarationFrom, isMode, afterNeck, readDeclaration, itemWith, readItems, atStart, readSheet, goalEnd, readGoal, declares, repeats, firstRepeat}
 use Rattle.syntax.specs.Verdicts.{withoutRepeats, sheetFrom, goalFrom, sheetOf, goalOutcome, sheetVerdict, goalVerdict, readVerdict, readGoalVerdict}
 use Rattle.syntax.specs.declared.Verdict.{Verdict}
 use Rattle.syntax.specs.declared.Verdict.the-variants.{Accepted, Refused}
@@ -49,6 +49,15 @@ sheets =
     ∷ (bytes "p :- a(_,_,_,_,_,_,_,_),a(_,_,_,_,_,_,_,_),a(_,_,_,_,_,_,_,_),a(_,_,_,_,_,_,_,_),a(_,_,_,_,_,_,_,_),a(_,_,_,_,_,_,_,_),a(_,_,_,_,_,_,_,_),a(_,_,_,_,_,_,_,_).")
     ∷ (bytes "p :- a(_,_,_,_,_,_,_,_),a(_,_,_,_,_,_,_,_),a(_,_,_,_,_,_,_,_),a(_,_,_,_,_,_,_,_),a(_,_,_,_,_,_,_,_),a(_,_,_,_,_,_,_,_),a(_,_,_,_,_,_,_,_),a(_,_,_,_,_,_,_,_),a(_")
     ∷ (bytes "p(_,_,_,_,_,_,_,_) :- a(_,_,_,_,_,_,_,_),a(_,_,_,_,_,_,_,_),a(_,_,_,_,_,_,_,_),a(_,_,_,_,_,_,_,_),a(_,_,_,_,_,_,_,_),a(_,_,_,_,_,_,_,_),a(_,_,_,_,_,_,_,_), X")
+    ∷ (bytes "(a;b):-c.")
+    ∷ (bytes "p :- a;b.")
+    ∷ (bytes "p :- (a;b), (c,d;((e;f);g)).")
+    ∷ (bytes "p :- a,a,a,a,a,a,a,a,a,a,a,a,a,a,a,a,().")
+    ∷ (bytes "p :- a,a,a,a,a,a,a,a,a,a,a,a,a,a,a,a,(a;a).")
+    ∷ (bytes "p :- a,a,a,a,a,a,a,a,a,a,a,a,a,a,(a;a).")
+    ∷ (bytes "p :- (((((((((((((((((a")
+    ∷ (bytes "p :- ((((((((((((((((q(a)")
+    ∷ (bytes "p :- ((((((((((((((((q;q")
     ∷ []
 
 sheet-answers : List Verdict
@@ -85,6 +94,15 @@ sheet-answers =
     ∷ Accepted 0 1
     ∷ Refused Sheet (OverLimit 159)
     ∷ Refused Sheet (OverLimit 156)
+    ∷ Refused Sheet (Misplaced 0)
+    ∷ Refused Sheet (Misplaced 6)
+    ∷ Accepted 0 1
+    ∷ Refused Sheet (Misplaced 38)
+    ∷ Refused Sheet (OverLimit 38)
+    ∷ Accepted 0 1
+    ∷ Refused Sheet (OverLimit 21)
+    ∷ Refused Sheet (OverLimit 22)
+    ∷ Refused Sheet (Misplaced 24)
     ∷ []
 
 -- texts of goals, and the answers to them
@@ -95,6 +113,12 @@ goals =
     ∷ (bytes "p(X), X = f(Y).")
     ∷ (bytes "p. q.")
     ∷ (bytes "p. !")
+    ∷ (bytes "(true).")
+    ∷ (bytes "(true;true;true).")
+    ∷ (bytes "(true;).")
+    ∷ (bytes "(true;true) = X.")
+    ∷ (bytes "true;true.")
+    ∷ (bytes "((X=a;X=b);X=c).")
     ∷ []
 
 goal-answers : List Verdict
@@ -104,6 +128,12 @@ goal-answers =
     ∷ Accepted 0 0
     ∷ Refused Goal (Misplaced 3)
     ∷ Refused Goal (NoToken 3)
+    ∷ Refused Goal (Misplaced 5)
+    ∷ Refused Goal (Misplaced 10)
+    ∷ Refused Goal (Misplaced 6)
+    ∷ Refused Goal (Misplaced 12)
+    ∷ Refused Goal (Misplaced 4)
+    ∷ Accepted 0 0
     ∷ []
 
 -- a sheet of one byte too many, and one at the most
@@ -111,17 +141,17 @@ long : ℕ → List ℕ
 long n = replicate n 32
 
 read-sheets : map readVerdict sheets ≡ sheet-answers
-unfolding sheets sheet-answers classOf inWord inNumeral skipped run word dashFirst tokenOf tokenFrom tokenPlace tokenAt sameBytes literalOf andThen standing next wrongNumber wrong beyond full numberOf isAnonymous withNew newVariable oldVariable readVariable atomWith readAtomWith termWith readTermWith argumentsAfter readArguments readList readTerm readAtom readRight afterAtom afterTerm literalWith readLiteral bodyAfter readBody clauseAfter readClause marksAfter marksWith readMarks marksOf declarationEnd declarationFrom isMode afterNeck readDeclaration itemWith readItems atStart readSheet goalEnd readGoal declares repeats firstRepeat withoutRepeats sheetFrom goalFrom sheetOf goalOutcome sheetVerdict goalVerdict readVerdict readGoalVerdict
+unfolding sheets sheet-answers classOf inWord inNumeral skipped run word dashFirst tokenOf tokenFrom tokenPlace tokenAt sameBytes literalOf andThen standing next wrongNumber wrong beyond full numberOf isAnonymous withNew newVariable oldVariable readVariable atomWith readAtomWith termWith readTermWith argumentsAfter readArguments readList readTerm readAtom readRight afterAtom afterTerm literalWith plainWith readPlain readLiteral bodyAfter readBodyWith readSides readTo readBody clauseAfter readClause marksAfter marksWith readMarks marksOf declarationEnd declarationFrom isMode afterNeck readDeclaration itemWith readItems atStart readSheet goalEnd readGoal declares repeats firstRepeat withoutRepeats sheetFrom goalFrom sheetOf goalOutcome sheetVerdict goalVerdict readVerdict readGoalVerdict
 read-sheets = refl
 
 read-goals : map readGoalVerdict goals ≡ goal-answers
-unfolding goals goal-answers classOf inWord inNumeral skipped run word dashFirst tokenOf tokenFrom tokenPlace tokenAt sameBytes literalOf andThen standing next wrongNumber wrong beyond full numberOf isAnonymous withNew newVariable oldVariable readVariable atomWith readAtomWith termWith readTermWith argumentsAfter readArguments readList readTerm readAtom readRight afterAtom afterTerm literalWith readLiteral bodyAfter readBody clauseAfter readClause marksAfter marksWith readMarks marksOf declarationEnd declarationFrom isMode afterNeck readDeclaration itemWith readItems atStart readSheet goalEnd readGoal declares repeats firstRepeat withoutRepeats sheetFrom goalFrom sheetOf goalOutcome sheetVerdict goalVerdict readVerdict readGoalVerdict
+unfolding goals goal-answers classOf inWord inNumeral skipped run word dashFirst tokenOf tokenFrom tokenPlace tokenAt sameBytes literalOf andThen standing next wrongNumber wrong beyond full numberOf isAnonymous withNew newVariable oldVariable readVariable atomWith readAtomWith termWith readTermWith argumentsAfter readArguments readList readTerm readAtom readRight afterAtom afterTerm literalWith plainWith readPlain readLiteral bodyAfter readBodyWith readSides readTo readBody clauseAfter readClause marksAfter marksWith readMarks marksOf declarationEnd declarationFrom isMode afterNeck readDeclaration itemWith readItems atStart readSheet goalEnd readGoal declares repeats firstRepeat withoutRepeats sheetFrom goalFrom sheetOf goalOutcome sheetVerdict goalVerdict readVerdict readGoalVerdict
 read-goals = refl
 
 too-long : readGoalVerdict (long 1025) ≡ Refused Goal TooLong
-unfolding long classOf inWord inNumeral skipped run word dashFirst tokenOf tokenFrom tokenPlace tokenAt sameBytes literalOf andThen standing next wrongNumber wrong beyond full numberOf isAnonymous withNew newVariable oldVariable readVariable atomWith readAtomWith termWith readTermWith argumentsAfter readArguments readList readTerm readAtom readRight afterAtom afterTerm literalWith readLiteral bodyAfter readBody clauseAfter readClause marksAfter marksWith readMarks marksOf declarationEnd declarationFrom isMode afterNeck readDeclaration itemWith readItems atStart readSheet goalEnd readGoal declares repeats firstRepeat withoutRepeats sheetFrom goalFrom sheetOf goalOutcome sheetVerdict goalVerdict readVerdict readGoalVerdict
+unfolding long classOf inWord inNumeral skipped run word dashFirst tokenOf tokenFrom tokenPlace tokenAt sameBytes literalOf andThen standing next wrongNumber wrong beyond full numberOf isAnonymous withNew newVariable oldVariable readVariable atomWith readAtomWith termWith readTermWith argumentsAfter readArguments readList readTerm readAtom readRight afterAtom afterTerm literalWith plainWith readPlain readLiteral bodyAfter readBodyWith readSides readTo readBody clauseAfter readClause marksAfter marksWith readMarks marksOf declarationEnd declarationFrom isMode afterNeck readDeclaration itemWith readItems atStart readSheet goalEnd readGoal declares repeats firstRepeat withoutRepeats sheetFrom goalFrom sheetOf goalOutcome sheetVerdict goalVerdict readVerdict readGoalVerdict
 too-long = refl
 
 not-too-long : readGoalVerdict (long 1024) ≡ Refused Goal (Misplaced 1024)
-unfolding long classOf inWord inNumeral skipped run word dashFirst tokenOf tokenFrom tokenPlace tokenAt sameBytes literalOf andThen standing next wrongNumber wrong beyond full numberOf isAnonymous withNew newVariable oldVariable readVariable atomWith readAtomWith termWith readTermWith argumentsAfter readArguments readList readTerm readAtom readRight afterAtom afterTerm literalWith readLiteral bodyAfter readBody clauseAfter readClause marksAfter marksWith readMarks marksOf declarationEnd declarationFrom isMode afterNeck readDeclaration itemWith readItems atStart readSheet goalEnd readGoal declares repeats firstRepeat withoutRepeats sheetFrom goalFrom sheetOf goalOutcome sheetVerdict goalVerdict readVerdict readGoalVerdict
+unfolding long classOf inWord inNumeral skipped run word dashFirst tokenOf tokenFrom tokenPlace tokenAt sameBytes literalOf andThen standing next wrongNumber wrong beyond full numberOf isAnonymous withNew newVariable oldVariable readVariable atomWith readAtomWith termWith readTermWith argumentsAfter readArguments readList readTerm readAtom readRight afterAtom afterTerm literalWith plainWith readPlain readLiteral bodyAfter readBodyWith readSides readTo readBody clauseAfter readClause marksAfter marksWith readMarks marksOf declarationEnd declarationFrom isMode afterNeck readDeclaration itemWith readItems atStart readSheet goalEnd readGoal declares repeats firstRepeat withoutRepeats sheetFrom goalFrom sheetOf goalOutcome sheetVerdict goalVerdict readVerdict readGoalVerdict
 not-too-long = refl

@@ -8,7 +8,7 @@ use Rattle.syntax.specs.Limits.{lengths}
 use Rattle.syntax.specs.Reading.{signOf}
 use Rattle.syntax.specs.Tokens.{plusKind, minusKind, starKind}
 use Rattle.syntax.specs.Terms.{Mark, input, output, free}
-use Rattle.syntax.specs.Words.{firstName, functor, functorArity, functorLength, markNumbers, markNumber, signNumber, withMark, marksNumber, firstMark, otherMarks}
+use Rattle.syntax.specs.Words.{firstName, functor, functorArity, functorLength, itemKinds, marker, itemKind, sideItems, markNumbers, markNumber, signNumber, withMark, marksNumber, firstMark, otherMarks}
 
 -- ---- a name's first word
 
@@ -17,6 +17,14 @@ functor-arity n len h = omega arith
 
 pub functor-length : (n len : ℕ) → len < lengths → functorLength (functor n len) ≡ len
 functor-length n len h = omega arith
+
+-- ---- the words of a bracket
+
+pub marker-kind : (kind items : ℕ) → kind < itemKinds → itemKind (marker kind items) ≡ kind
+marker-kind kind items h = omega arith
+
+pub marker-items : (kind items : ℕ) → kind < itemKinds → sideItems (marker kind items) ≡ items
+marker-items kind items h = omega arith
 
 -- ---- marks
 

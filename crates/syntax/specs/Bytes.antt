@@ -19,7 +19,7 @@ abbrev pub isDigit : ℕ → Bool
 isDigit b = leb 48 b && leb b 57
 
 -- The class of a byte, by number: 0 begins no token, 1 a blank, 2 the percent sign, 3 begins a name, 4 a variable, 5 a numeral, 6 the
--- colon, and 7 to 14 the tokens of one byte, ( ) , . = + - *, of which the class is the token's kind.
+-- colon, and 7 to 14 and 17 the tokens of one byte, ( ) , . = + - * and ; of which the class is the token's kind.
 unfoldable pub classOf : ℕ → ℕ
 classOf b =
     cond (isBlank b) 1
@@ -35,7 +35,8 @@ classOf b =
     (cond (eqb b 61) 11
     (cond (eqb b 43) 12
     (cond (eqb b 45) 13
-    (cond (eqb b 42) 14 0)))))))))))))
+    (cond (eqb b 42) 14
+    (cond (eqb b 59) 17 0))))))))))))))
 
 -- a byte that goes on with a name or a variable: letters, digits, underscores
 unfoldable pub inWord : ℕ → Bool

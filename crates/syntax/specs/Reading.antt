@@ -8,20 +8,22 @@ use lib.Dec.{leb, ltb, eqb}
 use lib.ListN.{length, getD}
 use Rattle.syntax.specs.Limits.{brackets, arguments, variables, literals, declarations, clauses}
 use Rattle.syntax.specs.Tokens.{tokenAt, spelling, noToken, nameKind, variableKind, numeralKind, neckKind, openKind, closeKind, commaKind, stopKind}
-use Rattle.syntax.specs.Tokens.{equalsKind, plusKind, minusKind, starKind, overlongKind, endKind}
+use Rattle.syntax.specs.Tokens.{equalsKind, plusKind, minusKind, starKind, overlongKind, endKind, semicolonKind}
 use Rattle.syntax.specs.Numerals.{trimmed, dropped}
-use Rattle.syntax.specs.Terms.{Term, Terms, variable, compound, nil, cons, Atom, termOf, Literal, Body, equation, done, also, literalOf, Mark, input}
-use Rattle.syntax.specs.Terms.{output, free, Declaration, Clause, Sheet, Goal, arity, sameName, samePredicate, true-name, fail-name, mode-name}
+use Rattle.syntax.specs.Terms.{Term, Terms, variable, compound, nil, cons, Atom, termOf, Literal, Body, equation, either, done, also, literalOf, Mark}
+use Rattle.syntax.specs.Terms.{input, output, free, Declaration, Clause, Sheet, Goal, arity, sameName, samePredicate, true-name, fail-name, mode-name}
 use Rattle.syntax.specs.declared.Token.{Token}
 
--- Where the reader stands: the token at hand, and the spellings of the variables that the clause or goal has so far, the first one met first.
+-- Where the reader stands: the token at hand, the spellings of the variables that the clause or goal has so far, the first one met first, and how many
+-- literals it has so far.
 pub record Cursor : Type 0 where
   pub token : Token
   pub names : List (List ℕ)
+  pub literals : ℕ
 
--- at a token, with no variable met
+-- at a token, with no variable and no literal met
 abbrev pub begin : Token → Cursor
-begin t = record { token = t; names = [] }
+begin t = record { token = t; names = []; literals = 0 }
 
 -- What reading gives: a fault, by number and byte, or what was read, and where the reader stands after it.
 pub data Read (A : Type 0) : Type 0 where
@@ -44,7 +46,7 @@ spelt s st = spelling s (st .token .at) (st .token .len)
 
 -- the reader at the first token from a position on, with the variables met so far
 unfoldable pub standing : List ℕ → ℕ → Cursor → Cursor
-standing s from st = record { token = tokenAt s from; names = st .names }
+standing s from st = record { token = tokenAt s from; names = st .names; literals = st .literals }
 
 -- the reader past the token at hand
 unfoldable pub next : List ℕ → Cursor → Cursor
@@ -79,7 +81,7 @@ isAnonymous s t = eqb (t .len) 1 && eqb (getD s (t .at) 0) 95
 
 -- the reader with one variable more, first met here
 unfoldable pub withNew : List ℕ → Cursor → Cursor
-withNew s st = record { token = st .token; names = st .names ++ (spelt s st ∷ []) }
+withNew s st = record { token = st .token; names = st .names ++ (spelt s st ∷ []); literals = st .literals }
 
 unfoldable pub newVariable : List ℕ → Cursor → Read Term
 newVariable s st =
@@ -164,46 +166,78 @@ readList (suc left) s st = readArguments (λ st1. readTermWith (λ st2. readList
 unfoldable pub readTerm : ℕ → List ℕ → Cursor → Read Term
 readTerm left s st = readTermWith (λ st1. readList left s st1) s st
 
-unfoldable pub readAtom : List ℕ → Cursor → Read Atom
-readAtom s st = readAtomWith (λ st1. readList brackets s st1) s st
+unfoldable pub readAtom : ℕ → List ℕ → Cursor → Read Atom
+readAtom left s st = readAtomWith (λ st1. readList left s st1) s st
 
 -- ---- literals
 
--- an equation, whose left side was read
-unfoldable pub readRight : List ℕ → Term → Cursor → Read Literal
-readRight s t st = andThen (readTerm brackets s (next s st)) (λ u after. ok (equation t u) after)
+-- an equation, whose left side was read, with so many brackets left
+unfoldable pub readRight : ℕ → List ℕ → Term → Cursor → Read Literal
+readRight left s t st = andThen (readTerm left s (next s st)) (λ u after. ok (equation t u) after)
 
 -- after an atom: an equation, or the atom alone
-unfoldable pub afterAtom : List ℕ → Atom → Cursor → Bool → Read Literal
-afterAtom s a st true = readRight s (termOf a) st
-afterAtom s a st false = ok (literalOf a) st
+unfoldable pub afterAtom : ℕ → List ℕ → Atom → Cursor → Bool → Read Literal
+afterAtom left s a st true = readRight left s (termOf a) st
+afterAtom left s a st false = ok (literalOf a) st
 
 -- after a variable or a numeral: an equation
-unfoldable pub afterTerm : List ℕ → Term → Cursor → Bool → Read Literal
-afterTerm s t st true = readRight s t st
-afterTerm s t st false = wrong st
+unfoldable pub afterTerm : ℕ → List ℕ → Term → Cursor → Bool → Read Literal
+afterTerm left s t st true = readRight left s t st
+afterTerm left s t st false = wrong st
 
-unfoldable pub literalWith : List ℕ → Cursor → Bool → Read Literal
-literalWith s st true = andThen (readAtom s st) (λ a after. afterAtom s a after (is equalsKind after))
-literalWith s st false = andThen (readTerm brackets s st) (λ t after. afterTerm s t after (is equalsKind after))
+unfoldable pub literalWith : ℕ → List ℕ → Cursor → Bool → Read Literal
+literalWith left s st true = andThen (readAtom left s st) (λ a after. afterAtom left s a after (is equalsKind after))
+literalWith left s st false = andThen (readTerm left s st) (λ t after. afterTerm left s t after (is equalsKind after))
 
-unfoldable pub readLiteral : List ℕ → Cursor → Read Literal
-readLiteral s st = literalWith s st (is nameKind st)
+-- the reader with one literal more
+abbrev pub counted : Cursor → Cursor
+counted st = record { token = st .token; names = st .names; literals = suc (st .literals) }
+
+-- a literal that is no bracket, by whether the clause or goal may have one more
+unfoldable pub plainWith : ℕ → List ℕ → Cursor → Bool → Read Literal
+plainWith left s st true = literalWith left s (counted st) (is nameKind st)
+plainWith left s st false = full (begins (startOf (kindAt st))) st
+
+unfoldable pub readPlain : ℕ → List ℕ → Cursor → Read Literal
+readPlain left s st = plainWith left s st (ltb (st .literals) literals)
 
 unfoldable pub bodyAfter : (Cursor → Read Body) → List ℕ → Literal → Cursor → After → Read Body
 bodyAfter rest s l st more = andThen (rest (next s st)) (λ b after. ok (also l b) after)
 bodyAfter rest s l st last = ok (also l done) (next s st)
 bodyAfter rest s l st neither = wrong st
 
--- literals up to the full stop, with so many left
-unfoldable pub readBody : List ℕ → ℕ → Cursor → Read Body
-readBody s zero st = full (begins (startOf (kindAt st))) st
-readBody s (suc k) st =
-    andThen (readLiteral s st) (λ l after. bodyAfter (λ st1. readBody s k st1) s l after (afterOf stopKind (kindAt after)))
+-- Literals up to a token of the kind `end`; `literal` reads one. The number bounds how many they are: each counts for one or more, so one more than there
+-- may be never stops the reading.
+unfoldable pub readBodyWith : (Cursor → Read Literal) → List ℕ → ℕ → ℕ → Cursor → Read Body
+readBodyWith literal s end zero st = wrong st
+readBodyWith literal s end (suc k) st =
+    andThen (literal st) (λ l after. bodyAfter (λ st1. readBodyWith literal s end k st1) s l after (afterOf end (kindAt after)))
+
+-- A bracket, which is at hand, with two bodies; `body` reads one up to a token of a kind.
+unfoldable pub readSides : (ℕ → Cursor → Read Body) → List ℕ → Cursor → Read Literal
+readSides body s st =
+    andThen (body semicolonKind (next s st)) (λ y after. andThen (body closeKind after) (λ z end. ok (either y z) end))
+
+-- "Such a bracket counts as an open one": one literal, with so many brackets left
+unfoldable pub readLiteral : ℕ → List ℕ → Cursor → Read Literal
+readLiteral zero s st = elim (is openKind st) [ true ↦ beyond st | false ↦ readPlain zero s st ]
+readLiteral (suc left) s st =
+    elim (is openKind st) [
+      | true ↦ readSides (λ end st1. readBodyWith (λ st2. readLiteral left s st2) s end (suc literals) st1) s st
+      | false ↦ readPlain (suc left) s st
+    ]
+
+-- literals up to a token of a kind, with so many brackets left
+unfoldable pub readTo : ℕ → List ℕ → ℕ → ℕ → Cursor → Read Body
+readTo left s end k st = readBodyWith (λ st1. readLiteral left s st1) s end k st
+
+-- literals up to the full stop
+unfoldable pub readBody : List ℕ → Cursor → Read Body
+readBody s st = readTo brackets s stopKind (suc literals) st
 
 -- ---- clauses and declarations
 
--- the reader with no variable met
+-- the reader with no variable and no literal met
 abbrev pub fresh : Cursor → Cursor
 fresh st = begin (st .token)
 
@@ -219,12 +253,12 @@ clauseOf h b st = record { head = h; body = b; variables = length (st .names) }
 
 unfoldable pub clauseAfter : List ℕ → Atom → Cursor → Tail → Read Clause
 clauseAfter s h st fact = ok (clauseOf h done st) (next s st)
-clauseAfter s h st rule = andThen (readBody s literals (next s st)) (λ b after. ok (clauseOf h b after) after)
+clauseAfter s h st rule = andThen (readBody s (next s st)) (λ b after. ok (clauseOf h b after) after)
 clauseAfter s h st other = wrong st
 
 -- a clause, of which the head's name is at hand and no variable is met
 unfoldable pub readClause : List ℕ → Cursor → Read Clause
-readClause s st = andThen (readAtom s st) (λ h after. clauseAfter s h after (tailOf (kindAt after)))
+readClause s st = andThen (readAtom brackets s st) (λ h after. clauseAfter s h after (tailOf (kindAt after)))
 
 pub data Sign : Type 0 where
   mark : Mark → Sign
@@ -332,7 +366,7 @@ goalEnd s b st false = wrong st
 
 -- one or more literals, a full stop, and the end
 unfoldable pub readGoal : List ℕ → Read Goal
-readGoal s = andThen (readBody s literals (atStart s)) (λ b after. goalEnd s b after (is endKind after))
+readGoal s = andThen (readBody s (atStart s)) (λ b after. goalEnd s b after (is endKind after))
 
 -- ---- refusal 7
 

@@ -30,16 +30,32 @@ abbrev pub termOf : Atom → Term
 termOf a = compound (a .at) (a .name) (a .args)
 
 mutual
+  -- document 02, (i): "A literal may be a bracket holding two bodies with a semicolon between."
   pub data Literal : Type 0 where
     call : Atom → Literal
     equation : Term → Term → Literal
     truth : Literal
     falsity : Literal
+    either : Body → Body → Literal
 
   -- literals from left to right
   pub data Body : Type 0 where
     done : Body
     also : Literal → Body → Body
+
+-- How many literals a literal counts for: "the literals inside count towards 16 and carry the literal numbers, left to right; brackets themselves do
+-- neither".
+unfoldable mutual
+  pub literalsIn : Literal → ℕ
+  literalsIn (call a) = 1
+  literalsIn (equation t u) = 1
+  literalsIn truth = 1
+  literalsIn falsity = 1
+  literalsIn (either y z) = literalsOf y + literalsOf z
+
+  pub literalsOf : Body → ℕ
+  literalsOf done = 0
+  literalsOf (also l b) = literalsIn l + literalsOf b
 
 -- the marks + - *
 pub data Mark : Type 0 where

@@ -8,8 +8,8 @@ use Rattle.syntax.specs.Limits.{wordBytes}
 use Rattle.syntax.specs.Bytes.{classOf, inWord, inNumeral}
 use Rattle.syntax.specs.declared.Token.{Token}
 
--- The kinds of token, by number: 0 a byte that begins none, 3 a name, 4 a variable, 5 a numeral, 6 the pair :-, 7 to 14 as the classes,
--- 15 a name, variable or numeral of more than 31 bytes, 16 the end of the text.
+-- The kinds of token, by number: 0 a byte that begins none, 3 a name, 4 a variable, 5 a numeral, 6 the pair :-, 7 to 14 and 17 as the
+-- classes, 15 a name, variable or numeral of more than 31 bytes, 16 the end of the text.
 abbrev pub noToken : ℕ
 noToken = 0
 
@@ -54,6 +54,10 @@ overlongKind = 15
 
 abbrev pub endKind : ℕ
 endKind = 16
+
+-- "The semicolon is now a token" (document 02, (i)).
+abbrev pub semicolonKind : ℕ
+semicolonKind = 17
 
 -- Before a token a scanner is outside, or in a comment.
 pub data Gap : Type 0 where

@@ -4,8 +4,8 @@ use mathlib.Core.List.{List, [], _∷_, _++_}
 use lib.ListN.{length}
 use Rattle.syntax.specs.Limits.{sheetBytes, goalBytes, lengths, declarations}
 use Rattle.syntax.specs.Reading.{Sign, mark, noMark}
-use Rattle.syntax.specs.Terms.{Term, Terms, variable, compound, nil, cons, Atom, termOf, arity, Literal, Body, call, equation, truth, falsity, done, also}
-use Rattle.syntax.specs.Terms.{Mark, input, output, free, Declaration, Clause, Sheet}
+use Rattle.syntax.specs.Terms.{Term, Terms, variable, compound, nil, cons, Atom, termOf, arity, Literal, Body, call, equation, truth, falsity, either}
+use Rattle.syntax.specs.Terms.{done, also, Mark, input, output, free, Declaration, Clause, Sheet}
 
 -- A node's first word is a variable's number, below this, or a name's, from this on.
 abbrev pub firstName : ℕ
@@ -51,26 +51,70 @@ callKind = 2
 abbrev pub equationKind : ℕ
 equationKind = 3
 
--- A literal: its kind, and then its terms.
-unfoldable pub literalWords : Literal → List ℕ
-literalWords truth = truthKind ∷ []
-literalWords falsity = falsityKind ∷ []
-literalWords (call a) = callKind ∷ atomWords a
-literalWords (equation t u) = equationKind ∷ (termWords t ++ termWords u)
+-- and of the words of a bracket: before its left side, before its right side, behind it
+abbrev pub leftKind : ℕ
+leftKind = 4
 
-unfoldable pub bodyWords : Body → List ℕ
-bodyWords done = []
-bodyWords (also l b) = literalWords l ++ bodyWords b
+abbrev pub rightKind : ℕ
+rightKind = 5
 
-abbrev pub bodyLength : Body → ℕ
-bodyLength done = 0
-bodyLength (also l b) = suc (bodyLength b)
+abbrev pub behindKind : ℕ
+behindKind = 6
+
+-- a kind is packed below this
+abbrev pub itemKinds : ℕ
+itemKinds = 8
+
+-- The word before a side: its kind, and the number of items of the side.
+abbrev pub marker : ℕ → ℕ → ℕ
+marker kind items = kind + itemKinds * items
+
+-- The kind of an item, by its first word, and the number of items of the side behind a word before one.
+abbrev pub itemKind : ℕ → ℕ
+itemKind w = w % itemKinds
+
+abbrev pub sideItems : ℕ → ℕ
+sideItems w = w / itemKinds
+
+-- How many items stand in a table for a literal: one, but for a bracket one for each of its three words and those of its sides.
+unfoldable mutual
+  pub literalLength : Literal → ℕ
+  literalLength (call a) = 1
+  literalLength (equation t u) = 1
+  literalLength truth = 1
+  literalLength falsity = 1
+  literalLength (either y z) = 3 + (bodyLength y + bodyLength z)
+
+  pub bodyLength : Body → ℕ
+  bodyLength done = 0
+  bodyLength (also l b) = literalLength l + bodyLength b
+
+-- A literal: its kind, and then its terms; a bracket: a word, the left side, a word, the right side, a word.
+unfoldable mutual
+  pub literalWords : Literal → List ℕ
+  literalWords truth = truthKind ∷ []
+  literalWords falsity = falsityKind ∷ []
+  literalWords (call a) = callKind ∷ atomWords a
+  literalWords (equation t u) = equationKind ∷ (termWords t ++ termWords u)
+  literalWords (either y z) =
+      (marker leftKind (bodyLength y) ∷ bodyWords y) ++ ((marker rightKind (bodyLength z) ∷ bodyWords z) ++ (behindKind ∷ []))
+
+  pub bodyWords : Body → List ℕ
+  bodyWords done = []
+  bodyWords (also l b) = literalWords l ++ bodyWords b
+
+-- one side of a bracket, with the word before it
+abbrev pub sideWords : ℕ → Body → List ℕ
+sideWords kind b = marker kind (bodyLength b) ∷ bodyWords b
+
+abbrev pub sideLength : Body → ℕ
+sideLength b = suc (bodyLength b)
 
 -- the words of a clause before its head
 abbrev pub clauseStart : ℕ
 clauseStart = 3
 
--- A clause: how many words it takes, its number of variables, its number of literals, the head, the literals.
+-- A clause: how many words it takes, its number of variables, its number of items, the head, the items.
 unfoldable pub clauseWords : Clause → List ℕ
 clauseWords c =
     (clauseStart + length (atomWords (c .head) ++ bodyWords (c .body))) ∷ (c .variables) ∷ bodyLength (c .body) ∷ (atomWords (c .head) ++ bodyWords (c .body))

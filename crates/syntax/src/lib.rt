@@ -7,7 +7,8 @@ ghost use Rattle.syntax.specs.Reading.{signOf};
 ghost use Rattle.syntax.specs.Refusals.{numbersOf};
 ghost use Rattle.syntax.specs.Verdicts.{faultOf};
 ghost use Rattle.syntax.specs.Spans.{packed, spanAt, spanLength};
-ghost use Rattle.syntax.specs.Words.{firstName, functor, functorArity, functorLength, signNumber, withMark, firstMark, otherMarks};
+ghost use Rattle.syntax.specs.Words.{firstName, functor, functorArity, functorLength, marker, itemKind, sideItems, signNumber, withMark, firstMark};
+ghost use Rattle.syntax.specs.Words.{otherMarks};
 
 // The kinds of token. A byte's class has the same number where one byte is a token.
 pub const NO_TOKEN: usize = 0;
@@ -39,6 +40,8 @@ pub const STAR: usize = 14;
 pub const OVERLONG: usize = 15;
 
 pub const END: usize = 16;
+
+pub const SEMICOLON: usize = 17;
 
 // Document 01's limits (specs/Limits). Bytes of a sheet and of a goal:
 pub const SHEET_BYTES: usize = 16384;
@@ -90,6 +93,15 @@ pub const CALL_KIND: usize = 2;
 
 pub const EQUATION_KIND: usize = 3;
 
+// the kinds of the words of a bracket, before its left side, before its right side and behind it, and room for a kind where it is packed:
+pub const LEFT_KIND: usize = 4;
+
+pub const RIGHT_KIND: usize = 5;
+
+pub const BEHIND_KIND: usize = 6;
+
+pub const ITEM_KINDS: usize = 8;
+
 // the numbers of the marks, and room for one of them where they are packed, the first lowest:
 pub const INPUT: usize = 1;
 
@@ -113,11 +125,12 @@ pub struct Token {
     pub len: usize,
 }
 
-// Where a reader stands: the token at hand, and how many variables the clause has so far. Their first occurrences stand in the last
-// words of the node table (specs/Spans).
+// Where a reader stands: the token at hand, and how many variables and literals the clause has so far. The variables' first occurrences
+// stand in the last words of the node table (specs/Spans).
 pub struct State {
     pub token: Token,
     pub count: usize,
+    pub literals: usize,
 }
 
 // The text that a refusal speaks of.
@@ -399,6 +412,28 @@ pub fn length_of(what: usize) -> usize
     ensures { λ r. ⌜ r ≡ functorLength what ⌝ }
 {
     (what - FIRST_NAME) % LENGTHS
+}
+
+// The word before a side of a bracket (specs/Words): its kind, and the number of items of the side.
+pub fn pack_marker(kind: usize, items: usize) -> usize
+    requires { ⌜ marker kind items < 2 ^ 32 ⌝ }
+    ensures { λ r. ⌜ r ≡ marker kind items ⌝ }
+{
+    kind + ITEM_KINDS * items
+}
+
+// The kind of an item, by its first word.
+pub fn kind_of_item(word: usize) -> usize
+    ensures { λ r. ⌜ r ≡ itemKind word ⌝ }
+{
+    word % ITEM_KINDS
+}
+
+// The number of items of the side behind such a word.
+pub fn items_of_side(word: usize) -> usize
+    ensures { λ r. ⌜ r ≡ sideItems word ⌝ }
+{
+    word / ITEM_KINDS
 }
 
 // The number of the mark that a token of a kind is, 0 for none.

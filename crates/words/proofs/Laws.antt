@@ -1,4 +1,4 @@
--- Laws of words that stand in a table, and of the terms and literals that they are. Assumes nothing.
+-- Laws of words that stand in a table, and of the terms and clauses that they are. Assumes nothing.
 use Prim.Native.Nat.{ℕ, suc, _+_, _≤_, _<_}
 use native.Mathlib.Numerals.{add-one}
 use native.Mathlib.Omega.{arith}
@@ -6,8 +6,8 @@ use mathlib.Core.Path.{_≡_, refl, sym, ap, _∙_, subst}
 use mathlib.Core.List.{List, [], _∷_, _++_}
 use lib.ListN.{length, getD, take, drop, length-append, length-drop, take-append-drop}
 use lib.Seq.{drop-cons}
-use Rattle.syntax.specs.Terms.{Term, variable, compound, Atom, termOf, Literal, call, equation, truth, falsity, Clause}
-use Rattle.syntax.specs.Words.{nodeWords, clauseStart, bodyWords, bodyLength, clauseWords, termWords, termsWords, atomWords, literalWords, truthKind, falsityKind, callKind, equationKind}
+use Rattle.syntax.specs.Terms.{Term, variable, compound, Clause}
+use Rattle.syntax.specs.Words.{nodeWords, clauseStart, bodyWords, bodyLength, clauseWords, termWords, termsWords, atomWords}
 use Rattle.words.specs.Tables.{Has, Inside}
 
 -- ---- words
@@ -92,88 +92,6 @@ term-inside table p t h =
     let size : getD table (p + 1) 0 ≡ length (termWords t) = size-is table p t h in
     let inside : p + length (termWords t) ≤ length table = has-inside table p (termWords t) h (omega arith) in
     (omega arith, omega arith)
-
--- ---- literals
-
--- a literal by its first word
-pub data View (table : List ℕ) (p : ℕ) : Literal → Type 0 where
-  view-truth : getD table p 0 ≡ truthKind → View table p truth
-  view-falsity : getD table p 0 ≡ falsityKind → View table p falsity
-  view-call : {a : Atom} → getD table p 0 ≡ callKind → Has table (p + 1) (atomWords a) → View table p (call a)
-  view-equation : {t u : Term} → getD table p 0 ≡ equationKind → Has table (p + 1) (termWords t) → Has table (p + 1 + length (termWords t)) (termWords u) → View table p (equation t u)
-
-pub view : (table : List ℕ) (p : ℕ) (x : Literal) → Has table p (literalWords x) → View table p x
-unfolding literalWords
-view table p truth h = view-truth (h .1)
-view table p falsity h = view-falsity (h .1)
-view table p (call a) h = view-call (h .1) (h .2)
-view table p (equation t u) h = view-equation (h .1) (has-left table (p + 1) (termWords t) (termWords u) (h .2)) (has-right table (p + 1) (termWords t) (termWords u) (h .2))
-
-pub literal-room : (table : List ℕ) (p : ℕ) (x : Literal) → Has table p (literalWords x) → p < length table
-unfolding literalWords
-literal-room table p truth h = h .0
-literal-room table p falsity h = h .0
-literal-room table p (call a) h = h .0
-literal-room table p (equation t u) h = h .0
-
-module _ (table : List ℕ) (p kind : ℕ) (e : kind ≡ getD table p 0) where
-  none-by : {x : Literal} → kind < callKind → View table p x → length (literalWords x) ≡ 1
-  unfolding literalWords
-  none-by k (view-truth q) = refl
-  none-by k (view-falsity q) = refl
-  none-by k (view-call q h) = absurd (omega arith)
-  none-by k (view-equation q h r) = absurd (omega arith)
-
-  pub past-none : kind < callKind → (x : Literal) → Has table p (literalWords x) → p + 1 ≡ p + length (literalWords x)
-  past-none k x h = let z : length (literalWords x) ≡ 1 = none-by k (view table p x h) in omega arith
-
-  first-by : {x : Literal} → callKind ≤ kind → View table p x → Inside table (p + 1)
-  first-by k (view-truth q) = absurd (omega arith)
-  first-by k (view-falsity q) = absurd (omega arith)
-  first-by k (view-call {a} q h) = term-inside table (p + 1) (termOf a) h
-  first-by k (view-equation {t} {u} q h r) = term-inside table (p + 1) t h
-
-  pub first-inside : callKind ≤ kind → (x : Literal) → Has table p (literalWords x) → Inside table (p + 1)
-  first-inside k x h = first-by k (view table p x h)
-
-  module _ (next : ℕ) (n : next ≡ p + 1 + getD table (p + 1 + 1) 0) where
-    call-by : {x : Literal} → kind ≡ callKind → View table p x → next ≡ p + length (literalWords x)
-    unfolding literalWords
-    call-by k (view-truth q) = absurd (omega arith)
-    call-by k (view-falsity q) = absurd (omega arith)
-    call-by k (view-call {a} q h) = let z : getD table (p + 1 + 1) 0 ≡ length (atomWords a) = size-is table (p + 1) (termOf a) h in omega arith
-    call-by k (view-equation q h r) = absurd (omega arith)
-
-    pub past-call : kind ≡ callKind → (x : Literal) → Has table p (literalWords x) → next ≡ p + length (literalWords x)
-    past-call k x h = call-by k (view table p x h)
-
-    module _ (l : callKind ≤ kind) (d : kind ≡ callKind → ⊥) where
-      right-by : {x : Literal} → View table p x → Inside table next
-      right-by (view-truth q) = absurd (omega arith)
-      right-by (view-falsity q) = absurd (omega arith)
-      right-by (view-call q h) = absurd (d (omega arith))
-      right-by (view-equation {t} {u} q h r) =
-          let z : getD table (p + 1 + 1) 0 ≡ length (termWords t) = size-is table (p + 1) t h in
-          let y : p + 1 + length (termWords t) ≡ next = omega arith in
-          term-inside table next u (subst (λ (i : ℕ). Has table i (termWords u)) y r)
-
-      pub right-inside : (x : Literal) → Has table p (literalWords x) → Inside table next
-      right-inside x h = right-by (view table p x h)
-
-      equation-by : {x : Literal} → View table p x → next + getD table (next + 1) 0 ≡ p + length (literalWords x)
-      unfolding literalWords
-      equation-by (view-truth q) = absurd (omega arith)
-      equation-by (view-falsity q) = absurd (omega arith)
-      equation-by (view-call q h) = absurd (d (omega arith))
-      equation-by (view-equation {t} {u} q h r) =
-          let z : getD table (p + 1 + 1) 0 ≡ length (termWords t) = size-is table (p + 1) t h in
-          let y : p + 1 + length (termWords t) ≡ next = omega arith in
-          let v : getD table (next + 1) 0 ≡ length (termWords u) = size-is table next u (subst (λ (i : ℕ). Has table i (termWords u)) y r) in
-          let s : length (termWords t ++ termWords u) ≡ length (termWords t) + length (termWords u) = length-append (termWords t) (termWords u) in
-          omega arith
-
-      pub past-equation : (stop : ℕ) → stop ≡ next + getD table (next + 1) 0 → (x : Literal) → Has table p (literalWords x) → stop ≡ p + length (literalWords x)
-      past-equation stop s x h = s ∙ equation-by (view table p x h)
 
 -- ---- clauses
 

@@ -1,14 +1,16 @@
-// Words of a table: reading one, storing one, and the places past a node, a literal and a clause.
+// Words of a table: reading one, storing one, and the places past a node, an item, a body and a clause.
 use syntax::CALL_KIND;
+use syntax::EQUATION_KIND;
 ghost use mathlib.Core.Path.{_≡_};
 ghost use Prim.Native.Nat.{_+_, _<_, _^_};
 ghost use lib.ListN.{length, getD, set};
-ghost use Rattle.syntax.specs.Terms.{Literal, Clause};
-ghost use Rattle.syntax.specs.Words.{literalWords, clauseWords};
+ghost use Rattle.syntax.specs.Terms.{Body, Clause};
+ghost use Rattle.syntax.specs.Words.{bodyWords, clauseWords};
 ghost use Rattle.words.specs.Tables.{Has, Inside};
+ghost use Rattle.words.specs.Items.{Item, itemWords, BodyAt};
 
-// Where a clause's number of literals stands: behind its length and its number of variables.
-pub const CLAUSE_LITERALS: usize = 2;
+// Where a clause's number of items stands: behind its length and its number of variables.
+pub const CLAUSE_ITEMS: usize = 2;
 
 // The word at a place.
 pub fn word_at(table: &[u32], p: usize) -> usize
@@ -35,21 +37,39 @@ pub fn past(table: &[u32], p: usize) -> usize
     p + size
 }
 
-// The place past a literal as read. Truth and falsehood have the kinds below a call's, an equation has the one above.
-pub fn past_literal(table: &[u32], p: usize) -> usize
-    requires { ⌜ ((x : Literal) × Has (now table) p (literalWords x)) ⌝ }
-    ensures { λ r. ⌜ ((x : Literal) → Has (now (table .entry)) p (literalWords x) → r ≡ p + length (literalWords x)) ⌝ }
+// The place past an item as read. Truth and falsehood have the kinds below a call's, an equation has the one above; the words of a bracket are
+// greater.
+pub fn past_item(table: &[u32], p: usize) -> usize
+    requires { ⌜ ((x : Item) × Has (now table) p (itemWords x)) ⌝ }
+    ensures { λ r. ⌜ ((x : Item) → Has (now (table .entry)) p (itemWords x) → r ≡ p + length (itemWords x)) ⌝ }
 {
-    let kind = word_at(table, p);
+    let word = word_at(table, p);
     let q = p + 1;
-    if kind < CALL_KIND {
+    if word < CALL_KIND {
+        return q;
+    }
+    if EQUATION_KIND < word {
         return q;
     }
     let next = past(table, q);
-    if kind == CALL_KIND {
+    if word == CALL_KIND {
         return next;
     }
     past(table, next)
+}
+
+// The place past a body of so many items.
+pub fn past_body(table: &[u32], p: usize, items: usize) -> usize
+    requires { ⌜ ((b : Body) × BodyAt (now table) p items b) ⌝ }
+    ensures { λ r. ⌜ ((b : Body) → BodyAt (now (table .entry)) p items b → r ≡ p + length (bodyWords b)) ⌝ }
+{
+    let mut at = p;
+    let mut i = 0;
+    while i < items {
+        at = past_item(table, at);
+        i += 1;
+    }
+    at
 }
 
 // The place past a clause as read: its first word is how many words it takes.

@@ -9,27 +9,27 @@ use Rattle.loader.proofs.copying.copy_body.Statement.{statement}
 use Rattle.loader.proofs.copying.copy_body.Tie as tie
 
 abbrev Inv-loop : tie.InvT-loop
-Inv-loop table from literals text nodes₀ at p₀ q₀ i₀ nodes p q i = (i ≤ literals) × ((length nodes ≡ length nodes₀) × ((w : BodyHere table from literals) → Going table literals text nodes₀ at (flatWords (flatAll text (bodyParsed (w .body)))) nodes p q i))
+Inv-loop table from items text nodes₀ at p₀ q₀ i₀ nodes p q i = (i ≤ items) × ((length nodes ≡ length nodes₀) × ((w : BodyHere table from items) → Going table items text nodes₀ at (flatWords (flatAll text (bodyParsed (w .body)))) nodes p q i))
 
 abbrev μ-loop : tie.MeasureT-loop
-μ-loop table from literals text nodes₀ at p₀ q₀ i₀ nodes p q i = literals - i
+μ-loop table from items text nodes₀ at p₀ q₀ i₀ nodes p q i = items - i
 
 loop-holds : tie.Need-loop-holds Inv-loop μ-loop
-loop-holds c = (omega arith, (refl, λ w. body-begin (c .before .before .args .table .now) (c .before .before .args .from) (c .before .before .args .literals) (c .before .before .args .text) (c .before .before .args .nodes .now) (c .before .before .args .at) (c .before .before .pre .0 .1 .1 .1) w))
+loop-holds c = (omega arith, (refl, λ w. body-begin (c .before .before .args .table .now) (c .before .before .args .from) (c .before .before .args .items) (c .before .before .args .text) (c .before .before .args .nodes .now) (c .before .before .args .at) (c .before .before .pre .0 .1 .1 .1) w))
 
 add-first : tie.Need-add-first Inv-loop μ-loop
 add-first c = let c4 = c .before .before .before .before in omega (arith, body-turn (c .loop-test .taken) (c .before .loop .inv .1 .1 (c4 .pre .1)) .inside, c4 .pre .0 .1 .0)
 
-past-literal-requires : tie.Need-past-literal-requires Inv-loop μ-loop
-past-literal-requires c κs =
+past-item-requires : tie.Need-past-item-requires Inv-loop μ-loop
+past-item-requires c κs =
     let t = body-turn (c .loop-test .taken) (c .before .loop .inv .1 .1 (c .before .before .before .before .pre .1)) in
-    (t .literal, t .has)
+    (t .item, t .has)
 
 copy-nodes-requires : tie.Need-copy-nodes-requires Inv-loop μ-loop
 copy-nodes-requires c κs =
     let pre = c .before .before .before .before .before .before .pre in
     let t = body-turn (c .before .before .loop-test .taken) (c .before .before .before .loop .inv .1 .1 (pre .1)) in
-    ((pre .0 .0, (pre .0 .1 .0, (omega (arith, c .before .before .before .loop .inv .1 .0, pre .0 .1 .1 .0), t .near))), t .run (c .before .past-literal .result) (c .before .past-literal .ensures (t .literal) (t .has)))
+    ((pre .0 .0, (pre .0 .1 .0, (omega (arith, c .before .before .before .loop .inv .1 .0, pre .0 .1 .1 .0), t .near))), t .run (c .before .past-item .result) (c .before .past-item .ensures (t .item) (t .has)))
 
 add-i : tie.Need-add-i Inv-loop μ-loop
 add-i c = omega arith
@@ -39,13 +39,13 @@ loop-less c = omega arith
 
 loop-again : tie.Need-loop-again Inv-loop μ-loop
 loop-again c =
-    let next = c .before .before .before .before .past-literal .result in (
+    let next = c .before .before .before .before .past-item .result in (
       omega arith,
       (
         c .before .before .copy-nodes .kept .1 .1 .1 .1 .0 ∙ c .before .before .before .before .before .before .loop .inv .1 .0,
         λ w.
             let t = body-turn (c .before .before .before .before .before .loop-test .taken) (c .before .before .before .before .before .before .loop .inv .1 .1 w) in
-            let e = c .before .before .before .before .past-literal .ensures (t .literal) (t .has) in
+            let e = c .before .before .before .before .past-item .ensures (t .item) (t .has) in
             t .on next (c .before .before .copy-nodes .last .1 .1 .1 .1 .0) (c .before .before .copy-nodes .result) e (c .before .before .copy-nodes .ensures (t .run next e)),
       ),
     )
@@ -64,7 +64,7 @@ copy-body-spec =
     μ-loop
     loop-holds
     add-first
-    past-literal-requires
+    past-item-requires
     copy-nodes-requires
     add-i
     loop-less

@@ -1,4 +1,5 @@
 -- `reading::terms::read_arguments`, `reading::terms::read_atom`, `reading::terms::read_term` meet their contracts: each way out is a law of `TermLaws`. Assumes nothing.
+use lib.Dec.{lit<}
 use Prim.Native.Nat.{ℕ, _<_, _+_, _*_}
 use borrow.Author.Needs.{needs}
 use native.Mathlib.Omega.{arith}
@@ -135,7 +136,7 @@ read-arguments-read-arguments-requires : (t : ℕ) → read-arguments-lts.Need-r
 read-arguments-read-arguments-requires t c κs = let c9 = c .before .before .before .before .before .before .before .before .before in let c11 = c9 .before .before in let c14 = c11 .before .before .before in let args = c14 .args in (omega arith, arguments-ready (args .left) (args .s .now) (args .k) (args .st) (args .table .now) (c9 .read-term .last .1 .1 .1 .0) (args .n) (c9 .read-term .result) (c14 .pre .1) (c11 .if1 .left) (c9 .read-term .ensures) (c .before .before .before .before .before .if2 .left) (c .before .next .result) (c .before .before .if3 .taken) (c .before .next .ensures) (c9 .read-term .kept .1 .1 .1 .0))
 
 read-arguments-counted-requires : (t : ℕ) → read-arguments-lts.Need-counted-requires (read-arguments-claims t) (read-arguments-at t) read-arguments.Post
-read-arguments-counted-requires t c κs = let c4 = c .before .before .before .before in let c8 = c4 .before .before .before .before in let c12 = c8 .before .before .before .before in let c14 = c12 .before .before in let c17 = c14 .before .before .before in let args = c17 .args in arguments-few (args .left) (args .s .now) (args .k) (args .st) (args .table .now) (c12 .read-term .last .1 .1 .1 .0) (args .n) (c12 .read-term .result) (c17 .pre .1) (c14 .if1 .left) (c12 .read-term .ensures) (c8 .if2 .left) (c .before .before .read-arguments .last .1 .1 .1 .1 .0) (c4 .next .result) (c .before .before .read-arguments .result) (c4 .next .ensures) (c .before .before .read-arguments .ensures)
+read-arguments-counted-requires t c κs = let c4 = c .before .before .before .before in let c8 = c4 .before .before .before .before in let c12 = c8 .before .before .before .before in let c14 = c12 .before .before in let c17 = c14 .before .before .before in let args = c17 .args in (arguments-few (args .left) (args .s .now) (args .k) (args .st) (args .table .now) (c12 .read-term .last .1 .1 .1 .0) (args .n) (c12 .read-term .result) (c17 .pre .1) (c14 .if1 .left) (c12 .read-term .ensures) (c8 .if2 .left) (c .before .before .read-arguments .last .1 .1 .1 .1 .0) (c4 .next .result) (c .before .before .read-arguments .result) (c4 .next .ensures) (c .before .before .read-arguments .ensures), lit< tt)
 
 read-arguments-same-length-2 : (t : ℕ) → read-arguments-lts.Need-same-length-2 (read-arguments-claims t) (read-arguments-at t) read-arguments.Post
 read-arguments-same-length-2 t c = search needs

@@ -8,7 +8,7 @@ returns : tie.Need-returns
 returns c = search needs
 
 add-items : tie.Need-add-items
-add-items c = omega (arith, c .before .before .before .pre (c .before .if1 .left))
+add-items c = omega (arith, c .before .before .before .pre .0 (c .before .if1 .left), c .before .before .before .pre .1)
 
 returns-2 : tie.Need-returns-2
 returns-2 c = search needs

@@ -1,8 +1,8 @@
--- `clauses::read_literal` meets its contract: each way out is a law of `LiteralLaws`. Assumes nothing.
-use Rattle.clauses.proofs.LiteralLaws.{literal-named, literal-other}
+-- `clauses::read_one` meets its contract: each way out is a law of `LiteralLaws`. Assumes nothing.
+use Rattle.clauses.proofs.LiteralLaws.{one-named, one-other}
 use borrow.Author.Needs.{needs}
-use Rattle.clauses.proofs.read_literal.Statement.{statement}
-use Rattle.clauses.proofs.read_literal.Tie as tie
+use Rattle.clauses.proofs.read_one.Statement.{statement}
+use Rattle.clauses.proofs.read_one.Tie as tie
 
 read-named-requires : tie.Need-read-named-requires
 read-named-requires c κs = search needs
@@ -11,7 +11,7 @@ same-length : tie.Need-same-length
 same-length c = search needs
 
 returns : tie.Need-returns
-returns c = search (literal-named, needs)
+returns c = search (one-named, needs)
 
 read-equation-requires : tie.Need-read-equation-requires
 read-equation-requires c κs = search needs
@@ -20,10 +20,10 @@ same-length-2 : tie.Need-same-length-2
 same-length-2 c = search needs
 
 returns-2 : tie.Need-returns-2
-returns-2 c = search (literal-other, needs)
+returns-2 c = search (one-other, needs)
 
-pub read-literal-spec : {M : Type 1} → statement M
-read-literal-spec =
+pub read-one-spec : {M : Type 1} → statement M
+read-one-spec =
     tie.close
     (tie.spec
     read-named-requires

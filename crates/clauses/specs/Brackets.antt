@@ -1,0 +1,19 @@
+-- Literals that are counted, and brackets, as the functions of this crate read them.
+use Prim.Native.Nat.{ℕ, suc, _+_}
+use mathlib.Core.List.{List}
+use Rattle.syntax.specs.Limits.{literals}
+use Rattle.syntax.specs.Terms.{Literal, Body}
+use Rattle.syntax.specs.Reading.{Cursor, Read, readTo, readSides}
+use Rattle.syntax.specs.declared.State.{State}
+
+-- the state with one literal more
+abbrev pub withLiteral : State → State
+withLiteral st = record { token = st .token; count = st .count; literals = st .literals + 1 }
+
+-- a side of a bracket up to a token of a kind, with so many brackets left
+abbrev pub sideAt : ℕ → List ℕ → ℕ → Cursor → Read Body
+sideAt left s end st = readTo left s end (suc literals) st
+
+-- a bracket, which is at hand, with so many brackets left inside it
+abbrev pub bracketAt : ℕ → List ℕ → Cursor → Read Literal
+bracketAt left s st = readSides (λ end st1. sideAt left s end st1) s st
