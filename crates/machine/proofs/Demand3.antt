@@ -36,7 +36,7 @@ none-then : (o r : Option Refusal) → _≡_ {A = Option Refusal} (elim o [ none
 none-then none r e = (refl, e)
 none-then (some x) r e = absurd (some-none x e)
 
-abbrev Passes : Sheet → Clause → Type 0
+abbrev pub Passes : Sheet → Clause → Type 0
 Passes sh cl = (n : ℕ) × (clauseFault (sh .declarations) n cl ≡ none)
 
 clauses-pass : (ds : List Declaration) (n : ℕ) (cls : List Clause) → clausesFault ds n cls ≡ none → (k : ℕ) (cl : Clause) → nth cls k ≡ some cl → (m : ℕ) × (clauseFault ds m cl ≡ none)
@@ -46,14 +46,14 @@ clauses-pass ds n (x ∷ xs) e zero cl h =
     (n, subst (λ (y : Clause). clauseFault ds n y ≡ none) (some-eq x cl h) (none-then (clauseFault ds n x) (clausesFault ds (suc n) xs) e .0))
 clauses-pass ds n (x ∷ xs) e (suc k) cl h = clauses-pass ds (suc n) xs (none-then (clauseFault ds n x) (clausesFault ds (suc n) xs) e .1) k cl h
 
-sheet-passes : (stored : Bool) (sh : Sheet) → sheetFault stored sh ≡ none → (n : ℕ) (cl : Clause) → clauseAt sh n ≡ some cl → Passes sh cl
+pub sheet-passes : (stored : Bool) (sh : Sheet) → sheetFault stored sh ≡ none → (n : ℕ) (cl : Clause) → clauseAt sh n ≡ some cl → Passes sh cl
 unfolding clauseAt
 sheet-passes stored sh e zero cl h = absurd (some-none cl (sym h))
 sheet-passes stored sh e (suc n) cl h = clauses-pass (sh .declarations) 1 (sh .clauses) (sheet-marks stored sh e) n cl h
 
 -- ---- one step keeps all alternatives safe
 
-unified-grows : {b b1 : List Binding} {t u : RTerm} → MostGeneral b t u b1 → Grows b b1
+pub unified-grows : {b b1 : List Binding} {t u : RTerm} → MostGeneral b t u b1 → Grows b b1
 unified-grows {b} m = subst (Grows b) (sym (m .extends)) (grows-more (m .newer) b)
 
 module _ (sh : Sheet) (passes : (n : ℕ) (cl : Clause) → clauseAt sh n ≡ some cl → Passes sh cl) (a : Alternative) (good : Good sh a) (c : ℕ) (rest : List Pending) where
@@ -101,7 +101,7 @@ module _ (sh : Sheet) (passes : (n : ℕ) (cl : Clause) → clauseAt sh n ≡ so
   worked-good falsity s l h = tt
   worked-good (either y z) s l h = (side-good y (s .1 .0) l h, (side-good z (s .1 .1) l h, tt))
 
-outcome-good : (sh : Sheet) → ((n : ℕ) (cl : Clause) → clauseAt sh n ≡ some cl → Passes sh cl) → (a : Alternative) → Good sh a → All (Good sh) (outcome sh a)
+pub outcome-good : (sh : Sheet) → ((n : ℕ) (cl : Clause) → clauseAt sh n ≡ some cl → Passes sh cl) → (a : Alternative) → Good sh a → All (Good sh) (outcome sh a)
 unfolding outcome workedOn Bounded
 outcome-good sh passes a good = go (a .literals) (good .safe) (good .bounded)
   where
@@ -187,7 +187,7 @@ unfolding goalFault
 goal-ends sh g e = walk-ends (bodyFault (sh .declarations) 0 1 nothing (g .body)) (none-then (undeclaredInGoal sh g) (walkFault (bodyFault (sh .declarations) 0 1 nothing (g .body))) e .1)
 
 -- the goal alone is safe
-start-good : (sh : Sheet) (g : Goal) → goalFault sh g ≡ none → All (Good sh) (start sh g)
+pub start-good : (sh : Sheet) (g : Goal) → goalFault sh g ≡ none → All (Good sh) (start sh g)
 unfolding start Shown Bounded Safe
 start-good sh g e = (
   record {

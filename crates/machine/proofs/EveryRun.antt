@@ -130,15 +130,15 @@ demand-3-run stored sh g s e allowance wanted room =
 accepted-eq : {A : Type 0} (x y : A) → accepted x ≡ accepted y → x ≡ y
 accepted-eq x y e = cc
 
-refused-accepted : {A : Type 0} (r : Refusal) (x : A) → refused r ≡ accepted x → ⊥
+pub refused-accepted : {A : Type 0} (r : Refusal) (x : A) → refused r ≡ accepted x → ⊥
 refused-accepted r x e = let z : _≡_ {A = ℕ} 0 1 = cc in omega arith
 
-faultless-none : {A : Type 0} (x y : A) (o : Option Refusal) → faultless x o ≡ accepted y → (o ≡ none) × (x ≡ y)
+pub faultless-none : {A : Type 0} (x y : A) (o : Option Refusal) → faultless x o ≡ accepted y → (o ≡ none) × (x ≡ y)
 unfolding faultless
 faultless-none x y none e = (refl, accepted-eq x y e)
 faultless-none x y (some r) e = absurd (refused-accepted r y e)
 
-sheet-passes : (stored : Bool) (s : List ℕ) (sh : Sheet) → checkedWith stored s ≡ accepted sh → sheetFault stored sh ≡ none
+pub sheet-passes : (stored : Bool) (s : List ℕ) (sh : Sheet) → checkedWith stored s ≡ accepted sh → sheetFault stored sh ≡ none
 unfolding checkedWith checkedFrom
 sheet-passes stored s sh e = go (sheetOf s) e
   where
@@ -148,7 +148,7 @@ sheet-passes stored s sh e = go (sheetOf s) e
         let f : (sheetFault stored x ≡ none) × (x ≡ sh) = faultless-none x sh (sheetFault stored x) q in
         subst (λ (y : Sheet). sheetFault stored y ≡ none) (f .1) (f .0)
 
-goal-passes : (sh : Sheet) (s : List ℕ) (g : Goal) → checkedGoal sh s ≡ accepted g → goalFault sh g ≡ none
+pub goal-passes : (sh : Sheet) (s : List ℕ) (g : Goal) → checkedGoal sh s ≡ accepted g → goalFault sh g ≡ none
 unfolding checkedGoal checkedGoalFrom
 goal-passes sh s g e = go (goalOutcome s) e
   where

@@ -53,7 +53,7 @@ SameAll b ts us = resolveAll b ts ≡ resolveAll b us
 same-closed : (b : List Binding) (t u : RTerm) → Same b t u → Closed b t → Closed b u
 same-closed b t u e h = subst (λ (x : RTerm). T (closed x)) e h
 
-app-same : (b : List Binding) (f g : List ℕ) (ts us : RTerms) → Same b (app f ts) (app g us) → (f ≡ g) × SameAll b ts us
+pub app-same : (b : List Binding) (f g : List ℕ) (ts us : RTerms) → Same b (app f ts) (app g us) → (f ≡ g) × SameAll b ts us
 app-same b f g ts us e = go (sym (resolve-app b f ts) ∙ (e ∙ resolve-app b g us))
   where
     name : (x y : RTerms) → app f x ≡ app g y → f ≡ g
@@ -65,7 +65,7 @@ app-same b f g ts us e = go (sym (resolve-app b f ts) ∙ (e ∙ resolve-app b g
     go : app f (resolveAll b ts) ≡ app g (resolveAll b us) → (f ≡ g) × SameAll b ts us
     go p = (name (resolveAll b ts) (resolveAll b us) p, args (resolveAll b ts) (resolveAll b us) p)
 
-cons-same : (b : List Binding) (t u : RTerm) (ts us : RTerms) → SameAll b (rcons t ts) (rcons u us) → Same b t u × SameAll b ts us
+pub cons-same : (b : List Binding) (t u : RTerm) (ts us : RTerms) → SameAll b (rcons t ts) (rcons u us) → Same b t u × SameAll b ts us
 cons-same b t u ts us e = go (sym (resolve-cons b t ts) ∙ (e ∙ resolve-cons b u us))
   where
     head : (x y : RTerm) (xs ys : RTerms) → rcons x xs ≡ rcons y ys → x ≡ y
@@ -77,14 +77,14 @@ cons-same b t u ts us e = go (sym (resolve-cons b t ts) ∙ (e ∙ resolve-cons 
     go : rcons (resolve b t) (resolveAll b ts) ≡ rcons (resolve b u) (resolveAll b us) → Same b t u × SameAll b ts us
     go p = (head (resolve b t) (resolve b u) (resolveAll b ts) (resolveAll b us) p, tail (resolve b t) (resolve b u) (resolveAll b ts) (resolveAll b us) p)
 
-nil-cons : (b : List Binding) (u : RTerm) (us : RTerms) → SameAll b rnil (rcons u us) → ⊥
+pub nil-cons : (b : List Binding) (u : RTerm) (us : RTerms) → SameAll b rnil (rcons u us) → ⊥
 nil-cons b u us e = go (resolve b u) (resolveAll b us) (sym (resolve-nil b) ∙ (e ∙ resolve-cons b u us))
   where
     go : (x : RTerm) (xs : RTerms) → rnil ≡ rcons x xs → ⊥
     go x xs p = let z : _≡_ {A = ℕ} 0 1 = cc in omega arith
 
 -- equal lists have the same number of arguments
-same-arity : (b : List Binding) (c d : ℕ) (ts us : Terms) → SameAll b (copiedAll c ts) (copiedAll d us) → arity ts ≡ arity us
+pub same-arity : (b : List Binding) (c d : ℕ) (ts us : Terms) → SameAll b (copiedAll c ts) (copiedAll d us) → arity ts ≡ arity us
 same-arity b c d nil nil e = refl
 same-arity b c d nil (cons u us) e = absurd (nil-cons b (copied d u) (copiedAll d us) e)
 same-arity b c d (cons t ts) nil e = absurd (nil-cons b (copied c t) (copiedAll c ts) (sym e))
@@ -160,7 +160,7 @@ sound-both t u τ c b s e = go (isGround τ t || isGround τ u) (λ h. either (i
     go true k = sound-term u (groundTerm t τ) c b (sound-term t τ c b s (sides (k tt) .0)) (sides (k tt) .1)
     go false k = s
 
-same-predicate : (f g : List ℕ) (m n : ℕ) → f ≡ g → m ≡ n → T (samePredicate f m g n)
+pub same-predicate : (f g : List ℕ) (m n : ℕ) → f ≡ g → m ≡ n → T (samePredicate f m g n)
 same-predicate f g m n p q =
     subst (λ (x : ℕ). T (samePredicate f m g x)) q (subst (λ (x : List ℕ). T (samePredicate f m x m)) p (and (eqb m m) (sameName f f) (eqb-refl m) (name-refl f)))
 
@@ -271,7 +271,7 @@ marked-same m b c d (k ∷ ks) (cons t ts) (cons u us) e h =
     (λ l. same-closed b (copied c t) (copied d u) (cons-same b (copied c t) (copied d u) (copiedAll c ts) (copiedAll d us) e .0) (h .0 l), marked-same m b c d ks ts us (cons-same b (copied c t) (copied d u) (copiedAll c ts) (copiedAll d us) e .1) (h .1))
 
 -- the marks depend on the predicate alone
-marks-same : (ds : List Declaration) (a h : Atom) → a .name ≡ h .name → arity (a .args) ≡ arity (h .args) → marksOf ds a ≡ marksOf ds h
+pub marks-same : (ds : List Declaration) (a h : Atom) → a .name ≡ h .name → arity (a .args) ≡ arity (h .args) → marksOf ds a ≡ marksOf ds h
 unfolding marksOf
 marks-same [] a h p q = refl
 marks-same (d ∷ ds) a h p q = let r : marksOf ds a ≡ marksOf ds h = marks-same ds a h p q in

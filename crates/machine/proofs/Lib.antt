@@ -14,6 +14,11 @@ pub mod Next
 pub mod Low
 pub mod EveryRun
 pub mod Turns
+pub mod MoreSteps
+pub mod Determinacy
+pub mod FirstPair
+pub mod AtMostOne
+pub mod DeterminacyCases
 pub mod Earlier
 pub mod Witness
 pub mod Names

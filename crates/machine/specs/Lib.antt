@@ -9,3 +9,5 @@ pub mod Earlier
 pub mod Counts
 pub mod Reached
 pub mod Claims
+pub mod MoreSteps
+pub mod Determinacy
