@@ -13,14 +13,12 @@ use Rattle.syntax.proofs.Words.{marker-items}
 use Rattle.rules.specs.Modes.{Known, everything, marksFor, listOf, firstOpen, groundMarked, settle, openInput, Walk, known, unlessFault, walkOn, inBoth, callWalk, literalWalk, bodyFault}
 use Rattle.marking.specs.Standing.{Stands, LiteralStands, call-stands, equation-stands, either-stands, BodyStands, also-stands}
 use Rattle.words.specs.Tables.{Has}
-use Rattle.words.specs.Items.{Item, plain-call, plain-equation, plain-truth, plain-falsity, itemWords}
 use Rattle.marking.specs.Tables.{TermAt, PairAt, MarkedAt, JudgedAt, DeclarationsAt, AtomAt, LiteralAt, BodyAt}
 use Rattle.marking.specs.Answers.{checkedOf}
-use Rattle.modes.specs.Answers.{isFault, walkBy, walkOf, Passes, PastLiteral, PastBody}
+use Rattle.modes.specs.Answers.{isFault, walkBy, Passes, PastLiteral, PastBody}
 use Rattle.modes.specs.Items.{SideAt}
 use Rattle.marking.specs.declared.Checked.{Checked}
 use Rattle.marking.specs.declared.Checked.the-variants.{Fine, Fault}
-use Rattle.modes.specs.declared.Walked.{Walked}
 use Rattle.modes.specs.declared.Passed.{Passed}
 use Rattle.words.proofs.Laws.{has-left, has-right, has-inside}
 use Rattle.marking.proofs.Equating.{numbered, all-numbered}
@@ -153,7 +151,27 @@ pub record EquationAt (g table : List ℕ) (p : ℕ) (l : Literal) : Type 0 wher
   pub left-is : pair .left ≡ left .term
   pub is : l ≡ equation (pair .left) (pair .right)
 
-module _ {g table : List ℕ} {p : ℕ} (kind : ℕ) (e : kind ≡ getD table p 0) where
+-- a literal that is no bracket is one item and counts for one literal
+record Plain (l : Literal) : Type 0 where
+  one-item : literalLength l ≡ 1
+  one-literal : literalsIn l ≡ 1
+
+plain-by : {g table : List ℕ} {p : ℕ} {l : Literal} → getD table p 0 < leftKind → View g table p l → Plain l
+unfolding literalLength literalsIn
+plain-by s (view-truth q) = record { one-item = refl; one-literal = refl }
+plain-by s (view-falsity q) = record { one-item = refl; one-literal = refl }
+plain-by s (view-call q h k) = record { one-item = refl; one-literal = refl }
+plain-by s (view-equation q ht hu kt ku) = record { one-item = refl; one-literal = refl }
+plain-by s (view-either q h ky kz) = absurd (omega arith)
+
+plain-passes : {g table : List ℕ} {p : ℕ} (s : getD table p 0 < leftKind) (ds : List Declaration) (c m : ℕ) (τ σ : Known) {next : ℕ} (w : LiteralAt g table p)
+    → known σ ≡ literalWalk ds c m τ (w .literal) → next ≡ p + length (literalWords (w .literal))
+    → PastLiteral (record { fault = Fine; known = σ; next = next; items = 1; literal = m + 1 }) ds c m τ p (w .literal)
+plain-passes s ds c m τ σ w e n =
+    let q : Plain (w .literal) = plain-by s (view w) in
+    record { walk = e; next-is = λ t. n; items-are = λ t. sym (q .one-item); literal-is = λ t. omega (arith, q .one-literal) }
+
+module _ {g table : List ℕ} {p : ℕ} (kind : ℕ) (e : kind ≡ getD table p 0) (most : getD table p 0 < leftKind) where
   truth-by : {l : Literal} → kind ≡ truthKind → View g table p l → l ≡ truth
   truth-by k (view-truth q) = refl
   truth-by k (view-falsity q) = absurd (omega arith)
@@ -187,21 +205,38 @@ module _ {g table : List ℕ} {p : ℕ} (kind : ℕ) (e : kind ≡ getD table p 
   pub atom-at : kind ≡ callKind → LiteralAt g table p → AtomAt g table (p + 1)
   atom-at k w = call-is k w .atom
 
-  -- ---- the walk past one literal that is no bracket
-  pub walked-truth : kind ≡ truthKind → (ds : List Declaration) (c m : ℕ) (τ : Known) (w : LiteralAt g table p) → walkBy Fine τ ≡ literalWalk ds c m τ (w .literal)
-  unfolding literalWalk
-  walked-truth k ds c m τ w = sym (ap (literalWalk ds c m τ) (truth-is k w))
+  -- ---- the walk past it
+  module _ (ds : List Declaration) (c m : ℕ) (τ : Known) where
+    pub walked-truth : kind ≡ truthKind → (w : LiteralAt g table p)
+        → PastLiteral (record { fault = Fine; known = τ; next = p + 1; items = 1; literal = m + 1 }) ds c m τ p (w .literal)
+    unfolding literalWalk literalWords
+    walked-truth k w =
+        let one : length (literalWords (w .literal)) ≡ 1 = ap (λ (x : Literal). length (literalWords x)) (truth-is k w) in
+        plain-passes most ds c m τ τ w (sym (ap (literalWalk ds c m τ) (truth-is k w))) (omega arith)
 
-  pub walked-falsity : kind ≡ falsityKind → (ds : List Declaration) (c m : ℕ) (τ : Known) (w : LiteralAt g table p) → walkBy Fine everything ≡ literalWalk ds c m τ (w .literal)
-  unfolding literalWalk
-  walked-falsity k ds c m τ w = sym (ap (literalWalk ds c m τ) (falsity-is k w))
+    pub walked-falsity : kind ≡ falsityKind → (w : LiteralAt g table p)
+        → PastLiteral (record { fault = Fine; known = everything; next = p + 1; items = 1; literal = m + 1 }) ds c m τ p (w .literal)
+    unfolding literalWalk literalWords
+    walked-falsity k w =
+        let one : length (literalWords (w .literal)) ≡ 1 = ap (λ (x : Literal). length (literalWords x)) (falsity-is k w) in
+        plain-passes most ds c m τ everything w (sym (ap (literalWalk ds c m τ) (falsity-is k w))) (omega arith)
 
-  pub walked-call : kind ≡ callKind → (ds : List Declaration) (c m : ℕ) (τ : Known) (x : Walk) → ((a : AtomAt g table (p + 1)) → x ≡ callWalk ds c m τ (a .atom))
-      → (w : LiteralAt g table p) → x ≡ literalWalk ds c m τ (w .literal)
-  unfolding literalWalk
-  walked-call k ds c m τ x h w = h (call-is k w .atom) ∙ sym (ap (literalWalk ds c m τ) (call-is k w .is))
+    pub walked-call : kind ≡ callKind → (r : Passed)
+        → ((a : AtomAt g table (p + 1)) → Passes r (callWalk ds c m τ (a .atom)) (p + 1 + length (atomWords (a .atom))) 1 (m + 1))
+        → (w : LiteralAt g table p) → PastLiteral r ds c m τ p (w .literal)
+    unfolding literalWalk literalWords
+    walked-call k r h w =
+        let q : CallAt g table p (w .literal) = call-is k w in
+        let one : Plain (w .literal) = plain-by most (view w) in
+        let words : length (literalWords (w .literal)) ≡ suc (length (atomWords (q .atom .atom))) = ap (λ (x : Literal). length (literalWords x)) (q .is) in
+        record {
+          walk = h (q .atom) .walk ∙ sym (ap (literalWalk ds c m τ) (q .is));
+          next-is = λ t. omega (arith, h (q .atom) .next-is t);
+          items-are = λ t. h (q .atom) .items-are t ∙ sym (one .one-item);
+          literal-is = λ t. omega (arith, h (q .atom) .literal-is t, one .one-literal);
+        }
 
-  module _ (least : callKind ≤ kind) (most : getD table p 0 < leftKind) where
+  module _ (least : callKind ≤ kind) where
     term-by : {l : Literal} → View g table p l → TermAt table (p + 1)
     term-by (view-truth q) = absurd (omega arith)
     term-by (view-falsity q) = absurd (omega arith)
@@ -226,20 +261,34 @@ module _ {g table : List ℕ} {p : ℕ} (kind : ℕ) (e : kind ≡ getD table p 
       equation-by (view-either q h sy sz) = absurd (omega arith)
 
       module _ (next : ℕ) (n : (u : TermAt table (p + 1)) → next ≡ p + 1 + length (termWords (u .term))) where
-        equation-at : (w : LiteralAt g table p) → EquationAt g table p (w .literal)
+        pub equation-at : (w : LiteralAt g table p) → EquationAt g table p (w .literal)
         equation-at w = equation-by (view w)
 
         pub sides-at : LiteralAt g table p → PairAt g table (p + 1) next
         sides-at w = subst⁻¹ (PairAt g table (p + 1)) (n (equation-at w .left)) (equation-at w .pair)
 
+        abbrev pub right-term : LiteralAt g table p → TermAt table next
+        right-term w = record {
+          term = equation-at w .pair .right;
+          has = subst⁻¹ (λ (j : ℕ). Has table j (termWords (equation-at w .pair .right))) (n (equation-at w .left)) (equation-at w .pair .has-right);
+          numbered = numbered (equation-at w .pair .right-stands);
+        }
+
         pub walked-equation : (ds : List Declaration) (c m : ℕ) (τ after : Known) → ((u : PairAt g table (p + 1) next) → after ≡ settle (u .left) (u .right) τ)
-            → (w : LiteralAt g table p) → walkBy Fine after ≡ literalWalk ds c m τ (w .literal)
-        unfolding literalWalk
-        walked-equation ds c m τ after h w =
+            → {stop : ℕ} → ((u : TermAt table next) → stop ≡ next + length (termWords (u .term))) → (w : LiteralAt g table p)
+            → PastLiteral (record { fault = Fine; known = after; next = stop; items = 1; literal = m + 1 }) ds c m τ p (w .literal)
+        unfolding literalWalk literalWords
+        walked-equation ds c m τ after h {stop} b w =
             let q : EquationAt g table p (w .literal) = equation-at w in
             let r : (u : PairAt g table (p + 1) (p + 1 + length (termWords (q .left .term)))) → after ≡ settle (u .left) (u .right) τ =
             subst (λ (j : ℕ). (u : PairAt g table (p + 1) j) → after ≡ settle (u .left) (u .right) τ) (n (q .left)) h in
-            ap known (r (q .pair)) ∙ sym (ap (literalWalk ds c m τ) (q .is))
+            let words : length (literalWords (w .literal)) ≡ suc (length (termWords (q .pair .left) ++ termWords (q .pair .right))) =
+            ap (λ (x : Literal). length (literalWords x)) (q .is) in
+            let both : length (termWords (q .pair .left) ++ termWords (q .pair .right)) ≡ length (termWords (q .pair .left)) + length (termWords (q .pair .right)) =
+            length-append (termWords (q .pair .left)) (termWords (q .pair .right)) in
+            let same : length (termWords (q .pair .left)) ≡ length (termWords (q .left .term)) = ap (λ (t : Term). length (termWords t)) (q .left-is) in
+            let ends : stop ≡ next + length (termWords (q .pair .right)) = b (right-term w) in
+            plain-passes most ds c m τ after w (ap known (r (q .pair)) ∙ sym (ap (literalWalk ds c m τ) (q .is))) (omega (arith, n (q .left)))
 
 -- ---- a call
 
@@ -259,43 +308,16 @@ module _ (s declared : List ℕ) (n : ℕ) (g table : List ℕ) (p marks : ℕ)
       → ((u : JudgedAt table p marks) → f ≡ checkedOf (openInput c l (u .atom) (firstOpen input τ (u .listed) (listOf (u .atom .args)) 1)))
       → (stop : ℕ) → ((u : TermAt table p) → stop ≡ p + length (termWords (u .term))) → (after : Known)
       → ((u : MarkedAt table (p + 3) stop marks 2) → after ≡ groundMarked (u .wanted) (u .listed) (listOf (u .terms)) τ)
-      → (d : DeclarationsAt s declared n) (w : AtomAt g table p) → walkBy f after ≡ callWalk (d .list) c l τ (w .atom)
+      → (d : DeclarationsAt s declared n) (w : AtomAt g table p)
+      → Passes (record { fault = f; known = after; next = stop; items = 1; literal = l + 1 }) (callWalk (d .list) c l τ (w .atom)) (p + length (atomWords (w .atom))) 1 (l + 1)
   unfolding callWalk
-  walked-fault τ c l f ef stop es after h d w =
-      walk-is _ f after (groundMarked output (marksFor (d .list) (w .atom)) (listOf (w .atom .args)) τ) (ef (judged-at d w)) (h (judged-marked table p marks stop es output (judged-at d w)))
-
--- ---- a literal that is no bracket, as an item
-
--- it is one item and counts for one literal
-record Plain (l : Literal) (w : List ℕ) : Type 0 where
-  item : Item
-  words : itemWords item ≡ w
-  one-item : literalLength l ≡ 1
-  one-literal : literalsIn l ≡ 1
-
-plain-by : {g table : List ℕ} {p : ℕ} {l : Literal} → getD table p 0 < leftKind → View g table p l → Plain l (literalWords l)
-unfolding itemWords literalWords literalLength literalsIn
-plain-by s (view-truth q) = record { item = plain-truth; words = refl; one-item = refl; one-literal = refl }
-plain-by s (view-falsity q) = record { item = plain-falsity; words = refl; one-item = refl; one-literal = refl }
-plain-by s (view-call {a} q h k) = record { item = plain-call a; words = refl; one-item = refl; one-literal = refl }
-plain-by s (view-equation {t} {u} q ht hu kt ku) = record { item = plain-equation t u; words = refl; one-item = refl; one-literal = refl }
-plain-by s (view-either q h ky kz) = absurd (omega arith)
-
-module _ {g table : List ℕ} {p : ℕ} (s : getD table p 0 < leftKind) where
-  plain : (w : LiteralAt g table p) → Plain (w .literal) (literalWords (w .literal))
-  plain w = plain-by s (view w)
-
-  pub plain-item : LiteralAt g table p → (x : Item) × Has table p (itemWords x)
-  plain-item w = (plain w .item, subst⁻¹ (Has table p) (plain w .words) (w .has))
-
-  pub plain-passes : (ds : List Declaration) (c literal : ℕ) (τ : Known) {next : ℕ} (r : Walked)
-      → ((i : Item) → Has table p (itemWords i) → next ≡ p + length (itemWords i)) → (w : LiteralAt g table p) → walkOf r ≡ literalWalk ds c literal τ (w .literal)
-      → PastLiteral (record { fault = r .fault; known = r .known; next = next; items = 1; literal = literal + 1 }) ds c literal τ p (w .literal)
-  plain-passes ds c literal τ r n w e = record {
-    walk = e;
-    next-is = λ t. n (plain w .item) (subst⁻¹ (Has table p) (plain w .words) (w .has)) ∙ ap (λ (ws : List ℕ). p + length ws) (plain w .words);
-    items-are = λ t. sym (plain w .one-item);
-    literal-is = λ t. omega (arith, plain w .one-literal);
+  walked-fault τ c l f ef stop es after h d w = record {
+    walk =
+        walk-is _ f after (groundMarked output (marksFor (d .list) (w .atom)) (listOf (w .atom .args)) τ) (ef (judged-at d w))
+        (h (judged-marked table p marks stop es output (judged-at d w)));
+    next-is = λ t. es (record { term = termOf (w .atom); has = w .has; numbered = numbered (w .stands) });
+    items-are = λ t. refl;
+    literal-is = λ t. refl;
   }
 
 -- ---- a bracket

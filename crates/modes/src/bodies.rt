@@ -23,12 +23,12 @@ use words::past_item;
 use words::word_at;
 ghost use mathlib.Core.Path.{_≡_};
 ghost use Prim.Native.Nat.{_+_, _≤_, _<_};
-ghost use lib.ListN.{getD};
-ghost use Rattle.syntax.specs.Words.{leftKind};
-ghost use Rattle.rules.specs.Modes.{undeclaredBody, callWalk, literalWalk, bodyFault};
+ghost use lib.ListN.{length, getD};
+ghost use Rattle.syntax.specs.Words.{atomWords, leftKind};
+ghost use Rattle.rules.specs.Modes.{undeclaredBody, callWalk, bodyFault};
 ghost use Rattle.marking.specs.Tables.{DeclarationsAt, AtomAt, LiteralAt, BodyAt};
 ghost use Rattle.marking.specs.Answers.{checkedOf};
-ghost use Rattle.modes.specs.Answers.{walkOf, PastLiteral, PastBody};
+ghost use Rattle.modes.specs.Answers.{walkOf, Passes, PastLiteral, PastBody};
 ghost use Rattle.words.specs.Tables.{Has};
 ghost use Rattle.words.specs.Items.{Item, itemWords};
 ghost use Rattle.modes.specs.Items.{ItemAt, SideAt, undeclaredItem, literalsAt};
@@ -114,24 +114,29 @@ fn call_walk(
     clause: usize,
     literal: usize,
     known: Known,
-) -> Walked
+) -> Passed
     requires { ⌜ DeclarationsAt (now s) (now declared) n ⌝ }
     requires { ⌜ AtomAt (now g) (now table) p ⌝ }
+    requires { ⌜ literal ≤ p ⌝ }
     ensures { λ r. ⌜ ((d : DeclarationsAt (now (s .entry)) (now (declared .entry)) n) (w : AtomAt (now (g .entry)) (now (table .entry)) p)
-        → walkOf r ≡ callWalk (d .list) clause literal known (w .atom)) ⌝ }
+        → Passes r (callWalk (d .list) clause literal known (w .atom)) (p + length (atomWords (w .atom))) 1 (literal + 1)) ⌝ }
 {
     let marks = marks_of(s, declared, n, g, table, p);
     let from = p + NODE_WORDS;
     let stop = past(table, p);
     let after = ground_marked(table, from, stop, marks, OUTPUT, known);
     let fault = call_fault(table, p, marks, known, clause, literal);
-    Walked {
+    let more = literal + 1;
+    Passed {
         fault,
         known: after,
+        next: stop,
+        items: 1,
+        literal: more,
     }
 }
 
-// A literal that is no bracket: its fault, or what is known after it.
+// A literal that is no bracket. A literal takes a word or more, so its number is at most its place and one.
 fn plain_walk(
     s: &[u8],
     declared: &[u32],
@@ -142,39 +147,50 @@ fn plain_walk(
     clause: usize,
     literal: usize,
     known: Known,
-) -> Walked
+) -> Passed
     requires { ⌜ DeclarationsAt (now s) (now declared) n ⌝ }
     requires { ⌜ LiteralAt (now g) (now table) p ⌝ }
-    requires { ⌜ getD (now table) p 0 < leftKind ⌝ }
+    requires { ⌜ (getD (now table) p 0 < leftKind) × (literal ≤ p + 1) ⌝ }
     ensures { λ r. ⌜ ((d : DeclarationsAt (now (s .entry)) (now (declared .entry)) n) (w : LiteralAt (now (g .entry)) (now (table .entry)) p)
-        → walkOf r ≡ literalWalk (d .list) clause literal known (w .literal)) ⌝ }
+        → PastLiteral r (d .list) clause literal known p (w .literal)) ⌝ }
 {
     let kind = word_at(table, p);
+    let q = p + 1;
+    let more = literal + 1;
     if kind == TRUTH_KIND {
-        return Walked {
+        return Passed {
             fault: Checked::Fine,
             known,
+            next: q,
+            items: 1,
+            literal: more,
         };
     }
     if kind == FALSITY_KIND {
-        return Walked {
+        return Passed {
             fault: Checked::Fine,
             known: [true; VARIABLES],
+            next: q,
+            items: 1,
+            literal: more,
         };
     }
-    let q = p + 1;
     if kind == CALL_KIND {
         return call_walk(s, declared, n, g, table, q, clause, literal, known);
     }
     let right = past(table, q);
+    let next = past(table, right);
     let after = settle(g, table, q, right, known);
-    Walked {
+    Passed {
         fault: Checked::Fine,
         known: after,
+        next,
+        items: 1,
+        literal: more,
     }
 }
 
-// One literal. A literal takes a word or more, so its number is at most its place and one.
+// One literal.
 fn literal_walk(
     s: &[u8],
     declared: &[u32],
@@ -195,18 +211,7 @@ fn literal_walk(
     if LEFT_KIND <= word_at(table, p) {
         return either_walk(s, declared, n, g, table, p, clause, literal, known);
     }
-    let w = plain_walk(s, declared, n, g, table, p, clause, literal, known);
-    let fault = w.fault;
-    let after = w.known;
-    let next = past_item(table, p);
-    let more = literal + 1;
-    Passed {
-        fault,
-        known: after,
-        next,
-        items: 1,
-        literal: more,
-    }
+    plain_walk(s, declared, n, g, table, p, clause, literal, known)
 }
 
 // A bracket: both sides from what is known before it; behind it is known what both leave.

@@ -222,9 +222,16 @@ module _ (most : ℕ) (s : List ℕ) (st : State) where
     atom-term (fault k b) g = g
     atom-term (ok a after) g = g
 
-    pub term-name : (st .token .kind ≡ variableKind → ⊥) → (st .token .kind ≡ numeralKind → ⊥) → st .token .kind ≡ nameKind → Gives atomWords one s st entry exit n r (readAtom most s (cursorOf s entry st)) → Gives termWords one s st entry exit n r (readTerm most s (cursorOf s entry st))
+    pub term-name : st .token .kind ≡ nameKind → Gives atomWords one s st entry exit n r (readAtom most s (cursorOf s entry st)) → Gives termWords one s st entry exit n r (readTerm most s (cursorOf s entry st))
     unfolding termWith readAtom
-    term-name f h e g = subst⁻¹ (Gives termWords one s st entry exit n r) (term-by most s (cursorOf s entry st) aName (start-name (st .token .kind) f h e)) (atom-term (readAtom most s (cursorOf s entry st)) g)
+    term-name e g =
+        subst⁻¹ (Gives termWords one s st entry exit n r)
+        (term-by most s (cursorOf s entry st) aName (start-name (st .token .kind) (λ q. absurd (omega (arith, e, q))) (λ q. absurd (omega (arith, e, q))) e))
+        (atom-term (readAtom most s (cursorOf s entry st)) g)
+
+    -- a term that begins with no name is read the same whatever brackets are left
+    pub term-simple : ((k : ℕ) → Gives termWords one s st entry exit n r (readTerm k s (cursorOf s entry st))) → Gives termWords one s st entry exit n r (readTerm most s (cursorOf s entry st))
+    term-simple g = g most
 
     pub term-other : (st .token .kind ≡ variableKind → ⊥) → (st .token .kind ≡ numeralKind → ⊥) → (st .token .kind ≡ nameKind → ⊥) → Refused st (wrongNumber (st .token .kind)) r → Gives termWords one s st entry entry n r (readTerm most s (cursorOf s entry st))
     unfolding termWith

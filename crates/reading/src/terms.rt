@@ -23,7 +23,7 @@ use texts::first_kept;
 use texts::is_anonymous;
 ghost use mathlib.Core.Path.{_≡_};
 ghost use mathlib.Core.List.{[], _∷_};
-ghost use Prim.Native.Nat.{_+_, _*_, _-_, _≤_, _<_, _^_};
+ghost use Prim.Native.Nat.{ℕ, _+_, _*_, _-_, _≤_, _<_, _^_};
 ghost use lib.ListN.{length, set};
 ghost use Rattle.syntax.specs.Limits.{sheetBytes, variables};
 ghost use Rattle.syntax.specs.Spans.{packed, met, Held};
@@ -243,10 +243,12 @@ fn close(st: State, r: Parsed, table: &mut [u32], n: usize) -> Parsed
     }
 }
 
-pub fn read_term(s: &[u8], left: usize, st: State, table: &mut [u32], n: usize) -> Parsed
+// A term that begins with no name: a variable or a numeral, or a token that cannot stand here. It has no brackets, so none are counted.
+fn read_simple(s: &[u8], st: State, table: &mut [u32], n: usize) -> Parsed
     requires { ⌜ Ready (now s) st (now table) n 0 ⌝ }
-    ensures { λ r. ⌜ Gives termWords one (now (s .entry)) st (now (table .entry)) (now (table .exit)) n r
-        (readTerm left (now (s .entry)) (cursorOf (now (s .entry)) (now (table .entry)) st)) ⌝ }
+    requires { ⌜ (st .token .kind ≡ nameKind → ⊥) ⌝ }
+    ensures { λ r. ⌜ ((most : ℕ) → Gives termWords one (now (s .entry)) st (now (table .entry)) (now (table .exit)) n r
+        (readTerm most (now (s .entry)) (cursorOf (now (s .entry)) (now (table .entry)) st))) ⌝ }
 {
     let t = st.token;
     let kind = t.kind;
@@ -256,12 +258,21 @@ pub fn read_term(s: &[u8], left: usize, st: State, table: &mut [u32], n: usize) 
     if kind == NUMERAL {
         return read_numeral(s, st, table, n);
     }
-    if kind == NAME {
-        let own = st;
-        let r = read_atom(s, left, own, table, n);
-        return r;
-    }
     wrong(st)
+}
+
+// A term. Small, so that a name's node is read without a call between.
+pub fn read_term(s: &[u8], left: usize, st: State, table: &mut [u32], n: usize) -> Parsed
+    requires { ⌜ Ready (now s) st (now table) n 0 ⌝ }
+    ensures { λ r. ⌜ Gives termWords one (now (s .entry)) st (now (table .entry)) (now (table .exit)) n r
+        (readTerm left (now (s .entry)) (cursorOf (now (s .entry)) (now (table .entry)) st)) ⌝ }
+{
+    let t = st.token;
+    let kind = t.kind;
+    if kind == NAME {
+        return read_atom(s, left, st, table, n);
+    }
+    read_simple(s, st, table, n)
 }
 
 // A list of terms after its opening bracket, of at most k.

@@ -7,7 +7,7 @@ use Rattle.syntax.specs.Terms.{literalsOf}
 use Rattle.syntax.specs.Words.{bodyWords, sideItems}
 use Rattle.rules.specs.Modes.{bodyFault}
 use Rattle.marking.specs.Tables.{DeclarationsAt, BodyAt}
-use Rattle.modes.proofs.Walking.{literal-room, plain-item, plain-passes, either-at, left-stops, right-at, right-literal, right-further, right-stops, both-pass, both-room, side-body, Ahead, begun, turn, walk-ended, walk-stopped, further-on, rises, walk-on}
+use Rattle.modes.proofs.Walking.{literal-room, either-at, left-stops, right-at, right-literal, right-further, right-stops, both-pass, both-room, side-body, Ahead, begun, turn, walk-ended, walk-stopped, further-on, rises, walk-on}
 use borrow.Fn.Kinds.{In}
 use borrow.Fn.PlainCycle.{Measures, is, falls, and}
 use Rattle.modes.proofs.bodies.either_walk.Reads as either-walk
@@ -26,7 +26,6 @@ use Rattle.marking.proofs.terms.in_both.Reads as in-both-reads
 use Rattle.modes.proofs.bodies.plain_walk.Reads as plain-walk-reads
 use Rattle.modes.proofs.is_fault.Reads as is-fault-reads
 use Rattle.syntax.proofs.items_of_side.Reads as items-of-side-reads
-use Rattle.words.proofs.past_item.Reads as past-item-reads
 use Rattle.words.proofs.word_at.Reads as word-at-reads
 use Rattle.modes.proofs.bodies.+either_walk+literal_walk+literals_walk+side_walk.{
   statement,
@@ -104,8 +103,6 @@ literal-walk-claims t = (
   either-walk.Post,
   plain-walk-reads.Asked,
   plain-walk-reads.Learnt,
-  past-item-reads.Asked,
-  past-item-reads.Learnt,
 )
 
 abbrev literals-walk-claims : ℕ → literals-walk-lts.Claims
@@ -208,16 +205,10 @@ literal-walk-returns : (t : ℕ) → literal-walk-lts.Need-returns (literal-walk
 literal-walk-returns t c = c .either-walk .ensures
 
 literal-walk-plain-walk-requires : (t : ℕ) → literal-walk-lts.Need-plain-walk-requires (literal-walk-claims t) (literal-walk-at t) literal-walk.Post
-literal-walk-plain-walk-requires t c κs = let e = c .before .before .before .before .before .before in (e .pre .1 .0, (e .pre .1 .1 .0, omega (arith, c .before .word-at .ensures, c .if1 .left)))
-
-literal-walk-past-item-requires : (t : ℕ) → literal-walk-lts.Need-past-item-requires (literal-walk-claims t) (literal-walk-at t) literal-walk.Post
-literal-walk-past-item-requires t c κs = let e = c .before .before .before .before .before .before .before .before in plain-item (omega (arith, c .before .before .before .word-at .ensures, c .before .before .if1 .left)) (e .pre .1 .1 .0)
-
-literal-walk-add-more : (t : ℕ) → literal-walk-lts.Need-add-more (literal-walk-claims t) (literal-walk-at t) literal-walk.Post
-literal-walk-add-more t c = let e = c .before .before .before .before .before .before .before .before .before in omega (arith, e .pre .1 .1 .1, literal-room (e .pre .1 .1 .0))
+literal-walk-plain-walk-requires t c κs = let e = c .before .before .before .before .before .before in (e .pre .1 .0, (e .pre .1 .1 .0, (omega (arith, c .before .word-at .ensures, c .if1 .left), e .pre .1 .1 .1)))
 
 literal-walk-returns-2 : (t : ℕ) → literal-walk-lts.Need-returns-2 (literal-walk-claims t) (literal-walk-at t) literal-walk.Post
-literal-walk-returns-2 t c = let e = c .before .before .before .before .before .before .before .before .before in let r = c .before .before .plain-walk in λ d w. plain-passes (omega (arith, c .before .before .before .before .word-at .ensures, c .before .before .before .if1 .left)) (d .list) (e .args .clause) (e .args .literal) (e .args .known) (r .result) (c .past-item .ensures) w (r .ensures d w)
+literal-walk-returns-2 t c = c .plain-walk .ensures
 
 abbrev literals-walk-Inv-loop : literals-walk-lts.InvT-loop
 literals-walk-Inv-loop s declared n g table p items clause literal at₀ i₀ number₀ flags₀ at i number flags =
@@ -318,8 +309,6 @@ pub +either-walk+literal-walk+literals-walk+side-walk-spec : {M : Type 1} → st
     (literal-walk-either-walk-requires t)
     (literal-walk-returns t)
     (literal-walk-plain-walk-requires t)
-    (literal-walk-past-item-requires t)
-    (literal-walk-add-more t)
     (literal-walk-returns-2 t))
     (λ t. literals-walk-lts.spec (literals-walk-claims t)
     (literals-walk-at t)

@@ -3,7 +3,7 @@ use lib.Dec.{lit<}
 use Prim.Native.Nat.{ℕ, _<_, _+_, _*_}
 use borrow.Author.Needs.{needs}
 use native.Mathlib.Omega.{arith}
-use Rattle.reading.proofs.TermLaws.{name-fits, leaf-asked, atom-bare, atom-deep, atom-fault, atom-list, list-ready, close-ready, term-variable, term-numeral, term-name, term-other, arguments-full, arguments-fault, arguments-standing, arguments-ready, arguments-few, arguments-more, arguments-last, arguments-wrong}
+use Rattle.reading.proofs.TermLaws.{name-fits, leaf-asked, atom-bare, atom-deep, atom-fault, atom-list, list-ready, close-ready, term-name, term-simple, arguments-full, arguments-fault, arguments-standing, arguments-ready, arguments-few, arguments-more, arguments-last, arguments-wrong}
 use borrow.Fn.Kinds.{In}
 use borrow.Fn.PlainCycle.{Measures, is, falls, and}
 use Rattle.reading.proofs.terms.read_arguments.Reads as read-arguments
@@ -23,8 +23,7 @@ use Rattle.reading.proofs.terms.close.Reads as close-reads
 use Rattle.reading.proofs.terms.counted.Reads as counted-reads
 use Rattle.reading.proofs.terms.full.Reads as full-reads
 use Rattle.reading.proofs.terms.leaf.Reads as leaf-reads
-use Rattle.reading.proofs.terms.read_numeral.Reads as read-numeral-reads
-use Rattle.reading.proofs.terms.read_variable.Reads as read-variable-reads
+use Rattle.reading.proofs.terms.read_simple.Reads as read-simple-reads
 use Rattle.reading.proofs.terms.+read_arguments+read_atom+read_term.{statement}
 use Rattle.reading.proofs.terms.+read_arguments+read_atom+read_term.Tie.{close}
 
@@ -101,14 +100,10 @@ read-atom-claims t = (
 
 abbrev read-term-claims : ℕ → read-term-lts.Claims
 read-term-claims t = (
-  read-variable-reads.Asked,
-  read-variable-reads.Learnt,
-  read-numeral-reads.Asked,
-  read-numeral-reads.Learnt,
   read-atom-below t,
   read-atom.Post,
-  wrong-reads.Asked,
-  wrong-reads.Learnt,
+  read-simple-reads.Asked,
+  read-simple-reads.Learnt,
 )
 
 read-arguments-full-requires : (t : ℕ) → read-arguments-lts.Need-full-requires (read-arguments-claims t) (read-arguments-at t) read-arguments.Post
@@ -210,38 +205,23 @@ read-atom-same-length-3 t c = search needs
 read-atom-returns-4 : (t : ℕ) → read-atom-lts.Need-returns-4 (read-atom-claims t) (read-atom-at t) read-atom.Post
 read-atom-returns-4 t c = let c8 = c .before .before .before .before .before .before .before .before in let c10 = c8 .before .before in let c11 = c10 .before in let c12 = c11 .before in let c14 = c12 .before .before in let c18 = c14 .before .before .before .before in let args = c18 .args in atom-list (args .left) (args .s .now) (args .st) (args .table .now) (c .before .before .close .last .1 .1 .0) (c8 .read-arguments .last .1 .1 .1 .1 .0) (args .n) (c14 .next .result) (c10 .next2 .result) (c18 .pre .1 .0) (c18 .pre .1 .1) (c14 .next .ensures) (c12 .if1 .left) (c11 .if2 .left) (c10 .next2 .ensures) (c8 .read-arguments .result) (c8 .read-arguments .ensures) (c .before .before .before .before .if3 .left) (c8 .read-arguments .kept .1 .1 .1 .1 .0) (c .before .before .close .result) (c .before .before .close .ensures .0) (c .before .before .close .ensures .1)
 
-read-term-read-variable-requires : (t : ℕ) → read-term-lts.Need-read-variable-requires (read-term-claims t) (read-term-at t) read-term.Post
-read-term-read-variable-requires t c κs = search needs
+read-term-read-atom-requires : (t : ℕ) → read-term-lts.Need-read-atom-requires (read-term-claims t) (read-term-at t) read-term.Post
+read-term-read-atom-requires t c κs = (omega arith, search needs)
 
 read-term-same-length : (t : ℕ) → read-term-lts.Need-same-length (read-term-claims t) (read-term-at t) read-term.Post
 read-term-same-length t c = search needs
 
 read-term-returns : (t : ℕ) → read-term-lts.Need-returns (read-term-claims t) (read-term-at t) read-term.Post
-read-term-returns t c = search (term-variable, needs)
+read-term-returns t c = search (term-name, needs)
 
-read-term-read-numeral-requires : (t : ℕ) → read-term-lts.Need-read-numeral-requires (read-term-claims t) (read-term-at t) read-term.Post
-read-term-read-numeral-requires t c κs = search needs
+read-term-read-simple-requires : (t : ℕ) → read-term-lts.Need-read-simple-requires (read-term-claims t) (read-term-at t) read-term.Post
+read-term-read-simple-requires t c κs = search needs
 
 read-term-same-length-2 : (t : ℕ) → read-term-lts.Need-same-length-2 (read-term-claims t) (read-term-at t) read-term.Post
 read-term-same-length-2 t c = search needs
 
 read-term-returns-2 : (t : ℕ) → read-term-lts.Need-returns-2 (read-term-claims t) (read-term-at t) read-term.Post
-read-term-returns-2 t c = search (term-numeral, needs)
-
-read-term-read-atom-requires : (t : ℕ) → read-term-lts.Need-read-atom-requires (read-term-claims t) (read-term-at t) read-term.Post
-read-term-read-atom-requires t c κs = (omega arith, search needs)
-
-read-term-same-length-3 : (t : ℕ) → read-term-lts.Need-same-length-3 (read-term-claims t) (read-term-at t) read-term.Post
-read-term-same-length-3 t c = search needs
-
-read-term-returns-3 : (t : ℕ) → read-term-lts.Need-returns-3 (read-term-claims t) (read-term-at t) read-term.Post
-read-term-returns-3 t c = search (term-name, needs)
-
-read-term-wrong-requires : (t : ℕ) → read-term-lts.Need-wrong-requires (read-term-claims t) (read-term-at t) read-term.Post
-read-term-wrong-requires t c κs = search needs
-
-read-term-returns-4 : (t : ℕ) → read-term-lts.Need-returns-4 (read-term-claims t) (read-term-at t) read-term.Post
-read-term-returns-4 t c = search (term-other, needs)
+read-term-returns-2 t c = search (term-simple, needs)
 
 pub +read-arguments+read-atom+read-term-spec : {M : Type 1} → statement M
 +read-arguments+read-atom+read-term-spec =
@@ -287,14 +267,9 @@ pub +read-arguments+read-atom+read-term-spec : {M : Type 1} → statement M
     λ t. read-term-lts.spec (read-term-claims t)
     (read-term-at t)
     read-term.Post
-    (read-term-read-variable-requires t)
+    (read-term-read-atom-requires t)
     (read-term-same-length t)
     (read-term-returns t)
-    (read-term-read-numeral-requires t)
+    (read-term-read-simple-requires t)
     (read-term-same-length-2 t)
     (read-term-returns-2 t)
-    (read-term-read-atom-requires t)
-    (read-term-same-length-3 t)
-    (read-term-returns-3 t)
-    (read-term-wrong-requires t)
-    (read-term-returns-4 t)
