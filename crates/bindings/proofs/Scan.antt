@@ -6,7 +6,8 @@ use mathlib.Core.Bool.{Bool, true, false, _||_}
 use mathlib.Core.List.{List, [], _∷_}
 use mathlib.Core.Logic.{_⊎_, inl, inr}
 use lib.Dec.{T, ltb, eqb}
-use lib.ListN.{length, getD, set}
+use lib.ListN.{length, getD, set, length-set}
+use lib.Seq.{getD-set-other}
 use borrow.Author.Tests.{lt-ltb, le-ltb, ltb-true, ltb-false, eqb-true, eqb-false, eq-eqb}
 use Rattle.syntax.specs.Words.{firstName}
 use Rattle.machine.specs.Substitution.{Variable, sameVariable, RTerm, RTerms, var, app, rnil, rcons, occurs, occursIn, replace, Binding, resolve}
@@ -16,12 +17,12 @@ use Rattle.layout.specs.Regions.{places, cells, trail, storeWords, loadedNode}
 use Rattle.layout.specs.Nodes.{Symbol, isSymbol, symbolOf, isListed, nameOf, loadedWords, loadedAll, isLoadable, areLoadable, bracketsOf, Stands, Node, Row, decoded, termAt, termsAt, followed}
 use Rattle.layout.specs.State.{cellOf, variableOf, wordOf, nodeOf, copyOf, cellAt, trailAt, valueOf, bindings, Entry, Store, Within, Keeps, boundWords}
 use Rattle.layout.proofs.Nodes.{node-inside, node-end, node-size, variable-at, variable-size, compound-at, row-one, row-one-is, row-order, row-none, row-first, row-rest, row-cons, row-open, row-opened}
-use Rattle.layout.proofs.State.{replace-away, variable-cell, cell-eq, cell-small, copy-small, resolve-bound, resolve-unbound, room, few, bind-store, bind-keeps, bound-entry, keeps-refl, keeps-trans, keeps-less, no-entries}
+use Rattle.layout.proofs.State.{replace-away, variable-cell, cell-eq, cell-small, copy-small, resolve-bound, resolve-unbound, room, few, agrees, store-agrees, bind-store, bind-keeps, bound-entry, keeps-refl, keeps-trans, keeps-less, no-entries}
 use Rattle.syntax.specs.Terms.{compound, nil, sameBytes}
 use Rattle.bindings.specs.declared.At.{At}
 use Rattle.bindings.specs.declared.occurrence.Queue.{Queue}
 use Rattle.bindings.specs.Cells.{atOf, Undone, Stored}
-use Rattle.bindings.specs.Queues.{markSymbols, markTable, Queued, Clean, isCell, Visitable, Settled, Visited, Scannable, Dealt, Scanned, Searchable, Searched, Checkable, Checked}
+use Rattle.bindings.specs.Queues.{markSymbols, markTable, Queued, Clean, isCell, Visitable, Settled, Visited, Scannable, Dealt, Scanned, Seen, Noted, Lookable, Looked, Searchable, Searched, Checkable, Checked}
 use Rattle.bindings.proofs.Deref.{BoundCell, bound-cell-is}
 
 -- ---- marks
@@ -329,6 +330,101 @@ closed-under ss nodes state P (suc n) step t all v h =
         there y ih (inl k) = ih (valueOf ss nodes (cellAt state (trailAt state n))) (step n (omega arith) (in-term (variableOf (trailAt state n)) k ih)) v y
         there y ih (inr k) = in-term v (subst (λ (u : RTerm). T (occurs v u)) (replace-away (variableOf (trailAt state n)) (resolve (bindings ss nodes state n) (valueOf ss nodes (cellAt state (trailAt state n)))) (resolve (bindings ss nodes state n) t) k) h) ih
 
+-- ---- looking at a queued cell
+
+pub noted-refl : (scratch : List ℕ) (n : ℕ) → Noted scratch scratch n
+noted-refl scratch n = record { long = refl; cell = λ y l. refl; entry = λ i l. refl; others = λ j l. refl }
+
+pub noted-slot : (scratch : List ℕ) (n i k : ℕ) → n ≤ i → i < cells → Noted scratch (set scratch (trail + i) k) n
+noted-slot scratch n i k l h =
+    record {
+      long = length-set scratch (trail + i) k;
+      cell = λ y z. getD-set-other scratch (trail + i) y k 0 (λ e. omega arith);
+      entry = λ j z. getD-set-other scratch (trail + i) (trail + j) k 0 (λ e. omega arith);
+      others = λ j z. getD-set-other scratch (trail + i) j k 0 (λ e. omega arith);
+    }
+
+module _ (state before after : List ℕ) (n : ℕ) (q : Queued state before n) (h : Noted before after n) where
+  noted-keeps : Keeps n before after
+  noted-keeps = record { long = h .long; entry = h .entry; cell = λ i l. h .cell (trailAt before i) (q .marked .entry i l .cell); others = h .others }
+
+  noted-queued : Queued state after n
+  noted-queued =
+      record {
+        marked = store-agrees markSymbols markTable before after n (h .long) (h .cell) (agrees n before after noted-keeps) (q .marked);
+        bound = λ i l z. q .bound i l (sym (ap (cellAt state) (h .entry i l)) ∙ z);
+      }
+
+module _ (nodes state scratch : List ℕ) (k n : ℕ) (g : Lookable nodes state scratch k n) where
+  pub look-inside : (storeWords ≤ length scratch) × ((cells ≤ length state) × (k < cells))
+  look-inside =
+      let a : n ≤ cells = few markSymbols markTable scratch n (g .queued .marked) in
+      let d : storeWords ≤ length state = g .store .long in
+      let e : k < n = g .place in
+      (g .queued .marked .long, (omega arith, omega arith))
+
+  look-cell : trailAt scratch k < cells
+  look-cell = g .queued .marked .entry k (g .place) .cell
+
+  module _ {y : ℕ} (ey : y ≡ trailAt scratch k) where
+    pub look-place : y < length state
+    look-place = let a : cells ≤ length state = look-inside .1 .0 in let b : trailAt scratch k < cells = look-cell in omega (arith, ey)
+
+    module _ {w : ℕ} (ew : w ≡ getD state y 0) where
+      word : w ≡ cellAt state (trailAt scratch k)
+      word = ew ∙ ap (cellAt state) ey
+
+      pub look-some : 1 ≤ w
+      look-some = let z : w ≡ 0 → ⊥ = (λ h. g .queued .bound k (g .place) (sym word ∙ h)) in omega (arith, z)
+
+      pub look-seen : {x : ℕ} → Seen state scratch w k → Looked (g .ss) nodes state scratch scratch x k n (record { found = false; n = n })
+      look-seen h =
+          record {
+            grows = omega arith;
+            keeps = keeps-refl n scratch;
+            queued = g .queued;
+            new = λ j a b. absurd (let z : n ≤ j = a in omega arith);
+            found = λ f. absurd (subst T (sym f) tt);
+            clear = λ f. inr (subst (λ (u : ℕ). Seen state scratch u k) word h);
+          }
+
+      look-scan : Scannable nodes state scratch (nodeOf w) (copyOf w) n
+      look-scan =
+          record {
+            ss = g .ss;
+            node = subst⁻¹ (λ (u : ℕ). Node (g .ss) nodes (nodeOf u)) word (bound-cell-is (g .ss) nodes state (g .entries) (trailAt scratch k) (g .store) look-cell (g .queued .bound k (g .place)) .node);
+            copy = copy-small w;
+            long = look-inside .1 .0;
+            queued = g .queued;
+          }
+
+      pub look-scan-at : {a : At} → a ≡ atOf w → Scannable nodes state scratch (a .node) (a .copy) n
+      look-scan-at e = subst⁻¹ (λ (a : At). Scannable nodes state scratch (a .node) (a .copy) n) e look-scan
+
+      value-is : termAt (g .ss) nodes (nodeOf w) (copyOf w) ≡ valueOf (g .ss) nodes (cellAt state (trailAt scratch k))
+      unfolding valueOf
+      value-is = ap (λ (u : ℕ). termAt (g .ss) nodes (nodeOf u) (copyOf u)) word
+
+      module _ {x : ℕ} {mid : List ℕ} {r : Queue} (c : (h : Scannable nodes state scratch (nodeOf w) (copyOf w) n) → Scanned (h .ss) nodes state scratch mid (nodeOf w) (copyOf w) x n r) where
+        scanned : Scanned (g .ss) nodes state scratch mid (nodeOf w) (copyOf w) x n r
+        unfolding look-scan
+        scanned = c look-scan
+
+        pub look-room : (storeWords ≤ length mid) × (k < cells)
+        look-room = (scanned .queued .marked .long, look-inside .1 .1)
+
+        pub look-done : {after : List ℕ} → Noted mid after (r .n) → Looked (g .ss) nodes state scratch after x k n r
+        look-done {after} h =
+            let keeps : Keeps (r .n) mid after = noted-keeps state mid after (r .n) (scanned .queued) h in
+            record {
+              grows = scanned .grows;
+              keeps = keeps-trans n (r .n) scratch mid after (scanned .grows) (scanned .keeps) keeps;
+              queued = noted-queued state mid after (r .n) (scanned .queued) h;
+              new = λ j a b. subst (λ (t : RTerm). T (occurs (variableOf (trailAt after j)) t)) value-is (subst⁻¹ (λ (u : ℕ). T (occurs (variableOf u) (termAt (g .ss) nodes (nodeOf w) (copyOf w)))) (h .entry j b) (scanned .new j a b));
+              found = λ f. subst (λ (t : RTerm). T (occurs (variableOf x) t)) value-is (scanned .found f);
+              clear = λ f. inl (λ v q. dealt-on state mid after x (r .n) (r .n) v (omega arith) keeps (scanned .clear f v (subst⁻¹ (λ (t : RTerm). T (occurs v t)) value-is q)));
+            }
+
 -- ---- searching the queue
 
 pub record Searching (ss : List Symbol) (nodes state : List ℕ) (n : ℕ) (before after : List ℕ) (x m k j : ℕ) : Type 0 where
@@ -359,92 +455,69 @@ module _ (nodes state before after : List ℕ) (x m k j : ℕ) (g : Searchable n
   queue-few = few markSymbols markTable after j (s .queued .marked)
 
   module _ (l : k < j) where
-    pub search-place : (trail + k < length after) × (trailAt after k < length state)
-    search-place =
-        let a : j ≤ cells = queue-few in
-        let b : storeWords ≤ length after = s .queued .marked .long in
-        let c : trailAt after k < cells = s .queued .marked .entry k l .cell in
-        let d : storeWords ≤ length state = g .store .long in
-        (omega arith, omega arith)
+    pub search-look : Lookable nodes state after k j
+    search-look = record { ss = g .ss; entries = g .n; store = g .store; place = l; queued = s .queued }
 
-    bound-here : BoundCell (g .ss) nodes state (g .n) (trailAt after k)
-    bound-here = bound-cell-is (g .ss) nodes state (g .n) (trailAt after k) (g .store) (s .queued .marked .entry k l .cell) (s .queued .bound k l)
+    means : resolve (bindings (g .ss) nodes state (g .n)) (var (variableOf (trailAt after k))) ≡ resolve (bindings (g .ss) nodes state (g .n)) (valueOf (g .ss) nodes (cellAt state (trailAt after k)))
+    means = resolve-bound (g .ss) nodes state (g .n) (trailAt after k) (g .store) (s .queued .marked .entry k l .cell) (s .queued .bound k l)
 
-    module _ (y w : ℕ) (ey : y ≡ trailAt after k) (ew : w ≡ getD state y 0) where
-      word : w ≡ cellAt state (trailAt after k)
-      word = ew ∙ ap (cellAt state) ey
+    -- what stands below a variable of the term stands below the queued cell
+    below : (v : Variable) → T (occurs v (valueOf (g .ss) nodes (cellAt state (trailAt after k)))) → T (occurs (variableOf x) (resolve (bindings (g .ss) nodes state (g .n)) (var v))) → (h : ℕ) × (h < m) × T (occurs (variableOf x) (resolve (bindings (g .ss) nodes state (g .n)) (var (variableOf (trailAt before h)))))
+    below v h q = s .back k l (subst⁻¹ (λ (t : RTerm). T (occurs (variableOf x) t)) means (occurs-through (bindings (g .ss) nodes state (g .n)) (variableOf x) v (valueOf (g .ss) nodes (cellAt state (trailAt after k))) h q))
 
-      pub search-some : 1 ≤ w
-      search-some = let z : w ≡ 0 → ⊥ = (λ h. s .queued .bound k l (sym word ∙ h)) in omega (arith, z)
+    module _ (later : List ℕ) (r : Queue) (c : (h : Lookable nodes state after k j) → Looked (h .ss) nodes state after later x k j r) where
+      looked : Looked (g .ss) nodes state after later x k j r
+      unfolding search-look
+      looked = c search-look
 
-      pub search-scan : Scannable nodes state after (nodeOf w) (copyOf w) j
-      search-scan =
+      more : m ≤ r .n
+      more = let a : m ≤ j = s .grows in let b : j ≤ r .n = looked .grows in omega arith
+
+      kept : Keeps m before later
+      kept = keeps-trans m j before after later (s .grows) (s .keeps) (looked .keeps)
+
+      pub search-found : r .found ≡ true → Searched (g .ss) nodes state (g .n) before later x m r
+      search-found f =
           record {
-            ss = g .ss;
-            node = subst⁻¹ (λ (u : ℕ). Node (g .ss) nodes (nodeOf u)) word (bound-here .node);
-            copy = copy-small w;
-            long = (let d : storeWords ≤ length state = g .store .long in omega arith);
-            queued = s .queued;
+            grows = more;
+            keeps = kept;
+            queued = looked .queued;
+            found = λ h. below (variableOf x) (looked .found f) (itself (g .ss) nodes state (g .n) x (g .store) (g .cell) (g .unbound));
+            clear = λ h. absurd (subst T (sym f ∙ h) tt);
           }
 
-      pub search-scan-at : {a : At} → a ≡ atOf w → Scannable nodes state after (a .node) (a .copy) j
-      search-scan-at e = subst⁻¹ (λ (a : At). Scannable nodes state after (a .node) (a .copy) j) e search-scan
+      pub search-next : r .found ≡ false → Searching (g .ss) nodes state (g .n) before later x m (k + 1) (r .n)
+      search-next f =
+          let b : j ≤ r .n = looked .grows in
+          record {
+            grows = more;
+            head = omega arith;
+            keeps = kept;
+            queued = looked .queued;
+            back = λ i h q. back-at i h q (ltb i j) refl;
+            clear = λ i h v q. clear-at i h v q (eqb i k) refl;
+          }
+        where
+          back-at : (i : ℕ) → i < r .n → T (occurs (variableOf x) (resolve (bindings (g .ss) nodes state (g .n)) (var (variableOf (trailAt later i))))) → (t : Bool) → ltb i j ≡ t → (h : ℕ) × (h < m) × T (occurs (variableOf x) (resolve (bindings (g .ss) nodes state (g .n)) (var (variableOf (trailAt before h)))))
+          back-at i h q true e = let z : i < j = ltb-true i j e in s .back i z (subst (λ (u : ℕ). T (occurs (variableOf x) (resolve (bindings (g .ss) nodes state (g .n)) (var (variableOf u))))) (looked .keeps .entry i z) q)
+          back-at i h q false e = below (variableOf (trailAt later i)) (looked .new i (ltb-false i j e) h) q
 
-      means : resolve (bindings (g .ss) nodes state (g .n)) (termAt (g .ss) nodes (nodeOf w) (copyOf w)) ≡ resolve (bindings (g .ss) nodes state (g .n)) (var (variableOf (trailAt after k)))
-      means = subst⁻¹ (λ (u : ℕ). resolve (bindings (g .ss) nodes state (g .n)) (termAt (g .ss) nodes (nodeOf u) (copyOf u)) ≡ resolve (bindings (g .ss) nodes state (g .n)) (var (variableOf (trailAt after k)))) word (bound-here .means)
+          -- what was dealt with is so still
+          earlier : (i : ℕ) → i < k → (v : Variable) → T (occurs v (valueOf (g .ss) nodes (cellAt state (trailAt after i)))) → Dealt state later x (r .n) v
+          earlier i z v q = dealt-on state after later x j (r .n) v (looked .grows) (looked .keeps) (s .clear i z v q)
 
-      value-is : (v : Variable) → T (occurs v (valueOf (g .ss) nodes (cellAt state (trailAt after k)))) → T (occurs v (termAt (g .ss) nodes (nodeOf w) (copyOf w)))
-      unfolding valueOf
-      value-is v h = subst⁻¹ (λ (u : ℕ). T (occurs v (termAt (g .ss) nodes (nodeOf u) (copyOf u)))) word h
+          here : ((v : Variable) → T (occurs v (valueOf (g .ss) nodes (cellAt state (trailAt after k)))) → Dealt state later x (r .n) v) ⊎ Seen state after (cellAt state (trailAt after k)) k
+              → (v : Variable) → T (occurs v (valueOf (g .ss) nodes (cellAt state (trailAt after k)))) → Dealt state later x (r .n) v
+          here (inl d) v q = d v q
+          here (inr d) v q = earlier (d .place) (d .earlier) v (subst⁻¹ (λ (u : ℕ). T (occurs v (valueOf (g .ss) nodes u))) (d .same) q)
 
-      -- what stands below a variable of the term stands below the queued cell
-      below : (v : Variable) → T (occurs v (termAt (g .ss) nodes (nodeOf w) (copyOf w))) → T (occurs (variableOf x) (resolve (bindings (g .ss) nodes state (g .n)) (var v))) → (h : ℕ) × (h < m) × T (occurs (variableOf x) (resolve (bindings (g .ss) nodes state (g .n)) (var (variableOf (trailAt before h)))))
-      below v h q = s .back k l (subst (λ (t : RTerm). T (occurs (variableOf x) t)) means (occurs-through (bindings (g .ss) nodes state (g .n)) (variableOf x) v (termAt (g .ss) nodes (nodeOf w) (copyOf w)) h q))
-
-      module _ (later : List ℕ) (r : Queue) (c : (h : Scannable nodes state after (nodeOf w) (copyOf w) j) → Scanned (h .ss) nodes state after later (nodeOf w) (copyOf w) x j r) where
-        scanned : Scanned (g .ss) nodes state after later (nodeOf w) (copyOf w) x j r
-        unfolding search-scan
-        scanned = c search-scan
-
-        more : m ≤ r .n
-        more = let a : m ≤ j = s .grows in let b : j ≤ r .n = scanned .grows in omega arith
-
-        kept : Keeps m before later
-        kept = keeps-trans m j before after later (s .grows) (s .keeps) (scanned .keeps)
-
-        pub search-found : r .found ≡ true → Searched (g .ss) nodes state (g .n) before later x m r
-        search-found f =
-            record {
-              grows = more;
-              keeps = kept;
-              queued = scanned .queued;
-              found = λ h. below (variableOf x) (scanned .found f) (itself (g .ss) nodes state (g .n) x (g .store) (g .cell) (g .unbound));
-              clear = λ h. absurd (subst T (sym f ∙ h) tt);
-            }
-
-        pub search-next : r .found ≡ false → Searching (g .ss) nodes state (g .n) before later x m (k + 1) (r .n)
-        search-next f =
-            let b : j ≤ r .n = scanned .grows in
-            record {
-              grows = more;
-              head = omega arith;
-              keeps = kept;
-              queued = scanned .queued;
-              back = λ i h q. back-at i h q (ltb i j) refl;
-              clear = λ i h v q. clear-at i h v q (eqb i k) refl;
-            }
-          where
-            back-at : (i : ℕ) → i < r .n → T (occurs (variableOf x) (resolve (bindings (g .ss) nodes state (g .n)) (var (variableOf (trailAt later i))))) → (t : Bool) → ltb i j ≡ t → (h : ℕ) × (h < m) × T (occurs (variableOf x) (resolve (bindings (g .ss) nodes state (g .n)) (var (variableOf (trailAt before h)))))
-            back-at i h q true e = let z : i < j = ltb-true i j e in s .back i z (subst (λ (u : ℕ). T (occurs (variableOf x) (resolve (bindings (g .ss) nodes state (g .n)) (var (variableOf u))))) (scanned .keeps .entry i z) q)
-            back-at i h q false e = below (variableOf (trailAt later i)) (scanned .new i (ltb-false i j e) h) q
-
-            clear-at : (i : ℕ) → i < k + 1 → (v : Variable) → T (occurs v (valueOf (g .ss) nodes (cellAt state (trailAt later i)))) → (t : Bool) → eqb i k ≡ t → Dealt state later x (r .n) v
-            clear-at i h v q true e =
-                scanned .clear f v (value-is v (subst (λ (u : ℕ). T (occurs v (valueOf (g .ss) nodes (cellAt state u)))) (ap (trailAt later) (eqb-true i k e) ∙ scanned .keeps .entry k l) q))
-            clear-at i h v q false e =
-                let z : i < k = (let n : i ≡ k → ⊥ = eqb-false i k e in omega (arith, n)) in
-                let y1 : i < j = omega arith in
-                dealt-on state after later x j (r .n) v (scanned .grows) (scanned .keeps) (s .clear i z v (subst (λ (u : ℕ). T (occurs v (valueOf (g .ss) nodes (cellAt state u)))) (scanned .keeps .entry i y1) q))
+          clear-at : (i : ℕ) → i < k + 1 → (v : Variable) → T (occurs v (valueOf (g .ss) nodes (cellAt state (trailAt later i)))) → (t : Bool) → eqb i k ≡ t → Dealt state later x (r .n) v
+          clear-at i h v q true e =
+              here (looked .clear f) v (subst (λ (u : ℕ). T (occurs v (valueOf (g .ss) nodes (cellAt state u)))) (ap (trailAt later) (eqb-true i k e) ∙ looked .keeps .entry k l) q)
+          clear-at i h v q false e =
+              let z : i < k = (let n : i ≡ k → ⊥ = eqb-false i k e in omega (arith, n)) in
+              let y1 : i < j = omega arith in
+              earlier i z v (subst (λ (u : ℕ). T (occurs v (valueOf (g .ss) nodes (cellAt state u)))) (looked .keeps .entry i y1) q)
 
   pub search-end : j ≤ k → Searched (g .ss) nodes state (g .n) before after x m (record { found = false; n = j })
   search-end l =

@@ -80,6 +80,39 @@ pub record Scanned (ss : List Symbol) (nodes state before after : List ℕ) (q d
   pub found : r .found ≡ true → T (occurs (variableOf x) (termAt ss nodes q d))
   pub clear : r .found ≡ false → (v : Variable) → T (occurs v (termAt ss nodes q d)) → Dealt state after x (r .n) v
 
+-- ---- looking at a queued cell
+
+-- A cell before place k of the queue is bound to the word w.
+pub record Seen (state scratch : List ℕ) (w k : ℕ) : Type 0 where
+  pub place : ℕ
+  pub earlier : place < k
+  pub same : cellAt state (trailAt scratch place) ≡ w
+
+-- All is as it was but the queue's words from place n on.
+pub record Noted (before after : List ℕ) (n : ℕ) : Type 0 where
+  pub long : length after ≡ length before
+  pub cell : (y : ℕ) → y < cells → cellAt after y ≡ cellAt before y
+  pub entry : (i : ℕ) → i < n → trailAt after i ≡ trailAt before i
+  pub others : (j : ℕ) → storeWords ≤ j → getD after j 0 ≡ getD before j 0
+
+pub record Lookable (nodes state scratch : List ℕ) (k n : ℕ) : Type 0 where
+  pub ss : List Symbol
+  pub entries : ℕ
+  pub store : Store ss nodes state entries
+  pub place : k < n
+  pub queued : Queued state scratch n
+
+-- What was queued stands in the term of the cell at place k; cell x was found there, or each variable of the term is dealt with, or the term is that of
+-- an earlier cell.
+pub record Looked (ss : List Symbol) (nodes state before after : List ℕ) (x k n : ℕ) (r : Queue) : Type 0 where
+  pub grows : n ≤ r .n
+  pub keeps : Keeps n before after
+  pub queued : Queued state after (r .n)
+  pub new : (j : ℕ) → n ≤ j → j < r .n → T (occurs (variableOf (trailAt after j)) (valueOf ss nodes (cellAt state (trailAt before k))))
+  pub found : r .found ≡ true → T (occurs (variableOf x) (valueOf ss nodes (cellAt state (trailAt before k))))
+  pub clear : r .found ≡ false → ((v : Variable) → T (occurs v (valueOf ss nodes (cellAt state (trailAt before k)))) → Dealt state after x (r .n) v)
+      ⊎ Seen state before (cellAt state (trailAt before k)) k
+
 -- ---- searching the queue
 
 pub record Searchable (nodes state scratch : List ℕ) (x m : ℕ) : Type 0 where

@@ -2,6 +2,8 @@
 use crate::store::bind;
 use crate::store::undo;
 use crate::store::unpack;
+use layout::CELLS;
+use layout::COPIES;
 use layout::LOADED_NODE;
 use layout::TRAIL;
 use layout::cell_copy;
@@ -13,8 +15,17 @@ ghost use mathlib.Core.Bool.{true};
 ghost use Prim.Native.Nat.{_+_, _*_, _≤_, _<_};
 ghost use lib.ListN.{length, getD};
 ghost use Rattle.syntax.specs.Words.{firstName};
-ghost use Rattle.layout.specs.Regions.{copies, copyCells, loadedNode};
-ghost use Rattle.bindings.specs.Queues.{isCell, Visitable, Visited, Scannable, Scanned, Searchable, Searched, Checkable, Checked, Closed, Closing};
+ghost use Rattle.layout.specs.Regions.{copies, copyCells, cells, storeWords, loadedNode};
+ghost use Rattle.bindings.specs.Queues.{isCell, Visitable, Visited, Scannable, Scanned, Seen, Noted, Lookable, Looked, Searchable, Searched, Checkable, Checked, Closed, Closing};
+
+// The slots of words are the second half of the queue.
+const SLOTS: usize = CELLS / 2;
+
+// The words of a node, in each copy, as cells' words.
+const NODE_WORDS: usize = LOADED_NODE * COPIES;
+
+// How far apart the slots of a node's copies are; odd, so that no two of them are the same.
+const SPREAD: usize = 97;
 
 // Whether a cell was found, and how many are queued.
 pub struct Queue {
@@ -89,6 +100,66 @@ fn scan(
     Queue { found: false, n }
 }
 
+// Where in the queue the slot of a word stands. As long as no cell is queued there, a slot says at which place of the queue a cell was that is bound to the
+// word and was looked at; but nothing is asked of what stands in it. The nodes of a copy have slots of their own, and so have the copies of a node.
+fn slot_of(w: usize) -> usize
+    ensures { λ r. ⌜ r < cells ⌝ }
+{
+    SLOTS + (w / NODE_WORDS + w % COPIES * SPREAD) % SLOTS
+}
+
+// Whether a cell before place k of the queue is known to be bound to the word w.
+fn is_seen(state: &[u32], scratch: &[u32], w: usize, k: usize) -> bool
+    requires { ⌜ (storeWords ≤ length (now scratch)) × ((cells ≤ length (now state)) × (k ≤ cells)) ⌝ }
+    ensures { λ r. ⌜ (r ≡ true → Seen (now (state .entry)) (now (scratch .entry)) w k) ⌝ }
+{
+    let slot = slot_of(w);
+    let j = word_at(scratch, TRAIL + slot);
+    if k <= j {
+        return false;
+    }
+    let y = word_at(scratch, TRAIL + j);
+    if CELLS <= y {
+        return false;
+    }
+    if word_at(state, y) != w {
+        return false;
+    }
+    true
+}
+
+// The cell at place k of the queue, of n cells, is bound to the word w and was looked at.
+fn note(scratch: &mut [u32], w: usize, k: usize, n: usize)
+    requires { ⌜ (storeWords ≤ length (now scratch)) × (k < cells) ⌝ }
+    ensures { λ _. ⌜ Noted (now (scratch .entry)) (now (scratch .exit)) n ⌝ }
+{
+    let slot = slot_of(w);
+    if slot < n {
+        return;
+    }
+    let at = TRAIL + slot;
+    scratch[at] = k as u32;
+}
+
+// The term of the cell at place k of the queue, of n cells, unless that of an earlier cell is known to be the same.
+fn look(nodes: &[u32], state: &[u32], scratch: &mut [u32], x: usize, k: usize, n: usize) -> Queue
+    requires { ⌜ Lookable (now nodes) (now state) (now scratch) k n ⌝ }
+    ensures { λ r. ⌜ ((g : Lookable (now (nodes .entry)) (now (state .entry)) (now (scratch .entry)) k n)
+        → Looked (g .ss) (now (nodes .entry)) (now (state .entry)) (now (scratch .entry)) (now (scratch .exit)) x k n r) ⌝ }
+{
+    let y = word_at(scratch, TRAIL + k);
+    let w = word_at(state, y);
+    if is_seen(state, scratch, w, k) {
+        return Queue { found: false, n };
+    }
+    let at = unpack(w);
+    let q = at.node;
+    let d = at.copy;
+    let r = scan(nodes, state, scratch, q, d, x, n);
+    note(scratch, w, k, r.n);
+    r
+}
+
 // The terms of the queued cells, until cell x is found or the queue is at its end.
 fn search(nodes: &[u32], state: &[u32], scratch: &mut [u32], x: usize, m: usize) -> Queue
     requires { ⌜ Searchable (now nodes) (now state) (now scratch) x m ⌝ }
@@ -98,12 +169,7 @@ fn search(nodes: &[u32], state: &[u32], scratch: &mut [u32], x: usize, m: usize)
     let mut k = 0;
     let mut n = m;
     while k < n {
-        let y = word_at(scratch, TRAIL + k);
-        let w = word_at(state, y);
-        let at = unpack(w);
-        let q = at.node;
-        let d = at.copy;
-        let r = scan(nodes, state, scratch, q, d, x, n);
+        let r = look(nodes, state, scratch, x, k, n);
         if r.found {
             return r;
         }

@@ -364,6 +364,20 @@ few ss nodes state n store = pigeonhole cells n (trailAt state) (λ i l. store .
     same-entry : (i j : ℕ) → i < n → j < n → trailAt state i ≡ trailAt state j → i ≡ j
     same-entry i j l h e = let a : i < j → ⊥ = (λ q. store .apart i j q h e) in let b : j < i → ⊥ = (λ q. store .apart j i q l (sym e)) in omega (arith, a, b)
 
+-- a store stays one where the cells and the first entries of the trail stay
+pub store-agrees : (ss : List Symbol) (nodes before after : List ℕ) (n : ℕ) → length after ≡ length before → ((y : ℕ) → y < cells → cellAt after y ≡ cellAt before y) → Agrees n before after → Store ss nodes before n → Store ss nodes after n
+store-agrees ss nodes before after n e same k store =
+    record {
+      long = (let l : storeWords ≤ length before = store .long in omega (arith, e));
+      small = store .small;
+      entry = λ i l. entry-agrees ss nodes before after i n l k (store .entry i l);
+      apart = λ i j l h z. store .apart i j l h (sym (k .entry i (omega arith)) ∙ (z ∙ k .entry j h));
+      only = λ y l z. go y (store .only y l (λ h. z (same y l ∙ h)));
+    }
+  where
+    go : (y : ℕ) → (i : ℕ) × (i < n) × (trailAt before i ≡ y) → (i : ℕ) × (i < n) × (trailAt after i ≡ y)
+    go y o = (o .0, o .1, k .entry (o .0) (o .1) ∙ o .2)
+
 -- two states with the same cells and the same trail
 abbrev pub SameStore : List ℕ → List ℕ → Type 0
 SameStore before after = (length after ≡ length before) × ((j : ℕ) → j < storeWords → getD after j 0 ≡ getD before j 0)
@@ -380,17 +394,7 @@ module _ (ss : List Symbol) (nodes before after : List ℕ) (n : ℕ) (store : S
       }
 
   pub store-same : Store ss nodes after n
-  store-same =
-      record {
-        long = (let e : length after ≡ length before = same .0 in let l : storeWords ≤ length before = store .long in omega arith);
-        small = store .small;
-        entry = λ i l. entry-agrees ss nodes before after i n l same-agrees (store .entry i l);
-        apart = λ i j l h e. store .apart i j l h (sym (same-agrees .entry i (omega arith)) ∙ (e ∙ same-agrees .entry j h));
-        only = λ y l z. go y (store .only y l (λ h. z (same .1 y (omega arith) ∙ h)));
-      }
-    where
-      go : (y : ℕ) → (i : ℕ) × (i < n) × (trailAt before i ≡ y) → (i : ℕ) × (i < n) × (trailAt after i ≡ y)
-      go y o = (o .0, o .1, same-agrees .entry (o .0) (o .1) ∙ o .2)
+  store-same = store-agrees ss nodes before after n (same .0) (λ y l. same .1 y (omega arith)) same-agrees store
 
   pub bindings-same : bindings ss nodes after n ≡ bindings ss nodes before n
   bindings-same = bindings-agree ss nodes before after n n (omega arith) same-agrees
