@@ -6,29 +6,29 @@
 use Prim.Native.Nat.{ℕ, zero, suc, _+_, _≤_, _<_}
 use native.Mathlib.Omega.{arith}
 use mathlib.Core.Path.{_≡_, refl, sym, ap, _∙_, subst}
-use mathlib.Core.Bool.{Bool, true, false, cond, not, _&&_}
+use mathlib.Core.Bool.{Bool, true, false, cond, not}
 use mathlib.Core.List.{List, [], _∷_, _++_, append-nil}
 use mathlib.Core.Logic.{_⊎_, inl, inr}
 use mathlib.Core.Option.{Option, none, some}
 use lib.Dec.{T, eqb}
 use lib.ListN.{drop}
-use Rattle.syntax.specs.Terms.{Term, Terms, variable, compound, nil, cons, arity, Atom, termOf, Literal, call, equation, truth, falsity, either, Body, done, also, Mark, input, Declaration, Clause, Sheet, Goal}
+use Rattle.syntax.specs.Terms.{Term, Terms, variable, compound, nil, cons, arity, Atom, termOf, Literal, call, equation, truth, falsity, either, Body, done, also, Mark, input, Clause, Sheet, Goal}
 use Rattle.syntax.specs.Verdicts.{Outcome, refused, accepted, sheetOf, goalOutcome}
 use Rattle.syntax.specs.declared.Refusal.{Refusal}
 use Rattle.syntax.specs.declared.Run.the-variants.{Ended as ended-by}
 use Rattle.rules.specs.Modes.{sameMark, marksFor, orNoMarks, listOf, sheetFault, goalFault}
-use Rattle.rules.specs.Checking.{faultless, checkedFrom, checkedWith, checkedSheet, checkedGoalFrom, checkedGoal}
+use Rattle.rules.specs.Checking.{faultless, checkedFrom, checkedWith, checkedGoalFrom, checkedGoal}
 use Rattle.buffers.specs.Feeds.{InLines}
-use Rattle.machine.specs.Substitution.{RTerm, RTerms, var, app, rnil, rcons, copied, copiedAll, closed, replace, Binding, resolve}
+use Rattle.machine.specs.Substitution.{RTerm, var, app, rcons, copied, copiedAll, closed, replace, Binding, resolve}
 use Rattle.machine.specs.Unification.{unify}
 use Rattle.machine.specs.Unifiers.{Substitution, apply, applyAll, MostGeneral}
 use Rattle.machine.specs.Machine.{Pending, Alternative, path, pending, isFor, firstFor, nextFor, clauseAt, gone, equated, movedOn, laid, tried, onTop, called, worked, workedOn, outcome, step, start}
 use Rattle.machine.specs.Answers.{line}
 use Rattle.machine.specs.Runs.{Progress, isEmpty, isAnswer, lineWith, nextLine, oneIf, advance, advanced, begun, Ended, run, Report, RunSettings, RunOutcome, stopped, ran, reported, runOutcome, runAnswer, runText}
 use Rattle.machine.specs.Claims.{RunOver}
-use Rattle.machine.specs.Determinacy.{isBracket, withoutBrackets, keptIf, inputsBy, inputs, Equal, Common, against, Pair, Determinate, Judged, declined, single, several, judgedBy, judgedFrom, judged, PlainGoal, AtMostOne, AtMostOneOver, AtMostOneLine}
-use Rattle.machine.proofs.Tests.{both, some-eq, some-none}
-use Rattle.machine.proofs.Piles.{All, all-append, all-step}
+use Rattle.machine.specs.Determinacy.{isBracket, withoutBrackets, keptIf, inputsBy, inputs, Equal, Common, against, Pair, determinate, Determinate, declined, single, several, judgedBy, judgedFrom, judged, PlainGoal, AtMostOne, AtMostOneOver, AtMostOneLine}
+use Rattle.machine.proofs.Tests.{both, some-none}
+use Rattle.machine.proofs.Piles.{All, all-append}
 use Rattle.machine.proofs.Terms.{resolveAll, resolve-app, resolve-nil, resolve-cons, closed-replace}
 use Rattle.machine.proofs.Unifier.{unify-some}
 use Rattle.machine.proofs.Grounding.{Closed, Same, SameAll, app-same, cons-same, nil-cons, same-arity, same-predicate, Marked, marks-same}
@@ -36,7 +36,7 @@ use Rattle.machine.proofs.Safety.{ClosedArguments, Safe, First}
 use Rattle.machine.proofs.Demand3.{Good, Passes, sheet-passes, outcome-good, start-good}
 use Rattle.machine.proofs.EveryRun.{run-spec, refused-accepted, faultless-none, sheet-passes as text-passes, goal-passes, demand-3-runs}
 use Rattle.machine.proofs.Lines.{run-lines}
-use Rattle.machine.proofs.Determinacy.{none-determinate}
+use Rattle.machine.proofs.Determinacy.{none-determinate, determinate-exactly}
 
 -- ---- two heads that unify with one call have a common instance
 
@@ -116,9 +116,6 @@ module _ (sh : Sheet) (b b1 b2 : List Binding) (c d : ℕ) (at : Atom) (cl other
   unfolding inputs marksFor
   heads-common = (paired c d b b1 b2 (general-closed one) (general-closed two), equal)
     where
-      σ : Substitution
-      σ = paired c d b b1 b2 (general-closed one) (general-closed two)
-
       marks-one : marksFor (sh .declarations) at ≡ marksFor (sh .declarations) (cl .head)
       marks-one = ap orNoMarks (marks-same (sh .declarations) at (cl .head) (same-one .0) arity-one)
 
@@ -413,6 +410,11 @@ module _ (sh : Sheet) (g : Goal) (det : Determinate sh) (passes : (n : ℕ) (cl 
 pub at-most-one : (stored : Bool) (sh : Sheet) (g : Goal) → sheetFault stored sh ≡ none → goalFault sh g ≡ none → Determinate sh → T (withoutBrackets (g .body))
     → (allowance wanted room : ℕ) → AtMostOne g (run sh g allowance wanted room .at .answers) (run sh g allowance wanted room .at .text)
 at-most-one stored sh g s e det plain allowance wanted room = run-one sh g det (sheet-passes stored sh s) (start-good sh g e) plain allowance wanted room
+
+-- The same on a yes of the test.
+pub at-most-one-yes : (stored : Bool) (sh : Sheet) (g : Goal) → sheetFault stored sh ≡ none → goalFault sh g ≡ none → T (determinate sh) → T (withoutBrackets (g .body))
+    → (allowance wanted room : ℕ) → AtMostOne g (run sh g allowance wanted room .at .answers) (run sh g allowance wanted room .at .text)
+at-most-one-yes stored sh g s e t plain allowance wanted room = at-most-one stored sh g s e (determinate-exactly sh .0 t) plain allowance wanted room
 
 -- ---- over texts
 

@@ -3,7 +3,7 @@
 use Prim.Native.Nat.{ℕ, zero, suc, _<_}
 use native.Mathlib.Omega.{arith}
 use mathlib.Core.Path.{_≡_, refl, sym, ap, _∙_, subst}
-use mathlib.Core.Bool.{Bool, true, false, _&&_}
+use mathlib.Core.Bool.{Bool, true, false}
 use mathlib.Core.List.{List, [], _∷_}
 use mathlib.Core.Logic.{_↔_}
 use mathlib.Core.Option.{Option, none, some}
@@ -11,9 +11,9 @@ use lib.Dec.{T}
 use Rattle.syntax.specs.Terms.{Term, Declaration, Clause, Sheet}
 use Rattle.machine.specs.Substitution.{RTerm, RTerms, var, app, rnil, rcons, copied, Binding, resolve}
 use Rattle.machine.specs.Unification.{unify}
-use Rattle.machine.specs.Unifiers.{Substitution, apply, applyAll, Unifies, MostGeneral, Unified}
+use Rattle.machine.specs.Unifiers.{Substitution, apply, applyAll, Unifies, Unified}
 use Rattle.machine.specs.Machine.{isFor, nth, clauseAt}
-use Rattle.machine.specs.Determinacy.{withoutBrackets, firstBracketed, inputs, Equal, Common, NoCommon, joinOn, joined, isJoined, joins, overlaps, firstOverlap, Pair, firstPair, against, isNothing, determinate, Determinate}
+use Rattle.machine.specs.Determinacy.{withoutBrackets, firstBracketed, inputs, Equal, Common, joinOn, joined, isJoined, joins, overlaps, firstOverlap, Pair, firstPair, against, isNothing, determinate, Determinate}
 use Rattle.machine.proofs.Tests.{both, and, holds, some-eq, some-none}
 use Rattle.machine.proofs.Terms.{resolveAll, resolve-app, resolve-nil, resolve-cons, Grows, grows-refl, grows-trans}
 use Rattle.machine.proofs.Unifier.{unify-spec}

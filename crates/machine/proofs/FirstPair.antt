@@ -2,15 +2,15 @@
 -- instance. Assumes nothing.
 use Prim.Native.Nat.{ℕ, zero, suc, _+_, _<_}
 use native.Mathlib.Omega.{arith}
-use mathlib.Core.Path.{_≡_, refl, sym, ap, _∙_, subst}
-use mathlib.Core.Bool.{Bool, true, false, _&&_}
+use mathlib.Core.Path.{_≡_, refl, sym, ap, subst}
+use mathlib.Core.Bool.{Bool, true, false}
 use mathlib.Core.List.{List, [], _∷_}
 use mathlib.Core.Logic.{_⊎_, inl, inr}
 use mathlib.Core.Option.{Option, none, some}
 use lib.Dec.{T}
 use Rattle.syntax.specs.Terms.{Declaration, Clause, Sheet}
 use Rattle.machine.specs.Machine.{isFor, nth, clauseAt}
-use Rattle.machine.specs.Determinacy.{withoutBrackets, firstBracketed, inputs, Common, NoCommon, joins, overlaps, firstOverlap, Pair, firstPair, against, Before, FirstOverlap, FirstBracket, Names}
+use Rattle.machine.specs.Determinacy.{withoutBrackets, firstBracketed, inputs, Common, joins, overlaps, firstOverlap, Pair, firstPair, against, Before, FirstOverlap, FirstBracket, Names}
 use Rattle.machine.proofs.Tests.{both, and, holds, some-eq, some-none}
 use Rattle.machine.proofs.Determinacy.{joins-exactly, overlap-none}
 

@@ -5,18 +5,16 @@ use Prim.Native.Nat.{ℕ, zero, suc, _+_, _-_, _≤_}
 use native.Mathlib.Omega.{arith}
 use mathlib.Core.Path.{_≡_, refl, sym, ap, _∙_, subst}
 use mathlib.Core.Bool.{Bool, true, false, _&&_}
-use mathlib.Core.List.{List, [], _∷_, _++_, append-nil, append-assoc}
+use mathlib.Core.List.{List, [], _++_, append-nil, append-assoc}
 use mathlib.Core.Option.{Option, none, some}
 use lib.Dec.{T, leb, le→leb}
 use Rattle.syntax.specs.Limits.{mostSteps, mostAnswers}
 use Rattle.syntax.specs.Terms.{Sheet, Goal}
 use Rattle.syntax.specs.Verdicts.{Outcome, refused, accepted}
-use Rattle.syntax.specs.declared.Text.{Text}
 use Rattle.syntax.specs.declared.Text.the-variants.{Sheet as inSheet, Goal as inGoal, Neither}
-use Rattle.syntax.specs.declared.Refusal.{Refusal}
 use Rattle.syntax.specs.declared.Refusal.the-variants.{Settings}
 use Rattle.rules.specs.Checking.{checkedWith, checkedGoal}
-use Rattle.machine.specs.Runs.{Kind, Wanted, Done, Steps, Full, Deep, Progress, Ended, nextLine, endings, firstEnd, advance, endOr, runFrom, begun, run, onward, Report, RunSettings, RunOutcome, stopped, ran, reported, overGoal, overSheet, inRange, runOutcome, runAnswer, runText}
+use Rattle.machine.specs.Runs.{Kind, Wanted, Done, Steps, Full, Deep, Progress, Ended, nextLine, endings, firstEnd, advance, endOr, runFrom, begun, run, onward, RunSettings, RunOutcome, stopped, ran, reported, overGoal, overSheet, inRange, runOutcome, runAnswer, runText}
 use Rattle.machine.specs.MoreSteps.{Begins, MoreSteps, NotBySteps, MoreStepsOver, NotReportedSteps, MoreStepsAnswered}
 use Rattle.machine.proofs.Turns.{more-steps}
 

@@ -7,7 +7,7 @@ use Rattle.syntax.specs.declared.Text.{Text}
 use Rattle.syntax.specs.declared.Refusal.{Refusal}
 use Rattle.syntax.specs.declared.Run.{Run}
 use Rattle.syntax.specs.declared.Run.the-variants.{Ended as ended-by, Refused as refused-by}
-use Rattle.machine.specs.Runs.{Steps, Ended, Report, RunOutcome, stopped, ran, runText}
+use Rattle.machine.specs.Runs.{Steps, Ended, RunOutcome, stopped, ran, runText}
 
 -- a text is the beginning of another
 pub record Begins (text longer : List ℕ) : Type 0 where
