@@ -1,4 +1,3 @@
-pub mod LiteralLaws
 pub mod BodyLaws
 pub mod SideLaws
 pub mod ClauseLaws

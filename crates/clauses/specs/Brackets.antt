@@ -1,14 +1,9 @@
--- Literals that are counted, and brackets, as the functions of this crate read them.
-use Prim.Native.Nat.{ℕ, suc, _+_}
+-- Brackets, as the functions of this crate read them.
+use Prim.Native.Nat.{ℕ, suc}
 use mathlib.Core.List.{List}
 use Rattle.syntax.specs.Limits.{literals}
 use Rattle.syntax.specs.Terms.{Literal, Body}
 use Rattle.syntax.specs.Reading.{Cursor, Read, readTo, readSides}
-use Rattle.syntax.specs.declared.State.{State}
-
--- the state with one literal more
-abbrev pub withLiteral : State → State
-withLiteral st = record { token = st .token; count = st .count; literals = st .literals + 1 }
 
 -- a side of a bracket up to a token of a kind, with so many brackets left
 abbrev pub sideAt : ℕ → List ℕ → ℕ → Cursor → Read Body

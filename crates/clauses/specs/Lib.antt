@@ -1,3 +1,2 @@
-pub mod Atoms
 pub mod Brackets
 pub mod Rules

@@ -1,13 +1,12 @@
 // The machine over flat words: one step of it, and its start. Document 01 is the paper "Rule sheets".
-mod calls;
-mod laying;
-mod records;
+mod literals;
 
+use alternatives::Pile;
+use alternatives::laying::lay;
+use alternatives::records::stand_at;
 use bindings::store::undo;
-use calls::work;
-use laying::lay;
 use layout::END_KIND;
-use records::stand_at;
+use literals::work;
 use syntax::CALL_KIND;
 use syntax::LONGEST_PATH;
 use words::word_at;
@@ -16,13 +15,7 @@ ghost use mathlib.Core.List.{List};
 ghost use Prim.Native.Nat.{ℕ};
 ghost use Rattle.machine.specs.Runs.{isAnswer, goesDeeper};
 ghost use Rattle.layout.specs.Pile.{pileOf};
-ghost use Rattle.engine.specs.Steps.{Running, Steppable, Stepped, Startable, Started};
-
-// How many alternatives the pile has, and how many entries the trail.
-pub struct Pile {
-    pub height: usize,
-    pub trail: usize,
-}
+ghost use Rattle.alternatives.specs.Steps.{Running, Steppable, Stepped, Startable, Started};
 
 // One step: the trail undone to the top's mark, then the top worked on.
 pub fn step(

@@ -2,14 +2,13 @@
 use Prim.Native.Nat.{ℕ, _+_, _≤_, _<_}
 use native.Mathlib.Omega.{arith}
 use mathlib.Core.Path.{_≡_, refl, sym, ap, ap₂, _∙_, subst, subst⁻¹}
-use mathlib.Core.Bool.{Bool, true, false, _||_}
+use mathlib.Core.Bool.{Bool, true, false}
 use mathlib.Core.List.{List, []}
 use mathlib.Core.Option.{Option, none, some}
 use lib.ListN.{length, getD, set}
 use Rattle.syntax.specs.Terms.{Term, Terms, variable, compound}
 use Rattle.syntax.specs.Words.{termWords, firstName, nodeWords}
-use Rattle.rules.specs.Modes.{Known, isGround, openUnless, openByte, openByteOf, groundTerm, groundTerms, groundBoth, equateVariable}
-use Rattle.rules.proofs.Terms.{isNone, ground-none}
+use Rattle.rules.specs.Modes.{Known, openUnless, openByte, openByteOf, groundTerm, groundTerms}
 use Rattle.words.specs.Tables.{Has}
 use Rattle.words.proofs.Laws.{node}
 use Rattle.marking.specs.Tables.{TermAt, TermsAt}
@@ -110,42 +109,3 @@ module _ (table : List ℕ) (p stop : ℕ) (τ : Known) where
       rest-stored σ h r k w =
           let q : Parted table p stop (w .terms) = parted l w in
           moved (λ (ts : Terms). r ≡ groundTerms ts σ) k w ∙ ap (groundTerms (q .rest .terms)) (h (q .first)) ∙ sym (ap (λ (ts : Terms). groundTerms ts τ) (q .is))
-
--- ---- yes or no
-
-module _ (table : List ℕ) (p : ℕ) (τ : Known) (g : Groundness) (eg : (w : TermAt table p) → g ≡ groundnessOf (openByte τ (w .term))) where
-  pub test-yes : g ≡ Ground → (w : TermAt table p) → true ≡ isGround τ (w .term)
-  test-yes e w = by (openByte τ (w .term)) (sym (eg w) ∙ e) ∙ sym (ground-none τ (w .term))
-    where
-      by : (o : Option ℕ) → groundnessOf o ≡ Ground → true ≡ isNone o
-      by none h = refl
-      by (some b) h = let z : _≡_ {A = ℕ} 0 1 = cc in absurd (omega arith)
-
-  pub test-no : (b : ℕ) → g ≡ Open b → (w : TermAt table p) → false ≡ isGround τ (w .term)
-  test-no b e w = by (openByte τ (w .term)) (sym (eg w) ∙ e) ∙ sym (ground-none τ (w .term))
-    where
-      by : (o : Option ℕ) → groundnessOf o ≡ Open b → false ≡ isNone o
-      by none h = let z : _≡_ {A = ℕ} 0 1 = cc in absurd (omega arith)
-      by (some i) h = refl
-
--- ---- an equation with a variable
-
-module _ (table : List ℕ) (p q : ℕ) (τ : Known) (a b : Bool) (ea : (t : TermAt table p) → a ≡ isGround τ (t .term)) where
-  by-test : (x y : Bool) (t u : Term) → isGround τ t ≡ x → isGround τ u ≡ y → equateVariable t u τ ≡ groundBoth (x || y) t u τ
-  unfolding equateVariable
-  by-test x y t u e f = ap₂ (λ (m n : Bool). groundBoth (m || n) t u τ) e f
-
-  pub left-grounds : a ≡ true → (σ ρ : Known) → ((t : TermAt table p) → σ ≡ groundTerm (t .term) τ) → ((u : TermAt table q) → ρ ≡ groundTerm (u .term) σ) → (t : TermAt table p) (u : TermAt table q) → ρ ≡ equateVariable (t .term) (u .term) τ
-  unfolding groundBoth
-  left-grounds h σ ρ es er t u =
-      er u ∙ ap (groundTerm (u .term)) (es t) ∙ sym (by-test true (isGround τ (u .term)) (t .term) (u .term) (sym (ea t) ∙ h) refl)
-
-  module _ (eb : (u : TermAt table q) → b ≡ isGround τ (u .term)) (h : a ≡ false) where
-    pub right-grounds : b ≡ true → (σ ρ : Known) → ((t : TermAt table p) → σ ≡ groundTerm (t .term) τ) → ((u : TermAt table q) → ρ ≡ groundTerm (u .term) σ) → (t : TermAt table p) (u : TermAt table q) → ρ ≡ equateVariable (t .term) (u .term) τ
-    unfolding groundBoth
-    right-grounds k σ ρ es er t u =
-        er u ∙ ap (groundTerm (u .term)) (es t) ∙ sym (by-test false true (t .term) (u .term) (sym (ea t) ∙ h) (sym (eb u) ∙ k))
-
-    pub neither-grounds : b ≡ false → (t : TermAt table p) (u : TermAt table q) → τ ≡ equateVariable (t .term) (u .term) τ
-    unfolding groundBoth
-    neither-grounds k t u = sym (by-test false false (t .term) (u .term) (sym (ea t) ∙ h) (sym (eb u) ∙ k))

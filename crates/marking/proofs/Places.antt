@@ -7,7 +7,7 @@ use lib.ListN.{length, getD, length-append}
 use Rattle.syntax.specs.Limits.{variables}
 use Rattle.syntax.specs.Terms.{Term, Terms, variable, compound, nil, cons, arity, Atom}
 use Rattle.syntax.specs.Words.{termWords, termsWords, atomWords, firstName, functor}
-use Rattle.marking.specs.Standing.{Numbered, AllNumbered, numbered-variable, numbered-compound, numbered-cons}
+use Rattle.marking.specs.Standing.{Numbered, AllNumbered, numbered-variable, numbered-compound, numbered-nil, numbered-cons, Stands, AllStand, stands-variable, stands-compound, stand-nil, stand-cons}
 use Rattle.words.specs.Tables.{Has, Inside}
 use Rattle.words.proofs.Laws.{has-left, has-right, has-inside, Node, node, long-term, size-is, term-inside}
 use Rattle.marking.specs.Tables.{TermAt, TermsAt}
@@ -141,3 +141,14 @@ pub next-further : {table : List ℕ} {p stop : ℕ} (next : ℕ) → p < stop �
 next-further {table} {p} {stop} next l n w =
     let q : Parted table p stop (w .terms) = parted l w in
     omega (arith, n (q .first), sized table p (q .first) .long, q .rest .ends)
+
+-- ---- what stands in a text has numbered variables
+
+mutual
+  pub numbered : {s : List ℕ} {t : Term} → Stands s t → Numbered t
+  numbered (stands-variable l) = numbered-variable l
+  numbered (stands-compound n a k) = numbered-compound (all-numbered k)
+
+  pub all-numbered : {s : List ℕ} {ts : Terms} → AllStand s ts → AllNumbered ts
+  all-numbered stand-nil = numbered-nil
+  all-numbered (stand-cons k ks) = numbered-cons (numbered k) (all-numbered ks)

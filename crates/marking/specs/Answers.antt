@@ -1,6 +1,6 @@
 -- The definitions' answers as the code gives them.
 use Prim.Native.Nat.{ℕ, suc}
-use mathlib.Core.Bool.{true, false}
+use mathlib.Core.Bool.{Bool, true, false}
 use mathlib.Core.List.{List, [], _∷_}
 use mathlib.Core.Option.{Option, none, some}
 use lib.ListN.{length}
@@ -8,17 +8,18 @@ use Rattle.syntax.specs.Terms.{Atom, Declaration, arity, samePredicate}
 use Rattle.syntax.specs.declared.Refusal.{Refusal}
 use Rattle.marking.specs.declared.Checked.{Checked}
 use Rattle.marking.specs.declared.Checked.the-variants.{Fine, Fault}
-use Rattle.rules.specs.Modes.{OpenArgument}
 use Rattle.marking.specs.declared.terms.Groundness.{Groundness}
 use Rattle.marking.specs.declared.terms.Groundness.the-variants.{Ground, Open}
-use Rattle.marking.specs.declared.marks.FirstOpen.{FirstOpen}
-use Rattle.marking.specs.declared.marks.FirstOpen.the-variants.{Nowhere, At}
 use Rattle.marking.specs.declared.marks.Name.{Name}
 
 -- no fault, or the first one
 abbrev pub checkedOf : Option Refusal → Checked
 checkedOf none = Fine
 checkedOf (some r) = Fault r
+
+abbrev pub isFault : Checked → Bool
+isFault Fine = false
+isFault (Fault r) = true
 
 -- a name's byte, length and number of arguments
 abbrev pub nameOf : Atom → Name
@@ -28,11 +29,6 @@ nameOf a = record { at = a .at; len = length (a .name); arguments = arity (a .ar
 abbrev pub groundnessOf : Option ℕ → Groundness
 groundnessOf none = Ground
 groundnessOf (some byte) = Open byte
-
--- no open argument, or the first one
-abbrev pub firstOpenOf : Option OpenArgument → FirstOpen
-firstOpenOf none = Nowhere
-firstOpenOf (some o) = At (o .argument) (o .byte)
 
 -- the place of a predicate's first declaration among some, or how many these are
 unfoldable pub position : List Declaration → List ℕ → ℕ → ℕ

@@ -1,4 +1,3 @@
-pub mod Functors
 pub mod Standing
 pub mod Tables
 pub mod Answers

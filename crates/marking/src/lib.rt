@@ -3,13 +3,21 @@ pub mod marks;
 pub mod terms;
 
 use syntax::Refusal;
-use syntax::VARIABLES;
-
-// What is known ground: a flag for each variable number. An array by value is the list of flags of the definitions, and a store is their `set`.
-pub type Known = [bool; VARIABLES];
+ghost use mathlib.Core.Path.{_≡_};
+ghost use Rattle.marking.specs.Answers.{isFault};
 
 // No fault of those looked for, or the first one.
 pub enum Checked {
     Fine,
     Fault(Refusal),
+}
+
+// Whether there is a fault.
+pub fn is_fault(c: Checked) -> bool
+    ensures { λ r. ⌜ r ≡ isFault c ⌝ }
+{
+    match c {
+        Checked::Fine => false,
+        Checked::Fault(_) => true,
+    }
 }

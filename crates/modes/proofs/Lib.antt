@@ -1,5 +1,3 @@
-pub mod Walking
-pub mod Items
 pub mod Sheets
 pub mod Accepted
 pub mod Loaded

@@ -2,40 +2,18 @@
 use Prim.Native.Nat.{ℕ}
 use mathlib.Core.List.{List, [], _∷_, _++_}
 use lib.ListN.{getD}
-use Rattle.syntax.specs.Refusals.{numbersOf}
 use Rattle.syntax.specs.declared.Declared.{Declared}
 use Rattle.syntax.specs.declared.Declared.the-variants.{As, Nothing}
-use Rattle.syntax.specs.declared.Refusal.{Refusal}
 use Rattle.syntax.specs.declared.Run.{Run}
 use Rattle.syntax.specs.declared.Run.the-variants.{Ended, Refused as stopped}
-use Rattle.syntax.specs.declared.Text.{Text}
-use Rattle.syntax.specs.declared.Text.the-variants.{Sheet, Goal, Neither}
 use Rattle.syntax.specs.declared.Verdict.{Verdict}
 use Rattle.syntax.specs.declared.Verdict.the-variants.{Accepted, Refused}
 use Rattle.reports.specs.Reports.{kindNumber}
-use Rattle.rules.specs.Checking.{nameSpan}
+use Rattle.faults.specs.Numbers.{faultNumbers}
 
 -- which of these lists, and of the functions that give them, a library has
 abbrev pub version : ℕ
 version = 2
-
--- "it also says which of the two texts was at fault, neither for 1"
-abbrev pub textNumber : Text → ℕ
-textNumber Neither = 0
-textNumber Sheet = 1
-textNumber Goal = 2
-
--- a refusal, in the order in which the programs print it: the text at fault, number, byte, clause, literal, argument, byte and length of the name
-unfoldable pub faultNumbers : Text → Refusal → List ℕ
-faultNumbers text refusal =
-    textNumber text ∷
-    numbersOf refusal .number ∷
-    numbersOf refusal .byte ∷
-    numbersOf refusal .clause ∷
-    numbersOf refusal .literal ∷
-    numbersOf refusal .argument ∷
-    nameSpan refusal .0 ∷
-    nameSpan refusal .1 ∷ []
 
 -- none
 abbrev pub noFault : List ℕ

@@ -1,25 +1,22 @@
 // The answers of reading, checking and running as numbers in a lent slice, for callers in other languages: as many as fit, later ones as they
 // were.
+use faults::FAULT;
+use faults::fault_numbers;
+use storing::put;
 use syntax::Declared;
-use syntax::Refusal;
 use syntax::Run;
-use syntax::Text;
 use syntax::Verdict;
 ghost use mathlib.Core.Path.{_≡_};
-ghost use mathlib.Core.List.{[], _∷_, _++_};
-ghost use Prim.Native.Nat.{_+_, _^_, _<_, _≤_};
+ghost use mathlib.Core.List.{_++_};
+ghost use Prim.Native.Nat.{_≤_};
 ghost use lib.ListN.{length};
 ghost use lib.Seq.{sets};
-ghost use Rattle.buffers.specs.Buffers.{Put};
-ghost use Rattle.packing.specs.Numbers.{version, textNumber, faultNumbers, verdictNumbers, runNumbers, entryNumbers, refusalIn};
+ghost use Rattle.packing.specs.Numbers.{version, verdictNumbers, runNumbers, entryNumbers, refusalIn};
 
 // The lists of numbers that this library gives.
 const VERSION: usize = 2;
 
-// How many numbers a fault has,
-const FAULT: usize = 8;
-
-// which of a fault's is the refusal's:
+// Which of a fault's numbers is the refusal's:
 const NUMBER: usize = 1;
 
 // how many a verdict's counts and a run's report behind it:
@@ -32,61 +29,6 @@ pub fn version_number() -> usize
     ensures { λ r. ⌜ r ≡ version ⌝ }
 {
     VERSION
-}
-
-// One number, where it fits; returned is the place behind it, also where it does not.
-fn put_one(number: usize, out: &mut [usize], at: usize) -> usize
-    requires { ⌜ at + 1 < 2 ^ 64 ⌝ }
-    ensures { λ r. ⌜ Put (now (out .entry)) at (number ∷ []) (now (out .exit)) r ⌝ }
-{
-    if at < out.len() {
-        out[at] = number;
-        return at + 1;
-    }
-    at + 1
-}
-
-// Numbers from a place on; the same.
-fn put(numbers: &[usize], out: &mut [usize], from: usize) -> usize
-    requires { ⌜ from + length (now numbers) < 2 ^ 64 ⌝ }
-    ensures { λ r. ⌜ Put (now (out .entry)) from (now (numbers .entry)) (now (out .exit)) r ⌝ }
-{
-    let mut past = from;
-    let mut i = 0;
-    while i < numbers.len() {
-        past = put_one(numbers[i], out, past);
-        i += 1;
-    }
-    past
-}
-
-fn text_number(text: Text) -> usize
-    ensures { λ r. ⌜ r ≡ textNumber text ⌝ }
-{
-    match text {
-        Text::Neither => 0,
-        Text::Sheet => 1,
-        Text::Goal => 2,
-    }
-}
-
-// A refusal, in the order in which it is told.
-fn fault_numbers(text: Text, refusal: Refusal) -> [usize; FAULT]
-    ensures { λ r. ⌜ r ≡ faultNumbers text refusal ⌝ }
-{
-    let which = text_number(text);
-    let five = syntax::numbers(refusal);
-    let name = names::name_span(refusal);
-    [
-        which,
-        five.number,
-        five.byte,
-        five.clause,
-        five.literal,
-        five.argument,
-        name.at,
-        name.len,
-    ]
 }
 
 // A fault and what follows it; the refusal's number is returned, 0 for none.

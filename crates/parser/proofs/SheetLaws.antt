@@ -21,7 +21,7 @@ use Rattle.reading.specs.Gives.{cursorOf, left, Standing, Ready, Faulted, Given
 use Rattle.reading.specs.declared.Parsed.{Parsed}
 use Rattle.reading.proofs.Reading.{refused-beyond, wrong-positive}
 use Rattle.reading.proofs.Sequence.{seq-ok}
-use Rattle.parser.specs.Marks.{DeclarationGiven, DeclarationGives}
+use Rattle.declarations.specs.Marks.{DeclarationGiven, DeclarationGives}
 use Rattle.parser.specs.Sheets.{declarationNext, clauseNext, before, Holds, Loading, ItemFault, LoadFault, LoadGiven, Loads, GoalLoads}
 use Rattle.parser.specs.declared.Loaded.{Loaded}
 

@@ -13,7 +13,7 @@ use Rattle.syntax.specs.Words.{nodeWords, declarationSize, declarationsWords, c
 use Rattle.syntax.specs.declared.State.{State}
 use Rattle.reading.specs.Gives.{Standing, left}
 use Rattle.reading.specs.declared.Parsed.{Parsed}
-use Rattle.parser.specs.Marks.{Stopped}
+use Rattle.declarations.specs.Marks.{Stopped}
 use Rattle.parser.specs.declared.Loaded.{Loaded}
 
 -- one declaration or clause more, with so many left

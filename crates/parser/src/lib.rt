@@ -1,5 +1,4 @@
-// The parser: declarations, sheets and goals into tables of words, with refusals 3 to 7 of document 01.
-pub mod declarations;
+// The parser: sheets and goals into tables of words, with refusals 3 to 7 of document 01.
 pub mod sheets;
 
 // What reading a sheet gives: 0 or the number of a refusal with its byte, how many declarations and clauses were read, and

@@ -1,8 +1,8 @@
 // Sheets and goals.
 use crate::Loaded;
-use crate::declarations::read_declaration;
 use clauses::read_clause;
 use clauses::read_whole;
+use declarations::read_declaration;
 use reading::Parsed;
 use reading::cursor::refuse;
 use reading::cursor::wrong;
@@ -21,7 +21,7 @@ ghost use Rattle.syntax.specs.Tokens.{tokenAt, nameKind};
 ghost use Rattle.syntax.specs.Reading.{begin, readSheet, readGoal};
 ghost use Rattle.syntax.specs.Words.{nodeWords, declarationSize, declaredWords, sheetWords, clauseWords};
 ghost use Rattle.reading.specs.Gives.{fresh, Standing, Ready, Gives, one};
-ghost use Rattle.parser.specs.Marks.{DeclarationGives};
+ghost use Rattle.declarations.specs.Marks.{DeclarationGives};
 ghost use Rattle.parser.specs.Sheets.{declarationNext, clauseNext, Loads, GoalLoads};
 
 // The reader at a text's first token.

@@ -13,7 +13,8 @@ use Rattle.bindings.specs.Queues.{Clean}
 use Rattle.loader.specs.Loading.{Loadable, Loaded}
 use Rattle.linker.specs.Linking.{Linkable}
 use Rattle.runs.specs.declared.Ran.{Ran}
-use Rattle.runs.specs.Running.{Spelt, Lent, Runnable, Runs}
+use Rattle.telling.specs.Telling.{Spelt, Lent}
+use Rattle.runs.specs.Running.{Runnable, Runs}
 use Rattle.programs.specs.Programs.{Zeros, Blank, Programmed, Linked}
 
 zero-at : (n i : ℕ) → _≡_ {A = ℕ} (getD (replicate n 0) i 0) 0

@@ -14,7 +14,7 @@ use Rattle.layout.specs.Limits.{SheetLimited, GoalLimited}
 use Rattle.layout.specs.Program.{Program}
 use Rattle.syntax.specs.Spans.{namesFrom}
 use Rattle.spelling.specs.Words.{Named}
-use Rattle.runs.specs.Running.{Spelt, Tellable}
+use Rattle.telling.specs.Telling.{Spelt, Tellable}
 
 -- a text that is not long, for which less scratch is cleared
 abbrev pub shortText : ℕ

@@ -1,51 +1,16 @@
 // A reader over a sheet, which hands out one token at a time: a struct that holds the text and a position in it, and thin
 // functions over it. The borrow checker covers no function over such a struct, so the walks of `new`, `peek`, `moved` and
-// `nth_token` are proved by hand; the work is in `token_of` and `past_tokens`, which take the slice and the number.
-use lexer::past_at;
-use lexer::token_at;
-use syntax::END;
+// `nth_token` are proved by hand; the work is in `token_of` and `past_tokens` of `positions`, which take the slice and the number.
+use positions::past_tokens;
+use positions::token_of;
 use syntax::Token;
 ghost use mathlib.Core.Path.{_≡_};
 ghost use Rattle.syntax.specs.Tokens.{tokenAt};
-ghost use Rattle.reader.specs.Nth.{pastTokens, nthToken};
+ghost use Rattle.positions.specs.Nth.{pastTokens, nthToken};
 
 pub struct Reader<'a> {
     text: &'a [u8],
     at: usize,
-}
-
-// The first token from a position on; past the end of the text, its end.
-fn token_of(text: &[u8], at: usize) -> Token
-    ensures { λ t. ⌜ t ≡ tokenAt (now (text .entry)) at ⌝ }
-{
-    if text.len() < at {
-        return Token {
-            kind: END,
-            at,
-            len: 0,
-        };
-    }
-    token_at(text, at)
-}
-
-// The position just past the first `n` tokens from a position on. At the end of the text the position stays.
-fn past_tokens(text: &[u8], from: usize, n: usize) -> usize
-    ensures { λ r. ⌜ r ≡ pastTokens n (now (text .entry)) from ⌝ }
-{
-    if text.len() < from {
-        return from;
-    }
-    let mut at = from;
-    let mut left = n;
-    while 0 < left {
-        let past = past_at(text, at);
-        if past == at {
-            return at;
-        }
-        at = past;
-        left -= 1;
-    }
-    at
 }
 
 // A reader at the beginning of a text.

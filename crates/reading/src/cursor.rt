@@ -1,21 +1,24 @@
 // Where a reader stands, and what it stores.
 use crate::Parsed;
+use syntax::NAME;
 use syntax::NO_TOKEN;
+use syntax::NUMERAL;
 use syntax::OVERLONG;
 use syntax::State;
 use syntax::Token;
+use syntax::VARIABLE;
 use syntax::span_at;
 use syntax::span_length;
 use texts::same_bytes;
 ghost use mathlib.Core.Path.{_≡_};
-ghost use Prim.Native.Nat.{_+_, _*_, _-_, _≤_, _<_, _^_};
-ghost use lib.ListN.{length, set, getD};
-ghost use Rattle.syntax.specs.Reading.{wrongNumber};
+ghost use Prim.Native.Nat.{_+_, _≤_, _<_, _^_};
+ghost use lib.ListN.{length, set};
+ghost use Rattle.syntax.specs.Reading.{wrongNumber, startOf};
 ghost use Rattle.syntax.specs.Words.{nodeWords};
 ghost use Rattle.syntax.specs.Spans.{spanned, Inside};
 ghost use Rattle.syntax.specs.Tokens.{spelling};
 ghost use Rattle.syntax.specs.Terms.{sameName};
-ghost use Rattle.reading.specs.Gives.{Standing, Moved, Refused};
+ghost use Rattle.reading.specs.Gives.{Standing, Moved, Refused, Counted, fullNumber};
 
 // The reader past the token at hand.
 pub fn next(s: &[u8], st: State) -> State
@@ -92,4 +95,48 @@ pub fn put(table: &mut [u32], n: usize, word: usize)
     ensures { λ _. ⌜ now (table .exit) ≡ set (now (table .entry)) n word ⌝ }
 {
     table[n] = word as u32;
+}
+
+// Whether a token of this kind begins a term.
+fn begins(kind: usize) -> bool
+    ensures { λ r. ⌜ r ≡ Rattle.syntax.specs.Reading.begins (startOf kind) ⌝ }
+{
+    if kind == VARIABLE {
+        return true;
+    }
+    if kind == NUMERAL {
+        return true;
+    }
+    kind == NAME
+}
+
+// The fault of a list or body that is full: the token at hand begins one more, or cannot stand here.
+pub fn full(st: State) -> Parsed
+    ensures { λ r. ⌜ Refused st (fullNumber (Rattle.syntax.specs.Reading.begins (startOf (st .token .kind))) (st .token .kind)) r ⌝ }
+{
+    let t = st.token;
+    let kind = t.kind;
+    if begins(kind) {
+        return refuse(st, 6);
+    }
+    wrong(st)
+}
+
+// What was read behind a comma, counted with the things before it.
+pub fn counted(more: Parsed, by: usize) -> Parsed
+    requires { ⌜ (more .number ≡ 0 → more .items < 2 ^ 31) × (by < 2 ^ 31) ⌝ }
+    ensures { λ r. ⌜ Counted more by r ⌝ }
+{
+    if more.number != 0 {
+        return more;
+    }
+    let used = more.used;
+    let items = more.items + by;
+    let state = more.state;
+    Parsed {
+        number: 0,
+        used,
+        items,
+        state,
+    }
 }

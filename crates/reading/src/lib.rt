@@ -1,7 +1,7 @@
-// The reader of terms: where it stands in a text, and terms into a table of words.
+// The reader of terms: where it stands in a text, and terms without arguments into a table of words.
 
 pub mod cursor;
-pub mod terms;
+pub mod leaves;
 
 use syntax::State;
 

@@ -1,5 +1,1 @@
-mod EndLaws
-mod LineLaws
-mod LoopLaws
-mod AnswerLaws
-mod GoingLaws
+mod RunLaws

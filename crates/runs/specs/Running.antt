@@ -1,96 +1,24 @@
 -- What a run over loaded words is given, and what it promises.
-use Prim.Native.Nat.{ℕ, min, _+_, _-_, _*_, _≤_}
+use Prim.Native.Nat.{ℕ, _-_, _≤_}
 use mathlib.Core.Path.{_≡_}
-use mathlib.Core.Bool.{Bool, true, cond}
 use mathlib.Core.List.{List}
-use lib.Dec.{leb, eqb}
 use lib.ListN.{length, getD}
 use lib.Seq.{sets}
 use Rattle.syntax.specs.Terms.{Sheet, Goal}
 use Rattle.syntax.specs.declared.Report.{Report}
-use Rattle.syntax.specs.declared.Kind.the-variants.{Wanted, Done, Steps, Deep}
-use Rattle.machine.specs.Machine.{Alternative, start}
-use Rattle.machine.specs.Low.{Low}
-use Rattle.machine.specs.Answers.{line}
-use Rattle.machine.specs.Runs.{Progress, Ended, isEmpty, isAnswer, goesDeeper, runFrom, begun, run}
-use Rattle.layout.specs.Regions.{deepest, openSize, stack, stateWords}
+use Rattle.machine.specs.Machine.{Alternative}
+use Rattle.machine.specs.Runs.{Ended, run}
+use Rattle.layout.specs.Regions.{stateWords}
 use Rattle.layout.specs.Nodes.{Symbol}
 use Rattle.layout.specs.Program.{Program}
-use Rattle.layout.specs.State.{bindings}
-use Rattle.layout.specs.Pile.{pileOf, Piled, markAt}
+use Rattle.layout.specs.Pile.{pileOf, Piled}
 use Rattle.bindings.specs.Queues.{Clean}
-use Rattle.bindings.specs.Scratch.{Roomy}
-use Rattle.syntax.specs.Spans.{namesFrom}
-use Rattle.spelling.specs.Words.{Names, Named}
-use Rattle.answers.specs.Fitting.{Fitted}
-use Rattle.engine.specs.Steps.{Stepped}
-use Rattle.runs.specs.declared.Carried.{Carried}
+use Rattle.telling.specs.Telling.{Spelt, Lent}
 use Rattle.runs.specs.declared.Ran.{Ran}
-use Rattle.runs.specs.declared.Told.{Told}
-use Rattle.runs.specs.declared.Next.{Next}
-use Rattle.runs.specs.declared.Next.the-variants.{End, Answer, Step}
-
--- What comes before the next step: an end, an answer's line, or nothing. `left` is what is left of the allowance.
-unfoldable pub nextOf : ℕ → ℕ → ℕ → Sheet → List Alternative → Next
-nextOf wanted answers left sh pile =
-    cond (isEmpty pile) (End Done)
-    (cond (leb wanted answers) (End Wanted)
-    (cond (eqb left 0) (End Steps)
-    (cond (isAnswer pile) Answer
-    (cond (goesDeeper sh pile) (End Deep) Step))))
 
 -- the report of a run
 abbrev pub reportOf : Ended → Report
 reportOf e = record { kind = e .kind; answers = e .at .answers; steps = e .at .steps }
-
--- the symbols and the goal's variables are spelt in the two texts
-pub record Spelt (ss : List Symbol) (g : Goal) (sheet goal names : List ℕ) (count : ℕ) (symbols : List ℕ) : Type 0 where
-  pub spelt : Names ss symbols sheet goal
-  pub named : Named goal names count
-  pub names-are : g .names ≡ namesFrom goal names 0 count
-
--- scratch words whose part behind marks and queue is an ample stack for the brackets of an answer with so many bytes of room
-abbrev pub Tellable : List ℕ → ℕ → Type 0
-Tellable scratch room = min (deepest * openSize) (room * 2 + 4) + stack ≤ length scratch
-
--- what a run is lent: scratch words without a mark, for unification and for answers in a text of so many bytes
-pub record Lent (scratch : List ℕ) (room : ℕ) : Type 0 where
-  pub roomy : Roomy scratch
-  pub clean : Clean scratch
-  pub deep : Tellable scratch room
-
--- words that mean a low pile, and what is lent
-pub record Under (ss : List Symbol) (sh : Sheet) (g : Goal) (nodes code state scratch : List ℕ) (room h n : ℕ) : Type 0 where
-  pub piled : Piled ss sh g nodes code state h n
-  pub low : Low (pileOf ss sh g nodes code state h)
-  pub lent : Lent scratch room
-
--- Where a run stands: the rest of it is the rest of a whole, which ends so.
-pub record Ongoing (ss : List Symbol) (sh : Sheet) (g : Goal) (nodes code state scratch : List ℕ) (e : Ended) (allowance wanted : ℕ) (old new : List ℕ)
-    (h n answers steps at : ℕ) : Type 0 where
-  pub under : Under ss sh g nodes code state scratch (length old) h n
-  pub written : List ℕ
-  pub at-is : at ≡ length written
-  pub fits : at ≤ length old
-  pub text-is : new ≡ sets old 0 written
-  pub steps-few : steps ≤ allowance
-  pub whole : e ≡ runFrom sh g wanted (length old) (allowance - steps)
-      (record { pile = pileOf ss sh g nodes code state h; answers = answers; steps = steps; text = written })
-
--- What a run carries means the definition's progress, and so much is written into the text `old`.
-pub record Carries (ss : List Symbol) (sh : Sheet) (g : Goal) (nodes code state scratch old new : List ℕ) (p : Progress) (t : Carried) : Type 0 where
-  pub under : Under ss sh g nodes code state scratch (length old) (t .height) (t .trail)
-  pub is : p ≡ record { pile = pileOf ss sh g nodes code state (t .height); answers = t .answers; steps = t .steps; text = p .text }
-  pub at-is : t .at ≡ length (p .text)
-  pub fits : t .at ≤ length old
-  pub text-is : new ≡ sets old 0 (p .text)
-
--- a turn's end: how the run ended, and what it carries, whichever way it ended
-pub record Turned (ss : List Symbol) (sh : Sheet) (g : Goal) (nodes code state scratch old new : List ℕ) (e : Ended) (t : Carried) : Type 0 where
-  pub kind-is : t .kind ≡ e .kind
-  pub answers-is : t .answers ≡ e .at .answers
-  pub steps-is : t .steps ≡ e .at .steps
-  pub carries : Carries ss sh g nodes code state scratch old new (e .at) t
 
 -- what a run leaves in the words that it was lent: the pile where it ended, and no mark
 pub record Leaves (ss : List Symbol) (sh : Sheet) (g : Goal) (nodes code state scratch : List ℕ) (pile : List Alternative) : Type 0 where
@@ -105,64 +33,6 @@ pub record Runs (sh : Sheet) (g : Goal) (allowance wanted : ℕ) (old new : List
   pub is : r .report ≡ reportOf (run sh g allowance wanted (length old))
   pub bytes-is : r .bytes ≡ length (run sh g allowance wanted (length old) .at .text)
   pub text-is : new ≡ sets old 0 (run sh g allowance wanted (length old) .at .text)
-
--- ---- what the functions ask and promise
-
--- words that mean a low pile that is not empty, whatever the program
-pub record Rewindable (state : List ℕ) (h n : ℕ) : Type 0 where
-  pub ss : List Symbol
-  pub sh : Sheet
-  pub g : Goal
-  pub nodes : List ℕ
-  pub code : List ℕ
-  pub piled : Piled ss sh g nodes code state h n
-  pub low : Low (pileOf ss sh g nodes code state h)
-  pub some : 1 ≤ h
-
--- the same pile, and the trail is the top's
-pub record Same (ss : List Symbol) (sh : Sheet) (g : Goal) (nodes code before after : List ℕ) (h m : ℕ) : Type 0 where
-  pub piled : Piled ss sh g nodes code after h m
-  pub is : pileOf ss sh g nodes code after h ≡ pileOf ss sh g nodes code before h
-
-pub record Rewound (before after : List ℕ) (h n m : ℕ) : Type 0 where
-  pub long : length after ≡ length before
-  pub mark : markAt after (h - 1) ≡ m
-  pub same : (ss : List Symbol) (sh : Sheet) (g : Goal) (nodes code : List ℕ) → Piled ss sh g nodes code before h n → Same ss sh g nodes code before after h m
-
--- an answer is next
-pub record Answering (sheet goal names : List ℕ) (count : ℕ) (nodes code symbols state scratch text : List ℕ) (h n at : ℕ) : Type 0 where
-  pub ss : List Symbol
-  pub sh : Sheet
-  pub g : Goal
-  pub spelt : Spelt ss g sheet goal names count symbols
-  pub under : Under ss sh g nodes code state scratch (length text) h n
-  pub some : 1 ≤ h
-  pub answer : isAnswer (pileOf ss sh g nodes code state h) ≡ true
-  pub room : at ≤ length text
-
--- The line is written and the step taken, or the line does not fit: then the position is 0, and the pile as it was.
-pub record Answered (ss : List Symbol) (sh : Sheet) (g : Goal) (nodes code before after scratch later old new : List ℕ) (h at : ℕ) (r : Told) : Type 0 where
-  pub mid : List ℕ
-  pub between : List ℕ
-  pub m : ℕ
-  pub same : Same ss sh g nodes code before mid h m
-  pub mark : markAt mid (h - 1) ≡ m
-  pub fitted : Fitted (line g (bindings ss nodes mid m)) old at new (r .at)
-  pub stepped : (r .at ≡ 0 → ⊥) → Stepped ss sh g nodes code mid after between later h (record { height = r .height; trail = r .trail })
-  pub stopped : r .at ≡ 0 → (after ≡ mid) × ((r .height ≡ h) × ((r .trail ≡ m) × Clean later))
-  pub state-long : length after ≡ length before
-  pub scratch-long : length between ≡ length scratch
-  pub later-long : length later ≡ length scratch
-
--- a run under way
-pub record Underway (sheet goal names : List ℕ) (count : ℕ) (nodes code symbols state scratch text : List ℕ) (t : Carried) : Type 0 where
-  pub ss : List Symbol
-  pub sh : Sheet
-  pub g : Goal
-  pub spelt : Spelt ss g sheet goal names count symbols
-  pub old : List ℕ
-  pub progress : Progress
-  pub carries : Carries ss sh g nodes code state scratch old text progress t
 
 -- a loaded program and a state of zeros
 pub record Runnable (sheet goal names : List ℕ) (count : ℕ) (nodes code symbols state scratch text : List ℕ) : Type 0 where

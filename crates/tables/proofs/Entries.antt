@@ -24,7 +24,7 @@ use Rattle.syntax.specs.declared.Verdict.the-variants.{Accepted, Refused}
 use Rattle.syntax.specs.declared.Declared.{Declared}
 use Rattle.syntax.specs.declared.Declared.the-variants.{As, Nothing}
 use Rattle.reading.specs.declared.Parsed.{Parsed}
-use Rattle.parser.specs.Marks.{Stopped}
+use Rattle.declarations.specs.Marks.{Stopped}
 use Rattle.parser.specs.Sheets.{GoalGiven, GoalLoads}
 use Rattle.words.specs.Tables.{Has}
 use Rattle.words.proofs.Laws.{has-left, has-right, has-inside, has-taken}

@@ -16,7 +16,7 @@ use Rattle.rules.specs.Written.{writes, isWritten}
 use Rattle.words.specs.Tables.{Has}
 use Rattle.marking.specs.Standing.{ClausesStand}
 use Rattle.marking.specs.Tables.{ClauseAt, SheetAt}
-use Rattle.modes.proofs.Sheets.{Ahead, Turn, turn}
+use Rattle.undeclared.proofs.Clauses.{Ahead, Turn, turn}
 use Rattle.repeats.specs.Repeating.{nth}
 use Rattle.written.specs.Flags.{Finds, Flagged}
 

@@ -21,15 +21,14 @@ use Rattle.rules.specs.Modes.{undeclaredClauses, undeclaredInSheet, clausesFaul
 use Rattle.rules.specs.Written.{isWritten, isExempt, firstUnwritten, unwritten}
 use Rattle.lookup.specs.Searching.{matches, storedEntry}
 use Rattle.lookup.proofs.Laws.{lengths-differ, spelling-long}
-use Rattle.marking.specs.Answers.{checkedOf, nameOf, position}
+use Rattle.marking.specs.Answers.{checkedOf, nameOf, position, isFault}
 use Rattle.marking.specs.Tables.{DeclarationsAt, AtomAt, NamedAt, ClausesAt, SheetAt}
 use Rattle.marking.specs.declared.Checked.{Checked}
 use Rattle.marking.specs.declared.Checked.the-variants.{Fine, Fault}
 use Rattle.marking.specs.declared.marks.Name.{Name}
 use Rattle.marking.proofs.Marking.{matches-declared, atom-name, in-text}
-use Rattle.modes.specs.Answers.{isFault}
 use Rattle.modes.proofs.Sheets.{sheet-declarations, sheet-clauses}
-use Rattle.modes.proofs.Walking.{fault-stays, fine-goes}
+use Rattle.undeclared.proofs.Faults.{fault-stays, fine-goes}
 use Rattle.repeats.specs.Repeating.{nth}
 use Rattle.repeats.proofs.Laws.{one-has, one-stands, at-is, name-is, arity-is}
 use Rattle.written.specs.Flags.{DeclaredOnce, Finds, Flagged}

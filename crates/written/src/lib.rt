@@ -1,17 +1,17 @@
 // Declared predicates without a clause, refusal 16 of document 02; and the tests of a sheet that was read, in their order.
 use lookup::is_match;
 use marking::Checked;
+use marking::is_fault;
 use marking::marks::Name;
 use marking::marks::find;
 use marking::marks::name_at;
 use modes::clause_faults::clauses_fault;
-use modes::clause_faults::undeclared_clauses;
-use modes::is_fault;
 use syntax::CLAUSE_START;
 use syntax::DECLARATION_SIZE;
 use syntax::DECLARATIONS;
 use syntax::Refusal;
 use texts::same_bytes;
+use undeclared::undeclared_clauses;
 use words::past_clause;
 use words::word_at;
 ghost use mathlib.Core.Path.{_≡_};

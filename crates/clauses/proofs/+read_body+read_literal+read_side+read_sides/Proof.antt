@@ -21,11 +21,11 @@ use Rattle.clauses.proofs.read_sides.Kinds as read-sides-kinds
 use Rattle.clauses.proofs.+read_body+read_literal+read_side+read_sides.Lts-read_sides as read-sides-lts
 use Rattle.clauses.proofs.close_sides.Reads as close-sides-reads
 use Rattle.clauses.proofs.open_side.Reads as open-side-reads
-use Rattle.clauses.proofs.read_plain.Reads as read-plain-reads
+use Rattle.plain_literals.proofs.read_plain.Reads as read-plain-reads
 use Rattle.reading.proofs.cursor.next.Reads as next-reads
 use Rattle.reading.proofs.cursor.refuse.Reads as refuse-reads
 use Rattle.reading.proofs.cursor.wrong.Reads as wrong-reads
-use Rattle.reading.proofs.terms.counted.Reads as counted-reads
+use Rattle.reading.proofs.cursor.counted.Reads as counted-reads
 use Rattle.clauses.proofs.+read_body+read_literal+read_side+read_sides.{statement}
 use Rattle.clauses.proofs.+read_body+read_literal+read_side+read_sides.Tie.{close}
 

@@ -1,4 +1,4 @@
-use Rattle.engine.proofs.StepLaws.{deeper-none, run-room, run-inside, deeper-other, deeper-last, deeper-end}
+use Rattle.alternatives.proofs.StepLaws.{deeper-none, run-room, run-inside, deeper-other, deeper-last, deeper-end}
 use borrow.Author.Needs.{needs}
 use Rattle.engine.proofs.goes_deeper.Statement.{statement}
 use Rattle.engine.proofs.goes_deeper.Tie as tie

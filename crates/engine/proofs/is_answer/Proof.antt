@@ -1,4 +1,4 @@
-use Rattle.engine.proofs.StepLaws.{answer-none, run-room, run-inside, answer-end}
+use Rattle.alternatives.proofs.StepLaws.{answer-none, run-room, run-inside, answer-end}
 use borrow.Author.Needs.{needs}
 use Rattle.engine.proofs.is_answer.Statement.{statement}
 use Rattle.engine.proofs.is_answer.Tie as tie

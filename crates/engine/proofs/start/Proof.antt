@@ -1,4 +1,4 @@
-use Rattle.engine.proofs.StepLaws.{start-layable, start-end}
+use Rattle.alternatives.proofs.StepLaws.{start-layable, start-end}
 use borrow.Author.Needs.{needs}
 use Rattle.engine.proofs.start.Statement.{statement}
 use Rattle.engine.proofs.start.Tie as tie

@@ -1,4 +1,4 @@
-use Rattle.engine.proofs.StepLaws.{step-room, step-stored, step-mark, step-steppable, step-end}
+use Rattle.alternatives.proofs.StepLaws.{step-room, step-stored, step-mark, step-steppable, step-end}
 use borrow.Author.Needs.{needs}
 use Rattle.engine.proofs.step.Statement.{statement}
 use Rattle.engine.proofs.step.Tie as tie

@@ -42,14 +42,14 @@ use denote.Triple.Table.{entered, cited}
 use denote.Triple.Walked.{says, Stays, stay-none, walkOf, goes-none, Walks, ends-at, walked, walk-meets}
 use denote.Exit.{yes}
 use denote.Triple.Clauses.{ensured, lasts}
-use Rattle.reader.specs.Nth.{pastTokens}
+use Rattle.positions.specs.Nth.{pastTokens}
 use Rattle.reader.specs.declared.Reader.{Reader}
 use Rattle.reader.proofs.Reader as T
 use Rattle.reader.proofs.Reader.Laws as T′
-use Rattle.reader.proofs.past_tokens as past
-use Rattle.reader.proofs.past_tokens.Symbol as past-def
-use Rattle.reader.proofs.past_tokens.Symbol.{name as #reader·past-tokens}
-use Rattle.reader.proofs.past_tokens.Met as past-thm
+use Rattle.positions.proofs.past_tokens as past
+use Rattle.positions.proofs.past_tokens.Symbol as past-def
+use Rattle.positions.proofs.past_tokens.Symbol.{name as #positions·past-tokens}
+use Rattle.positions.proofs.past_tokens.Met as past-thm
 use Rattle.reader.proofs.moved.Key.{name as #reader·moved}
 use Rattle.reader.proofs.moved as moved
 use Rattle.reader.proofs.moved.Statement as stated
@@ -135,7 +135,7 @@ module _ {M : Type 1} (𝓤 : URA M) (H : Heap 𝓤) (A : Atoms 𝓤) (W : Given
       -- [what the struct owns]: the result's facts take the place of at's
       owned ! usize (Is usize) (uint-makes 𝓤 H A W w64) p _ (refl, fits) $ move ! (1 ∷ 0 ∷ []) $ by ! (own-put 𝓤 H A W D L 1 vd p mach)
 
-  module _ (C : Calls 𝓤 H) (Λ : Loops 𝓤 H) (fm : FmC 𝓤 H (W .laws) C) (known : Triple 𝓤 (C #reader·past-tokens) (Past 𝓤 H A mem run)) where
+  module _ (C : Calls 𝓤 H) (Λ : Loops 𝓤 H) (fm : FmC 𝓤 H (W .laws) C) (known : Triple 𝓤 (C #positions·past-tokens) (Past 𝓤 H A mem run)) where
     walk : Holds (hasTy (T′.mir (named 0)) mach) × WT mach → ent 𝓤 (onEntry 𝓤 H A moved.signature (κ, tt) (q, tt) (d, (n, tt)) at) (WpFn 𝓤 H C Λ code.function (mach ∷ vint w64 n ∷ []) Post)
     walk wt =
         qed W (raw (onEntry 𝓤 H A moved.signature (κ, tt) (q, tt) (d, (n, tt)) at) ∷ []) ∵ enter ! C Λ code.function (mach ∷ vint w64 n ∷ []) _ $
@@ -157,13 +157,13 @@ module _ {M : Type 1} (𝓤 : URA M) (H : Heap 𝓤) (A : Atoms 𝓤) (W : Given
         move ! (14 ∷ 15 ∷ []) $ free1 ! $ move ! (12 ∷ 13 ∷ []) $ free1 ! $ move ! (10 ∷ 11 ∷ []) $ free1 ! $ move ! (8 ∷ 9 ∷ []) $ free1 ! $ move ! (6 ∷ 7 ∷ []) $ free1 ! $ move ! (4 ∷ 5 ∷ []) $ free1 ! $ move ! (2 ∷ 3 ∷ []) $ free1 ! $ free0 ! $ by ! (exits p e (is .1)))))))))))))
 
 module _ {M : Type 1} (𝓤 : URA M) (H : Heap 𝓤) (A : Atoms 𝓤) (W : Given 𝓤 H A) (mem : Memory → SProp 𝓤) (run : Routine → Fun 𝓤) where
-  moved-walks : (C : Calls 𝓤 H) (Λ : Loops 𝓤 H) → FmC 𝓤 H (W .laws) C → Triple 𝓤 (C #reader·past-tokens) (Past 𝓤 H A mem run)
+  moved-walks : (C : Calls 𝓤 H) (Λ : Loops 𝓤 H) → FmC 𝓤 H (W .laws) C → Triple 𝓤 (C #positions·past-tokens) (Past 𝓤 H A mem run)
       → Walks 𝓤 H A moved.ended stayed (WpFn 𝓤 H C Λ code.function) (moved.clauses 𝓤 H A mem run)
   moved-walks C Λ fm known = walked 𝓤 H A moved.ended stayed (moved.clauses 𝓤 H A mem run) (WpFn 𝓤 H C Λ code.function) (λ κs. (LL.vals (T.the-type (namedLft 1 0 tt κs)) (T′.the-laws (namedLft 1 0 tt κs)), (uint-vals w64, tt))) (λ κs. (LL.tells (T.the-type (namedLft 1 0 tt κs)) (T′.the-laws (namedLft 1 0 tt κs)), (uint-tells w64, tt)))
       (λ κs qs bounds a g are. via 𝓤 _ (fst∗ 𝓤 _ (emp 𝓤)) (walk 𝓤 H A W mem run (κs .0) (qs .0) (a .0) (a .1 .0) (are .1 .0 .1) C Λ fm known (LL.lawful (T.the-type (namedLft 1 0 tt κs)) (T′.the-laws (namedLft 1 0 tt κs)) 𝓤 H A W .typed (a .0) _ (are .0) .0)))
 
 moved-meets : {M : Type 1} (𝓤 : URA M) (H : Heap 𝓤) (A : Atoms 𝓤) (W : Given 𝓤 H A) (mem : Memory → SProp 𝓤) (run : Routine → Fun 𝓤) (𝓣 : Tables 𝓤 H)
-    → Triple 𝓤 (𝓣 .C #reader·past-tokens) (Past 𝓤 H A mem run)
+    → Triple 𝓤 (𝓣 .C #positions·past-tokens) (Past 𝓤 H A mem run)
     → Meets 𝓤 H A moved.signature (WpFn 𝓤 H (𝓣 .C) (𝓣 .Λ) code.function) (moved.spec 𝓤 H A mem run)
 moved-meets 𝓤 H A W mem run 𝓣 known-past = walk-meets 𝓤 H A moved.ended stayed W (goes-none 𝓤 H A W 1 B yes (λ κs x f. refl), (goes-none 𝓤 H A W 1 (λ _. usize) yes (λ κs x f. refl), tt)) (moved.clauses 𝓤 H A mem run) (WpFn 𝓤 H (𝓣 .C) (𝓣 .Λ) code.function) (WpFn-mono 𝓤 H (W .laws) 𝓣 code.function)
     (moved-walks 𝓤 H A W mem run (𝓣 .C) (𝓣 .Λ) (fmOf 𝓤 H (W .laws) 𝓣) known-past)
@@ -174,4 +174,4 @@ moved-spec 𝓤 H 𝓜 𝓖 𝓡 =
     entered 𝓤 H (tripleOf 𝓤 H (𝓖 .A) moved.signature (moved.spec 𝓤 H (𝓖 .A) (𝓜 .mem) (𝓡 .run)))
     (tables 𝓤 H 𝓜 𝓡 code.env .C) (tables 𝓤 H 𝓜 𝓡 code.env .Λ) #reader·moved code.function (code.unfolded 𝓤 H 𝓜 𝓡)
     (moved-meets 𝓤 H (𝓖 .A) (givenOf 𝓤 H 𝓜 𝓖) (𝓜 .mem) (𝓡 .run) (tablesOf 𝓤 H 𝓜 (tables 𝓤 H 𝓜 𝓡 code.env))
-    (cited 𝓤 H (Past 𝓤 H (𝓖 .A) (𝓜 .mem) (𝓡 .run)) 𝓜 𝓡 code.env #reader·past-tokens past-def.routine code.calls-reader·past-tokens (past-thm.met 𝓤 H 𝓜 𝓖 𝓡)))
+    (cited 𝓤 H (Past 𝓤 H (𝓖 .A) (𝓜 .mem) (𝓡 .run)) 𝓜 𝓡 code.env #positions·past-tokens past-def.routine code.calls-positions·past-tokens (past-thm.met 𝓤 H 𝓜 𝓖 𝓡)))

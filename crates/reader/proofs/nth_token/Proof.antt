@@ -38,11 +38,11 @@ use denote.Exit.{yes}
 use denote.Triple.Clauses.{ensured, lasts}
 use Rattle.syntax.specs.Tokens.{tokenAt}
 use Rattle.syntax.specs.declared.Token.{Token}
-use Rattle.reader.specs.Nth.{pastTokens, nthToken}
+use Rattle.positions.specs.Nth.{pastTokens, nthToken}
 use Rattle.reader.specs.declared.Reader.{Reader}
 use Rattle.syntax.proofs.Token as K
 use Rattle.syntax.proofs.Token.Laws as K′
-use Rattle.reader.proofs.Laws.{nth-is}
+use Rattle.positions.proofs.Laws.{nth-is}
 use Rattle.reader.proofs.Reader as T
 use Rattle.reader.proofs.Reader.Laws as T′
 use Rattle.reader.proofs.new as new

@@ -48,10 +48,10 @@ use Rattle.reader.proofs.Reader as T
 use Rattle.reader.proofs.Reader.Laws as T′
 use Rattle.syntax.proofs.Token as K
 use Rattle.syntax.proofs.Token.Laws as K′
-use Rattle.reader.proofs.token_of as of
-use Rattle.reader.proofs.token_of.Symbol as of-def
-use Rattle.reader.proofs.token_of.Symbol.{name as #reader·token-of}
-use Rattle.reader.proofs.token_of.Met as of-thm
+use Rattle.positions.proofs.token_of as of
+use Rattle.positions.proofs.token_of.Symbol as of-def
+use Rattle.positions.proofs.token_of.Symbol.{name as #positions·token-of}
+use Rattle.positions.proofs.token_of.Met as of-thm
 use Rattle.reader.proofs.peek.Key.{name as #reader·peek}
 use Rattle.reader.proofs.peek as peek
 use Rattle.reader.proofs.peek.Statement as stated
@@ -126,7 +126,7 @@ module _ {M : Type 1} (𝓤 : URA M) (H : Heap 𝓤) (A : Atoms 𝓤) (W : Given
       suffices ! _ (ends-at 𝓤 H A peek.ended stayed (peek.clauses 𝓤 H A mem run) W (((κ, tt), (q, tt), tt, (d, tt), (mach ∷ [], tt)), tt) u r (tt, tt) (tt, tt)) $ says ! e $
       move ! (1 ∷ []) $ frame ! $ nothing ! $ move ! (2 ∷ 0 ∷ []) $ fjoin ! $ frame ! $ done !
 
-  module _ (C : Calls 𝓤 H) (Λ : Loops 𝓤 H) (fm : FmC 𝓤 H (W .laws) C) (known : Triple 𝓤 (C #reader·token-of) (TokenOf 𝓤 H A mem run)) where
+  module _ (C : Calls 𝓤 H) (Λ : Loops 𝓤 H) (fm : FmC 𝓤 H (W .laws) C) (known : Triple 𝓤 (C #positions·token-of) (TokenOf 𝓤 H A mem run)) where
     walk : Holds (hasTy (T′.mir (named 0)) mach) × WT mach → ent 𝓤 (onEntry 𝓤 H A peek.signature (κ, tt) (q, tt) (d, tt) (mach ∷ [], tt)) (WpFn 𝓤 H C Λ code.function (mach ∷ []) Post)
     walk wt =
         qed W (raw (onEntry 𝓤 H A peek.signature (κ, tt) (q, tt) (d, tt) (mach ∷ [], tt)) ∷ []) ∵ enter ! C Λ code.function (mach ∷ []) _ $
@@ -144,13 +144,13 @@ module _ {M : Type 1} (𝓤 : URA M) (H : Heap 𝓤) (A : Atoms 𝓤) (W : Given
         move ! (9 ∷ 10 ∷ []) $ free1 ! $ move ! (7 ∷ 8 ∷ []) $ free1 ! $ move ! (5 ∷ 6 ∷ []) $ free1 ! $ move ! (3 ∷ 4 ∷ []) $ free1 ! $ free0 ! $ by ! (exits r u e)))))))))
 
 module _ {M : Type 1} (𝓤 : URA M) (H : Heap 𝓤) (A : Atoms 𝓤) (W : Given 𝓤 H A) (mem : Memory → SProp 𝓤) (run : Routine → Fun 𝓤) where
-  peek-walks : (C : Calls 𝓤 H) (Λ : Loops 𝓤 H) → FmC 𝓤 H (W .laws) C → Triple 𝓤 (C #reader·token-of) (TokenOf 𝓤 H A mem run)
+  peek-walks : (C : Calls 𝓤 H) (Λ : Loops 𝓤 H) → FmC 𝓤 H (W .laws) C → Triple 𝓤 (C #positions·token-of) (TokenOf 𝓤 H A mem run)
       → Walks 𝓤 H A peek.ended stayed (WpFn 𝓤 H C Λ code.function) (peek.clauses 𝓤 H A mem run)
   peek-walks C Λ fm known = walked 𝓤 H A peek.ended stayed (peek.clauses 𝓤 H A mem run) (WpFn 𝓤 H C Λ code.function) (λ κs. (LL.vals (T.the-type (namedLft 1 0 tt κs)) (T′.the-laws (namedLft 1 0 tt κs)), tt)) (λ κs. (LL.tells (T.the-type (namedLft 1 0 tt κs)) (T′.the-laws (namedLft 1 0 tt κs)), tt))
       (λ κs qs bounds a g are. via 𝓤 _ (fst∗ 𝓤 _ (emp 𝓤)) (walk 𝓤 H A W mem run (κs .0) (qs .0) (a .0) C Λ fm known (LL.lawful (T.the-type (namedLft 1 0 tt κs)) (T′.the-laws (namedLft 1 0 tt κs)) 𝓤 H A W .typed (a .0) _ (are .0) .0)))
 
 peek-meets : {M : Type 1} (𝓤 : URA M) (H : Heap 𝓤) (A : Atoms 𝓤) (W : Given 𝓤 H A) (mem : Memory → SProp 𝓤) (run : Routine → Fun 𝓤) (𝓣 : Tables 𝓤 H)
-    → Triple 𝓤 (𝓣 .C #reader·token-of) (TokenOf 𝓤 H A mem run)
+    → Triple 𝓤 (𝓣 .C #positions·token-of) (TokenOf 𝓤 H A mem run)
     → Meets 𝓤 H A peek.signature (WpFn 𝓤 H (𝓣 .C) (𝓣 .Λ) code.function) (peek.spec 𝓤 H A mem run)
 peek-meets 𝓤 H A W mem run 𝓣 known-of = walk-meets 𝓤 H A peek.ended stayed W (goes-none 𝓤 H A W 1 B yes (λ κs x f. refl), tt) (peek.clauses 𝓤 H A mem run) (WpFn 𝓤 H (𝓣 .C) (𝓣 .Λ) code.function) (WpFn-mono 𝓤 H (W .laws) 𝓣 code.function)
     (peek-walks 𝓤 H A W mem run (𝓣 .C) (𝓣 .Λ) (fmOf 𝓤 H (W .laws) 𝓣) known-of)
@@ -161,4 +161,4 @@ peek-spec 𝓤 H 𝓜 𝓖 𝓡 =
     entered 𝓤 H (tripleOf 𝓤 H (𝓖 .A) peek.signature (peek.spec 𝓤 H (𝓖 .A) (𝓜 .mem) (𝓡 .run)))
     (tables 𝓤 H 𝓜 𝓡 code.env .C) (tables 𝓤 H 𝓜 𝓡 code.env .Λ) #reader·peek code.function (code.unfolded 𝓤 H 𝓜 𝓡)
     (peek-meets 𝓤 H (𝓖 .A) (givenOf 𝓤 H 𝓜 𝓖) (𝓜 .mem) (𝓡 .run) (tablesOf 𝓤 H 𝓜 (tables 𝓤 H 𝓜 𝓡 code.env))
-    (cited 𝓤 H (TokenOf 𝓤 H (𝓖 .A) (𝓜 .mem) (𝓡 .run)) 𝓜 𝓡 code.env #reader·token-of of-def.routine code.calls-reader·token-of (of-thm.met 𝓤 H 𝓜 𝓖 𝓡)))
+    (cited 𝓤 H (TokenOf 𝓤 H (𝓖 .A) (𝓜 .mem) (𝓡 .run)) 𝓜 𝓡 code.env #positions·token-of of-def.routine code.calls-positions·token-of (of-thm.met 𝓤 H 𝓜 𝓖 𝓡)))

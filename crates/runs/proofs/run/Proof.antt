@@ -1,4 +1,4 @@
-use Rattle.runs.proofs.GoingLaws.{go-startable, go-underway, go-runs, go-leaves}
+use Rattle.runs.proofs.RunLaws.{go-startable, go-underway, go-runs, go-leaves}
 use native.Mathlib.Omega.{arith}
 use borrow.Author.Needs.{needs}
 use Rattle.runs.proofs.run.Statement.{statement}

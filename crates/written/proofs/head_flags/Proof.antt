@@ -6,7 +6,8 @@ use mathlib.Core.Path.{_≡_, _∙_}
 use mathlib.Core.Bool.{true}
 use lib.ListN.{length, length-set}
 use Rattle.syntax.specs.Limits.{declarations}
-use Rattle.modes.proofs.Sheets.{clause-words, clause-room, head-at, sheet-declarations}
+use Rattle.undeclared.proofs.Clauses.{clause-words, clause-room, head-at}
+use Rattle.modes.proofs.Sheets.{sheet-declarations}
 use Rattle.written.specs.Flags.{DeclaredOnce, Finds}
 use Rattle.written.proofs.Heads.{Left, begun, here, flagged-on, all-flagged}
 use Rattle.written.proofs.head_flags.Statement.{statement}

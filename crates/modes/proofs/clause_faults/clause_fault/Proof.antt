@@ -1,10 +1,11 @@
--- `modes::clauses::clause_fault` meets its contract. Assumes nothing.
+-- `modes::clause_faults::clause_fault` meets its contract. Assumes nothing.
 use Rattle.marking.proofs.Places.{node-inside, past-ends}
 use native.Mathlib.Omega.{arith}
 use mathlib.Core.Path.{sym, _∙_}
 use Rattle.syntax.specs.Terms.{input}
 use Rattle.rules.specs.Modes.{nothing}
-use Rattle.modes.proofs.Sheets.{clause-room, head-room, head-at, head-term, body-at, head-judged, head-marked, clause-stopped, clause-passed}
+use Rattle.undeclared.proofs.Clauses.{clause-room, head-room, head-at, head-term, body-at}
+use Rattle.modes.proofs.Sheets.{head-judged, head-marked, clause-stopped, clause-passed}
 use Rattle.modes.proofs.clause_faults.clause_fault.Statement.{statement}
 use Rattle.modes.proofs.clause_faults.clause_fault.Tie as tie
 

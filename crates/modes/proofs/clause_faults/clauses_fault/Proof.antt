@@ -1,10 +1,11 @@
--- `modes::clauses::clauses_fault` meets its contract. The invariant: what is left of the clauses gives the answer of the whole (`Ahead`). Assumes nothing.
+-- `modes::clause_faults::clauses_fault` meets its contract. The invariant: what is left of the clauses gives the answer of the whole (`Ahead`). Assumes nothing.
 use Prim.Native.Nat.{_≤_, _-_, suc}
 use native.Mathlib.Omega.{arith}
 use mathlib.Core.Path.{sym, _∙_}
 use Rattle.rules.specs.Modes.{clausesFault, clauseFault}
 use Rattle.marking.specs.Tables.{DeclarationsAt, ClausesAt}
-use Rattle.modes.proofs.Sheets.{clause-words, Ahead, begun, turn, ended, clauses-stopped, clauses-on, faults-go, faults-none}
+use Rattle.undeclared.proofs.Clauses.{clause-words, Ahead, begun, turn, ended, clauses-stopped, clauses-on}
+use Rattle.modes.proofs.Sheets.{faults-go, faults-none}
 use Rattle.modes.proofs.clause_faults.clauses_fault.Statement.{statement}
 use Rattle.modes.proofs.clause_faults.clauses_fault.Tie as tie
 

@@ -1,0 +1,3 @@
+pub mod Grounding
+pub mod Equating
+pub mod Passing

@@ -1,0 +1,2 @@
+mod LoopLaws
+mod GoingLaws
