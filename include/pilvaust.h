@@ -2,7 +2,7 @@
  * Linux. Each function does what its contract in crates/exports/src/lib.rt says, for all bytes, lengths and numbers, and comes to its end.
  *
  * Memory. All of it is the caller's; the library allocates none and keeps no pointer. A text is as long as its length says, no byte ends it. No pointer
- * may be null, not even with length 0. Sheet and goal are only read; `numbers` and `text` are written, and may overlap nothing else lent to the call.
+ * may be null, not even with length 0. Sheet, goal and trace are only read; `numbers` and `text` are written, and may overlap nothing else lent to the call.
  *
  * Numbers. An answer is a list of numbers, at the places named below; unused ones are 0. `numbers` takes as many as fit its length, and those behind
  * stay as they were. So do the bytes of `text` behind the lines that a run writes, and all of them on a refusal.
@@ -10,7 +10,7 @@
  * Threads. There is no global state: calls may run at once on any threads, each with numbers and text of its own.
  *
  * Stack. Tables stand on the native stack. PILVAUST_STACK bytes are enough for pilvaust_read, _check, _check_goal and _entry (measured: 321 KB), and
- * PILVAUST_RUN_STACK for pilvaust_run (measured: 4,400 KB). A main thread has 8 MB as a rule, other threads often 2 MB or less: give them as much
+ * PILVAUST_RUN_STACK for pilvaust_run and _run_traced (measured: 4,420 KB). A main thread has 8 MB as a rule, other threads often 2 MB or less: give them as much
  * (pthread_attr_setstacksize). On a smaller stack the program ends by a fault at the stack's guard page. */
 #ifndef PILVAUST_H
 #define PILVAUST_H
@@ -49,7 +49,7 @@ enum { PILVAUST_KIND = PILVAUST_FAULT_NUMBERS, PILVAUST_ANSWER_COUNT, PILVAUST_S
 enum { PILVAUST_ENTRY_AT, PILVAUST_ENTRY_LEN, PILVAUST_ENTRY_ARGUMENTS, PILVAUST_ENTRY_NUMBERS };
 
 /* The texts at fault. */
-enum { PILVAUST_IN_NEITHER, PILVAUST_IN_SHEET, PILVAUST_IN_GOAL };
+enum { PILVAUST_IN_NEITHER, PILVAUST_IN_SHEET, PILVAUST_IN_GOAL, PILVAUST_IN_TRACE };
 
 /* The refusals. */
 enum {
@@ -64,7 +64,10 @@ enum {
     PILVAUST_UNDECLARED,  /* a head or call has a predicate without declaration */
     PILVAUST_OPEN_INPUT,  /* a + argument of a call is not known ground; the byte is that of the open variable */
     PILVAUST_OPEN_OUTPUT, /* a - argument of a head is not known ground after the body; the same */
-    PILVAUST_UNWRITTEN = 16 /* a declared predicate has no clause; the byte is that of its name in the declaration. It is tested after 8, before 9 */
+    PILVAUST_BAD_TRACE = 13,   /* a record of a trace has an unknown kind or band or is cut short, or a byte behind filler is not zero */
+    PILVAUST_TRACE_OVER_LIMIT, /* a trace has more than 16,384 bytes, or more than 192 records of kind 1 */
+    PILVAUST_SEEN_UNDECLARED,  /* a trace has a record of kind 1, and the sheet does not declare `seen` with three arguments */
+    PILVAUST_UNWRITTEN         /* a declared predicate has no clause; the byte is that of its name in the declaration. It is tested after 8, before 9 */
 };
 
 /* How a run ended: as many answers as wanted, no alternative left, the allowance used, no room for the next line, a path of 255. */
@@ -87,6 +90,11 @@ size_t pilvaust_entry(const uint8_t *sheet, size_t sheet_len, size_t i, size_t *
  * PILVAUST_NONE where the run ended; `numbers` has room for PILVAUST_RUN_NUMBERS. */
 size_t pilvaust_run(const uint8_t *sheet, size_t sheet_len, const uint8_t *goal, size_t goal_len, size_t allowance, size_t wanted, bool stored,
                     uint8_t *text, size_t text_len, size_t *numbers, size_t numbers_len);
+
+/* The same with the trace of a recorded session, whose records of kind 1 are clauses behind the sheet's own; an empty trace is none. Its refusals come after the
+ * sheet's and before the goal's. */
+size_t pilvaust_run_traced(const uint8_t *sheet, size_t sheet_len, const uint8_t *goal, size_t goal_len, const uint8_t *trace, size_t trace_len, size_t allowance,
+                           size_t wanted, bool stored, uint8_t *text, size_t text_len, size_t *numbers, size_t numbers_len);
 
 #ifdef __cplusplus
 }

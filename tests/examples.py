@@ -4,6 +4,7 @@ CHECKS: sheet, what the checker prints.  GOALS: goal, how reading it answers.
 RUNS: sheet, goal, what the runner prints.  SETTINGS: allowance, wanted, room,
 sheet, goal, what the runner would print with these settings.  STORED: sheet,
 goal, what the runner would print with the mark for a sheet stored earlier.
+TRACED: sheet, goal, trace, what the runner prints.
 The outputs are written by hand from the papers, never taken from the engine.
 """
 
@@ -366,6 +367,58 @@ STORED = [
     (b":-mode p(-). p(a).", b"p(X).", "X = a\nend done 1 3"),
     (b":-mode p.", b"(p;true).", "yes\nend done 1 4"),
     (b":-mode p. :-mode q. q :- (p; p; q).", b"q.", "refused sheet 5 30 0 0 0"),
+]
+
+SEEN = b":-mode seen(*,*,*)."
+LOW = b"\x01\x00\x00\x00"  # a record of kind 1, tick 0, band low
+
+TRACED = [
+    # elapsed from the first record of either kind, over the wrap; equal ticks are 0 apart; only kind 1 is counted
+    (SEEN, b"seen(K,E,B).", b"\x02\x0a\x00\x01\x05\x00\x00\x01\x05\x00\x04",
+     "K = 1, E = 65531, B = low\nK = 2, E = 65531, B = rinse\nend done 2 5"),
+    (SEEN, b"seen(K,E,B).", b"\x01\xff\xff\x02\x01\x00\x00\x01",
+     "K = 1, E = 0, B = high\nK = 2, E = 1, B = steady\nend done 2 5"),
+    (SEEN, b"seen(_,E,_).", b"\x01\xff\xff\x02\x01\x00\x00\x01\x01\xff\xff\x03", "E = 0\nE = 1\nE = 65536\nend done 3 7"),
+    (SEEN, b"seen(_,E,_).", b"\x01\x01\x00\x00" + b"\x02\x00\x00\x02\x01\x00" * 2 + b"\x01\x00\x01\x00",
+     "E = 0\nE = 131327\nend done 2 5"),
+    (SEEN, b"seen(1,E,B).", b"\x01\x00\x00\x00\x01\x00\x01\x01\x01\x02\x01\x02\x01\x02\x02\x03\x01\x00\x00\x04",
+     "E = 0, B = low\nend done 1 7"),
+    (SEEN, b"seen(K,E,rinse).", LOW + b"\x01\x00\x00\x04\x02\x07\x00\x01\x08\x00\x04",
+     "K = 2, E = 0\nK = 3, E = 8\nend done 2 6"),
+    # an empty trace is none, and so are filler and kind 2 alone
+    (b"", b"true.", b"", "yes\nend done 1 2"),
+    (b"", b"true.", b"\x00\x00", "yes\nend done 1 2"),
+    (b"", b"true.", b"\x02\x00\x00", "yes\nend done 1 2"),
+    (SEEN, b"seen(K,E,B).", b"\x00" * 9, "end done 0 1"),
+    # facts are tried behind the sheet's own clauses, one step and one path each
+    (SEEN + b" seen(0,0,mine).", b"seen(_,_,B).", b"\x01\x00\x00\x03", "B = mine\nB = off\nend done 2 5"),
+    (SEEN + b" seen(01,0,low).", b"seen(K,E,low).", LOW, "K = 1, E = 0\nK = 1, E = 0\nend done 2 5"),
+    (SEEN, b"seen(01,E,B).", b"\x01\x00\x00\x03", "E = 0, B = off\nend done 1 3"),
+    (b":-mode seen(-,-,-). :-mode p(-). p(B) :- seen(_,_,B), seen(2,_,B).", b"p(X).", LOW + LOW, "X = low\nX = low\nend done 2 13"),
+    (b":-mode seen(+,-,-).", b"seen(2,E,B).", LOW + b"\x01\x09\x00\x01", "E = 9, B = steady\nend done 1 4"),
+    (b":-mode seen(+,+,+).", b"seen(K,0,low).", LOW, "refused goal 9 5 0 1 1 seen"),
+    # the order: settings, sheet, 14 for bytes, 13, 14 for records, 15, goal
+    (b"", b"!", b"\x09", "refused trace 13 0 0 0 0"),
+    (b"", b"!", LOW, "refused trace 15 0 0 0 0"),
+    (SEEN, b"!", LOW, "refused goal 3 0 0 0 0"),
+    (b"p(", b"!", b"\x09", "refused sheet 5 2 0 0 0"),
+    (b":-mode p.", b"!", b"\x09", "refused sheet 16 7 0 0 0"),
+    (b"", b"true.", b"\x09" + b"\x00" * 16_384, "refused trace 14 0 0 0 0"),
+    (b"", b"true.", b"\x09" + b"\x00" * 16_383, "refused trace 13 0 0 0 0"),
+    (b"", b"true.", LOW * 193 + b"\x01", "refused trace 13 772 0 0 0"),
+    (b"", b"true.", LOW * 193, "refused trace 14 0 0 0 0"),
+    (b"", b"true.", LOW * 192, "refused trace 15 0 0 0 0"),
+    (SEEN, b"true.", LOW * 192, "yes\nend done 1 2"),
+    (SEEN, b"true.", LOW * 193, "refused trace 14 0 0 0 0"),
+    (b":-mode seen(*,*).", b"true.", LOW, "refused sheet 16 7 0 0 0"),
+    (b":-mode seen(*,*). seen(a,b).", b"true.", LOW, "refused trace 15 0 0 0 0"),
+    # 13: the record's start, or the byte after filler begins
+    (b"", b"true.", b"\x00\x00\x01", "refused trace 13 2 0 0 0"),
+    (b"", b"true.", b"\x02\x00\x00\x01\x00\x00\x05", "refused trace 13 3 0 0 0"),
+    (b"", b"true.", b"\x02\x00\x00\x02\x00", "refused trace 13 3 0 0 0"),
+    (b"", b"true.", b"\x02\x00\x00\x03", "refused trace 13 3 0 0 0"),
+    (b"", b"true.", b"\x02\x00\x00\x00\x02\x00", "refused trace 13 4 0 0 0"),
+    (b"", b"true.", b"\x02\x00\x00\xff\x09", "refused trace 13 3 0 0 0"),
 ]
 
 # Sheet (free of faults 2 to 8), goal, most steps; open inputs, open outputs, steps.

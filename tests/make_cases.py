@@ -4,6 +4,7 @@ python3 tests/make_cases.py read     crates/read_cases/data/cases and .../stdout
 python3 tests/make_cases.py check    crates/check_cases/data/cases and .../stdout
 python3 tests/make_cases.py run      crates/run_cases/data/cases and .../stdout
 python3 tests/make_cases.py list     crates/list_cases/data/cases and .../stdout
+python3 tests/make_cases.py trace    crates/trace_cases/data/cases and .../stdout
 
 First the engine is held to the worked examples (test_engine.py); where it fails
 one, nothing is written.  A case is a letter and its fields; a text is its length
@@ -22,6 +23,7 @@ import list_cases
 import read_cases
 import run_cases
 import test_engine
+import trace_cases
 import written
 
 ROOT = Path(__file__).resolve().parent.parent
@@ -88,26 +90,50 @@ def make_check(cases):
     check_cases.make(add, random.Random(check_cases.SEED))
 
 
+class Runs:
+    """Runs as cases, and both counts of each zero."""
+
+    def __init__(self, cases):
+        self.cases, self.reports, self.counted = cases, {}, set()
+
+    def add(self, letter, texts, trace, allowance, wanted, room, stored):
+        sizes = (allowance, 3), (wanted, 2), (room, 3), (stored, 1)
+        record = letter + b"".join([*(number_field(*field) for field in sizes), *map(text_field, texts)])
+        if trace is not None:
+            record += text_field(trace)
+        given = trace or b""
+        if record not in self.reports:
+            self.reports[record] = engine.run(*texts, allowance, wanted, room, stored, given)
+            self.cases.add(record, self.reports[record])
+        if isinstance(self.reports[record], engine.Report) and (*texts, given) not in self.counted:
+            self.counted.add((*texts, given))
+            inputs, outputs, _ = engine.open_counts(*texts, COUNTED_STEPS, given)
+            assert inputs == outputs == 0, texts
+        return self.reports[record]
+
+
 def make_run(cases):
-    reports, counted = {}, set()
+    runs = Runs(cases)
 
     def add(
         sheet, goal,
         allowance=run_cases.ALLOWANCE, wanted=run_cases.WANTED, room=run_cases.ROOM, stored=False,
     ):
-        texts = as_bytes(sheet), as_bytes(goal)
-        sizes = (allowance, 3), (wanted, 2), (room, 3), (stored, 1)
-        record = b"R" + b"".join([*(number_field(*field) for field in sizes), *map(text_field, texts)])
-        if record not in reports:
-            reports[record] = engine.run(*texts, allowance, wanted, room, stored)
-            cases.add(record, reports[record])
-        if isinstance(reports[record], engine.Report) and texts not in counted:
-            counted.add(texts)
-            inputs, outputs, _ = engine.open_counts(*texts, COUNTED_STEPS)
-            assert inputs == outputs == 0, texts
-        return reports[record]
+        return runs.add(b"R", (as_bytes(sheet), as_bytes(goal)), None, allowance, wanted, room, stored)
 
     run_cases.make(add, random.Random(run_cases.SEED))
+
+
+def make_trace(cases):
+    runs = Runs(cases)
+
+    def add(
+        sheet, goal, trace,
+        allowance=trace_cases.ALLOWANCE, wanted=trace_cases.WANTED, room=trace_cases.ROOM, stored=False,
+    ):
+        return runs.add(b"T", (as_bytes(sheet), as_bytes(goal)), trace, allowance, wanted, room, stored)
+
+    trace_cases.make(add, random.Random(trace_cases.SEED))
 
 
 def make_list(cases):
@@ -126,7 +152,7 @@ def make_list(cases):
     list_cases.make_searches(add_search, random.Random(list_cases.SEED + 1))
 
 
-STAGES = {"read": make_read, "check": make_check, "run": make_run, "list": make_list}
+STAGES = {"read": make_read, "check": make_check, "run": make_run, "list": make_list, "trace": make_trace}
 
 
 def kind_of(output):

@@ -88,6 +88,20 @@ def test_running():
         expect((sheet, goal), lines(engine.run(sheet, goal, 65_536, 16, 4_096, True)), output)
 
 
+def test_traces():
+    for sheet, goal, trace, output in examples.TRACED:
+        expect((sheet, goal, trace), lines(engine.run(sheet, goal, 65_536, 16, 4_096, trace=trace)), output)
+        expect((sheet, goal, trace), lines(engine.run(sheet, goal, 0, 16, 4_096, trace=trace)), "refused 1 0 0 0 0")
+    for sheet, goal, output in examples.RUNS:
+        for trace in (b"\0", b"\2\1\0", b"\2\0\0\0"):
+            expect((sheet, goal, trace), lines(engine.run(sheet, goal, 65_536, 16, 4_096, trace=trace)), output)
+    declared = examples.SEEN + b"".join(b":-mode p%d." % n for n in range(63))
+    full = declared + b"p0." * 193 + b"".join(b"p%d." % n for n in range(1, 63)) + b"seen(0,0,off)."
+    expect("256 clauses", lines(engine.check_sheet(full)), "accepted 64 256")
+    report = engine.run(full, b"seen(K,0,off).", 65_536, 16, 4_096, trace=b"\1\0\0\3")
+    expect("256 clauses and a fact", lines(report), "K = 0\nK = 1\nend done 2 5")
+
+
 def test_counts():
     for sheet, goal, steps, counts in examples.COUNTS:
         expect((sheet, goal), engine.open_counts(sheet, goal, steps), counts)
@@ -115,7 +129,7 @@ def test_large_terms():
 def run():
     """Whether the engine gives what the worked examples say."""
     tests = test_reading, test_checking, test_lists, test_searches
-    for test in (*tests, test_running, test_counts, test_large_terms):
+    for test in (*tests, test_running, test_traces, test_counts, test_large_terms):
         test()
     print("%d passed, %d failed" % (passed, failed))
     return failed == 0

@@ -8,8 +8,8 @@ use mathlib.Core.Option.{Option, none, some}
 use lib.Dec.{T, leb}
 use lib.ListN.{length}
 use borrow.Author.Tests.{leb-false}
-use Rattle.syntax.specs.Words.{literalLength, callKind}
-use Rattle.syntax.specs.Limits.{clauses, longestPath, literals}
+use Rattle.syntax.specs.Words.{literalLength, callKind, programClauses}
+use Rattle.syntax.specs.Limits.{longestPath, literals}
 use Rattle.syntax.specs.Terms.{termOf, Atom, call, Body, also, Clause, Sheet, Goal}
 use Rattle.machine.specs.Substitution.{copied, Binding}
 use Rattle.machine.specs.Unification.{unify}
@@ -120,8 +120,8 @@ module _ (nodes code state scratch : List ℕ) (j k : ℕ) (w : Tryable nodes co
           scratch-long = unifies .long;
         }
 
-    clause-small : k ≤ clauses
-    clause-small = let a : k ≤ length (sh .clauses) = clause-low sh k (w .clause) (w .there) in let b : length (sh .clauses) ≤ clauses = w .piled .program .few in omega arith
+    clause-small : k ≤ programClauses
+    clause-small = let a : k ≤ length (sh .clauses) = clause-low sh k (w .clause) (w .there) in let b : length (sh .clauses) ≤ programClauses = w .piled .program .few in omega arith
 
     pub try-frame-top : (frameOf (pathAt state j + 1) + frameSize ≤ length state1) × ((k < 2 ^ 32) × ((copyAt state j < 2 ^ 32) × (literalAt state j < 2 ^ 32)))
     try-frame-top =
@@ -129,7 +129,7 @@ module _ (nodes code state scratch : List ℕ) (j k : ℕ) (w : Tryable nodes co
         let c : copyAt state j ≤ pathAt state j = top-stacked ss sh g nodes code state j (markAt state j) (w .piled) .copy in
         let l : stateWords ≤ length state = w .piled .long in
         let e : length state1 ≡ length state = unifies .keeps .long in
-        let q : k ≤ clauses = clause-small in
+        let q : k ≤ programClauses = clause-small in
         let i : literalAt state j + literalSize ≤ length code = top-inside ss sh g nodes code state j (markAt state j) (w .piled) in
         let s : length code ≤ places = w .piled .program .short in
         (omega arith, (omega arith, (omega arith, omega arith)))
@@ -288,14 +288,14 @@ module _ (nodes code state scratch : List ℕ) (j : ℕ) (w : Steppable nodes co
     pub call-inside-top : clauseRecord (nextAt state j) + 2 < length code
     call-inside-top =
         let a : nextAt state j ≤ length (sh₁ .clauses) = clause-low sh₁ (nextAt state j) clause there in
-        let b : length (sh₁ .clauses) ≤ clauses = piled .program .few in
+        let b : length (sh₁ .clauses) ≤ programClauses = piled .program .few in
         let c : bodies ≤ length code = piled .program .long in
         omega arith
 
     pub call-room-top : (alternativeOf j + alternativeSize ≤ length state) × (afterAt code (nextAt state j) < 2 ^ 32)
     call-room-top =
         let a : afterAt code (nextAt state j) ≤ length (sh₁ .clauses) = next-low sh₁ (calling .0) (afterAt code (nextAt state j)) (after-for (calling .0) is-calling) in
-        let b : length (sh₁ .clauses) ≤ clauses = piled .program .few in
+        let b : length (sh₁ .clauses) ≤ programClauses = piled .program .few in
         (top-room ss₁ sh₁ g₁ nodes code state j (markAt state j) piled (w .running .low), omega arith)
 
     tries : triesFirst sh₁ (alternativeAt ss₁ sh₁ g₁ nodes code state j) (leftFrom sh₁ g₁ code state (pathAt state j) (copyAt state j) (literalAt state j)) ≡ true

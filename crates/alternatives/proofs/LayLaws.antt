@@ -4,7 +4,8 @@ use native.Mathlib.Omega.{arith}
 use mathlib.Core.Path.{_≡_, refl, sym, ap, _∙_, subst, subst⁻¹}
 use mathlib.Core.List.{List}
 use lib.ListN.{length}
-use Rattle.syntax.specs.Limits.{clauses, longestPath}
+use Rattle.syntax.specs.Limits.{longestPath}
+use Rattle.syntax.specs.Words.{programClauses}
 use Rattle.syntax.specs.Terms.{call, equation, truth, falsity, either, Body, done, also, Sheet, Goal}
 use Rattle.machine.specs.Machine.{pending, nextFor, topmost}
 use Rattle.layout.specs.Regions.{places, cells, stateWords, frameOf, alternativeOf, literalSize, endKind, jumpKind, nextLiteral, frameSize, alternativeSize, mostAlternatives}
@@ -219,7 +220,7 @@ module _ {code state : List ℕ} {j c l mark path : ℕ} (w : Layable code state
         let h : j < mostAlternatives = w .room in
         let i : stateWords ≤ length state = w .climbing .long in
         let m : topmostAt code (s .literal) ≤ length (w .sh .clauses) = topmost-low (w .ss) (w .sh) (w .nodes) code (s .literal) (restFrom (w .sh) (w .g) code state (s .copy) (s .literal)) spot-stands in
-        let n : length (w .sh .clauses) ≤ clauses = w .climbing .program .few in
+        let n : length (w .sh .clauses) ≤ programClauses = w .climbing .program .few in
         (omega arith, ((omega arith, omega arith), (omega arith, (omega arith, omega arith))))
 
     new : Fresh (w .sh) (w .g) code state path (s .copy) (s .literal) next

@@ -5,8 +5,8 @@ use mathlib.Core.Path.{_≡_, refl, sym, ap, _∙_, subst, subst⁻¹}
 use mathlib.Core.Bool.{true, false}
 use mathlib.Core.List.{List}
 use lib.ListN.{length, getD}
-use Rattle.syntax.specs.Words.{truthKind, callKind, equationKind}
-use Rattle.syntax.specs.Limits.{clauses, longestPath}
+use Rattle.syntax.specs.Words.{truthKind, callKind, equationKind, programClauses}
+use Rattle.syntax.specs.Limits.{longestPath}
 use Rattle.layout.specs.Regions.{splitKind, places, bodies, trail, stateWords, mostAlternatives, frameOf, alternativeOf, literalSize, nextLiteral, frameSize, alternativeSize, clauseRecord}
 use Rattle.layout.specs.Program.{headAt, bodyAt, afterAt, kindAt, placeAt, otherAt}
 use Rattle.layout.specs.Pile.{copyAt, literalAt, nextAt, markAt, pathAt}
@@ -245,12 +245,12 @@ module _ {nodes code state scratch : List ℕ} {h : ℕ} (w : Steppable nodes co
 -- ---- trying a clause
 
 try-facts-top : (nodes code state scratch : List ℕ) (j k : ℕ) → Tryable nodes code state scratch (suc j) j k
-    → (alternativeOf j + alternativeSize ≤ length state) × ((literalAt state j + literalSize ≤ length code) × ((length code ≤ places) × ((bodies ≤ length code) × ((k ≤ clauses) × ((pathAt state j < longestPath) × (suc j ≤ mostAlternatives))))))
+    → (alternativeOf j + alternativeSize ≤ length state) × ((literalAt state j + literalSize ≤ length code) × ((length code ≤ places) × ((bodies ≤ length code) × ((k ≤ programClauses) × ((pathAt state j < longestPath) × (suc j ≤ mostAlternatives))))))
 try-facts-top nodes code state scratch j k w =
     let a : suc j < mostAlternatives = w .room in
     let d : stateWords ≤ length state = w .piled .long in
     let b : k ≤ length (w .sh .clauses) = clause-low (w .sh) k (w .clause) (w .there) in
-    let c : length (w .sh .clauses) ≤ clauses = w .piled .program .few in (
+    let c : length (w .sh .clauses) ≤ programClauses = w .piled .program .few in (
       omega arith,
       (top-inside (w .ss) (w .sh) (w .g) nodes code state j (markAt state j) (w .piled), (w .piled .program .short, (w .piled .program .long, (omega arith, (w .low, omega arith))))),
     )
@@ -259,9 +259,9 @@ module _ {nodes code state scratch : List ℕ} {h k : ℕ} (w : Tryable nodes co
   filled : 1 ≤ h
   filled = let e : h ≡ suc (h - 1) = w .filled in omega arith
 
-  try-all : (alternativeOf (h - 1) + alternativeSize ≤ length state) × ((literalAt state (h - 1) + literalSize ≤ length code) × ((length code ≤ places) × ((bodies ≤ length code) × ((k ≤ clauses) × ((pathAt state (h - 1) < longestPath) × (h ≤ mostAlternatives))))))
+  try-all : (alternativeOf (h - 1) + alternativeSize ≤ length state) × ((literalAt state (h - 1) + literalSize ≤ length code) × ((length code ≤ places) × ((bodies ≤ length code) × ((k ≤ programClauses) × ((pathAt state (h - 1) < longestPath) × (h ≤ mostAlternatives))))))
   try-all =
-      at-top (λ (h j : ℕ). Tryable nodes code state scratch h j k → (alternativeOf j + alternativeSize ≤ length state) × ((literalAt state j + literalSize ≤ length code) × ((length code ≤ places) × ((bodies ≤ length code) × ((k ≤ clauses) × ((pathAt state j < longestPath) × (h ≤ mostAlternatives)))))))
+      at-top (λ (h j : ℕ). Tryable nodes code state scratch h j k → (alternativeOf j + alternativeSize ≤ length state) × ((literalAt state j + literalSize ≤ length code) × ((length code ≤ places) × ((bodies ≤ length code) × ((k ≤ programClauses) × ((pathAt state j < longestPath) × (h ≤ mostAlternatives)))))))
       (λ j w. try-facts-top nodes code state scratch j k w) h filled w
 
   pub try-room : alternativeOf (h - 1) + alternativeSize ≤ length state
@@ -286,7 +286,7 @@ module _ {nodes code state scratch : List ℕ} {h k : ℕ} (w : Tryable nodes co
     pub try-closed : Closed (s .path + 1) state
     try-closed = subst⁻¹ (λ (x : ℕ). Closed x state) t-new (at-top (λ (h j : ℕ). Tryable nodes code state scratch h j k → Closed (pathAt state j + 1) state) (λ j w. try-closed-top nodes code state scratch j k w) h filled w)
 
-    pub try-facts : (s .literal + literalSize ≤ length code) × ((length code ≤ places) × ((bodies ≤ length code) × ((k ≤ clauses) × ((s .path < longestPath) × (h ≤ mostAlternatives)))))
+    pub try-facts : (s .literal + literalSize ≤ length code) × ((length code ≤ places) × ((bodies ≤ length code) × ((k ≤ programClauses) × ((s .path < longestPath) × (h ≤ mostAlternatives)))))
     try-facts =
         let a : s .literal ≡ literalAt state (h - 1) = t-literal in
         let b : s .path ≡ pathAt state (h - 1) = t-path in

@@ -1,7 +1,7 @@
 // The records of a file of cases, which tests/make_cases.py writes. A text of it is its length in 3 bytes, lowest first,
 // and then its bytes.
 ghost use mathlib.Core.Path.{_≡_};
-ghost use Prim.Native.Nat.{_≤_, _<_};
+ghost use Prim.Native.Nat.{_+_, _≤_, _<_};
 ghost use lib.ListN.{length};
 ghost use Rattle.cases.specs.Rooms.{byteValues, fileRoom};
 
@@ -31,7 +31,7 @@ pub fn text_at(cases: &[u8], at: usize) -> Part
         };
     }
     let start = at + 3;
-    let len = wide(cases[at]) + BYTE * wide(cases[at + 1]) + TWO_BYTES * wide(cases[at + 2]);
+    let len = three(cases, at);
     if all - start < len {
         return Part {
             start: all,
@@ -42,6 +42,19 @@ pub fn text_at(cases: &[u8], at: usize) -> Part
         start: start,
         end: start + len,
     }
+}
+
+// A number of two bytes, and one of three.
+pub fn two(cases: &[u8], at: usize) -> usize
+    requires { ⌜ at + 2 ≤ length (now cases) ⌝ }
+{
+    wide(cases[at]) + BYTE * wide(cases[at + 1])
+}
+
+pub fn three(cases: &[u8], at: usize) -> usize
+    requires { ⌜ at + 3 ≤ length (now cases) ⌝ }
+{
+    wide(cases[at]) + BYTE * wide(cases[at + 1]) + TWO_BYTES * wide(cases[at + 2])
 }
 
 pub fn wide(byte: u8) -> usize

@@ -7,6 +7,7 @@ ghost use lib.Seq.{sets};
 ghost use Rattle.syntax.specs.Verdicts.{readVerdict, entryAt};
 ghost use Rattle.rules.specs.Checking.{checkVerdict, checkGoalVerdict};
 ghost use Rattle.machine.specs.Runs.{runOutcome, runText};
+ghost use Rattle.machine.specs.Traces.{tracedOutcome};
 ghost use Rattle.packing.specs.Numbers.{version, verdictNumbers, entryNumbers, refusalIn};
 ghost use Rattle.exports.specs.Runs.{asking, outcomeNumbers};
 
@@ -56,6 +57,17 @@ pub extern "C" fn pilvaust_entry(sheet: &[u8], i: usize, numbers: &mut [usize]) 
     packing::put_entry(pilvaust::entry(sheet, i), numbers)
 }
 
+// What a run is asked for.
+fn settings(allowance: usize, wanted: usize, stored: bool) -> RunSettings
+    ensures { λ r. ⌜ r ≡ asking allowance wanted stored ⌝ }
+{
+    RunSettings {
+        allowance,
+        wanted,
+        stored,
+    }
+}
+
 // A goal run over a sheet, with at most so many steps and answers, which are written into the text; `stored` is the mark for a sheet stored
 // earlier. The run's numbers, and returned the number of its refusal, 0 where it ended.
 #[no_mangle]
@@ -75,12 +87,33 @@ pub extern "C" fn pilvaust_run(
     ensures numbers { λ _. ⌜ now (numbers .exit) ≡ sets (now (numbers .entry)) 0
         (outcomeNumbers (runOutcome (now (sheet .entry)) (now (goal .entry)) (asking allowance wanted stored) (length (now (text .entry))))) ⌝ }
 {
-    let asked = RunSettings {
-        allowance,
-        wanted,
-        stored,
-    };
+    let asked = settings(allowance, wanted, stored);
     let r = pilvaust::run_written(sheet, goal, asked, text);
+    let run = r.run;
+    packing::put_run(run, r.bytes, numbers)
+}
+
+// The same with the trace of a recorded session; an empty one is none.
+#[no_mangle]
+pub extern "C" fn pilvaust_run_traced(
+    sheet: &[u8],
+    goal: &[u8],
+    trace: &[u8],
+    allowance: usize,
+    wanted: usize,
+    stored: bool,
+    text: &mut [u8],
+    numbers: &mut [usize],
+) -> usize
+    ensures is { λ r. ⌜ r ≡ refusalIn (outcomeNumbers (tracedOutcome (now (sheet .entry)) (now (goal .entry)) (now (trace .entry))
+        (asking allowance wanted stored) (length (now (text .entry))))) ⌝ }
+    ensures text { λ _. ⌜ now (text .exit) ≡ sets (now (text .entry)) 0 (runText (tracedOutcome (now (sheet .entry)) (now (goal .entry))
+        (now (trace .entry)) (asking allowance wanted stored) (length (now (text .entry))))) ⌝ }
+    ensures numbers { λ _. ⌜ now (numbers .exit) ≡ sets (now (numbers .entry)) 0 (outcomeNumbers (tracedOutcome (now (sheet .entry))
+        (now (goal .entry)) (now (trace .entry)) (asking allowance wanted stored) (length (now (text .entry))))) ⌝ }
+{
+    let asked = settings(allowance, wanted, stored);
+    let r = pilvaust::run_traced(sheet, goal, trace, asked, text);
     let run = r.run;
     packing::put_run(run, r.bytes, numbers)
 }

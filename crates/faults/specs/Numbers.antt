@@ -4,7 +4,7 @@ use mathlib.Core.List.{List, [], _∷_}
 use Rattle.syntax.specs.Refusals.{numbersOf}
 use Rattle.syntax.specs.declared.Refusal.{Refusal}
 use Rattle.syntax.specs.declared.Text.{Text}
-use Rattle.syntax.specs.declared.Text.the-variants.{Sheet, Goal, Neither}
+use Rattle.syntax.specs.declared.Text.the-variants.{Sheet, Goal, Trace, Neither}
 use Rattle.rules.specs.Checking.{nameSpan}
 
 -- "it also says which of the two texts was at fault, neither for 1"
@@ -12,6 +12,7 @@ abbrev pub textNumber : Text → ℕ
 textNumber Neither = 0
 textNumber Sheet = 1
 textNumber Goal = 2
+textNumber Trace = 3
 
 -- a refusal, in the order in which the programs print it: the text at fault, number, byte, clause, literal, argument, byte and length of the name
 unfoldable pub faultNumbers : Text → Refusal → List ℕ

@@ -14,6 +14,7 @@ fn text_number(text: Text) -> usize
         Text::Neither => 0,
         Text::Sheet => 1,
         Text::Goal => 2,
+        Text::Trace => 3,
     }
 }
 

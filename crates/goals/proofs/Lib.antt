@@ -1,1 +1,2 @@
 pub mod GoalLaws
+pub mod SheetLaws

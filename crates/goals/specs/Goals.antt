@@ -4,21 +4,19 @@ use mathlib.Core.Path.{_≡_}
 use mathlib.Core.List.{List}
 use lib.ListN.{length}
 use lib.Seq.{sets}
-use Rattle.syntax.specs.Limits.{sheetBytes}
-use Rattle.syntax.specs.Words.{sheetWords}
+use Rattle.syntax.specs.Words.{programBytes, programWords}
 use Rattle.marking.specs.Tables.{SheetAt}
 use Rattle.machine.specs.Runs.{RunOutcome, runAnswer, runText}
-use Rattle.syntax.specs.Limits.{sheetBytes}
-use Rattle.syntax.specs.Words.{sheetWords}
-use Rattle.layout.specs.Limits.{SheetLimited}
+use Rattle.layout.specs.Limits.{ProgramLimited}
 use Rattle.goals.specs.declared.Written.{Written}
 
--- a sheet of which the n declarations and k clauses stand in tables, within document 01's limits
+-- A sheet, with the facts of a trace behind its own clauses or without, of which the n declarations and k clauses stand in tables: within the limits of a
+-- program.
 pub record Ready (s declared : List ℕ) (n : ℕ) (table : List ℕ) (k : ℕ) : Type 0 where
   pub stands : SheetAt s declared n table k
-  pub limits : SheetLimited (stands .sheet)
-  pub short : length s ≤ sheetBytes
-  pub table-short : length table ≤ sheetWords
+  pub limits : ProgramLimited (stands .sheet)
+  pub short : length s ≤ programBytes
+  pub table-short : length table ≤ programWords
 
 -- what a run gives, how many bytes it writes, and what it writes over a text
 pub record Answers (o : RunOutcome) (old new : List ℕ) (r : Written) : Type 0 where

@@ -5,8 +5,8 @@ use mathlib.Core.Path.{_≡_, refl, sym, ap₂, _∙_, subst, subst⁻¹}
 use mathlib.Core.List.{List, [], _∷_}
 use mathlib.Core.Option.{some}
 use lib.ListN.{length, set, replicate, length-replicate}
-use Rattle.syntax.specs.Words.{firstName, literalLength, bodyLength}
-use Rattle.syntax.specs.Limits.{clauses, literals, arguments, variables, declarations}
+use Rattle.syntax.specs.Words.{firstName, literalLength, bodyLength, programClauses}
+use Rattle.syntax.specs.Limits.{literals, arguments, variables, declarations}
 use Rattle.syntax.specs.Quote.{bytes}
 use Rattle.syntax.specs.Terms.{nil, Atom, termOf, call, Body, done, also, literalsOf, sameBytes, Clause, Sheet, Goal}
 use Rattle.machine.specs.Machine.{pending, firstFor, nextFor, nth, clauseAt}
@@ -84,7 +84,7 @@ clauses-stand zero cl e = absurd (some-none cl (sym e))
 clauses-stand (suc zero) cl e = subst (ClauseStands symbols sheet table code 1) (some-eq clause cl e) clause-stands
 clauses-stand (suc (suc k)) cl e = absurd (some-none cl (sym e))
 
-few-clauses : length (sheet .clauses) ≤ clauses
+few-clauses : length (sheet .clauses) ≤ programClauses
 unfolding sheet
 few-clauses = omega arith
 

@@ -1,11 +1,11 @@
--- Document 01's limits hold of what reading accepts, by the induction over reading; and how many records a body then has.
+-- Document 01's limits hold of what reading accepts, by the induction over reading; how many records a body then has; and a sheet with facts behind it.
 use Prim.Native.Nat.{ℕ, zero, suc, _+_, _*_, _≤_, _<_}
 use native.Mathlib.Omega.{arith}
 use mathlib.Core.Path.{_≡_, refl}
 use mathlib.Core.Bool.{Bool}
-use mathlib.Core.List.{List, [], _∷_}
-use lib.ListN.{length}
-use Rattle.syntax.specs.Limits.{clauses, literals}
+use mathlib.Core.List.{List, [], _∷_, _++_}
+use lib.ListN.{length, length-append}
+use Rattle.syntax.specs.Limits.{clauses, literals, mostFacts}
 use Rattle.syntax.specs.Terms.{Term, Terms, Literal, call, equation, truth, falsity, either, Body, done, also, literalsIn, literalsOf, Clause, Sheet, Goal}
 use Rattle.syntax.specs.Words.{literalLength, bodyLength}
 use Rattle.syntax.specs.Verdicts.{accepted, goalOutcome}
@@ -15,7 +15,8 @@ use Rattle.rules.proofs.Accepting.{checked-sheet, read-goal}
 use Rattle.machine.specs.Low.{LiteralFilled, BodyFilled, BodyShort, ClausesShort}
 use Rattle.layout.specs.Regions.{mostItems}
 use Rattle.layout.specs.Nodes.{bracketsOf, bracketsAll}
-use Rattle.layout.specs.Limits.{LiteralLimited, EachLimited, BodyLimited, ClauseLimited, ClausesLimited, SheetLimited, GoalLimited}
+use Rattle.machine.specs.Traces.{Fact, factText, factClause, factClauses, withFacts}
+use Rattle.layout.specs.Limits.{LiteralLimited, EachLimited, BodyLimited, ClauseLimited, ClausesLimited, SheetLimited, bodyRecords, ProgramLimited, GoalLimited}
 
 -- ---- what reading gives
 
@@ -131,3 +132,54 @@ few-items {b} h = by (literalsOf b) refl
     by : (k : ℕ) → literalsOf b ≡ k → bodyLength b ≤ mostItems
     by zero e = omega (arith, e, some-items b (h .filled))
     by (suc k) e = omega (arith, side-items b (h .filled) (omega (arith, e)), h .few)
+
+-- those of some clauses' bodies
+records-few : (cls : List Clause) → ClausesLimited cls → bodyRecords cls ≤ length cls * (mostItems + 1)
+unfolding bodyRecords
+records-few [] h = omega arith
+records-few (cl ∷ cls) h = omega (arith, few-items (h .0 .body .short), records-few cls (h .1))
+
+records-both : (cls more : List Clause) → bodyRecords (cls ++ more) ≡ bodyRecords cls + bodyRecords more
+unfolding bodyRecords
+records-both [] more = omega arith
+records-both (cl ∷ cls) more = omega (arith, records-both cls more)
+
+-- ---- programs
+
+-- a sheet alone is a program
+pub program-limited : {sh : Sheet} → SheetLimited sh → ProgramLimited sh
+program-limited {sh} h = record { few = omega (arith, h .few); room = omega (arith, h .few, records-few (sh .clauses) (h .clauses)); clauses = h .clauses }
+
+-- a fact has brackets one deep, and an empty body
+fact-limited : (at : ℕ) (f : Fact) → ClauseLimited (factClause at f)
+unfolding factClause bracketsOf bracketsAll literalsIn
+fact-limited at f = record { head = omega arith; body = record { each = tt; short = record { few = omega arith; filled = tt } } }
+
+facts-each : (at : ℕ) (fs : List Fact) → ClausesLimited (factClauses at fs)
+unfolding factClauses
+facts-each at [] = tt
+facts-each at (f ∷ fs) = (fact-limited at f, facts-each (at + length (factText f)) fs)
+
+facts-many : (at : ℕ) (fs : List Fact) → length (factClauses at fs) ≡ length fs
+unfolding factClauses
+facts-many at [] = refl
+facts-many at (f ∷ fs) = omega (arith, facts-many (at + length (factText f)) fs)
+
+facts-records : (at : ℕ) (fs : List Fact) → bodyRecords (factClauses at fs) ≡ length fs
+unfolding factClauses factClause bodyRecords literalLength
+facts-records at [] = refl
+facts-records at (f ∷ fs) = omega (arith, facts-records (at + length (factText f)) fs)
+
+both-limited : (cls more : List Clause) → ClausesLimited cls → ClausesLimited more → ClausesLimited (cls ++ more)
+both-limited [] more h g = g
+both-limited (cl ∷ cls) more h g = (h .0, both-limited cls more (h .1) g)
+
+-- a sheet with facts behind its own clauses is one
+pub facts-limited : (at : ℕ) {sh : Sheet} (facts : List Fact) → SheetLimited sh → length facts ≤ mostFacts → ProgramLimited (withFacts at sh facts)
+unfolding withFacts
+facts-limited at {sh} facts h l =
+    record {
+      few = omega (arith, l, h .few, length-append (sh .clauses) (factClauses at facts), facts-many at facts);
+      room = omega (arith, l, h .few, records-few (sh .clauses) (h .clauses), records-both (sh .clauses) (factClauses at facts), facts-records at facts);
+      clauses = both-limited (sh .clauses) (factClauses at facts) (h .clauses) (facts-each at facts);
+    }

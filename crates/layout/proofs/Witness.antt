@@ -9,8 +9,8 @@ use lib.Dec.{ltb}
 use lib.ListN.{length, getD, set, replicate, length-set, length-replicate, getD-replicate, List·getD-eq-default}
 use lib.Seq.{getD-set-same, getD-set-other}
 use borrow.Author.Tests.{ltb-true, ltb-false}
-use Rattle.syntax.specs.Words.{firstName, bodyLength}
-use Rattle.syntax.specs.Limits.{clauses, literals, arguments, declarations}
+use Rattle.syntax.specs.Words.{firstName, bodyLength, programClauses}
+use Rattle.syntax.specs.Limits.{literals, arguments, declarations}
 use Rattle.syntax.specs.Quote.{bytes}
 use Rattle.syntax.specs.Terms.{variable, compound, nil, cons, sameBytes, truth, done, also, literalsOf, Clause, Sheet, Goal}
 use Rattle.machine.specs.Substitution.{resolve}
@@ -86,7 +86,7 @@ unfolding sheet clauseAt nth
 no-clause zero cl e = some-none cl (sym e)
 no-clause (suc k) cl e = some-none cl (sym e)
 
-pub few-clauses : length (sheet .clauses) ≤ clauses
+pub few-clauses : length (sheet .clauses) ≤ programClauses
 unfolding sheet
 few-clauses = omega arith
 

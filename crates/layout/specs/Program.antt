@@ -5,8 +5,7 @@ use mathlib.Core.Bool.{Bool, true, _&&_}
 use mathlib.Core.List.{List, [], _∷_, _++_}
 use mathlib.Core.Option.{Option, none, some}
 use lib.ListN.{length, getD}
-use Rattle.syntax.specs.Words.{truthKind, falsityKind, callKind, equationKind, literalLength, bodyLength}
-use Rattle.syntax.specs.Limits.{clauses}
+use Rattle.syntax.specs.Words.{truthKind, falsityKind, callKind, equationKind, literalLength, bodyLength, programClauses}
 use Rattle.syntax.specs.Terms.{termOf, Literal, call, equation, truth, falsity, either, Body, done, also, Clause, Sheet, Goal}
 use Rattle.machine.specs.Machine.{nextFor, clauseAt}
 use Rattle.machine.specs.Low.{BodyShort, ClausesShort}
@@ -134,7 +133,7 @@ pub record Program (ss : List Symbol) (sh : Sheet) (g : Goal) (nodes code : List
   pub small : length nodes ≤ places
   pub long : bodies ≤ length code
   pub short : length code ≤ places
-  pub few : length (sh .clauses) ≤ clauses
+  pub few : length (sh .clauses) ≤ programClauses
   pub bodies-short : ClausesShort (sh .clauses)
   pub goal-short : BodyShort (g .body)
   pub goal : BodyStands ss sh nodes code (bodyAt code 0) (g .body)

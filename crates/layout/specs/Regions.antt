@@ -1,8 +1,8 @@
 -- The tables of a run: how many words each record has, how many records there are, and where each region begins. A region begins where the one
 -- before it ends.
 use Prim.Native.Nat.{ℕ, _+_, _-_, _*_, _/_}
-use Rattle.syntax.specs.Limits.{brackets, literals, clauses, longestPath}
-use Rattle.syntax.specs.Words.{firstName, nodeWords, sheetWords, goalWords}
+use Rattle.syntax.specs.Limits.{brackets, literals, clauses, mostFacts, longestPath}
+use Rattle.syntax.specs.Words.{firstName, nodeWords, goalWords, programWords, programClauses}
 
 -- ---- copies
 
@@ -20,18 +20,18 @@ copyCells = firstName
 abbrev pub loadedNode : ℕ
 loadedNode = 2
 
--- the most nodes of a sheet and a goal, and the words they take
+-- the most nodes of a program and a goal, and the words they take
 abbrev pub mostNodes : ℕ
-mostNodes = (sheetWords + goalWords) / nodeWords + 1
+mostNodes = (programWords + goalWords) / nodeWords + 1
 
 abbrev pub nodesWords : ℕ
 nodesWords = mostNodes * loadedNode
 
 -- A place in the nodes or in the code is below this, so that a cell's word can hold a node's together with a copy.
 abbrev pub places : ℕ
-places = 65536
+places = 131072
 
--- ---- code: a record for the goal and each clause, and then the records of each with the body's end
+-- ---- code: a record for the goal and each clause, and then the records of each with the body's end, one body behind the other
 
 abbrev pub clauseSize : ℕ
 clauseSize = 4
@@ -56,13 +56,15 @@ abbrev pub mostItems : ℕ
 mostItems = 4 * literals - 3
 
 abbrev pub bodies : ℕ
-bodies = (clauses + 1) * clauseSize
+bodies = (programClauses + 1) * clauseSize
 
-abbrev pub bodySize : ℕ
-bodySize = (mostItems + 1) * literalSize
+-- the goal's body comes first, with room for the longest; behind it begin those of the clauses
+abbrev pub clauseBodies : ℕ
+clauseBodies = bodies + (mostItems + 1) * literalSize
 
+-- Room for the goal and a sheet's clauses with bodies as long as can be, and for the ends of facts, whose bodies are empty.
 abbrev pub codeWords : ℕ
-codeWords = bodies + (clauses + 1) * bodySize
+codeWords = bodies + ((clauses + 1) * (mostItems + 1) + mostFacts) * literalSize
 
 -- the record of a clause, by its number; the goal's is that of number 0
 abbrev pub clauseRecord : ℕ → ℕ

@@ -1,6 +1,7 @@
 // The regions of a run's tables (specs/Regions); what their words mean is defined in specs/.
 use syntax::BRACKETS;
 use syntax::CLAUSES;
+use syntax::FACTS;
 use syntax::FIRST_NAME;
 use syntax::GOAL_BYTES;
 use syntax::GOAL_WORDS;
@@ -8,8 +9,9 @@ use syntax::LENGTHS;
 use syntax::LITERALS;
 use syntax::LONGEST_PATH;
 use syntax::NODE_WORDS;
+use syntax::PROGRAM_CLAUSES;
+use syntax::PROGRAM_WORDS;
 use syntax::SHEET_BYTES;
-use syntax::SHEET_WORDS;
 ghost use mathlib.Core.Path.{_≡_};
 ghost use Prim.Native.Nat.{_<_, _^_};
 ghost use Rattle.layout.specs.Regions.{copies, copyCells, halfWord};
@@ -24,7 +26,7 @@ pub const COPY_CELLS: usize = FIRST_NAME;
 // Loaded nodes.
 pub const LOADED_NODE: usize = 2;
 
-pub const MOST_NODES: usize = (SHEET_WORDS + GOAL_WORDS) / NODE_WORDS + 1;
+pub const MOST_NODES: usize = (PROGRAM_WORDS + GOAL_WORDS) / NODE_WORDS + 1;
 
 pub const NODES_WORDS: usize = MOST_NODES * LOADED_NODE;
 
@@ -41,11 +43,11 @@ pub const JUMP_KIND: usize = 6;
 
 pub const MOST_ITEMS: usize = 4 * LITERALS - 3;
 
-pub const BODIES: usize = (CLAUSES + 1) * CLAUSE_SIZE;
+pub const BODIES: usize = (PROGRAM_CLAUSES + 1) * CLAUSE_SIZE;
 
-pub const BODY_SIZE: usize = (MOST_ITEMS + 1) * LITERAL_SIZE;
+pub const CLAUSE_BODIES: usize = BODIES + (MOST_ITEMS + 1) * LITERAL_SIZE;
 
-pub const CODE_WORDS: usize = BODIES + (CLAUSES + 1) * BODY_SIZE;
+pub const CODE_WORDS: usize = BODIES + ((CLAUSES + 1) * (MOST_ITEMS + 1) + FACTS) * LITERAL_SIZE;
 
 // State.
 pub const CELLS: usize = COPIES * COPY_CELLS;

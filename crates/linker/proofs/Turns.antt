@@ -6,9 +6,8 @@ use mathlib.Core.Bool.{Bool, true, false}
 use mathlib.Core.List.{List, [], _∷_, _++_}
 use lib.Dec.{T}
 use lib.ListN.{length, getD, set, drop, length-drop}
-use Rattle.syntax.specs.Limits.{clauses as mostClauses}
 use Rattle.syntax.specs.Terms.{Term, Atom, Literal, call, equation, truth, falsity, either, Body, done, also, Clause, Sheet}
-use Rattle.syntax.specs.Words.{literalLength, bodyLength, clauseWords, callKind, equationKind, leftKind, behindKind, itemKind, sideItems}
+use Rattle.syntax.specs.Words.{literalLength, bodyLength, clauseWords, callKind, equationKind, leftKind, behindKind, itemKind, sideItems, programClauses}
 use Rattle.machine.specs.Machine.{isFor, firstFor, nextFor}
 use Rattle.machine.proofs.Tests.{both}
 use Rattle.words.specs.Tables.{Has, Inside}
@@ -75,13 +74,13 @@ first-bound a j (cl ∷ cls) =
     let l : firstFor a (suc j) cls ≤ suc j + length cls = first-bound a (suc j) cls in
     choice-bound (isFor a cl) j (firstFor a (suc j) cls) (j + suc (length cls)) (omega arith) (omega arith)
 
-pub next-bound : (ss : List Symbol) (sh : Sheet) (nodes : List ℕ) (clauses : ℕ) (code : List ℕ) → Headed ss sh nodes clauses code → (a : Atom) (k : ℕ) → k ≤ clauses → nextFor sh a k ≤ mostClauses + 1
+pub next-bound : (ss : List Symbol) (sh : Sheet) (nodes : List ℕ) (clauses : ℕ) (code : List ℕ) → Headed ss sh nodes clauses code → (a : Atom) (k : ℕ) → k ≤ clauses → nextFor sh a k ≤ programClauses + 1
 unfolding nextFor
 next-bound ss sh nodes clauses code w a k l =
     let b : firstFor a (suc k) (drop k (sh .clauses)) ≤ suc k + length (drop k (sh .clauses)) = first-bound a (suc k) (drop k (sh .clauses)) in
     let n : length (drop k (sh .clauses)) ≡ length (sh .clauses) - k = length-drop k (sh .clauses) in
     let c : clauses ≡ length (sh .clauses) = w .count in
-    let f : clauses ≤ mostClauses = w .few in
+    let f : clauses ≤ programClauses = w .few in
     omega arith
 
 -- ---- the kind of an item's record, one law for each way out
@@ -249,7 +248,7 @@ unfolding otherOf itemNodes
 other-bound ss sh plain-truth table p nodes q clauses code l w = omega arith
 other-bound ss sh plain-falsity table p nodes q clauses code l w = omega arith
 other-bound ss sh (plain-call a) table p nodes q clauses code l w =
-    let z : nextFor sh a 0 ≤ mostClauses + 1 = next-bound ss sh nodes clauses code (w .headed) a 0 (omega arith) in
+    let z : nextFor sh a 0 ≤ programClauses + 1 = next-bound ss sh nodes clauses code (w .headed) a 0 (omega arith) in
     omega arith
 other-bound ss sh (plain-equation t u) table p nodes q clauses code l w =
     let z : q + length (loadedWords ss t) ≤ length nodes = end-inside nodes q (loadedWords ss t) (w .node) (has-left nodes q (loadedWords ss t) (loadedWords ss u) (w .stand)) in

@@ -5,20 +5,20 @@ use mathlib.Core.Path.{_≡_, sym, ap, _∙_, subst, subst⁻¹}
 use mathlib.Core.List.{List, [], _∷_, _++_}
 use mathlib.Core.Option.{some}
 use lib.ListN.{length, getD, length-append}
-use Rattle.syntax.specs.Limits.{clauses as mostClauses}
+use Rattle.syntax.specs.Limits.{clauses as mostClauses, mostFacts}
 use Rattle.syntax.specs.Terms.{termOf, Body, Clause, Sheet}
-use Rattle.syntax.specs.Words.{bodyWords, bodyLength}
-use Rattle.layout.specs.Regions.{places, mostItems, bodies, codeWords, nextLiteral, literalFrom}
+use Rattle.syntax.specs.Words.{bodyWords, bodyLength, programClauses}
+use Rattle.layout.specs.Regions.{places, mostItems, bodies, clauseBodies, codeWords, nextLiteral, literalFrom}
 use Rattle.machine.specs.Machine.{clauseAt}
 use Rattle.machine.specs.Low.{ClausesShort}
-use Rattle.layout.specs.Limits.{ClausesLimited}
+use Rattle.layout.specs.Limits.{ClausesLimited, bodyRecords}
 use Rattle.machine.proofs.Tests.{some-none}
 use Rattle.words.specs.Tables.{Has}
 use Rattle.layout.specs.Nodes.{Symbol, Stands}
 use Rattle.layout.specs.Program.{bodyNodes, clausesNodes, programNodes, headAt, bodyAt, BodyStands, ClauseStands, Program}
 use Rattle.words.proofs.Laws.{has-left, has-right}
 use Rattle.linker.specs.Linking.{Linkable}
-use Rattle.linker.specs.Records.{putPair, putBody, putHeads, putClauses, bodyPlace}
+use Rattle.linker.specs.Records.{putPair, putBody, putHeads, putClauses}
 use Rattle.words.specs.Items.{BodyAt, items}
 use Rattle.linker.specs.Places.{HeadsStand, Headed, BodyTo, HeadsTo, ClausesTo}
 use Rattle.linker.proofs.Sizes.{body-nodes, few-items}
@@ -70,7 +70,7 @@ module _ (table : List ℕ) (clauses : ℕ) (goals : List ℕ) (literals : ℕ) 
       pub heads-ready : (w : Linkable table clauses goals literals nodes code) → HeadsTo (w .ss) (w .sh .clauses) table 0 node clauses code 1
       heads-ready w =
           let a : clauses ≡ length (w .sh .clauses) = w .clauses-count in
-          let b : length (w .sh .clauses) ≤ mostClauses = w .limits .few in
+          let b : length (w .sh .clauses) ≤ programClauses = w .limits .few in
           let c : codeWords ≤ length code = w .code-room in
           let d : length (bodyNodes (w .ss) (w .g .body)) + length (clausesNodes (w .ss) (w .sh .clauses)) ≤ length nodes = parts w .2 in
           let e : node ≡ length (bodyNodes (w .ss) (w .g .body)) = node-is w in
@@ -87,7 +87,7 @@ module _ (table : List ℕ) (clauses : ℕ) (goals : List ℕ) (literals : ℕ) 
         headed : (w : Linkable table clauses goals literals nodes code) → Headed (w .ss) (w .sh) nodes clauses c1
         headed w =
             let a : clauses ≡ length (w .sh .clauses) = w .clauses-count in
-            let b : length (w .sh .clauses) ≤ mostClauses = w .limits .few in
+            let b : length (w .sh .clauses) ≤ programClauses = w .limits .few in
             let c : codeWords ≤ length code = w .code-room in
             let d : length code ≤ places = w .code-short in
             let n : length c1 ≡ length code = heads-length w in
@@ -129,9 +129,12 @@ module _ (table : List ℕ) (clauses : ℕ) (goals : List ℕ) (literals : ℕ) 
             body-length : (w : Linkable table clauses goals literals nodes code) → length c3 ≡ length c2
             body-length w = ap length (body-is w) ∙ body-long (w .ss) (w .sh) 0 (items (w .g .body)) c2 bodies
 
-            pub clauses-ready : (w : Linkable table clauses goals literals nodes code) → ClausesTo (w .ss) (w .sh) (w .sh .clauses) table 0 nodes node clauses c3 1
+            pub clauses-ready : (w : Linkable table clauses goals literals nodes code) → ClausesTo (w .ss) (w .sh) (w .sh .clauses) table 0 nodes node clauses c3 1 clauseBodies
             clauses-ready w =
                 let a : clauses ≡ length (w .sh .clauses) = w .clauses-count in
+                let b : bodyRecords (w .sh .clauses) ≤ mostClauses * (mostItems + 1) + mostFacts = w .limits .room in
+                let r : codeWords ≤ length c2 = goal-ready w .headed .room in
+                let n : length c3 ≡ length c2 = body-length w in
                 record {
                   headed = headed-kept (w .ss) (w .sh) nodes clauses c2 c3 (body-length w) (subst⁻¹ (SameHeads c2) (body-is w) (body-heads (w .ss) (w .sh) 0 (items (w .g .body)) c2 bodies (omega arith))) (goal-ready w .headed);
                   has = w .has-clauses;
@@ -140,6 +143,8 @@ module _ (table : List ℕ) (clauses : ℕ) (goals : List ℕ) (literals : ℕ) 
                   limited = w .limits .clauses;
                   low = omega arith;
                   count = omega arith;
+                  place = omega arith;
+                  room = omega arith;
                 }
 
             goal-written : (w : Linkable table clauses goals literals nodes code) → Written (w .ss) (w .sh) c3 bodies 0 (w .g .body)
@@ -154,29 +159,30 @@ module _ (table : List ℕ) (clauses : ℕ) (goals : List ℕ) (literals : ℕ) 
                 let c : codeWords ≤ length code = w .code-room in
                 ap (λ (i : List ℕ). getD i 1 0) (body-is w) ∙ (body-below (w .ss) (w .sh) 0 (items (w .g .body)) c2 bodies 1 (omega arith) ∙ (ap (λ (i : List ℕ). getD i 1 0) e2 ∙ pair-first c1 1 bodies 0 (omega arith)))
 
-            module _ (c4 : List ℕ) (e4 : (ss : List Symbol) (sh : Sheet) (cls : List Clause) → ClausesTo ss sh cls table 0 nodes node clauses c3 1 → c4 ≡ putClauses ss sh node cls c3 1) where
-              clauses-is : (w : Linkable table clauses goals literals nodes code) → c4 ≡ putClauses (w .ss) (w .sh) node (w .sh .clauses) c3 1
+            module _ (c4 : List ℕ) (e4 : (ss : List Symbol) (sh : Sheet) (cls : List Clause) → ClausesTo ss sh cls table 0 nodes node clauses c3 1 clauseBodies → c4 ≡ putClauses ss sh node cls c3 1 clauseBodies) where
+              clauses-is : (w : Linkable table clauses goals literals nodes code) → c4 ≡ putClauses (w .ss) (w .sh) node (w .sh .clauses) c3 1 clauseBodies
               clauses-is w = e4 (w .ss) (w .sh) (w .sh .clauses) (clauses-ready w)
 
-              kept : (w : Linkable table clauses goals literals nodes code) → Kept c3 c4 1
+              kept : (w : Linkable table clauses goals literals nodes code) → Kept c3 c4 1 clauseBodies
               kept w =
-                  let b : length (w .sh .clauses) ≤ mostClauses = w .limits .few in
-                  subst⁻¹ (λ (i : List ℕ). Kept c3 i 1) (clauses-is w) (clauses-kept (w .ss) (w .sh) node (w .sh .clauses) c3 1 (omega arith))
+                  let b : length (w .sh .clauses) ≤ programClauses = w .limits .few in
+                  subst⁻¹ (λ (i : List ℕ). Kept c3 i 1 clauseBodies) (clauses-is w) (clauses-kept (w .ss) (w .sh) node (w .sh .clauses) c3 1 clauseBodies (omega arith) (omega arith))
 
               clause-stands : (w : Linkable table clauses goals literals nodes code) (k : ℕ) (cl : Clause) → clauseAt (w .sh) k ≡ some cl → ClauseStands (w .ss) (w .sh) nodes c4 k cl
               unfolding clauseAt
               clause-stands w zero cl e = absurd (some-none cl (sym e))
               clause-stands w (suc n) cl e =
-                  let b : length (w .sh .clauses) ≤ mostClauses = w .limits .few in
-                  let r : codeWords ≤ length c3 = clauses-ready w .headed .room in
-                  let part : BodyPart (w .ss) (w .sh) nodes c4 (suc n) cl =
-                  subst (λ (i : ℕ). BodyPart (w .ss) (w .sh) nodes c4 i cl) (let q : 1 + n ≡ suc n = omega arith in q)
-                  (subst⁻¹ (λ (i : List ℕ). BodyPart (w .ss) (w .sh) nodes i (1 + n) cl) (clauses-is w) (clauses-written (w .ss) (w .sh) nodes node (w .sh .clauses) c3 1 (clauses-stand w) (w .clauses-loadable) (w .limits .clauses) (omega arith) r n cl e)) in
+                  let b : length (w .sh .clauses) ≤ programClauses = w .limits .few in
+                  let found : (place : ℕ) × BodyPart (w .ss) (w .sh) nodes (putClauses (w .ss) (w .sh) node (w .sh .clauses) c3 1 clauseBodies) (1 + n) cl place =
+                  clauses-written (w .ss) (w .sh) nodes node (w .sh .clauses) c3 1 clauseBodies (clauses-stand w) (w .clauses-loadable) (w .limits .clauses) (omega arith) (omega arith) (clauses-ready w .room) n cl e in
+                  let part : BodyPart (w .ss) (w .sh) nodes c4 (suc n) cl (found .0) =
+                  subst (λ (i : ℕ). BodyPart (w .ss) (w .sh) nodes c4 i cl (found .0)) (let q : 1 + n ≡ suc n = omega arith in q)
+                  (subst⁻¹ (λ (i : List ℕ). BodyPart (w .ss) (w .sh) nodes i (1 + n) cl (found .0)) (clauses-is w) (found .1)) in
                   let all : Headed (w .ss) (w .sh) nodes clauses c4 = headed-kept (w .ss) (w .sh) nodes clauses c3 c4 (kept w .long) (kept w .heads) (clauses-ready w .headed) in
                   record {
                     head = subst (λ (i : ℕ). Stands (w .ss) nodes (headAt c4 i) (termOf (cl .head))) (let q : 1 + n ≡ suc n = omega arith in q) (heads-at (w .ss) nodes c4 n 1 (w .sh .clauses) cl e (all .heads));
                     body = subst⁻¹ (λ (i : ℕ). BodyStands (w .ss) (w .sh) nodes c4 i (cl .body)) (part .at)
-                        (body-stands (w .ss) (w .sh) (bodyPlace (suc n)) nodes c4 (part .node) (cl .body) (part .body) (part .stand) (part .loadable) (part .limited));
+                        (body-stands (w .ss) (w .sh) (found .0) nodes c4 (part .node) (cl .body) (part .body) (part .stand) (part .loadable) (part .limited));
                     after = part .after;
                   }
 

@@ -9,6 +9,7 @@ use Rattle.syntax.specs.Quote.{bytes}
 use Rattle.syntax.specs.Terms.{Atom, nil, call, either, done, also, literalsIn, Sheet, Goal, sameBytes}
 use Rattle.syntax.specs.Words.{termWords, literalWords, literalLength, clauseWords, clausesWords, firstName}
 use Rattle.layout.specs.Regions.{codeWords}
+use Rattle.layout.specs.Limits.{bodyRecords}
 use Rattle.layout.specs.Nodes.{Symbol, symbolOf, isSymbol, isListed, loadedWords, isLoadable, bracketsOf}
 use Rattle.layout.specs.Program.{literalNodes, clauseNodes, clausesNodes, programNodes, literalLoadable, clausesLoadable}
 use Rattle.linker.specs.Linking.{Linkable}
@@ -43,7 +44,7 @@ unfolding code
 code-long = length-replicate {A = ℕ} codeWords 0
 
 pub witness : Linkable table 1 goals 5 nodes code
-unfolding clausesWords clauseWords termWords literalWords literalLength literalsIn loadedWords symbolOf isSymbol isListed isLoadable bracketsOf sameBytes literalNodes clauseNodes clausesNodes programNodes literalLoadable clausesLoadable
+unfolding clausesWords clauseWords termWords literalWords literalLength literalsIn loadedWords symbolOf isSymbol isListed isLoadable bracketsOf sameBytes literalNodes clauseNodes clausesNodes programNodes literalLoadable clausesLoadable bodyRecords
 witness =
     let l : length code ≡ codeWords = code-long in
     record {
@@ -54,7 +55,7 @@ witness =
       clauses-count = refl;
       has-goal = (omega arith, refl, (omega arith, refl, (omega arith, refl, (omega arith, refl, (omega arith, refl, (omega arith, refl, (omega arith, refl, (omega arith, refl, (omega arith, refl, (omega arith, refl, (omega arith, refl, tt)))))))))));
       literals-count = refl;
-      limits = record { clauses = (record { head = omega arith; body = record { each = tt; short = record { few = omega arith; filled = tt } } }, tt); few = omega arith };
+      limits = record { clauses = (record { head = omega arith; body = record { each = tt; short = record { few = omega arith; filled = tt } } }, tt); few = omega arith; room = omega arith };
       goal-limits = record { each = (((omega arith, tt), (omega arith, tt)), tt); short = record { few = omega arith; filled = (((omega arith, (tt, tt)), (omega arith, (tt, tt))), tt) } };
       nodes-stand = (omega arith, refl, (omega arith, refl, (omega arith, refl, (omega arith, refl, (omega arith, refl, (omega arith, refl, tt))))));
       goal-loadable = tt;

@@ -8,22 +8,21 @@ use mathlib.Core.Option.{some}
 use lib.Dec.{T}
 use lib.ListN.{length, getD, set, length-set, length-append}
 use lib.Seq.{getD-set-same, getD-set-other}
-use Rattle.syntax.specs.Limits.{clauses as mostClauses}
 use Rattle.syntax.specs.Terms.{termOf, Literal, call, equation, truth, falsity, either, Body, done, also, Clause, Sheet}
-use Rattle.syntax.specs.Words.{literalLength, bodyLength}
+use Rattle.syntax.specs.Words.{literalLength, bodyLength, programClauses}
 use Rattle.words.specs.Items.{Item, before-right, behind, literalItems, items}
 use Rattle.words.proofs.Items.{literal-many, body-many}
-use Rattle.layout.specs.Regions.{places, endKind, splitKind, jumpKind, mostItems, bodies, codeWords, nextLiteral, clauseRecord, literalFrom}
+use Rattle.layout.specs.Regions.{places, endKind, splitKind, jumpKind, bodies, codeWords, nextLiteral, clauseRecord, literalFrom}
 use Rattle.machine.specs.Machine.{nextFor, nth}
 use Rattle.machine.proofs.Tests.{both, some-eq, some-none}
 use Rattle.words.specs.Tables.{Has}
 use Rattle.layout.specs.Nodes.{Symbol, loadedWords, isLoadable, Stands}
-use Rattle.layout.specs.Limits.{LiteralLimited, EachLimited, ClauseLimited, ClausesLimited}
+use Rattle.layout.specs.Limits.{LiteralLimited, EachLimited, ClausesLimited, bodyRecords}
 use Rattle.layout.specs.Program.{literalNodes, bodyNodes, clauseNodes, clausesNodes, literalLoadable, bodyLoadable, clausesLoadable, headAt, bodyAt, afterAt, kindAt, placeAt, otherAt, Names, rightOf, LiteralStands, ItemsStand, BodyStands}
 use Rattle.words.proofs.Laws.{has-left, has-right}
-use Rattle.linker.specs.Records.{putPair, putRecord, kindOf, itemNodes, otherOf, putItems, putBody, bodyPlace, putHeads, putClause, putClauses}
+use Rattle.linker.specs.Records.{putPair, putRecord, kindOf, itemNodes, otherOf, putItems, putBody, behindBody, putHeads, putClause, putClauses}
 use Rattle.linker.specs.Places.{HeadsStand, Headed}
-use Rattle.linker.proofs.Sizes.{itemsNodes, literal-items, body-items, few-items}
+use Rattle.linker.proofs.Sizes.{itemsNodes, literal-items, body-items}
 
 -- ---- two words, and a record
 
@@ -261,19 +260,19 @@ module _ (ss : List Symbol) (sh : Sheet) (start : ℕ) where
 
 -- the places of the heads stay
 abbrev pub SameHeads : List ℕ → List ℕ → Type 0
-SameHeads code new = (j : ℕ) → j ≤ mostClauses → headAt new j ≡ headAt code j
+SameHeads code new = (j : ℕ) → j ≤ programClauses → headAt new j ≡ headAt code j
 
 module _ (ss : List Symbol) (nodes : List ℕ) where
-  pub heads-kept : (code new : List ℕ) → SameHeads code new → (k : ℕ) (cls : List Clause) → k + length cls ≤ mostClauses + 1 → HeadsStand ss nodes code k cls → HeadsStand ss nodes new k cls
+  pub heads-kept : (code new : List ℕ) → SameHeads code new → (k : ℕ) (cls : List Clause) → k + length cls ≤ programClauses + 1 → HeadsStand ss nodes code k cls → HeadsStand ss nodes new k cls
   heads-kept code new f k [] l h = tt
   heads-kept code new f k (cl ∷ cls) l h =
-      let z : k + suc (length cls) ≤ mostClauses + 1 = l in
+      let z : k + suc (length cls) ≤ programClauses + 1 = l in
       (subst⁻¹ (λ (i : ℕ). Stands ss nodes i (termOf (cl .head))) (f k (omega arith)) (h .0), heads-kept code new f (k + 1) cls (omega arith) (h .1))
 
 pub headed-kept : (ss : List Symbol) (sh : Sheet) (nodes : List ℕ) (clauses : ℕ) (code new : List ℕ) → length new ≡ length code → SameHeads code new → Headed ss sh nodes clauses code → Headed ss sh nodes clauses new
 headed-kept ss sh nodes clauses code new n f w =
     let e : clauses ≡ length (sh .clauses) = w .count in
-    let few : clauses ≤ mostClauses = w .few in
+    let few : clauses ≤ programClauses = w .few in
     let room : codeWords ≤ length code = w .room in
     let short : length code ≤ places = w .short in
     record {
@@ -308,11 +307,11 @@ module _ (ss : List Symbol) where
       heads-below (q + length (clauseNodes ss cl)) cls (set code (clauseRecord k) q) (k + 1) i (omega arith) ∙ getD-set-other code (clauseRecord k) i q 0 (λ e. omega arith)
 
   pub heads-written : (nodes : List ℕ) (q : ℕ) (cls : List Clause) (code : List ℕ) (k : ℕ) → Has nodes q (clausesNodes ss cls) → T (clausesLoadable ss cls) → ClausesLimited cls
-      → k + length cls ≤ mostClauses + 1 → bodies ≤ length code → HeadsStand ss nodes (putHeads ss q cls code k) k cls
+      → k + length cls ≤ programClauses + 1 → bodies ≤ length code → HeadsStand ss nodes (putHeads ss q cls code k) k cls
   unfolding putHeads clausesNodes clausesLoadable clauseNodes
   heads-written nodes q [] code k h t s l r = tt
   heads-written nodes q (cl ∷ cls) code k h t s l r =
-      let z : k + suc (length cls) ≤ mostClauses + 1 = l in
+      let z : k + suc (length cls) ≤ programClauses + 1 = l in
       let n : length (set code (clauseRecord k) q) ≡ length code = simp length-set in
       let oks : T (isLoadable ss (termOf (cl .head)) && bodyLoadable ss (cl .body)) × T (clausesLoadable ss cls) = both (isLoadable ss (termOf (cl .head)) && bodyLoadable ss (cl .body)) (clausesLoadable ss cls) t in
       let ok : T (isLoadable ss (termOf (cl .head))) × T (bodyLoadable ss (cl .body)) = both (isLoadable ss (termOf (cl .head))) (bodyLoadable ss (cl .body)) (oks .0) in
@@ -325,43 +324,48 @@ module _ (ss : List Symbol) where
 
 -- ---- clauses
 
--- a clause of number k stands, all but its head
-pub record BodyPart (ss : List Symbol) (sh : Sheet) (nodes code : List ℕ) (k : ℕ) (cl : Clause) : Type 0 where
-  pub at : bodyAt code k ≡ bodyPlace k
+-- a clause of number k stands, all but its head; its body begins at l
+pub record BodyPart (ss : List Symbol) (sh : Sheet) (nodes code : List ℕ) (k : ℕ) (cl : Clause) (l : ℕ) : Type 0 where
+  pub at : bodyAt code k ≡ l
   pub node : ℕ
-  pub body : Written ss sh code (bodyPlace k) node (cl .body)
+  pub body : Written ss sh code l node (cl .body)
   pub stand : Has nodes node (bodyNodes ss (cl .body))
   pub loadable : T (bodyLoadable ss (cl .body))
   pub limited : EachLimited (cl .body)
   pub after : afterAt code k ≡ nextFor sh (cl .head) k
 
--- The clauses from number k on leave the words of those before: their records, and their bodies; and the places of all heads.
-pub record Kept (code new : List ℕ) (k : ℕ) : Type 0 where
+-- The clauses from number k on, whose bodies begin at l, leave the words of those before: their records, and their bodies; and the places of all heads.
+pub record Kept (code new : List ℕ) (k l : ℕ) : Type 0 where
   pub long : length new ≡ length code
   pub records : (i : ℕ) → i < clauseRecord k → getD new i 0 ≡ getD code i 0
-  pub bodies : (i : ℕ) → bodies ≤ i → i < bodyPlace k → getD new i 0 ≡ getD code i 0
+  pub bodies : (i : ℕ) → bodies ≤ i → i < l → getD new i 0 ≡ getD code i 0
   pub heads : SameHeads code new
 
 module _ (ss : List Symbol) (sh : Sheet) where
-  pub clause-kept : (q : ℕ) (cl : Clause) (code : List ℕ) (k : ℕ) → k ≤ mostClauses → Kept code (putClause ss sh q cl code k) k
+  pub clause-kept : (q : ℕ) (cl : Clause) (code : List ℕ) (k l : ℕ) → k ≤ programClauses → bodies ≤ l → Kept code (putClause ss sh q cl code k l) k l
   unfolding putClause
-  clause-kept q cl code k l = record {
-    long = body-long ss sh (q + length (loadedWords ss (termOf (cl .head)))) (items (cl .body)) (putPair code (clauseRecord k + 1) (bodyPlace k) (nextFor sh (cl .head) k)) (bodyPlace k) ∙ pair-long code (clauseRecord k + 1) (bodyPlace k) (nextFor sh (cl .head) k);
-    records = λ i u. body-below ss sh (q + length (loadedWords ss (termOf (cl .head)))) (items (cl .body)) (putPair code (clauseRecord k + 1) (bodyPlace k) (nextFor sh (cl .head) k)) (bodyPlace k) i (omega arith)
-        ∙ pair-other code (clauseRecord k + 1) (bodyPlace k) (nextFor sh (cl .head) k) i (λ e. omega arith) (λ e. omega arith);
-    bodies = λ i a u. body-below ss sh (q + length (loadedWords ss (termOf (cl .head)))) (items (cl .body)) (putPair code (clauseRecord k + 1) (bodyPlace k) (nextFor sh (cl .head) k)) (bodyPlace k) i u
-        ∙ pair-other code (clauseRecord k + 1) (bodyPlace k) (nextFor sh (cl .head) k) i (λ e. omega arith) (λ e. omega arith);
-    heads = λ j u. body-heads ss sh (q + length (loadedWords ss (termOf (cl .head)))) (items (cl .body)) (putPair code (clauseRecord k + 1) (bodyPlace k) (nextFor sh (cl .head) k)) (bodyPlace k) (omega arith) j u
-        ∙ pair-heads code k (bodyPlace k) (nextFor sh (cl .head) k) j u;
-  }
+  clause-kept q cl code k l few low =
+      let node : ℕ = q + length (loadedWords ss (termOf (cl .head))) in
+      let next : ℕ = nextFor sh (cl .head) k in
+      let paired : List ℕ = putPair code (clauseRecord k + 1) l next in
+      record {
+        long = body-long ss sh node (items (cl .body)) paired l ∙ pair-long code (clauseRecord k + 1) l next;
+        records = λ i u. body-below ss sh node (items (cl .body)) paired l i (omega arith)
+            ∙ pair-other code (clauseRecord k + 1) l next i (λ e. omega arith) (λ e. omega arith);
+        bodies = λ i a u. body-below ss sh node (items (cl .body)) paired l i u
+            ∙ pair-other code (clauseRecord k + 1) l next i (λ e. omega arith) (λ e. omega arith);
+        heads = λ j u. body-heads ss sh node (items (cl .body)) paired l low j u ∙ pair-heads code k l next j u;
+      }
 
-  pub clauses-kept : (q : ℕ) (cls : List Clause) (code : List ℕ) (k : ℕ) → k + length cls ≤ mostClauses + 1 → Kept code (putClauses ss sh q cls code k) k
+  pub clauses-kept : (q : ℕ) (cls : List Clause) (code : List ℕ) (k l : ℕ) → k + length cls ≤ programClauses + 1 → bodies ≤ l → Kept code (putClauses ss sh q cls code k l) k l
   unfolding putClauses
-  clauses-kept q [] code k l = record { long = refl; records = λ i u. refl; bodies = λ i a u. refl; heads = λ j u. refl }
-  clauses-kept q (cl ∷ cls) code k l =
-      let z : k + suc (length cls) ≤ mostClauses + 1 = l in
-      let one : Kept code (putClause ss sh q cl code k) k = clause-kept q cl code k (omega arith) in
-      let more : Kept (putClause ss sh q cl code k) (putClauses ss sh (q + length (clauseNodes ss cl)) cls (putClause ss sh q cl code k) (k + 1)) (k + 1) = clauses-kept (q + length (clauseNodes ss cl)) cls (putClause ss sh q cl code k) (k + 1) (omega arith) in
+  clauses-kept q [] code k l many low = record { long = refl; records = λ i u. refl; bodies = λ i a u. refl; heads = λ j u. refl }
+  clauses-kept q (cl ∷ cls) code k l many low =
+      let z : k + suc (length cls) ≤ programClauses + 1 = many in
+      let new : List ℕ = putClause ss sh q cl code k l in
+      let one : Kept code new k l = clause-kept q cl code k l (omega arith) low in
+      let more : Kept new (putClauses ss sh (q + length (clauseNodes ss cl)) cls new (k + 1) (behindBody l (cl .body))) (k + 1) (behindBody l (cl .body)) =
+      clauses-kept (q + length (clauseNodes ss cl)) cls new (k + 1) (behindBody l (cl .body)) (omega arith) (omega arith) in
       record {
         long = more .long ∙ one .long;
         records = λ i u. more .records i (omega arith) ∙ one .records i u;
@@ -370,53 +374,62 @@ module _ (ss : List Symbol) (sh : Sheet) where
       }
 
   module _ (nodes : List ℕ) where
-    clause-written : (q : ℕ) (cl : Clause) (code : List ℕ) (k : ℕ) → k ≤ mostClauses → Has nodes q (clauseNodes ss cl) → T (bodyLoadable ss (cl .body)) → ClauseLimited cl → codeWords ≤ length code
-        → BodyPart ss sh nodes (putClause ss sh q cl code k) k cl
+    clause-written : (q : ℕ) (cl : Clause) (code : List ℕ) (k l : ℕ) → k ≤ programClauses → Has nodes q (clauseNodes ss cl) → T (bodyLoadable ss (cl .body)) → EachLimited (cl .body) → bodies ≤ l
+        → behindBody l (cl .body) ≤ length code → BodyPart ss sh nodes (putClause ss sh q cl code k l) k cl l
     unfolding putClause clauseNodes
-    clause-written q cl code k l h t s r =
-        let few : bodyLength (cl .body) ≤ mostItems = few-items (cl .body) (s .body .short) in
-        let n : length (putPair code (clauseRecord k + 1) (bodyPlace k) (nextFor sh (cl .head) k)) ≡ length code = pair-long code (clauseRecord k + 1) (bodyPlace k) (nextFor sh (cl .head) k) in
+    clause-written q cl code k l few h t s low room =
+        let node : ℕ = q + length (loadedWords ss (termOf (cl .head))) in
+        let next : ℕ = nextFor sh (cl .head) k in
+        let paired : List ℕ = putPair code (clauseRecord k + 1) l next in
+        let n : length paired ≡ length code = pair-long code (clauseRecord k + 1) l next in
         record {
-          at = body-below ss sh (q + length (loadedWords ss (termOf (cl .head)))) (items (cl .body)) (putPair code (clauseRecord k + 1) (bodyPlace k) (nextFor sh (cl .head) k)) (bodyPlace k) (clauseRecord k + 1) (omega arith)
-              ∙ pair-first code (clauseRecord k + 1) (bodyPlace k) (nextFor sh (cl .head) k) (omega arith);
-          node = q + length (loadedWords ss (termOf (cl .head)));
-          body = body-written ss sh (bodyPlace k) (q + length (loadedWords ss (termOf (cl .head)))) (cl .body) (putPair code (clauseRecord k + 1) (bodyPlace k) (nextFor sh (cl .head) k)) (omega arith);
+          at = body-below ss sh node (items (cl .body)) paired l (clauseRecord k + 1) (omega arith) ∙ pair-first code (clauseRecord k + 1) l next (omega arith);
+          node = node;
+          body = body-written ss sh l node (cl .body) paired (omega arith);
           stand = has-right nodes q (loadedWords ss (termOf (cl .head))) (bodyNodes ss (cl .body)) h;
           loadable = t;
-          limited = s .body .each;
-          after = body-below ss sh (q + length (loadedWords ss (termOf (cl .head)))) (items (cl .body)) (putPair code (clauseRecord k + 1) (bodyPlace k) (nextFor sh (cl .head) k)) (bodyPlace k) (clauseRecord k + 2) (omega arith)
-              ∙ subst (λ (i : ℕ). getD (putPair code (clauseRecord k + 1) (bodyPlace k) (nextFor sh (cl .head) k)) i 0 ≡ nextFor sh (cl .head) k) (let e : clauseRecord k + 1 + 1 ≡ clauseRecord k + 2 = omega arith in e) (pair-second code (clauseRecord k + 1) (bodyPlace k) (nextFor sh (cl .head) k) (omega arith));
+          limited = s;
+          after = body-below ss sh node (items (cl .body)) paired l (clauseRecord k + 2) (omega arith)
+              ∙ subst (λ (i : ℕ). getD paired i 0 ≡ next) (let e : clauseRecord k + 1 + 1 ≡ clauseRecord k + 2 = omega arith in e) (pair-second code (clauseRecord k + 1) l next (omega arith));
         }
 
-    part-kept : (code new : List ℕ) (k : ℕ) (cl : Clause) → k ≤ mostClauses → bodyLength (cl .body) ≤ mostItems → Kept code new (k + 1) → BodyPart ss sh nodes code k cl → BodyPart ss sh nodes new k cl
-    part-kept code new k cl l few s w = record {
+    part-kept : (code new : List ℕ) (k : ℕ) (cl : Clause) (l : ℕ) → k ≤ programClauses → bodies ≤ l → Kept code new (k + 1) (behindBody l (cl .body)) → BodyPart ss sh nodes code k cl l → BodyPart ss sh nodes new k cl l
+    part-kept code new k cl l few low s w = record {
       at = s .records (clauseRecord k + 1) (omega arith) ∙ w .at;
       node = w .node;
-      body = body-kept ss sh (bodyPlace k) code new (w .node) (cl .body) (s .long) (λ i a u. s .bodies i (omega arith) (omega arith)) (w .body);
+      body = body-kept ss sh l code new (w .node) (cl .body) (s .long) (λ i a u. s .bodies i (omega arith) (omega arith)) (w .body);
       stand = w .stand;
       loadable = w .loadable;
       limited = w .limited;
       after = s .records (clauseRecord k + 2) (omega arith) ∙ w .after;
     }
 
-    -- every clause stands, all but its head
-    pub clauses-written : (q : ℕ) (cls : List Clause) (code : List ℕ) (k : ℕ) → Has nodes q (clausesNodes ss cls) → T (clausesLoadable ss cls) → ClausesLimited cls → k + length cls ≤ mostClauses + 1 → codeWords ≤ length code
-        → (n : ℕ) (cl : Clause) → nth cls n ≡ some cl → BodyPart ss sh nodes (putClauses ss sh q cls code k) (k + n) cl
-    unfolding putClauses clausesNodes clausesLoadable nth
-    clauses-written q [] code k h t s l r n cl e = absurd (some-none cl (sym e))
-    clauses-written q (c ∷ cls) code k h t s l r zero cl e =
-        let z : k + suc (length cls) ≤ mostClauses + 1 = l in
-        let few : bodyLength (c .body) ≤ mostItems = few-items (c .body) (s .0 .body .short) in
+    -- every clause stands somewhere, all but its head
+    pub clauses-written : (q : ℕ) (cls : List Clause) (code : List ℕ) (k l : ℕ) → Has nodes q (clausesNodes ss cls) → T (clausesLoadable ss cls) → ClausesLimited cls → k + length cls ≤ programClauses + 1 → bodies ≤ l
+        → literalFrom l (bodyRecords cls) ≤ length code → (n : ℕ) (cl : Clause) → nth cls n ≡ some cl → (place : ℕ) × BodyPart ss sh nodes (putClauses ss sh q cls code k l) (k + n) cl place
+    unfolding putClauses clausesNodes clausesLoadable bodyRecords nth
+    clauses-written q [] code k l h t s many low r n cl e = absurd (some-none cl (sym e))
+    clauses-written q (c ∷ cls) code k l h t s many low r zero cl e =
+        let z : k + suc (length cls) ≤ programClauses + 1 = many in
+        let room : literalFrom l (suc (bodyLength (c .body)) + bodyRecords cls) ≤ length code = r in
         let oks : T (isLoadable ss (termOf (c .head)) && bodyLoadable ss (c .body)) × T (clausesLoadable ss cls) = both (isLoadable ss (termOf (c .head)) && bodyLoadable ss (c .body)) (clausesLoadable ss cls) t in
         let ok : T (isLoadable ss (termOf (c .head))) × T (bodyLoadable ss (c .body)) = both (isLoadable ss (termOf (c .head))) (bodyLoadable ss (c .body)) (oks .0) in
-        let first : BodyPart ss sh nodes (putClause ss sh q c code k) k c = clause-written q c code k (omega arith) (has-left nodes q (clauseNodes ss c) (clausesNodes ss cls) h) (ok .1) (s .0) r in
-        let kept : BodyPart ss sh nodes (putClauses ss sh (q + length (clauseNodes ss c)) cls (putClause ss sh q c code k) (k + 1)) k c =
-        part-kept (putClause ss sh q c code k) (putClauses ss sh (q + length (clauseNodes ss c)) cls (putClause ss sh q c code k) (k + 1)) k c (omega arith) few (clauses-kept (q + length (clauseNodes ss c)) cls (putClause ss sh q c code k) (k + 1) (omega arith)) first in
-        subst (λ (x : Clause). BodyPart ss sh nodes (putClauses ss sh (q + length (clauseNodes ss c)) cls (putClause ss sh q c code k) (k + 1)) (k + 0) x) (some-eq c cl e)
-        (subst (λ (i : ℕ). BodyPart ss sh nodes (putClauses ss sh (q + length (clauseNodes ss c)) cls (putClause ss sh q c code k) (k + 1)) i c) (let y : k ≡ k + 0 = omega arith in y) kept)
-    clauses-written q (c ∷ cls) code k h t s l r (suc n) cl e =
-        let z : k + suc (length cls) ≤ mostClauses + 1 = l in
-        let m : length (putClause ss sh q c code k) ≡ length code = clause-kept q c code k (omega arith) .long in
+        let new : List ℕ = putClause ss sh q c code k l in
+        let whole : List ℕ = putClauses ss sh (q + length (clauseNodes ss c)) cls new (k + 1) (behindBody l (c .body)) in
+        let first : BodyPart ss sh nodes new k c l = clause-written q c code k l (omega arith) (has-left nodes q (clauseNodes ss c) (clausesNodes ss cls) h) (ok .1) (s .0 .body .each) low (omega arith) in
+        let kept : BodyPart ss sh nodes whole k c l =
+        part-kept new whole k c l (omega arith) low (clauses-kept (q + length (clauseNodes ss c)) cls new (k + 1) (behindBody l (c .body)) (omega arith) (omega arith)) first in (
+          l,
+          subst (λ (x : Clause). BodyPart ss sh nodes whole (k + 0) x l) (some-eq c cl e) (subst (λ (i : ℕ). BodyPart ss sh nodes whole i c l) (let y : k ≡ k + 0 = omega arith in y) kept),
+        )
+    clauses-written q (c ∷ cls) code k l h t s many low r (suc n) cl e =
+        let z : k + suc (length cls) ≤ programClauses + 1 = many in
+        let room : literalFrom l (suc (bodyLength (c .body)) + bodyRecords cls) ≤ length code = r in
+        let new : List ℕ = putClause ss sh q c code k l in
+        let m : length new ≡ length code = clause-kept q c code k l (omega arith) low .long in
         let oks : T (isLoadable ss (termOf (c .head)) && bodyLoadable ss (c .body)) × T (clausesLoadable ss cls) = both (isLoadable ss (termOf (c .head)) && bodyLoadable ss (c .body)) (clausesLoadable ss cls) t in
-        subst (λ (i : ℕ). BodyPart ss sh nodes (putClauses ss sh (q + length (clauseNodes ss c)) cls (putClause ss sh q c code k) (k + 1)) i cl) (let y : k + 1 + n ≡ k + suc n = omega arith in y)
-        (clauses-written (q + length (clauseNodes ss c)) cls (putClause ss sh q c code k) (k + 1) (has-right nodes q (clauseNodes ss c) (clausesNodes ss cls) h) (oks .1) (s .1) (omega arith) (omega arith) n cl e)
+        let next : (place : ℕ) × BodyPart ss sh nodes (putClauses ss sh (q + length (clauseNodes ss c)) cls new (k + 1) (behindBody l (c .body))) (k + 1 + n) cl place =
+        clauses-written (q + length (clauseNodes ss c)) cls new (k + 1) (behindBody l (c .body)) (has-right nodes q (clauseNodes ss c) (clausesNodes ss cls) h) (oks .1) (s .1) (omega arith) (omega arith) (omega arith) n cl e in (
+          next .0,
+          subst (λ (i : ℕ). BodyPart ss sh nodes (putClauses ss sh (q + length (clauseNodes ss c)) cls new (k + 1) (behindBody l (c .body))) i cl (next .0)) (let y : k + 1 + n ≡ k + suc n = omega arith in y) (next .1),
+        )

@@ -5,11 +5,11 @@ use mathlib.Core.List.{List}
 use lib.Dec.{T}
 use lib.ListN.{length}
 use Rattle.syntax.specs.Terms.{Sheet, Goal}
-use Rattle.syntax.specs.Words.{sheetWords, bodyWords, bodyLength, clausesWords}
+use Rattle.syntax.specs.Words.{sheetWords, programWords, bodyWords, bodyLength, clausesWords}
 use Rattle.words.specs.Tables.{Has}
 use Rattle.layout.specs.Regions.{codeWords, places}
 use Rattle.layout.specs.Nodes.{Symbol}
-use Rattle.layout.specs.Limits.{SheetLimited, GoalLimited}
+use Rattle.layout.specs.Limits.{ProgramLimited, GoalLimited}
 use Rattle.layout.specs.Program.{programNodes, bodyLoadable, clausesLoadable}
 
 pub record Linkable (table : List ℕ) (clauses : ℕ) (goals : List ℕ) (literals : ℕ) (nodes code : List ℕ) : Type 0 where
@@ -20,13 +20,13 @@ pub record Linkable (table : List ℕ) (clauses : ℕ) (goals : List ℕ) (liter
   pub clauses-count : clauses ≡ length (sh .clauses)
   pub has-goal : Has goals 0 (bodyWords (g .body))
   pub literals-count : literals ≡ bodyLength (g .body)
-  pub limits : SheetLimited sh
+  pub limits : ProgramLimited sh
   pub goal-limits : GoalLimited g
   pub nodes-stand : Has nodes 0 (programNodes ss sh g)
   pub goal-loadable : T (bodyLoadable ss (g .body))
   pub clauses-loadable : T (clausesLoadable ss (sh .clauses))
   pub nodes-short : length nodes ≤ places
-  pub table-short : length table ≤ sheetWords
+  pub table-short : length table ≤ programWords
   pub goals-short : length goals ≤ sheetWords
   pub code-room : codeWords ≤ length code
   pub code-short : length code ≤ places

@@ -5,19 +5,18 @@ use mathlib.Core.List.{List, [], _∷_}
 use lib.Dec.{T}
 use lib.ListN.{length}
 use Rattle.syntax.specs.Terms.{termOf, Body, Clause, Sheet}
-use Rattle.syntax.specs.Words.{bodyWords, bodyLength, clauseWords, clausesWords}
+use Rattle.syntax.specs.Words.{bodyWords, bodyLength, clauseWords, clausesWords, programClauses}
 use Rattle.words.specs.Tables.{Has}
 use Rattle.words.specs.Items.{Item, plain-call, plain-equation, plain-truth, plain-falsity, before-left, before-right, behind, itemWords}
-use Rattle.syntax.specs.Limits.{clauses as mostClauses}
-use Rattle.layout.specs.Regions.{mostItems, bodies, codeWords, places, nextLiteral, literalFrom}
+use Rattle.layout.specs.Regions.{bodies, codeWords, places, nextLiteral, literalFrom}
 use Rattle.layout.specs.Nodes.{Symbol, Stands, isLoadable}
-use Rattle.layout.specs.Limits.{ClausesLimited}
+use Rattle.layout.specs.Limits.{ClausesLimited, bodyRecords}
 use Rattle.layout.specs.Program.{bodyNodes, clauseNodes, clausesNodes, bodyLoadable, clausesLoadable, headAt}
-use Rattle.linker.specs.Records.{itemNodes}
+use Rattle.linker.specs.Records.{itemNodes, behindBody}
 
 -- every clause has its head's place
 pub record Searchable (nodes code : List ℕ) (clauses : ℕ) : Type 0 where
-  pub few : clauses ≤ mostClauses
+  pub few : clauses ≤ programClauses
   pub long : bodies ≤ length code
   pub inside : (j : ℕ) → 1 ≤ j → j ≤ clauses → headAt code j < length nodes
 
@@ -29,7 +28,7 @@ HeadsStand ss nodes code k (cl ∷ cls) = Stands ss nodes (headAt code k) (termO
 -- the heads of a sheet's clauses have their places
 pub record Headed (ss : List Symbol) (sh : Sheet) (nodes : List ℕ) (clauses : ℕ) (code : List ℕ) : Type 0 where
   pub count : clauses ≡ length (sh .clauses)
-  pub few : clauses ≤ mostClauses
+  pub few : clauses ≤ programClauses
   pub heads : HeadsStand ss nodes code 1 (sh .clauses)
   pub room : codeWords ≤ length code
   pub short : length code ≤ places
@@ -79,21 +78,22 @@ pub record BodyTo (ss : List Symbol) (sh : Sheet) (b : Body) (table : List ℕ) 
   pub low : bodies ≤ l
   pub high : nextLiteral (literalFrom l many) ≤ length code
 
--- a clause of number k
+-- a clause of number k, with room for the records of its body from l on
 pub record ClauseTo (ss : List Symbol) (sh : Sheet) (cl : Clause) (table : List ℕ) (p : ℕ) (nodes : List ℕ) (q clauses : ℕ) (code : List ℕ)
-    (k : ℕ) : Type 0 where
+    (k l : ℕ) : Type 0 where
   pub headed : Headed ss sh nodes clauses code
   pub has : Has table p (clauseWords cl)
   pub stand : Has nodes q (clauseNodes ss cl)
   pub head-loadable : T (isLoadable ss (termOf (cl .head)))
   pub body-loadable : T (bodyLoadable ss (cl .body))
-  pub short : bodyLength (cl .body) ≤ mostItems
   pub low : 1 ≤ k
   pub high : k ≤ clauses
+  pub place : bodies ≤ l
+  pub room : behindBody l (cl .body) ≤ length code
 
--- the clauses from number k on
-pub record ClausesTo (ss : List Symbol) (sh : Sheet) (cls : List Clause) (table : List ℕ) (p : ℕ) (nodes : List ℕ) (q clauses : ℕ) (code : List ℕ) (k : ℕ) :
-    Type 0 where
+-- the clauses from number k on, with room for the records of their bodies from l on
+pub record ClausesTo (ss : List Symbol) (sh : Sheet) (cls : List Clause) (table : List ℕ) (p : ℕ) (nodes : List ℕ) (q clauses : ℕ) (code : List ℕ)
+    (k l : ℕ) : Type 0 where
   pub headed : Headed ss sh nodes clauses code
   pub has : Has table p (clausesWords cls)
   pub stand : Has nodes q (clausesNodes ss cls)
@@ -101,11 +101,13 @@ pub record ClausesTo (ss : List Symbol) (sh : Sheet) (cls : List Clause) (table 
   pub limited : ClausesLimited cls
   pub low : 1 ≤ k
   pub count : k + length cls ≡ suc clauses
+  pub place : bodies ≤ l
+  pub room : literalFrom l (bodyRecords cls) ≤ length code
 
 -- the clauses from number k on, whose nodes are to stand from q on, before their heads' places are written
 pub record HeadsTo (ss : List Symbol) (cls : List Clause) (table : List ℕ) (p q clauses : ℕ) (code : List ℕ) (k : ℕ) : Type 0 where
   pub has : Has table p (clausesWords cls)
-  pub few : clauses ≤ mostClauses
+  pub few : clauses ≤ programClauses
   pub low : 1 ≤ k
   pub count : k + length cls ≡ suc clauses
   pub long : bodies ≤ length code

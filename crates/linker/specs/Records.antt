@@ -1,14 +1,14 @@
 -- The words that linking writes, as the tables are when they were written.
-use Prim.Native.Nat.{ℕ, zero, suc, _+_, _*_}
+use Prim.Native.Nat.{ℕ, zero, suc, _+_}
 use mathlib.Core.Bool.{true, false}
 use mathlib.Core.List.{List, [], _∷_, _++_}
 use lib.Dec.{eqb}
 use lib.ListN.{length, getD, set}
 use Rattle.syntax.specs.Terms.{termOf, Body, Clause, Sheet}
 use Rattle.machine.specs.Machine.{nextFor}
-use Rattle.syntax.specs.Words.{truthKind, falsityKind, callKind, equationKind}
+use Rattle.syntax.specs.Words.{truthKind, falsityKind, callKind, equationKind, bodyLength}
 use Rattle.words.specs.Items.{Item, plain-call, plain-equation, plain-truth, plain-falsity, before-left, before-right, behind, items}
-use Rattle.layout.specs.Regions.{endKind, splitKind, jumpKind, nextLiteral, literalFrom, bodies, bodySize, clauseRecord}
+use Rattle.layout.specs.Regions.{endKind, splitKind, jumpKind, nextLiteral, literalFrom, clauseRecord}
 use Rattle.layout.specs.Nodes.{Symbol, loadedWords}
 use Rattle.layout.specs.Program.{clauseNodes, headAt}
 
@@ -66,24 +66,25 @@ putItems ss sh q (x ∷ xs) code l =
 abbrev pub putBody : List Symbol → Sheet → ℕ → Body → List ℕ → ℕ → List ℕ
 putBody ss sh q b code l = putItems ss sh q (items b) code l
 
--- where the body of clause k begins; the goal's has the number 0
-abbrev pub bodyPlace : ℕ → ℕ
-bodyPlace k = bodies + k * bodySize
+-- the record behind the end of a body that begins at l
+abbrev pub behindBody : ℕ → Body → ℕ
+behindBody l b = nextLiteral (literalFrom l (bodyLength b))
 
 -- the heads of clauses whose nodes stand from q on, the first of number k
 unfoldable pub putHeads : List Symbol → ℕ → List Clause → List ℕ → ℕ → List ℕ
 putHeads ss q [] code k = code
 putHeads ss q (cl ∷ cls) code k = putHeads ss (q + length (clauseNodes ss cl)) cls (set code (clauseRecord k) q) (k + 1)
 
--- a clause of number k, all but its head's place
-unfoldable pub putClause : List Symbol → Sheet → ℕ → Clause → List ℕ → ℕ → List ℕ
-putClause ss sh q cl code k =
-    putBody ss sh (q + length (loadedWords ss (termOf (cl .head)))) (cl .body) (putPair code (clauseRecord k + 1) (bodyPlace k) (nextFor sh (cl .head) k))
-    (bodyPlace k)
+-- a clause of number k, all but its head's place; its body begins at l
+unfoldable pub putClause : List Symbol → Sheet → ℕ → Clause → List ℕ → ℕ → ℕ → List ℕ
+putClause ss sh q cl code k l =
+    putBody ss sh (q + length (loadedWords ss (termOf (cl .head)))) (cl .body) (putPair code (clauseRecord k + 1) l (nextFor sh (cl .head) k)) l
 
-unfoldable pub putClauses : List Symbol → Sheet → ℕ → List Clause → List ℕ → ℕ → List ℕ
-putClauses ss sh q [] code k = code
-putClauses ss sh q (cl ∷ cls) code k = putClauses ss sh (q + length (clauseNodes ss cl)) cls (putClause ss sh q cl code k) (k + 1)
+-- the clauses from number k on, their bodies one behind the other from l on
+unfoldable pub putClauses : List Symbol → Sheet → ℕ → List Clause → List ℕ → ℕ → ℕ → List ℕ
+putClauses ss sh q [] code k l = code
+putClauses ss sh q (cl ∷ cls) code k l =
+    putClauses ss sh (q + length (clauseNodes ss cl)) cls (putClause ss sh q cl code k l) (k + 1) (behindBody l (cl .body))
 
 -- Of n clauses, the first of number j, the topmost whose head has this first word; 0 where there is none.
 unfoldable pub sought : List ℕ → List ℕ → ℕ → ℕ → ℕ → ℕ

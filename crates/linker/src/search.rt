@@ -4,7 +4,7 @@ use words::word_at;
 ghost use mathlib.Core.Path.{_≡_};
 ghost use Prim.Native.Nat.{_+_, _-_, _*_, _≤_, _<_};
 ghost use lib.ListN.{length, getD};
-ghost use Rattle.syntax.specs.Limits.{clauses as mostClauses};
+ghost use Rattle.syntax.specs.Words.{programClauses};
 ghost use Rattle.layout.specs.Regions.{clauseRecord};
 ghost use Rattle.layout.specs.Program.{headAt};
 ghost use Rattle.linker.specs.Records.{sought};
@@ -12,7 +12,7 @@ ghost use Rattle.linker.specs.Places.{Searchable};
 
 // The first word of the head of clause j.
 fn head_word(nodes: &[u32], code: &[u32], j: usize) -> usize
-    requires { ⌜ (j ≤ mostClauses) × ((clauseRecord j < length (now code)) × (headAt (now code) j < length (now nodes))) ⌝ }
+    requires { ⌜ (j ≤ programClauses) × ((clauseRecord j < length (now code)) × (headAt (now code) j < length (now nodes))) ⌝ }
     ensures { λ r. ⌜ r ≡ getD (now (nodes .entry)) (headAt (now (code .entry)) j) 0 ⌝ }
 {
     let at = j * CLAUSE_SIZE;

@@ -4,9 +4,9 @@ use native.Mathlib.Omega.{arith}
 use mathlib.Core.Path.{_≡_, refl, sym, ap, ap₂, _∙_, subst, subst⁻¹}
 use mathlib.Core.List.{List, [], _∷_, _++_, append-nil, append-assoc}
 use lib.ListN.{length, length-append}
-use Rattle.syntax.specs.Limits.{sheetBytes, wordBytes, arguments, variables}
+use Rattle.syntax.specs.Limits.{wordBytes, arguments, variables}
 use Rattle.syntax.specs.Terms.{Term, Terms, variable, compound, nil, cons, arity, termOf, Literal, Body, call, equation, truth, falsity, either, done, also}
-use Rattle.syntax.specs.Words.{truthKind, falsityKind, callKind, equationKind, leftKind, rightKind, behindKind, marker, functor, termWords, termsWords, bodyWords, bodyLength, nodeWords, goalWords}
+use Rattle.syntax.specs.Words.{truthKind, falsityKind, callKind, equationKind, leftKind, rightKind, behindKind, marker, functor, termWords, termsWords, bodyWords, bodyLength, nodeWords, goalWords, programBytes}
 use Rattle.marking.specs.Standing.{Stands, AllStand, stands-variable, stands-compound, stand-nil, stand-cons, LiteralStands, call-stands, equation-stands, truth-stands, falsity-stands, either-stands, BodyStands, done-stands, also-stands}
 use Rattle.words.specs.Tables.{Has}
 use Rattle.words.specs.Items.{Item, plain-call, plain-equation, plain-truth, plain-falsity, before-left, before-right, behind, itemWords, itemsWords, literalItems, items}
@@ -50,7 +50,7 @@ mutual
   terms-words nil = refl
   terms-words (cons t ts) = ap₂ (λ (a b : List ℕ). a ++ b) (term-words t) (terms-words ts) ∙ sym (parsed-append (termParsed t) (termsParsed ts))
 
-module _ (s : List ℕ) (short : length s ≤ sheetBytes) where
+module _ (s : List ℕ) (short : length s ≤ programBytes) where
   mutual
     unfolding termParsed
 

@@ -4,9 +4,8 @@ use native.Mathlib.Omega.{arith}
 use mathlib.Core.Path.{_≡_, refl, sym, ap, ap₂, _∙_, subst}
 use mathlib.Core.List.{List, [], _∷_, _++_}
 use lib.ListN.{length, getD, length-append}
-use Rattle.syntax.specs.Limits.{sheetBytes}
 use Rattle.syntax.specs.Terms.{termOf, Clause}
-use Rattle.syntax.specs.Words.{clauseStart, termWords, atomWords, bodyWords, bodyLength, clauseWords, clausesWords, nodeWords, goalWords}
+use Rattle.syntax.specs.Words.{clauseStart, termWords, atomWords, bodyWords, bodyLength, clauseWords, clausesWords, nodeWords, goalWords, programBytes}
 use Rattle.marking.specs.Standing.{ClausesStand, clause-stands}
 use Rattle.words.specs.Tables.{Has, Inside}
 use Rattle.words.proofs.Laws.{has-left, has-right, Node, size-is, term-inside, clause-says}
@@ -106,7 +105,7 @@ clauses-long (c ∷ cs) =
 -- What is left of the clauses, written behind what is copied so far, gives the whole.
 pub record Clausing (table : List ℕ) (clauses : ℕ) (before : List ℕ) (at : ℕ) (whole nodes : List ℕ) (p q i : ℕ) : Type 0 where
   pub source : List ℕ
-  pub short : length source ≤ sheetBytes
+  pub short : length source ≤ programBytes
   pub rest : List Clause
   pub has : Has table p (clausesWords rest)
   pub count : clauses ≡ i + length rest
@@ -144,7 +143,7 @@ module _ (clauses : ℕ) (before : List ℕ) (at : ℕ) (whole nodes : List ℕ)
   end-by (x ∷ b) c s g l = absurd (let z : clauses ≡ i + suc (length b) = c in omega arith)
 
 module _ {table : List ℕ} {clauses : ℕ} {before : List ℕ} {at : ℕ} {whole nodes : List ℕ} {p q i : ℕ} where
-  turn-by : (source : List ℕ) → length source ≤ sheetBytes → (cs : List Clause) → Has table p (clausesWords cs) → clauses ≡ i + length cs → ClausesStand source cs
+  turn-by : (source : List ℕ) → length source ≤ programBytes → (cs : List Clause) → Has table p (clausesWords cs) → clauses ≡ i + length cs → ClausesStand source cs
       → written nodes q (flatWords (flatAll 0 (clausesParsed cs))) ≡ written before at whole
       → q + length (flatWords (flatAll 0 (clausesParsed cs))) ≡ at + length whole
       → q * nodeWords ≤ p * loadedNode + goalWords * loadedNode → i < clauses → ClausesTurn table clauses before at whole nodes p q i

@@ -5,8 +5,8 @@ use mathlib.Core.Path.{_≡_, refl, sym, ap, ap₂, _∙_, subst}
 use mathlib.Core.List.{List, [], _∷_, _++_}
 use lib.Dec.{T}
 use lib.ListN.{length, length-append}
-use Rattle.syntax.specs.Limits.{sheetBytes, goalBytes, arguments}
-use Rattle.syntax.specs.Words.{bodyWords, clausesWords, sheetWords, goalWords}
+use Rattle.syntax.specs.Limits.{goalBytes, arguments}
+use Rattle.syntax.specs.Words.{bodyWords, clausesWords, programWords, goalWords, programBytes}
 use Rattle.words.specs.Tables.{Has}
 use Rattle.words.proofs.Laws.{has-inside}
 use Rattle.layout.specs.Regions.{loadedNode, mostNodes, nodesWords}
@@ -59,7 +59,7 @@ module _ (sheet table : List ℕ) (clauses : ℕ) (goal goals : List ℕ) (liter
   abbrev pub goal-here : Loadable sheet table clauses goal goals literals nodes symbols → BodyHere goals 0 literals
   goal-here w = record {
     text = goal;
-    short = (let z : length goal ≤ goalBytes = w .goal-short in let y : length goal ≤ sheetBytes = omega arith in y);
+    short = (let z : length goal ≤ goalBytes = w .goal-short in let y : length goal ≤ programBytes = omega arith in y);
     body = w .g .body;
     has = w .has-goal;
     count = w .literals-count;
@@ -91,12 +91,12 @@ module _ (sheet table : List ℕ) (clauses : ℕ) (goal goals : List ℕ) (liter
         let d : length goals ≤ goalWords = w .goals-short in
         omega arith
 
-    clauses-few : length clauses-words * 3 ≤ sheetWords * 2
+    clauses-few : length clauses-words * 3 ≤ programWords * 2
     clauses-few =
         let a : length clauses-words * 3 ≡ length (parsedWords (clausesParsed (w .sh .clauses))) * 2 = flat-length 0 (clausesParsed (w .sh .clauses)) in
         let b : length (parsedWords (clausesParsed (w .sh .clauses))) ≤ length (clausesWords (w .sh .clauses)) = clauses-long (w .sh .clauses) in
         let c : length (clausesWords (w .sh .clauses)) ≤ length table = has-within table (clausesWords (w .sh .clauses)) (w .has-clauses) in
-        let d : length table ≤ sheetWords = w .table-short in
+        let d : length table ≤ programWords = w .table-short in
         omega arith
 
     pub middle-near : (m : ℕ) → m ≡ 0 + length goal-words → m * 3 ≤ goalWords * loadedNode

@@ -4,9 +4,9 @@ use native.Mathlib.Omega.{arith}
 use mathlib.Core.Path.{_≡_, refl}
 use mathlib.Core.List.{List, [], _∷_}
 use lib.ListN.{length, replicate, length-replicate}
-use Rattle.syntax.specs.Limits.{sheetBytes, goalBytes, declarations}
+use Rattle.syntax.specs.Limits.{goalBytes, declarations}
 use Rattle.syntax.specs.Terms.{truth, done, also}
-use Rattle.syntax.specs.Words.{literalWords, bodyLength, bodyWords, clausesWords, sheetWords, goalWords}
+use Rattle.syntax.specs.Words.{literalWords, bodyLength, bodyWords, clausesWords, programWords, goalWords, programBytes}
 use Rattle.marking.specs.Standing.{no-clauses, truth-stands, done-stands, also-stands}
 use Rattle.words.specs.Tables.{Has}
 use Rattle.layout.specs.Regions.{nodesWords}
@@ -45,9 +45,9 @@ witness =
       has-goal = has-truth;
       literals-count = one-item;
       goal-stands = also-stands truth-stands done-stands;
-      sheet-short = (let z : 0 ≤ sheetBytes = omega arith in z);
+      sheet-short = (let z : 0 ≤ programBytes = omega arith in z);
       goal-short = (let z : 0 ≤ goalBytes = omega arith in z);
-      table-short = (let z : 0 ≤ sheetWords = omega arith in z);
+      table-short = (let z : 0 ≤ programWords = omega arith in z);
       goals-short = (let z : 1 ≤ goalWords = omega arith in z);
       nodes-room = omega arith;
       nodes-short = omega arith;

@@ -5,10 +5,11 @@ use mathlib.Core.Bool.{cond}
 use mathlib.Core.List.{List, [], _∷_, _++_}
 use lib.Dec.{ltb}
 use lib.ListN.{length, set}
-use Rattle.syntax.specs.Limits.{sheetBytes, wordBytes, arguments}
+use Rattle.syntax.specs.Limits.{wordBytes, arguments}
 use Rattle.syntax.specs.Terms.{Term, Terms, variable, compound, nil, cons, arity, termOf, Literal, Body, call, equation, truth, falsity, either, done, also}
 use Rattle.syntax.specs.Terms.{Clause}
 use Rattle.syntax.specs.Words.{functor, functorArity, functorLength, termsWords, bodyWords, bodyLength, clauseWords, clausesWords, firstName, nodeWords}
+use Rattle.syntax.specs.Words.{programBytes}
 use Rattle.marking.specs.Standing.{BodyStands, ClauseStands, ClausesStand}
 use Rattle.words.specs.Tables.{Has}
 use Rattle.layout.specs.Regions.{loadedNode}
@@ -88,9 +89,9 @@ unfoldable pub flatAll : ℕ → List Parsed → List Flat
 flatAll text [] = []
 flatAll text (x ∷ xs) = record { what = flatWhat text (x .what) (x .byte); size = x .size / nodeWords * loadedNode } ∷ flatAll text xs
 
--- a name within the limits of document 01
+-- a name of a program or a goal, of at most `wordBytes` bytes and with at most `arguments` arguments
 abbrev pub Fits : ℕ → ℕ → Type 0
-Fits what byte = firstName ≤ what → (byte ≤ sheetBytes) × (what ≤ functor arguments wordBytes)
+Fits what byte = firstName ≤ what → (byte ≤ programBytes) × (what ≤ functor arguments wordBytes)
 
 abbrev pub AllFit : List Parsed → Type 0
 AllFit [] = Unit {0}
@@ -113,7 +114,7 @@ pub record RunAt (table : List ℕ) (from stop : ℕ) : Type 0 where
 -- a body of so many items of a text stands from p on
 pub record BodyHere (table : List ℕ) (p items : ℕ) : Type 0 where
   pub text : List ℕ
-  pub short : length text ≤ sheetBytes
+  pub short : length text ≤ programBytes
   pub body : Body
   pub has : Has table p (bodyWords body)
   pub count : items ≡ bodyLength body
@@ -122,7 +123,7 @@ pub record BodyHere (table : List ℕ) (p items : ℕ) : Type 0 where
 -- a clause of a text stands at p
 pub record ClauseHere (table : List ℕ) (p : ℕ) : Type 0 where
   pub text : List ℕ
-  pub short : length text ≤ sheetBytes
+  pub short : length text ≤ programBytes
   pub clause : Clause
   pub has : Has table p (clauseWords clause)
   pub stands : ClauseStands text clause
@@ -130,7 +131,7 @@ pub record ClauseHere (table : List ℕ) (p : ℕ) : Type 0 where
 -- so many clauses of a text stand from p on
 pub record ClausesHere (table : List ℕ) (p clauses : ℕ) : Type 0 where
   pub text : List ℕ
-  pub short : length text ≤ sheetBytes
+  pub short : length text ≤ programBytes
   pub list : List Clause
   pub has : Has table p (clausesWords list)
   pub count : clauses ≡ length list

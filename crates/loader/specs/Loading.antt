@@ -4,9 +4,9 @@ use mathlib.Core.Path.{_≡_}
 use mathlib.Core.List.{List}
 use lib.Dec.{T}
 use lib.ListN.{length}
-use Rattle.syntax.specs.Limits.{sheetBytes, goalBytes}
+use Rattle.syntax.specs.Limits.{goalBytes}
 use Rattle.syntax.specs.Terms.{Sheet, Goal}
-use Rattle.syntax.specs.Words.{bodyWords, bodyLength, clausesWords, sheetWords, goalWords}
+use Rattle.syntax.specs.Words.{bodyWords, bodyLength, clausesWords, programWords, goalWords, programBytes}
 use Rattle.marking.specs.Standing.{BodyStands, ClausesStand}
 use Rattle.words.specs.Tables.{Has}
 use Rattle.layout.specs.Regions.{nodesWords, places}
@@ -24,9 +24,9 @@ pub record Loadable (sheet table : List ℕ) (clauses : ℕ) (goal goals : List 
   pub has-goal : Has goals 0 (bodyWords (g .body))
   pub literals-count : literals ≡ bodyLength (g .body)
   pub goal-stands : BodyStands goal (g .body)
-  pub sheet-short : length sheet ≤ sheetBytes
+  pub sheet-short : length sheet ≤ programBytes
   pub goal-short : length goal ≤ goalBytes
-  pub table-short : length table ≤ sheetWords
+  pub table-short : length table ≤ programWords
   pub goals-short : length goals ≤ goalWords
   pub nodes-room : nodesWords ≤ length nodes
   pub nodes-short : length nodes ≤ places

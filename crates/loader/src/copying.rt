@@ -14,7 +14,7 @@ use words::word_at;
 ghost use mathlib.Core.Path.{_≡_};
 ghost use Prim.Native.Nat.{_+_, _*_, _/_, _≤_, _<_};
 ghost use lib.ListN.{length};
-ghost use Rattle.syntax.specs.Words.{nodeWords, sheetWords, goalWords};
+ghost use Rattle.syntax.specs.Words.{nodeWords, programWords, goalWords};
 ghost use Rattle.syntax.specs.Limits.{arguments};
 ghost use Rattle.layout.specs.Regions.{loadedNode, nodesWords, copies};
 ghost use Rattle.loader.specs.Flat.{flatWhat, Fits, flatWords, flatAll, bodyParsed, clauseParsed, clausesParsed, written, RunAt, BodyHere, ClauseHere};
@@ -64,7 +64,7 @@ fn copy_nodes(
     nodes: &mut [u32],
     at: usize,
 ) -> usize
-    requires { ⌜ (text ≤ 1) × ((length (now table) ≤ sheetWords) × ((nodesWords ≤ length (now nodes))
+    requires { ⌜ (text ≤ 1) × ((length (now table) ≤ programWords) × ((nodesWords ≤ length (now nodes))
         × (at * nodeWords ≤ from * loadedNode + goalWords * loadedNode))) ⌝ }
     requires { ⌜ RunAt (now table) from stop ⌝ }
     ensures { λ r. ⌜ ((w : RunAt (now (table .entry)) from stop) → (now (nodes .exit) ≡ written (now (nodes .entry)) at (flatWords (flatAll text (w .run))))
@@ -93,7 +93,7 @@ pub fn copy_body(
     nodes: &mut [u32],
     at: usize,
 ) -> usize
-    requires { ⌜ (text ≤ 1) × ((length (now table) ≤ sheetWords) × ((nodesWords ≤ length (now nodes))
+    requires { ⌜ (text ≤ 1) × ((length (now table) ≤ programWords) × ((nodesWords ≤ length (now nodes))
         × (at * nodeWords ≤ from * loadedNode + goalWords * loadedNode))) ⌝ }
     requires { ⌜ BodyHere (now table) from items ⌝ }
     ensures { λ r. ⌜ ((w : BodyHere (now (table .entry)) from items) → (now (nodes .exit)
@@ -115,7 +115,7 @@ pub fn copy_body(
 
 // The nodes of the clause at a place: its head's, then its body's.
 fn copy_clause(table: &[u32], p: usize, nodes: &mut [u32], at: usize) -> usize
-    requires { ⌜ (length (now table) ≤ sheetWords) × ((nodesWords ≤ length (now nodes)) × (at * nodeWords ≤ p * loadedNode + goalWords * loadedNode)) ⌝ }
+    requires { ⌜ (length (now table) ≤ programWords) × ((nodesWords ≤ length (now nodes)) × (at * nodeWords ≤ p * loadedNode + goalWords * loadedNode)) ⌝ }
     requires { ⌜ ClauseHere (now table) p ⌝ }
     ensures { λ r. ⌜ ((w : ClauseHere (now (table .entry)) p) → (now (nodes .exit)
         ≡ written (now (nodes .entry)) at (flatWords (flatAll 0 (clauseParsed (w .clause)))))
@@ -130,7 +130,7 @@ fn copy_clause(table: &[u32], p: usize, nodes: &mut [u32], at: usize) -> usize
 
 // The nodes of so many clauses.
 pub fn copy_clauses(table: &[u32], clauses: usize, nodes: &mut [u32], at: usize) -> usize
-    requires { ⌜ (length (now table) ≤ sheetWords) × ((nodesWords ≤ length (now nodes)) × (at * nodeWords ≤ goalWords * loadedNode)) ⌝ }
+    requires { ⌜ (length (now table) ≤ programWords) × ((nodesWords ≤ length (now nodes)) × (at * nodeWords ≤ goalWords * loadedNode)) ⌝ }
     requires { ⌜ ClausesHere (now table) 0 clauses ⌝ }
     ensures { λ r. ⌜ ((w : ClausesHere (now (table .entry)) 0 clauses) → (now (nodes .exit)
         ≡ written (now (nodes .entry)) at (flatWords (flatAll 0 (clausesParsed (w .list)))))

@@ -127,7 +127,7 @@ demand-3-run stored sh g s e allowance wanted room =
 
 -- ---- demand 3 over texts
 
-accepted-eq : {A : Type 0} (x y : A) → accepted x ≡ accepted y → x ≡ y
+pub accepted-eq : {A : Type 0} (x y : A) → accepted x ≡ accepted y → x ≡ y
 accepted-eq x y e = cc
 
 pub refused-accepted : {A : Type 0} (r : Refusal) (x : A) → refused r ≡ accepted x → ⊥

@@ -13,6 +13,8 @@ pub mod Reached
 pub mod Next
 pub mod Low
 pub mod EveryRun
+pub mod Traces
+pub mod TraceCases
 pub mod Turns
 pub mod MoreSteps
 pub mod Determinacy

@@ -4,11 +4,13 @@ use mathlib.Core.Path.{_≡_}
 use mathlib.Core.Bool.{Bool}
 use mathlib.Core.List.{List}
 use mathlib.Core.Option.{none, some}
+use lib.ListN.{length}
 use Rattle.syntax.specs.Terms.{Sheet, Goal}
 use Rattle.syntax.specs.Verdicts.{accepted}
 use Rattle.rules.specs.Checking.{checkedWith, checkedGoal}
 use Rattle.machine.specs.Machine.{pileAfter}
 use Rattle.machine.specs.Runs.{Progress, endings, firstEnd, advanced, Ended, run, Report, RunSettings, ran, reported}
+use Rattle.machine.specs.Traces.{traceFault, tracedSheet}
 use Rattle.machine.specs.Counts.{tally}
 
 -- After n steps from the goal alone the count of open inputs is zero, and so is the count of open outputs.
@@ -47,3 +49,22 @@ pub record RunOver (sheet goal : List ℕ) (asked : RunSettings) (room : ℕ) (r
   pub reports : reported (run (texts .sh) (texts .g) (asked .allowance) (asked .wanted) room) ≡ ran report text
   pub beginning : Beginning (texts .sh) (texts .g) (asked .allowance) (run (texts .sh) (texts .g) (asked .allowance) (asked .wanted) room)
   pub tallied : (n : ℕ) → tally (texts .sh) (texts .g) n .pile ≡ pileAfter (texts .sh) (texts .g) n
+
+-- The same with a trace: a sheet, a trace and a goal that are accepted, and "the zero counts hold over sheet and facts together" (document 02, (ix)).
+pub record ZeroTraced (stored : Bool) (sheet goal trace : List ℕ) : Type 0 where
+  pub sh : Sheet
+  pub g : Goal
+  pub sheet-accepted : checkedWith stored sheet ≡ accepted sh
+  pub trace-accepted : traceFault (sh .declarations) trace ≡ none
+  pub goal-accepted : checkedGoal sh goal ≡ accepted g
+  pub zero : (n : ℕ) → BothZero (tracedSheet (length sheet) trace sh) g n
+
+-- A run with a trace that is not refused, as `RunOver`.
+pub record TracedOver (sheet goal trace : List ℕ) (asked : RunSettings) (room : ℕ) (report : Report) (text : List ℕ) : Type 0 where
+  pub texts : ZeroTraced (asked .stored) sheet goal trace
+  -- the sheet and its facts
+  pub whole : Sheet
+  pub whole-is : whole ≡ tracedSheet (length sheet) trace (texts .sh)
+  pub reports : reported (run whole (texts .g) (asked .allowance) (asked .wanted) room) ≡ ran report text
+  pub beginning : Beginning whole (texts .g) (asked .allowance) (run whole (texts .g) (asked .allowance) (asked .wanted) room)
+  pub tallied : (n : ℕ) → tally whole (texts .g) n .pile ≡ pileAfter whole (texts .g) n

@@ -6,6 +6,7 @@ pub mod Low
 pub mod Answers
 pub mod Runs
 pub mod Earlier
+pub mod Traces
 pub mod Counts
 pub mod Reached
 pub mod Claims

@@ -69,6 +69,9 @@ fn part_at_fault<'a>(sheet: &'a [u8], goal: &'a [u8], text: Text, at: usize, len
         Text::Goal => {
             return part(goal, at, len);
         }
+        Text::Trace => {
+            return &sheet[..0];
+        }
         Text::Neither => {
             return &sheet[..0];
         }

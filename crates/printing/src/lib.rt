@@ -2,6 +2,7 @@
 use buffers::past_lines;
 use libc::STDOUT_FILENO;
 use syntax::Report;
+use syntax::Run;
 use syntax::Verdict;
 
 // Prints the line of a verdict, with the name handed back if there is one. The words of a verdict take at most 118 bytes
@@ -26,4 +27,24 @@ pub fn print_report(report: Report) {
     let kind = report.kind;
     let n = reports::put_report(kind, answers, steps, &mut line);
     io::write_all(STDOUT_FILENO, &line[..n]);
+}
+
+// Prints what a run gave: the lines of its answers and its report; or the line of its refusal.
+pub fn print_run<'a>(sheet: &'a [u8], goal: &'a [u8], run: Run, text: &[u8]) {
+    match run {
+        Run::Ended(report) => {
+            print_lines(text, report.answers);
+            print_report(report);
+        }
+        Run::Refused {
+            text: part,
+            refusal,
+        } => {
+            let verdict = Verdict::Refused {
+                text: part,
+                refusal,
+            };
+            print_line(verdict, names::fault_name(sheet, goal, verdict));
+        }
+    }
 }

@@ -4,13 +4,13 @@ use mathlib.Core.Path.{_≡_}
 use mathlib.Core.List.{List}
 use lib.ListN.{length, getD}
 use Rattle.syntax.specs.Terms.{Sheet, Goal}
-use Rattle.syntax.specs.Limits.{sheetBytes, goalBytes}
+use Rattle.syntax.specs.Limits.{goalBytes}
 use Rattle.bindings.specs.Scratch.{Roomy}
-use Rattle.syntax.specs.Words.{sheetWords, goalWords, bodyWords, bodyLength, clausesWords}
+use Rattle.syntax.specs.Words.{programBytes, programWords, goalWords, bodyWords, bodyLength, clausesWords}
 use Rattle.marking.specs.Standing.{BodyStands, ClausesStand}
 use Rattle.words.specs.Tables.{Has}
 use Rattle.layout.specs.Nodes.{Symbol}
-use Rattle.layout.specs.Limits.{SheetLimited, GoalLimited}
+use Rattle.layout.specs.Limits.{ProgramLimited, GoalLimited}
 use Rattle.layout.specs.Program.{Program}
 use Rattle.syntax.specs.Spans.{namesFrom}
 use Rattle.spelling.specs.Words.{Named}
@@ -31,7 +31,7 @@ pub record Blank (scratch : List ℕ) (room : ℕ) : Type 0 where
   pub tells : Tellable scratch room
   pub zero-words : (i : ℕ) → getD scratch i 0 ≡ 0
 
--- Within document 01's limits, in tables of these sizes; the goal's variables are spelt in it.
+-- Within the limits of a program and of a goal, in tables of these sizes; the goal's variables are spelt in it.
 pub record Programmed (sheet table : List ℕ) (clauses : ℕ) (goal goals : List ℕ) (literals : ℕ) (names : List ℕ) (count : ℕ) : Type 0 where
   pub sh : Sheet
   pub g : Goal
@@ -41,13 +41,13 @@ pub record Programmed (sheet table : List ℕ) (clauses : ℕ) (goal goals : Lis
   pub has-goal : Has goals 0 (bodyWords (g .body))
   pub literals-count : literals ≡ bodyLength (g .body)
   pub goal-stands : BodyStands goal (g .body)
-  pub limits : SheetLimited sh
+  pub limits : ProgramLimited sh
   pub goal-limits : GoalLimited g
   pub named : Named goal names count
   pub names-are : g .names ≡ namesFrom goal names 0 count
-  pub sheet-short : length sheet ≤ sheetBytes
+  pub sheet-short : length sheet ≤ programBytes
   pub goal-short : length goal ≤ goalBytes
-  pub table-short : length table ≤ sheetWords
+  pub table-short : length table ≤ programWords
   pub goals-short : length goals ≤ goalWords
 
 -- loaded and linked

@@ -6,6 +6,7 @@ pub mod Passes
 pub mod Bodies
 pub mod Written
 pub mod Agreement
+pub mod Appended
 pub mod Cases
 pub mod Earlier
 pub mod Later

@@ -7,10 +7,10 @@ use Rattle.syntax.specs.Terms.{Sheet, Goal}
 use Rattle.syntax.specs.Tokens.{spelling}
 use Rattle.syntax.specs.Verdicts.{Outcome, refused, accepted, sheetOf, goalOutcome, sheetVerdict}
 use Rattle.syntax.specs.declared.Text.{Text}
-use Rattle.syntax.specs.declared.Text.the-variants.{Sheet as inSheet, Goal as inGoal, Neither}
+use Rattle.syntax.specs.declared.Text.the-variants.{Sheet as inSheet, Goal as inGoal, Trace as inTrace, Neither}
 use Rattle.syntax.specs.declared.Refusal.{Refusal}
 use Rattle.syntax.specs.declared.Refusal.the-variants.{Settings, TooLong, NoToken, Overlong, Misplaced, OverLimit, Repeated, Undeclared, OpenInput, OpenOutput}
-use Rattle.syntax.specs.declared.Refusal.the-variants.{Unwritten}
+use Rattle.syntax.specs.declared.Refusal.the-variants.{BadTrace, TraceOverLimit, SeenUndeclared, Unwritten}
 use Rattle.syntax.specs.declared.Verdict.{Verdict}
 use Rattle.syntax.specs.declared.Verdict.the-variants.{Accepted, Refused}
 use Rattle.rules.specs.Modes.{sheetFault, goalFault}
@@ -75,12 +75,16 @@ nameSpan (Repeated byte) = (0, 0)
 nameSpan (Undeclared clause literal at len) = (at, len)
 nameSpan (OpenInput byte clause literal argument at len) = (at, len)
 nameSpan (OpenOutput byte clause argument at len) = (at, len)
+nameSpan (BadTrace byte) = (0, 0)
+nameSpan TraceOverLimit = (0, 0)
+nameSpan SeenUndeclared = (0, 0)
 nameSpan (Unwritten byte) = (0, 0)
 
--- the text that a refusal speaks of
+-- the text that a refusal speaks of, as far as a name can stand in it: a trace has none
 abbrev pub textAtFault : List ℕ → List ℕ → Text → List ℕ
 textAtFault sheet goal inSheet = sheet
 textAtFault sheet goal inGoal = goal
+textAtFault sheet goal inTrace = []
 textAtFault sheet goal Neither = []
 
 -- "as the part of the sheet or goal where it stands"

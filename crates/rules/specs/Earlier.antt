@@ -14,7 +14,7 @@ use Rattle.syntax.specs.declared.Text.{Text}
 use Rattle.syntax.specs.declared.Text.the-variants.{Sheet as inSheet, Goal as inGoal}
 use Rattle.syntax.specs.declared.Refusal.{Refusal}
 use Rattle.syntax.specs.declared.Refusal.the-variants.{Settings, TooLong, NoToken, Overlong, Misplaced, OverLimit, Repeated, Undeclared, OpenInput, OpenOutput}
-use Rattle.syntax.specs.declared.Refusal.the-variants.{Unwritten}
+use Rattle.syntax.specs.declared.Refusal.the-variants.{BadTrace, TraceOverLimit, SeenUndeclared, Unwritten}
 use Rattle.syntax.specs.declared.Verdict.{Verdict}
 use Rattle.syntax.specs.declared.Verdict.the-variants.{Accepted, Refused}
 use Rattle.rules.specs.Modes.{Known, nothing, everything, isGround, openUnless, openByte, equate, settle, marksFor, sameMark, listOf, ifMarked}
@@ -118,6 +118,9 @@ withoutByte (Repeated byte) = Repeated byte
 withoutByte (Undeclared clause literal at len) = Undeclared clause literal at len
 withoutByte (OpenInput byte clause literal argument at len) = OpenInput 0 clause literal argument at len
 withoutByte (OpenOutput byte clause argument at len) = OpenOutput 0 clause argument at len
+withoutByte (BadTrace byte) = BadTrace byte
+withoutByte TraceOverLimit = TraceOverLimit
+withoutByte SeenUndeclared = SeenUndeclared
 withoutByte (Unwritten byte) = Unwritten byte
 
 abbrev pub faultWithout : Option Refusal → Option Refusal

@@ -1,13 +1,11 @@
 // Answers each record of the file `cases`: `R`, the allowance in 3 bytes, the wanted answers in 2 and the room in 3, lowest first, a byte that
 // is 1 for the mark of a sheet stored earlier, a sheet and a goal. What the runner would print with these settings is printed.
-use cases::BYTE;
-use cases::TWO_BYTES;
-use cases::wide;
-use syntax::Run;
+use cases::three;
+use cases::two;
+use printing::print_run;
 use syntax::RunSettings;
-use syntax::Verdict;
 ghost use mathlib.Core.Path.{_≡_};
-ghost use Prim.Native.Nat.{_+_, _≤_, _<_};
+ghost use Prim.Native.Nat.{_≤_, _<_};
 ghost use lib.ListN.{length};
 ghost use Rattle.run_cases.specs.Rooms.{textRoom};
 
@@ -16,38 +14,6 @@ const TEXT_ROOM: usize = 200000;
 
 // The bytes of a record before its texts.
 const SETTINGS: usize = 10;
-
-// A number of two bytes, and one of three.
-fn two(cases: &[u8], at: usize) -> usize
-    requires { ⌜ at + 2 ≤ length (now cases) ⌝ }
-{
-    wide(cases[at]) + BYTE * wide(cases[at + 1])
-}
-
-fn three(cases: &[u8], at: usize) -> usize
-    requires { ⌜ at + 3 ≤ length (now cases) ⌝ }
-{
-    wide(cases[at]) + BYTE * wide(cases[at + 1]) + TWO_BYTES * wide(cases[at + 2])
-}
-
-fn print_run<'a>(sheet: &'a [u8], goal: &'a [u8], run: Run, text: &[u8]) {
-    match run {
-        Run::Ended(report) => {
-            printing::print_lines(text, report.answers);
-            printing::print_report(report);
-        }
-        Run::Refused {
-            text: part,
-            refusal,
-        } => {
-            let verdict = Verdict::Refused {
-                text: part,
-                refusal,
-            };
-            printing::print_line(verdict, pilvaust::fault_name(sheet, goal, verdict));
-        }
-    }
-}
 
 // Runs with a text, and prints what comes of it.
 fn run_with<'a>(sheet: &'a [u8], goal: &'a [u8], asked: RunSettings, text: &mut [u8]) {

@@ -43,6 +43,16 @@ declarations = 64
 abbrev pub clauses : ℕ
 clauses = 256
 
+-- ---- traces (document 02, (ix): "more than 192 kind 1 records or 16,384 bytes")
+
+-- bytes of a trace
+abbrev pub traceBytes : ℕ
+traceBytes = 16384
+
+-- records of kind 1, each of which is a fact
+abbrev pub mostFacts : ℕ
+mostFacts = 192
+
 -- ---- runs
 
 -- calls on a path: a call at this path goes no deeper

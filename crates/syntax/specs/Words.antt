@@ -2,7 +2,7 @@
 use Prim.Native.Nat.{ℕ, suc, _+_, _-_, _*_, _/_, _%_}
 use mathlib.Core.List.{List, [], _∷_, _++_}
 use lib.ListN.{length}
-use Rattle.syntax.specs.Limits.{sheetBytes, goalBytes, lengths, declarations}
+use Rattle.syntax.specs.Limits.{sheetBytes, goalBytes, lengths, declarations, clauses, mostFacts}
 use Rattle.syntax.specs.Reading.{Sign, mark, noMark}
 use Rattle.syntax.specs.Terms.{Term, Terms, variable, compound, nil, cons, Atom, termOf, arity, Literal, Body, call, equation, truth, falsity, either}
 use Rattle.syntax.specs.Terms.{done, also, Mark, input, output, free, Declaration, Clause, Sheet}
@@ -175,3 +175,22 @@ goalWords = 4 * (goalBytes + 1)
 
 abbrev pub declaredWords : ℕ
 declaredWords = declarations * declarationSize
+
+-- ---- a program: a sheet and the facts of a trace (document 02, (ix)), which are written behind it
+
+-- the most bytes of a fact as it is written: its predicate and a bracket, two numbers of at most 20 digits each with a comma, a band, and an end
+abbrev pub factBytes : ℕ
+factBytes = 5 + (20 + 1) + (20 + 1) + 6 + 3
+
+-- the words of its clause: a node for the head and for each of three arguments
+abbrev pub factWords : ℕ
+factWords = clauseStart + 4 * nodeWords
+
+abbrev pub programBytes : ℕ
+programBytes = sheetBytes + mostFacts * factBytes
+
+abbrev pub programWords : ℕ
+programWords = sheetWords + mostFacts * factWords
+
+abbrev pub programClauses : ℕ
+programClauses = clauses + mostFacts

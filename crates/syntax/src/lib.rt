@@ -67,6 +67,11 @@ pub const DECLARATIONS: usize = 64;
 
 pub const CLAUSES: usize = 256;
 
+// bytes of a trace, and its records of a band, each of which is a fact (document 02, (ix)):
+pub const TRACE_BYTES: usize = 16384;
+
+pub const FACTS: usize = 192;
+
 // the path at which a call goes no deeper, the steps that a run may be allowed, the answers that may be wanted:
 pub const LONGEST_PATH: usize = 255;
 
@@ -118,6 +123,17 @@ pub const GOAL_WORDS: usize = 4 * (GOAL_BYTES + 1);
 
 pub const DECLARED_WORDS: usize = DECLARATIONS * DECLARATION_SIZE;
 
+// A program is a sheet with the facts of a trace written behind it: the most bytes and the words of a fact, and what a program may have of each.
+pub const FACT_BYTES: usize = 56;
+
+pub const FACT_WORDS: usize = CLAUSE_START + 4 * NODE_WORDS;
+
+pub const PROGRAM_BYTES: usize = SHEET_BYTES + FACTS * FACT_BYTES;
+
+pub const PROGRAM_WORDS: usize = SHEET_WORDS + FACTS * FACT_WORDS;
+
+pub const PROGRAM_CLAUSES: usize = CLAUSES + FACTS;
+
 // One token of a text: its kind, first byte and length.
 pub struct Token {
     pub kind: usize,
@@ -137,12 +153,13 @@ pub struct State {
 pub enum Text {
     Sheet,
     Goal,
+    Trace,
     Neither,
 }
 
 // The ten refusals of document 01, in its order, and those of document 02. Those that hand a name back carry its place and length. The byte
 // of an open input or output is that of the first variable in the argument that is not known ground, the byte of an unwritten predicate that
-// of its name in the declaration.
+// of its name in the declaration, the byte of a bad trace that of the record or of the byte after filler.
 pub enum Refusal {
     Settings,
     TooLong,
@@ -172,6 +189,9 @@ pub enum Refusal {
         at: usize,
         len: usize,
     },
+    BadTrace(usize),
+    TraceOverLimit,
+    SeenUndeclared,
     Unwritten(usize),
 }
 
@@ -325,6 +345,27 @@ pub fn numbers(refusal: Refusal) -> Five
             clause: clause,
             literal: 0,
             argument: argument,
+        },
+        Refusal::BadTrace(byte) => Five {
+            number: 13,
+            byte: byte,
+            clause: 0,
+            literal: 0,
+            argument: 0,
+        },
+        Refusal::TraceOverLimit => Five {
+            number: 14,
+            byte: 0,
+            clause: 0,
+            literal: 0,
+            argument: 0,
+        },
+        Refusal::SeenUndeclared => Five {
+            number: 15,
+            byte: 0,
+            clause: 0,
+            literal: 0,
+            argument: 0,
         },
         Refusal::Unwritten(byte) => Five {
             number: 16,

@@ -6,7 +6,7 @@ use Rattle.syntax.specs.Quote.{bytes}
 use Rattle.syntax.specs.Refusals.{numbersOf}
 use Rattle.syntax.specs.declared.Five.{Five}
 use Rattle.syntax.specs.declared.Text.{Text}
-use Rattle.syntax.specs.declared.Text.the-variants.{Sheet, Goal, Neither}
+use Rattle.syntax.specs.declared.Text.the-variants.{Sheet, Goal, Trace, Neither}
 use Rattle.syntax.specs.declared.Verdict.{Verdict}
 use Rattle.syntax.specs.declared.Verdict.the-variants.{Accepted, Refused}
 
@@ -18,6 +18,7 @@ five f = number (f .number) ++ number (f .byte) ++ number (f .clause) ++ number 
 abbrev pub textWord : Text → List ℕ
 textWord Sheet = bytes " sheet"
 textWord Goal = bytes " goal"
+textWord Trace = bytes " trace"
 textWord Neither = []
 
 abbrev pub verdictWords : Verdict → List ℕ

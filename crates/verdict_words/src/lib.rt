@@ -39,6 +39,7 @@ fn append_text(text: Text, out: &mut [u8], at: usize) -> usize
     match text {
         Text::Sheet => append(b" sheet", out, at),
         Text::Goal => append(b" goal", out, at),
+        Text::Trace => append(b" trace", out, at),
         Text::Neither => at,
     }
 }

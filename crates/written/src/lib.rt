@@ -118,7 +118,7 @@ fn is_seen(s: &[u8], at: usize, len: usize, arguments: usize) -> bool
 }
 
 // Whether declaration i, which has a clause or not, may stand.
-fn stands(s: &[u8], declared: &[u32], n: usize, i: usize, written: bool) -> bool
+pub fn stands(s: &[u8], declared: &[u32], n: usize, i: usize, written: bool) -> bool
     requires { ⌜ DeclarationsAt (now s) (now declared) n ⌝ }
     requires { ⌜ i < n ⌝ }
     ensures { λ r. ⌜ ((d : DeclarationsAt (now (s .entry)) (now (declared .entry)) n) → r ≡ (written || isExempt (nth (d .list) i))) ⌝ }

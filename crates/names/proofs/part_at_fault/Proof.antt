@@ -34,6 +34,15 @@ slice-aggregate-result c = search needs
 returns-3 : tie.Need-returns-3
 returns-3 c = let c5 = c .before .before .before .before .before in of-none (c5 .args .at) (c5 .args .len) ∙ sym (ap (λ (t : Text). spelling (textAtFault (c5 .args .sheet .now) (c5 .args .goal .now) t) (c5 .args .at) (c5 .args .len)) (c .before .enum-told3 .given .1))
 
+enum-told-4 : tie.Need-enum-told-4
+enum-told-4 c = search needs
+
+slice-aggregate-result-2 : tie.Need-slice-aggregate-result-2
+slice-aggregate-result-2 c = search needs
+
+returns-4 : tie.Need-returns-4
+returns-4 c = let c5 = c .before .before .before .before .before in of-none (c5 .args .at) (c5 .args .len) ∙ sym (ap (λ (t : Text). spelling (textAtFault (c5 .args .sheet .now) (c5 .args .goal .now) t) (c5 .args .at) (c5 .args .len)) (c .before .enum-told4 .given .1))
+
 pub part-at-fault-spec : {M : Type 1} → statement M
 part-at-fault-spec =
     tie.close
@@ -46,4 +55,7 @@ part-at-fault-spec =
     returns-2
     enum-told-3
     slice-aggregate-result
-    returns-3)
+    returns-3
+    enum-told-4
+    slice-aggregate-result-2
+    returns-4)

@@ -38,6 +38,15 @@ enum-known-refusal-8 c = search needs
 enum-known-refusal-9 : tie.Need-enum-known-refusal-9
 enum-known-refusal-9 c = search needs
 
+enum-told-3 : tie.Need-enum-told-3
+enum-told-3 c = search needs
+
+enum-told-4 : tie.Need-enum-told-4
+enum-told-4 c = search needs
+
+enum-known-refusal-10 : tie.Need-enum-known-refusal-10
+enum-known-refusal-10 c = search needs
+
 returns : tie.Need-returns
 returns c = sym (ap numbersOf (c .enum-told .given .1))
 
@@ -71,6 +80,15 @@ returns-10 c = sym (ap numbersOf (c .before .refusal8 .given .1))
 returns-11 : tie.Need-returns-11
 returns-11 c = sym (ap numbersOf (c .before .refusal9 .given .1))
 
+returns-12 : tie.Need-returns-12
+returns-12 c = sym (ap numbersOf (c .enum-told3 .given .1))
+
+returns-13 : tie.Need-returns-13
+returns-13 c = sym (ap numbersOf (c .enum-told4 .given .1))
+
+returns-14 : tie.Need-returns-14
+returns-14 c = sym (ap numbersOf (c .before .refusal10 .given .1))
+
 pub numbers-spec : {M : Type 1} → statement M
 numbers-spec =
     tie.close
@@ -86,6 +104,9 @@ numbers-spec =
     enum-known-refusal-7
     enum-known-refusal-8
     enum-known-refusal-9
+    enum-told-3
+    enum-told-4
+    enum-known-refusal-10
     returns
     returns-2
     returns-3
@@ -96,4 +117,7 @@ numbers-spec =
     returns-8
     returns-9
     returns-10
-    returns-11)
+    returns-11
+    returns-12
+    returns-13
+    returns-14)

@@ -28,6 +28,15 @@ append-requires-2 c κs = search needs
 enum-told-3 : tie.Need-enum-told-3
 enum-told-3 c = search needs
 
+slice-aggregate-append-3 : tie.Need-slice-aggregate-append-3
+slice-aggregate-append-3 c = search needs
+
+append-requires-3 : tie.Need-append-requires-3
+append-requires-3 c κs = search needs
+
+enum-told-4 : tie.Need-enum-told-4
+enum-told-4 c = search needs
+
 same-length : tie.Need-same-length
 same-length c = search needs
 
@@ -40,8 +49,14 @@ same-length-2 c = search needs
 returns-2 : tie.Need-returns-2
 returns-2 c = (spelt (ap textWord (c .before .before .before .before .before .enum-told2 .given .1)) (c .before .before .append2 .ensures), omega arith)
 
+same-length-3 : tie.Need-same-length-3
+same-length-3 c = search needs
+
 returns-3 : tie.Need-returns-3
-returns-3 c = (spelt (ap textWord (c .enum-told3 .given .1)) (nothing _ _), omega arith)
+returns-3 c = (spelt (ap textWord (c .before .before .before .before .before .enum-told3 .given .1)) (c .before .before .append3 .ensures), omega arith)
+
+returns-4 : tie.Need-returns-4
+returns-4 c = (spelt (ap textWord (c .enum-told4 .given .1)) (nothing _ _), omega arith)
 
 pub append-text-spec : {M : Type 1} → statement M
 append-text-spec =
@@ -54,8 +69,13 @@ append-text-spec =
     slice-aggregate-append-2
     append-requires-2
     enum-told-3
+    slice-aggregate-append-3
+    append-requires-3
+    enum-told-4
     same-length
     returns
     same-length-2
     returns-2
-    returns-3)
+    same-length-3
+    returns-3
+    returns-4)
