@@ -16,7 +16,8 @@ ghost use Prim.Native.Nat.{_+_, _*_, _≤_, _<_};
 ghost use lib.ListN.{length, getD};
 ghost use Rattle.syntax.specs.Words.{firstName};
 ghost use Rattle.layout.specs.Regions.{copies, copyCells, cells, storeWords, loadedNode};
-ghost use Rattle.bindings.specs.Queues.{isCell, Visitable, Visited, Scannable, Scanned, Seen, Noted, Lookable, Looked, Searchable, Searched, Checkable, Checked, Closed, Closing};
+ghost use Rattle.bindings.specs.Queues.{isCell, Visitable, Visited, Scannable, Scanned, Seen, Noted, Lookable, Looked};
+ghost use Rattle.bindings.specs.Queues.{Searchable, Searched, Checkable, Checked, Closed, Closing};
 
 // The slots of words are the second half of the queue.
 const SLOTS: usize = CELLS / 2;

@@ -1,4 +1,5 @@
 // Brackets, bodies and clauses into the node table.
+use parse_terms::read_atom;
 use plain_literals::read_plain;
 use reading::Parsed;
 use reading::cursor::counted;
@@ -22,14 +23,14 @@ use syntax::SEMICOLON;
 use syntax::STOP;
 use syntax::State;
 use syntax::pack_marker;
-use terms::read_atom;
 ghost use mathlib.Core.Path.{_≡_};
 ghost use Prim.Native.Nat.{_+_, _-_, _≤_, _<_, _^_};
 ghost use lib.ListN.{length, set};
 ghost use Rattle.syntax.specs.Limits.{literals};
 ghost use Rattle.syntax.specs.Tokens.{nameKind, openKind, endKind};
 ghost use Rattle.syntax.specs.Reading.{begin, readLiteral, readTo, readBody, readClause};
-ghost use Rattle.syntax.specs.Words.{clauseStart, behindKind, itemKinds, marker, literalWords, literalLength, bodyWords, bodyLength, sideWords, sideLength, clauseWords};
+ghost use Rattle.syntax.specs.Words.{clauseStart, behindKind, itemKinds, marker, literalWords, literalLength};
+ghost use Rattle.syntax.specs.Words.{bodyWords, bodyLength, sideWords, sideLength, clauseWords};
 ghost use Rattle.reading.specs.Gives.{cursorOf, Ready, Gives, GivesWith, one};
 ghost use Rattle.clauses.specs.Brackets.{sideAt, bracketAt};
 ghost use Rattle.clauses.specs.Rules.{Ruled};

@@ -12,13 +12,13 @@ use Rattle.syntax.specs.declared.Refusal.{Refusal}
 use Rattle.rules.specs.Modes.{Known, nothing, marksFor, listOf, firstOpen, groundMarked, openOutput, undeclaredBody, undeclaredInGoal, startKnown, headFault, clauseFault, clausesFault, goalFault, walkFault, Walk, bodyFault}
 use Rattle.marking.specs.Tables.{TermAt, MarkedAt, JudgedAt, DeclarationsAt, AtomAt, BodyAt, ClauseAt, ClausesAt, SheetAt, GoalAt}
 use Rattle.marking.specs.Answers.{checkedOf, isFault}
-use Rattle.literals.specs.Answers.{walkBy}
-use Rattle.bodies.specs.Answers.{walkOf}
+use Rattle.mode_literals.specs.Answers.{walkBy}
+use Rattle.mode_bodies.specs.Answers.{walkOf}
 use Rattle.marking.specs.declared.Checked.{Checked}
 use Rattle.marking.specs.declared.Checked.the-variants.{Fine, Fault}
-use Rattle.bodies.specs.declared.Walked.{Walked}
+use Rattle.mode_bodies.specs.declared.Walked.{Walked}
 use Rattle.judging.proofs.Judging.{judged-marked}
-use Rattle.literals.proofs.Literals.{judged-at}
+use Rattle.mode_literals.proofs.Literals.{judged-at}
 use Rattle.undeclared.proofs.Faults.{fault-stays, fine-goes}
 use Rattle.undeclared.proofs.Clauses.{head-at, body-at}
 

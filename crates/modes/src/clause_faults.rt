@@ -1,10 +1,10 @@
 // The clauses of a sheet `s`, by its declarations.
-use bodies::body_walk;
 use judging::ground_marked;
 use judging::head_fault;
 use marking::Checked;
 use marking::is_fault;
 use marking::marks::marks_of;
+use mode_bodies::body_walk;
 use syntax::CLAUSE_START;
 use syntax::INPUT;
 use syntax::NODE_WORDS;

@@ -1,9 +1,9 @@
 // The mode check: refusals 8 to 10 of document 01, over the tables of words that the parser fills. Document 01 is the paper "Rule sheets".
 pub mod clause_faults;
 
-use bodies::body_walk;
 use marking::Checked;
 use marking::is_fault;
+use mode_bodies::body_walk;
 use syntax::VARIABLES;
 use undeclared::undeclared_body;
 ghost use mathlib.Core.Path.{_≡_};

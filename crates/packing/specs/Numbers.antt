@@ -9,7 +9,7 @@ use Rattle.syntax.specs.declared.Run.the-variants.{Ended, Refused as stopped}
 use Rattle.syntax.specs.declared.Verdict.{Verdict}
 use Rattle.syntax.specs.declared.Verdict.the-variants.{Accepted, Refused}
 use Rattle.reports.specs.Reports.{kindNumber}
-use Rattle.faults.specs.Numbers.{faultNumbers}
+use Rattle.out_faults.specs.Numbers.{faultNumbers}
 
 -- which of these lists, and of the functions that give them, a library has
 abbrev pub version : ℕ

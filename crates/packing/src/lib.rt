@@ -1,7 +1,7 @@
 // The answers of reading, checking and running as numbers in a lent slice, for callers in other languages: as many as fit, later ones as they
 // were.
-use faults::FAULT;
-use faults::fault_numbers;
+use out_faults::FAULT;
+use out_faults::fault_numbers;
 use storing::put;
 use syntax::Declared;
 use syntax::Run;

@@ -1,4 +1,6 @@
 // Literals that are no brackets into the node table.
+use parse_terms::read_atom;
+use parse_terms::read_term;
 use reading::Parsed;
 use reading::cursor::counted;
 use reading::cursor::full;
@@ -14,8 +16,6 @@ use syntax::NAME;
 use syntax::NODE_WORDS;
 use syntax::State;
 use syntax::TRUTH_KIND;
-use terms::read_atom;
-use terms::read_term;
 use texts::is_fail;
 use texts::is_true;
 ghost use mathlib.Core.Path.{_≡_};

@@ -27,9 +27,9 @@ data Answer : Type 0 where
   accepted : ℕ → ℕ → Answer
   refused : Text → Five → List ℕ → Answer
 
-abbrev answer : Verdict → List ℕ → Answer
-answer (Accepted declarations clauses) name = accepted declarations clauses
-answer (Refused text refusal) name = refused text (numbersOf refusal) name
+abbrev answer : List ℕ → List ℕ → Verdict → Answer
+answer s g (Accepted declarations clauses) = accepted declarations clauses
+answer s g (Refused text refusal) = refused text (numbersOf refusal) (faultName s g (Refused text refusal))
 
 -- a sheet, one with document 02 (x)'s mark, or a sheet and a goal, with the answer
 data Case : Type 0 where
@@ -43,10 +43,9 @@ told (stored s a) = a
 told (goal s g a) = a
 
 abbrev answered : Case → Answer
-answered (sheet s a) = answer (checkVerdict (bytes s)) (faultName (bytes s) [] (checkVerdict (bytes s)))
-answered (stored s a) = answer (verdictWith true (bytes s)) (faultName (bytes s) [] (verdictWith true (bytes s)))
-answered (goal s g a) =
-    answer (checkGoalVerdict (bytes s) (bytes g)) (faultName (bytes s) (bytes g) (checkGoalVerdict (bytes s) (bytes g)))
+answered (sheet s a) = answer (bytes s) [] (checkVerdict (bytes s))
+answered (stored s a) = answer (bytes s) [] (verdictWith true (bytes s))
+answered (goal s g a) = answer (bytes s) (bytes g) (checkGoalVerdict (bytes s) (bytes g))
 
 abbrev cases : List Case
 cases =
