@@ -94,7 +94,7 @@ class Runs:
     """Runs as cases, and both counts of each zero."""
 
     def __init__(self, cases):
-        self.cases, self.reports, self.counted = cases, {}, set()
+        self.cases, self.reports, self.counted, self.allowed = cases, {}, set(), {}
 
     def add(self, letter, texts, trace, allowance, wanted, room, stored):
         sizes = (allowance, 3), (wanted, 2), (room, 3), (stored, 1)
@@ -105,11 +105,35 @@ class Runs:
         if record not in self.reports:
             self.reports[record] = engine.run(*texts, allowance, wanted, room, stored, given)
             self.cases.add(record, self.reports[record])
+            if 1 <= allowance <= engine.MOST_ALLOWED:
+                self.allowed.setdefault((texts, given, wanted, room, stored), {})[allowance] = self.reports[record]
         if isinstance(self.reports[record], engine.Report) and (*texts, given) not in self.counted:
             self.counted.add((*texts, given))
             inputs, outputs, _ = engine.open_counts(*texts, COUNTED_STEPS, given)
             assert inputs == outputs == 0, texts
         return self.reports[record]
+
+    def same_beginnings(self):
+        """Holds all cases that differ in the allowance alone to paper 02 (xiii), and prints how many they are."""
+        several = [sorted(answers.items()) for answers in self.allowed.values() if len(answers) > 1]
+        for answers in several:
+            for (_, fewer), (_, more) in zip(answers, answers[1:]):
+                if isinstance(fewer, engine.Report) and fewer.kind == "steps":
+                    assert more.text.startswith(fewer.text), (fewer, more)
+                else:
+                    assert more == fewer, (fewer, more)
+        counts = len(several), sum(map(every_one, several)), sum(map(len, several))
+        print("%d runs at several allowances, %d of them at every one from 1 to the end: %d cases" % counts)
+
+
+def every_one(answers):
+    """These are a run's reports at every allowance from 1 to the first at which it ends otherwise than by `steps`."""
+    for expected, (allowance, answer) in enumerate(answers, 1):
+        if allowance != expected or isinstance(answer, engine.Refusal):
+            return False
+        if answer.kind != "steps":
+            return True
+    return False
 
 
 def make_run(cases):
@@ -122,6 +146,7 @@ def make_run(cases):
         return runs.add(b"R", (as_bytes(sheet), as_bytes(goal)), None, allowance, wanted, room, stored)
 
     run_cases.make(add, random.Random(run_cases.SEED))
+    runs.same_beginnings()
 
 
 def make_trace(cases):
@@ -134,6 +159,7 @@ def make_trace(cases):
         return runs.add(b"T", (as_bytes(sheet), as_bytes(goal)), trace, allowance, wanted, room, stored)
 
     trace_cases.make(add, random.Random(trace_cases.SEED))
+    runs.same_beginnings()
 
 
 def make_list(cases):

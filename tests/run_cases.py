@@ -137,6 +137,15 @@ def edges(add, sheet, goal, every_step=False, stored=False):
             add(sheet, goal, room=room, wanted=max(count, 1), stored=stored)
 
 
+def raised(add, *texts, **settings):
+    """The allowance raised from 1, step by step, to where the run ends otherwise than by `steps`, and then to some larger ones."""
+    allowance = 1
+    while add(*texts, allowance=allowance, **settings).kind == "steps":
+        allowance += 1
+    for larger in (allowance + 1, allowance + 2, 2 * allowance, ALLOWANCE):
+        add(*texts, allowance=larger, **settings)
+
+
 def worked_examples(add):
     for sheet, goal, _ in examples.RUNS:
         edges(add, sheet, goal)
@@ -200,6 +209,21 @@ def steps_and_ends(add):
     for sheet, goals in LARGER + LARGER_BRACKETED:
         for goal in goals:
             edges(add, sheet, goal)
+
+
+def every_allowance(add):
+    """Paper 02, (xiii): longer runs at every allowance, and short rooms and few wanted answers; trace_cases has more of them."""
+    for sheet, goal, settings in (
+        (":-mode n(-). n(z). n(s(X)) :- n(X).", "n(X).", {}),
+        (":-mode n(-). n(z). n(s(X)) :- n(X).", "n(X).", {"room": 99}),
+        (":-mode l. l. l :- l.", "l.", {}),
+        (":-mode b(-). b(0). b(1).", "b(A),b(B),b(A).", {}),
+        (":-mode p(-). p(a). p(b). p(c).", "p(X), p(Y).", {"wanted": 5}),
+        (":-mode p(*). p(a). p(f(f(f(b)))). p(c).", "p(X).", {"room": 20}),
+        (":-mode p(*). p(a). p(f(f(f(b)))). p(c).", "p(X), p(Y).", {"room": 60}),
+        (":-mode plus(-,-,+). plus(z,N,N). plus(s(M),N,s(P)) :- plus(M,N,P).", "plus(X,Y,s(s(s(z)))).", {}),
+    ):
+        raised(add, sheet, goal, **settings)
 
 
 def all_brackets(core, side):
@@ -471,6 +495,7 @@ def make(add, rng):
     stored_sheets(add)
     settings(add)
     steps_and_ends(add)
+    every_allowance(add)
     numerals(add)
     path_limit(add)
     full_piles(add)

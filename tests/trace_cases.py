@@ -6,6 +6,7 @@ from pathlib import Path
 import engine
 import examples
 import random_sheets
+import run_cases
 
 SEED = 909
 ALLOWANCE, WANTED, ROOM = 65_536, 64, 8_192
@@ -21,6 +22,15 @@ EVENING = (
     ":-mode follows(-,-). follows(A,B) :- seen(K,_,A), next(K,L), seen(L,_,B).\n"
     ":-mode ended(-). ended(E) :- off(K,_), next(K,L), seen(L,E,rinse)."
 )
+
+# Runs short enough for every allowance.
+RAISED = [
+    (SEEN, [ALL, "seen(K,E,B), seen(L,E,C).", "seen(1,E,B), seen(3,F,B).", "(seen(K,E,low);seen(K,E,off)).",
+            "seen(K,_,B), (B = off; B = rinse).", "seen(K,E,B), fail."]),
+    (SEEN + "seen(0,0,mine).", [ALL, "seen(K,E,B), seen(L,F,B)."]),
+    (SEEN + ":-mode p(*). p(K):-seen(K,_,off). p(K):-seen(K,E,low),seen(_,E,B).", ["p(K).", "p(K), p(K)."]),
+    (SEEN + ":-mode n(*,*). n(1,2). n(2,3). :-mode t(*,*). t(A,B):-seen(K,_,A),n(K,L),seen(L,_,B).", ["t(A,B).", "t(X,rinse)."]),
+]
 
 
 def record(tick, band=None):
@@ -187,6 +197,24 @@ def sessions(add):
         add(only, goal, record(0))
 
 
+def every_allowance(add):
+    """Paper 02, (xiii): runs at every allowance, with facts and with none, to each of the ends."""
+    trace = record(65_530, 0) + record(2) + record(9, 3) + record(9, 4)
+    for sheet, goals in RAISED:
+        for goal, given in product(goals, (trace, b"")):
+            run_cases.raised(add, sheet, goal, given)
+    for goal in RAISED[0][1]:
+        for settings in ({"wanted": 1}, {"wanted": 2}, {"room": 20}, {"room": 40}):
+            run_cases.raised(add, SEEN, goal, trace, **settings)
+    for sheet, goals in run_cases.BRACKETED:
+        for goal in goals:
+            run_cases.raised(add, sheet, goal, b"")
+    run_cases.raised(add, SEEN + "seen(K,E,B):-seen(K,E,B).", "seen(1,E,B).", record(9, 3))
+    for sheet, goal, given in ((SEEN, ALL, b"\3"), ("", ALL, trace), (SEEN, "see.", trace), ("!", ALL, trace)):
+        for allowance in (1, 2, 3, 65_535, ALLOWANCE):
+            add(sheet, goal, given, allowance=allowance)
+
+
 def crowded(add):
     """A sheet at 256 clauses, 64 declarations or 16,384 bytes, with no fact, one and 192."""
     many = b"".join(record(7 * n, n % 5) for n in range(192))
@@ -240,5 +268,6 @@ def make(add, rng):
     elapsed(add)
     declared(add)
     sessions(add)
+    every_allowance(add)
     crowded(add)
     by_chance(add, rng)

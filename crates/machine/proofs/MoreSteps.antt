@@ -1,6 +1,6 @@
--- Document 02, (xiii), "More steps, same beginning": for one sheet, goal, wanted count and room the text at a smaller allowance is the beginning of
--- the text at a larger one, and a run that ended otherwise than by `steps` is the same at every larger allowance. Assumes nothing: it holds of
--- every sheet and goal, accepted or not.
+-- Document 02, (xiii), "More steps, same beginning": for one sheet, goal, trace, mark, wanted count and room the text at a smaller allowance is the
+-- beginning of the text at a larger one, and a run that ended otherwise than by `steps` is the same at every larger allowance. Assumes nothing: it holds
+-- of every sheet, goal and trace, accepted or not.
 use Prim.Native.Nat.{ℕ, zero, suc, _+_, _-_, _≤_}
 use native.Mathlib.Omega.{arith}
 use mathlib.Core.Path.{_≡_, refl, sym, ap, _∙_, subst}
@@ -8,15 +8,19 @@ use mathlib.Core.Bool.{Bool, true, false, _&&_}
 use mathlib.Core.List.{List, [], _++_, append-nil, append-assoc}
 use mathlib.Core.Option.{Option, none, some}
 use lib.Dec.{T, leb, le→leb}
+use lib.ListN.{length}
 use Rattle.syntax.specs.Limits.{mostSteps, mostAnswers}
 use Rattle.syntax.specs.Terms.{Sheet, Goal}
 use Rattle.syntax.specs.Verdicts.{Outcome, refused, accepted}
-use Rattle.syntax.specs.declared.Text.the-variants.{Sheet as inSheet, Goal as inGoal, Neither}
+use Rattle.syntax.specs.declared.Text.the-variants.{Sheet as inSheet, Goal as inGoal, Trace as inTrace, Neither}
+use Rattle.syntax.specs.declared.Refusal.{Refusal}
 use Rattle.syntax.specs.declared.Refusal.the-variants.{Settings}
 use Rattle.rules.specs.Checking.{checkedWith, checkedGoal}
-use Rattle.machine.specs.Runs.{Kind, Wanted, Done, Steps, Full, Deep, Progress, Ended, nextLine, endings, firstEnd, advance, endOr, runFrom, begun, run, onward, RunSettings, RunOutcome, stopped, ran, reported, overGoal, overSheet, inRange, runOutcome, runAnswer, runText}
-use Rattle.machine.specs.MoreSteps.{Begins, MoreSteps, NotBySteps, MoreStepsOver, NotReportedSteps, MoreStepsAnswered}
+use Rattle.machine.specs.Runs.{Kind, Wanted, Done, Steps, Full, Deep, Progress, Ended, nextLine, endings, firstEnd, advance, endOr, runFrom, begun, run, onward, RunSettings, RunOutcome, stopped, ran, reported, overGoal, inRange, runOutcome, runAnswer, runText}
+use Rattle.machine.specs.Traces.{traceFault, tracedSheet, overTrace, overTraced, tracedOutcome}
+use Rattle.machine.specs.MoreSteps.{Begins, MoreSteps, NotBySteps, MoreStepsOver, NotReportedSteps, MoreStepsPublic}
 use Rattle.machine.proofs.Turns.{more-steps}
+use Rattle.machine.proofs.Traces.{without-trace}
 
 -- ---- beginnings
 
@@ -102,49 +106,68 @@ over-goals sh wanted room few many h (refused r) = over-itself (stopped inGoal r
 over-goals sh wanted room few many h (accepted g) =
     over-reports (run sh g few wanted room) (run sh g many wanted room) (same-beginning sh g wanted room few many h)
 
-over-sheets : (goal : List ℕ) (wanted room few many : ℕ) → few ≤ many → (o : Outcome Sheet)
-    → MoreStepsOver (overSheet goal few wanted room o) (overSheet goal many wanted room o)
-unfolding overSheet
-over-sheets goal wanted room few many h (refused r) = over-itself (stopped inSheet r)
-over-sheets goal wanted room few many h (accepted sh) = over-goals sh wanted room few many h (checkedGoal sh goal)
-
--- an allowance in range leaves the wanted count to be tested
-allowed : (n wanted : ℕ) → 1 ≤ n → n ≤ mostSteps → inRange n wanted ≡ (leb 1 wanted && leb wanted mostAnswers)
-unfolding inRange
-allowed n wanted h k = go (leb 1 n) (leb n mostSteps) (le→leb 1 n h) (le→leb n mostSteps k)
-  where
-    go : (a b : Bool) → T a → T b → ((a && b) && (leb 1 wanted && leb wanted mostAnswers)) ≡ (leb 1 wanted && leb wanted mostAnswers)
-    go true true s t = refl
-    go true false s t = absurd t
-    go false b s t = absurd s
-
-module _ (sheet goal : List ℕ) (stored : Bool) (wanted room few many : ℕ) where
+module _ (sheet goal trace : List ℕ) (stored : Bool) (wanted room few many : ℕ) where
   abbrev with : ℕ → RunSettings
   with allowance = record { allowance = allowance; wanted = wanted; stored = stored }
 
-  over-ranges : few ≤ many → (a b : Bool) → a ≡ b
-      → MoreStepsOver (elim a as (λ _. RunOutcome) [ true ↦ overSheet goal few wanted room (checkedWith stored sheet) | false ↦ stopped Neither Settings ]) (elim b as (λ _. RunOutcome) [ true ↦ overSheet goal many wanted room (checkedWith stored sheet) | false ↦ stopped Neither Settings ])
-  over-ranges h true true q = over-sheets goal wanted room few many h (checkedWith stored sheet)
-  over-ranges h true false q = absurd (let z : _≡_ {A = Bool} true false = q in let y : _≡_ {A = ℕ} 0 1 = cc in let w : ⊥ = omega arith in w)
-  over-ranges h false true q = absurd (let z : _≡_ {A = Bool} false true = q in let y : _≡_ {A = ℕ} 0 1 = cc in let w : ⊥ = omega arith in w)
-  over-ranges h false false q = over-itself (stopped Neither Settings)
+  over-traces : few ≤ many → (sh : Sheet) (o : Option Refusal) → MoreStepsOver (overTrace goal few wanted room sh o) (overTrace goal many wanted room sh o)
+  unfolding overTrace
+  over-traces h sh (some r) = over-itself (stopped inTrace r)
+  over-traces h sh none = over-goals sh wanted room few many h (checkedGoal sh goal)
+
+  over-sheets : few ≤ many → (o : Outcome Sheet)
+      → MoreStepsOver (overTraced (length sheet) goal trace few wanted room o) (overTraced (length sheet) goal trace many wanted room o)
+  unfolding overTraced
+  over-sheets h (refused r) = over-itself (stopped inSheet r)
+  over-sheets h (accepted sh) = over-traces h (tracedSheet (length sheet) trace sh) (traceFault (sh .declarations) trace)
+
+  -- an allowance in range leaves the wanted count to be tested
+  allowed : (n : ℕ) → 1 ≤ n → n ≤ mostSteps → inRange n wanted ≡ (leb 1 wanted && leb wanted mostAnswers)
+  unfolding inRange
+  allowed n h k = go (leb 1 n) (leb n mostSteps) (le→leb 1 n h) (le→leb n mostSteps k)
+    where
+      go : (a b : Bool) → T a → T b → ((a && b) && (leb 1 wanted && leb wanted mostAnswers)) ≡ (leb 1 wanted && leb wanted mostAnswers)
+      go true true s t = refl
+      go true false s t = absurd t
+      go false b s t = absurd s
 
   -- MORE STEPS, SAME BEGINNING, over texts, with one mark.
   pub same-beginning-texts : 1 ≤ few → few ≤ many → many ≤ mostSteps
-      → MoreStepsOver (runOutcome sheet goal (with few) room) (runOutcome sheet goal (with many) room)
-  unfolding runOutcome
+      → MoreStepsOver (tracedOutcome sheet goal trace (with few) room) (tracedOutcome sheet goal trace (with many) room)
+  unfolding tracedOutcome
   same-beginning-texts l h m =
-      over-ranges h (inRange few wanted) (inRange many wanted) (allowed few wanted l (omega arith) ∙ sym (allowed many wanted (omega arith) m))
+      go (inRange few wanted) (inRange many wanted) (allowed few l (omega arith) ∙ sym (allowed many (omega arith) m))
+    where
+      ranged : ℕ → Bool → RunOutcome
+      ranged n b =
+          elim b as (λ _. RunOutcome) [ true ↦ overTraced (length sheet) goal trace n wanted room (checkedWith stored sheet) | false ↦ stopped Neither Settings ]
 
-  -- The same of what `pilvaust::run` gives back, `runAnswer` of that, and of the text that it writes, `runText` of it.
+      go : (a b : Bool) → a ≡ b → MoreStepsOver (ranged few a) (ranged many b)
+      go true true q = over-sheets h (checkedWith stored sheet)
+      go true false q = absurd (let z : _≡_ {A = ℕ} 0 1 = cc in omega arith)
+      go false true q = absurd (let z : _≡_ {A = ℕ} 0 1 = cc in omega arith)
+      go false false q = over-itself (stopped Neither Settings)
+
+  -- The same of what `pilvaust::run_traced` gives back and of the text that it writes.
   pub same-beginning-answers : 1 ≤ few → few ≤ many → many ≤ mostSteps
-      → MoreStepsAnswered (runAnswer (runOutcome sheet goal (with few) room)) (runText (runOutcome sheet goal (with few) room)) (runAnswer (runOutcome sheet goal (with many) room)) (runText (runOutcome sheet goal (with many) room))
+      → MoreStepsPublic (tracedOutcome sheet goal trace (with few) room) (tracedOutcome sheet goal trace (with many) room)
   same-beginning-answers l h m =
-      answered (runOutcome sheet goal (with few) room) (runOutcome sheet goal (with many) room) (same-beginning-texts l h m)
+      answered (tracedOutcome sheet goal trace (with few) room) (tracedOutcome sheet goal trace (with many) room) (same-beginning-texts l h m)
     where
       by-answer : (o : RunOutcome) → NotReportedSteps (runAnswer o) → NotBySteps o
       by-answer (stopped t r) n = unfold NotBySteps in tt
       by-answer (ran report text) n = unfold NotBySteps in unfold NotReportedSteps in unfold runAnswer in n
 
-      answered : (o p : RunOutcome) → MoreStepsOver o p → MoreStepsAnswered (runAnswer o) (runText o) (runAnswer p) (runText p)
+      answered : (o p : RunOutcome) → MoreStepsOver o p → MoreStepsPublic o p
       answered o p s = record { beginning = s .beginning; equal = λ n. (ap runAnswer (s .equal (by-answer o n)), ap runText (s .equal (by-answer o n))) }
+
+-- And of `pilvaust::run`, which takes no trace.
+pub same-beginning-untraced : (sheet goal : List ℕ) (stored : Bool) (wanted room few many : ℕ) → 1 ≤ few → few ≤ many → many ≤ mostSteps
+    → MoreStepsPublic (runOutcome sheet goal (record { allowance = few; wanted = wanted; stored = stored }) room) (runOutcome sheet goal (record { allowance = many; wanted = wanted; stored = stored }) room)
+same-beginning-untraced sheet goal stored wanted room few many l h m =
+    subst (λ (o : RunOutcome). MoreStepsPublic o (runOutcome sheet goal (asked many) room)) (without-trace sheet goal (asked few) room)
+    (subst (λ (o : RunOutcome). MoreStepsPublic (tracedOutcome sheet goal [] (asked few) room) o) (without-trace sheet goal (asked many) room)
+    (same-beginning-answers sheet goal [] stored wanted room few many l h m))
+  where
+    asked : ℕ → RunSettings
+    asked allowance = record { allowance = allowance; wanted = wanted; stored = stored }

@@ -1,5 +1,6 @@
--- Document 02, (xiii): "the text at a smaller allowance is the beginning of the text at a larger one, and a run that ended otherwise than by `steps`
--- gives an equal report and text at every larger allowance". What its theorems say.
+-- Document 02, (xiii), "More steps, same beginning": "Show for one accepted sheet, goal, trace, wanted count and buffer size, allowances in range: the text
+-- at a smaller allowance is the beginning of the text at a larger one, and a run that ended otherwise than by `steps` gives an equal report and text at
+-- every larger allowance." What its theorems say.
 use Prim.Native.Nat.{ℕ}
 use mathlib.Core.Path.{_≡_}
 use mathlib.Core.List.{List, _++_}
@@ -7,7 +8,7 @@ use Rattle.syntax.specs.declared.Text.{Text}
 use Rattle.syntax.specs.declared.Refusal.{Refusal}
 use Rattle.syntax.specs.declared.Run.{Run}
 use Rattle.syntax.specs.declared.Run.the-variants.{Ended as ended-by, Refused as refused-by}
-use Rattle.machine.specs.Runs.{Steps, Ended, RunOutcome, stopped, ran, runText}
+use Rattle.machine.specs.Runs.{Steps, Ended, RunOutcome, stopped, ran, runAnswer, runText}
 
 -- a text is the beginning of another
 pub record Begins (text longer : List ℕ) : Type 0 where
@@ -39,3 +40,7 @@ NotReportedSteps (refused-by text refusal) = Unit {0}
 pub record MoreStepsAnswered (fewer : Run) (text : List ℕ) (more : Run) (longer : List ℕ) : Type 0 where
   pub beginning : Begins text longer
   pub equal : NotReportedSteps fewer → (more ≡ fewer) × (longer ≡ text)
+
+-- that, of a run whose function promises `runAnswer` and `runText` of what it comes to
+abbrev pub MoreStepsPublic : RunOutcome → RunOutcome → Type 0
+MoreStepsPublic fewer more = MoreStepsAnswered (runAnswer fewer) (runText fewer) (runAnswer more) (runText more)
