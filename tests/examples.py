@@ -4,7 +4,8 @@ CHECKS: sheet, what the checker prints.  GOALS: goal, how reading it answers.
 RUNS: sheet, goal, what the runner prints.  SETTINGS: allowance, wanted, room,
 sheet, goal, what the runner would print with these settings.  STORED: sheet,
 goal, what the runner would print with the mark for a sheet stored earlier.
-TRACED: sheet, goal, trace, what the runner prints.
+TRACED: sheet, goal, trace, what the runner prints.  DETERMINATE: sheet, the
+line for paper 02 (xii): yes, no with two clause numbers, or the refusal.
 The outputs are written by hand from the papers, never taken from the engine.
 """
 
@@ -419,6 +420,73 @@ TRACED = [
     (b"", b"true.", b"\x02\x00\x00\x03", "refused trace 13 3 0 0 0"),
     (b"", b"true.", b"\x02\x00\x00\x00\x02\x00", "refused trace 13 4 0 0 0"),
     (b"", b"true.", b"\x02\x00\x00\xff\x09", "refused trace 13 3 0 0 0"),
+]
+
+# Paper 02 (xii) and the rulings on it. A no names the first pair of clauses, or the first with a bracket, and 0.
+TWO = b":-mode p(+,+). "
+DETERMINATE = [
+    # common instances: with occurs check, jointly, variables apart but shared within a clause
+    (TWO + b"p(X,X). p(Y,f(Y)).", "yes"),
+    (TWO + b"p(a,X). p(X,b).", "no 1 2"),
+    (TWO + b"p(X,X). p(a,b).", "yes"),
+    (TWO + b"p(X,X). p(Y,Z).", "no 1 2"),
+    (TWO + b"p(X,X). p(f(Y),Y).", "yes"),
+    (TWO + b"p(X,Y). p(f(Y),f(X)).", "no 1 2"),
+    (TWO + b"p(f(X),f(Y)). p(Y,Y).", "no 1 2"),
+    (TWO + b"p(X,f(X)). p(f(Y),Y).", "yes"),
+    (TWO + b"p(f(X),X). p(X,a).", "no 1 2"),
+    (TWO + b"p(f(X),a). p(X,X).", "yes"),
+    (b":-mode p(+). p(X). p(f(X)).", "no 1 2"),
+    (b":-mode p(+). p(f(a,X)). p(f(X,b)).", "no 1 2"),
+    (b":-mode p(+). p(f(X,X)). p(f(a,b)).", "yes"),
+    (b":-mode p(+). p(f(_,_)). p(f(a,b)).", "no 1 2"),
+    (b":-mode p(+,+,+). p(X,Y,Y). p(Z,Z,f(Z)).", "yes"),
+    (b":-mode p(+,+,+). p(X,Y,f(Y)). p(Z,Z,X).", "no 1 2"),
+    # names, numbers of arguments, numerals by value
+    (b":-mode p(+). p(a). p(b).", "yes"),
+    (b":-mode p(+). p(a). p(a).", "no 1 2"),
+    (b":-mode p(+). p(f). p(f(a)).", "yes"),
+    (b":-mode p(+). p(f(a)). p(f(a,a)).", "yes"),
+    (b":-mode p(+). p(1). p(01).", "no 1 2"),
+    (b":-mode p(+). p(1). p(10).", "yes"),
+    (b":-mode p(+). p(0). p(000).", "no 1 2"),
+    (b":-mode p(+). p(a1). p(a01).", "yes"),
+    # - and * arguments are not looked at; with no + argument there is a common instance
+    (b":-mode p(+,-). p(a,b). p(a,c).", "no 1 2"),
+    (b":-mode p(+,*). p(a,b). p(a,c).", "no 1 2"),
+    (b":-mode p(*,+). p(a,b). p(a,c).", "yes"),
+    (b":-mode p(-,*). p(a,b). p(c,d).", "no 1 2"),
+    (b":-mode p. p. p.", "no 1 2"),
+    (b":-mode p(-). p(a).", "yes"),
+    (b"", "yes"),
+    (PLUS % b"+,+,-", "yes"),
+    (PLUS % b"+,-,+", "yes"),
+    (PLUS % b"-,+,+", "no 1 2"),
+    # a predicate is a name with a number of arguments
+    (b":-mode p(+). :-mode p(+,+). p(X). p(X,Y).", "yes"),
+    (b":-mode p. :-mode q. p. q.", "yes"),
+    (b":-mode p. :-mode q. p. q. p.", "no 1 3"),
+    # every pair counts, reached or not, and bodies say nothing
+    (b":-mode p(+). :-mode q. p(X) :- fail. p(a) :- fail. q.", "no 1 2"),
+    (b":-mode p(+). p(X) :- X = a. p(X) :- X = b.", "no 1 2"),
+    # the lowest first clause, then the lowest second
+    (b":-mode p(+). p(a). p(b). p(b). p(a).", "no 1 4"),
+    (b":-mode p(+). p(a). p(b). p(a). p(X).", "no 1 3"),
+    (b":-mode p(+). p(a). p(b). p(b). p(c).", "no 2 3"),
+    (b":-mode p(+). :-mode q. p(a). q. p(b). q. p(b).", "no 2 4"),
+    # a bracket is told before any pair
+    (b":-mode p. p :- (true;fail).", "no 1 0"),
+    (b":-mode p(+). p(a). p(b) :- true, (fail;fail).", "no 2 0"),
+    (b":-mode p. p. p. p :- (true;true). p :- (true;true).", "no 3 0"),
+    (b":-mode p. p :- ((true;true);true).", "no 1 0"),
+    # the sheet's refusals come first; there is no mark
+    (b"p(", "refused sheet 5 2 0 0 0"),
+    (b"p. p.", "refused sheet 8 0 1 0 0 p"),
+    (b":-mode p. :-mode q. p. p.", "refused sheet 16 17 0 0 0"),
+    (b":-mode p. :-mode seen(+,+,+). p.", "yes"),
+    (b":-mode p. p. p. :-mode p.", "refused sheet 7 23 0 0 0"),
+    (b":-mode p(+). p(a) :- (p(X);true).", "refused sheet 9 24 1 1 1 p"),
+    (b":-mode p(-). p(a). p(X).", "refused sheet 10 21 2 0 1 p"),
 ]
 
 # Sheet (free of faults 2 to 8), goal, most steps; open inputs, open outputs, steps.

@@ -1,10 +1,11 @@
 """Writes the case files that the crates' test programs read, and their outputs.
 
-python3 tests/make_cases.py read     crates/read_cases/data/cases and .../stdout
-python3 tests/make_cases.py check    crates/check_cases/data/cases and .../stdout
-python3 tests/make_cases.py run      crates/run_cases/data/cases and .../stdout
-python3 tests/make_cases.py list     crates/list_cases/data/cases and .../stdout
-python3 tests/make_cases.py trace    crates/trace_cases/data/cases and .../stdout
+python3 tests/make_cases.py read           crates/read_cases/data/cases and .../stdout
+python3 tests/make_cases.py check          crates/check_cases/data/cases and .../stdout
+python3 tests/make_cases.py run            crates/run_cases/data/cases and .../stdout
+python3 tests/make_cases.py list           crates/list_cases/data/cases and .../stdout
+python3 tests/make_cases.py trace          crates/trace_cases/data/cases and .../stdout
+python3 tests/make_cases.py determinacy    crates/determinacy_cases/data/cases and .../stdout
 
 First the engine is held to the worked examples (test_engine.py); where it fails
 one, nothing is written.  A case is a letter and its fields; a text is its length
@@ -18,6 +19,7 @@ from collections import Counter
 from pathlib import Path
 
 import check_cases
+import determinacy_cases
 import engine
 import list_cases
 import read_cases
@@ -178,7 +180,19 @@ def make_list(cases):
     list_cases.make_searches(add_search, random.Random(list_cases.SEED + 1))
 
 
-STAGES = {"read": make_read, "check": make_check, "run": make_run, "list": make_list, "trace": make_trace}
+def make_determinacy(cases):
+    def add(sheet):
+        sheet = as_bytes(sheet)
+        cases.add(b"D" + text_field(sheet), engine.determinate(sheet))
+
+    determinacy_cases.make(add, random.Random(determinacy_cases.SEED))
+    determinacy_cases.at_most_one_line(random.Random(determinacy_cases.SEED + 1), 1_000)
+
+
+STAGES = {
+    "read": make_read, "check": make_check, "run": make_run, "list": make_list, "trace": make_trace,
+    "determinacy": make_determinacy,
+}
 
 
 def kind_of(output):

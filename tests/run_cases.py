@@ -1,7 +1,9 @@
 """Cases for running: a sheet, a goal and the settings."""
 
+import random
 from itertools import product
 
+import determinacy_cases
 import engine
 import examples
 import random_sheets
@@ -490,6 +492,20 @@ def by_chance(add, rng):
                 wanted=rng.randint(1, 8), room=rng.randint(0, len(whole.text) + 8), stored=stored)
 
 
+def single_ends(add, rng):
+    """Goals with one line, over sheets that get a yes by paper 02 (xii): to the end, and up to the line and one step less."""
+    made = 0
+    for _, sheet, goal in determinacy_cases.single_runs(rng):
+        whole = engine.run(sheet, goal, ALLOWANCE, WANTED, ROOM)
+        if whole.answers == 1 and whole.steps > 9 and len(sheet) < 130:
+            line = engine.run(sheet, goal, ALLOWANCE, 1, ROOM).steps
+            for allowance in (ALLOWANCE, line, line - 1):
+                add(sheet, goal, allowance=allowance)
+            made += 1
+        if made == 14:
+            return
+
+
 def make(add, rng):
     worked_examples(add)
     stored_sheets(add)
@@ -508,3 +524,4 @@ def make(add, rng):
     long_runs(add)
     sixty_four(add)
     by_chance(add, rng)
+    single_ends(add, random.Random(SEED + 1))

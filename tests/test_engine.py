@@ -1,5 +1,6 @@
 """Holds the engine to the worked examples; exit status 1 on any failure. make_cases.py runs it first."""
 
+import itertools
 import random
 import sys
 
@@ -102,6 +103,38 @@ def test_traces():
     expect("256 clauses and a fact", lines(report), "K = 0\nK = 1\nend done 2 5")
 
 
+def matches(term, ground, values):
+    """Whether values, which grow, make the term that ground one."""
+    if isinstance(term, engine.Variable):
+        return values.setdefault(term.number, ground) == ground
+    parts = zip(term.arguments, ground.arguments)
+    return engine.predicate_of(term) == engine.predicate_of(ground) and all(matches(*pair, values) for pair in parts)
+
+
+def instances(clause, universe):
+    """The clause's head with each choice of these terms for its variables."""
+    for values in itertools.product(universe, repeat=len(clause.variables)):
+        yield engine.instance(clause.head, values)
+
+
+def test_determinacy():
+    """The worked examples; then small heads by chance, whose common instances are looked for one by one among ground terms."""
+    for sheet, line in examples.DETERMINATE:
+        expect(sheet, lines(engine.determinate(sheet)), line)
+    universe = [engine.Compound(name, ()) for name in (b"a", b"b")]
+    for _ in range(8):
+        universe += [engine.Compound(b"f", (term,)) for term in universe[-2:]]
+    rng, parts, found = random.Random(12), ("X", "Y", "X", "Y", "a", "b", "f(X)", "f(Y)", "f(a)", "f(f(X))"), 0
+    for _ in range(300):
+        heads = ["p(%s)" % ",".join(rng.choices(parts, k=3)) for _ in range(2)]
+        sheet = (":-mode p(+,+,+). %s. %s." % tuple(heads)).encode()
+        one, other = engine.parsed_sheet(sheet).clauses
+        common = any(matches(other.head, head, {}) for head in instances(one, universe))
+        found += common
+        expect(sheet, lines(engine.determinate(sheet)), "no 1 2" if common else "yes")
+    expect("both answers are met", 50 < found < 250, True)
+
+
 def test_counts():
     for sheet, goal, steps, counts in examples.COUNTS:
         expect((sheet, goal), engine.open_counts(sheet, goal, steps), counts)
@@ -129,7 +162,7 @@ def test_large_terms():
 def run():
     """Whether the engine gives what the worked examples say."""
     tests = test_reading, test_checking, test_lists, test_searches
-    for test in (*tests, test_running, test_traces, test_counts, test_large_terms):
+    for test in (*tests, test_determinacy, test_running, test_traces, test_counts, test_large_terms):
         test()
     print("%d passed, %d failed" % (passed, failed))
     return failed == 0

@@ -1,0 +1,11 @@
+-- `determinacy::rooms::store_words` meets its contract. Assumes nothing.
+use Rattle.layout.specs.Regions.{storeWords}
+use Rattle.determinacy.proofs.ZeroLaws.{zeros}
+use Rattle.determinacy.proofs.rooms.store_words.Statement.{statement}
+use Rattle.determinacy.proofs.rooms.store_words.Tie as tie
+
+returns : tie.Need-returns
+returns c = zeros storeWords
+
+pub store-words-spec : {M : Type 1} → statement M
+store-words-spec = tie.close (tie.spec returns)

@@ -1,0 +1,44 @@
+-- What the functions on the tables of a sheet are given.
+use Prim.Native.Nat.{ℕ, _≤_}
+use mathlib.Core.Path.{_≡_}
+use mathlib.Core.List.{List}
+use lib.ListN.{length, getD}
+use Rattle.syntax.specs.Limits.{sheetBytes}
+use Rattle.syntax.specs.Terms.{Clause, Goal}
+use Rattle.syntax.specs.Words.{sheetWords, clausesWords}
+use Rattle.words.specs.Tables.{Has}
+use Rattle.marking.specs.Tables.{SheetAt}
+use Rattle.layout.specs.Limits.{SheetLimited}
+use Rattle.layout.specs.Nodes.{Symbol}
+use Rattle.layout.specs.Program.{Program}
+use Rattle.determinacy.specs.Pairs.{Blank}
+
+-- Words that are all zero, so many.
+pub record Zeros (k : ℕ) (words : List ℕ) : Type 0 where
+  pub long : k ≡ length words
+  pub zero-words : (i : ℕ) → getD words i 0 ≡ 0
+
+-- so many clauses stand in a table
+pub record ClausesIn (table : List ℕ) (k : ℕ) : Type 0 where
+  pub list : List Clause
+  pub has : Has table 0 (clausesWords list)
+  pub count : k ≡ length list
+
+-- a sheet of which the n declarations and k clauses stand in tables, within document 01's limits
+pub record Ready (s declared : List ℕ) (n : ℕ) (table : List ℕ) (k : ℕ) : Type 0 where
+  pub stands : SheetAt s declared n table k
+  pub limits : SheetLimited (stands .sheet)
+  pub short : length s ≤ sheetBytes
+  pub table-short : length table ≤ sheetWords
+
+-- the same, loaded and linked
+pub record Linked (s declared : List ℕ) (n : ℕ) (table : List ℕ) (k : ℕ) (nodes code : List ℕ) : Type 0 where
+  pub stands : SheetAt s declared n table k
+  pub ss : List Symbol
+  pub g : Goal
+  pub program : Program ss (stands .sheet) g nodes code
+
+-- and words for unification, without bindings
+pub record Pairable (s declared : List ℕ) (n : ℕ) (table : List ℕ) (k : ℕ) (nodes code state scratch : List ℕ) : Type 0 where
+  pub linked : Linked s declared n table k nodes code
+  pub blank : Blank (linked .ss) nodes state scratch

@@ -1,0 +1,37 @@
+// Words for a loaded sheet and for unification, cleared once.
+use layout::CODE_WORDS;
+use layout::NODES_WORDS;
+use layout::STORE_WORDS;
+use layout::WIDE_WORDS;
+ghost use Prim.Native.Nat.{_+_};
+ghost use Rattle.syntax.specs.Limits.{sheetBytes, goalBytes};
+ghost use Rattle.layout.specs.Regions.{nodesWords, codeWords, storeWords, scratchFor};
+ghost use Rattle.determinacy.specs.Tables.{Zeros};
+
+// Room for the nodes, and as much for their symbols.
+pub fn node_words() -> [u32; NODES_WORDS]
+    ensures { λ r. ⌜ Zeros nodesWords r ⌝ }
+{
+    [0; NODES_WORDS]
+}
+
+// Room for the records of clauses and literals.
+pub fn code_words() -> [u32; CODE_WORDS]
+    ensures { λ r. ⌜ Zeros codeWords r ⌝ }
+{
+    [0; CODE_WORDS]
+}
+
+// Cells and trail: there are no frames and no alternatives.
+pub fn store_words() -> [u32; STORE_WORDS]
+    ensures { λ r. ⌜ Zeros storeWords r ⌝ }
+{
+    [0; STORE_WORDS]
+}
+
+// Room for unification under any sheet.
+pub fn scratch_words() -> [u32; WIDE_WORDS]
+    ensures { λ r. ⌜ Zeros (scratchFor (sheetBytes + goalBytes)) r ⌝ }
+{
+    [0; WIDE_WORDS]
+}
