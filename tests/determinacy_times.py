@@ -1,8 +1,8 @@
-"""Sheets for which the test of paper 02 (xii) takes long, and the CPU time of crates/determinacy_cases on each.
+"""Sheets for which the test of paper 02 (xii) takes long, and the CPU time of crates/case_answers on each.
 
     tests/determinacy_times.py        milliseconds a sheet; exit status 1 where one is over the bound
 
-PROGRAM names another program than target/bin/determinacy_cases. The time of a file without a sheet is taken off.
+PROGRAM names another program than target/bin/case_answers. It runs in a folder with no other file of cases; the time of a file without a sheet is taken off.
 """
 
 import os
@@ -59,7 +59,7 @@ SHEETS = {
 
 def seconds(program, cases):
     with tempfile.TemporaryDirectory() as folder:
-        with open(os.path.join(folder, "cases"), "wb") as file:
+        with open(os.path.join(folder, "determinacy"), "wb") as file:
             file.write(cases)
         before = resource.getrusage(resource.RUSAGE_CHILDREN)
         output = subprocess.run([program], cwd=folder, capture_output=True, check=True).stdout
@@ -68,7 +68,7 @@ def seconds(program, cases):
 
 
 def main():
-    program, slow = os.path.abspath(os.environ.get("PROGRAM", "target/bin/determinacy_cases")), False
+    program, slow = os.path.abspath(os.environ.get("PROGRAM", "target/bin/case_answers")), False
     for name, sheet in SHEETS.items():
         record = b"D" + len(sheet).to_bytes(3, "little") + sheet.encode()
         times = []

@@ -1,11 +1,10 @@
-"""Writes the case files that the crates' test programs read, and their outputs.
+"""Writes the files of cases that crates/case_answers reads, and what it must write.
 
-python3 tests/make_cases.py read           crates/read_cases/data/cases and .../stdout
-python3 tests/make_cases.py check          crates/check_cases/data/cases and .../stdout
-python3 tests/make_cases.py run            crates/run_cases/data/cases and .../stdout
-python3 tests/make_cases.py list           crates/list_cases/data/cases and .../stdout
-python3 tests/make_cases.py trace          crates/trace_cases/data/cases and .../stdout
-python3 tests/make_cases.py determinacy    crates/determinacy_cases/data/cases and .../stdout
+python3 tests/make_cases.py read|check|run|list|trace|determinacy
+
+The cases of a kind are the file of its name in crates/case_answers/data.  Their outputs
+are a part of crates/case_answers/stdout, which has the kinds in this order; the file
+parts beside it says how many bytes are each one's.  The other kinds stay as they are.
 
 First the engine is held to the worked examples (test_engine.py); where it fails
 one, nothing is written.  A case is a letter and its fields; a text is its length
@@ -28,7 +27,7 @@ import test_engine
 import trace_cases
 import written
 
-ROOT = Path(__file__).resolve().parent.parent
+CRATE = Path(__file__).resolve().parent.parent / "crates" / "case_answers"
 MOST_BYTES, MOST_TEXT = 900_000, 20_000
 COUNTED_STEPS = 1_000  # steps over which both counts of demand 3 are taken
 
@@ -42,12 +41,23 @@ class CaseFile:
     def add(self, record, answer):
         self.outputs.setdefault(record, engine.printed(answer))
 
-    def write(self, directory):
-        cases = b"".join(self.outputs)
+    def write(self, stage):
+        cases, parts = b"".join(self.outputs), output_parts()
         assert len(cases) < MOST_BYTES, len(cases)
-        (directory / "data").mkdir(parents=True, exist_ok=True)
-        (directory / "data" / "cases").write_bytes(cases)
-        (directory / "stdout").write_bytes(b"".join(self.outputs.values()))
+        parts[stage] = b"".join(self.outputs.values())
+        (CRATE / "data" / stage).write_bytes(cases)
+        (CRATE / "stdout").write_bytes(b"".join(parts.values()))
+        (CRATE / "parts").write_text("".join("%s %d\n" % (name, len(part)) for name, part in parts.items()))
+
+
+def output_parts():
+    """The output of each kind of cases, as the files have it."""
+    output, parts, at = (CRATE / "stdout").read_bytes(), {}, 0
+    for line in (CRATE / "parts").read_text().splitlines():
+        stage, size = line.split()
+        parts[stage], at = output[at : at + int(size)], at + int(size)
+    assert list(parts) == list(STAGES) and at == len(output), "stdout is not as parts says"
+    return parts
 
 
 def as_bytes(text):
@@ -189,6 +199,7 @@ def make_determinacy(cases):
     determinacy_cases.at_most_one_line(random.Random(determinacy_cases.SEED + 1), 1_000)
 
 
+# in the order of the program
 STAGES = {
     "read": make_read, "check": make_check, "run": make_run, "list": make_list, "trace": make_trace,
     "determinacy": make_determinacy,
@@ -204,7 +215,7 @@ def kind_of(output):
 def main(stage):
     cases = CaseFile()
     STAGES[stage](cases)
-    cases.write(ROOT / "crates" / (stage + "_cases"))
+    cases.write(stage)
     print("%d cases, %d bytes" % (len(cases.outputs), sum(map(len, cases.outputs))))
     for kind, count in sorted(Counter(map(kind_of, cases.outputs.values())).items()):
         print("%6d %s" % (count, kind))
