@@ -14,7 +14,7 @@ use Rattle.machine.specs.Substitution.{copied}
 use Rattle.machine.specs.Unification.{unify}
 use Rattle.machine.specs.Machine.{standing, step}
 use Rattle.machine.specs.Low.{Low}
-use Rattle.machine.proofs.Low.{low-step}
+use Rattle.machine_theorems.proofs.Low.{low-step}
 use Rattle.layout.specs.Regions.{trail, stateWords, alternativeOf, endKind, splitKind, nextLiteral, alternativeSize, mostAlternatives}
 use Rattle.layout.specs.Nodes.{Symbol, Stands}
 use Rattle.layout.specs.State.{bindings}

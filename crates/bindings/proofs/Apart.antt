@@ -9,7 +9,7 @@ use lib.ListN.{length, getD}
 use borrow.Author.Tests.{eqb-true, eqb-false}
 use Rattle.syntax.specs.Words.{firstName}
 use Rattle.machine.specs.Substitution.{Variable, RTerm, RTerms, rnil, occurs, occursIn, resolve}
-use Rattle.machine.proofs.Reached.{copied-copy}
+use Rattle.machine_theorems.proofs.Reached.{copied-copy}
 use Rattle.layout.specs.Regions.{copies, copyCells, cells, storeWords, loadedNode}
 use Rattle.layout.specs.Nodes.{Symbol, Node, termAt, termsAt}
 use Rattle.layout.specs.State.{variableOf, wordOf, nodeOf, copyOf, cellAt, trailAt, valueOf, bindings, Store, Within, boundWords}

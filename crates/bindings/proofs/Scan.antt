@@ -12,7 +12,7 @@ use borrow.Author.Tests.{lt-ltb, le-ltb, ltb-true, ltb-false, eqb-true, eqb-fals
 use Rattle.syntax.specs.Words.{firstName}
 use Rattle.machine.specs.Substitution.{Variable, sameVariable, RTerm, RTerms, var, app, rnil, rcons, occurs, occursIn, replace, Binding, resolve}
 use Rattle.machine.proofs.Tests.{either, or-left, or-right, variable-eq, variable-refl}
-use Rattle.machine.proofs.Terms.{resolveAll, resolve-app, resolve-nil, resolve-cons, occurs-replace}
+use Rattle.machine_theorems.proofs.Terms.{resolveAll, resolve-app, resolve-nil, resolve-cons, occurs-replace}
 use Rattle.layout.specs.Regions.{places, cells, trail, storeWords, loadedNode}
 use Rattle.layout.specs.Nodes.{Symbol, isSymbol, symbolOf, isListed, nameOf, loadedWords, loadedAll, isLoadable, areLoadable, bracketsOf, Stands, Node, Row, decoded, termAt, termsAt, followed}
 use Rattle.layout.specs.State.{cellOf, variableOf, wordOf, nodeOf, copyOf, cellAt, trailAt, valueOf, bindings, Entry, Store, Within, Keeps, boundWords}

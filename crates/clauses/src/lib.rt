@@ -1,4 +1,5 @@
 // Brackets, bodies and clauses into the node table.
+use packed_words::pack_marker;
 use parse_terms::read_atom;
 use plain_literals::read_plain;
 use reading::Parsed;
@@ -22,7 +23,6 @@ use syntax::RIGHT_KIND;
 use syntax::SEMICOLON;
 use syntax::STOP;
 use syntax::State;
-use syntax::pack_marker;
 ghost use mathlib.Core.Path.{_≡_};
 ghost use Prim.Native.Nat.{_+_, _-_, _≤_, _<_, _^_};
 ghost use lib.ListN.{length, set};

@@ -1,4 +1,6 @@
 // Declarations into their table.
+use packed_words::mark_number;
+use packed_words::pack_mark;
 use reading::Parsed;
 use reading::cursor::next;
 use reading::cursor::put;
@@ -14,8 +16,6 @@ use syntax::NODE_WORDS;
 use syntax::OPEN;
 use syntax::STOP;
 use syntax::State;
-use syntax::mark_number;
-use syntax::pack_mark;
 use texts::is_mode;
 ghost use mathlib.Core.Path.{_≡_};
 ghost use Prim.Native.Nat.{_+_, _*_, _≤_, _<_, _^_};

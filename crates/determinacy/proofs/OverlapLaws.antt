@@ -16,7 +16,7 @@ use Rattle.machine.specs.Substitution.{Binding}
 use Rattle.machine.specs.Machine.{isFor, nextFor, clauseAt}
 use Rattle.machine.specs.Determinacy.{inputsBy, inputs, joined, isJoined, joins, overlaps, firstOverlap}
 use Rattle.machine.proofs.Tests.{both, name-eq}
-use Rattle.machine.proofs.Grounding.{marks-same}
+use Rattle.machine_theorems.proofs.Grounding.{marks-same}
 use Rattle.layout.specs.Regions.{loadedNode, places, clauseRecord, clauseSize}
 use Rattle.layout.specs.Nodes.{Symbol, Stands, StandAll, loadedWords, loadedAll, isListed, isLoadable, areLoadable, bracketsOf, bracketsAll}
 use Rattle.layout.specs.State.{bindings}

@@ -11,7 +11,7 @@ use Rattle.syntax.specs.Words.{literalLength, bodyLength}
 use Rattle.syntax.specs.Verdicts.{accepted, goalOutcome}
 use Rattle.syntax.proofs.Induction.{Kept, sheet-read, goal-read}
 use Rattle.rules.specs.Checking.{checkedWith}
-use Rattle.rules.proofs.Accepting.{checked-sheet, read-goal}
+use Rattle.rules_theorems.proofs.Accepting.{checked-sheet, read-goal}
 use Rattle.machine.specs.Low.{LiteralFilled, BodyFilled, BodyShort, ClausesShort}
 use Rattle.layout.specs.Regions.{mostItems}
 use Rattle.layout.specs.Nodes.{bracketsOf, bracketsAll}

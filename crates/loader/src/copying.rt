@@ -1,11 +1,11 @@
 // The nodes of terms copied one behind the other, a name by its place.
 use layout::LOADED_NODE;
 use layout::pack_symbol;
+use packed_words::arity_of;
+use packed_words::length_of;
 use syntax::CLAUSE_START;
 use syntax::FIRST_NAME;
 use syntax::NODE_WORDS;
-use syntax::arity_of;
-use syntax::length_of;
 use words::CLAUSE_ITEMS;
 use words::past;
 use words::past_clause;

@@ -1,20 +1,15 @@
--- Computed cases of the test of document 02, (xii), from the text of a sheet to the answer; and a run that it speaks of.
+-- Computed cases of the test of document 02, (xii), from the text of a sheet to the answer.
 use Prim.Native.Nat.{ℕ}
 use Prim.Native.String.{String}
-use mathlib.Core.Path.{_≡_, refl, subst}
-use mathlib.Core.Bool.{false}
+use mathlib.Core.Path.{_≡_, refl}
 use mathlib.Core.List.{List, [], _∷_, map}
-use lib.Dec.{T}
 use Rattle.syntax.specs.Quote.{bytes}
-use Rattle.syntax.specs.Terms.{Goal}
-use Rattle.syntax.specs.Verdicts.{Outcome, refused, accepted}
 use Rattle.syntax.specs.declared.Refusal.the-variants.{Misplaced, Unwritten, OpenOutput}
-use Rattle.machine.specs.Determinacy.{isBracket, withoutBrackets, firstBracketed, keptIf, inputsBy, inputs, joinOn, joined, isJoined, joins, overlaps, firstOverlap, firstPair, against, Judged, declined, single, several, judgedBy, judgedFrom, judged, AtMostOneLine}
-use Rattle.machine.specs.Runs.{RunSettings, runOutcome, runText}
+use Rattle.machine.specs.Determinacy.{isBracket, withoutBrackets, firstBracketed, keptIf, inputsBy, inputs, joinOn, joined, isJoined, joins, overlaps, firstOverlap, firstPair, against, Judged, declined, single, several, judgedBy, judgedFrom, judged}
 use Rattle.machine.proofs.Compute.{computed}
-use Rattle.machine.proofs.AtMostOne.{at-most-one-line}
 
-unfoldable told : List ℕ → Judged
+-- what is judged of a sheet, every definition on the way opened
+unfoldable pub told : List ℕ → Judged
 unfolding computed isBracket withoutBrackets firstBracketed keptIf inputsBy inputs joinOn joined isJoined joins overlaps firstOverlap firstPair against judgedBy judgedFrom judged
 told sheet = judged sheet
 
@@ -67,21 +62,3 @@ cases =
 all-cases : map (λ (c : Case). told (c .sheet)) cases ≡ map (λ (c : Case). c .expected) cases
 unfolding told
 all-cases = refl
-
--- What the theorem asks for can be had: document 01's example, with the runner's settings.
-abbrev plus : List ℕ
-plus = bytes ":- mode plus(+,+,-). plus(z,N,N). plus(s(M),N,s(P)) :- plus(M,N,P)."
-
-abbrev goal : List ℕ
-goal = bytes "plus(s(z),z,X)."
-
-abbrev WithoutBrackets : Outcome Goal → Type 0
-WithoutBrackets (refused r) = ⊥
-WithoutBrackets (accepted g) = T (withoutBrackets (g .body))
-
-abbrev settings : RunSettings
-settings = record { allowance = 65536; wanted = 16; stored = false }
-
-pub example : AtMostOneLine (runText (runOutcome plus goal settings 4096))
-unfolding told
-example = at-most-one-line plus goal refl (λ g e. subst WithoutBrackets e tt) settings 4096

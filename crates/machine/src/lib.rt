@@ -1,1 +1,2 @@
-// No code: unification, document 01's machine, its runs and the two counts as definitions (specs/), and the theorems about them (proofs/).
+// No code: unification, document 01's machine, its runs and the two counts as definitions (specs/), with computed cases (proofs/). The theorems about them
+// are `machine_theorems`'s.

@@ -23,7 +23,7 @@ pub fn fault_numbers(text: Text, refusal: Refusal) -> [usize; FAULT]
     ensures { λ r. ⌜ r ≡ faultNumbers text refusal ⌝ }
 {
     let which = text_number(text);
-    let five = syntax::numbers(refusal);
+    let five = refusals::numbers(refusal);
     let name = names::name_span(refusal);
     [
         which,

@@ -1,5 +1,6 @@
 // Terms into the node table. Reading one term and reading a list of terms call each other, with fewer brackets left. `own` is a
 // copy of the reader for one call: compiled, a parameter that is handed on is copied whole at each entry, and `own` only where that call is made.
+use packed_words::pack_functor;
 use reading::Parsed;
 use reading::cursor::counted;
 use reading::cursor::full;
@@ -16,7 +17,6 @@ use syntax::NAME;
 use syntax::NODE_WORDS;
 use syntax::OPEN;
 use syntax::State;
-use syntax::pack_functor;
 ghost use mathlib.Core.Path.{_≡_};
 ghost use Prim.Native.Nat.{_+_, _-_, _≤_, _<_, _^_};
 ghost use lib.ListN.{length, set};

@@ -8,7 +8,7 @@ use Rattle.syntax.specs.declared.Run.{Run}
 use Rattle.syntax.specs.declared.Run.the-variants.{Ended, Refused}
 use Rattle.machine.specs.Runs.{RunSettings, RunOutcome, stopped, ran, runOutcome, runAnswer, runText}
 use Rattle.machine.specs.Claims.{RunOver}
-use Rattle.machine.proofs.EveryRun.{demand-3-runs}
+use Rattle.machine_theorems.proofs.EveryRun.{demand-3-runs}
 
 module _ (sheet goal : List ℕ) (asked : RunSettings) (room : ℕ) (r : Report) where
   reported : (o : RunOutcome) → runOutcome sheet goal asked room ≡ o → runAnswer o ≡ Ended r → RunOver sheet goal asked room r (runText o)

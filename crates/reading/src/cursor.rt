@@ -1,5 +1,7 @@
 // Where a reader stands, and what it stores.
 use crate::Parsed;
+use packed_words::span_at;
+use packed_words::span_length;
 use syntax::NAME;
 use syntax::NO_TOKEN;
 use syntax::NUMERAL;
@@ -7,8 +9,6 @@ use syntax::OVERLONG;
 use syntax::State;
 use syntax::Token;
 use syntax::VARIABLE;
-use syntax::span_at;
-use syntax::span_length;
 use texts::same_bytes;
 ghost use mathlib.Core.Path.{_≡_};
 ghost use Prim.Native.Nat.{_+_, _≤_, _<_, _^_};

@@ -1,13 +1,6 @@
 pub mod Terms
 pub mod Equations
-pub mod Marks
 pub mod Growth
 pub mod Passes
-pub mod Bodies
-pub mod Written
-pub mod Agreement
-pub mod Appended
 pub mod Cases
-pub mod Earlier
-pub mod Later
-pub mod Accepting
+pub mod JudgmentCases

@@ -9,7 +9,7 @@ use Rattle.syntax.specs.declared.Kind.the-variants.{Steps}
 use Rattle.machine.specs.Machine.{Alternative}
 use Rattle.machine.specs.Runs.{Progress, runFrom, begun, run}
 use Rattle.machine.specs.Low.{Low}
-use Rattle.machine.proofs.Low.{low-start}
+use Rattle.machine_theorems.proofs.Low.{low-start}
 use Rattle.alternatives.specs.Steps.{Startable, Started}
 use Rattle.turns.specs.Turns.{Turned, Underway}
 use Rattle.runs.specs.Running.{Runs, Leaves, Runnable}

@@ -16,7 +16,7 @@ use Rattle.buffers.specs.Buffers.{Put}
 use Rattle.buffers.proofs.Laws.{then, nothing}
 use Rattle.machine.specs.Substitution.{Variable, RTerm, RTerms, var, app, rnil, rcons, Binding, resolve}
 use Rattle.machine.specs.Answers.{Piece, byte, unbound, written, spelt, speltArgs, speltMore, bytesOf}
-use Rattle.machine.proofs.Terms.{resolveAll, resolve-app, resolve-nil, resolve-cons}
+use Rattle.machine_theorems.proofs.Terms.{resolveAll, resolve-app, resolve-nil, resolve-cons}
 use Rattle.machine.proofs.Tests.{both}
 use Rattle.layout.specs.Nodes.{Symbol, isSymbol, symbolOf, isListed, nameOf, Node, Stands, Row, loadedWords, isLoadable, areLoadable, termAt, termsAt}
 use Rattle.layout.specs.State.{cellOf, variableOf, bindings}

@@ -7,7 +7,7 @@ use lib.Seq.{sets}
 use Rattle.buffers.specs.Feeds.{pastLines}
 use Rattle.reports.specs.Reports.{reportLine}
 use Rattle.machine.specs.Runs.{Report, RunOutcome, ran, runOutcome}
-use Rattle.machine.proofs.Lines.{lines-of-a-run}
+use Rattle.machine_theorems.proofs.Lines.{lines-of-a-run}
 use Rattle.starred_cases.specs.Programs.{runLines, runner, runnerSettings, runnerText}
 
 -- The runner prints as many lines of the text that it lent as the run has answers, and then the report.

@@ -1,4 +1,5 @@
--- Computed cases of the definitions: each number from 2 to 7, ties at one byte, and every limit of document 01's table that a short text meets.
+-- Computed cases of the definitions: each number from 2 to 7, ties at one byte, every limit of document 01's table that a short text meets, and the five
+-- numbers of some refusals.
 use Prim.Native.Nat.{ℕ}
 use mathlib.Core.Path.{_≡_, refl}
 use mathlib.Core.List.{List, [], _∷_, map}
@@ -8,11 +9,14 @@ use Rattle.syntax.specs.Bytes.{classOf, inWord, inNumeral}
 use Rattle.syntax.specs.Tokens.{skipped, run, word, dashFirst, tokenOf, tokenFrom, tokenPlace, tokenAt}
 use Rattle.syntax.specs.Terms.{sameBytes, literalOf}
 use Rattle.syntax.specs.Reading.{andThen, standing, next, wrongNumber, wrong, beyond, full, numberOf, isAnonymous, withNew, newVariable, oldVariable, readVariable, atomWith, readAtomWith, termWith, readTermWith, argumentsAfter, readArguments, readList, readTerm, readAtom, readRight, afterAtom, afterTerm, literalWith, plainWith, readPlain, readLiteral, bodyAfter, readBodyWith, readSides, readTo, readBody, clauseAfter, readClause, marksAfter, marksWith, readMarks, marksOf, declarationEnd, declarationFrom, isMode, afterNeck, readDeclaration, itemWith, readItems, atStart, readSheet, goalEnd, readGoal, declares, repeats, firstRepeat}
+use Rattle.syntax.specs.Refusals.{five, numbersOf}
 use Rattle.syntax.specs.Verdicts.{withoutRepeats, sheetFrom, goalFrom, sheetOf, goalOutcome, sheetVerdict, goalVerdict, readVerdict, readGoalVerdict}
 use Rattle.syntax.specs.declared.Verdict.{Verdict}
 use Rattle.syntax.specs.declared.Verdict.the-variants.{Accepted, Refused}
 use Rattle.syntax.specs.declared.Text.the-variants.{Sheet, Goal}
-use Rattle.syntax.specs.declared.Refusal.the-variants.{TooLong, NoToken, Overlong, Misplaced, OverLimit, Repeated}
+use Rattle.syntax.specs.declared.Five.{Five}
+use Rattle.syntax.specs.declared.Refusal.{Refusal}
+use Rattle.syntax.specs.declared.Refusal.the-variants.{TooLong, NoToken, Overlong, Misplaced, OverLimit, Repeated, Undeclared, OpenInput, OpenOutput, Unwritten}
 
 -- texts of sheets, and the answers to them
 sheets : List (List ℕ)
@@ -135,6 +139,17 @@ goal-answers =
     ∷ Refused Goal (Misplaced 4)
     ∷ Accepted 0 0
     ∷ []
+
+-- refusals, and the five numbers of each: an input not known ground in literal 3 of clause 2, argument 1, its variable at byte 40; an output in its head
+refusals : List Refusal
+refusals = OverLimit 40 ∷ Undeclared 2 3 30 5 ∷ OpenInput 40 2 3 1 30 5 ∷ OpenOutput 40 2 1 30 5 ∷ Unwritten 40 ∷ []
+
+refusal-numbers : List Five
+refusal-numbers = five 6 40 0 0 0 ∷ five 8 0 2 3 0 ∷ five 9 40 2 3 1 ∷ five 10 40 2 0 1 ∷ five 16 40 0 0 0 ∷ []
+
+numbered : map numbersOf refusals ≡ refusal-numbers
+unfolding refusals refusal-numbers
+numbered = refl
 
 -- a sheet of one byte too many, and one at the most
 long : ℕ → List ℕ

@@ -3,12 +3,9 @@ use Prim.Native.Nat.{ℕ, _≤_, _<_}
 use native.Mathlib.Omega.{arith}
 use mathlib.Core.Path.{_≡_}
 use mathlib.Core.List.{List, _∷_}
-use borrow.Author.Tests.{eq-eqb, ne-eqb}
 use Rattle.syntax.specs.Limits.{lengths}
-use Rattle.syntax.specs.Reading.{signOf}
-use Rattle.syntax.specs.Tokens.{plusKind, minusKind, starKind}
 use Rattle.syntax.specs.Terms.{Mark, input, output, free}
-use Rattle.syntax.specs.Words.{firstName, functor, functorArity, functorLength, itemKinds, marker, itemKind, sideItems, markNumbers, markNumber, signNumber, withMark, marksNumber, firstMark, otherMarks}
+use Rattle.syntax.specs.Words.{firstName, functor, functorArity, functorLength, itemKinds, marker, itemKind, sideItems, markNumbers, markNumber, withMark, marksNumber, firstMark, otherMarks}
 
 -- ---- a name's first word
 
@@ -33,19 +30,6 @@ with-first m others h = omega arith
 
 pub with-others : (m others : ℕ) → m < markNumbers → otherMarks (withMark m others) ≡ others
 with-others m others h = omega arith
-
--- the number of a token, one law for each way out of `mark_number`
-pub sign-plus : (k : ℕ) → k ≡ plusKind → markNumber input ≡ signNumber (signOf k)
-sign-plus k e = simp (eq-eqb k plusKind e)
-
-pub sign-minus : (k : ℕ) → (k ≡ plusKind → ⊥) → k ≡ minusKind → markNumber output ≡ signNumber (signOf k)
-sign-minus k f e = simp (ne-eqb k plusKind f, eq-eqb k minusKind e)
-
-pub sign-star : (k : ℕ) → (k ≡ plusKind → ⊥) → (k ≡ minusKind → ⊥) → k ≡ starKind → markNumber free ≡ signNumber (signOf k)
-sign-star k f g e = simp (ne-eqb k plusKind f, ne-eqb k minusKind g, eq-eqb k starKind e)
-
-pub sign-none : (k : ℕ) → (k ≡ plusKind → ⊥) → (k ≡ minusKind → ⊥) → (k ≡ starKind → ⊥) → 0 ≡ signNumber (signOf k)
-sign-none k f g h = simp (ne-eqb k plusKind f, ne-eqb k minusKind g, ne-eqb k starKind h)
 
 -- no mark has the number 0, and each fits its place
 pub mark-some : (m : Mark) → 1 ≤ markNumber m

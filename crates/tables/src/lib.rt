@@ -1,6 +1,9 @@
 // A sheet and a goal in tables: read into words, the sheet held against its marks. Document 01 is the paper "Rule sheets".
 use marking::Checked;
 use parser::sheets::read_items;
+use refusals::fault_of;
+use refusals::is_long_goal;
+use refusals::is_long_sheet;
 use repeats::first_repeat;
 use syntax::DECLARED_WORDS;
 use syntax::GOAL_WORDS;
@@ -8,9 +11,6 @@ use syntax::Refusal;
 use syntax::SHEET_WORDS;
 use syntax::Text;
 use syntax::Verdict;
-use syntax::fault_of;
-use syntax::is_long_goal;
-use syntax::is_long_sheet;
 use written::check_sheet;
 ghost use mathlib.Core.Path.{_≡_};
 ghost use Prim.Native.Nat.{_≤_, _<_, _^_};

@@ -16,7 +16,7 @@ use Rattle.syntax.specs.declared.Kind.the-variants.{Full}
 use Rattle.buffers.proofs.Laws.{sets-append}
 use Rattle.machine.specs.Machine.{Alternative, step, start}
 use Rattle.machine.specs.Low.{Low}
-use Rattle.machine.proofs.Low.{low-step}
+use Rattle.machine_theorems.proofs.Low.{low-step}
 use Rattle.machine.specs.Answers.{line}
 use Rattle.machine.specs.Runs.{Progress, Ended, isEmpty, isAnswer, nextLine, goesDeeper, runFrom, begun, run}
 use Rattle.layout.specs.Nodes.{Symbol}

@@ -7,7 +7,7 @@ use mathlib.Core.List.{List, [], _∷_, _++_, append-assoc}
 use lib.Dec.{eqb}
 use borrow.Author.Tests.{eqb-true, eqb-false}
 use Rattle.machine.specs.Substitution.{RTerm, RTerms, app, rnil, rcons, Binding, resolve}
-use Rattle.machine.proofs.Terms.{resolveAll, resolve-app, resolve-cons, grows-more}
+use Rattle.machine_theorems.proofs.Terms.{resolveAll, resolve-app, resolve-cons, grows-more}
 use Rattle.layout.specs.Regions.{rows}
 use Rattle.layout.specs.Nodes.{Symbol, termsAt, followed}
 use Rattle.bindings.specs.declared.stack.Side.{Side}

@@ -11,7 +11,7 @@ use lib.ListN.{length, getD}
 use borrow.Author.Tests.{ltb-true, ltb-false}
 use Rattle.syntax.specs.Words.{firstName}
 use Rattle.machine.specs.Substitution.{RTerm, RTerms, var, app, rnil, rcons, Binding, resolve}
-use Rattle.machine.proofs.Terms.{resolveAll, resolve-app, resolve-nil, resolve-cons}
+use Rattle.machine_theorems.proofs.Terms.{resolveAll, resolve-app, resolve-nil, resolve-cons}
 use Rattle.layout.specs.Regions.{loadedNode}
 use Rattle.layout.specs.Nodes.{Symbol, nameOf, Node, Row, termAt, termsAt, followed, count}
 use Rattle.layout.proofs.Nodes.{node-inside, node-end, node-size, variable-at, variable-size, compound-at, compound-row, row-one, row-one-is, row-order, row-none, row-first, row-rest, row-cons, row-open, row-opened, same-count, other-symbol, row-join, row-joined}

@@ -13,8 +13,8 @@ use Rattle.machine.specs.Substitution.{Variable, sameVariable, isLater, RTerm, 
 use Rattle.machine.specs.Unification.{Difference, same, clash, apart, differVariables, differMixed, orElse, differ, differAll, bound, rounds, places, unify}
 use Rattle.machine.specs.Unifiers.{MostGeneral}
 use Rattle.machine.proofs.Tests.{variable-refl, variable-sym, name-refl}
-use Rattle.machine.proofs.Terms.{resolveAll, resolve-app, resolve-nil, resolve-cons, grows-more}
-use Rattle.machine.proofs.Unifier.{unify-unbounded, unify-some}
+use Rattle.machine_theorems.proofs.Terms.{resolveAll, resolve-app, resolve-nil, resolve-cons, grows-more}
+use Rattle.machine_theorems.proofs.Unifier.{unify-unbounded, unify-some}
 use Rattle.layout.specs.Regions.{copyCells}
 use Rattle.layout.specs.Nodes.{followed, count}
 use Rattle.layout.specs.State.{variableOf}

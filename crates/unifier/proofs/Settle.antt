@@ -12,7 +12,7 @@ use borrow.Author.Tests.{eqb-true, eqb-false}
 use Rattle.syntax.specs.Words.{firstName}
 use Rattle.machine.specs.Substitution.{Variable, sameVariable, isLater, RTerm, RTerms, var, app, rnil, rcons, occurs, occursIn, Binding, resolve}
 use Rattle.machine.proofs.Tests.{variable-eq}
-use Rattle.machine.proofs.Terms.{resolveAll, resolve-app}
+use Rattle.machine_theorems.proofs.Terms.{resolveAll, resolve-app}
 use Rattle.layout.specs.Regions.{copies, copyCells, places, stack, pairs, pairOf, memo, rows, loadedNode, pairSize}
 use Rattle.layout.specs.Nodes.{Symbol, nameOf, Node, Row, termAt, termsAt, followed, count}
 use Rattle.layout.specs.State.{cellOf, variableOf, wordOf, cellAt, valueOf, bindings, Store}

@@ -25,7 +25,7 @@ pub fn append_verdict(verdict: Verdict, out: &mut [u8]) -> usize
         Verdict::Refused { text, refusal } => {
             let past_word = append(b"refused", out, 0);
             let past_text = append_text(text, out, past_word);
-            let numbers = syntax::numbers(refusal);
+            let numbers = refusals::numbers(refusal);
             append_five(numbers, out, past_text)
         }
     }

@@ -8,7 +8,7 @@ use borrow.Fn.PlainCycle.{Measures, is, falls, and}
 use Rattle.declarations.proofs.read_marks.Reads as read-marks
 use Rattle.declarations.proofs.read_marks.Kinds as read-marks-kinds
 use Rattle.declarations.proofs.+read_marks.Lts-read_marks as read-marks-lts
-use Rattle.syntax.proofs.mark_number.Reads as mark-number-reads
+use Rattle.packed_words.proofs.mark_number.Reads as mark-number-reads
 use Rattle.declarations.proofs.marked.Reads as marked-reads
 use Rattle.reading.proofs.cursor.next.Reads as next-reads
 use Rattle.reading.proofs.cursor.refuse.Reads as refuse-reads

@@ -12,7 +12,7 @@ use Rattle.judging.proofs.first_open.Kinds as first-open-kinds
 use Rattle.judging.proofs.+first_open.Lts-first_open as first-open-lts
 use Rattle.judging.proofs.marked_test.Reads as marked-test-reads
 use Rattle.words.proofs.past.Reads as past-reads
-use Rattle.syntax.proofs.other_marks.Reads as other-marks-reads
+use Rattle.packed_words.proofs.other_marks.Reads as other-marks-reads
 use Rattle.judging.proofs.+first_open.{statement}
 use Rattle.judging.proofs.+first_open.Tie.{close}
 

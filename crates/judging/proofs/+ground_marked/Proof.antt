@@ -12,8 +12,8 @@ use Rattle.judging.proofs.ground_marked.Reads as ground-marked
 use Rattle.judging.proofs.ground_marked.Kinds as ground-marked-kinds
 use Rattle.judging.proofs.+ground_marked.Lts-ground_marked as ground-marked-lts
 use Rattle.words.proofs.past.Reads as past-reads
-use Rattle.syntax.proofs.first_mark.Reads as first-mark-reads
-use Rattle.syntax.proofs.other_marks.Reads as other-marks-reads
+use Rattle.packed_words.proofs.first_mark.Reads as first-mark-reads
+use Rattle.packed_words.proofs.other_marks.Reads as other-marks-reads
 use Rattle.marking.proofs.terms.ground_term.Reads as ground-term-reads
 
 abbrev μ-ground-marked : Measures 1 ground-marked-kinds.ps ℕ

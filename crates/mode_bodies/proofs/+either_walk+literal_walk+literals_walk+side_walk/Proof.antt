@@ -26,7 +26,7 @@ use Rattle.mode_bodies.proofs.+either_walk+literal_walk+literals_walk+s
 use Rattle.flags.proofs.in_both.Reads as in-both-reads
 use Rattle.mode_literals.proofs.plain_walk.Reads as plain-walk-reads
 use Rattle.marking.proofs.is_fault.Reads as is-fault-reads
-use Rattle.syntax.proofs.items_of_side.Reads as items-of-side-reads
+use Rattle.packed_words.proofs.items_of_side.Reads as items-of-side-reads
 use Rattle.words.proofs.word_at.Reads as word-at-reads
 use Rattle.mode_bodies.proofs.+either_walk+literal_walk+literals_walk+side_walk.{statement}
 use Rattle.mode_bodies.proofs.+either_walk+literal_walk+literals_walk+side_walk.Tie.{close}

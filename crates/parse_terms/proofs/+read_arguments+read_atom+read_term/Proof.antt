@@ -15,7 +15,7 @@ use Rattle.parse_terms.proofs.+read_arguments+read_atom+read_term.Lts-r
 use Rattle.parse_terms.proofs.read_term.Reads as read-term
 use Rattle.parse_terms.proofs.read_term.Kinds as read-term-kinds
 use Rattle.parse_terms.proofs.+read_arguments+read_atom+read_term.Lts-read_term as read-term-lts
-use Rattle.syntax.proofs.pack_functor.Reads as pack-functor-reads
+use Rattle.packed_words.proofs.pack_functor.Reads as pack-functor-reads
 use Rattle.reading.proofs.cursor.next.Reads as next-reads
 use Rattle.reading.proofs.cursor.refuse.Reads as refuse-reads
 use Rattle.reading.proofs.cursor.wrong.Reads as wrong-reads

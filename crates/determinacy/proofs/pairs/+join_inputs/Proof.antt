@@ -10,7 +10,7 @@ use Rattle.determinacy.proofs.pairs.join_inputs.Reads as join-inputs
 use Rattle.determinacy.proofs.pairs.join_inputs.Kinds as join-inputs-kinds
 use Rattle.determinacy.proofs.pairs.+join_inputs.Lts-join_inputs as join-inputs-lts
 use Rattle.determinacy.proofs.pairs.unify_input.Reads as unify-input-reads
-use Rattle.syntax.proofs.other_marks.Reads as other-marks-reads
+use Rattle.packed_words.proofs.other_marks.Reads as other-marks-reads
 use Rattle.words.proofs.past.Reads as past-reads
 use Rattle.determinacy.proofs.pairs.+join_inputs.{statement}
 use Rattle.determinacy.proofs.pairs.+join_inputs.Tie.{close}
