@@ -58,6 +58,21 @@ def over_one_term(n):
     return sheet, numeral("N", n) + ["large(L)", "big(N,G,L)", "free(N,V)", "same(N,W,G)", "V = W"]
 
 
+def over_many_terms(n):
+    """The same, where the term has n copies of one large clause term: no two cells are bound to the same."""
+    held = names("A", 48)
+    sheet = [
+        ":- mode big(*,*). :- mode free(*,*). :- mode same(*,*,*).",
+        "big(z,o).",
+        "big(s(N),f(R," + term(["X"] * (40 * n)) + ")) :- big(N,R).",
+        "free(z,o).",
+        "free(s(N),f(R," + term(held) + ")) :- free(N,R).",
+        "same(z,o,G).",
+        "same(s(N),f(R," + term(["G"] * 48) + "),G) :- same(N,R,G).",
+    ]
+    return sheet, numeral("N", n) + ["big(N,G)", "free(N,V)", "same(N,W,G)", "V = W"]
+
+
 def chained(level, before, copies):
     """A variable at the end of a chain through a third of the copies, in two towers of so many levels that are then unified."""
     links = names("X", LINKS)
@@ -87,17 +102,27 @@ def chains(n):
     return sheet, numeral("N", max(1, n // 2)) + body
 
 
-KINDS = {"over-one-term": (over_one_term, 37), "light-pairs": (light_pairs, 80), "chains": (chains, 55)}
+KINDS = {
+    "over-one-term": (over_one_term, 37),
+    "over-many-terms": (over_many_terms, 40),
+    "light-pairs": (light_pairs, 80),
+    "chains": (chains, 55),
+}
+
+
+def texts(kind, n):
+    """A sheet and a goal."""
+    sheet, body = KINDS[kind][0](n)
+    return "\n".join([*sheet, ":- mode run.", "run :- " + ", ".join(body) + "."]) + "\n", "run.\n"
 
 
 def write(kind, n, folder):
-    sheet, body = KINDS[kind][0](n)
-    sheet += [":- mode run.", "run :- " + ", ".join(body) + "."]
-    texts = {"sheet": "\n".join(sheet) + "\n", "goal": "run.\n"}
-    for name, text in texts.items():
+    sizes = {}
+    for name, text in zip(("sheet", "goal"), texts(kind, n)):
+        sizes[name] = len(text)
         with open(os.path.join(folder, name), "w") as f:
             f.write(text)
-    return {name: len(text) for name, text in texts.items()}
+    return sizes
 
 
 def seconds(runner, folder):
@@ -112,7 +137,7 @@ def measure(runner, kind, n):
     with tempfile.TemporaryDirectory() as folder:
         sizes = write(kind, n, folder)
         taken, last = seconds(runner, folder)
-    print(f"{kind:14} n {n:4} sheet {sizes['sheet']:6} goal {sizes['goal']:5}  {taken:8.2f} s  {last}", flush=True)
+    print(f"{kind:15} n {n:4} sheet {sizes['sheet']:6} goal {sizes['goal']:5}  {taken:8.2f} s  {last}", flush=True)
     return taken
 
 
@@ -126,7 +151,7 @@ def main(args):
         n = int(args[1]) if len(args) > 1 else KINDS[kind][1]
         first, second = measure(runner, kind, n), measure(runner, kind, 2 * n)
         ratio = second / max(first, 0.02)
-        print(f"{kind:14} {ratio:.1f} times as long")
+        print(f"{kind:15} {ratio:.1f} times as long")
         slow += [kind] if ratio > RATIO else []
     print("slow: " + ", ".join(slow) if slow else "none is slow")
     return 1 if slow else 0

@@ -3,6 +3,7 @@
 import random
 from itertools import product
 
+import adversary
 import determinacy_cases
 import engine
 import examples
@@ -425,6 +426,12 @@ def filled(add):
             add(sheet, "add(%s,%s,_K), add(%s,_K,_L), go(_L,%s)." % tuple(parts))
 
 
+def slow_steps(add):
+    """One step that is made to take long, of each kind: over chains as large as a sheet can have it, over terms as there is room for."""
+    for kind, n in (("over-one-term", 18), ("over-many-terms", 3), ("light-pairs", 160), ("chains", 110)):
+        add(*adversary.texts(kind, n))
+
+
 def rooms(add):
     """A line that does not fit ends the run, though later ones would."""
     sheet = ":-mode p(*). p(a). p(f(f(f(b)))). p(c). p(X). p(d)."
@@ -520,6 +527,7 @@ def make(add, rng):
     large_terms(add)
     crowds(add)
     filled(add)
+    slow_steps(add)
     rooms(add)
     long_runs(add)
     sixty_four(add)

@@ -1,21 +1,23 @@
 -- Laws of what the occurs check need not look at: constants, and terms of closed copies. Assumes nothing.
 use Prim.Native.Nat.{ℕ, _+_, _*_, _≤_, _<_}
 use native.Mathlib.Omega.{arith}
-use mathlib.Core.Path.{_≡_, refl, subst, subst⁻¹}
+use mathlib.Core.Path.{_≡_, refl, sym, ap, _∙_, subst, subst⁻¹}
 use mathlib.Core.Bool.{Bool, true, false}
 use mathlib.Core.List.{List}
+use mathlib.Core.Logic.{inl, inr}
 use lib.Dec.{T, eqb}
 use lib.ListN.{length, getD}
 use borrow.Author.Tests.{eqb-true, eqb-false}
 use Rattle.syntax.specs.Words.{firstName}
-use Rattle.machine.specs.Substitution.{Variable, RTerm, RTerms, rnil, occurs, occursIn, resolve}
+use Rattle.machine.specs.Substitution.{Variable, RTerm, RTerms, var, rnil, occurs, occursIn, resolve}
+use Rattle.machine.proofs.Tests.{variable-eq}
 use Rattle.machine_theorems.proofs.Reached.{copied-copy}
 use Rattle.layout.specs.Regions.{copies, copyCells, cells, storeWords, loadedNode}
 use Rattle.layout.specs.Nodes.{Symbol, Node, termAt, termsAt}
-use Rattle.layout.specs.State.{variableOf, wordOf, nodeOf, copyOf, cellAt, trailAt, valueOf, bindings, Store, Within, boundWords}
-use Rattle.layout.proofs.Nodes.{node-inside, term-at, compound-at, row-one, row-none, row-open}
-use Rattle.layout.proofs.State.{copy-word, bound-cell, bound-cells, keeps-refl}
-use Rattle.bindings.specs.Queues.{Checkable, Checked, Closed, Closing}
+use Rattle.layout.specs.State.{cellOf, variableOf, wordOf, nodeOf, copyOf, cellAt, trailAt, valueOf, bindings, Store, Within, boundWords}
+use Rattle.layout.proofs.Nodes.{node-inside, term-at, variable-at, compound-at, row-one, row-none, row-open}
+use Rattle.layout.proofs.State.{variable-cell, cell-eq, cell-small, resolve-unbound, copy-word, bound-cell, bound-cells, keeps-refl}
+use Rattle.bindings.specs.Queues.{Checkable, Checked, Closed, Other, Plain, Closing}
 use Rattle.bindings.proofs.Scan.{closed-under, is-false}
 
 at-copy : (ss : List Symbol) (nodes : List ℕ) (q d : ℕ) → Node ss nodes q → (v : Variable) → T (occurs v (termAt ss nodes q d)) → v .copy ≡ d
@@ -35,7 +37,7 @@ module _ (ss : List Symbol) (nodes state : List ℕ) (n k : ℕ) (store : Store 
   apart-free : (x q d : ℕ) → Node ss nodes q → d < k → k * copyCells ≤ x → T (occurs (variableOf x) (resolve (bindings ss nodes state n) (termAt ss nodes q d))) → ⊥
   apart-free x q d node l h o = let z : variableOf x .copy < k = below q d node l (variableOf x) o in let y : k * copyCells ≤ x = h in omega arith
 
-pub apart-checked : (nodes state scratch : List ℕ) (x q d k : ℕ) (g : Checkable nodes state scratch x q d) → Closed k state → (k * copyCells ≤ x) × (d < k) → Checked (g .ss) nodes state (g .n) scratch scratch x q d false
+apart-checked : (nodes state scratch : List ℕ) (x q d k : ℕ) (g : Checkable nodes state scratch x q d) → Closed k state → (k * copyCells ≤ x) × (d < k) → Checked (g .ss) nodes state (g .n) scratch scratch x q d false
 apart-checked nodes state scratch x q d k g closed h =
     record {
       answer = is-false (occurs (variableOf x) (resolve (bindings (g .ss) nodes state (g .n)) (termAt (g .ss) nodes q d))) (apart-free (g .ss) nodes state (g .n) k (g .store) closed x q d (g .node) (h .1) (h .0));
@@ -45,10 +47,10 @@ apart-checked nodes state scratch x q d k g closed h =
 
 -- ---- a name without arguments
 
-pub constant-inside : (nodes state scratch : List ℕ) (x q d : ℕ) → Checkable nodes state scratch x q d → q + 1 < length nodes
-constant-inside nodes state scratch x q d g = let a : q + loadedNode ≤ length nodes = node-inside (g .ss) nodes q (g .node) in omega arith
+pub check-inside : (nodes state scratch : List ℕ) (x q d : ℕ) → Checkable nodes state scratch x q d → q + 1 < length nodes
+check-inside nodes state scratch x q d g = let a : q + loadedNode ≤ length nodes = node-inside (g .ss) nodes q (g .node) in omega arith
 
-pub constant-checked : (nodes state scratch : List ℕ) (x q d : ℕ) (g : Checkable nodes state scratch x q d) → (firstName ≤ getD nodes q 0) × (getD nodes (q + 1) 0 ≡ loadedNode) → Checked (g .ss) nodes state (g .n) scratch scratch x q d false
+constant-checked : (nodes state scratch : List ℕ) (x q d : ℕ) (g : Checkable nodes state scratch x q d) → (firstName ≤ getD nodes q 0) × (getD nodes (q + 1) 0 ≡ loadedNode) → Checked (g .ss) nodes state (g .n) scratch scratch x q d false
 constant-checked nodes state scratch x q d g h =
     record {
       answer = is-false (occurs (variableOf x) (resolve (bindings (g .ss) nodes state (g .n)) (termAt (g .ss) nodes q d))) (closed-under (g .ss) nodes state (λ (v : Variable). ⊥) (g .n) (λ i l p v o. p) (termAt (g .ss) nodes q d) bare (variableOf x));
@@ -63,6 +65,31 @@ constant-checked nodes state scratch x q d g h =
 
     bare : (v : Variable) → T (occurs v (termAt (g .ss) nodes q d)) → ⊥
     bare v o = subst (λ (ts : RTerms). T (occursIn v ts)) none (subst (λ (t : RTerm). T (occurs v t)) (compound-at (g .ss) nodes q (g .node) d (h .0)) o)
+
+-- ---- another unbound variable
+
+pub other-is : {nodes state : List ℕ} {x q d w y z : ℕ} → w ≡ getD nodes q 0 → w < firstName → y ≡ cellOf d w → z ≡ getD state y 0 → z ≡ 0 → (y ≡ x → ⊥) → Other nodes state x q d
+other-is {nodes} {state} {x} {q} {d} {w} {y} ew l ey ez h o =
+    let e : y ≡ cellOf d (getD nodes q 0) = ey ∙ ap (cellOf d) ew in
+    record { variable = subst (λ (k : ℕ). k < firstName) ew l; unbound = sym (ap (cellAt state) e) ∙ (sym ez ∙ h); other = λ z. o (e ∙ z) }
+
+other-checked : (nodes state scratch : List ℕ) (x q d : ℕ) (g : Checkable nodes state scratch x q d) → Other nodes state x q d → Checked (g .ss) nodes state (g .n) scratch scratch x q d false
+other-checked nodes state scratch x q d g h =
+    record {
+      answer = is-false (occurs (variableOf x) (resolve (bindings (g .ss) nodes state (g .n)) (termAt (g .ss) nodes q d))) (λ o. h .other (sym (cell-eq x (cellOf d (getD nodes q 0)) (variable-eq (variableOf x) (variableOf (cellOf d (getD nodes q 0))) (subst (λ (t : RTerm). T (occurs (variableOf x) t)) is o)))));
+      clean = g .clean;
+      keeps = keeps-refl 0 scratch;
+    }
+  where
+    is : resolve (bindings (g .ss) nodes state (g .n)) (termAt (g .ss) nodes q d) ≡ var (variableOf (cellOf d (getD nodes q 0)))
+    is =
+        ap (resolve (bindings (g .ss) nodes state (g .n))) (variable-at (g .ss) nodes q (g .node) d (h .variable) ∙ ap var (sym (variable-cell d (getD nodes q 0) (h .variable))))
+        ∙ resolve-unbound (g .ss) nodes state (g .n) (cellOf d (getD nodes q 0)) (g .store) (cell-small d (getD nodes q 0) (g .copy) (h .variable)) (h .unbound)
+
+pub plain-checked : (nodes state scratch : List ℕ) (x q d k : ℕ) (g : Checkable nodes state scratch x q d) → Closed k state → Plain nodes state x q d k → Checked (g .ss) nodes state (g .n) scratch scratch x q d false
+plain-checked nodes state scratch x q d k g closed (inl h) = apart-checked nodes state scratch x q d k g closed h
+plain-checked nodes state scratch x q d k g closed (inr (inl h)) = constant-checked nodes state scratch x q d g h
+plain-checked nodes state scratch x q d k g closed (inr (inr h)) = other-checked nodes state scratch x q d g h
 
 -- ---- which copies are closed
 

@@ -48,11 +48,11 @@ bound-cell-is ss nodes state n x store l z =
 unfoldable pub depth : List ℕ → ℕ → ℕ → ℕ
 depth nodes p c = elim (ltb (getD nodes p 0) firstName) [ true ↦ suc (cellOf c (getD nodes p 0)) | false ↦ 0 ]
 
-depth-variable : (nodes : List ℕ) (p c : ℕ) → getD nodes p 0 < firstName → depth nodes p c ≡ suc (cellOf c (getD nodes p 0))
+pub depth-variable : (nodes : List ℕ) (p c : ℕ) → getD nodes p 0 < firstName → depth nodes p c ≡ suc (cellOf c (getD nodes p 0))
 unfolding depth
 depth-variable nodes p c l = ap (λ (b : Bool). elim b [ true ↦ suc (cellOf c (getD nodes p 0)) | false ↦ 0 ]) (lt-ltb (getD nodes p 0) firstName l)
 
-depth-name : (nodes : List ℕ) (p c : ℕ) → firstName ≤ getD nodes p 0 → depth nodes p c ≡ 0
+pub depth-name : (nodes : List ℕ) (p c : ℕ) → firstName ≤ getD nodes p 0 → depth nodes p c ≡ 0
 unfolding depth
 depth-name nodes p c l = ap (λ (b : Bool). elim b [ true ↦ suc (cellOf c (getD nodes p 0)) | false ↦ 0 ]) (le-ltb (getD nodes p 0) firstName l)
 

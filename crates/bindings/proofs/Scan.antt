@@ -118,13 +118,14 @@ occurs-followed v (rcons t ts) us = ap (λ (b : Bool). occurs v t || b) (occurs-
     or-assoc true b c = refl
     or-assoc false b c = refl
 
-record NodeStep (ss : List Symbol) (nodes : List ℕ) (i e d : ℕ) : Type 0 where
-  row : Row ss nodes (i + loadedNode) e
-  down : (v : Variable) → T (occursIn v (termsAt ss nodes (i + loadedNode) e d)) → T (occursIn v (termsAt ss nodes i e d))
-  here : getD nodes i 0 < firstName → T (occursIn (record { copy = d; number = getD nodes i 0 }) (termsAt ss nodes i e d))
-  split : (v : Variable) → T (occursIn v (termsAt ss nodes i e d)) → ((getD nodes i 0 < firstName) × (v ≡ record { copy = d; number = getD nodes i 0 })) ⊎ T (occursIn v (termsAt ss nodes (i + loadedNode) e d))
+-- from a node to the next: its arguments, or what stands behind a variable
+pub record NodeStep (ss : List Symbol) (nodes : List ℕ) (i e d : ℕ) : Type 0 where
+  pub row : Row ss nodes (i + loadedNode) e
+  pub down : (v : Variable) → T (occursIn v (termsAt ss nodes (i + loadedNode) e d)) → T (occursIn v (termsAt ss nodes i e d))
+  pub here : getD nodes i 0 < firstName → T (occursIn (record { copy = d; number = getD nodes i 0 }) (termsAt ss nodes i e d))
+  pub split : (v : Variable) → T (occursIn v (termsAt ss nodes i e d)) → ((getD nodes i 0 < firstName) × (v ≡ record { copy = d; number = getD nodes i 0 })) ⊎ T (occursIn v (termsAt ss nodes (i + loadedNode) e d))
 
-node-step : (ss : List Symbol) (nodes : List ℕ) (i e d : ℕ) → Row ss nodes i e → i < e → NodeStep ss nodes i e d
+pub node-step : (ss : List Symbol) (nodes : List ℕ) (i e d : ℕ) → Row ss nodes i e → i < e → NodeStep ss nodes i e d
 node-step ss nodes i e d r l = go (ltb (getD nodes i 0) firstName) refl
   where
     node : Node ss nodes i
@@ -240,7 +241,7 @@ module _ (nodes state before after : List ℕ) (q e d x m i n : ℕ) (g : Scanna
     pub scan-visit : Visitable nodes state after i d n
     scan-visit = record { inside = scan-place; copy = g .copy; long = g .long; queued = s .queued }
 
-    pub scan-found : (b : Bool) → b ≡ isCell nodes i d x → b ≡ true → Scanned (g .ss) nodes state before after q d x m (record { found = true; n = n })
+    pub scan-found : {k : ℕ} (b : Bool) → b ≡ isCell nodes i d x → b ≡ true → Scanned (g .ss) nodes state before after q d x m (record { found = true; n = n; cost = k })
     scan-found b f t =
         let h : (getD nodes i 0 < firstName) × (cellOf d (getD nodes i 0) ≡ x) = cell-is nodes i d x (sym f ∙ t) in
         record {
@@ -279,7 +280,7 @@ module _ (nodes state before after : List ℕ) (q e d x m i n : ℕ) (g : Scanna
           | inr z ↦ inr z
         ]
 
-  pub scan-end : e ≤ i → Scanned (g .ss) nodes state before after q d x m (record { found = false; n = n })
+  pub scan-end : {k : ℕ} → e ≤ i → Scanned (g .ss) nodes state before after q d x m (record { found = false; n = n; cost = k })
   scan-end l =
       record {
         grows = s .grows;
@@ -377,7 +378,7 @@ module _ (nodes state scratch : List ℕ) (k n : ℕ) (g : Lookable nodes state 
       pub look-some : 1 ≤ w
       look-some = let z : w ≡ 0 → ⊥ = (λ h. g .queued .bound k (g .place) (sym word ∙ h)) in omega (arith, z)
 
-      pub look-seen : {x : ℕ} → Seen state scratch w k → Looked (g .ss) nodes state scratch scratch x k n (record { found = false; n = n })
+      pub look-seen : {x i : ℕ} → Seen state scratch w k → Looked (g .ss) nodes state scratch scratch x k n (record { found = false; n = n; cost = i })
       look-seen h =
           record {
             grows = omega arith;
@@ -519,7 +520,7 @@ module _ (nodes state before after : List ℕ) (x m k j : ℕ) (g : Searchable n
               let y1 : i < j = omega arith in
               earlier i z v (subst (λ (u : ℕ). T (occurs v (valueOf (g .ss) nodes (cellAt state u)))) (looked .keeps .entry i y1) q)
 
-  pub search-end : j ≤ k → Searched (g .ss) nodes state (g .n) before after x m (record { found = false; n = j })
+  pub search-end : {i : ℕ} → j ≤ k → Searched (g .ss) nodes state (g .n) before after x m (record { found = false; n = j; cost = i })
   search-end l =
       record { grows = s .grows; keeps = s .keeps; queued = s .queued; found = λ h. absurd (subst T (sym h) tt); clear = λ h i q. s .clear i (omega arith) }
 

@@ -155,6 +155,17 @@ pub record Closed (k : ℕ) (state : List ℕ) : Type 0 where
   pub few : k ≤ copies
   pub copy : (y : ℕ) → y < k * copyCells → copyOf (cellAt state y) < k
 
+-- The term at q, in copy d, is an unbound variable other than that of cell x.
+pub record Other (nodes state : List ℕ) (x q d : ℕ) : Type 0 where
+  pub variable : getD nodes q 0 < firstName
+  pub unbound : cellAt state (cellOf d (getD nodes q 0)) ≡ 0
+  pub other : cellOf d (getD nodes q 0) ≡ x → ⊥
+
+-- Cell x belongs to a copy from k on, and the term at q to one below; or the term is a constant; or it is another unbound variable.
+abbrev pub Plain : List ℕ → List ℕ → ℕ → ℕ → ℕ → ℕ → Type 0
+Plain nodes state x q d k =
+    ((k * copyCells ≤ x) × (d < k)) ⊎ (((firstName ≤ getD nodes q 0) × (getD nodes (q + 1) 0 ≡ loadedNode)) ⊎ Other nodes state x q d)
+
 -- Where the copies below k are closed, those below r are, and stay so when cell x is bound to a term of copy d.
 pub record Closing (k x d r : ℕ) : Type 0 where
   pub closed : (state : List ℕ) → Closed k state → Closed r state

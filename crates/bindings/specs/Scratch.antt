@@ -3,7 +3,7 @@ use Prim.Native.Nat.{ℕ, _+_, _*_, _≤_, _<_}
 use mathlib.Core.Path.{_≡_}
 use mathlib.Core.List.{List}
 use lib.ListN.{length, getD, set}
-use Rattle.layout.specs.Regions.{storeWords, pairOf, rows, sideSize}
+use Rattle.layout.specs.Regions.{stack, pairOf, rows, sideSize}
 use Rattle.bindings.specs.declared.stack.Side.{Side}
 
 -- a side's words: the root, the place reached, the copy
@@ -23,10 +23,10 @@ rightAt scratch k = sideAt scratch (pairOf k + sideSize)
 unfoldable pub pairWords : List ℕ → ℕ → ℕ → ℕ → ℕ → ℕ → ℕ → ℕ → List ℕ
 pairWords scratch k root at copy other there second = sideWords (sideWords scratch (pairOf k) root at copy) (pairOf k + sideSize) other there second
 
--- marks and queue are as they were, and so is the length
+-- what stands before the work stack is as it was: marks, queue and order; and so is the length
 pub record SameMarks (before after : List ℕ) : Type 0 where
   pub long : length after ≡ length before
-  pub words : (j : ℕ) → j < storeWords → getD after j 0 ≡ getD before j 0
+  pub words : (j : ℕ) → j < stack → getD after j 0 ≡ getD before j 0
 
 -- Room for marks, queue, pairs and the memo up to its rows; a row is taken only where it fits.
 abbrev pub Roomy : List ℕ → Type 0

@@ -9,6 +9,7 @@ use layout::TRAIL;
 use layout::cell_copy;
 use layout::cell_of;
 use syntax::FIRST_NAME;
+use std::num::wrapping_add_usize;
 use words::word_at;
 ghost use mathlib.Core.Path.{_≡_};
 ghost use mathlib.Core.Bool.{true};
@@ -17,7 +18,7 @@ ghost use lib.ListN.{length, getD};
 ghost use Rattle.syntax.specs.Words.{firstName};
 ghost use Rattle.layout.specs.Regions.{copies, copyCells, cells, storeWords, loadedNode};
 ghost use Rattle.bindings.specs.Queues.{isCell, Visitable, Visited, Scannable, Scanned, Seen, Noted, Lookable, Looked};
-ghost use Rattle.bindings.specs.Queues.{Searchable, Searched, Checkable, Checked, Closed, Closing};
+ghost use Rattle.bindings.specs.Queues.{Searchable, Searched, Checkable, Checked, Other, Plain, Closing};
 
 // The slots of words are the second half of the queue.
 const SLOTS: usize = CELLS / 2;
@@ -28,10 +29,17 @@ const NODE_WORDS: usize = LOADED_NODE * COPIES;
 // How far apart the slots of a node's copies are; odd, so that no two of them are the same.
 const SPREAD: usize = 97;
 
-// Whether a cell was found, and how many are queued.
+// Whether a cell was found, how many are queued, and how many words were looked at.
 pub struct Queue {
     pub found: bool,
     pub n: usize,
+    pub cost: usize,
+}
+
+// Whether a variable stands in a term, and how many words were looked at.
+pub struct Occurrence {
+    pub found: bool,
+    pub cost: usize,
 }
 
 // How many words the node at p takes with its arguments.
@@ -88,17 +96,26 @@ fn scan(
     ensures { λ r. ⌜ ((g : Scannable (now (nodes .entry)) (now (state .entry)) (now (scratch .entry)) q d m)
         → Scanned (g .ss) (now (nodes .entry)) (now (state .entry)) (now (scratch .entry)) (now (scratch .exit)) q d x m r) ⌝ }
 {
-    let e = q + size_at(nodes, q);
+    let cost = size_at(nodes, q);
+    let e = q + cost;
     let mut i = q;
     let mut n = m;
     while i < e {
         if is_cell(nodes, i, d, x) {
-            return Queue { found: true, n };
+            return Queue {
+                found: true,
+                n,
+                cost,
+            };
         }
         n = visit(nodes, state, scratch, i, d, n);
         i += LOADED_NODE;
     }
-    Queue { found: false, n }
+    Queue {
+        found: false,
+        n,
+        cost,
+    }
 }
 
 // Where in the queue the slot of a word stands. As long as no cell is queued there, a slot says at which place of the queue a cell was that is bound to the
@@ -151,7 +168,11 @@ fn look(nodes: &[u32], state: &[u32], scratch: &mut [u32], x: usize, k: usize, n
     let y = word_at(scratch, TRAIL + k);
     let w = word_at(state, y);
     if is_seen(state, scratch, w, k) {
-        return Queue { found: false, n };
+        return Queue {
+            found: false,
+            n,
+            cost: 1,
+        };
     }
     let at = unpack(w);
     let q = at.node;
@@ -169,15 +190,21 @@ fn search(nodes: &[u32], state: &[u32], scratch: &mut [u32], x: usize, m: usize)
 {
     let mut k = 0;
     let mut n = m;
+    let mut cost = 0;
     while k < n {
         let r = look(nodes, state, scratch, x, k, n);
         if r.found {
             return r;
         }
         n = r.n;
+        cost = wrapping_add_usize(cost, r.cost);
         k += 1;
     }
-    Queue { found: false, n }
+    Queue {
+        found: false,
+        n,
+        cost,
+    }
 }
 
 // Whether the unbound variable of cell x stands in the term at q, in copy d, with the bindings put in.
@@ -188,19 +215,25 @@ pub fn occurs(
     x: usize,
     q: usize,
     d: usize,
-) -> bool
+) -> Occurrence
     requires { ⌜ Checkable (now nodes) (now state) (now scratch) x q d ⌝ }
     ensures { λ r. ⌜ ((g : Checkable (now (nodes .entry)) (now (state .entry)) (now (scratch .entry)) x q d)
-        → Checked (g .ss) (now (nodes .entry)) (now (state .entry)) (g .n) (now (scratch .entry)) (now (scratch .exit)) x q d r) ⌝ }
+        → Checked (g .ss) (now (nodes .entry)) (now (state .entry)) (g .n) (now (scratch .entry)) (now (scratch .exit)) x q d (r .found)) ⌝ }
 {
     let r = scan(nodes, state, scratch, q, d, x, 0);
+    let first = r.cost;
     if r.found {
         undo(scratch, 0, r.n);
-        return true;
+        return Occurrence {
+            found: true,
+            cost: first,
+        };
     }
     let s = search(nodes, state, scratch, x, r.n);
     undo(scratch, 0, s.n);
-    s.found
+    let found = s.found;
+    let cost = wrapping_add_usize(first, s.cost);
+    Occurrence { found, cost }
 }
 
 // Whether cell x belongs to a copy from k on, and d is a copy below k.
@@ -230,28 +263,38 @@ fn is_constant(nodes: &[u32], q: usize) -> bool
     true
 }
 
-// As `occurs`, with the copies below k closed: a variable of another copy is not looked for in a term of these, and none in a constant.
-pub fn stands(
-    nodes: &[u32],
-    state: &[u32],
-    scratch: &mut [u32],
-    x: usize,
-    q: usize,
-    d: usize,
-    k: usize,
-) -> bool
-    requires { ⌜ Checkable (now nodes) (now state) (now scratch) x q d ⌝ }
-    requires { ⌜ Closed k (now state) ⌝ }
-    ensures { λ r. ⌜ ((g : Checkable (now (nodes .entry)) (now (state .entry)) (now (scratch .entry)) x q d)
-        → Checked (g .ss) (now (nodes .entry)) (now (state .entry)) (g .n) (now (scratch .entry)) (now (scratch .exit)) x q d r) ⌝ }
+// Whether an unbound variable other than that of cell x stands at q, in copy d.
+fn is_other(nodes: &[u32], state: &[u32], x: usize, q: usize, d: usize) -> bool
+    requires { ⌜ (q < length (now nodes)) × ((cells ≤ length (now state)) × (d < copies)) ⌝ }
+    ensures { λ r. ⌜ (r ≡ true → Other (now (nodes .entry)) (now (state .entry)) x q d) ⌝ }
+{
+    let w = word_at(nodes, q);
+    if FIRST_NAME <= w {
+        return false;
+    }
+    let y = cell_of(d, w);
+    if word_at(state, y) != 0 {
+        return false;
+    }
+    if y == x {
+        return false;
+    }
+    true
+}
+
+// Whether it is plain that the variable of cell x does not stand in the term at q, in copy d, where the copies below k are closed: a variable of another copy
+// does not stand in a term of these, and none in a constant or in another unbound variable.
+pub fn is_plain(nodes: &[u32], state: &[u32], x: usize, q: usize, d: usize, k: usize) -> bool
+    requires { ⌜ (q + 1 < length (now nodes)) × ((cells ≤ length (now state)) × (d < copies)) ⌝ }
+    ensures { λ r. ⌜ (r ≡ true → Plain (now (nodes .entry)) (now (state .entry)) x q d k) ⌝ }
 {
     if apart(x, d, k) {
-        return false;
+        return true;
     }
     if is_constant(nodes, q) {
-        return false;
+        return true;
     }
-    occurs(nodes, state, scratch, x, q, d)
+    is_other(nodes, state, x, q, d)
 }
 
 // Which copies are closed when cell x is bound to a term of copy d: those below k still, or none.

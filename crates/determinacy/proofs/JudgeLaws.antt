@@ -6,14 +6,13 @@ use mathlib.Core.Bool.{Bool, true, false}
 use mathlib.Core.List.{List, [], _∷_}
 use mathlib.Core.Option.{Option, none, some}
 use lib.ListN.{length}
-use Rattle.syntax.specs.Limits.{sheetBytes, goalBytes}
 use Rattle.syntax.specs.Terms.{done, Clause, Sheet, Goal, literalsOf}
 use Rattle.syntax.specs.Words.{bodyWords, bodyLength}
 use Rattle.marking.specs.Standing.{done-stands}
 use Rattle.machine.specs.Determinacy.{withoutBrackets, firstBracketed, Pair, firstPair, against, judgedBy}
 use Rattle.machine.proofs.Tests.{some-eq, some-none}
 use Rattle.layout.proofs.Limits.{program-limited}
-use Rattle.layout.specs.Regions.{nodesWords, codeWords, storeWords, scratchFor}
+use Rattle.layout.specs.Regions.{nodesWords, codeWords, storeWords, narrowWords}
 use Rattle.layout.specs.Limits.{GoalLimited}
 use Rattle.layout.specs.Program.{Program}
 use Rattle.layout.proofs.State.{no-entries}
@@ -28,11 +27,11 @@ use Rattle.determinacy.proofs.PairLaws.{told-no}
 
 -- ---- no bindings yet
 
-pub pairable : {s declared : List ℕ} {n : ℕ} {table : List ℕ} {k : ℕ} {nodes code state scratch : List ℕ} → Zeros storeWords state → Zeros (scratchFor (sheetBytes + goalBytes)) scratch
+pub pairable : {s declared : List ℕ} {n : ℕ} {table : List ℕ} {k : ℕ} {nodes code state scratch : List ℕ} → Zeros storeWords state → Zeros narrowWords scratch
     → Linked s declared n table k nodes code → Pairable s declared n table k nodes code state scratch
 pairable {nodes = nodes} {state = state} {scratch = scratch} z y w =
     let a : storeWords ≡ length state = z .long in
-    let b : scratchFor (sheetBytes + goalBytes) ≡ length scratch = y .long in
+    let b : narrowWords ≡ length scratch = y .long in
     record {
       linked = w;
       blank = record {
@@ -42,7 +41,7 @@ pairable {nodes = nodes} {state = state} {scratch = scratch} z y w =
       };
     }
 
-pub linked-judged : {s declared : List ℕ} {n : ℕ} {table : List ℕ} {k : ℕ} {nodes code state scratch : List ℕ} → Zeros storeWords state → Zeros (scratchFor (sheetBytes + goalBytes)) scratch → {r : Determinacy}
+pub linked-judged : {s declared : List ℕ} {n : ℕ} {table : List ℕ} {k : ℕ} {nodes code state scratch : List ℕ} → Zeros storeWords state → Zeros narrowWords scratch → {r : Determinacy}
     → ((v : Pairable s declared n table k nodes code state scratch) → r ≡ told (judgedBy (firstPair (v .linked .stands .sheet .declarations) 1 (v .linked .stands .sheet .clauses))))
     → (w : Linked s declared n table k nodes code) → r ≡ told (judgedBy (firstPair (w .stands .sheet .declarations) 1 (w .stands .sheet .clauses)))
 unfolding pairable

@@ -1,11 +1,9 @@
 // Words for a loaded sheet and for unification, cleared once.
 use layout::CODE_WORDS;
+use layout::NARROW_WORDS;
 use layout::NODES_WORDS;
 use layout::STORE_WORDS;
-use layout::WIDE_WORDS;
-ghost use Prim.Native.Nat.{_+_};
-ghost use Rattle.syntax.specs.Limits.{sheetBytes, goalBytes};
-ghost use Rattle.layout.specs.Regions.{nodesWords, codeWords, storeWords, scratchFor};
+ghost use Rattle.layout.specs.Regions.{nodesWords, codeWords, storeWords, narrowWords};
 ghost use Rattle.determinacy.specs.Tables.{Zeros};
 
 // Room for the nodes, and as much for their symbols.
@@ -29,9 +27,9 @@ pub fn store_words() -> [u32; STORE_WORDS]
     [0; STORE_WORDS]
 }
 
-// Room for unification under any sheet.
-pub fn scratch_words() -> [u32; WIDE_WORDS]
-    ensures { λ r. ⌜ Zeros (scratchFor (sheetBytes + goalBytes)) r ⌝ }
+// Room for unification.
+pub fn scratch_words() -> [u32; NARROW_WORDS]
+    ensures { λ r. ⌜ Zeros narrowWords r ⌝ }
 {
-    [0; WIDE_WORDS]
+    [0; NARROW_WORDS]
 }

@@ -118,10 +118,47 @@ mostAlternatives = literals * copies
 abbrev pub stateWords : ℕ
 stateWords = alternatives + mostAlternatives * alternativeSize
 
--- ---- scratch: marks and queue as cells and trail, the work stack, the memo
+-- ---- scratch: marks and queue as cells and trail, a topological order of cells, the work stack, short cuts, the memo
+
+-- The list of the order, and for each cell its place in the list.
+abbrev pub order : ℕ
+order = storeWords
+
+abbrev pub orderPlaces : ℕ
+orderPlaces = order + cells
+
+-- Terms of which it is known how far into the list their variables stand, with a slot for each, and how many there are.
+abbrev pub boundList : ℕ
+boundList = orderPlaces + cells
+
+abbrev pub boundCount : ℕ
+boundCount = 1024
+
+abbrev pub boundSize : ℕ
+boundSize = 2
+
+abbrev pub boundOf : ℕ → ℕ
+boundOf k = boundList + k * boundSize
+
+abbrev pub boundSlots : ℕ
+boundSlots = boundList + boundCount * boundSize
+
+-- the length of the list, and the number of those terms
+abbrev pub orderWord : ℕ
+orderWord = boundSlots + boundCount
+
+abbrev pub boundsWord : ℕ
+boundsWord = orderWord + 1
+
+-- the words that searches may still look at before the order is made anew, and how many there were
+abbrev pub purseWord : ℕ
+purseWord = boundsWord + 1
+
+abbrev pub purseSize : ℕ
+purseSize = purseWord + 1
 
 abbrev pub stack : ℕ
-stack = storeWords
+stack = purseSize + 1
 
 -- a side of a pair, and a pair
 abbrev pub sideSize : ℕ
@@ -137,9 +174,25 @@ pairOf k = stack + k * pairSize
 abbrev pub pairs : ℕ
 pairs = 2 * cells + 1
 
+-- Short cuts through chains of variables, and how many there are. Their slots are the higher halves of the memo's.
+abbrev pub cutList : ℕ
+cutList = stack + pairs * pairSize
+
+abbrev pub cutCount : ℕ
+cutCount = 2048
+
+abbrev pub cutSize : ℕ
+cutSize = 2
+
+abbrev pub cutOf : ℕ → ℕ
+cutOf j = cutList + j * cutSize
+
+abbrev pub cutsWord : ℕ
+cutsWord = cutList + cutCount * cutSize
+
 -- The memo: the number of classes and the number of rows, slots, the nodes of the rows, classes, weights, rows.
 abbrev pub memo : ℕ
-memo = stack + pairs * pairSize
+memo = cutsWord + 1
 
 -- where the number of rows stands
 abbrev pub rowsWord : ℕ
@@ -189,17 +242,6 @@ memoRow k = rows + k * rowWords
 abbrev pub halfWord : ℕ
 halfWord = 65536
 
--- the rows for texts of so many bytes: one for each five bytes, and two
-abbrev pub rowsFor : ℕ → ℕ
-rowsFor bytes = (bytes + 4) / 5 + 2
-
-abbrev pub scratchFor : ℕ → ℕ
-scratchFor bytes = rows + rowsFor bytes * rowWords
-
--- a sheet that is not long, for which less scratch is cleared
-abbrev pub shortSheet : ℕ
-shortSheet = 2048
-
 -- ---- answers
 
 -- the brackets that a value can have open at once: those of every bound term and of the goal's, one inside the other
@@ -209,3 +251,22 @@ deepest = (cells + 1) * brackets
 -- the words for one open bracket of a value that is spelt
 abbrev pub openSize : ℕ
 openSize = 2
+
+-- ---- how many scratch words a run has
+
+-- A sheet that is not long, and a text. With both less scratch is cleared.
+abbrev pub shortSheet : ℕ
+shortSheet = 2048
+
+abbrev pub shortText : ℕ
+shortText = 131072
+
+abbrev pub narrowRows : ℕ
+narrowRows = 304
+
+abbrev pub narrowWords : ℕ
+narrowWords = rows + narrowRows * rowWords
+
+-- Under any sheet there is room behind the order for the brackets of any answer, and that is room for more rows.
+abbrev pub wideWords : ℕ
+wideWords = stack + deepest * openSize

@@ -3,7 +3,6 @@ use syntax::BRACKETS;
 use syntax::CLAUSES;
 use syntax::FACTS;
 use syntax::FIRST_NAME;
-use syntax::GOAL_BYTES;
 use syntax::GOAL_WORDS;
 use syntax::LENGTHS;
 use syntax::LITERALS;
@@ -11,7 +10,6 @@ use syntax::LONGEST_PATH;
 use syntax::NODE_WORDS;
 use syntax::PROGRAM_CLAUSES;
 use syntax::PROGRAM_WORDS;
-use syntax::SHEET_BYTES;
 ghost use mathlib.Core.Path.{_≡_};
 ghost use Prim.Native.Nat.{_<_, _^_};
 ghost use Rattle.layout.specs.Regions.{copies, copyCells, halfWord};
@@ -69,7 +67,27 @@ pub const MOST_ALTERNATIVES: usize = LITERALS * COPIES;
 pub const STATE_WORDS: usize = ALTERNATIVES + MOST_ALTERNATIVES * ALTERNATIVE_SIZE;
 
 // Scratch.
-pub const STACK: usize = STORE_WORDS;
+pub const ORDER: usize = STORE_WORDS;
+
+pub const ORDER_PLACES: usize = ORDER + CELLS;
+
+pub const BOUND_LIST: usize = ORDER_PLACES + CELLS;
+
+pub const BOUND_COUNT: usize = 1024;
+
+pub const BOUND_SIZE: usize = 2;
+
+pub const BOUND_SLOTS: usize = BOUND_LIST + BOUND_COUNT * BOUND_SIZE;
+
+pub const ORDER_WORD: usize = BOUND_SLOTS + BOUND_COUNT;
+
+pub const BOUNDS_WORD: usize = ORDER_WORD + 1;
+
+pub const PURSE_WORD: usize = BOUNDS_WORD + 1;
+
+pub const PURSE_SIZE: usize = PURSE_WORD + 1;
+
+pub const STACK: usize = PURSE_SIZE + 1;
 
 pub const SIDE_SIZE: usize = 3;
 
@@ -77,7 +95,15 @@ pub const PAIR_SIZE: usize = 2 * SIDE_SIZE;
 
 pub const PAIRS: usize = 2 * CELLS + 1;
 
-pub const MEMO: usize = STACK + PAIRS * PAIR_SIZE;
+pub const CUT_LIST: usize = STACK + PAIRS * PAIR_SIZE;
+
+pub const CUT_COUNT: usize = 2048;
+
+pub const CUT_SIZE: usize = 2;
+
+pub const CUTS_WORD: usize = CUT_LIST + CUT_COUNT * CUT_SIZE;
+
+pub const MEMO: usize = CUTS_WORD + 1;
 
 pub const ROWS_WORD: usize = MEMO + 1;
 
@@ -105,16 +131,21 @@ pub const ROW_WORDS: usize = COPIES / 2;
 
 pub const HALF_WORD: usize = 65536;
 
-pub const SHORT_SHEET: usize = 2048;
-
-pub const NARROW_WORDS: usize = ROWS + ((SHORT_SHEET + GOAL_BYTES + 4) / 5 + 2) * ROW_WORDS;
-
-pub const WIDE_WORDS: usize = ROWS + ((SHEET_BYTES + GOAL_BYTES + 4) / 5 + 2) * ROW_WORDS;
-
 // Answers.
 pub const DEEPEST: usize = (CELLS + 1) * BRACKETS;
 
 pub const OPEN_SIZE: usize = 2;
+
+// How many scratch words a run has.
+pub const SHORT_SHEET: usize = 2048;
+
+pub const SHORT_TEXT: usize = 131072;
+
+pub const NARROW_ROWS: usize = 304;
+
+pub const NARROW_WORDS: usize = ROWS + NARROW_ROWS * ROW_WORDS;
+
+pub const WIDE_WORDS: usize = STACK + DEEPEST * OPEN_SIZE;
 
 // The texts that a name can stand in, and room for them and a length behind a place.
 const TEXTS: usize = 2;

@@ -10,12 +10,15 @@ use lib.ListN.{length, getD, set, length-set}
 use lib.Seq.{getD-set-same, getD-set-other}
 use borrow.Author.Tests.{eqb-true, eqb-false}
 use Rattle.machine.specs.Substitution.{RTerm, replace, Binding, resolve}
-use Rattle.layout.specs.Regions.{copies, memo, rowsWord, slots, slotCount, keys, keyCount, classCount, classOf, weights, rows, rowWords, halfWord, memoRow}
+use Rattle.layout.specs.Regions.{copies, cutList, memo, rowsWord, slots, slotCount, keys, keyCount, classCount, classOf, weights, rows, rowWords, halfWord, memoRow}
 use Rattle.layout.specs.Nodes.{Symbol, termAt}
 use Rattle.layout.specs.State.{wordOf, valueOf}
 use Rattle.layout.proofs.State.{node-word, copy-word}
 use Rattle.layout.specs.Halves.{half, stored}
 use Rattle.layout.proofs.Halves.{half-stored, half-apart}
+use Rattle.memos.specs.Cuts.{cutsMade}
+use Rattle.memos.specs.Chains.{Eased}
+use Rattle.memos.proofs.Shortcuts.{cuts-none, cuts-kept, cuts-bound}
 use Rattle.memos.specs.Memos.{classesMade, rowsMade, keyOf, termOf, linkOf, numberIn, Numbered, Rowed, Entered, Same, Belongs, Shows, Links, Memo, Found, Reaches, Cleared, Kept, Opens, Assigns, Fresh, Joins, Begins, Remembers, Weighed, counted, shift}
 
 -- ---- what its words mean
@@ -48,11 +51,11 @@ module _ (before after : List ℕ) (more : classesMade before ≤ classesMade af
         entries = λ k v b s x e. shows-on meaning k v (numbers k v) (m .entries k v (omega arith) s (omega arith) (e ∙ same-keys k s));
       }
 
--- the memo's words but the weights are as they were
-pub links-kept : (before after : List ℕ) → ((j : ℕ) → memo ≤ j → j < weights → getD after j 0 ≡ getD before j 0) → ((j : ℕ) → rows ≤ j → getD after j 0 ≡ getD before j 0) → (meaning : ℕ → RTerm) → Links meaning before → Links meaning after
-links-kept before after low high meaning m =
-    let t : classesMade after ≡ classesMade before = low memo (omega arith) (omega arith) in
-    links-on before after (omega arith) (λ i n. (let l : i < classCount = n .small in low (classOf i) (omega arith) (omega arith))) t (low rowsWord (omega arith) (omega arith)) (λ k l. low (keys + k) (omega arith) (omega arith))
+-- the memo's words but the slots and the weights are as they were
+pub links-kept : (before after : List ℕ) → ((j : ℕ) → memo ≤ j → j < slots → getD after j 0 ≡ getD before j 0) → ((j : ℕ) → keys ≤ j → j < weights → getD after j 0 ≡ getD before j 0) → ((j : ℕ) → rows ≤ j → getD after j 0 ≡ getD before j 0) → (meaning : ℕ → RTerm) → Links meaning before → Links meaning after
+links-kept before after counts low high meaning m =
+    let t : classesMade after ≡ classesMade before = counts memo (omega arith) (omega arith) in
+    links-on before after (omega arith) (λ i n. (let l : i < classCount = n .small in low (classOf i) (omega arith) (omega arith))) t (counts rowsWord (omega arith) (omega arith)) (λ k l. low (keys + k) (omega arith) (omega arith))
     (λ k v. ap (half (v / rowWords % 2)) (high (memoRow k + v % rowWords) (omega arith))) meaning
     (λ i j n l s. (let o : i < classCount = n .small in m .links i j n (sym (low (classOf i + 1) (omega arith) (omega arith)) ∙ l) s)) m
 
@@ -64,8 +67,8 @@ links-none meaning scratch e f =
       entries = λ k v r s t d. absurd (let z : rowsMade scratch ≡ 0 = f t in omega arith);
     }
 
-pub memo-none : (ss : List Symbol) (nodes : List ℕ) (b : List Binding) (scratch : List ℕ) → classesMade scratch ≡ 0 → Memo ss nodes b scratch
-memo-none ss nodes b scratch e = record { links = links-none (λ (w : ℕ). resolve b (valueOf ss nodes w)) scratch (omega arith) (λ l. absurd (omega arith)) }
+pub memo-none : (ss : List Symbol) (nodes : List ℕ) (b : List Binding) (scratch : List ℕ) → classesMade scratch ≡ 0 → cutsMade scratch ≡ 0 → Memo ss nodes b scratch
+memo-none ss nodes b scratch e f = record { links = links-none (λ (w : ℕ). resolve b (valueOf ss nodes w)) scratch (omega arith) (λ l. absurd (omega arith)); cuts = cuts-none b scratch f }
 
 -- another meaning that follows from the first
 module _ (meaning : ℕ → RTerm) (f : RTerm → RTerm) (scratch : List ℕ) where
@@ -81,31 +84,36 @@ module _ (meaning : ℕ → RTerm) (f : RTerm → RTerm) (scratch : List ℕ) wh
       }
 
 module _ (ss : List Symbol) (nodes : List ℕ) (b : List Binding) (before : List ℕ) (m : Memo ss nodes b before) where
-  pub memo-kept : (after : List ℕ) → ((j : ℕ) → memo ≤ j → getD after j 0 ≡ getD before j 0) → Memo ss nodes b after
-  memo-kept after w = record { links = links-kept before after (λ j a b. w j a) (λ j a. w j (omega arith)) (λ (x : ℕ). resolve b (valueOf ss nodes x)) (m .links) }
+  pub memo-kept : (after : List ℕ) → ((j : ℕ) → cutList ≤ j → getD after j 0 ≡ getD before j 0) → Memo ss nodes b after
+  memo-kept after w = record { links = links-kept before after (λ j a b. w j (omega arith)) (λ j a b. w j (omega arith)) (λ j a. w j (omega arith)) (λ (x : ℕ). resolve b (valueOf ss nodes x)) (m .links); cuts = cuts-kept b before after (λ j l h. w j l) (m .cuts) }
+
+  -- only cuts changed
+  pub memo-eased : (after : List ℕ) → Eased b before after → Memo ss nodes b after
+  memo-eased after e = record { links = links-kept before after (e .beside .counts) (λ j l h. e .beside .high j l) (λ j l. e .beside .high j (omega arith)) (λ (x : ℕ). resolve b (valueOf ss nodes x)) (m .links); cuts = e .cuts }
 
   -- one binding more
   pub memo-bound : (new : Binding) → Memo ss nodes (new ∷ b) before
   unfolding resolve
-  memo-bound new = record { links = links-mapped (λ (w : ℕ). resolve b (valueOf ss nodes w)) (replace (new .variable) (new .term)) before (m .links) }
+  memo-bound new = record { links = links-mapped (λ (w : ℕ). resolve b (valueOf ss nodes w)) (replace (new .variable) (new .term)) before (m .links); cuts = cuts-bound b before new (m .cuts) }
 
   pub memo-found : (left right : ℕ) → Found before left right → resolve b (valueOf ss nodes left) ≡ resolve b (valueOf ss nodes right)
   memo-found left right f = f .is (λ (w : ℕ). resolve b (valueOf ss nodes w)) (m .links)
 
   pub memo-remembers : (after : List ℕ) (left right : ℕ) → Remembers before after left right → resolve b (valueOf ss nodes left) ≡ resolve b (valueOf ss nodes right) → Memo ss nodes b after
-  memo-remembers after left right k e = record { links = k .links (λ (w : ℕ). resolve b (valueOf ss nodes w)) e (m .links) }
+  memo-remembers after left right k e = record { links = k .links (λ (w : ℕ). resolve b (valueOf ss nodes w)) e (m .links); cuts = cuts-kept b before after (λ j l h. k .words j h) (m .cuts) }
 
 -- ---- beginning
 
-pub begins : (before : List ℕ) (k : ℕ) → rows ≤ length before → k ≤ counted → Begins before (set (set before rowsWord 0) memo k)
-begins before k long few =
+pub begins : (before : List ℕ) (k limit : ℕ) → rows ≤ length before → k ≤ counted → Begins before (set (set (set before rowsWord 0) weights limit) memo k)
+begins before k limit long few =
+    let e : length (set before rowsWord 0) ≡ length before = length-set before rowsWord 0 in
+    let e1 : length (set (set before rowsWord 0) weights limit) ≡ length (set before rowsWord 0) = length-set (set before rowsWord 0) weights limit in
     record {
-      long = length-set (set before rowsWord 0) memo k ∙ length-set before rowsWord 0;
-      words = λ j l. getD-set-other (set before rowsWord 0) memo j k 0 (λ e. omega arith) ∙ getD-set-other before rowsWord j 0 0 (λ e. omega arith);
-      links = λ meaning. links-none meaning (set (set before rowsWord 0) memo k)
-          (let e : length (set before rowsWord 0) ≡ length before = length-set before rowsWord 0 in
-          let z : classesMade (set (set before rowsWord 0) memo k) ≡ k = getD-set-same (set before rowsWord 0) memo k 0 (omega arith) in omega arith)
-          (λ l. getD-set-other (set before rowsWord 0) memo rowsWord k 0 (λ e. omega arith) ∙ getD-set-same before rowsWord 0 0 (omega arith));
+      long = length-set (set (set before rowsWord 0) weights limit) memo k ∙ (e1 ∙ e);
+      words = λ j l. getD-set-other (set (set before rowsWord 0) weights limit) memo j k 0 (λ z. omega arith) ∙ (getD-set-other (set before rowsWord 0) weights j limit 0 (λ z. omega arith) ∙ getD-set-other before rowsWord j 0 0 (λ z. omega arith));
+      links = λ meaning. links-none meaning (set (set (set before rowsWord 0) weights limit) memo k)
+          (let z : classesMade (set (set (set before rowsWord 0) weights limit) memo k) ≡ k = getD-set-same (set (set before rowsWord 0) weights limit) memo k 0 (omega arith) in omega arith)
+          (λ l. getD-set-other (set (set before rowsWord 0) weights limit) memo rowsWord k 0 (λ z. omega arith) ∙ (getD-set-other (set before rowsWord 0) weights rowsWord limit 0 (λ z. omega arith) ∙ getD-set-same before rowsWord 0 0 (omega arith)));
     }
 
 pub begins-remembers : (before after : List ℕ) (left right : ℕ) → Begins before after → Remembers before after left right
@@ -598,6 +606,9 @@ merged-both before after left right i j t ei ej h =
 
 -- ---- weights
 
+pub weighed-one : (before : List ℕ) (i v : ℕ) → weights ≤ i → i < rows → Weighed before (set before i v)
+weighed-one before i v li hi = record { long = length-set before i v; low = λ j l. getD-set-other before i j v 0 (λ e. omega arith); high = λ j l. getD-set-other before i j v 0 (λ e. omega arith) }
+
 pub weighed-two : (before : List ℕ) (i v j w : ℕ) → weights ≤ i → i < rows → weights ≤ j → j < rows → Weighed before (set (set before i v) j w)
 weighed-two before i v j w li hi lj hj =
     record {
@@ -608,12 +619,12 @@ weighed-two before i v j w li hi lj hj =
 
 pub weighed-remembers : (before after : List ℕ) (left right : ℕ) → Weighed before after → Remembers before after left right
 weighed-remembers before after left right k =
-    record { long = k .long; words = λ j l. k .low j (omega arith); links = λ meaning e m. links-kept before after (λ j a b. k .low j b) (k .high) meaning m }
+    record { long = k .long; words = λ j l. k .low j (omega arith); links = λ meaning e m. links-kept before after (λ j a b. k .low j (omega arith)) (λ j a b. k .low j b) (k .high) meaning m }
 
 pub weighed-then : (before mid after : List ℕ) (left right : ℕ) → Weighed before mid → Remembers mid after left right → Remembers before after left right
 weighed-then before mid after left right k r =
     record {
       long = r .long ∙ k .long;
       words = λ j l. r .words j l ∙ k .low j (omega arith);
-      links = λ meaning e m. r .links meaning e (links-kept before mid (λ j a b. k .low j b) (k .high) meaning m);
+      links = λ meaning e m. r .links meaning e (links-kept before mid (λ j a b. k .low j (omega arith)) (λ j a b. k .low j b) (k .high) meaning m);
     }

@@ -1,1 +1,3 @@
+pub mod Chains
+pub mod Cuts
 pub mod Memos

@@ -10,14 +10,15 @@ use Rattle.layout.specs.Regions.{copies, memo, rowsWord, keys, keyCount, classe
 use Rattle.layout.specs.Halves.{half, stored}
 use Rattle.layout.specs.Nodes.{Symbol}
 use Rattle.layout.specs.State.{valueOf}
+use Rattle.memos.specs.Cuts.{Cuts}
 
 -- So many pairs are only counted, not remembered: most unifications are done before. The numbers of classes begin here.
 abbrev pub counted : ℕ
 counted = 32
 
--- the most that the weight of a height counts
-abbrev pub heavy : ℕ
-heavy = 64
+-- the most that a weight counts
+abbrev pub heaviest : ℕ
+heaviest = 1048576
 
 -- A term's word and this, divided by the number of copies, is the same for every copy of the node; the rest tells the copy.
 abbrev pub shift : ℕ
@@ -86,9 +87,10 @@ pub record Links (meaning : ℕ → RTerm) (scratch : List ℕ) : Type 0 where
   pub links : (i j : ℕ) → Numbered scratch i → linkOf scratch i ≡ j + 1 → j < classCount → Same meaning scratch i j
   pub entries : (k v : ℕ) → k < rowsMade scratch → k < keyCount → counted ≤ classesMade scratch → v / copies ≡ keyOf scratch k → Shows meaning scratch k v
 
--- Terms of one class are equal with the bindings put in.
+-- Terms of one class are equal with the bindings put in, and each short cut leads to a cell that means the same.
 pub record Memo (ss : List Symbol) (nodes : List ℕ) (b : List Binding) (scratch : List ℕ) : Type 0 where
   pub links : Links (λ w. resolve b (valueOf ss nodes w)) scratch
+  pub cuts : Cuts b scratch
 
 -- Two words have one meaning, if what is in one class has.
 pub record Found (scratch : List ℕ) (left right : ℕ) : Type 0 where

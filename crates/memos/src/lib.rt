@@ -4,10 +4,13 @@
 // are never cleared: a row names its node, and the name is compared. A row is cleared when it is taken, and a call begins with no rows.
 // Of two terms that become equal one was reached by way of a bound cell, so there are no more new numbers than bound cells; and scratch words that have
 // a row for each node have room for every term.
+pub mod cuts;
+
 use layout::CLASS_COUNT;
 use layout::CLASS_SIZE;
 use layout::CLASSES;
 use layout::COPIES;
+use layout::CUTS_WORD;
 use layout::HEIGHTS;
 use layout::KEY_COUNT;
 use layout::KEYS;
@@ -27,16 +30,22 @@ ghost use mathlib.Core.Logic.{_⊎_};
 ghost use Prim.Native.Nat.{_+_, _*_, _/_, _%_, _-_, _≤_, _<_, _^_};
 ghost use lib.ListN.{length, getD, set};
 ghost use Rattle.layout.specs.Halves.{stored};
-ghost use Rattle.layout.specs.Regions.{pairs, memo, keyCount, classCount, classOf, rowWords, halfWord, memoRow};
+ghost use Rattle.layout.specs.Regions.{pairs, memo, cutsWord, keyCount, classCount, classOf, rowWords, halfWord, memoRow};
 ghost use Rattle.bindings.specs.Scratch.{Roomy};
 ghost use Rattle.memos.specs.Memos.{classesMade, linkOf, numberIn, Rowed, Entered, Found, Cleared, Opens, Assigns, Fresh, Reaches, Joins};
-ghost use Rattle.memos.specs.Memos.{Begins, Remembers, Weighed, counted, heavy};
+ghost use Rattle.memos.specs.Memos.{Begins, Remembers, Weighed, counted, heaviest};
 
 // So many pairs are only counted: most unifications are done before.
 const COUNTED: usize = 32;
 
-// The most that the weight of a height counts.
+// A pair that weighs less is never remembered.
 const HEAVY: usize = 64;
+
+// The most that a weight counts.
+const HEAVIEST: usize = 1048576;
+
+// The least weight of a pair that is remembered stands where the weight of height 0 would: no pair is so low.
+const LIMIT_WORD: usize = WEIGHTS;
 
 // The highest rank of a class is so far above the links that are numbers.
 const RANKS: usize = 100;
@@ -44,12 +53,13 @@ const RANKS: usize = 100;
 // A term's word and this, divided by the number of copies, is the same for every copy of the node.
 const SHIFT: usize = COPIES - 1;
 
-// No classes.
+// No classes, and no short cuts.
 pub fn forget(scratch: &mut [u32])
     requires { ⌜ memo < length (now scratch) ⌝ }
-    ensures { λ _. ⌜ now (scratch .exit) ≡ set (now (scratch .entry)) memo 0 ⌝ }
+    ensures { λ _. ⌜ now (scratch .exit) ≡ set (set (now (scratch .entry)) memo 0) cutsWord 0 ⌝ }
 {
     scratch[MEMO] = 0;
+    scratch[CUTS_WORD] = 0;
 }
 
 // The row of a node and 1, or 0 where it has none.
@@ -58,7 +68,8 @@ fn row_of(scratch: &[u32], key: usize) -> usize
     ensures { λ r. ⌜ (r ≡ 0) ⊎ Rowed (now (scratch .entry)) key (r - 1) ⌝ }
 {
     let slot = key / 2 % SLOT_COUNT;
-    let k = word_at(scratch, SLOTS + slot);
+    let w = word_at(scratch, SLOTS + slot);
+    let k = half_of(0, w);
     if KEY_COUNT <= k {
         return 0;
     }
@@ -301,12 +312,30 @@ fn merge(scratch: &mut [u32], i: usize, j: usize)
     join(scratch, a, b);
 }
 
-// No rows, and k classes, which have no number.
-fn begin(scratch: &mut [u32], k: usize)
-    requires { ⌜ (Roomy (now scratch)) × (k ≤ counted) ⌝ }
+// The sum of two weights, at most HEAVIEST.
+fn sum(x: usize, y: usize) -> usize
+    ensures { λ r. ⌜ r ≤ heaviest ⌝ }
+{
+    if HEAVIEST <= x {
+        return HEAVIEST;
+    }
+    if HEAVIEST <= y {
+        return HEAVIEST;
+    }
+    let z = x + y;
+    if HEAVIEST <= z {
+        return HEAVIEST;
+    }
+    z
+}
+
+// No rows, and k classes, which have no number; so much a pair has to weigh.
+fn begin(scratch: &mut [u32], k: usize, limit: usize)
+    requires { ⌜ (Roomy (now scratch)) × ((k ≤ counted) × (limit ≤ heaviest)) ⌝ }
     ensures { λ _. ⌜ Begins (now (scratch .entry)) (now (scratch .exit)) ⌝ }
 {
     scratch[ROWS_WORD] = 0;
+    scratch[LIMIT_WORD] = limit as u32;
     scratch[MEMO] = k as u32;
 }
 
@@ -344,6 +373,16 @@ fn place(scratch: &mut [u32], left: usize, right: usize)
     merge(scratch, i, j);
 }
 
+// The memo begins anew, and a pair has to weigh twice as much: so what fits no memo of pairs of a weight comes to fit, and is not found again and again.
+fn begin_anew(scratch: &mut [u32])
+    requires { ⌜ Roomy (now scratch) ⌝ }
+    ensures { λ _. ⌜ Begins (now (scratch .entry)) (now (scratch .exit)) ⌝ }
+{
+    let limit = word_at(scratch, LIMIT_WORD);
+    let next = sum(limit, limit);
+    begin(scratch, COUNTED, next);
+}
+
 // The two terms, which had their arguments done, in one class, unless they are among the first. Where there is no room left, the memo begins anew.
 fn enter(scratch: &mut [u32], left: usize, right: usize)
     requires { ⌜ (Roomy (now scratch)) × ((left < 2 ^ 32) × (right < 2 ^ 32)) ⌝ }
@@ -351,41 +390,23 @@ fn enter(scratch: &mut [u32], left: usize, right: usize)
 {
     let m = word_at(scratch, MEMO);
     if m < COUNTED {
-        begin(scratch, m + 1);
+        begin(scratch, m + 1, HEAVY);
         return;
     }
     if CLASS_COUNT <= m {
-        begin(scratch, COUNTED);
+        begin_anew(scratch);
         return;
     }
     if is_crowded(scratch) {
-        begin(scratch, COUNTED);
+        begin_anew(scratch);
         return;
     }
     place(scratch, left, right);
 }
 
-// The sum of two weights, at most HEAVY.
-fn sum(x: usize, y: usize) -> usize
-    ensures { λ r. ⌜ r ≤ heavy ⌝ }
-{
-    if HEAVY <= x {
-        return HEAVY;
-    }
-    if HEAVY <= y {
-        return HEAVY;
-    }
-    let z = x + y;
-    if HEAVY <= z {
-        return HEAVY;
-    }
-    z
-}
-
-// The pair at height h of the stack is done: whether it is worth remembering, because it would take long to find it equal again. Its weight is the
-// number of words of its left term, and the weights of the pairs that were put upon it; a pair that is remembered weighs 1, since it is then found
-// in one turn. The weight is added to what was put upon the pair below.
-fn weigh(scratch: &mut [u32], h: usize, size: usize) -> bool
+// The weight of the pair at height h of the stack, which is done: the number of words of its left term, and the weights of the pairs that were put upon
+// it. Where it is light, it is added to what was put upon the pair below, and 0 is told.
+fn weigh(scratch: &mut [u32], h: usize, size: usize) -> usize
     requires { ⌜ (Roomy (now scratch)) × (h < pairs) ⌝ }
     ensures { λ _. ⌜ Weighed (now (scratch .entry)) (now (scratch .exit)) ⌝ }
 {
@@ -395,10 +416,44 @@ fn weigh(scratch: &mut [u32], h: usize, size: usize) -> bool
     scratch[at + 1] = 0;
     if weight < HEAVY {
         scratch[at] = sum(below, weight) as u32;
-        return false;
+        return 0;
     }
-    scratch[at] = sum(below, 1) as u32;
-    true
+    weight
+}
+
+// A weight added to what was put upon the pair below the one at height h.
+fn put_weight(scratch: &mut [u32], h: usize, weight: usize)
+    requires { ⌜ (Roomy (now scratch)) × (h < pairs) ⌝ }
+    ensures { λ _. ⌜ Weighed (now (scratch .entry)) (now (scratch .exit)) ⌝ }
+{
+    let at = WEIGHTS + h;
+    let below = word_at(scratch, at);
+    scratch[at] = sum(below, weight) as u32;
+}
+
+// The least weight of a pair that is remembered at present. It is set when the first pairs are counted.
+fn least_weight(scratch: &[u32]) -> usize
+    requires { ⌜ Roomy (now scratch) ⌝ }
+{
+    if word_at(scratch, MEMO) < COUNTED {
+        return HEAVY;
+    }
+    word_at(scratch, LIMIT_WORD)
+}
+
+// The two terms, a pair of that weight at height h of the stack, remembered where it is worth it: it would take long to find it equal again. Then it weighs 1,
+// since it is found in one turn.
+fn keep(scratch: &mut [u32], h: usize, weight: usize, left: usize, right: usize)
+    requires { ⌜ ((Roomy (now scratch)) × (h < pairs)) × ((left < 2 ^ 32) × (right < 2 ^ 32)) ⌝ }
+    ensures { λ _. ⌜ Remembers (now (scratch .entry)) (now (scratch .exit)) left right ⌝ }
+{
+    let least = least_weight(scratch);
+    if weight < least {
+        put_weight(scratch, h, weight);
+        return;
+    }
+    put_weight(scratch, h, 1);
+    enter(scratch, left, right);
 }
 
 // The two terms, a pair at height h of the stack whose left term has so many words, are known to be equal from now on, unless this can be found again in a
@@ -410,7 +465,9 @@ pub fn remember(scratch: &mut [u32], h: usize, size: usize, left: usize, right: 
     if HEIGHTS - 2 < h {
         return;
     }
-    if weigh(scratch, h, size) {
-        enter(scratch, left, right);
+    let weight = weigh(scratch, h, size);
+    if weight == 0 {
+        return;
     }
+    keep(scratch, h, weight, left, right);
 }

@@ -16,10 +16,6 @@ use Rattle.syntax.specs.Spans.{namesFrom}
 use Rattle.spelling.specs.Words.{Named}
 use Rattle.telling.specs.Telling.{Spelt, Tellable}
 
--- a text that is not long, for which less scratch is cleared
-abbrev pub shortText : ℕ
-shortText = 131072
-
 -- Words that are all zero, so many.
 pub record Zeros (k : ℕ) (words : List ℕ) : Type 0 where
   pub long : k ≡ length words

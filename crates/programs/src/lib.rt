@@ -3,21 +3,18 @@ use layout::CODE_WORDS;
 use layout::NARROW_WORDS;
 use layout::NODES_WORDS;
 use layout::SHORT_SHEET;
+use layout::SHORT_TEXT;
 use layout::STATE_WORDS;
 use layout::WIDE_WORDS;
 use linker::link;
 use loader::load_nodes;
 use runs::Ran;
 use runs::run;
-ghost use Prim.Native.Nat.{_+_, _≤_};
+ghost use Prim.Native.Nat.{_≤_};
 ghost use lib.ListN.{length};
-ghost use Rattle.syntax.specs.Limits.{sheetBytes, goalBytes};
-ghost use Rattle.layout.specs.Regions.{nodesWords, codeWords, stateWords, scratchFor, shortSheet};
+ghost use Rattle.layout.specs.Regions.{nodesWords, codeWords, stateWords, shortText, narrowWords, wideWords};
 ghost use Rattle.runs.specs.Running.{Runs};
-ghost use Rattle.programs.specs.Programs.{shortText, Zeros, Blank, Programmed, Linked};
-
-// A text that is not long: the room for unification under a short sheet is enough for the brackets of its answers.
-const SHORT_TEXT: usize = 131072;
+ghost use Rattle.programs.specs.Programs.{Zeros, Blank, Programmed, Linked};
 
 // Room for the nodes of both texts, and as much for their symbols.
 fn node_words() -> [u32; NODES_WORDS]
@@ -42,14 +39,14 @@ fn state_words() -> [u32; STATE_WORDS]
 
 // Room for unification under a short sheet.
 fn narrow_words() -> [u32; NARROW_WORDS]
-    ensures { λ r. ⌜ Zeros (scratchFor (shortSheet + goalBytes)) r ⌝ }
+    ensures { λ r. ⌜ Zeros narrowWords r ⌝ }
 {
     [0; NARROW_WORDS]
 }
 
 // Room for unification under any sheet.
 fn wide_words() -> [u32; WIDE_WORDS]
-    ensures { λ r. ⌜ Zeros (scratchFor (sheetBytes + goalBytes)) r ⌝ }
+    ensures { λ r. ⌜ Zeros wideWords r ⌝ }
 {
     [0; WIDE_WORDS]
 }

@@ -17,7 +17,7 @@ use Rattle.settings.specs.Ends.{endedBy}
 use Rattle.machine.specs.Machine.{Alternative, step}
 use Rattle.machine.specs.Answers.{line}
 use Rattle.machine.specs.Runs.{isEmpty, isAnswer, goesDeeper}
-use Rattle.layout.specs.Regions.{alternatives, alternativeSize, mostAlternatives, stateWords, stack}
+use Rattle.layout.specs.Regions.{alternatives, alternativeSize, mostAlternatives, stateWords, storeWords, stack}
 use Rattle.layout.specs.Nodes.{Symbol}
 use Rattle.layout.specs.State.{bindings}
 use Rattle.layout.specs.Pile.{pileOf, Piled, markAt}
@@ -163,7 +163,7 @@ module _ {sheet goal names : List ℕ} {count : ℕ} {nodes code symbols state s
           goes = ap (goesDeeper (w .sh)) (same-pile .is) ∙ answer-flat (w .sh) (pileOf (w .ss) (w .sh) (w .g) nodes code state h) (w .answer);
           roomy = (let r : Roomy scratch = w .under .lent .roomy in let e : length scratch1 ≡ length scratch = y .long in omega arith);
           clean = record {
-            long = (let r : stack ≤ length scratch = w .under .lent .clean .long in let e : length scratch1 ≡ length scratch = y .long in omega arith);
+            long = (let r : storeWords ≤ length scratch = w .under .lent .clean .long in let e : length scratch1 ≡ length scratch = y .long in omega arith);
             zero = λ j l. y .words j (omega arith) ∙ w .under .lent .clean .zero j l;
           };
         }

@@ -8,16 +8,19 @@ use mathlib.Core.Option.{none, some}
 use lib.Dec.{T}
 use lib.ListN.{length}
 use Rattle.machine.specs.Substitution.{rnil, occurs, Binding, resolve}
-use Rattle.layout.specs.Regions.{copies, places, cells, trail, storeWords, stack, memo, rows, loadedNode}
+use Rattle.layout.specs.Regions.{copies, places, cells, trail, storeWords, stack, pairs, rows, loadedNode}
 use Rattle.layout.specs.Nodes.{Symbol, termAt}
 use Rattle.layout.specs.State.{variableOf, wordOf, bindings, Store, Within, Keeps, boundWords}
 use Rattle.layout.proofs.Nodes.{node-inside}
 use Rattle.layout.proofs.State.{bind-store, bind-keeps, bind-means, bind-within, keeps-refl, keeps-trans, room}
-use Rattle.bindings.specs.Queues.{Clean, Checkable, Checked, Closed, Closing}
+use Rattle.bindings.specs.Queues.{Clean, Closed, Closing}
 use Rattle.memos.specs.Memos.{Memo}
 use Rattle.bindings.specs.Scratch.{leftAt, rightAt, SameMarks}
 use Rattle.bindings.proofs.Apart.{closed-bound}
-use Rattle.memos.proofs.Remembering.{memo-kept, memo-bound}
+use Rattle.memos.proofs.Remembering.{memo-bound}
+use Rattle.orders.specs.Orders.{Ordered}
+use Rattle.orders.proofs.Lists.{ordered-kept}
+use Rattle.cycle_checks.specs.Checks.{Guardable, Guarded}
 use Rattle.unifier.specs.Rows.{unifyRows, sizeOf}
 use Rattle.unifier.specs.Stacks.{rowsOf, Stack, nothing, Closes}
 use Rattle.unifier.specs.Turns.{Work, Goes, Binds, Turned, Turnable, Ready, Advanced, Solvable, Solved, answered}
@@ -25,7 +28,7 @@ use Rattle.unifier.specs.declared.solve.Turn.{Turn}
 use Rattle.unifier.specs.declared.solve.Turn.the-variants.{Go, Clash, Bind}
 use Rattle.unifier.proofs.Rules.{rows-done}
 use Rattle.unifier.proofs.Closing.{closes-agree}
-use Rattle.unifier.proofs.Stacked.{left-kept, right-kept, rows-agree, stack-agrees, stack-bound}
+use Rattle.unifier.proofs.Stacked.{left-kept, right-kept, rows-agree, stack-agrees, stack-bound, height}
 use Rattle.unifier.proofs.Bare.{size-bare}
 
 -- ---- turns
@@ -112,12 +115,13 @@ pub record Solving (ss : List Symbol) (nodes before after scratch later : List �
   pub means : unifyRows (bindings ss nodes before n) (rowsOf ss nodes (leftAt scratch) 1) (rowsOf ss nodes (rightAt scratch) 1) ≡ unifyRows (bindings ss nodes after m) (rowsOf ss nodes (leftAt later) h) (rowsOf ss nodes (rightAt later) h)
   pub memo : Memo ss nodes (bindings ss nodes after m) later
   pub closes : Closes ss nodes (bindings ss nodes after m) (leftAt later) (rightAt later) h nothing nothing
+  pub order : Ordered ss nodes after later
 
-pub solve-begin : (nodes state scratch : List ℕ) (n : ℕ) (g : Solvable nodes state scratch n) → Solving (g .work .ss) nodes state state scratch scratch (g .work .top) n n 1
-solve-begin nodes state scratch n g =
-    record { grows = omega arith; store = g .work .store; within = g .work .within; keeps = keeps-refl n state; clean = g .clean; long = refl; stack = g .work .stack; means = refl; memo = g .work .memo; closes = g .closes }
+pub solve-begin : {nodes state scratch : List ℕ} {n : ℕ} (g : Solvable nodes state scratch n) → Solving (g .work .ss) nodes state state scratch scratch (g .work .top) n n 1
+solve-begin {nodes} {state} {scratch} {n} g =
+    record { grows = omega arith; store = g .work .store; within = g .work .within; keeps = keeps-refl n state; clean = g .clean; long = refl; stack = g .work .stack; means = refl; memo = g .work .memo; closes = g .closes; order = g .order }
 
-module _ (nodes before after scratch later : List ℕ) (n m h : ℕ) (g : Solvable nodes before scratch n) (s : Solving (g .work .ss) nodes before after scratch later (g .work .top) n m h) where
+module _ {nodes before after scratch later : List ℕ} {n m h : ℕ} (g : Solvable nodes before scratch n) (s : Solving (g .work .ss) nodes before after scratch later (g .work .top) n m h) where
   abbrev pub ss : List Symbol
   ss = g .work .ss
 
@@ -131,7 +135,7 @@ module _ (nodes before after scratch later : List ℕ) (n m h : ℕ) (g : Solvab
   unfolding solve-work
   solve-ready = record { work = solve-work; closes = s .closes }
 
-  module _ (next : List ℕ) (t : Turn) (c : (w : Ready nodes after later m h) → Advanced nodes after later next m h (w .work) t) where
+  module _ {next : List ℕ} (t : Turn) (c : (w : Ready nodes after later m h) → Advanced nodes after later next m h (w .work) t) where
     gave : Advanced nodes after later next m h solve-work t
     unfolding solve-ready
     gave = c solve-ready
@@ -145,9 +149,9 @@ module _ (nodes before after scratch later : List ℕ) (n m h : ℕ) (g : Solvab
     long-next : length next ≡ length scratch
     long-next = gave .0 .long ∙ s .long
 
-    pub solve-done : (k : ℕ) → t ≡ Go k → Solved ss nodes before after scratch next (g .work .top) n (rowsOf ss nodes (leftAt scratch) 1) (rowsOf ss nodes (rightAt scratch) 1) (record { equal = true; trail = m })
+    pub solve-done : {k : ℕ} → t ≡ Go k → Solved ss nodes before after scratch next (g .work .top) n (rowsOf ss nodes (leftAt scratch) 1) (rowsOf ss nodes (rightAt scratch) 1) (record { equal = true; trail = m })
     unfolding solve-work answered
-    solve-done k e =
+    solve-done {k} e =
         let x : Advanced nodes after later next m h solve-work (Go k) = subst (Advanced nodes after later next m h solve-work) e gave in
         record { grows = s .grows; store = s .store; within = s .within; keeps = s .keeps; clean = clean-next; long = long-next; answer = s .means ∙ x .1 }
 
@@ -157,13 +161,23 @@ module _ (nodes before after scratch later : List ℕ) (n m h : ℕ) (g : Solvab
         let x : Advanced nodes after later next m h solve-work Clash = subst (Advanced nodes after later next m h solve-work) e gave in
         record { grows = s .grows; store = s .store; within = s .within; keeps = s .keeps; clean = clean-next; long = long-next; answer = s .means ∙ x .1 }
 
-    module _ (k x p d : ℕ) (e : t ≡ Bind k x p d) where
+    module _ {k x p d : ℕ} (e : t ≡ Bind k x p d) where
       binds : Binds ss nodes after b (g .work .top) (rowsOf ss nodes (leftAt later) h) (rowsOf ss nodes (rightAt later) h) next k x p d
       unfolding solve-work
       binds = subst (Advanced nodes after later next m h solve-work) e gave .1
 
-      pub solve-check : Checkable nodes after next x p d
-      solve-check = record { ss = ss; n = m; store = s .store; node = binds .node; copy = binds .copy; cell = binds .cell; unbound = binds .unbound; clean = clean-next }
+      pub solve-check : Guardable nodes after next x p d
+      solve-check =
+          let e : length next ≡ length scratch = long-next in
+          let o : rows ≤ length scratch = g .work .roomy in
+          record {
+            check = record { ss = ss; n = m; store = s .store; node = binds .node; copy = binds .copy; cell = binds .cell; unbound = binds .unbound; clean = clean-next };
+            roomy = omega arith;
+            order = ordered-kept ss nodes after later next (λ j l h. gave .0 .words j (omega arith)) (s .order);
+          }
+
+      pub solve-height : k ≤ pairs
+      solve-height = height ss nodes b (g .work .top) (leftAt next) (rightAt next) k (binds .stack)
 
       pub solve-room : (x < cells) × ((trail + m < length after) × (wordOf p d < 2 ^ 32))
       solve-room =
@@ -177,43 +191,44 @@ module _ (nodes before after scratch later : List ℕ) (n m h : ℕ) (g : Solvab
       pub solve-few : m < cells
       solve-few = room ss nodes after m x (s .store) (binds .cell) (binds .unbound)
 
-      pub solve-closed : (closed r : ℕ) → Closed closed after → Closing closed x d r → (state1 : List ℕ) → state1 ≡ boundWords after m x (wordOf p d) → Closed r state1
-      solve-closed closed r c1 h state1 q = subst⁻¹ (Closed r) q (closed-bound after m x p d closed r (s .store .long) solve-few (binds .cell) (binds .copy) c1 h)
+      pub solve-closed : {closed r : ℕ} → Closed closed after → Closing closed x d r → {state1 : List ℕ} → state1 ≡ boundWords after m x (wordOf p d) → Closed r state1
+      solve-closed {closed} {r} c1 h q = subst⁻¹ (Closed r) q (closed-bound after m x p d closed r (s .store .long) solve-few (binds .cell) (binds .copy) c1 h)
 
-      module _ (end : List ℕ) (r : Bool) (c2 : (w : Checkable nodes after next x p d) → Checked (w .ss) nodes after (w .n) next end x p d r) where
-        checked : Checked ss nodes after m next end x p d r
+      module _ {end : List ℕ} {r : Bool} (c2 : (w : Guardable nodes after next x p d) → Guarded (w .check .ss) nodes after (w .check .n) next end x p d r) where
+        checked : Guarded ss nodes after m next end x p d r
         unfolding solve-check
         checked = c2 solve-check
 
         long-end : length end ≡ length scratch
-        long-end = checked .keeps .long ∙ long-next
+        long-end = checked .spared .long ∙ long-next
 
         pub solve-stands : r ≡ true → Solved ss nodes before after scratch end (g .work .top) n (rowsOf ss nodes (leftAt scratch) 1) (rowsOf ss nodes (rightAt scratch) 1) (record { equal = false; trail = m })
         unfolding answered
         solve-stands f =
-            record { grows = s .grows; store = s .store; within = s .within; keeps = s .keeps; clean = checked .clean; long = long-end; answer = s .means ∙ binds .stands (subst T (sym f ∙ checked .answer) tt) }
+            record { grows = s .grows; store = s .store; within = s .within; keeps = s .keeps; clean = checked .spared .clean clean-next; long = long-end; answer = s .means ∙ binds .stands (subst T (sym f ∙ checked .answer) tt) }
 
         free : r ≡ false → T (occurs (variableOf x) (resolve b (termAt ss nodes p d))) → ⊥
         free f h1 = subst T (sym (checked .answer) ∙ f) h1
 
-        pub solve-next : r ≡ false → (state1 : List ℕ) → state1 ≡ boundWords after m x (wordOf p d) → Solving ss nodes before state1 scratch end (g .work .top) n (m + 1) k
-        solve-next f state1 q =
+        pub solve-next : r ≡ false → {state1 : List ℕ} → state1 ≡ boundWords after m x (wordOf p d) → Solving ss nodes before state1 scratch end (g .work .top) n (m + 1) k
+        solve-next f q =
             subst⁻¹ (λ (y : List ℕ). Solving ss nodes before y scratch end (g .work .top) n (m + 1) k) q
             (subst (λ (i : ℕ). Solving ss nodes before (boundWords after m x (wordOf p d)) scratch end (g .work .top) n i k) (let i : suc m ≡ m + 1 = omega arith in i)
             (let o : n ≤ m = s .grows in
             let new : Binding = record { variable = variableOf x; term = resolve b (termAt ss nodes p d) } in
             let now : bindings ss nodes (boundWords after m x (wordOf p d)) (suc m) ≡ record { variable = variableOf x; term = resolve b (termAt ss nodes p d) } ∷ b = bind-means ss nodes after m x p d (s .store) (binds .cell) (binds .unbound) (binds .copy) in
-            let l-same : (i : ℕ) → i < k → leftAt end i ≡ leftAt next i = (λ i w. left-kept next end (checked .keeps .others) i) in
-            let r-same : (i : ℕ) → i < k → rightAt end i ≡ rightAt next i = (λ i w. right-kept next end (checked .keeps .others) i) in
+            let l-same : (i : ℕ) → i < k → leftAt end i ≡ leftAt next i = (λ i w. left-kept next end (checked .spared .pairs-kept) i (let z : k ≤ pairs = solve-height in omega arith)) in
+            let r-same : (i : ℕ) → i < k → rightAt end i ≡ rightAt next i = (λ i w. right-kept next end (checked .spared .pairs-kept) i (let z : k ≤ pairs = solve-height in omega arith)) in
             record {
               grows = omega arith;
               store = bind-store ss nodes after m x p d (s .store) (binds .cell) (binds .unbound) (binds .copy) (binds .node) (binds .down) (free f);
               within = bind-within ss nodes after m x p d (s .store) (binds .cell) (binds .unbound) (binds .copy) (g .work .top) (s .within) (binds .below) (binds .copy-below);
               keeps = keeps-trans n m before after (boundWords after m x (wordOf p d)) (s .grows) (s .keeps) (bind-keeps ss nodes after m x p d (s .store) (binds .cell) (binds .unbound) (binds .copy));
-              clean = checked .clean;
+              clean = checked .spared .clean clean-next;
               long = long-end;
               stack = subst⁻¹ (λ (y : List Binding). Stack ss nodes y (g .work .top) (leftAt end) (rightAt end) k) now (stack-agrees ss nodes (new ∷ b) (g .work .top) (leftAt next) (rightAt next) (leftAt end) (rightAt end) k l-same r-same (stack-bound ss nodes b new (g .work .top) (leftAt next) (rightAt next) k (binds .stack)));
               means = s .means ∙ (binds .free (free f) ∙ (ap₂ (unifyRows (new ∷ b)) (sym (rows-agree ss nodes (leftAt next) (leftAt end) k l-same)) (sym (rows-agree ss nodes (rightAt next) (rightAt end) k r-same)) ∙ ap (λ (y : List Binding). unifyRows y (rowsOf ss nodes (leftAt end) k) (rowsOf ss nodes (rightAt end) k)) (sym now)));
-              memo = subst⁻¹ (λ (y : List Binding). Memo ss nodes y end) now (memo-bound ss nodes b end (memo-kept ss nodes b next (binds .memo) end (λ j o1. checked .keeps .others j (omega arith))) new);
+              memo = subst⁻¹ (λ (y : List Binding). Memo ss nodes y end) now (memo-bound ss nodes b end (checked .spared .memo b (binds .memo)) new);
               closes = subst⁻¹ (λ (y : List Binding). Closes ss nodes y (leftAt end) (rightAt end) k nothing nothing) now (closes-agree ss nodes (new ∷ b) (leftAt next) (rightAt next) (leftAt end) (rightAt end) k nothing nothing l-same r-same (binds .closes (free f)));
+              order = checked .order f;
             }))

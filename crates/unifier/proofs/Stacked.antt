@@ -11,7 +11,7 @@ use lib.Seq.{getD-set-same, getD-set-other}
 use borrow.Author.Tests.{ltb-true, ltb-false, eqb-true, eqb-false}
 use Rattle.syntax.specs.Words.{firstName}
 use Rattle.machine.specs.Substitution.{RTerm, RTerms, var, app, rnil, rcons, replace, Binding, resolve}
-use Rattle.layout.specs.Regions.{copies, cells, storeWords, pairs, pairOf, memo, loadedNode, sideSize, pairSize}
+use Rattle.layout.specs.Regions.{cutList, copies, cells, stack, pairs, pairOf, memo, loadedNode, sideSize, pairSize}
 use Rattle.layout.specs.Nodes.{Symbol, nameOf, Node, Row, termAt, termsAt, followed, count}
 use Rattle.layout.specs.State.{variableOf}
 use Rattle.layout.proofs.Nodes.{compound-at, compound-row}
@@ -105,17 +105,17 @@ module _ (scratch : List ℕ) (k root at copy other there second : ℕ) (fits : 
       go i l h false e = inr (let q : k ≤ j = ltb-false j k e in omega (arith, z))
 
 -- words from 32,768 on as they were: the pairs are as they were
-pub left-kept : (before after : List ℕ) → ((j : ℕ) → storeWords ≤ j → getD after j 0 ≡ getD before j 0) → (k : ℕ) → leftAt after k ≡ leftAt before k
-left-kept before after w k = side-kept before after (pairOf k) (λ j l h. w j (omega arith))
+pub left-kept : (before after : List ℕ) → ((j : ℕ) → stack ≤ j → j < cutList → getD after j 0 ≡ getD before j 0) → (k : ℕ) → k < pairs → leftAt after k ≡ leftAt before k
+left-kept before after w k o = side-kept before after (pairOf k) (λ j l h. w j (omega arith) (omega arith))
 
-pub right-kept : (before after : List ℕ) → ((j : ℕ) → storeWords ≤ j → getD after j 0 ≡ getD before j 0) → (k : ℕ) → rightAt after k ≡ rightAt before k
-right-kept before after w k = side-kept before after (pairOf k + sideSize) (λ j l h. w j (omega arith))
+pub right-kept : (before after : List ℕ) → ((j : ℕ) → stack ≤ j → j < cutList → getD after j 0 ≡ getD before j 0) → (k : ℕ) → k < pairs → rightAt after k ≡ rightAt before k
+right-kept before after w k o = side-kept before after (pairOf k + sideSize) (λ j l h. w j (omega arith) (omega arith))
 
 -- words before the memo as they were: so are the pairs of a stack that is not too high
-pub left-front : (before after : List ℕ) → ((j : ℕ) → j < memo → getD after j 0 ≡ getD before j 0) → (k : ℕ) → k < pairs → leftAt after k ≡ leftAt before k
+pub left-front : (before after : List ℕ) → ((j : ℕ) → j < cutList → getD after j 0 ≡ getD before j 0) → (k : ℕ) → k < pairs → leftAt after k ≡ leftAt before k
 left-front before after w k o = side-kept before after (pairOf k) (λ j l h. w j (omega arith))
 
-pub right-front : (before after : List ℕ) → ((j : ℕ) → j < memo → getD after j 0 ≡ getD before j 0) → (k : ℕ) → k < pairs → rightAt after k ≡ rightAt before k
+pub right-front : (before after : List ℕ) → ((j : ℕ) → j < cutList → getD after j 0 ≡ getD before j 0) → (k : ℕ) → k < pairs → rightAt after k ≡ rightAt before k
 right-front before after w k o = side-kept before after (pairOf k + sideSize) (λ j l h. w j (omega arith))
 
 -- ---- rows

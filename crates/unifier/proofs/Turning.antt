@@ -11,7 +11,7 @@ use mathlib.Core.Logic.{_⊎_, inl, inr}
 use lib.ListN.{length, getD}
 use Rattle.syntax.specs.Words.{firstName}
 use Rattle.machine.specs.Substitution.{RTerm, RTerms, var, app, rnil, rcons, Binding, resolve}
-use Rattle.layout.specs.Regions.{copies, places, cells, trail, stack, pairs, pairOf, memo, rows, loadedNode, pairSize}
+use Rattle.layout.specs.Regions.{copies, places, cells, trail, storeWords, stack, pairs, pairOf, memo, rows, loadedNode, pairSize}
 use Rattle.layout.specs.Nodes.{Symbol, Node, Row, termAt, termsAt, followed, count}
 use Rattle.layout.specs.State.{cellOf, variableOf, wordOf, valueOf, bindings, Store, Within}
 use Rattle.layout.proofs.Nodes.{node-inside, node-end, node-size, variable-at, row-first, row-rest, row-cons, row-order}
@@ -20,7 +20,9 @@ use Rattle.bindings.specs.Cells.{Given, Leads, Derefs}
 use Rattle.memos.specs.Memos.{Remembers}
 use Rattle.bindings.specs.Scratch.{leftAt, rightAt, pairWords, SameMarks, Roomy}
 use Rattle.bindings.specs.declared.stack.Side.{Side}
-use Rattle.memos.proofs.Remembering.{value-word, memo-kept, memo-remembers}
+use Rattle.memos.specs.Chains.{Eased, Both, Ended}
+use Rattle.memos.specs.declared.cuts.Ends.{Ends}
+use Rattle.memos.proofs.Remembering.{value-word, memo-kept, memo-eased, memo-remembers}
 use Rattle.unifier.specs.Rows.{unifyRows, nodesOf, sizeOf}
 use Rattle.unifier.specs.Walks.{Beside, Walkable, Meets, Walks}
 use Rattle.unifier.specs.Stacks.{endOf, wholeOf, rowOf, rowsOf, Half, Via, Stack, SameRows, nothing, Closes}
@@ -47,21 +49,23 @@ turns-alike ss nodes state b top ls rs ls′ rs′ size size′ after (Bind k x 
 -- ---- the crossing
 
 module _ (nodes state scratch : List ℕ) (h p c q d : ℕ) (g : Crossable nodes state scratch h p c q d) where
-  pub cross-left : Given nodes state p c
+  cross-left : Given nodes state p c
   cross-left = record { ss = g .work .ss; n = g .n; store = g .work .store; node = g .left; copy = g .copy }
 
-  pub cross-right : Given nodes state q d
-  cross-right = record { ss = g .work .ss; n = g .n; store = g .work .store; node = g .right; copy = g .copy-right }
+  pub cross-both : Both nodes state scratch p c q d
+  unfolding cross-left
+  cross-both =
+      record {
+        left = record {
+          from = record { state = state; given = cross-left; long = (let l : storeWords ≤ length state = g .work .store .long in omega arith); same = λ x l. refl };
+          roomy = g .work .roomy;
+          cuts = g .work .memo .cuts;
+        };
+        node = g .right;
+        copy = g .copy-right;
+      }
 
-  module _ (p1 c1 q1 d1 : ℕ) (a : (k : Given nodes state p c) → Derefs (k .ss) nodes state (k .n) p c p1 c1) (a1 : (k : Given nodes state q d) → Derefs (k .ss) nodes state (k .n) q d q1 d1) where
-    to-left : Derefs (g .work .ss) nodes state (g .n) p c p1 c1
-    unfolding cross-left
-    to-left = a cross-left
-
-    to-right : Derefs (g .work .ss) nodes state (g .n) q d q1 d1
-    unfolding cross-right
-    to-right = a1 cross-right
-
+  module _ (p1 c1 q1 d1 : ℕ) (to-left : Derefs (g .work .ss) nodes state (g .n) p c p1 c1) (to-right : Derefs (g .work .ss) nodes state (g .n) q d q1 d1) where
     later : (newer : List Binding) (s t : RTerm) → resolve (bindings (g .work .ss) nodes state (g .n)) s ≡ resolve (bindings (g .work .ss) nodes state (g .n)) t → nodesOf (resolve (newer ++ bindings (g .work .ss) nodes state (g .n)) s) ≡ nodesOf (resolve (newer ++ bindings (g .work .ss) nodes state (g .n)) t)
     later newer s t e = ap nodesOf (resolve-append newer (bindings (g .work .ss) nodes state (g .n)) s ∙ (ap (resolve newer) e ∙ sym (resolve-append newer (bindings (g .work .ss) nodes state (g .n)) t)))
 
@@ -112,6 +116,67 @@ module _ (nodes state scratch : List ℕ) (h p c q d : ℕ) (g : Crossable nodes
               (2 * sizeOf b (rcons (termAt (g .work .ss) nodes p c) ls) + h) (2 * sizeOf b (rcons (termAt (g .work .ss) nodes p1 c1) ls) + h) after t
               (rows-first b (termAt (g .work .ss) nodes p c) (termAt (g .work .ss) nodes q d) (termAt (g .work .ss) nodes p1 c1) (termAt (g .work .ss) nodes q1 d1) ls rs (sym (to-left .leads .means)) (sym (to-right .leads .means))) (omega arith) (k .1),
         )
+
+-- ---- only short cuts change
+
+module _ (nodes state scratch : List ℕ) (h p c q d : ℕ) (g : Crossable nodes state scratch h p c q d) (after : List ℕ) (e : Eased (bindings (g .work .ss) nodes state (g .n)) scratch after) where
+  tall : h ≤ pairs
+  tall = height (g .work .ss) nodes (bindings (g .work .ss) nodes state (g .n)) (g .work .top) (leftAt scratch) (rightAt scratch) h (g .work .stack)
+
+  left-still : (i : ℕ) → i < h → leftAt after i ≡ leftAt scratch i
+  left-still i o = left-front scratch after (e .beside .low) i (let z : h ≤ pairs = tall in omega arith)
+
+  right-still : (i : ℕ) → i < h → rightAt after i ≡ rightAt scratch i
+  right-still i o = right-front scratch after (e .beside .low) i (let z : h ≤ pairs = tall in omega arith)
+
+  abbrev eased-crossable : Crossable nodes state after h p c q d
+  eased-crossable =
+      record {
+        n = g .n;
+        work = record {
+          ss = g .work .ss;
+          top = g .work .top;
+          store = g .work .store;
+          within = g .work .within;
+          roomy = (let z : length after ≡ length scratch = e .beside .long in let o : rows ≤ length scratch = g .work .roomy in omega arith);
+          stack = stack-agrees (g .work .ss) nodes (bindings (g .work .ss) nodes state (g .n)) (g .work .top) (leftAt scratch) (rightAt scratch) (leftAt after) (rightAt after) h left-still right-still (g .work .stack);
+          memo = memo-eased (g .work .ss) nodes (bindings (g .work .ss) nodes state (g .n)) scratch (g .work .memo) after e;
+        };
+        some = g .some;
+        left = g .left;
+        right = g .right;
+        copy = g .copy;
+        copy-right = g .copy-right;
+        below = g .below;
+        below-right = g .below-right;
+        variable = g .variable;
+        inside = λ o newer. subst⁻¹ (λ (s : Side). nodesOf (resolve (newer ++ bindings (g .work .ss) nodes state (g .n)) (termAt (g .work .ss) nodes p c)) < nodesOf (resolve (newer ++ bindings (g .work .ss) nodes state (g .n)) (wholeOf (g .work .ss) nodes s))) (left-still (h - 1) (omega arith)) (g .inside o newer);
+        inside-right = λ o newer. subst⁻¹ (λ (s : Side). nodesOf (resolve (newer ++ bindings (g .work .ss) nodes state (g .n)) (termAt (g .work .ss) nodes q d)) < nodesOf (resolve (newer ++ bindings (g .work .ss) nodes state (g .n)) (wholeOf (g .work .ss) nodes s))) (right-still (h - 1) (omega arith)) (g .inside-right o newer);
+        closes = closes-agree (g .work .ss) nodes (bindings (g .work .ss) nodes state (g .n)) (leftAt scratch) (rightAt scratch) (leftAt after) (rightAt after) h (termAt (g .work .ss) nodes p c) (termAt (g .work .ss) nodes q d) left-still right-still (g .closes);
+      }
+
+  eased-crosses : (later : List ℕ) (t : Turn) → Crosses nodes state after later h p c q d eased-crossable t → Crosses nodes state scratch later h p c q d g t
+  eased-crosses later t k = (
+    marks-trans scratch after later (record { long = e .beside .long; words = λ j l. e .beside .low j (omega arith) }) (k .0),
+    subst (λ (rs : RTerms). Turns (g .work .ss) nodes state (bindings (g .work .ss) nodes state (g .n)) (g .work .top) (rcons (termAt (g .work .ss) nodes p c) (rowsOf (g .work .ss) nodes (leftAt scratch) h)) (rcons (termAt (g .work .ss) nodes q d) rs)
+        (2 * sizeOf (bindings (g .work .ss) nodes state (g .n)) (rcons (termAt (g .work .ss) nodes p c) (rowsOf (g .work .ss) nodes (leftAt scratch) h)) + h) later t) (rows-agree (g .work .ss) nodes (rightAt scratch) (rightAt after) h right-still)
+        (subst (λ (ls : RTerms). Turns (g .work .ss) nodes state (bindings (g .work .ss) nodes state (g .n)) (g .work .top) (rcons (termAt (g .work .ss) nodes p c) ls) (rcons (termAt (g .work .ss) nodes q d) (rowsOf (g .work .ss) nodes (rightAt after) h))
+        (2 * sizeOf (bindings (g .work .ss) nodes state (g .n)) (rcons (termAt (g .work .ss) nodes p c) ls) + h) later t) (rows-agree (g .work .ss) nodes (leftAt scratch) (leftAt after) h left-still) (k .1)),
+  )
+
+module _ (nodes state scratch : List ℕ) (h p c q d : ℕ) (g : Crossable nodes state scratch h p c q d) {mid : List ℕ} {r : Ends} (f : (k : Both nodes state scratch p c q d) → Ended (k .left .from .given .ss) nodes (k .left .from .state) (k .left .from .given .n) scratch mid p c q d r) where
+  ended : Ended (g .work .ss) nodes state (g .n) scratch mid p c q d r
+  unfolding cross-both cross-left
+  ended = f (cross-both nodes state scratch h p c q d g)
+
+  abbrev once : Crossable nodes state mid h p c q d
+  once = eased-crossable nodes state scratch h p c q d g mid (ended .eased)
+
+  pub cross-settled : Crossed nodes mid h (r .node) (r .copy) (r .other) (r .second)
+  cross-settled = cross-settle nodes state mid h p c q d once (r .node) (r .copy) (r .other) (r .second) (ended .left) (ended .right)
+
+  pub cross-done : (after : List ℕ) (t : Turn) → ((k : Crossed nodes mid h (r .node) (r .copy) (r .other) (r .second)) → Settled nodes mid after h (r .node) (r .copy) (r .other) (r .second) k t) → Crosses nodes state scratch after h p c q d g t
+  cross-done after t s = eased-crosses nodes state scratch h p c q d g mid (ended .eased) after t (cross-end nodes state mid h p c q d once (r .node) (r .copy) (r .other) (r .second) (ended .left) (ended .right) after t s)
 
 -- ---- the top pair moved past the crossing
 
@@ -466,10 +531,10 @@ module _ (scratch : List ℕ) (h : ℕ) (l r : Side) (g : Passable scratch h l r
 
   module _ (after : List ℕ) (k : Remembers scratch after (wordOf (l .root) (l .copy)) (wordOf (r .root) (r .copy))) where
     left-same : (i : ℕ) → i < h → leftAt after i ≡ leftAt scratch i
-    left-same i o = left-front scratch after (k .words) i (let z : h ≤ pairs = not-high in omega arith)
+    left-same i o = left-front scratch after (λ j w1. k .words j (omega arith)) i (let z : h ≤ pairs = not-high in omega arith)
 
     right-same : (i : ℕ) → i < h → rightAt after i ≡ rightAt scratch i
-    right-same i o = right-front scratch after (k .words) i (let z : h ≤ pairs = not-high in omega arith)
+    right-same i o = right-front scratch after (λ j w1. k .words j (omega arith)) i (let z : h ≤ pairs = not-high in omega arith)
 
     left-under : (i : ℕ) → i < h - 1 → leftAt after i ≡ leftAt scratch i
     left-under i o = left-same i (omega arith)

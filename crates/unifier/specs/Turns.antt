@@ -18,6 +18,7 @@ use Rattle.bindings.specs.Queues.{Clean}
 use Rattle.memos.specs.Memos.{Memo}
 use Rattle.bindings.specs.Scratch.{leftAt, rightAt, SameMarks, Roomy}
 use Rattle.bindings.specs.declared.stack.Side.{Side}
+use Rattle.orders.specs.Orders.{Ordered}
 use Rattle.unifier.specs.Rows.{unifyRows, nodesOf, sizeOf}
 use Rattle.unifier.specs.Walks.{Meets, Walks}
 use Rattle.unifier.specs.Stacks.{endOf, wholeOf, rowsOf, Via, Stack, nothing, Closes}
@@ -193,11 +194,12 @@ unfoldable pub answered : Bool → List Binding → Option (List Binding)
 answered true b = some b
 answered false b = none
 
--- n bindings, one pair on the stack, no cell marked
+-- n bindings, one pair on the stack, no cell marked, and an order of cells
 pub record Solvable (nodes state scratch : List ℕ) (n : ℕ) : Type 0 where
   pub work : Work nodes state scratch n 1
   pub closes : Closes (work .ss) nodes (bindings (work .ss) nodes state n) (leftAt scratch) (rightAt scratch) 1 nothing nothing
   pub clean : Clean scratch
+  pub order : Ordered (work .ss) nodes state scratch
 
 pub record Solved (ss : List Symbol) (nodes before after scratch later : List ℕ) (top n : ℕ) (ls rs : RTerms) (r : Unified) : Type 0 where
   pub grows : n ≤ r .trail

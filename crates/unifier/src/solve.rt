@@ -3,18 +3,19 @@ use crate::walk::Walked;
 use crate::walk::walk_rows;
 use bindings::occurrence::closed_to;
 use bindings::occurrence::size_at;
-use bindings::occurrence::stands;
 use bindings::stack::Side;
 use bindings::stack::put_pair;
 use bindings::stack::side_at;
 use bindings::store::bind;
-use bindings::store::deref;
 use bindings::store::pack;
+use cycle_checks::begin;
+use cycle_checks::check;
 use layout::LOADED_NODE;
 use layout::PAIR_SIZE;
 use layout::SIDE_SIZE;
 use layout::STACK;
 use layout::cell_of;
+use memos::cuts::follow;
 use memos::forget;
 use memos::known;
 use memos::remember;
@@ -134,9 +135,8 @@ fn cross(
     ensures { λ r. ⌜ ((g : Crossable (now (nodes .entry)) (now (state .entry)) (now (scratch .entry)) h p c q d)
         → Crosses (now (nodes .entry)) (now (state .entry)) (now (scratch .entry)) (now (scratch .exit)) h p c q d g r) ⌝ }
 {
-    let a = deref(nodes, state, p, c);
-    let b = deref(nodes, state, q, d);
-    settle(nodes, scratch, h, a.node, a.copy, b.node, b.copy)
+    let e = follow(nodes, state, scratch, p, c, q, d);
+    settle(nodes, scratch, h, e.node, e.copy, e.other, e.second)
 }
 
 // The top pair, whose rows first have a variable on a side at p and q, moved past these two terms, which are then looked at.
@@ -253,7 +253,7 @@ fn solve_pair(nodes: &[u32], state: &mut [u32], scratch: &mut [u32], m: usize, k
                 node,
                 copy,
             } => {
-                if stands(nodes, state, scratch, cell, node, copy, closed) {
+                if check(nodes, state, scratch, cell, node, copy, closed, height) {
                     let trail = n;
                     return Unified {
                         equal: false,
@@ -287,6 +287,7 @@ pub fn unify_closed(
         → Unifies (g .ss) (now (nodes .entry)) (now (state .entry)) (now (state .exit)) (now (scratch .entry)) (now (scratch .exit)) (g .top) p c q d n r) ⌝ }
 {
     forget(scratch);
+    begin(scratch);
     put_pair(scratch, 0, p, p, c, q, q, d);
     solve_pair(nodes, state, scratch, n, k)
 }

@@ -16,28 +16,28 @@ same-length : tie.Need-same-length
 same-length c = search needs
 
 returns : tie.Need-returns
-returns c = let c8 = c .before .before .before .before .before .before .before .before in begins-remembers (c8 .args .scratch .now) _ (c8 .args .left) (c8 .args .right) (c .before .before .begin .ensures)
+returns c = let s8 = c .before .before .before .before .before .before .before .before in begins-remembers (s8 .args .scratch .now) _ (s8 .args .left) (s8 .args .right) (c .before .before .begin .ensures)
 
-begin-requires-2 : tie.Need-begin-requires-2
-begin-requires-2 c κs = search needs
+begin-anew-requires : tie.Need-begin-anew-requires
+begin-anew-requires c κs = search needs
 
 same-length-2 : tie.Need-same-length-2
 same-length-2 c = search needs
 
 returns-2 : tie.Need-returns-2
-returns-2 c = let c9 = c .before .before .before .before .before .before .before .before .before in begins-remembers (c9 .args .scratch .now) _ (c9 .args .left) (c9 .args .right) (c .before .before .begin2 .ensures)
+returns-2 c = let s9 = c .before .before .before .before .before .before .before .before .before in begins-remembers (s9 .args .scratch .now) _ (s9 .args .left) (s9 .args .right) (c .before .before .begin-anew .ensures)
 
 is-crowded-requires : tie.Need-is-crowded-requires
 is-crowded-requires c κs = search needs
 
-begin-requires-3 : tie.Need-begin-requires-3
-begin-requires-3 c κs = search needs
+begin-anew-requires-2 : tie.Need-begin-anew-requires-2
+begin-anew-requires-2 c κs = search needs
 
 same-length-3 : tie.Need-same-length-3
 same-length-3 c = search needs
 
 returns-3 : tie.Need-returns-3
-returns-3 c = let c12 = c .before .before .before .before .before .before .before .before .before .before .before .before in begins-remembers (c12 .args .scratch .now) _ (c12 .args .left) (c12 .args .right) (c .before .before .begin3 .ensures)
+returns-3 c = let s12 = c .before .before .before .before .before .before .before .before .before .before .before .before in begins-remembers (s12 .args .scratch .now) _ (s12 .args .left) (s12 .args .right) (c .before .before .begin-anew2 .ensures)
 
 place-requires : tie.Need-place-requires
 place-requires c κs = search needs
@@ -57,11 +57,11 @@ enter-spec =
     begin-requires
     same-length
     returns
-    begin-requires-2
+    begin-anew-requires
     same-length-2
     returns-2
     is-crowded-requires
-    begin-requires-3
+    begin-anew-requires-2
     same-length-3
     returns-3
     place-requires

@@ -12,20 +12,20 @@ returns c = search needs
 weigh-requires : tie.Need-weigh-requires
 weigh-requires c κs = search needs
 
-enter-requires : tie.Need-enter-requires
-enter-requires c κs = search needs
-
 same-length : tie.Need-same-length
 same-length c = search needs
 
 returns-2 : tie.Need-returns-2
-returns-2 c = let c7 = c .before .before .before .before .before .before .before in let c11 = c7 .before .before .before .before in weighed-then _ _ _ (c11 .args .left) (c11 .args .right) (c7 .weigh .ensures) (c .before .before .enter .ensures)
+returns-2 c = let s7 = c .before .before .before .before .before .before .before in weighed-remembers _ _ (s7 .args .left) (s7 .args .right) (c .before .before .before .weigh .ensures)
+
+keep-requires : tie.Need-keep-requires
+keep-requires c κs = search needs
 
 same-length-2 : tie.Need-same-length-2
 same-length-2 c = search needs
 
 returns-3 : tie.Need-returns-3
-returns-3 c = let c7 = c .before .before .before .before .before .before .before in weighed-remembers _ _ (c7 .args .left) (c7 .args .right) (c .before .before .before .weigh .ensures)
+returns-3 c = let s11 = c .before .before .before .before .before .before .before .before .before .before .before in weighed-then _ _ _ (s11 .args .left) (s11 .args .right) (c .before .before .before .before .before .before .before .weigh .ensures) (c .before .before .keep .ensures)
 
 pub remember-spec : {M : Type 1} → statement M
 remember-spec =
@@ -34,8 +34,8 @@ remember-spec =
     sub-if1
     returns
     weigh-requires
-    enter-requires
     same-length
     returns-2
+    keep-requires
     same-length-2
     returns-3)

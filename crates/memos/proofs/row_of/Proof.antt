@@ -12,6 +12,9 @@ add-word-at c = search needs
 word-at-requires : tie.Need-word-at-requires
 word-at-requires c κs = search needs
 
+half-of-requires : tie.Need-half-of-requires
+half-of-requires c κs = search needs
+
 returns : tie.Need-returns
 returns c = inl refl
 
@@ -46,23 +49,7 @@ add-result : tie.Need-add-result
 add-result c = search needs
 
 returns-5 : tie.Need-returns-5
-returns-5 c = let c4 = c .before .before .before .before in let c5 = c4 .before in let c6 = c5 .before in let c8 = c6 .before .before in rowed-at (c8 .args .scratch .now) (c8 .args .key) (c6 .word-at .result) (c4 .word-at2 .result) (c .before .before .word-at3 .result) (omega (arith, c5 .if1 .left)) (c4 .word-at2 .ensures) (omega (arith, c .before .before .before .if2 .left)) (c .before .before .word-at3 .ensures) (c .before .if3 .left) (omega (arith, c .if4 .left))
+returns-5 c = let s2 = c .before .before in let s4 = s2 .before .before in let s9 = s4 .before .before .before .before .before in rowed-at (s9 .args .scratch .now) (s9 .args .key) (c .before .before .before .before .before .before .half-of .result) (s4 .word-at2 .result) (s2 .word-at3 .result) (omega (arith, c .before .before .before .before .before .if1 .left)) (s4 .word-at2 .ensures) (omega (arith, c .before .before .before .if2 .left)) (s2 .word-at3 .ensures) (c .before .if3 .left) (omega (arith, c .if4 .left))
 
 pub row-of-spec : {M : Type 1} → statement M
-row-of-spec =
-    tie.close
-    (tie.spec
-    add-word-at
-    word-at-requires
-    returns
-    word-at-requires-2
-    returns-2
-    add-word-at-2
-    word-at-requires-3
-    returns-3
-    mul-if4
-    add-if4
-    add-if4-2
-    returns-4
-    add-result
-    returns-5)
+row-of-spec = tie.close (tie.spec add-word-at word-at-requires half-of-requires returns word-at-requires-2 returns-2 add-word-at-2 word-at-requires-3 returns-3 mul-if4 add-if4 add-if4-2 returns-4 add-result returns-5)

@@ -1,6 +1,6 @@
 use Prim.Native.Nat.{_+_}
 use Rattle.layout.specs.Regions.{weights}
-use Rattle.memos.proofs.Remembering.{weighed-two}
+use Rattle.memos.proofs.Remembering.{weighed-one, weighed-two}
 use native.Mathlib.Omega.{arith}
 use lib.ListN.{length-set}
 use borrow.Author.Needs.{needs}
@@ -47,25 +47,13 @@ same-length : tie.Need-same-length
 same-length c = search needs
 
 returns : tie.Need-returns
-returns c = let c8 = c .before .before .before .before .before .before .before .before in weighed-two (c8 .args .scratch .now) (weights + c8 .args .h + 1) 0 (weights + c8 .args .h) (c .sum2 .result) (omega arith) (omega (arith, c8 .pre .1)) (omega arith) (omega (arith, c8 .pre .1))
-
-sum-requires-3 : tie.Need-sum-requires-3
-sum-requires-3 c κs = search needs
-
-cast-scratch-2 : tie.Need-cast-scratch-2
-cast-scratch-2 c = search needs
-
-mul-scratch-3 : tie.Need-mul-scratch-3
-mul-scratch-3 c = search needs
-
-slice-write-scratch-3 : tie.Need-slice-write-scratch-3
-slice-write-scratch-3 c = simp length-set (omega arith)
+returns c = let s8 = c .before .before .before .before .before .before .before .before in weighed-two (s8 .args .scratch .now) (weights + s8 .args .h + 1) 0 (weights + s8 .args .h) (c .sum2 .result) (omega arith) (omega (arith, s8 .pre .1)) (omega arith) (omega (arith, s8 .pre .1))
 
 same-length-2 : tie.Need-same-length-2
 same-length-2 c = search needs
 
 returns-2 : tie.Need-returns-2
-returns-2 c = let c8 = c .before .before .before .before .before .before .before .before in weighed-two (c8 .args .scratch .now) (weights + c8 .args .h + 1) 0 (weights + c8 .args .h) (c .sum3 .result) (omega arith) (omega (arith, c8 .pre .1)) (omega arith) (omega (arith, c8 .pre .1))
+returns-2 c = let s7 = c .before .before .before .before .before .before .before in weighed-one (s7 .args .scratch .now) (weights + s7 .args .h + 1) 0 (omega arith) (omega (arith, s7 .pre .1))
 
 pub weigh-spec : {M : Type 1} → statement M
 weigh-spec =
@@ -85,9 +73,5 @@ weigh-spec =
     slice-write-scratch-2
     same-length
     returns
-    sum-requires-3
-    cast-scratch-2
-    mul-scratch-3
-    slice-write-scratch-3
     same-length-2
     returns-2)

@@ -20,7 +20,7 @@ put-answer-requires : tie.Need-put-answer-requires
 put-answer-requires c κs = search needs
 
 same-length : tie.Need-same-length
-same-length c = search needs
+same-length c = c .before .before .before .scratch .given .1
 
 same-length-2 : tie.Need-same-length-2
 same-length-2 c = search needs

@@ -22,11 +22,14 @@ search-requires c κs = let c4 = c .before .before .before .before in let c9 = c
 undo-requires-2 : tie.Need-undo-requires-2
 undo-requires-2 c κs = let c5 = c .before .before .before .before .before in let c8 = c5 .before .before .before in let c13 = c8 .before .before .before .before .before in (check-stored-end (c13 .args .nodes .now) (c13 .args .state .now) (c13 .args .scratch .now) (c13 .args .x) (c13 .args .q) (c13 .args .d) (c13 .pre) (c8 .scan .last .1 .1 .0) (c8 .scan .result) (c8 .scan .ensures) (c5 .if1 .left) (c .before .before .before .search .last .1 .1 .0) (c .before .before .before .search .result) (c .before .before .before .search .ensures), omega arith)
 
+wrapping-add-usize-requires : tie.Need-wrapping-add-usize-requires
+wrapping-add-usize-requires c κs = search needs
+
 same-length-2 : tie.Need-same-length-2
 same-length-2 c = search needs
 
 returns-2 : tie.Need-returns-2
-returns-2 c = let c6 = c .before .before .before .before .before .before in let c8 = c6 .before .before in let c11 = c8 .before .before .before in let c16 = c11 .before .before .before .before .before in λ g. check-end (c16 .args .nodes .now) (c16 .args .state .now) (c16 .args .scratch .now) (c16 .args .x) (c16 .args .q) (c16 .args .d) g (c11 .scan .last .1 .1 .0) (c11 .scan .result) (c11 .scan .ensures) (c8 .if1 .left) (c6 .search .last .1 .1 .0) (c6 .search .result) (c6 .search .ensures) (c .before .before .undo2 .last .0) (c .before .before .undo2 .ensures)
+returns-2 c = let c6 = c .before .before .before .before .before .before .before in let c8 = c6 .before .before in let c11 = c8 .before .before .before in let c16 = c11 .before .before .before .before .before in λ g. check-end (c16 .args .nodes .now) (c16 .args .state .now) (c16 .args .scratch .now) (c16 .args .x) (c16 .args .q) (c16 .args .d) g (c11 .scan .last .1 .1 .0) (c11 .scan .result) (c11 .scan .ensures) (c8 .if1 .left) (c6 .search .last .1 .1 .0) (c6 .search .result) (c6 .search .ensures) (c .before .before .before .undo2 .last .0) (c .before .before .before .undo2 .ensures)
 
 pub occurs-spec : {M : Type 1} → statement M
 occurs-spec =
@@ -38,5 +41,6 @@ occurs-spec =
     returns
     search-requires
     undo-requires-2
+    wrapping-add-usize-requires
     same-length-2
     returns-2)

@@ -7,10 +7,10 @@ use Rattle.bindings.proofs.occurrence.scan.Statement.{statement}
 use Rattle.bindings.proofs.occurrence.scan.Tie as tie
 
 abbrev Inv-loop : tie.InvT-loop
-Inv-loop nodes state scratch₀ q d x m e i₀ n₀ scratch i n = (g : Scannable nodes state scratch₀ q d m) → Scanning (g .ss) nodes state scratch₀ scratch q e d x m i n
+Inv-loop nodes state scratch₀ q d x m cost e i₀ n₀ scratch i n = (g : Scannable nodes state scratch₀ q d m) → Scanning (g .ss) nodes state scratch₀ scratch q e d x m i n
 
 abbrev μ-loop : tie.MeasureT-loop
-μ-loop nodes state scratch₀ q d x m e i₀ n₀ scratch i n = e - i
+μ-loop nodes state scratch₀ q d x m cost e i₀ n₀ scratch i n = e - i
 
 size-at-requires : tie.Need-size-at-requires Inv-loop μ-loop
 size-at-requires c κs = let c3 = c .before .before .before in let args = c3 .args in scan-inside (args .nodes .now) (args .state .now) (args .scratch .now) (args .q) (args .d) (args .m) (c3 .pre) .0

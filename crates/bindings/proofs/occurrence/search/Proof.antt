@@ -8,10 +8,10 @@ use Rattle.bindings.proofs.occurrence.search.Statement.{statement}
 use Rattle.bindings.proofs.occurrence.search.Tie as tie
 
 abbrev Inv-loop : tie.InvT-loop
-Inv-loop nodes state scratch₀ x m k₀ n₀ scratch k n = (g : Searchable nodes state scratch₀ x m) → Searching (g .ss) nodes state (g .n) scratch₀ scratch x m k n
+Inv-loop nodes state scratch₀ x m k₀ n₀ cost₀ scratch k n cost = (g : Searchable nodes state scratch₀ x m) → Searching (g .ss) nodes state (g .n) scratch₀ scratch x m k n
 
 abbrev μ-loop : tie.MeasureT-loop
-μ-loop nodes state scratch₀ x m k₀ n₀ scratch k n = cells - k
+μ-loop nodes state scratch₀ x m k₀ n₀ cost₀ scratch k n cost = cells - k
 
 loop-holds : tie.Need-loop-holds Inv-loop μ-loop
 loop-holds c = let s = c .before .before .before in λ g. search-begin (s .args .nodes .now) (s .args .state .now) (s .args .scratch .now) (s .args .x) (s .args .m) g
@@ -25,14 +25,17 @@ same-length c = let l = c .before .before .before .before .before .before in let
 returns : tie.Need-returns Inv-loop μ-loop
 returns c = let l = c .before .before .before .before .before .before in let s = l .before .before .before .before in λ g. search-found (s .args .nodes .now) (s .args .state .now) (s .args .scratch .now) (l .loop .scratch) (s .args .x) (s .args .m) (l .loop .k) (l .loop .n) g (l .loop .inv g) (c .before .before .before .before .before .loop-test .taken) (c .before .before .before .look .last .1 .1 .0) (c .before .before .before .look .result) (c .before .before .before .look .ensures) (c .if1 .taken)
 
+wrapping-add-usize-requires : tie.Need-wrapping-add-usize-requires Inv-loop μ-loop
+wrapping-add-usize-requires c κs = search needs
+
 add-k : tie.Need-add-k Inv-loop μ-loop
-add-k c = let l = c .before .before .before .before .before .before in let s = l .before .before .before .before in omega (arith, queue-few (s .args .nodes .now) (s .args .state .now) (s .args .scratch .now) (l .loop .scratch) (s .args .x) (s .args .m) (l .loop .k) (l .loop .n) (s .pre) (l .loop .inv (s .pre)))
+add-k c = let l = c .before .before .before .before .before .before .before in let s = l .before .before .before .before in omega (arith, queue-few (s .args .nodes .now) (s .args .state .now) (s .args .scratch .now) (l .loop .scratch) (s .args .x) (s .args .m) (l .loop .k) (l .loop .n) (s .pre) (l .loop .inv (s .pre)))
 
 loop-less : tie.Need-loop-less Inv-loop μ-loop
-loop-less c = let l = c .before .before .before .before .before .before in let s = l .before .before .before .before in omega (arith, queue-few (s .args .nodes .now) (s .args .state .now) (s .args .scratch .now) (l .loop .scratch) (s .args .x) (s .args .m) (l .loop .k) (l .loop .n) (s .pre) (l .loop .inv (s .pre)))
+loop-less c = let l = c .before .before .before .before .before .before .before in let s = l .before .before .before .before in omega (arith, queue-few (s .args .nodes .now) (s .args .state .now) (s .args .scratch .now) (l .loop .scratch) (s .args .x) (s .args .m) (l .loop .k) (l .loop .n) (s .pre) (l .loop .inv (s .pre)))
 
 loop-again : tie.Need-loop-again Inv-loop μ-loop
-loop-again c = let l = c .before .before .before .before .before .before in let s = l .before .before .before .before in λ g. search-next (s .args .nodes .now) (s .args .state .now) (s .args .scratch .now) (l .loop .scratch) (s .args .x) (s .args .m) (l .loop .k) (l .loop .n) g (l .loop .inv g) (c .before .before .before .before .before .loop-test .taken) (c .before .before .before .look .last .1 .1 .0) (c .before .before .before .look .result) (c .before .before .before .look .ensures) (c .if1 .left)
+loop-again c = let l = c .before .before .before .before .before .before .before in let s = l .before .before .before .before in λ g. search-next (s .args .nodes .now) (s .args .state .now) (s .args .scratch .now) (l .loop .scratch) (s .args .x) (s .args .m) (l .loop .k) (l .loop .n) g (l .loop .inv g) (c .before .before .before .before .before .before .loop-test .taken) (c .before .before .before .before .look .last .1 .1 .0) (c .before .before .before .before .look .result) (c .before .before .before .before .look .ensures) (c .before .if1 .left)
 
 same-length-2 : tie.Need-same-length-2 Inv-loop μ-loop
 same-length-2 c = let l = c .before in let s = l .before .before .before .before in l .loop .inv (s .pre) .keeps .long
@@ -50,6 +53,7 @@ search-spec =
     look-requires
     same-length
     returns
+    wrapping-add-usize-requires
     add-k
     loop-less
     loop-again

@@ -1,0 +1,109 @@
+// A guess of how a unification goes on, and the cells that it touches in topological order. The rest of the unification is run ahead without any occurs check,
+// over bindings of its own. Nothing rests on the guess: the cells are only proposed, and whoever takes them looks at each. So nothing is asked or promised of
+// what stands in the words that are lent; each is read and written only where there is one.
+mod guesses;
+mod room;
+mod sorting;
+mod unification;
+
+use crate::guesses::word_of;
+use crate::room::LIST;
+use crate::room::WORK;
+use crate::room::get;
+use crate::room::size_of;
+use crate::sorting::sort_most;
+use crate::unification::MOST_ROWS;
+use crate::unification::ROW_SIZE;
+use crate::unification::guess;
+use crate::unification::put_row;
+use layout::MEMO;
+use layout::PAIR_SIZE;
+use layout::SIDE_SIZE;
+use layout::STACK;
+ghost use Prim.Native.Nat.{_<_, _≤_, _^_};
+ghost use lib.ListN.{length};
+ghost use Rattle.layout.specs.Regions.{memo, cells, pairs, places, copies};
+ghost use Rattle.lookahead.specs.Room.{Lent, Small};
+
+// Where the proposed cells stand in the scratch words.
+pub const PROPOSED: usize = MEMO + LIST;
+
+// So many pairs of the work stack are looked at, from the top on.
+const MOST_PAIRS: usize = MOST_ROWS / 4;
+
+fn least(a: usize, b: usize) -> usize
+    ensures { λ r. ⌜ (r ≤ a) × (r ≤ b) ⌝ }
+{
+    if a < b {
+        return a;
+    }
+    b
+}
+
+// The pair of the work stack at a place, as a row at another.
+fn copy_pair(nodes: &[u32], scratch: &mut [u32], from: usize, to: usize)
+    requires { ⌜ (Small from) × Small to ⌝ }
+    ensures { λ _. ⌜ Lent to (now (scratch .entry)) (now (scratch .exit)) ⌝ }
+{
+    let root = get(scratch, from);
+    let p = get(scratch, from + 1);
+    let c = get(scratch, from + 2);
+    let q = get(scratch, from + SIDE_SIZE + 1);
+    let d = get(scratch, from + SIDE_SIZE + 2);
+    let e = root + size_of(nodes, root);
+    put_row(scratch, to, word_of(p, c), e, word_of(q, d));
+}
+
+// The upper n of the h pairs on the work stack as rows, the top one last.
+fn copy_stack(nodes: &[u32], scratch: &mut [u32], h: usize, n: usize)
+    requires { ⌜ (h ≤ pairs) × ((n ≤ h) × (n ≤ cells)) ⌝ }
+    ensures { λ _. ⌜ Lent memo (now (scratch .entry)) (now (scratch .exit)) ⌝ }
+{
+    let first = h - n;
+    let mut k = 0;
+    while k < n {
+        let from = STACK + (first + k) * PAIR_SIZE;
+        let to = MEMO + WORK + k * ROW_SIZE;
+        copy_pair(nodes, scratch, from, to);
+        k += 1;
+    }
+}
+
+// As `look_ahead`, in room that has so many rows.
+fn propose(
+    nodes: &[u32],
+    state: &[u32],
+    room: &mut [u32],
+    rows: usize,
+    x: usize,
+    w: usize,
+    turns: usize,
+) -> usize
+    requires { ⌜ (rows ≤ cells) × (x < cells) ⌝ }
+    ensures { λ r. ⌜ r ≤ cells ⌝ }
+{
+    let n = guess(nodes, state, room, rows, x, w, turns);
+    sort_most(nodes, state, room, n, turns)
+}
+
+// Cell x is about to be bound to the term at q in copy d, with h pairs on the work stack: how many cells are proposed. The work is at most that of some such
+// number of turns at the stack. The words from the memo on are overwritten.
+pub fn look_ahead(
+    nodes: &[u32],
+    state: &[u32],
+    scratch: &mut [u32],
+    h: usize,
+    x: usize,
+    q: usize,
+    d: usize,
+    turns: usize,
+) -> usize
+    requires { ⌜ memo ≤ length (now scratch) ⌝ }
+    requires { ⌜ (h ≤ pairs) × ((x < cells) × ((q < places) × (d < copies))) ⌝ }
+    ensures { λ r. ⌜ (Lent memo (now (scratch .entry)) (now (scratch .exit))) × (r ≤ cells) ⌝ }
+{
+    let n = least(h, least(turns, MOST_PAIRS));
+    copy_stack(nodes, scratch, h, n);
+    let w = word_of(q, d);
+    propose(nodes, state, &mut scratch[MEMO..], n, x, w, turns)
+}

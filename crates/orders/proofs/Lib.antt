@@ -1,0 +1,5 @@
+pub mod Lists
+pub mod Bounds
+pub mod Arranging
+pub mod Ahead
+pub mod Witness
