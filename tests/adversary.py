@@ -58,19 +58,52 @@ def over_one_term(n):
     return sheet, numeral("N", n) + ["large(L)", "big(N,G,L)", "free(N,V)", "same(N,W,G)", "V = W"]
 
 
+def big(n):
+    """Clauses that make a term of copies of one large clause term: no two of its cells are bound to the same."""
+    return ["big(z,o).", "big(s(N),f(R," + term(["X"] * (40 * n)) + ")) :- big(N,R)."]
+
+
 def over_many_terms(n):
-    """The same, where the term has n copies of one large clause term: no two cells are bound to the same."""
+    """The same, where the term has n copies of one large clause term."""
     held = names("A", 48)
     sheet = [
         ":- mode big(*,*). :- mode free(*,*). :- mode same(*,*,*).",
-        "big(z,o).",
-        "big(s(N),f(R," + term(["X"] * (40 * n)) + ")) :- big(N,R).",
+        *big(n),
         "free(z,o).",
         "free(s(N),f(R," + term(held) + ")) :- free(N,R).",
         "same(z,o,G).",
         "same(s(N),f(R," + term(["G"] * 48) + "),G) :- same(N,R,G).",
     ]
     return sheet, numeral("N", n) + ["big(N,G)", "free(N,V)", "same(N,W,G)", "V = W"]
+
+
+def alternation(n):
+    """Bindings that have to do with each other: in one step 14 n times Y = g(X), W = h(V), X = k(V,G), with that large term G."""
+    left, right = [], []
+    for i in range(1, 15):
+        left += [f"Y{i}", f"W{i}", f"X{i}"]
+        right += [f"g(X{i})", f"h(V{i})", f"k(V{i},G)"]
+    sheet = [
+        ":- mode big(*,*). :- mode two(*,*,*,*).",
+        *big(n),
+        "two(z,o,o,G).",
+        "two(s(N),f(L," + term(left) + "),f(R," + term(right) + "),G) :- two(N,L,R,G).",
+    ]
+    return sheet, numeral("N", n) + ["big(N,G)", "two(N,L,R,G)", "L = R"]
+
+
+def leaves(n):
+    """A large term with variables that are bound, in one step, in turn with 16 n variables that are bound to the term."""
+    left, right = [], []
+    for i in range(1, 17):
+        left += [f"U{i}", f"W{i}"]
+        right += [f"f(V{i})", "k(G)"]
+    sheet = [
+        ":- mode two(*,*,*,*,*).",
+        "two(z,o,o,o,G).",
+        "two(s(N),f(T," + term(names("U", 16) + ["X"] * (40 * n)) + "),f(L," + term(left) + "),f(R," + term(right) + "),G) :- two(N,T,L,R,G).",
+    ]
+    return sheet, numeral("N", n) + ["two(N,G,L,R,G)", "L = R"]
 
 
 def chained(level, before, copies):
@@ -102,11 +135,32 @@ def chains(n):
     return sheet, numeral("N", max(1, n // 2)) + body
 
 
+def chained_alternation(n):
+    """As alternation, with n places of a variable over a chain of 47 n links behind each three bindings."""
+    links = names("X", LINKS)
+    left, right = [], []
+    for i in range(1, 14):
+        left += [f"Y{i}", f"W{i}", f"X{i}"] + ["Z"] * n
+        right += [f"g(X{i})", f"h(V{i})", f"k(V{i},G)"] + ["E"] * n
+    sheet = [
+        ":- mode chain(*,*,*,*,*,*). :- mode big(*,*). :- mode two(*,*,*,*,*).",
+        "chain(z,E,L,R,N,G) :- two(N,L,R,G,E).",
+        "chain(s(M),X1,L,R,N,G) :- K = " + term(links) + ", chain(M," + links[-1] + ",L,R,N,G), " + term(links[:0:-1]) + " = " + term(links[-2::-1]) + ".",
+        *big(n),
+        "two(z,o,o,G,Z).",
+        "two(s(N),f(L," + term(left) + "),f(R," + term(right) + "),G,Z) :- Z = E, two(N,L,R,G,Z).",
+    ]
+    return sheet, numeral("N", n) + numeral("M", n) + ["big(N,G)", "chain(M,X,L,R,N,G)", "L = R"]
+
+
 KINDS = {
     "over-one-term": (over_one_term, 37),
     "over-many-terms": (over_many_terms, 40),
     "light-pairs": (light_pairs, 80),
     "chains": (chains, 55),
+    "alternation": (alternation, 40),
+    "leaves": (leaves, 45),
+    "chained-alternation": (chained_alternation, 34),
 }
 
 
@@ -137,7 +191,7 @@ def measure(runner, kind, n):
     with tempfile.TemporaryDirectory() as folder:
         sizes = write(kind, n, folder)
         taken, last = seconds(runner, folder)
-    print(f"{kind:15} n {n:4} sheet {sizes['sheet']:6} goal {sizes['goal']:5}  {taken:8.2f} s  {last}", flush=True)
+    print(f"{kind:19} n {n:4} sheet {sizes['sheet']:6} goal {sizes['goal']:5}  {taken:8.2f} s  {last}", flush=True)
     return taken
 
 
@@ -151,7 +205,7 @@ def main(args):
         n = int(args[1]) if len(args) > 1 else KINDS[kind][1]
         first, second = measure(runner, kind, n), measure(runner, kind, 2 * n)
         ratio = second / max(first, 0.02)
-        print(f"{kind:15} {ratio:.1f} times as long")
+        print(f"{kind:19} {ratio:.1f} times as long")
         slow += [kind] if ratio > RATIO else []
     print("slow: " + ", ".join(slow) if slow else "none is slow")
     return 1 if slow else 0

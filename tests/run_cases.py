@@ -427,9 +427,10 @@ def filled(add):
 
 
 def slow_steps(add):
-    """One step that is made to take long, of each kind: over chains as large as a sheet can have it, over terms as there is room for."""
-    for kind, n in (("over-one-term", 18), ("over-many-terms", 3), ("light-pairs", 160), ("chains", 110)):
-        add(*adversary.texts(kind, n))
+    """One step that is made to take long, of each kind: as large as a sheet can have it, and small."""
+    for kind, (_, n) in adversary.KINDS.items():
+        for size in (2, 2 * n):
+            add(*adversary.texts(kind, size))
 
 
 def rooms(add):

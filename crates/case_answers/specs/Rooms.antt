@@ -7,7 +7,7 @@ byteValues = 256
 
 -- the bytes that a file may have
 abbrev pub fileRoom : ℕ
-fileRoom = 900000
+fileRoom = 1000000
 
 -- the most room for answers that a case may ask for
 abbrev pub textRoom : ℕ

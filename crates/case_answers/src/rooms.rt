@@ -4,7 +4,7 @@ ghost use lib.ListN.{length};
 ghost use Rattle.case_answers.specs.Rooms.{fileRoom, textRoom};
 
 // The bytes that a file may have.
-pub const FILE_ROOM: usize = 900000;
+pub const FILE_ROOM: usize = 1000000;
 
 // The most room for answers that a case may ask for.
 pub const TEXT_ROOM: usize = 200000;

@@ -22,7 +22,7 @@ use Rattle.orders.specs.Orders.{ordered, boundsMade, Listed, Ordered, Ahead, Un
 use Rattle.orders.proofs.Lists.{ordered-kept, reordered-trans, forgotten-reordered}
 use Rattle.orders.proofs.Ahead.{ahead-free, ahead-bound, unplaced-bound}
 use Rattle.lookahead.specs.Room.{Lent}
-use Rattle.cycle_checks.specs.Checks.{Purse, Begun, Guardable, Missing, Spared, Shown, Renewed, Tried, Guarded}
+use Rattle.cycle_checks.specs.Checks.{Purse, Begun, Guardable, Missing, Spared, Shown, Redone, Renewed, Tried, Guarded}
 
 -- ---- the purse
 
@@ -174,56 +174,74 @@ module _ {nodes state scratch : List ℕ} {x q d : ℕ} (g : Guardable nodes sta
 
   -- ---- an order made anew
 
-  module _ {mid : List ℕ} (l : Lent memo scratch mid) where
-    lent-roomy : rows ≤ length mid
-    lent-roomy = let e : length mid ≡ length scratch = l .long in let r : rows ≤ length scratch = g .roomy in omega arith
+  pub redone-once : {mid later : List ℕ} → Lent memo scratch mid → ((v : Orderable nodes state mid) → Arranged (v .ss) nodes state mid later) → Redone (g .check .ss) nodes state scratch later
+  redone-once {mid} {later} l f =
+      let e : length mid ≡ length scratch = l .long in
+      let r : rows ≤ length scratch = g .roomy in
+      let a : Arranged (g .check .ss) nodes state mid later = f (record { ss = g .check .ss; n = g .check .n; store = g .check .store; roomy = omega arith }) in
+      record { long = a .reordered .long ∙ l .long; low = λ j h. a .reordered .low j h ∙ l .low j (omega arith); between = λ j h k. a .reordered .high j h ∙ l .low j k; redone = a .arranged }
 
-    pub renew-orderable : Orderable nodes state mid
-    renew-orderable = record { ss = g .check .ss; n = g .check .n; store = g .check .store; roomy = lent-roomy }
+  pub renew-orderable : {mid : List ℕ} → Lent memo scratch mid → Orderable nodes state mid
+  renew-orderable {mid} l =
+      let e : length mid ≡ length scratch = l .long in
+      let r : rows ≤ length scratch = g .roomy in
+      record { ss = g .check .ss; n = g .check .n; store = g .check .store; roomy = omega arith }
 
-    module _ {later end : List ℕ} (a : (v : Orderable nodes state mid) → Arranged (v .ss) nodes state mid later) (e : end ≡ set (set later memo 0) cutsWord 0) where
-      arranged : Arranged (g .check .ss) nodes state mid later
-      unfolding renew-orderable
-      arranged = a renew-orderable
+  module _ {later : List ℕ} (o : Redone (g .check .ss) nodes state scratch later) where
+    pub redone-roomy : rows ≤ length later
+    redone-roomy = let e : length later ≡ length scratch = o .long in let r : rows ≤ length scratch = g .roomy in omega arith
 
-      later-long : length later ≡ length scratch
-      later-long = arranged .reordered .long ∙ l .long
+    redone-clean : Clean scratch → Clean later
+    redone-clean c = let e : length later ≡ length scratch = o .long in let l : storeWords ≤ length scratch = c .long in record { long = omega arith; zero = λ y h. o .low y (omega arith) ∙ c .zero y h }
 
-      other : (j : ℕ) → (j ≡ memo → ⊥) → (j ≡ cutsWord → ⊥) → getD end j 0 ≡ getD later j 0
-      other j h k = ap (λ (y : List ℕ). getD y j 0) e ∙ (getD-set-other (set later memo 0) cutsWord j 0 0 k ∙ getD-set-other later memo j 0 0 h)
+    pub redone-guard : Guardable nodes state later x q d
+    redone-guard =
+        record {
+          check = record { ss = g .check .ss; n = g .check .n; store = g .check .store; node = g .check .node; copy = g .check .copy; cell = g .check .cell; unbound = g .check .unbound; clean = redone-clean (g .check .clean) };
+          roomy = redone-roomy;
+          order = o .redone;
+        }
 
-      end-long : length end ≡ length scratch
-      end-long = ap length e ∙ (length-set (set later memo 0) cutsWord 0 ∙ (length-set later memo 0 ∙ later-long))
+    pub redone-on : {end : List ℕ} → ((v : Guardable nodes state later x q d) → Redone (v .check .ss) nodes state later end) → Redone (g .check .ss) nodes state scratch end
+    unfolding redone-guard
+    redone-on f =
+        let a = f redone-guard in
+        record { long = a .long ∙ o .long; low = λ j h. a .low j h ∙ o .low j h; between = λ j h k. a .between j h k ∙ o .between j h k; redone = a .redone }
 
-      pub renew-roomy : rows ≤ length end
-      renew-roomy = let f : length end ≡ length scratch = end-long in let r : rows ≤ length scratch = g .roomy in omega arith
+  module _ {later : List ℕ} (f : (v : Guardable nodes state scratch x q d) → Redone (v .check .ss) nodes state scratch later) {end : List ℕ} (e : end ≡ set (set later memo 0) cutsWord 0) where
+    other : (j : ℕ) → (j ≡ memo → ⊥) → (j ≡ cutsWord → ⊥) → getD end j 0 ≡ getD later j 0
+    other j h k = ap (λ (y : List ℕ). getD y j 0) e ∙ (getD-set-other (set later memo 0) cutsWord j 0 0 k ∙ getD-set-other later memo j 0 0 h)
 
-      no-memo : (b : List Binding) → Memo (g .check .ss) nodes b end
-      no-memo b =
-          let o : rows ≤ length scratch = g .roomy in
-          let f : length later ≡ length scratch = later-long in
-          let f1 : length (set later memo 0) ≡ length scratch = length-set later memo 0 ∙ later-long in
-          memo-none (g .check .ss) nodes b end (ap (λ (y : List ℕ). getD y memo 0) e ∙ (getD-set-other (set later memo 0) cutsWord memo 0 0 (λ z. omega arith) ∙ getD-set-same later memo 0 0 (omega arith)))
-          (ap (λ (y : List ℕ). getD y cutsWord 0) e ∙ getD-set-same (set later memo 0) cutsWord 0 0 (omega arith))
+    end-long : length end ≡ length scratch
+    end-long = ap length e ∙ (length-set (set later memo 0) cutsWord 0 ∙ (length-set later memo 0 ∙ f g .long))
 
-      emptied : Spared (g .check .ss) nodes scratch end
-      emptied =
-          let f : length end ≡ length scratch = end-long in
-          record {
-            long = end-long;
-            clean = λ c.
-                (let o : storeWords ≤ length scratch = c .long in
-                record { long = omega arith; zero = λ y h. other y (λ z. omega arith) (λ z. omega arith) ∙ (arranged .reordered .low y (omega arith) ∙ (l .low y (omega arith) ∙ c .zero y h)) });
-            pairs-kept = λ j h k. other j (λ z. omega arith) (λ z. omega arith) ∙ (arranged .reordered .high j h ∙ l .low j (omega arith));
-            memo = λ b m. no-memo b;
-          }
+    pub renew-roomy : rows ≤ length end
+    renew-roomy = let l : length end ≡ length scratch = end-long in let r : rows ≤ length scratch = g .roomy in omega arith
 
-      pub renewed : {filled : List ℕ} → Purse end filled → Renewed (g .check .ss) nodes state scratch filled
-      renewed p =
-          record {
-            spared = spared-on emptied (spared-purse p);
-            order = purse-ordered p (g .check .ss) nodes state (ordered-kept (g .check .ss) nodes state later end (λ j h k. other j (λ z. omega arith) (λ z. omega arith)) (arranged .arranged));
-          }
+    no-memo : (b : List Binding) → Memo (g .check .ss) nodes b end
+    no-memo b =
+        let o : rows ≤ length scratch = g .roomy in
+        let l : length later ≡ length scratch = f g .long in
+        let l1 : length (set later memo 0) ≡ length scratch = length-set later memo 0 ∙ f g .long in
+        memo-none (g .check .ss) nodes b end (ap (λ (y : List ℕ). getD y memo 0) e ∙ (getD-set-other (set later memo 0) cutsWord memo 0 0 (λ z. omega arith) ∙ getD-set-same later memo 0 0 (omega arith)))
+        (ap (λ (y : List ℕ). getD y cutsWord 0) e ∙ getD-set-same (set later memo 0) cutsWord 0 0 (omega arith))
+
+    emptied : Spared (g .check .ss) nodes scratch end
+    emptied =
+        let l : length end ≡ length scratch = end-long in
+        record {
+          long = end-long;
+          clean = λ c. (let o : storeWords ≤ length scratch = c .long in record { long = omega arith; zero = λ y h. other y (λ z. omega arith) (λ z. omega arith) ∙ (f g .low y (omega arith) ∙ c .zero y h) });
+          pairs-kept = λ j h k. other j (λ z. omega arith) (λ z. omega arith) ∙ f g .between j h (omega arith);
+          memo = λ b m. no-memo b;
+        }
+
+    pub renewed : {filled : List ℕ} → Purse end filled → Renewed (g .check .ss) nodes state scratch filled
+    renewed p =
+        record {
+          spared = spared-on emptied (spared-purse p);
+          order = purse-ordered p (g .check .ss) nodes state (ordered-kept (g .check .ss) nodes state later end (λ j h k. other j (λ z. omega arith) (λ z. omega arith)) (f g .redone));
+        }
 
 -- ---- where the cell has no place
 

@@ -5,7 +5,7 @@ use mathlib.Core.Bool.{Bool, true, false}
 use mathlib.Core.List.{List}
 use lib.ListN.{length, getD}
 use Rattle.machine.specs.Substitution.{Binding, occurs, resolve}
-use Rattle.layout.specs.Regions.{purseWord, stack, cutList}
+use Rattle.layout.specs.Regions.{order, purseWord, stack, cutList, memo}
 use Rattle.layout.specs.Nodes.{Symbol, termAt}
 use Rattle.layout.specs.State.{variableOf, wordOf, bindings, boundWords}
 use Rattle.bindings.specs.Queues.{Clean, Checkable}
@@ -54,7 +54,14 @@ pub record Shown (ss : List Symbol) (nodes before after : List ℕ) (x q d : ℕ
   pub ahead : r ≡ true → Ahead ss nodes after x q d
   pub unplaced : r ≡ false → Unplaced after x
 
--- There is a new order.
+-- There is a new order; the words before it and those of the work stack and the short cuts are as they were.
+pub record Redone (ss : List Symbol) (nodes state before after : List ℕ) : Type 0 where
+  pub long : length after ≡ length before
+  pub low : (j : ℕ) → j < order → getD after j 0 ≡ getD before j 0
+  pub between : (j : ℕ) → stack ≤ j → j < memo → getD after j 0 ≡ getD before j 0
+  pub redone : Ordered ss nodes state after
+
+-- The same, and what the memo and the short cuts say is still true.
 pub record Renewed (ss : List Symbol) (nodes state before after : List ℕ) : Type 0 where
   pub spared : Spared ss nodes before after
   pub order : Ordered ss nodes state after
@@ -71,4 +78,3 @@ pub record Guarded (ss : List Symbol) (nodes state : List ℕ) (n : ℕ) (before
   pub spared : Spared ss nodes before after
   pub answer : found ≡ occurs (variableOf x) (resolve (bindings ss nodes state n) (termAt ss nodes q d))
   pub order : found ≡ false → Ordered ss nodes (boundWords state n x (wordOf q d)) after
-

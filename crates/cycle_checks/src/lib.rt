@@ -2,6 +2,9 @@
 // words, what the unification will bind is guessed, and the order is made anew from the guess, so that it serves for the bindings to come.
 use bindings::occurrence::is_plain;
 use bindings::occurrence::occurs;
+use layout::CELLS;
+use layout::ORDER;
+use layout::ORDER_PLACES;
 use layout::ORDER_WORD;
 use layout::PURSE_SIZE;
 use layout::PURSE_WORD;
@@ -19,7 +22,7 @@ ghost use Rattle.layout.specs.Regions.{cells, pairs};
 ghost use Rattle.bindings.specs.Queues.{Closed};
 ghost use Rattle.bindings.specs.Scratch.{Roomy};
 ghost use Rattle.orders.specs.Orders.{Boundable};
-ghost use Rattle.cycle_checks.specs.Checks.{mostCounted, Begun, Purse, Shown, Guardable, Missing, Renewed, Tried, Guarded};
+ghost use Rattle.cycle_checks.specs.Checks.{mostCounted, Begun, Purse, Shown, Guardable, Missing, Redone, Renewed, Tried, Guarded};
 
 // So many words may be looked at before the order is made for the first time.
 const FIRST_PURSE: usize = 512;
@@ -78,9 +81,23 @@ pub fn begin(scratch: &mut [u32])
     fill_purse(scratch, FIRST_PURSE);
 }
 
+// Whether cell x has a place in the order.
+fn has_place(scratch: &[u32], x: usize) -> bool
+    requires { ⌜ (Roomy (now scratch)) × (x < cells) ⌝ }
+{
+    let i = word_at(scratch, ORDER_PLACES + x);
+    if CELLS <= i {
+        return false;
+    }
+    if word_at(scratch, ORDER_WORD) <= i {
+        return false;
+    }
+    word_at(scratch, ORDER + i) == x
+}
+
 // An order of the cells that will be bound, when cell x is bound to the term at q in copy d with h pairs on the work stack, and of all that these cells lead
-// to, as far as it can be guessed. The purse is twice as large.
-fn renew(
+// to, as far as it can be guessed in so many turns. Where it is not even the cell's, half of the pairs are looked at.
+fn order_ahead(
     nodes: &[u32],
     state: &[u32],
     scratch: &mut [u32],
@@ -88,14 +105,31 @@ fn renew(
     q: usize,
     d: usize,
     h: usize,
+    turns: usize,
 )
+    requires { ⌜ (Guardable (now nodes) (now state) (now scratch) x q d) × (h ≤ pairs) ⌝ }
+    ensures { λ _. ⌜ ((g : Guardable (now (nodes .entry)) (now (state .entry)) (now (scratch .entry)) x q d)
+        → Redone (g .check .ss) (now (nodes .entry)) (now (state .entry)) (now (scratch .entry)) (now (scratch .exit))) ⌝ }
+{
+    let n = look_ahead(nodes, state, scratch, h, x, q, d, turns);
+    order_cells(nodes, state, scratch, PROPOSED, n);
+    if h == 0 {
+        return;
+    }
+    if has_place(scratch, x) {
+        return;
+    }
+    order_ahead(nodes, state, scratch, x, q, d, h / 2, turns / 2);
+}
+
+// The order made anew, and a purse that is twice as large.
+fn renew(nodes: &[u32], state: &[u32], scratch: &mut [u32], x: usize, q: usize, d: usize, h: usize)
     requires { ⌜ (Guardable (now nodes) (now state) (now scratch) x q d) × (h ≤ pairs) ⌝ }
     ensures { λ _. ⌜ ((g : Guardable (now (nodes .entry)) (now (state .entry)) (now (scratch .entry)) x q d)
         → Renewed (g .check .ss) (now (nodes .entry)) (now (state .entry)) (now (scratch .entry)) (now (scratch .exit))) ⌝ }
 {
     let size = counted(word_at(scratch, PURSE_SIZE));
-    let n = look_ahead(nodes, state, scratch, h, x, q, d, TURNS * size);
-    order_cells(nodes, state, scratch, PROPOSED, n);
+    order_ahead(nodes, state, scratch, x, q, d, h, TURNS * size);
     forget(scratch);
     fill_purse(scratch, 2 * size);
 }

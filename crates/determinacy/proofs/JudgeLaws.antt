@@ -20,9 +20,10 @@ use Rattle.loader.specs.Loading.{Loadable, Loaded}
 use Rattle.linker.specs.Linking.{Linkable}
 use Rattle.determinacy.specs.declared.Determinacy.{Determinacy}
 use Rattle.determinacy.specs.declared.Determinacy.the-variants.{No}
-use Rattle.determinacy.specs.Told.{told, numberOf}
-use Rattle.determinacy.specs.Tables.{Zeros, ClausesIn, Ready, Linked, Pairable}
-use Rattle.determinacy.proofs.Clauses.{number-none, number-some}
+use Rattle.determinacy.specs.Told.{told}
+use Rattle.clause_brackets.specs.Clauses.{numberOf, ClausesIn}
+use Rattle.determinacy.specs.Tables.{Zeros, Ready, Linked, Pairable}
+use Rattle.clause_brackets.proofs.Numbers.{number-none, number-some}
 use Rattle.determinacy.proofs.PairLaws.{told-no}
 
 -- ---- no bindings yet

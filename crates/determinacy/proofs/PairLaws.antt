@@ -15,12 +15,14 @@ use Rattle.marking.specs.Standing.{ClauseStands, ClausesStand, clause-stands}
 use Rattle.marking.specs.Tables.{DeclarationsAt, AtomAt}
 use Rattle.machine.specs.Machine.{clauseAt}
 use Rattle.machine.specs.Determinacy.{firstOverlap, Pair, firstPair, judgedBy}
-use Rattle.determinacy.specs.Told.{told, numberOf}
+use Rattle.determinacy.specs.Told.{told}
+use Rattle.clause_brackets.specs.Clauses.{numberOf}
 use Rattle.determinacy.specs.declared.Determinacy.the-variants.{Yes, No}
-use Rattle.determinacy.specs.Pairs.{Blank, ClauseOf, FirstBehind}
+use Rattle.clause_overlaps.specs.Overlaps.{Blank, ClauseOf, FirstBehind}
 use Rattle.determinacy.specs.Tables.{Pairable}
-use Rattle.determinacy.proofs.BracketLaws.{clause-inside, head-has}
-use Rattle.determinacy.proofs.Clauses.{drop-tail, drop-nth, lap-none, number-some}
+use Rattle.clause_brackets.proofs.BracketLaws.{clause-inside, head-has}
+use Rattle.clause_overlaps.proofs.Clauses.{drop-tail, drop-nth, lap-none}
+use Rattle.clause_brackets.proofs.Numbers.{number-some}
 
 abbrev pair-choice : List Declaration → ℕ → List Clause → Option ℕ → Option Pair
 pair-choice ds n cls o = elim o [ none ↦ firstPair ds (suc n) cls | some m ↦ some (record { first = n; second = m }) ]

@@ -1,3 +1,2 @@
 pub mod Told
-pub mod Pairs
 pub mod Tables

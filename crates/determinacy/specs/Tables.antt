@@ -4,25 +4,18 @@ use mathlib.Core.Path.{_≡_}
 use mathlib.Core.List.{List}
 use lib.ListN.{length, getD}
 use Rattle.syntax.specs.Limits.{sheetBytes}
-use Rattle.syntax.specs.Terms.{Clause, Goal}
-use Rattle.syntax.specs.Words.{sheetWords, clausesWords}
-use Rattle.words.specs.Tables.{Has}
+use Rattle.syntax.specs.Terms.{Goal}
+use Rattle.syntax.specs.Words.{sheetWords}
 use Rattle.marking.specs.Tables.{SheetAt}
 use Rattle.layout.specs.Limits.{SheetLimited}
 use Rattle.layout.specs.Nodes.{Symbol}
 use Rattle.layout.specs.Program.{Program}
-use Rattle.determinacy.specs.Pairs.{Blank}
+use Rattle.clause_overlaps.specs.Overlaps.{Blank}
 
 -- Words that are all zero, so many.
 pub record Zeros (k : ℕ) (words : List ℕ) : Type 0 where
   pub long : k ≡ length words
   pub zero-words : (i : ℕ) → getD words i 0 ≡ 0
-
--- so many clauses stand in a table
-pub record ClausesIn (table : List ℕ) (k : ℕ) : Type 0 where
-  pub list : List Clause
-  pub has : Has table 0 (clausesWords list)
-  pub count : k ≡ length list
 
 -- a sheet of which the n declarations and k clauses stand in tables, within document 01's limits
 pub record Ready (s declared : List ℕ) (n : ℕ) (table : List ℕ) (k : ℕ) : Type 0 where

@@ -1,6 +1,4 @@
 -- The definitions' answers as the code gives them.
-use Prim.Native.Nat.{ℕ}
-use mathlib.Core.Option.{Option, none, some}
 use Rattle.machine.specs.Determinacy.{Judged, declined, single, several}
 use Rattle.determinacy.specs.declared.Determinacy.{Determinacy}
 use Rattle.determinacy.specs.declared.Determinacy.the-variants.{Yes, No, Refused}
@@ -10,8 +8,3 @@ unfoldable pub told : Judged → Determinacy
 told (declined r) = Refused r
 told single = Yes
 told (several m n) = No m n
-
--- a clause's number, 0 where there is none: clauses count from 1
-unfoldable pub numberOf : Option ℕ → ℕ
-numberOf none = 0
-numberOf (some n) = n

@@ -1,10 +1,9 @@
 // Document 02, (xii): whether an accepted sheet has no bracket and no two clauses of one predicate whose + arguments have a common instance, so that
 // a run writes at most one line.
-mod brackets;
 mod pairs;
 mod rooms;
 
-use brackets::bracketed_clause;
+use clause_brackets::bracketed_clause;
 use linker::link;
 use loader::load_nodes;
 use pairs::first_pair;
@@ -14,9 +13,9 @@ use rooms::scratch_words;
 use rooms::store_words;
 use syntax::Refusal;
 ghost use mathlib.Core.Path.{_≡_};
-ghost use Rattle.machine.specs.Determinacy.{against, firstPair, judgedBy};
+ghost use Rattle.machine.specs.Determinacy.{firstPair, judgedBy, against};
 ghost use Rattle.determinacy.specs.Told.{told};
-ghost use Rattle.determinacy.specs.Tables.{Ready, Linked};
+ghost use Rattle.determinacy.specs.Tables.{Linked, Ready};
 
 // The answer to the test: yes; no, with the first two clauses that speak against the sheet, or the first that has a bracket and 0; or the sheet's
 // refusal.

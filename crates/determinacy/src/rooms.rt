@@ -5,6 +5,8 @@ use layout::NODES_WORDS;
 use layout::STORE_WORDS;
 ghost use Rattle.layout.specs.Regions.{nodesWords, codeWords, storeWords, narrowWords};
 ghost use Rattle.determinacy.specs.Tables.{Zeros};
+ghost use Prim.Native.Nat.{_+_};
+ghost use Rattle.syntax.specs.Limits.{sheetBytes, goalBytes};
 
 // Room for the nodes, and as much for their symbols.
 pub fn node_words() -> [u32; NODES_WORDS]

@@ -1,5 +1,5 @@
-// Reading, checking and running for programs in other languages: include/pilvaust.h. Each answer is a list of numbers (packing/specs/Numbers), of
-// which a lent slice takes as many as fit; later ones stay as they were.
+// Reading, checking and running for programs in other languages: include/pilvaust.h. Each answer is a list of numbers (specs/Numbers of packing and of
+// out_entries), of which a lent slice takes as many as fit; later ones stay as they were.
 use syntax::RunSettings;
 ghost use mathlib.Core.Path.{_≡_};
 ghost use lib.ListN.{length};
@@ -8,7 +8,8 @@ ghost use Rattle.syntax.specs.Verdicts.{readVerdict, entryAt};
 ghost use Rattle.rules.specs.Checking.{checkVerdict, checkGoalVerdict};
 ghost use Rattle.machine.specs.Runs.{runOutcome, runText};
 ghost use Rattle.machine.specs.Traces.{tracedOutcome};
-ghost use Rattle.packing.specs.Numbers.{version, verdictNumbers, entryNumbers, refusalIn};
+ghost use Rattle.out_entries.specs.Numbers.{version, entryNumbers};
+ghost use Rattle.packing.specs.Numbers.{verdictNumbers, refusalIn};
 ghost use Rattle.exports.specs.Runs.{asking, outcomeNumbers};
 
 // The version of the functions below and of their numbers.
@@ -16,7 +17,7 @@ ghost use Rattle.exports.specs.Runs.{asking, outcomeNumbers};
 pub extern "C" fn pilvaust_version() -> usize
     ensures { λ r. ⌜ r ≡ version ⌝ }
 {
-    packing::version_number()
+    out_entries::version_number()
 }
 
 // A sheet is read: the verdict's numbers, and returned the number of its refusal, 0 where it is accepted.
@@ -54,7 +55,7 @@ pub extern "C" fn pilvaust_entry(sheet: &[u8], i: usize, numbers: &mut [usize]) 
     ensures is { λ r. ⌜ r ≡ length (entryNumbers (entryAt (now (sheet .entry)) i)) ⌝ }
     ensures numbers { λ _. ⌜ now (numbers .exit) ≡ sets (now (numbers .entry)) 0 (entryNumbers (entryAt (now (sheet .entry)) i)) ⌝ }
 {
-    packing::put_entry(pilvaust::entry(sheet, i), numbers)
+    out_entries::put_entry(pilvaust::entry(sheet, i), numbers)
 }
 
 // What a run is asked for.

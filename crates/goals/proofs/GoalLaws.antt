@@ -20,7 +20,7 @@ use Rattle.syntax.specs.declared.Text.the-variants.{Goal as inGoal}
 use Rattle.syntax.specs.declared.Refusal.{Refusal}
 use Rattle.syntax.specs.declared.Refusal.the-variants.{TooLong}
 use Rattle.syntax.specs.declared.Verdict.the-variants.{Accepted, Refused}
-use Rattle.syntax.specs.declared.Run.the-variants.{Ended as ended-by, Refused as refused-by}
+use Rattle.syntax.specs.declared.Run.the-variants.{Ended as ended-by}
 use Rattle.rules.specs.Modes.{goalFault}
 use Rattle.rules.specs.Checking.{faultless, checkedGoalFrom, checkedGoal}
 use Rattle.machine.specs.Runs.{RunOutcome, stopped, reported, run, overGoal, runAnswer, runText}
@@ -34,10 +34,11 @@ use Rattle.runs.specs.Running.{Runs}
 use Rattle.programs.specs.Programs.{Programmed}
 use Rattle.tables.specs.Tables.{GoalStanding, GoalTabled, Over}
 use Rattle.goals.specs.Goals.{Ready, Answers}
-use Rattle.goals.specs.declared.Written.{Written}
+use Rattle.run_results.specs.declared.Written.{Written}
 use Rattle.tables.specs.declared.GoalRead.{GoalRead}
 use Rattle.tables.proofs.Laws.{never}
 use Rattle.tables.proofs.Checking.{fine-none, fault-some, goal-refused-by, goal-of, standing, goal-stands-at, checked-over}
+use Rattle.run_results.specs.Results.{Stops, Ends}
 
 -- ---- the words of a goal's variables
 
@@ -83,12 +84,6 @@ goal-short s g e = by (leb (length s) goalBytes) refl e
     by : (b : Bool) → leb (length s) goalBytes ≡ b → elim b as (λ _. Outcome Goal) [ true ↦ goalFrom (readGoal s) | false ↦ refused TooLong ] ≡ accepted g → length s ≤ goalBytes
     by true t e1 = leb-true (length s) goalBytes t
     by false t e1 = absurd (never TooLong g e1)
-
--- ---- a goal over a sheet
-
--- a refusal, with nothing written
-abbrev pub Stops : Text → Refusal → Written → Type 0
-Stops t q u = (u .run ≡ refused-by t q) × (u .bytes ≡ 0)
 
 -- a refusal writes nothing
 pub stopped-answers : (o : RunOutcome) (t : Text) (q : Refusal) → o ≡ stopped t q → (u : Written) → Stops t q u → (old : List ℕ) → Answers o old old u
@@ -160,15 +155,14 @@ module _ (s declared : List ℕ) (n : ℕ) (table : List ℕ) (k : ℕ) where
 
         pub goal-runs : ck ≡ Fine → length goals ≤ goalWords → (x : Ran) (old new : List ℕ)
             → ((p : Programmed s table k g goals (r .literals) (met goals) (r .count)) → Runs (p .sh) (p .g) allowance wanted old new x)
-            → (w : Ready s declared n table k)
-            → Answers (outcome w old) old new (record { run = ended-by (x .report); bytes = x .bytes })
+            → (v : Written) → Ends (x .report) (x .bytes) v → (w : Ready s declared n table k) → Answers (outcome w old) old new v
         unfolding checkedGoal checkedGoalFrom faultless overGoal reported runAnswer runText goal-programmed
-        goal-runs h short x old new f w =
+        goal-runs h short x old new f v ev w =
             let o : checkedGoal (w .stands .sheet) g ≡ accepted the-goal = ap (checkedGoalFrom (w .stands .sheet)) (goal-of s declared n k g goals r t a b e .1) ∙ ap (faultless the-goal) (fine-none (goalFault (w .stands .sheet) the-goal) (sym h ∙ goal-checked w)) in
             let c : outcome w old ≡ reported (run (w .stands .sheet) the-goal allowance wanted (length old)) = ap (overGoal (w .stands .sheet) allowance wanted (length old)) o in
             let u : Runs (w .stands .sheet) the-goal allowance wanted old new x = f (goal-programmed short w) in
             record {
-              is = ap ended-by (u .is) ∙ sym (ap runAnswer c);
-              bytes-is = u .bytes-is ∙ sym (ap (λ (y : RunOutcome). length (runText y)) c);
+              is = ev .0 ∙ (ap ended-by (u .is) ∙ sym (ap runAnswer c));
+              bytes-is = ev .1 ∙ (u .bytes-is ∙ sym (ap (λ (y : RunOutcome). length (runText y)) c));
               text-is = u .text-is ∙ sym (ap (λ (y : RunOutcome). sets old 0 (runText y)) c);
             }

@@ -8,7 +8,7 @@ use Rattle.syntax.specs.Words.{programBytes, programWords}
 use Rattle.marking.specs.Tables.{SheetAt}
 use Rattle.machine.specs.Runs.{RunOutcome, runAnswer, runText}
 use Rattle.layout.specs.Limits.{ProgramLimited}
-use Rattle.goals.specs.declared.Written.{Written}
+use Rattle.run_results.specs.declared.Written.{Written}
 
 -- A sheet, with the facts of a trace behind its own clauses or without, of which the n declarations and k clauses stand in tables: within the limits of a
 -- program.

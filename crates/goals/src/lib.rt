@@ -1,85 +1,24 @@
-// A goal over a sheet that was checked and stands in its tables: the goal checked, and the goal run.
+// A goal run over a sheet that was checked and stands in its tables.
 use marking::Checked;
 use programs::run_program;
+use run_results::Written;
+use run_results::goal_refused;
+use run_results::run_ended;
+use run_results::run_refused;
 use runs::Ran;
-use syntax::Refusal;
-use syntax::Run;
-use syntax::Text;
 use syntax::VARIABLES;
 use syntax::Verdict;
 use tables::goal_room;
 use tables::load_goal;
-ghost use mathlib.Core.Path.{_≡_};
-ghost use Prim.Native.Nat.{_≤_, _<_, _^_};
+ghost use Prim.Native.Nat.{_≤_};
 ghost use lib.ListN.{length};
 ghost use Rattle.syntax.specs.Limits.{variables};
 ghost use Rattle.syntax.specs.Spans.{met};
-ghost use Rattle.syntax.specs.Terms.{Goal};
-ghost use Rattle.syntax.specs.Verdicts.{accepted, goalOutcome};
-ghost use Rattle.syntax.specs.Words.{sheetWords, bodyWords};
-ghost use Rattle.words.specs.Tables.{Has};
-ghost use Rattle.rules.specs.Checking.{checkedGoal, goalAnswer};
-ghost use Rattle.machine.specs.Runs.{overGoal};
 ghost use Rattle.runs.specs.Running.{Runs};
 ghost use Rattle.programs.specs.Programs.{Programmed};
-ghost use Rattle.tables.specs.Tables.{Over};
+ghost use Rattle.rules.specs.Checking.{checkedGoal};
+ghost use Rattle.machine.specs.Runs.{overGoal};
 ghost use Rattle.goals.specs.Goals.{Ready, Answers};
-
-// A goal over the declarations of a checked sheet, which has k clauses. The table is for the goal's words, which it holds where the goal is read.
-pub fn goal_over(
-    sheet: &[u8],
-    declared: &[u32],
-    n: usize,
-    k: usize,
-    goal: &[u8],
-    table: &mut [u32],
-) -> Verdict
-    requires { ⌜ Over (now sheet) (now declared) n k ⌝ }
-    requires { ⌜ (sheetWords ≤ length (now table)) × (length (now table) < 2 ^ 31) ⌝ }
-    ensures is { λ r. ⌜ ((w : Over (now (sheet .entry)) (now (declared .entry)) n k) → r ≡ goalAnswer (w .sheet)
-        (checkedGoal (w .sheet) (now (goal .entry)))) ⌝ }
-    ensures holds { λ _. ⌜ ((g : Goal) → goalOutcome (now (goal .entry)) ≡ accepted g → Has (now (table .exit)) 0 (bodyWords (g .body))) ⌝ }
-{
-    let r = load_goal(goal, table);
-    let v = r.verdict;
-    let literals = r.literals;
-    match v {
-        Verdict::Refused {
-            text: _,
-            refusal: _,
-        } => v,
-        Verdict::Accepted {
-            declarations: _,
-            clauses: _,
-        } => {
-            let fault = modes::check_goal(sheet, declared, n, goal, table, literals);
-            match fault {
-                Checked::Fine => Verdict::Accepted {
-                    declarations: n,
-                    clauses: k,
-                },
-                Checked::Fault(refusal) => Verdict::Refused {
-                    text: Text::Goal,
-                    refusal,
-                },
-            }
-        }
-    }
-}
-
-// The answer to a run, and how many bytes it has written into the text.
-pub struct Written {
-    pub run: Run,
-    pub bytes: usize,
-}
-
-// The refusal of a run, with the text at fault: nothing is written.
-pub fn run_refused(text: Text, refusal: Refusal) -> Written
-    ensures { λ r. ⌜ (r .run ≡ Run.Refused text refusal) × (r .bytes ≡ 0) ⌝ }
-{
-    let run = Run::Refused { text, refusal };
-    Written { run, bytes: 0 }
-}
 
 // A goal that was read into its table, with the words of its variables last, run over a sheet that stands in another.
 fn run_read(
@@ -162,13 +101,9 @@ pub fn run_goal(
                         wanted,
                     );
                     let report = ran.report;
-                    let run = Run::Ended(report);
-                    Written {
-                        run,
-                        bytes: ran.bytes,
-                    }
+                    run_ended(report, ran.bytes)
                 }
-                Checked::Fault(refusal) => run_refused(Text::Goal, refusal),
+                Checked::Fault(refusal) => goal_refused(refusal),
             }
         }
     }

@@ -18,13 +18,20 @@ use Rattle.layout.specs.Nodes.{Symbol, Stands}
 use Rattle.layout.specs.Program.{bodyNodes, clausesNodes, programNodes, headAt, bodyAt, BodyStands, ClauseStands, Program}
 use Rattle.words.proofs.Laws.{has-left, has-right}
 use Rattle.linker.specs.Linking.{Linkable}
-use Rattle.linker.specs.Records.{putPair, putBody, putHeads, putClauses}
+use Rattle.link_records.specs.Records.{putPair}
+use Rattle.clause_records.specs.Records.{putBody}
+use Rattle.linker.specs.Records.{putHeads, putClauses}
 use Rattle.words.specs.Items.{BodyAt, items}
-use Rattle.linker.specs.Places.{HeadsStand, Headed, BodyTo, HeadsTo, ClausesTo}
-use Rattle.linker.proofs.Sizes.{body-nodes, few-items}
-use Rattle.linker.proofs.Seeking.{heads-at}
-use Rattle.linker.proofs.Writing.{SameHeads, pair-long, pair-first, pair-heads, body-long, body-below, body-heads, Written, body-written, body-kept, body-stands, heads-long, heads-written, headed-kept, BodyPart, Kept, clauses-kept, clauses-written}
-use Rattle.linker.proofs.Turns.{end-inside}
+use Rattle.clause_search.specs.Search.{HeadsStand, Headed}
+use Rattle.clause_records.specs.Places.{BodyTo}
+use Rattle.linker.specs.Places.{HeadsTo, ClausesTo}
+use Rattle.clause_records.proofs.Sizes.{body-nodes}
+use Rattle.linker.proofs.Sizes.{few-items}
+use Rattle.clause_search.proofs.Seeking.{heads-at}
+use Rattle.clause_records.proofs.Writing.{SameHeads, pair-heads, body-long, body-below, body-heads, headed-kept}
+use Rattle.link_records.proofs.Writing.{pair-long, pair-first}
+use Rattle.linker.proofs.Writing.{Written, body-written, body-kept, body-stands, heads-long, heads-written, BodyPart, Kept, clauses-kept, clauses-written}
+use Rattle.item_records.proofs.Items.{end-inside}
 
 clauses-short : (cls : List Clause) → ClausesLimited cls → ClausesShort cls
 clauses-short [] l = tt

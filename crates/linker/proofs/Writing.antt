@@ -1,5 +1,5 @@
 -- Laws of the words that linking writes: what stands where they were written, and what they leave as it was. Assumes nothing.
-use Prim.Native.Nat.{ℕ, zero, suc, _+_, _*_, _≤_, _<_}
+use Prim.Native.Nat.{ℕ, zero, suc, _+_, _≤_, _<_}
 use native.Mathlib.Omega.{arith}
 use mathlib.Core.Path.{_≡_, refl, sym, ap, _∙_, subst, subst⁻¹}
 use mathlib.Core.Bool.{_&&_}
@@ -12,83 +12,22 @@ use Rattle.syntax.specs.Terms.{termOf, Literal, call, equation, truth, falsity,
 use Rattle.syntax.specs.Words.{literalLength, bodyLength, programClauses}
 use Rattle.words.specs.Items.{Item, before-right, behind, literalItems, items}
 use Rattle.words.proofs.Items.{literal-many, body-many}
-use Rattle.layout.specs.Regions.{places, endKind, splitKind, jumpKind, bodies, codeWords, nextLiteral, clauseRecord, literalFrom}
+use Rattle.layout.specs.Regions.{places, endKind, splitKind, jumpKind, bodies, nextLiteral, clauseRecord, literalFrom}
 use Rattle.machine.specs.Machine.{nextFor, nth}
 use Rattle.machine.proofs.Tests.{both, some-eq, some-none}
 use Rattle.words.specs.Tables.{Has}
 use Rattle.layout.specs.Nodes.{Symbol, loadedWords, isLoadable, Stands}
 use Rattle.layout.specs.Limits.{LiteralLimited, EachLimited, ClausesLimited, bodyRecords}
-use Rattle.layout.specs.Program.{literalNodes, bodyNodes, clauseNodes, clausesNodes, literalLoadable, bodyLoadable, clausesLoadable, headAt, bodyAt, afterAt, kindAt, placeAt, otherAt, Names, rightOf, LiteralStands, ItemsStand, BodyStands}
+use Rattle.layout.specs.Program.{literalNodes, bodyNodes, clauseNodes, clausesNodes, literalLoadable, bodyLoadable, clausesLoadable, bodyAt, afterAt, kindAt, placeAt, otherAt, Names, rightOf, LiteralStands, ItemsStand, BodyStands}
 use Rattle.words.proofs.Laws.{has-left, has-right}
-use Rattle.linker.specs.Records.{putPair, putRecord, kindOf, itemNodes, otherOf, putItems, putBody, behindBody, putHeads, putClause, putClauses}
-use Rattle.linker.specs.Places.{HeadsStand, Headed}
-use Rattle.linker.proofs.Sizes.{itemsNodes, literal-items, body-items}
-
--- ---- two words, and a record
-
-module _ (code : List ℕ) (p a b : ℕ) where
-  pub pair-long : length (putPair code p a b) ≡ length code
-  unfolding putPair
-  pair-long = simp length-set
-
-  pub pair-other : (i : ℕ) → (i ≡ p → ⊥) → (i ≡ p + 1 → ⊥) → getD (putPair code p a b) i 0 ≡ getD code i 0
-  unfolding putPair
-  pair-other i d e = getD-set-other (set code p a) (p + 1) i b 0 e ∙ getD-set-other code p i a 0 d
-
-  pub pair-first : p < length code → getD (putPair code p a b) p 0 ≡ a
-  unfolding putPair
-  pair-first l = getD-set-other (set code p a) (p + 1) p b 0 (λ e. omega arith) ∙ getD-set-same code p a 0 l
-
-  pub pair-second : p + 1 < length code → getD (putPair code p a b) (p + 1) 0 ≡ b
-  unfolding putPair
-  pair-second l = let n : length (set code p a) ≡ length code = simp length-set in getD-set-same (set code p a) (p + 1) b 0 (omega arith)
-
-module _ (code : List ℕ) (l kind place other : ℕ) where
-  pub record-long : length (putRecord code l kind place other) ≡ length code
-  unfolding putRecord
-  record-long = pair-long (set code l kind) (l + 1) place other ∙ simp length-set
-
-  pub record-below : (i : ℕ) → i < l → getD (putRecord code l kind place other) i 0 ≡ getD code i 0
-  unfolding putRecord
-  record-below i k = pair-other (set code l kind) (l + 1) place other i (λ e. omega arith) (λ e. omega arith) ∙ getD-set-other code l i kind 0 (λ e. omega arith)
-
-  pub record-above : (i : ℕ) → nextLiteral l ≤ i → getD (putRecord code l kind place other) i 0 ≡ getD code i 0
-  unfolding putRecord
-  record-above i k = pair-other (set code l kind) (l + 1) place other i (λ e. omega arith) (λ e. omega arith) ∙ getD-set-other code l i kind 0 (λ e. omega arith)
-
-  module _ (room : nextLiteral l ≤ length code) where
-    long : length (set code l kind) ≡ length code
-    long = simp length-set
-
-    pub record-kind : kindAt (putRecord code l kind place other) l ≡ kind
-    unfolding putRecord
-    record-kind = pair-other (set code l kind) (l + 1) place other l (λ e. omega arith) (λ e. omega arith) ∙ getD-set-same code l kind 0 (omega arith)
-
-    pub record-place : placeAt (putRecord code l kind place other) l ≡ place
-    unfolding putRecord
-    record-place = let n : length (set code l kind) ≡ length code = long in pair-first (set code l kind) (l + 1) place other (omega arith)
-
-    pub record-other : otherAt (putRecord code l kind place other) l ≡ other
-    unfolding putRecord
-    record-other =
-        let n : length (set code l kind) ≡ length code = long in
-        subst (λ (i : ℕ). getD (putPair (set code l kind) (l + 1) place other) i 0 ≡ other) (let e : l + 1 + 1 ≡ l + 2 = omega arith in e) (pair-second (set code l kind) (l + 1) place other (omega arith))
-
--- ---- a body
-
-module _ (ss : List Symbol) (sh : Sheet) where
-  pub body-long : (q : ℕ) (xs : List Item) (code : List ℕ) (l : ℕ) → length (putItems ss sh q xs code l) ≡ length code
-  unfolding putItems
-  body-long q [] code l = simp length-set
-  body-long q (x ∷ xs) code l =
-      body-long (q + length (itemNodes ss x)) xs (putRecord code l (kindOf x) q (otherOf ss sh q l x)) (nextLiteral l) ∙ record-long code l (kindOf x) q (otherOf ss sh q l x)
-
-  pub body-below : (q : ℕ) (xs : List Item) (code : List ℕ) (l i : ℕ) → i < l → getD (putItems ss sh q xs code l) i 0 ≡ getD code i 0
-  unfolding putItems
-  body-below q [] code l i k = getD-set-other code l i endKind 0 (λ e. omega arith)
-  body-below q (x ∷ xs) code l i k =
-      body-below (q + length (itemNodes ss x)) xs (putRecord code l (kindOf x) q (otherOf ss sh q l x)) (nextLiteral l) i (omega arith)
-      ∙ record-below code l (kindOf x) q (otherOf ss sh q l x) i k
+use Rattle.link_records.specs.Records.{putPair, putRecord}
+use Rattle.item_records.specs.Records.{kindOf, itemNodes, otherOf}
+use Rattle.clause_records.specs.Records.{putItems, putBody, behindBody, putClause}
+use Rattle.linker.specs.Records.{putHeads, putClauses}
+use Rattle.clause_search.specs.Search.{HeadsStand}
+use Rattle.clause_records.proofs.Sizes.{itemsNodes, literal-items, body-items}
+use Rattle.link_records.proofs.Writing.{pair-long, pair-other, pair-first, pair-second, record-long, record-kind, record-place, record-other}
+use Rattle.clause_records.proofs.Writing.{body-long, body-below, SameHeads, body-heads, pair-heads}
 
 -- the record of an item at l, whose nodes stand at q
 pub record RecordAt (ss : List Symbol) (sh : Sheet) (code : List ℕ) (l q : ℕ) (x : Item) : Type 0 where
@@ -255,44 +194,6 @@ module _ (ss : List Symbol) (sh : Sheet) (start : ℕ) where
     body-stands q b w h k s =
         let r : nextLiteral (literalFrom start (bodyLength b)) ≤ length code = w .room in
         record { room = omega arith; items = items-stand b 0 q (w .records) h k s; ends = w .ends }
-
--- ---- heads
-
--- the places of the heads stay
-abbrev pub SameHeads : List ℕ → List ℕ → Type 0
-SameHeads code new = (j : ℕ) → j ≤ programClauses → headAt new j ≡ headAt code j
-
-module _ (ss : List Symbol) (nodes : List ℕ) where
-  pub heads-kept : (code new : List ℕ) → SameHeads code new → (k : ℕ) (cls : List Clause) → k + length cls ≤ programClauses + 1 → HeadsStand ss nodes code k cls → HeadsStand ss nodes new k cls
-  heads-kept code new f k [] l h = tt
-  heads-kept code new f k (cl ∷ cls) l h =
-      let z : k + suc (length cls) ≤ programClauses + 1 = l in
-      (subst⁻¹ (λ (i : ℕ). Stands ss nodes i (termOf (cl .head))) (f k (omega arith)) (h .0), heads-kept code new f (k + 1) cls (omega arith) (h .1))
-
-pub headed-kept : (ss : List Symbol) (sh : Sheet) (nodes : List ℕ) (clauses : ℕ) (code new : List ℕ) → length new ≡ length code → SameHeads code new → Headed ss sh nodes clauses code → Headed ss sh nodes clauses new
-headed-kept ss sh nodes clauses code new n f w =
-    let e : clauses ≡ length (sh .clauses) = w .count in
-    let few : clauses ≤ programClauses = w .few in
-    let room : codeWords ≤ length code = w .room in
-    let short : length code ≤ places = w .short in
-    record {
-      count = w .count;
-      few = w .few;
-      heads = heads-kept ss nodes code new f 1 (sh .clauses) (omega arith) (w .heads);
-      room = omega arith;
-      short = omega arith;
-      nodes-short = w .nodes-short;
-    }
-
--- a record or a body behind the clauses leaves the heads
-pub record-heads : (code : List ℕ) (l kind place other : ℕ) → bodies ≤ l → SameHeads code (putRecord code l kind place other)
-record-heads code l kind place other r j k = record-below code l kind place other (clauseRecord j) (omega arith)
-
-pub body-heads : (ss : List Symbol) (sh : Sheet) (q : ℕ) (xs : List Item) (code : List ℕ) (l : ℕ) → bodies ≤ l → SameHeads code (putItems ss sh q xs code l)
-body-heads ss sh q xs code l r j k = body-below ss sh q xs code l (clauseRecord j) (omega arith)
-
-pub pair-heads : (code : List ℕ) (k a b : ℕ) → SameHeads code (putPair code (clauseRecord k + 1) a b)
-pair-heads code k a b j l = pair-other code (clauseRecord k + 1) a b (clauseRecord j) (λ e. omega arith) (λ e. omega arith)
 
 module _ (ss : List Symbol) where
   pub heads-long : (q : ℕ) (cls : List Clause) (code : List ℕ) (k : ℕ) → length (putHeads ss q cls code k) ≡ length code

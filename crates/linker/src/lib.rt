@@ -1,19 +1,78 @@
 // Linking: a record for each clause and each item of a body, with the next clauses to be tried.
-mod bodies;
-mod clause_records;
-mod records;
-mod search;
-mod walk;
-
-use bodies::put_body;
-use clause_records::put_clauses;
-use clause_records::put_heads;
+use clause_records::put_body;
+use clause_records::put_clause;
 use layout::BODIES;
-use records::put_pair;
-use walk::nodes_of;
+use layout::CLAUSE_BODIES;
+use layout::CLAUSE_SIZE;
+use link_records::nodes_of;
+use link_records::put_pair;
+use syntax::CLAUSE_START;
+use words::CLAUSE_ITEMS;
 use words::past_body;
-ghost use Rattle.layout.specs.Program.{Program};
+use words::put;
+use words::word_at;
+ghost use mathlib.Core.Path.{_≡_};
+ghost use mathlib.Core.List.{List};
+ghost use lib.ListN.{length};
+ghost use Rattle.syntax.specs.Terms.{Clause, Sheet};
+ghost use Rattle.syntax.specs.Words.{clauseWords};
+ghost use Rattle.words.specs.Tables.{Has};
+ghost use Rattle.layout.specs.Nodes.{Symbol};
+ghost use Rattle.layout.specs.Program.{clauseNodes, Program};
+ghost use Rattle.linker.specs.Records.{putHeads, putClauses};
+ghost use Rattle.linker.specs.Places.{HeadsTo, ClausesTo};
+ghost use Rattle.layout.specs.Regions.{clauseBodies};
 ghost use Rattle.linker.specs.Linking.{Linkable};
+
+// How many words the loaded nodes of the clause at p take.
+fn clause_nodes(table: &[u32], p: usize) -> usize
+    requires { ⌜ ((cl : Clause) × Has (now table) p (clauseWords cl)) ⌝ }
+    ensures { λ r. ⌜ ((ss : List Symbol) (cl : Clause) → Has (now (table .entry)) p (clauseWords cl) → r ≡ length (clauseNodes ss cl)) ⌝ }
+{
+    let size = word_at(table, p);
+    let items = word_at(table, p + CLAUSE_ITEMS);
+    nodes_of(size, items + CLAUSE_START)
+}
+
+// The places of the heads, written into the records of the clauses.
+pub fn put_heads(table: &[u32], clauses: usize, q: usize, code: &mut [u32])
+    requires { ⌜ ((ss : List Symbol) × ((cls : List Clause) × HeadsTo ss cls (now table) 0 q clauses (now code) 1)) ⌝ }
+    ensures { λ _. ⌜ ((ss : List Symbol) (cls : List Clause) → HeadsTo ss cls (now (table .entry)) 0 q clauses (now (code .entry)) 1 → now (code .exit)
+        ≡ putHeads ss q cls (now (code .entry)) 1) ⌝ }
+{
+    let mut at = 0;
+    let mut node = q;
+    let mut k = 1;
+    while k <= clauses {
+        put(code, k * CLAUSE_SIZE, node);
+        let size = clause_nodes(table, at);
+        let words = word_at(table, at);
+        at += words;
+        node += size;
+        k += 1;
+    }
+}
+
+// The same for all clauses, their bodies one behind the other.
+pub fn put_clauses(table: &[u32], clauses: usize, nodes: &[u32], q: usize, code: &mut [u32])
+    requires { ⌜ ((ss : List Symbol) × ((sh : Sheet) × ((cls : List Clause) × ClausesTo ss sh cls (now table) 0 (now nodes) q clauses (now code) 1
+        clauseBodies))) ⌝ }
+    ensures { λ _. ⌜ ((ss : List Symbol) (sh : Sheet) (cls : List Clause) → ClausesTo ss sh cls (now (table .entry)) 0 (now (nodes .entry)) q clauses
+        (now (code .entry)) 1 clauseBodies → now (code .exit) ≡ putClauses ss sh q cls (now (code .entry)) 1 clauseBodies) ⌝ }
+{
+    let mut at = 0;
+    let mut node = q;
+    let mut to = CLAUSE_BODIES;
+    let mut k = 1;
+    while k <= clauses {
+        to = put_clause(table, at, nodes, node, clauses, code, k, to);
+        let size = clause_nodes(table, at);
+        let words = word_at(table, at);
+        at += words;
+        node += size;
+        k += 1;
+    }
+}
 
 // The records of a sheet's clauses and of a goal whose nodes are loaded: the goal's nodes come first, then those of the clauses in their order.
 pub fn link(

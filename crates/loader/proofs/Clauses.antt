@@ -10,9 +10,9 @@ use Rattle.marking.specs.Standing.{ClausesStand, clause-stands}
 use Rattle.words.specs.Tables.{Has, Inside}
 use Rattle.words.proofs.Laws.{has-left, has-right, Node, size-is, term-inside, clause-says}
 use Rattle.layout.specs.Regions.{loadedNode}
-use Rattle.loader.specs.Flat.{parsedWords, termParsed, bodyParsed, clauseParsed, clausesParsed, flatWords, flatAll, written, RunAt, BodyHere, ClauseHere, ClausesHere}
+use Rattle.flat_nodes.specs.Flat.{parsedWords, termParsed, bodyParsed, clauseParsed, clausesParsed, flatWords, flatAll, written, RunAt, BodyHere, ClauseHere, ClausesHere}
 use Rattle.loader.proofs.Writing.{written-nil, written-append}
-use Rattle.loader.proofs.Bodies.{parsed-append, flat-append, flat-length, term-words, term-fits, body-long}
+use Rattle.flat_nodes.proofs.Parsed.{parsed-append, flat-append, flat-length, term-words, term-fits, body-long}
 
 -- ---- a clause
 

@@ -15,10 +15,13 @@ use Rattle.layout.specs.Regions.{nodesWords}
 use Rattle.machine.proofs.Tests.{or-right}
 use Rattle.words.specs.Tables.{Has}
 use Rattle.layout.specs.Nodes.{Symbol, symbolOf, isListed}
-use Rattle.loader.specs.Flat.{Flat, flatWords, flatSymbol, flatArity, written}
-use Rattle.loader.specs.Listing.{wordName, symbolsOf, Listed, withSymbol, Counted, Interned, withNode, withAll, numberedWhat, numberedAll, NodeInside, AllInside, Copied, NodeNumbered, NodesNumbered}
+use Rattle.flat_nodes.specs.Flat.{Flat, flatWords, flatSymbol, flatArity, written}
+use Rattle.symbol_search.specs.Symbols.{wordName, symbolsOf, Listed}
+use Rattle.interning.specs.Interning.{withSymbol, Counted, Interned}
+use Rattle.loader.specs.Listing.{withNode, withAll, numberedWhat, numberedAll, NodeInside, AllInside, Copied, NodeNumbered, NodesNumbered}
 use Rattle.loader.proofs.Writing.{written-nil, written-two}
-use Rattle.loader.proofs.Finding.{decide, below-or, listed-append, listed-one, self-symbol, symbol-stays, with-old, with-new}
+use Rattle.symbol_search.proofs.Finding.{decide, below-or, listed-append, listed-one, self-symbol, symbol-stays}
+use Rattle.interning.proofs.Interning.{with-old, with-new}
 
 module _ (sheet goal : List ℕ) where
   -- ---- one node

@@ -2,34 +2,14 @@
 use Prim.Native.Nat.{ℕ, suc, _+_, _*_, _/_, _≤_, _<_}
 use native.Mathlib.Omega.{arith}
 use mathlib.Core.Path.{_≡_, refl, sym, ap, ap₂, _∙_, subst}
-use mathlib.Core.Bool.{Bool, cond}
 use mathlib.Core.List.{List, [], _∷_}
 use lib.ListN.{length, getD, set}
-use borrow.Author.Tests.{lt-ltb, le-ltb}
-use Rattle.layout.specs.Symbols.{symbolWord}
-use Rattle.syntax.specs.Words.{firstName, functorArity, functorLength, nodeWords, goalWords}
+use Rattle.syntax.specs.Words.{nodeWords, goalWords}
 use Rattle.words.specs.Tables.{Has}
 use Rattle.words.proofs.Laws.{Node, node}
 use Rattle.layout.specs.Regions.{loadedNode}
-use Rattle.loader.specs.Flat.{Parsed, parsedWords, flatWords, flatName, flatWhat, flatAll, Fits, AllFit, written, RunAt}
+use Rattle.flat_nodes.specs.Flat.{Parsed, parsedWords, flatWords, flatWhat, flatAll, Fits, AllFit, written, RunAt}
 use Rattle.loader.proofs.Writing.{written-nil, written-two}
-
--- ---- the first word of a copy
-
-abbrev what-choice : ℕ → ℕ → ℕ → Bool → ℕ
-what-choice text what byte b = cond b what (flatName (symbolWord byte text (functorLength what)) (functorArity what))
-
-pub flat-variable : (text what byte : ℕ) → what < firstName → what ≡ flatWhat text what byte
-unfolding flatWhat
-flat-variable text what byte l = sym (ap (what-choice text what byte) (lt-ltb what firstName l))
-
-pub flat-name : (text what byte : ℕ) → firstName ≤ what → flatName (symbolWord byte text (functorLength what)) (functorArity what) ≡ flatWhat text what byte
-unfolding flatWhat
-flat-name text what byte l = sym (ap (what-choice text what byte) (le-ltb what firstName l))
-
--- the same of the parts as they were computed
-pub flat-packed : (text what byte : ℕ) {word len n : ℕ} → firstName ≤ what → len ≡ functorLength what → n ≡ functorArity what → word ≡ symbolWord byte text len → flatName word n ≡ flatWhat text what byte
-flat-packed text what byte l el en ew = ap₂ flatName (ew ∙ ap (symbolWord byte text) el) en ∙ flat-name text what byte l
 
 -- ---- the loop
 

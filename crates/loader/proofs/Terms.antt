@@ -17,12 +17,13 @@ use Rattle.layout.specs.Program.{literalNodes, bodyNodes, clauseNodes, clausesN
 use Rattle.spelling.specs.Words.{textOf}
 use Rattle.layout.specs.Symbols.{symbolWord, symbolPlace, symbolLength, symbolText}
 use Rattle.layout.proofs.Symbols.{word-length, word-text, word-place}
-use Rattle.loader.specs.Flat.{Parsed, parsedWords, termParsed, termsParsed, literalParsed, bodyParsed, clauseParsed, clausesParsed, Flat, flatWords, flatName, flatSymbol, flatArity, flatWhat, flatAll}
-use Rattle.loader.specs.Listing.{wordName, Inside, withNode, withAll, numberedWhat, numberedAll, AllInside}
-use Rattle.loader.proofs.Runs.{flat-variable, flat-name}
-use Rattle.loader.proofs.Bodies.{terms-words}
-use Rattle.loader.proofs.Spelt.{Part, word-name}
-use Rattle.loader.proofs.Finding.{stays-listed}
+use Rattle.flat_nodes.specs.Flat.{Parsed, parsedWords, termParsed, termsParsed, literalParsed, bodyParsed, clauseParsed, clausesParsed, Flat, flatWords, flatName, flatSymbol, flatArity, flatWhat, flatAll}
+use Rattle.symbol_search.specs.Symbols.{wordName, Inside}
+use Rattle.loader.specs.Listing.{withNode, withAll, numberedWhat, numberedAll, AllInside}
+use Rattle.flat_nodes.proofs.Words.{flat-variable, flat-name}
+use Rattle.flat_nodes.proofs.Parsed.{terms-words}
+use Rattle.symbol_search.proofs.Spelt.{Part, word-name}
+use Rattle.symbol_search.proofs.Finding.{stays-listed}
 use Rattle.loader.proofs.Numbered.{number-variable, number-name, with-all-more, name-listed}
 
 -- ---- lists of nodes, one behind the other

@@ -14,14 +14,15 @@ use Rattle.layout.specs.Nodes.{Symbol, nameOf}
 use Rattle.layout.specs.Program.{bodyNodes, clausesNodes, programNodes, bodyLoadable, clausesLoadable}
 use Rattle.spelling.specs.Words.{textOf, nameAt, Placed, Names}
 use Rattle.layout.specs.Symbols.{symbolText}
-use Rattle.loader.specs.Flat.{parsedWords, bodyParsed, clausesParsed, Flat, flatWords, flatAll, written, BodyHere, ClausesHere}
-use Rattle.loader.specs.Listing.{wordName, Inside, symbolAt, symbolsOf, Listed, withAll, numberedAll, Copied, NodesNumbered}
+use Rattle.flat_nodes.specs.Flat.{parsedWords, bodyParsed, clausesParsed, Flat, flatWords, flatAll, written, BodyHere, ClausesHere}
+use Rattle.symbol_search.specs.Symbols.{wordName, Inside, symbolAt, symbolsOf, Listed}
+use Rattle.loader.specs.Listing.{withAll, numberedAll, Copied, NodesNumbered}
 use Rattle.loader.specs.Loading.{Loadable, Loaded}
 use Rattle.loader.proofs.Writing.{length-written, written-append, has-written}
-use Rattle.loader.proofs.Bodies.{flat-length, body-long}
+use Rattle.flat_nodes.proofs.Parsed.{flat-length, body-long}
 use Rattle.loader.proofs.Clauses.{clauses-long}
-use Rattle.loader.proofs.Spelt.{sheet-text, goal-text}
-use Rattle.loader.proofs.Finding.{length-symbols, symbols-at}
+use Rattle.symbol_search.proofs.Spelt.{sheet-text, goal-text}
+use Rattle.symbol_search.proofs.Finding.{length-symbols, symbols-at}
 use Rattle.loader.proofs.Terms.{words-append, numbered-append, inside-append, AllListed, all-listed, listed-left, listed-right, loadedOf, body-inside, clauses-inside, body-fine, clauses-fine}
 
 -- ---- words within a table

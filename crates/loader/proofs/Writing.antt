@@ -6,7 +6,7 @@ use mathlib.Core.List.{List, [], _∷_, _++_}
 use lib.ListN.{length, getD, set, length-set}
 use lib.Seq.{getD-set-same, getD-set-other}
 use Rattle.words.specs.Tables.{Has}
-use Rattle.loader.specs.Flat.{written}
+use Rattle.flat_nodes.specs.Flat.{written}
 
 pub length-written : (l : List ℕ) (q : ℕ) (ws : List ℕ) → length (written l q ws) ≡ length l
 unfolding written

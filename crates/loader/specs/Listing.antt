@@ -1,59 +1,16 @@
--- The symbols that the words of a table list, and the numbers that the names of copied nodes get.
-use Prim.Native.Nat.{ℕ, zero, suc, _+_, _<_, _≤_}
+-- The numbers that the names of copied nodes get.
+use Prim.Native.Nat.{ℕ, _+_, _≤_}
 use mathlib.Core.Path.{_≡_}
 use mathlib.Core.Bool.{cond}
-use mathlib.Core.List.{List, [], _∷_, _++_}
+use mathlib.Core.List.{List, [], _∷_}
 use lib.Dec.{ltb}
 use lib.ListN.{length, getD, set}
 use Rattle.syntax.specs.Words.{firstName}
-use Rattle.syntax.specs.Limits.{arguments}
-use Rattle.layout.specs.Regions.{mostNodes}
 use Rattle.words.specs.Tables.{Has}
-use Rattle.layout.specs.Nodes.{Symbol, symbolOf, isListed}
-use Rattle.layout.specs.Symbols.{symbolPlace, symbolLength}
-use Rattle.spelling.specs.Words.{textOf, symbolName}
-use Rattle.loader.specs.Flat.{Flat, flatWords, flatSymbol, flatArity, written}
-
--- ---- symbols
-
--- the name that a word gives: its place, its text and its length
-unfoldable pub wordName : List ℕ → List ℕ → ℕ → List ℕ
-wordName sheet goal w = symbolName sheet goal w
-
--- it is a part of its text
-unfoldable pub Inside : List ℕ → List ℕ → ℕ → Type 0
-Inside sheet goal w = symbolPlace w + symbolLength w ≤ length (textOf w sheet goal)
-
--- Symbol k: the name of word k, and the number of arguments, behind room for as many names as there are nodes.
-unfoldable pub symbolAt : List ℕ → List ℕ → List ℕ → ℕ → Symbol
-symbolAt sheet goal symbols k = record { name = wordName sheet goal (getD symbols k 0); arguments = getD symbols (mostNodes + k) 0 }
-
--- the first so many
-unfoldable pub symbolsOf : List ℕ → List ℕ → List ℕ → ℕ → List Symbol
-symbolsOf sheet goal symbols zero = []
-symbolsOf sheet goal symbols (suc k) = symbolsOf sheet goal symbols k ++ (symbolAt sheet goal symbols k ∷ [])
-
--- their words are in the table, and their names in the texts
-pub record Listed (sheet goal symbols : List ℕ) (count : ℕ) : Type 0 where
-  pub room : mostNodes + count ≤ length symbols
-  pub inside : (k : ℕ) → k < count → Inside sheet goal (getD symbols k 0)
-
--- a symbol added at the end where it is not listed
-unfoldable pub withSymbol : List Symbol → List ℕ → ℕ → List Symbol
-withSymbol ss f n = cond (isListed ss f n) ss (ss ++ (record { name = f; arguments = n } ∷ []))
-
--- how many symbols there are once number k is among them
-pub record Counted (count k r : ℕ) : Type 0 where
-  pub old : k < count → r ≡ count
-  pub new : count ≤ k → r ≡ count + 1
-
--- a symbol is listed, as number k
-pub record Interned (sheet goal symbols : List ℕ) (count w arguments : ℕ) (after : List ℕ) (k : ℕ) : Type 0 where
-  pub number : k ≡ symbolOf (withSymbol (symbolsOf sheet goal symbols count) (wordName sheet goal w) arguments) (wordName sheet goal w) arguments
-  pub low : k ≤ count
-  pub listed : (r : ℕ) → Counted count k r → Listed sheet goal after r
-  pub symbols-are : (r : ℕ) → Counted count k r → symbolsOf sheet goal after r ≡ withSymbol (symbolsOf sheet goal symbols count) (wordName sheet goal w)
-      arguments
+use Rattle.layout.specs.Nodes.{Symbol, symbolOf}
+use Rattle.flat_nodes.specs.Flat.{Flat, flatWords, flatSymbol, flatArity, written}
+use Rattle.symbol_search.specs.Symbols.{wordName, Inside, symbolsOf, Listed}
+use Rattle.interning.specs.Interning.{withSymbol}
 
 -- ---- nodes
 

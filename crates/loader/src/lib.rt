@@ -2,7 +2,6 @@
 // one behind the other, each name by its place; then each name is given its symbol's number.
 mod copying;
 mod numbering;
-mod symbols;
 
 use copying::copy_body;
 use copying::copy_clauses;

@@ -1,49 +1,15 @@
 // Each name of the copied nodes replaced by its symbol's number.
-use crate::copying::ARITIES;
-use crate::copying::NAMED;
-use crate::symbols::find_symbol;
+use flat_nodes::ARITIES;
+use flat_nodes::NAMED;
+use interning::counted;
+use interning::intern;
 use layout::LOADED_NODE;
-use layout::MOST_NODES;
 use syntax::FIRST_NAME;
 ghost use Prim.Native.Nat.{_≤_, _<_};
 ghost use lib.ListN.{length, getD};
-ghost use Rattle.syntax.specs.Limits.{arguments};
 ghost use Rattle.layout.specs.Regions.{mostNodes, nodesWords};
-ghost use Rattle.loader.specs.Listing.{Inside, Listed, Interned, Counted, NodeInside, Copied, NodeNumbered, NodesNumbered};
-
-// The number of the symbol with the name of a word and so many arguments, which is listed where it is new.
-fn intern(
-    sheet: &[u8],
-    goal: &[u8],
-    symbols: &mut [u32],
-    count: usize,
-    w: u32,
-    arguments: u32,
-) -> usize
-    requires { ⌜ (Listed (now sheet) (now goal) (now symbols) count × (count < mostNodes))
-        × ((nodesWords ≤ length (now symbols)) × Inside (now sheet) (now goal) w) ⌝ }
-    ensures { λ r. ⌜ Interned (now (sheet .entry)) (now (goal .entry)) (now (symbols .entry)) count w arguments (now (symbols .exit)) r ⌝ }
-{
-    let k = find_symbol(sheet, goal, symbols, count, w, arguments);
-    if k < count {
-        return k;
-    }
-    let j = MOST_NODES + count;
-    symbols[count] = w;
-    symbols[j] = arguments;
-    count
-}
-
-// How many symbols there are once number k is among them.
-fn counted(count: usize, k: usize) -> usize
-    requires { ⌜ (count < mostNodes) × (k ≤ count) ⌝ }
-    ensures { λ r. ⌜ Counted count k r ⌝ }
-{
-    if k < count {
-        return count;
-    }
-    count + 1
-}
+ghost use Rattle.symbol_search.specs.Symbols.{Listed};
+ghost use Rattle.loader.specs.Listing.{NodeInside, NodeNumbered, Copied, NodesNumbered};
 
 // The node at a place with its symbol's number; how many symbols there are then.
 fn number_node(

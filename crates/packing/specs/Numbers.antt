@@ -2,18 +2,12 @@
 use Prim.Native.Nat.{ℕ}
 use mathlib.Core.List.{List, [], _∷_, _++_}
 use lib.ListN.{getD}
-use Rattle.syntax.specs.declared.Declared.{Declared}
-use Rattle.syntax.specs.declared.Declared.the-variants.{As, Nothing}
 use Rattle.syntax.specs.declared.Run.{Run}
 use Rattle.syntax.specs.declared.Run.the-variants.{Ended, Refused as stopped}
 use Rattle.syntax.specs.declared.Verdict.{Verdict}
 use Rattle.syntax.specs.declared.Verdict.the-variants.{Accepted, Refused}
 use Rattle.reports.specs.Reports.{kindNumber}
 use Rattle.out_faults.specs.Numbers.{faultNumbers}
-
--- which of these lists, and of the functions that give them, a library has
-abbrev pub version : ℕ
-version = 2
 
 -- none
 abbrev pub noFault : List ℕ
@@ -28,11 +22,6 @@ verdictNumbers (Refused text refusal) = faultNumbers text refusal ++ (0 ∷ 0 �
 unfoldable pub runNumbers : Run → ℕ → List ℕ
 runNumbers (Ended report) bytes = noFault ++ (kindNumber (report .kind) ∷ report .answers ∷ report .steps ∷ bytes ∷ [])
 runNumbers (stopped text refusal) bytes = faultNumbers text refusal ++ (0 ∷ 0 ∷ 0 ∷ 0 ∷ [])
-
--- a declaration: byte and length of its name, number of arguments; nothing where there is none
-unfoldable pub entryNumbers : Declared → List ℕ
-entryNumbers (As entry) = entry .at ∷ entry .len ∷ entry .arguments ∷ []
-entryNumbers Nothing = []
 
 -- the refusal's number in either list, 0 where there is none
 abbrev pub refusalIn : List ℕ → ℕ

@@ -1,9 +1,8 @@
 // The answers of reading, checking and running as numbers in a lent slice, for callers in other languages: as many as fit, later ones as they
-// were.
+// were. A declaration: `out_entries`.
 use out_faults::FAULT;
 use out_faults::fault_numbers;
 use storing::put;
-use syntax::Declared;
 use syntax::Run;
 use syntax::Verdict;
 ghost use mathlib.Core.Path.{_≡_};
@@ -11,10 +10,7 @@ ghost use mathlib.Core.List.{_++_};
 ghost use Prim.Native.Nat.{_≤_};
 ghost use lib.ListN.{length};
 ghost use lib.Seq.{sets};
-ghost use Rattle.packing.specs.Numbers.{version, verdictNumbers, runNumbers, entryNumbers, refusalIn};
-
-// The lists of numbers that this library gives.
-const VERSION: usize = 2;
+ghost use Rattle.packing.specs.Numbers.{verdictNumbers, runNumbers, refusalIn};
 
 // Which of a fault's numbers is the refusal's:
 const NUMBER: usize = 1;
@@ -23,13 +19,6 @@ const NUMBER: usize = 1;
 const COUNTS: usize = 2;
 
 const REPORT: usize = 4;
-
-// Their version.
-pub fn version_number() -> usize
-    ensures { λ r. ⌜ r ≡ version ⌝ }
-{
-    VERSION
-}
 
 // A fault and what follows it; the refusal's number is returned, 0 for none.
 fn put_both(fault: [usize; FAULT], rest: &[usize], out: &mut [usize]) -> usize
@@ -82,19 +71,5 @@ pub fn put_run(run: Run, bytes: usize, out: &mut [usize]) -> usize
             let rest = [0; REPORT];
             put_both(fault, &rest, out)
         }
-    }
-}
-
-// A declaration; how many numbers it has is returned, 0 where there is none.
-pub fn put_entry(declared: Declared, out: &mut [usize]) -> usize
-    ensures is { λ r. ⌜ r ≡ length (entryNumbers declared) ⌝ }
-    ensures numbers { λ _. ⌜ now (out .exit) ≡ sets (now (out .entry)) 0 (entryNumbers declared) ⌝ }
-{
-    match declared {
-        Declared::As(entry) => {
-            let numbers = [entry.at, entry.len, entry.arguments];
-            put(&numbers, out, 0)
-        }
-        Declared::Nothing => 0,
     }
 }

@@ -3,7 +3,7 @@ use lib.ListN.{length}
 use lib.Seq.{sets}
 use borrow.Author.Needs.{needs}
 use Rattle.syntax.specs.declared.Declared.{Declared}
-use Rattle.packing.specs.Numbers.{entryNumbers}
+use Rattle.out_entries.specs.Numbers.{entryNumbers}
 use Rattle.exports.proofs.pilvaust_entry.Statement.{statement}
 use Rattle.exports.proofs.pilvaust_entry.Tie as tie
 

@@ -38,11 +38,14 @@ slice-aggregate-run-read c = search needs
 run-read-requires : tie.Need-run-read-requires
 run-read-requires c κs = let c6 = c .before .before .before .before .before .before in let c9 = c6 .before .before .before in let c11 = c9 .before .before in let c17 = c11 .before .before .before .before .before .before in (omega (arith, (c9 .load-goal .kept .1 .0), (c11 .goal-room .ensures)), goal-programmed (c17 .args .sheet .now) (c17 .args .declared .now) (c17 .args .n) (c17 .args .table .now) (c17 .args .k) (c17 .args .goal .now) (c9 .load-goal .last .1 .0) (c9 .load-goal .result) (c9 .load-goal .ensures) (c17 .args .allowance) (c17 .args .wanted) (c6 .enum-told .given .0 .0) (c6 .enum-told .given .0 .1 .0) (c6 .enum-told .given .1) (omega (arith, (c9 .load-goal .kept .1 .0), (c11 .goal-room .ensures))) (c17 .pre))
 
+run-ended-requires : tie.Need-run-ended-requires
+run-ended-requires c κs = search needs
+
 enum-known-fault : tie.Need-enum-known-fault
 enum-known-fault c = search needs
 
-run-refused-requires-2 : tie.Need-run-refused-requires-2
-run-refused-requires-2 c κs = search needs
+goal-refused-requires : tie.Need-goal-refused-requires
+goal-refused-requires c κs = search needs
 
 returns : tie.Need-returns
 returns c = let c5 = c .before .before .before .before .before in let c13 = c5 .before .before .before .before .before .before .before .before in λ w. goal-stops (c13 .args .sheet .now) (c13 .args .declared .now) (c13 .args .n) (c13 .args .table .now) (c13 .args .k) (c13 .args .goal .now) (c5 .load-goal .last .1 .0) (c5 .load-goal .result) (c5 .load-goal .ensures) (c13 .args .allowance) (c13 .args .wanted) (c .before .before .v .given .0 .0) (c .before .before .v .given .0 .1 .0) (c .before .before .v .given .1) (c .run-refused .result) (c .run-refused .ensures) (c13 .args .text .now) w
@@ -51,10 +54,10 @@ same-length : tie.Need-same-length
 same-length c = search needs
 
 returns-2 : tie.Need-returns-2
-returns-2 c = let d = c .before in let c5 = d .before .before .before .before .before in let c7 = c5 .before .before in let c9 = c7 .before .before in let c12 = c9 .before .before .before in let c14 = c12 .before .before in let c20 = c14 .before .before .before .before .before .before in λ w. goal-runs (c20 .args .sheet .now) (c20 .args .declared .now) (c20 .args .n) (c20 .args .table .now) (c20 .args .k) (c20 .args .goal .now) (c12 .load-goal .last .1 .0) (c12 .load-goal .result) (c12 .load-goal .ensures) (c20 .args .allowance) (c20 .args .wanted) (c9 .enum-told .given .0 .0) (c9 .enum-told .given .0 .1 .0) (c9 .enum-told .given .1) (c7 .check-goal .result) (c7 .check-goal .ensures) (c5 .enum-told2 .given .1) (omega (arith, (c12 .load-goal .kept .1 .0), (c14 .goal-room .ensures))) (d .before .before .run-read .result) (c20 .args .text .now) (d .before .before .run-read .last .1 .1 .1 .1 .1 .1 .1 .0) (d .before .before .run-read .ensures) w
+returns-2 c = let d = c .before .before in let c5 = d .before .before .before .before .before in let c7 = c5 .before .before in let c9 = c7 .before .before in let c12 = c9 .before .before .before in let c14 = c12 .before .before in let c20 = c14 .before .before .before .before .before .before in λ w. goal-runs (c20 .args .sheet .now) (c20 .args .declared .now) (c20 .args .n) (c20 .args .table .now) (c20 .args .k) (c20 .args .goal .now) (c12 .load-goal .last .1 .0) (c12 .load-goal .result) (c12 .load-goal .ensures) (c20 .args .allowance) (c20 .args .wanted) (c9 .enum-told .given .0 .0) (c9 .enum-told .given .0 .1 .0) (c9 .enum-told .given .1) (c7 .check-goal .result) (c7 .check-goal .ensures) (c5 .enum-told2 .given .1) (omega (arith, (c12 .load-goal .kept .1 .0), (c14 .goal-room .ensures))) (d .before .before .run-read .result) (c20 .args .text .now) (d .before .before .run-read .last .1 .1 .1 .1 .1 .1 .1 .0) (d .before .before .run-read .ensures) (c .run-ended .result) (c .run-ended .ensures) w
 
 returns-3 : tie.Need-returns-3
-returns-3 c = let c4 = c .before .before .before .before in let c6 = c4 .before .before in let c9 = c6 .before .before .before in let c17 = c9 .before .before .before .before .before .before .before .before in λ w. fault-stops (c17 .args .sheet .now) (c17 .args .declared .now) (c17 .args .n) (c17 .args .table .now) (c17 .args .k) (c17 .args .goal .now) (c9 .load-goal .last .1 .0) (c9 .load-goal .result) (c9 .load-goal .ensures) (c17 .args .allowance) (c17 .args .wanted) (c6 .enum-told .given .0 .0) (c6 .enum-told .given .0 .1 .0) (c6 .enum-told .given .1) (c4 .check-goal .result) (c4 .check-goal .ensures) (c .before .before .fault .given .0 .0) (c .before .before .fault .given .1) (c .run-refused2 .result) (c .run-refused2 .ensures) (c17 .args .text .now) w
+returns-3 c = let c4 = c .before .before .before .before in let c6 = c4 .before .before in let c9 = c6 .before .before .before in let c17 = c9 .before .before .before .before .before .before .before .before in λ w. fault-stops (c17 .args .sheet .now) (c17 .args .declared .now) (c17 .args .n) (c17 .args .table .now) (c17 .args .k) (c17 .args .goal .now) (c9 .load-goal .last .1 .0) (c9 .load-goal .result) (c9 .load-goal .ensures) (c17 .args .allowance) (c17 .args .wanted) (c6 .enum-told .given .0 .0) (c6 .enum-told .given .0 .1 .0) (c6 .enum-told .given .1) (c4 .check-goal .result) (c4 .check-goal .ensures) (c .before .before .fault .given .0 .0) (c .before .before .fault .given .1) (c .goal-refused .result) (c .goal-refused .ensures) (c17 .args .text .now) w
 
 pub run-goal-spec : {M : Type 1} → statement M
 run-goal-spec =
@@ -71,8 +74,9 @@ run-goal-spec =
     enum-told-2
     slice-aggregate-run-read
     run-read-requires
+    run-ended-requires
     enum-known-fault
-    run-refused-requires-2
+    goal-refused-requires
     returns
     same-length
     returns-2

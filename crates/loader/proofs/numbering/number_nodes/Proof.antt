@@ -3,7 +3,8 @@ use Prim.Native.Nat.{_*_, _-_, _≤_}
 use native.Mathlib.Omega.{arith}
 use mathlib.Core.Path.{_≡_, refl, _∙_}
 use lib.ListN.{length}
-use Rattle.loader.specs.Listing.{symbolsOf, Listed, Copied}
+use Rattle.symbol_search.specs.Symbols.{symbolsOf, Listed}
+use Rattle.loader.specs.Listing.{Copied}
 use Rattle.loader.proofs.Numbered.{Numbering, none-listed, number-begin, number-turn, number-end}
 use Rattle.loader.proofs.numbering.number_nodes.Statement.{statement}
 use Rattle.loader.proofs.numbering.number_nodes.Tie as tie

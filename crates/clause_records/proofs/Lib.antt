@@ -1,0 +1,4 @@
+pub mod Sizes
+pub mod Writing
+pub mod Turns
+pub mod Clauses

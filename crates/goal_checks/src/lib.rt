@@ -1,0 +1,56 @@
+// A goal checked over a sheet that was checked and stands in its tables.
+use marking::Checked;
+use syntax::Text;
+use syntax::Verdict;
+use tables::load_goal;
+ghost use mathlib.Core.Path.{_≡_};
+ghost use Prim.Native.Nat.{_≤_, _<_, _^_};
+ghost use lib.ListN.{length};
+ghost use Rattle.syntax.specs.Terms.{Goal};
+ghost use Rattle.syntax.specs.Verdicts.{accepted, goalOutcome};
+ghost use Rattle.syntax.specs.Words.{sheetWords, bodyWords};
+ghost use Rattle.words.specs.Tables.{Has};
+ghost use Rattle.rules.specs.Checking.{checkedGoal, goalAnswer};
+ghost use Rattle.tables.specs.Tables.{Over};
+
+// A goal over the declarations of a checked sheet, which has k clauses. The table is for the goal's words, which it holds where the goal is read.
+pub fn goal_over(
+    sheet: &[u8],
+    declared: &[u32],
+    n: usize,
+    k: usize,
+    goal: &[u8],
+    table: &mut [u32],
+) -> Verdict
+    requires { ⌜ Over (now sheet) (now declared) n k ⌝ }
+    requires { ⌜ (sheetWords ≤ length (now table)) × (length (now table) < 2 ^ 31) ⌝ }
+    ensures is { λ r. ⌜ ((w : Over (now (sheet .entry)) (now (declared .entry)) n k) → r ≡ goalAnswer (w .sheet)
+        (checkedGoal (w .sheet) (now (goal .entry)))) ⌝ }
+    ensures holds { λ _. ⌜ ((g : Goal) → goalOutcome (now (goal .entry)) ≡ accepted g → Has (now (table .exit)) 0 (bodyWords (g .body))) ⌝ }
+{
+    let r = load_goal(goal, table);
+    let v = r.verdict;
+    let literals = r.literals;
+    match v {
+        Verdict::Refused {
+            text: _,
+            refusal: _,
+        } => v,
+        Verdict::Accepted {
+            declarations: _,
+            clauses: _,
+        } => {
+            let fault = modes::check_goal(sheet, declared, n, goal, table, literals);
+            match fault {
+                Checked::Fine => Verdict::Accepted {
+                    declarations: n,
+                    clauses: k,
+                },
+                Checked::Fault(refusal) => Verdict::Refused {
+                    text: Text::Goal,
+                    refusal,
+                },
+            }
+        }
+    }
+}
