@@ -38,13 +38,35 @@ def large_heads(leaf, count):
     return filled(":-mode p(+,+).", "p(%s,%%d)." % tree([leaf] * count))
 
 
-def links(count, leaves, small):
-    """Clauses in which each of so many variables is a bracket around the next, the last one a term of many leaves, when a small clause ties both
-    lists. They are bound last first: the occurs check of each goes through all that was bound before."""
-    names = SIGNS[: count + 1]
-    pairs = [("A", "a"), (names[-1], tree(["A"] * leaves))] + [(one, "f(%s)" % after) for one, after in zip(names, names[1:])][::-1]
+def tied(pairs, small):
+    """So many clauses p(V,V,n), and clauses in whose heads V meets two terms: all that stands left in the pairs, and all that stands right."""
     start = ":-mode p(+,+,+)." + "".join("p(V,V,%d)." % n for n in range(small))
     return filled(start, "p(%s,%s,%%d)." % tuple(map(tree, map(list, zip(*pairs)))))
+
+
+def links(count, leaves, small):
+    """Each of so many variables is a bracket around the next, the last one a term of many leaves. They are bound last first: the occurs check of each
+    goes through all that was bound before."""
+    names = SIGNS[: count + 1]
+    return tied([("A", "a"), (names[-1], tree(["A"] * leaves))] + [(one, "f(%s)" % after) for one, after in zip(names, names[1:])][::-1], small)
+
+
+def alternation(count, leaves, small):
+    """Bindings that have to do with each other: so many times Y = g(X), W = h(V), X = k(V,G), with a term G of many leaves."""
+    names, pairs = iter(SIGNS[1:]), [("B", tree(["A"] * leaves))]
+    for _ in range(count):
+        v, w, x, y = (next(names) for _ in range(4))
+        pairs += [(y, "g(%s)" % x), (w, "h(%s)" % v), (x, "k(%s,B)" % v)]
+    return tied(pairs, small)
+
+
+def bound_leaves(count, leaves, small):
+    """A term G of many leaves, so many of them variables that are bound in turn with as many that are bound to k(G)."""
+    names = [SIGNS[1 + n * 3 : 4 + n * 3] for n in range(count)]
+    pairs = [("B", tree([u for u, _, _ in names] + ["A"] * leaves))]
+    for u, v, w in names:
+        pairs += [(u, "f(%s)" % v), (w, "k(B)")]
+    return tied(pairs, small)
 
 
 SHEETS = {
@@ -54,6 +76,10 @@ SHEETS = {
     "links over 128 leaves": links(60, 128, 235),
     "links over 512 leaves": links(60, 512, 240),
     "links over 700 leaves": links(60, 700, 240),
+    "alternation over 128 leaves": alternation(15, 128, 235),
+    "alternation over 512 leaves": alternation(15, 512, 240),
+    "bound leaves, 128 more": bound_leaves(20, 128, 235),
+    "bound leaves, 512 more": bound_leaves(20, 512, 240),
 }
 
 

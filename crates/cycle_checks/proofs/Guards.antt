@@ -21,7 +21,7 @@ use Rattle.memos.proofs.Remembering.{memo-none, memo-kept}
 use Rattle.orders.specs.Orders.{ordered, boundsMade, Listed, Ordered, Ahead, Unplaced, Reordered, Boundable, Freed, Dropped, Orderable, Arranged}
 use Rattle.orders.proofs.Lists.{ordered-kept, reordered-trans, forgotten-reordered}
 use Rattle.orders.proofs.Ahead.{ahead-free, ahead-bound, unplaced-bound}
-use Rattle.lookahead.specs.Room.{Lent}
+use Rattle.lookahead_words.specs.Room.{Lent}
 use Rattle.cycle_checks.specs.Checks.{Purse, Begun, Guardable, Missing, Spared, Shown, Redone, Renewed, Tried, Guarded}
 
 -- ---- the purse

@@ -22,7 +22,8 @@ use Rattle.determinacy.specs.declared.Determinacy.{Determinacy}
 use Rattle.determinacy.specs.declared.Determinacy.the-variants.{No}
 use Rattle.determinacy.specs.Told.{told}
 use Rattle.clause_brackets.specs.Clauses.{numberOf, ClausesIn}
-use Rattle.determinacy.specs.Tables.{Zeros, Ready, Linked, Pairable}
+use Rattle.run_rooms.specs.Rooms.{Zeros}
+use Rattle.determinacy.specs.Tables.{Ready, Linked, Pairable}
 use Rattle.clause_brackets.proofs.Numbers.{number-none, number-some}
 use Rattle.determinacy.proofs.PairLaws.{told-no}
 

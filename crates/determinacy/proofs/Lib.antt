@@ -1,3 +1,2 @@
 pub mod PairLaws
-pub mod ZeroLaws
 pub mod JudgeLaws

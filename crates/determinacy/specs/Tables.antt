@@ -1,8 +1,7 @@
 -- What the functions on the tables of a sheet are given.
 use Prim.Native.Nat.{ℕ, _≤_}
-use mathlib.Core.Path.{_≡_}
 use mathlib.Core.List.{List}
-use lib.ListN.{length, getD}
+use lib.ListN.{length}
 use Rattle.syntax.specs.Limits.{sheetBytes}
 use Rattle.syntax.specs.Terms.{Goal}
 use Rattle.syntax.specs.Words.{sheetWords}
@@ -11,11 +10,6 @@ use Rattle.layout.specs.Limits.{SheetLimited}
 use Rattle.layout.specs.Nodes.{Symbol}
 use Rattle.layout.specs.Program.{Program}
 use Rattle.clause_overlaps.specs.Overlaps.{Blank}
-
--- Words that are all zero, so many.
-pub record Zeros (k : ℕ) (words : List ℕ) : Type 0 where
-  pub long : k ≡ length words
-  pub zero-words : (i : ℕ) → getD words i 0 ≡ 0
 
 -- a sheet of which the n declarations and k clauses stand in tables, within document 01's limits
 pub record Ready (s declared : List ℕ) (n : ℕ) (table : List ℕ) (k : ℕ) : Type 0 where

@@ -1,16 +1,15 @@
 // Document 02, (xii): whether an accepted sheet has no bracket and no two clauses of one predicate whose + arguments have a common instance, so that
 // a run writes at most one line.
 mod pairs;
-mod rooms;
 
 use clause_brackets::bracketed_clause;
 use linker::link;
 use loader::load_nodes;
 use pairs::first_pair;
-use rooms::code_words;
-use rooms::node_words;
-use rooms::scratch_words;
-use rooms::store_words;
+use run_rooms::code_words;
+use run_rooms::narrow_words;
+use run_rooms::node_words;
+use run_rooms::store_words;
 use syntax::Refusal;
 ghost use mathlib.Core.Path.{_≡_};
 ghost use Rattle.machine.specs.Determinacy.{firstPair, judgedBy, against};
@@ -40,7 +39,7 @@ fn judge_linked(
         → r ≡ told (judgedBy (firstPair (w .stands .sheet .declarations) 1 (w .stands .sheet .clauses)))) ⌝ }
 {
     let mut state = store_words();
-    let mut scratch = scratch_words();
+    let mut scratch = narrow_words();
     first_pair(
         sheet,
         declared,

@@ -1,29 +1,26 @@
 // A guess of how a unification goes on, and the cells that it touches in topological order. The rest of the unification is run ahead without any occurs check,
 // over bindings of its own. Nothing rests on the guess: the cells are only proposed, and whoever takes them looks at each. So nothing is asked or promised of
 // what stands in the words that are lent; each is read and written only where there is one.
-mod guesses;
-mod room;
-mod sorting;
-mod unification;
 
-use crate::guesses::word_of;
-use crate::room::LIST;
-use crate::room::WORK;
-use crate::room::get;
-use crate::room::size_of;
-use crate::sorting::sort_most;
-use crate::unification::MOST_ROWS;
-use crate::unification::ROW_SIZE;
-use crate::unification::guess;
-use crate::unification::put_row;
+use lookahead_words::guesses::word_of;
+use lookahead_words::room::LIST;
+use lookahead_words::room::WORK;
+use lookahead_words::room::get;
+use lookahead_words::room::size_of;
+use lookahead_sorting::sort_most;
+use lookahead_bindings::MOST_ROWS;
+use lookahead_bindings::ROW_SIZE;
+use lookahead_bindings::guess;
+use lookahead_bindings::put_row;
 use layout::MEMO;
 use layout::PAIR_SIZE;
 use layout::SIDE_SIZE;
 use layout::STACK;
 ghost use Prim.Native.Nat.{_<_, _≤_, _^_};
+ghost use mathlib.Core.Path.{_≡_};
 ghost use lib.ListN.{length};
 ghost use Rattle.layout.specs.Regions.{memo, cells, pairs, places, copies};
-ghost use Rattle.lookahead.specs.Room.{Lent, Small};
+ghost use Rattle.lookahead_words.specs.Room.{Lent, Small};
 
 // Where the proposed cells stand in the scratch words.
 pub const PROPOSED: usize = MEMO + LIST;
@@ -69,6 +66,13 @@ fn copy_stack(nodes: &[u32], scratch: &mut [u32], h: usize, n: usize)
     }
 }
 
+// Where the words begin that may be overwritten. (With the number itself in a slice's bound the check takes ten times as long.)
+fn lent_from() -> usize
+    ensures { λ r. ⌜ r ≡ memo ⌝ }
+{
+    MEMO
+}
+
 // As `look_ahead`, in room that has so many rows.
 fn propose(
     nodes: &[u32],
@@ -105,5 +109,6 @@ pub fn look_ahead(
     let n = least(h, least(turns, MOST_PAIRS));
     copy_stack(nodes, scratch, h, n);
     let w = word_of(q, d);
-    propose(nodes, state, &mut scratch[MEMO..], n, x, w, turns)
+    let from = lent_from();
+    propose(nodes, state, &mut scratch[from..], n, x, w, turns)
 }

@@ -1,2 +1,1 @@
 pub mod Remembering
-pub mod Shortcuts

@@ -16,9 +16,9 @@ use Rattle.layout.specs.State.{wordOf, valueOf}
 use Rattle.layout.proofs.State.{node-word, copy-word}
 use Rattle.layout.specs.Halves.{half, stored}
 use Rattle.layout.proofs.Halves.{half-stored, half-apart}
-use Rattle.memos.specs.Cuts.{cutsMade}
-use Rattle.memos.specs.Chains.{Eased}
-use Rattle.memos.proofs.Shortcuts.{cuts-none, cuts-kept, cuts-bound}
+use Rattle.unify_cuts.specs.Cuts.{cutsMade}
+use Rattle.unify_cuts.specs.Chains.{Eased}
+use Rattle.unify_cuts.proofs.Shortcuts.{cuts-none, cuts-kept, cuts-bound}
 use Rattle.memos.specs.Memos.{classesMade, rowsMade, keyOf, termOf, linkOf, numberIn, Numbered, Rowed, Entered, Same, Belongs, Shows, Links, Memo, Found, Reaches, Cleared, Kept, Opens, Assigns, Fresh, Joins, Begins, Remembers, Weighed, counted, shift}
 
 -- ---- what its words mean

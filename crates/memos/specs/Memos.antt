@@ -10,7 +10,7 @@ use Rattle.layout.specs.Regions.{copies, memo, rowsWord, keys, keyCount, classe
 use Rattle.layout.specs.Halves.{half, stored}
 use Rattle.layout.specs.Nodes.{Symbol}
 use Rattle.layout.specs.State.{valueOf}
-use Rattle.memos.specs.Cuts.{Cuts}
+use Rattle.unify_cuts.specs.Cuts.{Cuts}
 
 -- So many pairs are only counted, not remembered: most unifications are done before. The numbers of classes begin here.
 abbrev pub counted : ℕ

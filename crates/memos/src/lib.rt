@@ -4,7 +4,6 @@
 // are never cleared: a row names its node, and the name is compared. A row is cleared when it is taken, and a call begins with no rows.
 // Of two terms that become equal one was reached by way of a bound cell, so there are no more new numbers than bound cells; and scratch words that have
 // a row for each node have room for every term.
-pub mod cuts;
 
 use layout::CLASS_COUNT;
 use layout::CLASS_SIZE;

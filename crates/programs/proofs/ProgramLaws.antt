@@ -1,9 +1,9 @@
 -- What loading, linking and running ask of each other.
-use Prim.Native.Nat.{ℕ, zero, suc, _≤_}
+use Prim.Native.Nat.{ℕ, zero, _≤_}
 use native.Mathlib.Omega.{arith}
-use mathlib.Core.Path.{_≡_, refl, sym}
+use mathlib.Core.Path.{_≡_}
 use mathlib.Core.List.{List}
-use lib.ListN.{length, getD, replicate, length-replicate}
+use lib.ListN.{length}
 use Rattle.syntax.specs.Terms.{Sheet, Goal}
 use Rattle.syntax.specs.Words.{goalWords}
 use Rattle.layout.specs.Regions.{nodesWords, codeWords, stateWords}
@@ -15,15 +15,8 @@ use Rattle.linker.specs.Linking.{Linkable}
 use Rattle.runs.specs.declared.Ran.{Ran}
 use Rattle.telling.specs.Telling.{Spelt, Lent}
 use Rattle.runs.specs.Running.{Runnable, Runs}
-use Rattle.programs.specs.Programs.{Zeros, Blank, Programmed, Linked}
-
-zero-at : (n i : ℕ) → _≡_ {A = ℕ} (getD (replicate n 0) i 0) 0
-zero-at zero i = refl
-zero-at (suc n) zero = refl
-zero-at (suc n) (suc i) = zero-at n i
-
-pub zeros : (n : ℕ) → Zeros n (replicate n 0)
-zeros n = record { long = sym (length-replicate n 0); zero-words = zero-at n }
+use Rattle.run_rooms.specs.Rooms.{Zeros}
+use Rattle.programs.specs.Programs.{Blank, Programmed, Linked}
 
 module _ {sheet table : List ℕ} {clauses : ℕ} {goal goals : List ℕ} {literals : ℕ} {names : List ℕ} {count : ℕ} (w : Programmed sheet table clauses goal goals literals names count) where
   pub loads : {nodes symbols : List ℕ} → Zeros nodesWords nodes → Zeros nodesWords symbols → Loadable sheet table clauses goal goals literals nodes symbols

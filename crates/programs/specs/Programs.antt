@@ -16,11 +16,6 @@ use Rattle.syntax.specs.Spans.{namesFrom}
 use Rattle.spelling.specs.Words.{Named}
 use Rattle.telling.specs.Telling.{Spelt, Tellable}
 
--- Words that are all zero, so many.
-pub record Zeros (k : ℕ) (words : List ℕ) : Type 0 where
-  pub long : k ≡ length words
-  pub zero-words : (i : ℕ) → getD words i 0 ≡ 0
-
 -- Words for unification and for answers in a text of so many bytes, all zero.
 pub record Blank (scratch : List ℕ) (room : ℕ) : Type 0 where
   pub roomy : Roomy scratch

@@ -1,55 +1,20 @@
 // A sheet and a goal as they were read into their tables: loaded, linked and run. The tables of a run are its own.
-use layout::CODE_WORDS;
-use layout::NARROW_WORDS;
-use layout::NODES_WORDS;
 use layout::SHORT_SHEET;
 use layout::SHORT_TEXT;
-use layout::STATE_WORDS;
-use layout::WIDE_WORDS;
 use linker::link;
 use loader::load_nodes;
+use run_rooms::code_words;
+use run_rooms::narrow_words;
+use run_rooms::node_words;
+use run_rooms::state_words;
+use run_rooms::wide_words;
 use runs::Ran;
 use runs::run;
 ghost use Prim.Native.Nat.{_≤_};
 ghost use lib.ListN.{length};
-ghost use Rattle.layout.specs.Regions.{nodesWords, codeWords, stateWords, shortText, narrowWords, wideWords};
+ghost use Rattle.layout.specs.Regions.{shortText};
 ghost use Rattle.runs.specs.Running.{Runs};
-ghost use Rattle.programs.specs.Programs.{Zeros, Blank, Programmed, Linked};
-
-// Room for the nodes of both texts, and as much for their symbols.
-fn node_words() -> [u32; NODES_WORDS]
-    ensures { λ r. ⌜ Zeros nodesWords r ⌝ }
-{
-    [0; NODES_WORDS]
-}
-
-// Room for the records of clauses and literals.
-fn code_words() -> [u32; CODE_WORDS]
-    ensures { λ r. ⌜ Zeros codeWords r ⌝ }
-{
-    [0; CODE_WORDS]
-}
-
-// Room for a run's state.
-fn state_words() -> [u32; STATE_WORDS]
-    ensures { λ r. ⌜ Zeros stateWords r ⌝ }
-{
-    [0; STATE_WORDS]
-}
-
-// Room for unification under a short sheet.
-fn narrow_words() -> [u32; NARROW_WORDS]
-    ensures { λ r. ⌜ Zeros narrowWords r ⌝ }
-{
-    [0; NARROW_WORDS]
-}
-
-// Room for unification under any sheet.
-fn wide_words() -> [u32; WIDE_WORDS]
-    ensures { λ r. ⌜ Zeros wideWords r ⌝ }
-{
-    [0; WIDE_WORDS]
-}
+ghost use Rattle.programs.specs.Programs.{Blank, Programmed, Linked};
 
 // A loaded and linked program run, with room for unification and for the open brackets of an answer.
 fn run_over(

@@ -20,8 +20,8 @@ use Rattle.bindings.specs.Cells.{Given, Leads, Derefs}
 use Rattle.memos.specs.Memos.{Remembers}
 use Rattle.bindings.specs.Scratch.{leftAt, rightAt, pairWords, SameMarks, Roomy}
 use Rattle.bindings.specs.declared.stack.Side.{Side}
-use Rattle.memos.specs.Chains.{Eased, Both, Ended}
-use Rattle.memos.specs.declared.cuts.Ends.{Ends}
+use Rattle.unify_cuts.specs.Chains.{Eased, Both, Ended}
+use Rattle.unify_cuts.specs.declared.Ends.{Ends}
 use Rattle.memos.proofs.Remembering.{value-word, memo-kept, memo-eased, memo-remembers}
 use Rattle.unifier.specs.Rows.{unifyRows, nodesOf, sizeOf}
 use Rattle.unifier.specs.Walks.{Beside, Walkable, Meets, Walks}

@@ -14,7 +14,7 @@ use Rattle.layout.specs.Nodes.{Symbol, Stands, Node, Row, termAt, termsAt, foll
 use Rattle.layout.specs.State.{bindings}
 use Rattle.layout.proofs.Nodes.{node-inside, row-one, row-one-is, term-at}
 use Rattle.bindings.specs.Queues.{Clean}
-use Rattle.memos.specs.Cuts.{cutsMade}
+use Rattle.unify_cuts.specs.Cuts.{cutsMade}
 use Rattle.memos.specs.Memos.{classesMade}
 use Rattle.bindings.specs.Scratch.{leftAt, rightAt, pairWords, SameMarks}
 use Rattle.bindings.specs.declared.stack.Side.{Side}

@@ -15,7 +15,7 @@ use layout::PAIR_SIZE;
 use layout::SIDE_SIZE;
 use layout::STACK;
 use layout::cell_of;
-use memos::cuts::follow;
+use unify_cuts::follow;
 use memos::forget;
 use memos::known;
 use memos::remember;

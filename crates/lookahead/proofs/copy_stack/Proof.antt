@@ -3,8 +3,8 @@ use Prim.Native.Nat.{_-_, _≤_}
 use native.Mathlib.Omega.{arith}
 use borrow.Author.Needs.{needs}
 use Rattle.layout.specs.Regions.{memo}
-use Rattle.lookahead.specs.Room.{Lent}
-use Rattle.lookahead.proofs.Lending.{lent-same, lent-on}
+use Rattle.lookahead_words.specs.Room.{Lent}
+use Rattle.lookahead_words.proofs.Lending.{lent-same, lent-on}
 use Rattle.lookahead.proofs.copy_stack.Statement.{statement}
 use Rattle.lookahead.proofs.copy_stack.Tie as tie
 
