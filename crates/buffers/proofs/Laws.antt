@@ -10,7 +10,7 @@ use lib.Dec.{leb, ltb, lit<}
 use lib.ListN.{length, take, drop, getD, set, length-append, length-drop}
 use lib.Seq.{sets, set-out, take-suc, take-all, getD-drop}
 use borrow.Author.Tests.{ltb-true, ltb-false, lt-ltb, le-ltb, le-leb, lt-leb}
-use Rattle.buffers.specs.Buffers.{Put, digits, decimal, written, fitted}
+use Rattle.buffers.specs.Buffers.{Put, digits, decimal, fittedLength, fitted}
 
 -- ---- appending
 
@@ -116,12 +116,12 @@ next-digit {n = n} h p q = rw (decimal-more n h) (then p q)
 -- ---- a line that is measured first
 
 pub measured : {line b b′ out out′ : List ℕ} {m n : ℕ} → Put b 0 line b′ m → m ≤ length out → Put out 0 line out′ n
-    → (n ≡ written line out) × (out′ ≡ fitted line out)
+    → (n ≡ fittedLength line out) × (out′ ≡ fitted line out)
 measured {line} {out = out} p h q =
     let fits : leb (length line) (length out) ≡ true = le-leb (length line) (length out) (omega (arith, p .past)) in
     (rw fits (omega (arith, q .past)), rw fits (q .text))
 
-pub too-long : {line b b′ out : List ℕ} {m : ℕ} → Put b 0 line b′ m → length out < m → (_≡_ {A = ℕ} 0 (written line out)) × (out ≡ fitted line out)
+pub too-long : {line b b′ out : List ℕ} {m : ℕ} → Put b 0 line b′ m → length out < m → (_≡_ {A = ℕ} 0 (fittedLength line out)) × (out ≡ fitted line out)
 too-long {line} {out = out} p h =
     let over : leb (length line) (length out) ≡ false = lt-leb (length line) (length out) (omega (arith, p .past)) in
     (rw over, rw over)

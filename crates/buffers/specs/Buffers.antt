@@ -21,8 +21,8 @@ abbrev pub number : ℕ → List ℕ
 number n = (32 ∷ []) ++ decimal n
 
 -- the line's length where the whole line fits the buffer, and 0 where it does not
-abbrev pub written : List ℕ → List ℕ → ℕ
-written line out = cond (leb (length line) (length out)) (length line) 0
+abbrev pub fittedLength : List ℕ → List ℕ → ℕ
+fittedLength line out = cond (leb (length line) (length out)) (length line) 0
 
 -- the buffer with the line at its start where the whole line fits, and as it was where it does not
 abbrev pub fitted : List ℕ → List ℕ → List ℕ

@@ -1,7 +1,7 @@
 // `C` and a sheet, which is checked, or `K`, a sheet and a goal, which is checked over it. What the checker would print is printed.
 use crate::records::text_at;
+use out_printing::print_line;
 use pilvaust::fault_name;
-use printing::print_line;
 ghost use Prim.Native.Nat.{_≤_, _<_};
 ghost use lib.ListN.{length};
 

@@ -15,7 +15,7 @@ fn print_refusal(sheet: &[u8], refusal: Refusal) {
         text: Text::Sheet,
         refusal,
     };
-    printing::print_line(verdict, pilvaust::fault_name(sheet, b"", verdict));
+    out_printing::print_line(verdict, pilvaust::fault_name(sheet, b"", verdict));
 }
 
 fn print_determinacy(sheet: &[u8], told: Determinacy) {

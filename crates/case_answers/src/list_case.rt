@@ -6,9 +6,9 @@ use crate::records::BYTE;
 use crate::records::TWO_BYTES;
 use crate::records::text_at;
 use crate::records::wide;
+use entry_lists::Lent;
 use libc::STDOUT_FILENO;
-use lists::Lent;
-use lookup::Lookup;
+use mode_lookup::Lookup;
 use syntax::Entry;
 ghost use mathlib.Core.Path.{_≡_};
 ghost use Prim.Native.Nat.{_+_, _*_, _≤_, _<_};
@@ -62,7 +62,7 @@ fn print_lent(sheet: &[u8], lent: Lent)
 {
     let verdict = lent.verdict;
     let list = lent.list;
-    printing::print_line(verdict, pilvaust::fault_name(sheet, b"", verdict));
+    out_printing::print_line(verdict, pilvaust::fault_name(sheet, b"", verdict));
     print_entry(list[0]);
     print_entry(list[1]);
     print_entry(list[2]);
@@ -157,9 +157,9 @@ pub fn answer(cases: &[u8], at: usize) -> usize
     let end = text.end;
     let sheet = &cases[start..end];
     if cases[at] == READ {
-        print_lent(sheet, lists::read_lent(sheet, held()));
+        print_lent(sheet, entry_lists::read_lent(sheet, held()));
         return end;
     }
-    print_lent(sheet, lists::check_lent(sheet, held()));
+    print_lent(sheet, entry_lists::check_lent(sheet, held()));
     end
 }

@@ -45,10 +45,10 @@ pub fn answer(cases: &[u8], at: usize) -> usize
     let start = text.start;
     let end = text.end;
     if kind == SHEET {
-        printing::print_line(pilvaust::read(&cases[start..end]), b"");
+        out_printing::print_line(pilvaust::read(&cases[start..end]), b"");
         return end;
     }
-    printing::print_line(pilvaust::read_goal(&cases[start..end]), b"");
+    out_printing::print_line(pilvaust::read_goal(&cases[start..end]), b"");
     end
 }
 
@@ -78,7 +78,7 @@ fn answer_token(cases: &[u8], at: usize) -> usize
     let text = text_at(cases, at + 1);
     let start = text.start;
     let end = text.end;
-    let token = reader::nth_token(&cases[start..end], wide(cases[at]));
+    let token = lex_reader::nth_token(&cases[start..end], wide(cases[at]));
     io::write_all(STDOUT_FILENO, b"token");
     print_number(token.kind);
     print_number(token.at);

@@ -5,7 +5,7 @@ use crate::records::three;
 use crate::records::two;
 use crate::rooms::TEXT_ROOM;
 use crate::rooms::text_room;
-use printing::print_run;
+use out_printing::print_run;
 use syntax::RunSettings;
 ghost use Prim.Native.Nat.{_+_, _≤_, _<_};
 ghost use lib.ListN.{length};

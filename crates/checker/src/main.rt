@@ -10,5 +10,5 @@ fn main() {
     let n = io::read_full(STDIN_FILENO, &mut sheet);
     let text = &sheet[..n];
     let verdict = pilvaust::check(text);
-    printing::print_line(verdict, pilvaust::fault_name(text, b"", verdict));
+    out_printing::print_line(verdict, pilvaust::fault_name(text, b"", verdict));
 }

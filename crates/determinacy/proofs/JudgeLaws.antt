@@ -8,29 +8,29 @@ use mathlib.Core.Option.{Option, none, some}
 use lib.ListN.{length}
 use Rattle.syntax.specs.Terms.{done, Clause, Sheet, Goal, literalsOf}
 use Rattle.syntax.specs.Words.{bodyWords, bodyLength}
-use Rattle.marking.specs.Standing.{done-stands}
+use Rattle.mode_marks.specs.Standing.{done-stands}
 use Rattle.machine.specs.Determinacy.{withoutBrackets, firstBracketed, Pair, firstPair, against, judgedBy}
 use Rattle.machine.proofs.Tests.{some-eq, some-none}
-use Rattle.layout.proofs.Limits.{program-limited}
-use Rattle.layout.specs.Regions.{nodesWords, codeWords, storeWords, narrowWords}
-use Rattle.layout.specs.Limits.{GoalLimited}
-use Rattle.layout.specs.Program.{Program}
-use Rattle.layout.proofs.State.{no-entries}
+use Rattle.run_layout.proofs.Limits.{program-limited}
+use Rattle.run_layout.specs.Regions.{nodesWords, codeWords, storeWords, narrowWords}
+use Rattle.run_layout.specs.Limits.{GoalLimited}
+use Rattle.run_layout.specs.Program.{Program}
+use Rattle.run_layout.proofs.State.{no-entries}
 use Rattle.loader.specs.Loading.{Loadable, Loaded}
 use Rattle.linker.specs.Linking.{Linkable}
 use Rattle.determinacy.specs.declared.Determinacy.{Determinacy}
 use Rattle.determinacy.specs.declared.Determinacy.the-variants.{No}
 use Rattle.determinacy.specs.Told.{told}
-use Rattle.clause_brackets.specs.Clauses.{numberOf, ClausesIn}
+use Rattle.determinacy_brackets.specs.Clauses.{orZero, ClausesIn}
 use Rattle.run_rooms.specs.Rooms.{Zeros}
-use Rattle.determinacy.specs.Tables.{Ready, Linked, Pairable}
-use Rattle.clause_brackets.proofs.Numbers.{number-none, number-some}
+use Rattle.determinacy.specs.Tables.{SheetReady, SheetLinked, PairsReady}
+use Rattle.determinacy_brackets.proofs.Numbers.{number-none, number-some}
 use Rattle.determinacy.proofs.PairLaws.{told-no}
 
 -- ---- no bindings yet
 
 pub pairable : {s declared : List ℕ} {n : ℕ} {table : List ℕ} {k : ℕ} {nodes code state scratch : List ℕ} → Zeros storeWords state → Zeros narrowWords scratch
-    → Linked s declared n table k nodes code → Pairable s declared n table k nodes code state scratch
+    → SheetLinked s declared n table k nodes code → PairsReady s declared n table k nodes code state scratch
 pairable {nodes = nodes} {state = state} {scratch = scratch} z y w =
     let a : storeWords ≡ length state = z .long in
     let b : narrowWords ≡ length scratch = y .long in
@@ -44,8 +44,8 @@ pairable {nodes = nodes} {state = state} {scratch = scratch} z y w =
     }
 
 pub linked-judged : {s declared : List ℕ} {n : ℕ} {table : List ℕ} {k : ℕ} {nodes code state scratch : List ℕ} → Zeros storeWords state → Zeros narrowWords scratch → {r : Determinacy}
-    → ((v : Pairable s declared n table k nodes code state scratch) → r ≡ told (judgedBy (firstPair (v .linked .stands .sheet .declarations) 1 (v .linked .stands .sheet .clauses))))
-    → (w : Linked s declared n table k nodes code) → r ≡ told (judgedBy (firstPair (w .stands .sheet .declarations) 1 (w .stands .sheet .clauses)))
+    → ((v : PairsReady s declared n table k nodes code state scratch) → r ≡ told (judgedBy (firstPair (v .linked .stands .sheet .declarations) 1 (v .linked .stands .sheet .clauses))))
+    → (w : SheetLinked s declared n table k nodes code) → r ≡ told (judgedBy (firstPair (w .stands .sheet .declarations) 1 (w .stands .sheet .clauses)))
 unfolding pairable
 linked-judged z y f w = f (pairable z y w)
 
@@ -67,7 +67,7 @@ abbrev nothing : List ℕ
 nothing = 0 ∷ []
 
 module _ {s declared : List ℕ} {n : ℕ} {table : List ℕ} {k : ℕ} where
-  pub loads : {nodes symbols : List ℕ} → Zeros nodesWords nodes → Zeros nodesWords symbols → Ready s declared n table k → Loadable s table k nothing nothing 0 nodes symbols
+  pub loads : {nodes symbols : List ℕ} → Zeros nodesWords nodes → Zeros nodesWords symbols → SheetReady s declared n table k → Loadable s table k nothing nothing 0 nodes symbols
   unfolding bodyWords
   loads {nodes} {symbols} z y w =
       let a : nodesWords ≡ length nodes = z .long in
@@ -93,11 +93,11 @@ module _ {s declared : List ℕ} {n : ℕ} {table : List ℕ} {k : ℕ} where
 
   module _ {nodes0 symbols0 nodes symbols : List ℕ} (z : Zeros nodesWords nodes0) (y : Zeros nodesWords symbols0) (a : length nodes ≡ length nodes0)
       (f : (v : Loadable s table k nothing nothing 0 nodes0 symbols0) → Loaded s nothing (v .sh) (v .g) nodes symbols) where
-    loaded : (w : Ready s declared n table k) → Loaded s nothing (w .stands .sheet) empty nodes symbols
+    loaded : (w : SheetReady s declared n table k) → Loaded s nothing (w .stands .sheet) empty nodes symbols
     unfolding loads
     loaded w = f (loads z y w)
 
-    pub links : {code0 : List ℕ} → Zeros codeWords code0 → Ready s declared n table k → Linkable table k nothing 0 nodes code0
+    pub links : {code0 : List ℕ} → Zeros codeWords code0 → SheetReady s declared n table k → Linkable table k nothing 0 nodes code0
     unfolding bodyWords
     links {code0} x w =
         let b : codeWords ≡ length code0 = x .long in
@@ -123,13 +123,13 @@ module _ {s declared : List ℕ} {n : ℕ} {table : List ℕ} {k : ℕ} where
         }
 
     module _ {code0 code : List ℕ} (x : Zeros codeWords code0) (p : (v : Linkable table k nothing 0 nodes code0) → Program (v .ss) (v .sh) (v .g) nodes code) where
-      pub linked : Ready s declared n table k → Linked s declared n table k nodes code
+      pub linked : SheetReady s declared n table k → SheetLinked s declared n table k nodes code
       unfolding links
       linked w = record { stands = w .stands; ss = loaded w .ss; g = empty; program = p (links x w) }
 
       pub ready-judged : {r : Determinacy}
-          → ((v : Linked s declared n table k nodes code) → r ≡ told (judgedBy (firstPair (v .stands .sheet .declarations) 1 (v .stands .sheet .clauses))))
-          → (w : Ready s declared n table k) → r ≡ told (judgedBy (firstPair (w .stands .sheet .declarations) 1 (w .stands .sheet .clauses)))
+          → ((v : SheetLinked s declared n table k nodes code) → r ≡ told (judgedBy (firstPair (v .stands .sheet .declarations) 1 (v .stands .sheet .clauses))))
+          → (w : SheetReady s declared n table k) → r ≡ told (judgedBy (firstPair (w .stands .sheet .declarations) 1 (w .stands .sheet .clauses)))
       unfolding linked
       ready-judged q w = q (linked w)
 
@@ -158,17 +158,17 @@ bracket-high n m (x ∷ cls) e = go (withoutBrackets (x .body)) refl (λ q. brac
     go false t k = let z : n ≡ m = some-eq n m (sym (by false t) ∙ e) in omega arith
 
 module _ {s declared : List ℕ} {n : ℕ} {table : List ℕ} {k : ℕ} where
-  abbrev pub clauses-in : Ready s declared n table k → ClausesIn table k
+  abbrev pub clauses-in : SheetReady s declared n table k → ClausesIn table k
   clauses-in w = record { list = w .stands .sheet .clauses; has = w .stands .has-clauses; count = w .stands .clauses-count }
 
-  module _ {b : ℕ} (f : (v : ClausesIn table k) → b ≡ numberOf (firstBracketed 1 (v .list))) (w : Ready s declared n table k) where
+  module _ {b : ℕ} (f : (v : ClausesIn table k) → b ≡ orZero (firstBracketed 1 (v .list))) (w : SheetReady s declared n table k) where
     pub bracket-judged : (b ≡ 0 → ⊥) → No b 0 ≡ told (judgedBy (against (w .stands .sheet)))
     bracket-judged d =
         let e : firstBracketed 1 (w .stands .sheet .clauses) ≡ some b = number-some (firstBracketed 1 (w .stands .sheet .clauses)) b (f (clauses-in w)) d in
         sym (ap (λ (p : Option Pair). told (judgedBy p)) (against-by (w .stands .sheet) (some b) e) ∙ told-no b 0)
 
     pub pairs-judged : b ≡ 0 → {r : Determinacy}
-        → ((v : Ready s declared n table k) → r ≡ told (judgedBy (firstPair (v .stands .sheet .declarations) 1 (v .stands .sheet .clauses)))) → r ≡ told (judgedBy (against (w .stands .sheet)))
+        → ((v : SheetReady s declared n table k) → r ≡ told (judgedBy (firstPair (v .stands .sheet .declarations) 1 (v .stands .sheet .clauses)))) → r ≡ told (judgedBy (against (w .stands .sheet)))
     pairs-judged d h =
         let e : firstBracketed 1 (w .stands .sheet .clauses) ≡ none =
         number-none (firstBracketed 1 (w .stands .sheet .clauses)) (λ m q. bracket-high 1 m (w .stands .sheet .clauses) q) (sym (f (clauses-in w)) ∙ d) in

@@ -8,21 +8,21 @@ use mathlib.Core.Option.{Option, none, some}
 use lib.ListN.{length, drop}
 use Rattle.syntax.specs.Terms.{Declaration, Clause, Sheet}
 use Rattle.syntax.specs.Words.{marksNumber, clauseWords, clausesWords}
-use Rattle.rules.specs.Modes.{marksFor}
-use Rattle.words.specs.Tables.{Has}
-use Rattle.words.proofs.Laws.{has-left, has-right}
-use Rattle.marking.specs.Standing.{ClauseStands, ClausesStand, clause-stands}
-use Rattle.marking.specs.Tables.{DeclarationsAt, AtomAt}
+use Rattle.mode_rules.specs.Modes.{marksFor}
+use Rattle.table_words.specs.Tables.{Has}
+use Rattle.table_words.proofs.Laws.{has-left, has-right}
+use Rattle.mode_marks.specs.Standing.{ClauseSpelt, ClausesSpelt, clause-stands}
+use Rattle.mode_marks.specs.Tables.{DeclarationsAt, AtomAt}
 use Rattle.machine.specs.Machine.{clauseAt}
 use Rattle.machine.specs.Determinacy.{firstOverlap, Pair, firstPair, judgedBy}
 use Rattle.determinacy.specs.Told.{told}
-use Rattle.clause_brackets.specs.Clauses.{numberOf}
+use Rattle.determinacy_brackets.specs.Clauses.{orZero}
 use Rattle.determinacy.specs.declared.Determinacy.the-variants.{Yes, No}
-use Rattle.clause_overlaps.specs.Overlaps.{Blank, ClauseOf, FirstBehind}
-use Rattle.determinacy.specs.Tables.{Pairable}
-use Rattle.clause_brackets.proofs.BracketLaws.{clause-inside, head-has}
-use Rattle.clause_overlaps.proofs.Clauses.{drop-tail, drop-nth, lap-none}
-use Rattle.clause_brackets.proofs.Numbers.{number-some}
+use Rattle.determinacy_overlaps.specs.Overlaps.{NothingBound, ClauseOf, FirstBehind}
+use Rattle.determinacy.specs.Tables.{PairsReady}
+use Rattle.determinacy_brackets.proofs.BracketLaws.{clause-inside, head-has}
+use Rattle.determinacy_overlaps.proofs.Clauses.{drop-tail, drop-nth, lap-none}
+use Rattle.determinacy_brackets.proofs.Numbers.{number-some}
 
 abbrev pair-choice : List Declaration → ℕ → List Clause → Option ℕ → Option Pair
 pair-choice ds n cls o = elim o [ none ↦ firstPair ds (suc n) cls | some m ↦ some (record { first = n; second = m }) ]
@@ -40,20 +40,20 @@ unfolding told judgedBy
 told-no m n = refl
 
 module _ {s declared : List ℕ} {n : ℕ} {table : List ℕ} {k : ℕ} {nodes code before scratch : List ℕ} where
-  abbrev sheet-of : Pairable s declared n table k nodes code before scratch → Sheet
+  abbrev sheet-of : PairsReady s declared n table k nodes code before scratch → Sheet
   sheet-of w = w .linked .stands .sheet
 
   -- What is left of the clauses from the i-th on stands at a place and gives the answer of the whole; there are no bindings.
-  pub record Ranging (w : Pairable s declared n table k nodes code before scratch) (state later : List ℕ) (at i : ℕ) : Type 0 where
+  pub record Ranging (w : PairsReady s declared n table k nodes code before scratch) (state later : List ℕ) (at i : ℕ) : Type 0 where
     pub list : List Clause
     pub is : list ≡ drop i (sheet-of w .clauses)
     pub has : Has table at (clausesWords list)
     pub count : k ≡ i + length list
-    pub stand : ClausesStand s list
-    pub blank : Blank (w .linked .ss) nodes state later
+    pub stand : ClausesSpelt s list
+    pub blank : NothingBound (w .linked .ss) nodes state later
     pub same : firstPair (sheet-of w .declarations) 1 (sheet-of w .clauses) ≡ firstPair (sheet-of w .declarations) (suc i) list
 
-  pub declarations-at : Pairable s declared n table k nodes code before scratch → DeclarationsAt s declared n
+  pub declarations-at : PairsReady s declared n table k nodes code before scratch → DeclarationsAt s declared n
   declarations-at w = record {
     list = sheet-of w .declarations;
     has = w .linked .stands .has-declarations;
@@ -61,7 +61,7 @@ module _ {s declared : List ℕ} {n : ℕ} {table : List ℕ} {k : ℕ} {nodes c
     stand = w .linked .stands .stands .declarations;
   }
 
-  pub range-begins : (w : Pairable s declared n table k nodes code before scratch) → Ranging w before scratch 0 0
+  pub range-begins : (w : PairsReady s declared n table k nodes code before scratch) → Ranging w before scratch 0 0
   range-begins w = record {
     list = sheet-of w .clauses;
     is = refl;
@@ -72,7 +72,7 @@ module _ {s declared : List ℕ} {n : ℕ} {table : List ℕ} {k : ℕ} {nodes c
     same = refl;
   }
 
-  pub range-ends : {state later : List ℕ} {at i : ℕ} → k ≤ i → (w : Pairable s declared n table k nodes code before scratch) → Ranging w state later at i
+  pub range-ends : {state later : List ℕ} {at i : ℕ} → k ≤ i → (w : PairsReady s declared n table k nodes code before scratch) → Ranging w state later at i
       → Yes ≡ told (judgedBy (firstPair (sheet-of w .declarations) 1 (sheet-of w .clauses)))
   range-ends {state} {later} {at} {i} l w o = by (o .list) (o .count) (o .same)
     where
@@ -82,23 +82,23 @@ module _ {s declared : List ℕ} {n : ℕ} {table : List ℕ} {k : ℕ} {nodes c
       by (x ∷ cls) c e = absurd (let z : k ≡ i + suc (length cls) = c in omega arith)
 
   -- the first of what is left, and the others
-  record Turn (w : Pairable s declared n table k nodes code before scratch) (at i : ℕ) : Type 0 where
+  record Turn (w : PairsReady s declared n table k nodes code before scratch) (at i : ℕ) : Type 0 where
     clause : Clause
     left : List Clause
     here : Has table at (clauseWords clause)
     behind : Has table (at + length (clauseWords clause)) (clausesWords left)
-    stands : ClauseStands s clause
-    stand : ClausesStand s left
+    stands : ClauseSpelt s clause
+    stand : ClausesSpelt s left
     count : k ≡ i + suc (length left)
     is : left ≡ drop (suc i) (sheet-of w .clauses)
     there : clauseAt (sheet-of w) (suc i) ≡ some clause
     same : firstPair (sheet-of w .declarations) 1 (sheet-of w .clauses) ≡ firstPair (sheet-of w .declarations) (suc i) (clause ∷ left)
 
   module _ {state later : List ℕ} {at i : ℕ} (l : i < k) where
-    turn : (w : Pairable s declared n table k nodes code before scratch) → Ranging w state later at i → Turn w at i
+    turn : (w : PairsReady s declared n table k nodes code before scratch) → Ranging w state later at i → Turn w at i
     turn w o = by (o .list) (o .is) (o .has) (o .count) (o .stand) (o .same)
       where
-        by : (cls : List Clause) → cls ≡ drop i (sheet-of w .clauses) → Has table at (clausesWords cls) → k ≡ i + length cls → ClausesStand s cls
+        by : (cls : List Clause) → cls ≡ drop i (sheet-of w .clauses) → Has table at (clausesWords cls) → k ≡ i + length cls → ClausesSpelt s cls
             → firstPair (sheet-of w .declarations) 1 (sheet-of w .clauses) ≡ firstPair (sheet-of w .declarations) (suc i) cls → Turn w at i
         by [] d h c t e = absurd (let z : k ≡ i + 0 = c in omega arith)
         by (x ∷ cls) d h c (clause-stands t ts) e = record {
@@ -114,17 +114,17 @@ module _ {s declared : List ℕ} {n : ℕ} {table : List ℕ} {k : ℕ} {nodes c
           same = e;
         }
 
-    pub range-clause : (w : Pairable s declared n table k nodes code before scratch) → Ranging w state later at i → (x : Clause) × Has table at (clauseWords x)
+    pub range-clause : (w : PairsReady s declared n table k nodes code before scratch) → Ranging w state later at i → (x : Clause) × Has table at (clauseWords x)
     range-clause w o = (turn w o .clause, turn w o .here)
 
-    pub range-inside : (w : Pairable s declared n table k nodes code before scratch) → Ranging w state later at i → at + 2 < length table
+    pub range-inside : (w : PairsReady s declared n table k nodes code before scratch) → Ranging w state later at i → at + 2 < length table
     range-inside w o = clause-inside table at (turn w o .clause) (turn w o .here)
 
-    pub range-head : (w : Pairable s declared n table k nodes code before scratch) → Ranging w state later at i → AtomAt s table (at + 3)
+    pub range-head : (w : PairsReady s declared n table k nodes code before scratch) → Ranging w state later at i → AtomAt s table (at + 3)
     range-head w o = record { atom = turn w o .clause .head; has = head-has table at (turn w o .clause) (turn w o .here); stands = turn w o .stands .head }
 
     module _ {marks : ℕ} (em : (d : DeclarationsAt s declared n) (a : AtomAt s table (at + 3)) → marks ≡ marksNumber (marksFor (d .list) (a .atom))) where
-      pub range-of : (w : Pairable s declared n table k nodes code before scratch) → Ranging w state later at i → ClauseOf nodes code state later (i + 1) marks
+      pub range-of : (w : PairsReady s declared n table k nodes code before scratch) → Ranging w state later at i → ClauseOf nodes code state later (i + 1) marks
       unfolding range-head declarations-at
       range-of w o = record {
         ss = w .linked .ss;
@@ -138,15 +138,15 @@ module _ {s declared : List ℕ} {n : ℕ} {table : List ℕ} {k : ℕ} {nodes c
       }
 
       module _ {state1 later1 : List ℕ} {r : ℕ} (f : (v : ClauseOf nodes code state later (i + 1) marks) → FirstBehind nodes code state state1 later later1 (i + 1) marks v r)
-          (w : Pairable s declared n table k nodes code before scratch) (o : Ranging w state later at i) where
-        behind-is : r ≡ numberOf (firstOverlap (sheet-of w .declarations) (turn w o .clause) (suc (suc i)) (turn w o .left))
+          (w : PairsReady s declared n table k nodes code before scratch) (o : Ranging w state later at i) where
+        behind-is : r ≡ orZero (firstOverlap (sheet-of w .declarations) (turn w o .clause) (suc (suc i)) (turn w o .left))
         unfolding range-of
         behind-is =
             f (range-of w o) .is
-            ∙ ap (λ (m : ℕ). numberOf (firstOverlap (sheet-of w .declarations) (turn w o .clause) (suc m) (drop m (sheet-of w .clauses)))) (add-one i)
-            ∙ ap (λ (cls : List Clause). numberOf (firstOverlap (sheet-of w .declarations) (turn w o .clause) (suc (suc i)) cls)) (sym (turn w o .is))
+            ∙ ap (λ (m : ℕ). orZero (firstOverlap (sheet-of w .declarations) (turn w o .clause) (suc m) (drop m (sheet-of w .clauses)))) (add-one i)
+            ∙ ap (λ (cls : List Clause). orZero (firstOverlap (sheet-of w .declarations) (turn w o .clause) (suc (suc i)) cls)) (sym (turn w o .is))
 
-        blank-after : Blank (w .linked .ss) nodes state1 later1
+        blank-after : NothingBound (w .linked .ss) nodes state1 later1
         unfolding range-of
         blank-after = f (range-of w o) .blank
 

@@ -2,7 +2,7 @@
 // a run writes at most one line.
 mod pairs;
 
-use clause_brackets::bracketed_clause;
+use determinacy_brackets::bracketed_clause;
 use linker::link;
 use loader::load_nodes;
 use pairs::first_pair;
@@ -14,7 +14,7 @@ use syntax::Refusal;
 ghost use mathlib.Core.Path.{_≡_};
 ghost use Rattle.machine.specs.Determinacy.{firstPair, judgedBy, against};
 ghost use Rattle.determinacy.specs.Told.{told};
-ghost use Rattle.determinacy.specs.Tables.{Linked, Ready};
+ghost use Rattle.determinacy.specs.Tables.{SheetLinked, SheetReady};
 
 // The answer to the test: yes; no, with the first two clauses that speak against the sheet, or the first that has a bracket and 0; or the sheet's
 // refusal.
@@ -34,8 +34,8 @@ fn judge_linked(
     nodes: &[u32],
     code: &[u32],
 ) -> Determinacy
-    requires { ⌜ Linked (now sheet) (now declared) n (now table) k (now nodes) (now code) ⌝ }
-    ensures { λ r. ⌜ ((w : Linked (now (sheet .entry)) (now (declared .entry)) n (now (table .entry)) k (now (nodes .entry)) (now (code .entry)))
+    requires { ⌜ SheetLinked (now sheet) (now declared) n (now table) k (now nodes) (now code) ⌝ }
+    ensures { λ r. ⌜ ((w : SheetLinked (now (sheet .entry)) (now (declared .entry)) n (now (table .entry)) k (now (nodes .entry)) (now (code .entry)))
         → r ≡ told (judgedBy (firstPair (w .stands .sheet .declarations) 1 (w .stands .sheet .clauses)))) ⌝ }
 {
     let mut state = store_words();
@@ -55,8 +55,8 @@ fn judge_linked(
 
 // The same of a sheet that stands in its tables: it is loaded and linked with a goal of no literals.
 fn judge_pairs(sheet: &[u8], declared: &[u32], n: usize, table: &[u32], k: usize) -> Determinacy
-    requires { ⌜ Ready (now sheet) (now declared) n (now table) k ⌝ }
-    ensures { λ r. ⌜ ((w : Ready (now (sheet .entry)) (now (declared .entry)) n (now (table .entry)) k) → r
+    requires { ⌜ SheetReady (now sheet) (now declared) n (now table) k ⌝ }
+    ensures { λ r. ⌜ ((w : SheetReady (now (sheet .entry)) (now (declared .entry)) n (now (table .entry)) k) → r
         ≡ told (judgedBy (firstPair (w .stands .sheet .declarations) 1 (w .stands .sheet .clauses)))) ⌝ }
 {
     let goal = [0u8; 1];
@@ -71,8 +71,8 @@ fn judge_pairs(sheet: &[u8], declared: &[u32], n: usize, table: &[u32], k: usize
 
 // The test of a checked sheet that stands in its tables: n declarations and k clauses.
 pub fn judge(sheet: &[u8], declared: &[u32], n: usize, table: &[u32], k: usize) -> Determinacy
-    requires { ⌜ Ready (now sheet) (now declared) n (now table) k ⌝ }
-    ensures { λ r. ⌜ ((w : Ready (now (sheet .entry)) (now (declared .entry)) n (now (table .entry)) k) → r
+    requires { ⌜ SheetReady (now sheet) (now declared) n (now table) k ⌝ }
+    ensures { λ r. ⌜ ((w : SheetReady (now (sheet .entry)) (now (declared .entry)) n (now (table .entry)) k) → r
         ≡ told (judgedBy (against (w .stands .sheet)))) ⌝ }
 {
     let first = bracketed_clause(table, k);

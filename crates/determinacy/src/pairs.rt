@@ -1,14 +1,14 @@
 // Pairs of clauses of one predicate whose + arguments have a common instance.
 use crate::Determinacy;
-use clause_overlaps::first_overlap;
-use marking::marks::marks_of;
+use determinacy_overlaps::first_overlap;
+use mode_marks::marks::marks_of;
 use syntax::CLAUSE_START;
-use words::past_clause;
+use table_words::past_clause;
 ghost use mathlib.Core.Path.{_≡_};
 ghost use Prim.Native.Nat.{_+_, _<_};
 ghost use Rattle.machine.specs.Determinacy.{firstPair, judgedBy};
 ghost use Rattle.determinacy.specs.Told.{told};
-ghost use Rattle.determinacy.specs.Tables.{Pairable};
+ghost use Rattle.determinacy.specs.Tables.{PairsReady};
 
 // The first two clauses of one predicate that overlap: the lowest first clause, and the first that overlaps with it.
 pub fn first_pair(
@@ -22,8 +22,8 @@ pub fn first_pair(
     state: &mut [u32],
     scratch: &mut [u32],
 ) -> Determinacy
-    requires { ⌜ Pairable (now sheet) (now declared) n (now table) k (now nodes) (now code) (now state) (now scratch) ⌝ }
-    ensures { λ r. ⌜ ((w : Pairable (now (sheet .entry)) (now (declared .entry)) n (now (table .entry)) k (now (nodes .entry)) (now (code .entry))
+    requires { ⌜ PairsReady (now sheet) (now declared) n (now table) k (now nodes) (now code) (now state) (now scratch) ⌝ }
+    ensures { λ r. ⌜ ((w : PairsReady (now (sheet .entry)) (now (declared .entry)) n (now (table .entry)) k (now (nodes .entry)) (now (code .entry))
         (now (state .entry)) (now (scratch .entry))) → r
         ≡ told (judgedBy (firstPair (w .linked .stands .sheet .declarations) 1 (w .linked .stands .sheet .clauses)))) ⌝ }
 {

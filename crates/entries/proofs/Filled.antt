@@ -11,8 +11,8 @@ use Rattle.syntax.specs.Limits.{declarations}
 use Rattle.syntax.specs.Verdicts.{sheetOf, sheetVerdict, readVerdict}
 use Rattle.syntax.specs.declared.Entry.{Entry}
 use Rattle.syntax.specs.declared.Verdict.{Verdict}
-use Rattle.rules.specs.Checking.{checkedSheet, verdictWith, checkVerdict}
-use Rattle.listings.specs.Listings.{entryFrom, pasted}
+use Rattle.mode_rules.specs.Checking.{checkedSheet, verdictWith, checkVerdict}
+use Rattle.out_listings.specs.Listings.{entryFrom, pasted}
 
 pub pasted-none : (f : ℕ → Entry) (es : List Entry) → es ≡ pasted f 0 es
 unfolding pasted

@@ -45,10 +45,10 @@ use Rattle.syntax.proofs.Entry as E
 use Rattle.syntax.proofs.Entry.Laws as E′
 use Rattle.syntax.proofs.Verdict as V′
 use Rattle.syntax.proofs.Verdict.Laws as V″
-use Rattle.listings.specs.declared.Listing.{Listing}
-use Rattle.listings.specs.Listings.{overlay, declaredOf, entryFrom, pasted, Lists}
-use Rattle.listings.proofs.Listing as T
-use Rattle.listings.proofs.Listing.Laws as T′
+use Rattle.out_listings.specs.declared.Listing.{Listing}
+use Rattle.out_listings.specs.Listings.{overlay, declaredOf, entryFrom, pasted, Lists}
+use Rattle.out_listings.proofs.Listing as T
+use Rattle.out_listings.proofs.Listing.Laws as T′
 use Rattle.pilvaust.proofs.read_listing as listing
 use Rattle.entries.proofs.fill as fill
 use Rattle.entries.proofs.fill.Symbol.{name as #fill}

@@ -1,19 +1,19 @@
 // The entries of a sheet's declarations, for a caller who lends a list of them. The functions that take the list are proved by walks of their code.
-use listings::Listing;
+use out_listings::Listing;
 use pilvaust::check_listing;
 use pilvaust::read_listing;
 use syntax::DECLARATION_SIZE;
 use syntax::Entry;
 use syntax::Verdict;
-use words::word_at;
+use table_words::word_at;
 ghost use mathlib.Core.Path.{_≡_};
 ghost use Prim.Native.Nat.{_≤_, _<_};
 ghost use lib.ListN.{length};
 ghost use Rattle.syntax.specs.Limits.{declarations};
 ghost use Rattle.syntax.specs.Words.{declaredWords};
 ghost use Rattle.syntax.specs.Verdicts.{sheetOf, readVerdict};
-ghost use Rattle.rules.specs.Checking.{checkedSheet, checkVerdict};
-ghost use Rattle.listings.specs.Listings.{overlay, declaredOf, entryFrom, pasted};
+ghost use Rattle.mode_rules.specs.Checking.{checkedSheet, checkVerdict};
+ghost use Rattle.out_listings.specs.Listings.{overlay, declaredOf, entryFrom, pasted};
 
 // The i-th entry of a listing.
 fn entry_in(listing: Listing, i: usize) -> Entry

@@ -19,11 +19,11 @@ use Rattle.syntax.specs.declared.Text.{Text}
 use Rattle.syntax.specs.declared.Text.the-variants.{Sheet as inSheet, Goal as inGoal, Neither}
 use Rattle.syntax.specs.declared.Verdict.{Verdict}
 use Rattle.syntax.specs.declared.Verdict.the-variants.{Accepted, Refused}
-use Rattle.rules.specs.Modes.{Known, nothing, OpenArgument, Walk, faulted, known, marksOf, marksFor, firstOpen, undeclared, undeclaredAtom, undeclaredLiteral, undeclaredBody, undeclaredClause, undeclaredClauses, undeclaredInSheet, undeclaredInGoal, openInput, openOutput, groundMarked, unlessFault, walkOn, inBoth, callWalk, literalWalk, bodyFault, headFault, startKnown, clauseFault, clausesFault, firstOf, sheetFault, walkFault, goalFault}
-use Rattle.rules.specs.Written.{isWritten, isExempt, firstUnwritten, unwritten}
-use Rattle.rules.specs.Checking.{nameSpan, faultless, checkedFrom, checkedWith, checkedSheet, verdictWith, checkVerdict, checkedGoalFrom, checkedGoal, goalAnswer, checkGoalFrom, checkGoalVerdict}
-use Rattle.marking.specs.Standing.{Stands, stands-compound, LiteralStands, call-stands, equation-stands, truth-stands, falsity-stands, either-stands, BodyStands, done-stands, also-stands, ClauseStands, ClausesStand, no-clauses, clause-stands, SheetStands, GoalStands}
-use Rattle.modes.proofs.Accepted.{read-stands, goal-stands}
+use Rattle.mode_rules.specs.Modes.{Known, noneGround, OpenArgument, Walk, faulted, known, marksOf, marksFor, firstOpen, undeclared, undeclaredAtom, undeclaredLiteral, undeclaredBody, undeclaredClause, undeclaredClauses, undeclaredInSheet, undeclaredInGoal, openInput, openOutput, groundMarked, unlessFault, walkOn, inBoth, callWalk, literalWalk, bodyFault, headFault, startKnown, clauseFault, clausesFault, firstOf, sheetFault, walkFault, goalFault}
+use Rattle.mode_rules.specs.Written.{isWritten, isExempt, firstUnwritten, unwritten}
+use Rattle.mode_rules.specs.Checking.{nameSpan, faultless, checkedFrom, checkedWith, checkedSheet, verdictWith, checkVerdict, checkedGoalFrom, checkedGoal, goalAnswer, checkGoalFrom, checkGoalVerdict}
+use Rattle.mode_marks.specs.Standing.{TermSpelt, stands-compound, LiteralSpelt, call-stands, equation-stands, truth-stands, falsity-stands, either-stands, BodySpelt, done-stands, also-stands, ClauseSpelt, ClausesSpelt, no-clauses, clause-stands, SheetSpelt, GoalSpelt}
+use Rattle.mode_clauses.proofs.Accepted.{read-stands, goal-stands}
 use Rattle.machine.specs.Runs.{RunOutcome, stopped, ran, Ended, reported, run, overGoal, overSheet, inRange, RunSettings, runOutcome, runAnswer}
 use Rattle.exports.specs.Names.{NameInside}
 
@@ -50,24 +50,24 @@ module _ (s : List ℕ) where
   first none p h k = k
   first (some r) p h k = h
 
-  in-text : (a : Atom) → Stands s (termOf a) → a .at + length (a .name) ≤ length s
+  in-text : (a : Atom) → TermSpelt s (termOf a) → a .at + length (a .name) ≤ length s
   in-text a (stands-compound n l w) = n .inside
 
   -- ---- 8
 
-  undeclared-in : (c l : ℕ) (a : Atom) (o : Option (List Mark)) → Stands s (termOf a) → IfSome In (undeclared c l a o)
+  undeclared-in : (c l : ℕ) (a : Atom) (o : Option (List Mark)) → TermSpelt s (termOf a) → IfSome In (undeclared c l a o)
   unfolding undeclared
   undeclared-in c l a none w = in-text a w
   undeclared-in c l a (some ms) w = tt
 
-  atom-8 : (ds : List Declaration) (c l : ℕ) (a : Atom) → Stands s (termOf a) → IfSome In (undeclaredAtom ds c l a)
+  atom-8 : (ds : List Declaration) (c l : ℕ) (a : Atom) → TermSpelt s (termOf a) → IfSome In (undeclaredAtom ds c l a)
   unfolding undeclaredAtom
   atom-8 ds c l a w = undeclared-in c l a (marksOf ds a) w
 
   mutual
     unfolding undeclaredLiteral undeclaredBody
 
-    literal-8 : (ds : List Declaration) (c l : ℕ) (lit : Literal) → LiteralStands s lit → IfSome In (undeclaredLiteral ds c l lit)
+    literal-8 : (ds : List Declaration) (c l : ℕ) (lit : Literal) → LiteralSpelt s lit → IfSome In (undeclaredLiteral ds c l lit)
     literal-8 ds c l (call a) (call-stands w) = atom-8 ds c l a w
     literal-8 ds c l (equation t u) w = tt
     literal-8 ds c l truth w = tt
@@ -75,17 +75,17 @@ module _ (s : List ℕ) where
     literal-8 ds c l (either y z) (either-stands h k) =
         first (undeclaredBody ds c l y) (undeclaredBody ds c (literalsOf y + l) z) (body-8 ds c l y h) (body-8 ds c (literalsOf y + l) z k)
 
-    body-8 : (ds : List Declaration) (c l : ℕ) (b : Body) → BodyStands s b → IfSome In (undeclaredBody ds c l b)
+    body-8 : (ds : List Declaration) (c l : ℕ) (b : Body) → BodySpelt s b → IfSome In (undeclaredBody ds c l b)
     body-8 ds c l done w = tt
     body-8 ds c l (also lit b) (also-stands h k) =
         first (undeclaredLiteral ds c l lit) (undeclaredBody ds c (literalsIn lit + l) b) (literal-8 ds c l lit h) (body-8 ds c (literalsIn lit + l) b k)
 
-  clause-8 : (ds : List Declaration) (c : ℕ) (cl : Clause) → ClauseStands s cl → IfSome In (undeclaredClause ds c cl)
+  clause-8 : (ds : List Declaration) (c : ℕ) (cl : Clause) → ClauseSpelt s cl → IfSome In (undeclaredClause ds c cl)
   unfolding undeclaredClause
   clause-8 ds c cl w =
       first (undeclaredAtom ds c 0 (cl .head)) (undeclaredBody ds c 1 (cl .body)) (atom-8 ds c 0 (cl .head) (w .head)) (body-8 ds c 1 (cl .body) (w .body))
 
-  clauses-8 : (ds : List Declaration) (c : ℕ) (cls : List Clause) → ClausesStand s cls → IfSome In (undeclaredClauses ds c cls)
+  clauses-8 : (ds : List Declaration) (c : ℕ) (cls : List Clause) → ClausesSpelt s cls → IfSome In (undeclaredClauses ds c cls)
   unfolding undeclaredClauses
   clauses-8 ds c [] w = tt
   clauses-8 ds c (cl ∷ cls) (clause-stands h k) =
@@ -93,12 +93,12 @@ module _ (s : List ℕ) where
 
   -- ---- 9 and 10
 
-  input-in : (c l : ℕ) (a : Atom) (o : Option OpenArgument) → Stands s (termOf a) → IfSome In (openInput c l a o)
+  input-in : (c l : ℕ) (a : Atom) (o : Option OpenArgument) → TermSpelt s (termOf a) → IfSome In (openInput c l a o)
   unfolding openInput
   input-in c l a none w = tt
   input-in c l a (some o) w = in-text a w
 
-  output-in : (c : ℕ) (a : Atom) (o : Option OpenArgument) → Stands s (termOf a) → IfSome In (openOutput c a o)
+  output-in : (c : ℕ) (a : Atom) (o : Option OpenArgument) → TermSpelt s (termOf a) → IfSome In (openOutput c a o)
   unfolding openOutput
   output-in c a none w = tt
   output-in c a (some o) w = in-text a w
@@ -108,7 +108,7 @@ module _ (s : List ℕ) where
   unless-in none σ h = tt
   unless-in (some r) σ h = h
 
-  call-9 : (ds : List Declaration) (c l : ℕ) (τ : Known) (a : Atom) → Stands s (termOf a) → IfFaulted In (callWalk ds c l τ a)
+  call-9 : (ds : List Declaration) (c l : ℕ) (τ : Known) (a : Atom) → TermSpelt s (termOf a) → IfFaulted In (callWalk ds c l τ a)
   unfolding callWalk
   call-9 ds c l τ a w = unless-in _ _ (input-in c l a _ w)
 
@@ -120,7 +120,7 @@ module _ (s : List ℕ) where
   mutual
     unfolding literalWalk bodyFault
 
-    literal-9 : (ds : List Declaration) (c l : ℕ) (τ : Known) (lit : Literal) → LiteralStands s lit → IfFaulted In (literalWalk ds c l τ lit)
+    literal-9 : (ds : List Declaration) (c l : ℕ) (τ : Known) (lit : Literal) → LiteralSpelt s lit → IfFaulted In (literalWalk ds c l τ lit)
     literal-9 ds c l τ (call a) (call-stands w) = call-9 ds c l τ a w
     literal-9 ds c l τ (equation t u) w = tt
     literal-9 ds c l τ truth w = tt
@@ -129,22 +129,22 @@ module _ (s : List ℕ) where
         walk-on (bodyFault ds c l τ y) (λ σ. walkOn (bodyFault ds c (literalsOf y + l) τ z) (λ ρ. known (inBoth σ ρ))) (body-9 ds c l τ y h)
         (λ σ. walk-on (bodyFault ds c (literalsOf y + l) τ z) (λ ρ. known (inBoth σ ρ)) (body-9 ds c (literalsOf y + l) τ z k) (λ ρ. tt))
 
-    body-9 : (ds : List Declaration) (c l : ℕ) (τ : Known) (b : Body) → BodyStands s b → IfFaulted In (bodyFault ds c l τ b)
+    body-9 : (ds : List Declaration) (c l : ℕ) (τ : Known) (b : Body) → BodySpelt s b → IfFaulted In (bodyFault ds c l τ b)
     body-9 ds c l τ done w = tt
     body-9 ds c l τ (also lit b) (also-stands h k) =
         walk-on (literalWalk ds c l τ lit) (λ σ. bodyFault ds c (literalsIn lit + l) σ b) (literal-9 ds c l τ lit h)
         (λ σ. body-9 ds c (literalsIn lit + l) σ b k)
 
-  head-10 : (ds : List Declaration) (c : ℕ) (h : Atom) (x : Walk) → Stands s (termOf h) → IfFaulted In x → IfSome In (headFault ds c h x)
+  head-10 : (ds : List Declaration) (c : ℕ) (h : Atom) (x : Walk) → TermSpelt s (termOf h) → IfFaulted In x → IfSome In (headFault ds c h x)
   unfolding headFault
   head-10 ds c h (faulted r) w k = k
   head-10 ds c h (known σ) w k = output-in c h _ w
 
-  clause-9 : (ds : List Declaration) (c : ℕ) (cl : Clause) → ClauseStands s cl → IfSome In (clauseFault ds c cl)
+  clause-9 : (ds : List Declaration) (c : ℕ) (cl : Clause) → ClauseSpelt s cl → IfSome In (clauseFault ds c cl)
   unfolding clauseFault
   clause-9 ds c cl w = head-10 ds c (cl .head) _ (w .head) (body-9 ds c 1 (startKnown ds (cl .head)) (cl .body) (w .body))
 
-  clauses-9 : (ds : List Declaration) (c : ℕ) (cls : List Clause) → ClausesStand s cls → IfSome In (clausesFault ds c cls)
+  clauses-9 : (ds : List Declaration) (c : ℕ) (cls : List Clause) → ClausesSpelt s cls → IfSome In (clausesFault ds c cls)
   unfolding clausesFault
   clauses-9 ds c [] w = tt
   clauses-9 ds c (cl ∷ cls) (clause-stands h k) =
@@ -170,18 +170,18 @@ module _ (s : List ℕ) where
   sheet-16 true sh = tt
   sheet-16 false sh = first-16 (sh .clauses) (sh .declarations)
 
-  sheet-in : (stored : Bool) (sh : Sheet) → SheetStands s sh → IfSome In (sheetFault stored sh)
+  sheet-in : (stored : Bool) (sh : Sheet) → SheetSpelt s sh → IfSome In (sheetFault stored sh)
   unfolding sheetFault undeclaredInSheet
   sheet-in stored sh w =
       first (undeclaredInSheet sh) (firstOf (unwritten stored sh) (clausesFault (sh .declarations) 1 (sh .clauses)))
       (clauses-8 (sh .declarations) 1 (sh .clauses) (w .clauses))
       (first (unwritten stored sh) (clausesFault (sh .declarations) 1 (sh .clauses)) (sheet-16 stored sh) (clauses-9 (sh .declarations) 1 (sh .clauses) (w .clauses)))
 
-  goal-in : (sh : Sheet) (g : Goal) → GoalStands s g → IfSome In (goalFault sh g)
+  goal-in : (sh : Sheet) (g : Goal) → GoalSpelt s g → IfSome In (goalFault sh g)
   unfolding goalFault undeclaredInGoal
   goal-in sh g w =
-      first (undeclaredInGoal sh g) (walkFault (bodyFault (sh .declarations) 0 1 nothing (g .body))) (body-8 (sh .declarations) 0 1 (g .body) w)
-      (walk-in (bodyFault (sh .declarations) 0 1 nothing (g .body)) (body-9 (sh .declarations) 0 1 nothing (g .body) w))
+      first (undeclaredInGoal sh g) (walkFault (bodyFault (sh .declarations) 0 1 noneGround (g .body))) (body-8 (sh .declarations) 0 1 (g .body) w)
+      (walk-in (bodyFault (sh .declarations) 0 1 noneGround (g .body)) (body-9 (sh .declarations) 0 1 noneGround (g .body) w))
 
   -- ---- 2 to 7 hand back no name
 
@@ -197,7 +197,7 @@ module _ (s : List ℕ) where
   faultless-in x none h = tt
   faultless-in x (some r) h = h
 
-  repeats-in : (stored : Bool) (sh : Sheet) (o : Option ℕ) → SheetStands s sh → IfRefused In (checkedFrom stored (withoutRepeats sh o))
+  repeats-in : (stored : Bool) (sh : Sheet) (o : Option ℕ) → SheetSpelt s sh → IfRefused In (checkedFrom stored (withoutRepeats sh o))
   unfolding withoutRepeats checkedFrom
   repeats-in stored sh none w = faultless-in sh (sheetFault stored sh) (sheet-in stored sh w)
   repeats-in stored sh (some b) w = omega arith

@@ -4,7 +4,7 @@ use mathlib.Core.List.{List}
 use lib.ListN.{length}
 use Rattle.syntax.specs.declared.Refusal.{Refusal}
 use Rattle.syntax.specs.declared.Text.{Text}
-use Rattle.rules.specs.Checking.{nameSpan, textAtFault}
+use Rattle.mode_rules.specs.Checking.{nameSpan, textAtFault}
 
 -- its bytes lie in the text at fault, of a sheet and a goal
 abbrev pub NameInside : List ℕ → List ℕ → Text → Refusal → Type 0

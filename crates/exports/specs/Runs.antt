@@ -4,7 +4,7 @@ use mathlib.Core.Bool.{Bool}
 use mathlib.Core.List.{List}
 use lib.ListN.{length}
 use Rattle.machine.specs.Runs.{RunSettings, RunOutcome, runAnswer, runText}
-use Rattle.packing.specs.Numbers.{runNumbers}
+use Rattle.out_numbers.specs.Numbers.{runNumbers}
 
 -- the most steps, the most answers, and the mark for a sheet stored earlier
 abbrev pub asking : ℕ → ℕ → Bool → RunSettings

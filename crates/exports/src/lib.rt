@@ -5,11 +5,11 @@ ghost use mathlib.Core.Path.{_≡_};
 ghost use lib.ListN.{length};
 ghost use lib.Seq.{sets};
 ghost use Rattle.syntax.specs.Verdicts.{readVerdict, entryAt};
-ghost use Rattle.rules.specs.Checking.{checkVerdict, checkGoalVerdict};
+ghost use Rattle.mode_rules.specs.Checking.{checkVerdict, checkGoalVerdict};
 ghost use Rattle.machine.specs.Runs.{runOutcome, runText};
 ghost use Rattle.machine.specs.Traces.{tracedOutcome};
 ghost use Rattle.out_entries.specs.Numbers.{version, entryNumbers};
-ghost use Rattle.packing.specs.Numbers.{verdictNumbers, refusalIn};
+ghost use Rattle.out_numbers.specs.Numbers.{verdictNumbers, refusalIn};
 ghost use Rattle.exports.specs.Runs.{asking, outcomeNumbers};
 
 // The version of the functions below and of their numbers.
@@ -26,7 +26,7 @@ pub extern "C" fn pilvaust_read(sheet: &[u8], numbers: &mut [usize]) -> usize
     ensures is { λ r. ⌜ r ≡ refusalIn (verdictNumbers (readVerdict (now (sheet .entry)))) ⌝ }
     ensures numbers { λ _. ⌜ now (numbers .exit) ≡ sets (now (numbers .entry)) 0 (verdictNumbers (readVerdict (now (sheet .entry)))) ⌝ }
 {
-    packing::put_verdict(pilvaust::read(sheet), numbers)
+    out_numbers::put_verdict(pilvaust::read(sheet), numbers)
 }
 
 // The same of a sheet that is checked.
@@ -35,7 +35,7 @@ pub extern "C" fn pilvaust_check(sheet: &[u8], numbers: &mut [usize]) -> usize
     ensures is { λ r. ⌜ r ≡ refusalIn (verdictNumbers (checkVerdict (now (sheet .entry)))) ⌝ }
     ensures numbers { λ _. ⌜ now (numbers .exit) ≡ sets (now (numbers .entry)) 0 (verdictNumbers (checkVerdict (now (sheet .entry)))) ⌝ }
 {
-    packing::put_verdict(pilvaust::check(sheet), numbers)
+    out_numbers::put_verdict(pilvaust::check(sheet), numbers)
 }
 
 // The same of a goal over a sheet.
@@ -45,7 +45,7 @@ pub extern "C" fn pilvaust_check_goal(sheet: &[u8], goal: &[u8], numbers: &mut [
     ensures numbers { λ _. ⌜ now (numbers .exit) ≡ sets (now (numbers .entry)) 0
         (verdictNumbers (checkGoalVerdict (now (sheet .entry)) (now (goal .entry)))) ⌝ }
 {
-    packing::put_verdict(pilvaust::check_goal(sheet, goal), numbers)
+    out_numbers::put_verdict(pilvaust::check_goal(sheet, goal), numbers)
 }
 
 // The i-th declaration, from 0 on, of a sheet that reading accepts: byte and length of its name, number of arguments; returned is how many
@@ -91,7 +91,7 @@ pub extern "C" fn pilvaust_run(
     let asked = settings(allowance, wanted, stored);
     let r = pilvaust::run_written(sheet, goal, asked, text);
     let run = r.run;
-    packing::put_run(run, r.bytes, numbers)
+    out_numbers::put_run(run, r.bytes, numbers)
 }
 
 // The same with the trace of a recorded session; an empty one is none.
@@ -116,5 +116,5 @@ pub extern "C" fn pilvaust_run_traced(
     let asked = settings(allowance, wanted, stored);
     let r = pilvaust::run_traced(sheet, goal, trace, asked, text);
     let run = r.run;
-    packing::put_run(run, r.bytes, numbers)
+    out_numbers::put_run(run, r.bytes, numbers)
 }

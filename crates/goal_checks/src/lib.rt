@@ -1,17 +1,17 @@
 // A goal checked over a sheet that was checked and stands in its tables.
-use marking::Checked;
+use mode_marks::Checked;
+use read_and_check::read_goal_text;
 use syntax::Text;
 use syntax::Verdict;
-use tables::load_goal;
 ghost use mathlib.Core.Path.{_≡_};
 ghost use Prim.Native.Nat.{_≤_, _<_, _^_};
 ghost use lib.ListN.{length};
 ghost use Rattle.syntax.specs.Terms.{Goal};
 ghost use Rattle.syntax.specs.Verdicts.{accepted, goalOutcome};
 ghost use Rattle.syntax.specs.Words.{sheetWords, bodyWords};
-ghost use Rattle.words.specs.Tables.{Has};
-ghost use Rattle.rules.specs.Checking.{checkedGoal, goalAnswer};
-ghost use Rattle.tables.specs.Tables.{Over};
+ghost use Rattle.table_words.specs.Tables.{Has};
+ghost use Rattle.mode_rules.specs.Checking.{checkedGoal, goalAnswer};
+ghost use Rattle.read_and_check.specs.Tables.{Over};
 
 // A goal over the declarations of a checked sheet, which has k clauses. The table is for the goal's words, which it holds where the goal is read.
 pub fn goal_over(
@@ -28,7 +28,7 @@ pub fn goal_over(
         (checkedGoal (w .sheet) (now (goal .entry)))) ⌝ }
     ensures holds { λ _. ⌜ ((g : Goal) → goalOutcome (now (goal .entry)) ≡ accepted g → Has (now (table .exit)) 0 (bodyWords (g .body))) ⌝ }
 {
-    let r = load_goal(goal, table);
+    let r = read_goal_text(goal, table);
     let v = r.verdict;
     let literals = r.literals;
     match v {
@@ -40,7 +40,7 @@ pub fn goal_over(
             declarations: _,
             clauses: _,
         } => {
-            let fault = modes::check_goal(sheet, declared, n, goal, table, literals);
+            let fault = mode_clauses::check_goal(sheet, declared, n, goal, table, literals);
             match fault {
                 Checked::Fine => Verdict::Accepted {
                     declarations: n,

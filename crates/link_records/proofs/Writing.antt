@@ -5,8 +5,8 @@ use mathlib.Core.Path.{_≡_, _∙_, subst}
 use mathlib.Core.List.{List}
 use lib.ListN.{length, getD, set, length-set}
 use lib.Seq.{getD-set-same, getD-set-other}
-use Rattle.layout.specs.Regions.{nextLiteral}
-use Rattle.layout.specs.Program.{kindAt, placeAt, otherAt}
+use Rattle.run_layout.specs.Regions.{nextLiteral}
+use Rattle.run_layout.specs.Program.{recordKind, recordPlace, otherAt}
 use Rattle.link_records.specs.Records.{putPair, putRecord}
 
 -- ---- two words, and a record
@@ -45,11 +45,11 @@ module _ (code : List ℕ) (l kind place other : ℕ) where
     long : length (set code l kind) ≡ length code
     long = simp length-set
 
-    pub record-kind : kindAt (putRecord code l kind place other) l ≡ kind
+    pub record-kind : recordKind (putRecord code l kind place other) l ≡ kind
     unfolding putRecord
     record-kind = pair-other (set code l kind) (l + 1) place other l (λ e. omega arith) (λ e. omega arith) ∙ getD-set-same code l kind 0 (omega arith)
 
-    pub record-place : placeAt (putRecord code l kind place other) l ≡ place
+    pub record-place : recordPlace (putRecord code l kind place other) l ≡ place
     unfolding putRecord
     record-place = let n : length (set code l kind) ≡ length code = long in pair-first (set code l kind) (l + 1) place other (omega arith)
 

@@ -2,7 +2,7 @@
 use Prim.Native.Nat.{ℕ, _+_}
 use mathlib.Core.List.{List}
 use lib.ListN.{set}
-use Rattle.words.specs.Items.{behind}
+use Rattle.table_words.specs.Items.{behind}
 
 -- two words at p
 unfoldable pub putPair : List ℕ → ℕ → ℕ → ℕ → List ℕ

@@ -1,12 +1,12 @@
 // Records of the code, the table of clauses and bodies: where they stand, how they are written, and how many words the nodes that they name take.
-use layout::LITERAL_SIZE;
-use layout::LOADED_NODE;
+use run_layout::LITERAL_SIZE;
+use run_layout::LOADED_NODE;
 use syntax::NODE_WORDS;
-use words::put;
+use table_words::put;
 ghost use mathlib.Core.Path.{_≡_};
 ghost use Prim.Native.Nat.{ℕ, _+_, _*_, _≤_, _<_, _^_};
 ghost use Rattle.syntax.specs.Words.{nodeWords};
-ghost use Rattle.layout.specs.Regions.{loadedNode, places, nextLiteral, literalFrom};
+ghost use Rattle.run_layout.specs.Regions.{loadedNode, places, nextLiteral, literalFrom};
 ghost use Rattle.link_records.specs.Records.{sideEnds, putPair, putRecord};
 ghost use lib.ListN.{length};
 

@@ -9,22 +9,22 @@ use lib.ListN.{length, getD, set, length-set, length-append}
 use Rattle.syntax.specs.Terms.{termOf, Clause, Sheet}
 use Rattle.syntax.specs.Words.{bodyLength, clauseWords, clausesWords, programClauses}
 use Rattle.machine.proofs.Tests.{both}
-use Rattle.words.specs.Tables.{Has}
-use Rattle.words.proofs.Laws.{has-left, has-right}
-use Rattle.layout.specs.Regions.{places, bodies, clauseRecord, literalFrom}
-use Rattle.layout.specs.Nodes.{Symbol, isLoadable}
-use Rattle.layout.specs.Limits.{ClausesLimited, bodyRecords}
-use Rattle.layout.specs.Program.{clauseNodes, clausesNodes, bodyLoadable, clausesLoadable}
-use Rattle.clause_records.specs.Records.{behindBody, putClause}
+use Rattle.table_words.specs.Tables.{Has}
+use Rattle.table_words.proofs.Laws.{has-left, has-right}
+use Rattle.run_layout.specs.Regions.{places, bodies, clauseRecord, literalFrom}
+use Rattle.run_layout.specs.Nodes.{Symbol, isLoadable}
+use Rattle.run_layout.specs.Limits.{ClausesLimited, bodyRecords}
+use Rattle.run_layout.specs.Program.{clauseNodes, clausesNodes, bodyLoadable, clausesLoadable}
+use Rattle.link_clauses.specs.Records.{behindBody, putClause}
 use Rattle.linker.specs.Records.{putHeads, putClauses}
 use Rattle.linker.specs.Places.{HeadsTo, ClausesTo}
-use Rattle.clause_records.specs.Places.{ClauseTo}
-use Rattle.clause_records.proofs.Sizes.{Says, says}
-use Rattle.clause_search.proofs.Seeking.{atom-word}
-use Rattle.clause_records.proofs.Writing.{SameHeads, headed-kept}
+use Rattle.link_clauses.specs.Places.{ClauseTo}
+use Rattle.link_clauses.proofs.Sizes.{Says, says}
+use Rattle.link_search.proofs.Seeking.{atom-word}
+use Rattle.link_clauses.proofs.Writing.{SameHeads, headed-kept}
 use Rattle.linker.proofs.Writing.{heads-long, Kept, clause-kept, clauses-kept}
-use Rattle.item_records.proofs.Items.{end-inside}
-use Rattle.clause_records.proofs.Clauses.{head-stands, clause-small}
+use Rattle.link_items.proofs.Items.{end-inside}
+use Rattle.link_clauses.proofs.Clauses.{head-stands, clause-small}
 
 -- ---- the first of some clauses
 

@@ -6,13 +6,13 @@ use mathlib.Core.List.{List, []}
 use lib.ListN.{length, getD}
 use Rattle.syntax.specs.Terms.{Literal, call, equation, truth, falsity, either, Body, done, also, literalsIn, literalsOf, Clause}
 use Rattle.syntax.specs.Words.{literalLength, bodyLength, clauseWords}
-use Rattle.words.specs.Tables.{Has}
-use Rattle.words.specs.Items.{items}
+use Rattle.table_words.specs.Tables.{Has}
+use Rattle.table_words.specs.Items.{items}
 use Rattle.machine.specs.Low.{LiteralFilled, BodyFilled, BodyShort}
-use Rattle.layout.specs.Regions.{mostItems}
-use Rattle.layout.specs.Nodes.{Symbol}
-use Rattle.layout.specs.Program.{clauseNodes}
-use Rattle.clause_records.proofs.Sizes.{Says, says}
+use Rattle.run_layout.specs.Regions.{mostItems}
+use Rattle.run_layout.specs.Nodes.{Symbol}
+use Rattle.run_layout.specs.Program.{clauseNodes}
+use Rattle.link_clauses.proofs.Sizes.{Says, says}
 
 -- ---- how many items a body has
 

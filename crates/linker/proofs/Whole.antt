@@ -8,30 +8,30 @@ use lib.ListN.{length, getD, length-append}
 use Rattle.syntax.specs.Limits.{clauses as mostClauses, mostFacts}
 use Rattle.syntax.specs.Terms.{termOf, Body, Clause, Sheet}
 use Rattle.syntax.specs.Words.{bodyWords, bodyLength, programClauses}
-use Rattle.layout.specs.Regions.{places, mostItems, bodies, clauseBodies, codeWords, nextLiteral, literalFrom}
+use Rattle.run_layout.specs.Regions.{places, mostItems, bodies, clauseBodies, codeWords, nextLiteral, literalFrom}
 use Rattle.machine.specs.Machine.{clauseAt}
 use Rattle.machine.specs.Low.{ClausesShort}
-use Rattle.layout.specs.Limits.{ClausesLimited, bodyRecords}
+use Rattle.run_layout.specs.Limits.{ClausesLimited, bodyRecords}
 use Rattle.machine.proofs.Tests.{some-none}
-use Rattle.words.specs.Tables.{Has}
-use Rattle.layout.specs.Nodes.{Symbol, Stands}
-use Rattle.layout.specs.Program.{bodyNodes, clausesNodes, programNodes, headAt, bodyAt, BodyStands, ClauseStands, Program}
-use Rattle.words.proofs.Laws.{has-left, has-right}
+use Rattle.table_words.specs.Tables.{Has}
+use Rattle.run_layout.specs.Nodes.{Symbol, TermLoaded}
+use Rattle.run_layout.specs.Program.{bodyNodes, clausesNodes, programNodes, headAt, bodyAt, BodyLoaded, ClauseLoaded, Program}
+use Rattle.table_words.proofs.Laws.{has-left, has-right}
 use Rattle.linker.specs.Linking.{Linkable}
 use Rattle.link_records.specs.Records.{putPair}
-use Rattle.clause_records.specs.Records.{putBody}
+use Rattle.link_clauses.specs.Records.{putBody}
 use Rattle.linker.specs.Records.{putHeads, putClauses}
-use Rattle.words.specs.Items.{BodyAt, items}
-use Rattle.clause_search.specs.Search.{HeadsStand, Headed}
-use Rattle.clause_records.specs.Places.{BodyTo}
+use Rattle.table_words.specs.Items.{ItemsAt, items}
+use Rattle.link_search.specs.Search.{HeadsLoaded, Headed}
+use Rattle.link_clauses.specs.Places.{BodyTo}
 use Rattle.linker.specs.Places.{HeadsTo, ClausesTo}
-use Rattle.clause_records.proofs.Sizes.{body-nodes}
+use Rattle.link_clauses.proofs.Sizes.{body-nodes}
 use Rattle.linker.proofs.Sizes.{few-items}
-use Rattle.clause_search.proofs.Seeking.{heads-at}
-use Rattle.clause_records.proofs.Writing.{SameHeads, pair-heads, body-long, body-below, body-heads, headed-kept}
+use Rattle.link_search.proofs.Seeking.{heads-at}
+use Rattle.link_clauses.proofs.Writing.{SameHeads, pair-heads, body-long, body-below, body-heads, headed-kept}
 use Rattle.link_records.proofs.Writing.{pair-long, pair-first}
 use Rattle.linker.proofs.Writing.{Written, body-written, body-kept, body-stands, heads-long, heads-written, BodyPart, Kept, clauses-kept, clauses-written}
-use Rattle.item_records.proofs.Items.{end-inside}
+use Rattle.link_items.proofs.Items.{end-inside}
 
 clauses-short : (cls : List Clause) → ClausesLimited cls → ClausesShort cls
 clauses-short [] l = tt
@@ -48,14 +48,14 @@ program-nodes ss nodes b cls h =
     )
 
 module _ (table : List ℕ) (clauses : ℕ) (goals : List ℕ) (literals : ℕ) (nodes code : List ℕ) where
-  pub goal-at : (w : Linkable table clauses goals literals nodes code) → BodyAt goals 0 literals (w .g .body)
+  pub goal-at : (w : Linkable table clauses goals literals nodes code) → ItemsAt goals 0 literals (w .g .body)
   goal-at w = record { has = w .has-goal; many = w .literals-count }
 
   parts : (w : Linkable table clauses goals literals nodes code) → Has nodes 0 (bodyNodes (w .ss) (w .g .body)) × Has nodes (length (bodyNodes (w .ss) (w .g .body))) (clausesNodes (w .ss) (w .sh .clauses)) × (length (bodyNodes (w .ss) (w .g .body)) + length (clausesNodes (w .ss) (w .sh .clauses)) ≤ length nodes)
   unfolding programNodes
   parts w = program-nodes (w .ss) nodes (w .g .body) (w .sh .clauses) (w .nodes-stand)
 
-  module _ (stop : ℕ) (s : (b : Body) → BodyAt goals 0 literals b → stop ≡ 0 + length (bodyWords b)) where
+  module _ (stop : ℕ) (s : (b : Body) → ItemsAt goals 0 literals b → stop ≡ 0 + length (bodyWords b)) where
     pub marks-below : Linkable table clauses goals literals nodes code → literals ≤ stop
     marks-below w =
         let a : stop ≡ 0 + length (bodyWords (w .g .body)) = s (w .g .body) (goal-at w) in
@@ -101,7 +101,7 @@ module _ (table : List ℕ) (clauses : ℕ) (goals : List ℕ) (literals : ℕ) 
             record {
               count = a;
               few = omega arith;
-              heads = subst⁻¹ (λ (i : List ℕ). HeadsStand (w .ss) nodes i 1 (w .sh .clauses)) (heads-is w) (heads-written (w .ss) nodes node (w .sh .clauses) code 1 (clauses-stand w) (w .clauses-loadable) (w .limits .clauses) (omega arith) (omega arith));
+              heads = subst⁻¹ (λ (i : List ℕ). HeadsLoaded (w .ss) nodes i 1 (w .sh .clauses)) (heads-is w) (heads-written (w .ss) nodes node (w .sh .clauses) code 1 (clauses-stand w) (w .clauses-loadable) (w .limits .clauses) (omega arith) (omega arith));
               room = omega arith;
               short = omega arith;
               nodes-short = w .nodes-short;
@@ -175,7 +175,7 @@ module _ (table : List ℕ) (clauses : ℕ) (goals : List ℕ) (literals : ℕ) 
                   let b : length (w .sh .clauses) ≤ programClauses = w .limits .few in
                   subst⁻¹ (λ (i : List ℕ). Kept c3 i 1 clauseBodies) (clauses-is w) (clauses-kept (w .ss) (w .sh) node (w .sh .clauses) c3 1 clauseBodies (omega arith) (omega arith))
 
-              clause-stands : (w : Linkable table clauses goals literals nodes code) (k : ℕ) (cl : Clause) → clauseAt (w .sh) k ≡ some cl → ClauseStands (w .ss) (w .sh) nodes c4 k cl
+              clause-stands : (w : Linkable table clauses goals literals nodes code) (k : ℕ) (cl : Clause) → clauseAt (w .sh) k ≡ some cl → ClauseLoaded (w .ss) (w .sh) nodes c4 k cl
               unfolding clauseAt
               clause-stands w zero cl e = absurd (some-none cl (sym e))
               clause-stands w (suc n) cl e =
@@ -187,8 +187,8 @@ module _ (table : List ℕ) (clauses : ℕ) (goals : List ℕ) (literals : ℕ) 
                   (subst⁻¹ (λ (i : List ℕ). BodyPart (w .ss) (w .sh) nodes i (1 + n) cl (found .0)) (clauses-is w) (found .1)) in
                   let all : Headed (w .ss) (w .sh) nodes clauses c4 = headed-kept (w .ss) (w .sh) nodes clauses c3 c4 (kept w .long) (kept w .heads) (clauses-ready w .headed) in
                   record {
-                    head = subst (λ (i : ℕ). Stands (w .ss) nodes (headAt c4 i) (termOf (cl .head))) (let q : 1 + n ≡ suc n = omega arith in q) (heads-at (w .ss) nodes c4 n 1 (w .sh .clauses) cl e (all .heads));
-                    body = subst⁻¹ (λ (i : ℕ). BodyStands (w .ss) (w .sh) nodes c4 i (cl .body)) (part .at)
+                    head = subst (λ (i : ℕ). TermLoaded (w .ss) nodes (headAt c4 i) (termOf (cl .head))) (let q : 1 + n ≡ suc n = omega arith in q) (heads-at (w .ss) nodes c4 n 1 (w .sh .clauses) cl e (all .heads));
+                    body = subst⁻¹ (λ (i : ℕ). BodyLoaded (w .ss) (w .sh) nodes c4 i (cl .body)) (part .at)
                         (body-stands (w .ss) (w .sh) (found .0) nodes c4 (part .node) (cl .body) (part .body) (part .stand) (part .loadable) (part .limited));
                     after = part .after;
                   }
@@ -207,7 +207,7 @@ module _ (table : List ℕ) (clauses : ℕ) (goals : List ℕ) (literals : ℕ) 
                     few = w .limits .few;
                     bodies-short = clauses-short (w .sh .clauses) (w .limits .clauses);
                     goal-short = w .goal-limits .short;
-                    goal = subst⁻¹ (λ (i : ℕ). BodyStands (w .ss) (w .sh) nodes c4 i (w .g .body)) place
+                    goal = subst⁻¹ (λ (i : ℕ). BodyLoaded (w .ss) (w .sh) nodes c4 i (w .g .body)) place
                         (body-stands (w .ss) (w .sh) bodies nodes c4 0 (w .g .body)
                         (body-kept (w .ss) (w .sh) bodies c3 c4 0 (w .g .body) a (λ i u v. kept w .bodies i u (omega arith)) (goal-written w))
                         (parts w .0) (w .goal-loadable) (w .goal-limits .each));

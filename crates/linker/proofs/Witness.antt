@@ -8,10 +8,10 @@ use Rattle.syntax.specs.Limits.{arguments, variables, declarations}
 use Rattle.syntax.specs.Quote.{bytes}
 use Rattle.syntax.specs.Terms.{Atom, nil, call, either, done, also, literalsIn, Sheet, Goal, sameBytes}
 use Rattle.syntax.specs.Words.{termWords, literalWords, literalLength, clauseWords, clausesWords, firstName}
-use Rattle.layout.specs.Regions.{codeWords}
-use Rattle.layout.specs.Limits.{bodyRecords}
-use Rattle.layout.specs.Nodes.{Symbol, symbolOf, isSymbol, isListed, loadedWords, isLoadable, bracketsOf}
-use Rattle.layout.specs.Program.{literalNodes, clauseNodes, clausesNodes, programNodes, literalLoadable, clausesLoadable}
+use Rattle.run_layout.specs.Regions.{codeWords}
+use Rattle.run_layout.specs.Limits.{bodyRecords}
+use Rattle.run_layout.specs.Nodes.{Symbol, symbolOf, isSymbol, isListed, loadedWords, isLoadable, bracketsOf}
+use Rattle.run_layout.specs.Program.{literalNodes, clauseNodes, clausesNodes, programNodes, literalLoadable, clausesLoadable}
 use Rattle.linker.specs.Linking.{Linkable}
 
 -- the sheet `p.` and the goal `(p; p).`

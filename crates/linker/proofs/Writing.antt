@@ -10,29 +10,29 @@ use lib.ListN.{length, getD, set, length-set, length-append}
 use lib.Seq.{getD-set-same, getD-set-other}
 use Rattle.syntax.specs.Terms.{termOf, Literal, call, equation, truth, falsity, either, Body, done, also, Clause, Sheet}
 use Rattle.syntax.specs.Words.{literalLength, bodyLength, programClauses}
-use Rattle.words.specs.Items.{Item, before-right, behind, literalItems, items}
-use Rattle.words.proofs.Items.{literal-many, body-many}
-use Rattle.layout.specs.Regions.{places, endKind, splitKind, jumpKind, bodies, nextLiteral, clauseRecord, literalFrom}
-use Rattle.machine.specs.Machine.{nextFor, nth}
+use Rattle.table_words.specs.Items.{Item, before-right, behind, literalItems, items}
+use Rattle.table_words.proofs.Items.{literal-many, body-many}
+use Rattle.run_layout.specs.Regions.{places, bodyEndKind, splitKind, jumpKind, bodies, nextLiteral, clauseRecord, literalFrom}
+use Rattle.machine.specs.Machine.{nextFor, nthClause}
 use Rattle.machine.proofs.Tests.{both, some-eq, some-none}
-use Rattle.words.specs.Tables.{Has}
-use Rattle.layout.specs.Nodes.{Symbol, loadedWords, isLoadable, Stands}
-use Rattle.layout.specs.Limits.{LiteralLimited, EachLimited, ClausesLimited, bodyRecords}
-use Rattle.layout.specs.Program.{literalNodes, bodyNodes, clauseNodes, clausesNodes, literalLoadable, bodyLoadable, clausesLoadable, bodyAt, afterAt, kindAt, placeAt, otherAt, Names, rightOf, LiteralStands, ItemsStand, BodyStands}
-use Rattle.words.proofs.Laws.{has-left, has-right}
+use Rattle.table_words.specs.Tables.{Has}
+use Rattle.run_layout.specs.Nodes.{Symbol, loadedWords, isLoadable, TermLoaded}
+use Rattle.run_layout.specs.Limits.{LiteralLimited, EachLimited, ClausesLimited, bodyRecords}
+use Rattle.run_layout.specs.Program.{literalNodes, bodyNodes, clauseNodes, clausesNodes, literalLoadable, bodyLoadable, clausesLoadable, bodyAt, afterAt, recordKind, recordPlace, otherAt, RefersTo, rightOf, LiteralLoaded, ItemsLoaded, BodyLoaded}
+use Rattle.table_words.proofs.Laws.{has-left, has-right}
 use Rattle.link_records.specs.Records.{putPair, putRecord}
-use Rattle.item_records.specs.Records.{kindOf, itemNodes, otherOf}
-use Rattle.clause_records.specs.Records.{putItems, putBody, behindBody, putClause}
+use Rattle.link_items.specs.Records.{kindOf, itemNodes, otherOf}
+use Rattle.link_clauses.specs.Records.{putItems, putBody, behindBody, putClause}
 use Rattle.linker.specs.Records.{putHeads, putClauses}
-use Rattle.clause_search.specs.Search.{HeadsStand}
-use Rattle.clause_records.proofs.Sizes.{itemsNodes, literal-items, body-items}
+use Rattle.link_search.specs.Search.{HeadsLoaded}
+use Rattle.link_clauses.proofs.Sizes.{itemsNodes, literal-items, body-items}
 use Rattle.link_records.proofs.Writing.{pair-long, pair-other, pair-first, pair-second, record-long, record-kind, record-place, record-other}
-use Rattle.clause_records.proofs.Writing.{body-long, body-below, SameHeads, body-heads, pair-heads}
+use Rattle.link_clauses.proofs.Writing.{body-long, body-below, SameHeads, body-heads, pair-heads}
 
 -- the record of an item at l, whose nodes stand at q
 pub record RecordAt (ss : List Symbol) (sh : Sheet) (code : List ℕ) (l q : ℕ) (x : Item) : Type 0 where
-  pub kind : kindAt code l ≡ kindOf x
-  pub place : placeAt code l ≡ q
+  pub kind : recordKind code l ≡ kindOf x
+  pub place : recordPlace code l ≡ q
   pub other : otherAt code l ≡ otherOf ss sh q l x
 
 -- the records of items from number n on, in the body that begins at `start`
@@ -44,7 +44,7 @@ Records ss sh code start n q (x ∷ xs) = RecordAt ss sh code (literalFrom start
 pub record Written (ss : List Symbol) (sh : Sheet) (code : List ℕ) (start q : ℕ) (b : Body) : Type 0 where
   pub room : nextLiteral (literalFrom start (bodyLength b)) ≤ length code
   pub records : Records ss sh code start 0 q (items b)
-  pub ends : kindAt code (literalFrom start (bodyLength b)) ≡ endKind
+  pub ends : recordKind code (literalFrom start (bodyLength b)) ≡ bodyEndKind
 
 module _ (ss : List Symbol) (sh : Sheet) (start : ℕ) where
   -- a record stays where its words stay
@@ -65,11 +65,11 @@ module _ (ss : List Symbol) (sh : Sheet) (start : ℕ) where
 
   -- what was written from record n on
   records-written : (q : ℕ) (xs : List Item) (code : List ℕ) (n : ℕ) → nextLiteral (literalFrom start (n + length xs)) ≤ length code
-      → Records ss sh (putItems ss sh q xs code (literalFrom start n)) start n q xs × (kindAt (putItems ss sh q xs code (literalFrom start n)) (literalFrom start (n + length xs)) ≡ endKind)
+      → Records ss sh (putItems ss sh q xs code (literalFrom start n)) start n q xs × (recordKind (putItems ss sh q xs code (literalFrom start n)) (literalFrom start (n + length xs)) ≡ bodyEndKind)
   unfolding putItems
   records-written q [] code n r =
       let e : literalFrom start (n + 0) ≡ literalFrom start n = omega arith in
-      (tt, ap (λ (i : ℕ). getD (set code (literalFrom start n) endKind) i 0) e ∙ getD-set-same code (literalFrom start n) endKind 0 (let z : nextLiteral (literalFrom start (n + 0)) ≤ length code = r in omega arith))
+      (tt, ap (λ (i : ℕ). getD (set code (literalFrom start n) bodyEndKind) i 0) e ∙ getD-set-same code (literalFrom start n) bodyEndKind 0 (let z : nextLiteral (literalFrom start (n + 0)) ≤ length code = r in omega arith))
   records-written q (x ∷ xs) code n r =
       let z : nextLiteral (literalFrom start (n + suc (length xs))) ≤ length code = r in
       let first : List ℕ = putRecord code (literalFrom start n) (kindOf x) q (otherOf ss sh q (literalFrom start n) x) in
@@ -84,7 +84,7 @@ module _ (ss : List Symbol) (sh : Sheet) (start : ℕ) where
         other = record-other code (literalFrom start n) (kindOf x) q (otherOf ss sh q (literalFrom start n) x) room;
       } in
       subst (λ (i : ℕ). Records ss sh (putItems ss sh (q + length (itemNodes ss x)) xs (putRecord code (literalFrom start n) (kindOf x) q (otherOf ss sh q (literalFrom start n) x)) i) start n q (x ∷ xs)
-      × (kindAt (putItems ss sh (q + length (itemNodes ss x)) xs (putRecord code (literalFrom start n) (kindOf x) q (otherOf ss sh q (literalFrom start n) x)) i) (literalFrom start (n + suc (length xs))) ≡ endKind)) e (
+      × (recordKind (putItems ss sh (q + length (itemNodes ss x)) xs (putRecord code (literalFrom start n) (kindOf x) q (otherOf ss sh q (literalFrom start n) x)) i) (literalFrom start (n + suc (length xs))) ≡ bodyEndKind)) e (
         (
           record-kept (putRecord code (literalFrom start n) (kindOf x) q (otherOf ss sh q (literalFrom start n) x)) (putItems ss sh (q + length (itemNodes ss x)) xs (putRecord code (literalFrom start n) (kindOf x) q (otherOf ss sh q (literalFrom start n) x)) (literalFrom start (n + 1))) (literalFrom start n) q x
               (λ i a u. body-below ss sh (q + length (itemNodes ss x)) xs (putRecord code (literalFrom start n) (kindOf x) q (otherOf ss sh q (literalFrom start n) x)) (literalFrom start (n + 1)) i (omega arith)) one,
@@ -103,7 +103,7 @@ module _ (ss : List Symbol) (sh : Sheet) (start : ℕ) where
       record {
         room = omega arith;
         records = subst (λ (i : ℕ). Records ss sh (putItems ss sh q (items b) code i) start 0 q (items b)) z (o .0);
-        ends = subst (λ (i : ℕ). kindAt (putItems ss sh q (items b) code start) i ≡ endKind) e (subst (λ (i : ℕ). kindAt (putItems ss sh q (items b) code i) (literalFrom start (0 + length (items b))) ≡ endKind) z (o .1));
+        ends = subst (λ (i : ℕ). recordKind (putItems ss sh q (items b) code start) i ≡ bodyEndKind) e (subst (λ (i : ℕ). recordKind (putItems ss sh q (items b) code i) (literalFrom start (0 + length (items b))) ≡ bodyEndKind) z (o .1));
       }
 
   -- it stays where its words stay
@@ -140,23 +140,23 @@ module _ (ss : List Symbol) (sh : Sheet) (start : ℕ) where
         (records-right (n + 1) (q + length (itemNodes ss x)) xs ys (r .1))
 
     -- a record that names another, at places that were computed in another way
-    names : (kind l m other there : ℕ) → l ≡ m → other ≡ there → kindAt code l ≡ kind → otherAt code l ≡ other → Names code kind m there
-    names kind l m other there e f k o = subst (λ (i : ℕ). Names code kind i there) e (k, o ∙ f)
+    names : (kind l m other there : ℕ) → l ≡ m → other ≡ there → recordKind code l ≡ kind → otherAt code l ≡ other → RefersTo code kind m there
+    names kind l m other there e f k o = subst (λ (i : ℕ). RefersTo code kind i there) e (k, o ∙ f)
 
     mutual
       unfolding literalItems literalNodes literalLoadable literalLength itemNodes otherOf
 
       literal-stands : (x : Literal) (n q : ℕ) → Records ss sh code start n q (literalItems x) → Has nodes q (literalNodes ss x) → T (literalLoadable ss x) → LiteralLimited x
-          → LiteralStands ss sh nodes code start n x
+          → LiteralLoaded ss sh nodes code start n x
       literal-stands truth n q r h k s = r .0 .kind
       literal-stands falsity n q r h k s = r .0 .kind
       literal-stands (call a) n q r h k s =
-          (r .0 .kind, subst⁻¹ (λ (i : ℕ). Stands ss nodes i (termOf a)) (r .0 .place) (record { words = h; loadable = k; shallow = s }), r .0 .other)
+          (r .0 .kind, subst⁻¹ (λ (i : ℕ). TermLoaded ss nodes i (termOf a)) (r .0 .place) (record { words = h; loadable = k; shallow = s }), r .0 .other)
       literal-stands (equation t u) n q r h k s =
           let ok : T (isLoadable ss t) × T (isLoadable ss u) = both (isLoadable ss t) (isLoadable ss u) k in (
             r .0 .kind,
-            subst⁻¹ (λ (i : ℕ). Stands ss nodes i t) (r .0 .place) (record { words = has-left nodes q (loadedWords ss t) (loadedWords ss u) h; loadable = ok .0; shallow = s .0 }),
-            subst⁻¹ (λ (i : ℕ). Stands ss nodes i u) (r .0 .other) (record { words = has-right nodes q (loadedWords ss t) (loadedWords ss u) h; loadable = ok .1; shallow = s .1 }),
+            subst⁻¹ (λ (i : ℕ). TermLoaded ss nodes i t) (r .0 .place) (record { words = has-left nodes q (loadedWords ss t) (loadedWords ss u) h; loadable = ok .0; shallow = s .0 }),
+            subst⁻¹ (λ (i : ℕ). TermLoaded ss nodes i u) (r .0 .other) (record { words = has-right nodes q (loadedWords ss t) (loadedWords ss u) h; loadable = ok .1; shallow = s .1 }),
           )
       literal-stands (either y z) n q r h k s =
           let ok : T (bodyLoadable ss y) × T (bodyLoadable ss z) = both (bodyLoadable ss y) (bodyLoadable ss z) k in
@@ -178,7 +178,7 @@ module _ (ss : List Symbol) (sh : Sheet) (start : ℕ) where
                 (literalFrom start (n + (3 + (bodyLength y + bodyLength z)))) (omega arith) (omega arith) (last .0 .kind) (last .0 .other),
           )
 
-      items-stand : (b : Body) (n q : ℕ) → Records ss sh code start n q (items b) → Has nodes q (bodyNodes ss b) → T (bodyLoadable ss b) → EachLimited b → ItemsStand ss sh nodes code start n b
+      items-stand : (b : Body) (n q : ℕ) → Records ss sh code start n q (items b) → Has nodes q (bodyNodes ss b) → T (bodyLoadable ss b) → EachLimited b → ItemsLoaded ss sh nodes code start n b
       items-stand done n q r h k s = tt
       items-stand (also x b) n q r h k s =
           let ok : T (literalLoadable ss x) × T (bodyLoadable ss b) = both (literalLoadable ss x) (bodyLoadable ss b) k in
@@ -190,7 +190,7 @@ module _ (ss : List Symbol) (sh : Sheet) (start : ℕ) where
                 (has-right nodes q (literalNodes ss x) (bodyNodes ss b) h) (ok .1) (s .1),
           )
 
-    pub body-stands : (q : ℕ) (b : Body) → Written ss sh code start q b → Has nodes q (bodyNodes ss b) → T (bodyLoadable ss b) → EachLimited b → BodyStands ss sh nodes code start b
+    pub body-stands : (q : ℕ) (b : Body) → Written ss sh code start q b → Has nodes q (bodyNodes ss b) → T (bodyLoadable ss b) → EachLimited b → BodyLoaded ss sh nodes code start b
     body-stands q b w h k s =
         let r : nextLiteral (literalFrom start (bodyLength b)) ≤ length code = w .room in
         record { room = omega arith; items = items-stand b 0 q (w .records) h k s; ends = w .ends }
@@ -208,7 +208,7 @@ module _ (ss : List Symbol) where
       heads-below (q + length (clauseNodes ss cl)) cls (set code (clauseRecord k) q) (k + 1) i (omega arith) ∙ getD-set-other code (clauseRecord k) i q 0 (λ e. omega arith)
 
   pub heads-written : (nodes : List ℕ) (q : ℕ) (cls : List Clause) (code : List ℕ) (k : ℕ) → Has nodes q (clausesNodes ss cls) → T (clausesLoadable ss cls) → ClausesLimited cls
-      → k + length cls ≤ programClauses + 1 → bodies ≤ length code → HeadsStand ss nodes (putHeads ss q cls code k) k cls
+      → k + length cls ≤ programClauses + 1 → bodies ≤ length code → HeadsLoaded ss nodes (putHeads ss q cls code k) k cls
   unfolding putHeads clausesNodes clausesLoadable clauseNodes
   heads-written nodes q [] code k h t s l r = tt
   heads-written nodes q (cl ∷ cls) code k h t s l r =
@@ -219,7 +219,7 @@ module _ (ss : List Symbol) where
       let first : Has nodes q (clauseNodes ss cl) = has-left nodes q (clauseNodes ss cl) (clausesNodes ss cls) h in
       let e : getD (putHeads ss (q + length (clauseNodes ss cl)) cls (set code (clauseRecord k) q) (k + 1)) (clauseRecord k) 0 ≡ q =
       heads-below (q + length (clauseNodes ss cl)) cls (set code (clauseRecord k) q) (k + 1) (clauseRecord k) (omega arith) ∙ getD-set-same code (clauseRecord k) q 0 (omega arith) in (
-        subst⁻¹ (λ (i : ℕ). Stands ss nodes i (termOf (cl .head))) e (record { words = has-left nodes q (loadedWords ss (termOf (cl .head))) (bodyNodes ss (cl .body)) first; loadable = ok .0; shallow = s .0 .head }),
+        subst⁻¹ (λ (i : ℕ). TermLoaded ss nodes i (termOf (cl .head))) e (record { words = has-left nodes q (loadedWords ss (termOf (cl .head))) (bodyNodes ss (cl .body)) first; loadable = ok .0; shallow = s .0 .head }),
         heads-written nodes (q + length (clauseNodes ss cl)) cls (set code (clauseRecord k) q) (k + 1) (has-right nodes q (clauseNodes ss cl) (clausesNodes ss cls) h) (oks .1) (s .1) (omega arith) (omega arith),
       )
 
@@ -307,8 +307,8 @@ module _ (ss : List Symbol) (sh : Sheet) where
 
     -- every clause stands somewhere, all but its head
     pub clauses-written : (q : ℕ) (cls : List Clause) (code : List ℕ) (k l : ℕ) → Has nodes q (clausesNodes ss cls) → T (clausesLoadable ss cls) → ClausesLimited cls → k + length cls ≤ programClauses + 1 → bodies ≤ l
-        → literalFrom l (bodyRecords cls) ≤ length code → (n : ℕ) (cl : Clause) → nth cls n ≡ some cl → (place : ℕ) × BodyPart ss sh nodes (putClauses ss sh q cls code k l) (k + n) cl place
-    unfolding putClauses clausesNodes clausesLoadable bodyRecords nth
+        → literalFrom l (bodyRecords cls) ≤ length code → (n : ℕ) (cl : Clause) → nthClause cls n ≡ some cl → (place : ℕ) × BodyPart ss sh nodes (putClauses ss sh q cls code k l) (k + n) cl place
+    unfolding putClauses clausesNodes clausesLoadable bodyRecords nthClause
     clauses-written q [] code k l h t s many low r n cl e = absurd (some-none cl (sym e))
     clauses-written q (c ∷ cls) code k l h t s many low r zero cl e =
         let z : k + suc (length cls) ≤ programClauses + 1 = many in

@@ -6,11 +6,11 @@ use lib.Dec.{T}
 use lib.ListN.{length}
 use Rattle.syntax.specs.Terms.{Sheet, Goal}
 use Rattle.syntax.specs.Words.{sheetWords, programWords, bodyWords, bodyLength, clausesWords}
-use Rattle.words.specs.Tables.{Has}
-use Rattle.layout.specs.Regions.{codeWords, places}
-use Rattle.layout.specs.Nodes.{Symbol}
-use Rattle.layout.specs.Limits.{ProgramLimited, GoalLimited}
-use Rattle.layout.specs.Program.{programNodes, bodyLoadable, clausesLoadable}
+use Rattle.table_words.specs.Tables.{Has}
+use Rattle.run_layout.specs.Regions.{codeWords, places}
+use Rattle.run_layout.specs.Nodes.{Symbol}
+use Rattle.run_layout.specs.Limits.{ProgramLimited, GoalLimited}
+use Rattle.run_layout.specs.Program.{programNodes, bodyLoadable, clausesLoadable}
 
 pub record Linkable (table : List ℕ) (clauses : ℕ) (goals : List ℕ) (literals : ℕ) (nodes code : List ℕ) : Type 0 where
   pub ss : List Symbol

@@ -6,12 +6,12 @@ use lib.Dec.{T}
 use lib.ListN.{length}
 use Rattle.syntax.specs.Terms.{Clause, Sheet}
 use Rattle.syntax.specs.Words.{clausesWords, programClauses}
-use Rattle.words.specs.Tables.{Has}
-use Rattle.layout.specs.Regions.{bodies, places, literalFrom}
-use Rattle.layout.specs.Nodes.{Symbol}
-use Rattle.layout.specs.Limits.{ClausesLimited, bodyRecords}
-use Rattle.layout.specs.Program.{clausesNodes, clausesLoadable}
-use Rattle.clause_search.specs.Search.{Headed}
+use Rattle.table_words.specs.Tables.{Has}
+use Rattle.run_layout.specs.Regions.{bodies, places, literalFrom}
+use Rattle.run_layout.specs.Nodes.{Symbol}
+use Rattle.run_layout.specs.Limits.{ClausesLimited, bodyRecords}
+use Rattle.run_layout.specs.Program.{clausesNodes, clausesLoadable}
+use Rattle.link_search.specs.Search.{Headed}
 
 -- the clauses from number k on, with room for the records of their bodies from l on
 pub record ClausesTo (ss : List Symbol) (sh : Sheet) (cls : List Clause) (table : List ℕ) (p : ℕ) (nodes : List ℕ) (q clauses : ℕ) (code : List ℕ)

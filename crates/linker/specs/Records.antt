@@ -3,11 +3,11 @@ use Prim.Native.Nat.{ℕ, _+_}
 use mathlib.Core.List.{List, [], _∷_}
 use lib.ListN.{length, set}
 use Rattle.syntax.specs.Terms.{Clause, Sheet}
-use Rattle.words.specs.Items.{behind}
-use Rattle.layout.specs.Regions.{clauseRecord}
-use Rattle.layout.specs.Nodes.{Symbol}
-use Rattle.layout.specs.Program.{clauseNodes}
-use Rattle.clause_records.specs.Records.{behindBody, putClause}
+use Rattle.table_words.specs.Items.{behind}
+use Rattle.run_layout.specs.Regions.{clauseRecord}
+use Rattle.run_layout.specs.Nodes.{Symbol}
+use Rattle.run_layout.specs.Program.{clauseNodes}
+use Rattle.link_clauses.specs.Records.{behindBody, putClause}
 
 -- the heads of clauses whose nodes stand from q on, the first of number k
 unfoldable pub putHeads : List Symbol → ℕ → List Clause → List ℕ → ℕ → List ℕ

@@ -1,27 +1,27 @@
 // Linking: a record for each clause and each item of a body, with the next clauses to be tried.
-use clause_records::put_body;
-use clause_records::put_clause;
-use layout::BODIES;
-use layout::CLAUSE_BODIES;
-use layout::CLAUSE_SIZE;
+use link_clauses::put_body;
+use link_clauses::put_clause;
 use link_records::nodes_of;
 use link_records::put_pair;
+use run_layout::BODIES;
+use run_layout::CLAUSE_BODIES;
+use run_layout::CLAUSE_SIZE;
 use syntax::CLAUSE_START;
-use words::CLAUSE_ITEMS;
-use words::past_body;
-use words::put;
-use words::word_at;
+use table_words::CLAUSE_ITEMS;
+use table_words::past_body;
+use table_words::put;
+use table_words::word_at;
 ghost use mathlib.Core.Path.{_≡_};
 ghost use mathlib.Core.List.{List};
 ghost use lib.ListN.{length};
 ghost use Rattle.syntax.specs.Terms.{Clause, Sheet};
 ghost use Rattle.syntax.specs.Words.{clauseWords};
-ghost use Rattle.words.specs.Tables.{Has};
-ghost use Rattle.layout.specs.Nodes.{Symbol};
-ghost use Rattle.layout.specs.Program.{clauseNodes, Program};
+ghost use Rattle.table_words.specs.Tables.{Has};
+ghost use Rattle.run_layout.specs.Nodes.{Symbol};
+ghost use Rattle.run_layout.specs.Program.{clauseNodes, Program};
 ghost use Rattle.linker.specs.Records.{putHeads, putClauses};
 ghost use Rattle.linker.specs.Places.{HeadsTo, ClausesTo};
-ghost use Rattle.layout.specs.Regions.{clauseBodies};
+ghost use Rattle.run_layout.specs.Regions.{clauseBodies};
 ghost use Rattle.linker.specs.Linking.{Linkable};
 
 // How many words the loaded nodes of the clause at p take.

@@ -5,13 +5,13 @@ use mathlib.Core.Path.{_≡_, sym, ap, ap₂, _∙_, subst, subst⁻¹}
 use mathlib.Core.List.{List, [], _∷_, _++_}
 use lib.ListN.{length, length-append}
 use Rattle.syntax.specs.Words.{nodeWords, goalWords}
-use Rattle.words.specs.Tables.{Has}
-use Rattle.words.specs.Items.{Item, behind, itemWords, itemsWords, items}
-use Rattle.words.proofs.Items.{body-many, items-stand, first-stands, rest-stand, item-room}
-use Rattle.layout.specs.Regions.{loadedNode}
-use Rattle.flat_nodes.specs.Flat.{Parsed, parsedWords, bodyParsed, flatWords, flatAll, AllFit, written, RunAt, BodyHere}
+use Rattle.table_words.specs.Tables.{Has}
+use Rattle.table_words.specs.Items.{Item, behind, itemWords, itemsWords, items}
+use Rattle.table_words.proofs.Items.{body-many, items-stand, first-stands, rest-stand, item-room}
+use Rattle.run_layout.specs.Regions.{loadedNode}
+use Rattle.load_words.specs.Flat.{NodeAsRead, parsedWords, bodyParsed, flatWords, flatAll, AllFit, putAll, RunAt, BodyHere}
 use Rattle.loader.proofs.Writing.{written-nil, written-append}
-use Rattle.flat_nodes.proofs.Parsed.{flat-append, flat-length, body-fits, itemParsed, itemsParsed, item-words, item-long, body-parsed}
+use Rattle.load_words.proofs.Parsed.{flat-append, flat-length, body-fits, itemParsed, itemsParsed, item-words, item-long, body-parsed}
 
 -- ---- bodies
 
@@ -21,7 +21,7 @@ pub record Going (table : List ℕ) (many text : ℕ) (before : List ℕ) (at : 
   pub has : Has table p (itemsWords rest)
   pub count : many ≡ i + length rest
   pub fit : AllFit (itemsParsed rest)
-  pub same : written nodes q (flatWords (flatAll text (itemsParsed rest))) ≡ written before at whole
+  pub same : putAll nodes q (flatWords (flatAll text (itemsParsed rest))) ≡ putAll before at whole
   pub past : q + length (flatWords (flatAll text (itemsParsed rest))) ≡ at + length whole
   pub near : q * nodeWords ≤ p * loadedNode + goalWords * loadedNode
 
@@ -32,8 +32,8 @@ body-begin table from many text nodes at l w = record {
   has = items-stand table from (w .body) (w .has);
   count = (let z : many ≡ 0 + length (items (w .body)) = omega (arith, w .count, body-many (w .body)) in z);
   fit = subst⁻¹ AllFit (body-parsed (w .body)) (body-fits (w .text) (w .short) (w .body) (w .stands));
-  same = ap (λ (xs : List Parsed). written nodes at (flatWords (flatAll text xs))) (body-parsed (w .body));
-  past = ap (λ (xs : List Parsed). at + length (flatWords (flatAll text xs))) (body-parsed (w .body));
+  same = ap (λ (xs : List NodeAsRead). putAll nodes at (flatWords (flatAll text xs))) (body-parsed (w .body));
+  past = ap (λ (xs : List NodeAsRead). at + length (flatWords (flatAll text xs))) (body-parsed (w .body));
   near = l;
 }
 
@@ -45,14 +45,14 @@ pub record BodyTurn (table : List ℕ) (many text : ℕ) (before : List ℕ) (at
   pub near : q * nodeWords ≤ (p + 1) * loadedNode + goalWords * loadedNode
   pub run : (next : ℕ) → next ≡ p + length (itemWords item) → RunAt table (p + 1) next
   pub on : (next : ℕ) (after : List ℕ) (r : ℕ) (e : next ≡ p + length (itemWords item))
-      → (after ≡ written nodes q (flatWords (flatAll text (run next e .run)))) × (r ≡ q + length (flatWords (flatAll text (run next e .run))))
+      → (after ≡ putAll nodes q (flatWords (flatAll text (run next e .run)))) × (r ≡ q + length (flatWords (flatAll text (run next e .run))))
       → Going table many text before at whole after next r (i + 1)
 
-fit-left : (xs ys : List Parsed) → AllFit (xs ++ ys) → AllFit xs
+fit-left : (xs ys : List NodeAsRead) → AllFit (xs ++ ys) → AllFit xs
 fit-left [] ys f = tt
 fit-left (x ∷ xs) ys f = (f .0, fit-left xs ys (f .1))
 
-fit-right : (xs ys : List Parsed) → AllFit (xs ++ ys) → AllFit ys
+fit-right : (xs ys : List NodeAsRead) → AllFit (xs ++ ys) → AllFit ys
 fit-right [] ys f = f
 fit-right (x ∷ xs) ys f = fit-right xs ys (f .1)
 
@@ -65,15 +65,15 @@ item-run table p x h k next e = record {
 }
 
 module _ (many text : ℕ) (before : List ℕ) (at : ℕ) (whole nodes : List ℕ) (q i : ℕ) where
-  end-by : (xs : List Item) → many ≡ i + length xs → written nodes q (flatWords (flatAll text (itemsParsed xs))) ≡ written before at whole
-      → q + length (flatWords (flatAll text (itemsParsed xs))) ≡ at + length whole → many ≤ i → (nodes ≡ written before at whole) × (q ≡ at + length whole)
+  end-by : (xs : List Item) → many ≡ i + length xs → putAll nodes q (flatWords (flatAll text (itemsParsed xs))) ≡ putAll before at whole
+      → q + length (flatWords (flatAll text (itemsParsed xs))) ≡ at + length whole → many ≤ i → (nodes ≡ putAll before at whole) × (q ≡ at + length whole)
   unfolding itemsParsed flatWords flatAll
   end-by [] c s g l = (sym (written-nil nodes q) ∙ s, let z : q + 0 ≡ at + length whole = g in let y : q ≡ at + length whole = omega arith in y)
   end-by (x ∷ xs) c s g l = absurd (let z : many ≡ i + suc (length xs) = c in omega arith)
 
 module _ (table : List ℕ) (many text : ℕ) (before : List ℕ) (at : ℕ) (whole nodes : List ℕ) (p q i : ℕ) where
   turn-by : (xs : List Item) → Has table p (itemsWords xs) → many ≡ i + length xs → AllFit (itemsParsed xs)
-      → written nodes q (flatWords (flatAll text (itemsParsed xs))) ≡ written before at whole
+      → putAll nodes q (flatWords (flatAll text (itemsParsed xs))) ≡ putAll before at whole
       → q + length (flatWords (flatAll text (itemsParsed xs))) ≡ at + length whole
       → q * nodeWords ≤ p * loadedNode + goalWords * loadedNode → i < many → BodyTurn table many text before at whole nodes p q i
   unfolding itemsParsed
@@ -98,9 +98,9 @@ module _ (table : List ℕ) (many text : ℕ) (before : List ℕ) (at : ℕ) (wh
           has = subst (λ (k : ℕ). Has table k (itemsWords xs)) (sym e) hb;
           count = (let z : many ≡ (i + 1) + length xs = omega arith in z);
           fit = fit-right (itemParsed x) (itemsParsed xs) k;
-          same = ap₂ (λ (a : List ℕ) (k : ℕ). written a k (flatWords (flatAll text (itemsParsed xs)))) (m .0) (m .1)
+          same = ap₂ (λ (a : List ℕ) (k : ℕ). putAll a k (flatWords (flatAll text (itemsParsed xs)))) (m .0) (m .1)
               ∙ (sym (written-append nodes q (flatWords (flatAll text (itemParsed x))) (flatWords (flatAll text (itemsParsed xs))))
-              ∙ (ap (written nodes q) (sym whole-is) ∙ s));
+              ∙ (ap (putAll nodes q) (sym whole-is) ∙ s));
           past = (let z : r ≡ q + length (flatWords (flatAll text (itemParsed x))) = m .1 in let y : r + length (flatWords (flatAll text (itemsParsed xs))) ≡ at + length whole = omega arith in y);
           near = (let z : r ≡ q + length (flatWords (flatAll text (itemParsed x))) = m .1 in let y : r * nodeWords ≤ next * loadedNode + goalWords * loadedNode = omega arith in y);
         };
@@ -110,5 +110,5 @@ module _ {table : List ℕ} {many text : ℕ} {before : List ℕ} {at : ℕ} {wh
   pub body-turn : i < many → Going table many text before at whole nodes p q i → BodyTurn table many text before at whole nodes p q i
   body-turn l r = turn-by table many text before at whole nodes p q i (r .rest) (r .has) (r .count) (r .fit) (r .same) (r .past) (r .near) l
 
-  pub body-end : many ≤ i → Going table many text before at whole nodes p q i → (nodes ≡ written before at whole) × (q ≡ at + length whole)
+  pub body-end : many ≤ i → Going table many text before at whole nodes p q i → (nodes ≡ putAll before at whole) × (q ≡ at + length whole)
   body-end l r = end-by many text before at whole nodes q i (r .rest) (r .count) (r .same) (r .past) l

@@ -6,13 +6,13 @@ use mathlib.Core.List.{List, [], _∷_, _++_}
 use lib.ListN.{length, getD, length-append}
 use Rattle.syntax.specs.Terms.{termOf, Clause}
 use Rattle.syntax.specs.Words.{clauseStart, termWords, atomWords, bodyWords, bodyLength, clauseWords, clausesWords, nodeWords, goalWords, programBytes}
-use Rattle.marking.specs.Standing.{ClausesStand, clause-stands}
-use Rattle.words.specs.Tables.{Has, Inside}
-use Rattle.words.proofs.Laws.{has-left, has-right, Node, size-is, term-inside, clause-says}
-use Rattle.layout.specs.Regions.{loadedNode}
-use Rattle.flat_nodes.specs.Flat.{parsedWords, termParsed, bodyParsed, clauseParsed, clausesParsed, flatWords, flatAll, written, RunAt, BodyHere, ClauseHere, ClausesHere}
+use Rattle.mode_marks.specs.Standing.{ClausesSpelt, clause-stands}
+use Rattle.table_words.specs.Tables.{Has, NodeInTable}
+use Rattle.table_words.proofs.Laws.{has-left, has-right, Node, size-is, term-inside, clause-says}
+use Rattle.run_layout.specs.Regions.{loadedNode}
+use Rattle.load_words.specs.Flat.{parsedWords, termParsed, bodyParsed, clauseParsed, clausesParsed, flatWords, flatAll, putAll, RunAt, BodyHere, ClauseHere, ClausesHere}
 use Rattle.loader.proofs.Writing.{written-nil, written-append}
-use Rattle.flat_nodes.proofs.Parsed.{parsed-append, flat-append, flat-length, term-words, term-fits, body-long}
+use Rattle.load_words.proofs.Parsed.{parsed-append, flat-append, flat-length, term-words, term-fits, body-long}
 
 -- ---- a clause
 
@@ -21,15 +21,15 @@ head-long c = ap length (term-words (termOf (c .head)))
 
 pub record ClauseParts (table : List ℕ) (p : ℕ) (w : ClauseHere table p) : Type 0 where
   pub inside : p + 3 ≤ length table
-  pub fits : Inside table (p + clauseStart)
+  pub fits : NodeInTable table (p + clauseStart)
   pub run : (stop : ℕ) → stop ≡ p + 3 + getD table (p + 3 + 1) 0 → RunAt table (p + 3) stop
   pub here : (stop literals : ℕ) → stop ≡ p + 3 + getD table (p + 3 + 1) 0 → literals ≡ getD table (p + 2) 0 → BodyHere table stop literals
   pub near : (stop at q : ℕ) (e : stop ≡ p + 3 + getD table (p + 3 + 1) 0) → at * nodeWords ≤ p * loadedNode + goalWords * loadedNode
       → q ≡ at + length (flatWords (flatAll 0 (run stop e .run))) → q * nodeWords ≤ stop * loadedNode + goalWords * loadedNode
   pub joined : (stop literals at q r : ℕ) (nodes middle after : List ℕ) (e : stop ≡ p + 3 + getD table (p + 3 + 1) 0) (l : literals ≡ getD table (p + 2) 0)
-      → (middle ≡ written nodes at (flatWords (flatAll 0 (run stop e .run)))) × (q ≡ at + length (flatWords (flatAll 0 (run stop e .run))))
-      → (after ≡ written middle q (flatWords (flatAll 0 (bodyParsed (here stop literals e l .body))))) × (r ≡ q + length (flatWords (flatAll 0 (bodyParsed (here stop literals e l .body)))))
-      → (after ≡ written nodes at (flatWords (flatAll 0 (clauseParsed (w .clause))))) × (r ≡ at + length (flatWords (flatAll 0 (clauseParsed (w .clause)))))
+      → (middle ≡ putAll nodes at (flatWords (flatAll 0 (run stop e .run)))) × (q ≡ at + length (flatWords (flatAll 0 (run stop e .run))))
+      → (after ≡ putAll middle q (flatWords (flatAll 0 (bodyParsed (here stop literals e l .body))))) × (r ≡ q + length (flatWords (flatAll 0 (bodyParsed (here stop literals e l .body)))))
+      → (after ≡ putAll nodes at (flatWords (flatAll 0 (clauseParsed (w .clause))))) × (r ≡ at + length (flatWords (flatAll 0 (clauseParsed (w .clause)))))
 
 flat-clause : (c : Clause) → flatWords (flatAll 0 (clauseParsed c)) ≡ flatWords (flatAll 0 (termParsed (termOf (c .head)))) ++ flatWords (flatAll 0 (bodyParsed (c .body)))
 unfolding clauseParsed
@@ -68,9 +68,9 @@ clause-parts {table} {p} w =
       near = λ stop at q e n m. (let m1 : q ≡ at + length (flatWords (flatAll 0 (termParsed (termOf (w .clause .head))))) = m in let y : q * nodeWords ≤ stop * loadedNode + goalWords * loadedNode = omega arith in y);
       joined = λ stop literals at q r nodes middle after e l m n. (
         n .0
-            ∙ (ap₂ (λ (a : List ℕ) (k : ℕ). written a k (flatWords (flatAll 0 (bodyParsed (w .clause .body))))) (m .0) (m .1)
+            ∙ (ap₂ (λ (a : List ℕ) (k : ℕ). putAll a k (flatWords (flatAll 0 (bodyParsed (w .clause .body))))) (m .0) (m .1)
             ∙ (sym (written-append nodes at (flatWords (flatAll 0 (termParsed (termOf (w .clause .head))))) (flatWords (flatAll 0 (bodyParsed (w .clause .body)))))
-            ∙ ap (written nodes at) (sym (flat-clause (w .clause))))),
+            ∙ ap (putAll nodes at) (sym (flat-clause (w .clause))))),
         (let m1 : q ≡ at + length (flatWords (flatAll 0 (termParsed (termOf (w .clause .head))))) = m .1 in
             let n1 : r ≡ q + length (flatWords (flatAll 0 (bodyParsed (w .clause .body)))) = n .1 in
             let y : r ≡ at + length (flatWords (flatAll 0 (clauseParsed (w .clause)))) = omega arith in y),
@@ -109,8 +109,8 @@ pub record Clausing (table : List ℕ) (clauses : ℕ) (before : List ℕ) (at :
   pub rest : List Clause
   pub has : Has table p (clausesWords rest)
   pub count : clauses ≡ i + length rest
-  pub stand : ClausesStand source rest
-  pub same : written nodes q (flatWords (flatAll 0 (clausesParsed rest))) ≡ written before at whole
+  pub stand : ClausesSpelt source rest
+  pub same : putAll nodes q (flatWords (flatAll 0 (clausesParsed rest))) ≡ putAll before at whole
   pub past : q + length (flatWords (flatAll 0 (clausesParsed rest))) ≡ at + length whole
   pub near : q * nodeWords ≤ p * loadedNode + goalWords * loadedNode
 
@@ -132,19 +132,19 @@ pub record ClausesTurn (table : List ℕ) (clauses : ℕ) (before : List ℕ) (a
   pub clause : ClauseHere table p
   pub near : q * nodeWords ≤ p * loadedNode + goalWords * loadedNode
   pub on : (next : ℕ) (after : List ℕ) (r : ℕ) → next ≡ p + length (clauseWords (clause .clause))
-      → (after ≡ written nodes q (flatWords (flatAll 0 (clauseParsed (clause .clause))))) × (r ≡ q + length (flatWords (flatAll 0 (clauseParsed (clause .clause)))))
+      → (after ≡ putAll nodes q (flatWords (flatAll 0 (clauseParsed (clause .clause))))) × (r ≡ q + length (flatWords (flatAll 0 (clauseParsed (clause .clause)))))
       → Clausing table clauses before at whole after next r (i + 1)
 
 module _ (clauses : ℕ) (before : List ℕ) (at : ℕ) (whole nodes : List ℕ) (q i : ℕ) where
-  end-by : (cs : List Clause) → clauses ≡ i + length cs → written nodes q (flatWords (flatAll 0 (clausesParsed cs))) ≡ written before at whole
-      → q + length (flatWords (flatAll 0 (clausesParsed cs))) ≡ at + length whole → clauses ≤ i → (nodes ≡ written before at whole) × (q ≡ at + length whole)
+  end-by : (cs : List Clause) → clauses ≡ i + length cs → putAll nodes q (flatWords (flatAll 0 (clausesParsed cs))) ≡ putAll before at whole
+      → q + length (flatWords (flatAll 0 (clausesParsed cs))) ≡ at + length whole → clauses ≤ i → (nodes ≡ putAll before at whole) × (q ≡ at + length whole)
   unfolding clausesParsed flatWords flatAll
   end-by [] c s g l = (sym (written-nil nodes q) ∙ s, let z : q + 0 ≡ at + length whole = g in let y : q ≡ at + length whole = omega arith in y)
   end-by (x ∷ b) c s g l = absurd (let z : clauses ≡ i + suc (length b) = c in omega arith)
 
 module _ {table : List ℕ} {clauses : ℕ} {before : List ℕ} {at : ℕ} {whole nodes : List ℕ} {p q i : ℕ} where
-  turn-by : (source : List ℕ) → length source ≤ programBytes → (cs : List Clause) → Has table p (clausesWords cs) → clauses ≡ i + length cs → ClausesStand source cs
-      → written nodes q (flatWords (flatAll 0 (clausesParsed cs))) ≡ written before at whole
+  turn-by : (source : List ℕ) → length source ≤ programBytes → (cs : List Clause) → Has table p (clausesWords cs) → clauses ≡ i + length cs → ClausesSpelt source cs
+      → putAll nodes q (flatWords (flatAll 0 (clausesParsed cs))) ≡ putAll before at whole
       → q + length (flatWords (flatAll 0 (clausesParsed cs))) ≡ at + length whole
       → q * nodeWords ≤ p * loadedNode + goalWords * loadedNode → i < clauses → ClausesTurn table clauses before at whole nodes p q i
   unfolding clausesWords clausesParsed
@@ -168,9 +168,9 @@ module _ {table : List ℕ} {clauses : ℕ} {before : List ℕ} {at : ℕ} {whol
           has = subst (λ (k : ℕ). Has table k (clausesWords b)) (sym e) hb;
           count = (let z : clauses ≡ (i + 1) + length b = omega arith in z);
           stand = kb;
-          same = ap₂ (λ (a : List ℕ) (k : ℕ). written a k (flatWords (flatAll 0 (clausesParsed b)))) (m .0) (m .1)
+          same = ap₂ (λ (a : List ℕ) (k : ℕ). putAll a k (flatWords (flatAll 0 (clausesParsed b)))) (m .0) (m .1)
               ∙ (sym (written-append nodes q (flatWords (flatAll 0 (clauseParsed x))) (flatWords (flatAll 0 (clausesParsed b))))
-              ∙ (ap (written nodes q) (sym whole-is) ∙ s));
+              ∙ (ap (putAll nodes q) (sym whole-is) ∙ s));
           past = (let z : r ≡ q + length (flatWords (flatAll 0 (clauseParsed x))) = m .1 in let y : r + length (flatWords (flatAll 0 (clausesParsed b))) ≡ at + length whole = omega arith in y);
           near = (let z : r ≡ q + length (flatWords (flatAll 0 (clauseParsed x))) = m .1 in let y : r * nodeWords ≤ next * loadedNode + goalWords * loadedNode = omega arith in y);
         };
@@ -179,5 +179,5 @@ module _ {table : List ℕ} {clauses : ℕ} {before : List ℕ} {at : ℕ} {whol
   pub clauses-turn : i < clauses → Clausing table clauses before at whole nodes p q i → ClausesTurn table clauses before at whole nodes p q i
   clauses-turn l r = turn-by (r .source) (r .short) (r .rest) (r .has) (r .count) (r .stand) (r .same) (r .past) (r .near) l
 
-  pub clauses-end : clauses ≤ i → Clausing table clauses before at whole nodes p q i → (nodes ≡ written before at whole) × (q ≡ at + length whole)
+  pub clauses-end : clauses ≤ i → Clausing table clauses before at whole nodes p q i → (nodes ≡ putAll before at whole) × (q ≡ at + length whole)
   clauses-end l r = end-by clauses before at whole nodes q i (r .rest) (r .count) (r .same) (r .past) l

@@ -11,17 +11,17 @@ use lib.Seq.{getD-set-other, set-getD}
 use borrow.Author.Tests.{lt-ltb, le-ltb}
 use Rattle.syntax.specs.Words.{firstName}
 use Rattle.syntax.specs.Limits.{arguments}
-use Rattle.layout.specs.Regions.{nodesWords}
+use Rattle.run_layout.specs.Regions.{nodesWords}
 use Rattle.machine.proofs.Tests.{or-right}
-use Rattle.words.specs.Tables.{Has}
-use Rattle.layout.specs.Nodes.{Symbol, symbolOf, isListed}
-use Rattle.flat_nodes.specs.Flat.{Flat, flatWords, flatSymbol, flatArity, written}
-use Rattle.symbol_search.specs.Symbols.{wordName, symbolsOf, Listed}
-use Rattle.interning.specs.Interning.{withSymbol, Counted, Interned}
+use Rattle.table_words.specs.Tables.{Has}
+use Rattle.run_layout.specs.Nodes.{Symbol, symbolOf, isListed}
+use Rattle.load_words.specs.Flat.{Flat, flatWords, flatSymbol, flatArity, putAll}
+use Rattle.load_symbols.specs.Symbols.{wordName, symbolsOf, SymbolsListed}
+use Rattle.load_interning.specs.Interning.{withSymbol, SymbolCount, Interned}
 use Rattle.loader.specs.Listing.{withNode, withAll, numberedWhat, numberedAll, NodeInside, AllInside, Copied, NodeNumbered, NodesNumbered}
 use Rattle.loader.proofs.Writing.{written-nil, written-two}
-use Rattle.symbol_search.proofs.Finding.{decide, below-or, listed-append, listed-one, self-symbol, symbol-stays}
-use Rattle.interning.proofs.Interning.{with-old, with-new}
+use Rattle.load_symbols.proofs.Finding.{decide, below-or, listed-append, listed-one, self-symbol, symbol-stays}
+use Rattle.load_interning.proofs.Interning.{with-old, with-new}
 
 module _ (sheet goal : List ℕ) where
   -- ---- one node
@@ -101,7 +101,7 @@ module _ (sheet goal : List ℕ) where
 
   -- ---- a node's turn
 
-  pub node-variable : (nodes : List ℕ) (p : ℕ) (symbols : List ℕ) (count : ℕ) → getD nodes p 0 < firstName → Listed sheet goal symbols count → NodeNumbered sheet goal nodes p symbols count nodes symbols count
+  pub node-variable : (nodes : List ℕ) (p : ℕ) (symbols : List ℕ) (count : ℕ) → getD nodes p 0 < firstName → SymbolsListed sheet goal symbols count → NodeNumbered sheet goal nodes p symbols count nodes symbols count
   node-variable nodes p symbols count l h =
       let same : withNode sheet goal (symbolsOf sheet goal symbols count) (getD nodes p 0) ≡ symbolsOf sheet goal symbols count = with-variable (symbolsOf sheet goal symbols count) (getD nodes p 0) l in
       let is : numberedWhat sheet goal (withNode sheet goal (symbolsOf sheet goal symbols count) (getD nodes p 0)) (getD nodes p 0) ≡ getD nodes p 0 = number-variable (withNode sheet goal (symbolsOf sheet goal symbols count) (getD nodes p 0)) (getD nodes p 0) l in
@@ -113,7 +113,7 @@ module _ (sheet goal : List ℕ) where
       }
 
   pub node-name : (nodes : List ℕ) (p : ℕ) (symbols : List ℕ) (count k r : ℕ) (after : List ℕ) → firstName ≤ getD nodes p 0
-      → Interned sheet goal symbols count (flatSymbol (getD nodes p 0)) (flatArity (getD nodes p 0)) after k → Counted count k r
+      → Interned sheet goal symbols count (flatSymbol (getD nodes p 0)) (flatArity (getD nodes p 0)) after k → SymbolCount count k r
       → NodeNumbered sheet goal nodes p symbols count (set nodes p (k + firstName)) after r
   node-name nodes p symbols count k r after l i c =
       let same : withNode sheet goal (symbolsOf sheet goal symbols count) (getD nodes p 0) ≡ withSymbol (symbolsOf sheet goal symbols count) (wordName sheet goal (flatSymbol (getD nodes p 0))) (flatArity (getD nodes p 0)) = with-name (symbolsOf sheet goal symbols count) (getD nodes p 0) l in
@@ -141,9 +141,9 @@ module _ (sheet goal : List ℕ) where
     pub ends : stop ≡ p + length (flatWords rest)
     pub inside : AllInside sheet goal rest
     pub all : withAll sheet goal ss rest ≡ withAll sheet goal [] flats
-    pub same : written nodes p (flatWords (numberedAll sheet goal (withAll sheet goal [] flats) rest)) ≡ written before 0 (flatWords (numberedAll sheet goal (withAll sheet goal [] flats) flats))
+    pub same : putAll nodes p (flatWords (numberedAll sheet goal (withAll sheet goal [] flats) rest)) ≡ putAll before 0 (flatWords (numberedAll sheet goal (withAll sheet goal [] flats) flats))
 
-  pub none-listed : (symbols : List ℕ) → nodesWords ≤ length symbols → Listed sheet goal symbols 0
+  pub none-listed : (symbols : List ℕ) → nodesWords ≤ length symbols → SymbolsListed sheet goal symbols 0
   none-listed symbols l = record { room = omega arith; inside = λ k z. absurd (let y : k < 0 = z in omega arith) }
 
   pub number-begin : (nodes symbols : List ℕ) (stop : ℕ) (w : Copied sheet goal nodes stop) → Numbering (w .flats) nodes nodes stop 0 (symbolsOf sheet goal symbols 0)
@@ -172,10 +172,10 @@ has-frame nodes p u q (w ∷ ws) l h = (
   has-frame nodes p u (q + 1) ws (omega arith) (h .2),
 )
 
-written-number : (nodes : List ℕ) (p u size : ℕ) (ws : List ℕ) → getD nodes (p + 1) 0 ≡ size → written (set nodes p u) (p + 2) ws ≡ written nodes p (u ∷ size ∷ ws)
+written-number : (nodes : List ℕ) (p u size : ℕ) (ws : List ℕ) → getD nodes (p + 1) 0 ≡ size → putAll (set nodes p u) (p + 2) ws ≡ putAll nodes p (u ∷ size ∷ ws)
 written-number nodes p u size ws e =
     let other : getD (set nodes p u) (p + 1) 0 ≡ size = getD-set-other nodes p (p + 1) u 0 (λ q. let z : p + 1 ≡ p = q in omega arith) ∙ e in
-    ap (λ (l : List ℕ). written l (p + 2) ws) (sym (ap (set (set nodes p u) (p + 1)) (sym other) ∙ set-getD (set nodes p u) (p + 1) 0))
+    ap (λ (l : List ℕ). putAll l (p + 2) ws) (sym (ap (set (set nodes p u) (p + 1)) (sym other) ∙ set-getD (set nodes p u) (p + 1) 0))
     ∙ written-two nodes p u size ws
 
 module _ (sheet goal : List ℕ) (flats : List Flat) (before nodes : List ℕ) (stop p : ℕ) (ss : List Symbol) where
@@ -183,7 +183,7 @@ module _ (sheet goal : List ℕ) (flats : List Flat) (before nodes : List ℕ) (
   whole = withAll sheet goal [] flats
 
   turn-by : (rest : List Flat) → Has nodes p (flatWords rest) → stop ≡ p + length (flatWords rest) → AllInside sheet goal rest → withAll sheet goal ss rest ≡ whole
-      → written nodes p (flatWords (numberedAll sheet goal whole rest)) ≡ written before 0 (flatWords (numberedAll sheet goal whole flats))
+      → putAll nodes p (flatWords (numberedAll sheet goal whole rest)) ≡ putAll before 0 (flatWords (numberedAll sheet goal whole flats))
       → p < stop → NumberTurn sheet goal flats before nodes stop p ss
   unfolding flatWords numberedAll withAll
   turn-by [] h e i a s l = absurd (let z : stop ≡ p + 0 = e in omega arith)
@@ -209,9 +209,9 @@ module _ (sheet goal : List ℕ) (flats : List Flat) (before nodes : List ℕ) (
               ends = (let z : stop ≡ (p + 2) + length (flatWords xs) = omega arith in z);
               inside = i .1;
               all = all;
-              same = ap (λ (l : List ℕ). written l (p + 2) (flatWords (numberedAll sheet goal whole xs))) ea
+              same = ap (λ (l : List ℕ). putAll l (p + 2) (flatWords (numberedAll sheet goal whole xs))) ea
                   ∙ (written-number nodes p (numberedWhat sheet goal (withNode sheet goal ss (getD nodes p 0)) (getD nodes p 0)) (x .size) (flatWords (numberedAll sheet goal whole xs)) size
-                  ∙ (ap (λ (k : ℕ). written nodes p (k ∷ (x .size) ∷ flatWords (numberedAll sheet goal whole xs))) word ∙ s));
+                  ∙ (ap (λ (k : ℕ). putAll nodes p (k ∷ (x .size) ∷ flatWords (numberedAll sheet goal whole xs))) word ∙ s));
             };
       }
 
@@ -219,14 +219,14 @@ module _ (sheet goal : List ℕ) (flats : List Flat) (before nodes : List ℕ) (
   number-turn l n = turn-by (n .rest) (n .has) (n .ends) (n .inside) (n .all) (n .same) l
 
   end-by : (rest : List Flat) → stop ≡ p + length (flatWords rest) → withAll sheet goal ss rest ≡ whole
-      → written nodes p (flatWords (numberedAll sheet goal whole rest)) ≡ written before 0 (flatWords (numberedAll sheet goal whole flats))
-      → stop ≤ p → (nodes ≡ written before 0 (flatWords (numberedAll sheet goal whole flats))) × (ss ≡ whole)
+      → putAll nodes p (flatWords (numberedAll sheet goal whole rest)) ≡ putAll before 0 (flatWords (numberedAll sheet goal whole flats))
+      → stop ≤ p → (nodes ≡ putAll before 0 (flatWords (numberedAll sheet goal whole flats))) × (ss ≡ whole)
   unfolding flatWords numberedAll withAll
   end-by [] e a s l = (sym (written-nil nodes p) ∙ s, a)
   end-by (x ∷ xs) e a s l = absurd (let z : stop ≡ p + suc (suc (length (flatWords xs))) = e in omega arith)
 
-  pub number-end : (symbols : List ℕ) (count : ℕ) → ss ≡ symbolsOf sheet goal symbols count → stop ≤ p → Numbering sheet goal flats before nodes stop p ss → Listed sheet goal symbols count
+  pub number-end : (symbols : List ℕ) (count : ℕ) → ss ≡ symbolsOf sheet goal symbols count → stop ≤ p → Numbering sheet goal flats before nodes stop p ss → SymbolsListed sheet goal symbols count
       → NodesNumbered sheet goal flats before nodes symbols count
   number-end symbols count e l n h =
-      let r : (nodes ≡ written before 0 (flatWords (numberedAll sheet goal whole flats))) × (ss ≡ whole) = end-by (n .rest) (n .ends) (n .all) (n .same) l in
+      let r : (nodes ≡ putAll before 0 (flatWords (numberedAll sheet goal whole flats))) × (ss ≡ whole) = end-by (n .rest) (n .ends) (n .all) (n .same) l in
       record { nodes-are = r .0; symbols-are = sym e ∙ r .1; listed = h }

@@ -10,25 +10,25 @@ use Rattle.syntax.specs.Limits.{lengths, arguments, variables}
 use Rattle.syntax.specs.Terms.{Term, Terms, variable, compound, nil, cons, arity, termOf, Literal, Body, call, equation, truth, falsity, either, done, also, Clause}
 use Rattle.syntax.specs.Words.{functor, termsWords, firstName}
 use Rattle.syntax.proofs.Words.{functor-arity, functor-length}
-use Rattle.marking.specs.Standing.{NameAt, Stands, AllStand, stands-variable, stands-compound, stand-nil, stand-cons, LiteralStands, call-stands, equation-stands, truth-stands, falsity-stands, either-stands, BodyStands, done-stands, also-stands, ClauseStands, ClausesStand, no-clauses, clause-stands}
+use Rattle.mode_marks.specs.Standing.{NameAt, TermSpelt, TermsSpelt, stands-variable, stands-compound, stand-nil, stand-cons, LiteralSpelt, call-stands, equation-stands, truth-stands, falsity-stands, either-stands, BodySpelt, done-stands, also-stands, ClauseSpelt, ClausesSpelt, no-clauses, clause-stands}
 use Rattle.machine.proofs.Tests.{and}
-use Rattle.layout.specs.Nodes.{Symbol, symbolOf, isListed, loadedWords, loadedAll, isLoadable, areLoadable}
-use Rattle.layout.specs.Program.{literalNodes, bodyNodes, clauseNodes, clausesNodes, literalLoadable, bodyLoadable, clausesLoadable}
-use Rattle.spelling.specs.Words.{textOf}
-use Rattle.layout.specs.Symbols.{symbolWord, symbolPlace, symbolLength, symbolText}
-use Rattle.layout.proofs.Symbols.{word-length, word-text, word-place}
-use Rattle.flat_nodes.specs.Flat.{Parsed, parsedWords, termParsed, termsParsed, literalParsed, bodyParsed, clauseParsed, clausesParsed, Flat, flatWords, flatName, flatSymbol, flatArity, flatWhat, flatAll}
-use Rattle.symbol_search.specs.Symbols.{wordName, Inside}
+use Rattle.run_layout.specs.Nodes.{Symbol, symbolOf, isListed, loadedWords, loadedAll, isLoadable, areLoadable}
+use Rattle.run_layout.specs.Program.{literalNodes, bodyNodes, clauseNodes, clausesNodes, literalLoadable, bodyLoadable, clausesLoadable}
+use Rattle.out_terms.specs.Words.{textOf}
+use Rattle.run_layout.specs.Symbols.{symbolWord, symbolPlace, symbolLength, symbolText}
+use Rattle.run_layout.proofs.Symbols.{word-length, word-text, word-place}
+use Rattle.load_words.specs.Flat.{NodeAsRead, parsedWords, termParsed, termsParsed, literalParsed, bodyParsed, clauseParsed, clausesParsed, Flat, flatWords, flatName, flatSymbol, flatArity, flatWhat, flatAll}
+use Rattle.load_symbols.specs.Symbols.{wordName, SymbolInside}
 use Rattle.loader.specs.Listing.{withNode, withAll, numberedWhat, numberedAll, AllInside}
-use Rattle.flat_nodes.proofs.Words.{flat-variable, flat-name}
-use Rattle.flat_nodes.proofs.Parsed.{terms-words}
-use Rattle.symbol_search.proofs.Spelt.{Part, word-name}
-use Rattle.symbol_search.proofs.Finding.{stays-listed}
+use Rattle.load_words.proofs.Words.{flat-variable, flat-name}
+use Rattle.load_words.proofs.Parsed.{terms-words}
+use Rattle.load_symbols.proofs.Spelt.{Part, word-name}
+use Rattle.load_symbols.proofs.Finding.{stays-listed}
 use Rattle.loader.proofs.Numbered.{number-variable, number-name, with-all-more, name-listed}
 
 -- ---- lists of nodes, one behind the other
 
-pub flat-all-append : (text : ℕ) (xs ys : List Parsed) → flatAll text (xs ++ ys) ≡ flatAll text xs ++ flatAll text ys
+pub flat-all-append : (text : ℕ) (xs ys : List NodeAsRead) → flatAll text (xs ++ ys) ≡ flatAll text xs ++ flatAll text ys
 unfolding flatAll
 flat-all-append text [] ys = refl
 flat-all-append text (x ∷ xs) ys = ap (λ (l : List Flat). record { what = flatWhat text (x .what) (x .byte); size = x .size / 3 * 2 } ∷ l) (flat-all-append text xs ys)
@@ -38,7 +38,7 @@ unfolding flatWords
 words-append [] ys = refl
 words-append (x ∷ xs) ys = ap (λ (l : List ℕ). (x .what) ∷ (x .size) ∷ l) (words-append xs ys)
 
-parsed-long : (xs : List Parsed) → length (parsedWords xs) ≡ length xs * 3
+parsed-long : (xs : List NodeAsRead) → length (parsedWords xs) ≡ length xs * 3
 unfolding parsedWords
 parsed-long [] = refl
 parsed-long (x ∷ xs) = let e : length (parsedWords xs) ≡ length xs * 3 = parsed-long xs in let z : suc (suc (suc (length (parsedWords xs)))) ≡ suc (length xs) * 3 = omega arith in z
@@ -76,15 +76,15 @@ module _ (sheet goal : List ℕ) where
   listed-right ss (x ∷ xs) ys h = listed-right ss xs ys (h .1)
 
   -- the words of numbered nodes
-  abbrev pub loadedOf : List Symbol → ℕ → List Parsed → List ℕ
+  abbrev pub loadedOf : List Symbol → ℕ → List NodeAsRead → List ℕ
   loadedOf ss text xs = flatWords (numberedAll sheet goal ss (flatAll text xs))
 
-  pub loaded-append : (ss : List Symbol) (text : ℕ) (xs ys : List Parsed) → loadedOf ss text (xs ++ ys) ≡ loadedOf ss text xs ++ loadedOf ss text ys
+  pub loaded-append : (ss : List Symbol) (text : ℕ) (xs ys : List NodeAsRead) → loadedOf ss text (xs ++ ys) ≡ loadedOf ss text xs ++ loadedOf ss text ys
   loaded-append ss text xs ys =
       ap (λ (l : List Flat). flatWords (numberedAll sheet goal ss l)) (flat-all-append text xs ys)
       ∙ (ap flatWords (numbered-append ss (flatAll text xs) (flatAll text ys)) ∙ words-append (numberedAll sheet goal ss (flatAll text xs)) (numberedAll sheet goal ss (flatAll text ys)))
 
-  loaded-long : (ss : List Symbol) (text : ℕ) (xs : List Parsed) → length (loadedOf ss text xs) ≡ length xs * 2
+  loaded-long : (ss : List Symbol) (text : ℕ) (xs : List NodeAsRead) → length (loadedOf ss text xs) ≡ length xs * 2
   unfolding flatWords numberedAll flatAll
   loaded-long ss text [] = refl
   loaded-long ss text (x ∷ xs) = let e : length (loadedOf ss text xs) ≡ length xs * 2 = loaded-long ss text xs in let z : suc (suc (length (loadedOf ss text xs))) ≡ suc (length xs) * 2 = omega arith in z
@@ -97,7 +97,7 @@ module _ (sheet goal : List ℕ) where
       high : firstName ≤ v
       name : wordName sheet goal (flatSymbol v) ≡ f
       arguments : flatArity v ≡ n
-      inside : Inside sheet goal (flatSymbol v)
+      inside : SymbolInside sheet goal (flatSymbol v)
 
     symbol-is : (x n : ℕ) → n ≤ arguments → flatSymbol (flatName x n) ≡ x
     symbol-is x n m = omega arith
@@ -106,7 +106,7 @@ module _ (sheet goal : List ℕ) where
     arity-is x n m = omega arith
 
     word-by : (b n : ℕ) (f : List ℕ) (v : ℕ) → NameAt s b f → n ≤ arguments → v ≡ flatName (symbolWord b text (length f)) n → Word b n f v
-    unfolding Inside
+    unfolding SymbolInside
     word-by b n f v k m e =
         let short : length f < lengths = omega (arith, k .short) in
         let at : flatSymbol v ≡ symbolWord b text (length f) = ap flatSymbol e ∙ symbol-is (symbolWord b text (length f)) n m in
@@ -137,55 +137,55 @@ module _ (sheet goal : List ℕ) where
     mutual
       unfolding termParsed flatAll
 
-      pub term-inside : (t : Term) → Stands s t → AllInside sheet goal (flatAll text (termParsed t))
+      pub term-inside : (t : Term) → TermSpelt s t → AllInside sheet goal (flatAll text (termParsed t))
       term-inside (variable n b) (stands-variable k) =
           (λ l. absurd (let z : n < variables = k in let e : n ≡ flatWhat text n b = flat-variable text n b (omega arith) in omega arith), tt)
       term-inside (compound b f ts) (stands-compound n k a) = (λ l. word b (arity ts) f n k .inside, terms-inside ts a)
 
-      pub terms-inside : (ts : Terms) → AllStand s ts → AllInside sheet goal (flatAll text (termsParsed ts))
+      pub terms-inside : (ts : Terms) → TermsSpelt s ts → AllInside sheet goal (flatAll text (termsParsed ts))
       terms-inside nil stand-nil = tt
       terms-inside (cons t ts) (stand-cons a b) =
           subst (AllInside sheet goal) (sym (flat-all-append text (termParsed t) (termsParsed ts)))
           (inside-append (flatAll text (termParsed t)) (flatAll text (termsParsed ts)) (term-inside t a) (terms-inside ts b))
 
-    inside-both : (xs ys : List Parsed) → AllInside sheet goal (flatAll text xs) → AllInside sheet goal (flatAll text ys) → AllInside sheet goal (flatAll text (xs ++ ys))
+    inside-both : (xs ys : List NodeAsRead) → AllInside sheet goal (flatAll text xs) → AllInside sheet goal (flatAll text ys) → AllInside sheet goal (flatAll text (xs ++ ys))
     inside-both xs ys a b = subst (AllInside sheet goal) (sym (flat-all-append text xs ys)) (inside-append (flatAll text xs) (flatAll text ys) a b)
 
     mutual
       unfolding literalParsed flatAll
 
-      literal-inside : (l : Literal) → LiteralStands s l → AllInside sheet goal (flatAll text (literalParsed l))
+      literal-inside : (l : Literal) → LiteralSpelt s l → AllInside sheet goal (flatAll text (literalParsed l))
       literal-inside (call a) (call-stands k) = term-inside (termOf a) k
       literal-inside (equation t u) (equation-stands j k) = inside-both (termParsed t) (termParsed u) (term-inside t j) (term-inside u k)
       literal-inside truth truth-stands = tt
       literal-inside falsity falsity-stands = tt
       literal-inside (either y z) (either-stands j k) = inside-both (bodyParsed y) (bodyParsed z) (body-inside y j) (body-inside z k)
 
-      pub body-inside : (b : Body) → BodyStands s b → AllInside sheet goal (flatAll text (bodyParsed b))
+      pub body-inside : (b : Body) → BodySpelt s b → AllInside sheet goal (flatAll text (bodyParsed b))
       body-inside done done-stands = tt
       body-inside (also x b) (also-stands j k) = inside-both (literalParsed x) (bodyParsed b) (literal-inside x j) (body-inside b k)
 
-    clause-inside : (c : Clause) → ClauseStands s c → AllInside sheet goal (flatAll text (clauseParsed c))
+    clause-inside : (c : Clause) → ClauseSpelt s c → AllInside sheet goal (flatAll text (clauseParsed c))
     unfolding clauseParsed
     clause-inside c k = inside-both (termParsed (termOf (c .head))) (bodyParsed (c .body)) (term-inside (termOf (c .head)) (k .head)) (body-inside (c .body) (k .body))
 
-    pub clauses-inside : (cs : List Clause) → ClausesStand s cs → AllInside sheet goal (flatAll text (clausesParsed cs))
+    pub clauses-inside : (cs : List Clause) → ClausesSpelt s cs → AllInside sheet goal (flatAll text (clausesParsed cs))
     unfolding clausesParsed flatAll
     clauses-inside [] no-clauses = tt
     clauses-inside (c ∷ cs) (clause-stands j k) = inside-both (clauseParsed c) (clausesParsed cs) (clause-inside c j) (clauses-inside cs k)
 
     -- ---- the nodes are the terms', and these are loadable
 
-    abbrev Fine : Bool → List ℕ → List Parsed → Type 0
+    abbrev Fine : Bool → List ℕ → List NodeAsRead → Type 0
     Fine b ws xs = T b × (ws ≡ loadedOf ss text xs)
 
-    fine-both : (a b : Bool) (us vs : List ℕ) (xs ys : List Parsed) → Fine a us xs → Fine b vs ys → Fine (a && b) (us ++ vs) (xs ++ ys)
+    fine-both : (a b : Bool) (us vs : List ℕ) (xs ys : List NodeAsRead) → Fine a us xs → Fine b vs ys → Fine (a && b) (us ++ vs) (xs ++ ys)
     fine-both a b us vs xs ys j k = (and a b (j .0) (k .0), ap₂ (λ (l m : List ℕ). l ++ m) (j .1) (k .1) ∙ sym (loaded-append ss text xs ys))
 
-    left-of : (xs ys : List Parsed) → AllListed ss (flatAll text (xs ++ ys)) → AllListed ss (flatAll text xs)
+    left-of : (xs ys : List NodeAsRead) → AllListed ss (flatAll text (xs ++ ys)) → AllListed ss (flatAll text xs)
     left-of xs ys h = listed-left ss (flatAll text xs) (flatAll text ys) (subst (AllListed ss) (flat-all-append text xs ys) h)
 
-    right-of : (xs ys : List Parsed) → AllListed ss (flatAll text (xs ++ ys)) → AllListed ss (flatAll text ys)
+    right-of : (xs ys : List NodeAsRead) → AllListed ss (flatAll text (xs ++ ys)) → AllListed ss (flatAll text ys)
     right-of xs ys h = listed-right ss (flatAll text xs) (flatAll text ys) (subst (AllListed ss) (flat-all-append text xs ys) h)
 
     size-is : (ts : Terms) (ws : List ℕ) → ws ≡ loadedOf ss text (termsParsed ts) → 2 + length ws ≡ (3 + length (termsWords ts)) / 3 * 2
@@ -199,7 +199,7 @@ module _ (sheet goal : List ℕ) where
     mutual
       unfolding termParsed flatAll numberedAll flatWords loadedWords isLoadable
 
-      pub term-fine : (t : Term) → Stands s t → AllListed ss (flatAll text (termParsed t)) → Fine (isLoadable ss t) (loadedWords ss t) (termParsed t)
+      pub term-fine : (t : Term) → TermSpelt s t → AllListed ss (flatAll text (termParsed t)) → Fine (isLoadable ss t) (loadedWords ss t) (termParsed t)
       term-fine (variable n b) (stands-variable k) h =
           let small : n < firstName = (let z : n < variables = k in omega arith) in
           let e : flatWhat text n b ≡ n = sym (flat-variable text n b small) in (
@@ -219,7 +219,7 @@ module _ (sheet goal : List ℕ) where
                 ∙ ap (λ (l : List ℕ). numberedWhat sheet goal ss (flatWhat text (functor (arity ts) (length f)) b) ∷ ((3 + length (termsWords ts)) / 3 * 2) ∷ l) (inner .1)),
           )
 
-      pub terms-fine : (ts : Terms) → AllStand s ts → AllListed ss (flatAll text (termsParsed ts)) → Fine (areLoadable ss ts) (loadedAll ss ts) (termsParsed ts)
+      pub terms-fine : (ts : Terms) → TermsSpelt s ts → AllListed ss (flatAll text (termsParsed ts)) → Fine (areLoadable ss ts) (loadedAll ss ts) (termsParsed ts)
       terms-fine nil stand-nil h = (tt, refl)
       terms-fine (cons t ts) (stand-cons a b) h =
           fine-both (isLoadable ss t) (areLoadable ss ts) (loadedWords ss t) (loadedAll ss ts) (termParsed t) (termsParsed ts)
@@ -228,7 +228,7 @@ module _ (sheet goal : List ℕ) where
     mutual
       unfolding literalParsed literalLoadable literalNodes flatAll numberedAll flatWords
 
-      literal-fine : (l : Literal) → LiteralStands s l → AllListed ss (flatAll text (literalParsed l)) → Fine (literalLoadable ss l) (literalNodes ss l) (literalParsed l)
+      literal-fine : (l : Literal) → LiteralSpelt s l → AllListed ss (flatAll text (literalParsed l)) → Fine (literalLoadable ss l) (literalNodes ss l) (literalParsed l)
       literal-fine (call a) (call-stands k) h = term-fine (termOf a) k h
       literal-fine (equation t u) (equation-stands j k) h =
           fine-both (isLoadable ss t) (isLoadable ss u) (loadedWords ss t) (loadedWords ss u) (termParsed t) (termParsed u)
@@ -239,19 +239,19 @@ module _ (sheet goal : List ℕ) where
           fine-both (bodyLoadable ss y) (bodyLoadable ss z) (bodyNodes ss y) (bodyNodes ss z) (bodyParsed y) (bodyParsed z)
           (body-fine y j (left-of (bodyParsed y) (bodyParsed z) h)) (body-fine z k (right-of (bodyParsed y) (bodyParsed z) h))
 
-      pub body-fine : (b : Body) → BodyStands s b → AllListed ss (flatAll text (bodyParsed b)) → Fine (bodyLoadable ss b) (bodyNodes ss b) (bodyParsed b)
+      pub body-fine : (b : Body) → BodySpelt s b → AllListed ss (flatAll text (bodyParsed b)) → Fine (bodyLoadable ss b) (bodyNodes ss b) (bodyParsed b)
       body-fine done done-stands h = (tt, refl)
       body-fine (also x b) (also-stands j k) h =
           fine-both (literalLoadable ss x) (bodyLoadable ss b) (literalNodes ss x) (bodyNodes ss b) (literalParsed x) (bodyParsed b)
           (literal-fine x j (left-of (literalParsed x) (bodyParsed b) h)) (body-fine b k (right-of (literalParsed x) (bodyParsed b) h))
 
-    clause-fine : (c : Clause) → ClauseStands s c → AllListed ss (flatAll text (clauseParsed c)) → Fine (isLoadable ss (termOf (c .head)) && bodyLoadable ss (c .body)) (clauseNodes ss c) (clauseParsed c)
+    clause-fine : (c : Clause) → ClauseSpelt s c → AllListed ss (flatAll text (clauseParsed c)) → Fine (isLoadable ss (termOf (c .head)) && bodyLoadable ss (c .body)) (clauseNodes ss c) (clauseParsed c)
     unfolding clauseParsed clauseNodes
     clause-fine c k h =
         fine-both (isLoadable ss (termOf (c .head))) (bodyLoadable ss (c .body)) (loadedWords ss (termOf (c .head))) (bodyNodes ss (c .body)) (termParsed (termOf (c .head))) (bodyParsed (c .body))
         (term-fine (termOf (c .head)) (k .head) (left-of (termParsed (termOf (c .head))) (bodyParsed (c .body)) h)) (body-fine (c .body) (k .body) (right-of (termParsed (termOf (c .head))) (bodyParsed (c .body)) h))
 
-    pub clauses-fine : (cs : List Clause) → ClausesStand s cs → AllListed ss (flatAll text (clausesParsed cs)) → Fine (clausesLoadable ss cs) (clausesNodes ss cs) (clausesParsed cs)
+    pub clauses-fine : (cs : List Clause) → ClausesSpelt s cs → AllListed ss (flatAll text (clausesParsed cs)) → Fine (clausesLoadable ss cs) (clausesNodes ss cs) (clausesParsed cs)
     unfolding clausesParsed clausesLoadable clausesNodes flatAll numberedAll flatWords
     clauses-fine [] no-clauses h = (tt, refl)
     clauses-fine (c ∷ cs) (clause-stands j k) h =

@@ -7,22 +7,22 @@ use lib.Dec.{T}
 use lib.ListN.{length, length-append}
 use Rattle.syntax.specs.Limits.{goalBytes, arguments}
 use Rattle.syntax.specs.Words.{bodyWords, clausesWords, programWords, goalWords, programBytes}
-use Rattle.words.specs.Tables.{Has}
-use Rattle.words.proofs.Laws.{has-inside}
-use Rattle.layout.specs.Regions.{loadedNode, mostNodes, nodesWords}
-use Rattle.layout.specs.Nodes.{Symbol, nameOf}
-use Rattle.layout.specs.Program.{bodyNodes, clausesNodes, programNodes, bodyLoadable, clausesLoadable}
-use Rattle.spelling.specs.Words.{textOf, nameAt, Placed, Names}
-use Rattle.layout.specs.Symbols.{symbolText}
-use Rattle.flat_nodes.specs.Flat.{parsedWords, bodyParsed, clausesParsed, Flat, flatWords, flatAll, written, BodyHere, ClausesHere}
-use Rattle.symbol_search.specs.Symbols.{wordName, Inside, symbolAt, symbolsOf, Listed}
+use Rattle.table_words.specs.Tables.{Has}
+use Rattle.table_words.proofs.Laws.{has-inside}
+use Rattle.run_layout.specs.Regions.{loadedNode, mostNodes, nodesWords}
+use Rattle.run_layout.specs.Nodes.{Symbol, nameOfSymbol}
+use Rattle.run_layout.specs.Program.{bodyNodes, clausesNodes, programNodes, bodyLoadable, clausesLoadable}
+use Rattle.out_terms.specs.Words.{textOf, nameAt, NamePlaced, SymbolsSpelt}
+use Rattle.run_layout.specs.Symbols.{symbolText}
+use Rattle.load_words.specs.Flat.{parsedWords, bodyParsed, clausesParsed, Flat, flatWords, flatAll, putAll, BodyHere, ClausesHere}
+use Rattle.load_symbols.specs.Symbols.{wordName, SymbolInside, symbolAt, symbolsOf, SymbolsListed}
 use Rattle.loader.specs.Listing.{withAll, numberedAll, Copied, NodesNumbered}
 use Rattle.loader.specs.Loading.{Loadable, Loaded}
 use Rattle.loader.proofs.Writing.{length-written, written-append, has-written}
-use Rattle.flat_nodes.proofs.Parsed.{flat-length, body-long}
+use Rattle.load_words.proofs.Parsed.{flat-length, body-long}
 use Rattle.loader.proofs.Clauses.{clauses-long}
-use Rattle.symbol_search.proofs.Spelt.{sheet-text, goal-text}
-use Rattle.symbol_search.proofs.Finding.{length-symbols, symbols-at}
+use Rattle.load_symbols.proofs.Spelt.{sheet-text, goal-text}
+use Rattle.load_symbols.proofs.Finding.{length-symbols, symbols-at}
 use Rattle.loader.proofs.Terms.{words-append, numbered-append, inside-append, AllListed, all-listed, listed-left, listed-right, loadedOf, body-inside, clauses-inside, body-fine, clauses-fine}
 
 -- ---- words within a table
@@ -38,20 +38,20 @@ numbered-long sheet goal ss (x ∷ xs) = ap (λ (k : ℕ). suc (suc k)) (numbere
 
 -- ---- the symbols are spelt where their words say
 
-name-at : (sheet goal symbols : List ℕ) (k r : ℕ) → k < r → nameAt symbols sheet goal k ≡ nameOf (symbolsOf sheet goal symbols r) k
-unfolding nameAt nameOf symbolAt wordName
+name-at : (sheet goal symbols : List ℕ) (k r : ℕ) → k < r → nameAt symbols sheet goal k ≡ nameOfSymbol (symbolsOf sheet goal symbols r) k
+unfolding nameAt nameOfSymbol symbolAt wordName
 name-at sheet goal symbols k r l = sym (ap (λ (s : Symbol). s .name) (symbols-at sheet goal symbols k r (record { name = []; arguments = 0 }) l))
 
-placed : (sheet goal symbols : List ℕ) (r : ℕ) → Listed sheet goal symbols r → (k : ℕ) → k < r → Placed symbols sheet goal k
-unfolding Inside
+placed : (sheet goal symbols : List ℕ) (r : ℕ) → SymbolsListed sheet goal symbols r → (k : ℕ) → k < r → NamePlaced symbols sheet goal k
+unfolding SymbolInside
 placed sheet goal symbols r h k l = record { listed = (let z : mostNodes + r ≤ length symbols = h .room in omega arith); inside = h .inside k l }
 
-names : (sheet goal symbols : List ℕ) (r : ℕ) (ss : List Symbol) → symbolsOf sheet goal symbols r ≡ ss → Listed sheet goal symbols r → Names ss symbols sheet goal
+names : (sheet goal symbols : List ℕ) (r : ℕ) (ss : List Symbol) → symbolsOf sheet goal symbols r ≡ ss → SymbolsListed sheet goal symbols r → SymbolsSpelt ss symbols sheet goal
 names sheet goal symbols r ss e h =
     let long : length ss ≡ r = sym (ap length e) ∙ length-symbols sheet goal symbols r in
     record {
       placed = λ k l. placed sheet goal symbols r h k (let z : k < r = omega arith in z);
-      name = λ k l. name-at sheet goal symbols k r (let z : k < r = omega arith in z) ∙ ap (λ (us : List Symbol). nameOf us k) e;
+      name = λ k l. name-at sheet goal symbols k r (let z : k < r = omega arith in z) ∙ ap (λ (us : List Symbol). nameOfSymbol us k) e;
     }
 
 -- ---- what the functions are given
@@ -104,17 +104,17 @@ module _ (sheet table : List ℕ) (clauses : ℕ) (goal goals : List ℕ) (liter
     middle-near m e = omega (arith, goal-few)
 
     -- the goal's nodes and then the clauses'
-    module _ (first second : List ℕ) (m stop : ℕ) (a : (first ≡ written nodes 0 goal-words) × (m ≡ 0 + length goal-words)) (b : (second ≡ written first m clauses-words) × (stop ≡ m + length clauses-words)) where
+    module _ (first second : List ℕ) (m stop : ℕ) (a : (first ≡ putAll nodes 0 goal-words) × (m ≡ 0 + length goal-words)) (b : (second ≡ putAll first m clauses-words) × (stop ≡ m + length clauses-words)) where
       abbrev all-flats : List Flat
       all-flats = flatAll 1 (bodyParsed (w .g .body)) ++ flatAll 0 (clausesParsed (w .sh .clauses))
 
       all-words : flatWords all-flats ≡ goal-words ++ clauses-words
       all-words = words-append (flatAll 1 (bodyParsed (w .g .body))) (flatAll 0 (clausesParsed (w .sh .clauses)))
 
-      pub second-is : second ≡ written nodes 0 (flatWords all-flats)
+      pub second-is : second ≡ putAll nodes 0 (flatWords all-flats)
       second-is =
-          b .0 ∙ (ap₂ (λ (l : List ℕ) (k : ℕ). written l k clauses-words) (a .0) (a .1)
-          ∙ (sym (written-append nodes 0 goal-words clauses-words) ∙ ap (written nodes 0) (sym all-words)))
+          b .0 ∙ (ap₂ (λ (l : List ℕ) (k : ℕ). putAll l k clauses-words) (a .0) (a .1)
+          ∙ (sym (written-append nodes 0 goal-words clauses-words) ∙ ap (putAll nodes 0) (sym all-words)))
 
       pub stop-is : stop ≡ length (flatWords all-flats)
       stop-is =

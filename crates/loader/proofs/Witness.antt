@@ -7,9 +7,9 @@ use lib.ListN.{length, replicate, length-replicate}
 use Rattle.syntax.specs.Limits.{goalBytes, declarations}
 use Rattle.syntax.specs.Terms.{truth, done, also}
 use Rattle.syntax.specs.Words.{literalWords, bodyLength, bodyWords, clausesWords, programWords, goalWords, programBytes}
-use Rattle.marking.specs.Standing.{no-clauses, truth-stands, done-stands, also-stands}
-use Rattle.words.specs.Tables.{Has}
-use Rattle.layout.specs.Regions.{nodesWords}
+use Rattle.mode_marks.specs.Standing.{no-clauses, truth-stands, done-stands, also-stands}
+use Rattle.table_words.specs.Tables.{Has}
+use Rattle.run_layout.specs.Regions.{nodesWords}
 use Rattle.loader.specs.Loading.{Loadable}
 
 -- room for the nodes, and for the symbols

@@ -6,11 +6,11 @@ use mathlib.Core.List.{List, [], _∷_}
 use lib.Dec.{ltb}
 use lib.ListN.{length, getD, set}
 use Rattle.syntax.specs.Words.{firstName}
-use Rattle.words.specs.Tables.{Has}
-use Rattle.layout.specs.Nodes.{Symbol, symbolOf}
-use Rattle.flat_nodes.specs.Flat.{Flat, flatWords, flatSymbol, flatArity, written}
-use Rattle.symbol_search.specs.Symbols.{wordName, Inside, symbolsOf, Listed}
-use Rattle.interning.specs.Interning.{withSymbol}
+use Rattle.table_words.specs.Tables.{Has}
+use Rattle.run_layout.specs.Nodes.{Symbol, symbolOf}
+use Rattle.load_words.specs.Flat.{Flat, flatWords, flatSymbol, flatArity, putAll}
+use Rattle.load_symbols.specs.Symbols.{wordName, SymbolInside, symbolsOf, SymbolsListed}
+use Rattle.load_interning.specs.Interning.{withSymbol}
 
 -- ---- nodes
 
@@ -32,7 +32,7 @@ numberedAll sheet goal ss (x ∷ xs) = record { what = numberedWhat sheet goal s
 
 -- the names of copied nodes are in the texts
 abbrev pub NodeInside : List ℕ → List ℕ → ℕ → Type 0
-NodeInside sheet goal v = firstName ≤ v → Inside sheet goal (flatSymbol v)
+NodeInside sheet goal v = firstName ≤ v → SymbolInside sheet goal (flatSymbol v)
 
 abbrev pub AllInside : List ℕ → List ℕ → List Flat → Type 0
 AllInside sheet goal [] = Unit {0}
@@ -49,11 +49,11 @@ pub record Copied (sheet goal nodes : List ℕ) (stop : ℕ) : Type 0 where
 pub record NodeNumbered (sheet goal nodes : List ℕ) (p : ℕ) (symbols : List ℕ) (count : ℕ) (nodes' symbols' : List ℕ) (r : ℕ) : Type 0 where
   pub nodes-are : nodes' ≡ set nodes p (numberedWhat sheet goal (withNode sheet goal (symbolsOf sheet goal symbols count) (getD nodes p 0)) (getD nodes p 0))
   pub symbols-are : symbolsOf sheet goal symbols' r ≡ withNode sheet goal (symbolsOf sheet goal symbols count) (getD nodes p 0)
-  pub listed : Listed sheet goal symbols' r
+  pub listed : SymbolsListed sheet goal symbols' r
   pub few : r ≤ count + 1
 
 -- all nodes have
 pub record NodesNumbered (sheet goal : List ℕ) (flats : List Flat) (nodes nodes' symbols' : List ℕ) (r : ℕ) : Type 0 where
-  pub nodes-are : nodes' ≡ written nodes 0 (flatWords (numberedAll sheet goal (withAll sheet goal [] flats) flats))
+  pub nodes-are : nodes' ≡ putAll nodes 0 (flatWords (numberedAll sheet goal (withAll sheet goal [] flats) flats))
   pub symbols-are : symbolsOf sheet goal symbols' r ≡ withAll sheet goal [] flats
-  pub listed : Listed sheet goal symbols' r
+  pub listed : SymbolsListed sheet goal symbols' r

@@ -1,20 +1,20 @@
 // The nodes of terms copied one behind the other, a name by its place.
-use flat_nodes::name_word;
-use flat_nodes::two_of_three;
-use layout::LOADED_NODE;
+use load_words::name_word;
+use load_words::two_of_three;
+use run_layout::LOADED_NODE;
 use syntax::CLAUSE_START;
 use syntax::NODE_WORDS;
-use words::CLAUSE_ITEMS;
-use words::past;
-use words::past_clause;
-use words::past_item;
-use words::word_at;
+use table_words::CLAUSE_ITEMS;
+use table_words::past;
+use table_words::past_clause;
+use table_words::past_item;
+use table_words::word_at;
 ghost use mathlib.Core.Path.{_≡_};
 ghost use Prim.Native.Nat.{_+_, _*_, _≤_, _<_};
 ghost use lib.ListN.{length};
 ghost use Rattle.syntax.specs.Words.{nodeWords, programWords, goalWords};
-ghost use Rattle.layout.specs.Regions.{loadedNode, nodesWords};
-ghost use Rattle.flat_nodes.specs.Flat.{flatWords, flatAll, written, RunAt, bodyParsed, BodyHere, clauseParsed, ClauseHere, clausesParsed, ClausesHere};
+ghost use Rattle.run_layout.specs.Regions.{loadedNode, nodesWords};
+ghost use Rattle.load_words.specs.Flat.{flatWords, flatAll, putAll, RunAt, bodyParsed, BodyHere, clauseParsed, ClauseHere, clausesParsed, ClausesHere};
 
 // The nodes from one place up to another, copied to `at`; the place past the copies.
 fn copy_nodes(
@@ -28,7 +28,7 @@ fn copy_nodes(
     requires { ⌜ (text ≤ 1) × ((length (now table) ≤ programWords) × ((nodesWords ≤ length (now nodes))
         × (at * nodeWords ≤ from * loadedNode + goalWords * loadedNode))) ⌝ }
     requires { ⌜ RunAt (now table) from stop ⌝ }
-    ensures { λ r. ⌜ ((w : RunAt (now (table .entry)) from stop) → (now (nodes .exit) ≡ written (now (nodes .entry)) at (flatWords (flatAll text (w .run))))
+    ensures { λ r. ⌜ ((w : RunAt (now (table .entry)) from stop) → (now (nodes .exit) ≡ putAll (now (nodes .entry)) at (flatWords (flatAll text (w .run))))
         × (r ≡ at + length (flatWords (flatAll text (w .run))))) ⌝ }
 {
     let mut p = from;
@@ -58,7 +58,7 @@ pub fn copy_body(
         × (at * nodeWords ≤ from * loadedNode + goalWords * loadedNode))) ⌝ }
     requires { ⌜ BodyHere (now table) from items ⌝ }
     ensures { λ r. ⌜ ((w : BodyHere (now (table .entry)) from items) → (now (nodes .exit)
-        ≡ written (now (nodes .entry)) at (flatWords (flatAll text (bodyParsed (w .body)))))
+        ≡ putAll (now (nodes .entry)) at (flatWords (flatAll text (bodyParsed (w .body)))))
         × (r ≡ at + length (flatWords (flatAll text (bodyParsed (w .body)))))) ⌝ }
 {
     let mut p = from;
@@ -79,7 +79,7 @@ fn copy_clause(table: &[u32], p: usize, nodes: &mut [u32], at: usize) -> usize
     requires { ⌜ (length (now table) ≤ programWords) × ((nodesWords ≤ length (now nodes)) × (at * nodeWords ≤ p * loadedNode + goalWords * loadedNode)) ⌝ }
     requires { ⌜ ClauseHere (now table) p ⌝ }
     ensures { λ r. ⌜ ((w : ClauseHere (now (table .entry)) p) → (now (nodes .exit)
-        ≡ written (now (nodes .entry)) at (flatWords (flatAll 0 (clauseParsed (w .clause)))))
+        ≡ putAll (now (nodes .entry)) at (flatWords (flatAll 0 (clauseParsed (w .clause)))))
         × (r ≡ at + length (flatWords (flatAll 0 (clauseParsed (w .clause)))))) ⌝ }
 {
     let items = word_at(table, p + CLAUSE_ITEMS);
@@ -94,7 +94,7 @@ pub fn copy_clauses(table: &[u32], clauses: usize, nodes: &mut [u32], at: usize)
     requires { ⌜ (length (now table) ≤ programWords) × ((nodesWords ≤ length (now nodes)) × (at * nodeWords ≤ goalWords * loadedNode)) ⌝ }
     requires { ⌜ ClausesHere (now table) 0 clauses ⌝ }
     ensures { λ r. ⌜ ((w : ClausesHere (now (table .entry)) 0 clauses) → (now (nodes .exit)
-        ≡ written (now (nodes .entry)) at (flatWords (flatAll 0 (clausesParsed (w .list)))))
+        ≡ putAll (now (nodes .entry)) at (flatWords (flatAll 0 (clausesParsed (w .list)))))
         × (r ≡ at + length (flatWords (flatAll 0 (clausesParsed (w .list)))))) ⌝ }
 {
     let mut p = 0;

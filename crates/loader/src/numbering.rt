@@ -1,14 +1,14 @@
 // Each name of the copied nodes replaced by its symbol's number.
-use flat_nodes::ARITIES;
-use flat_nodes::NAMED;
-use interning::counted;
-use interning::intern;
-use layout::LOADED_NODE;
+use load_interning::counted;
+use load_interning::intern;
+use load_words::ARITIES;
+use load_words::NAMED;
+use run_layout::LOADED_NODE;
 use syntax::FIRST_NAME;
 ghost use Prim.Native.Nat.{_≤_, _<_};
 ghost use lib.ListN.{length, getD};
-ghost use Rattle.layout.specs.Regions.{mostNodes, nodesWords};
-ghost use Rattle.symbol_search.specs.Symbols.{Listed};
+ghost use Rattle.run_layout.specs.Regions.{mostNodes, nodesWords};
+ghost use Rattle.load_symbols.specs.Symbols.{SymbolsListed};
 ghost use Rattle.loader.specs.Listing.{NodeInside, NodeNumbered, Copied, NodesNumbered};
 
 // The node at a place with its symbol's number; how many symbols there are then.
@@ -20,7 +20,7 @@ fn number_node(
     symbols: &mut [u32],
     count: usize,
 ) -> usize
-    requires { ⌜ (Listed (now sheet) (now goal) (now symbols) count × (count < mostNodes))
+    requires { ⌜ (SymbolsListed (now sheet) (now goal) (now symbols) count × (count < mostNodes))
         × ((nodesWords ≤ length (now symbols)) × (p < length (now nodes))) ⌝ }
     requires { ⌜ NodeInside (now sheet) (now goal) (getD (now nodes) p 0) ⌝ }
     ensures { λ r. ⌜ NodeNumbered (now (sheet .entry)) (now (goal .entry)) (now (nodes .entry)) p (now (symbols .entry)) count (now (nodes .exit))

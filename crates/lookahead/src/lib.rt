@@ -2,25 +2,25 @@
 // over bindings of its own. Nothing rests on the guess: the cells are only proposed, and whoever takes them looks at each. So nothing is asked or promised of
 // what stands in the words that are lent; each is read and written only where there is one.
 
+use lookahead_bindings::MOST_ROWS;
+use lookahead_bindings::ROW_SIZE;
+use lookahead_bindings::guess;
+use lookahead_bindings::put_row;
+use lookahead_sorting::sort_most;
 use lookahead_words::guesses::word_of;
 use lookahead_words::room::LIST;
 use lookahead_words::room::WORK;
 use lookahead_words::room::get;
 use lookahead_words::room::size_of;
-use lookahead_sorting::sort_most;
-use lookahead_bindings::MOST_ROWS;
-use lookahead_bindings::ROW_SIZE;
-use lookahead_bindings::guess;
-use lookahead_bindings::put_row;
-use layout::MEMO;
-use layout::PAIR_SIZE;
-use layout::SIDE_SIZE;
-use layout::STACK;
+use run_layout::MEMO;
+use run_layout::PAIR_SIZE;
+use run_layout::SIDE_SIZE;
+use run_layout::STACK;
 ghost use Prim.Native.Nat.{_<_, _≤_, _^_};
 ghost use mathlib.Core.Path.{_≡_};
 ghost use lib.ListN.{length};
-ghost use Rattle.layout.specs.Regions.{memo, cells, pairs, places, copies};
-ghost use Rattle.lookahead_words.specs.Room.{Lent, Small};
+ghost use Rattle.run_layout.specs.Regions.{memo, cells, pairs, places, copies};
+ghost use Rattle.lookahead_words.specs.Room.{KeptBelow, Small};
 
 // Where the proposed cells stand in the scratch words.
 pub const PROPOSED: usize = MEMO + LIST;
@@ -40,7 +40,7 @@ fn least(a: usize, b: usize) -> usize
 // The pair of the work stack at a place, as a row at another.
 fn copy_pair(nodes: &[u32], scratch: &mut [u32], from: usize, to: usize)
     requires { ⌜ (Small from) × Small to ⌝ }
-    ensures { λ _. ⌜ Lent to (now (scratch .entry)) (now (scratch .exit)) ⌝ }
+    ensures { λ _. ⌜ KeptBelow to (now (scratch .entry)) (now (scratch .exit)) ⌝ }
 {
     let root = get(scratch, from);
     let p = get(scratch, from + 1);
@@ -54,7 +54,7 @@ fn copy_pair(nodes: &[u32], scratch: &mut [u32], from: usize, to: usize)
 // The upper n of the h pairs on the work stack as rows, the top one last.
 fn copy_stack(nodes: &[u32], scratch: &mut [u32], h: usize, n: usize)
     requires { ⌜ (h ≤ pairs) × ((n ≤ h) × (n ≤ cells)) ⌝ }
-    ensures { λ _. ⌜ Lent memo (now (scratch .entry)) (now (scratch .exit)) ⌝ }
+    ensures { λ _. ⌜ KeptBelow memo (now (scratch .entry)) (now (scratch .exit)) ⌝ }
 {
     let first = h - n;
     let mut k = 0;
@@ -104,7 +104,7 @@ pub fn look_ahead(
 ) -> usize
     requires { ⌜ memo ≤ length (now scratch) ⌝ }
     requires { ⌜ (h ≤ pairs) × ((x < cells) × ((q < places) × (d < copies))) ⌝ }
-    ensures { λ r. ⌜ (Lent memo (now (scratch .entry)) (now (scratch .exit))) × (r ≤ cells) ⌝ }
+    ensures { λ r. ⌜ (KeptBelow memo (now (scratch .entry)) (now (scratch .exit))) × (r ≤ cells) ⌝ }
 {
     let n = least(h, least(turns, MOST_PAIRS));
     copy_stack(nodes, scratch, h, n);

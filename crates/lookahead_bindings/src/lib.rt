@@ -16,14 +16,14 @@ use lookahead_words::room::hash_of;
 use lookahead_words::room::put;
 use lookahead_words::room::rest;
 use lookahead_words::room::size_of;
-use layout::CELLS;
-use layout::LOADED_NODE;
-use layout::cell_of;
+use run_layout::CELLS;
+use run_layout::LOADED_NODE;
+use run_layout::cell_of;
 use syntax::FIRST_NAME;
 ghost use Prim.Native.Nat.{_+_, _-_, _<_, _≤_, _^_};
-ghost use Rattle.layout.specs.Regions.{cells, copies};
-ghost use Rattle.lookahead_words.specs.Room.{Lent, Word, Place, Small};
-ghost use Rattle.lookahead_words.specs.Progress.{Leads};
+ghost use Rattle.run_layout.specs.Regions.{cells, copies};
+ghost use Rattle.lookahead_words.specs.Room.{KeptBelow, Word, IsPlace, Small};
+ghost use Rattle.lookahead_words.specs.Progress.{LeadBounded};
 ghost use Rattle.lookahead_bindings.specs.Guesses.{Guesses};
 
 pub const ROW_SIZE: usize = 3;
@@ -42,7 +42,7 @@ pub struct Guessing {
 // A row at a place.
 pub fn put_row(t: &mut [u32], i: usize, left: usize, e: usize, right: usize)
     requires { ⌜ Small i ⌝ }
-    ensures { λ _. ⌜ Lent i (now (t .entry)) (now (t .exit)) ⌝ }
+    ensures { λ _. ⌜ KeptBelow i (now (t .entry)) (now (t .exit)) ⌝ }
 {
     put(t, i, left);
     put(t, i + 1, e);
@@ -97,7 +97,7 @@ fn met(room: &mut [u32], left: usize, right: usize) -> bool {
 
 // Two terms of one name, before k rows: their arguments come next, unless the two are one or were met before.
 fn open(nodes: &[u32], room: &mut [u32], k: usize, a: Led, b: Led) -> usize
-    requires { ⌜ (k ≤ cells) × (Leads (a .left) a × Leads (b .left) b) ⌝ }
+    requires { ⌜ (k ≤ cells) × (LeadBounded (a .left) a × LeadBounded (b .left) b) ⌝ }
     ensures { λ r. ⌜ r ≤ cells ⌝ }
 {
     let i = a.node + LOADED_NODE;
@@ -119,7 +119,7 @@ fn open(nodes: &[u32], room: &mut [u32], k: usize, a: Led, b: Led) -> usize
 
 // The cell of the variable that a walk has come to and 1; 0 where it is a name.
 fn cell_at(nodes: &[u32], a: Led) -> usize
-    requires { ⌜ Leads (a .left) a ⌝ }
+    requires { ⌜ LeadBounded (a .left) a ⌝ }
     ensures { λ r. ⌜ r ≤ cells ⌝ }
 {
     let v = get(nodes, a.node);
@@ -131,7 +131,7 @@ fn cell_at(nodes: &[u32], a: Led) -> usize
 
 // A guess: cell x is bound to the term that a walk has come to.
 fn bind(room: &mut [u32], x: usize, a: Led)
-    requires { ⌜ (x < cells) × Leads (a .left) a ⌝ }
+    requires { ⌜ (x < cells) × LeadBounded (a .left) a ⌝ }
 {
     let w = word_of(a.node, a.copy);
     add(room, GUESSES, CELLS, x, x, w);
@@ -139,7 +139,7 @@ fn bind(room: &mut [u32], x: usize, a: Led)
 
 // Two terms that lead no further, before k rows. Of two variables the later is bound to the earlier.
 fn settle(nodes: &[u32], room: &mut [u32], k: usize, a: Led, b: Led) -> Guessing
-    requires { ⌜ (k ≤ cells) × (Leads (a .left) a × Leads (b .left) b) ⌝ }
+    requires { ⌜ (k ≤ cells) × (LeadBounded (a .left) a × LeadBounded (b .left) b) ⌝ }
     ensures { λ r. ⌜ Guesses (b .left) r ⌝ }
 {
     let rows = k;
@@ -176,7 +176,7 @@ fn meet(
     q: usize,
     d: usize,
 ) -> Guessing
-    requires { ⌜ (Guesses (g .left) g) × ((Place p) × ((c < copies) × ((Place q) × (d < copies)))) ⌝ }
+    requires { ⌜ (Guesses (g .left) g) × ((IsPlace p) × ((c < copies) × ((IsPlace q) × (d < copies)))) ⌝ }
     ensures { λ r. ⌜ Guesses (g .left) r ⌝ }
 {
     let i = p + size_of(nodes, p);

@@ -1,6 +1,6 @@
 -- How far a sort may have come, with at most so many turns left.
 use Prim.Native.Nat.{ℕ, _≤_}
-use Rattle.layout.specs.Regions.{cells}
+use Rattle.run_layout.specs.Regions.{cells}
 use Rattle.lookahead_sorting.specs.declared.Sorting.{Sorting}
 
 -- So many guesses are to be met; the cells that are open stand in the list behind those that are done.

@@ -14,14 +14,14 @@ use lookahead_words::room::hash_of;
 use lookahead_words::room::put;
 use lookahead_words::room::rest;
 use lookahead_words::room::size_of;
-use layout::CELLS;
-use layout::LOADED_NODE;
-use layout::cell_of;
+use run_layout::CELLS;
+use run_layout::LOADED_NODE;
+use run_layout::cell_of;
 use syntax::FIRST_NAME;
 ghost use Prim.Native.Nat.{_+_, _-_, _<_, _≤_, _^_};
 ghost use lib.ListN.{getD};
 ghost use Rattle.syntax.specs.Words.{firstName};
-ghost use Rattle.layout.specs.Regions.{cells, copies};
+ghost use Rattle.run_layout.specs.Regions.{cells, copies};
 ghost use Rattle.lookahead_words.specs.Room.{Word, Small};
 ghost use Rattle.lookahead_sorting.specs.Sorts.{Sorts};
 

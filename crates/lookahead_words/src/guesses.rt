@@ -4,16 +4,16 @@ use crate::room::GUESSES;
 use crate::room::add;
 use crate::room::find;
 use crate::room::get;
-use layout::CELLS;
-use layout::COPIES;
-use layout::cell_of;
+use run_layout::CELLS;
+use run_layout::COPIES;
+use run_layout::cell_of;
 use syntax::FIRST_NAME;
 ghost use mathlib.Core.Path.{_≡_};
 ghost use Prim.Native.Nat.{_<_, _≤_, _^_};
-ghost use Rattle.layout.specs.Regions.{cells, copies};
-ghost use Rattle.layout.specs.State.{wordOf};
-ghost use Rattle.lookahead_words.specs.Room.{Word, Place, Small};
-ghost use Rattle.lookahead_words.specs.Progress.{Leads};
+ghost use Rattle.run_layout.specs.Regions.{cells, copies};
+ghost use Rattle.run_layout.specs.State.{wordOf};
+ghost use Rattle.lookahead_words.specs.Room.{Word, IsPlace, Small};
+ghost use Rattle.lookahead_words.specs.Progress.{LeadBounded};
 
 // A walk along a chain of variables stops after so many links, and makes a short cut.
 const STRIDE: usize = 16;
@@ -96,8 +96,8 @@ fn stop(room: &mut [u32], left: usize, y: usize, x: usize, w: usize) -> usize
 
 // Where a term leads, by at most so many links.
 pub fn lead(nodes: &[u32], state: &[u32], room: &mut [u32], p: usize, c: usize, turns: usize) -> Led
-    requires { ⌜ (Place p) × (c < copies) ⌝ }
-    ensures { λ r. ⌜ Leads turns r ⌝ }
+    requires { ⌜ (IsPlace p) × (c < copies) ⌝ }
+    ensures { λ r. ⌜ LeadBounded turns r ⌝ }
 {
     let mut node = p;
     let mut copy = c;

@@ -1,11 +1,11 @@
 // The room that is lent: its regions, and words of it and of the tables, read and written wherever they stand.
-use layout::CELLS;
-use layout::COPIES;
-use layout::LOADED_NODE;
+use run_layout::CELLS;
+use run_layout::COPIES;
+use run_layout::LOADED_NODE;
 ghost use mathlib.Core.Path.{_≡_};
 ghost use Prim.Native.Nat.{_+_, _-_, _*_, _%_, _<_, _≤_, _^_};
 ghost use lib.ListN.{length, getD, set};
-ghost use Rattle.layout.specs.Regions.{loadedNode};
+ghost use Rattle.run_layout.specs.Regions.{loadedNode};
 ghost use Rattle.lookahead_words.specs.Room.{Word, Small};
 
 const WORD_LIMIT: usize = 4294967296;

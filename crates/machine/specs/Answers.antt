@@ -15,15 +15,15 @@ pub data Piece : Type 0 where
   unbound : Variable → Piece
 
 -- some bytes, then other pieces
-unfoldable pub written : List ℕ → List Piece → List Piece
-written [] rest = rest
-written (b ∷ bs) rest = byte b ∷ written bs rest
+unfoldable pub bytesThen : List ℕ → List Piece → List Piece
+bytesThen [] rest = rest
+bytesThen (b ∷ bs) rest = byte b ∷ bytesThen bs rest
 
 -- a term without blanks, then other pieces
 unfoldable mutual
   pub spelt : RTerm → List Piece → List Piece
   spelt (var v) rest = unbound v ∷ rest
-  spelt (app f ts) rest = written f (speltArgs ts rest)
+  spelt (app f ts) rest = bytesThen f (speltArgs ts rest)
 
   pub speltArgs : RTerms → List Piece → List Piece
   speltArgs rnil rest = rest
@@ -68,7 +68,7 @@ valuesFrom b i separator [] = byte 10 ∷ []
 valuesFrom b i separator (x ∷ xs) =
     elim (isAnonymous x) [
       | true ↦ valuesFrom b (suc i) separator xs
-      | false ↦ written separator (written x (written (bytes " = ") (spelt (resolve b (var (record { copy = 0; number = i })))
+      | false ↦ bytesThen separator (bytesThen x (bytesThen (bytes " = ") (spelt (resolve b (var (record { copy = 0; number = i })))
           (valuesFrom b (suc i) (bytes ", ") xs))))
     ]
 

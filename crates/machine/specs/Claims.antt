@@ -7,7 +7,7 @@ use mathlib.Core.Option.{none, some}
 use lib.ListN.{length}
 use Rattle.syntax.specs.Terms.{Sheet, Goal}
 use Rattle.syntax.specs.Verdicts.{accepted}
-use Rattle.rules.specs.Checking.{checkedWith, checkedGoal}
+use Rattle.mode_rules.specs.Checking.{checkedWith, checkedGoal}
 use Rattle.machine.specs.Machine.{pileAfter}
 use Rattle.machine.specs.Runs.{Progress, endings, firstEnd, advanced, Ended, run, Report, RunSettings, ran, reported}
 use Rattle.machine.specs.Traces.{traceFault, tracedSheet}

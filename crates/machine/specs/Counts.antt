@@ -5,7 +5,7 @@ use mathlib.Core.List.{List, [], _∷_}
 use lib.Dec.{leb, eqb}
 use lib.ListN.{length}
 use Rattle.syntax.specs.Terms.{Atom, Literal, call, equation, truth, falsity, either, Mark, input, output, Sheet, Goal}
-use Rattle.rules.specs.Modes.{marksFor, countFaulty, listOf}
+use Rattle.mode_rules.specs.Modes.{marksFor, countFaulty, listOf}
 use Rattle.machine.specs.Substitution.{copied, closed, Binding, resolve}
 use Rattle.machine.specs.Machine.{Pending, Call, Alternative, path, outcome, step, start}
 

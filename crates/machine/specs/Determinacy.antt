@@ -11,8 +11,8 @@ use lib.Dec.{T}
 use Rattle.syntax.specs.Terms.{Term, Atom, Literal, call, equation, truth, falsity, either, Body, done, also, Mark, input, Declaration, Clause, Sheet, Goal}
 use Rattle.syntax.specs.Verdicts.{Outcome, refused, accepted, goalOutcome}
 use Rattle.syntax.specs.declared.Refusal.{Refusal}
-use Rattle.rules.specs.Modes.{sameMark, marksFor, listOf}
-use Rattle.rules.specs.Checking.{checkedSheet}
+use Rattle.mode_rules.specs.Modes.{sameMark, marksFor, listOf}
+use Rattle.mode_rules.specs.Checking.{checkedSheet}
 use Rattle.buffers.specs.Feeds.{InLines}
 use Rattle.machine.specs.Substitution.{copied, Binding}
 use Rattle.machine.specs.Unification.{unify}
@@ -155,8 +155,8 @@ pub record FirstBracket (sh : Sheet) (n : ℕ) : Type 0 where
   pub bracket : T (withoutBrackets (cl .body)) → ⊥
   pub none-before : (m : ℕ) (x : Clause) → m < n → clauseAt sh m ≡ some x → T (withoutBrackets (x .body))
 
-abbrev pub Names : Sheet → Pair → Type 0
-Names sh p = ((p .second ≡ 0) × FirstBracket sh (p .first)) ⊎ FirstOverlap sh p
+abbrev pub NamesFirst : Sheet → Pair → Type 0
+NamesFirst sh p = ((p .second ≡ 0) × FirstBracket sh (p .first)) ⊎ FirstOverlap sh p
 
 -- ---- over texts
 

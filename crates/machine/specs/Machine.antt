@@ -64,25 +64,25 @@ topmost sh [] = 0
 topmost sh (p ∷ ps) = nextOf sh (p .literal)
 
 -- the clause at a place, counted from 0
-unfoldable pub nth : List Clause → ℕ → Option Clause
-nth [] k = none
-nth (cl ∷ cls) zero = some cl
-nth (cl ∷ cls) (suc k) = nth cls k
+unfoldable pub nthClause : List Clause → ℕ → Option Clause
+nthClause [] k = none
+nthClause (cl ∷ cls) zero = some cl
+nthClause (cl ∷ cls) (suc k) = nthClause cls k
 
 -- the clause of a number: clauses count from 1, and 0 is none
 unfoldable pub clauseAt : Sheet → ℕ → Option Clause
 clauseAt sh zero = none
-clauseAt sh (suc k) = nth (sh .clauses) k
+clauseAt sh (suc k) = nthClause (sh .clauses) k
 
 -- ---- one step
 
 -- some literals as new, with bindings and calls
-abbrev pub standing : Sheet → List Pending → List Binding → List Call → Alternative
-standing sh lits b calls = record { literals = lits; bindings = b; next = topmost sh lits; calls = calls }
+abbrev pub newAlternative : Sheet → List Pending → List Binding → List Call → Alternative
+newAlternative sh lits b calls = record { literals = lits; bindings = b; next = topmost sh lits; calls = calls }
 
 -- "the literal goes": the literals behind it are left, the first of them new
 unfoldable pub gone : Sheet → Alternative → List Pending → List Binding → Alternative
-gone sh a rest b = standing sh rest b (a .calls)
+gone sh a rest b = newAlternative sh rest b (a .calls)
 
 -- "equation: unified, the literal goes; not unifiable, the alternative goes"
 unfoldable pub equated : Sheet → Alternative → List Pending → Option (List Binding) → List Alternative
@@ -97,7 +97,7 @@ movedOn sh a at = record { literals = a .literals; bindings = a .bindings; next 
 unfoldable pub laid : Sheet → Alternative → ℕ → Atom → List Pending → Clause → Option (List Binding) → Option Alternative
 laid sh a c at rest cl none = none
 laid sh a c at rest cl (some b) =
-    some (standing sh (pending (suc (path a)) (cl .body) rest) b (record { copy = c; atom = at } ∷ a .calls))
+    some (newAlternative sh (pending (suc (path a)) (cl .body) rest) b (record { copy = c; atom = at } ∷ a .calls))
 
 -- What trying one clause leads to: "it is tried with new variables", those of the copy one past the path.
 unfoldable pub tried : Sheet → Alternative → ℕ → Atom → List Pending → Clause → Option Alternative
@@ -139,7 +139,7 @@ step sh (a ∷ below) = outcome sh a ++ below
 
 -- "At first there is one, the goal, path 0."
 unfoldable pub start : Sheet → Goal → List Alternative
-start sh g = standing sh (pending 0 (g .body) []) [] [] ∷ []
+start sh g = newAlternative sh (pending 0 (g .body) []) [] [] ∷ []
 
 -- the pile after n steps from the goal alone
 unfoldable pub pileAfter : Sheet → Goal → ℕ → List Alternative

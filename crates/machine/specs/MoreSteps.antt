@@ -11,13 +11,13 @@ use Rattle.syntax.specs.declared.Run.the-variants.{Ended as ended-by, Refused a
 use Rattle.machine.specs.Runs.{Steps, Ended, RunOutcome, stopped, ran, runAnswer, runText}
 
 -- a text is the beginning of another
-pub record Begins (text longer : List ℕ) : Type 0 where
+pub record IsPrefix (text longer : List ℕ) : Type 0 where
   pub rest : List ℕ
   pub whole : longer ≡ text ++ rest
 
 -- of where a run ended with a smaller allowance, and where with a larger one
 pub record MoreSteps (fewer more : Ended) : Type 0 where
-  pub beginning : Begins (fewer .at .text) (more .at .text)
+  pub beginning : IsPrefix (fewer .at .text) (more .at .text)
   pub equal : (fewer .kind ≡ Steps → ⊥) → more ≡ fewer
 
 -- a run over texts was refused, or ended otherwise than by `steps`
@@ -27,7 +27,7 @@ NotBySteps (ran report text) = report .kind ≡ Steps → ⊥
 
 -- Of what a run over texts comes to, report and text: a refusal is the same with every allowance in range.
 pub record MoreStepsOver (fewer more : RunOutcome) : Type 0 where
-  pub beginning : Begins (runText fewer) (runText more)
+  pub beginning : IsPrefix (runText fewer) (runText more)
   pub equal : NotBySteps fewer → more ≡ fewer
   pub refusals : (text : Text) (refusal : Refusal) → more ≡ stopped text refusal → fewer ≡ stopped text refusal
 
@@ -38,7 +38,7 @@ NotReportedSteps (refused-by text refusal) = Unit {0}
 
 -- of what a run gives back and of the text that it writes
 pub record MoreStepsAnswered (fewer : Run) (text : List ℕ) (more : Run) (longer : List ℕ) : Type 0 where
-  pub beginning : Begins text longer
+  pub beginning : IsPrefix text longer
   pub equal : NotReportedSteps fewer → (more ≡ fewer) × (longer ≡ text)
 
 -- that, of a run whose function promises `runAnswer` and `runText` of what it comes to

@@ -18,7 +18,7 @@ pub use Rattle.syntax.specs.declared.RunSettings.{RunSettings}
 use Rattle.syntax.specs.declared.Run.the-variants.{Ended as ended-by, Refused as refused-by}
 use Rattle.syntax.specs.declared.Refusal.{Refusal}
 use Rattle.syntax.specs.declared.Refusal.the-variants.{Settings}
-use Rattle.rules.specs.Checking.{checkedWith, checkedGoal}
+use Rattle.mode_rules.specs.Checking.{checkedWith, checkedGoal}
 use Rattle.machine.specs.Machine.{Pending, Alternative, path, clauseAt, step, start}
 use Rattle.machine.specs.Answers.{line}
 
@@ -135,8 +135,8 @@ run sh g allowance wanted room = runFrom sh g wanted room allowance (begun sh g)
 -- ---- a run in turns
 
 -- how a run that ended so goes on if it is given n steps more: only one that had used up its steps does
-unfoldable pub onward : Sheet → Goal → ℕ → ℕ → ℕ → Ended → Ended
-onward sh g wanted room n e = elim (e .kind) [ Wanted ↦ e | Done ↦ e | Steps ↦ runFrom sh g wanted room n (e .at) | Full ↦ e | Deep ↦ e ]
+unfoldable pub resumed : Sheet → Goal → ℕ → ℕ → ℕ → Ended → Ended
+resumed sh g wanted room n e = elim (e .kind) [ Wanted ↦ e | Done ↦ e | Steps ↦ runFrom sh g wanted room n (e .at) | Full ↦ e | Deep ↦ e ]
 
 -- ---- over texts
 

@@ -16,8 +16,8 @@ use Rattle.syntax.specs.Terms.{Term, Terms, variable, compound, nil, cons, arit
 use Rattle.syntax.specs.Verdicts.{Outcome, refused, accepted, sheetOf, goalOutcome}
 use Rattle.syntax.specs.declared.Refusal.{Refusal}
 use Rattle.syntax.specs.declared.Run.the-variants.{Ended as ended-by}
-use Rattle.rules.specs.Modes.{sameMark, marksFor, orNoMarks, listOf, sheetFault, goalFault}
-use Rattle.rules.specs.Checking.{faultless, checkedFrom, checkedWith, checkedGoalFrom, checkedGoal}
+use Rattle.mode_rules.specs.Modes.{sameMark, marksFor, orNoMarks, listOf, sheetFault, goalFault}
+use Rattle.mode_rules.specs.Checking.{faultless, checkedFrom, checkedWith, checkedGoalFrom, checkedGoal}
 use Rattle.buffers.specs.Feeds.{InLines}
 use Rattle.machine.specs.Substitution.{RTerm, var, app, rcons, copied, copiedAll, closed, replace, Binding, resolve}
 use Rattle.machine.specs.Unification.{unify}

@@ -9,12 +9,12 @@ use lib.Dec.{T, leb}
 use lib.ListN.{length}
 use Rattle.syntax.specs.Terms.{Atom, termOf, Literal, call, equation, truth, falsity, either, Body, Mark, input, output, Declaration, Clause, Sheet, Goal}
 use Rattle.syntax.specs.declared.Refusal.{Refusal}
-use Rattle.rules.specs.Modes.{Known, nothing, marksFor, listOf, clauseFault, clausesFault, sheetFault, Walk, faulted, known, walkFault, bodyFault, undeclaredInGoal, goalFault}
-use Rattle.rules_theorems.proofs.Agreement.{sheet-marks}
+use Rattle.mode_rules.specs.Modes.{Known, noneGround, marksFor, listOf, clauseFault, clausesFault, sheetFault, Walk, faulted, known, walkFault, bodyFault, undeclaredInGoal, goalFault}
+use Rattle.mode_theorems.proofs.Agreement.{sheet-marks}
 use Rattle.machine.specs.Substitution.{RTerm, copied, Binding}
 use Rattle.machine.specs.Unification.{unify}
 use Rattle.machine.specs.Unifiers.{MostGeneral, Unified}
-use Rattle.machine.specs.Machine.{Pending, Call, Alternative, path, pending, nth, clauseAt, gone, equated, movedOn, laid, tried, onTop, called, worked, workedOn, outcome, step, start}
+use Rattle.machine.specs.Machine.{Pending, Call, Alternative, path, pending, nthClause, clauseAt, gone, equated, movedOn, laid, tried, onTop, called, worked, workedOn, outcome, step, start}
 use Rattle.machine.specs.Counts.{openArguments, inputsOf, inputsFirst, openInputs, isLeft, shows, showsNewly, countIf, outputsOver, openOutputs, Tally, countedOn, countedStep, tally}
 use Rattle.machine.specs.Claims.{BothZero}
 use Rattle.machine.proofs.Tests.{both, some-eq, some-none}
@@ -39,8 +39,8 @@ none-then (some x) r e = absurd (some-none x e)
 abbrev pub Passes : Sheet → Clause → Type 0
 Passes sh cl = (n : ℕ) × (clauseFault (sh .declarations) n cl ≡ none)
 
-clauses-pass : (ds : List Declaration) (n : ℕ) (cls : List Clause) → clausesFault ds n cls ≡ none → (k : ℕ) (cl : Clause) → nth cls k ≡ some cl → (m : ℕ) × (clauseFault ds m cl ≡ none)
-unfolding clausesFault nth
+clauses-pass : (ds : List Declaration) (n : ℕ) (cls : List Clause) → clausesFault ds n cls ≡ none → (k : ℕ) (cl : Clause) → nthClause cls k ≡ some cl → (m : ℕ) × (clauseFault ds m cl ≡ none)
+unfolding clausesFault nthClause
 clauses-pass ds n [] e k cl h = absurd (some-none cl (sym h))
 clauses-pass ds n (x ∷ xs) e zero cl h =
     (n, subst (λ (y : Clause). clauseFault ds n y ≡ none) (some-eq x cl h) (none-then (clauseFault ds n x) (clausesFault ds (suc n) xs) e .0))
@@ -182,16 +182,16 @@ unfolding walkFault
 walk-ends (faulted r) e = some-none r e
 walk-ends (known σ) e = tt
 
-goal-ends : (sh : Sheet) (g : Goal) → goalFault sh g ≡ none → Ends (λ (σ : Known). Unit {0}) (bodyFault (sh .declarations) 0 1 nothing (g .body))
+goal-ends : (sh : Sheet) (g : Goal) → goalFault sh g ≡ none → Ends (λ (σ : Known). Unit {0}) (bodyFault (sh .declarations) 0 1 noneGround (g .body))
 unfolding goalFault
-goal-ends sh g e = walk-ends (bodyFault (sh .declarations) 0 1 nothing (g .body)) (none-then (undeclaredInGoal sh g) (walkFault (bodyFault (sh .declarations) 0 1 nothing (g .body))) e .1)
+goal-ends sh g e = walk-ends (bodyFault (sh .declarations) 0 1 noneGround (g .body)) (none-then (undeclaredInGoal sh g) (walkFault (bodyFault (sh .declarations) 0 1 noneGround (g .body))) e .1)
 
 -- the goal alone is safe
 pub start-good : (sh : Sheet) (g : Goal) → goalFault sh g ≡ none → All (Good sh) (start sh g)
 unfolding start Shown Bounded Safe
 start-good sh g e = (
   record {
-    safe = body-safe sh [] 0 [] [] (λ l ps f b h. tt) (g .body) 0 1 nothing (λ σ. Unit {0}) (sound-nothing 0 []) (goal-ends sh g e) (λ σ b h s q. tt);
+    safe = body-safe sh [] 0 [] [] (λ l ps f b h. tt) (g .body) 0 1 noneGround (λ σ. Unit {0}) (sound-nothing 0 []) (goal-ends sh g e) (λ σ b h s q. tt);
     bounded = bounded-pending 0 0 (g .body) [] (omega arith) tt;
   },
   tt,

@@ -12,7 +12,7 @@ use Rattle.syntax.specs.Terms.{Term, Declaration, Clause, Sheet}
 use Rattle.machine.specs.Substitution.{RTerm, RTerms, var, app, rnil, rcons, copied, Binding, resolve}
 use Rattle.machine.specs.Unification.{unify}
 use Rattle.machine.specs.Unifiers.{Substitution, apply, applyAll, Unifies, Unified}
-use Rattle.machine.specs.Machine.{isFor, nth, clauseAt}
+use Rattle.machine.specs.Machine.{isFor, nthClause, clauseAt}
 use Rattle.machine.specs.Determinacy.{withoutBrackets, firstBracketed, inputs, Equal, Common, joinOn, joined, isJoined, joins, overlaps, firstOverlap, Pair, firstPair, against, isNothing, determinate, Determinate}
 use Rattle.machine.proofs.Tests.{both, and, holds, some-eq, some-none}
 use Rattle.machine_theorems.proofs.Terms.{resolveAll, resolve-app, resolve-nil, resolve-cons, Grows, grows-refl, grows-trans}
@@ -91,20 +91,20 @@ joins-exactly ts us = (λ t. joined-exactly ts us .0 (there (joined [] ts us) re
 
 -- ---- brackets
 
-bracketed-none : (n : ℕ) (cls : List Clause) → firstBracketed n cls ≡ none → (k : ℕ) (cl : Clause) → nth cls k ≡ some cl → T (withoutBrackets (cl .body))
-unfolding firstBracketed nth
+bracketed-none : (n : ℕ) (cls : List Clause) → firstBracketed n cls ≡ none → (k : ℕ) (cl : Clause) → nthClause cls k ≡ some cl → T (withoutBrackets (cl .body))
+unfolding firstBracketed nthClause
 bracketed-none n [] e k cl h = absurd (some-none cl (sym h))
 bracketed-none n (x ∷ xs) e k cl h = go (withoutBrackets (x .body)) refl (λ q j l. bracketed-none (suc n) xs q j cl l) e k h
   where
-    go : (a : Bool) → withoutBrackets (x .body) ≡ a → (firstBracketed (suc n) xs ≡ none → (j : ℕ) → nth xs j ≡ some cl → T (withoutBrackets (cl .body)))
+    go : (a : Bool) → withoutBrackets (x .body) ≡ a → (firstBracketed (suc n) xs ≡ none → (j : ℕ) → nthClause xs j ≡ some cl → T (withoutBrackets (cl .body)))
         → _≡_ {A = Option ℕ} (elim a as (λ _. Option ℕ) [ true ↦ firstBracketed (suc n) xs | false ↦ some n ]) none
-        → (j : ℕ) → nth (x ∷ xs) j ≡ some cl → T (withoutBrackets (cl .body))
+        → (j : ℕ) → nthClause (x ∷ xs) j ≡ some cl → T (withoutBrackets (cl .body))
     go true t r q zero l = subst (λ (y : Clause). T (withoutBrackets (y .body))) (some-eq x cl l) (holds (withoutBrackets (x .body)) t)
     go true t r q (suc j) l = r q j l
     go false t r q j l = absurd (some-none n q)
 
-none-bracketed : (n : ℕ) (cls : List Clause) → ((k : ℕ) (cl : Clause) → nth cls k ≡ some cl → T (withoutBrackets (cl .body))) → firstBracketed n cls ≡ none
-unfolding firstBracketed nth
+none-bracketed : (n : ℕ) (cls : List Clause) → ((k : ℕ) (cl : Clause) → nthClause cls k ≡ some cl → T (withoutBrackets (cl .body))) → firstBracketed n cls ≡ none
+unfolding firstBracketed nthClause
 none-bracketed n [] h = refl
 none-bracketed n (x ∷ xs) h = go (withoutBrackets (x .body)) (h 0 x refl) (none-bracketed (suc n) xs (λ k cl e. h (suc k) cl e))
   where
@@ -116,20 +116,20 @@ none-bracketed n (x ∷ xs) h = go (withoutBrackets (x .body)) (h 0 x refl) (non
 -- ---- pairs
 
 module _ (ds : List Declaration) where
-  pub overlap-none : (cl : Clause) (n : ℕ) (cls : List Clause) → firstOverlap ds cl n cls ≡ none → (k : ℕ) (x : Clause) → nth cls k ≡ some x → T (overlaps ds cl x) → ⊥
-  unfolding firstOverlap nth
+  pub overlap-none : (cl : Clause) (n : ℕ) (cls : List Clause) → firstOverlap ds cl n cls ≡ none → (k : ℕ) (x : Clause) → nthClause cls k ≡ some x → T (overlaps ds cl x) → ⊥
+  unfolding firstOverlap nthClause
   overlap-none cl n [] e k x h = absurd (some-none x (sym h))
   overlap-none cl n (y ∷ ys) e k x h = go (overlaps ds cl y) refl (λ q j l. overlap-none cl (suc n) ys q j x l) e k h
     where
-      go : (a : Bool) → overlaps ds cl y ≡ a → (firstOverlap ds cl (suc n) ys ≡ none → (j : ℕ) → nth ys j ≡ some x → T (overlaps ds cl x) → ⊥)
+      go : (a : Bool) → overlaps ds cl y ≡ a → (firstOverlap ds cl (suc n) ys ≡ none → (j : ℕ) → nthClause ys j ≡ some x → T (overlaps ds cl x) → ⊥)
           → _≡_ {A = Option ℕ} (elim a as (λ _. Option ℕ) [ true ↦ some n | false ↦ firstOverlap ds cl (suc n) ys ]) none
-          → (j : ℕ) → nth (y ∷ ys) j ≡ some x → T (overlaps ds cl x) → ⊥
+          → (j : ℕ) → nthClause (y ∷ ys) j ≡ some x → T (overlaps ds cl x) → ⊥
       go true t r q j l = absurd (some-none n q)
       go false t r q zero l = λ z. subst T t (subst (λ (c : Clause). T (overlaps ds cl c)) (sym (some-eq y x l)) z)
       go false t r q (suc j) l = r q j l
 
-  none-overlap : (cl : Clause) (n : ℕ) (cls : List Clause) → ((k : ℕ) (x : Clause) → nth cls k ≡ some x → T (overlaps ds cl x) → ⊥) → firstOverlap ds cl n cls ≡ none
-  unfolding firstOverlap nth
+  none-overlap : (cl : Clause) (n : ℕ) (cls : List Clause) → ((k : ℕ) (x : Clause) → nthClause cls k ≡ some x → T (overlaps ds cl x) → ⊥) → firstOverlap ds cl n cls ≡ none
+  unfolding firstOverlap nthClause
   none-overlap cl n [] h = refl
   none-overlap cl n (y ∷ ys) h = go (overlaps ds cl y) (h 0 y refl) (none-overlap cl (suc n) ys (λ k x e. h (suc k) x e))
     where
@@ -138,23 +138,23 @@ module _ (ds : List Declaration) where
       go true t q = absurd (t tt)
       go false t q = q
 
-  pair-none : (n : ℕ) (cls : List Clause) → firstPair ds n cls ≡ none → (i j : ℕ) (cl x : Clause) → i < j → nth cls i ≡ some cl → nth cls j ≡ some x → T (overlaps ds cl x) → ⊥
-  unfolding firstPair nth
+  pair-none : (n : ℕ) (cls : List Clause) → firstPair ds n cls ≡ none → (i j : ℕ) (cl x : Clause) → i < j → nthClause cls i ≡ some cl → nthClause cls j ≡ some x → T (overlaps ds cl x) → ⊥
+  unfolding firstPair nthClause
   pair-none n [] e i j cl x l p q = absurd (some-none cl (sym p))
   pair-none n (y ∷ ys) e i j cl x l p q = go (firstOverlap ds y (suc n) ys) refl (λ s k m r t u. pair-none (suc n) ys s k m cl x r t u) e i j l p q
     where
       go : (o : Option ℕ) → firstOverlap ds y (suc n) ys ≡ o
-          → (firstPair ds (suc n) ys ≡ none → (k m : ℕ) → k < m → nth ys k ≡ some cl → nth ys m ≡ some x → T (overlaps ds cl x) → ⊥)
+          → (firstPair ds (suc n) ys ≡ none → (k m : ℕ) → k < m → nthClause ys k ≡ some cl → nthClause ys m ≡ some x → T (overlaps ds cl x) → ⊥)
           → _≡_ {A = Option Pair} (elim o as (λ _. Option Pair) [ none ↦ firstPair ds (suc n) ys | some m ↦ some (record { first = n; second = m }) ]) none
-          → (k m : ℕ) → k < m → nth (y ∷ ys) k ≡ some cl → nth (y ∷ ys) m ≡ some x → T (overlaps ds cl x) → ⊥
+          → (k m : ℕ) → k < m → nthClause (y ∷ ys) k ≡ some cl → nthClause (y ∷ ys) m ≡ some x → T (overlaps ds cl x) → ⊥
       go none s r t zero zero h u v = absurd (let w : ⊥ = omega arith in w)
       go none s r t zero (suc m) h u v = λ z. overlap-none y (suc n) ys s m x v (subst (λ (c : Clause). T (overlaps ds c x)) (sym (some-eq y cl u)) z)
       go none s r t (suc k) zero h u v = absurd (let w : ⊥ = omega arith in w)
       go none s r t (suc k) (suc m) h u v = r t k m (omega arith) u v
       go (some a) s r t k m h u v = absurd (some-none (record { first = n; second = a }) t)
 
-  none-pair : (n : ℕ) (cls : List Clause) → ((i j : ℕ) (cl x : Clause) → i < j → nth cls i ≡ some cl → nth cls j ≡ some x → T (overlaps ds cl x) → ⊥) → firstPair ds n cls ≡ none
-  unfolding firstPair nth
+  none-pair : (n : ℕ) (cls : List Clause) → ((i j : ℕ) (cl x : Clause) → i < j → nthClause cls i ≡ some cl → nthClause cls j ≡ some x → T (overlaps ds cl x) → ⊥) → firstPair ds n cls ≡ none
+  unfolding firstPair nthClause
   none-pair n [] h = refl
   none-pair n (y ∷ ys) h =
       go (firstOverlap ds y (suc n) ys) (none-overlap y (suc n) ys (λ j x q. h 0 (suc j) y x (omega arith) refl q))
@@ -217,7 +217,7 @@ module _ (sh : Sheet) where
   determinate-none d =
       none-against (none-bracketed 1 (sh .clauses) (λ k cl h. d .plain (suc k) cl h)) (none-pair (sh .declarations) 1 (sh .clauses) pairs)
     where
-      pairs : (i j : ℕ) (cl x : Clause) → i < j → nth (sh .clauses) i ≡ some cl → nth (sh .clauses) j ≡ some x → T (overlaps (sh .declarations) cl x) → ⊥
+      pairs : (i j : ℕ) (cl x : Clause) → i < j → nthClause (sh .clauses) i ≡ some cl → nthClause (sh .clauses) j ≡ some x → T (overlaps (sh .declarations) cl x) → ⊥
       pairs i j cl x l p q t =
           let k : T (isFor (cl .head) x) × T (joins (inputs (sh .declarations) (cl .head)) (inputs (sh .declarations) (x .head))) =
           both (isFor (cl .head) x) (joins (inputs (sh .declarations) (cl .head)) (inputs (sh .declarations) (x .head))) t in

@@ -15,8 +15,8 @@ use Rattle.syntax.specs.declared.Refusal.the-variants.{Settings}
 use Rattle.syntax.specs.declared.Text.{Text}
 use Rattle.syntax.specs.declared.Text.the-variants.{Sheet as inSheet, Goal as inGoal, Neither}
 use Rattle.syntax.specs.declared.Verdict.the-variants.{Accepted, Refused}
-use Rattle.rules.specs.Modes.{sheetFault, goalFault}
-use Rattle.rules.specs.Checking.{faultless, checkedFrom, checkedWith, checkedSheet, checkedGoalFrom, checkedGoal, goalAnswer, checkGoalFrom, checkGoalVerdict}
+use Rattle.mode_rules.specs.Modes.{sheetFault, goalFault}
+use Rattle.mode_rules.specs.Checking.{faultless, checkedFrom, checkedWith, checkedSheet, checkedGoalFrom, checkedGoal, goalAnswer, checkGoalFrom, checkGoalVerdict}
 use Rattle.machine.specs.Machine.{Alternative, step, pileAfter}
 use Rattle.machine.specs.Runs.{Kind, Wanted, Done, Steps, Progress, isEmpty, endings, firstEnd, advance, advanced, endOr, runFrom, begun, run, Report, RunSettings, RunOutcome, stopped, ran, overGoal, overSheet, inRange, runOutcome}
 use Rattle.machine.specs.Counts.{countedOn, countedStep, tally}

@@ -9,8 +9,8 @@ use mathlib.Core.Logic.{_⊎_, inl, inr}
 use mathlib.Core.Option.{Option, none, some}
 use lib.Dec.{T}
 use Rattle.syntax.specs.Terms.{Declaration, Clause, Sheet}
-use Rattle.machine.specs.Machine.{isFor, nth, clauseAt}
-use Rattle.machine.specs.Determinacy.{withoutBrackets, firstBracketed, inputs, Common, joins, overlaps, firstOverlap, Pair, firstPair, against, Before, FirstOverlap, FirstBracket, Names}
+use Rattle.machine.specs.Machine.{isFor, nthClause, clauseAt}
+use Rattle.machine.specs.Determinacy.{withoutBrackets, firstBracketed, inputs, Common, joins, overlaps, firstOverlap, Pair, firstPair, against, Before, FirstOverlap, FirstBracket, NamesFirst}
 use Rattle.machine.proofs.Tests.{both, and, holds, some-eq, some-none}
 use Rattle.machine_theorems.proofs.Determinacy.{joins-exactly, overlap-none}
 
@@ -20,17 +20,17 @@ record FoundBracket (n : ℕ) (cls : List Clause) (m : ℕ) : Type 0 where
   place : ℕ
   clause : Clause
   number : m ≡ n + place
-  there : nth cls place ≡ some clause
+  there : nthClause cls place ≡ some clause
   bracket : T (withoutBrackets (clause .body)) → ⊥
-  before : (j : ℕ) (x : Clause) → j < place → nth cls j ≡ some x → T (withoutBrackets (x .body))
+  before : (j : ℕ) (x : Clause) → j < place → nthClause cls j ≡ some x → T (withoutBrackets (x .body))
 
 bracketed-some : (n : ℕ) (cls : List Clause) (m : ℕ) → firstBracketed n cls ≡ some m → FoundBracket n cls m
-unfolding firstBracketed nth
+unfolding firstBracketed nthClause
 bracketed-some n [] m e = absurd (some-none m (sym e))
 bracketed-some n (y ∷ ys) m e = go (withoutBrackets (y .body)) refl (λ q. bracketed-some (suc n) ys m q) e
   where
-    ahead : T (withoutBrackets (y .body)) → (k : ℕ) → ((j : ℕ) (x : Clause) → j < k → nth ys j ≡ some x → T (withoutBrackets (x .body)))
-        → (j : ℕ) (x : Clause) → j < suc k → nth (y ∷ ys) j ≡ some x → T (withoutBrackets (x .body))
+    ahead : T (withoutBrackets (y .body)) → (k : ℕ) → ((j : ℕ) (x : Clause) → j < k → nthClause ys j ≡ some x → T (withoutBrackets (x .body)))
+        → (j : ℕ) (x : Clause) → j < suc k → nthClause (y ∷ ys) j ≡ some x → T (withoutBrackets (x .body))
     ahead t k h zero x l q = subst (λ (c : Clause). T (withoutBrackets (c .body))) (some-eq y x q) t
     ahead t k h (suc j) x l q = h j x (omega arith) q
 
@@ -53,17 +53,17 @@ module _ (ds : List Declaration) where
     place : ℕ
     clause : Clause
     number : m ≡ n + place
-    there : nth cls place ≡ some clause
+    there : nthClause cls place ≡ some clause
     over : T (overlaps ds cl clause)
-    before : (j : ℕ) (x : Clause) → j < place → nth cls j ≡ some x → T (overlaps ds cl x) → ⊥
+    before : (j : ℕ) (x : Clause) → j < place → nthClause cls j ≡ some x → T (overlaps ds cl x) → ⊥
 
   overlap-some : (cl : Clause) (n : ℕ) (cls : List Clause) (m : ℕ) → firstOverlap ds cl n cls ≡ some m → FoundOverlap cl n cls m
-  unfolding firstOverlap nth
+  unfolding firstOverlap nthClause
   overlap-some cl n [] m e = absurd (some-none m (sym e))
   overlap-some cl n (y ∷ ys) m e = go (overlaps ds cl y) refl (λ q. overlap-some cl (suc n) ys m q) e
     where
-      ahead : (T (overlaps ds cl y) → ⊥) → (k : ℕ) → ((j : ℕ) (x : Clause) → j < k → nth ys j ≡ some x → T (overlaps ds cl x) → ⊥)
-          → (j : ℕ) (x : Clause) → j < suc k → nth (y ∷ ys) j ≡ some x → T (overlaps ds cl x) → ⊥
+      ahead : (T (overlaps ds cl y) → ⊥) → (k : ℕ) → ((j : ℕ) (x : Clause) → j < k → nthClause ys j ≡ some x → T (overlaps ds cl x) → ⊥)
+          → (j : ℕ) (x : Clause) → j < suc k → nthClause (y ∷ ys) j ≡ some x → T (overlaps ds cl x) → ⊥
       ahead t k h zero x l q = λ z. t (subst (λ (c : Clause). T (overlaps ds cl c)) (sym (some-eq y x q)) z)
       ahead t k h (suc j) x l q = h j x (omega arith) q
 
@@ -87,13 +87,13 @@ module _ (ds : List Declaration) where
     first : p .first ≡ n + i
     second : p .second ≡ n + j
     order : i < j
-    one : nth cls i ≡ some cl
-    two : nth cls j ≡ some other
+    one : nthClause cls i ≡ some cl
+    two : nthClause cls j ≡ some other
     over : T (overlaps ds cl other)
-    before : (k m : ℕ) (x y : Clause) → k < m → (k < i) ⊎ ((k ≡ i) × (m < j)) → nth cls k ≡ some x → nth cls m ≡ some y → T (overlaps ds x y) → ⊥
+    before : (k m : ℕ) (x y : Clause) → k < m → (k < i) ⊎ ((k ≡ i) × (m < j)) → nthClause cls k ≡ some x → nthClause cls m ≡ some y → T (overlaps ds x y) → ⊥
 
   pair-some : (n : ℕ) (cls : List Clause) (p : Pair) → firstPair ds n cls ≡ some p → FoundPair n cls p
-  unfolding firstPair nth
+  unfolding firstPair nthClause
   pair-some n [] p e = absurd (some-none p (sym e))
   pair-some n (z ∷ zs) p e = go (firstOverlap ds z (suc n) zs) refl (λ q. pair-some (suc n) zs p q) e
     where
@@ -103,16 +103,16 @@ module _ (ds : List Declaration) where
 
       -- none with the first clause, and those of the others
       behind : firstOverlap ds z (suc n) zs ≡ none → (i j : ℕ)
-          → ((k m : ℕ) (x y : Clause) → k < m → (k < i) ⊎ ((k ≡ i) × (m < j)) → nth zs k ≡ some x → nth zs m ≡ some y → T (overlaps ds x y) → ⊥)
-          → (k m : ℕ) (x y : Clause) → k < m → (k < suc i) ⊎ ((k ≡ suc i) × (m < suc j)) → nth (z ∷ zs) k ≡ some x → nth (z ∷ zs) m ≡ some y → T (overlaps ds x y) → ⊥
+          → ((k m : ℕ) (x y : Clause) → k < m → (k < i) ⊎ ((k ≡ i) × (m < j)) → nthClause zs k ≡ some x → nthClause zs m ≡ some y → T (overlaps ds x y) → ⊥)
+          → (k m : ℕ) (x y : Clause) → k < m → (k < suc i) ⊎ ((k ≡ suc i) × (m < suc j)) → nthClause (z ∷ zs) k ≡ some x → nthClause (z ∷ zs) m ≡ some y → T (overlaps ds x y) → ⊥
       behind s i j h zero zero x y l b q r = absurd (let w : ⊥ = omega arith in w)
       behind s i j h zero (suc m) x y l b q r = λ t. overlap-none ds z (suc n) zs s m y r (subst (λ (c : Clause). T (overlaps ds c y)) (sym (some-eq z x q)) t)
       behind s i j h (suc k) zero x y l b q r = absurd (let w : ⊥ = omega arith in w)
       behind s i j h (suc k) (suc m) x y l b q r = h k m x y (omega arith) (earlier i j k m b) q r
 
       -- none but with the first clause comes before
-      ahead : (a : ℕ) → ((j : ℕ) (x : Clause) → j < a → nth zs j ≡ some x → T (overlaps ds z x) → ⊥)
-          → (k m : ℕ) (x y : Clause) → k < m → (k < 0) ⊎ ((k ≡ 0) × (m < suc a)) → nth (z ∷ zs) k ≡ some x → nth (z ∷ zs) m ≡ some y → T (overlaps ds x y) → ⊥
+      ahead : (a : ℕ) → ((j : ℕ) (x : Clause) → j < a → nthClause zs j ≡ some x → T (overlaps ds z x) → ⊥)
+          → (k m : ℕ) (x y : Clause) → k < m → (k < 0) ⊎ ((k ≡ 0) × (m < suc a)) → nthClause (z ∷ zs) k ≡ some x → nthClause (z ∷ zs) m ≡ some y → T (overlaps ds x y) → ⊥
       ahead a h k m x y l (inl b) q r = absurd (let w : ⊥ = omega arith in w)
       ahead a h zero zero x y l (inr b) q r = absurd (let w : ⊥ = omega arith in w)
       ahead a h zero (suc m) x y l (inr b) q r =
@@ -204,13 +204,13 @@ module _ (sh : Sheet) where
       before (suc m) (suc n) x y l b q r = f .before m n x y (omega arith) (down m n b) q r
 
   -- What speaks against a sheet is what it should be.
-  pub against-names : (p : Pair) → against sh ≡ some p → Names sh p
+  pub against-names : (p : Pair) → against sh ≡ some p → NamesFirst sh p
   unfolding against
   against-names p e = go (firstBracketed 1 (sh .clauses)) refl e
     where
       go : (o : Option ℕ) → firstBracketed 1 (sh .clauses) ≡ o
           → _≡_ {A = Option Pair} (elim o as (λ _. Option Pair) [ none ↦ firstPair (sh .declarations) 1 (sh .clauses) | some n ↦ some (record { first = n; second = 0 }) ]) (some p)
-          → Names sh p
+          → NamesFirst sh p
       go none s q = inr (pair-named p (pair-some (sh .declarations) 1 (sh .clauses) p q))
       go (some n) s q =
           let a : record { first = n; second = 0 } ≡ p = some-eq (record { first = n; second = 0 }) p q in

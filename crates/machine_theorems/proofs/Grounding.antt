@@ -11,9 +11,9 @@ use lib.Dec.{T, eqb, eqb-refl}
 use lib.ListN.{length, set, replicate}
 use Rattle.syntax.specs.Limits.{variables}
 use Rattle.syntax.specs.Terms.{Term, Terms, variable, compound, nil, cons, arity, Atom, termOf, Mark, Declaration, samePredicate, sameName}
-use Rattle.rules.specs.Modes.{Known, knows, nothing, isGround, areGround, groundTerm, groundTerms, groundBoth, equateVariable, equateSame, equate, equateAll, further, goOver, passes, settle, marksOf, orNoMarks, marksFor, sameMark, listOf, openByte, ifMarked, OpenArgument, firstOpen, faulty, oneMore, countFaulty, groundIf, groundMarked, inBoth}
-use Rattle.rules.proofs.Terms.{isNone, ground-none}
-use Rattle.rules_theorems.proofs.Bodies.{both-knows}
+use Rattle.mode_rules.specs.Modes.{Known, knows, noneGround, isGround, areGround, groundTerm, groundTerms, groundBoth, equateVariable, equateSame, equate, equateAll, further, goOver, passes, settle, marksOf, orNoMarks, marksFor, sameMark, listOf, openByte, ifMarked, OpenArgument, firstOpen, faulty, oneMore, countFaulty, groundIf, groundMarked, inBoth}
+use Rattle.mode_rules.proofs.Terms.{isNone, ground-none}
+use Rattle.mode_theorems.proofs.Bodies.{both-knows}
 use Rattle.machine.specs.Substitution.{RTerm, RTerms, var, app, rnil, rcons, copied, copiedAll, closed, closedAll, Binding, resolve}
 use Rattle.machine.proofs.Tests.{both, and, either, name-refl}
 use Rattle.machine_theorems.proofs.Terms.{resolveAll, resolve-app, resolve-nil, resolve-cons, Grows}
@@ -104,8 +104,8 @@ replicate-false zero i h = h
 replicate-false (suc n) zero h = h
 replicate-false (suc n) (suc i) h = replicate-false n i h
 
-pub sound-nothing : (c : ℕ) (b : List Binding) → Sound nothing c b
-unfolding nothing
+pub sound-nothing : (c : ℕ) (b : List Binding) → Sound noneGround c b
+unfolding noneGround
 sound-nothing c b = λ i h. absurd (replicate-false variables i h)
 
 set-known : (τ : Known) (i j : ℕ) → T (knows (set τ i true) j) → (j ≡ i) ⊎ T (knows τ j)

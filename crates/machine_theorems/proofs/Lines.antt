@@ -16,8 +16,8 @@ use Rattle.buffers.proofs.Feeding.{feedless-first, feedless-rest, feed-line, by
 use Rattle.buffers.specs.Buffers.{decimal}
 use Rattle.machine.specs.Substitution.{Variable, sameVariable, isLater, RTerm, RTerms, var, app, rnil, rcons, occursIn, copied, copiedAll, replace, replaceAll, Binding, resolve}
 use Rattle.machine.specs.Unification.{Difference, same, clash, apart, differVariables, differMixed, orElse, differ, differAll, bound, rounds, places, unify}
-use Rattle.machine.specs.Machine.{Pending, Alternative, path, pending, nth, clauseAt, gone, equated, movedOn, laid, tried, onTop, called, worked, workedOn, outcome, start}
-use Rattle.machine.specs.Answers.{Piece, byte, unbound, written, spelt, speltArgs, speltMore, placeOf, numbered, bytesOf, isAnonymous, allAnonymous, valuesFrom, line}
+use Rattle.machine.specs.Machine.{Pending, Alternative, path, pending, nthClause, clauseAt, gone, equated, movedOn, laid, tried, onTop, called, worked, workedOn, outcome, start}
+use Rattle.machine.specs.Answers.{Piece, byte, unbound, bytesThen, spelt, speltArgs, speltMore, placeOf, numbered, bytesOf, isAnonymous, allAnonymous, valuesFrom, line}
 use Rattle.machine.specs.Runs.{Kind, Done, Wanted, Steps, Full, Deep, Progress, isEmpty, isAnswer, lineWith, nextLine, goesDeeper, endings, firstEnd, oneIf, advance, endOr, runFrom, begun, run, Report, RunSettings, ran, reported, runOutcome}
 use Rattle.machine.specs.Claims.{RunOver}
 use Rattle.machine_theorems.proofs.Names.{Feedless, FeedlessAll, InLiteral, InBody, InClause, InClauses, EachFeedless, InGoal, sheet-names, goal-names}
@@ -156,8 +156,8 @@ abbrev Found : Option Clause → Type 0
 Found none = Unit {0}
 Found (some cl) = InClause cl
 
-nth-found : (cls : List Clause) (k : ℕ) → InClauses cls → Found (nth cls k)
-unfolding nth
+nth-found : (cls : List Clause) (k : ℕ) → InClauses cls → Found (nthClause cls k)
+unfolding nthClause
 nth-found [] k h = tt
 nth-found (cl ∷ cls) zero h = h .0
 nth-found (cl ∷ cls) (suc k) h = nth-found cls k (h .1)
@@ -246,10 +246,10 @@ unbound-piece v ps h met = go (placeOf v 1 met)
     go none = numbered-line (suc (length met)) (bytesOf (met ++ (v ∷ [])) ps) (h (met ++ (v ∷ [])))
     go (some n) = numbered-line n (bytesOf met ps) (h met)
 
-written-line : (bs : List ℕ) (ps : List Piece) → feeds bs ≡ 0 → OneLine ps → OneLine (written bs ps)
-unfolding written
+written-line : (bs : List ℕ) (ps : List Piece) → feeds bs ≡ 0 → OneLine ps → OneLine (bytesThen bs ps)
+unfolding bytesThen
 written-line [] ps h k = k
-written-line (b ∷ bs) ps h k = byte-piece b (written bs ps) (feedless-first b bs h) (written-line bs ps (feedless-rest b bs h) k)
+written-line (b ∷ bs) ps h k = byte-piece b (bytesThen bs ps) (feedless-first b bs h) (written-line bs ps (feedless-rest b bs h) k)
 
 mutual
   unfolding spelt speltArgs speltMore
@@ -296,12 +296,12 @@ values-line b h i separator k (x ∷ xs) n =
     go : (t : Bool) → OneLine (valuesFrom b (suc i) separator xs) → OneLine after
         → OneLine (elim t as (λ _. List Piece) [
           | true ↦ valuesFrom b (suc i) separator xs
-          | false ↦ written separator (written x (written (bytes " = ") (spelt value after)))
+          | false ↦ bytesThen separator (bytesThen x (bytesThen (bytes " = ") (spelt value after)))
         ])
     go true l m = l
     go false l m =
-        written-line separator (written x (written (bytes " = ") (spelt value after))) k
-        (written-line x (written (bytes " = ") (spelt value after)) (n .0)
+        written-line separator (bytesThen x (bytesThen (bytes " = ") (spelt value after))) k
+        (written-line x (bytesThen (bytes " = ") (spelt value after)) (n .0)
         (written-line (bytes " = ") (spelt value after) feedless-equals
         (spelt-line value after (resolve-plain b (var (record { copy = 0; number = i })) h tt) m)))
 

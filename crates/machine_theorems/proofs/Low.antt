@@ -10,7 +10,7 @@ use Rattle.syntax.specs.Limits.{literals, longestPath}
 use Rattle.syntax.specs.Terms.{Atom, termOf, Literal, call, equation, truth, falsity, either, Body, done, also, literalsIn, literalsOf, Clause, Sheet, Goal}
 use Rattle.machine.specs.Substitution.{copied, Binding}
 use Rattle.machine.specs.Unification.{unify}
-use Rattle.machine.specs.Machine.{Pending, Alternative, path, pending, nth, clauseAt, gone, equated, movedOn, laid, tried, onTop, called, worked, workedOn, outcome, step, start, pileAfter}
+use Rattle.machine.specs.Machine.{Pending, Alternative, path, pending, nthClause, clauseAt, gone, equated, movedOn, laid, tried, onTop, called, worked, workedOn, outcome, step, start, pileAfter}
 use Rattle.machine.specs.Low.{LiteralFilled, BodyFilled, BodyShort, ClausesShort, leftOf, AllFilled, LowOver, Low}
 use Rattle.machine.proofs.Tests.{some-eq, some-none}
 use Rattle.machine_theorems.proofs.Piles.{All}
@@ -29,8 +29,8 @@ filled-pending c (also l body) rest h k = (h .0, filled-pending c body rest (h .
 
 -- ---- the clauses of a sheet
 
-clauses-short : (cls : List Clause) → ClausesShort cls → (k : ℕ) (cl : Clause) → nth cls k ≡ some cl → BodyShort (cl .body)
-unfolding nth
+clauses-short : (cls : List Clause) → ClausesShort cls → (k : ℕ) (cl : Clause) → nthClause cls k ≡ some cl → BodyShort (cl .body)
+unfolding nthClause
 clauses-short [] h k cl e = absurd (some-none cl (sym e))
 clauses-short (x ∷ xs) h zero cl e = subst (λ (y : Clause). BodyShort (y .body)) (some-eq x cl e) (h .0)
 clauses-short (x ∷ xs) h (suc k) cl e = clauses-short xs (h .1) k cl e

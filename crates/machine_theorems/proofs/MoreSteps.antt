@@ -15,19 +15,19 @@ use Rattle.syntax.specs.Verdicts.{Outcome, refused, accepted}
 use Rattle.syntax.specs.declared.Text.the-variants.{Sheet as inSheet, Goal as inGoal, Trace as inTrace, Neither}
 use Rattle.syntax.specs.declared.Refusal.{Refusal}
 use Rattle.syntax.specs.declared.Refusal.the-variants.{Settings}
-use Rattle.rules.specs.Checking.{checkedWith, checkedGoal}
-use Rattle.machine.specs.Runs.{Kind, Wanted, Done, Steps, Full, Deep, Progress, Ended, nextLine, endings, firstEnd, advance, endOr, runFrom, begun, run, onward, RunSettings, RunOutcome, stopped, ran, reported, overGoal, inRange, runOutcome, runAnswer, runText}
+use Rattle.mode_rules.specs.Checking.{checkedWith, checkedGoal}
+use Rattle.machine.specs.Runs.{Kind, Wanted, Done, Steps, Full, Deep, Progress, Ended, nextLine, endings, firstEnd, advance, endOr, runFrom, begun, run, resumed, RunSettings, RunOutcome, stopped, ran, reported, overGoal, inRange, runOutcome, runAnswer, runText}
 use Rattle.machine.specs.Traces.{traceFault, tracedSheet, overTrace, overTraced, tracedOutcome}
-use Rattle.machine.specs.MoreSteps.{Begins, MoreSteps, NotBySteps, MoreStepsOver, NotReportedSteps, MoreStepsPublic}
+use Rattle.machine.specs.MoreSteps.{IsPrefix, MoreSteps, NotBySteps, MoreStepsOver, NotReportedSteps, MoreStepsPublic}
 use Rattle.machine_theorems.proofs.Turns.{more-steps}
 use Rattle.machine_theorems.proofs.Traces.{without-trace}
 
 -- ---- beginnings
 
-begins-itself : (text : List ℕ) → Begins text text
+begins-itself : (text : List ℕ) → IsPrefix text text
 begins-itself text = record { rest = []; whole = sym (append-nil text) }
 
-begins-through : (text next last : List ℕ) → Begins text next → Begins next last → Begins text last
+begins-through : (text next last : List ℕ) → IsPrefix text next → IsPrefix next last → IsPrefix text last
 begins-through text next last p q =
     record { rest = p .rest ++ q .rest; whole = q .whole ∙ ap (λ (x : List ℕ). x ++ q .rest) (p .whole) ∙ append-assoc text (p .rest) (q .rest) }
 
@@ -35,28 +35,28 @@ begins-through text next last p q =
 
 module _ (sh : Sheet) (g : Goal) (wanted room : ℕ) where
   -- a step only adds to the text
-  advance-begins : (p : Progress) → Begins (p .text) (advance sh g p .text)
+  advance-begins : (p : Progress) → IsPrefix (p .text) (advance sh g p .text)
   unfolding advance
   advance-begins p = record { rest = nextLine g (p .pile); whole = refl }
 
   -- and so does a run, from wherever it stands
-  run-begins : (left : ℕ) (p : Progress) → Begins (p .text) (runFrom sh g wanted room left p .at .text)
+  run-begins : (left : ℕ) (p : Progress) → IsPrefix (p .text) (runFrom sh g wanted room left p .at .text)
   unfolding runFrom endOr
   run-begins zero p = go (firstEnd (endings sh g wanted room 0 p))
     where
-      go : (o : Option Kind) → Begins (p .text) (endOr p o (λ _. record { kind = Steps; at = p }) .at .text)
+      go : (o : Option Kind) → IsPrefix (p .text) (endOr p o (λ _. record { kind = Steps; at = p }) .at .text)
       go none = begins-itself (p .text)
       go (some k) = begins-itself (p .text)
   run-begins (suc left) p = go (firstEnd (endings sh g wanted room (suc left) p)) (run-begins left (advance sh g p))
     where
-      go : (o : Option Kind) → Begins (advance sh g p .text) (runFrom sh g wanted room left (advance sh g p) .at .text)
-          → Begins (p .text) (endOr p o (λ _. runFrom sh g wanted room left (advance sh g p)) .at .text)
+      go : (o : Option Kind) → IsPrefix (advance sh g p .text) (runFrom sh g wanted room left (advance sh g p) .at .text)
+          → IsPrefix (p .text) (endOr p o (λ _. runFrom sh g wanted room left (advance sh g p)) .at .text)
       go none i = begins-through (p .text) (advance sh g p .text) (runFrom sh g wanted room left (advance sh g p) .at .text) (advance-begins p) i
       go (some k) i = begins-itself (p .text)
 
   -- a run given n steps more than it had
-  onward-begins : (n : ℕ) (e : Ended) → MoreSteps e (onward sh g wanted room n e)
-  unfolding onward
+  onward-begins : (n : ℕ) (e : Ended) → MoreSteps e (resumed sh g wanted room n e)
+  unfolding resumed
   onward-begins n e = go (e .kind) refl
     where
       same : MoreSteps e e

@@ -9,14 +9,14 @@ use lib.ListN.{take, drop}
 use lib.Seq.{drop-drop}
 use borrow.Author.Tests.{eqb-true}
 use Rattle.syntax.specs.Bytes.{classOf, inWord, inNumeral}
-use Rattle.syntax.specs.Tokens.{Gap, outside, inComment, Move, on, atToken, moveOf, skipped, run, word, dashFirst, tokenOf, tokenFrom, tokenPlace, tokenAt, spelling}
+use Rattle.syntax.specs.Tokens.{Gap, outside, inComment, Move, on, atToken, moveOf, skipped, runLength, word, dashFirst, tokenOf, tokenFrom, tokenPlace, tokenAt, spelling}
 use Rattle.syntax.specs.Numerals.{zeroDigit, trimmed}
 use Rattle.syntax.specs.Terms.{Term, Terms, variable, compound, nil, cons, termOf, Literal, call, equation, truth, falsity, either, Body, done, also, Clause, Sheet, Goal}
-use Rattle.syntax.specs.Reading.{Cursor, spelt, standing, next, withNew, atStart}
+use Rattle.syntax.specs.Reading.{Cursor, spelt, cursorAt, next, withNew, atStart}
 use Rattle.syntax.specs.Verdicts.{accepted}
 use Rattle.syntax.proofs.Induction.{Kept, sheet-read, goal-read}
-use Rattle.rules.specs.Checking.{checkedWith, checkedGoal}
-use Rattle.rules_theorems.proofs.Accepting.{checked-sheet, checked-goal}
+use Rattle.mode_rules.specs.Checking.{checkedWith, checkedGoal}
+use Rattle.mode_theorems.proofs.Accepting.{checked-sheet, checked-goal}
 use Rattle.buffers.specs.Feeds.{feeds}
 use Rattle.buffers.proofs.Feeding.{feedless-rest, feedless-cons}
 
@@ -54,14 +54,14 @@ skipped-starts g (b ∷ s) = go (moveOf g b) refl (λ h. skipped-starts h s)
     go atToken e k = here g e
 
 -- bytes that pass a test which the line feed does not
-run-feedless : (f : ℕ → Bool) → f 10 ≡ false → (s : List ℕ) → feeds (take (run f s) s) ≡ 0
-unfolding run feeds
+run-feedless : (f : ℕ → Bool) → f 10 ≡ false → (s : List ℕ) → feeds (take (runLength f s) s) ≡ 0
+unfolding runLength feeds
 run-feedless f n [] = refl
 run-feedless f n (b ∷ s) = go (f b) refl (run-feedless f n s)
   where
-    go : (t : Bool) → f b ≡ t → feeds (take (run f s) s) ≡ 0
-        → feeds (take (elim t as (λ _. ℕ) [ true ↦ suc (run f s) | false ↦ 0 ]) (b ∷ s)) ≡ 0
-    go true e h = feedless-cons b (take (run f s) s) (λ q. let z : true ≡ false = sym e ∙ ap f q ∙ n in let y : _≡_ {A = ℕ} 0 1 = cc in omega arith) h
+    go : (t : Bool) → f b ≡ t → feeds (take (runLength f s) s) ≡ 0
+        → feeds (take (elim t as (λ _. ℕ) [ true ↦ suc (runLength f s) | false ↦ 0 ]) (b ∷ s)) ≡ 0
+    go true e h = feedless-cons b (take (runLength f s) s) (λ q. let z : true ≡ false = sym e ∙ ap f q ∙ n in let y : _≡_ {A = ℕ} 0 1 = cc in omega arith) h
     go false e h = refl
 
 one-feedless : (b : ℕ) (s : List ℕ) → (b ≡ 10 → ⊥) → feeds (take 1 (b ∷ s)) ≡ 0
@@ -69,9 +69,9 @@ unfolding feeds
 one-feedless b s h = feedless-cons b [] h refl
 
 word-feedless : (kind at b : ℕ) (f : ℕ → Bool) → f 10 ≡ false → (s : List ℕ) → (b ≡ 10 → ⊥)
-    → feeds (take (word kind at (suc (run f s)) .len) (b ∷ s)) ≡ 0
+    → feeds (take (word kind at (suc (runLength f s)) .len) (b ∷ s)) ≡ 0
 unfolding word
-word-feedless kind at b f n s h = feedless-cons b (take (run f s) s) h (run-feedless f n s)
+word-feedless kind at b f n s h = feedless-cons b (take (runLength f s) s) h (run-feedless f n s)
 
 neck-feedless : (b : ℕ) (s : List ℕ) → (b ≡ 10 → ⊥) → feeds (take (cond (dashFirst s) 2 1) (b ∷ s)) ≡ 0
 unfolding dashFirst
@@ -87,7 +87,7 @@ unfolding tokenOf inWord inNumeral classOf
 token-of-feedless c at b s h = go (eqb c 3) (eqb c 4) (eqb c 5) (eqb c 6)
   where
     go : (x y z w : Bool)
-        → feeds (take (cond x (word 3 at (suc (run inWord s))) (cond y (word 4 at (suc (run inWord s))) (cond z (word 5 at (suc (run inNumeral s))) (cond w (record { kind = cond (dashFirst s) 6 0; at = at; len = cond (dashFirst s) 2 1 }) (record { kind = c; at = at; len = 1 })))) .len) (b ∷ s)) ≡ 0
+        → feeds (take (cond x (word 3 at (suc (runLength inWord s))) (cond y (word 4 at (suc (runLength inWord s))) (cond z (word 5 at (suc (runLength inNumeral s))) (cond w (record { kind = cond (dashFirst s) 6 0; at = at; len = cond (dashFirst s) 2 1 }) (record { kind = c; at = at; len = 1 })))) .len) (b ∷ s)) ≡ 0
     go true y z w = word-feedless 3 at b inWord refl s h
     go false true z w = word-feedless 4 at b inWord refl s h
     go false false true w = word-feedless 5 at b inNumeral refl s h
@@ -99,7 +99,7 @@ unfolding tokenOf word
 token-of-place c at s = go (eqb c 3) (eqb c 4) (eqb c 5) (eqb c 6)
   where
     go : (x y z w : Bool)
-        → cond x (word 3 at (suc (run inWord s))) (cond y (word 4 at (suc (run inWord s))) (cond z (word 5 at (suc (run inNumeral s))) (cond w (record { kind = cond (dashFirst s) 6 0; at = at; len = cond (dashFirst s) 2 1 }) (record { kind = c; at = at; len = 1 })))) .at ≡ at
+        → cond x (word 3 at (suc (runLength inWord s))) (cond y (word 4 at (suc (runLength inWord s))) (cond z (word 5 at (suc (runLength inNumeral s))) (cond w (record { kind = cond (dashFirst s) 6 0; at = at; len = cond (dashFirst s) 2 1 }) (record { kind = c; at = at; len = 1 })))) .at ≡ at
     go true y z w = refl
     go false true z w = refl
     go false false true w = refl
@@ -176,7 +176,7 @@ trimmed-feedless (d ∷ e ∷ ds) h = go (eqb d zeroDigit) (trimmed-feedless (e 
     go false k = h
 
 reader-next : {s : List ℕ} {st : Cursor} → Reader s st → Reader s (next s st)
-unfolding next standing
+unfolding next cursorAt
 reader-next {s} {st} r = record { here = token-feedless s (st .token .at + st .token .len); met = r .met }
 
 reader-new : {s : List ℕ} {st : Cursor} → Reader s st → Reader s (withNew s st)

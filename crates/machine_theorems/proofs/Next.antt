@@ -11,29 +11,29 @@ use lib.ListN.{length, drop}
 use Rattle.syntax.specs.Terms.{Atom, termOf, Literal, call, equation, truth, falsity, either, Clause, Sheet, Goal}
 use Rattle.machine.specs.Substitution.{copied, Binding}
 use Rattle.machine.specs.Unification.{unify}
-use Rattle.machine.specs.Machine.{Pending, Alternative, isFor, firstFor, nextFor, nextOf, topmost, nth, clauseAt, pending, gone, equated, movedOn, laid, tried, onTop, called, worked, workedOn, outcome, start}
+use Rattle.machine.specs.Machine.{Pending, Alternative, isFor, firstFor, nextFor, nextOf, topmost, nthClause, clauseAt, pending, gone, equated, movedOn, laid, tried, onTop, called, worked, workedOn, outcome, start}
 use Rattle.machine.specs.Reached.{Reached, IsNext, IsNextOf}
 use Rattle.machine.proofs.Tests.{holds, some-eq, some-none}
 use Rattle.machine_theorems.proofs.Piles.{All, all-reached}
 
 -- ---- the search finds clauses for the atom
 
-nth-drop : (m j : ℕ) (cls : List Clause) → nth (drop m cls) j ≡ nth cls (m + j)
-unfolding nth
-nth-drop zero j cls = ap (nth cls) (let e : j ≡ 0 + j = omega arith in e)
+nth-drop : (m j : ℕ) (cls : List Clause) → nthClause (drop m cls) j ≡ nthClause cls (m + j)
+unfolding nthClause
+nth-drop zero j cls = ap (nthClause cls) (let e : j ≡ 0 + j = omega arith in e)
 nth-drop (suc m) j [] = refl
-nth-drop (suc m) j (cl ∷ cls) = nth-drop m j cls ∙ ap (nth (cl ∷ cls)) (let e : suc (m + j) ≡ suc m + j = omega arith in e)
+nth-drop (suc m) j (cl ∷ cls) = nth-drop m j cls ∙ ap (nthClause (cl ∷ cls)) (let e : suc (m + j) ≡ suc m + j = omega arith in e)
 
 -- what the search among some clauses, the first of them of number k, comes to: 0, or the number of a clause for the atom
 record Found (a : Atom) (k : ℕ) (cls : List Clause) (n : ℕ) : Type 0 where
   place : ℕ
   clause : Clause
   number : n ≡ k + place
-  there : nth cls place ≡ some clause
+  there : nthClause cls place ≡ some clause
   right : T (isFor a clause)
 
 first-for : (a : Atom) (k : ℕ) (cls : List Clause) → (firstFor a k cls ≡ 0) ⊎ Found a k cls (firstFor a k cls)
-unfolding firstFor nth
+unfolding firstFor nthClause
 first-for a k [] = inl refl
 first-for a k (x ∷ xs) = go (isFor a x) refl (first-for a (suc k) xs)
   where

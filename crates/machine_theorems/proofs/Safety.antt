@@ -13,7 +13,7 @@ use lib.Dec.{T, T-not, eqb, eqb-refl, eqb→eq}
 use lib.ListN.{length}
 use Rattle.syntax.specs.Terms.{Term, Atom, termOf, Literal, call, equation, truth, falsity, either, Body, done, also, literalsIn, literalsOf, Mark, input, output, Declaration, Clause, Sheet}
 use Rattle.syntax.specs.declared.Refusal.{Refusal}
-use Rattle.rules.specs.Modes.{Known, nothing, marksFor, listOf, OpenArgument, firstOpen, settle, groundMarked, openInput, openOutput, Walk, faulted, known, unlessFault, walkOn, inBoth, callWalk, literalWalk, bodyFault, startKnown, headFault, clauseFault}
+use Rattle.mode_rules.specs.Modes.{Known, noneGround, marksFor, listOf, OpenArgument, firstOpen, settle, groundMarked, openInput, openOutput, Walk, faulted, known, unlessFault, walkOn, inBoth, callWalk, literalWalk, bodyFault, startKnown, headFault, clauseFault}
 use Rattle.machine.specs.Substitution.{copied, Binding}
 use Rattle.machine.specs.Machine.{Pending, Call, pending}
 use Rattle.machine.specs.Counts.{isWithin, isLeft}
@@ -367,7 +367,7 @@ module _ (sh : Sheet) (calls : List Call) (c : ℕ) (at : Atom) (rest : List Pen
       inputs = marked-across (sh .declarations) input b1 c copy at head q (arguments-grow sh input c at grows (safe .1 .0))
 
       begin : Sound (startKnown (sh .declarations) head) copy b1
-      begin = sound-marked input marks arguments nothing copy b1 (sound-nothing copy b1) inputs
+      begin = sound-marked input marks arguments noneGround copy b1 (sound-nothing copy b1) inputs
 
       -- after the body the head's outputs are closed, and the call's with them: what the call's continuation waits for
       after : (σ : Known) (b2 : List Binding) → Grows b1 b2 → Sound σ copy b2 → OutputsKnown (sh .declarations) head σ → Safe sh (new ∷ calls) rest b2

@@ -15,12 +15,12 @@ use Rattle.syntax.specs.declared.Refusal.{Refusal}
 use Rattle.syntax.specs.declared.Refusal.the-variants.{Settings, SeenUndeclared}
 use Rattle.syntax.specs.declared.Text.{Text}
 use Rattle.syntax.specs.declared.Text.the-variants.{Sheet as inSheet, Goal as inGoal, Trace as inTrace, Neither}
-use Rattle.rules.specs.Written.{isExempt}
-use Rattle.rules.specs.Modes.{Known, openByte, openByteOf, ifMarked, OpenArgument, firstOpen, sameMark, marksOf, marksFor, listOf, undeclared, undeclaredAtom, undeclaredBody, undeclaredClause, undeclaredClauses, undeclaredInGoal, openOutput, bodyFault, headFault, clauseFault, clausesFault, startKnown, sheetFault, goalFault}
-use Rattle.rules.specs.Checking.{checkedWith, checkedGoalFrom, checkedGoal}
-use Rattle.rules_theorems.proofs.Bodies.{first-none, second-none, both-none}
-use Rattle.rules_theorems.proofs.Appended.{with-more}
-use Rattle.machine.specs.Machine.{nth, clauseAt, pileAfter}
+use Rattle.mode_rules.specs.Written.{isExempt}
+use Rattle.mode_rules.specs.Modes.{Known, openByte, openByteOf, ifMarked, OpenArgument, firstOpen, sameMark, marksOf, marksFor, listOf, undeclared, undeclaredAtom, undeclaredBody, undeclaredClause, undeclaredClauses, undeclaredInGoal, openOutput, bodyFault, headFault, clauseFault, clausesFault, startKnown, sheetFault, goalFault}
+use Rattle.mode_rules.specs.Checking.{checkedWith, checkedGoalFrom, checkedGoal}
+use Rattle.mode_theorems.proofs.Bodies.{first-none, second-none, both-none}
+use Rattle.mode_theorems.proofs.Appended.{with-more}
+use Rattle.machine.specs.Machine.{nthClause, clauseAt, pileAfter}
 use Rattle.machine.specs.Runs.{Report, RunSettings, RunOutcome, stopped, ran, run, overGoal, overSheet, inRange, runOutcome}
 use Rattle.machine.specs.Counts.{tally}
 use Rattle.machine.specs.Traces.{Trace, broken, records, recordsFrom, recordsOf, Fact, factsOf, factsIn, factClause, factText, factClauses, withFacts, ifOver, declaresSeen, unseen, recordsFault, traceFault, tracedSheet, overTrace, overTraced, tracedOutcome}
@@ -124,17 +124,17 @@ trace-accepted stored sh size trace u e =
 
 -- ---- facts are tried like clauses, behind the sheet's own
 
-nth-own : (cs more : List Clause) (k : ℕ) → k < length cs → nth (cs ++ more) k ≡ nth cs k
-unfolding nth
+nth-own : (cs more : List Clause) (k : ℕ) → k < length cs → nthClause (cs ++ more) k ≡ nthClause cs k
+unfolding nthClause
 nth-own [] more k h = absurd (omega arith)
 nth-own (c ∷ cs) more zero h = refl
 nth-own (c ∷ cs) more (suc k) h = nth-own cs more k (omega arith)
 
-nth-behind : (cs more : List Clause) (k : ℕ) → nth (cs ++ more) (length cs + k) ≡ nth more k
-unfolding nth
-nth-behind [] more k = ap (nth more) (let z : 0 + k ≡ k = omega arith in z)
+nth-behind : (cs more : List Clause) (k : ℕ) → nthClause (cs ++ more) (length cs + k) ≡ nthClause more k
+unfolding nthClause
+nth-behind [] more k = ap (nthClause more) (let z : 0 + k ≡ k = omega arith in z)
 nth-behind (c ∷ cs) more k =
-    ap (nth (c ∷ (cs ++ more))) (let z : suc (length cs) + k ≡ suc (length cs + k) = omega arith in z) ∙ nth-behind cs more k
+    ap (nthClause (c ∷ (cs ++ more))) (let z : suc (length cs) + k ≡ suc (length cs + k) = omega arith in z) ∙ nth-behind cs more k
 
 -- "They come after the sheet's own clauses, in trace order.": a sheet's own clause has the number that it had, and the k-th fact, from 0 on, the k-th
 -- number behind these
@@ -143,7 +143,7 @@ unfolding withFacts clauseAt
 own-clauses at sh facts k h = nth-own (sh .clauses) (factClauses at facts) k h
 
 pub facts-behind : (at : ℕ) (sh : Sheet) (facts : List Fact) (k : ℕ)
-    → clauseAt (withFacts at sh facts) (suc (length (sh .clauses) + k)) ≡ nth (factClauses at facts) k
+    → clauseAt (withFacts at sh facts) (suc (length (sh .clauses) + k)) ≡ nthClause (factClauses at facts) k
 unfolding withFacts clauseAt
 facts-behind at sh facts k = nth-behind (sh .clauses) (factClauses at facts) k
 

@@ -9,18 +9,18 @@ use lib.ListN.{length, getD, length-append}
 use Rattle.syntax.specs.Terms.{Literal, Body, call, equation, truth, falsity, either, done, also, literalsIn, literalsOf, Declaration}
 use Rattle.syntax.specs.Words.{literalWords, bodyWords, literalLength, bodyLength, sideWords, sideItems, leftKind, rightKind, behindKind}
 use Rattle.syntax.proofs.Words.{marker-items}
-use Rattle.rules.specs.Modes.{Known, Walk, known, walkOn, inBoth, literalWalk, bodyFault}
-use Rattle.marking.specs.Standing.{BodyStands, also-stands}
-use Rattle.words.specs.Tables.{Has}
-use Rattle.marking.specs.Tables.{LiteralAt, BodyAt}
-use Rattle.marking.specs.Answers.{isFault}
+use Rattle.mode_rules.specs.Modes.{Known, Walk, known, walkOn, inBoth, literalWalk, bodyFault}
+use Rattle.mode_marks.specs.Standing.{BodySpelt, also-stands}
+use Rattle.table_words.specs.Tables.{Has}
+use Rattle.mode_marks.specs.Tables.{LiteralAt, BodyAt}
+use Rattle.mode_marks.specs.Answers.{isFault}
 use Rattle.mode_literals.specs.Answers.{walkBy, Passes, PastLiteral, PastBody}
 use Rattle.mode_bodies.specs.Sides.{SideAt}
-use Rattle.marking.specs.declared.Checked.{Checked}
-use Rattle.marking.specs.declared.Checked.the-variants.{Fine, Fault}
+use Rattle.mode_marks.specs.declared.Checked.{Checked}
+use Rattle.mode_marks.specs.declared.Checked.the-variants.{Fine, Fault}
 use Rattle.mode_literals.specs.declared.Passed.{Passed}
-use Rattle.words.proofs.Laws.{has-left, has-right, has-inside}
-use Rattle.marking.proofs.Places.{numbered}
+use Rattle.table_words.proofs.Laws.{has-left, has-right, has-inside}
+use Rattle.mode_marks.proofs.Places.{numbered}
 use Rattle.mode_literals.proofs.Literals.{View, view-truth, view-falsity, view-call, view-equation, view-either, view}
 
 -- ---- answers
@@ -220,7 +220,7 @@ pub record Ahead (ds : List Declaration) (c : ℕ) (g table : List ℕ) (at i it
   pub body : Body
   pub has : Has table at (bodyWords body)
   pub count : items ≡ i + bodyLength body
-  pub stands : BodyStands g body
+  pub stands : BodySpelt g body
   pub same : whole ≡ bodyFault ds c number τ body
   pub ends : at + length (bodyWords body) ≡ stop
   pub numbers : literalsOf body + number ≡ last
@@ -233,9 +233,9 @@ pub record Turn (g table : List ℕ) (at i items : ℕ) (b : Body) : Type 0 wher
   pub has : Has table (at + length (literalWords (literal .literal))) (bodyWords left)
   pub count : items ≡ i + literalLength (literal .literal) + bodyLength left
   pub some : 1 ≤ literalLength (literal .literal)
-  pub stands : BodyStands g left
+  pub stands : BodySpelt g left
 
-turn-by : (g table : List ℕ) (at i items : ℕ) (b : Body) → i < items → Has table at (bodyWords b) → items ≡ i + bodyLength b → BodyStands g b → Turn g table at i items b
+turn-by : (g table : List ℕ) (at i items : ℕ) (b : Body) → i < items → Has table at (bodyWords b) → items ≡ i + bodyLength b → BodySpelt g b → Turn g table at i items b
 unfolding bodyWords bodyLength
 turn-by g table at i items done l h c k = absurd (omega arith)
 turn-by g table at i items (also x b) l h c (also-stands k ks) = record {

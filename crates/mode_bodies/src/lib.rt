@@ -1,25 +1,25 @@
 // Refusal 9 along the literals of a body of a text `g`, brackets among them, by the declarations of a sheet `s`.
-use flags::Known;
-use flags::in_both;
-use marking::Checked;
-use marking::is_fault;
+use mode_flags::Known;
+use mode_flags::in_both;
 use mode_literals::Passed;
 use mode_literals::plain_walk;
+use mode_marks::Checked;
+use mode_marks::is_fault;
 use packed_words::items_of_side;
 use syntax::LEFT_KIND;
-use words::word_at;
+use table_words::word_at;
 ghost use mathlib.Core.Path.{_≡_};
 ghost use Prim.Native.Nat.{_+_, _≤_};
 ghost use lib.ListN.{getD};
 ghost use Rattle.syntax.specs.Words.{leftKind};
-ghost use Rattle.rules.specs.Modes.{bodyFault};
-ghost use Rattle.marking.specs.Tables.{DeclarationsAt, LiteralAt, BodyAt};
+ghost use Rattle.mode_rules.specs.Modes.{bodyFault};
+ghost use Rattle.mode_marks.specs.Tables.{DeclarationsAt, LiteralAt, BodyAt};
 ghost use Rattle.mode_bodies.specs.Answers.{walkOf};
 ghost use Rattle.mode_literals.specs.Answers.{PastLiteral, PastBody};
 ghost use Rattle.mode_bodies.specs.Sides.{SideAt};
 
 // What a walk along a body gives: its first fault, or what is known ground after it.
-pub struct Walked {
+pub struct BodyWalked {
     pub fault: Checked,
     pub known: Known,
 }
@@ -176,7 +176,7 @@ pub fn body_walk(
     items: usize,
     clause: usize,
     known: Known,
-) -> Walked
+) -> BodyWalked
     requires { ⌜ DeclarationsAt (now s) (now declared) n ⌝ }
     requires { ⌜ BodyAt (now g) (now table) p items ⌝ }
     ensures { λ r. ⌜ ((d : DeclarationsAt (now (s .entry)) (now (declared .entry)) n) (w : BodyAt (now (g .entry)) (now (table .entry)) p items)
@@ -185,7 +185,7 @@ pub fn body_walk(
     let r = literals_walk(s, declared, n, g, table, p, items, clause, 1, known);
     let fault = r.fault;
     let after = r.known;
-    Walked {
+    BodyWalked {
         fault,
         known: after,
     }

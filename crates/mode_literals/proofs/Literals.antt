@@ -8,19 +8,19 @@ use lib.ListN.{length, getD, length-append}
 use Rattle.syntax.specs.Terms.{Term, Atom, termOf, Literal, Body, call, equation, truth, falsity, either, literalsIn, input, output, Declaration}
 use Rattle.syntax.specs.Words.{termWords, atomWords, literalWords, literalLength, bodyLength, marker, marksNumber, truthKind, falsityKind, callKind, equationKind, leftKind}
 use Rattle.syntax.specs.declared.Refusal.{Refusal}
-use Rattle.rules.specs.Modes.{Known, everything, marksFor, listOf, firstOpen, groundMarked, settle, openInput, known, unlessFault, callWalk, literalWalk}
-use Rattle.marking.specs.Standing.{Stands, LiteralStands, call-stands, equation-stands, either-stands, BodyStands}
-use Rattle.words.specs.Tables.{Has}
-use Rattle.marking.specs.Tables.{TermAt, PairAt, MarkedAt, JudgedAt, DeclarationsAt, AtomAt, LiteralAt}
-use Rattle.marking.specs.Answers.{checkedOf}
+use Rattle.mode_rules.specs.Modes.{Known, everything, marksFor, listOf, firstOpen, groundMarked, settle, openInput, known, unlessFault, callWalk, literalWalk}
+use Rattle.mode_marks.specs.Standing.{TermSpelt, LiteralSpelt, call-stands, equation-stands, either-stands, BodySpelt}
+use Rattle.table_words.specs.Tables.{Has}
+use Rattle.mode_marks.specs.Tables.{TermAt, PairAt, MarkedAt, JudgedAt, DeclarationsAt, AtomAt, LiteralAt}
+use Rattle.mode_marks.specs.Answers.{checkedOf}
 use Rattle.mode_literals.specs.Answers.{walkBy, Passes, PastLiteral}
-use Rattle.marking.specs.declared.Checked.{Checked}
-use Rattle.marking.specs.declared.Checked.the-variants.{Fine}
+use Rattle.mode_marks.specs.declared.Checked.{Checked}
+use Rattle.mode_marks.specs.declared.Checked.the-variants.{Fine}
 use Rattle.mode_literals.specs.declared.Passed.{Passed}
-use Rattle.words.proofs.Laws.{has-left, has-right}
-use Rattle.marking.proofs.Places.{numbered, all-numbered}
-use Rattle.marking.proofs.Marking.{in-text}
-use Rattle.judging.proofs.Judging.{judged-marked}
+use Rattle.table_words.proofs.Laws.{has-left, has-right}
+use Rattle.mode_marks.proofs.Places.{numbered, all-numbered}
+use Rattle.mode_marks.proofs.Marking.{in-text}
+use Rattle.mode_arguments.proofs.Judging.{judged-marked}
 
 -- a call's fault and what is known after it, as the walk has them
 pub walk-is : (o : Option Refusal) (f : Checked) (τ σ : Known) → f ≡ checkedOf o → τ ≡ σ → walkBy f τ ≡ unlessFault o σ
@@ -34,13 +34,13 @@ walk-is (some r) f τ σ e es = ap (λ (x : Checked). walkBy x τ) e
 pub data View (g table : List ℕ) (p : ℕ) : Literal → Type 0 where
   view-truth : getD table p 0 ≡ truthKind → View g table p truth
   view-falsity : getD table p 0 ≡ falsityKind → View g table p falsity
-  view-call : {a : Atom} → getD table p 0 ≡ callKind → Has table (p + 1) (atomWords a) → Stands g (termOf a) → View g table p (call a)
-  view-equation : {t u : Term} → getD table p 0 ≡ equationKind → Has table (p + 1) (termWords t) → Has table (p + 1 + length (termWords t)) (termWords u) → Stands g t → Stands g u
+  view-call : {a : Atom} → getD table p 0 ≡ callKind → Has table (p + 1) (atomWords a) → TermSpelt g (termOf a) → View g table p (call a)
+  view-equation : {t u : Term} → getD table p 0 ≡ equationKind → Has table (p + 1) (termWords t) → Has table (p + 1 + length (termWords t)) (termWords u) → TermSpelt g t → TermSpelt g u
       → View g table p (equation t u)
-  view-either : {y z : Body} → getD table p 0 ≡ marker leftKind (bodyLength y) → Has table p (literalWords (either y z)) → BodyStands g y → BodyStands g z
+  view-either : {y z : Body} → getD table p 0 ≡ marker leftKind (bodyLength y) → Has table p (literalWords (either y z)) → BodySpelt g y → BodySpelt g z
       → View g table p (either y z)
 
-view-by : (g table : List ℕ) (p : ℕ) (l : Literal) → Has table p (literalWords l) → LiteralStands g l → View g table p l
+view-by : (g table : List ℕ) (p : ℕ) (l : Literal) → Has table p (literalWords l) → LiteralSpelt g l → View g table p l
 unfolding literalWords
 view-by g table p truth h k = view-truth (h .1)
 view-by g table p falsity h k = view-falsity (h .1)

@@ -6,11 +6,11 @@ use mathlib.Core.List.{List}
 use lib.ListN.{length}
 use Rattle.syntax.specs.Terms.{Literal, Body, Declaration, literalsIn, literalsOf}
 use Rattle.syntax.specs.Words.{literalWords, bodyWords, literalLength, bodyLength}
-use Rattle.rules.specs.Modes.{Known, Walk, faulted, known, literalWalk, bodyFault}
-use Rattle.marking.specs.declared.Checked.{Checked}
-use Rattle.marking.specs.declared.Checked.the-variants.{Fine, Fault}
+use Rattle.mode_rules.specs.Modes.{Known, Walk, faulted, known, literalWalk, bodyFault}
+use Rattle.mode_marks.specs.declared.Checked.{Checked}
+use Rattle.mode_marks.specs.declared.Checked.the-variants.{Fine, Fault}
 use Rattle.mode_literals.specs.declared.Passed.{Passed}
-use Rattle.marking.specs.Answers.{isFault}
+use Rattle.mode_marks.specs.Answers.{isFault}
 
 -- what a walk along a body gives: where there is a fault, what else is known is of no account
 abbrev pub walkBy : Checked → List Bool → Walk

@@ -1,23 +1,23 @@
 // Refusal 9 at a literal that is no bracket, of a text `g`, by the declarations of a sheet `s`.
-use equations::settle;
-use flags::Known;
-use judging::call_fault;
-use judging::ground_marked;
-use marking::Checked;
-use marking::marks::marks_of;
+use mode_arguments::call_fault;
+use mode_arguments::ground_marked;
+use mode_equations::settle;
+use mode_flags::Known;
+use mode_marks::Checked;
+use mode_marks::marks::marks_of;
 use syntax::CALL_KIND;
 use syntax::FALSITY_KIND;
 use syntax::NODE_WORDS;
 use syntax::OUTPUT;
 use syntax::TRUTH_KIND;
 use syntax::VARIABLES;
-use words::past;
-use words::word_at;
+use table_words::past;
+use table_words::word_at;
 ghost use Prim.Native.Nat.{_+_, _≤_, _<_};
 ghost use lib.ListN.{length, getD};
 ghost use Rattle.syntax.specs.Words.{atomWords, leftKind};
-ghost use Rattle.rules.specs.Modes.{callWalk};
-ghost use Rattle.marking.specs.Tables.{DeclarationsAt, AtomAt, LiteralAt};
+ghost use Rattle.mode_rules.specs.Modes.{callWalk};
+ghost use Rattle.mode_marks.specs.Tables.{DeclarationsAt, AtomAt, LiteralAt};
 ghost use Rattle.mode_literals.specs.Answers.{Passes, PastLiteral};
 
 // What a walk along a part of a body gives: its first fault, or what is known ground after it; and for what goes on behind it, where there is no

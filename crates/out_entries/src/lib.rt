@@ -1,6 +1,6 @@
 // A declaration as numbers in a lent slice, for callers in other languages: as many as fit, later ones as they were; and the version of these
 // lists of numbers.
-use storing::put;
+use out_storing::put_numbers;
 use syntax::Declared;
 ghost use mathlib.Core.Path.{_≡_};
 ghost use lib.ListN.{length};
@@ -25,7 +25,7 @@ pub fn put_entry(declared: Declared, out: &mut [usize]) -> usize
     match declared {
         Declared::As(entry) => {
             let numbers = [entry.at, entry.len, entry.arguments];
-            put(&numbers, out, 0)
+            put_numbers(&numbers, out, 0)
         }
         Declared::Nothing => 0,
     }

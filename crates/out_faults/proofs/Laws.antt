@@ -6,8 +6,8 @@ use Rattle.syntax.specs.Refusals.{numbersOf}
 use Rattle.syntax.specs.declared.Five.{Five}
 use Rattle.syntax.specs.declared.Refusal.{Refusal}
 use Rattle.syntax.specs.declared.Text.{Text}
-use Rattle.rules.specs.Checking.{nameSpan}
-use Rattle.names.specs.declared.Span.{Span}
+use Rattle.mode_rules.specs.Checking.{nameSpan}
+use Rattle.out_names.specs.declared.Span.{Span}
 use Rattle.out_faults.specs.Numbers.{textNumber, faultNumbers}
 
 -- a refusal told by its parts

@@ -5,7 +5,7 @@ use Rattle.syntax.specs.Refusals.{numbersOf}
 use Rattle.syntax.specs.declared.Refusal.{Refusal}
 use Rattle.syntax.specs.declared.Text.{Text}
 use Rattle.syntax.specs.declared.Text.the-variants.{Sheet, Goal, Trace, Neither}
-use Rattle.rules.specs.Checking.{nameSpan}
+use Rattle.mode_rules.specs.Checking.{nameSpan}
 
 -- "it also says which of the two texts was at fault, neither for 1"
 abbrev pub textNumber : Text → ℕ

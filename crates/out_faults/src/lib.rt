@@ -24,7 +24,7 @@ pub fn fault_numbers(text: Text, refusal: Refusal) -> [usize; FAULT]
 {
     let which = text_number(text);
     let five = refusals::numbers(refusal);
-    let name = names::name_span(refusal);
+    let name = out_names::name_span(refusal);
     [
         which,
         five.number,

@@ -1,15 +1,15 @@
 // Terms into the node table. Reading one term and reading a list of terms call each other, with fewer brackets left. `own` is a
 // copy of the reader for one call: compiled, a parameter that is handed on is copied whole at each entry, and `own` only where that call is made.
 use packed_words::pack_functor;
-use reading::Parsed;
-use reading::cursor::counted;
-use reading::cursor::full;
-use reading::cursor::next;
-use reading::cursor::put_node;
-use reading::cursor::refuse;
-use reading::cursor::wrong;
-use reading::leaves::leaf;
-use reading::leaves::read_simple;
+use parse_cursor::Parsed;
+use parse_cursor::cursor::counted;
+use parse_cursor::cursor::full;
+use parse_cursor::cursor::next;
+use parse_cursor::cursor::put_node;
+use parse_cursor::cursor::refuse;
+use parse_cursor::cursor::wrong;
+use parse_cursor::leaves::leaf;
+use parse_cursor::leaves::read_simple;
 use syntax::ARGUMENTS;
 use syntax::CLOSE;
 use syntax::COMMA;
@@ -24,11 +24,11 @@ ghost use Rattle.syntax.specs.Terms.{arity};
 ghost use Rattle.syntax.specs.Tokens.{nameKind};
 ghost use Rattle.syntax.specs.Reading.{readTerm, readAtom, readArguments};
 ghost use Rattle.syntax.specs.Words.{nodeWords, termWords, termsWords, atomWords, functor};
-ghost use Rattle.reading.specs.Gives.{cursorOf, Ready, Gives, one};
+ghost use Rattle.parse_cursor.specs.Gives.{cursorOf, RoomToRead, Gives, one};
 
 // A name with an optional bracketed list; the name is at hand.
 pub fn read_atom(s: &[u8], left: usize, st: State, table: &mut [u32], n: usize) -> Parsed
-    requires { ⌜ Ready (now s) st (now table) n 0 ⌝ }
+    requires { ⌜ RoomToRead (now s) st (now table) n 0 ⌝ }
     requires { ⌜ st .token .kind ≡ nameKind ⌝ }
     ensures { λ r. ⌜ Gives atomWords one (now (s .entry)) st (now (table .entry)) (now (table .exit)) n r
         (readAtom left (now (s .entry)) (cursorOf (now (s .entry)) (now (table .entry)) st)) ⌝ }
@@ -79,7 +79,7 @@ fn close(st: State, r: Parsed, table: &mut [u32], n: usize) -> Parsed
 
 // A term. Small, so that a name's node is read without a call between.
 pub fn read_term(s: &[u8], left: usize, st: State, table: &mut [u32], n: usize) -> Parsed
-    requires { ⌜ Ready (now s) st (now table) n 0 ⌝ }
+    requires { ⌜ RoomToRead (now s) st (now table) n 0 ⌝ }
     ensures { λ r. ⌜ Gives termWords one (now (s .entry)) st (now (table .entry)) (now (table .exit)) n r
         (readTerm left (now (s .entry)) (cursorOf (now (s .entry)) (now (table .entry)) st)) ⌝ }
 {
@@ -93,7 +93,7 @@ pub fn read_term(s: &[u8], left: usize, st: State, table: &mut [u32], n: usize) 
 
 // A list of terms after its opening bracket, of at most k.
 fn read_arguments(s: &[u8], left: usize, k: usize, st: State, table: &mut [u32], n: usize) -> Parsed
-    requires { ⌜ Ready (now s) st (now table) n 0 ⌝ }
+    requires { ⌜ RoomToRead (now s) st (now table) n 0 ⌝ }
     ensures { λ r. ⌜ Gives termsWords arity (now (s .entry)) st (now (table .entry)) (now (table .exit)) n r
         (readArguments (λ x. readTerm left (now (s .entry)) x) (now (s .entry)) k (cursorOf (now (s .entry)) (now (table .entry)) st)) ⌝ }
 {

@@ -12,14 +12,14 @@ use Rattle.syntax.specs.declared.Text.the-variants.{Sheet as inSheet}
 use Rattle.syntax.specs.declared.Refusal.{Refusal}
 use Rattle.syntax.specs.declared.Verdict.{Verdict}
 use Rattle.syntax.specs.declared.Verdict.the-variants.{Accepted, Refused}
-use Rattle.rules.specs.Checking.{checkedWith, checkedSheet, checkVerdict, verdictWith}
+use Rattle.mode_rules.specs.Checking.{checkedWith, checkedSheet, checkVerdict, verdictWith}
 use Rattle.machine.specs.Determinacy.{against, judgedBy, judgedFrom, judged}
-use Rattle.layout.proofs.Limits.{checked-sheet-limited}
-use Rattle.tables.specs.Tables.{Tabled}
-use Rattle.tables.proofs.Checking.{checked-refused-by}
-use Rattle.goals.proofs.SheetLaws.{sheet-short, accepted-sheet, sheet-at}
+use Rattle.run_layout.proofs.Limits.{checked-sheet-limited}
+use Rattle.read_and_check.specs.Tables.{Tabled}
+use Rattle.read_and_check.proofs.Checking.{checked-refused-by}
+use Rattle.check_and_run.proofs.SheetLaws.{sheet-short, accepted-sheet, sheet-at}
 use Rattle.determinacy.specs.Told.{told}
-use Rattle.determinacy.specs.Tables.{Ready}
+use Rattle.determinacy.specs.Tables.{SheetReady}
 use Rattle.determinacy.specs.declared.Determinacy.{Determinacy}
 use Rattle.determinacy.specs.declared.Determinacy.the-variants.{Refused as declined-by}
 
@@ -42,7 +42,7 @@ module _ (s declared table : List ℕ) (v : Verdict) (ev : v ≡ checkVerdict s)
     abbrev of : (sh : Sheet) × (checkedSheet s ≡ accepted sh) × (n ≡ length (sh .declarations)) × (k ≡ length (sh .clauses))
     of = accepted-sheet false s declared table v ev holds n k h
 
-    pub judgeable : Ready s declared n table k
+    pub judgeable : SheetReady s declared n table k
     unfolding sheet-at
     judgeable = record {
       stands = sheet-at false s declared table v ev holds n k h;
@@ -51,6 +51,6 @@ module _ (s declared table : List ℕ) (v : Verdict) (ev : v ≡ checkVerdict s)
       table-short = short;
     }
 
-    pub sheet-judged : (r : Determinacy) → ((w : Ready s declared n table k) → r ≡ told (judgedBy (against (w .stands .sheet)))) → r ≡ told (judged s)
+    pub sheet-judged : (r : Determinacy) → ((w : SheetReady s declared n table k) → r ≡ told (judgedBy (against (w .stands .sheet)))) → r ≡ told (judged s)
     unfolding judgeable judged sheet-at
     sheet-judged r f = f judgeable ∙ sym (ap (λ (y : Outcome Sheet). told (judgedFrom y)) (of .1) ∙ told-accepted (of .0))

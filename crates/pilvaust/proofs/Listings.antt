@@ -19,14 +19,14 @@ use Rattle.syntax.specs.declared.Verdict.the-variants.{Accepted, Refused}
 use Rattle.syntax.specs.declared.Entry.{Entry}
 use Rattle.syntax.specs.declared.Declared.{Declared}
 use Rattle.syntax.specs.declared.Declared.the-variants.{As, Nothing}
-use Rattle.rules.specs.Checking.{checkedSheet, verdictWith, checkVerdict}
-use Rattle.words.specs.Tables.{Has}
-use Rattle.tables.specs.Tables.{Tabled}
-use Rattle.listings.specs.Listings.{overlay, declaredOf, listedOf, entryFrom, pasted, Lists}
-use Rattle.listings.specs.declared.Listing.{Listing}
-use Rattle.listings.proofs.Laws.{least-by, pasted-overlay}
-use Rattle.tables.proofs.Laws.{four-words}
-use Rattle.tables.proofs.Entries.{entry-from, long-by}
+use Rattle.mode_rules.specs.Checking.{checkedSheet, verdictWith, checkVerdict}
+use Rattle.table_words.specs.Tables.{Has}
+use Rattle.read_and_check.specs.Tables.{Tabled}
+use Rattle.out_listings.specs.Listings.{overlay, declaredOf, listedOf, entryFrom, pasted, Lists}
+use Rattle.out_listings.specs.declared.Listing.{Listing}
+use Rattle.out_listings.proofs.Laws.{least-by, pasted-overlay}
+use Rattle.read_and_check.proofs.Laws.{four-words}
+use Rattle.read_and_check.proofs.Entries.{entry-from, long-by}
 
 -- ---- listings
 

@@ -1,23 +1,23 @@
 // What comes of the top alternative where it stands at a bracket. The trail is as long as the top's.
-use alternatives::Pile;
-use alternatives::laying::lay;
-use alternatives::laying::next_literal;
-use alternatives::records::Stand;
-use words::word_at;
+use run_alternatives::Pile;
+use run_alternatives::laying::lay;
+use run_alternatives::laying::next_literal;
+use run_alternatives::records::Top;
+use table_words::word_at;
 ghost use mathlib.Core.Path.{_≡_};
 ghost use mathlib.Core.List.{List};
 ghost use Prim.Native.Nat.{ℕ, _-_};
-ghost use Rattle.layout.specs.Regions.{splitKind};
-ghost use Rattle.layout.specs.Program.{kindAt};
-ghost use Rattle.layout.specs.Pile.{literalAt, markAt};
-ghost use Rattle.alternatives.specs.Words.{standAt};
-ghost use Rattle.alternatives.specs.Steps.{Steppable, Stepped};
+ghost use Rattle.run_layout.specs.Regions.{splitKind};
+ghost use Rattle.run_layout.specs.Program.{recordKind};
+ghost use Rattle.run_layout.specs.Pile.{literalAt, markAt};
+ghost use Rattle.run_alternatives.specs.Words.{topAt};
+ghost use Rattle.run_alternatives.specs.Steps.{Steppable, Stepped};
 
 // A bracket: the right side takes the top's place, and the left side is laid on it.
-pub fn work_either(code: &[u32], state: &mut [u32], h: usize, s: Stand) -> Pile
+pub fn work_either(code: &[u32], state: &mut [u32], h: usize, s: Top) -> Pile
     requires { ⌜ ((nodes : List ℕ) × (scratch : List ℕ) × Steppable nodes (now code) (now state) scratch h (markAt (now state) (h - 1))) ⌝ }
-    requires { ⌜ s ≡ standAt (now state) (h - 1) ⌝ }
-    requires { ⌜ kindAt (now code) (literalAt (now state) (h - 1)) ≡ splitKind ⌝ }
+    requires { ⌜ s ≡ topAt (now state) (h - 1) ⌝ }
+    requires { ⌜ recordKind (now code) (literalAt (now state) (h - 1)) ≡ splitKind ⌝ }
     ensures { λ r. ⌜ ((nodes scratch : List ℕ) (w : Steppable nodes (now (code .entry)) (now (state .entry)) scratch h
         (markAt (now (state .entry)) (h - 1))) → Stepped (w .running .ss) (w .running .sh) (w .running .g) nodes (now (code .entry))
         (now (state .entry)) (now (state .exit)) scratch scratch h r) ⌝ }

@@ -12,5 +12,5 @@ abbrev pub Stops : Text → Refusal → Written → Type 0
 Stops t q u = (u .run ≡ refused-by t q) × (u .bytes ≡ 0)
 
 -- a report, with so many bytes written
-abbrev pub Ends : Report → ℕ → Written → Type 0
-Ends x n u = (u .run ≡ ended-by x) × (u .bytes ≡ n)
+abbrev pub EndsWith : Report → ℕ → Written → Type 0
+EndsWith x n u = (u .run ≡ ended-by x) × (u .bytes ≡ n)

@@ -4,7 +4,7 @@ use syntax::Report;
 use syntax::Run;
 use syntax::Text;
 ghost use mathlib.Core.Path.{_≡_};
-ghost use Rattle.run_results.specs.Results.{Stops, Ends};
+ghost use Rattle.run_results.specs.Results.{Stops, EndsWith};
 
 // The answer to a run, and how many bytes it has written into the text.
 pub struct Written {
@@ -29,7 +29,7 @@ pub fn goal_refused(refusal: Refusal) -> Written
 
 // A run that has ended, with its report.
 pub fn run_ended(report: Report, bytes: usize) -> Written
-    ensures { λ r. ⌜ Ends report bytes r ⌝ }
+    ensures { λ r. ⌜ EndsWith report bytes r ⌝ }
 {
     let run = Run::Ended(report);
     Written { run, bytes }

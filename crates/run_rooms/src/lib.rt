@@ -1,11 +1,11 @@
 // The tables of a loaded program, of its run and of unification, cleared.
-use layout::CODE_WORDS;
-use layout::NARROW_WORDS;
-use layout::NODES_WORDS;
-use layout::STATE_WORDS;
-use layout::STORE_WORDS;
-use layout::WIDE_WORDS;
-ghost use Rattle.layout.specs.Regions.{nodesWords, codeWords, storeWords, stateWords, narrowWords, wideWords};
+use run_layout::CODE_WORDS;
+use run_layout::NARROW_WORDS;
+use run_layout::NODES_WORDS;
+use run_layout::STATE_WORDS;
+use run_layout::STORE_WORDS;
+use run_layout::WIDE_WORDS;
+ghost use Rattle.run_layout.specs.Regions.{nodesWords, codeWords, storeWords, stateWords, narrowWords, wideWords};
 ghost use Rattle.run_rooms.specs.Rooms.{Zeros};
 
 // Room for the nodes of both texts, and as much for their symbols.

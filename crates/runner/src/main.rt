@@ -40,5 +40,5 @@ fn main() {
     };
     let r = pilvaust::run_traced(clauses, asked, &trace[..k], settings, &mut text);
     let run = r.run;
-    printing::print_run(clauses, asked, run, &text);
+    out_printing::print_run(clauses, asked, run, &text);
 }

@@ -6,9 +6,9 @@ use mathlib.Core.List.{List, [], _∷_, map}
 use lib.ListN.{replicate}
 use Rattle.syntax.specs.Quote.{bytes}
 use Rattle.syntax.specs.Bytes.{classOf, inWord, inNumeral}
-use Rattle.syntax.specs.Tokens.{skipped, run, word, dashFirst, tokenOf, tokenFrom, tokenPlace, tokenAt}
+use Rattle.syntax.specs.Tokens.{skipped, runLength, word, dashFirst, tokenOf, tokenFrom, tokenPlace, tokenAt}
 use Rattle.syntax.specs.Terms.{sameBytes, literalOf}
-use Rattle.syntax.specs.Reading.{andThen, standing, next, wrongNumber, wrong, beyond, full, numberOf, isAnonymous, withNew, newVariable, oldVariable, readVariable, atomWith, readAtomWith, termWith, readTermWith, argumentsAfter, readArguments, readList, readTerm, readAtom, readRight, afterAtom, afterTerm, literalWith, plainWith, readPlain, readLiteral, bodyAfter, readBodyWith, readSides, readTo, readBody, clauseAfter, readClause, marksAfter, marksWith, readMarks, marksOf, declarationEnd, declarationFrom, isMode, afterNeck, readDeclaration, itemWith, readItems, atStart, readSheet, goalEnd, readGoal, declares, repeats, firstRepeat}
+use Rattle.syntax.specs.Reading.{andThen, cursorAt, next, wrongNumber, wrong, beyond, full, variableNumber, isAnonymous, withNew, newVariable, oldVariable, readVariable, atomWith, readAtomWith, termWith, readTermWith, argumentsAfter, readArguments, readList, readTerm, readAtom, readRight, afterAtom, afterTerm, literalWith, plainWith, readPlain, readLiteral, bodyAfter, readBodyWith, readSides, readTo, readBody, clauseAfter, readClause, marksAfter, marksWith, readMarks, marksRead, declarationEnd, declarationFrom, isMode, afterNeck, readDeclaration, itemWith, readItems, atStart, readSheet, goalEnd, readGoal, declares, repeats, firstRepeat}
 use Rattle.syntax.specs.Refusals.{five, numbersOf}
 use Rattle.syntax.specs.Verdicts.{withoutRepeats, sheetFrom, goalFrom, sheetOf, goalOutcome, sheetVerdict, goalVerdict, readVerdict, readGoalVerdict}
 use Rattle.syntax.specs.declared.Verdict.{Verdict}
@@ -156,17 +156,17 @@ long : ℕ → List ℕ
 long n = replicate n 32
 
 read-sheets : map readVerdict sheets ≡ sheet-answers
-unfolding sheets sheet-answers classOf inWord inNumeral skipped run word dashFirst tokenOf tokenFrom tokenPlace tokenAt sameBytes literalOf andThen standing next wrongNumber wrong beyond full numberOf isAnonymous withNew newVariable oldVariable readVariable atomWith readAtomWith termWith readTermWith argumentsAfter readArguments readList readTerm readAtom readRight afterAtom afterTerm literalWith plainWith readPlain readLiteral bodyAfter readBodyWith readSides readTo readBody clauseAfter readClause marksAfter marksWith readMarks marksOf declarationEnd declarationFrom isMode afterNeck readDeclaration itemWith readItems atStart readSheet goalEnd readGoal declares repeats firstRepeat withoutRepeats sheetFrom goalFrom sheetOf goalOutcome sheetVerdict goalVerdict readVerdict readGoalVerdict
+unfolding sheets sheet-answers classOf inWord inNumeral skipped runLength word dashFirst tokenOf tokenFrom tokenPlace tokenAt sameBytes literalOf andThen cursorAt next wrongNumber wrong beyond full variableNumber isAnonymous withNew newVariable oldVariable readVariable atomWith readAtomWith termWith readTermWith argumentsAfter readArguments readList readTerm readAtom readRight afterAtom afterTerm literalWith plainWith readPlain readLiteral bodyAfter readBodyWith readSides readTo readBody clauseAfter readClause marksAfter marksWith readMarks marksRead declarationEnd declarationFrom isMode afterNeck readDeclaration itemWith readItems atStart readSheet goalEnd readGoal declares repeats firstRepeat withoutRepeats sheetFrom goalFrom sheetOf goalOutcome sheetVerdict goalVerdict readVerdict readGoalVerdict
 read-sheets = refl
 
 read-goals : map readGoalVerdict goals ≡ goal-answers
-unfolding goals goal-answers classOf inWord inNumeral skipped run word dashFirst tokenOf tokenFrom tokenPlace tokenAt sameBytes literalOf andThen standing next wrongNumber wrong beyond full numberOf isAnonymous withNew newVariable oldVariable readVariable atomWith readAtomWith termWith readTermWith argumentsAfter readArguments readList readTerm readAtom readRight afterAtom afterTerm literalWith plainWith readPlain readLiteral bodyAfter readBodyWith readSides readTo readBody clauseAfter readClause marksAfter marksWith readMarks marksOf declarationEnd declarationFrom isMode afterNeck readDeclaration itemWith readItems atStart readSheet goalEnd readGoal declares repeats firstRepeat withoutRepeats sheetFrom goalFrom sheetOf goalOutcome sheetVerdict goalVerdict readVerdict readGoalVerdict
+unfolding goals goal-answers classOf inWord inNumeral skipped runLength word dashFirst tokenOf tokenFrom tokenPlace tokenAt sameBytes literalOf andThen cursorAt next wrongNumber wrong beyond full variableNumber isAnonymous withNew newVariable oldVariable readVariable atomWith readAtomWith termWith readTermWith argumentsAfter readArguments readList readTerm readAtom readRight afterAtom afterTerm literalWith plainWith readPlain readLiteral bodyAfter readBodyWith readSides readTo readBody clauseAfter readClause marksAfter marksWith readMarks marksRead declarationEnd declarationFrom isMode afterNeck readDeclaration itemWith readItems atStart readSheet goalEnd readGoal declares repeats firstRepeat withoutRepeats sheetFrom goalFrom sheetOf goalOutcome sheetVerdict goalVerdict readVerdict readGoalVerdict
 read-goals = refl
 
 too-long : readGoalVerdict (long 1025) ≡ Refused Goal TooLong
-unfolding long classOf inWord inNumeral skipped run word dashFirst tokenOf tokenFrom tokenPlace tokenAt sameBytes literalOf andThen standing next wrongNumber wrong beyond full numberOf isAnonymous withNew newVariable oldVariable readVariable atomWith readAtomWith termWith readTermWith argumentsAfter readArguments readList readTerm readAtom readRight afterAtom afterTerm literalWith plainWith readPlain readLiteral bodyAfter readBodyWith readSides readTo readBody clauseAfter readClause marksAfter marksWith readMarks marksOf declarationEnd declarationFrom isMode afterNeck readDeclaration itemWith readItems atStart readSheet goalEnd readGoal declares repeats firstRepeat withoutRepeats sheetFrom goalFrom sheetOf goalOutcome sheetVerdict goalVerdict readVerdict readGoalVerdict
+unfolding long classOf inWord inNumeral skipped runLength word dashFirst tokenOf tokenFrom tokenPlace tokenAt sameBytes literalOf andThen cursorAt next wrongNumber wrong beyond full variableNumber isAnonymous withNew newVariable oldVariable readVariable atomWith readAtomWith termWith readTermWith argumentsAfter readArguments readList readTerm readAtom readRight afterAtom afterTerm literalWith plainWith readPlain readLiteral bodyAfter readBodyWith readSides readTo readBody clauseAfter readClause marksAfter marksWith readMarks marksRead declarationEnd declarationFrom isMode afterNeck readDeclaration itemWith readItems atStart readSheet goalEnd readGoal declares repeats firstRepeat withoutRepeats sheetFrom goalFrom sheetOf goalOutcome sheetVerdict goalVerdict readVerdict readGoalVerdict
 too-long = refl
 
 not-too-long : readGoalVerdict (long 1024) ≡ Refused Goal (Misplaced 1024)
-unfolding long classOf inWord inNumeral skipped run word dashFirst tokenOf tokenFrom tokenPlace tokenAt sameBytes literalOf andThen standing next wrongNumber wrong beyond full numberOf isAnonymous withNew newVariable oldVariable readVariable atomWith readAtomWith termWith readTermWith argumentsAfter readArguments readList readTerm readAtom readRight afterAtom afterTerm literalWith plainWith readPlain readLiteral bodyAfter readBodyWith readSides readTo readBody clauseAfter readClause marksAfter marksWith readMarks marksOf declarationEnd declarationFrom isMode afterNeck readDeclaration itemWith readItems atStart readSheet goalEnd readGoal declares repeats firstRepeat withoutRepeats sheetFrom goalFrom sheetOf goalOutcome sheetVerdict goalVerdict readVerdict readGoalVerdict
+unfolding long classOf inWord inNumeral skipped runLength word dashFirst tokenOf tokenFrom tokenPlace tokenAt sameBytes literalOf andThen cursorAt next wrongNumber wrong beyond full variableNumber isAnonymous withNew newVariable oldVariable readVariable atomWith readAtomWith termWith readTermWith argumentsAfter readArguments readList readTerm readAtom readRight afterAtom afterTerm literalWith plainWith readPlain readLiteral bodyAfter readBodyWith readSides readTo readBody clauseAfter readClause marksAfter marksWith readMarks marksRead declarationEnd declarationFrom isMode afterNeck readDeclaration itemWith readItems atStart readSheet goalEnd readGoal declares repeats firstRepeat withoutRepeats sheetFrom goalFrom sheetOf goalOutcome sheetVerdict goalVerdict readVerdict readGoalVerdict
 not-too-long = refl

@@ -12,7 +12,7 @@ use borrow.Author.Tests.{eqb-true, eqb-false, ltb-true}
 use Rattle.syntax.specs.Limits.{brackets, arguments, variables, literals, declarations, clauses}
 use Rattle.syntax.specs.Tokens.{nameKind, variableKind, numeralKind, neckKind, openKind, closeKind, stopKind, equalsKind, endKind, semicolonKind}
 use Rattle.syntax.specs.Terms.{sameName, Term, Terms, variable, nil, cons, arity, Atom, termOf, Literal, Body, call, equation, truth, falsity, either, done, also, literalOf, Mark, Declaration, Clause, Sheet, Goal, samePredicate, true-name, fail-name}
-use Rattle.syntax.specs.Reading.{Cursor, numeralAt, Read, fault, ok, andThen, kindAt, is, standing, next, wrong, beyond, full, spelt, numberOf, isAnonymous, withNew, newVariable, oldVariable, readVariable, aVariable, aNumeral, aName, startOf, begins, After, more, last, neither, afterOf, atomAt, atomWith, readAtomWith, termWith, readTermWith, argumentsAfter, readArguments, readList, readTerm, readAtom, readRight, afterAtom, afterTerm, literalWith, counted, plainWith, readPlain, readLiteral, bodyAfter, readBodyWith, readSides, readTo, readBody, fresh, Tail, fact, rule, other, tailOf, clauseOf, clauseAfter, readClause, Sign, mark, noMark, signOf, isMark, marksAfter, marksWith, readMarks, marksOf, declarationOf, declarationEnd, declarationFrom, isMode, afterNeck, readDeclaration, noItem, aDeclaration, aClause, pastLimit, misplaced, withDeclaration, withClause, itemWith, readItems, atStart, readSheet, goalOf, goalEnd, readGoal}
+use Rattle.syntax.specs.Reading.{Cursor, numeralAt, Read, fault, ok, andThen, tokenKind, is, cursorAt, next, wrong, beyond, full, spelt, variableNumber, isAnonymous, withNew, newVariable, oldVariable, readVariable, aVariable, aNumeral, aName, startOf, begins, After, more, last, neither, afterOf, atomAt, atomWith, readAtomWith, termWith, readTermWith, argumentsAfter, readArguments, readList, readTerm, readAtom, readRight, afterAtom, afterTerm, literalWith, oneLiteralMore, plainWith, readPlain, readLiteral, bodyAfter, readBodyWith, readSides, readTo, readBody, fresh, Tail, fact, rule, other, tailOf, clauseOf, clauseAfter, readClause, Sign, mark, noMark, signOf, isMark, marksAfter, marksWith, readMarks, marksRead, declarationOf, declarationEnd, declarationFrom, isMode, afterNeck, readDeclaration, noItem, aDeclaration, aClause, pastLimit, misplaced, withDeclaration, withClause, itemWith, readItems, atStart, readSheet, goalOf, goalEnd, readGoal}
 use Rattle.syntax.specs.declared.Token.{Token}
 
 -- ---- what must be kept
@@ -27,14 +27,14 @@ pub record Kept (s : List ℕ) (OfReader : Cursor → Type 0) (OfTerm : ℕ → 
   pub at-start : OfReader (atStart s)
   pub past-token : {st : Cursor} → OfReader st → OfReader (next s st)
   pub with-variable : {st : Cursor} → OfReader st → length (st .names) < variables → OfReader (withNew s st)
-  pub with-literal : {st : Cursor} → OfReader st → OfReader (counted st)
+  pub with-literal : {st : Cursor} → OfReader st → OfReader (oneLiteralMore st)
   pub without-variables : {st : Cursor} → OfReader st → OfReader (fresh st)
   -- a new variable, and one met before
   pub new-variable : {left : ℕ} {st : Cursor} → OfReader st → length (st .names) < variables → OfTerm left (variable (length (st .names)) (st .token .at))
   pub old-variable : {left i : ℕ} {st : Cursor} → OfReader st → i < length (st .names) → OfTerm left (variable i (st .token .at))
   -- terms, and lists of them
-  pub numeral : {left : ℕ} {st : Cursor} → OfReader st → kindAt st ≡ numeralKind → OfTerm left (termOf (numeralAt s st))
-  pub named : {left : ℕ} {st : Cursor} {ts : Terms} → OfReader st → kindAt st ≡ nameKind → OfTerms left arguments ts → OfTerm left (termOf (atomAt s st ts))
+  pub numeral : {left : ℕ} {st : Cursor} → OfReader st → tokenKind st ≡ numeralKind → OfTerm left (termOf (numeralAt s st))
+  pub named : {left : ℕ} {st : Cursor} {ts : Terms} → OfReader st → tokenKind st ≡ nameKind → OfTerms left arguments ts → OfTerm left (termOf (atomAt s st ts))
   pub no-terms : {left k : ℕ} → OfTerms left k nil
   pub one-term : {left k : ℕ} {t : Term} {ts : Terms} → OfTerm left t → OfTerms (suc left) k ts → OfTerms (suc left) (suc k) (cons t ts)
   -- literals and bodies
@@ -47,7 +47,7 @@ pub record Kept (s : List ℕ) (OfReader : Cursor → Type 0) (OfTerm : ℕ → 
   pub one-literal : {n m k : ℕ} {l : Literal} {b : Body} → OfLiteral n m l → OfBody m k b → OfBody n k (also l b)
   -- clauses, declarations, sheets and goals
   pub clause : {n : ℕ} {h : Atom} {b : Body} {st : Cursor} → OfTerm brackets (termOf h) → OfBody 0 n b → OfReader st → OfClause (clauseOf h b st)
-  pub declaration : {st : Cursor} {ms : List Mark} → OfReader st → kindAt st ≡ nameKind → length ms ≤ arguments → OfDeclaration (declarationOf s st ms)
+  pub declaration : {st : Cursor} {ms : List Mark} → OfReader st → tokenKind st ≡ nameKind → length ms ≤ arguments → OfDeclaration (declarationOf s st ms)
   pub no-items : {ds cs : ℕ} → OfSheet ds cs (record { declarations = []; clauses = [] })
   pub one-declaration : {ds cs : ℕ} {d : Declaration} {sh : Sheet} → OfDeclaration d → OfSheet ds cs sh → OfSheet (suc ds) cs (withDeclaration d sh)
   pub one-clause : {ds cs : ℕ} {c : Clause} {sh : Sheet} → OfClause c → OfSheet ds cs sh → OfSheet ds (suc cs) (withClause c sh)
@@ -98,23 +98,23 @@ given-of {P = P} {x = x} {after = after} (given {a} {st} p q) e =
 
 -- a variable found among those met has a number below theirs
 number-by : (name : List ℕ) (i : ℕ) (ms : List (List ℕ)) (v n : ℕ) (b : Bool)
-    → elim b as (λ _. Option ℕ) [ true ↦ some i | false ↦ numberOf name (suc i) ms ] ≡ some v → i < n → (numberOf name (suc i) ms ≡ some v → v < n) → v < n
+    → elim b as (λ _. Option ℕ) [ true ↦ some i | false ↦ variableNumber name (suc i) ms ] ≡ some v → i < n → (variableNumber name (suc i) ms ≡ some v → v < n) → v < n
 number-by name i ms v n true e l h = let q : i ≡ v = cc in omega arith
 number-by name i ms v n false e l h = h e
 
-number-below : (name : List ℕ) (i : ℕ) (ms : List (List ℕ)) (v : ℕ) → numberOf name i ms ≡ some v → v < i + length ms
-unfolding numberOf
+number-below : (name : List ℕ) (i : ℕ) (ms : List (List ℕ)) (v : ℕ) → variableNumber name i ms ≡ some v → v < i + length ms
+unfolding variableNumber
 number-below name i [] v e = let z : _≡_ {A = ℕ} 0 1 = cc in absurd (omega arith)
 number-below name i (m ∷ ms) v e = number-by name i ms v (i + suc (length ms)) (sameName m name) e (omega arith) (λ e1. omega (arith, number-below name (suc i) ms v e1))
 
-number-met : (s : List ℕ) (st : Cursor) (v : ℕ) → numberOf (spelt s st) 0 (st .names) ≡ some v → v < length (st .names)
+number-met : (s : List ℕ) (st : Cursor) (v : ℕ) → variableNumber (spelt s st) 0 (st .names) ≡ some v → v < length (st .names)
 number-met s st v e = omega (arith, number-below (spelt s st) 0 (st .names) v e)
 
 module _ {s : List ℕ} {OfReader : Cursor → Type 0} {OfTerm : ℕ → Term → Type 0} {OfTerms : ℕ → ℕ → Terms → Type 0} {OfLiteral : ℕ → ℕ → Literal → Type 0}
     {OfBody : ℕ → ℕ → Body → Type 0} {OfClause : Clause → Type 0} {OfDeclaration : Declaration → Type 0} {OfSheet : ℕ → ℕ → Sheet → Type 0}
     {OfGoal : Goal → Cursor → Type 0} (kept : Kept s OfReader OfTerm OfTerms OfLiteral OfBody OfClause OfDeclaration OfSheet OfGoal) where
   past : {c : ℕ} {st : Cursor} → At OfReader c st → At OfReader c (next s st)
-  unfolding next standing
+  unfolding next cursorAt
   past r = (kept .past-token (r .0), r .1)
 
   with-new : {c : ℕ} {st : Cursor} → At OfReader c st → length (st .names) < variables → At OfReader c (withNew s st)
@@ -142,38 +142,38 @@ module _ {s : List ℕ} {OfReader : Cursor → Type 0} {OfTerm : ℕ → Term �
   variable-given {c = c} left st r = by (isAnonymous s (st .token))
     where
       by : (b : Bool)
-          → Reads (At OfReader c) (OfTerm left) (elim b as (λ _. Read Term) [ true ↦ newVariable s st | false ↦ oldVariable s st (numberOf (spelt s st) 0 (st .names)) ])
+          → Reads (At OfReader c) (OfTerm left) (elim b as (λ _. Read Term) [ true ↦ newVariable s st | false ↦ oldVariable s st (variableNumber (spelt s st) 0 (st .names)) ])
       by true = new-given left st r
-      by false = old-given left st (numberOf (spelt s st) 0 (st .names)) (number-met s st) r
+      by false = old-given left st (variableNumber (spelt s st) 0 (st .names)) (number-met s st) r
 
   -- ---- terms
 
   atom-by : {c : ℕ} (left : ℕ) (list : Cursor → Read Terms) → ((st : Cursor) → At OfReader c st → Reads (At OfReader c) (OfTerms left arguments) (list st))
-      → (st : Cursor) (b : Bool) → At OfReader c st → kindAt st ≡ nameKind → Reads (At OfReader c) (λ a. OfTerm left (termOf a)) (atomWith list s st b)
+      → (st : Cursor) (b : Bool) → At OfReader c st → tokenKind st ≡ nameKind → Reads (At OfReader c) (λ a. OfTerm left (termOf a)) (atomWith list s st b)
   unfolding atomWith
   atom-by left list h st true r e = then-given (h (next s st) (past r)) (λ ts after g q. given (kept .named (r .0) e g) q)
   atom-by left list h st false r e = given (kept .named (r .0) e (kept .no-terms)) (past r)
 
   atom-with : {c : ℕ} (left : ℕ) (list : Cursor → Read Terms) → ((st : Cursor) → At OfReader c st → Reads (At OfReader c) (OfTerms left arguments) (list st))
-      → (st : Cursor) → At OfReader c st → kindAt st ≡ nameKind → Reads (At OfReader c) (λ a. OfTerm left (termOf a)) (readAtomWith list s st)
+      → (st : Cursor) → At OfReader c st → tokenKind st ≡ nameKind → Reads (At OfReader c) (λ a. OfTerm left (termOf a)) (readAtomWith list s st)
   unfolding readAtomWith
   atom-with left list h st r e = atom-by left list h st (is openKind (next s st)) r e
 
   term-by : {c : ℕ} (left : ℕ) (list : Cursor → Read Terms) → ((st : Cursor) → At OfReader c st → Reads (At OfReader c) (OfTerms left arguments) (list st))
-      → (st : Cursor) (v n a : Bool) → eqb (kindAt st) numeralKind ≡ n → eqb (kindAt st) nameKind ≡ a → At OfReader c st
+      → (st : Cursor) (v n a : Bool) → eqb (tokenKind st) numeralKind ≡ n → eqb (tokenKind st) nameKind ≡ a → At OfReader c st
       → Reads (At OfReader c) (OfTerm left) (termWith list s st (cond v aVariable (cond n aNumeral (cond a aName Rattle.syntax.specs.Reading.nothing))))
   unfolding termWith
   term-by left list h st true n a en ea r = variable-given left st r
-  term-by left list h st false true a en ea r = given (kept .numeral (r .0) (eqb-true (kindAt st) numeralKind en)) (past r)
+  term-by left list h st false true a en ea r = given (kept .numeral (r .0) (eqb-true (tokenKind st) numeralKind en)) (past r)
   term-by left list h st false false true en ea r =
-      then-given (atom-with left list h st r (eqb-true (kindAt st) nameKind ea)) (λ a after g q. given g q)
+      then-given (atom-with left list h st r (eqb-true (tokenKind st) nameKind ea)) (λ a after g q. given g q)
   term-by left list h st false false false en ea r = wrong-given st
 
   term-with : {c : ℕ} (left : ℕ) (list : Cursor → Read Terms) → ((st : Cursor) → At OfReader c st → Reads (At OfReader c) (OfTerms left arguments) (list st))
       → (st : Cursor) → At OfReader c st → Reads (At OfReader c) (OfTerm left) (readTermWith list s st)
   unfolding readTermWith
   term-with left list h st r =
-      term-by left list h st (eqb (kindAt st) variableKind) (eqb (kindAt st) numeralKind) (eqb (kindAt st) nameKind) refl refl r
+      term-by left list h st (eqb (tokenKind st) variableKind) (eqb (tokenKind st) numeralKind) (eqb (tokenKind st) nameKind) refl refl r
 
   arguments-by : {c : ℕ} (left k : ℕ) (rest : Cursor → Read Terms) → ((st : Cursor) → At OfReader c st → Reads (At OfReader c) (OfTerms (suc left) k) (rest st))
       → (t : Term) → OfTerm left t → (st : Cursor) (a : After) → At OfReader c st → Reads (At OfReader c) (OfTerms (suc left) (suc k)) (argumentsAfter rest s t st a)
@@ -185,9 +185,9 @@ module _ {s : List ℕ} {OfReader : Cursor → Type 0} {OfTerm : ℕ → Term �
   arguments-given : {c : ℕ} (left : ℕ) (term : Cursor → Read Term) → ((st : Cursor) → At OfReader c st → Reads (At OfReader c) (OfTerm left) (term st))
       → (k : ℕ) (st : Cursor) → At OfReader c st → Reads (At OfReader c) (OfTerms (suc left) k) (readArguments term s k st)
   unfolding readArguments
-  arguments-given left term h zero st r = full-given (begins (startOf (kindAt st))) st
+  arguments-given left term h zero st r = full-given (begins (startOf (tokenKind st))) st
   arguments-given left term h (suc k) st r =
-      then-given (h st r) (λ t after g q. arguments-by left k (λ st1. readArguments term s k st1) (λ st1 r1. arguments-given left term h k st1 r1) t g after (afterOf closeKind (kindAt after)) q)
+      then-given (h st r) (λ t after g q. arguments-by left k (λ st1. readArguments term s k st1) (λ st1 r1. arguments-given left term h k st1 r1) t g after (afterOf closeKind (tokenKind after)) q)
 
   list-given : {c : ℕ} (left : ℕ) (st : Cursor) → At OfReader c st → Reads (At OfReader c) (OfTerms left arguments) (readList left s st)
   unfolding readList
@@ -201,7 +201,7 @@ module _ {s : List ℕ} {OfReader : Cursor → Type 0} {OfTerm : ℕ → Term �
   unfolding readTerm
   term-given left st r = term-with left (λ st1. readList left s st1) (λ st1 r1. list-given left st1 r1) st r
 
-  atom-given : {c : ℕ} (left : ℕ) (st : Cursor) → At OfReader c st → kindAt st ≡ nameKind → Reads (At OfReader c) (λ a. OfTerm left (termOf a)) (readAtom left s st)
+  atom-given : {c : ℕ} (left : ℕ) (st : Cursor) → At OfReader c st → tokenKind st ≡ nameKind → Reads (At OfReader c) (λ a. OfTerm left (termOf a)) (readAtom left s st)
   unfolding readAtom
   atom-given left st r e = atom-with left (λ st1. readList left s st1) (λ st1 r1. list-given left st1 r1) st r e
 
@@ -237,7 +237,7 @@ module _ {s : List ℕ} {OfReader : Cursor → Type 0} {OfTerm : ℕ → Term �
       → Reads (At OfReader (suc n)) (OfLiteral n (suc n)) (literalWith left s st b)
   unfolding literalWith
   literal-by left st true e few low r =
-      then-given (atom-given left st r (eqb-true (kindAt st) nameKind e)) (λ a after g q. after-atom left a after (is equalsKind after) few low g q)
+      then-given (atom-given left st r (eqb-true (tokenKind st) nameKind e)) (λ a after g q. after-atom left a after (is equalsKind after) few low g q)
   literal-by left st false e few low r = then-given (term-given left st r) (λ t after g q. after-term left t after (is equalsKind after) few low g q)
 
   -- one literal or more, which are so many afterwards
@@ -254,8 +254,8 @@ module _ {s : List ℕ} {OfReader : Cursor → Type 0} {OfTerm : ℕ → Term �
       → Gives OfReader (Grown OfLiteral (st .literals)) (plainWith left s st b)
   unfolding plainWith
   plain-by left st true e few r =
-      plain-grown (literal-by left (counted st) (is nameKind st) refl few (ltb-true (st .literals) literals e) (kept .with-literal r, refl))
-  plain-by left st false e few r = full-given (begins (startOf (kindAt st))) st
+      plain-grown (literal-by left (oneLiteralMore st) (is nameKind st) refl few (ltb-true (st .literals) literals e) (kept .with-literal r, refl))
+  plain-by left st false e few r = full-given (begins (startOf (tokenKind st))) st
 
   plain-given : (left : ℕ) (st : Cursor) → left ≤ brackets → OfReader st → Gives OfReader (Grown OfLiteral (st .literals)) (readPlain left s st)
   unfolding readPlain
@@ -263,7 +263,7 @@ module _ {s : List ℕ} {OfReader : Cursor → Type 0} {OfTerm : ℕ → Term �
 
   body-by : (rest : Cursor → Read Body) → ((st : Cursor) → OfReader st → Gives OfReader (Grown OfBody (st .literals)) (rest st)) → {n : ℕ} (l : Literal)
       → (st : Cursor) (a : After) → Grown OfLiteral n l st → OfReader st → Gives OfReader (Grown OfBody n) (bodyAfter rest s l st a)
-  unfolding bodyAfter next standing
+  unfolding bodyAfter next cursorAt
   body-by rest h l st more g r =
       then-given (h (next s st) (kept .past-token r))
       (λ b after gb q. given (omega (arith, g .0, gb .0), kept .one-literal (g .1) (gb .1)) q)
@@ -276,11 +276,11 @@ module _ {s : List ℕ} {OfReader : Cursor → Type 0} {OfTerm : ℕ → Term �
   body-with literal h end zero st r = wrong-given st
   body-with literal h end (suc k) st r =
       then-given (h st r)
-      (λ l after g q. body-by (λ st1. readBodyWith literal s end k st1) (λ st1 r1. body-with literal h end k st1 r1) l after (afterOf end (kindAt after)) g q)
+      (λ l after g q. body-by (λ st1. readBodyWith literal s end k st1) (λ st1 r1. body-with literal h end k st1 r1) l after (afterOf end (tokenKind after)) g q)
 
   sides-given : (body : ℕ → Cursor → Read Body) → ((end : ℕ) (st : Cursor) → OfReader st → Gives OfReader (Grown OfBody (st .literals)) (body end st))
       → (st : Cursor) → OfReader st → Gives OfReader (Grown OfLiteral (st .literals)) (readSides body s st)
-  unfolding readSides next standing
+  unfolding readSides next cursorAt
   sides-given body h st r =
       then-given (h semicolonKind (next s st) (kept .past-token r))
       (λ y after g q. then-given (h closeKind after q)
@@ -326,10 +326,10 @@ module _ {s : List ℕ} {OfReader : Cursor → Type 0} {OfTerm : ℕ → Term �
   clause-by h g st rule r = then-given (whole-given (next s st) (past r)) (λ b after gb q. given (kept .clause g (gb .1) q) q)
   clause-by h g st other r = wrong-given st
 
-  clause-given : (st : Cursor) → At OfReader 0 st → kindAt st ≡ nameKind → Reads OfReader OfClause (readClause s st)
+  clause-given : (st : Cursor) → At OfReader 0 st → tokenKind st ≡ nameKind → Reads OfReader OfClause (readClause s st)
   unfolding readClause
   clause-given st r e =
-      then-given (atom-given brackets st r e) (λ h after g q. clause-by h g after (tailOf (kindAt after)) q)
+      then-given (atom-given brackets st r e) (λ h after g q. clause-by h g after (tailOf (tokenKind after)) q)
 
   marks-after : (k : ℕ) (rest : Cursor → Read (List Mark)) → ((st : Cursor) → At OfReader 0 st → Reads (At OfReader 0) (λ ms. length ms ≤ k) (rest st))
       → (m : Mark) (st : Cursor) (a : After) → At OfReader 0 st → Reads (At OfReader 0) (λ ms. length ms ≤ suc k) (marksAfter rest s m st a)
@@ -341,16 +341,16 @@ module _ {s : List ℕ} {OfReader : Cursor → Type 0} {OfTerm : ℕ → Term �
   marks-with : (k : ℕ) (rest : Cursor → Read (List Mark)) → ((st : Cursor) → At OfReader 0 st → Reads (At OfReader 0) (λ ms. length ms ≤ k) (rest st))
       → (st : Cursor) (x : Sign) → At OfReader 0 st → Reads (At OfReader 0) (λ ms. length ms ≤ suc k) (marksWith rest s st x)
   unfolding marksWith
-  marks-with k rest h st (mark m) r = marks-after k rest h m (next s st) (afterOf closeKind (kindAt (next s st))) (past r)
+  marks-with k rest h st (mark m) r = marks-after k rest h m (next s st) (afterOf closeKind (tokenKind (next s st))) (past r)
   marks-with k rest h st noMark r = wrong-given st
 
   marks-given : (k : ℕ) (st : Cursor) → At OfReader 0 st → Reads (At OfReader 0) (λ ms. length ms ≤ k) (readMarks s k st)
   unfolding readMarks
-  marks-given zero st r = full-given (isMark (signOf (kindAt st))) st
-  marks-given (suc k) st r = marks-with k (λ st1. readMarks s k st1) (λ st1 r1. marks-given k st1 r1) st (signOf (kindAt st)) r
+  marks-given zero st r = full-given (isMark (signOf (tokenKind st))) st
+  marks-given (suc k) st r = marks-with k (λ st1. readMarks s k st1) (λ st1 r1. marks-given k st1 r1) st (signOf (tokenKind st)) r
 
-  marks-of : (st : Cursor) (b : Bool) → At OfReader 0 st → Reads (At OfReader 0) (λ ms. length ms ≤ arguments) (marksOf s st b)
-  unfolding marksOf
+  marks-of : (st : Cursor) (b : Bool) → At OfReader 0 st → Reads (At OfReader 0) (λ ms. length ms ≤ arguments) (marksRead s st b)
+  unfolding marksRead
   marks-of st true r = marks-given arguments (next s st) (past r)
   marks-of st false r = let none-of-them : 0 ≤ arguments = omega arith in given none-of-them r
 
@@ -363,7 +363,7 @@ module _ {s : List ℕ} {OfReader : Cursor → Type 0} {OfTerm : ℕ → Term �
   unfolding declarationFrom
   declaration-from st true e r =
       then-given (marks-of (next s st) (is openKind (next s st)) (past r))
-      (λ ms after l q. declaration-end (declarationOf s st ms) after (is stopKind after) (kept .declaration (r .0) (eqb-true (kindAt st) nameKind e) l) q)
+      (λ ms after l q. declaration-end (declarationOf s st ms) after (is stopKind after) (kept .declaration (r .0) (eqb-true (tokenKind st) nameKind e) l) q)
   declaration-from st false e r = wrong-given st
 
   after-neck : (st : Cursor) (b : Bool) → At OfReader 0 st → Reads (At OfReader 0) OfDeclaration (afterNeck s st b)
@@ -391,7 +391,7 @@ module _ {s : List ℕ} {OfReader : Cursor → Type 0} {OfTerm : ℕ → Term �
       (λ sh end gs z. given (subst (λ (n : ℕ). OfSheet n cs (withDeclaration d sh)) one (kept .one-declaration g gs)) z))
 
   item-clause : (rest : ℕ → ℕ → Cursor → Read Sheet) → ((ds cs : ℕ) (st : Cursor) → At OfReader 0 st → Reads (At OfReader 0) (OfSheet ds cs) (rest ds cs st))
-      → (ds cs : ℕ) (st : Cursor) → At OfReader 0 st → kindAt st ≡ nameKind → eqb cs 0 ≡ false → Reads (At OfReader 0) (OfSheet ds cs) (itemWith rest s ds cs st aClause)
+      → (ds cs : ℕ) (st : Cursor) → At OfReader 0 st → tokenKind st ≡ nameKind → eqb cs 0 ≡ false → Reads (At OfReader 0) (OfSheet ds cs) (itemWith rest s ds cs st aClause)
   unfolding itemWith
   item-clause rest h ds cs st r k e =
       let one : suc (cs - 1) ≡ cs = omega (arith, eqb-false cs 0 e) in
@@ -400,7 +400,7 @@ module _ {s : List ℕ} {OfReader : Cursor → Type 0} {OfTerm : ℕ → Term �
       (λ sh end gs z. given (subst (λ (n : ℕ). OfSheet ds n (withClause c sh)) one (kept .one-clause g gs)) z))
 
   item-by : (rest : ℕ → ℕ → Cursor → Read Sheet) → ((ds cs : ℕ) (st : Cursor) → At OfReader 0 st → Reads (At OfReader 0) (OfSheet ds cs) (rest ds cs st))
-      → (ds cs : ℕ) (st : Cursor) (stop neck d name c : Bool) → eqb ds 0 ≡ d → eqb (kindAt st) nameKind ≡ name → eqb cs 0 ≡ c → At OfReader 0 st
+      → (ds cs : ℕ) (st : Cursor) (stop neck d name c : Bool) → eqb ds 0 ≡ d → eqb (tokenKind st) nameKind ≡ name → eqb cs 0 ≡ c → At OfReader 0 st
       → Reads (At OfReader 0) (OfSheet ds cs)
       (itemWith rest s ds cs st (cond stop noItem (cond neck (cond d pastLimit aDeclaration) (cond name (cond c pastLimit aClause) misplaced))))
   unfolding itemWith
@@ -408,7 +408,7 @@ module _ {s : List ℕ} {OfReader : Cursor → Type 0} {OfTerm : ℕ → Term �
   item-by rest h ds cs st false true true name c ed en ec r = beyond-given st
   item-by rest h ds cs st false true false name c ed en ec r = item-declaration rest h ds cs st r ed
   item-by rest h ds cs st false false d true true ed en ec r = beyond-given st
-  item-by rest h ds cs st false false d true false ed en ec r = item-clause rest h ds cs st r (eqb-true (kindAt st) nameKind en) ec
+  item-by rest h ds cs st false false d true false ed en ec r = item-clause rest h ds cs st r (eqb-true (tokenKind st) nameKind en) ec
   item-by rest h ds cs st false false d false c ed en ec r = wrong-given st
 
   items-given : (n ds cs : ℕ) (st : Cursor) → At OfReader 0 st → Reads (At OfReader 0) (OfSheet ds cs) (readItems s n ds cs st)
@@ -416,7 +416,7 @@ module _ {s : List ℕ} {OfReader : Cursor → Type 0} {OfTerm : ℕ → Term �
   items-given zero ds cs st r = wrong-given st
   items-given (suc n) ds cs st r =
       item-by (λ ds1 cs1 st1. readItems s n ds1 cs1 st1) (λ ds1 cs1 st1 r1. items-given n ds1 cs1 st1 r1) ds cs st
-      (eqb (kindAt st) endKind) (eqb (kindAt st) neckKind) (eqb ds 0) (eqb (kindAt st) nameKind) (eqb cs 0) refl refl refl r
+      (eqb (tokenKind st) endKind) (eqb (tokenKind st) neckKind) (eqb ds 0) (eqb (tokenKind st) nameKind) (eqb cs 0) refl refl refl r
 
   sheet-given : Reads (At OfReader 0) (OfSheet declarations clauses) (readSheet s)
   unfolding readSheet

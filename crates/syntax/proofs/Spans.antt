@@ -11,7 +11,7 @@ use lib.Dec.{eqb}
 use borrow.Author.Tests.{eqb-true, eqb-false}
 use Rattle.syntax.specs.Limits.{lengths, variables}
 use Rattle.syntax.specs.Tokens.{spelling}
-use Rattle.syntax.specs.Spans.{packed, spanAt, spanLength, spanned, Inside, namesFrom, met, Held}
+use Rattle.syntax.specs.Spans.{packed, spanAt, spanLength, spanned, SpanInside, namesFrom, met, Held}
 
 -- ---- packing
 
@@ -21,7 +21,7 @@ packed-at at len h = omega arith
 pub packed-length : (at len : ℕ) → len < lengths → spanLength (packed at len) ≡ len
 packed-length at len h = omega arith
 
-pub packed-inside : (s : List ℕ) (at len : ℕ) → at + len ≤ length s → Inside s (packed at len)
+pub packed-inside : (s : List ℕ) (at len : ℕ) → at + len ≤ length s → SpanInside s (packed at len)
 packed-inside s at len h = omega arith
 
 pub packed-spelt : (s : List ℕ) (at len : ℕ) → len < lengths → spanned s (packed at len) ≡ spelling s at len
@@ -58,13 +58,13 @@ names-new s words k w h =
     ∙ names-more s (set words k w) 0 k
     ∙ ap₂ (λ (l : List (List ℕ)) (x : ℕ). l ++ (spanned s x ∷ [])) (names-set s words 0 k k w (omega arith)) (ap (λ (j : ℕ). getD (set words k w) j 0) none ∙ getD-set-same words k w 0 h)
 
-new-inside : (s words : List ℕ) (k w : ℕ) → k < length words → Inside s w → Held s words k → (i : ℕ) → i < k + 1 → (b : Bool) → eqb i k ≡ b → Inside s (getD (set words k w) i 0)
-new-inside s words k w low h f i less true e = subst⁻¹ (λ (j : ℕ). Inside s (getD (set words k w) j 0)) (eqb-true i k e) (subst⁻¹ (Inside s) (getD-set-same words k w 0 low) h)
+new-inside : (s words : List ℕ) (k w : ℕ) → k < length words → SpanInside s w → Held s words k → (i : ℕ) → i < k + 1 → (b : Bool) → eqb i k ≡ b → SpanInside s (getD (set words k w) i 0)
+new-inside s words k w low h f i less true e = subst⁻¹ (λ (j : ℕ). SpanInside s (getD (set words k w) j 0)) (eqb-true i k e) (subst⁻¹ (SpanInside s) (getD-set-same words k w 0 low) h)
 new-inside s words k w low h f i less false e =
     let ne : i ≡ k → ⊥ = eqb-false i k e in
-    subst⁻¹ (Inside s) (getD-set-other words k i w 0 ne) (f .inside i (omega arith))
+    subst⁻¹ (SpanInside s) (getD-set-other words k i w 0 ne) (f .inside i (omega arith))
 
-pub held-new : (s words : List ℕ) (k w : ℕ) → k < length words → Inside s w → Held s words k → Held s (set words k w) (k + 1)
+pub held-new : (s words : List ℕ) (k w : ℕ) → k < length words → SpanInside s w → Held s words k → Held s (set words k w) (k + 1)
 held-new s words k w low h f = record { inside = λ i less. new-inside s words k w low h f i less (eqb i k) refl }
 
 pub held-none : (s words : List ℕ) → Held s words 0

@@ -34,30 +34,30 @@ unfoldable pub andThen : {A B : Type 0} → Read A → (A → Cursor → Read B)
 andThen (fault n b) k = fault n b
 andThen (ok a st) k = k a st
 
-abbrev pub kindAt : Cursor → ℕ
-kindAt st = st .token .kind
+abbrev pub tokenKind : Cursor → ℕ
+tokenKind st = st .token .kind
 
 abbrev pub is : ℕ → Cursor → Bool
-is k st = eqb (kindAt st) k
+is k st = eqb (tokenKind st) k
 
 -- how the token at hand is spelt
 abbrev pub spelt : List ℕ → Cursor → List ℕ
 spelt s st = spelling s (st .token .at) (st .token .len)
 
 -- the reader at the first token from a position on, with the variables met so far
-unfoldable pub standing : List ℕ → ℕ → Cursor → Cursor
-standing s from st = record { token = tokenAt s from; names = st .names; literals = st .literals }
+unfoldable pub cursorAt : List ℕ → ℕ → Cursor → Cursor
+cursorAt s from st = record { token = tokenAt s from; names = st .names; literals = st .literals }
 
 -- the reader past the token at hand
 unfoldable pub next : List ℕ → Cursor → Cursor
-next s st = standing s (st .token .at + st .token .len) st
+next s st = cursorAt s (st .token .at + st .token .len) st
 
 -- 3 where the byte begins no token, 4 for one too long, 5 for one that cannot stand here
 unfoldable pub wrongNumber : ℕ → ℕ
 wrongNumber k = cond (eqb k noToken) 3 (cond (eqb k overlongKind) 4 5)
 
 unfoldable pub wrong : {A : Type 0} → Cursor → Read A
-wrong st = fault (wrongNumber (kindAt st)) (st .token .at)
+wrong st = fault (wrongNumber (tokenKind st)) (st .token .at)
 
 -- the token at hand goes past a limit
 unfoldable pub beyond : {A : Type 0} → Cursor → Read A
@@ -71,9 +71,9 @@ full false st = wrong st
 -- ---- variables
 
 -- the number of the first of the variables that is spelt so, counted from i
-unfoldable pub numberOf : List ℕ → ℕ → List (List ℕ) → Option ℕ
-numberOf name i [] = none
-numberOf name i (m ∷ ms) = elim (sameName m name) [ true ↦ some i | false ↦ numberOf name (suc i) ms ]
+unfoldable pub variableNumber : List ℕ → ℕ → List (List ℕ) → Option ℕ
+variableNumber name i [] = none
+variableNumber name i (m ∷ ms) = elim (sameName m name) [ true ↦ some i | false ↦ variableNumber name (suc i) ms ]
 
 -- the token at hand is `_` alone
 unfoldable pub isAnonymous : List ℕ → Token → Bool
@@ -94,7 +94,7 @@ oldVariable s st (some i) = ok (variable i (st .token .at)) (next s st)
 -- `_` alone is a new variable each time; any other is one throughout its clause
 unfoldable pub readVariable : List ℕ → Cursor → Read Term
 readVariable s st =
-    elim (isAnonymous s (st .token)) [ true ↦ newVariable s st | false ↦ oldVariable s st (numberOf (spelt s st) 0 (st .names)) ]
+    elim (isAnonymous s (st .token)) [ true ↦ newVariable s st | false ↦ oldVariable s st (variableNumber (spelt s st) 0 (st .names)) ]
 
 -- ---- terms
 
@@ -142,7 +142,7 @@ termWith list s st aName = andThen (readAtomWith list s st) (λ a after. ok (ter
 termWith list s st nothing = wrong st
 
 unfoldable pub readTermWith : (Cursor → Read Terms) → List ℕ → Cursor → Read Term
-readTermWith list s st = termWith list s st (startOf (kindAt st))
+readTermWith list s st = termWith list s st (startOf (tokenKind st))
 
 -- what follows one term of a list; `rest` reads the terms behind a comma
 unfoldable pub argumentsAfter : (Cursor → Read Terms) → List ℕ → Term → Cursor → After → Read Terms
@@ -152,9 +152,9 @@ argumentsAfter rest s t st neither = wrong st
 
 -- a list of terms after its opening bracket, with so many arguments left; `term` reads one
 unfoldable pub readArguments : (Cursor → Read Term) → List ℕ → ℕ → Cursor → Read Terms
-readArguments term s zero st = full (begins (startOf (kindAt st))) st
+readArguments term s zero st = full (begins (startOf (tokenKind st))) st
 readArguments term s (suc k) st =
-    andThen (term st) (λ t after. argumentsAfter (λ st1. readArguments term s k st1) s t after (afterOf closeKind (kindAt after)))
+    andThen (term st) (λ t after. argumentsAfter (λ st1. readArguments term s k st1) s t after (afterOf closeKind (tokenKind after)))
 
 -- A list of terms, of which the opening bracket is at hand, with so many brackets left: reading one term and reading a list call each other. The knot is
 -- tied by arguments: `readArguments` is told how to read one term, and `readTermWith` how to read the list that a term may open, which is `readList`
@@ -190,13 +190,13 @@ literalWith left s st true = andThen (readAtom left s st) (λ a after. afterAtom
 literalWith left s st false = andThen (readTerm left s st) (λ t after. afterTerm left s t after (is equalsKind after))
 
 -- the reader with one literal more
-abbrev pub counted : Cursor → Cursor
-counted st = record { token = st .token; names = st .names; literals = suc (st .literals) }
+abbrev pub oneLiteralMore : Cursor → Cursor
+oneLiteralMore st = record { token = st .token; names = st .names; literals = suc (st .literals) }
 
 -- a literal that is no bracket, by whether the clause or goal may have one more
 unfoldable pub plainWith : ℕ → List ℕ → Cursor → Bool → Read Literal
-plainWith left s st true = literalWith left s (counted st) (is nameKind st)
-plainWith left s st false = full (begins (startOf (kindAt st))) st
+plainWith left s st true = literalWith left s (oneLiteralMore st) (is nameKind st)
+plainWith left s st false = full (begins (startOf (tokenKind st))) st
 
 unfoldable pub readPlain : ℕ → List ℕ → Cursor → Read Literal
 readPlain left s st = plainWith left s st (ltb (st .literals) literals)
@@ -211,7 +211,7 @@ bodyAfter rest s l st neither = wrong st
 unfoldable pub readBodyWith : (Cursor → Read Literal) → List ℕ → ℕ → ℕ → Cursor → Read Body
 readBodyWith literal s end zero st = wrong st
 readBodyWith literal s end (suc k) st =
-    andThen (literal st) (λ l after. bodyAfter (λ st1. readBodyWith literal s end k st1) s l after (afterOf end (kindAt after)))
+    andThen (literal st) (λ l after. bodyAfter (λ st1. readBodyWith literal s end k st1) s l after (afterOf end (tokenKind after)))
 
 -- A bracket, which is at hand, with two bodies; `body` reads one up to a token of a kind.
 unfoldable pub readSides : (ℕ → Cursor → Read Body) → List ℕ → Cursor → Read Literal
@@ -258,7 +258,7 @@ clauseAfter s h st other = wrong st
 
 -- a clause, of which the head's name is at hand and no variable is met
 unfoldable pub readClause : List ℕ → Cursor → Read Clause
-readClause s st = andThen (readAtom brackets s st) (λ h after. clauseAfter s h after (tailOf (kindAt after)))
+readClause s st = andThen (readAtom brackets s st) (λ h after. clauseAfter s h after (tailOf (tokenKind after)))
 
 pub data Sign : Type 0 where
   mark : Mark → Sign
@@ -277,18 +277,18 @@ marksAfter rest s m st last = ok (m ∷ []) (next s st)
 marksAfter rest s m st neither = wrong st
 
 unfoldable pub marksWith : (Cursor → Read (List Mark)) → List ℕ → Cursor → Sign → Read (List Mark)
-marksWith rest s st (mark m) = marksAfter rest s m (next s st) (afterOf closeKind (kindAt (next s st)))
+marksWith rest s st (mark m) = marksAfter rest s m (next s st) (afterOf closeKind (tokenKind (next s st)))
 marksWith rest s st noMark = wrong st
 
 -- a list of marks after its opening bracket, with so many left
 unfoldable pub readMarks : List ℕ → ℕ → Cursor → Read (List Mark)
-readMarks s zero st = full (isMark (signOf (kindAt st))) st
-readMarks s (suc k) st = marksWith (λ st1. readMarks s k st1) s st (signOf (kindAt st))
+readMarks s zero st = full (isMark (signOf (tokenKind st))) st
+readMarks s (suc k) st = marksWith (λ st1. readMarks s k st1) s st (signOf (tokenKind st))
 
 -- the marks behind a declaration's name, or none
-unfoldable pub marksOf : List ℕ → Cursor → Bool → Read (List Mark)
-marksOf s st true = readMarks s arguments (next s st)
-marksOf s st false = ok [] st
+unfoldable pub marksRead : List ℕ → Cursor → Bool → Read (List Mark)
+marksRead s st true = readMarks s arguments (next s st)
+marksRead s st false = ok [] st
 
 abbrev pub declarationOf : List ℕ → Cursor → List Mark → Declaration
 declarationOf s st ms = record { at = st .token .at; name = spelt s st; marks = ms }
@@ -301,7 +301,7 @@ declarationEnd s d st false = wrong st
 -- a declaration's name and marks, where a name is at hand
 unfoldable pub declarationFrom : List ℕ → Cursor → Bool → Read Declaration
 declarationFrom s st true =
-    andThen (marksOf s (next s st) (is openKind (next s st))) (λ ms after. declarationEnd s (declarationOf s st ms) after (is stopKind after))
+    andThen (marksRead s (next s st) (is openKind (next s st))) (λ ms after. declarationEnd s (declarationOf s st ms) after (is stopKind after))
 declarationFrom s st false = wrong st
 
 -- the name `mode`
@@ -319,10 +319,10 @@ readDeclaration s st = afterNeck s (next s st) (isMode s (next s st))
 -- ---- sheets and goals
 
 -- what begins at the token at hand, with so many declarations and clauses left
-pub data Item : Type 0 where
-  noItem aDeclaration aClause pastLimit misplaced : Item
+pub data SheetItem : Type 0 where
+  noItem aDeclaration aClause pastLimit misplaced : SheetItem
 
-abbrev pub itemOf : ℕ → ℕ → ℕ → Item
+abbrev pub itemOf : ℕ → ℕ → ℕ → SheetItem
 itemOf k ds cs =
     cond (eqb k endKind) noItem
     (cond (eqb k neckKind) (cond (eqb ds 0) pastLimit aDeclaration)
@@ -335,7 +335,7 @@ abbrev pub withClause : Clause → Sheet → Sheet
 withClause c sh = record { declarations = sh .declarations; clauses = c ∷ sh .clauses }
 
 -- `rest` reads the items behind one, with the declarations and clauses then left
-unfoldable pub itemWith : (ℕ → ℕ → Cursor → Read Sheet) → List ℕ → ℕ → ℕ → Cursor → Item → Read Sheet
+unfoldable pub itemWith : (ℕ → ℕ → Cursor → Read Sheet) → List ℕ → ℕ → ℕ → Cursor → SheetItem → Read Sheet
 itemWith rest s ds cs st noItem = ok (record { declarations = []; clauses = [] }) st
 itemWith rest s ds cs st aDeclaration =
     andThen (readDeclaration s st) (λ d after. andThen (rest (ds - 1) cs after) (λ sh end. ok (withDeclaration d sh) end))
@@ -348,7 +348,7 @@ itemWith rest s ds cs st misplaced = wrong st
 -- never stops the reading.
 unfoldable pub readItems : List ℕ → ℕ → ℕ → ℕ → Cursor → Read Sheet
 readItems s zero ds cs st = wrong st
-readItems s (suc n) ds cs st = itemWith (λ ds1 cs1 st1. readItems s n ds1 cs1 st1) s ds cs st (itemOf (kindAt st) ds cs)
+readItems s (suc n) ds cs st = itemWith (λ ds1 cs1 st1. readItems s n ds1 cs1 st1) s ds cs st (itemOf (tokenKind st) ds cs)
 
 -- the reader at a text's first token
 unfoldable pub atStart : List ℕ → Cursor

@@ -19,8 +19,8 @@ spanLength w = w % lengths
 abbrev pub spanned : List ℕ → ℕ → List ℕ
 spanned s w = spelling s (spanAt w) (spanLength w)
 
-abbrev pub Inside : List ℕ → ℕ → Type 0
-Inside s w = spanAt w + spanLength w ≤ length s
+abbrev pub SpanInside : List ℕ → ℕ → Type 0
+SpanInside s w = spanAt w + spanLength w ≤ length s
 
 -- the spellings that the words from number i on give, k of them
 unfoldable pub namesFrom : List ℕ → List ℕ → ℕ → ℕ → List (List ℕ)
@@ -33,4 +33,4 @@ met table = drop (length table - variables) table
 
 -- the first k of these words lie within the text
 pub record Held (s words : List ℕ) (k : ℕ) : Type 0 where
-  pub inside : (i : ℕ) → i < k → Inside s (getD words i 0)
+  pub inside : (i : ℕ) → i < k → SpanInside s (getD words i 0)

@@ -78,9 +78,9 @@ skipped g [] = 0
 skipped g (b ∷ s) = elim (moveOf g b) [ on h ↦ suc (skipped h s) | atToken ↦ 0 ]
 
 -- how many bytes that pass a test stand first
-unfoldable pub run : (ℕ → Bool) → List ℕ → ℕ
-run f [] = 0
-run f (b ∷ s) = elim (f b) [ true ↦ suc (run f s) | false ↦ 0 ]
+unfoldable pub runLength : (ℕ → Bool) → List ℕ → ℕ
+runLength f [] = 0
+runLength f (b ∷ s) = elim (f b) [ true ↦ suc (runLength f s) | false ↦ 0 ]
 
 -- a name, variable or numeral of n bytes
 unfoldable pub word : ℕ → ℕ → ℕ → Token
@@ -94,9 +94,9 @@ dashFirst (b ∷ s) = eqb b 45
 -- the token whose first byte, of class c, stands at a place, with the bytes after it
 unfoldable pub tokenOf : ℕ → ℕ → List ℕ → Token
 tokenOf c at s =
-    cond (eqb c 3) (word nameKind at (suc (run inWord s)))
-    (cond (eqb c 4) (word variableKind at (suc (run inWord s)))
-    (cond (eqb c 5) (word numeralKind at (suc (run inNumeral s)))
+    cond (eqb c 3) (word nameKind at (suc (runLength inWord s)))
+    (cond (eqb c 4) (word variableKind at (suc (runLength inWord s)))
+    (cond (eqb c 5) (word numeralKind at (suc (runLength inNumeral s)))
     (cond (eqb c 6) (record { kind = cond (dashFirst s) neckKind noToken; at = at; len = cond (dashFirst s) 2 1 })
     (record { kind = c; at = at; len = 1 }))))
 

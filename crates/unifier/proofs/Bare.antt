@@ -7,11 +7,11 @@ use lib.Dec.{ltb}
 use lib.ListN.{length, getD}
 use Rattle.syntax.specs.Words.{firstName}
 use Rattle.machine.specs.Substitution.{Variable, sameVariable, RTerm, RTerms, var, app, rnil, rcons, replace, replaceAll, Binding, resolve}
-use Rattle.layout.specs.Regions.{loadedNode}
-use Rattle.layout.specs.Nodes.{Symbol, nameOf, decoded, decodedAll, termAt, termsAt, followed}
-use Rattle.layout.specs.State.{nodeOf, copyOf, variableOf, cellAt, trailAt, valueOf, bindings}
-use Rattle.bindings.specs.declared.stack.Side.{Side}
-use Rattle.unifier.specs.Rows.{nodesOf, nodesOfAll, sizeOf}
+use Rattle.run_layout.specs.Regions.{loadedNode}
+use Rattle.run_layout.specs.Nodes.{Symbol, nameOfSymbol, decoded, decodedAll, termAt, termsAt, followed}
+use Rattle.run_layout.specs.State.{nodeOf, copyOf, variableOf, cellAt, trailAt, valueOf, bindings}
+use Rattle.unify_bindings.specs.declared.stack.Side.{Side}
+use Rattle.unifier.specs.Rows.{nodesOf, nodesOfAll, rowsSize}
 use Rattle.unifier.specs.Stacks.{endOf, rowOf, rowsOf}
 
 unfoldable mutual
@@ -51,8 +51,8 @@ mutual
 
 module _ (ss : List Symbol) (nodes : List ℕ) (c : ℕ) where
   node-bare : (p : ℕ) (a a′ : RTerms) (b : Bool) → bareAll a ≡ a′
-      → bare (elim b [ true ↦ var (record { copy = c; number = getD nodes p 0 }) | false ↦ app (nameOf ss (getD nodes p 0 - firstName)) a ]) ≡ elim b [ true ↦ var (record { copy = c; number = getD nodes p 0 }) | false ↦ app (nameOf [] (getD nodes p 0 - firstName)) a′ ]
-  unfolding bare nameOf
+      → bare (elim b [ true ↦ var (record { copy = c; number = getD nodes p 0 }) | false ↦ app (nameOfSymbol ss (getD nodes p 0 - firstName)) a ]) ≡ elim b [ true ↦ var (record { copy = c; number = getD nodes p 0 }) | false ↦ app (nameOfSymbol [] (getD nodes p 0 - firstName)) a′ ]
+  unfolding bare nameOfSymbol
   node-bare p a a′ true e = refl
   node-bare p a a′ false e = ap (app []) e
 
@@ -87,8 +87,8 @@ bare-resolve ss nodes state (suc n) t =
     bare-replace (variableOf (trailAt state n)) (resolve (bindings ss nodes state n) (valueOf ss nodes (cellAt state (trailAt state n)))) (resolve (bindings ss nodes state n) t)
     ∙ ap₂ (replace (variableOf (trailAt state n))) (bare-resolve ss nodes state n (valueOf ss nodes (cellAt state (trailAt state n))) ∙ ap (resolve (bindings [] nodes state n)) (bare-value ss nodes (cellAt state (trailAt state n)))) (bare-resolve ss nodes state n t)
 
-bare-size : (ss : List Symbol) (nodes state : List ℕ) (n : ℕ) (ts : RTerms) → sizeOf (bindings [] nodes state n) (bareAll ts) ≡ sizeOf (bindings ss nodes state n) ts
-unfolding sizeOf bareAll
+bare-size : (ss : List Symbol) (nodes state : List ℕ) (n : ℕ) (ts : RTerms) → rowsSize (bindings [] nodes state n) (bareAll ts) ≡ rowsSize (bindings ss nodes state n) ts
+unfolding rowsSize bareAll
 bare-size ss nodes state n rnil = refl
 bare-size ss nodes state n (rcons t ts) = ap₂ _+_ (ap nodesOf (sym (bare-resolve ss nodes state n t)) ∙ nodes-bare (resolve (bindings ss nodes state n) t)) (bare-size ss nodes state n ts)
 
@@ -103,5 +103,5 @@ bare-rows ss nodes s zero = refl
 bare-rows ss nodes s (suc h) = bare-followed (rowOf ss nodes (s h)) (rowsOf ss nodes s h) ∙ ap₂ followed (bare-row ss nodes (s h .at) (endOf nodes (s h)) (s h .copy)) (bare-rows ss nodes s h)
 
 -- the size of the rows of a stack, whatever the symbols
-pub size-bare : (ss : List Symbol) (nodes state : List ℕ) (n : ℕ) (s : ℕ → Side) (h : ℕ) → sizeOf (bindings [] nodes state n) (rowsOf [] nodes s h) ≡ sizeOf (bindings ss nodes state n) (rowsOf ss nodes s h)
-size-bare ss nodes state n s h = ap (sizeOf (bindings [] nodes state n)) (sym (bare-rows ss nodes s h)) ∙ bare-size ss nodes state n (rowsOf ss nodes s h)
+pub size-bare : (ss : List Symbol) (nodes state : List ℕ) (n : ℕ) (s : ℕ → Side) (h : ℕ) → rowsSize (bindings [] nodes state n) (rowsOf [] nodes s h) ≡ rowsSize (bindings ss nodes state n) (rowsOf ss nodes s h)
+size-bare ss nodes state n s h = ap (rowsSize (bindings [] nodes state n)) (sym (bare-rows ss nodes s h)) ∙ bare-size ss nodes state n (rowsOf ss nodes s h)

@@ -8,13 +8,13 @@ use lib.Dec.{eqb}
 use borrow.Author.Tests.{eqb-true, eqb-false}
 use Rattle.machine.specs.Substitution.{RTerm, RTerms, app, rnil, rcons, Binding, resolve}
 use Rattle.machine_theorems.proofs.Terms.{resolveAll, resolve-app, resolve-cons, grows-more}
-use Rattle.layout.specs.Regions.{rows}
-use Rattle.layout.specs.Nodes.{Symbol, termsAt, followed}
-use Rattle.bindings.specs.declared.stack.Side.{Side}
+use Rattle.run_layout.specs.Regions.{rows}
+use Rattle.run_layout.specs.Nodes.{Symbol, termsAt, followed}
+use Rattle.unify_bindings.specs.declared.stack.Side.{Side}
 use Rattle.unifier.specs.Rows.{unifyRows}
-use Rattle.unifier.specs.Walks.{Meets, Walks}
-use Rattle.unifier.specs.Stacks.{wholeOf, rowOf, SameRows, nothing, Closes}
-use Rattle.unifier.specs.declared.walk.Walked.the-variants.{Done}
+use Rattle.unifier.specs.Walks.{StopsAt, Walks}
+use Rattle.unifier.specs.Stacks.{wholeOf, rowOf, SameRows, noTerm, Closes}
+use Rattle.unifier.specs.declared.walk.RowsWalked.the-variants.{Done}
 use Rattle.unifier.proofs.Rules.{rows-done, rows-equal, equal-rows, tail-of, args-of-app}
 
 -- ---- rows with the bindings put in
@@ -48,7 +48,7 @@ walk-equal ss nodes p e q f w b c d =
     equal-rows b (termsAt ss nodes p e c) (termsAt ss nodes q f d)
     (ap₂ (unifyRows b) (sym (followed-none (termsAt ss nodes p e c))) (sym (followed-none (termsAt ss nodes q f d))) ∙ (w b c d rnil rnil ∙ rows-done b))
 
-pub meet-equal : (ss : List Symbol) (nodes : List ℕ) (p e q f i j : ℕ) → Meets ss nodes p e q f i j → (b : List Binding) (c d : ℕ) → resolve b (app [] (termsAt ss nodes i e c)) ≡ resolve b (app [] (termsAt ss nodes j f d))
+pub meet-equal : (ss : List Symbol) (nodes : List ℕ) (p e q f i j : ℕ) → StopsAt ss nodes p e q f i j → (b : List Binding) (c d : ℕ) → resolve b (app [] (termsAt ss nodes i e c)) ≡ resolve b (app [] (termsAt ss nodes j f d))
     → resolve b (app [] (termsAt ss nodes p e c)) ≡ resolve b (app [] (termsAt ss nodes q f d))
 meet-equal ss nodes p e q f i j m b c d x =
     equal-rows b (termsAt ss nodes p e c) (termsAt ss nodes q f d)
@@ -72,7 +72,7 @@ module _ (ss : List Symbol) (nodes : List ℕ) (b : List Binding) (l r : ℕ →
       }
 
   -- the two terms before the rows are equal already
-  pub closes-settled : (h : ℕ) (t u : RTerm) → resolve b t ≡ resolve b u → Closes ss nodes b l r h t u → Closes ss nodes b l r h nothing nothing
+  pub closes-settled : (h : ℕ) (t u : RTerm) → resolve b t ≡ resolve b u → Closes ss nodes b l r h t u → Closes ss nodes b l r h noTerm noTerm
   closes-settled h t u q c = record { wholes = λ k o newer e rows. c .wholes k o newer (grows-more newer b .stays-equal t u q) rows }
 
   -- other terms before the rows, equal to these
@@ -80,7 +80,7 @@ module _ (ss : List Symbol) (nodes : List ℕ) (b : List Binding) (l r : ℕ →
   closes-terms h t u t1 u1 q q1 c = record { wholes = λ k o newer e rows. c .wholes k o newer (sym (grows-more newer b .stays-equal t1 t q) ∙ (e ∙ grows-more newer b .stays-equal u1 u q1)) rows }
 
   -- one binding more, which makes them equal
-  pub closes-bound : (h : ℕ) (t u : RTerm) (new : Binding) → resolve (new ∷ b) t ≡ resolve (new ∷ b) u → Closes ss nodes b l r h t u → Closes ss nodes (new ∷ b) l r h nothing nothing
+  pub closes-bound : (h : ℕ) (t u : RTerm) (new : Binding) → resolve (new ∷ b) t ≡ resolve (new ∷ b) u → Closes ss nodes b l r h t u → Closes ss nodes (new ∷ b) l r h noTerm noTerm
   closes-bound h t u new q c =
       record {
         wholes = λ k o newer e rows.
@@ -89,7 +89,7 @@ module _ (ss : List Symbol) (nodes : List ℕ) (b : List Binding) (l r : ℕ →
       }
 
   -- the top gone, what is left of whose rows is the same
-  pub closes-less : (h : ℕ) → SameRows ss nodes b (l h) (r h) → Closes ss nodes b l r (suc h) nothing nothing → Closes ss nodes b l r h nothing nothing
+  pub closes-less : (h : ℕ) → SameRows ss nodes b (l h) (r h) → Closes ss nodes b l r (suc h) noTerm noTerm → Closes ss nodes b l r h noTerm noTerm
   closes-less h q c = record { wholes = λ k o newer e rows. c .wholes k (omega arith) newer e (λ j x y. go k newer rows j x y (eqb j h) refl) }
     where
       go : (k : ℕ) (newer : List Binding) → ((j : ℕ) → k ≤ j → j < h → SameRows ss nodes (newer ++ b) (l j) (r j)) → (j : ℕ) → k ≤ j → j < suc h → (z : Bool) → eqb j h ≡ z → SameRows ss nodes (newer ++ b) (l j) (r j)
@@ -97,13 +97,13 @@ module _ (ss : List Symbol) (nodes : List ℕ) (b : List Binding) (l r : ℕ →
       go k newer rows j x y false z = rows j x (under j h y z)
 
   -- the wholes of the first pair, whose rows are these
-  pub closes-first : ((newer : List Binding) → SameRows ss nodes (newer ++ b) (l 0) (r 0) → resolve (newer ++ b) (wholeOf ss nodes (l 0)) ≡ resolve (newer ++ b) (wholeOf ss nodes (r 0))) → Closes ss nodes b l r 1 nothing nothing
+  pub closes-first : ((newer : List Binding) → SameRows ss nodes (newer ++ b) (l 0) (r 0) → resolve (newer ++ b) (wholeOf ss nodes (l 0)) ≡ resolve (newer ++ b) (wholeOf ss nodes (r 0))) → Closes ss nodes b l r 1 noTerm noTerm
   closes-first f =
       record { wholes = λ k o newer e rows. subst⁻¹ (λ (i : ℕ). resolve (newer ++ b) (wholeOf ss nodes (l i)) ≡ resolve (newer ++ b) (wholeOf ss nodes (r i))) (let z : k ≡ 0 = omega arith in z) (f newer (rows 0 (omega arith) (omega arith))) }
 
   -- the top moved on within its rows, past two terms
   pub closes-moved : (l′ r′ : ℕ → Side) (h i j : ℕ) (t u : RTerm) → ((k : ℕ) → k < h → l′ k ≡ l k) → ((k : ℕ) → k < h → r′ k ≡ r k) → l′ h ≡ record { root = l h .root; at = i; copy = l h .copy } → r′ h ≡ record { root = r h .root; at = j; copy = r h .copy }
-      → ((newer : List Binding) → resolve (newer ++ b) t ≡ resolve (newer ++ b) u → SameRows ss nodes (newer ++ b) (l′ h) (r′ h) → SameRows ss nodes (newer ++ b) (l h) (r h)) → Closes ss nodes b l r (suc h) nothing nothing → Closes ss nodes b l′ r′ (suc h) t u
+      → ((newer : List Binding) → resolve (newer ++ b) t ≡ resolve (newer ++ b) u → SameRows ss nodes (newer ++ b) (l′ h) (r′ h) → SameRows ss nodes (newer ++ b) (l h) (r h)) → Closes ss nodes b l r (suc h) noTerm noTerm → Closes ss nodes b l′ r′ (suc h) t u
   closes-moved l′ r′ h i j t u a a1 m m1 f c =
       record {
         wholes = λ k o newer e rows.
@@ -124,7 +124,7 @@ module _ (ss : List Symbol) (nodes : List ℕ) (b : List Binding) (l r : ℕ →
 
   -- the two terms opened as a new top
   pub closes-pushed : (l′ r′ : ℕ → Side) (h : ℕ) (t u : RTerm) → ((k : ℕ) → k < h → l′ k ≡ l k) → ((k : ℕ) → k < h → r′ k ≡ r k) → wholeOf ss nodes (l′ h) ≡ t → wholeOf ss nodes (r′ h) ≡ u
-      → ((newer : List Binding) → SameRows ss nodes (newer ++ b) (l′ h) (r′ h) → resolve (newer ++ b) t ≡ resolve (newer ++ b) u) → Closes ss nodes b l r h t u → Closes ss nodes b l′ r′ (suc h) nothing nothing
+      → ((newer : List Binding) → SameRows ss nodes (newer ++ b) (l′ h) (r′ h) → resolve (newer ++ b) t ≡ resolve (newer ++ b) u) → Closes ss nodes b l r h t u → Closes ss nodes b l′ r′ (suc h) noTerm noTerm
   closes-pushed l′ r′ h t u a a1 m m1 f c = record { wholes = λ k o newer e rows. go k o newer rows (eqb k h) refl }
     where
       go : (k : ℕ) → k < suc h → (newer : List Binding) → ((x : ℕ) → k ≤ x → x < suc h → SameRows ss nodes (newer ++ b) (l′ x) (r′ x)) → (z : Bool) → eqb k h ≡ z → resolve (newer ++ b) (wholeOf ss nodes (l′ k)) ≡ resolve (newer ++ b) (wholeOf ss nodes (r′ k))

@@ -12,13 +12,13 @@ use borrow.Author.Tests.{ltb-true, ltb-false}
 use Rattle.syntax.specs.Words.{firstName}
 use Rattle.machine.specs.Substitution.{RTerm, RTerms, var, app, rnil, rcons, Binding, resolve}
 use Rattle.machine_theorems.proofs.Terms.{resolveAll, resolve-app, resolve-nil, resolve-cons}
-use Rattle.layout.specs.Regions.{loadedNode}
-use Rattle.layout.specs.Nodes.{Symbol, nameOf, Node, Row, termAt, termsAt, followed, count}
-use Rattle.layout.proofs.Nodes.{node-inside, node-end, node-size, variable-at, variable-size, compound-at, compound-row, row-one, row-one-is, row-order, row-none, row-first, row-rest, row-cons, row-open, row-opened, same-count, other-symbol, row-join, row-joined}
-use Rattle.unifier.specs.Rows.{unifyRows, nodesOf, nodesOfAll, sizeOf}
-use Rattle.unifier.specs.Walks.{Beside, Walkable, Pairable, Meets, Walks}
-use Rattle.unifier.specs.declared.walk.Walked.{Walked}
-use Rattle.unifier.specs.declared.walk.Walked.the-variants.{Done, Clash, Met}
+use Rattle.run_layout.specs.Regions.{loadedNode}
+use Rattle.run_layout.specs.Nodes.{Symbol, nameOfSymbol, Node, Row, termAt, termsAt, followed, count}
+use Rattle.run_layout.proofs.Nodes.{node-inside, node-end, node-size, variable-at, variable-size, compound-at, compound-row, row-one, row-one-is, row-order, row-none, row-first, row-rest, row-cons, row-open, row-opened, same-count, other-symbol, row-join, row-joined}
+use Rattle.unifier.specs.Rows.{unifyRows, nodesOf, nodesOfAll, rowsSize}
+use Rattle.unifier.specs.Walks.{RowsBeside, Walkable, TwoNodes, StopsAt, Walks}
+use Rattle.unifier.specs.declared.walk.RowsWalked.{RowsWalked}
+use Rattle.unifier.specs.declared.walk.RowsWalked.the-variants.{Done, Clash, Met}
 use Rattle.unifier.proofs.Rules.{rows-open, rows-clash, count-resolve}
 
 -- ---- rows behind each other
@@ -38,21 +38,21 @@ unfolding followed count
 count-followed rnil b = (let e : count b ≡ 0 + count b = omega arith in e)
 count-followed (rcons t a) b = let e : count (followed a b) ≡ count a + count b = count-followed a b in omega arith
 
-pub size-followed : (x : List Binding) (a b : RTerms) → sizeOf x (followed a b) ≡ sizeOf x a + sizeOf x b
-unfolding followed sizeOf
-size-followed x rnil b = (let e : sizeOf x b ≡ 0 + sizeOf x b = omega arith in e)
-size-followed x (rcons t a) b = let e : sizeOf x (followed a b) ≡ sizeOf x a + sizeOf x b = size-followed x a b in omega arith
+pub size-followed : (x : List Binding) (a b : RTerms) → rowsSize x (followed a b) ≡ rowsSize x a + rowsSize x b
+unfolding followed rowsSize
+size-followed x rnil b = (let e : rowsSize x b ≡ 0 + rowsSize x b = omega arith in e)
+size-followed x (rcons t a) b = let e : rowsSize x (followed a b) ≡ rowsSize x a + rowsSize x b = size-followed x a b in omega arith
 
-pub size-cons : (x : List Binding) (t : RTerm) (a : RTerms) → sizeOf x (rcons t a) ≡ nodesOf (resolve x t) + sizeOf x a
-unfolding sizeOf
+pub size-cons : (x : List Binding) (t : RTerm) (a : RTerms) → rowsSize x (rcons t a) ≡ nodesOf (resolve x t) + rowsSize x a
+unfolding rowsSize
 size-cons x t a = refl
 
-resolved-size : (x : List Binding) (ts : RTerms) → nodesOfAll (resolveAll x ts) ≡ sizeOf x ts
-unfolding nodesOfAll sizeOf
+resolved-size : (x : List Binding) (ts : RTerms) → nodesOfAll (resolveAll x ts) ≡ rowsSize x ts
+unfolding nodesOfAll rowsSize
 resolved-size x rnil = ap nodesOfAll (resolve-nil x)
 resolved-size x (rcons t ts) = ap nodesOfAll (resolve-cons x t ts) ∙ ap (λ (k : ℕ). nodesOf (resolve x t) + k) (resolved-size x ts)
 
-pub size-app : (x : List Binding) (f : List ℕ) (ts : RTerms) → nodesOf (resolve x (app f ts)) ≡ suc (sizeOf x ts)
+pub size-app : (x : List Binding) (f : List ℕ) (ts : RTerms) → nodesOf (resolve x (app f ts)) ≡ suc (rowsSize x ts)
 unfolding nodesOf
 size-app x f ts = ap nodesOf (resolve-app x f ts) ∙ ap suc (resolved-size x ts)
 
@@ -79,11 +79,11 @@ none-followed us = refl
 
 -- ---- two terms
 
-module _ (nodes : List ℕ) (p q : ℕ) (g : Pairable nodes p q) where
+module _ (nodes : List ℕ) (p q : ℕ) (g : TwoNodes nodes p q) where
   pub pair-inside : (p + loadedNode ≤ length nodes) × ((q + loadedNode ≤ length nodes) × ((p + getD nodes (p + 1) 0 ≤ length nodes) × (loadedNode ≤ getD nodes (p + 1) 0)))
   pair-inside = (node-inside (g .ss) nodes p (g .left), (node-inside (g .ss) nodes q (g .right), (node-end (g .ss) nodes p (g .left), node-size (g .ss) nodes p (g .left))))
 
-  one-beside : Beside (g .ss) nodes p (p + getD nodes (p + 1) 0) q (q + getD nodes (q + 1) 0)
+  one-beside : RowsBeside (g .ss) nodes p (p + getD nodes (p + 1) 0) q (q + getD nodes (q + 1) 0)
   one-beside =
       record {
         left = row-one (g .ss) nodes p (g .left);
@@ -114,9 +114,9 @@ module _ (nodes : List ℕ) (p q : ℕ) (g : Pairable nodes p q) where
     unfolding args args-right
     term-clash z = λ b c d l r.
         ap₂ (unifyRows b) (row-is c l) (row-is-right d r)
-        ∙ rows-clash b (termAt (g .ss) nodes p c) (termAt (g .ss) nodes q d) l r (nameOf (g .ss) (getD nodes p 0 - firstName)) (nameOf (g .ss) (getD nodes q 0 - firstName)) (resolveAll b (args c)) (resolveAll b (args-right d))
-        (ap (resolve b) (compound-at (g .ss) nodes p (g .left) c hp) ∙ resolve-app b (nameOf (g .ss) (getD nodes p 0 - firstName)) (args c))
-        (ap (resolve b) (compound-at (g .ss) nodes q (g .right) d hq) ∙ resolve-app b (nameOf (g .ss) (getD nodes q 0 - firstName)) (args-right d))
+        ∙ rows-clash b (termAt (g .ss) nodes p c) (termAt (g .ss) nodes q d) l r (nameOfSymbol (g .ss) (getD nodes p 0 - firstName)) (nameOfSymbol (g .ss) (getD nodes q 0 - firstName)) (resolveAll b (args c)) (resolveAll b (args-right d))
+        (ap (resolve b) (compound-at (g .ss) nodes p (g .left) c hp) ∙ resolve-app b (nameOfSymbol (g .ss) (getD nodes p 0 - firstName)) (args c))
+        (ap (resolve b) (compound-at (g .ss) nodes q (g .right) d hq) ∙ resolve-app b (nameOfSymbol (g .ss) (getD nodes q 0 - firstName)) (args-right d))
         (λ n k. other-symbol (g .ss) nodes p q c d (g .left) (g .right) hp hq z n (sym (count-resolve b (args c)) ∙ (k ∙ count-resolve b (args-right d))))
 
     module _ (w : getD nodes p 0 ≡ getD nodes q 0) where
@@ -132,26 +132,26 @@ module _ (nodes : List ℕ) (p q : ℕ) (g : Pairable nodes p q) where
       unfolding args args-right
       opened b c d l r =
           ap₂ (unifyRows b) (row-is c l) (row-is-right d r)
-          ∙ rows-open b (termAt (g .ss) nodes p c) (termAt (g .ss) nodes q d) l r (nameOf (g .ss) (getD nodes p 0 - firstName)) (args c) (args-right d)
+          ∙ rows-open b (termAt (g .ss) nodes p c) (termAt (g .ss) nodes q d) l r (nameOfSymbol (g .ss) (getD nodes p 0 - firstName)) (args c) (args-right d)
           (ap (resolve b) (compound-at (g .ss) nodes p (g .left) c hp))
-          (ap (resolve b) (compound-at (g .ss) nodes q (g .right) d hq ∙ ap (λ (k : ℕ). app (nameOf (g .ss) (k - firstName)) (args-right d)) (sym w)))
+          (ap (resolve b) (compound-at (g .ss) nodes q (g .right) d hq ∙ ap (λ (k : ℕ). app (nameOfSymbol (g .ss) (k - firstName)) (args-right d)) (sym w)))
           (same-count (g .ss) nodes p q c d (g .left) (g .right) hp hq w)
 
-      bigger : (b : List Binding) (c : ℕ) → sizeOf b (args c) ≤ sizeOf b (termsAt (g .ss) nodes p (p + getD nodes (p + 1) 0) c)
+      bigger : (b : List Binding) (c : ℕ) → rowsSize b (args c) ≤ rowsSize b (termsAt (g .ss) nodes p (p + getD nodes (p + 1) 0) c)
       unfolding args
       bigger b c =
-          let s : sizeOf b (termsAt (g .ss) nodes p (p + getD nodes (p + 1) 0) c) ≡ nodesOf (resolve b (termAt (g .ss) nodes p c)) + sizeOf b rnil = ap (sizeOf b) (row-one-is (g .ss) nodes p c (g .left)) ∙ size-cons b (termAt (g .ss) nodes p c) rnil in
-          let t : nodesOf (resolve b (termAt (g .ss) nodes p c)) ≡ suc (sizeOf b (args c)) = ap (λ (x : RTerm). nodesOf (resolve b x)) (compound-at (g .ss) nodes p (g .left) c hp) ∙ size-app b (nameOf (g .ss) (getD nodes p 0 - firstName)) (args c) in
+          let s : rowsSize b (termsAt (g .ss) nodes p (p + getD nodes (p + 1) 0) c) ≡ nodesOf (resolve b (termAt (g .ss) nodes p c)) + rowsSize b rnil = ap (rowsSize b) (row-one-is (g .ss) nodes p c (g .left)) ∙ size-cons b (termAt (g .ss) nodes p c) rnil in
+          let t : nodesOf (resolve b (termAt (g .ss) nodes p c)) ≡ suc (rowsSize b (args c)) = ap (λ (x : RTerm). nodesOf (resolve b x)) (compound-at (g .ss) nodes p (g .left) c hp) ∙ size-app b (nameOfSymbol (g .ss) (getD nodes p 0 - firstName)) (args c) in
           omega arith
 
-      bigger-right : (b : List Binding) (d : ℕ) → sizeOf b (args-right d) ≤ sizeOf b (termsAt (g .ss) nodes q (q + getD nodes (q + 1) 0) d)
+      bigger-right : (b : List Binding) (d : ℕ) → rowsSize b (args-right d) ≤ rowsSize b (termsAt (g .ss) nodes q (q + getD nodes (q + 1) 0) d)
       unfolding args-right
       bigger-right b d =
-          let s : sizeOf b (termsAt (g .ss) nodes q (q + getD nodes (q + 1) 0) d) ≡ nodesOf (resolve b (termAt (g .ss) nodes q d)) + sizeOf b rnil = ap (sizeOf b) (row-one-is (g .ss) nodes q d (g .right)) ∙ size-cons b (termAt (g .ss) nodes q d) rnil in
-          let t : nodesOf (resolve b (termAt (g .ss) nodes q d)) ≡ suc (sizeOf b (args-right d)) = ap (λ (x : RTerm). nodesOf (resolve b x)) (compound-at (g .ss) nodes q (g .right) d hq) ∙ size-app b (nameOf (g .ss) (getD nodes q 0 - firstName)) (args-right d) in
+          let s : rowsSize b (termsAt (g .ss) nodes q (q + getD nodes (q + 1) 0) d) ≡ nodesOf (resolve b (termAt (g .ss) nodes q d)) + rowsSize b rnil = ap (rowsSize b) (row-one-is (g .ss) nodes q d (g .right)) ∙ size-cons b (termAt (g .ss) nodes q d) rnil in
+          let t : nodesOf (resolve b (termAt (g .ss) nodes q d)) ≡ suc (rowsSize b (args-right d)) = ap (λ (x : RTerm). nodesOf (resolve b x)) (compound-at (g .ss) nodes q (g .right) d hq) ∙ size-app b (nameOfSymbol (g .ss) (getD nodes q 0 - firstName)) (args-right d) in
           omega arith
 
-      deeper : (o : Walked) → Walks (g .ss) nodes (p + loadedNode) (p + getD nodes (p + 1) 0) (q + loadedNode) (q + getD nodes (q + 1) 0) o → Walks (g .ss) nodes p (p + getD nodes (p + 1) 0) q (q + getD nodes (q + 1) 0) o
+      deeper : (o : RowsWalked) → Walks (g .ss) nodes (p + loadedNode) (p + getD nodes (p + 1) 0) (q + loadedNode) (q + getD nodes (q + 1) 0) o → Walks (g .ss) nodes p (p + getD nodes (p + 1) 0) q (q + getD nodes (q + 1) 0) o
       unfolding args args-right
       deeper Done k = λ b c d l r. opened b c d l r ∙ k b c d l r
       deeper Clash k = λ b c d l r. opened b c d l r ∙ k b c d l r
@@ -161,11 +161,11 @@ module _ (nodes : List ℕ) (p q : ℕ) (g : Pairable nodes p q) where
             some = k .some;
             variable = k .variable;
             means = λ b c d l r. opened b c d l r ∙ k .means b c d l r;
-            less = λ b c. (let x : sizeOf b (termsAt (g .ss) nodes i (p + getD nodes (p + 1) 0) c) ≤ sizeOf b (termsAt (g .ss) nodes (p + loadedNode) (p + getD nodes (p + 1) 0) c) = k .less b c in let y : sizeOf b (termsAt (g .ss) nodes (p + loadedNode) (p + getD nodes (p + 1) 0) c) ≤ sizeOf b (termsAt (g .ss) nodes p (p + getD nodes (p + 1) 0) c) = bigger b c in omega arith);
-            less-right = λ b d. (let x : sizeOf b (termsAt (g .ss) nodes j (q + getD nodes (q + 1) 0) d) ≤ sizeOf b (termsAt (g .ss) nodes (q + loadedNode) (q + getD nodes (q + 1) 0) d) = k .less-right b d in let y : sizeOf b (termsAt (g .ss) nodes (q + loadedNode) (q + getD nodes (q + 1) 0) d) ≤ sizeOf b (termsAt (g .ss) nodes q (q + getD nodes (q + 1) 0) d) = bigger-right b d in omega arith);
+            less = λ b c. (let x : rowsSize b (termsAt (g .ss) nodes i (p + getD nodes (p + 1) 0) c) ≤ rowsSize b (termsAt (g .ss) nodes (p + loadedNode) (p + getD nodes (p + 1) 0) c) = k .less b c in let y : rowsSize b (termsAt (g .ss) nodes (p + loadedNode) (p + getD nodes (p + 1) 0) c) ≤ rowsSize b (termsAt (g .ss) nodes p (p + getD nodes (p + 1) 0) c) = bigger b c in omega arith);
+            less-right = λ b d. (let x : rowsSize b (termsAt (g .ss) nodes j (q + getD nodes (q + 1) 0) d) ≤ rowsSize b (termsAt (g .ss) nodes (q + loadedNode) (q + getD nodes (q + 1) 0) d) = k .less-right b d in let y : rowsSize b (termsAt (g .ss) nodes (q + loadedNode) (q + getD nodes (q + 1) 0) d) ≤ rowsSize b (termsAt (g .ss) nodes q (q + getD nodes (q + 1) 0) d) = bigger-right b d in omega arith);
           }
 
-      pub term-open : (o : Walked) → ((h : Walkable nodes (p + loadedNode) (p + getD nodes (p + 1) 0) (q + loadedNode)) → Walks (h .ss) nodes (p + loadedNode) (p + getD nodes (p + 1) 0) (q + loadedNode) (h .f) o) → Walks (g .ss) nodes p (p + getD nodes (p + 1) 0) q (q + getD nodes (q + 1) 0) o
+      pub term-open : (o : RowsWalked) → ((h : Walkable nodes (p + loadedNode) (p + getD nodes (p + 1) 0) (q + loadedNode)) → Walks (h .ss) nodes (p + loadedNode) (p + getD nodes (p + 1) 0) (q + loadedNode) (h .f) o) → Walks (g .ss) nodes p (p + getD nodes (p + 1) 0) q (q + getD nodes (q + 1) 0) o
       unfolding term-list
       term-open o k = deeper o (k term-list)
 
@@ -190,7 +190,7 @@ module _ (nodes : List ℕ) (p e q : ℕ) (g : Walkable nodes p e q) where
             let same : count (termsAt (g .ss) nodes p e 0) ≡ count (termsAt (g .ss) nodes q (g .f) 0) = g .beside .same 0 0 in
             omega arith)
 
-    pub list-pair : Pairable nodes p q
+    pub list-pair : TwoNodes nodes p q
     list-pair = record { ss = g .ss; left = row-first (g .ss) nodes p e (g .beside .left) l; right = row-first (g .ss) nodes q (g .f) (g .beside .right) right-some }
 
     pub list-inside : ((p + 1 < length nodes) × (q + 1 < length nodes)) × ((p + getD nodes (p + 1) 0 ≤ e) × ((q + getD nodes (q + 1) 0 ≤ length nodes) × ((p + getD nodes (p + 1) 0 ≤ length nodes) × (loadedNode ≤ getD nodes (p + 1) 0))))
@@ -225,16 +225,16 @@ module _ (nodes : List ℕ) (p e q : ℕ) (g : Walkable nodes p e q) where
     right-is : (d : ℕ) (rs : RTerms) → followed (termsAt (g .ss) nodes q (g .f) d) rs ≡ followed (termsAt (g .ss) nodes q (q + getD nodes (q + 1) 0) d) (followed (termsAt (g .ss) nodes (q + getD nodes (q + 1) 0) (g .f) d) rs)
     right-is d rs = ap (λ (ts : RTerms). followed ts rs) (row-joined (g .ss) nodes q (q + getD nodes (q + 1) 0) (g .f) d one-right rest-right) ∙ followed-assoc (termsAt (g .ss) nodes q (q + getD nodes (q + 1) 0) d) (termsAt (g .ss) nodes (q + getD nodes (q + 1) 0) (g .f) d) rs
 
-    first-term : (o : Walked) → ((h : Pairable nodes p q) → Walks (h .ss) nodes p (p + getD nodes (p + 1) 0) q (q + getD nodes (q + 1) 0) o) → Walks (g .ss) nodes p (p + getD nodes (p + 1) 0) q (q + getD nodes (q + 1) 0) o
+    first-term : (o : RowsWalked) → ((h : TwoNodes nodes p q) → Walks (h .ss) nodes p (p + getD nodes (p + 1) 0) q (q + getD nodes (q + 1) 0) o) → Walks (g .ss) nodes p (p + getD nodes (p + 1) 0) q (q + getD nodes (q + 1) 0) o
     unfolding list-pair
     first-term o k = k list-pair
 
-    pub list-clash : ((h : Pairable nodes p q) → Walks (h .ss) nodes p (p + getD nodes (p + 1) 0) q (q + getD nodes (q + 1) 0) Clash) → Walks (g .ss) nodes p e q (g .f) Clash
+    pub list-clash : ((h : TwoNodes nodes p q) → Walks (h .ss) nodes p (p + getD nodes (p + 1) 0) q (q + getD nodes (q + 1) 0) Clash) → Walks (g .ss) nodes p e q (g .f) Clash
     list-clash k = λ b c d ls rs. ap₂ (unifyRows b) (left-is c ls) (right-is d rs) ∙ first-term Clash k b c d (followed (termsAt (g .ss) nodes (p + getD nodes (p + 1) 0) e c) ls) (followed (termsAt (g .ss) nodes (q + getD nodes (q + 1) 0) (g .f) d) rs)
 
-    pub list-met : (i j : ℕ) → ((h : Pairable nodes p q) → Walks (h .ss) nodes p (p + getD nodes (p + 1) 0) q (q + getD nodes (q + 1) 0) (Met i j)) → Walks (g .ss) nodes p e q (g .f) (Met i j)
+    pub list-met : (i j : ℕ) → ((h : TwoNodes nodes p q) → Walks (h .ss) nodes p (p + getD nodes (p + 1) 0) q (q + getD nodes (q + 1) 0) (Met i j)) → Walks (g .ss) nodes p e q (g .f) (Met i j)
     list-met i j k =
-        let m : Meets (g .ss) nodes p (p + getD nodes (p + 1) 0) q (q + getD nodes (q + 1) 0) i j = first-term (Met i j) k in
+        let m : StopsAt (g .ss) nodes p (p + getD nodes (p + 1) 0) q (q + getD nodes (q + 1) 0) i j = first-term (Met i j) k in
         let some : i < p + getD nodes (p + 1) 0 = m .some in
         let order : p + getD nodes (p + 1) 0 ≤ e = row-order (g .ss) nodes (p + getD nodes (p + 1) 0) e rest in
         record {
@@ -255,30 +255,30 @@ module _ (nodes : List ℕ) (p e q : ℕ) (g : Walkable nodes p e q) where
               ∙ ap₂ (unifyRows b)
               (sym (ap (λ (ts : RTerms). followed ts ls) (row-joined (g .ss) nodes i (p + getD nodes (p + 1) 0) e c (m .beside .left) rest) ∙ followed-assoc (termsAt (g .ss) nodes i (p + getD nodes (p + 1) 0) c) (termsAt (g .ss) nodes (p + getD nodes (p + 1) 0) e c) ls))
               (sym (ap (λ (ts : RTerms). followed ts rs) (row-joined (g .ss) nodes j (q + getD nodes (q + 1) 0) (g .f) d (m .beside .right) rest-right) ∙ followed-assoc (termsAt (g .ss) nodes j (q + getD nodes (q + 1) 0) d) (termsAt (g .ss) nodes (q + getD nodes (q + 1) 0) (g .f) d) rs)));
-          less = λ b c. (let x : sizeOf b (termsAt (g .ss) nodes i (p + getD nodes (p + 1) 0) c) ≤ sizeOf b (termsAt (g .ss) nodes p (p + getD nodes (p + 1) 0) c) = m .less b c in
-              let u : sizeOf b (termsAt (g .ss) nodes i e c) ≡ sizeOf b (termsAt (g .ss) nodes i (p + getD nodes (p + 1) 0) c) + sizeOf b (termsAt (g .ss) nodes (p + getD nodes (p + 1) 0) e c) = ap (sizeOf b) (row-joined (g .ss) nodes i (p + getD nodes (p + 1) 0) e c (m .beside .left) rest) ∙ size-followed b (termsAt (g .ss) nodes i (p + getD nodes (p + 1) 0) c) (termsAt (g .ss) nodes (p + getD nodes (p + 1) 0) e c) in
-              let v : sizeOf b (termsAt (g .ss) nodes p e c) ≡ sizeOf b (termsAt (g .ss) nodes p (p + getD nodes (p + 1) 0) c) + sizeOf b (termsAt (g .ss) nodes (p + getD nodes (p + 1) 0) e c) = ap (sizeOf b) (row-joined (g .ss) nodes p (p + getD nodes (p + 1) 0) e c one rest) ∙ size-followed b (termsAt (g .ss) nodes p (p + getD nodes (p + 1) 0) c) (termsAt (g .ss) nodes (p + getD nodes (p + 1) 0) e c) in
+          less = λ b c. (let x : rowsSize b (termsAt (g .ss) nodes i (p + getD nodes (p + 1) 0) c) ≤ rowsSize b (termsAt (g .ss) nodes p (p + getD nodes (p + 1) 0) c) = m .less b c in
+              let u : rowsSize b (termsAt (g .ss) nodes i e c) ≡ rowsSize b (termsAt (g .ss) nodes i (p + getD nodes (p + 1) 0) c) + rowsSize b (termsAt (g .ss) nodes (p + getD nodes (p + 1) 0) e c) = ap (rowsSize b) (row-joined (g .ss) nodes i (p + getD nodes (p + 1) 0) e c (m .beside .left) rest) ∙ size-followed b (termsAt (g .ss) nodes i (p + getD nodes (p + 1) 0) c) (termsAt (g .ss) nodes (p + getD nodes (p + 1) 0) e c) in
+              let v : rowsSize b (termsAt (g .ss) nodes p e c) ≡ rowsSize b (termsAt (g .ss) nodes p (p + getD nodes (p + 1) 0) c) + rowsSize b (termsAt (g .ss) nodes (p + getD nodes (p + 1) 0) e c) = ap (rowsSize b) (row-joined (g .ss) nodes p (p + getD nodes (p + 1) 0) e c one rest) ∙ size-followed b (termsAt (g .ss) nodes p (p + getD nodes (p + 1) 0) c) (termsAt (g .ss) nodes (p + getD nodes (p + 1) 0) e c) in
               omega arith);
-          less-right = λ b d. (let x : sizeOf b (termsAt (g .ss) nodes j (q + getD nodes (q + 1) 0) d) ≤ sizeOf b (termsAt (g .ss) nodes q (q + getD nodes (q + 1) 0) d) = m .less-right b d in
-              let u : sizeOf b (termsAt (g .ss) nodes j (g .f) d) ≡ sizeOf b (termsAt (g .ss) nodes j (q + getD nodes (q + 1) 0) d) + sizeOf b (termsAt (g .ss) nodes (q + getD nodes (q + 1) 0) (g .f) d) = ap (sizeOf b) (row-joined (g .ss) nodes j (q + getD nodes (q + 1) 0) (g .f) d (m .beside .right) rest-right) ∙ size-followed b (termsAt (g .ss) nodes j (q + getD nodes (q + 1) 0) d) (termsAt (g .ss) nodes (q + getD nodes (q + 1) 0) (g .f) d) in
-              let v : sizeOf b (termsAt (g .ss) nodes q (g .f) d) ≡ sizeOf b (termsAt (g .ss) nodes q (q + getD nodes (q + 1) 0) d) + sizeOf b (termsAt (g .ss) nodes (q + getD nodes (q + 1) 0) (g .f) d) = ap (sizeOf b) (row-joined (g .ss) nodes q (q + getD nodes (q + 1) 0) (g .f) d one-right rest-right) ∙ size-followed b (termsAt (g .ss) nodes q (q + getD nodes (q + 1) 0) d) (termsAt (g .ss) nodes (q + getD nodes (q + 1) 0) (g .f) d) in
+          less-right = λ b d. (let x : rowsSize b (termsAt (g .ss) nodes j (q + getD nodes (q + 1) 0) d) ≤ rowsSize b (termsAt (g .ss) nodes q (q + getD nodes (q + 1) 0) d) = m .less-right b d in
+              let u : rowsSize b (termsAt (g .ss) nodes j (g .f) d) ≡ rowsSize b (termsAt (g .ss) nodes j (q + getD nodes (q + 1) 0) d) + rowsSize b (termsAt (g .ss) nodes (q + getD nodes (q + 1) 0) (g .f) d) = ap (rowsSize b) (row-joined (g .ss) nodes j (q + getD nodes (q + 1) 0) (g .f) d (m .beside .right) rest-right) ∙ size-followed b (termsAt (g .ss) nodes j (q + getD nodes (q + 1) 0) d) (termsAt (g .ss) nodes (q + getD nodes (q + 1) 0) (g .f) d) in
+              let v : rowsSize b (termsAt (g .ss) nodes q (g .f) d) ≡ rowsSize b (termsAt (g .ss) nodes q (q + getD nodes (q + 1) 0) d) + rowsSize b (termsAt (g .ss) nodes (q + getD nodes (q + 1) 0) (g .f) d) = ap (rowsSize b) (row-joined (g .ss) nodes q (q + getD nodes (q + 1) 0) (g .f) d one-right rest-right) ∙ size-followed b (termsAt (g .ss) nodes q (q + getD nodes (q + 1) 0) d) (termsAt (g .ss) nodes (q + getD nodes (q + 1) 0) (g .f) d) in
               omega arith);
         }
 
     pub list-rest : Walkable nodes (p + getD nodes (p + 1) 0) e (q + getD nodes (q + 1) 0)
     list-rest = record { ss = g .ss; f = g .f; beside = record { left = rest; right = rest-right; same = same-rest } }
 
-    module _ (k : (h : Pairable nodes p q) → Walks (h .ss) nodes p (p + getD nodes (p + 1) 0) q (q + getD nodes (q + 1) 0) Done) where
+    module _ (k : (h : TwoNodes nodes p q) → Walks (h .ss) nodes p (p + getD nodes (p + 1) 0) q (q + getD nodes (q + 1) 0) Done) where
       passed : (b : List Binding) (c d : ℕ) (ls rs : RTerms) → unifyRows b (followed (termsAt (g .ss) nodes p e c) ls) (followed (termsAt (g .ss) nodes q (g .f) d) rs) ≡ unifyRows b (followed (termsAt (g .ss) nodes (p + getD nodes (p + 1) 0) e c) ls) (followed (termsAt (g .ss) nodes (q + getD nodes (q + 1) 0) (g .f) d) rs)
       passed b c d ls rs = ap₂ (unifyRows b) (left-is c ls) (right-is d rs) ∙ first-term Done k b c d (followed (termsAt (g .ss) nodes (p + getD nodes (p + 1) 0) e c) ls) (followed (termsAt (g .ss) nodes (q + getD nodes (q + 1) 0) (g .f) d) rs)
 
-      shorter : (b : List Binding) (c : ℕ) → sizeOf b (termsAt (g .ss) nodes (p + getD nodes (p + 1) 0) e c) ≤ sizeOf b (termsAt (g .ss) nodes p e c)
-      shorter b c = let v : sizeOf b (termsAt (g .ss) nodes p e c) ≡ sizeOf b (termsAt (g .ss) nodes p (p + getD nodes (p + 1) 0) c) + sizeOf b (termsAt (g .ss) nodes (p + getD nodes (p + 1) 0) e c) = ap (sizeOf b) (row-joined (g .ss) nodes p (p + getD nodes (p + 1) 0) e c one rest) ∙ size-followed b (termsAt (g .ss) nodes p (p + getD nodes (p + 1) 0) c) (termsAt (g .ss) nodes (p + getD nodes (p + 1) 0) e c) in omega arith
+      shorter : (b : List Binding) (c : ℕ) → rowsSize b (termsAt (g .ss) nodes (p + getD nodes (p + 1) 0) e c) ≤ rowsSize b (termsAt (g .ss) nodes p e c)
+      shorter b c = let v : rowsSize b (termsAt (g .ss) nodes p e c) ≡ rowsSize b (termsAt (g .ss) nodes p (p + getD nodes (p + 1) 0) c) + rowsSize b (termsAt (g .ss) nodes (p + getD nodes (p + 1) 0) e c) = ap (rowsSize b) (row-joined (g .ss) nodes p (p + getD nodes (p + 1) 0) e c one rest) ∙ size-followed b (termsAt (g .ss) nodes p (p + getD nodes (p + 1) 0) c) (termsAt (g .ss) nodes (p + getD nodes (p + 1) 0) e c) in omega arith
 
-      shorter-right : (b : List Binding) (d : ℕ) → sizeOf b (termsAt (g .ss) nodes (q + getD nodes (q + 1) 0) (g .f) d) ≤ sizeOf b (termsAt (g .ss) nodes q (g .f) d)
-      shorter-right b d = let v : sizeOf b (termsAt (g .ss) nodes q (g .f) d) ≡ sizeOf b (termsAt (g .ss) nodes q (q + getD nodes (q + 1) 0) d) + sizeOf b (termsAt (g .ss) nodes (q + getD nodes (q + 1) 0) (g .f) d) = ap (sizeOf b) (row-joined (g .ss) nodes q (q + getD nodes (q + 1) 0) (g .f) d one-right rest-right) ∙ size-followed b (termsAt (g .ss) nodes q (q + getD nodes (q + 1) 0) d) (termsAt (g .ss) nodes (q + getD nodes (q + 1) 0) (g .f) d) in omega arith
+      shorter-right : (b : List Binding) (d : ℕ) → rowsSize b (termsAt (g .ss) nodes (q + getD nodes (q + 1) 0) (g .f) d) ≤ rowsSize b (termsAt (g .ss) nodes q (g .f) d)
+      shorter-right b d = let v : rowsSize b (termsAt (g .ss) nodes q (g .f) d) ≡ rowsSize b (termsAt (g .ss) nodes q (q + getD nodes (q + 1) 0) d) + rowsSize b (termsAt (g .ss) nodes (q + getD nodes (q + 1) 0) (g .f) d) = ap (rowsSize b) (row-joined (g .ss) nodes q (q + getD nodes (q + 1) 0) (g .f) d one-right rest-right) ∙ size-followed b (termsAt (g .ss) nodes q (q + getD nodes (q + 1) 0) d) (termsAt (g .ss) nodes (q + getD nodes (q + 1) 0) (g .f) d) in omega arith
 
-      further : (o : Walked) → Walks (g .ss) nodes (p + getD nodes (p + 1) 0) e (q + getD nodes (q + 1) 0) (g .f) o → Walks (g .ss) nodes p e q (g .f) o
+      further : (o : RowsWalked) → Walks (g .ss) nodes (p + getD nodes (p + 1) 0) e (q + getD nodes (q + 1) 0) (g .f) o → Walks (g .ss) nodes p e q (g .f) o
       further Done m = λ b c d ls rs. passed b c d ls rs ∙ m b c d ls rs
       further Clash m = λ b c d ls rs. passed b c d ls rs ∙ m b c d ls rs
       further (Met i j) m =
@@ -287,22 +287,22 @@ module _ (nodes : List ℕ) (p e q : ℕ) (g : Walkable nodes p e q) where
             some = m .some;
             variable = m .variable;
             means = λ b c d ls rs. passed b c d ls rs ∙ m .means b c d ls rs;
-            less = λ b c. (let x : sizeOf b (termsAt (g .ss) nodes i e c) ≤ sizeOf b (termsAt (g .ss) nodes (p + getD nodes (p + 1) 0) e c) = m .less b c in let y : sizeOf b (termsAt (g .ss) nodes (p + getD nodes (p + 1) 0) e c) ≤ sizeOf b (termsAt (g .ss) nodes p e c) = shorter b c in omega arith);
-            less-right = λ b d. (let x : sizeOf b (termsAt (g .ss) nodes j (g .f) d) ≤ sizeOf b (termsAt (g .ss) nodes (q + getD nodes (q + 1) 0) (g .f) d) = m .less-right b d in let y : sizeOf b (termsAt (g .ss) nodes (q + getD nodes (q + 1) 0) (g .f) d) ≤ sizeOf b (termsAt (g .ss) nodes q (g .f) d) = shorter-right b d in omega arith);
+            less = λ b c. (let x : rowsSize b (termsAt (g .ss) nodes i e c) ≤ rowsSize b (termsAt (g .ss) nodes (p + getD nodes (p + 1) 0) e c) = m .less b c in let y : rowsSize b (termsAt (g .ss) nodes (p + getD nodes (p + 1) 0) e c) ≤ rowsSize b (termsAt (g .ss) nodes p e c) = shorter b c in omega arith);
+            less-right = λ b d. (let x : rowsSize b (termsAt (g .ss) nodes j (g .f) d) ≤ rowsSize b (termsAt (g .ss) nodes (q + getD nodes (q + 1) 0) (g .f) d) = m .less-right b d in let y : rowsSize b (termsAt (g .ss) nodes (q + getD nodes (q + 1) 0) (g .f) d) ≤ rowsSize b (termsAt (g .ss) nodes q (g .f) d) = shorter-right b d in omega arith);
           }
 
-      pub list-next : (o : Walked) → ((h : Walkable nodes (p + getD nodes (p + 1) 0) e (q + getD nodes (q + 1) 0)) → Walks (h .ss) nodes (p + getD nodes (p + 1) 0) e (q + getD nodes (q + 1) 0) (h .f) o) → Walks (g .ss) nodes p e q (g .f) o
+      pub list-next : (o : RowsWalked) → ((h : Walkable nodes (p + getD nodes (p + 1) 0) e (q + getD nodes (q + 1) 0)) → Walks (h .ss) nodes (p + getD nodes (p + 1) 0) e (q + getD nodes (q + 1) 0) (h .f) o) → Walks (g .ss) nodes p e q (g .f) o
       unfolding list-rest
       list-next o m = further o (m list-rest)
 
 -- the same with the sizes as they are read
-pub list-on : (nodes : List ℕ) (p e q : ℕ) (g : Walkable nodes p e q) (l : p < e) (first : Walked) → first ≡ Done → ((h : Pairable nodes p q) → Walks (h .ss) nodes p (p + getD nodes (p + 1) 0) q (q + getD nodes (q + 1) 0) first)
-    → (s z : ℕ) → s ≡ getD nodes (p + 1) 0 → z ≡ getD nodes (q + 1) 0 → (o : Walked) → ((h : Walkable nodes (p + s) e (q + z)) → Walks (h .ss) nodes (p + s) e (q + z) (h .f) o) → Walks (g .ss) nodes p e q (g .f) o
+pub list-on : (nodes : List ℕ) (p e q : ℕ) (g : Walkable nodes p e q) (l : p < e) (first : RowsWalked) → first ≡ Done → ((h : TwoNodes nodes p q) → Walks (h .ss) nodes p (p + getD nodes (p + 1) 0) q (q + getD nodes (q + 1) 0) first)
+    → (s z : ℕ) → s ≡ getD nodes (p + 1) 0 → z ≡ getD nodes (q + 1) 0 → (o : RowsWalked) → ((h : Walkable nodes (p + s) e (q + z)) → Walks (h .ss) nodes (p + s) e (q + z) (h .f) o) → Walks (g .ss) nodes p e q (g .f) o
 list-on nodes p e q g l first d k s z a b o m =
-    list-next nodes p e q g l (subst (λ (x : Walked). (h : Pairable nodes p q) → Walks (h .ss) nodes p (p + getD nodes (p + 1) 0) q (q + getD nodes (q + 1) 0) x) d k) o
+    list-next nodes p e q g l (subst (λ (x : RowsWalked). (h : TwoNodes nodes p q) → Walks (h .ss) nodes p (p + getD nodes (p + 1) 0) q (q + getD nodes (q + 1) 0) x) d k) o
     (subst (λ (y : ℕ). (h : Walkable nodes (p + getD nodes (p + 1) 0) e (q + y)) → Walks (h .ss) nodes (p + getD nodes (p + 1) 0) e (q + y) (h .f) o) b (subst (λ (y : ℕ). (h : Walkable nodes (p + y) e (q + z)) → Walks (h .ss) nodes (p + y) e (q + z) (h .f) o) a m))
 
-pub term-on : (nodes : List ℕ) (p q : ℕ) (g : Pairable nodes p q) (w z s : ℕ) → w ≡ getD nodes p 0 → z ≡ getD nodes q 0 → firstName ≤ w → firstName ≤ z → w ≡ z → s ≡ getD nodes (p + 1) 0 → (o : Walked)
+pub term-on : (nodes : List ℕ) (p q : ℕ) (g : TwoNodes nodes p q) (w z s : ℕ) → w ≡ getD nodes p 0 → z ≡ getD nodes q 0 → firstName ≤ w → firstName ≤ z → w ≡ z → s ≡ getD nodes (p + 1) 0 → (o : RowsWalked)
     → ((h : Walkable nodes (p + loadedNode) (p + s) (q + loadedNode)) → Walks (h .ss) nodes (p + loadedNode) (p + s) (q + loadedNode) (h .f) o) → Walks (g .ss) nodes p (p + getD nodes (p + 1) 0) q (q + getD nodes (q + 1) 0) o
 term-on nodes p q g w z s a b hw hz e c o m =
     term-open nodes p q g (subst (λ (k : ℕ). firstName ≤ k) a hw) (subst (λ (k : ℕ). firstName ≤ k) b hz) (sym a ∙ (e ∙ b)) o (subst (λ (y : ℕ). (h : Walkable nodes (p + loadedNode) (p + y) (q + loadedNode)) → Walks (h .ss) nodes (p + loadedNode) (p + y) (q + loadedNode) (h .f) o) c m)

@@ -15,10 +15,10 @@ use Rattle.machine.specs.Unifiers.{MostGeneral}
 use Rattle.machine.proofs.Tests.{variable-refl, variable-sym, name-refl}
 use Rattle.machine_theorems.proofs.Terms.{resolveAll, resolve-app, resolve-nil, resolve-cons, grows-more}
 use Rattle.machine_theorems.proofs.Unifier.{unify-unbounded, unify-some}
-use Rattle.layout.specs.Regions.{copyCells}
-use Rattle.layout.specs.Nodes.{followed, count}
-use Rattle.layout.specs.State.{variableOf}
-use Rattle.layout.proofs.State.{replace-away}
+use Rattle.run_layout.specs.Regions.{copyCells}
+use Rattle.run_layout.specs.Nodes.{followed, count}
+use Rattle.run_layout.specs.State.{variableOf}
+use Rattle.run_layout.proofs.State.{replace-away}
 use Rattle.unifier.specs.Rows.{unifyRows}
 
 -- ---- one round, without a bound

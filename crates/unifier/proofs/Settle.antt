@@ -13,18 +13,18 @@ use Rattle.syntax.specs.Words.{firstName}
 use Rattle.machine.specs.Substitution.{Variable, sameVariable, isLater, RTerm, RTerms, var, app, rnil, rcons, occurs, occursIn, Binding, resolve}
 use Rattle.machine.proofs.Tests.{variable-eq}
 use Rattle.machine_theorems.proofs.Terms.{resolveAll, resolve-app}
-use Rattle.layout.specs.Regions.{copies, copyCells, places, stack, pairs, pairOf, memo, rows, loadedNode, pairSize}
-use Rattle.layout.specs.Nodes.{Symbol, nameOf, Node, Row, termAt, termsAt, followed, count}
-use Rattle.layout.specs.State.{cellOf, variableOf, wordOf, cellAt, valueOf, bindings, Store}
-use Rattle.layout.proofs.Nodes.{node-inside, node-end, variable-at, compound-at, same-count, other-symbol}
-use Rattle.layout.proofs.State.{variable-cell, cell-eq, cell-small, resolve-unbound}
-use Rattle.memos.specs.Memos.{Found}
-use Rattle.bindings.specs.Scratch.{leftAt, rightAt, pairWords, SameMarks, Roomy}
-use Rattle.bindings.specs.declared.stack.Side.{Side}
-use Rattle.memos.proofs.Remembering.{value-word, memo-kept, memo-found}
-use Rattle.unifier.specs.Rows.{unifyRows, nodesOf, sizeOf}
-use Rattle.unifier.specs.Stacks.{endOf, wholeOf, rowOf, rowsOf, Half, Via, Stack, nothing, Closes}
-use Rattle.unifier.specs.Turns.{Work, Goes, Binds, Turns, Reached, Crossed, Openable, Settled}
+use Rattle.run_layout.specs.Regions.{copies, copyCells, places, stack, pairs, pairOf, memo, rows, loadedNode, pairSize}
+use Rattle.run_layout.specs.Nodes.{Symbol, nameOfSymbol, Node, Row, termAt, termsAt, followed, count}
+use Rattle.run_layout.specs.State.{cellOf, variableOf, wordOf, cellAt, valueOf, bindings, Store}
+use Rattle.run_layout.proofs.Nodes.{node-inside, node-end, variable-at, compound-at, same-count, other-symbol}
+use Rattle.run_layout.proofs.State.{variable-cell, cell-eq, cell-small, resolve-unbound}
+use Rattle.unify_memos.specs.Memos.{KnownEqual}
+use Rattle.unify_bindings.specs.Scratch.{leftAt, rightAt, pairWords, SameMarks, Roomy}
+use Rattle.unify_bindings.specs.declared.stack.Side.{Side}
+use Rattle.unify_memos.proofs.Remembering.{value-word, memo-kept, memo-found}
+use Rattle.unifier.specs.Rows.{unifyRows, nodesOf, rowsSize}
+use Rattle.unifier.specs.Stacks.{endOf, wholeOf, rowOf, rowsOf, Half, Via, Stack, noTerm, Closes}
+use Rattle.unifier.specs.Turns.{Work, Goes, Binds, Turns, Dereferenced, Crossed, Openable, PairTurned}
 use Rattle.unifier.specs.declared.solve.Turn.{Turn}
 use Rattle.unifier.specs.declared.solve.Turn.the-variants.{Go, Clash, Bind}
 use Rattle.unifier.proofs.Rules.{rows-same, rows-open, rows-clash, rows-occurs-left, rows-occurs-right, rows-bind-left, rows-bind-right, left-is-bound, right-is-bound, left-bound, right-bound, later-cell, earlier-cell, count-resolve}
@@ -48,14 +48,14 @@ same-variable v w e = cc
 
 -- ---- what a dereferenced term is
 
-module _ (ss : List Symbol) (nodes state : List ℕ) (n top p c : ℕ) (store : Store ss nodes state n) (r : Reached ss nodes state top p c) where
+module _ (ss : List Symbol) (nodes state : List ℕ) (n top p c : ℕ) (store : Store ss nodes state n) (r : Dereferenced ss nodes state top p c) where
   is-open : getD nodes p 0 < firstName → resolve (bindings ss nodes state n) (termAt ss nodes p c) ≡ var (variableOf (cellOf c (getD nodes p 0)))
   is-open l =
       ap (resolve (bindings ss nodes state n)) (variable-at ss nodes p (r .node) c l ∙ ap var (sym (variable-cell c (getD nodes p 0) l)))
       ∙ resolve-unbound ss nodes state n (cellOf c (getD nodes p 0)) store (cell-small c (getD nodes p 0) (r .copy) l) (r .stops l)
 
-  is-name : firstName ≤ getD nodes p 0 → resolve (bindings ss nodes state n) (termAt ss nodes p c) ≡ app (nameOf ss (getD nodes p 0 - firstName)) (resolveAll (bindings ss nodes state n) (termsAt ss nodes (p + loadedNode) (p + getD nodes (p + 1) 0) c))
-  is-name l = ap (resolve (bindings ss nodes state n)) (compound-at ss nodes p (r .node) c l) ∙ resolve-app (bindings ss nodes state n) (nameOf ss (getD nodes p 0 - firstName)) (termsAt ss nodes (p + loadedNode) (p + getD nodes (p + 1) 0) c)
+  is-name : firstName ≤ getD nodes p 0 → resolve (bindings ss nodes state n) (termAt ss nodes p c) ≡ app (nameOfSymbol ss (getD nodes p 0 - firstName)) (resolveAll (bindings ss nodes state n) (termsAt ss nodes (p + loadedNode) (p + getD nodes (p + 1) 0) c))
+  is-name l = ap (resolve (bindings ss nodes state n)) (compound-at ss nodes p (r .node) c l) ∙ resolve-app (bindings ss nodes state n) (nameOfSymbol ss (getD nodes p 0 - firstName)) (termsAt ss nodes (p + loadedNode) (p + getD nodes (p + 1) 0) c)
 
 module _ (nodes scratch : List ℕ) (h p c q d : ℕ) (g : Crossed nodes scratch h p c q d) where
   b : List Binding
@@ -86,8 +86,8 @@ module _ (nodes scratch : List ℕ) (h p c q d : ℕ) (g : Crossed nodes scratch
   settle-inside = (node-inside (g .work .ss) nodes p (g .left .node), (node-inside (g .work .ss) nodes q (g .right .node), g .work .store .small))
 
   -- a turn that is this one
-  pub settle-as : {k : Turn} (r : Turn) → r ≡ k → Settled nodes scratch scratch h p c q d g k → Settled nodes scratch scratch h p c q d g r
-  settle-as r e x = subst⁻¹ (λ (k : Turn). Settled nodes scratch scratch h p c q d g k) e x
+  pub settle-as : {k : Turn} (r : Turn) → r ≡ k → PairTurned nodes scratch scratch h p c q d g k → PairTurned nodes scratch scratch h p c q d g r
+  settle-as r e x = subst⁻¹ (λ (k : Turn). PairTurned nodes scratch scratch h p c q d g k) e x
 
   -- a cell of a copy that is at most the top
   cell-below : (k m : ℕ) → k ≤ g .work .top → m < firstName → cellOf k m < (g .work .top + 1) * copyCells
@@ -135,14 +135,14 @@ module _ (nodes scratch : List ℕ) (h p c q d : ℕ) (g : Crossed nodes scratch
       }
 
   -- two terms that are equal already
-  pub settle-equal : resolve (bindings (g .work .ss) nodes (g .state) (g .n)) (termAt (g .work .ss) nodes p c) ≡ resolve (bindings (g .work .ss) nodes (g .state) (g .n)) (termAt (g .work .ss) nodes q d) → Settled nodes scratch scratch h p c q d g (Go h)
+  pub settle-equal : resolve (bindings (g .work .ss) nodes (g .state) (g .n)) (termAt (g .work .ss) nodes p c) ≡ resolve (bindings (g .work .ss) nodes (g .state) (g .n)) (termAt (g .work .ss) nodes q d) → PairTurned nodes scratch scratch h p c q d g (Go h)
   unfolding b t u ls rs
   settle-equal e = (
     marks-refl scratch,
     record {
       stack = g .work .stack;
       means = rows-same b t u ls rs e;
-      less = (let s : sizeOf b (rcons t ls) ≡ nodesOf (resolve b t) + sizeOf b ls = size-cons b t ls in let o : 1 ≤ nodesOf (resolve b t) = nodes-some (resolve b t) in omega arith);
+      less = (let s : rowsSize b (rcons t ls) ≡ nodesOf (resolve b t) + rowsSize b ls = size-cons b t ls in let o : 1 ≤ nodesOf (resolve b t) = nodes-some (resolve b t) in omega arith);
       memo = g .work .memo;
       closes = closes-settled (g .work .ss) nodes b (leftAt scratch) (rightAt scratch) h t u e (g .closes);
     },
@@ -159,11 +159,11 @@ module _ (nodes scratch : List ℕ) (h p c q d : ℕ) (g : Crossed nodes scratch
     unfolding b u y
     right-is = is-open (g .work .ss) nodes (g .state) (g .n) (g .work .top) q d (g .work .store) (g .right) lq
 
-    pub settle-same : cellOf c (getD nodes p 0) ≡ cellOf d (getD nodes q 0) → Settled nodes scratch scratch h p c q d g (Go h)
+    pub settle-same : cellOf c (getD nodes p 0) ≡ cellOf d (getD nodes q 0) → PairTurned nodes scratch scratch h p c q d g (Go h)
     unfolding b t u ls rs x y
     settle-same e = settle-equal (left-is ∙ (ap (λ (k : ℕ). var (variableOf k)) e ∙ sym right-is))
 
-    pub settle-later : cellOf d (getD nodes q 0) < cellOf c (getD nodes p 0) → Settled nodes scratch scratch h p c q d g (Bind h (cellOf c (getD nodes p 0)) q d)
+    pub settle-later : cellOf d (getD nodes q 0) < cellOf c (getD nodes p 0) → PairTurned nodes scratch scratch h p c q d g (Bind h (cellOf c (getD nodes p 0)) q d)
     unfolding b t u ls rs x y
     settle-later e = (
       marks-refl scratch,
@@ -173,7 +173,7 @@ module _ (nodes scratch : List ℕ) (h p c q d : ℕ) (g : Crossed nodes scratch
           (λ k. absurd (let z : x ≡ y = cell-eq x y (variable-eq (variableOf x) (variableOf y) (subst (λ (v : RTerm). T (occurs (variableOf x) v)) right-is k)) in omega arith)),
     )
 
-    pub settle-earlier : cellOf c (getD nodes p 0) < cellOf d (getD nodes q 0) → Settled nodes scratch scratch h p c q d g (Bind h (cellOf d (getD nodes q 0)) p c)
+    pub settle-earlier : cellOf c (getD nodes p 0) < cellOf d (getD nodes q 0) → PairTurned nodes scratch scratch h p c q d g (Bind h (cellOf d (getD nodes q 0)) p c)
     unfolding b t u ls rs x y
     settle-earlier e = (
       marks-refl scratch,
@@ -185,26 +185,26 @@ module _ (nodes scratch : List ℕ) (h p c q d : ℕ) (g : Crossed nodes scratch
 
   -- ---- a variable and a name
 
-  pub settle-left : getD nodes p 0 < firstName → firstName ≤ getD nodes q 0 → Settled nodes scratch scratch h p c q d g (Bind h (cellOf c (getD nodes p 0)) q d)
+  pub settle-left : getD nodes p 0 < firstName → firstName ≤ getD nodes q 0 → PairTurned nodes scratch scratch h p c q d g (Bind h (cellOf c (getD nodes p 0)) q d)
   unfolding b t u ls rs x y
   settle-left lp hq =
-      let name : resolve b u ≡ app (nameOf (g .work .ss) (getD nodes q 0 - firstName)) (resolveAll b (termsAt (g .work .ss) nodes (q + loadedNode) (q + getD nodes (q + 1) 0) d)) = is-name (g .work .ss) nodes (g .state) (g .n) (g .work .top) q d (g .work .store) (g .right) hq in (
+      let name : resolve b u ≡ app (nameOfSymbol (g .work .ss) (getD nodes q 0 - firstName)) (resolveAll b (termsAt (g .work .ss) nodes (q + loadedNode) (q + getD nodes (q + 1) 0) d)) = is-name (g .work .ss) nodes (g .state) (g .n) (g .work .top) q d (g .work .store) (g .right) hq in (
         marks-refl scratch,
         bind-left lp
-            (λ w k. absurd (never-variable (nameOf (g .work .ss) (getD nodes q 0 - firstName)) (resolveAll b (termsAt (g .work .ss) nodes (q + loadedNode) (q + getD nodes (q + 1) 0) d)) w (sym name ∙ k)))
+            (λ w k. absurd (never-variable (nameOfSymbol (g .work .ss) (getD nodes q 0 - firstName)) (resolveAll b (termsAt (g .work .ss) nodes (q + loadedNode) (q + getD nodes (q + 1) 0) d)) w (sym name ∙ k)))
             (λ k. absurd (let z : getD nodes q 0 < firstName = k in omega arith))
-            (λ k. rows-occurs-left b t u ls rs (variableOf x) (nameOf (g .work .ss) (getD nodes q 0 - firstName)) (resolveAll b (termsAt (g .work .ss) nodes (q + loadedNode) (q + getD nodes (q + 1) 0) d)) (is-open (g .work .ss) nodes (g .state) (g .n) (g .work .top) p c (g .work .store) (g .left) lp) name (subst (λ (v : RTerm). T (occurs (variableOf x) v)) name k)),
+            (λ k. rows-occurs-left b t u ls rs (variableOf x) (nameOfSymbol (g .work .ss) (getD nodes q 0 - firstName)) (resolveAll b (termsAt (g .work .ss) nodes (q + loadedNode) (q + getD nodes (q + 1) 0) d)) (is-open (g .work .ss) nodes (g .state) (g .n) (g .work .top) p c (g .work .store) (g .left) lp) name (subst (λ (v : RTerm). T (occurs (variableOf x) v)) name k)),
       )
 
-  pub settle-right : firstName ≤ getD nodes p 0 → getD nodes q 0 < firstName → Settled nodes scratch scratch h p c q d g (Bind h (cellOf d (getD nodes q 0)) p c)
+  pub settle-right : firstName ≤ getD nodes p 0 → getD nodes q 0 < firstName → PairTurned nodes scratch scratch h p c q d g (Bind h (cellOf d (getD nodes q 0)) p c)
   unfolding b t u ls rs x y
   settle-right hp lq =
-      let name : resolve b t ≡ app (nameOf (g .work .ss) (getD nodes p 0 - firstName)) (resolveAll b (termsAt (g .work .ss) nodes (p + loadedNode) (p + getD nodes (p + 1) 0) c)) = is-name (g .work .ss) nodes (g .state) (g .n) (g .work .top) p c (g .work .store) (g .left) hp in (
+      let name : resolve b t ≡ app (nameOfSymbol (g .work .ss) (getD nodes p 0 - firstName)) (resolveAll b (termsAt (g .work .ss) nodes (p + loadedNode) (p + getD nodes (p + 1) 0) c)) = is-name (g .work .ss) nodes (g .state) (g .n) (g .work .top) p c (g .work .store) (g .left) hp in (
         marks-refl scratch,
         bind-right lq
-            (λ w k. absurd (never-variable (nameOf (g .work .ss) (getD nodes p 0 - firstName)) (resolveAll b (termsAt (g .work .ss) nodes (p + loadedNode) (p + getD nodes (p + 1) 0) c)) w (sym name ∙ k)))
+            (λ w k. absurd (never-variable (nameOfSymbol (g .work .ss) (getD nodes p 0 - firstName)) (resolveAll b (termsAt (g .work .ss) nodes (p + loadedNode) (p + getD nodes (p + 1) 0) c)) w (sym name ∙ k)))
             (λ k. absurd (let z : getD nodes p 0 < firstName = k in omega arith))
-            (λ k. rows-occurs-right b t u ls rs (variableOf y) (nameOf (g .work .ss) (getD nodes p 0 - firstName)) (resolveAll b (termsAt (g .work .ss) nodes (p + loadedNode) (p + getD nodes (p + 1) 0) c)) name (is-open (g .work .ss) nodes (g .state) (g .n) (g .work .top) q d (g .work .store) (g .right) lq) (subst (λ (v : RTerm). T (occurs (variableOf y) v)) name k)),
+            (λ k. rows-occurs-right b t u ls rs (variableOf y) (nameOfSymbol (g .work .ss) (getD nodes p 0 - firstName)) (resolveAll b (termsAt (g .work .ss) nodes (p + loadedNode) (p + getD nodes (p + 1) 0) c)) name (is-open (g .work .ss) nodes (g .state) (g .n) (g .work .top) q d (g .work .store) (g .right) lq) (subst (λ (v : RTerm). T (occurs (variableOf y) v)) name k)),
       )
 
   -- ---- two names
@@ -216,11 +216,11 @@ module _ (nodes scratch : List ℕ) (h p c q d : ℕ) (g : Crossed nodes scratch
     ar : RTerms
     ar = termsAt (g .work .ss) nodes (q + loadedNode) (q + getD nodes (q + 1) 0) d
 
-    pub settle-clash : (getD nodes p 0 ≡ getD nodes q 0 → ⊥) → Settled nodes scratch scratch h p c q d g Clash
+    pub settle-clash : (getD nodes p 0 ≡ getD nodes q 0 → ⊥) → PairTurned nodes scratch scratch h p c q d g Clash
     unfolding b t u ls rs al ar
     settle-clash z = (
       marks-refl scratch,
-      rows-clash b t u ls rs (nameOf (g .work .ss) (getD nodes p 0 - firstName)) (nameOf (g .work .ss) (getD nodes q 0 - firstName)) (resolveAll b al) (resolveAll b ar)
+      rows-clash b t u ls rs (nameOfSymbol (g .work .ss) (getD nodes p 0 - firstName)) (nameOfSymbol (g .work .ss) (getD nodes q 0 - firstName)) (resolveAll b al) (resolveAll b ar)
           (is-name (g .work .ss) nodes (g .state) (g .n) (g .work .top) p c (g .work .store) (g .left) hp)
           (is-name (g .work .ss) nodes (g .state) (g .n) (g .work .top) q d (g .work .store) (g .right) hq)
           (λ n k. other-symbol (g .work .ss) nodes p q c d (g .left .node) (g .right .node) hp hq z n (sym (count-resolve b al) ∙ (k ∙ count-resolve b ar))),
@@ -301,13 +301,13 @@ module _ (nodes scratch : List ℕ) (h p c q d : ℕ) (g : Crossed nodes scratch
       unfolding al ar
       opens newer e =
           ap (resolve (newer ++ bindings (g .work .ss) nodes (g .state) (g .n))) (compound-at (g .work .ss) nodes p (g .left .node) c hp)
-          ∙ (equal-named (newer ++ bindings (g .work .ss) nodes (g .state) (g .n)) al ar e (nameOf (g .work .ss) (getD nodes p 0 - firstName))
-          ∙ sym (ap (resolve (newer ++ bindings (g .work .ss) nodes (g .state) (g .n))) (compound-at (g .work .ss) nodes q (g .right .node) d hq ∙ ap (λ (k : ℕ). app (nameOf (g .work .ss) (k - firstName)) ar) (sym w))))
+          ∙ (equal-named (newer ++ bindings (g .work .ss) nodes (g .state) (g .n)) al ar e (nameOfSymbol (g .work .ss) (getD nodes p 0 - firstName))
+          ∙ sym (ap (resolve (newer ++ bindings (g .work .ss) nodes (g .state) (g .n))) (compound-at (g .work .ss) nodes q (g .right .node) d hq ∙ ap (λ (k : ℕ). app (nameOfSymbol (g .work .ss) (k - firstName)) ar) (sym w))))
 
-      pub settle-open : (after : List ℕ) → after ≡ pairWords scratch h p (p + loadedNode) c q (q + loadedNode) d → Settled nodes scratch after h p c q d g (Go (h + 1))
+      pub settle-open : (after : List ℕ) → after ≡ pairWords scratch h p (p + loadedNode) c q (q + loadedNode) d → PairTurned nodes scratch after h p c q d g (Go (h + 1))
       unfolding b t u ls rs al ar
       settle-open after e =
-          subst⁻¹ (λ (s : List ℕ). Settled nodes scratch s h p c q d g (Go (h + 1))) e
+          subst⁻¹ (λ (s : List ℕ). PairTurned nodes scratch s h p c q d g (Go (h + 1))) e
           (let fits : pairOf h + pairSize ≤ length scratch = settle-room in
           let l-below : (k : ℕ) → k < h → leftAt (pairWords scratch h p (p + loadedNode) c q (q + loadedNode) d) k ≡ leftAt scratch k = (λ k o. pair-left-others scratch h p (p + loadedNode) c q (q + loadedNode) d fits k (λ z. omega arith)) in
           let r-below : (k : ℕ) → k < h → rightAt (pairWords scratch h p (p + loadedNode) c q (q + loadedNode) d) k ≡ rightAt scratch k = (λ k o. pair-right-others scratch h p (p + loadedNode) c q (q + loadedNode) d fits k (λ z. omega arith)) in
@@ -316,17 +316,17 @@ module _ (nodes scratch : List ℕ) (h p c q d : ℕ) (g : Crossed nodes scratch
           let more : suc h ≡ h + 1 = omega arith in
           let left-rows : rowsOf (g .work .ss) nodes (leftAt (pairWords scratch h p (p + loadedNode) c q (q + loadedNode) d)) (h + 1) ≡ followed al ls = ap (rowsOf (g .work .ss) nodes (leftAt (pairWords scratch h p (p + loadedNode) c q (q + loadedNode) d))) (sym more) ∙ (rows-top (g .work .ss) nodes (leftAt (pairWords scratch h p (p + loadedNode) c q (q + loadedNode) d)) h ∙ ap₂ followed (ap (rowOf (g .work .ss) nodes) l-top) (rows-agree (g .work .ss) nodes (leftAt scratch) (leftAt (pairWords scratch h p (p + loadedNode) c q (q + loadedNode) d)) h l-below)) in
           let right-rows : rowsOf (g .work .ss) nodes (rightAt (pairWords scratch h p (p + loadedNode) c q (q + loadedNode) d)) (h + 1) ≡ followed ar rs = ap (rowsOf (g .work .ss) nodes (rightAt (pairWords scratch h p (p + loadedNode) c q (q + loadedNode) d))) (sym more) ∙ (rows-top (g .work .ss) nodes (rightAt (pairWords scratch h p (p + loadedNode) c q (q + loadedNode) d)) h ∙ ap₂ followed (ap (rowOf (g .work .ss) nodes) r-top) (rows-agree (g .work .ss) nodes (rightAt scratch) (rightAt (pairWords scratch h p (p + loadedNode) c q (q + loadedNode) d)) h r-below)) in
-          let opened : unifyRows b (rcons t ls) (rcons u rs) ≡ unifyRows b (followed al ls) (followed ar rs) = rows-open b t u ls rs (nameOf (g .work .ss) (getD nodes p 0 - firstName)) al ar (ap (resolve b) (compound-at (g .work .ss) nodes p (g .left .node) c hp)) (ap (resolve b) (compound-at (g .work .ss) nodes q (g .right .node) d hq ∙ ap (λ (k : ℕ). app (nameOf (g .work .ss) (k - firstName)) ar) (sym w))) (same-count (g .work .ss) nodes p q c d (g .left .node) (g .right .node) hp hq w) in (
+          let opened : unifyRows b (rcons t ls) (rcons u rs) ≡ unifyRows b (followed al ls) (followed ar rs) = rows-open b t u ls rs (nameOfSymbol (g .work .ss) (getD nodes p 0 - firstName)) al ar (ap (resolve b) (compound-at (g .work .ss) nodes p (g .left .node) c hp)) (ap (resolve b) (compound-at (g .work .ss) nodes q (g .right .node) d hq ∙ ap (λ (k : ℕ). app (nameOfSymbol (g .work .ss) (k - firstName)) ar) (sym w))) (same-count (g .work .ss) nodes p q c d (g .left .node) (g .right .node) hp hq w) in (
             pair-marks scratch h p (p + loadedNode) c q (q + loadedNode) d fits,
             record {
               stack = subst (Stack (g .work .ss) nodes b (g .work .top) (leftAt (pairWords scratch h p (p + loadedNode) c q (q + loadedNode) d)) (rightAt (pairWords scratch h p (p + loadedNode) c q (q + loadedNode) d))) more (pushed (leftAt (pairWords scratch h p (p + loadedNode) c q (q + loadedNode) d)) (rightAt (pairWords scratch h p (p + loadedNode) c q (q + loadedNode) d)) l-below l-top r-below r-top);
               means = opened ∙ sym (ap₂ (unifyRows b) left-rows right-rows);
-              less = (let s : sizeOf b (rcons t ls) ≡ nodesOf (resolve b t) + sizeOf b ls = size-cons b t ls in
-                  let m : nodesOf (resolve b t) ≡ suc (sizeOf b al) = ap (λ (v : RTerm). nodesOf (resolve b v)) (compound-at (g .work .ss) nodes p (g .left .node) c hp) ∙ size-app b (nameOf (g .work .ss) (getD nodes p 0 - firstName)) al in
-                  let o : sizeOf b (rowsOf (g .work .ss) nodes (leftAt (pairWords scratch h p (p + loadedNode) c q (q + loadedNode) d)) (h + 1)) ≡ sizeOf b al + sizeOf b ls = ap (sizeOf b) left-rows ∙ size-followed b al ls in
+              less = (let s : rowsSize b (rcons t ls) ≡ nodesOf (resolve b t) + rowsSize b ls = size-cons b t ls in
+                  let m : nodesOf (resolve b t) ≡ suc (rowsSize b al) = ap (λ (v : RTerm). nodesOf (resolve b v)) (compound-at (g .work .ss) nodes p (g .left .node) c hp) ∙ size-app b (nameOfSymbol (g .work .ss) (getD nodes p 0 - firstName)) al in
+                  let o : rowsSize b (rowsOf (g .work .ss) nodes (leftAt (pairWords scratch h p (p + loadedNode) c q (q + loadedNode) d)) (h + 1)) ≡ rowsSize b al + rowsSize b ls = ap (rowsSize b) left-rows ∙ size-followed b al ls in
                   omega arith);
               memo = memo-kept (g .work .ss) nodes b scratch (g .work .memo) (pairWords scratch h p (p + loadedNode) c q (q + loadedNode) d) (λ j o. pair-others scratch h p (p + loadedNode) c q (q + loadedNode) d fits j (inr (let z : suc h ≤ pairs = settle-height in omega arith)));
-              closes = subst (λ (i : ℕ). Closes (g .work .ss) nodes b (leftAt (pairWords scratch h p (p + loadedNode) c q (q + loadedNode) d)) (rightAt (pairWords scratch h p (p + loadedNode) c q (q + loadedNode) d)) i nothing nothing) more
+              closes = subst (λ (i : ℕ). Closes (g .work .ss) nodes b (leftAt (pairWords scratch h p (p + loadedNode) c q (q + loadedNode) d)) (rightAt (pairWords scratch h p (p + loadedNode) c q (q + loadedNode) d)) i noTerm noTerm) more
                   (closes-pushed (g .work .ss) nodes b (leftAt scratch) (rightAt scratch) (leftAt (pairWords scratch h p (p + loadedNode) c q (q + loadedNode) d)) (rightAt (pairWords scratch h p (p + loadedNode) c q (q + loadedNode) d)) h t u l-below r-below
                   (ap (wholeOf (g .work .ss) nodes) l-top) (ap (wholeOf (g .work .ss) nodes) r-top)
                   (λ newer e1. opens newer (sym (ap (λ (s : Side). resolve (newer ++ b) (app [] (rowOf (g .work .ss) nodes s))) l-top) ∙ (e1 ∙ ap (λ (s : Side). resolve (newer ++ b) (app [] (rowOf (g .work .ss) nodes s))) r-top))) (g .closes));
@@ -347,33 +347,33 @@ module _ {nodes scratch : List ℕ} {h p c q d : ℕ} (g : Crossed nodes scratch
   right-cell : {j : ℕ} → j ≡ cellOf d z → j ≡ cellOf d (getD nodes q 0)
   right-cell e = e ∙ ap (cellOf d) ez
 
-  pub read-left : w < firstName → firstName ≤ z → {i : ℕ} → i ≡ cellOf c w → {r : Turn} → r ≡ Bind h i q d → Settled nodes scratch scratch h p c q d g r
+  pub read-left : w < firstName → firstName ≤ z → {i : ℕ} → i ≡ cellOf c w → {r : Turn} → r ≡ Bind h i q d → PairTurned nodes scratch scratch h p c q d g r
   read-left lp hq ex {r} er = settle-as nodes scratch h p c q d g r (er ∙ ap (λ (k : ℕ). Bind h k q d) (left-cell ex)) (settle-left nodes scratch h p c q d g (lower ew lp) (higher ez hq))
 
-  pub read-right : firstName ≤ w → z < firstName → {j : ℕ} → j ≡ cellOf d z → {r : Turn} → r ≡ Bind h j p c → Settled nodes scratch scratch h p c q d g r
+  pub read-right : firstName ≤ w → z < firstName → {j : ℕ} → j ≡ cellOf d z → {r : Turn} → r ≡ Bind h j p c → PairTurned nodes scratch scratch h p c q d g r
   read-right hp lq ey {r} er = settle-as nodes scratch h p c q d g r (er ∙ ap (λ (k : ℕ). Bind h k p c) (right-cell ey)) (settle-right nodes scratch h p c q d g (higher ew hp) (lower ez lq))
 
   module _ (lp : w < firstName) (lq : z < firstName) {i j : ℕ} (ex : i ≡ cellOf c w) (ey : j ≡ cellOf d z) where
-    pub read-same : i ≡ j → Settled nodes scratch scratch h p c q d g (Go h)
+    pub read-same : i ≡ j → PairTurned nodes scratch scratch h p c q d g (Go h)
     read-same e = settle-same nodes scratch h p c q d g (lower ew lp) (lower ez lq) (sym (left-cell ex) ∙ (e ∙ right-cell ey))
 
-    pub read-earlier : i < j → {r : Turn} → r ≡ Bind h j p c → Settled nodes scratch scratch h p c q d g r
+    pub read-earlier : i < j → {r : Turn} → r ≡ Bind h j p c → PairTurned nodes scratch scratch h p c q d g r
     read-earlier l {r} er =
         settle-as nodes scratch h p c q d g r (er ∙ ap (λ (k : ℕ). Bind h k p c) (right-cell ey))
         (settle-earlier nodes scratch h p c q d g (lower ew lp) (lower ez lq) (omega (arith, left-cell ex, right-cell ey, l)))
 
-    pub read-later : (i ≡ j → ⊥) → j ≤ i → {r : Turn} → r ≡ Bind h i q d → Settled nodes scratch scratch h p c q d g r
+    pub read-later : (i ≡ j → ⊥) → j ≤ i → {r : Turn} → r ≡ Bind h i q d → PairTurned nodes scratch scratch h p c q d g r
     read-later n o {r} er =
         settle-as nodes scratch h p c q d g r (er ∙ ap (λ (k : ℕ). Bind h k q d) (left-cell ex))
         (settle-later nodes scratch h p c q d g (lower ew lp) (lower ez lq) (omega (arith, left-cell ex, right-cell ey, n, o)))
 
-  pub read-clash : firstName ≤ w → firstName ≤ z → (w ≡ z → ⊥) → Settled nodes scratch scratch h p c q d g Clash
+  pub read-clash : firstName ≤ w → firstName ≤ z → (w ≡ z → ⊥) → PairTurned nodes scratch scratch h p c q d g Clash
   read-clash hp hq n = settle-clash nodes scratch h p c q d g (higher ew hp) (higher ez hq) (λ e. n (ew ∙ (e ∙ sym ez)))
 
   pub read-openable : firstName ≤ w → firstName ≤ z → w ≡ z → Openable scratch h p c q d
   read-openable hp hq e = record { nodes = nodes; crossed = g; name = higher ew hp; same = sym ew ∙ (e ∙ ez) }
 
-  pub read-open : firstName ≤ w → firstName ≤ z → w ≡ z → (after : List ℕ) (r : Turn) → ((k : Openable scratch h p c q d) → Settled (k .nodes) scratch after h p c q d (k .crossed) r) → Settled nodes scratch after h p c q d g r
+  pub read-open : firstName ≤ w → firstName ≤ z → w ≡ z → (after : List ℕ) (r : Turn) → ((k : Openable scratch h p c q d) → PairTurned (k .nodes) scratch after h p c q d (k .crossed) r) → PairTurned nodes scratch after h p c q d g r
   unfolding read-openable
   read-open hp hq e after r k = k (read-openable hp hq e)
 
@@ -391,19 +391,19 @@ module _ (scratch : List ℕ) (h p c q d : ℕ) (g : Openable scratch h p c q d)
       ((omega arith, omega arith), ((g .crossed .left .copy, g .crossed .right .copy), g .crossed .work .roomy))
 
   words-equal : resolve (bindings (g .crossed .work .ss) (g .nodes) (g .crossed .state) (g .crossed .n)) (valueOf (g .crossed .work .ss) (g .nodes) (wordOf p c)) ≡ resolve (bindings (g .crossed .work .ss) (g .nodes) (g .crossed .state) (g .crossed .n)) (valueOf (g .crossed .work .ss) (g .nodes) (wordOf q d))
-      → Settled (g .nodes) scratch scratch h p c q d (g .crossed) (Go h)
+      → PairTurned (g .nodes) scratch scratch h p c q d (g .crossed) (Go h)
   words-equal e =
       settle-equal (g .nodes) scratch h p c q d (g .crossed)
       (ap (resolve (bindings (g .crossed .work .ss) (g .nodes) (g .crossed .state) (g .crossed .n))) (sym (value-word (g .crossed .work .ss) (g .nodes) p c (g .crossed .left .copy)))
       ∙ (e ∙ ap (resolve (bindings (g .crossed .work .ss) (g .nodes) (g .crossed .state) (g .crossed .n))) (value-word (g .crossed .work .ss) (g .nodes) q d (g .crossed .right .copy))))
 
   -- one term
-  pub open-same : {x y : ℕ} → x ≡ wordOf p c → y ≡ wordOf q d → x ≡ y → Settled (g .nodes) scratch scratch h p c q d (g .crossed) (Go h)
+  pub open-same : {x y : ℕ} → x ≡ wordOf p c → y ≡ wordOf q d → x ≡ y → PairTurned (g .nodes) scratch scratch h p c q d (g .crossed) (Go h)
   open-same a b e = words-equal (ap (λ (k : ℕ). resolve (bindings (g .crossed .work .ss) (g .nodes) (g .crossed .state) (g .crossed .n)) (valueOf (g .crossed .work .ss) (g .nodes) k)) (sym a ∙ (e ∙ b)))
 
   -- a pair of the memo
-  pub open-known : {x y : ℕ} → x ≡ wordOf p c → y ≡ wordOf q d → Found scratch x y → Settled (g .nodes) scratch scratch h p c q d (g .crossed) (Go h)
-  open-known {y = y} a b f = words-equal (memo-found (g .crossed .work .ss) (g .nodes) (bindings (g .crossed .work .ss) (g .nodes) (g .crossed .state) (g .crossed .n)) scratch (g .crossed .work .memo) (wordOf p c) (wordOf q d) (subst (Found scratch (wordOf p c)) b (subst (λ (k : ℕ). Found scratch k y) a f)))
+  pub open-known : {x y : ℕ} → x ≡ wordOf p c → y ≡ wordOf q d → KnownEqual scratch x y → PairTurned (g .nodes) scratch scratch h p c q d (g .crossed) (Go h)
+  open-known {y = y} a b f = words-equal (memo-found (g .crossed .work .ss) (g .nodes) (bindings (g .crossed .work .ss) (g .nodes) (g .crossed .state) (g .crossed .n)) scratch (g .crossed .work .memo) (wordOf p c) (wordOf q d) (subst (KnownEqual scratch (wordOf p c)) b (subst (λ (k : ℕ). KnownEqual scratch k y) a f)))
 
   pub open-room : (pairOf h + pairSize ≤ length scratch) × (((p < 2 ^ 32) × ((p + loadedNode < 2 ^ 32) × (c < 2 ^ 32))) × ((q < 2 ^ 32) × ((q + loadedNode < 2 ^ 32) × (d < 2 ^ 32))))
   open-room =
@@ -417,5 +417,5 @@ module _ (scratch : List ℕ) (h p c q d : ℕ) (g : Openable scratch h p c q d)
   pub open-high : h ≤ pairs
   open-high = height (g .crossed .work .ss) (g .nodes) (bindings (g .crossed .work .ss) (g .nodes) (g .crossed .state) (g .crossed .n)) (g .crossed .work .top) (leftAt scratch) (rightAt scratch) h (g .crossed .work .stack)
 
-  pub open-pushed : (after : List ℕ) → after ≡ pairWords scratch h p (p + loadedNode) c q (q + loadedNode) d → Settled (g .nodes) scratch after h p c q d (g .crossed) (Go (h + 1))
+  pub open-pushed : (after : List ℕ) → after ≡ pairWords scratch h p (p + loadedNode) c q (q + loadedNode) d → PairTurned (g .nodes) scratch after h p c q d (g .crossed) (Go (h + 1))
   open-pushed = settle-open (g .nodes) scratch h p c q d (g .crossed) (g .name) other-name (g .same)

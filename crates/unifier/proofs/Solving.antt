@@ -8,22 +8,22 @@ use mathlib.Core.Option.{none, some}
 use lib.Dec.{T}
 use lib.ListN.{length}
 use Rattle.machine.specs.Substitution.{rnil, occurs, Binding, resolve}
-use Rattle.layout.specs.Regions.{copies, places, cells, trail, storeWords, stack, pairs, rows, loadedNode}
-use Rattle.layout.specs.Nodes.{Symbol, termAt}
-use Rattle.layout.specs.State.{variableOf, wordOf, bindings, Store, Within, Keeps, boundWords}
-use Rattle.layout.proofs.Nodes.{node-inside}
-use Rattle.layout.proofs.State.{bind-store, bind-keeps, bind-means, bind-within, keeps-refl, keeps-trans, room}
-use Rattle.bindings.specs.Queues.{Clean, Closed, Closing}
-use Rattle.memos.specs.Memos.{Memo}
-use Rattle.bindings.specs.Scratch.{leftAt, rightAt, SameMarks}
-use Rattle.bindings.proofs.Apart.{closed-bound}
-use Rattle.memos.proofs.Remembering.{memo-bound}
-use Rattle.orders.specs.Orders.{Ordered}
-use Rattle.orders.proofs.Lists.{ordered-kept}
-use Rattle.cycle_checks.specs.Checks.{Guardable, Guarded}
-use Rattle.unifier.specs.Rows.{unifyRows, sizeOf}
-use Rattle.unifier.specs.Stacks.{rowsOf, Stack, nothing, Closes}
-use Rattle.unifier.specs.Turns.{Work, Goes, Binds, Turned, Turnable, Ready, Advanced, Solvable, Solved, answered}
+use Rattle.run_layout.specs.Regions.{copies, places, cells, trail, storeWords, stack, pairs, rows, loadedNode}
+use Rattle.run_layout.specs.Nodes.{Symbol, termAt}
+use Rattle.run_layout.specs.State.{variableOf, wordOf, bindings, Store, Within, Keeps, boundWords}
+use Rattle.run_layout.proofs.Nodes.{node-inside}
+use Rattle.run_layout.proofs.State.{bind-store, bind-keeps, bind-means, bind-within, keeps-refl, keeps-trans, room}
+use Rattle.unify_bindings.specs.Queues.{Clean, Closed, Closing}
+use Rattle.unify_memos.specs.Memos.{Memo}
+use Rattle.unify_bindings.specs.Scratch.{leftAt, rightAt, SameMarks}
+use Rattle.unify_bindings.proofs.Apart.{closed-bound}
+use Rattle.unify_memos.proofs.Remembering.{memo-bound}
+use Rattle.unify_orders.specs.Orders.{Ordered}
+use Rattle.unify_orders.proofs.Lists.{ordered-kept}
+use Rattle.unify_cycles.specs.Checks.{Guardable, Guarded}
+use Rattle.unifier.specs.Rows.{unifyRows, rowsSize}
+use Rattle.unifier.specs.Stacks.{rowsOf, Stack, noTerm, Closes}
+use Rattle.unifier.specs.Turns.{Work, Goes, Binds, TurnGives, Turnable, ReadyToUnify, Advanced, Solvable, Solved, answered}
 use Rattle.unifier.specs.declared.solve.Turn.{Turn}
 use Rattle.unifier.specs.declared.solve.Turn.the-variants.{Go, Clash, Bind}
 use Rattle.unifier.proofs.Rules.{rows-done}
@@ -38,13 +38,13 @@ pub record Advancing (ss : List Symbol) (nodes state before after : List ℕ) (t
   pub stack : Stack ss nodes (bindings ss nodes state n) top (leftAt after) (rightAt after) k
   pub means : unifyRows (bindings ss nodes state n) (rowsOf ss nodes (leftAt before) h) (rowsOf ss nodes (rightAt before) h) ≡ unifyRows (bindings ss nodes state n) (rowsOf ss nodes (leftAt after) k) (rowsOf ss nodes (rightAt after) k)
   pub memo : Memo ss nodes (bindings ss nodes state n) after
-  pub closes : Closes ss nodes (bindings ss nodes state n) (leftAt after) (rightAt after) k nothing nothing
+  pub closes : Closes ss nodes (bindings ss nodes state n) (leftAt after) (rightAt after) k noTerm noTerm
 
 -- what is left to be done, whatever the symbols
 abbrev pub left-over : List ℕ → List ℕ → List ℕ → ℕ → ℕ → ℕ
-left-over nodes state scratch n k = 2 * sizeOf (bindings [] nodes state n) (rowsOf [] nodes (leftAt scratch) k) + k
+left-over nodes state scratch n k = 2 * rowsSize (bindings [] nodes state n) (rowsOf [] nodes (leftAt scratch) k) + k
 
-pub advance-begin : (nodes state scratch : List ℕ) (n h : ℕ) (g : Ready nodes state scratch n h) → Advancing (g .work .ss) nodes state scratch scratch (g .work .top) n h h
+pub advance-begin : (nodes state scratch : List ℕ) (n h : ℕ) (g : ReadyToUnify nodes state scratch n h) → Advancing (g .work .ss) nodes state scratch scratch (g .work .top) n h h
 advance-begin nodes state scratch n h g = record { marks = record { long = refl; words = λ j l. refl }; stack = g .work .stack; means = refl; memo = g .work .memo; closes = g .closes }
 
 no-rows : (ss : List Symbol) (nodes after : List ℕ) → (rowsOf ss nodes (leftAt after) 0 ≡ rnil) × (rowsOf ss nodes (rightAt after) 0 ≡ rnil)
@@ -62,23 +62,23 @@ module _ (nodes state before after : List ℕ) (n h k : ℕ) (g : Work nodes sta
   marks-on : (later : List ℕ) → SameMarks after later → SameMarks before later
   marks-on later x = record { long = x .long ∙ a .marks .long; words = λ j l. x .words j l ∙ a .marks .words j l }
 
-  module _ (l : 0 < k) (later : List ℕ) (t : Turn) (c : (v : Turnable nodes state after k) → Turned nodes state after later (v .n) k (v .work) t) where
-    came : Turned nodes state after later n k advance-work t
+  module _ (l : 0 < k) (later : List ℕ) (t : Turn) (c : (v : Turnable nodes state after k) → TurnGives nodes state after later (v .n) k (v .work) t) where
+    came : TurnGives nodes state after later n k advance-work t
     unfolding advance-turn
     came = c (advance-turn l)
 
-    gone : (j : ℕ) → t ≡ Go j → SameMarks after later × Goes (g .ss) nodes (bindings (g .ss) nodes state n) (g .top) (rowsOf (g .ss) nodes (leftAt after) k) (rowsOf (g .ss) nodes (rightAt after) k) (2 * sizeOf (bindings (g .ss) nodes state n) (rowsOf (g .ss) nodes (leftAt after) k) + k) later j
+    gone : (j : ℕ) → t ≡ Go j → SameMarks after later × Goes (g .ss) nodes (bindings (g .ss) nodes state n) (g .top) (rowsOf (g .ss) nodes (leftAt after) k) (rowsOf (g .ss) nodes (rightAt after) k) (2 * rowsSize (bindings (g .ss) nodes state n) (rowsOf (g .ss) nodes (leftAt after) k) + k) later j
     unfolding advance-work
-    gone j e = subst (λ (x : Turn). Turned nodes state after later n k advance-work x) e came
+    gone j e = subst (λ (x : Turn). TurnGives nodes state after later n k advance-work x) e came
 
     pub advance-next : (j : ℕ) → t ≡ Go j → Advancing (g .ss) nodes state before later (g .top) n h j
     advance-next j e = record { marks = marks-on later (gone j e .0); stack = gone j e .1 .stack; means = a .means ∙ gone j e .1 .means; memo = gone j e .1 .memo; closes = gone j e .1 .closes }
 
     pub advance-less : (j : ℕ) → t ≡ Go j → left-over nodes state later n j < left-over nodes state after n k
     advance-less j e =
-        let x : 2 * sizeOf (bindings (g .ss) nodes state n) (rowsOf (g .ss) nodes (leftAt later) j) + j < 2 * sizeOf (bindings (g .ss) nodes state n) (rowsOf (g .ss) nodes (leftAt after) k) + k = gone j e .1 .less in
-        let y : sizeOf (bindings [] nodes state n) (rowsOf [] nodes (leftAt later) j) ≡ sizeOf (bindings (g .ss) nodes state n) (rowsOf (g .ss) nodes (leftAt later) j) = size-bare (g .ss) nodes state n (leftAt later) j in
-        let z : sizeOf (bindings [] nodes state n) (rowsOf [] nodes (leftAt after) k) ≡ sizeOf (bindings (g .ss) nodes state n) (rowsOf (g .ss) nodes (leftAt after) k) = size-bare (g .ss) nodes state n (leftAt after) k in
+        let x : 2 * rowsSize (bindings (g .ss) nodes state n) (rowsOf (g .ss) nodes (leftAt later) j) + j < 2 * rowsSize (bindings (g .ss) nodes state n) (rowsOf (g .ss) nodes (leftAt after) k) + k = gone j e .1 .less in
+        let y : rowsSize (bindings [] nodes state n) (rowsOf [] nodes (leftAt later) j) ≡ rowsSize (bindings (g .ss) nodes state n) (rowsOf (g .ss) nodes (leftAt later) j) = size-bare (g .ss) nodes state n (leftAt later) j in
+        let z : rowsSize (bindings [] nodes state n) (rowsOf [] nodes (leftAt after) k) ≡ rowsSize (bindings (g .ss) nodes state n) (rowsOf (g .ss) nodes (leftAt after) k) = size-bare (g .ss) nodes state n (leftAt after) k in
         omega arith
 
     clash-of : unifyRows (bindings (advance-work .ss) nodes state n) (rowsOf (advance-work .ss) nodes (leftAt after) k) (rowsOf (advance-work .ss) nodes (rightAt after) k) ≡ none → unifyRows (bindings (g .ss) nodes state n) (rowsOf (g .ss) nodes (leftAt after) k) (rowsOf (g .ss) nodes (rightAt after) k) ≡ none
@@ -92,7 +92,7 @@ module _ (nodes state before after : List ℕ) (n h k : ℕ) (g : Work nodes sta
     pub advance-stop : ((j : ℕ) → t ≡ Go j → ⊥) → Advanced nodes state before later n h g t
     advance-stop z = go t z came
       where
-        go : (x : Turn) → ((j : ℕ) → x ≡ Go j → ⊥) → Turned nodes state after later n k advance-work x → Advanced nodes state before later n h g x
+        go : (x : Turn) → ((j : ℕ) → x ≡ Go j → ⊥) → TurnGives nodes state after later n k advance-work x → Advanced nodes state before later n h g x
         go (Go j) w s = absurd (w j refl)
         go Clash w s = (marks-on later (s .0), a .means ∙ clash-of (s .1))
         go (Bind i x p q) w s = (marks-on later (s .0), binds-of i x p q (s .1))
@@ -114,7 +114,7 @@ pub record Solving (ss : List Symbol) (nodes before after scratch later : List �
   pub stack : Stack ss nodes (bindings ss nodes after m) top (leftAt later) (rightAt later) h
   pub means : unifyRows (bindings ss nodes before n) (rowsOf ss nodes (leftAt scratch) 1) (rowsOf ss nodes (rightAt scratch) 1) ≡ unifyRows (bindings ss nodes after m) (rowsOf ss nodes (leftAt later) h) (rowsOf ss nodes (rightAt later) h)
   pub memo : Memo ss nodes (bindings ss nodes after m) later
-  pub closes : Closes ss nodes (bindings ss nodes after m) (leftAt later) (rightAt later) h nothing nothing
+  pub closes : Closes ss nodes (bindings ss nodes after m) (leftAt later) (rightAt later) h noTerm noTerm
   pub order : Ordered ss nodes after later
 
 pub solve-begin : {nodes state scratch : List ℕ} {n : ℕ} (g : Solvable nodes state scratch n) → Solving (g .work .ss) nodes state state scratch scratch (g .work .top) n n 1
@@ -131,11 +131,11 @@ module _ {nodes before after scratch later : List ℕ} {n m h : ℕ} (g : Solvab
   pub solve-work : Work nodes after later m h
   solve-work = record { ss = ss; top = g .work .top; store = s .store; within = s .within; roomy = (let e : length later ≡ length scratch = s .long in let o : rows ≤ length scratch = g .work .roomy in omega arith); stack = s .stack; memo = s .memo }
 
-  pub solve-ready : Ready nodes after later m h
+  pub solve-ready : ReadyToUnify nodes after later m h
   unfolding solve-work
   solve-ready = record { work = solve-work; closes = s .closes }
 
-  module _ {next : List ℕ} (t : Turn) (c : (w : Ready nodes after later m h) → Advanced nodes after later next m h (w .work) t) where
+  module _ {next : List ℕ} (t : Turn) (c : (w : ReadyToUnify nodes after later m h) → Advanced nodes after later next m h (w .work) t) where
     gave : Advanced nodes after later next m h solve-work t
     unfolding solve-ready
     gave = c solve-ready
@@ -229,6 +229,6 @@ module _ {nodes before after scratch later : List ℕ} {n m h : ℕ} (g : Solvab
               stack = subst⁻¹ (λ (y : List Binding). Stack ss nodes y (g .work .top) (leftAt end) (rightAt end) k) now (stack-agrees ss nodes (new ∷ b) (g .work .top) (leftAt next) (rightAt next) (leftAt end) (rightAt end) k l-same r-same (stack-bound ss nodes b new (g .work .top) (leftAt next) (rightAt next) k (binds .stack)));
               means = s .means ∙ (binds .free (free f) ∙ (ap₂ (unifyRows (new ∷ b)) (sym (rows-agree ss nodes (leftAt next) (leftAt end) k l-same)) (sym (rows-agree ss nodes (rightAt next) (rightAt end) k r-same)) ∙ ap (λ (y : List Binding). unifyRows y (rowsOf ss nodes (leftAt end) k) (rowsOf ss nodes (rightAt end) k)) (sym now)));
               memo = subst⁻¹ (λ (y : List Binding). Memo ss nodes y end) now (memo-bound ss nodes b end (checked .spared .memo b (binds .memo)) new);
-              closes = subst⁻¹ (λ (y : List Binding). Closes ss nodes y (leftAt end) (rightAt end) k nothing nothing) now (closes-agree ss nodes (new ∷ b) (leftAt next) (rightAt next) (leftAt end) (rightAt end) k nothing nothing l-same r-same (binds .closes (free f)));
+              closes = subst⁻¹ (λ (y : List Binding). Closes ss nodes y (leftAt end) (rightAt end) k noTerm noTerm) now (closes-agree ss nodes (new ∷ b) (leftAt next) (rightAt next) (leftAt end) (rightAt end) k noTerm noTerm l-same r-same (binds .closes (free f)));
               order = checked .order f;
             }))

@@ -11,14 +11,14 @@ use lib.Seq.{getD-set-same, getD-set-other}
 use borrow.Author.Tests.{ltb-true, ltb-false, eqb-true, eqb-false}
 use Rattle.syntax.specs.Words.{firstName}
 use Rattle.machine.specs.Substitution.{RTerm, RTerms, var, app, rnil, rcons, replace, Binding, resolve}
-use Rattle.layout.specs.Regions.{cutList, copies, cells, stack, pairs, pairOf, memo, loadedNode, sideSize, pairSize}
-use Rattle.layout.specs.Nodes.{Symbol, nameOf, Node, Row, termAt, termsAt, followed, count}
-use Rattle.layout.specs.State.{variableOf}
-use Rattle.layout.proofs.Nodes.{compound-at, compound-row}
-use Rattle.layout.proofs.Pigeonhole.{pigeonhole}
-use Rattle.bindings.specs.Scratch.{sideAt, sideWords, leftAt, rightAt, pairWords, SameMarks, Roomy}
-use Rattle.bindings.specs.declared.stack.Side.{Side}
-use Rattle.unifier.specs.Rows.{unifyRows, nodesOf, sizeOf}
+use Rattle.run_layout.specs.Regions.{cutList, copies, cells, stack, pairs, pairOf, memo, loadedNode, sideSize, pairSize}
+use Rattle.run_layout.specs.Nodes.{Symbol, nameOfSymbol, Node, Row, termAt, termsAt, followed, count}
+use Rattle.run_layout.specs.State.{variableOf}
+use Rattle.run_layout.proofs.Nodes.{compound-at, compound-row}
+use Rattle.run_layout.proofs.Pigeonhole.{pigeonhole}
+use Rattle.unify_bindings.specs.Scratch.{stackSide, stackSideWords, leftAt, rightAt, pairWords, SameMarks, Roomy}
+use Rattle.unify_bindings.specs.declared.stack.Side.{Side}
+use Rattle.unifier.specs.Rows.{unifyRows, nodesOf, rowsSize}
 use Rattle.unifier.specs.Stacks.{endOf, wholeOf, rowOf, rowsOf, Half, Via, Stack}
 use Rattle.unifier.proofs.Rowwise.{size-app}
 use Rattle.unifier.proofs.Rules.{resolve-append}
@@ -32,17 +32,17 @@ module _ (words : List ℕ) (i root at copy : ℕ) (fits : i + sideSize ≤ leng
   long2 : length (set (set words i root) (i + 1) at) ≡ length words
   long2 = length-set (set words i root) (i + 1) at ∙ long1
 
-  pub side-long : length (sideWords words i root at copy) ≡ length words
-  unfolding sideWords
+  pub side-long : length (stackSideWords words i root at copy) ≡ length words
+  unfolding stackSideWords
   side-long = length-set (set (set words i root) (i + 1) at) (i + 2) copy ∙ long2
 
-  pub side-others : (j : ℕ) → (j < i) ⊎ (i + sideSize ≤ j) → getD (sideWords words i root at copy) j 0 ≡ getD words j 0
-  unfolding sideWords
+  pub side-others : (j : ℕ) → (j < i) ⊎ (i + sideSize ≤ j) → getD (stackSideWords words i root at copy) j 0 ≡ getD words j 0
+  unfolding stackSideWords
   side-others j (inl l) = getD-set-other (set (set words i root) (i + 1) at) (i + 2) j copy 0 (λ e. omega arith) ∙ (getD-set-other (set words i root) (i + 1) j at 0 (λ e. omega arith) ∙ getD-set-other words i j root 0 (λ e. omega arith))
   side-others j (inr l) = getD-set-other (set (set words i root) (i + 1) at) (i + 2) j copy 0 (λ e. omega arith) ∙ (getD-set-other (set words i root) (i + 1) j at 0 (λ e. omega arith) ∙ getD-set-other words i j root 0 (λ e. omega arith))
 
-  pub side-here : sideAt (sideWords words i root at copy) i ≡ record { root = root; at = at; copy = copy }
-  unfolding sideWords
+  pub side-here : stackSide (stackSideWords words i root at copy) i ≡ record { root = root; at = at; copy = copy }
+  unfolding stackSideWords
   side-here =
       let a : getD (set (set (set words i root) (i + 1) at) (i + 2) copy) i 0 ≡ root = getD-set-other (set (set words i root) (i + 1) at) (i + 2) i copy 0 (λ e. omega arith) ∙ (getD-set-other (set words i root) (i + 1) i at 0 (λ e. omega arith) ∙ getD-set-same words i root 0 (omega arith)) in
       let b : getD (set (set (set words i root) (i + 1) at) (i + 2) copy) (i + 1) 0 ≡ at = getD-set-other (set (set words i root) (i + 1) at) (i + 2) (i + 1) copy 0 (λ e. omega arith) ∙ getD-set-same (set words i root) (i + 1) at 0 (let e : length (set words i root) ≡ length words = long1 in omega arith) in
@@ -50,7 +50,7 @@ module _ (words : List ℕ) (i root at copy : ℕ) (fits : i + sideSize ≤ leng
       λ k. record { root = a k; at = b k; copy = c k }
 
 -- a side whose words are as they were
-side-kept : (before after : List ℕ) (i : ℕ) → ((j : ℕ) → i ≤ j → j < i + sideSize → getD after j 0 ≡ getD before j 0) → sideAt after i ≡ sideAt before i
+side-kept : (before after : List ℕ) (i : ℕ) → ((j : ℕ) → i ≤ j → j < i + sideSize → getD after j 0 ≡ getD before j 0) → stackSide after i ≡ stackSide before i
 side-kept before after i k =
     let a : getD after i 0 ≡ getD before i 0 = k i (omega arith) (omega arith) in
     let b : getD after (i + 1) 0 ≡ getD before (i + 1) 0 = k (i + 1) (omega arith) (omega arith) in
@@ -59,22 +59,22 @@ side-kept before after i k =
 
 module _ (scratch : List ℕ) (k root at copy other there second : ℕ) (fits : pairOf k + pairSize ≤ length scratch) where
   first : List ℕ
-  first = sideWords scratch (pairOf k) root at copy
+  first = stackSideWords scratch (pairOf k) root at copy
 
-  first-long : length (sideWords scratch (pairOf k) root at copy) ≡ length scratch
+  first-long : length (stackSideWords scratch (pairOf k) root at copy) ≡ length scratch
   first-long = side-long scratch (pairOf k) root at copy (omega arith)
 
-  fits-two : pairOf k + sideSize + sideSize ≤ length (sideWords scratch (pairOf k) root at copy)
-  fits-two = let e : length (sideWords scratch (pairOf k) root at copy) ≡ length scratch = first-long in omega arith
+  fits-two : pairOf k + sideSize + sideSize ≤ length (stackSideWords scratch (pairOf k) root at copy)
+  fits-two = let e : length (stackSideWords scratch (pairOf k) root at copy) ≡ length scratch = first-long in omega arith
 
   pub pair-long : length (pairWords scratch k root at copy other there second) ≡ length scratch
   unfolding pairWords
-  pair-long = side-long (sideWords scratch (pairOf k) root at copy) (pairOf k + sideSize) other there second fits-two ∙ first-long
+  pair-long = side-long (stackSideWords scratch (pairOf k) root at copy) (pairOf k + sideSize) other there second fits-two ∙ first-long
 
   pub pair-others : (j : ℕ) → (j < pairOf k) ⊎ (pairOf k + pairSize ≤ j) → getD (pairWords scratch k root at copy other there second) j 0 ≡ getD scratch j 0
   unfolding pairWords
-  pair-others j (inl l) = side-others (sideWords scratch (pairOf k) root at copy) (pairOf k + sideSize) other there second fits-two j (inl (omega arith)) ∙ side-others scratch (pairOf k) root at copy (omega arith) j (inl (omega arith))
-  pair-others j (inr l) = side-others (sideWords scratch (pairOf k) root at copy) (pairOf k + sideSize) other there second fits-two j (inr (omega arith)) ∙ side-others scratch (pairOf k) root at copy (omega arith) j (inr (omega arith))
+  pair-others j (inl l) = side-others (stackSideWords scratch (pairOf k) root at copy) (pairOf k + sideSize) other there second fits-two j (inl (omega arith)) ∙ side-others scratch (pairOf k) root at copy (omega arith) j (inl (omega arith))
+  pair-others j (inr l) = side-others (stackSideWords scratch (pairOf k) root at copy) (pairOf k + sideSize) other there second fits-two j (inr (omega arith)) ∙ side-others scratch (pairOf k) root at copy (omega arith) j (inr (omega arith))
 
   pub pair-marks : SameMarks scratch (pairWords scratch k root at copy other there second)
   pair-marks = record { long = pair-long; words = λ j l. pair-others j (inl (omega arith)) }
@@ -82,13 +82,13 @@ module _ (scratch : List ℕ) (k root at copy other there second : ℕ) (fits : 
   pub pair-left : leftAt (pairWords scratch k root at copy other there second) k ≡ record { root = root; at = at; copy = copy }
   unfolding pairWords
   pair-left =
-      side-kept (sideWords scratch (pairOf k) root at copy) (sideWords (sideWords scratch (pairOf k) root at copy) (pairOf k + sideSize) other there second) (pairOf k)
-      (λ j l h. side-others (sideWords scratch (pairOf k) root at copy) (pairOf k + sideSize) other there second fits-two j (inl (omega arith)))
+      side-kept (stackSideWords scratch (pairOf k) root at copy) (stackSideWords (stackSideWords scratch (pairOf k) root at copy) (pairOf k + sideSize) other there second) (pairOf k)
+      (λ j l h. side-others (stackSideWords scratch (pairOf k) root at copy) (pairOf k + sideSize) other there second fits-two j (inl (omega arith)))
       ∙ side-here scratch (pairOf k) root at copy (omega arith)
 
   pub pair-right : rightAt (pairWords scratch k root at copy other there second) k ≡ record { root = other; at = there; copy = second }
   unfolding pairWords
-  pair-right = side-here (sideWords scratch (pairOf k) root at copy) (pairOf k + sideSize) other there second fits-two
+  pair-right = side-here (stackSideWords scratch (pairOf k) root at copy) (pairOf k + sideSize) other there second fits-two
 
   pub pair-left-others : (j : ℕ) → (j ≡ k → ⊥) → leftAt (pairWords scratch k root at copy other there second) j ≡ leftAt scratch j
   pair-left-others j z = side-kept scratch (pairWords scratch k root at copy other there second) (pairOf j) (λ i l h. pair-others i (go i l h (ltb j k) refl))
@@ -138,7 +138,7 @@ half-agrees ss nodes b top s t h a f =
       copy = λ k l. subst⁻¹ (λ (x : Side). x .copy < copies) (a k l) (f .copy k l);
       below = λ k l. subst⁻¹ (λ (x : Side). x .copy ≤ top) (a k l) (f .below k l);
       row = λ k l. subst⁻¹ (λ (x : Side). Row ss nodes (x .at) (endOf nodes x)) (a k l) (f .row k l);
-      small = λ k o l newer. subst⁻¹ (λ (x : Side). sizeOf (newer ++ b) (rowOf ss nodes x) < nodesOf (resolve (newer ++ b) (wholeOf ss nodes x))) (a k l) (f .small k o l newer);
+      small = λ k o l newer. subst⁻¹ (λ (x : Side). rowsSize (newer ++ b) (rowOf ss nodes x) < nodesOf (resolve (newer ++ b) (wholeOf ss nodes x))) (a k l) (f .small k o l newer);
       down = λ k o l newer. subst⁻¹ (λ (x : Side). nodesOf (resolve (newer ++ b) (wholeOf ss nodes (t (k + 1)))) < nodesOf (resolve (newer ++ b) (wholeOf ss nodes x))) (a k (omega arith))
           (subst⁻¹ (λ (x : Side). nodesOf (resolve (newer ++ b) (wholeOf ss nodes x)) < nodesOf (resolve (newer ++ b) (wholeOf ss nodes (s k)))) (a (k + 1) l) (f .down k o l newer));
     }
@@ -162,13 +162,13 @@ half-bound ss nodes b e top s h f =
       copy = f .copy;
       below = f .below;
       row = f .row;
-      small = λ k o l newer. subst (λ (x : List Binding). sizeOf x (rowOf ss nodes (s k)) < nodesOf (resolve x (wholeOf ss nodes (s k)))) (append-assoc newer (e ∷ []) b) (f .small k o l (newer ++ (e ∷ [])));
+      small = λ k o l newer. subst (λ (x : List Binding). rowsSize x (rowOf ss nodes (s k)) < nodesOf (resolve x (wholeOf ss nodes (s k)))) (append-assoc newer (e ∷ []) b) (f .small k o l (newer ++ (e ∷ [])));
       down = λ k o l newer. subst (λ (x : List Binding). nodesOf (resolve x (wholeOf ss nodes (s (k + 1)))) < nodesOf (resolve x (wholeOf ss nodes (s k)))) (append-assoc newer (e ∷ []) b) (f .down k o l (newer ++ (e ∷ [])));
     }
 
 -- the top moved on within its row
 pub half-moved : (ss : List Symbol) (nodes : List ℕ) (b : List Binding) (top : ℕ) (s t : ℕ → Side) (h j : ℕ) → ((k : ℕ) → k < h → t k ≡ s k) → t h ≡ record { root = s h .root; at = j; copy = s h .copy } → Row ss nodes j (endOf nodes (s h))
-    → ((x : List Binding) → sizeOf x (termsAt ss nodes j (endOf nodes (s h)) (s h .copy)) ≤ sizeOf x (rowOf ss nodes (s h))) → Half ss nodes b top s (suc h) → Half ss nodes b top t (suc h)
+    → ((x : List Binding) → rowsSize x (termsAt ss nodes j (endOf nodes (s h)) (s h .copy)) ≤ rowsSize x (rowOf ss nodes (s h))) → Half ss nodes b top s (suc h) → Half ss nodes b top t (suc h)
 half-moved ss nodes b top s t h j a e r less f =
     half-agrees ss nodes b top u t (suc h) (λ k l. t-is k l (eqb k h) refl)
     (record {
@@ -210,11 +210,11 @@ half-moved ss nodes b top s t h j a e r less f =
     u-row k l true q = r
     u-row k l false q = f .row k l
 
-    u-small : (k : ℕ) → 1 ≤ k → k < suc h → (newer : List Binding) → (q : Bool) → eqb k h ≡ q → sizeOf (newer ++ b) (rowOf ss nodes (pick q k)) < nodesOf (resolve (newer ++ b) (wholeOf ss nodes (pick q k)))
+    u-small : (k : ℕ) → 1 ≤ k → k < suc h → (newer : List Binding) → (q : Bool) → eqb k h ≡ q → rowsSize (newer ++ b) (rowOf ss nodes (pick q k)) < nodesOf (resolve (newer ++ b) (wholeOf ss nodes (pick q k)))
     u-small k o l newer true q =
         let z : k ≡ h = eqb-true k h q in
-        let x : sizeOf (newer ++ b) (rowOf ss nodes (s h)) < nodesOf (resolve (newer ++ b) (wholeOf ss nodes (s h))) = f .small h (omega arith) (omega arith) newer in
-        let y : sizeOf (newer ++ b) (termsAt ss nodes j (endOf nodes (s h)) (s h .copy)) ≤ sizeOf (newer ++ b) (rowOf ss nodes (s h)) = less (newer ++ b) in
+        let x : rowsSize (newer ++ b) (rowOf ss nodes (s h)) < nodesOf (resolve (newer ++ b) (wholeOf ss nodes (s h))) = f .small h (omega arith) (omega arith) newer in
+        let y : rowsSize (newer ++ b) (termsAt ss nodes j (endOf nodes (s h)) (s h .copy)) ≤ rowsSize (newer ++ b) (rowOf ss nodes (s h)) = less (newer ++ b) in
         omega arith
     u-small k o l newer false q = f .small k o l newer
 
@@ -267,9 +267,9 @@ half-pushed ss nodes b top s t h p c a e node copy below high inside f =
     u-row k l true q = compound-row ss nodes p node high
     u-row k l false q = f .row k (under k l q)
 
-    u-small : (k : ℕ) → 1 ≤ k → k < suc h → (newer : List Binding) → (q : Bool) → eqb k h ≡ q → sizeOf (newer ++ b) (rowOf ss nodes (pick q k)) < nodesOf (resolve (newer ++ b) (wholeOf ss nodes (pick q k)))
+    u-small : (k : ℕ) → 1 ≤ k → k < suc h → (newer : List Binding) → (q : Bool) → eqb k h ≡ q → rowsSize (newer ++ b) (rowOf ss nodes (pick q k)) < nodesOf (resolve (newer ++ b) (wholeOf ss nodes (pick q k)))
     u-small k o l newer true q =
-        let x : nodesOf (resolve (newer ++ b) (termAt ss nodes p c)) ≡ suc (sizeOf (newer ++ b) (termsAt ss nodes (p + loadedNode) (p + getD nodes (p + 1) 0) c)) = ap (λ (y : RTerm). nodesOf (resolve (newer ++ b) y)) (compound-at ss nodes p node c high) ∙ size-app (newer ++ b) (nameOf ss (getD nodes p 0 - firstName)) (termsAt ss nodes (p + loadedNode) (p + getD nodes (p + 1) 0) c) in
+        let x : nodesOf (resolve (newer ++ b) (termAt ss nodes p c)) ≡ suc (rowsSize (newer ++ b) (termsAt ss nodes (p + loadedNode) (p + getD nodes (p + 1) 0) c)) = ap (λ (y : RTerm). nodesOf (resolve (newer ++ b) y)) (compound-at ss nodes p node c high) ∙ size-app (newer ++ b) (nameOfSymbol ss (getD nodes p 0 - firstName)) (termsAt ss nodes (p + loadedNode) (p + getD nodes (p + 1) 0) c) in
         omega arith
     u-small k o l newer false q = f .small k o (under k l q) newer
 

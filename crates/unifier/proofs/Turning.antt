@@ -11,24 +11,24 @@ use mathlib.Core.Logic.{_⊎_, inl, inr}
 use lib.ListN.{length, getD}
 use Rattle.syntax.specs.Words.{firstName}
 use Rattle.machine.specs.Substitution.{RTerm, RTerms, var, app, rnil, rcons, Binding, resolve}
-use Rattle.layout.specs.Regions.{copies, places, cells, trail, storeWords, stack, pairs, pairOf, memo, rows, loadedNode, pairSize}
-use Rattle.layout.specs.Nodes.{Symbol, Node, Row, termAt, termsAt, followed, count}
-use Rattle.layout.specs.State.{cellOf, variableOf, wordOf, valueOf, bindings, Store, Within}
-use Rattle.layout.proofs.Nodes.{node-inside, node-end, node-size, variable-at, row-first, row-rest, row-cons, row-order}
-use Rattle.layout.proofs.State.{variable-cell, cell-small}
-use Rattle.bindings.specs.Cells.{Given, Leads, Derefs}
-use Rattle.memos.specs.Memos.{Remembers}
-use Rattle.bindings.specs.Scratch.{leftAt, rightAt, pairWords, SameMarks, Roomy}
-use Rattle.bindings.specs.declared.stack.Side.{Side}
-use Rattle.unify_cuts.specs.Chains.{Eased, Both, Ended}
+use Rattle.run_layout.specs.Regions.{copies, places, cells, trail, storeWords, stack, pairs, pairOf, memo, rows, loadedNode, pairSize}
+use Rattle.run_layout.specs.Nodes.{Symbol, Node, Row, termAt, termsAt, followed, count}
+use Rattle.run_layout.specs.State.{cellOf, variableOf, wordOf, valueOf, bindings, Store, Within}
+use Rattle.run_layout.proofs.Nodes.{node-inside, node-end, node-size, variable-at, row-first, row-rest, row-cons, row-order}
+use Rattle.run_layout.proofs.State.{variable-cell, cell-small}
+use Rattle.unify_bindings.specs.Cells.{StoredTerm, Leads, Derefs}
+use Rattle.unify_memos.specs.Memos.{Remembers}
+use Rattle.unify_bindings.specs.Scratch.{leftAt, rightAt, pairWords, SameMarks, Roomy}
+use Rattle.unify_bindings.specs.declared.stack.Side.{Side}
+use Rattle.unify_cuts.specs.Chains.{Eased, Both, BothFollowed}
 use Rattle.unify_cuts.specs.declared.Ends.{Ends}
-use Rattle.memos.proofs.Remembering.{value-word, memo-kept, memo-eased, memo-remembers}
-use Rattle.unifier.specs.Rows.{unifyRows, nodesOf, sizeOf}
-use Rattle.unifier.specs.Walks.{Beside, Walkable, Meets, Walks}
-use Rattle.unifier.specs.Stacks.{endOf, wholeOf, rowOf, rowsOf, Half, Via, Stack, SameRows, nothing, Closes}
-use Rattle.unifier.specs.Turns.{Work, Goes, Binds, Turns, Turned, Reached, Crossed, Settled, Crossable, Crosses, Meetable, Passable, Turnable}
-use Rattle.unifier.specs.declared.walk.Walked.{Walked}
-use Rattle.unifier.specs.declared.walk.Walked.the-variants.{Done, Clash as Differ, Met}
+use Rattle.unify_memos.proofs.Remembering.{value-word, memo-kept, memo-eased, memo-remembers}
+use Rattle.unifier.specs.Rows.{unifyRows, nodesOf, rowsSize}
+use Rattle.unifier.specs.Walks.{RowsBeside, Walkable, StopsAt, Walks}
+use Rattle.unifier.specs.Stacks.{endOf, wholeOf, rowOf, rowsOf, Half, Via, Stack, SameRows, noTerm, Closes}
+use Rattle.unifier.specs.Turns.{Work, Goes, Binds, Turns, TurnGives, Dereferenced, Crossed, PairTurned, Crossable, Crosses, Meetable, Passable, Turnable}
+use Rattle.unifier.specs.declared.walk.RowsWalked.{RowsWalked}
+use Rattle.unifier.specs.declared.walk.RowsWalked.the-variants.{Done, Clash as Differ, Met}
 use Rattle.unifier.specs.declared.solve.Turn.{Turn}
 use Rattle.unifier.specs.declared.solve.Turn.the-variants.{Go, Clash, Bind}
 use Rattle.unifier.proofs.Rules.{rows-first, resolve-append}
@@ -41,7 +41,7 @@ marks-trans a b c x y = record { long = y .long ∙ x .long; words = λ j l. y .
 
 -- rows that unify alike come to the same
 pub turns-alike : (ss : List Symbol) (nodes state : List ℕ) (b : List Binding) (top : ℕ) (ls rs ls′ rs′ : RTerms) (size size′ : ℕ) (after : List ℕ) (t : Turn) → unifyRows b ls rs ≡ unifyRows b ls′ rs′ → size′ ≤ size → Turns ss nodes state b top ls′ rs′ size′ after t → Turns ss nodes state b top ls rs size after t
-turns-alike ss nodes state b top ls rs ls′ rs′ size size′ after (Go k) e l g = record { stack = g .stack; means = e ∙ g .means; less = (let z : 2 * sizeOf b (rowsOf ss nodes (leftAt after) k) + k < size′ = g .less in omega arith); memo = g .memo; closes = g .closes }
+turns-alike ss nodes state b top ls rs ls′ rs′ size size′ after (Go k) e l g = record { stack = g .stack; means = e ∙ g .means; less = (let z : 2 * rowsSize b (rowsOf ss nodes (leftAt after) k) + k < size′ = g .less in omega arith); memo = g .memo; closes = g .closes }
 turns-alike ss nodes state b top ls rs ls′ rs′ size size′ after Clash e l g = e ∙ g
 turns-alike ss nodes state b top ls rs ls′ rs′ size size′ after (Bind k x p c) e l g =
     record { stack = g .stack; cell = g .cell; unbound = g .unbound; below = g .below; node = g .node; copy = g .copy; copy-below = g .copy-below; down = g .down; stands = λ z. e ∙ g .stands z; free = λ z. e ∙ g .free z; memo = g .memo; closes = g .closes }
@@ -49,7 +49,7 @@ turns-alike ss nodes state b top ls rs ls′ rs′ size size′ after (Bind k x 
 -- ---- the crossing
 
 module _ (nodes state scratch : List ℕ) (h p c q d : ℕ) (g : Crossable nodes state scratch h p c q d) where
-  cross-left : Given nodes state p c
+  cross-left : StoredTerm nodes state p c
   cross-left = record { ss = g .work .ss; n = g .n; store = g .work .store; node = g .left; copy = g .copy }
 
   pub cross-both : Both nodes state scratch p c q d
@@ -101,19 +101,19 @@ module _ (nodes state scratch : List ℕ) (h p c q d : ℕ) (g : Crossable nodes
             let s : cellOf d (getD nodes q 0) < cells = cell-small d (getD nodes q 0) (g .copy-right) l in
             (cells + cellOf d (getD nodes q 0), record { small = omega arith; left-is = λ k. absurd (let z : cells + cellOf d (getD nodes q 0) < cells = k in omega arith); right-is = λ k. ap (λ (i : ℕ). resolve (bindings (g .work .ss) nodes state (g .n)) (var (variableOf i))) (let e : cells + cellOf d (getD nodes q 0) - cells ≡ cellOf d (getD nodes q 0) = omega arith in e) ∙ (cell-of q d (g .right) l ∙ sym (to-right .leads .means)) })
 
-    pub cross-end : (after : List ℕ) (t : Turn) → ((k : Crossed nodes scratch h p1 c1 q1 d1) → Settled nodes scratch after h p1 c1 q1 d1 k t) → Crosses nodes state scratch after h p c q d g t
+    pub cross-end : (after : List ℕ) (t : Turn) → ((k : Crossed nodes scratch h p1 c1 q1 d1) → PairTurned nodes scratch after h p1 c1 q1 d1 k t) → Crosses nodes state scratch after h p c q d g t
     unfolding cross-settle crossing
     cross-end after t s =
-        let k : Settled nodes scratch after h p1 c1 q1 d1 cross-settle t = s cross-settle in
+        let k : PairTurned nodes scratch after h p1 c1 q1 d1 cross-settle t = s cross-settle in
         let b : List Binding = bindings (g .work .ss) nodes state (g .n) in
         let ls : RTerms = rowsOf (g .work .ss) nodes (leftAt scratch) h in
         let rs : RTerms = rowsOf (g .work .ss) nodes (rightAt scratch) h in
-        let x : sizeOf (bindings (g .work .ss) nodes state (g .n)) (rcons (termAt (g .work .ss) nodes p c) (rowsOf (g .work .ss) nodes (leftAt scratch) h)) ≡ nodesOf (resolve (bindings (g .work .ss) nodes state (g .n)) (termAt (g .work .ss) nodes p c)) + sizeOf (bindings (g .work .ss) nodes state (g .n)) (rowsOf (g .work .ss) nodes (leftAt scratch) h) = size-cons (bindings (g .work .ss) nodes state (g .n)) (termAt (g .work .ss) nodes p c) (rowsOf (g .work .ss) nodes (leftAt scratch) h) in
-        let y : sizeOf (bindings (g .work .ss) nodes state (g .n)) (rcons (termAt (g .work .ss) nodes p1 c1) (rowsOf (g .work .ss) nodes (leftAt scratch) h)) ≡ nodesOf (resolve (bindings (g .work .ss) nodes state (g .n)) (termAt (g .work .ss) nodes p1 c1)) + sizeOf (bindings (g .work .ss) nodes state (g .n)) (rowsOf (g .work .ss) nodes (leftAt scratch) h) = size-cons (bindings (g .work .ss) nodes state (g .n)) (termAt (g .work .ss) nodes p1 c1) (rowsOf (g .work .ss) nodes (leftAt scratch) h) in
+        let x : rowsSize (bindings (g .work .ss) nodes state (g .n)) (rcons (termAt (g .work .ss) nodes p c) (rowsOf (g .work .ss) nodes (leftAt scratch) h)) ≡ nodesOf (resolve (bindings (g .work .ss) nodes state (g .n)) (termAt (g .work .ss) nodes p c)) + rowsSize (bindings (g .work .ss) nodes state (g .n)) (rowsOf (g .work .ss) nodes (leftAt scratch) h) = size-cons (bindings (g .work .ss) nodes state (g .n)) (termAt (g .work .ss) nodes p c) (rowsOf (g .work .ss) nodes (leftAt scratch) h) in
+        let y : rowsSize (bindings (g .work .ss) nodes state (g .n)) (rcons (termAt (g .work .ss) nodes p1 c1) (rowsOf (g .work .ss) nodes (leftAt scratch) h)) ≡ nodesOf (resolve (bindings (g .work .ss) nodes state (g .n)) (termAt (g .work .ss) nodes p1 c1)) + rowsSize (bindings (g .work .ss) nodes state (g .n)) (rowsOf (g .work .ss) nodes (leftAt scratch) h) = size-cons (bindings (g .work .ss) nodes state (g .n)) (termAt (g .work .ss) nodes p1 c1) (rowsOf (g .work .ss) nodes (leftAt scratch) h) in
         let z : nodesOf (resolve (bindings (g .work .ss) nodes state (g .n)) (termAt (g .work .ss) nodes p1 c1)) ≡ nodesOf (resolve (bindings (g .work .ss) nodes state (g .n)) (termAt (g .work .ss) nodes p c)) = ap nodesOf (to-left .leads .means) in (
           k .0,
           turns-alike (g .work .ss) nodes state b (g .work .top) (rcons (termAt (g .work .ss) nodes p c) ls) (rcons (termAt (g .work .ss) nodes q d) rs) (rcons (termAt (g .work .ss) nodes p1 c1) ls) (rcons (termAt (g .work .ss) nodes q1 d1) rs)
-              (2 * sizeOf b (rcons (termAt (g .work .ss) nodes p c) ls) + h) (2 * sizeOf b (rcons (termAt (g .work .ss) nodes p1 c1) ls) + h) after t
+              (2 * rowsSize b (rcons (termAt (g .work .ss) nodes p c) ls) + h) (2 * rowsSize b (rcons (termAt (g .work .ss) nodes p1 c1) ls) + h) after t
               (rows-first b (termAt (g .work .ss) nodes p c) (termAt (g .work .ss) nodes q d) (termAt (g .work .ss) nodes p1 c1) (termAt (g .work .ss) nodes q1 d1) ls rs (sym (to-left .leads .means)) (sym (to-right .leads .means))) (omega arith) (k .1),
         )
 
@@ -159,13 +159,13 @@ module _ (nodes state scratch : List ℕ) (h p c q d : ℕ) (g : Crossable nodes
   eased-crosses later t k = (
     marks-trans scratch after later (record { long = e .beside .long; words = λ j l. e .beside .low j (omega arith) }) (k .0),
     subst (λ (rs : RTerms). Turns (g .work .ss) nodes state (bindings (g .work .ss) nodes state (g .n)) (g .work .top) (rcons (termAt (g .work .ss) nodes p c) (rowsOf (g .work .ss) nodes (leftAt scratch) h)) (rcons (termAt (g .work .ss) nodes q d) rs)
-        (2 * sizeOf (bindings (g .work .ss) nodes state (g .n)) (rcons (termAt (g .work .ss) nodes p c) (rowsOf (g .work .ss) nodes (leftAt scratch) h)) + h) later t) (rows-agree (g .work .ss) nodes (rightAt scratch) (rightAt after) h right-still)
+        (2 * rowsSize (bindings (g .work .ss) nodes state (g .n)) (rcons (termAt (g .work .ss) nodes p c) (rowsOf (g .work .ss) nodes (leftAt scratch) h)) + h) later t) (rows-agree (g .work .ss) nodes (rightAt scratch) (rightAt after) h right-still)
         (subst (λ (ls : RTerms). Turns (g .work .ss) nodes state (bindings (g .work .ss) nodes state (g .n)) (g .work .top) (rcons (termAt (g .work .ss) nodes p c) ls) (rcons (termAt (g .work .ss) nodes q d) (rowsOf (g .work .ss) nodes (rightAt after) h))
-        (2 * sizeOf (bindings (g .work .ss) nodes state (g .n)) (rcons (termAt (g .work .ss) nodes p c) ls) + h) later t) (rows-agree (g .work .ss) nodes (leftAt scratch) (leftAt after) h left-still) (k .1)),
+        (2 * rowsSize (bindings (g .work .ss) nodes state (g .n)) (rcons (termAt (g .work .ss) nodes p c) ls) + h) later t) (rows-agree (g .work .ss) nodes (leftAt scratch) (leftAt after) h left-still) (k .1)),
   )
 
-module _ (nodes state scratch : List ℕ) (h p c q d : ℕ) (g : Crossable nodes state scratch h p c q d) {mid : List ℕ} {r : Ends} (f : (k : Both nodes state scratch p c q d) → Ended (k .left .from .given .ss) nodes (k .left .from .state) (k .left .from .given .n) scratch mid p c q d r) where
-  ended : Ended (g .work .ss) nodes state (g .n) scratch mid p c q d r
+module _ (nodes state scratch : List ℕ) (h p c q d : ℕ) (g : Crossable nodes state scratch h p c q d) {mid : List ℕ} {r : Ends} (f : (k : Both nodes state scratch p c q d) → BothFollowed (k .left .from .given .ss) nodes (k .left .from .state) (k .left .from .given .n) scratch mid p c q d r) where
+  ended : BothFollowed (g .work .ss) nodes state (g .n) scratch mid p c q d r
   unfolding cross-both cross-left
   ended = f (cross-both nodes state scratch h p c q d g)
 
@@ -175,14 +175,14 @@ module _ (nodes state scratch : List ℕ) (h p c q d : ℕ) (g : Crossable nodes
   pub cross-settled : Crossed nodes mid h (r .node) (r .copy) (r .other) (r .second)
   cross-settled = cross-settle nodes state mid h p c q d once (r .node) (r .copy) (r .other) (r .second) (ended .left) (ended .right)
 
-  pub cross-done : (after : List ℕ) (t : Turn) → ((k : Crossed nodes mid h (r .node) (r .copy) (r .other) (r .second)) → Settled nodes mid after h (r .node) (r .copy) (r .other) (r .second) k t) → Crosses nodes state scratch after h p c q d g t
+  pub cross-done : (after : List ℕ) (t : Turn) → ((k : Crossed nodes mid h (r .node) (r .copy) (r .other) (r .second)) → PairTurned nodes mid after h (r .node) (r .copy) (r .other) (r .second) k t) → Crosses nodes state scratch after h p c q d g t
   cross-done after t s = eased-crosses nodes state scratch h p c q d g mid (ended .eased) after t (cross-end nodes state mid h p c q d once (r .node) (r .copy) (r .other) (r .second) (ended .left) (ended .right) after t s)
 
 -- ---- the top pair moved past the crossing
 
 module _ (nodes state scratch : List ℕ) (n h p q : ℕ) (w : Work nodes state scratch n h) (some : 1 ≤ h)
-    (m : Meets (w .ss) nodes (leftAt scratch (h - 1) .at) (endOf nodes (leftAt scratch (h - 1))) (rightAt scratch (h - 1) .at) (endOf nodes (rightAt scratch (h - 1))) p q)
-    (cl : Closes (w .ss) nodes (bindings (w .ss) nodes state n) (leftAt scratch) (rightAt scratch) h nothing nothing) where
+    (m : StopsAt (w .ss) nodes (leftAt scratch (h - 1) .at) (endOf nodes (leftAt scratch (h - 1))) (rightAt scratch (h - 1) .at) (endOf nodes (rightAt scratch (h - 1))) p q)
+    (cl : Closes (w .ss) nodes (bindings (w .ss) nodes state n) (leftAt scratch) (rightAt scratch) h noTerm noTerm) where
   abbrev pub b : List Binding
   b = bindings (w .ss) nodes state n
 
@@ -225,11 +225,11 @@ module _ (nodes state scratch : List ℕ) (n h p q : ℕ) (w : Work nodes state 
   right-cons : (d : ℕ) → termsAt (w .ss) nodes q (endOf nodes r0) d ≡ rcons (termAt (w .ss) nodes q d) (termsAt (w .ss) nodes qa (endOf nodes r0) d)
   right-cons d = row-cons (w .ss) nodes q (endOf nodes r0) (m .beside .right) d right-more
 
-  left-size : (x : List Binding) (c : ℕ) → sizeOf x (termsAt (w .ss) nodes p (endOf nodes l0) c) ≡ nodesOf (resolve x (termAt (w .ss) nodes p c)) + sizeOf x (termsAt (w .ss) nodes pa (endOf nodes l0) c)
-  left-size x c = ap (sizeOf x) (left-cons c) ∙ size-cons x (termAt (w .ss) nodes p c) (termsAt (w .ss) nodes pa (endOf nodes l0) c)
+  left-size : (x : List Binding) (c : ℕ) → rowsSize x (termsAt (w .ss) nodes p (endOf nodes l0) c) ≡ nodesOf (resolve x (termAt (w .ss) nodes p c)) + rowsSize x (termsAt (w .ss) nodes pa (endOf nodes l0) c)
+  left-size x c = ap (rowsSize x) (left-cons c) ∙ size-cons x (termAt (w .ss) nodes p c) (termsAt (w .ss) nodes pa (endOf nodes l0) c)
 
-  right-size : (x : List Binding) (d : ℕ) → sizeOf x (termsAt (w .ss) nodes q (endOf nodes r0) d) ≡ nodesOf (resolve x (termAt (w .ss) nodes q d)) + sizeOf x (termsAt (w .ss) nodes qa (endOf nodes r0) d)
-  right-size x d = ap (sizeOf x) (right-cons d) ∙ size-cons x (termAt (w .ss) nodes q d) (termsAt (w .ss) nodes qa (endOf nodes r0) d)
+  right-size : (x : List Binding) (d : ℕ) → rowsSize x (termsAt (w .ss) nodes q (endOf nodes r0) d) ≡ nodesOf (resolve x (termAt (w .ss) nodes q d)) + rowsSize x (termsAt (w .ss) nodes qa (endOf nodes r0) d)
+  right-size x d = ap (rowsSize x) (right-cons d) ∙ size-cons x (termAt (w .ss) nodes q d) (termsAt (w .ss) nodes qa (endOf nodes r0) d)
 
   left-below : (k : ℕ) → k < h - 1 → leftAt mid k ≡ leftAt scratch k
   left-below k o = pair-left-others scratch (h - 1) (l0 .root) pa (l0 .copy) (r0 .root) qa (r0 .copy) fits k (λ e. omega arith)
@@ -249,13 +249,13 @@ module _ (nodes state scratch : List ℕ) (n h p q : ℕ) (w : Work nodes state 
   moved-left : Half (w .ss) nodes b (w .top) (leftAt mid) h
   moved-left = subst (Half (w .ss) nodes b (w .top) (leftAt mid)) back
       (half-moved (w .ss) nodes b (w .top) (leftAt scratch) (leftAt mid) (h - 1) pa left-below left-top (row-rest (w .ss) nodes p (endOf nodes l0) (m .beside .left) (m .some))
-      (λ x. (let y : sizeOf x (termsAt (w .ss) nodes p (endOf nodes l0) (l0 .copy)) ≤ sizeOf x (rowOf (w .ss) nodes l0) = m .less x (l0 .copy) in let z : sizeOf x (termsAt (w .ss) nodes p (endOf nodes l0) (l0 .copy)) ≡ nodesOf (resolve x (termAt (w .ss) nodes p (l0 .copy))) + sizeOf x (termsAt (w .ss) nodes pa (endOf nodes l0) (l0 .copy)) = left-size x (l0 .copy) in omega arith))
+      (λ x. (let y : rowsSize x (termsAt (w .ss) nodes p (endOf nodes l0) (l0 .copy)) ≤ rowsSize x (rowOf (w .ss) nodes l0) = m .less x (l0 .copy) in let z : rowsSize x (termsAt (w .ss) nodes p (endOf nodes l0) (l0 .copy)) ≡ nodesOf (resolve x (termAt (w .ss) nodes p (l0 .copy))) + rowsSize x (termsAt (w .ss) nodes pa (endOf nodes l0) (l0 .copy)) = left-size x (l0 .copy) in omega arith))
       (subst⁻¹ (Half (w .ss) nodes b (w .top) (leftAt scratch)) back (w .stack .left)))
 
   moved-right : Half (w .ss) nodes b (w .top) (rightAt mid) h
   moved-right = subst (Half (w .ss) nodes b (w .top) (rightAt mid)) back
       (half-moved (w .ss) nodes b (w .top) (rightAt scratch) (rightAt mid) (h - 1) qa right-below right-top (row-rest (w .ss) nodes q (endOf nodes r0) (m .beside .right) right-more)
-      (λ x. (let y : sizeOf x (termsAt (w .ss) nodes q (endOf nodes r0) (r0 .copy)) ≤ sizeOf x (rowOf (w .ss) nodes r0) = m .less-right x (r0 .copy) in let z : sizeOf x (termsAt (w .ss) nodes q (endOf nodes r0) (r0 .copy)) ≡ nodesOf (resolve x (termAt (w .ss) nodes q (r0 .copy))) + sizeOf x (termsAt (w .ss) nodes qa (endOf nodes r0) (r0 .copy)) = right-size x (r0 .copy) in omega arith))
+      (λ x. (let y : rowsSize x (termsAt (w .ss) nodes q (endOf nodes r0) (r0 .copy)) ≤ rowsSize x (rowOf (w .ss) nodes r0) = m .less-right x (r0 .copy) in let z : rowsSize x (termsAt (w .ss) nodes q (endOf nodes r0) (r0 .copy)) ≡ nodesOf (resolve x (termAt (w .ss) nodes q (r0 .copy))) + rowsSize x (termsAt (w .ss) nodes qa (endOf nodes r0) (r0 .copy)) = right-size x (r0 .copy) in omega arith))
       (subst⁻¹ (Half (w .ss) nodes b (w .top) (rightAt scratch)) back (w .stack .right)))
 
   rest-same : (i j : ℕ) → count (termsAt (w .ss) nodes pa (endOf nodes l0) i) ≡ count (termsAt (w .ss) nodes qa (endOf nodes r0) j)
@@ -309,7 +309,7 @@ module _ (nodes state scratch : List ℕ) (n h p q : ℕ) (w : Work nodes state 
   moved-closes =
       subst (λ (i : ℕ). Closes (w .ss) nodes b (leftAt mid) (rightAt mid) i (termAt (w .ss) nodes p (l0 .copy)) (termAt (w .ss) nodes q (r0 .copy))) back
       (closes-moved (w .ss) nodes b (leftAt scratch) (rightAt scratch) (leftAt mid) (rightAt mid) (h - 1) pa qa (termAt (w .ss) nodes p (l0 .copy)) (termAt (w .ss) nodes q (r0 .copy)) left-below right-below left-top right-top behind
-      (subst⁻¹ (λ (i : ℕ). Closes (w .ss) nodes b (leftAt scratch) (rightAt scratch) i nothing nothing) back cl))
+      (subst⁻¹ (λ (i : ℕ). Closes (w .ss) nodes b (leftAt scratch) (rightAt scratch) i noTerm noTerm) back cl))
 
   pub meet-crossable : Crossable nodes state mid h p (l0 .copy) q (r0 .copy)
   meet-crossable =
@@ -333,14 +333,14 @@ module _ (nodes state scratch : List ℕ) (n h p q : ℕ) (w : Work nodes state 
         below-right = w .stack .right .below (h - 1) under;
         variable = m .variable;
         inside = λ o newer. subst⁻¹ (λ (s : Side). nodesOf (resolve (newer ++ b) (termAt (w .ss) nodes p (l0 .copy))) < nodesOf (resolve (newer ++ b) (wholeOf (w .ss) nodes s))) left-top
-            (let x : sizeOf (newer ++ b) (termsAt (w .ss) nodes p (endOf nodes l0) (l0 .copy)) ≤ sizeOf (newer ++ b) (rowOf (w .ss) nodes l0) = m .less (newer ++ b) (l0 .copy) in
-            let y : sizeOf (newer ++ b) (termsAt (w .ss) nodes p (endOf nodes l0) (l0 .copy)) ≡ nodesOf (resolve (newer ++ b) (termAt (w .ss) nodes p (l0 .copy))) + sizeOf (newer ++ b) (termsAt (w .ss) nodes pa (endOf nodes l0) (l0 .copy)) = left-size (newer ++ b) (l0 .copy) in
-            let z : sizeOf (newer ++ b) (rowOf (w .ss) nodes l0) < nodesOf (resolve (newer ++ b) (wholeOf (w .ss) nodes l0)) = w .stack .left .small (h - 1) (omega arith) under newer in
+            (let x : rowsSize (newer ++ b) (termsAt (w .ss) nodes p (endOf nodes l0) (l0 .copy)) ≤ rowsSize (newer ++ b) (rowOf (w .ss) nodes l0) = m .less (newer ++ b) (l0 .copy) in
+            let y : rowsSize (newer ++ b) (termsAt (w .ss) nodes p (endOf nodes l0) (l0 .copy)) ≡ nodesOf (resolve (newer ++ b) (termAt (w .ss) nodes p (l0 .copy))) + rowsSize (newer ++ b) (termsAt (w .ss) nodes pa (endOf nodes l0) (l0 .copy)) = left-size (newer ++ b) (l0 .copy) in
+            let z : rowsSize (newer ++ b) (rowOf (w .ss) nodes l0) < nodesOf (resolve (newer ++ b) (wholeOf (w .ss) nodes l0)) = w .stack .left .small (h - 1) (omega arith) under newer in
             omega arith);
         inside-right = λ o newer. subst⁻¹ (λ (s : Side). nodesOf (resolve (newer ++ b) (termAt (w .ss) nodes q (r0 .copy))) < nodesOf (resolve (newer ++ b) (wholeOf (w .ss) nodes s))) right-top
-            (let x : sizeOf (newer ++ b) (termsAt (w .ss) nodes q (endOf nodes r0) (r0 .copy)) ≤ sizeOf (newer ++ b) (rowOf (w .ss) nodes r0) = m .less-right (newer ++ b) (r0 .copy) in
-            let y : sizeOf (newer ++ b) (termsAt (w .ss) nodes q (endOf nodes r0) (r0 .copy)) ≡ nodesOf (resolve (newer ++ b) (termAt (w .ss) nodes q (r0 .copy))) + sizeOf (newer ++ b) (termsAt (w .ss) nodes qa (endOf nodes r0) (r0 .copy)) = right-size (newer ++ b) (r0 .copy) in
-            let z : sizeOf (newer ++ b) (rowOf (w .ss) nodes r0) < nodesOf (resolve (newer ++ b) (wholeOf (w .ss) nodes r0)) = w .stack .right .small (h - 1) (omega arith) under newer in
+            (let x : rowsSize (newer ++ b) (termsAt (w .ss) nodes q (endOf nodes r0) (r0 .copy)) ≤ rowsSize (newer ++ b) (rowOf (w .ss) nodes r0) = m .less-right (newer ++ b) (r0 .copy) in
+            let y : rowsSize (newer ++ b) (termsAt (w .ss) nodes q (endOf nodes r0) (r0 .copy)) ≡ nodesOf (resolve (newer ++ b) (termAt (w .ss) nodes q (r0 .copy))) + rowsSize (newer ++ b) (termsAt (w .ss) nodes qa (endOf nodes r0) (r0 .copy)) = right-size (newer ++ b) (r0 .copy) in
+            let z : rowsSize (newer ++ b) (rowOf (w .ss) nodes r0) < nodesOf (resolve (newer ++ b) (wholeOf (w .ss) nodes r0)) = w .stack .right .small (h - 1) (omega arith) under newer in
             omega arith);
         closes = moved-closes;
       }
@@ -362,16 +362,16 @@ module _ (nodes state scratch : List ℕ) (n h p q : ℕ) (w : Work nodes state 
       ap (rcons (termAt (w .ss) nodes q (r0 .copy))) (ap (rowsOf (w .ss) nodes (rightAt mid)) (sym back) ∙ (rows-top (w .ss) nodes (rightAt mid) (h - 1) ∙ ap₂ followed (ap (rowOf (w .ss) nodes) right-top) (rows-agree (w .ss) nodes (rightAt scratch) (rightAt mid) (h - 1) right-below)))
       ∙ (sym (one-followed (termAt (w .ss) nodes q (r0 .copy)) (termsAt (w .ss) nodes qa (endOf nodes r0) (r0 .copy)) (rowsOf (w .ss) nodes (rightAt scratch) (h - 1))) ∙ ap (λ (ts : RTerms). followed ts (rowsOf (w .ss) nodes (rightAt scratch) (h - 1))) (sym (right-cons (r0 .copy))))
 
-  pub meet-turned : (after : List ℕ) (t : Turn) → ((g : Crossable nodes state mid h p (l0 .copy) q (r0 .copy)) → Crosses nodes state mid after h p (l0 .copy) q (r0 .copy) g t) → Turned nodes state scratch after n h w t
+  pub meet-turned : (after : List ℕ) (t : Turn) → ((g : Crossable nodes state mid h p (l0 .copy) q (r0 .copy)) → Crosses nodes state mid after h p (l0 .copy) q (r0 .copy) g t) → TurnGives nodes state scratch after n h w t
   unfolding meet-crossable
   meet-turned after t k =
       let s : Crosses nodes state mid after h p (l0 .copy) q (r0 .copy) meet-crossable t = k meet-crossable in
-      let x : sizeOf b (rcons (termAt (w .ss) nodes p (l0 .copy)) (rowsOf (w .ss) nodes (leftAt mid) h)) ≡ sizeOf b (termsAt (w .ss) nodes p (endOf nodes l0) (l0 .copy)) + sizeOf b (rowsOf (w .ss) nodes (leftAt scratch) (h - 1)) = ap (sizeOf b) mid-left ∙ size-followed b (termsAt (w .ss) nodes p (endOf nodes l0) (l0 .copy)) (rowsOf (w .ss) nodes (leftAt scratch) (h - 1)) in
-      let y : sizeOf b (rowsOf (w .ss) nodes (leftAt scratch) h) ≡ sizeOf b (rowOf (w .ss) nodes l0) + sizeOf b (rowsOf (w .ss) nodes (leftAt scratch) (h - 1)) = ap (sizeOf b) top-left ∙ size-followed b (rowOf (w .ss) nodes l0) (rowsOf (w .ss) nodes (leftAt scratch) (h - 1)) in
-      let z : sizeOf b (termsAt (w .ss) nodes p (endOf nodes l0) (l0 .copy)) ≤ sizeOf b (rowOf (w .ss) nodes l0) = m .less b (l0 .copy) in (
+      let x : rowsSize b (rcons (termAt (w .ss) nodes p (l0 .copy)) (rowsOf (w .ss) nodes (leftAt mid) h)) ≡ rowsSize b (termsAt (w .ss) nodes p (endOf nodes l0) (l0 .copy)) + rowsSize b (rowsOf (w .ss) nodes (leftAt scratch) (h - 1)) = ap (rowsSize b) mid-left ∙ size-followed b (termsAt (w .ss) nodes p (endOf nodes l0) (l0 .copy)) (rowsOf (w .ss) nodes (leftAt scratch) (h - 1)) in
+      let y : rowsSize b (rowsOf (w .ss) nodes (leftAt scratch) h) ≡ rowsSize b (rowOf (w .ss) nodes l0) + rowsSize b (rowsOf (w .ss) nodes (leftAt scratch) (h - 1)) = ap (rowsSize b) top-left ∙ size-followed b (rowOf (w .ss) nodes l0) (rowsOf (w .ss) nodes (leftAt scratch) (h - 1)) in
+      let z : rowsSize b (termsAt (w .ss) nodes p (endOf nodes l0) (l0 .copy)) ≤ rowsSize b (rowOf (w .ss) nodes l0) = m .less b (l0 .copy) in (
         marks-trans scratch mid after (pair-marks scratch (h - 1) (l0 .root) pa (l0 .copy) (r0 .root) qa (r0 .copy) fits) (s .0),
         turns-alike (w .ss) nodes state b (w .top) (rowsOf (w .ss) nodes (leftAt scratch) h) (rowsOf (w .ss) nodes (rightAt scratch) h) (rcons (termAt (w .ss) nodes p (l0 .copy)) (rowsOf (w .ss) nodes (leftAt mid) h)) (rcons (termAt (w .ss) nodes q (r0 .copy)) (rowsOf (w .ss) nodes (rightAt mid) h))
-            (2 * sizeOf b (rowsOf (w .ss) nodes (leftAt scratch) h) + h) (2 * sizeOf b (rcons (termAt (w .ss) nodes p (l0 .copy)) (rowsOf (w .ss) nodes (leftAt mid) h)) + h) after t
+            (2 * rowsSize b (rowsOf (w .ss) nodes (leftAt scratch) h) + h) (2 * rowsSize b (rcons (termAt (w .ss) nodes p (l0 .copy)) (rowsOf (w .ss) nodes (leftAt mid) h)) + h) after t
             (ap₂ (unifyRows b) top-left top-right ∙ (m .means b (l0 .copy) (r0 .copy) (rowsOf (w .ss) nodes (leftAt scratch) (h - 1)) (rowsOf (w .ss) nodes (rightAt scratch) (h - 1)) ∙ sym (ap₂ (unifyRows b) mid-left mid-right)))
             (omega arith) (s .1),
       )
@@ -391,10 +391,10 @@ module _ (nodes state scratch : List ℕ) (n h p q : ℕ) (w : Work nodes state 
 
 -- the same, over the sides and sizes as they are read
 module _ (nodes state scratch : List ℕ) (n h p q : ℕ) (w : Work nodes state scratch n h) (some : 1 ≤ h) (l r : Side) (el : l ≡ leftAt scratch (h - 1)) (er : r ≡ rightAt scratch (h - 1)) where
-  canonical : Meets (w .ss) nodes (l .at) (endOf nodes l) (r .at) (endOf nodes r) p q → Meets (w .ss) nodes (leftAt scratch (h - 1) .at) (endOf nodes (leftAt scratch (h - 1))) (rightAt scratch (h - 1) .at) (endOf nodes (rightAt scratch (h - 1))) p q
-  canonical m = subst (λ (y : Side). Meets (w .ss) nodes (leftAt scratch (h - 1) .at) (endOf nodes (leftAt scratch (h - 1))) (y .at) (endOf nodes y) p q) er (subst (λ (x : Side). Meets (w .ss) nodes (x .at) (endOf nodes x) (r .at) (endOf nodes r) p q) el m)
+  canonical : StopsAt (w .ss) nodes (l .at) (endOf nodes l) (r .at) (endOf nodes r) p q → StopsAt (w .ss) nodes (leftAt scratch (h - 1) .at) (endOf nodes (leftAt scratch (h - 1))) (rightAt scratch (h - 1) .at) (endOf nodes (rightAt scratch (h - 1))) p q
+  canonical m = subst (λ (y : Side). StopsAt (w .ss) nodes (leftAt scratch (h - 1) .at) (endOf nodes (leftAt scratch (h - 1))) (y .at) (endOf nodes y) p q) er (subst (λ (x : Side). StopsAt (w .ss) nodes (x .at) (endOf nodes x) (r .at) (endOf nodes r) p q) el m)
 
-  module _ (m : Meets (w .ss) nodes (l .at) (endOf nodes l) (r .at) (endOf nodes r) p q) (cl : Closes (w .ss) nodes (bindings (w .ss) nodes state n) (leftAt scratch) (rightAt scratch) h nothing nothing) where
+  module _ (m : StopsAt (w .ss) nodes (l .at) (endOf nodes l) (r .at) (endOf nodes r) p q) (cl : Closes (w .ss) nodes (bindings (w .ss) nodes state n) (leftAt scratch) (rightAt scratch) h noTerm noTerm) where
     pub met-inside : ((p + 1 < length nodes) × (q + 1 < length nodes)) × (((p + getD nodes (p + 1) 0 < 2 ^ 32) × (q + getD nodes (q + 1) 0 < 2 ^ 32)) × ((pairOf (h - 1) + pairSize ≤ length scratch) × ((l .root < 2 ^ 32) × ((l .copy < 2 ^ 32) × ((r .root < 2 ^ 32) × (r .copy < 2 ^ 32))))))
     met-inside =
         subst⁻¹ (λ (x : Side). ((p + 1 < length nodes) × (q + 1 < length nodes)) × (((p + getD nodes (p + 1) 0 < 2 ^ 32) × (q + getD nodes (q + 1) 0 < 2 ^ 32)) × ((pairOf (h - 1) + pairSize ≤ length scratch) × ((x .root < 2 ^ 32) × ((x .copy < 2 ^ 32) × ((r .root < 2 ^ 32) × (r .copy < 2 ^ 32))))))) el
@@ -413,7 +413,7 @@ module _ (nodes state scratch : List ℕ) (n h p q : ℕ) (w : Work nodes state 
           (subst⁻¹ (λ (y : Side). Crossable nodes state mid1 h p (leftAt scratch (h - 1) .copy) q (y .copy)) er
           (subst⁻¹ (λ (k : List ℕ). Crossable nodes state k h p (leftAt scratch (h - 1) .copy) q (rightAt scratch (h - 1) .copy)) mid-is (meet-crossable nodes state scratch n h p q w some (canonical m) cl)))
 
-      pub met-turned : (after : List ℕ) (t : Turn) → ((g : Crossable nodes state mid1 h p (l .copy) q (r .copy)) → Crosses nodes state mid1 after h p (l .copy) q (r .copy) g t) → Turned nodes state scratch after n h w t
+      pub met-turned : (after : List ℕ) (t : Turn) → ((g : Crossable nodes state mid1 h p (l .copy) q (r .copy)) → Crosses nodes state mid1 after h p (l .copy) q (r .copy) g t) → TurnGives nodes state scratch after n h w t
       met-turned after t k =
           meet-turned nodes state scratch n h p q w some (canonical m) cl after t
           (subst (λ (i : List ℕ). (g : Crossable nodes state i h p (leftAt scratch (h - 1) .copy) q (rightAt scratch (h - 1) .copy)) → Crosses nodes state i after h p (leftAt scratch (h - 1) .copy) q (rightAt scratch (h - 1) .copy) g t) mid-is
@@ -439,7 +439,7 @@ module _ (nodes state scratch : List ℕ) (h : ℕ) (g : Turnable nodes state sc
   pub turn-inside : (l .root + 1 < length nodes) × (l .root + getD nodes (l .root + 1) 0 ≤ length nodes)
   turn-inside = let a : l .root + loadedNode ≤ length nodes = node-inside (g .work .ss) nodes (l .root) left-root in let c : l .root + getD nodes (l .root + 1) 0 ≤ length nodes = node-end (g .work .ss) nodes (l .root) left-root in (omega arith, c)
 
-  beside : Beside (g .work .ss) nodes (l .at) (endOf nodes l) (r .at) (endOf nodes r)
+  beside : RowsBeside (g .work .ss) nodes (l .at) (endOf nodes l) (r .at) (endOf nodes r)
   beside =
       record {
         left = subst⁻¹ (λ (x : Side). Row (g .work .ss) nodes (x .at) (endOf nodes x)) el (g .work .stack .left .row (h - 1) top-under);
@@ -451,7 +451,7 @@ module _ (nodes state scratch : List ℕ) (h : ℕ) (g : Turnable nodes state sc
     pub turn-walk : Walkable nodes (l .at) (l .root + s) (r .at)
     turn-walk = subst⁻¹ (λ (k : ℕ). Walkable nodes (l .at) (l .root + k) (r .at)) es (record { ss = g .work .ss; f = endOf nodes r; beside = beside })
 
-    module _ (o : Walked) (k : (v : Walkable nodes (l .at) (l .root + s) (r .at)) → Walks (v .ss) nodes (l .at) (l .root + s) (r .at) (v .f) o) where
+    module _ (o : RowsWalked) (k : (v : Walkable nodes (l .at) (l .root + s) (r .at)) → Walks (v .ss) nodes (l .at) (l .root + s) (r .at) (v .f) o) where
       walked : Walks (g .work .ss) nodes (l .at) (endOf nodes l) (r .at) (endOf nodes r) o
       walked = subst (λ (i : ℕ). (v : Walkable nodes (l .at) (l .root + i) (r .at)) → Walks (v .ss) nodes (l .at) (l .root + i) (r .at) (v .f) o) es k (record { ss = g .work .ss; f = endOf nodes r; beside = beside })
 
@@ -465,11 +465,11 @@ module _ (nodes state scratch : List ℕ) (h : ℕ) (g : Turnable nodes state sc
       turn-pass e =
           record { nodes = nodes; state = state; n = g .n; work = g .work; some = g .some; left-is = el; right-is = er; walks = subst (Walks (g .work .ss) nodes (l .at) (endOf nodes l) (r .at) (endOf nodes r)) e walked; closes = g .closes }
 
-      pub turn-done : (e : o ≡ Done) (after : List ℕ) (t : Turn) → ((v : Passable scratch h l r) → Turned (v .nodes) (v .state) scratch after (v .n) h (v .work) t) → Turned nodes state scratch after (g .n) h (g .work) t
+      pub turn-done : (e : o ≡ Done) (after : List ℕ) (t : Turn) → ((v : Passable scratch h l r) → TurnGives (v .nodes) (v .state) scratch after (v .n) h (v .work) t) → TurnGives nodes state scratch after (g .n) h (g .work) t
       unfolding turn-pass
       turn-done e after t k = k (turn-pass e)
 
-      pub turn-clash : o ≡ Differ → Turned nodes state scratch scratch (g .n) h (g .work) Clash
+      pub turn-clash : o ≡ Differ → TurnGives nodes state scratch scratch (g .n) h (g .work) Clash
       turn-clash e =
           let v : Walks (g .work .ss) nodes (l .at) (endOf nodes l) (r .at) (endOf nodes r) Differ = subst (Walks (g .work .ss) nodes (l .at) (endOf nodes l) (r .at) (endOf nodes r)) e walked in
           (record { long = refl; words = λ j i. refl }, ap₂ (unifyRows (bindings (g .work .ss) nodes state (g .n))) top-rows top-rows-right ∙ v (bindings (g .work .ss) nodes state (g .n)) (l .copy) (r .copy) (rowsOf (g .work .ss) nodes (leftAt scratch) (h - 1)) (rowsOf (g .work .ss) nodes (rightAt scratch) (h - 1)))
@@ -477,7 +477,7 @@ module _ (nodes state scratch : List ℕ) (h : ℕ) (g : Turnable nodes state sc
       pub turn-met : (p q : ℕ) → o ≡ Met p q → Meetable nodes state scratch h l r p q
       turn-met p q e = record { n = g .n; work = g .work; some = g .some; left-is = el; right-is = er; meets = subst (Walks (g .work .ss) nodes (l .at) (endOf nodes l) (r .at) (endOf nodes r)) e walked; closes = g .closes }
 
-      pub turn-end : (p q : ℕ) (e : o ≡ Met p q) (after : List ℕ) (t : Turn) → ((v : Meetable nodes state scratch h l r p q) → Turned nodes state scratch after (v .n) h (v .work) t) → Turned nodes state scratch after (g .n) h (g .work) t
+      pub turn-end : (p q : ℕ) (e : o ≡ Met p q) (after : List ℕ) (t : Turn) → ((v : Meetable nodes state scratch h l r p q) → TurnGives nodes state scratch after (v .n) h (v .work) t) → TurnGives nodes state scratch after (g .n) h (g .work) t
       unfolding turn-met
       turn-end p q e after t k = k (turn-met p q e)
 
@@ -552,17 +552,17 @@ module _ (scratch : List ℕ) (h : ℕ) (l r : Side) (g : Passable scratch h l r
         ap (rowsOf (g .work .ss) (g .nodes) (rightAt scratch)) (sym back-up)
         ∙ (rows-top (g .work .ss) (g .nodes) (rightAt scratch) (h - 1) ∙ ap₂ followed (ap (rowOf (g .work .ss) (g .nodes)) (sym (g .right-is))) (sym (rows-agree (g .work .ss) (g .nodes) (rightAt scratch) (rightAt after) (h - 1) right-under)))
 
-    pub pass-turned : Turned (g .nodes) (g .state) scratch after (g .n) h (g .work) (Go (h - 1))
+    pub pass-turned : TurnGives (g .nodes) (g .state) scratch after (g .n) h (g .work) (Go (h - 1))
     unfolding bs
     pass-turned = (
       record { long = k .long; words = λ j i. k .words j (omega arith) },
       record {
         stack = stack-agrees (g .work .ss) (g .nodes) bs (g .work .top) (leftAt scratch) (rightAt scratch) (leftAt after) (rightAt after) (h - 1) left-under right-under (stack-less (g .work .ss) (g .nodes) bs (g .work .top) (leftAt scratch) (rightAt scratch) h (h - 1) (omega arith) (g .work .stack));
         means = ap₂ (unifyRows bs) rows-left rows-right ∙ g .walks bs (l .copy) (r .copy) (rowsOf (g .work .ss) (g .nodes) (leftAt after) (h - 1)) (rowsOf (g .work .ss) (g .nodes) (rightAt after) (h - 1));
-        less = (let y : sizeOf bs (rowsOf (g .work .ss) (g .nodes) (leftAt scratch) h) ≡ sizeOf bs (rowOf (g .work .ss) (g .nodes) l) + sizeOf bs (rowsOf (g .work .ss) (g .nodes) (leftAt after) (h - 1)) = ap (sizeOf bs) rows-left ∙ size-followed bs (rowOf (g .work .ss) (g .nodes) l) (rowsOf (g .work .ss) (g .nodes) (leftAt after) (h - 1)) in
+        less = (let y : rowsSize bs (rowsOf (g .work .ss) (g .nodes) (leftAt scratch) h) ≡ rowsSize bs (rowOf (g .work .ss) (g .nodes) l) + rowsSize bs (rowsOf (g .work .ss) (g .nodes) (leftAt after) (h - 1)) = ap (rowsSize bs) rows-left ∙ size-followed bs (rowOf (g .work .ss) (g .nodes) l) (rowsOf (g .work .ss) (g .nodes) (leftAt after) (h - 1)) in
             let q : 1 ≤ h = g .some in omega arith);
         memo = memo-remembers (g .work .ss) (g .nodes) bs scratch (g .work .memo) after (wordOf (l .root) (l .copy)) (wordOf (r .root) (r .copy)) k words-equal;
-        closes = closes-agree (g .work .ss) (g .nodes) bs (leftAt scratch) (rightAt scratch) (leftAt after) (rightAt after) (h - 1) nothing nothing left-under right-under
-            (closes-less (g .work .ss) (g .nodes) bs (leftAt scratch) (rightAt scratch) (h - 1) (rows-done-is bs) (subst⁻¹ (λ (i : ℕ). Closes (g .work .ss) (g .nodes) bs (leftAt scratch) (rightAt scratch) i nothing nothing) back-up (g .closes)));
+        closes = closes-agree (g .work .ss) (g .nodes) bs (leftAt scratch) (rightAt scratch) (leftAt after) (rightAt after) (h - 1) noTerm noTerm left-under right-under
+            (closes-less (g .work .ss) (g .nodes) bs (leftAt scratch) (rightAt scratch) (h - 1) (rows-done-is bs) (subst⁻¹ (λ (i : ℕ). Closes (g .work .ss) (g .nodes) bs (leftAt scratch) (rightAt scratch) i noTerm noTerm) back-up (g .closes)));
       },
     )

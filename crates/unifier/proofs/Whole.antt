@@ -9,23 +9,23 @@ use lib.Seq.{getD-set-same, getD-set-other}
 use Rattle.syntax.specs.Terms.{Term}
 use Rattle.machine.specs.Substitution.{RTerm, RTerms, app, rnil, rcons, copied, Binding, resolve}
 use Rattle.machine.specs.Unification.{unify}
-use Rattle.layout.specs.Regions.{copies, places, order, stack, pairOf, orderWord, boundsWord, cutsWord, memo, rows, loadedNode, pairSize}
-use Rattle.layout.specs.Nodes.{Symbol, Stands, Node, Row, termAt, termsAt, followed, count}
-use Rattle.layout.specs.State.{bindings}
-use Rattle.layout.proofs.Nodes.{node-inside, row-one, row-one-is, term-at}
-use Rattle.bindings.specs.Queues.{Clean}
+use Rattle.run_layout.specs.Regions.{copies, places, order, stack, pairOf, orderWord, boundsWord, cutsWord, memo, rows, loadedNode, pairSize}
+use Rattle.run_layout.specs.Nodes.{Symbol, TermLoaded, Node, Row, termAt, termsAt, followed, count}
+use Rattle.run_layout.specs.State.{bindings}
+use Rattle.run_layout.proofs.Nodes.{node-inside, row-one, row-one-is, term-at}
+use Rattle.unify_bindings.specs.Queues.{Clean}
 use Rattle.unify_cuts.specs.Cuts.{cutsMade}
-use Rattle.memos.specs.Memos.{classesMade}
-use Rattle.bindings.specs.Scratch.{leftAt, rightAt, pairWords, SameMarks}
-use Rattle.bindings.specs.declared.stack.Side.{Side}
-use Rattle.memos.proofs.Remembering.{memo-none}
-use Rattle.orders.specs.Orders.{ordered, boundsMade}
-use Rattle.orders.proofs.Lists.{ordered-none}
-use Rattle.cycle_checks.specs.Checks.{Begun}
+use Rattle.unify_memos.specs.Memos.{classesMade}
+use Rattle.unify_bindings.specs.Scratch.{leftAt, rightAt, pairWords, SameMarks}
+use Rattle.unify_bindings.specs.declared.stack.Side.{Side}
+use Rattle.unify_memos.proofs.Remembering.{memo-none}
+use Rattle.unify_orders.specs.Orders.{ordered, boundsMade}
+use Rattle.unify_orders.proofs.Lists.{ordered-none}
+use Rattle.unify_cycles.specs.Checks.{Begun}
 use Rattle.unifier.specs.Rows.{unifyRows}
-use Rattle.unifier.specs.Stacks.{endOf, wholeOf, rowOf, rowsOf, Half, Stack, nothing, Closes}
-use Rattle.unifier.specs.Turns.{Work, Solvable, Solved, Unifiable, Unifies, answered}
-use Rattle.unifier.specs.declared.solve.Unified.{Unified}
+use Rattle.unifier.specs.Stacks.{endOf, wholeOf, rowOf, rowsOf, Half, Stack, noTerm, Closes}
+use Rattle.unifier.specs.Turns.{Work, Solvable, Solved, Unifiable, UnifyGives, answered}
+use Rattle.unifier.specs.declared.solve.UnifyAnswer.{UnifyAnswer}
 use Rattle.unifier.proofs.Rules.{rows-begin}
 use Rattle.unifier.proofs.Rowwise.{one-followed, none-followed, count-one}
 use Rattle.unifier.proofs.Closing.{equal-first, closes-first}
@@ -122,7 +122,7 @@ module _ {nodes state scratch : List ℕ} {p c q d n : ℕ} (g : Unifiable nodes
     no-bounds = pair-others blank 0 p p c q q d (unify-room .0) boundsWord (inl (omega arith)) ∙ begun .no-bounds
 
     -- the first pair's rows are its two terms
-    first-closes : Closes (g .ss) nodes (bindings (g .ss) nodes state n) (leftAt mid) (rightAt mid) 1 nothing nothing
+    first-closes : Closes (g .ss) nodes (bindings (g .ss) nodes state n) (leftAt mid) (rightAt mid) 1 noTerm noTerm
     first-closes =
         closes-first (g .ss) nodes (bindings (g .ss) nodes state n) (leftAt mid) (rightAt mid)
         (λ newer e.
@@ -162,7 +162,7 @@ module _ {nodes state scratch : List ℕ} {p c q d n : ℕ} (g : Unifiable nodes
         rows-top (g .ss) nodes (rightAt mid) 0
         ∙ (ap₂ followed (ap (rowOf (g .ss) nodes) right-is ∙ row-one-is (g .ss) nodes q d (g .right)) (none-rows (rightAt mid)) ∙ (one-followed (termAt (g .ss) nodes q d) rnil rnil ∙ ap (rcons (termAt (g .ss) nodes q d)) (none-followed rnil)))
 
-    whole : (after later : List ℕ) (r : Unified) → Solved (g .ss) nodes state after mid later (g .top) n (rowsOf (g .ss) nodes (leftAt mid) 1) (rowsOf (g .ss) nodes (rightAt mid) 1) r → Unifies (g .ss) nodes state after scratch later (g .top) p c q d n r
+    whole : (after later : List ℕ) (r : UnifyAnswer) → Solved (g .ss) nodes state after mid later (g .top) n (rowsOf (g .ss) nodes (leftAt mid) 1) (rowsOf (g .ss) nodes (rightAt mid) 1) r → UnifyGives (g .ss) nodes state after scratch later (g .top) p c q d n r
     whole after later r s =
         record {
           grows = s .grows;
@@ -176,8 +176,8 @@ module _ {nodes state scratch : List ℕ} {p c q d n : ℕ} (g : Unifiable nodes
               ∙ (rows-begin (bindings (g .ss) nodes state n) (termAt (g .ss) nodes p c) (termAt (g .ss) nodes q d) ∙ (sym (ap₂ (unifyRows (bindings (g .ss) nodes state n)) rows-left rows-right) ∙ s .answer));
         }
 
-    pub unify-end : {s : List ℕ} → s ≡ mid → {after later : List ℕ} {r : Unified}
-        → ((v : Solvable nodes state s n) → Solved (v .work .ss) nodes state after s later (v .work .top) n (rowsOf (v .work .ss) nodes (leftAt s) 1) (rowsOf (v .work .ss) nodes (rightAt s) 1) r) → Unifies (g .ss) nodes state after scratch later (g .top) p c q d n r
+    pub unify-end : {s : List ℕ} → s ≡ mid → {after later : List ℕ} {r : UnifyAnswer}
+        → ((v : Solvable nodes state s n) → Solved (v .work .ss) nodes state after s later (v .work .top) n (rowsOf (v .work .ss) nodes (leftAt s) 1) (rowsOf (v .work .ss) nodes (rightAt s) 1) r) → UnifyGives (g .ss) nodes state after scratch later (g .top) p c q d n r
     unfolding first-solvable
     unify-end e {after} {later} {r} k =
         whole after later r (subst (λ (x : List ℕ). (v : Solvable nodes state x n) → Solved (v .work .ss) nodes state after x later (v .work .top) n (rowsOf (v .work .ss) nodes (leftAt x) 1) (rowsOf (v .work .ss) nodes (rightAt x) 1) r) e k first-solvable)

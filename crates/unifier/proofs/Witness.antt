@@ -4,9 +4,9 @@ use native.Mathlib.Omega.{arith}
 use mathlib.Core.Path.{_≡_}
 use mathlib.Core.List.{List}
 use lib.ListN.{length, getD, replicate, length-replicate, getD-replicate}
-use Rattle.layout.specs.Regions.{cells, rows}
-use Rattle.layout.proofs.Witness.{symbols, table, state, node, empty}
-use Rattle.bindings.specs.Queues.{Clean}
+use Rattle.run_layout.specs.Regions.{cells, rows}
+use Rattle.run_layout.proofs.Witness.{symbols, table, state, node, empty}
+use Rattle.unify_bindings.specs.Queues.{Clean}
 use Rattle.unifier.specs.Turns.{Unifiable}
 
 unfoldable pub scratch : List ℕ

@@ -19,6 +19,6 @@ unfoldable mutual
   nodesOfAll rnil = 0
   nodesOfAll (rcons t ts) = nodesOf t + nodesOfAll ts
 
-unfoldable pub sizeOf : List Binding → RTerms → ℕ
-sizeOf b rnil = 0
-sizeOf b (rcons t ts) = nodesOf (resolve b t) + sizeOf b ts
+unfoldable pub rowsSize : List Binding → RTerms → ℕ
+rowsSize b rnil = 0
+rowsSize b (rcons t ts) = nodesOf (resolve b t) + rowsSize b ts

@@ -4,11 +4,11 @@ use mathlib.Core.Path.{_≡_}
 use mathlib.Core.List.{List, [], _++_}
 use lib.ListN.{getD}
 use Rattle.machine.specs.Substitution.{RTerm, RTerms, var, app, rnil, Binding, resolve}
-use Rattle.layout.specs.Regions.{copies, cells}
-use Rattle.layout.specs.Nodes.{Symbol, Node, Row, termAt, termsAt, followed, count}
-use Rattle.layout.specs.State.{variableOf}
-use Rattle.bindings.specs.declared.stack.Side.{Side}
-use Rattle.unifier.specs.Rows.{nodesOf, sizeOf}
+use Rattle.run_layout.specs.Regions.{copies, cells}
+use Rattle.run_layout.specs.Nodes.{Symbol, Node, Row, termAt, termsAt, followed, count}
+use Rattle.run_layout.specs.State.{variableOf}
+use Rattle.unify_bindings.specs.declared.stack.Side.{Side}
+use Rattle.unifier.specs.Rows.{nodesOf, rowsSize}
 
 -- ---- rows
 
@@ -36,7 +36,7 @@ pub record Half (ss : List Symbol) (nodes : List ℕ) (b : List Binding) (top : 
   pub copy : (k : ℕ) → k < h → s k .copy < copies
   pub below : (k : ℕ) → k < h → s k .copy ≤ top
   pub row : (k : ℕ) → k < h → Row ss nodes (s k .at) (endOf nodes (s k))
-  pub small : (k : ℕ) → 1 ≤ k → k < h → (newer : List Binding) → sizeOf (newer ++ b) (rowOf ss nodes (s k))
+  pub small : (k : ℕ) → 1 ≤ k → k < h → (newer : List Binding) → rowsSize (newer ++ b) (rowOf ss nodes (s k))
       < nodesOf (resolve (newer ++ b) (wholeOf ss nodes (s k)))
   pub down : (k : ℕ) → 1 ≤ k → k + 1 < h → (newer : List Binding) → nodesOf (resolve (newer ++ b) (wholeOf ss nodes (s (k + 1))))
       < nodesOf (resolve (newer ++ b) (wholeOf ss nodes (s k)))
@@ -61,8 +61,8 @@ abbrev pub SameRows : List Symbol → List ℕ → List Binding → Side → Sid
 SameRows ss nodes b s t = resolve b (app [] (rowOf ss nodes s)) ≡ resolve b (app [] (rowOf ss nodes t))
 
 -- A term to put on both sides where no two terms stand before the rows.
-abbrev pub nothing : RTerm
-nothing = app [] rnil
+abbrev pub noTerm : RTerm
+noTerm = app [] rnil
 
 -- Newer bindings that make two terms before the rows equal, and what is left of the rows of a pair and of each pair above it, make the wholes of that
 -- pair equal.

@@ -11,21 +11,21 @@ use Rattle.syntax.specs.Words.{firstName}
 use Rattle.syntax.specs.Terms.{Term}
 use Rattle.machine.specs.Substitution.{RTerm, RTerms, rcons, copied, occurs, Binding, resolve}
 use Rattle.machine.specs.Unification.{unify}
-use Rattle.layout.specs.Regions.{copies, copyCells, cells, stack, memo}
-use Rattle.layout.specs.Nodes.{Symbol, Stands, Node, termAt}
-use Rattle.layout.specs.State.{cellOf, variableOf, cellAt, bindings, Store, Within, Keeps}
-use Rattle.bindings.specs.Queues.{Clean}
-use Rattle.memos.specs.Memos.{Memo}
-use Rattle.bindings.specs.Scratch.{leftAt, rightAt, SameMarks, Roomy}
-use Rattle.bindings.specs.declared.stack.Side.{Side}
-use Rattle.orders.specs.Orders.{Ordered}
-use Rattle.unifier.specs.Rows.{unifyRows, nodesOf, sizeOf}
-use Rattle.unifier.specs.Walks.{Meets, Walks}
-use Rattle.unifier.specs.Stacks.{endOf, wholeOf, rowsOf, Via, Stack, nothing, Closes}
-use Rattle.unifier.specs.declared.walk.Walked.the-variants.{Done}
+use Rattle.run_layout.specs.Regions.{copies, copyCells, cells, stack, memo}
+use Rattle.run_layout.specs.Nodes.{Symbol, TermLoaded, Node, termAt}
+use Rattle.run_layout.specs.State.{cellOf, variableOf, cellAt, bindings, Store, Within, Keeps}
+use Rattle.unify_bindings.specs.Queues.{Clean}
+use Rattle.unify_memos.specs.Memos.{Memo}
+use Rattle.unify_bindings.specs.Scratch.{leftAt, rightAt, SameMarks, Roomy}
+use Rattle.unify_bindings.specs.declared.stack.Side.{Side}
+use Rattle.unify_orders.specs.Orders.{Ordered}
+use Rattle.unifier.specs.Rows.{unifyRows, nodesOf, rowsSize}
+use Rattle.unifier.specs.Walks.{StopsAt, Walks}
+use Rattle.unifier.specs.Stacks.{endOf, wholeOf, rowsOf, Via, Stack, noTerm, Closes}
+use Rattle.unifier.specs.declared.walk.RowsWalked.the-variants.{Done}
 use Rattle.unifier.specs.declared.solve.Turn.{Turn}
 use Rattle.unifier.specs.declared.solve.Turn.the-variants.{Go, Clash, Bind}
-use Rattle.unifier.specs.declared.solve.Unified.{Unified}
+use Rattle.unifier.specs.declared.solve.UnifyAnswer.{UnifyAnswer}
 
 -- n bindings, a stack of height h, and a memo.
 pub record Work (nodes state scratch : List ℕ) (n h : ℕ) : Type 0 where
@@ -41,9 +41,9 @@ pub record Work (nodes state scratch : List ℕ) (n h : ℕ) : Type 0 where
 pub record Goes (ss : List Symbol) (nodes : List ℕ) (b : List Binding) (top : ℕ) (ls rs : RTerms) (size : ℕ) (after : List ℕ) (k : ℕ) : Type 0 where
   pub stack : Stack ss nodes b top (leftAt after) (rightAt after) k
   pub means : unifyRows b ls rs ≡ unifyRows b (rowsOf ss nodes (leftAt after) k) (rowsOf ss nodes (rightAt after) k)
-  pub less : 2 * sizeOf b (rowsOf ss nodes (leftAt after) k) + k < size
+  pub less : 2 * rowsSize b (rowsOf ss nodes (leftAt after) k) + k < size
   pub memo : Memo ss nodes b after
-  pub closes : Closes ss nodes b (leftAt after) (rightAt after) k nothing nothing
+  pub closes : Closes ss nodes b (leftAt after) (rightAt after) k noTerm noTerm
 
 -- The variable of cell x is to be bound to the term at p in copy c, unless it stands in it; then there is no unifier.
 pub record Binds (ss : List Symbol) (nodes state : List ℕ) (b : List Binding) (top : ℕ) (ls rs : RTerms) (after : List ℕ) (k x p c : ℕ) : Type 0 where
@@ -61,7 +61,7 @@ pub record Binds (ss : List Symbol) (nodes state : List ℕ) (b : List Binding) 
       (rowsOf ss nodes (rightAt after) k)
   pub memo : Memo ss nodes b after
   pub closes : (T (occurs (variableOf x) (resolve b (termAt ss nodes p c))) → ⊥)
-      → Closes ss nodes (record { variable = variableOf x; term = resolve b (termAt ss nodes p c) } ∷ b) (leftAt after) (rightAt after) k nothing nothing
+      → Closes ss nodes (record { variable = variableOf x; term = resolve b (termAt ss nodes p c) } ∷ b) (leftAt after) (rightAt after) k noTerm noTerm
 
 abbrev pub Turns : List Symbol → List ℕ → List ℕ → List Binding → ℕ → RTerms → RTerms → ℕ → List ℕ → Turn → Type 0
 Turns ss nodes state b top ls rs size after (Go k) = Goes ss nodes b top ls rs size after k
@@ -69,13 +69,13 @@ Turns ss nodes state b top ls rs size after Clash = unifyRows b ls rs ≡ none
 Turns ss nodes state b top ls rs size after (Bind k x p c) = Binds ss nodes state b top ls rs after k x p c
 
 -- what `turn` promises of n bindings and a stack of height h
-abbrev pub Turned : (nodes state before after : List ℕ) (n h : ℕ) → Work nodes state before n h → Turn → Type 0
-Turned nodes state before after n h g t =
+abbrev pub TurnGives : (nodes state before after : List ℕ) (n h : ℕ) → Work nodes state before n h → Turn → Type 0
+TurnGives nodes state before after n h g t =
     SameMarks before after × Turns (g .ss) nodes state (bindings (g .ss) nodes state n) (g .top) (rowsOf (g .ss) nodes (leftAt before) h)
-    (rowsOf (g .ss) nodes (rightAt before) h) (2 * sizeOf (bindings (g .ss) nodes state n) (rowsOf (g .ss) nodes (leftAt before) h) + h) after t
+    (rowsOf (g .ss) nodes (rightAt before) h) (2 * rowsSize (bindings (g .ss) nodes state n) (rowsOf (g .ss) nodes (leftAt before) h) + h) after t
 
 -- a term that is dereferenced
-pub record Reached (ss : List Symbol) (nodes state : List ℕ) (top p c : ℕ) : Type 0 where
+pub record Dereferenced (ss : List Symbol) (nodes state : List ℕ) (top p c : ℕ) : Type 0 where
   pub node : Node ss nodes p
   pub copy : c < copies
   pub below : c ≤ top
@@ -88,8 +88,8 @@ pub record Crossed (nodes scratch : List ℕ) (h p c q d : ℕ) : Type 0 where
   pub n : ℕ
   pub work : Work nodes state scratch n h
   pub some : 1 ≤ h
-  pub left : Reached (work .ss) nodes state (work .top) p c
-  pub right : Reached (work .ss) nodes state (work .top) q d
+  pub left : Dereferenced (work .ss) nodes state (work .top) p c
+  pub right : Dereferenced (work .ss) nodes state (work .top) q d
   pub via : ℕ
   pub via-is : getD nodes p 0 ≡ getD nodes q 0 → firstName ≤ getD nodes p 0 → Via (bindings (work .ss) nodes state n) via (termAt (work .ss) nodes p c)
       (termAt (work .ss) nodes q d)
@@ -107,11 +107,11 @@ pub record Openable (scratch : List ℕ) (h p c q d : ℕ) : Type 0 where
   pub name : firstName ≤ getD nodes p 0
   pub same : getD nodes p 0 ≡ getD nodes q 0
 
-abbrev pub Settled : (nodes before after : List ℕ) (h p c q d : ℕ) → Crossed nodes before h p c q d → Turn → Type 0
-Settled nodes before after h p c q d g t =
+abbrev pub PairTurned : (nodes before after : List ℕ) (h p c q d : ℕ) → Crossed nodes before h p c q d → Turn → Type 0
+PairTurned nodes before after h p c q d g t =
     SameMarks before after × Turns (g .work .ss) nodes (g .state) (bindings (g .work .ss) nodes (g .state) (g .n)) (g .work .top)
     (rcons (termAt (g .work .ss) nodes p c) (rowsOf (g .work .ss) nodes (leftAt before) h))
-    (rcons (termAt (g .work .ss) nodes q d) (rowsOf (g .work .ss) nodes (rightAt before) h)) (2 * sizeOf (bindings (g .work .ss) nodes (g .state) (g .n))
+    (rcons (termAt (g .work .ss) nodes q d) (rowsOf (g .work .ss) nodes (rightAt before) h)) (2 * rowsSize (bindings (g .work .ss) nodes (g .state) (g .n))
     (rcons (termAt (g .work .ss) nodes p c) (rowsOf (g .work .ss) nodes (leftAt before) h)) + h) after t
 
 -- Two terms before the rows of a stack, a variable on at least one side; from the second pair on both stand strictly inside the wholes of the
@@ -138,7 +138,7 @@ abbrev pub Crosses : (nodes state before after : List ℕ) (h p c q d : ℕ) →
 Crosses nodes state before after h p c q d g t =
     SameMarks before after × Turns (g .work .ss) nodes state (bindings (g .work .ss) nodes state (g .n)) (g .work .top)
     (rcons (termAt (g .work .ss) nodes p c) (rowsOf (g .work .ss) nodes (leftAt before) h))
-    (rcons (termAt (g .work .ss) nodes q d) (rowsOf (g .work .ss) nodes (rightAt before) h)) (2 * sizeOf (bindings (g .work .ss) nodes state (g .n))
+    (rcons (termAt (g .work .ss) nodes q d) (rowsOf (g .work .ss) nodes (rightAt before) h)) (2 * rowsSize (bindings (g .work .ss) nodes state (g .n))
     (rcons (termAt (g .work .ss) nodes p c) (rowsOf (g .work .ss) nodes (leftAt before) h)) + h) after t
 
 -- The top pair of a stack, and where its rows first have a variable on a side.
@@ -148,8 +148,8 @@ pub record Meetable (nodes state scratch : List ℕ) (h : ℕ) (l r : Side) (p q
   pub some : 1 ≤ h
   pub left-is : l ≡ leftAt scratch (h - 1)
   pub right-is : r ≡ rightAt scratch (h - 1)
-  pub meets : Meets (work .ss) nodes (l .at) (endOf nodes l) (r .at) (endOf nodes r) p q
-  pub closes : Closes (work .ss) nodes (bindings (work .ss) nodes state n) (leftAt scratch) (rightAt scratch) h nothing nothing
+  pub meets : StopsAt (work .ss) nodes (l .at) (endOf nodes l) (r .at) (endOf nodes r) p q
+  pub closes : Closes (work .ss) nodes (bindings (work .ss) nodes state n) (leftAt scratch) (rightAt scratch) h noTerm noTerm
 
 -- The top pair of a stack, what is left of whose rows is the same.
 pub record Passable (scratch : List ℕ) (h : ℕ) (l r : Side) : Type 0 where
@@ -161,30 +161,30 @@ pub record Passable (scratch : List ℕ) (h : ℕ) (l r : Side) : Type 0 where
   pub left-is : l ≡ leftAt scratch (h - 1)
   pub right-is : r ≡ rightAt scratch (h - 1)
   pub walks : Walks (work .ss) nodes (l .at) (endOf nodes l) (r .at) (endOf nodes r) Done
-  pub closes : Closes (work .ss) nodes (bindings (work .ss) nodes state n) (leftAt scratch) (rightAt scratch) h nothing nothing
+  pub closes : Closes (work .ss) nodes (bindings (work .ss) nodes state n) (leftAt scratch) (rightAt scratch) h noTerm noTerm
 
 -- n bindings, and a stack that is not empty
 pub record Turnable (nodes state scratch : List ℕ) (h : ℕ) : Type 0 where
   pub n : ℕ
   pub work : Work nodes state scratch n h
   pub some : 1 ≤ h
-  pub closes : Closes (work .ss) nodes (bindings (work .ss) nodes state n) (leftAt scratch) (rightAt scratch) h nothing nothing
+  pub closes : Closes (work .ss) nodes (bindings (work .ss) nodes state n) (leftAt scratch) (rightAt scratch) h noTerm noTerm
 
 -- n bindings, and a stack
-pub record Ready (nodes state scratch : List ℕ) (n h : ℕ) : Type 0 where
+pub record ReadyToUnify (nodes state scratch : List ℕ) (n h : ℕ) : Type 0 where
   pub work : Work nodes state scratch n h
-  pub closes : Closes (work .ss) nodes (bindings (work .ss) nodes state n) (leftAt scratch) (rightAt scratch) h nothing nothing
+  pub closes : Closes (work .ss) nodes (bindings (work .ss) nodes state n) (leftAt scratch) (rightAt scratch) h noTerm noTerm
 
 -- ---- turns until something is to be bound
 
-abbrev pub Ends : List Symbol → List ℕ → List ℕ → List Binding → ℕ → RTerms → RTerms → List ℕ → Turn → Type 0
-Ends ss nodes state b top ls rs after (Go k) = unifyRows b ls rs ≡ some b
-Ends ss nodes state b top ls rs after Clash = unifyRows b ls rs ≡ none
-Ends ss nodes state b top ls rs after (Bind k x p c) = Binds ss nodes state b top ls rs after k x p c
+abbrev pub LoopGives : List Symbol → List ℕ → List ℕ → List Binding → ℕ → RTerms → RTerms → List ℕ → Turn → Type 0
+LoopGives ss nodes state b top ls rs after (Go k) = unifyRows b ls rs ≡ some b
+LoopGives ss nodes state b top ls rs after Clash = unifyRows b ls rs ≡ none
+LoopGives ss nodes state b top ls rs after (Bind k x p c) = Binds ss nodes state b top ls rs after k x p c
 
 abbrev pub Advanced : (nodes state before after : List ℕ) (n h : ℕ) → Work nodes state before n h → Turn → Type 0
 Advanced nodes state before after n h g t =
-    SameMarks before after × Ends (g .ss) nodes state (bindings (g .ss) nodes state n) (g .top) (rowsOf (g .ss) nodes (leftAt before) h)
+    SameMarks before after × LoopGives (g .ss) nodes state (bindings (g .ss) nodes state n) (g .top) (rowsOf (g .ss) nodes (leftAt before) h)
     (rowsOf (g .ss) nodes (rightAt before) h) after t
 
 -- ---- the whole
@@ -197,11 +197,11 @@ answered false b = none
 -- n bindings, one pair on the stack, no cell marked, and an order of cells
 pub record Solvable (nodes state scratch : List ℕ) (n : ℕ) : Type 0 where
   pub work : Work nodes state scratch n 1
-  pub closes : Closes (work .ss) nodes (bindings (work .ss) nodes state n) (leftAt scratch) (rightAt scratch) 1 nothing nothing
+  pub closes : Closes (work .ss) nodes (bindings (work .ss) nodes state n) (leftAt scratch) (rightAt scratch) 1 noTerm noTerm
   pub clean : Clean scratch
   pub order : Ordered (work .ss) nodes state scratch
 
-pub record Solved (ss : List Symbol) (nodes before after scratch later : List ℕ) (top n : ℕ) (ls rs : RTerms) (r : Unified) : Type 0 where
+pub record Solved (ss : List Symbol) (nodes before after scratch later : List ℕ) (top n : ℕ) (ls rs : RTerms) (r : UnifyAnswer) : Type 0 where
   pub grows : n ≤ r .trail
   pub store : Store ss nodes after (r .trail)
   pub within : Within top after (r .trail)
@@ -227,12 +227,12 @@ pub record Unifiable (nodes state scratch : List ℕ) (p c q d n : ℕ) : Type 0
 
 -- What `unify` promises: the store after; the entries before and the words behind the trail as they were; no cell marked; and the bindings that
 -- the words then mean are those of the definition's `unify`, or there are none.
-pub record Unifies (ss : List Symbol) (nodes before after scratch later : List ℕ) (top p c q d n : ℕ) (r : Unified) : Type 0 where
+pub record UnifyGives (ss : List Symbol) (nodes before after scratch later : List ℕ) (top p c q d n : ℕ) (r : UnifyAnswer) : Type 0 where
   pub grows : n ≤ r .trail
   pub store : Store ss nodes after (r .trail)
   pub within : Within top after (r .trail)
   pub keeps : Keeps n before after
   pub clean : Clean later
   pub long : length later ≡ length scratch
-  pub answer : (t u : Term) → Stands ss nodes p t → Stands ss nodes q u → unify (bindings ss nodes before n) (copied c t) (copied d u)
+  pub answer : (t u : Term) → TermLoaded ss nodes p t → TermLoaded ss nodes q u → unify (bindings ss nodes before n) (copied c t) (copied d u)
       ≡ answered (r .equal) (bindings ss nodes after (r .trail))

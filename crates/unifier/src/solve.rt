@@ -1,32 +1,33 @@
 // Unification: the outer loop, which takes over where a variable stands on a side, bound or not.
-use crate::walk::Walked;
+use crate::walk::RowsWalked;
 use crate::walk::walk_rows;
-use bindings::occurrence::closed_to;
-use bindings::occurrence::size_at;
-use bindings::stack::Side;
-use bindings::stack::put_pair;
-use bindings::stack::side_at;
-use bindings::store::bind;
-use bindings::store::pack;
-use cycle_checks::begin;
-use cycle_checks::check;
-use layout::LOADED_NODE;
-use layout::PAIR_SIZE;
-use layout::SIDE_SIZE;
-use layout::STACK;
-use layout::cell_of;
-use unify_cuts::follow;
-use memos::forget;
-use memos::known;
-use memos::remember;
+use run_layout::LOADED_NODE;
+use run_layout::PAIR_SIZE;
+use run_layout::SIDE_SIZE;
+use run_layout::STACK;
+use run_layout::cell_of;
 use syntax::FIRST_NAME;
-use words::word_at;
+use table_words::word_at;
+use unify_bindings::occurrence::closed_to;
+use unify_bindings::occurrence::size_at;
+use unify_bindings::stack::Side;
+use unify_bindings::stack::put_pair;
+use unify_bindings::stack::side_at;
+use unify_bindings::store::bind;
+use unify_bindings::store::pack;
+use unify_cuts::follow;
+use unify_cycles::begin;
+use unify_cycles::check;
+use unify_memos::forget;
+use unify_memos::known;
+use unify_memos::remember;
 ghost use mathlib.Core.Path.{_≡_};
-ghost use Rattle.bindings.specs.Queues.{Closed};
-ghost use Rattle.bindings.specs.Scratch.{leftAt, rightAt};
+ghost use Rattle.unify_bindings.specs.Queues.{Closed};
+ghost use Rattle.unify_bindings.specs.Scratch.{leftAt, rightAt};
 ghost use Rattle.unifier.specs.declared.solve.Turn.the-variants.{Bind};
-ghost use Rattle.unifier.specs.Turns.{Crossed, Crossable, Crosses, Meetable, Turnable, Turned, Openable, Passable, Ready, Advanced, Solvable, Solved};
-ghost use Rattle.unifier.specs.Turns.{Unifiable, Unifies};
+ghost use Rattle.unifier.specs.Turns.{Crossed, Crossable, Crosses, Meetable, Turnable, TurnGives, Openable, Passable, ReadyToUnify, Advanced};
+ghost use Rattle.unifier.specs.Turns.{Solvable, Solved};
+ghost use Rattle.unifier.specs.Turns.{Unifiable, UnifyGives};
 ghost use Rattle.unifier.specs.Stacks.{rowsOf};
 
 // What a turn comes to: on with a stack of this height, names that differ, or a variable to be bound.
@@ -42,7 +43,7 @@ pub enum Turn {
 }
 
 // Whether the two became equal, and the length of the trail.
-pub struct Unified {
+pub struct UnifyAnswer {
     pub equal: bool,
     pub trail: usize,
 }
@@ -51,7 +52,7 @@ pub struct Unified {
 // else their arguments are looked at next.
 fn open_pair(scratch: &mut [u32], h: usize, p: usize, c: usize, q: usize, d: usize) -> Turn
     requires { ⌜ Openable (now scratch) h p c q d ⌝ }
-    ensures { λ r. ⌜ ((g : Openable (now (scratch .entry)) h p c q d) → Rattle.unifier.specs.Turns.Settled (g .nodes) (now (scratch .entry))
+    ensures { λ r. ⌜ ((g : Openable (now (scratch .entry)) h p c q d) → Rattle.unifier.specs.Turns.PairTurned (g .nodes) (now (scratch .entry))
         (now (scratch .exit)) h p c q d (g .crossed) r) ⌝ }
 {
     let left = pack(p, c);
@@ -81,7 +82,7 @@ fn bind_to(h: usize, x: usize, p: usize, c: usize) -> Turn
 }
 
 // Two dereferenced terms before the rows of a stack of height h. Of two variables the later is bound to the earlier.
-fn settle(
+fn decide(
     nodes: &[u32],
     scratch: &mut [u32],
     h: usize,
@@ -92,7 +93,7 @@ fn settle(
 ) -> Turn
     requires { ⌜ Crossed (now nodes) (now scratch) h p c q d ⌝ }
     ensures { λ r. ⌜ ((g : Crossed (now (nodes .entry)) (now (scratch .entry)) h p c q d)
-        → Rattle.unifier.specs.Turns.Settled (now (nodes .entry)) (now (scratch .entry)) (now (scratch .exit)) h p c q d g r) ⌝ }
+        → Rattle.unifier.specs.Turns.PairTurned (now (nodes .entry)) (now (scratch .entry)) (now (scratch .exit)) h p c q d g r) ⌝ }
 {
     let w = word_at(nodes, p);
     let z = word_at(nodes, q);
@@ -136,7 +137,7 @@ fn cross(
         → Crosses (now (nodes .entry)) (now (state .entry)) (now (scratch .entry)) (now (scratch .exit)) h p c q d g r) ⌝ }
 {
     let e = follow(nodes, state, scratch, p, c, q, d);
-    settle(nodes, scratch, h, e.node, e.copy, e.other, e.second)
+    decide(nodes, scratch, h, e.node, e.copy, e.other, e.second)
 }
 
 // The top pair, whose rows first have a variable on a side at p and q, moved past these two terms, which are then looked at.
@@ -152,7 +153,7 @@ fn meet(
 ) -> Turn
     requires { ⌜ Meetable (now nodes) (now state) (now scratch) h l r p q ⌝ }
     ensures { λ t. ⌜ ((g : Meetable (now (nodes .entry)) (now (state .entry)) (now (scratch .entry)) h l r p q)
-        → Turned (now (nodes .entry)) (now (state .entry)) (now (scratch .entry)) (now (scratch .exit)) (g .n) h (g .work) t) ⌝ }
+        → TurnGives (now (nodes .entry)) (now (state .entry)) (now (scratch .entry)) (now (scratch .exit)) (g .n) h (g .work) t) ⌝ }
 {
     let i = p + size_at(nodes, p);
     let j = q + size_at(nodes, q);
@@ -168,7 +169,7 @@ fn meet(
 // The top pair's rows are done: its two terms, the left one of so many words, are equal from now on.
 fn pass(scratch: &mut [u32], h: usize, size: usize, l: Side, r: Side) -> Turn
     requires { ⌜ Passable (now scratch) h l r ⌝ }
-    ensures { λ t. ⌜ ((g : Passable (now (scratch .entry)) h l r) → Turned (g .nodes) (g .state) (now (scratch .entry)) (now (scratch .exit)) (g .n) h
+    ensures { λ t. ⌜ ((g : Passable (now (scratch .entry)) h l r) → TurnGives (g .nodes) (g .state) (now (scratch .entry)) (now (scratch .exit)) (g .n) h
         (g .work) t) ⌝ }
 {
     let root = l.root;
@@ -185,7 +186,7 @@ fn pass(scratch: &mut [u32], h: usize, size: usize, l: Side, r: Side) -> Turn
 fn next_turn(nodes: &[u32], state: &[u32], scratch: &mut [u32], h: usize) -> Turn
     requires { ⌜ Turnable (now nodes) (now state) (now scratch) h ⌝ }
     ensures { λ t. ⌜ ((g : Turnable (now (nodes .entry)) (now (state .entry)) (now (scratch .entry)) h)
-        → Turned (now (nodes .entry)) (now (state .entry)) (now (scratch .entry)) (now (scratch .exit)) (g .n) h (g .work) t) ⌝ }
+        → TurnGives (now (nodes .entry)) (now (state .entry)) (now (scratch .entry)) (now (scratch .exit)) (g .n) h (g .work) t) ⌝ }
 {
     let k = h - 1;
     let base = STACK + k * PAIR_SIZE;
@@ -198,16 +199,16 @@ fn next_turn(nodes: &[u32], state: &[u32], scratch: &mut [u32], h: usize) -> Tur
     let e = root + size;
     let found = walk_rows(nodes, from, e, there);
     match found {
-        Walked::Done => pass(scratch, h, size, l, r),
-        Walked::Clash => Turn::Clash,
-        Walked::Met { left, right } => meet(nodes, state, scratch, h, l, r, left, right),
+        RowsWalked::Done => pass(scratch, h, size, l, r),
+        RowsWalked::Clash => Turn::Clash,
+        RowsWalked::Met { left, right } => meet(nodes, state, scratch, h, l, r, left, right),
     }
 }
 
 // Turns, until the stack is empty or a turn does not go on. There are n bindings; they stay as they are, so the turns end.
 fn advance(nodes: &[u32], state: &[u32], scratch: &mut [u32], n: usize, h: usize) -> Turn
-    requires { ⌜ Ready (now nodes) (now state) (now scratch) n h ⌝ }
-    ensures { λ t. ⌜ ((g : Ready (now (nodes .entry)) (now (state .entry)) (now (scratch .entry)) n h)
+    requires { ⌜ ReadyToUnify (now nodes) (now state) (now scratch) n h ⌝ }
+    ensures { λ t. ⌜ ((g : ReadyToUnify (now (nodes .entry)) (now (state .entry)) (now (scratch .entry)) n h)
         → Advanced (now (nodes .entry)) (now (state .entry)) (now (scratch .entry)) (now (scratch .exit)) n h (g .work) t) ⌝ }
 {
     let mut k = h;
@@ -222,7 +223,13 @@ fn advance(nodes: &[u32], state: &[u32], scratch: &mut [u32], n: usize, h: usize
 }
 
 // The one pair on the stack, with m bindings, the copies below k closed: turns, and a binding where they ask for one.
-fn solve_pair(nodes: &[u32], state: &mut [u32], scratch: &mut [u32], m: usize, k: usize) -> Unified
+fn solve_pair(
+    nodes: &[u32],
+    state: &mut [u32],
+    scratch: &mut [u32],
+    m: usize,
+    k: usize,
+) -> UnifyAnswer
     requires { ⌜ Solvable (now nodes) (now state) (now scratch) m ⌝ }
     requires { ⌜ Closed k (now state) ⌝ }
     ensures { λ r. ⌜ ((g : Solvable (now (nodes .entry)) (now (state .entry)) (now (scratch .entry)) m)
@@ -238,11 +245,11 @@ fn solve_pair(nodes: &[u32], state: &mut [u32], scratch: &mut [u32], m: usize, k
         match t {
             Turn::Go(_) => {
                 let trail = n;
-                return Unified { equal: true, trail };
+                return UnifyAnswer { equal: true, trail };
             }
             Turn::Clash => {
                 let trail = n;
-                return Unified {
+                return UnifyAnswer {
                     equal: false,
                     trail,
                 };
@@ -255,7 +262,7 @@ fn solve_pair(nodes: &[u32], state: &mut [u32], scratch: &mut [u32], m: usize, k
             } => {
                 if check(nodes, state, scratch, cell, node, copy, closed, height) {
                     let trail = n;
-                    return Unified {
+                    return UnifyAnswer {
                         equal: false,
                         trail,
                     };
@@ -280,11 +287,12 @@ pub fn unify_closed(
     d: usize,
     n: usize,
     k: usize,
-) -> Unified
+) -> UnifyAnswer
     requires { ⌜ Unifiable (now nodes) (now state) (now scratch) p c q d n ⌝ }
     requires { ⌜ Closed k (now state) ⌝ }
     ensures { λ r. ⌜ ((g : Unifiable (now (nodes .entry)) (now (state .entry)) (now (scratch .entry)) p c q d n)
-        → Unifies (g .ss) (now (nodes .entry)) (now (state .entry)) (now (state .exit)) (now (scratch .entry)) (now (scratch .exit)) (g .top) p c q d n r) ⌝ }
+        → UnifyGives (g .ss) (now (nodes .entry)) (now (state .entry)) (now (state .exit)) (now (scratch .entry)) (now (scratch .exit))
+        (g .top) p c q d n r) ⌝ }
 {
     forget(scratch);
     begin(scratch);
@@ -302,10 +310,11 @@ pub fn unify(
     q: usize,
     d: usize,
     n: usize,
-) -> Unified
+) -> UnifyAnswer
     requires { ⌜ Unifiable (now nodes) (now state) (now scratch) p c q d n ⌝ }
     ensures { λ r. ⌜ ((g : Unifiable (now (nodes .entry)) (now (state .entry)) (now (scratch .entry)) p c q d n)
-        → Unifies (g .ss) (now (nodes .entry)) (now (state .entry)) (now (state .exit)) (now (scratch .entry)) (now (scratch .exit)) (g .top) p c q d n r) ⌝ }
+        → UnifyGives (g .ss) (now (nodes .entry)) (now (state .entry)) (now (state .exit)) (now (scratch .entry)) (now (scratch .exit))
+        (g .top) p c q d n r) ⌝ }
 {
     unify_closed(nodes, state, scratch, p, c, q, d, n, 0)
 }

@@ -10,17 +10,17 @@ use lib.Seq.{getD-set-same, getD-set-other, length-take-le, getD-take}
 use borrow.Author.Tests.{ltb-true, ltb-false, eqb-true, eqb-false}
 use Rattle.syntax.specs.Words.{firstName}
 use Rattle.machine.specs.Substitution.{RTerm, var, replace, Binding, resolve}
-use Rattle.layout.specs.Regions.{copies, cells, storeWords, loadedNode, cutList, cutCount, cutOf, cutsWord, memo, slots, keys, rows}
-use Rattle.layout.specs.Nodes.{Symbol, Node, termAt}
-use Rattle.layout.specs.State.{cellOf, variableOf, nodeOf, copyOf, cellAt, bindings, Store}
-use Rattle.layout.proofs.Nodes.{node-inside, variable-at}
-use Rattle.layout.proofs.State.{variable-cell, cell-small, copy-small}
-use Rattle.bindings.specs.Cells.{atOf, boundAt, Given, Leads, Derefs}
-use Rattle.bindings.specs.declared.At.{At}
-use Rattle.bindings.specs.Scratch.{Roomy}
-use Rattle.bindings.proofs.Deref.{BoundCell, bound-cell-is, bound-variable, bound-name, depth, depth-variable}
-use Rattle.unify_cuts.specs.Cuts.{cutsMade, cutFrom, cutTo, cellMeans, Cuts, Cut, Beside, Cutting}
-use Rattle.unify_cuts.specs.Chains.{Fronted, Followable, Next, Staged, Further, Strode, Cuttable, Eased, Followed, Both, Ended}
+use Rattle.run_layout.specs.Regions.{copies, cells, storeWords, loadedNode, cutList, cutCount, cutOf, cutsWord, memo, slots, keys, rows}
+use Rattle.run_layout.specs.Nodes.{Symbol, Node, termAt}
+use Rattle.run_layout.specs.State.{cellOf, variableOf, nodeOf, copyOf, cellAt, bindings, Store}
+use Rattle.run_layout.proofs.Nodes.{node-inside, variable-at}
+use Rattle.run_layout.proofs.State.{variable-cell, cell-small, copy-small}
+use Rattle.unify_bindings.specs.Cells.{atOf, boundAt, StoredTerm, Leads, Derefs}
+use Rattle.unify_bindings.specs.declared.At.{At}
+use Rattle.unify_bindings.specs.Scratch.{Roomy}
+use Rattle.unify_bindings.proofs.Deref.{BoundCell, bound-cell-is, bound-variable, bound-name, depth, depth-variable}
+use Rattle.unify_cuts.specs.Cuts.{cutsMade, cutFrom, cutTo, cellMeans, Cuts, Cut, CutsOnly, Cutting}
+use Rattle.unify_cuts.specs.Chains.{Fronted, Followable, Next, Staged, Further, Strode, Cuttable, Eased, Followed, Both, BothFollowed}
 use Rattle.unify_cuts.specs.declared.Stage.{Stage}
 use Rattle.unify_cuts.specs.declared.Ends.{Ends}
 
@@ -381,7 +381,7 @@ module _ (nodes front before : List ℕ) (p c q d : ℕ) (g : Both nodes front b
     abbrev pub far-second : Followable nodes front after q d
     far-second = record { from = right-from; roomy = eased-roomy (first-followed .eased) (g .left .roomy); cuts = first-followed .eased .cuts }
 
-    pub far-done : {later : List ℕ} {q2 d2 : ℕ} → ((h : Followable nodes front after q d) → Followed (h .from .given .ss) nodes (h .from .state) (h .from .given .n) after later q d q2 d2) → Ended (g .left .from .given .ss) nodes (g .left .from .state) (g .left .from .given .n) before later p c q d (record { node = q1; copy = d1; other = q2; second = d2 })
+    pub far-done : {later : List ℕ} {q2 d2 : ℕ} → ((h : Followable nodes front after q d) → Followed (h .from .given .ss) nodes (h .from .state) (h .from .given .n) after later q d q2 d2) → BothFollowed (g .left .from .given .ss) nodes (g .left .from .state) (g .left .from .given .n) before later p c q d (record { node = q1; copy = d1; other = q2; second = d2 })
     far-done m =
         let s : Followed (g .left .from .given .ss) nodes (g .left .from .state) (g .left .from .given .n) after _ q d _ _ = m far-second in
         record { left = first-followed .derefs; right = s .derefs; eased = eased-trans (first-followed .eased) (s .eased) }
@@ -425,16 +425,16 @@ module _ (nodes state before : List ℕ) (p c q d : ℕ) (g : Both nodes state b
           copy = a1 .copy;
         }
 
-    pub both-done : {after : List ℕ} {r : Ends} → ((h : Both nodes front before p1 c1 q1 d1) → Ended (h .left .from .given .ss) nodes (h .left .from .state) (h .left .from .given .n) before after p1 c1 q1 d1 r) → Ended (g .left .from .given .ss) nodes (g .left .from .state) (g .left .from .given .n) before after p c q d r
+    pub both-done : {after : List ℕ} {r : Ends} → ((h : Both nodes front before p1 c1 q1 d1) → BothFollowed (h .left .from .given .ss) nodes (h .left .from .state) (h .left .from .given .n) before after p1 c1 q1 d1 r) → BothFollowed (g .left .from .given .ss) nodes (g .left .from .state) (g .left .from .given .n) before after p c q d r
     both-done m =
-        let e : Ended (g .left .from .given .ss) nodes (g .left .from .state) (g .left .from .given .n) before _ p1 c1 q1 d1 _ = m both-far in
+        let e : BothFollowed (g .left .from .given .ss) nodes (g .left .from .state) (g .left .from .given .n) before _ p1 c1 q1 d1 _ = m both-far in
         record {
           left = record { leads = leads-trans a (e .left .leads); stops = e .left .stops };
           right = record { leads = leads-trans a1 (e .right .leads); stops = e .right .stops };
           eased = e .eased;
         }
 
-  pub both-near : {l r : Stage} → Staged (g .left .from .given .ss) nodes (g .left .from .state) (g .left .from .given .n) p c l → l .word ≡ 0 → Staged (g .left .from .given .ss) nodes (g .left .from .state) (g .left .from .given .n) q d r → r .word ≡ 0 → Ended (g .left .from .given .ss) nodes (g .left .from .state) (g .left .from .given .n) before before p c q d (record { node = l .node; copy = l .copy; other = r .node; second = r .copy })
+  pub both-near : {l r : Stage} → Staged (g .left .from .given .ss) nodes (g .left .from .state) (g .left .from .given .n) p c l → l .word ≡ 0 → Staged (g .left .from .given .ss) nodes (g .left .from .state) (g .left .from .given .n) q d r → r .word ≡ 0 → BothFollowed (g .left .from .given .ss) nodes (g .left .from .state) (g .left .from .given .n) before before p c q d (record { node = l .node; copy = l .copy; other = r .node; second = r .copy })
   both-near a e a1 e1 =
       record {
         left = record { leads = a .leads; stops = a .stops e };

@@ -5,12 +5,12 @@ use mathlib.Core.List.{List}
 use lib.ListN.{length, getD}
 use Rattle.syntax.specs.Words.{firstName}
 use Rattle.machine.specs.Substitution.{Binding}
-use Rattle.layout.specs.Regions.{copies, cells}
-use Rattle.layout.specs.Nodes.{Symbol, Node}
-use Rattle.layout.specs.State.{cellOf, nodeOf, copyOf, cellAt, bindings}
-use Rattle.bindings.specs.Cells.{Given, Leads, Derefs}
-use Rattle.bindings.specs.Scratch.{Roomy}
-use Rattle.unify_cuts.specs.Cuts.{Cuts, Beside}
+use Rattle.run_layout.specs.Regions.{copies, cells}
+use Rattle.run_layout.specs.Nodes.{Symbol, Node}
+use Rattle.run_layout.specs.State.{cellOf, nodeOf, copyOf, cellAt, bindings}
+use Rattle.unify_bindings.specs.Cells.{StoredTerm, Leads, Derefs}
+use Rattle.unify_bindings.specs.Scratch.{Roomy}
+use Rattle.unify_cuts.specs.Cuts.{Cuts, CutsOnly}
 use Rattle.unify_cuts.specs.declared.Stage.{Stage}
 use Rattle.unify_cuts.specs.declared.Ends.{Ends}
 
@@ -21,7 +21,7 @@ strideLinks = 32
 -- A run-time term in a store, the words of whose cells are at hand.
 pub record Fronted (nodes front : List ℕ) (p c : ℕ) : Type 0 where
   pub state : List ℕ
-  pub given : Given nodes state p c
+  pub given : StoredTerm nodes state p c
   pub long : cells ≤ length front
   pub same : (x : ℕ) → x < cells → getD front x 0 ≡ getD state x 0
 
@@ -66,7 +66,7 @@ pub record Cuttable (nodes scratch : List ℕ) (p c q d : ℕ) : Type 0 where
 
 -- Only cuts and their slots changed, and the cuts are right.
 pub record Eased (b : List Binding) (before after : List ℕ) : Type 0 where
-  pub beside : Beside before after
+  pub beside : CutsOnly before after
   pub cuts : Cuts b after
 
 -- The term is dereferenced, and only cuts changed.
@@ -81,7 +81,7 @@ pub record Both (nodes front scratch : List ℕ) (p c q d : ℕ) : Type 0 where
   pub copy : d < copies
 
 -- Both are dereferenced, and only cuts changed.
-pub record Ended (ss : List Symbol) (nodes state : List ℕ) (n : ℕ) (before after : List ℕ) (p c q d : ℕ) (r : Ends) : Type 0 where
+pub record BothFollowed (ss : List Symbol) (nodes state : List ℕ) (n : ℕ) (before after : List ℕ) (p c q d : ℕ) (r : Ends) : Type 0 where
   pub left : Derefs ss nodes state n p c (r .node) (r .copy)
   pub right : Derefs ss nodes state n q d (r .other) (r .second)
   pub eased : Eased (bindings ss nodes state n) before after

@@ -4,8 +4,8 @@ use mathlib.Core.Path.{_≡_}
 use mathlib.Core.List.{List}
 use lib.ListN.{length, getD}
 use Rattle.machine.specs.Substitution.{RTerm, var, Binding, resolve}
-use Rattle.layout.specs.Regions.{cells, cutList, cutCount, cutOf, cutsWord, memo, slots, keys}
-use Rattle.layout.specs.State.{variableOf}
+use Rattle.run_layout.specs.Regions.{cells, cutList, cutCount, cutOf, cutsWord, memo, slots, keys}
+use Rattle.run_layout.specs.State.{variableOf}
 
 -- how many cuts there are, and from which cell to which a cut leads
 abbrev pub cutsMade : List ℕ → ℕ
@@ -30,7 +30,7 @@ pub record Cut (scratch : List ℕ) (x y : ℕ) : Type 0 where
   pub is : (b : List Binding) → Cuts b scratch → cellMeans b x ≡ cellMeans b y
 
 -- The words beside the cuts and their slots are as they were.
-pub record Beside (before after : List ℕ) : Type 0 where
+pub record CutsOnly (before after : List ℕ) : Type 0 where
   pub long : length after ≡ length before
   pub low : (j : ℕ) → j < cutList → getD after j 0 ≡ getD before j 0
   pub counts : (j : ℕ) → memo ≤ j → j < slots → getD after j 0 ≡ getD before j 0
@@ -38,5 +38,5 @@ pub record Beside (before after : List ℕ) : Type 0 where
 
 -- A cut from x to y, perhaps.
 pub record Cutting (before after : List ℕ) (x y : ℕ) : Type 0 where
-  pub beside : Beside before after
+  pub beside : CutsOnly before after
   pub cuts : (b : List Binding) → cellMeans b x ≡ cellMeans b y → Cuts b before → Cuts b after

@@ -1,29 +1,29 @@
 // Short cuts through chains of variables, which hold for one unification: a cut leads from a cell to one further along its chain. A slot for each cell says
 // which cut is the cell's: it is the higher half of one of the memo's slots. Slots are never cleared, since a cut names its cell. On a long walk a cut is made
 // every so many links, so a later walk along the chain is short.
-use bindings::At;
-use bindings::store::bound_at;
-use bindings::store::unpack;
-use layout::CELLS;
-use layout::CUT_COUNT;
-use layout::CUT_LIST;
-use layout::CUT_SIZE;
-use layout::CUTS_WORD;
-use layout::SLOT_COUNT;
-use layout::SLOTS;
-use layout::cell_of;
-use layout::half_of;
-use layout::with_half;
+use run_layout::CELLS;
+use run_layout::CUT_COUNT;
+use run_layout::CUT_LIST;
+use run_layout::CUT_SIZE;
+use run_layout::CUTS_WORD;
+use run_layout::SLOT_COUNT;
+use run_layout::SLOTS;
+use run_layout::cell_of;
+use run_layout::half_of;
+use run_layout::with_half;
 use syntax::FIRST_NAME;
-use words::put;
-use words::word_at;
+use table_words::put;
+use table_words::word_at;
+use unify_bindings::At;
+use unify_bindings::store::bound_at;
+use unify_bindings::store::unpack;
 ghost use Prim.Native.Nat.{_<_, _+_};
 ghost use lib.ListN.{length, getD};
-ghost use Rattle.layout.specs.Regions.{cells};
-ghost use Rattle.layout.specs.State.{cellOf};
-ghost use Rattle.bindings.specs.Scratch.{Roomy};
+ghost use Rattle.run_layout.specs.Regions.{cells};
+ghost use Rattle.run_layout.specs.State.{cellOf};
+ghost use Rattle.unify_bindings.specs.Scratch.{Roomy};
 ghost use Rattle.unify_cuts.specs.Cuts.{Cut, Cutting};
-ghost use Rattle.unify_cuts.specs.Chains.{Fronted, Followable, Next, Staged, Strode, Cuttable, Followed, Both, Ended};
+ghost use Rattle.unify_cuts.specs.Chains.{Fronted, Followable, Next, Staged, Strode, Cuttable, Followed, Both, BothFollowed};
 
 // A cut leads over so many links, or cuts.
 const STRIDE: usize = 32;
@@ -225,7 +225,8 @@ fn follow_far(
 ) -> Ends
     requires { ⌜ Both (now nodes) (now front) (now scratch) p c q d ⌝ }
     ensures { λ r. ⌜ ((g : Both (now (nodes .entry)) (now (front .entry)) (now (scratch .entry)) p c q d)
-        → Ended (g .left .from .given .ss) (now (nodes .entry)) (g .left .from .state) (g .left .from .given .n) (now (scratch .entry)) (now (scratch .exit))
+        → BothFollowed (g .left .from .given .ss) (now (nodes .entry)) (g .left .from .state) (g .left .from .given .n) (now (scratch .entry)) (now
+        (scratch .exit))
         p c q d r) ⌝ }
 {
     let a = go_on(nodes, front, scratch, p, c);
@@ -250,7 +251,8 @@ fn follow_on(
 ) -> Ends
     requires { ⌜ Both (now nodes) (now state) (now scratch) p c q d ⌝ }
     ensures { λ r. ⌜ ((g : Both (now (nodes .entry)) (now (state .entry)) (now (scratch .entry)) p c q d)
-        → Ended (g .left .from .given .ss) (now (nodes .entry)) (g .left .from .state) (g .left .from .given .n) (now (scratch .entry)) (now (scratch .exit))
+        → BothFollowed (g .left .from .given .ss) (now (nodes .entry)) (g .left .from .state) (g .left .from .given .n) (now (scratch .entry)) (now
+        (scratch .exit))
         p c q d r) ⌝ }
 {
     let front = &state[..CELLS];
@@ -269,7 +271,8 @@ pub fn follow(
 ) -> Ends
     requires { ⌜ Both (now nodes) (now state) (now scratch) p c q d ⌝ }
     ensures { λ r. ⌜ ((g : Both (now (nodes .entry)) (now (state .entry)) (now (scratch .entry)) p c q d)
-        → Ended (g .left .from .given .ss) (now (nodes .entry)) (g .left .from .state) (g .left .from .given .n) (now (scratch .entry)) (now (scratch .exit))
+        → BothFollowed (g .left .from .given .ss) (now (nodes .entry)) (g .left .from .state) (g .left .from .given .n) (now (scratch .entry)) (now
+        (scratch .exit))
         p c q d r) ⌝ }
 {
     let l = lead(nodes, state, p, c);

@@ -19,8 +19,8 @@ use denote.Triple.Table.{entered, cited}
 use Rattle.syntax.specs.Verdicts.{sheetVerdict}
 use Rattle.syntax.specs.declared.Entry.{Entry}
 use Rattle.syntax.specs.declared.Verdict.{Verdict}
-use Rattle.rules.specs.Checking.{checkedSheet, checkVerdict}
-use Rattle.listings.specs.Listings.{overlay, declaredOf}
+use Rattle.mode_rules.specs.Checking.{checkedSheet, checkVerdict}
+use Rattle.out_listings.specs.Listings.{overlay, declaredOf}
 use Rattle.pilvaust.proofs.check_listing.Symbol as listing-def
 use Rattle.pilvaust.proofs.check_listing.Symbol.{name as #listing}
 use Rattle.pilvaust.proofs.check_listing.Met as listing-thm

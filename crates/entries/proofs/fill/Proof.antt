@@ -50,10 +50,10 @@ use denote.Signature.{plain}
 use Rattle.syntax.specs.declared.Entry.{Entry}
 use Rattle.syntax.proofs.Entry as E
 use Rattle.syntax.proofs.Entry.Laws as E′
-use Rattle.listings.specs.declared.Listing.{Listing}
-use Rattle.listings.specs.Listings.{entryFrom, pasted}
-use Rattle.listings.proofs.Listing as T
-use Rattle.listings.proofs.Listing.Laws as T′
+use Rattle.out_listings.specs.declared.Listing.{Listing}
+use Rattle.out_listings.specs.Listings.{entryFrom, pasted}
+use Rattle.out_listings.proofs.Listing as T
+use Rattle.out_listings.proofs.Listing.Laws as T′
 use Rattle.entries.proofs.entry_in as entry-in
 use Rattle.entries.proofs.entry_in.Symbol as entry-in-def
 use Rattle.entries.proofs.entry_in.Symbol.{name as #entry-in}

@@ -19,7 +19,7 @@ use denote.Triple.Table.{entered, cited}
 use Rattle.syntax.specs.Verdicts.{sheetOf, sheetVerdict, readVerdict}
 use Rattle.syntax.specs.declared.Entry.{Entry}
 use Rattle.syntax.specs.declared.Verdict.{Verdict}
-use Rattle.listings.specs.Listings.{overlay, declaredOf}
+use Rattle.out_listings.specs.Listings.{overlay, declaredOf}
 use Rattle.pilvaust.proofs.read_listing.Symbol as listing-def
 use Rattle.pilvaust.proofs.read_listing.Symbol.{name as #listing}
 use Rattle.pilvaust.proofs.read_listing.Met as listing-thm

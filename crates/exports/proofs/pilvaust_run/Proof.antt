@@ -5,8 +5,8 @@ use lib.ListN.{length}
 use lib.Seq.{sets}
 use borrow.Author.Needs.{needs}
 use Rattle.machine.specs.Runs.{RunSettings, RunOutcome, runOutcome, runText}
-use Rattle.packing.specs.Numbers.{runNumbers}
-use Rattle.packing.proofs.Laws.{Given, given-as}
+use Rattle.out_numbers.specs.Numbers.{runNumbers}
+use Rattle.out_numbers.proofs.Laws.{Given, given-as}
 use Rattle.exports.specs.Runs.{asking, outcomeNumbers}
 use Rattle.exports.proofs.pilvaust_run.Statement.{statement}
 use Rattle.exports.proofs.pilvaust_run.Tie as tie

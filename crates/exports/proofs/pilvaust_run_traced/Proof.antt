@@ -6,8 +6,8 @@ use lib.Seq.{sets}
 use borrow.Author.Needs.{needs}
 use Rattle.machine.specs.Runs.{RunSettings, RunOutcome, runText}
 use Rattle.machine.specs.Traces.{tracedOutcome}
-use Rattle.packing.specs.Numbers.{runNumbers}
-use Rattle.packing.proofs.Laws.{Given, given-as}
+use Rattle.out_numbers.specs.Numbers.{runNumbers}
+use Rattle.out_numbers.proofs.Laws.{Given, given-as}
 use Rattle.exports.specs.Runs.{asking, outcomeNumbers}
 use Rattle.exports.proofs.pilvaust_run_traced.Statement.{statement}
 use Rattle.exports.proofs.pilvaust_run_traced.Tie as tie

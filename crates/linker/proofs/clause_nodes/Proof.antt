@@ -1,6 +1,6 @@
 -- `linker::clauses::clause_nodes` meets its contract. Assumes nothing.
 use mathlib.Core.List.{[]}
-use Rattle.clause_records.proofs.Sizes.{says}
+use Rattle.link_clauses.proofs.Sizes.{says}
 use Rattle.linker.proofs.Sizes.{clause-marks, clause-size}
 use native.Mathlib.Omega.{arith}
 use Rattle.linker.proofs.clause_nodes.Statement.{statement}

@@ -4,8 +4,8 @@ use mathlib.Core.Path.{ap, _∙_}
 use mathlib.Core.List.{List}
 use lib.ListN.{length}
 use Rattle.syntax.specs.Terms.{Sheet, Clause}
-use Rattle.layout.specs.Regions.{clauseBodies}
-use Rattle.layout.specs.Nodes.{Symbol}
+use Rattle.run_layout.specs.Regions.{clauseBodies}
+use Rattle.run_layout.specs.Nodes.{Symbol}
 use Rattle.linker.specs.Records.{putClauses}
 use Rattle.linker.specs.Places.{ClausesTo}
 use Rattle.linker.proofs.Sheets.{ClausesAhead, clauses-begin, clauses-length, clauses-end, ahead-clause, clause-here, turn-ends, turn-small, node-fits, clauses-next}

@@ -4,7 +4,7 @@ use mathlib.Core.Path.{ap, _∙_}
 use mathlib.Core.List.{List}
 use lib.ListN.{length}
 use Rattle.syntax.specs.Terms.{Clause}
-use Rattle.layout.specs.Nodes.{Symbol}
+use Rattle.run_layout.specs.Nodes.{Symbol}
 use Rattle.linker.specs.Records.{putHeads}
 use Rattle.linker.specs.Places.{HeadsTo}
 use Rattle.linker.proofs.Writing.{heads-long}

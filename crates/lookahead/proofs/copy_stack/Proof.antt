@@ -2,14 +2,14 @@
 use Prim.Native.Nat.{_-_, _≤_}
 use native.Mathlib.Omega.{arith}
 use borrow.Author.Needs.{needs}
-use Rattle.layout.specs.Regions.{memo}
-use Rattle.lookahead_words.specs.Room.{Lent}
+use Rattle.run_layout.specs.Regions.{memo}
+use Rattle.lookahead_words.specs.Room.{KeptBelow}
 use Rattle.lookahead_words.proofs.Lending.{lent-same, lent-on}
 use Rattle.lookahead.proofs.copy_stack.Statement.{statement}
 use Rattle.lookahead.proofs.copy_stack.Tie as tie
 
 abbrev Inv-loop : tie.InvT-loop
-Inv-loop nodes scratch₀ h n first k₀ scratch k = (k ≤ n) × Lent memo scratch₀ scratch
+Inv-loop nodes scratch₀ h n first k₀ scratch k = (k ≤ n) × KeptBelow memo scratch₀ scratch
 
 abbrev μ-loop : tie.MeasureT-loop
 μ-loop nodes scratch₀ h n first k₀ scratch k = n - k

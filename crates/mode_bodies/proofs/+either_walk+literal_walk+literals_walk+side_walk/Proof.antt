@@ -5,8 +5,8 @@ use mathlib.Core.Path.{sym, ap, _∙_}
 use lib.ListN.{length}
 use Rattle.syntax.specs.Terms.{literalsOf}
 use Rattle.syntax.specs.Words.{bodyWords, sideItems}
-use Rattle.rules.specs.Modes.{bodyFault}
-use Rattle.marking.specs.Tables.{DeclarationsAt, BodyAt}
+use Rattle.mode_rules.specs.Modes.{bodyFault}
+use Rattle.mode_marks.specs.Tables.{DeclarationsAt, BodyAt}
 use Rattle.mode_literals.proofs.Literals.{literal-room}
 use Rattle.mode_bodies.proofs.Walking.{either-at, left-stops, right-at, right-literal, right-further, right-stops, both-pass, both-room, side-body, Ahead, begun, turn, walk-ended, walk-stopped, further-on, rises, walk-on}
 use borrow.Fn.Kinds.{In}
@@ -23,11 +23,11 @@ use Rattle.mode_bodies.proofs.+either_walk+literal_walk+literals_walk+s
 use Rattle.mode_bodies.proofs.side_walk.Reads as side-walk
 use Rattle.mode_bodies.proofs.side_walk.Kinds as side-walk-kinds
 use Rattle.mode_bodies.proofs.+either_walk+literal_walk+literals_walk+side_walk.Lts-side_walk as side-walk-lts
-use Rattle.flags.proofs.in_both.Reads as in-both-reads
+use Rattle.mode_flags.proofs.in_both.Reads as in-both-reads
 use Rattle.mode_literals.proofs.plain_walk.Reads as plain-walk-reads
-use Rattle.marking.proofs.is_fault.Reads as is-fault-reads
+use Rattle.mode_marks.proofs.is_fault.Reads as is-fault-reads
 use Rattle.packed_words.proofs.items_of_side.Reads as items-of-side-reads
-use Rattle.words.proofs.word_at.Reads as word-at-reads
+use Rattle.table_words.proofs.word_at.Reads as word-at-reads
 use Rattle.mode_bodies.proofs.+either_walk+literal_walk+literals_walk+side_walk.{statement}
 use Rattle.mode_bodies.proofs.+either_walk+literal_walk+literals_walk+side_walk.Tie.{close}
 

@@ -1,8 +1,8 @@
 -- `literals::call_walk` meets its contract. Assumes nothing.
-use Rattle.marking.proofs.Places.{node-inside, past-ends}
+use Rattle.mode_marks.proofs.Places.{node-inside, past-ends}
 use native.Mathlib.Omega.{arith}
 use Rattle.syntax.specs.Terms.{output}
-use Rattle.judging.proofs.Judging.{judged-term, judged-room, judged-marked}
+use Rattle.mode_arguments.proofs.Judging.{judged-term, judged-room, judged-marked}
 use Rattle.mode_literals.proofs.Literals.{judged-at, walked-fault}
 use Rattle.mode_literals.proofs.call_walk.Statement.{statement}
 use Rattle.mode_literals.proofs.call_walk.Tie as tie

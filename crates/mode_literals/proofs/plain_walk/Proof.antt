@@ -1,7 +1,7 @@
 -- `literals::plain_walk` meets its contract. Assumes nothing.
-use Rattle.marking.proofs.Places.{node-inside, past-ends}
+use Rattle.mode_marks.proofs.Places.{node-inside, past-ends}
 use native.Mathlib.Omega.{arith}
-use Rattle.rules.specs.Modes.{everything}
+use Rattle.mode_rules.specs.Modes.{everything}
 use Rattle.mode_literals.proofs.Literals.{at-least, literal-room, atom-at, first-term, right-term, sides-at, walked-truth, walked-falsity, walked-call, walked-equation}
 use Rattle.mode_literals.proofs.plain_walk.Statement.{statement}
 use Rattle.mode_literals.proofs.plain_walk.Tie as tie

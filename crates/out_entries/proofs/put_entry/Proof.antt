@@ -10,11 +10,11 @@ use Rattle.out_entries.proofs.put_entry.Tie as tie
 enum-known-declared : tie.Need-enum-known-declared
 enum-known-declared c = search needs
 
-slice-aggregate-put : tie.Need-slice-aggregate-put
-slice-aggregate-put c = search needs
+slice-aggregate-put-numbers : tie.Need-slice-aggregate-put-numbers
+slice-aggregate-put-numbers c = search needs
 
-put-requires : tie.Need-put-requires
-put-requires c κs = search needs
+put-numbers-requires : tie.Need-put-numbers-requires
+put-numbers-requires c κs = search needs
 
 enum-told : tie.Need-enum-told
 enum-told c = search needs
@@ -28,8 +28,8 @@ returns c =
     let c2 = c .before .before in
     let c6 = c2 .before .before .before .before in
     let c9 = c6 .before .before .before in (
-      c2 .put .ensures .past ∙ sym (ap (λ (d : Declared). length (entryNumbers d)) (c6 .declared .given .1)),
-      c2 .put .ensures .text ∙ sym (ap (λ (d : Declared). sets (c9 .args .out .now) 0 (entryNumbers d)) (c6 .declared .given .1)),
+      c2 .put-numbers .ensures .past ∙ sym (ap (λ (d : Declared). length (entryNumbers d)) (c6 .declared .given .1)),
+      c2 .put-numbers .ensures .text ∙ sym (ap (λ (d : Declared). sets (c9 .args .out .now) 0 (entryNumbers d)) (c6 .declared .given .1)),
     )
 
 returns-2 : tie.Need-returns-2
@@ -45,8 +45,8 @@ put-entry-spec =
     tie.close
     (tie.spec
     enum-known-declared
-    slice-aggregate-put
-    put-requires
+    slice-aggregate-put-numbers
+    put-numbers-requires
     enum-told
     same-length
     returns

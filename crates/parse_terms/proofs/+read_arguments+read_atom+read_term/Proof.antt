@@ -3,7 +3,7 @@ use lib.Dec.{lit<}
 use Prim.Native.Nat.{ℕ, _<_, _+_, _*_}
 use borrow.Author.Needs.{needs}
 use native.Mathlib.Omega.{arith}
-use Rattle.reading.proofs.TermLaws.{name-fits, leaf-asked, atom-bare, atom-deep, atom-fault, atom-list, list-ready, close-ready, term-name, term-simple, arguments-full, arguments-fault, arguments-standing, arguments-ready, arguments-few, arguments-more, arguments-last, arguments-wrong}
+use Rattle.parse_cursor.proofs.TermLaws.{name-fits, leaf-asked, atom-bare, atom-deep, atom-fault, atom-list, list-ready, close-ready, term-name, term-simple, arguments-full, arguments-fault, arguments-standing, arguments-ready, arguments-few, arguments-more, arguments-last, arguments-wrong}
 use borrow.Fn.Kinds.{In}
 use borrow.Fn.PlainCycle.{Measures, is, falls, and}
 use Rattle.parse_terms.proofs.read_arguments.Reads as read-arguments
@@ -16,14 +16,14 @@ use Rattle.parse_terms.proofs.read_term.Reads as read-term
 use Rattle.parse_terms.proofs.read_term.Kinds as read-term-kinds
 use Rattle.parse_terms.proofs.+read_arguments+read_atom+read_term.Lts-read_term as read-term-lts
 use Rattle.packed_words.proofs.pack_functor.Reads as pack-functor-reads
-use Rattle.reading.proofs.cursor.next.Reads as next-reads
-use Rattle.reading.proofs.cursor.refuse.Reads as refuse-reads
-use Rattle.reading.proofs.cursor.wrong.Reads as wrong-reads
+use Rattle.parse_cursor.proofs.cursor.next.Reads as next-reads
+use Rattle.parse_cursor.proofs.cursor.refuse.Reads as refuse-reads
+use Rattle.parse_cursor.proofs.cursor.wrong.Reads as wrong-reads
 use Rattle.parse_terms.proofs.close.Reads as close-reads
-use Rattle.reading.proofs.cursor.counted.Reads as counted-reads
-use Rattle.reading.proofs.cursor.full.Reads as full-reads
-use Rattle.reading.proofs.leaves.leaf.Reads as leaf-reads
-use Rattle.reading.proofs.leaves.read_simple.Reads as read-simple-reads
+use Rattle.parse_cursor.proofs.cursor.counted.Reads as counted-reads
+use Rattle.parse_cursor.proofs.cursor.full.Reads as full-reads
+use Rattle.parse_cursor.proofs.leaves.leaf.Reads as leaf-reads
+use Rattle.parse_cursor.proofs.leaves.read_simple.Reads as read-simple-reads
 use Rattle.parse_terms.proofs.+read_arguments+read_atom+read_term.{statement}
 use Rattle.parse_terms.proofs.+read_arguments+read_atom+read_term.Tie.{close}
 

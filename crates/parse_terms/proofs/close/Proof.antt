@@ -1,6 +1,6 @@
 -- `terms::close` meets its contract. Assumes nothing.
 use borrow.Author.Needs.{needs}
-use Rattle.reading.proofs.TermLaws.{closed-words}
+use Rattle.parse_cursor.proofs.TermLaws.{closed-words}
 use Rattle.parse_terms.proofs.close.Statement.{statement}
 use Rattle.parse_terms.proofs.close.Tie as tie
 

@@ -10,20 +10,20 @@ declared-room-requires c κs = search needs
 node-room-requires : tie.Need-node-room-requires
 node-room-requires c κs = search needs
 
-slice-aggregate-load-checked : tie.Need-slice-aggregate-load-checked
-slice-aggregate-load-checked c = search needs
+slice-aggregate-read-checked : tie.Need-slice-aggregate-read-checked
+slice-aggregate-read-checked c = search needs
 
-slice-aggregate-load-checked-2 : tie.Need-slice-aggregate-load-checked-2
-slice-aggregate-load-checked-2 c = search needs
+slice-aggregate-read-checked-2 : tie.Need-slice-aggregate-read-checked-2
+slice-aggregate-read-checked-2 c = search needs
 
-load-checked-requires : tie.Need-load-checked-requires
-load-checked-requires c κs = search needs
+read-checked-requires : tie.Need-read-checked-requires
+read-checked-requires c κs = search needs
 
 listed-requires : tie.Need-listed-requires
 listed-requires c κs = search needs
 
 returns : tie.Need-returns
-returns c = let c9 = c .before .before .before .before .before .before .before .before .before in check-lists (c9 .args .sheet .now) (c .before .before .before .load-checked .last .1 .0) (c .before .before .before .load-checked .last .1 .1 .0) (search needs) (c9 .args .room) (c .before .before .before .load-checked .result) (c .listed .result) (c .before .before .before .load-checked .ensures .0) (c .before .before .before .load-checked .ensures .1) (c .listed .ensures)
+returns c = let c9 = c .before .before .before .before .before .before .before .before .before in check-lists (c9 .args .sheet .now) (c .before .before .before .read-checked .last .1 .0) (c .before .before .before .read-checked .last .1 .1 .0) (search needs) (c9 .args .room) (c .before .before .before .read-checked .result) (c .listed .result) (c .before .before .before .read-checked .ensures .0) (c .before .before .before .read-checked .ensures .1) (c .listed .ensures)
 
 pub check-listing-spec : {M : Type 1} → statement M
 check-listing-spec =
@@ -31,8 +31,8 @@ check-listing-spec =
     (tie.spec
     declared-room-requires
     node-room-requires
-    slice-aggregate-load-checked
-    slice-aggregate-load-checked-2
-    load-checked-requires
+    slice-aggregate-read-checked
+    slice-aggregate-read-checked-2
+    read-checked-requires
     listed-requires
     returns)

@@ -11,14 +11,14 @@ declared-room-requires c κs = search needs
 node-room-requires : tie.Need-node-room-requires
 node-room-requires c κs = search needs
 
-slice-aggregate-load-checked : tie.Need-slice-aggregate-load-checked
-slice-aggregate-load-checked c = search needs
+slice-aggregate-read-checked : tie.Need-slice-aggregate-read-checked
+slice-aggregate-read-checked c = search needs
 
-slice-aggregate-load-checked-2 : tie.Need-slice-aggregate-load-checked-2
-slice-aggregate-load-checked-2 c = search needs
+slice-aggregate-read-checked-2 : tie.Need-slice-aggregate-read-checked-2
+slice-aggregate-read-checked-2 c = search needs
 
-load-checked-requires : tie.Need-load-checked-requires
-load-checked-requires c κs = search needs
+read-checked-requires : tie.Need-read-checked-requires
+read-checked-requires c κs = search needs
 
 enum-known-refusal : tie.Need-enum-known-refusal
 enum-known-refusal c = search needs
@@ -33,13 +33,13 @@ slice-aggregate-judge-2 : tie.Need-slice-aggregate-judge-2
 slice-aggregate-judge-2 c = search needs
 
 judge-requires : tie.Need-judge-requires
-judge-requires c κs = let c7 = c .before .before .before .before .before .before .before in let c10 = c7 .before .before .before in let c13 = c10 .before .before .before in judgeable (c13 .args .sheet .now) (c7 .load-checked .last .1 .0) (c7 .load-checked .last .1 .1 .0) (c7 .load-checked .result) (c7 .load-checked .ensures .0) (c7 .load-checked .ensures .1) (c .before .before .before .declarations .given .0 .0) (c .before .before .before .declarations .given .0 .1 .0) (c .before .before .before .declarations .given .1) (omega (arith, c7 .load-checked .kept .1 .1 .0, c10 .node-room .ensures))
+judge-requires c κs = let c7 = c .before .before .before .before .before .before .before in let c10 = c7 .before .before .before in let c13 = c10 .before .before .before in judgeable (c13 .args .sheet .now) (c7 .read-checked .last .1 .0) (c7 .read-checked .last .1 .1 .0) (c7 .read-checked .result) (c7 .read-checked .ensures .0) (c7 .read-checked .ensures .1) (c .before .before .before .declarations .given .0 .0) (c .before .before .before .declarations .given .0 .1 .0) (c .before .before .before .declarations .given .1) (omega (arith, c7 .read-checked .kept .1 .1 .0, c10 .node-room .ensures))
 
 returns : tie.Need-returns
-returns c = let c5 = c .before .before .before .before .before in let c11 = c5 .before .before .before .before .before .before in sheet-declined (c11 .args .sheet .now) (c5 .load-checked .last .1 .0) (c5 .load-checked .last .1 .1 .0) (c5 .load-checked .result) (c5 .load-checked .ensures .0) (c5 .load-checked .ensures .1) (c .before .refusal .given .0 .0) (c .before .refusal .given .0 .1 .0) (c .before .refusal .given .1)
+returns c = let c5 = c .before .before .before .before .before in let c11 = c5 .before .before .before .before .before .before in sheet-declined (c11 .args .sheet .now) (c5 .read-checked .last .1 .0) (c5 .read-checked .last .1 .1 .0) (c5 .read-checked .result) (c5 .read-checked .ensures .0) (c5 .read-checked .ensures .1) (c .before .refusal .given .0 .0) (c .before .refusal .given .0 .1 .0) (c .before .refusal .given .1)
 
 returns-2 : tie.Need-returns-2
-returns-2 c = let c4 = c .before .before .before .before in let c8 = c4 .before .before .before .before in let c11 = c8 .before .before .before in let c14 = c11 .before .before .before in sheet-judged (c14 .args .sheet .now) (c8 .load-checked .last .1 .0) (c8 .load-checked .last .1 .1 .0) (c8 .load-checked .result) (c8 .load-checked .ensures .0) (c8 .load-checked .ensures .1) (c4 .declarations .given .0 .0) (c4 .declarations .given .0 .1 .0) (c4 .declarations .given .1) (omega (arith, c8 .load-checked .kept .1 .1 .0, c11 .node-room .ensures)) (c .judge .result) (c .judge .ensures)
+returns-2 c = let c4 = c .before .before .before .before in let c8 = c4 .before .before .before .before in let c11 = c8 .before .before .before in let c14 = c11 .before .before .before in sheet-judged (c14 .args .sheet .now) (c8 .read-checked .last .1 .0) (c8 .read-checked .last .1 .1 .0) (c8 .read-checked .result) (c8 .read-checked .ensures .0) (c8 .read-checked .ensures .1) (c4 .declarations .given .0 .0) (c4 .declarations .given .0 .1 .0) (c4 .declarations .given .1) (omega (arith, c8 .read-checked .kept .1 .1 .0, c11 .node-room .ensures)) (c .judge .result) (c .judge .ensures)
 
 pub determinate-spec : {M : Type 1} → statement M
 determinate-spec =
@@ -47,9 +47,9 @@ determinate-spec =
     (tie.spec
     declared-room-requires
     node-room-requires
-    slice-aggregate-load-checked
-    slice-aggregate-load-checked-2
-    load-checked-requires
+    slice-aggregate-read-checked
+    slice-aggregate-read-checked-2
+    read-checked-requires
     enum-known-refusal
     enum-known-declarations
     slice-aggregate-judge

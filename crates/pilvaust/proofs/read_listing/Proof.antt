@@ -10,20 +10,20 @@ declared-room-requires c κs = search needs
 node-room-requires : tie.Need-node-room-requires
 node-room-requires c κs = search needs
 
-slice-aggregate-load : tie.Need-slice-aggregate-load
-slice-aggregate-load c = search needs
+slice-aggregate-read-text : tie.Need-slice-aggregate-read-text
+slice-aggregate-read-text c = search needs
 
-slice-aggregate-load-2 : tie.Need-slice-aggregate-load-2
-slice-aggregate-load-2 c = search needs
+slice-aggregate-read-text-2 : tie.Need-slice-aggregate-read-text-2
+slice-aggregate-read-text-2 c = search needs
 
-load-requires : tie.Need-load-requires
-load-requires c κs = search needs
+read-text-requires : tie.Need-read-text-requires
+read-text-requires c κs = search needs
 
 listed-requires : tie.Need-listed-requires
 listed-requires c κs = search needs
 
 returns : tie.Need-returns
-returns c = let c9 = c .before .before .before .before .before .before .before .before .before in read-lists (c9 .args .sheet .now) (c .before .before .before .load .last .1 .0) (c .before .before .before .load .last .1 .1 .0) (search needs) (c9 .args .room) (c .before .before .before .load .result) (c .listed .result) (c .before .before .before .load .ensures .0) (c .before .before .before .load .ensures .1) (c .listed .ensures)
+returns c = let c9 = c .before .before .before .before .before .before .before .before .before in read-lists (c9 .args .sheet .now) (c .before .before .before .read-text .last .1 .0) (c .before .before .before .read-text .last .1 .1 .0) (search needs) (c9 .args .room) (c .before .before .before .read-text .result) (c .listed .result) (c .before .before .before .read-text .ensures .0) (c .before .before .before .read-text .ensures .1) (c .listed .ensures)
 
 pub read-listing-spec : {M : Type 1} → statement M
 read-listing-spec =
@@ -31,8 +31,8 @@ read-listing-spec =
     (tie.spec
     declared-room-requires
     node-room-requires
-    slice-aggregate-load
-    slice-aggregate-load-2
-    load-requires
+    slice-aggregate-read-text
+    slice-aggregate-read-text-2
+    read-text-requires
     listed-requires
     returns)

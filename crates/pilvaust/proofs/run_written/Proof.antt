@@ -20,14 +20,14 @@ declared-room-requires c κs = search needs
 node-room-requires : tie.Need-node-room-requires
 node-room-requires c κs = search needs
 
-slice-aggregate-load-checked : tie.Need-slice-aggregate-load-checked
-slice-aggregate-load-checked c = search needs
+slice-aggregate-read-checked : tie.Need-slice-aggregate-read-checked
+slice-aggregate-read-checked c = search needs
 
-slice-aggregate-load-checked-2 : tie.Need-slice-aggregate-load-checked-2
-slice-aggregate-load-checked-2 c = search needs
+slice-aggregate-read-checked-2 : tie.Need-slice-aggregate-read-checked-2
+slice-aggregate-read-checked-2 c = search needs
 
-load-checked-requires : tie.Need-load-checked-requires
-load-checked-requires c κs = search needs
+read-checked-requires : tie.Need-read-checked-requires
+read-checked-requires c κs = search needs
 
 enum-known-at-fault : tie.Need-enum-known-at-fault
 enum-known-at-fault c = search needs
@@ -38,23 +38,23 @@ run-refused-requires-2 c κs = search needs
 enum-known-declarations : tie.Need-enum-known-declarations
 enum-known-declarations c = search needs
 
-slice-aggregate-run-goal : tie.Need-slice-aggregate-run-goal
-slice-aggregate-run-goal c = search needs
+slice-aggregate-read-goal-and-run : tie.Need-slice-aggregate-read-goal-and-run
+slice-aggregate-read-goal-and-run c = search needs
 
-slice-aggregate-run-goal-2 : tie.Need-slice-aggregate-run-goal-2
-slice-aggregate-run-goal-2 c = search needs
+slice-aggregate-read-goal-and-run-2 : tie.Need-slice-aggregate-read-goal-and-run-2
+slice-aggregate-read-goal-and-run-2 c = search needs
 
-run-goal-requires : tie.Need-run-goal-requires
-run-goal-requires c κs = let c4 = c .before .before .before .before in let c8 = c4 .before .before .before .before in let c11 = c8 .before .before .before in let c13 = c11 .before .before in let c14 = c13 .before in let c18 = c14 .before .before .before .before in ready-at (c18 .args .sheet .now) (c18 .args .goal .now) (c18 .args .asked) (c14 .in-range .result) (c14 .in-range .ensures) (c13 .if1 .left) (c8 .load-checked .last .1 .0) (c8 .load-checked .last .1 .1 .0) (c8 .load-checked .result) (c8 .load-checked .ensures .0) (c8 .load-checked .ensures .1) (c4 .declarations .given .0 .0) (c4 .declarations .given .0 .1 .0) (c4 .declarations .given .1) (omega (arith, (c8 .load-checked .kept .1 .1 .0), (c11 .node-room .ensures)))
+read-goal-and-run-requires : tie.Need-read-goal-and-run-requires
+read-goal-and-run-requires c κs = let c4 = c .before .before .before .before in let c8 = c4 .before .before .before .before in let c11 = c8 .before .before .before in let c13 = c11 .before .before in let c14 = c13 .before in let c18 = c14 .before .before .before .before in ready-at (c18 .args .sheet .now) (c18 .args .goal .now) (c18 .args .asked) (c14 .in-range .result) (c14 .in-range .ensures) (c13 .if1 .left) (c8 .read-checked .last .1 .0) (c8 .read-checked .last .1 .1 .0) (c8 .read-checked .result) (c8 .read-checked .ensures .0) (c8 .read-checked .ensures .1) (c4 .declarations .given .0 .0) (c4 .declarations .given .0 .1 .0) (c4 .declarations .given .1) (omega (arith, (c8 .read-checked .kept .1 .1 .0), (c11 .node-room .ensures)))
 
 returns-2 : tie.Need-returns-2
-returns-2 c = let c6 = c .before .before .before .before .before .before in let c11 = c6 .before .before .before .before .before in let c12 = c11 .before in let c16 = c12 .before .before .before .before in sheet-stops (c16 .args .sheet .now) (c16 .args .goal .now) (c16 .args .asked) (c12 .in-range .result) (c12 .in-range .ensures) (c11 .if1 .left) (c6 .load-checked .last .1 .0) (c6 .load-checked .last .1 .1 .0) (c6 .load-checked .result) (c6 .load-checked .ensures .0) (c6 .load-checked .ensures .1) (c .before .before .at-fault .given .0 .0) (c .before .before .at-fault .given .0 .1 .0) (c .before .before .at-fault .given .1) (c .run-refused2 .result) (c .run-refused2 .ensures) (c16 .args .text .now)
+returns-2 c = let c6 = c .before .before .before .before .before .before in let c11 = c6 .before .before .before .before .before in let c12 = c11 .before in let c16 = c12 .before .before .before .before in sheet-stops (c16 .args .sheet .now) (c16 .args .goal .now) (c16 .args .asked) (c12 .in-range .result) (c12 .in-range .ensures) (c11 .if1 .left) (c6 .read-checked .last .1 .0) (c6 .read-checked .last .1 .1 .0) (c6 .read-checked .result) (c6 .read-checked .ensures .0) (c6 .read-checked .ensures .1) (c .before .before .at-fault .given .0 .0) (c .before .before .at-fault .given .0 .1 .0) (c .before .before .at-fault .given .1) (c .run-refused2 .result) (c .run-refused2 .ensures) (c16 .args .text .now)
 
 same-length : tie.Need-same-length
 same-length c = search needs
 
 returns-3 : tie.Need-returns-3
-returns-3 c = let c7 = c .before .before .before .before .before .before .before in let c11 = c7 .before .before .before .before in let c14 = c11 .before .before .before in let c16 = c14 .before .before in let c17 = c16 .before in let c21 = c17 .before .before .before .before in sheet-runs (c21 .args .sheet .now) (c21 .args .goal .now) (c21 .args .asked) (c17 .in-range .result) (c17 .in-range .ensures) (c16 .if1 .left) (c11 .load-checked .last .1 .0) (c11 .load-checked .last .1 .1 .0) (c11 .load-checked .result) (c11 .load-checked .ensures .0) (c11 .load-checked .ensures .1) (c7 .declarations .given .0 .0) (c7 .declarations .given .0 .1 .0) (c7 .declarations .given .1) (omega (arith, (c11 .load-checked .kept .1 .1 .0), (c14 .node-room .ensures))) (c .before .before .run-goal .result) (c21 .args .text .now) (c .before .before .run-goal .last .1 .1 .1 .1 .1 .1 .0) (c .before .before .run-goal .ensures)
+returns-3 c = let c7 = c .before .before .before .before .before .before .before in let c11 = c7 .before .before .before .before in let c14 = c11 .before .before .before in let c16 = c14 .before .before in let c17 = c16 .before in let c21 = c17 .before .before .before .before in sheet-runs (c21 .args .sheet .now) (c21 .args .goal .now) (c21 .args .asked) (c17 .in-range .result) (c17 .in-range .ensures) (c16 .if1 .left) (c11 .read-checked .last .1 .0) (c11 .read-checked .last .1 .1 .0) (c11 .read-checked .result) (c11 .read-checked .ensures .0) (c11 .read-checked .ensures .1) (c7 .declarations .given .0 .0) (c7 .declarations .given .0 .1 .0) (c7 .declarations .given .1) (omega (arith, (c11 .read-checked .kept .1 .1 .0), (c14 .node-room .ensures))) (c .before .before .read-goal-and-run .result) (c21 .args .text .now) (c .before .before .read-goal-and-run .last .1 .1 .1 .1 .1 .1 .0) (c .before .before .read-goal-and-run .ensures)
 
 pub run-written-spec : {M : Type 1} → statement M
 run-written-spec =
@@ -65,15 +65,15 @@ run-written-spec =
     returns
     declared-room-requires
     node-room-requires
-    slice-aggregate-load-checked
-    slice-aggregate-load-checked-2
-    load-checked-requires
+    slice-aggregate-read-checked
+    slice-aggregate-read-checked-2
+    read-checked-requires
     enum-known-at-fault
     run-refused-requires-2
     enum-known-declarations
-    slice-aggregate-run-goal
-    slice-aggregate-run-goal-2
-    run-goal-requires
+    slice-aggregate-read-goal-and-run
+    slice-aggregate-read-goal-and-run-2
+    read-goal-and-run-requires
     returns-2
     same-length
     returns-3)

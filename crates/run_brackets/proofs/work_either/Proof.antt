@@ -1,5 +1,5 @@
 use native.Mathlib.Omega.{arith}
-use Rattle.alternatives.proofs.ReadLaws.{work-inside, right-layable, left-layable, either-end}
+use Rattle.run_alternatives.proofs.ReadLaws.{work-inside, right-layable, left-layable, either-end}
 use borrow.Author.Needs.{needs}
 use Rattle.run_brackets.proofs.work_either.Statement.{statement}
 use Rattle.run_brackets.proofs.work_either.Tie as tie

@@ -1,5 +1,5 @@
 -- `run_rooms::code_words` meets its contract. Assumes nothing.
-use Rattle.layout.specs.Regions.{codeWords}
+use Rattle.run_layout.specs.Regions.{codeWords}
 use Rattle.run_rooms.proofs.ZeroLaws.{zeros}
 use Rattle.run_rooms.proofs.code_words.Statement.{statement}
 use Rattle.run_rooms.proofs.code_words.Tie as tie

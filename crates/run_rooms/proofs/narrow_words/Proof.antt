@@ -1,5 +1,5 @@
 -- `run_rooms::narrow_words` meets its contract. Assumes nothing.
-use Rattle.layout.specs.Regions.{narrowWords}
+use Rattle.run_layout.specs.Regions.{narrowWords}
 use Rattle.run_rooms.proofs.ZeroLaws.{zeros}
 use Rattle.run_rooms.proofs.narrow_words.Statement.{statement}
 use Rattle.run_rooms.proofs.narrow_words.Tie as tie

@@ -1,5 +1,5 @@
 -- `run_rooms::node_words` meets its contract. Assumes nothing.
-use Rattle.layout.specs.Regions.{nodesWords}
+use Rattle.run_layout.specs.Regions.{nodesWords}
 use Rattle.run_rooms.proofs.ZeroLaws.{zeros}
 use Rattle.run_rooms.proofs.node_words.Statement.{statement}
 use Rattle.run_rooms.proofs.node_words.Tie as tie

@@ -1,5 +1,5 @@
 -- `run_rooms::state_words` meets its contract. Assumes nothing.
-use Rattle.layout.specs.Regions.{stateWords}
+use Rattle.run_layout.specs.Regions.{stateWords}
 use Rattle.run_rooms.proofs.ZeroLaws.{zeros}
 use Rattle.run_rooms.proofs.state_words.Statement.{statement}
 use Rattle.run_rooms.proofs.state_words.Tie as tie

@@ -1,5 +1,5 @@
 -- `run_rooms::store_words` meets its contract. Assumes nothing.
-use Rattle.layout.specs.Regions.{storeWords}
+use Rattle.run_layout.specs.Regions.{storeWords}
 use Rattle.run_rooms.proofs.ZeroLaws.{zeros}
 use Rattle.run_rooms.proofs.store_words.Statement.{statement}
 use Rattle.run_rooms.proofs.store_words.Tie as tie

@@ -1,5 +1,5 @@
 -- `run_rooms::wide_words` meets its contract. Assumes nothing.
-use Rattle.layout.specs.Regions.{wideWords}
+use Rattle.run_layout.specs.Regions.{wideWords}
 use Rattle.run_rooms.proofs.ZeroLaws.{zeros}
 use Rattle.run_rooms.proofs.wide_words.Statement.{statement}
 use Rattle.run_rooms.proofs.wide_words.Tie as tie

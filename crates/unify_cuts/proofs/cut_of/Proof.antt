@@ -1,7 +1,7 @@
 use native.Mathlib.Omega.{arith}
 use mathlib.Core.Path.{_≡_}
 use lib.ListN.{getD}
-use Rattle.layout.specs.Regions.{cutOf}
+use Rattle.run_layout.specs.Regions.{cutOf}
 use Rattle.unify_cuts.proofs.Shortcuts.{cut-none, cut-at}
 use borrow.Author.Needs.{needs}
 use Rattle.unify_cuts.proofs.cut_of.Statement.{statement}

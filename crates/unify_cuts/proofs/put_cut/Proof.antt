@@ -1,7 +1,7 @@
 use native.Mathlib.Omega.{arith}
 use Prim.Native.Nat.{_+_, _%_}
 use lib.ListN.{length-set}
-use Rattle.layout.specs.Regions.{slots, slotCount}
+use Rattle.run_layout.specs.Regions.{slots, slotCount}
 use Rattle.unify_cuts.proofs.Shortcuts.{cutting-full, cutting-new}
 use borrow.Author.Needs.{needs}
 use Rattle.unify_cuts.proofs.put_cut.Statement.{statement}

@@ -1,4 +1,4 @@
-use Rattle.bindings.proofs.Deref.{depth}
+use Rattle.unify_bindings.proofs.Deref.{depth}
 use Rattle.unify_cuts.specs.Chains.{Followable}
 use Rattle.unify_cuts.proofs.Shortcuts.{Walking, walk-begin, walk-end, walk-follow, walk-cut, walk-falls, walk-next}
 use borrow.Author.Needs.{needs}

@@ -3,13 +3,13 @@ use Prim.Native.Nat.{_-_, _≤_}
 use native.Mathlib.Omega.{arith}
 use mathlib.Core.Path.{_≡_, refl, _∙_}
 use lib.ListN.{length}
-use Rattle.determinacy.specs.Tables.{Pairable}
+use Rattle.determinacy.specs.Tables.{PairsReady}
 use Rattle.determinacy.proofs.PairLaws.{Ranging, declarations-at, range-begins, range-ends, range-clause, range-inside, range-head, range-of, range-stops, range-on}
 use Rattle.determinacy.proofs.pairs.first_pair.Statement.{statement}
 use Rattle.determinacy.proofs.pairs.first_pair.Tie as tie
 
 abbrev Inv-loop : tie.InvT-loop
-Inv-loop sheet declared n table k nodes code state₀ scratch₀ at₀ i₀ state scratch at i = (i ≤ k) × ((length state ≡ length state₀) × ((length scratch ≡ length scratch₀) × ((w : Pairable sheet declared n table k nodes code state₀ scratch₀) → Ranging w state scratch at i)))
+Inv-loop sheet declared n table k nodes code state₀ scratch₀ at₀ i₀ state scratch at i = (i ≤ k) × ((length state ≡ length state₀) × ((length scratch ≡ length scratch₀) × ((w : PairsReady sheet declared n table k nodes code state₀ scratch₀) → Ranging w state scratch at i)))
 
 abbrev μ-loop : tie.MeasureT-loop
 μ-loop sheet declared n table k nodes code state₀ scratch₀ at₀ i₀ state scratch at i = k - i

@@ -3,7 +3,7 @@ use Prim.Native.Nat.{_-_, _≤_}
 use native.Mathlib.Omega.{arith}
 use mathlib.Core.Path.{_≡_, refl, _∙_}
 use lib.ListN.{length}
-use Rattle.flat_nodes.specs.Flat.{bodyParsed, flatWords, flatAll, BodyHere}
+use Rattle.load_words.specs.Flat.{bodyParsed, flatWords, flatAll, BodyHere}
 use Rattle.loader.proofs.Bodies.{Going, body-begin, body-turn, body-end}
 use Rattle.loader.proofs.copying.copy_body.Statement.{statement}
 use Rattle.loader.proofs.copying.copy_body.Tie as tie

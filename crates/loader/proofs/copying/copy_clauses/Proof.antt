@@ -3,7 +3,7 @@ use Prim.Native.Nat.{_-_, _≤_}
 use native.Mathlib.Omega.{arith}
 use mathlib.Core.Path.{_≡_, refl, _∙_}
 use lib.ListN.{length}
-use Rattle.flat_nodes.specs.Flat.{clausesParsed, flatWords, flatAll, ClausesHere}
+use Rattle.load_words.specs.Flat.{clausesParsed, flatWords, flatAll, ClausesHere}
 use Rattle.loader.proofs.Clauses.{Clausing, clauses-begin, clauses-turn, clauses-end}
 use Rattle.loader.proofs.copying.copy_clauses.Statement.{statement}
 use Rattle.loader.proofs.copying.copy_clauses.Tie as tie

@@ -3,7 +3,7 @@ use Prim.Native.Nat.{_+_, _-_}
 use native.Mathlib.Omega.{arith}
 use mathlib.Core.Path.{_≡_, refl}
 use lib.ListN.{length, length-set}
-use Rattle.flat_nodes.specs.Flat.{flatWords, flatAll, RunAt}
+use Rattle.load_words.specs.Flat.{flatWords, flatAll, RunAt}
 use Rattle.loader.proofs.Writing.{length-two}
 use Rattle.loader.proofs.Runs.{Running, run-begin, turn, run-end}
 use Rattle.loader.proofs.copying.copy_nodes.Statement.{statement}

@@ -3,14 +3,14 @@ use Prim.Native.Nat.{_*_, _-_, _≤_}
 use native.Mathlib.Omega.{arith}
 use mathlib.Core.Path.{_≡_, refl, _∙_}
 use lib.ListN.{length}
-use Rattle.symbol_search.specs.Symbols.{symbolsOf, Listed}
+use Rattle.load_symbols.specs.Symbols.{symbolsOf, SymbolsListed}
 use Rattle.loader.specs.Listing.{Copied}
 use Rattle.loader.proofs.Numbered.{Numbering, none-listed, number-begin, number-turn, number-end}
 use Rattle.loader.proofs.numbering.number_nodes.Statement.{statement}
 use Rattle.loader.proofs.numbering.number_nodes.Tie as tie
 
 abbrev Inv-loop : tie.InvT-loop
-Inv-loop sheet goal nodes₀ stop symbols₀ p₀ count₀ nodes symbols p count = (length nodes ≡ length nodes₀) × ((length symbols ≡ length symbols₀) × ((count * 2 ≤ p) × (Listed sheet goal symbols count × ((w : Copied sheet goal nodes₀ stop) → Numbering sheet goal (w .flats) nodes₀ nodes stop p (symbolsOf sheet goal symbols count)))))
+Inv-loop sheet goal nodes₀ stop symbols₀ p₀ count₀ nodes symbols p count = (length nodes ≡ length nodes₀) × ((length symbols ≡ length symbols₀) × ((count * 2 ≤ p) × (SymbolsListed sheet goal symbols count × ((w : Copied sheet goal nodes₀ stop) → Numbering sheet goal (w .flats) nodes₀ nodes stop p (symbolsOf sheet goal symbols count)))))
 
 abbrev μ-loop : tie.MeasureT-loop
 μ-loop sheet goal nodes₀ stop symbols₀ p₀ count₀ nodes symbols p count = stop - p

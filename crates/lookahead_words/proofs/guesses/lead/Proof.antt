@@ -4,13 +4,13 @@ use mathlib.Core.Path.{_≡_}
 use native.Mathlib.Omega.{arith}
 use borrow.Author.Needs.{needs}
 use lib.ListN.{length}
-use Rattle.layout.specs.Regions.{copies, cells}
-use Rattle.lookahead_words.specs.Room.{Place}
+use Rattle.run_layout.specs.Regions.{copies, cells}
+use Rattle.lookahead_words.specs.Room.{IsPlace}
 use Rattle.lookahead_words.proofs.guesses.lead.Statement.{statement}
 use Rattle.lookahead_words.proofs.guesses.lead.Tie as tie
 
 abbrev Inv-loop : tie.InvT-loop
-Inv-loop nodes state room₀ p c turns node₀ copy₀ left₀ y₀ room node copy left y = (length room ≡ length room₀) × (Place node) × (copy < copies) × (left ≤ turns) × (y ≤ cells)
+Inv-loop nodes state room₀ p c turns node₀ copy₀ left₀ y₀ room node copy left y = (length room ≡ length room₀) × (IsPlace node) × (copy < copies) × (left ≤ turns) × (y ≤ cells)
 
 abbrev μ-loop : tie.MeasureT-loop
 μ-loop nodes state room₀ p c turns node₀ copy₀ left₀ y₀ room node copy left y = left

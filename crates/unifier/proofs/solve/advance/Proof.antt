@@ -5,7 +5,7 @@ use mathlib.Core.Path.{_≡_, sym, ap, _∙_}
 use mathlib.Core.Logic.{⊎-elim}
 use denote.Enum.Declared.{tagOf, declared}
 use Rattle.unifier.proofs.solve.Turn.{enum}
-use Rattle.unifier.specs.Turns.{Ready}
+use Rattle.unifier.specs.Turns.{ReadyToUnify}
 use Rattle.unifier.proofs.Solving.{Advancing, left-over, advance-begin, advance-turn, advance-next, advance-less, advance-stop, advance-end}
 use Rattle.unifier.proofs.solve.advance.Statement.{statement}
 use Rattle.unifier.proofs.solve.advance.Tie as tie
@@ -14,7 +14,7 @@ use Rattle.unifier.proofs.solve.advance.Lts as lts
 use Rattle.unifier.proofs.solve.next_turn.Reads as next-turn-reads
 
 abbrev Inv-loop : tie.InvT-loop
-Inv-loop nodes state scratch₀ n h k₀ scratch k = (g : Ready nodes state scratch₀ n h) → Advancing (g .work .ss) nodes state scratch₀ scratch (g .work .top) n h k
+Inv-loop nodes state scratch₀ n h k₀ scratch k = (g : ReadyToUnify nodes state scratch₀ n h) → Advancing (g .work .ss) nodes state scratch₀ scratch (g .work .top) n h k
 
 abbrev μ-loop : tie.MeasureT-loop
 μ-loop nodes state scratch₀ n h k₀ scratch k = left-over nodes state scratch n k

@@ -5,9 +5,9 @@ use Rattle.unifier.proofs.solve.meet.Statement.{statement}
 use Rattle.unifier.proofs.solve.meet.Tie as tie
 use Rattle.unifier.proofs.solve.meet.Reads as reads
 use Rattle.unifier.proofs.solve.meet.Lts as lts
-use Rattle.bindings.proofs.occurrence.size_at.Reads as size-at-reads
+use Rattle.unify_bindings.proofs.occurrence.size_at.Reads as size-at-reads
 use Rattle.unifier.proofs.solve.cross.Reads as cross-reads
-use Rattle.bindings.proofs.stack.put_pair.Reads as put-pair-reads
+use Rattle.unify_bindings.proofs.stack.put_pair.Reads as put-pair-reads
 
 -- src/solve.rt:71:17
 size-at-requires : tie.Need-size-at-requires

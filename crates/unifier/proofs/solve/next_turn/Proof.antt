@@ -5,10 +5,10 @@ use Rattle.unifier.proofs.solve.next_turn.Statement.{statement}
 use Rattle.unifier.proofs.solve.next_turn.Tie as tie
 use Rattle.unifier.proofs.solve.next_turn.Reads as reads
 use Rattle.unifier.proofs.solve.next_turn.Lts as lts
-use Rattle.bindings.proofs.occurrence.size_at.Reads as size-at-reads
+use Rattle.unify_bindings.proofs.occurrence.size_at.Reads as size-at-reads
 use Rattle.unifier.proofs.solve.meet.Reads as meet-reads
 use Rattle.unifier.proofs.solve.pass.Reads as pass-reads
-use Rattle.bindings.proofs.stack.side_at.Reads as side-at-reads
+use Rattle.unify_bindings.proofs.stack.side_at.Reads as side-at-reads
 use Rattle.unifier.proofs.walk.walk_rows.Reads as walk-rows-reads
 
 -- src/solve.rt:181:13

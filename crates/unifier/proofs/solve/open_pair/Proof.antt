@@ -5,8 +5,8 @@ use Rattle.unifier.proofs.solve.open_pair.Statement.{statement}
 use Rattle.unifier.proofs.solve.open_pair.Tie as tie
 use Rattle.unifier.proofs.solve.open_pair.Reads as reads
 use Rattle.unifier.proofs.solve.open_pair.Lts as lts
-use Rattle.memos.proofs.known.Reads as known-reads
-use Rattle.bindings.proofs.stack.put_pair.Reads as put-pair-reads
+use Rattle.unify_memos.proofs.known.Reads as known-reads
+use Rattle.unify_bindings.proofs.stack.put_pair.Reads as put-pair-reads
 
 -- src/solve.rt:47:9
 returns : tie.Need-returns

@@ -1,8 +1,8 @@
 use Prim.Native.Nat.{_-_}
 use native.Mathlib.Omega.{arith}
 use borrow.Author.Needs.{needs}
-use Rattle.layout.specs.Regions.{cells}
-use Rattle.bindings.specs.Queues.{Closed}
+use Rattle.run_layout.specs.Regions.{cells}
+use Rattle.unify_bindings.specs.Queues.{Closed}
 use Rattle.unifier.specs.Turns.{Solvable}
 use Rattle.unifier.proofs.Solving.{Solving, solve-begin, solve-ready, solve-done, solve-clash, solve-check, solve-height, solve-room, solve-few, solve-closed, solve-stands, solve-next}
 use Rattle.unifier.proofs.solve.solve_pair.Statement.{statement}

@@ -1,4 +1,4 @@
-use Rattle.bindings.proofs.Apart.{closed-none}
+use Rattle.unify_bindings.proofs.Apart.{closed-none}
 use borrow.Author.Needs.{needs}
 use Rattle.unifier.proofs.solve.unify.Statement.{statement}
 use Rattle.unifier.proofs.solve.unify.Tie as tie

@@ -3,9 +3,9 @@ use borrow.Author.Needs.{needs}
 use mathlib.Core.Path.{_≡_, sym, ap, _∙_, subst, subst⁻¹}
 use mathlib.Core.Logic.{inl, inr}
 use Rattle.syntax.specs.Words.{firstName}
-use Rattle.layout.specs.Regions.{loadedNode}
-use Rattle.unifier.specs.Walks.{Walkable, Pairable, Walks}
-use Rattle.unifier.specs.declared.walk.Walked.{Walked}
+use Rattle.run_layout.specs.Regions.{loadedNode}
+use Rattle.unifier.specs.Walks.{Walkable, TwoNodes, Walks}
+use Rattle.unifier.specs.declared.walk.RowsWalked.{RowsWalked}
 use Rattle.unifier.proofs.Rowwise.{pair-inside, term-met, term-clash, term-list, term-on, list-on, list-end, list-pair, list-inside, list-clash, list-met, list-rest}
 use Prim.Native.Nat.{ℕ, _<_, _≤_, _+_, _-_, _*_}
 use lib.ListN.{getD}
@@ -17,8 +17,8 @@ use Rattle.unifier.proofs.walk.+unify_list+unify_term.Lts-unify_list as
 use Rattle.unifier.proofs.walk.unify_term.Reads as unify-term
 use Rattle.unifier.proofs.walk.unify_term.Kinds as unify-term-kinds
 use Rattle.unifier.proofs.walk.+unify_list+unify_term.Lts-unify_term as unify-term-lts
-use Rattle.bindings.proofs.occurrence.size_at.Reads as size-at-reads
-use Rattle.words.proofs.word_at.Reads as word-at-reads
+use Rattle.unify_bindings.proofs.occurrence.size_at.Reads as size-at-reads
+use Rattle.table_words.proofs.word_at.Reads as word-at-reads
 use Rattle.unifier.proofs.walk.+unify_list+unify_term.{statement}
 use Rattle.unifier.proofs.walk.+unify_list+unify_term.Tie.{close}
 
@@ -105,10 +105,10 @@ unify-list-returns-2 : (t : ℕ) → unify-list-lts.Need-returns-2 (unify-list-c
 unify-list-returns-2 t c = let c5 = c .before .before .before .before .before in let c8 = c5 .before .before .before in let args = c8 .args in λ g. list-on (args .nodes .now) (args .p) (args .e) (args .q) g (c5 .before .if1 .left) (c5 .unify-term .result) (c .before .before .before .enum-told .given .1) (c5 .unify-term .ensures) (c .before .before .size-at .result) (c .before .size-at2 .result) (c .before .before .size-at .ensures) (c .before .size-at2 .ensures) (c .unify-list .result) (c .unify-list .ensures)
 
 unify-list-returns-3 : (t : ℕ) → unify-list-lts.Need-returns-3 (unify-list-claims t) (unify-list-at t) unify-list.Post
-unify-list-returns-3 t c = let c5 = c .before .before .before .before .before in let args = c5 .args in λ g. list-clash (args .nodes .now) (args .p) (args .e) (args .q) g (c .before .before .before .if1 .left) (λ v. subst (λ (x : Walked). Walks (v .ss) (args .nodes .now) (args .p) (args .p + getD (args .nodes .now) (args .p + 1) 0) (args .q) (args .q + getD (args .nodes .now) (args .q + 1) 0) x) (c .enum-told2 .given .1) (c .before .before .unify-term .ensures v))
+unify-list-returns-3 t c = let c5 = c .before .before .before .before .before in let args = c5 .args in λ g. list-clash (args .nodes .now) (args .p) (args .e) (args .q) g (c .before .before .before .if1 .left) (λ v. subst (λ (x : RowsWalked). Walks (v .ss) (args .nodes .now) (args .p) (args .p + getD (args .nodes .now) (args .p + 1) 0) (args .q) (args .q + getD (args .nodes .now) (args .q + 1) 0) x) (c .enum-told2 .given .1) (c .before .before .unify-term .ensures v))
 
 unify-list-returns-4 : (t : ℕ) → unify-list-lts.Need-returns-4 (unify-list-claims t) (unify-list-at t) unify-list.Post
-unify-list-returns-4 t c = let c6 = c .before .before .before .before .before .before in let args = c6 .args in λ g. list-met (args .nodes .now) (args .p) (args .e) (args .q) g (c .before .before .before .before .if1 .left) (c .before .r .given .0 .0) (c .before .r .given .0 .1 .0) (λ v. subst (λ (x : Walked). Walks (v .ss) (args .nodes .now) (args .p) (args .p + getD (args .nodes .now) (args .p + 1) 0) (args .q) (args .q + getD (args .nodes .now) (args .q + 1) 0) x) (c .before .r .given .1) (c .before .before .before .unify-term .ensures v))
+unify-list-returns-4 t c = let c6 = c .before .before .before .before .before .before in let args = c6 .args in λ g. list-met (args .nodes .now) (args .p) (args .e) (args .q) g (c .before .before .before .before .if1 .left) (c .before .r .given .0 .0) (c .before .r .given .0 .1 .0) (λ v. subst (λ (x : RowsWalked). Walks (v .ss) (args .nodes .now) (args .p) (args .p + getD (args .nodes .now) (args .p + 1) 0) (args .q) (args .q + getD (args .nodes .now) (args .q + 1) 0) x) (c .before .r .given .1) (c .before .before .before .unify-term .ensures v))
 
 -- src/walk.rt:19:9
 unify-term-word-at-requires : (t : ℕ) → unify-term-lts.Need-word-at-requires (unify-term-claims t) (unify-term-at t) unify-term.Post

@@ -9,7 +9,7 @@ use Rattle.unifier.proofs.walk.begin_list.Tie as tie
 use Rattle.unifier.proofs.walk.begin_list.Reads as reads
 use Rattle.unifier.proofs.walk.begin_list.Lts as lts
 use Rattle.unifier.proofs.walk.unify_list.Reads as unify-list-reads
-use Rattle.words.proofs.word_at.Reads as word-at-reads
+use Rattle.table_words.proofs.word_at.Reads as word-at-reads
 
 returns : tie.Need-returns
 returns c = λ g. list-end (c .before .before .args .nodes .now) (c .before .before .args .p) (c .before .before .args .e) (c .before .before .args .q) g (c .if1 .taken)

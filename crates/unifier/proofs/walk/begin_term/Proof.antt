@@ -3,7 +3,7 @@ use native.Mathlib.Omega.{arith}
 use mathlib.Core.Path.{sym, _∙_, subst, subst⁻¹}
 use mathlib.Core.Logic.{inl, inr}
 use Rattle.syntax.specs.Words.{firstName}
-use Rattle.layout.specs.Regions.{loadedNode}
+use Rattle.run_layout.specs.Regions.{loadedNode}
 use Rattle.unifier.specs.Walks.{Walkable}
 use Rattle.unifier.proofs.Rowwise.{pair-inside, term-met, term-clash, term-list, term-on}
 use Rattle.unifier.proofs.walk.begin_term.Statement.{statement}
@@ -11,8 +11,8 @@ use Rattle.unifier.proofs.walk.begin_term.Tie as tie
 use Rattle.unifier.proofs.walk.begin_term.Reads as reads
 use Rattle.unifier.proofs.walk.begin_term.Lts as lts
 use Rattle.unifier.proofs.walk.begin_list.Reads as begin-list-reads
-use Rattle.bindings.proofs.occurrence.size_at.Reads as size-at-reads
-use Rattle.words.proofs.word_at.Reads as word-at-reads
+use Rattle.unify_bindings.proofs.occurrence.size_at.Reads as size-at-reads
+use Rattle.table_words.proofs.word_at.Reads as word-at-reads
 
 word-at-requires : tie.Need-word-at-requires
 word-at-requires c κs = omega (arith, pair-inside (c .before .args .nodes .now) (c .before .args .p) (c .before .args .q) (c .before .pre))

@@ -4,7 +4,7 @@ use mathlib.Core.Path.{subst, subst⁻¹}
 use borrow.Author.Needs.{needs}
 use lib.ListN.{getD}
 use Rattle.unifier.specs.Walks.{Walkable, Walks}
-use Rattle.unifier.specs.declared.walk.Walked.{Walked}
+use Rattle.unifier.specs.declared.walk.RowsWalked.{RowsWalked}
 use Rattle.unifier.proofs.Rowwise.{list-on, list-end, list-pair, list-inside, list-clash, list-met, list-rest}
 use Rattle.unifier.proofs.walk.walk_rows.Statement.{statement}
 use Rattle.unifier.proofs.walk.walk_rows.Tie as tie
@@ -12,7 +12,7 @@ use Rattle.unifier.proofs.walk.walk_rows.Reads as reads
 use Rattle.unifier.proofs.walk.walk_rows.Lts as lts
 use Rattle.unifier.proofs.walk.begin_term.Reads as begin-term-reads
 use Rattle.unifier.proofs.walk.unify_list.Reads as unify-list-reads
-use Rattle.bindings.proofs.occurrence.size_at.Reads as size-at-reads
+use Rattle.unify_bindings.proofs.occurrence.size_at.Reads as size-at-reads
 
 returns : tie.Need-returns
 returns c = λ g. list-end (c .before .before .args .nodes .now) (c .before .before .args .p) (c .before .before .args .e) (c .before .before .args .q) g (c .if1 .taken)
@@ -48,10 +48,10 @@ returns-2 : tie.Need-returns-2
 returns-2 c = let c5 = c .before .before .before .before .before in let c6 = c5 .before in let c8 = c6 .before .before in λ g. list-on (c8 .args .nodes .now) (c8 .args .p) (c8 .args .e) (c8 .args .q) g (c6 .if1 .left) (c5 .begin-term .result) (c .before .before .before .enum-told .given .1) (c5 .begin-term .ensures) (c .before .before .size-at .result) (c .before .size-at2 .result) (c .before .before .size-at .ensures) (c .before .size-at2 .ensures) (c .unify-list .result) (c .unify-list .ensures)
 
 returns-3 : tie.Need-returns-3
-returns-3 c = let c5 = c .before .before .before .before .before in λ g. list-clash (c5 .args .nodes .now) (c5 .args .p) (c5 .args .e) (c5 .args .q) g (c .before .before .before .if1 .left) (λ v. subst (λ (x : Walked). Walks (v .ss) (c5 .args .nodes .now) (c5 .args .p) (c5 .args .p + getD (c5 .args .nodes .now) (c5 .args .p + 1) 0) (c5 .args .q) (c5 .args .q + getD (c5 .args .nodes .now) (c5 .args .q + 1) 0) x) (c .enum-told2 .given .1) (c .before .before .begin-term .ensures v))
+returns-3 c = let c5 = c .before .before .before .before .before in λ g. list-clash (c5 .args .nodes .now) (c5 .args .p) (c5 .args .e) (c5 .args .q) g (c .before .before .before .if1 .left) (λ v. subst (λ (x : RowsWalked). Walks (v .ss) (c5 .args .nodes .now) (c5 .args .p) (c5 .args .p + getD (c5 .args .nodes .now) (c5 .args .p + 1) 0) (c5 .args .q) (c5 .args .q + getD (c5 .args .nodes .now) (c5 .args .q + 1) 0) x) (c .enum-told2 .given .1) (c .before .before .begin-term .ensures v))
 
 returns-4 : tie.Need-returns-4
-returns-4 c = let c4 = c .before .before .before .before in let c6 = c4 .before .before in λ g. list-met (c6 .args .nodes .now) (c6 .args .p) (c6 .args .e) (c6 .args .q) g (c4 .if1 .left) (c .before .r .given .0 .0) (c .before .r .given .0 .1 .0) (λ v. subst (λ (x : Walked). Walks (v .ss) (c6 .args .nodes .now) (c6 .args .p) (c6 .args .p + getD (c6 .args .nodes .now) (c6 .args .p + 1) 0) (c6 .args .q) (c6 .args .q + getD (c6 .args .nodes .now) (c6 .args .q + 1) 0) x) (c .before .r .given .1) (c .before .before .before .begin-term .ensures v))
+returns-4 c = let c4 = c .before .before .before .before in let c6 = c4 .before .before in λ g. list-met (c6 .args .nodes .now) (c6 .args .p) (c6 .args .e) (c6 .args .q) g (c4 .if1 .left) (c .before .r .given .0 .0) (c .before .r .given .0 .1 .0) (λ v. subst (λ (x : RowsWalked). Walks (v .ss) (c6 .args .nodes .now) (c6 .args .p) (c6 .args .p + getD (c6 .args .nodes .now) (c6 .args .p + 1) 0) (c6 .args .q) (c6 .args .q + getD (c6 .args .nodes .now) (c6 .args .q + 1) 0) x) (c .before .r .given .1) (c .before .before .before .begin-term .ensures v))
 
 pub walk-rows-spec : {M : Type 1} → statement M
 walk-rows-spec =
