@@ -10,6 +10,7 @@ use run_rooms::state_words;
 use run_rooms::wide_words;
 use run_whole::Ran;
 use run_whole::run;
+use syntax::MOST_STEPS;
 ghost use Prim.Native.Nat.{_≤_};
 ghost use lib.ListN.{length};
 ghost use Rattle.run_layout.specs.Regions.{shortText};
@@ -52,7 +53,8 @@ fn with_state(
     )
 }
 
-// The run under a short sheet, with a short text.
+// The run under a short sheet, with a short text. First the function calls itself so often as `again` says: never. But a function that can is compiled on its
+// own, so that a run needs no native stack for the other room.
 fn with_short_room(
     sheet: &[u8],
     goal: &[u8],
@@ -64,11 +66,27 @@ fn with_short_room(
     text: &mut [u8],
     allowance: usize,
     wanted: usize,
+    again: usize,
 ) -> Ran
     requires { ⌜ (ProgramLinked (now sheet) (now goal) (now names) count (now nodes) (now code) (now symbols)) × (length (now text) ≤ shortText) ⌝ }
     ensures { λ r. ⌜ ((w : ProgramLinked (now (sheet .entry)) (now (goal .entry)) (now (names .entry)) count (now (nodes .entry)) (now (code .entry))
         (now (symbols .entry))) → Runs (w .sh) (w .g) allowance wanted (now (text .entry)) (now (text .exit)) r) ⌝ }
 {
+    if again != 0 {
+        return with_short_room(
+            sheet,
+            goal,
+            names,
+            count,
+            nodes,
+            code,
+            symbols,
+            text,
+            allowance,
+            wanted,
+            again - 1,
+        );
+    }
     let mut scratch = narrow_words();
     with_state(
         sheet,
@@ -85,7 +103,7 @@ fn with_short_room(
     )
 }
 
-// The run under any sheet, with any text.
+// The run under any sheet, with any text. `again` is 0, as above.
 fn with_full_room(
     sheet: &[u8],
     goal: &[u8],
@@ -97,11 +115,27 @@ fn with_full_room(
     text: &mut [u8],
     allowance: usize,
     wanted: usize,
+    again: usize,
 ) -> Ran
     requires { ⌜ ProgramLinked (now sheet) (now goal) (now names) count (now nodes) (now code) (now symbols) ⌝ }
     ensures { λ r. ⌜ ((w : ProgramLinked (now (sheet .entry)) (now (goal .entry)) (now (names .entry)) count (now (nodes .entry)) (now (code .entry))
         (now (symbols .entry))) → Runs (w .sh) (w .g) allowance wanted (now (text .entry)) (now (text .exit)) r) ⌝ }
 {
+    if again != 0 {
+        return with_full_room(
+            sheet,
+            goal,
+            names,
+            count,
+            nodes,
+            code,
+            symbols,
+            text,
+            allowance,
+            wanted,
+            again - 1,
+        );
+    }
     let mut scratch = wide_words();
     with_state(
         sheet,
@@ -135,6 +169,8 @@ fn choose_room(
     ensures { λ r. ⌜ ((w : ProgramLinked (now (sheet .entry)) (now (goal .entry)) (now (names .entry)) count (now (nodes .entry)) (now (code .entry))
         (now (symbols .entry))) → Runs (w .sh) (w .g) allowance wanted (now (text .entry)) (now (text .exit)) r) ⌝ }
 {
+    // 0, since no run has a larger allowance
+    let again = allowance / (MOST_STEPS + 1);
     if SHORT_SHEET < sheet.len() {
         return with_full_room(
             sheet,
@@ -147,6 +183,7 @@ fn choose_room(
             text,
             allowance,
             wanted,
+            again,
         );
     }
     if SHORT_TEXT < text.len() {
@@ -161,6 +198,7 @@ fn choose_room(
             text,
             allowance,
             wanted,
+            again,
         );
     }
     with_short_room(
@@ -174,6 +212,7 @@ fn choose_room(
         text,
         allowance,
         wanted,
+        again,
     )
 }
 
