@@ -9,8 +9,8 @@
  *
  * Threads. There is no global state: calls may run at once on any threads, each with numbers and text of its own.
  *
- * Stack. Tables stand on the native stack. PILVAUST_STACK bytes are enough for pilvaust_read, _check, _check_goal and _entry (measured: 321 KB), and
- * PILVAUST_RUN_STACK for pilvaust_run and _run_traced (measured: 4,420 KB). A main thread has 8 MB as a rule, other threads often 2 MB or less: give them as much
+ * Stack. Tables stand on the native stack. PILVAUST_STACK bytes are enough for pilvaust_read, _check, _check_goal and _entry (measured: 325 KB), and
+ * PILVAUST_RUN_STACK for pilvaust_run and _run_traced (measured: 3,724 KB; 2,953 KB under a short sheet). A main thread has 8 MB as a rule, other threads often 2 MB or less: give them as much
  * (pthread_attr_setstacksize). On a smaller stack the program ends by a fault at the stack's guard page. */
 #ifndef PILVAUST_H
 #define PILVAUST_H
