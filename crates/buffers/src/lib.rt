@@ -1,5 +1,8 @@
 // Bytes into a lent buffer. Each function writes from a position on and returns the position past what it wrote; bytes at or
 // past the buffer's end are left out but counted, so a buffer of no bytes measures.
+
+#![tactic(auto)]
+
 ghost use Rattle.std.specs.Prelude.{◌≡◌, [], ◌∷◌, ◌+◌, ◌^◌, ◌≤◌, ◌<◌, length};
 ghost use Rattle.syntax.specs.Tokens.{spelling};
 ghost use Rattle.buffers.specs.Buffers.{Put, decimal, number};

@@ -1,4 +1,7 @@
 // Answers every case of the files that tests/make_cases.py writes, one file for each kind of them. A file that cannot be read counts as empty.
+
+#![tactic(auto)]
+
 mod check_case;
 mod determinacy_case;
 mod list_case;
@@ -11,7 +14,7 @@ mod run_case;
 ghost use Rattle.std.specs.Prelude.{◌≤◌, ◌<◌, length};
 
 // What the cases of a file ask for, where they ask for no run.
-#[derive(Drop)]
+#[derive(Clone, Copy)]
 enum Kind {
     Read,
     Check,

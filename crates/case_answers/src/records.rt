@@ -8,7 +8,7 @@ pub const BYTE: usize = 256;
 pub const TWO_BYTES: usize = BYTE * BYTE;
 
 // A text of the file.
-#[derive(Drop)]
+#[derive(Clone, Copy)]
 pub struct Part {
     pub start: usize,
     pub end: usize,

@@ -1,4 +1,7 @@
 // A goal run over a sheet that was checked and stands in its tables.
+
+#![tactic(auto)]
+
 ghost use Rattle.std.specs.Prelude.{◌≤◌, length};
 ghost use Rattle.syntax.specs.Limits.{variables};
 ghost use Rattle.syntax.specs.Spans.{met};

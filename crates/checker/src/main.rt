@@ -1,5 +1,8 @@
 // Reads a sheet on standard input, checks it and prints the answer. One byte more than the limit is read, so that a sheet
 // past it is known by its length.
+
+#![tactic(auto)]
+
 use libc::STDIN_FILENO;
 use syntax::SHEET_BYTES;
 

@@ -1,5 +1,8 @@
 // Document 02, (xii): whether an accepted sheet has no bracket and no two clauses of one predicate whose + arguments have a common instance, so that
 // a run writes at most one line.
+
+#![tactic(auto)]
+
 mod pairs;
 
 ghost use Rattle.std.specs.Prelude.{◌≡◌};
@@ -16,7 +19,7 @@ use syntax::Refusal;
 
 // The answer to the test: yes; no, with the first two clauses that speak against the sheet, or the first that has a bracket and 0; or the sheet's
 // refusal.
-#[derive(Drop)]
+#[derive(Clone, Copy)]
 pub enum Determinacy {
     Yes,
     No { first: usize, second: usize },

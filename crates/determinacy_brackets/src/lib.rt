@@ -1,4 +1,7 @@
 // The first clause of a sheet that has a bracket.
+
+#![tactic(auto)]
+
 ghost use Rattle.std.specs.Prelude.{◌≡◌, not};
 ghost use Rattle.syntax.specs.Terms.{Body, Clause};
 ghost use Rattle.table_words.specs.Items.{ItemsAt};

@@ -1,4 +1,7 @@
 // The + arguments of two clauses of one predicate unified, one pair under the bindings of those before it.
+
+#![tactic(auto)]
+
 ghost use Rattle.std.specs.Prelude.{eqb};
 ghost use Rattle.syntax.specs.Terms.{input};
 ghost use Rattle.syntax.specs.Words.{first_mark, mark_number};

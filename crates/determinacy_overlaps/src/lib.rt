@@ -1,4 +1,7 @@
 // Whether the + arguments of two clauses of one predicate have a common instance. The words for unification begin and end without bindings.
+
+#![tactic(auto)]
+
 ghost use Rattle.std.specs.Prelude.{◌≡◌, ◌+◌, ◌≤◌, ◌<◌, ◌^◌, length};
 ghost use Rattle.run_layout.specs.Regions.{clause_record, clause_size};
 ghost use Rattle.run_layout.specs.Program.{head_at, after_at};

@@ -1,4 +1,7 @@
 // The entries of a sheet's declarations, for a caller who lends a list of them. The functions that take the list are proved by walks of their code.
+
+#![tactic(auto)]
+
 ghost use Rattle.std.specs.Prelude.{◌≡◌, ◌≤◌, ◌<◌, length};
 ghost use Rattle.syntax.specs.Limits.{declarations};
 ghost use Rattle.syntax.specs.Words.{declared_words};

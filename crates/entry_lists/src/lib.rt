@@ -1,4 +1,7 @@
 // A list of three entries that is lent to the functions that fill one. The two functions are proved by one walk of their code.
+
+#![tactic(auto)]
+
 ghost use Rattle.std.specs.Prelude.{◌≡◌, length};
 ghost use Rattle.syntax.specs.Verdicts.{sheet_of, read_verdict};
 ghost use Rattle.mode_rules.specs.Checking.{checked_sheet, check_verdict};
@@ -8,7 +11,7 @@ use entries::{check_entries, read_entries};
 use syntax::{Entry, Verdict};
 
 // A verdict, and the list after it.
-#[derive(Drop)]
+#[derive(Clone, Copy)]
 pub struct Lent {
     pub verdict: Verdict,
     pub list: [Entry; 3],

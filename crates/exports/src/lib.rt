@@ -1,5 +1,8 @@
 // Reading, checking and running for programs in other languages: include/pilvaust.h. Each answer is a list of numbers (specs/Numbers of packing and of
 // out_entries), of which a lent slice takes as many as fit; later ones stay as they were.
+
+#![tactic(auto)]
+
 ghost use Rattle.std.specs.Prelude.{◌≡◌, length};
 ghost use Rattle.std.proofs.lemmas.List.Edits.{sets};
 ghost use Rattle.syntax.specs.Verdicts.{read_verdict, entry_at};

@@ -1,4 +1,7 @@
 // A goal checked over a sheet that was checked and stands in its tables.
+
+#![tactic(auto)]
+
 ghost use Rattle.std.specs.Prelude.{◌≡◌, ◌≤◌, ◌<◌, ◌^◌, length};
 ghost use Rattle.syntax.specs.Terms.{Goal};
 ghost use Rattle.syntax.specs.Verdicts.{accepted, goal_outcome};

@@ -1,4 +1,7 @@
 // The class of a byte (document 01, "How a sheet is spelt"). Document 01 is the paper "Rule sheets".
+
+#![tactic(auto)]
+
 mod bytes;
 
 ghost use Rattle.std.specs.Prelude.{◌≡◌};

@@ -1,4 +1,7 @@
 // The token at a position of a text, and the position past some tokens.
+
+#![tactic(auto)]
+
 ghost use Rattle.std.specs.Prelude.{◌≡◌};
 ghost use Rattle.syntax.specs.Tokens.{token_at};
 ghost use Rattle.lex_positions.specs.Nth.{past_tokens};

@@ -1,6 +1,9 @@
 // A reader over a sheet, which hands out one token at a time: a struct that holds the text and a position in it, and thin
 // functions over it. The borrow checker covers no function over such a struct, so the walks of `new`, `peek`, `moved` and
 // `nth_token` are proved by hand; the work is in `token_of` and `past_tokens` of `lex_positions`, which take the slice and the number.
+
+#![tactic(auto)]
+
 ghost use Rattle.std.specs.Prelude.{◌≡◌};
 ghost use Rattle.syntax.specs.Tokens.{token_at};
 ghost use Rattle.lex_positions.specs.Nth.{past_tokens, nth_token};
@@ -8,7 +11,7 @@ ghost use Rattle.lex_positions.specs.Nth.{past_tokens, nth_token};
 use lex_positions::{past_tokens, token_of};
 use syntax::Token;
 
-#[derive(Drop)]
+#[derive(Clone, Copy)]
 pub struct Reader<'a> {
     text: &'a [u8],
     at: usize,

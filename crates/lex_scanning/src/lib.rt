@@ -1,4 +1,7 @@
 // Blanks and comments before a token, and the tokens of several bytes.
+
+#![tactic(auto)]
+
 ghost use Rattle.std.specs.Prelude.{◌≡◌, suc, ◌+◌, ◌≤◌, ◌<◌, length, drop};
 ghost use Rattle.syntax.specs.Tokens.{run_length, word, token_of, token_place};
 ghost use Rattle.lex_classes.specs.Classes.{Classified};

@@ -1,4 +1,7 @@
 // The records of a body and of a clause. A clause stands at p of the table that it was read into, and its loaded nodes stand at q.
+
+#![tactic(auto)]
+
 ghost use Rattle.std.specs.Prelude.{◌≡◌, List};
 ghost use Rattle.syntax.specs.Terms.{Body, Sheet, Clause};
 ghost use Rattle.run_layout.specs.Nodes.{Symbol};

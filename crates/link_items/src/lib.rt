@@ -1,4 +1,7 @@
 // The record of a body's item. An item stands at p of the table that it was read into, and its loaded nodes stand at q.
+
+#![tactic(auto)]
+
 ghost use Rattle.std.specs.Prelude.{◌≡◌, List};
 ghost use Rattle.table_words.specs.Tables.{Has};
 ghost use Rattle.table_words.specs.Items.{Item, item_words};

@@ -1,4 +1,7 @@
 // Records of the code, the table of clauses and bodies: where they stand, how they are written, and how many words the nodes that they name take.
+
+#![tactic(auto)]
+
 ghost use Rattle.std.specs.Prelude.{◌≡◌, ℕ, ◌+◌, ◌*◌, ◌≤◌, ◌<◌, ◌^◌, length};
 ghost use Rattle.syntax.specs.Words.{node_words};
 ghost use Rattle.run_layout.specs.Regions.{loaded_node, places, next_literal, literal_from};

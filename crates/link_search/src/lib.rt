@@ -1,4 +1,7 @@
 // The search for the clauses of a predicate: a head's first word tells its predicate.
+
+#![tactic(auto)]
+
 ghost use Rattle.std.specs.Prelude.{◌≡◌, ◌*◌, ◌≤◌, ◌<◌, ◌+◌, ◌-◌, length, get_or};
 ghost use Rattle.syntax.specs.Words.{program_clauses};
 ghost use Rattle.run_layout.specs.Regions.{clause_record};

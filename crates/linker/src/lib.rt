@@ -1,4 +1,7 @@
 // Linking: a record for each clause and each item of a body, with the next clauses to be tried.
+
+#![tactic(auto)]
+
 ghost use Rattle.std.specs.Prelude.{◌≡◌, List, length};
 ghost use Rattle.syntax.specs.Terms.{Clause, Sheet};
 ghost use Rattle.syntax.specs.Words.{clause_words};

@@ -1,4 +1,7 @@
 // A sheet and a goal as they were read into their tables: loaded, linked and run. The tables of a run are its own.
+
+#![tactic(auto)]
+
 ghost use Rattle.std.specs.Prelude.{◌≤◌, length};
 ghost use Rattle.run_layout.specs.Regions.{short_text};
 ghost use Rattle.run_whole.specs.Running.{Runs};

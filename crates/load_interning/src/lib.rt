@@ -1,4 +1,7 @@
 // A symbol looked for, and listed where it is new.
+
+#![tactic(auto)]
+
 ghost use Rattle.std.specs.Prelude.{◌≤◌, ◌<◌, length};
 ghost use Rattle.syntax.specs.Limits.{arguments};
 ghost use Rattle.run_layout.specs.Regions.{most_nodes, nodes_words};

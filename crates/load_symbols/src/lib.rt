@@ -1,4 +1,7 @@
 // Symbols: for number k, the word with the place, the text and the length of its name, and `MOST_NODES` words on its number of arguments.
+
+#![tactic(auto)]
+
 ghost use Rattle.std.specs.Prelude.{◌≡◌, ◌+◌, ◌≤◌, ◌<◌, length, get_or};
 ghost use Rattle.syntax.specs.Terms.{same_bytes};
 ghost use Rattle.syntax.specs.Tokens.{spelling};

@@ -1,4 +1,7 @@
 // The words of a copied node: a variable, or a name by its place.
+
+#![tactic(auto)]
+
 ghost use Rattle.std.specs.Prelude.{◌≡◌, ◌+◌, ◌*◌, ◌≤◌, ◌<◌, ◌/◌};
 ghost use Rattle.syntax.specs.Limits.{arguments};
 ghost use Rattle.load_words.specs.Flat.{flat_what, NameFits};

@@ -1,5 +1,8 @@
 // Loading: the nodes of a sheet's clauses and of a goal, in which each name with its number of arguments is a symbol. First all nodes are copied
 // one behind the other, each name by its place; then each name is given its symbol's number.
+
+#![tactic(auto)]
+
 mod copying;
 mod numbering;
 

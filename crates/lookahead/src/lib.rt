@@ -2,6 +2,9 @@
 // over bindings of its own. Nothing rests on the guess: the cells are only proposed, and whoever takes them looks at each. So nothing is asked or promised of
 // what stands in the words that are lent; each is read and written only where there is one.
 
+#![tactic(auto)]
+
+
 ghost use Rattle.std.specs.Prelude.{◌<◌, ◌≤◌, ◌^◌, ◌≡◌, length};
 ghost use Rattle.run_layout.specs.Regions.{memo, cells, pairs, places, copies};
 ghost use Rattle.lookahead_words.specs.Room.{KeptBelow, Small};

@@ -1,5 +1,8 @@
 // Rows of terms gone over as unification does, with bindings that are only guessed. A row has the word of the term that comes next on the left, where the row
 // ends on the left, and the word of the term that comes next on the right.
+
+#![tactic(auto)]
+
 ghost use Rattle.std.specs.Prelude.{◌+◌, ◌-◌, ◌<◌, ◌≤◌, ◌^◌};
 ghost use Rattle.run_layout.specs.Regions.{cells, copies};
 ghost use Rattle.lookahead_words.specs.Room.{KeptBelow, Word, IsPlace, Small};
@@ -21,7 +24,7 @@ pub const MOST_ROWS: usize = CELLS;
 const LEFT_SPREAD: usize = 61;
 
 // How far a guess has come: so many rows, and so many turns left.
-#[derive(Drop)]
+#[derive(Clone, Copy)]
 pub struct Guessing {
     pub rows: usize,
     pub left: usize,

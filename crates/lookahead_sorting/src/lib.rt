@@ -1,5 +1,8 @@
 // Cells in topological order, by a search in depth from those that will be bound. The cells that are done stand at the beginning of a list, and those that
 // are open at its end, the last opened first.
+
+#![tactic(auto)]
+
 ghost use Rattle.std.specs.Prelude.{◌+◌, ◌-◌, ◌<◌, ◌≤◌, ◌^◌, get_or};
 ghost use Rattle.syntax.specs.Words.{first_name};
 ghost use Rattle.run_layout.specs.Regions.{cells, copies};
@@ -14,7 +17,7 @@ use run_layout::{CELLS, LOADED_NODE, cell_of};
 use syntax::FIRST_NAME;
 
 // How far a search has come: so many guesses met, so many cells done, the place of the cell opened last, so many turns left; a cycle was met.
-#[derive(Drop)]
+#[derive(Clone, Copy)]
 pub struct Sorting {
     pub met: usize,
     pub done: usize,

@@ -13,14 +13,14 @@ use syntax::FIRST_NAME;
 const STRIDE: usize = 16;
 
 // A run-time term: the place of a node, and a copy.
-#[derive(Drop)]
+#[derive(Clone, Copy)]
 pub struct At {
     pub node: usize,
     pub copy: usize,
 }
 
 // Where a walk has come to, and how many turns are left.
-#[derive(Drop)]
+#[derive(Clone, Copy)]
 pub struct Led {
     pub node: usize,
     pub copy: usize,

@@ -1,2 +1,5 @@
 // No code: unification, document 01's machine, its runs and the two counts as definitions (specs/), with computed cases (proofs/). The theorems about them
 // are `machine_theorems`'s.
+
+#![tactic(auto)]
+

@@ -1,4 +1,7 @@
 // The arguments of an atom that have one mark: the first that is not ground, and what they make ground.
+
+#![tactic(auto)]
+
 ghost use Rattle.std.specs.Prelude.{◌≡◌, ◌+◌, ◌≤◌, eqb, length};
 ghost use Rattle.syntax.specs.Terms.{input, output};
 ghost use Rattle.syntax.specs.Words.{first_mark};
@@ -16,7 +19,7 @@ use syntax::{INPUT, NODE_WORDS, OUTPUT, Refusal};
 use table_words::past;
 
 // The first argument that has a mark and is not ground: its number, and the byte of the first variable in it that is not known ground.
-#[derive(Drop)]
+#[derive(Clone, Copy)]
 pub enum FirstOpen {
     Nowhere,
     At { argument: usize, byte: usize },

@@ -1,4 +1,7 @@
 // Refusal 9 along the literals of a body of a text `g`, brackets among them, by the declarations of a sheet `s`.
+
+#![tactic(auto)]
+
 ghost use Rattle.std.specs.Prelude.{◌≡◌, ◌+◌, ◌≤◌, get_or};
 ghost use Rattle.syntax.specs.Words.{left_kind};
 ghost use Rattle.mode_rules.specs.Modes.{body_fault};
@@ -15,7 +18,7 @@ use syntax::LEFT_KIND;
 use table_words::word_at;
 
 // What a walk along a body gives: its first fault, or what is known ground after it.
-#[derive(Drop)]
+#[derive(Clone, Copy)]
 pub struct BodyWalked {
     pub fault: Checked,
     pub known: Known,

@@ -1,4 +1,7 @@
 // The mode check: refusals 8 to 10 of document 01, over the tables of words that the parser fills. Document 01 is the paper "Rule sheets".
+
+#![tactic(auto)]
+
 pub mod clause_faults;
 
 ghost use Rattle.std.specs.Prelude.{◌≡◌};

@@ -1,4 +1,7 @@
 // What an equation of two terms makes ground, over a node table.
+
+#![tactic(auto)]
+
 ghost use Rattle.std.specs.Prelude.{◌≡◌, ◌≤◌, get_or};
 ghost use Rattle.syntax.specs.Words.{first_name};
 ghost use Rattle.mode_rules.specs.Modes.{is_ground, equate_variable, equate, equate_all, further, settle};

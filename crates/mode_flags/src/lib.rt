@@ -1,4 +1,7 @@
 // What is known ground, as flags: whether there is one more, and what two sides of a bracket leave.
+
+#![tactic(auto)]
+
 ghost use Rattle.std.specs.Prelude.{◌≡◌, ◌&&◌};
 ghost use Rattle.mode_rules.specs.Modes.{further, in_both};
 

@@ -1,4 +1,7 @@
 // Refusal 9 at a literal that is no bracket, of a text `g`, by the declarations of a sheet `s`.
+
+#![tactic(auto)]
+
 ghost use Rattle.std.specs.Prelude.{◌+◌, ◌≤◌, ◌<◌, length, get_or};
 ghost use Rattle.syntax.specs.Words.{atom_words, left_kind};
 ghost use Rattle.mode_rules.specs.Modes.{call_walk};
@@ -15,7 +18,7 @@ use table_words::{past, word_at};
 
 // What a walk along a part of a body gives: its first fault, or what is known ground after it; and for what goes on behind it, where there is no
 // fault, the place past the part, how many items it is, and the number of the next literal.
-#[derive(Drop)]
+#[derive(Clone, Copy)]
 pub struct Passed {
     pub fault: Checked,
     pub known: Known,

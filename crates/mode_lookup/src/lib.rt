@@ -1,4 +1,7 @@
 // The search for a predicate's declaration in a list of entries: it ends at the first match and tells how many entries it compared.
+
+#![tactic(auto)]
+
 ghost use Rattle.std.specs.Prelude.{◌≡◌, ◌&&◌, ◌+◌, ◌*◌, ◌≤◌, ◌<◌, leb, length};
 ghost use Rattle.syntax.specs.Terms.{same_bytes};
 ghost use Rattle.syntax.specs.Tokens.{spelling};
@@ -10,7 +13,7 @@ use table_words::word_at;
 use texts::same_bytes;
 
 // The place of the first match among the entries, from 0 on, and how many entries were compared, it included; or none, and how many there are.
-#[derive(Drop)]
+#[derive(Clone, Copy)]
 pub enum Lookup {
     Found { place: usize, compared: usize },
     Missing { compared: usize },

@@ -1,4 +1,7 @@
 // The marks of a predicate and what is known ground of a term, over the tables of words that the parser fills: what the mode check is made of.
+
+#![tactic(auto)]
+
 pub mod marks;
 pub mod terms;
 
@@ -8,7 +11,7 @@ ghost use Rattle.mode_marks.specs.Answers.{isFault};
 use syntax::Refusal;
 
 // No fault of those looked for, or the first one.
-#[derive(Drop)]
+#[derive(Clone, Copy)]
 pub enum Checked {
     Fine,
     Fault(Refusal),

@@ -14,7 +14,7 @@ use syntax::{DECLARATION_SIZE, Refusal};
 use table_words::word_at;
 
 // The name of an atom: its byte, its length, and the number of arguments behind it.
-#[derive(Drop)]
+#[derive(Clone, Copy)]
 pub struct Name {
     pub at: usize,
     pub len: usize,

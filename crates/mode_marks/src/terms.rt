@@ -10,7 +10,7 @@ use syntax::{FIRST_NAME, NODE_WORDS};
 use table_words::{past, word_at};
 
 // The answer of the ground test: ground, or the byte of the first variable that is not known ground.
-#[derive(Drop)]
+#[derive(Clone, Copy)]
 pub enum Groundness {
     Ground,
     Open(usize),

@@ -1,4 +1,7 @@
 // Refusal 7 of document 01: a declaration that repeats an earlier predicate, or names `true` or `fail` without arguments.
+
+#![tactic(auto)]
+
 ghost use Rattle.std.specs.Prelude.{◌≡◌, [], ◌<◌, take};
 ghost use Rattle.syntax.specs.Reading.{repeats, first_repeat};
 ghost use Rattle.mode_marks.specs.Tables.{DeclarationsAt};
@@ -10,7 +13,7 @@ use table_words::word_at;
 use texts::{is_fail, is_true};
 
 // Whether a declaration is at fault, and its byte.
-#[derive(Drop)]
+#[derive(Clone, Copy)]
 pub struct Repeat {
     pub found: bool,
     pub byte: usize,

@@ -1,4 +1,7 @@
 // Declared predicates without a clause, refusal 16 of document 02; and the tests of a sheet that was read, in their order.
+
+#![tactic(auto)]
+
 ghost use Rattle.std.specs.Prelude.{◌≡◌, Bool, true, false, not, ◌||◌, [], ◌+◌, ◌≤◌, ◌<◌, length};
 ghost use Rattle.std.proofs.Math.Option.{none};
 ghost use Rattle.syntax.specs.Reading.{first_repeat};

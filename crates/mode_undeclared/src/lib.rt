@@ -1,4 +1,7 @@
 // Refusal 8: the first head or call without declaration, in a body of a text `g` and in the clauses of a sheet `s`, by the declarations of `s`.
+
+#![tactic(auto)]
+
 ghost use Rattle.std.specs.Prelude.{◌≡◌};
 ghost use Rattle.mode_rules.specs.Modes.{undeclared_body, undeclared_clause, undeclared_clauses};
 ghost use Rattle.mode_marks.specs.Tables.{DeclarationsAt, BodyAt, ClauseAt, ClausesAt};

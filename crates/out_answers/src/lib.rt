@@ -1,4 +1,7 @@
 // The line of an answer, from the words of a run. Document 01 is the paper "Rule sheets".
+
+#![tactic(auto)]
+
 ghost use Rattle.std.specs.Prelude.{◌≡◌, List, [], ℕ, ◌+◌, ◌-◌, ◌*◌, ◌^◌, ◌≤◌, ◌<◌, length};
 ghost use Rattle.syntax.specs.Spans.{names_from};
 ghost use Rattle.run_layout.specs.Regions.{open_size};

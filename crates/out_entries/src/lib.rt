@@ -1,5 +1,8 @@
 // A declaration as numbers in a lent slice, for callers in other languages: as many as fit, later ones as they were; and the version of these
 // lists of numbers.
+
+#![tactic(auto)]
+
 ghost use Rattle.std.specs.Prelude.{◌≡◌, length};
 ghost use Rattle.std.proofs.lemmas.List.Edits.{sets};
 ghost use Rattle.out_entries.specs.Numbers.{version, entry_numbers};

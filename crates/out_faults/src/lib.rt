@@ -1,4 +1,7 @@
 // A refusal as numbers, for callers in other languages.
+
+#![tactic(auto)]
+
 ghost use Rattle.std.specs.Prelude.{◌≡◌};
 ghost use Rattle.out_faults.specs.Numbers.{text_number, fault_numbers};
 

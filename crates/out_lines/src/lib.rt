@@ -1,4 +1,7 @@
 // The line of a verdict, into a lent buffer. Document 01 is the paper "Rule sheets".
+
+#![tactic(auto)]
+
 ghost use Rattle.std.specs.Prelude.{◌≡◌, ◌≤◌};
 ghost use Rattle.buffers.specs.Buffers.{Put, fitted_length, fitted};
 ghost use Rattle.out_lines.specs.Lines.{line_of, name_word};

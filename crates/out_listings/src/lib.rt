@@ -1,4 +1,7 @@
 // The declarations of a sheet as they stand in a table, and as entries of a list.
+
+#![tactic(auto)]
+
 ghost use Rattle.std.specs.Prelude.{◌≡◌, ◌*◌, ◌≤◌, length};
 ghost use Rattle.syntax.specs.Words.{declaration_size};
 ghost use Rattle.out_listings.specs.Listings.{entry_words, listed_of};
@@ -22,7 +25,7 @@ pub fn entry_of(declared: &[u32], n: usize, i: usize) -> Declared
 }
 
 // The answer to a sheet, with its declarations as the table holds them, and how many of them a list takes.
-#[derive(Drop)]
+#[derive(Clone, Copy)]
 pub struct Listing {
     pub verdict: Verdict,
     pub count: usize,

@@ -1,4 +1,7 @@
 // The name at fault, as a part of the text where it stands.
+
+#![tactic(auto)]
+
 ghost use Rattle.std.specs.Prelude.{◌≡◌};
 ghost use Rattle.syntax.specs.Tokens.{spelling};
 ghost use Rattle.mode_rules.specs.Checking.{name_span, text_at_fault, fault_name};
@@ -6,7 +9,7 @@ ghost use Rattle.mode_rules.specs.Checking.{name_span, text_at_fault, fault_name
 use syntax::{Refusal, Text, Verdict};
 
 // Place and length of a name.
-#[derive(Drop)]
+#[derive(Clone, Copy)]
 pub struct Span {
     pub at: usize,
     pub len: usize,

@@ -1,5 +1,8 @@
 // The answers of reading, checking and running as numbers in a lent slice, for callers in other languages: as many as fit, later ones as they
 // were. A declaration: `out_entries`.
+
+#![tactic(auto)]
+
 ghost use Rattle.std.specs.Prelude.{◌≡◌, ◌++◌, ◌≤◌, length};
 ghost use Rattle.std.proofs.lemmas.List.Edits.{sets};
 ghost use Rattle.out_numbers.specs.Numbers.{verdict_numbers, run_numbers, refusal_in};

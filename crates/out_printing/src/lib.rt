@@ -1,4 +1,7 @@
 // Prints an answer as every program does.
+
+#![tactic(auto)]
+
 use buffers::past_lines;
 use libc::STDOUT_FILENO;
 use syntax::{Report, Run, Verdict};

@@ -1,4 +1,7 @@
 // The line that ends a run, into a lent buffer. Document 01 is the paper "Rule sheets".
+
+#![tactic(auto)]
+
 ghost use Rattle.std.specs.Prelude.{◌≡◌, ◌+◌, ◌≤◌};
 ghost use Rattle.buffers.specs.Buffers.{Put, fitted_length, fitted};
 ghost use Rattle.out_reports.specs.Reports.{report_line, kind_number, kind_word};

@@ -1,4 +1,7 @@
 // Numbers into a lent slice: as many as fit, later ones as they were.
+
+#![tactic(auto)]
+
 ghost use Rattle.std.specs.Prelude.{[], ◌∷◌, ◌+◌, ◌^◌, ◌<◌, length};
 ghost use Rattle.buffers.specs.Buffers.{Put};
 

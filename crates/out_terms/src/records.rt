@@ -14,7 +14,7 @@ use run_layout::{CELLS, COPIES, OPEN_SIZE, symbol_length, symbol_place, symbol_t
 use table_words::word_at;
 
 // The arguments from place to last in a copy that are still to be spelt; more is 0 where none of their list is spelt yet.
-#[derive(Drop)]
+#[derive(Clone, Copy)]
 pub struct OpenRow {
     pub place: usize,
     pub more: usize,

@@ -112,7 +112,7 @@ pub fn append_variable(goal: &[u8], w: u32, more: usize, out: &mut [u8], at: usi
 }
 
 // A position, and 1 where a variable is given already.
-#[derive(Drop)]
+#[derive(Clone, Copy)]
 pub struct SpeltVariable {
     pub at: usize,
     pub more: usize,

@@ -18,7 +18,7 @@ use table_words::word_at;
 use unify_bindings::store::deref;
 
 // The position, and how many rows are on the stack.
-#[derive(Drop)]
+#[derive(Clone, Copy)]
 pub struct SpellWalk {
     pub at: usize,
     pub height: usize,

@@ -1,5 +1,8 @@
 // The words of a verdict, into a lent buffer. Each function appends as those of `buffers` do. Positions do not overflow: `refused sheet` has 13
 // bytes and a number with its space at most 21, so a verdict's words end at 118 at most. Document 01 is the paper "Rule sheets".
+
+#![tactic(auto)]
+
 ghost use Rattle.std.specs.Prelude.{◌+◌, ◌≤◌};
 ghost use Rattle.buffers.specs.Buffers.{Put};
 ghost use Rattle.out_verdicts.specs.Words.{text_word, verdict_words, five_words};

@@ -1,4 +1,7 @@
 // Numbers packed into the words of a table, and each of them out of its word.
+
+#![tactic(auto)]
+
 ghost use Rattle.std.specs.Prelude.{◌≡◌, ◌≤◌, ◌<◌, ◌^◌};
 ghost use Rattle.syntax.specs.Limits.{sheet_bytes};
 ghost use Rattle.syntax.specs.Reading.{sign_of};

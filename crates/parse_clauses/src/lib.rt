@@ -1,4 +1,7 @@
 // Brackets, bodies and clauses into the node table.
+
+#![tactic(auto)]
+
 ghost use Rattle.std.specs.Prelude.{◌≡◌, ◌+◌, ◌-◌, ◌≤◌, ◌<◌, ◌^◌, length, set};
 ghost use Rattle.syntax.specs.Limits.{literals};
 ghost use Rattle.syntax.specs.Tokens.{name_kind, open_kind, end_kind};

@@ -1,4 +1,7 @@
 // Declarations into their table.
+
+#![tactic(auto)]
+
 ghost use Rattle.std.specs.Prelude.{◌≡◌, ◌+◌, ◌*◌, ◌≤◌, ◌<◌, ◌^◌, length, eqb};
 ghost use Rattle.syntax.specs.Limits.{arguments};
 ghost use Rattle.syntax.specs.Tokens.{name_kind, open_kind};

@@ -1,4 +1,7 @@
 // Literals that are no brackets into the node table.
+
+#![tactic(auto)]
+
 ghost use Rattle.std.specs.Prelude.{◌≡◌, ◌+◌, ◌-◌, ◌≤◌, ◌<◌, length, set, eqb, true, false};
 ghost use Rattle.syntax.specs.Limits.{literals};
 ghost use Rattle.syntax.specs.Tokens.{spelling, name_kind, equals_kind};

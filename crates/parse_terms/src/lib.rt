@@ -1,5 +1,8 @@
 // Terms into the node table. Reading one term and reading a list of terms call each other, with fewer brackets left. `own` is a
 // copy of the reader for one call: compiled, a parameter that is handed on is copied whole at each entry, and `own` only where that call is made.
+
+#![tactic(auto)]
+
 ghost use Rattle.std.specs.Prelude.{◌≡◌, ◌+◌, ◌-◌, ◌≤◌, ◌<◌, ◌^◌, length, set};
 ghost use Rattle.syntax.specs.Terms.{arity};
 ghost use Rattle.syntax.specs.Tokens.{name_kind};

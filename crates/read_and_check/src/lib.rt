@@ -1,4 +1,7 @@
 // A sheet and a goal in tables: read into words, the sheet held against its marks. Document 01 is the paper "Rule sheets".
+
+#![tactic(auto)]
+
 ghost use Rattle.std.specs.Prelude.{◌≡◌, ◌≤◌, ◌<◌, ◌^◌, length};
 ghost use Rattle.syntax.specs.Words.{sheet_words, goal_words, declared_words};
 ghost use Rattle.syntax.specs.Terms.{Sheet};
@@ -73,7 +76,7 @@ pub fn goal_room() -> [u32; GOAL_WORDS]
 
 // What reading a goal gives: how many literals it has, and how many variables; their first occurrences stand in the last words of
 // the table.
-#[derive(Drop)]
+#[derive(Clone, Copy)]
 pub struct GoalRead {
     pub verdict: Verdict,
     pub literals: usize,

@@ -1,4 +1,7 @@
 // The numbers of a refusal, the refusal that a fault of reading is, and texts that are too long.
+
+#![tactic(auto)]
+
 ghost use Rattle.std.specs.Prelude.{◌≡◌, ltb};
 ghost use Rattle.syntax.specs.Limits.{sheet_bytes, goal_bytes};
 ghost use Rattle.syntax.specs.Refusals.{numbers_of};

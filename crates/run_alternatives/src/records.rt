@@ -7,7 +7,7 @@ use run_layout::{ALTERNATIVE_SIZE, ALTERNATIVES, FRAME_SIZE, FRAMES};
 use table_words::word_at;
 
 // The words of an alternative.
-#[derive(Drop)]
+#[derive(Clone, Copy)]
 pub struct Top {
     pub copy: usize,
     pub literal: usize,
@@ -17,7 +17,7 @@ pub struct Top {
 }
 
 // A literal of a copy.
-#[derive(Drop)]
+#[derive(Clone, Copy)]
 pub struct Spot {
     pub copy: usize,
     pub literal: usize,

@@ -1,4 +1,7 @@
 // Before a step of a run: what comes next, and an answer told, its line written and then the step taken. Document 01 is the paper "Rule sheets".
+
+#![tactic(auto)]
+
 ghost use Rattle.std.specs.Prelude.{◌≡◌, List, ℕ, ◌-◌, ◌≤◌, length};
 ghost use Rattle.syntax.specs.Terms.{Goal};
 ghost use Rattle.syntax.specs.Spans.{names_from};
@@ -23,7 +26,7 @@ use unify_bindings::store::undo;
 const MARK: usize = 3;
 
 // What comes before the next step: an end, an answer's line, or nothing.
-#[derive(Drop)]
+#[derive(Clone, Copy)]
 pub enum Next {
     End(Kind),
     Answer,
@@ -31,7 +34,7 @@ pub enum Next {
 }
 
 // After an answer: the position past its line, 0 where the line does not fit; and the pile's height and the trail's length.
-#[derive(Drop)]
+#[derive(Clone, Copy)]
 pub struct AnswerTold {
     pub at: usize,
     pub height: usize,

@@ -1,4 +1,7 @@
 // What comes of the top alternative where it stands at a bracket. The trail is as long as the top's.
+
+#![tactic(auto)]
+
 ghost use Rattle.std.specs.Prelude.{◌≡◌, List, ℕ, ◌-◌};
 ghost use Rattle.run_layout.specs.Regions.{split_kind};
 ghost use Rattle.run_layout.specs.Program.{record_kind};

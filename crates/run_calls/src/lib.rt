@@ -1,4 +1,7 @@
 // What comes of the top alternative where it stands at a call. The trail is as long as the top's.
+
+#![tactic(auto)]
+
 ghost use Rattle.std.specs.Prelude.{◌≡◌, ◌-◌};
 ghost use Rattle.syntax.specs.Words.{call_kind};
 ghost use Rattle.run_layout.specs.Program.{record_kind};

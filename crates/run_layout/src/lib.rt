@@ -1,4 +1,7 @@
 // The regions of a run's tables (specs/Regions); what their words mean is defined in specs/.
+
+#![tactic(auto)]
+
 ghost use Rattle.std.specs.Prelude.{◌≡◌, ◌<◌, ◌^◌};
 ghost use Rattle.run_layout.specs.Regions.{copies, copy_cells, half_word};
 ghost use Rattle.run_layout.specs.Halves.{half, stored};

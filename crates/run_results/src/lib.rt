@@ -1,11 +1,14 @@
 // The result of a run: its answer, and how many bytes it has written into the text.
+
+#![tactic(auto)]
+
 ghost use Rattle.std.specs.Prelude.{◌≡◌};
 ghost use Rattle.run_results.specs.Results.{Stops, EndsWith};
 
 use syntax::{Refusal, Report, Run, Text};
 
 // The answer to a run, and how many bytes it has written into the text.
-#[derive(Drop)]
+#[derive(Clone, Copy)]
 pub struct Written {
     pub run: Run,
     pub bytes: usize,

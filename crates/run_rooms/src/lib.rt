@@ -1,4 +1,7 @@
 // The tables of a loaded program, of its run and of unification, cleared.
+
+#![tactic(auto)]
+
 ghost use Rattle.run_layout.specs.Regions.{nodes_words, code_words, store_words, state_words, narrow_words, wide_words};
 ghost use Rattle.run_rooms.specs.Rooms.{Zeros};
 

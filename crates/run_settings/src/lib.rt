@@ -1,4 +1,7 @@
 // The settings of a run, document 01's refusal 1, and the ends of a run that its counts tell.
+
+#![tactic(auto)]
+
 ghost use Rattle.std.specs.Prelude.{◌≡◌};
 ghost use Rattle.machine.specs.Runs.{in_range};
 ghost use Rattle.run_settings.specs.Ends.{ended_by};
@@ -22,7 +25,7 @@ pub fn in_range(allowance: usize, wanted: usize) -> bool
 }
 
 // How a run stands before its next step, as far as its counts tell.
-#[derive(Drop)]
+#[derive(Clone, Copy)]
 pub enum RunState {
     Over(Kind),
     Open,

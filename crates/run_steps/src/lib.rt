@@ -1,4 +1,7 @@
 // The machine over flat words: one step of it, and its start. Document 01 is the paper "Rule sheets".
+
+#![tactic(auto)]
+
 mod literals;
 
 ghost use Rattle.std.specs.Prelude.{◌≡◌, List, ℕ};

@@ -1,5 +1,8 @@
 // A turn of a run over loaded words: the step repeated until document 01 ends it or the turn's steps are used up. Document 01 is the paper "Rule
 // sheets".
+
+#![tactic(auto)]
+
 ghost use Rattle.std.specs.Prelude.{◌+◌, ◌^◌, ◌<◌, length};
 ghost use Rattle.machine.specs.Runs.{run_from};
 ghost use Rattle.run_turns.specs.Turns.{Underway, Turned};
@@ -10,7 +13,7 @@ use syntax::Kind;
 
 // What a run carries from turn to turn: the height of the pile, the length of the trail, the answers, the steps, the position in the text,
 // and how it ended; `Steps` while it may go on.
-#[derive(Drop)]
+#[derive(Clone, Copy)]
 pub struct Carried {
     pub height: usize,
     pub trail: usize,

@@ -1,4 +1,7 @@
 // A run over loaded words, in one turn: its report, and the lines of its answers. Document 01 is the paper "Rule sheets".
+
+#![tactic(auto)]
+
 ghost use Rattle.std.specs.Prelude.{length};
 ghost use Rattle.machine.specs.Runs.{run};
 ghost use Rattle.run_whole.specs.Running.{Runnable, Runs, Leaves};
@@ -8,7 +11,7 @@ use run_turns::{Carried, turn};
 use syntax::{Kind, Report};
 
 // What a run gives: its report, and how many bytes of the text are its lines.
-#[derive(Drop)]
+#[derive(Clone, Copy)]
 pub struct Ran {
     pub report: Report,
     pub bytes: usize,

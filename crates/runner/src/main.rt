@@ -1,6 +1,9 @@
 // Runs the goal in the file `goal` over the sheet in the file `sheet` and the recorded session in the file `trace`, within 65,536 steps, for at most 16
 // answers of at most 4,096 bytes together, and prints the answers and the report. A file that cannot be read counts as empty. One byte more than the
 // limit is read, so that a text past it is known by its length.
+
+#![tactic(auto)]
+
 use syntax::{GOAL_BYTES, MOST_STEPS, RunSettings, SHEET_BYTES, TRACE_BYTES};
 
 const SHEET_ROOM: usize = SHEET_BYTES + 1;

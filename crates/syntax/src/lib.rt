@@ -1,5 +1,7 @@
 // The constants and declared types that cross crates. Document 01 is the paper "Rule sheets".
 
+#![tactic(auto)]
+
 // The kinds of token. A byte's class has the same number where one byte is a token.
 pub const NO_TOKEN: usize = 0;
 
@@ -125,7 +127,7 @@ pub const PROGRAM_WORDS: usize = SHEET_WORDS + FACTS * FACT_WORDS;
 pub const PROGRAM_CLAUSES: usize = CLAUSES + FACTS;
 
 // One token of a text: its kind, first byte and length.
-#[derive(Drop)]
+#[derive(Clone, Copy)]
 pub struct Token {
     pub kind: usize,
     pub at: usize,
@@ -134,7 +136,7 @@ pub struct Token {
 
 // Where a reader stands: the token at hand, and how many variables and literals the clause has so far. The variables' first occurrences
 // stand in the last words of the node table (specs/Spans).
-#[derive(Drop)]
+#[derive(Clone, Copy)]
 pub struct State {
     pub token: Token,
     pub count: usize,
@@ -142,7 +144,7 @@ pub struct State {
 }
 
 // The text that a refusal speaks of.
-#[derive(Drop)]
+#[derive(Clone, Copy)]
 pub enum Text {
     Sheet,
     Goal,
@@ -153,7 +155,7 @@ pub enum Text {
 // The ten refusals of document 01, in its order, and those of document 02. Those that hand a name back carry its place and length. The byte
 // of an open input or output is that of the first variable in the argument that is not known ground, the byte of an unwritten predicate that
 // of its name in the declaration, the byte of a bad trace that of the record or of the byte after filler.
-#[derive(Drop)]
+#[derive(Clone, Copy)]
 pub enum Refusal {
     Settings,
     TooLong,
@@ -190,7 +192,7 @@ pub enum Refusal {
 }
 
 // The answer to a text: accepted, with the counts of declarations and clauses, or the refusal and the text at fault.
-#[derive(Drop)]
+#[derive(Clone, Copy)]
 pub enum Verdict {
     Accepted { declarations: usize, clauses: usize },
     Refused { text: Text, refusal: Refusal },
@@ -198,7 +200,7 @@ pub enum Verdict {
 
 // What a run is asked for: the most steps, the most answers, and document 02 (x)'s mark for a sheet stored earlier, with which declared
 // predicates may have no clause.
-#[derive(Drop)]
+#[derive(Clone, Copy)]
 pub struct RunSettings {
     pub allowance: usize,
     pub wanted: usize,
@@ -206,7 +208,7 @@ pub struct RunSettings {
 }
 
 // How a run ends. Document 02 (vii) looks for `Done` before `Wanted`; the others are looked for in this order.
-#[derive(Drop)]
+#[derive(Clone, Copy)]
 pub enum Kind {
     Wanted,
     Done,
@@ -216,7 +218,7 @@ pub enum Kind {
 }
 
 // What a run reports: how it ended, the answers written and the steps taken.
-#[derive(Drop)]
+#[derive(Clone, Copy)]
 pub struct Report {
     pub kind: Kind,
     pub answers: usize,
@@ -224,14 +226,14 @@ pub struct Report {
 }
 
 // The answer to a run: its report, or the refusal and the text at fault.
-#[derive(Drop)]
+#[derive(Clone, Copy)]
 pub enum Run {
     Ended(Report),
     Refused { text: Text, refusal: Refusal },
 }
 
 // The five numbers of a refusal.
-#[derive(Drop)]
+#[derive(Clone, Copy)]
 pub struct Five {
     pub number: usize,
     pub byte: usize,
@@ -241,7 +243,7 @@ pub struct Five {
 }
 
 // One declaration of a sheet: byte and length of the name, number of arguments.
-#[derive(Drop)]
+#[derive(Clone, Copy)]
 pub struct Entry {
     pub at: usize,
     pub len: usize,
@@ -249,7 +251,7 @@ pub struct Entry {
 }
 
 // What the i-th entry of a sheet is.
-#[derive(Drop)]
+#[derive(Clone, Copy)]
 pub enum Declared {
     As(Entry),
     Nothing,

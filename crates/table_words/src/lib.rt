@@ -1,4 +1,7 @@
 // Words of a table: reading one, storing one, and the places past a node, an item, a body and a clause.
+
+#![tactic(auto)]
+
 ghost use Rattle.std.specs.Prelude.{◌≡◌, ◌+◌, ◌<◌, ◌^◌, length, get_or, set};
 ghost use Rattle.syntax.specs.Terms.{Body, Clause};
 ghost use Rattle.syntax.specs.Words.{body_words, clause_words};

@@ -1,5 +1,8 @@
 // What the bytes of a text say at a place: one of them, whether two parts are the same, whether a name is `true`, `fail` or `mode`, whether a variable
 // is `_`, and which digits of a numeral count. Document 01 is the paper "Rule sheets".
+
+#![tactic(auto)]
+
 ghost use Rattle.std.specs.Prelude.{◌≡◌, [], ◌∷◌, ◌+◌, ◌≤◌, length, get_or, take, drop};
 ghost use Rattle.syntax.specs.Numerals.{dropped};
 ghost use Rattle.syntax.specs.Reading.{is_anonymous};

@@ -1,4 +1,7 @@
 // Unification over flat words.
 
+#![tactic(auto)]
+
+
 pub mod solve;
 pub mod walk;

@@ -20,7 +20,7 @@ use unify_cycles::{begin, check};
 use unify_memos::{forget, known, remember};
 
 // What a turn comes to: on with a stack of this height, names that differ, or a variable to be bound.
-#[derive(Drop)]
+#[derive(Clone, Copy)]
 pub enum Turn {
     Go(usize),
     Clash,
@@ -33,7 +33,7 @@ pub enum Turn {
 }
 
 // Whether the two became equal, and the length of the trail.
-#[derive(Drop)]
+#[derive(Clone, Copy)]
 pub struct UnifyAnswer {
     pub equal: bool,
     pub trail: usize,

@@ -9,7 +9,7 @@ use table_words::word_at;
 use unify_bindings::occurrence::size_at;
 
 // All the same; names that differ; or the first places where a variable stands on a side.
-#[derive(Drop)]
+#[derive(Clone, Copy)]
 pub enum RowsWalked {
     Done,
     Clash,

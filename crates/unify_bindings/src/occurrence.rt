@@ -21,7 +21,7 @@ const NODE_WORDS: usize = LOADED_NODE * COPIES;
 const SPREAD: usize = 97;
 
 // Whether a cell was found, how many are queued, and how many words were looked at.
-#[derive(Drop)]
+#[derive(Clone, Copy)]
 pub struct Queue {
     pub found: bool,
     pub n: usize,
@@ -29,7 +29,7 @@ pub struct Queue {
 }
 
 // Whether a variable stands in a term, and how many words were looked at.
-#[derive(Drop)]
+#[derive(Clone, Copy)]
 pub struct Occurrence {
     pub found: bool,
     pub cost: usize,

@@ -7,7 +7,7 @@ use run_layout::{PAIR_SIZE, SIDE_SIZE, STACK};
 use table_words::word_at;
 
 // A row: the node whose row it is, the place reached, the copy.
-#[derive(Drop)]
+#[derive(Clone, Copy)]
 pub struct Side {
     pub root: usize,
     pub at: usize,

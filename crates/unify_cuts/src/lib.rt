@@ -1,6 +1,9 @@
 // Short cuts through chains of variables, which hold for one unification: a cut leads from a cell to one further along its chain. A slot for each cell says
 // which cut is the cell's: it is the higher half of one of the memo's slots. Slots are never cleared, since a cut names its cell. On a long walk a cut is made
 // every so many links, so a later walk along the chain is short.
+
+#![tactic(auto)]
+
 ghost use Rattle.std.specs.Prelude.{◌<◌, ◌+◌, length, get_or};
 ghost use Rattle.run_layout.specs.Regions.{cells};
 ghost use Rattle.run_layout.specs.State.{cell_of};
@@ -20,7 +23,7 @@ use unify_bindings::store::{bound_at, unpack};
 const STRIDE: usize = 32;
 
 // A term that a walk has come to, and the word that leads on from there; 0 where nothing does.
-#[derive(Drop)]
+#[derive(Clone, Copy)]
 pub struct Stage {
     pub node: usize,
     pub copy: usize,
@@ -28,7 +31,7 @@ pub struct Stage {
 }
 
 // Where two terms lead.
-#[derive(Drop)]
+#[derive(Clone, Copy)]
 pub struct Ends {
     pub node: usize,
     pub copy: usize,

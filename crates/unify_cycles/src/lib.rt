@@ -1,5 +1,8 @@
 // Whether a binding closes a cycle. Where the order of cells shows that it does not, nothing is searched. A search is exact; when searches have looked at many
 // words, what the unification will bind is guessed, and the order is made anew from the guess, so that it serves for the bindings to come.
+
+#![tactic(auto)]
+
 ghost use Rattle.std.specs.Prelude.{◌+◌, ◌*◌, ◌≤◌, ◌<◌};
 ghost use Rattle.run_layout.specs.Regions.{cells, pairs};
 ghost use Rattle.unify_bindings.specs.Queues.{Closed};

@@ -5,6 +5,9 @@
 // Of two terms that become equal one was reached by way of a bound cell, so there are no more new numbers than bound cells; and scratch words that have
 // a row for each node have room for every term.
 
+#![tactic(auto)]
+
+
 ghost use Rattle.std.specs.Prelude.{◌≡◌, true, ◌⊎◌, ◌+◌, ◌*◌, ◌/◌, ◌%◌, ◌-◌, ◌≤◌, ◌<◌, ◌^◌, length, get_or, set};
 ghost use Rattle.run_layout.specs.Halves.{stored};
 ghost use Rattle.run_layout.specs.Regions.{pairs, memo, cuts_word, key_count, class_count, memo_class, row_words, half_word, memo_row};

@@ -1,6 +1,9 @@
 // A topological order of cells, in the scratch words: a list in which each bound cell comes behind all variables of the term that it is bound to. A
 // variable may be bound without a search for it, where all variables of the term stand before it in the list. Any cells in any sequence may be proposed for
 // the list: each is looked at before it gets a place.
+
+#![tactic(auto)]
+
 ghost use Rattle.std.specs.Prelude.{◌≡◌, ◌+◌, ◌≤◌, ◌<◌, ◌^◌, length, set};
 ghost use Rattle.run_layout.specs.Regions.{copies, cells, order_word, bounds_word};
 ghost use Rattle.run_layout.specs.Nodes.{term_at};
