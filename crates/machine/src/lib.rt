@@ -2,4 +2,3 @@
 // are `machine_theorems`'s.
 
 #![tactic(auto)]
-

@@ -2,4 +2,3 @@
 // (xii). Their definitions are `machine`'s.
 
 #![tactic(auto)]
-

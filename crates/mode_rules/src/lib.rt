@@ -2,4 +2,3 @@
 // equations. The theorems about them are `mode_theorems`'s.
 
 #![tactic(auto)]
-

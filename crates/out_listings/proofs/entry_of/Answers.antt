@@ -1,0 +1,10 @@
+-- `out_listings::entry_of` meets its contract: each way out is a law of `Laws`. Assumes nothing.
+use Rattle.out_listings.proofs.Laws.{entry-none, entry-some}
+use borrow.Author.Rules.{rules}
+use Rattle.out_listings.proofs.entry_of.Goals as goal
+
+pub returns-then-n-i : goal.returns-then-n-i
+returns-then-n-i c = search (entry-none, rules)
+
+pub returns : goal.returns
+returns c = search (entry-some, rules)

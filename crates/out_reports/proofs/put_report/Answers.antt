@@ -1,0 +1,11 @@
+-- The line's length is measured on a buffer of no bytes; it is written where it fits.
+use native.Mathlib.Omega.{arith}
+use Rattle.buffers.proofs.Laws.{measured, too_long}
+use Rattle.out_reports.proofs.put_report.Goals as goal
+
+-- LOOK: goal of clauses length text
+pub returns-then-report_length-out : goal.returns-then-report_length-out
+returns-then-report_length-out c = measured c.append_report-report_length.ensures (omega arith) c.append_report.ensures
+
+pub returns-else-report_length-out : goal.returns-else-report_length-out
+returns-else-report_length-out c = too_long c.append_report-report_length.ensures (omega arith)

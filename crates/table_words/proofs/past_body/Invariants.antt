@@ -1,0 +1,16 @@
+-- `table_words::past_body` meets its contract. The invariant: what is left of the body ends where the whole does. Assumes nothing.
+use Prim.Native.Nat.{◌+◌, ◌-◌}
+use lib.ListN.{length}
+use Rattle.syntax.specs.Terms.{Body}
+use Rattle.syntax.specs.Words.{body_words}
+use Rattle.table_words.specs.Items.{ItemsAt}
+use Rattle.table_words.proofs.Items.{ItemsOn}
+use Rattle.table_words.proofs.past_body.Given as goal
+
+abbrev pub invariant-loop-i : goal.invariant-loop-i
+invariant-loop-i l =
+    (b : Body) → ItemsAt l.table l.p l.items b → ItemsOn l.table l.at l.i l.items (l.p + length (body_words b))
+
+abbrev pub decreases-loop-i : goal.decreases-loop-i
+decreases-loop-i l =
+    l.items - l.i
