@@ -118,7 +118,12 @@ def turn(text, new, locals_too):
             return "-".join(q if re.match(r"[A-Z]", q) else snake(q) for q in w.split("-")) + tail
         return m.group(0)
 
-    return WORD.sub(word, text)
+    # strings keep their words; a " in a comment opens none
+    out = []
+    for line in text.split("\n"):
+        parts = re.split(r'("(?:[^"\\]|\\.)*")', line) if not line.lstrip().startswith("--") else [line]
+        out.append("".join(q if k % 2 else WORD.sub(word, q) for k, q in enumerate(parts)))
+    return "\n".join(out)
 
 
 def turn_rt(text, new):

@@ -61,16 +61,16 @@ cases =
     short ":-mode p(+). p(a)." "p(b)." (ended Done 0 2 "") ∷
     -- bindings of an alternative that went are not kept; clauses from the top; an equation in a body
     short ":-mode p(*). p(X) :- X = a, fail. p(b)." "p(X)." (ended Done 1 6 "X = b\n") ∷
-    short ":-mode p(-). p(a). p(b). p(c)." "p(X)." (ended Done 3 7 "X = a\n_x = b\n_x = c\n") ∷
+    short ":-mode p(-). p(a). p(b). p(c)." "p(X)." (ended Done 3 7 "X = a\nX = b\nX = c\n") ∷
     short ":-mode p(-). p(a). p(b). p(c)." "p(X), X = b." (ended Done 1 8 "X = b\n") ∷
-    short ":-mode p(-,-). :-mode q(-). q(a). q(b). p(X,Y) :- q(X), q(Y)." "p(X,Y)." (ended Done 4 15 "X = a, Y = a\n_x = a, Y = b\n_x = b, Y = a\n_x = b, Y = b\n") ∷
+    short ":-mode p(-,-). :-mode q(-). q(a). q(b). p(X,Y) :- q(X), q(Y)." "p(X,Y)." (ended Done 4 15 "X = a, Y = a\nX = a, Y = b\nX = b, Y = a\nX = b, Y = b\n") ∷
     short ":-mode p(-). p(X) :- Y = a, X = f(Y)." "p(Z)." (ended Done 1 5 "Z = f(a)\n") ∷
     -- occurs check through a second equation, and under a head; names, numerals and numbers of arguments that clash
     short "" "f(X,Y) = f(Y,g(X))." (ended Done 0 1 "") ∷
     short ":-mode p(*,*). p(X,f(X))." "p(Y,Y)." (ended Done 0 2 "") ∷
     -- document 02, (iii): numerals without leading zeros; names are not touched
     short "" "01 = 1." (ended Done 1 2 "yes\n") ∷
-    short ":-mode p(*). p(007). p(00)." "p(7), p(X)." (ended Done 2 8 "X = 7\n_x = 0\n") ∷
+    short ":-mode p(*). p(007). p(00)." "p(7), p(X)." (ended Done 2 8 "X = 7\nX = 0\n") ∷
     short "" "X=f(000,a01,b007)." (ended Done 1 2 "X = f(0,a01,b007)\n") ∷
     short "" "a01=a1." (ended Done 0 1 "") ∷
     short "" "10 = 1." (ended Done 0 1 "") ∷
@@ -87,11 +87,11 @@ cases =
     short "" "_ = a." (ended Done 1 2 "yes\n") ∷
     short "" "X=f(Y,g(Y,Z),h)." (ended Done 1 2 "X = f(_1,g(_1,_2),h), Y = _1, Z = _2\n") ∷
     -- document 02, (i): the left side and then the right one, with the bindings from before the bracket; one step for a bracket; nested, in a body
-    short "" "(X=a;X=b),(Y=c;Y=X)." (ended Done 4 13 "X = a, Y = c\n_x = a, Y = a\n_x = b, Y = c\n_x = b, Y = b\n") ∷
-    short "" "((X=a;X=b);X=c)." (ended Done 3 8 "X = a\n_x = b\n_x = c\n") ∷
-    short "" "(X=a;Y=b), Z = f(X,Y)." (ended Done 2 7 "X = a, Y = _1, Z = f(a,_1)\n_x = _1, Y = b, Z = f(_1,b)\n") ∷
+    short "" "(X=a;X=b),(Y=c;Y=X)." (ended Done 4 13 "X = a, Y = c\nX = a, Y = a\nX = b, Y = c\nX = b, Y = b\n") ∷
+    short "" "((X=a;X=b);X=c)." (ended Done 3 8 "X = a\nX = b\nX = c\n") ∷
+    short "" "(X=a;Y=b), Z = f(X,Y)." (ended Done 2 7 "X = a, Y = _1, Z = f(a,_1)\nX = _1, Y = b, Z = f(_1,b)\n") ∷
     short "" "(X=a, fail; X=b)." (ended Done 1 5 "X = b\n") ∷
-    short ":-mode p(-). p(X) :- (X = a; X = b)." "p(X)." (ended Done 2 7 "X = a\n_x = b\n") ∷
+    short ":-mode p(-). p(X) :- (X = a; X = b)." "p(X)." (ended Done 2 7 "X = a\nX = b\n") ∷
     within 3 16 4096 "" "(true;true)." (ended Steps 1 3 "yes\n") ∷
     -- it leaves the path as it was, and is no `deep` at the longest
     runner ":-mode l. l:-(l;true)." "l." (ended Deep 0 510 "") ∷
@@ -102,8 +102,8 @@ cases =
     within 7 1 4096 ":- mode plus(+,+,-). plus(z,N,N). plus(s(M),N,s(P)) :- plus(M,N,P)." "plus(s(z),z,X)." (ended Wanted 1 4 "X = s(z)\n") ∷
     within 4 1 9 ":- mode plus(+,+,-). plus(z,N,N). plus(s(M),N,s(P)) :- plus(M,N,P)." "plus(s(z),z,X)." (ended Wanted 1 4 "X = s(z)\n") ∷
     within 300 1 8 ":- mode plus(+,+,-). plus(z,N,N). plus(s(M),N,s(P)) :- plus(M,N,P)." "plus(s(z),z,X)." (ended Full 0 3 "") ∷
-    within 300 2 4096 ":-mode p(-). p(a). p(b). p(c)." "p(X)." (ended Wanted 2 4 "X = a\n_x = b\n") ∷
-    within 300 64 12 ":-mode p(-). p(a). p(b). p(c)." "p(X)." (ended Full 2 5 "X = a\n_x = b\n") ∷
+    within 300 2 4096 ":-mode p(-). p(a). p(b). p(c)." "p(X)." (ended Wanted 2 4 "X = a\nX = b\n") ∷
+    within 300 64 12 ":-mode p(-). p(a). p(b). p(c)." "p(X)." (ended Full 2 5 "X = a\nX = b\n") ∷
     within 300 64 11 ":-mode p(-). p(a). p(b). p(c)." "p(X)." (ended Full 1 3 "X = a\n") ∷
     within 300 64 6 ":-mode p(-). p(aa). p(b)." "p(X)." (ended Full 0 1 "") ∷
     within 255 1 0 ":-mode l. l :- l." "l." (ended Steps 0 255 "") ∷
@@ -111,7 +111,7 @@ cases =
     -- the wanted count reached: nothing left, a call without a further clause left, a further clause left; an allowance just enough and one
     -- short, room just enough and one short
     within 9 1 4 "" "true." (ended Done 1 2 "yes\n") ∷
-    within 9 2 12 ":-mode p(-). p(a). p(b)." "p(X)." (ended Wanted 2 4 "X = a\n_x = b\n") ∷
+    within 9 2 12 ":-mode p(-). p(a). p(b)." "p(X)." (ended Wanted 2 4 "X = a\nX = b\n") ∷
     within 9 1 99 ":-mode p(-). p(a)." "p(X)." (ended Wanted 1 2 "X = a\n") ∷
     within 2 1 6 ":-mode p(-). p(a)." "p(X)." (ended Wanted 1 2 "X = a\n") ∷
     within 1 1 6 ":-mode p(-). p(a)." "p(X)." (ended Steps 0 1 "") ∷

@@ -41,16 +41,16 @@ abbrev cases : List Case
 cases =
     -- elapsed counts from the first record of either kind; equal ticks are 0 apart; K counts kind 1 alone
     traced ":-mode seen(*,*,*)." "seen(K,E,B)." (2 ∷ 10 ∷ 0 ∷ 1 ∷ 5 ∷ 0 ∷ 0 ∷ 1 ∷ 5 ∷ 0 ∷ 4 ∷ [])
-    (ended 2 5 "K = 1, E = 65531, B = low\n_k = 2, E = 65531, B = rinse\n") ∷
+    (ended 2 5 "K = 1, E = 65531, B = low\nK = 2, E = 65531, B = rinse\n") ∷
     -- past 65,535: 65,535 to 0 is 1, 0 to 65,535 is 65,535
     traced ":-mode seen(*,*,*)." "seen(_,E,B)." (1 ∷ 255 ∷ 255 ∷ 1 ∷ 1 ∷ 0 ∷ 0 ∷ 2 ∷ 1 ∷ 255 ∷ 255 ∷ 3 ∷ [])
-    (ended 3 7 "E = 0, B = steady\n_e = 1, B = high\n_e = 65536, B = off\n") ∷
+    (ended 3 7 "E = 0, B = steady\nE = 1, B = high\nE = 65536, B = off\n") ∷
     -- behind the sheet's own clauses, in trace order; numerals as (iii) has them
-    traced ":-mode seen(*,*,*). seen(0,0,mine)." "seen(_,_,B)." (1 ∷ 0 ∷ 0 ∷ 3 ∷ []) (ended 2 5 "B = mine\n_b = off\n") ∷
+    traced ":-mode seen(*,*,*). seen(0,0,mine)." "seen(_,_,B)." (1 ∷ 0 ∷ 0 ∷ 3 ∷ []) (ended 2 5 "B = mine\nB = off\n") ∷
     traced ":-mode seen(*,*,*)." "seen(01,E,B)." (1 ∷ 0 ∷ 0 ∷ 3 ∷ []) (ended 1 3 "E = 0, B = off\n") ∷
     traced ":-mode seen(+,-,-)." "seen(2,E,B)." (1 ∷ 0 ∷ 1 ∷ 3 ∷ 1 ∷ 2 ∷ 1 ∷ 0 ∷ []) (ended 1 4 "E = 2, B = low\n") ∷
     traced ":-mode seen(+,+,+)." "seen(K,0,low)." (1 ∷ 0 ∷ 0 ∷ 0 ∷ []) (stopped in_goal (OpenInput 5 0 1 1 0 4)) ∷
-    traced ":-mode seen(-,-,-). :-mode p(-). p(B) :- seen(_,_,B), seen(2,_,B)." "p(X)." (1 ∷ 0 ∷ 0 ∷ 0 ∷ 1 ∷ 0 ∷ 0 ∷ 0 ∷ []) (ended 2 13 "X = low\n_x = low\n") ∷
+    traced ":-mode seen(-,-,-). :-mode p(-). p(B) :- seen(_,_,B), seen(2,_,B)." "p(X)." (1 ∷ 0 ∷ 0 ∷ 0 ∷ 1 ∷ 0 ∷ 0 ∷ 0 ∷ []) (ended 2 13 "X = low\nX = low\n") ∷
     -- no trace, filler alone and kind 2 alone need no `seen`
     traced "" "true." [] (ended 1 2 "yes\n") ∷
     traced "" "true." (0 ∷ 0 ∷ []) (ended 1 2 "yes\n") ∷
