@@ -42,7 +42,7 @@ def declared():
     """name -> [is a type, stands in specs, is a field or constructor]"""
     out = {}
     for p in files():
-        if not p.endswith(".antt") or os.path.basename(p) in ("Proof.antt", "Invariants.antt", "Answers.antt"):
+        if not p.endswith(".antt") or ("/proofs/" in p and os.path.basename(p) in ("Proof.antt", "Invariants.antt", "Answers.antt")):
             continue
         spec = "/specs/" in p
         lines = open(p, encoding="utf-8").read().split("\n")

@@ -4,7 +4,6 @@
 
 #![tactic(auto)]
 
-
 ghost use Rattle.std.specs.Prelude.{◌<◌, ◌≤◌, ◌^◌, ◌≡◌, length};
 ghost use Rattle.run_layout.specs.Regions.{memo, cells, pairs, places, copies};
 ghost use Rattle.lookahead_words.specs.Room.{KeptBelow, Small};

@@ -7,8 +7,8 @@ ghost use Rattle.syntax.specs.Terms.{input, output};
 ghost use Rattle.syntax.specs.Words.{first_mark};
 ghost use Rattle.mode_rules.specs.Modes.{open_byte, list_of, if_marked, first_open, ground_marked, open_input, open_output};
 ghost use Rattle.mode_marks.specs.Tables.{TermAt, MarkedAt, JudgedAt};
-ghost use Rattle.mode_marks.specs.Answers.{checkedOf, groundnessOf};
-ghost use Rattle.mode_arguments.specs.Answers.{firstOpenOf};
+ghost use Rattle.mode_marks.specs.Answers.{checked_of, groundness_of};
+ghost use Rattle.mode_arguments.specs.Answers.{first_open_of};
 
 use mode_flags::Known;
 use mode_marks::Checked;
@@ -28,7 +28,7 @@ pub enum FirstOpen {
 // The ground test of a term whose mark is the lowest of `marks`; with another mark it passes.
 fn marked_test(table: &[u32], p: usize, marks: usize, mark: usize, known: Known) -> Groundness
     requires { TermAt table.now p }
-    ensures { (w : TermAt table.now p) → result ≡ groundnessOf (if_marked (eqb (first_mark marks) mark) (open_byte known w.term)) }
+    ensures { (w : TermAt table.now p) → result ≡ groundness_of (if_marked (eqb (first_mark marks) mark) (open_byte known w.term)) }
 {
     if first_mark(marks) != mark {
         return Groundness::Ground;
@@ -48,7 +48,7 @@ fn first_open(
 ) -> FirstOpen
     requires marked_at { MarkedAt table.now p stop marks mark }
     requires stop_in_bounds { number + stop ≤ length table.now + p }
-    ensures { (w : MarkedAt table.now p stop marks mark) → result ≡ firstOpenOf (first_open w.wanted known w.listed (list_of w.terms)
+    ensures { (w : MarkedAt table.now p stop marks mark) → result ≡ first_open_of (first_open w.wanted known w.listed (list_of w.terms)
         number) }
 {
     if stop <= p {
@@ -104,7 +104,7 @@ pub fn call_fault(
 ) -> Checked
     requires { JudgedAt table.now p marks }
     ensures { (w : JudgedAt table.now p marks) → result
-        ≡ checkedOf (open_input clause literal w.atom (first_open input known w.listed (list_of w.atom.args) 1)) }
+        ≡ checked_of (open_input clause literal w.atom (first_open input known w.listed (list_of w.atom.args) 1)) }
 {
     let from = p + NODE_WORDS;
     let stop = past(table, p);
@@ -131,7 +131,7 @@ pub fn call_fault(
 pub fn head_fault(table: &[u32], p: usize, marks: usize, known: Known, clause: usize) -> Checked
     requires { JudgedAt table.now p marks }
     ensures { (w : JudgedAt table.now p marks) → result
-        ≡ checkedOf (open_output clause w.atom (first_open output known w.listed (list_of w.atom.args) 1)) }
+        ≡ checked_of (open_output clause w.atom (first_open output known w.listed (list_of w.atom.args) 1)) }
 {
     let from = p + NODE_WORDS;
     let stop = past(table, p);

@@ -2,7 +2,7 @@
 ghost use Rattle.std.specs.Prelude.{◌≡◌, ◌+◌};
 ghost use Rattle.mode_rules.specs.Modes.{clause_fault, clauses_fault};
 ghost use Rattle.mode_marks.specs.Tables.{DeclarationsAt, ClauseAt, ClausesAt};
-ghost use Rattle.mode_marks.specs.Answers.{checkedOf};
+ghost use Rattle.mode_marks.specs.Answers.{checked_of};
 
 use mode_arguments::{ground_marked, head_fault};
 use mode_bodies::body_walk;
@@ -23,7 +23,7 @@ fn clause_fault(
     requires declarations_at { DeclarationsAt s.now declared.now n }
     requires clause_at { ClauseAt s.now table.now p }
     ensures { (d : DeclarationsAt s.now declared.now n) (w : ClauseAt s.now table.now p) → result
-        ≡ checkedOf (clause_fault d.list clause w.clause) }
+        ≡ checked_of (clause_fault d.list clause w.clause) }
 {
     let items = word_at(table, p + CLAUSE_ITEMS);
     let head = p + CLAUSE_START;
@@ -45,7 +45,7 @@ pub fn clauses_fault(s: &[u8], declared: &[u32], n: usize, table: &[u32], clause
     requires declarations_at { DeclarationsAt s.now declared.now n }
     requires clauses_at { ClausesAt s.now table.now 0 clauses }
     ensures { (d : DeclarationsAt s.now declared.now n) (w : ClausesAt s.now table.now 0 clauses) → result
-        ≡ checkedOf (clauses_fault d.list 1 w.list) }
+        ≡ checked_of (clauses_fault d.list 1 w.list) }
 {
     let mut at = 0;
     let mut i = 0;

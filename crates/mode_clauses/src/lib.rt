@@ -7,7 +7,7 @@ pub mod clause_faults;
 ghost use Rattle.std.specs.Prelude.{◌≡◌};
 ghost use Rattle.mode_rules.specs.Modes.{goal_fault};
 ghost use Rattle.mode_marks.specs.Tables.{GoalAt};
-ghost use Rattle.mode_marks.specs.Answers.{checkedOf};
+ghost use Rattle.mode_marks.specs.Answers.{checked_of};
 
 use mode_bodies::body_walk;
 use mode_marks::{Checked, is_fault};
@@ -25,7 +25,7 @@ pub fn check_goal(
 ) -> Checked
     requires { GoalAt s.now declared.now n g.now table.now items }
     ensures { (w : GoalAt s.now declared.now n g.now table.now items)
-        → result ≡ checkedOf (goal_fault w.sheet w.goal) }
+        → result ≡ checked_of (goal_fault w.sheet w.goal) }
 {
     let fault = undeclared_body(s, declared, n, g, table, 0, items, 0, 0);
     if is_fault(fault) {

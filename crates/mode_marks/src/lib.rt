@@ -6,7 +6,7 @@ pub mod marks;
 pub mod terms;
 
 ghost use Rattle.std.specs.Prelude.{◌≡◌};
-ghost use Rattle.mode_marks.specs.Answers.{isFault};
+ghost use Rattle.mode_marks.specs.Answers.{is_fault};
 
 use syntax::Refusal;
 
@@ -19,7 +19,7 @@ pub enum Checked {
 
 // Whether there is a fault.
 pub fn is_fault(c: Checked) -> bool
-    ensures { result ≡ isFault c }
+    ensures { result ≡ is_fault c }
 {
     match c {
         Checked::Fine => false,

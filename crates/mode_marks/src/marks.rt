@@ -5,7 +5,7 @@ ghost use Rattle.syntax.specs.Terms.{arity};
 ghost use Rattle.syntax.specs.Words.{marks_number};
 ghost use Rattle.mode_rules.specs.Modes.{marks_for, undeclared_atom};
 ghost use Rattle.mode_marks.specs.Tables.{DeclarationsAt, AtomAt, NamedAt};
-ghost use Rattle.mode_marks.specs.Answers.{checkedOf, atomName, position};
+ghost use Rattle.mode_marks.specs.Answers.{checked_of, atom_name, position};
 
 use crate::Checked;
 use mode_lookup::{Lookup, is_match, look_among};
@@ -24,7 +24,7 @@ pub struct Name {
 // The name of the atom at a place.
 pub fn name_at(table: &[u32], p: usize) -> Name
     requires { NamedAt table.now p }
-    ensures { (w : NamedAt table.now p) → result ≡ atomName w.atom }
+    ensures { (w : NamedAt table.now p) → result ≡ atom_name w.atom }
 {
     let what = word_at(table, p);
     let at = word_at(table, p + 2);
@@ -126,7 +126,7 @@ pub fn undeclared_atom(
     requires declarations_at { DeclarationsAt s.now declared.now n }
     requires atom_at { AtomAt g.now table.now p }
     ensures { (d : DeclarationsAt s.now declared.now n) (w : AtomAt g.now table.now p) → result
-        ≡ checkedOf (undeclared_atom d.list clause literal w.atom) }
+        ≡ checked_of (undeclared_atom d.list clause literal w.atom) }
 {
     if is_near(s, declared, n, g, table, p, near) {
         return Checked::Fine;

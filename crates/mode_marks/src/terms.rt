@@ -3,7 +3,7 @@
 ghost use Rattle.std.specs.Prelude.{◌≡◌};
 ghost use Rattle.mode_rules.specs.Modes.{open_byte, open_byte_of, ground_term, ground_terms};
 ghost use Rattle.mode_marks.specs.Tables.{TermAt, TermsAt};
-ghost use Rattle.mode_marks.specs.Answers.{groundnessOf};
+ghost use Rattle.mode_marks.specs.Answers.{groundness_of};
 
 use mode_flags::Known;
 use syntax::{FIRST_NAME, NODE_WORDS};
@@ -20,7 +20,7 @@ pub enum Groundness {
 #[cycle(ground_test_ground_test_all)]
 pub fn ground_test(table: &[u32], p: usize, known: Known) -> Groundness
     requires { TermAt table.now p }
-    ensures { (w : TermAt table.now p) → result ≡ groundnessOf (open_byte known w.term) }
+    ensures { (w : TermAt table.now p) → result ≡ groundness_of (open_byte known w.term) }
 {
     let v = word_at(table, p);
     if v < FIRST_NAME {
@@ -39,7 +39,7 @@ pub fn ground_test(table: &[u32], p: usize, known: Known) -> Groundness
 #[cycle(ground_test_ground_test_all)]
 fn ground_test_all(table: &[u32], p: usize, stop: usize, known: Known) -> Groundness
     requires { TermsAt table.now p stop }
-    ensures { (w : TermsAt table.now p stop) → result ≡ groundnessOf (open_byte_of known w.terms) }
+    ensures { (w : TermsAt table.now p stop) → result ≡ groundness_of (open_byte_of known w.terms) }
 {
     if stop <= p {
         return Groundness::Ground;

@@ -9,7 +9,7 @@ ghost use Rattle.syntax.specs.Terms.{same_predicate, seen_name, seen_arguments};
 ghost use Rattle.syntax.specs.Tokens.{spelling};
 ghost use Rattle.mode_rules.specs.Modes.{sheet_fault};
 ghost use Rattle.mode_rules.specs.Written.{is_written, is_exempt, first_unwritten, unwritten};
-ghost use Rattle.mode_marks.specs.Answers.{checkedOf};
+ghost use Rattle.mode_marks.specs.Answers.{checked_of};
 ghost use Rattle.mode_marks.specs.Tables.{DeclarationsAt, AtomAt};
 ghost use Rattle.mode_repeats.specs.Repeating.{nth_declaration};
 ghost use Rattle.mode_sheets.specs.Flags.{DeclaredOnce, Finds, Flagged};
@@ -131,7 +131,7 @@ pub fn may_stay(s: &[u8], declared: &[u32], n: usize, i: usize, written: bool) -
 fn first_unwritten(s: &[u8], declared: &[u32], n: usize, table: &[u32], clauses: usize) -> Checked
     requires { DeclaredOnce s.now declared.now n table.now clauses }
     ensures { (w : DeclaredOnce s.now declared.now n table.now clauses) → result
-        ≡ checkedOf (first_unwritten w.stands.sheet.clauses w.stands.sheet.declarations) }
+        ≡ checked_of (first_unwritten w.stands.sheet.clauses w.stands.sheet.declarations) }
 {
     let flags = head_flags(s, declared, n, table, clauses);
     let mut i = 0;
@@ -157,7 +157,7 @@ fn unwritten_fault(
 ) -> Checked
     requires { DeclaredOnce s.now declared.now n table.now clauses }
     ensures { (w : DeclaredOnce s.now declared.now n table.now clauses) → result
-        ≡ checkedOf (unwritten stored w.stands.sheet) }
+        ≡ checked_of (unwritten stored w.stands.sheet) }
 {
     if stored {
         return Checked::Fine;
@@ -176,7 +176,7 @@ pub fn check_sheet(
 ) -> Checked
     requires { DeclaredOnce s.now declared.now n table.now clauses }
     ensures { (w : DeclaredOnce s.now declared.now n table.now clauses) → result
-        ≡ checkedOf (sheet_fault stored w.stands.sheet) }
+        ≡ checked_of (sheet_fault stored w.stands.sheet) }
 {
     let undeclared = undeclared_clauses(s, declared, n, table, clauses);
     if is_fault(undeclared) {

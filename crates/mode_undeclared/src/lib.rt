@@ -5,7 +5,7 @@
 ghost use Rattle.std.specs.Prelude.{◌≡◌};
 ghost use Rattle.mode_rules.specs.Modes.{undeclared_body, undeclared_clause, undeclared_clauses};
 ghost use Rattle.mode_marks.specs.Tables.{DeclarationsAt, BodyAt, ClauseAt, ClausesAt};
-ghost use Rattle.mode_marks.specs.Answers.{checkedOf};
+ghost use Rattle.mode_marks.specs.Answers.{checked_of};
 ghost use Rattle.table_words.specs.Tables.{Has};
 ghost use Rattle.table_words.specs.Items.{Item, item_words};
 ghost use Rattle.mode_undeclared.specs.Items.{ItemAt, undeclared_item, literals_at};
@@ -30,7 +30,7 @@ fn undeclared_item(
     requires declarations_at { DeclarationsAt s.now declared.now n }
     requires item_at { ItemAt g.now table.now p }
     ensures { (d : DeclarationsAt s.now declared.now n) (w : ItemAt g.now table.now p)
-        → result ≡ checkedOf (undeclared_item d.list clause literal w.item) }
+        → result ≡ checked_of (undeclared_item d.list clause literal w.item) }
 {
     if word_at(table, p) != CALL_KIND {
         return Checked::Fine;
@@ -65,7 +65,7 @@ pub fn undeclared_body(
     requires declarations_at { DeclarationsAt s.now declared.now n }
     requires body_at { BodyAt g.now table.now p items }
     ensures { (d : DeclarationsAt s.now declared.now n) (w : BodyAt g.now table.now p items)
-        → result ≡ checkedOf (undeclared_body d.list clause 1 w.body) }
+        → result ≡ checked_of (undeclared_body d.list clause 1 w.body) }
 {
     let mut at = p;
     let mut i = 0;
@@ -107,7 +107,7 @@ fn undeclared_clause(
     requires declarations_at { DeclarationsAt s.now declared.now n }
     requires clause_at { ClauseAt s.now table.now p }
     ensures { (d : DeclarationsAt s.now declared.now n) (w : ClauseAt s.now table.now p) → result
-        ≡ checkedOf (undeclared_clause d.list clause w.clause) }
+        ≡ checked_of (undeclared_clause d.list clause w.clause) }
 {
     let items = word_at(table, p + CLAUSE_ITEMS);
     let head = p + CLAUSE_START;
@@ -130,7 +130,7 @@ pub fn undeclared_clauses(
     requires declarations_at { DeclarationsAt s.now declared.now n }
     requires clauses_at { ClausesAt s.now table.now 0 clauses }
     ensures { (d : DeclarationsAt s.now declared.now n) (w : ClausesAt s.now table.now 0 clauses) → result
-        ≡ checkedOf (undeclared_clauses d.list 1 w.list) }
+        ≡ checked_of (undeclared_clauses d.list 1 w.list) }
 {
     let mut at = 0;
     let mut i = 0;

@@ -7,7 +7,7 @@ ghost use Rattle.syntax.specs.Spans.{names_from};
 ghost use Rattle.run_layout.specs.Regions.{open_size};
 ghost use Rattle.syntax.specs.Quote.{bytes};
 ghost use Rattle.syntax.specs.Terms.{Goal};
-ghost use Rattle.machine.specs.Answers.{bytes_of, valuesFrom, line};
+ghost use Rattle.machine.specs.Answers.{bytes_of, values_from, line};
 ghost use Rattle.run_layout.specs.Nodes.{Symbol};
 ghost use Rattle.run_layout.specs.State.{bindings};
 ghost use Rattle.out_terms.specs.Telling.{Ample, SomeNumbers, Values, SomeValues, Lined};
@@ -50,7 +50,7 @@ fn append_afresh(
     requires at_bound { (at + 400 < 2 ^ 64) × ((limit + 400 < 2 ^ 64) × Ample stack.old ((limit - at) * open_size + 2 * open_size)) }
     ensures { (ss : List Symbol) (n : ℕ) → Values ss n nodes.now state.now symbols.now sheet.now
         goal.now stack.old names.now count
-        → Lined limit (bytes_of [] (valuesFrom (bindings ss nodes.now state.now n) 0 []
+        → Lined limit (bytes_of [] (values_from (bindings ss nodes.now state.now n) 0 []
         (names_from goal.now names.now 0 count))) out.old at out.new result }
 {
     let mut numbers = [0usize; NUMBERS];
@@ -89,7 +89,7 @@ fn append_again(
     requires some_numbers { (SomeNumbers numbers.old) × ((at + 400 < 2 ^ 64) × ((limit + 400 < 2 ^ 64) × Ample stack.old ((limit - at) * open_size + 2 * open_size))) }
     ensures { (ss : List Symbol) (n : ℕ) → Values ss n nodes.now state.now symbols.now sheet.now
         goal.now stack.old names.now count
-        → Lined limit (bytes_of [] (valuesFrom (bindings ss nodes.now state.now n) 0 []
+        → Lined limit (bytes_of [] (values_from (bindings ss nodes.now state.now n) 0 []
         (names_from goal.now names.now 0 count))) out.old at out.new result }
 {
     if numbers[CELLS] == 0 {
@@ -119,7 +119,7 @@ fn put_values(
     requires at_in_bounds { (at ≤ length text.old) × Ample stack.old ((length text.old - at) * open_size + 2 * open_size) }
     ensures { (ss : List Symbol) (n : ℕ) → Answerable ss n nodes.now state.now symbols.now sheet.now
         goal.now names.now count → Fitted
-        (bytes_of [] (valuesFrom (bindings ss nodes.now state.now n) 0 []
+        (bytes_of [] (values_from (bindings ss nodes.now state.now n) 0 []
         (names_from goal.now names.now 0 count))) text.old at text.new result }
 {
     let room = text.len();

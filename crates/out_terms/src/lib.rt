@@ -2,7 +2,6 @@
 
 #![tactic(auto)]
 
-
 mod records;
 pub mod values;
 mod walk;

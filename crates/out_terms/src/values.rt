@@ -6,7 +6,7 @@ ghost use Rattle.run_layout.specs.Regions.{open_size};
 ghost use Rattle.syntax.specs.Quote.{bytes};
 ghost use Rattle.buffers.specs.Buffers.{Put};
 ghost use Rattle.machine.specs.Substitution.{Variable};
-ghost use Rattle.machine.specs.Answers.{Piece, spelt, bytes_of, is_anonymous, allAnonymous, valuesFrom};
+ghost use Rattle.machine.specs.Answers.{Piece, spelt, bytes_of, is_anonymous, all_anonymous, values_from};
 ghost use Rattle.run_layout.specs.Nodes.{Symbol};
 ghost use Rattle.run_layout.specs.State.{bindings};
 ghost use Rattle.out_terms.specs.Words.{Numbers, Named};
@@ -33,7 +33,7 @@ pub fn is_anonymous(goal: &[u8], w: u32) -> bool
 // Whether no variable is to be given.
 pub fn all_anonymous(goal: &[u8], names: &[u32], count: usize) -> bool
     requires { Named goal.now names.now count }
-    ensures { result ≡ allAnonymous (names_from goal.now names.now 0 count) }
+    ensures { result ≡ all_anonymous (names_from goal.now names.now 0 count) }
 {
     let mut i = 0;
     while i < count {
@@ -139,9 +139,9 @@ pub fn append_binding(
         × ((limit + 200 < 2 ^ 64) × Ample stack.old ((limit - at) * open_size + 2 * open_size)))) }
     ensures told { (ss : List Symbol) (n : ℕ) (met : List Variable) (xs : List (List ℕ))
         → Valued ss n nodes.now state.now symbols.now sheet.now goal.now stack.old i
-        → Numbers numbers.old met → SpeltToLimit limit (bytes_of met (valuesFrom (bindings ss nodes.now state.now n) i (gap more)
+        → Numbers numbers.old met → SpeltToLimit limit (bytes_of met (values_from (bindings ss nodes.now state.now n) i (gap more)
         (spanned goal.now w ∷ xs))) out.old at out.new result.at numbers.new
-        (valuesFrom (bindings ss nodes.now state.now n) (suc i) (gap result.more) xs) }
+        (values_from (bindings ss nodes.now state.now n) (suc i) (gap result.more) xs) }
     ensures near { (at ≤ result.at) × ((result.at ≤ limit + (word_bytes + 1)) ⊎ (result.at ≤ at + (2 * word_bytes + 5))) }
 {
     if is_anonymous(goal, w) {
@@ -177,7 +177,7 @@ pub fn append_values(
         × Ample stack.old ((limit - at) * open_size + 2 * open_size))) }
     ensures lined { (ss : List Symbol) (n : ℕ) (met : List Variable) → Values ss n nodes.now state.now symbols.now
         sheet.now goal.now stack.old names.now count → Numbers numbers.old met
-        → Lined limit (bytes_of met (valuesFrom (bindings ss nodes.now state.now n) 0 []
+        → Lined limit (bytes_of met (values_from (bindings ss nodes.now state.now n) 0 []
         (names_from goal.now names.now 0 count))) out.old at out.new result }
     ensures counted { result ≤ limit → SomeNumbers numbers.new }
 {

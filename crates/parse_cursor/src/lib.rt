@@ -2,7 +2,6 @@
 
 #![tactic(auto)]
 
-
 pub mod cursor;
 pub mod leaves;
 

@@ -151,7 +151,7 @@ module _ (most : ℕ) (s : List ℕ) (st : State) (entry : List ℕ) (n : ℕ) (
   n-in = let room : n + node_words * bytes_left s st + 1 + variables ≤ length entry = ready.room in omega arith
 
   -- an equation of which the left side was read
-  module _ (mid : List ℕ) (r : Parsed) (t : Term) (l : length mid ≡ length entry) where
+  module _ (mid : List ℕ) (r : Parsed) (t : Term) (g : Given s st entry mid (n + 1) r (term_words t) 1 (cursor_of s mid r.state)) (l : length mid ≡ length entry) where
     pub right-ready : r.state.token.kind ≡ equals_kind → RoomToRead s r.state mid r.used 0 × ((r.state.token.kind ≡ equals_kind) × (n < r.used))
     right-ready e =
         let room : n + node_words * bytes_left s st + 1 + variables ≤ length entry = ready.room in
@@ -171,36 +171,36 @@ module _ (most : ℕ) (s : List ℕ) (st : State) (entry : List ℕ) (n : ℕ) (
           kept = shorter n r.used (set mid n equation_kind) exit (omega arith) h.kept ∙ take-set-le n mid n equation_kind (omega arith) ∙ kept-before n (n + 1) (length (term_words t)) entry mid (term_words t) (omega arith) inn g.table_is;
         }
 
-    right-words : (exit : List ℕ) (q : Parsed) (u : Term) (end : Cursor) → r.state.token.kind ≡ equals_kind → GivenWith 0 s st entry exit n q (literal_words (equation t u)) (literal_length (equation t u)) end
+    right-words : (exit : List ℕ) (q : Parsed) (u : Term) (end : Cursor) → r.state.token.kind ≡ equals_kind → Given s (state_onward s r.state) (set mid n equation_kind) exit r.used q (term_words u) 1 end → GivenWith 0 s st entry exit n q (literal_words (equation t u)) (literal_length (equation t u)) end
     unfolding literal_words literal_length
-    right-words exit q u end e =
+    right-words exit q u end e h =
         let m : PastToken s r.state (state_onward s r.state) = moved-onward s r.state g.standing in
         let some : 0 < r.state.token.len = g.standing.some (λ x. let k : r.state.token.kind ≡ equals_kind = e in omega arith) in
         let inside : r.state.token.at + r.state.token.len ≤ length s = g.standing.inside in
         let used : r.used ≡ (n + 1) + length (term_words t) = g.used_is in
-        let used' : q.used ≡ r.used + length (term_words u) = 𝓛.used_is in
+        let used' : q.used ≡ r.used + length (term_words u) = h.used_is in
         let fits : length (term_words t) + node_words * bytes_left s r.state + 1 ≤ node_words * bytes_left s st + 1 = g.room in
-        let fits' : length (term_words u) + node_words * bytes_left s q.state + 1 ≤ node_words * bytes_left s (state_onward s r.state) + 1 = 𝓛.room in
+        let fits' : length (term_words u) + node_words * bytes_left s q.state + 1 ≤ node_words * bytes_left s (state_onward s r.state) + 1 = h.room in
         let f : r.state.token.at + r.state.token.len ≤ (state_onward s r.state).token.at = m.forward in
         let both : length (term_words t ++ term_words u) ≡ length (term_words t) + length (term_words u) = length-append (term_words t) (term_words u) in
         let bytes_left' : take (n + length (equation_kind ∷ term_words t)) (set mid n equation_kind) ≡ take n entry ++ (equation_kind ∷ term_words t) = front entry mid (set mid n equation_kind) (term_words t) n equation_kind n-in g.table_is refl in
         let k : r.used ≡ n + length (equation_kind ∷ term_words t) = omega arith in
-        let ends : take ((n + length (equation_kind ∷ term_words t)) + length (term_words u)) exit ≡ take (n + length (equation_kind ∷ term_words t)) (set mid n equation_kind) ++ term_words u = subst (λ (x : ℕ). take (x + length (term_words u)) exit ≡ take x (set mid n equation_kind) ++ term_words u) k 𝓛.table_is in
+        let ends : take ((n + length (equation_kind ∷ term_words t)) + length (term_words u)) exit ≡ take (n + length (equation_kind ∷ term_words t)) (set mid n equation_kind) ++ term_words u = subst (λ (x : ℕ). take (x + length (term_words u)) exit ≡ take x (set mid n equation_kind) ++ term_words u) k h.table_is in
         record {
-          number_is = 𝓛.number_is;
-          state_is = 𝓛.state_is;
-          items_is = 𝓛.items_is;
+          number_is = h.number_is;
+          state_is = h.state_is;
+          items_is = h.items_is;
           used_is = omega arith;
           table_is = joined entry (set mid n equation_kind) exit (equation_kind ∷ term_words t) (term_words u) n bytes_left' ends;
-          standing = 𝓛.standing;
-          held = 𝓛.held;
+          standing = h.standing;
+          held = h.held;
           room = omega arith;
         }
 
     right_by : (exit : List ℕ) (q : Parsed) (d : Read Term) → r.state.token.kind ≡ equals_kind → Gives term_words one s (state_onward s r.state) (set mid n equation_kind) exit r.used q d → GivesWith 0 literal_words literal_length s st entry exit n q (and_then d (λ u after. ok (equation t u) after))
     unfolding and_then
     right_by exit q (fault k b) e h = right-fault exit q k b h
-    right_by exit q (ok u end) e h = right-words exit q u end e
+    right_by exit q (ok u end) e h = right-words exit q u end e h
 
     -- the reader past the equals sign, over the table with the literal's first word
     behind-equals : cursor_of s (set mid n equation_kind) (state_onward s r.state) ≡ next s (cursor_of s mid r.state)
@@ -231,11 +231,11 @@ module _ (most : ℕ) (s : List ℕ) (st : State) (entry : List ℕ) (n : ℕ) (
         named_by b e = ap (λ (d : Read Atom). and_then d (λ a after. after_atom most s a after (eqb after.token.kind equals_kind))) atom-read.1 ∙ ap (after_atom most s atom-read.0 (cursor_of s mid r.state)) e
 
         pub named-ready : r.state.token.kind ≡ equals_kind → RoomToRead s r.state mid r.used 0 × ((r.state.token.kind ≡ equals_kind) × (n < r.used))
-        named-ready e = right-ready mid r (term_of atom-read.0) l e
+        named-ready e = right-ready mid r (term_of atom-read.0) atom-read.2 l e
 
         pub named-equation : (exit : List ℕ) (q : Parsed) → r.state.token.kind ≡ equals_kind → Gives term_words one s (state_onward s r.state) (set mid n equation_kind) exit r.used q (read_term most s (cursor_of s (set mid n equation_kind) (state_onward s r.state))) → GivesWith 0 literal_words literal_length s st entry exit n q (literal_with most s (cursor_of s entry st) true)
         unfolding after_atom
-        named-equation exit q e h = subst⁻¹ (GivesWith 0 literal_words literal_length s st entry exit n q) (named_by true (eq-eqb r.state.token.kind equals_kind e)) (equation-given mid r (term_of atom-read.0) l exit q e h)
+        named-equation exit q e h = subst⁻¹ (GivesWith 0 literal_words literal_length s st entry exit n q) (named_by true (eq-eqb r.state.token.kind equals_kind e)) (equation-given mid r (term_of atom-read.0) atom-read.2 l exit q e h)
 
         -- the number that was stored is the atom's
         size_is : r.used - (n + 1) ≡ node_words + length (terms_words atom-read.0.args)
@@ -281,7 +281,7 @@ module _ (most : ℕ) (s : List ℕ) (st : State) (entry : List ℕ) (n : ℕ) (
                 state_is = cursor-kept s mid exit r.state same;
                 items_is = refl;
                 used_is = refl;
-                table_is = ap (take (n + 1)) ex ∙ ap (λ (j : ℕ). take j (set mid n number)) (add-one n) ∙ take-suc-set mid n number (omega arith) ∙ ap (λ (x : List ℕ). x ++ (number ∷ [])) (left-kept mid r (term_of atom-read.0) l);
+                table_is = ap (take (n + 1)) ex ∙ ap (λ (j : ℕ). take j (set mid n number)) (add-one n) ∙ take-suc-set mid n number (omega arith) ∙ ap (λ (x : List ℕ). x ++ (number ∷ [])) (left-kept mid r (term_of atom-read.0) atom-read.2 l);
                 standing = atom-read.2.standing;
                 held = held_kept same atom-read.2.held;
                 room = omega arith;
@@ -305,15 +305,15 @@ module _ (most : ℕ) (s : List ℕ) (st : State) (entry : List ℕ) (n : ℕ) (
         unnamed-by b e = ap (λ (d : Read Term). and_then d (λ t after. after_term most s t after (eqb after.token.kind equals_kind))) term-read.1 ∙ ap (after_term most s term-read.0 (cursor_of s mid r.state)) e
 
         pub equation-ready : r.state.token.kind ≡ equals_kind → RoomToRead s r.state mid r.used 0 × ((r.state.token.kind ≡ equals_kind) × (n < r.used))
-        equation-ready e = right-ready mid r term-read.0 l e
+        equation-ready e = right-ready mid r term-read.0 term-read.2 l e
 
         pub equation-read : (exit : List ℕ) (q : Parsed) → r.state.token.kind ≡ equals_kind → Gives term_words one s (state_onward s r.state) (set mid n equation_kind) exit r.used q (read_term most s (cursor_of s (set mid n equation_kind) (state_onward s r.state))) → GivesWith 0 literal_words literal_length s st entry exit n q (literal_with most s (cursor_of s entry st) false)
         unfolding after_term
-        equation-read exit q e h = subst⁻¹ (GivesWith 0 literal_words literal_length s st entry exit n q) (unnamed-by true (eq-eqb r.state.token.kind equals_kind e)) (equation-given mid r term-read.0 l exit q e h)
+        equation-read exit q e h = subst⁻¹ (GivesWith 0 literal_words literal_length s st entry exit n q) (unnamed-by true (eq-eqb r.state.token.kind equals_kind e)) (equation-given mid r term-read.0 term-read.2 l exit q e h)
 
         pub equation-wrong : (q : Parsed) → (r.state.token.kind ≡ equals_kind → ⊥) → Refused r.state (wrong_number r.state.token.kind) q → GivesWith 0 literal_words literal_length s st entry mid n q (literal_with most s (cursor_of s entry st) false)
         unfolding after_term
-        equation-wrong q ne f = subst⁻¹ (GivesWith 0 literal_words literal_length s st entry mid n q) (unnamed-by false (ne_eqb r.state.token.kind equals_kind ne)) (refused-wrong-with 0 literal_words literal_length s st r.state entry mid n q (cursor_of s mid r.state) refl f (left-kept mid r term-read.0 l))
+        equation-wrong q ne f = subst⁻¹ (GivesWith 0 literal_words literal_length s st entry mid n q) (unnamed-by false (ne_eqb r.state.token.kind equals_kind ne)) (refused-wrong-with 0 literal_words literal_length s st r.state entry mid n q (cursor_of s mid r.state) refl f (left-kept mid r term-read.0 term-read.2 l))
 
 -- ---- by what begins it
 

@@ -7,7 +7,6 @@
 
 #![tactic(auto)]
 
-
 ghost use Rattle.std.specs.Prelude.{◌≡◌, true, ◌⊎◌, ◌+◌, ◌*◌, ◌/◌, ◌%◌, ◌-◌, ◌≤◌, ◌<◌, ◌^◌, length, get_or, set};
 ghost use Rattle.run_layout.specs.Halves.{stored};
 ghost use Rattle.run_layout.specs.Regions.{pairs, memo, cuts_word, key_count, class_count, memo_class, row_words, half_word, memo_row};

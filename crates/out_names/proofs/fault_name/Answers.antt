@@ -4,10 +4,9 @@ use Rattle.syntax.specs.Tokens.{spelling}
 use Rattle.mode_rules.specs.Checking.{fault_name, text_at_fault, name_span}
 use Rattle.out_names.proofs.fault_name.Goals as goal
 
--- LOOK: before of Start; before of Start; before of Start; before of Start; before of Start
 pub returns-in-Accepted : goal.returns-in-Accepted
 unfolding fault_name
-returns-in-Accepted c = let c5 = c.before in sym (ap (fault_name c5.args.sheet.now c5.args.goal.now) c.in-Accepted.is)
+returns-in-Accepted c = sym (ap (fault_name c.args.sheet.now c.args.goal.now) c.in-Accepted.is)
 
 pub returns-in-Refused : goal.returns-in-Refused
 unfolding fault_name

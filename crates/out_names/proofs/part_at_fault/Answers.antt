@@ -11,10 +11,8 @@ returns-in-Sheet c = c.part.ensures ∙ sym (ap (λ (t : Text). spelling (text_a
 pub returns-in-Goal : goal.returns-in-Goal
 returns-in-Goal c = c.part-in-Goal.ensures ∙ sym (ap (λ (t : Text). spelling (text_at_fault c.args.sheet.now c.args.goal.now t) c.args.at c.args.len) c.in-Goal.is)
 
--- LOOK: before of Start; before of Start; before of Start; before of Start; before of Start; before of Start; before of Start; before of Start; before of Start; before of Start; before of Start; before of Start; before of Start
 pub returns-in-Trace : goal.returns-in-Trace
-returns-in-Trace c = let c5 = c.before in of_none c5.args.at c5.args.len ∙ sym (ap (λ (t : Text). spelling (text_at_fault c5.args.sheet.now c5.args.goal.now t) c5.args.at c5.args.len) c.in-Trace.is)
+returns-in-Trace c = of_none c.args.at c.args.len ∙ sym (ap (λ (t : Text). spelling (text_at_fault c.args.sheet.now c.args.goal.now t) c.args.at c.args.len) c.in-Trace.is)
 
--- LOOK: before of Start; before of Start; before of Start; before of Start; before of Start; before of Start; before of Start; before of Start; before of Start; before of Start; before of Start; before of Start; before of Start
 pub returns-in-Neither : goal.returns-in-Neither
-returns-in-Neither c = let c5 = c.before in of_none c5.args.at c5.args.len ∙ sym (ap (λ (t : Text). spelling (text_at_fault c5.args.sheet.now c5.args.goal.now t) c5.args.at c5.args.len) c.in-Neither.is)
+returns-in-Neither c = of_none c.args.at c.args.len ∙ sym (ap (λ (t : Text). spelling (text_at_fault c.args.sheet.now c.args.goal.now t) c.args.at c.args.len) c.in-Neither.is)

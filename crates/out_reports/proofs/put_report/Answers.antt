@@ -3,9 +3,8 @@ use native.Mathlib.Omega.{arith}
 use Rattle.buffers.proofs.Laws.{measured, too_long}
 use Rattle.out_reports.proofs.put_report.Goals as goal
 
--- LOOK: goal of clauses length text
 pub returns-then-report_length-out : goal.returns-then-report_length-out
-returns-then-report_length-out c = measured c.append_report-report_length.ensures (omega arith) c.append_report.ensures
+returns-then-report_length-out c = let both = measured c.append_report-report_length.ensures (omega arith) c.append_report.ensures in record { length = both.0; text = both.1 }
 
 pub returns-else-report_length-out : goal.returns-else-report_length-out
-returns-else-report_length-out c = too_long c.append_report-report_length.ensures (omega arith)
+returns-else-report_length-out c = let both = too_long c.append_report-report_length.ensures (omega arith) in record { length = both.0; text = both.1 }

@@ -5,10 +5,8 @@ use Rattle.out_verdicts.specs.Words.{verdict_words, five_words}
 use Rattle.buffers.proofs.Laws.{then, spelt}
 use Rattle.out_verdicts.proofs.append_verdict.Goals as goal
 
--- LOOK: After-known_told: no step verdict
 pub returns-in-Accepted : goal.returns-in-Accepted
-returns-in-Accepted c = record { wrote = spelt (ap verdict_words c.verdict.given.1) (then (then c.append-past_word.ensures c.append_number-past_declarations.ensures.wrote) c.append_number.ensures.wrote); within = omega arith }
+returns-in-Accepted c = record { wrote = spelt (ap verdict_words c.in-Accepted.is) (then (then c.append-past_word.ensures c.append_number-past_declarations.ensures.wrote) c.append_number.ensures.wrote); within = omega arith }
 
--- LOOK: After-known_told2: no step verdict2
 pub returns-in-Refused : goal.returns-in-Refused
-returns-in-Refused c = (spelt (ap verdict_words c.verdict2.given.1) (then (then c.append-past_word-in-Refused.ensures c.append_text-past_text.ensures.wrote) (spelt (ap five_words (sym c.numbers-numbers.ensures)) c.append_five.ensures.wrote)), omega arith)
+returns-in-Refused c = record { wrote = spelt (ap verdict_words c.in-Refused.is) (then (then c.append-past_word-in-Refused.ensures c.append_text-past_text.ensures.wrote) (spelt (ap five_words (sym c.numbers-numbers.ensures)) c.append_five.ensures.wrote)); within = omega arith }

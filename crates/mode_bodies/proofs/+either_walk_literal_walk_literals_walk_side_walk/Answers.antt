@@ -1,0 +1,126 @@
+use Prim.Native.Nat.{◌-◌}
+use native.Mathlib.Omega.{arith}
+use mathlib.Core.Path.{sym, ap, ◌∙◌}
+use Rattle.syntax.specs.Words.{side_items}
+use Rattle.mode_literals.proofs.Literals.{literal-room}
+use Rattle.mode_bodies.proofs.Walking.{either-at, left-stops, right-at, right-literal, right-further, right-stops, both-pass, both-room, side-body, begun, turn, walk-ended, walk-stopped, further-on, rises, walk-on}
+use Rattle.mode_bodies.proofs.+either_walk_literal_walk_literals_walk_side_walk.Goals as goal
+
+pub either_walk-side_walk-left-requires : goal.either_walk-side_walk-left-requires
+either_walk-side_walk-left-requires t c = (omega (arith, c.decreases), (c.requires.declarations_at, ((either-at c.requires.left_kind_bound.0 c.requires.literal_at).left, c.requires.left_kind_bound.1)))
+
+pub either_walk-returns-then-is_fault : goal.either_walk-returns-then-is_fault
+either_walk-returns-then-is_fault t c = λ d w. left-stops c.requires.left_kind_bound.0 d.list c.args.clause c.args.literal c.args.known c.side_walk-left.result (c.side_walk-left.ensures d) (sym c.is_fault.ensures ∙ c.if-is_fault.true) w
+
+pub either_walk-side_walk-right-requires : goal.either_walk-side_walk-right-requires
+either_walk-side_walk-right-requires t c = let f = sym c.is_fault.ensures ∙ c.if-is_fault.false in
+    let l = c.side_walk-left in
+    let d = c.requires.declarations_at in
+    let w = c.requires.literal_at in (
+      omega (arith, c.decreases, right-further c.requires.left_kind_bound.0 d.list c.args.clause c.args.literal c.args.known l.result (l.ensures d) f w),
+      (
+        d,
+        (
+          right-at c.requires.left_kind_bound.0 d.list c.args.clause c.args.literal c.args.known l.result (l.ensures d) f w,
+          right-literal c.requires.left_kind_bound.0 d.list c.args.clause c.args.literal c.args.known l.result (l.ensures d) f w c.requires.left_kind_bound.1,
+        ),
+      ),
+    )
+
+pub either_walk-returns-then-is_fault-2 : goal.either_walk-returns-then-is_fault-2
+either_walk-returns-then-is_fault-2 t c = let f = sym c.is_fault.ensures ∙ c.if-is_fault.false in
+    let l = c.side_walk-left in
+    let r = c.side_walk-right in
+    λ d w. right-stops c.requires.left_kind_bound.0 d.list c.args.clause c.args.literal c.args.known l.result (l.ensures d) f r.result (r.ensures d) (sym c.is_fault-2.ensures ∙ c.if-is_fault-2.true) w
+
+pub either_walk-overflow_add-next : goal.either_walk-overflow_add-next
+either_walk-overflow_add-next t c = let f = sym c.is_fault.ensures ∙ c.if-is_fault.false in
+    let l = c.side_walk-left in
+    let r = c.side_walk-right in
+    omega (arith, (both-room c.requires.left_kind_bound.0 c.requires.declarations_at.list c.args.clause c.args.literal c.args.known l.result (l.ensures c.requires.declarations_at) f r.result (r.ensures c.requires.declarations_at) (sym c.is_fault-2.ensures ∙ c.if-is_fault-2.false) c.requires.literal_at).0)
+
+pub either_walk-overflow_add-items : goal.either_walk-overflow_add-items
+either_walk-overflow_add-items t c = let f = sym c.is_fault.ensures ∙ c.if-is_fault.false in
+    let l = c.side_walk-left in
+    let r = c.side_walk-right in
+    omega (arith, (both-room c.requires.left_kind_bound.0 c.requires.declarations_at.list c.args.clause c.args.literal c.args.known l.result (l.ensures c.requires.declarations_at) f r.result (r.ensures c.requires.declarations_at) (sym c.is_fault-2.ensures ∙ c.if-is_fault-2.false) c.requires.literal_at).1)
+
+pub either_walk-overflow_add-items-2 : goal.either_walk-overflow_add-items-2
+either_walk-overflow_add-items-2 t c = let f = sym c.is_fault.ensures ∙ c.if-is_fault.false in
+    let l = c.side_walk-left in
+    let r = c.side_walk-right in
+    omega (arith, (both-room c.requires.left_kind_bound.0 c.requires.declarations_at.list c.args.clause c.args.literal c.args.known l.result (l.ensures c.requires.declarations_at) f r.result (r.ensures c.requires.declarations_at) (sym c.is_fault-2.ensures ∙ c.if-is_fault-2.false) c.requires.literal_at).1)
+
+pub either_walk-returns : goal.either_walk-returns
+either_walk-returns t c = let f = sym c.is_fault.ensures ∙ c.if-is_fault.false in
+    let l = c.side_walk-left in
+    let r = c.side_walk-right in
+    λ d w. both-pass c.requires.left_kind_bound.0 d.list c.args.clause c.args.literal c.args.known l.result (l.ensures d) f r.result (r.ensures d) (sym c.is_fault-2.ensures ∙ c.if-is_fault-2.false) c.in_both-both.ensures w
+
+pub literal_walk-word_at-requires : goal.literal_walk-word_at-requires
+literal_walk-word_at-requires t c = literal-room c.requires.literal_at
+
+pub literal_walk-either_walk-requires : goal.literal_walk-either_walk-requires
+literal_walk-either_walk-requires t c = (omega (arith, c.decreases), (c.requires.declarations_at, (c.requires.literal_at, (omega (arith, c.word_at.ensures, c.if-word_at-ge-LEFT_KIND.true), c.requires.literal_bound))))
+
+pub literal_walk-returns-then-word_at-ge-LEFT_KIND : goal.literal_walk-returns-then-word_at-ge-LEFT_KIND
+literal_walk-returns-then-word_at-ge-LEFT_KIND t c = c.either_walk.ensures
+
+pub literal_walk-plain_walk-requires : goal.literal_walk-plain_walk-requires
+literal_walk-plain_walk-requires t c = record { declarations_at = c.requires.declarations_at; literal_at = c.requires.literal_at; p_bound = (omega (arith, c.word_at.ensures, c.if-word_at-ge-LEFT_KIND.false), c.requires.literal_bound) }
+
+pub literal_walk-returns : goal.literal_walk-returns
+literal_walk-returns t c = c.plain_walk.ensures
+
+pub literals_walk-loop-i-init : goal.literals_walk-loop-i-init
+literals_walk-loop-i-init t c = (omega arith, omega arith, c.requires.literal_bound, λ d w. begun w)
+
+pub literals_walk-literal_walk-w-requires : goal.literals_walk-literal_walk-w-requires
+literals_walk-literal_walk-w-requires t c = let h = c.loop-i.invariant in (omega (arith, c.decreases, h.1), (c.requires.declarations_at, ((turn c.loop-i-test.true (h.3 c.requires.declarations_at c.requires.body_at)).literal, h.2)))
+
+pub literals_walk-returns-then-is_fault : goal.literals_walk-returns-then-is_fault
+literals_walk-returns-then-is_fault t c = let h = c.loop-i.invariant in λ d w. walk-stopped c.loop-i-test.true (h.3 d w) c.literal_walk-w.result (c.literal_walk-w.ensures d) (sym c.is_fault.ensures ∙ c.if-is_fault.true) _ _ _
+
+pub literals_walk-overflow_add-i : goal.literals_walk-overflow_add-i
+literals_walk-overflow_add-i t c = let h = c.loop-i.invariant in
+    let a = h.3 c.requires.declarations_at c.requires.body_at in
+    let f = sym c.is_fault.ensures ∙ c.if-is_fault.false in
+    let one = c.literal_walk-w in
+    let on = further-on c.loop-i-test.true a one.result (one.ensures c.requires.declarations_at) f in
+    omega (arith, on.3)
+
+pub literals_walk-loop-i-smaller : goal.literals_walk-loop-i-smaller
+literals_walk-loop-i-smaller t c = let h = c.loop-i.invariant in
+    let a = h.3 c.requires.declarations_at c.requires.body_at in
+    let f = sym c.is_fault.ensures ∙ c.if-is_fault.false in
+    let one = c.literal_walk-w in
+    let on = further-on c.loop-i-test.true a one.result (one.ensures c.requires.declarations_at) f in
+    omega (arith, on.2, on.3)
+
+pub literals_walk-loop-i-preserved : goal.literals_walk-loop-i-preserved
+literals_walk-loop-i-preserved t c = let h = c.loop-i.invariant in
+    let a = h.3 c.requires.declarations_at c.requires.body_at in
+    let f = sym c.is_fault.ensures ∙ c.if-is_fault.false in
+    let one = c.literal_walk-w in
+    let on = further-on c.loop-i-test.true a one.result (one.ensures c.requires.declarations_at) f in
+    let up = rises c.loop-i-test.true a one.result (one.ensures c.requires.declarations_at) f h.2 in (
+      on.3,
+      omega (arith, h.1, up.1),
+      up.0,
+      λ d w. walk-on c.loop-i-test.true (h.3 d w) one.result (one.ensures d) f,
+    )
+
+pub literals_walk-returns : goal.literals_walk-returns
+literals_walk-returns t c = λ d w. walk-ended w.count c.loop-i-test.false (c.loop-i.invariant.3 d w)
+
+pub side_walk-word_at-requires : goal.side_walk-word_at-requires
+side_walk-word_at-requires t c = c.requires.side_at.has.0
+
+pub side_walk-overflow_add-q : goal.side_walk-overflow_add-q
+side_walk-overflow_add-q t c = omega (arith, c.requires.side_at.has.0)
+
+pub side_walk-literals_walk-requires : goal.side_walk-literals_walk-requires
+side_walk-literals_walk-requires t c = (omega (arith, c.decreases, c.requires.side_at.has.0), (c.requires.declarations_at, (side-body (c.items_of_side-items.ensures ∙ ap side_items c.word_at.ensures) c.requires.side_at, omega (arith, c.requires.literal_bound))))
+
+pub side_walk-returns : goal.side_walk-returns
+side_walk-returns t c = λ d w. c.literals_walk.ensures d (side-body (c.items_of_side-items.ensures ∙ ap side_items c.word_at.ensures) w)

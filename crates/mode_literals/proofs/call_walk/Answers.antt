@@ -1,0 +1,28 @@
+-- `literals::call_walk` meets its contract. Assumes nothing.
+use Rattle.mode_marks.proofs.Places.{node-inside, past-ends}
+use native.Mathlib.Omega.{arith}
+use Rattle.syntax.specs.Terms.{output}
+use Rattle.mode_arguments.proofs.Judging.{judged-term, judged-room, judged-marked}
+use Rattle.mode_literals.proofs.Literals.{judged-at, walked-fault}
+use Rattle.mode_literals.proofs.call_walk.Goals as goal
+
+pub marks_of-marks-requires : goal.marks_of-marks-requires
+marks_of-marks-requires c = record { declarations_at = c.requires.declarations_at; atom_at = c.requires.atom_at }
+
+pub overflow_add-from : goal.overflow_add-from
+overflow_add-from c = omega (arith, judged-room (judged-at c.args.s.now c.args.declared.now c.args.n c.args.g.now c.args.table.now c.args.p c.marks_of-marks.result c.marks_of-marks.ensures c.requires.declarations_at c.requires.atom_at))
+
+pub past-stop-requires : goal.past-stop-requires
+past-stop-requires c = node-inside (judged-term (judged-at c.args.s.now c.args.declared.now c.args.n c.args.g.now c.args.table.now c.args.p c.marks_of-marks.result c.marks_of-marks.ensures c.requires.declarations_at c.requires.atom_at))
+
+pub ground_marked-after-requires : goal.ground_marked-after-requires
+ground_marked-after-requires c = judged-marked c.args.table.now c.args.p c.marks_of-marks.result c.past-stop.result (past-ends c.past-stop.ensures) output (judged-at c.args.s.now c.args.declared.now c.args.n c.args.g.now c.args.table.now c.args.p c.marks_of-marks.result c.marks_of-marks.ensures c.requires.declarations_at c.requires.atom_at)
+
+pub call_fault-fault-requires : goal.call_fault-fault-requires
+call_fault-fault-requires c = judged-at c.args.s.now c.args.declared.now c.args.n c.args.g.now c.args.table.now c.args.p c.marks_of-marks.result c.marks_of-marks.ensures c.requires.declarations_at c.requires.atom_at
+
+pub overflow_add-more : goal.overflow_add-more
+overflow_add-more c = omega (arith, c.requires.literal_le_p, judged-room (judged-at c.args.s.now c.args.declared.now c.args.n c.args.g.now c.args.table.now c.args.p c.marks_of-marks.result c.marks_of-marks.ensures c.requires.declarations_at c.requires.atom_at))
+
+pub returns : goal.returns
+returns c = walked-fault c.args.s.now c.args.declared.now c.args.n c.args.g.now c.args.table.now c.args.p c.marks_of-marks.result c.marks_of-marks.ensures c.args.known c.args.clause c.args.literal c.call_fault-fault.result c.call_fault-fault.ensures c.past-stop.result (past-ends c.past-stop.ensures) c.ground_marked-after.result c.ground_marked-after.ensures

@@ -1,0 +1,17 @@
+-- `mode_repeats::first_repeat` meets its contract: each way out is a law of `Laws`. Assumes nothing.
+use Prim.Native.Nat.{◌-◌, ◌≤◌}
+use mathlib.Core.Path.{◌≡◌}
+use mathlib.Core.List.{[]}
+use lib.ListN.{take, drop}
+use Rattle.syntax.specs.Reading.{first_repeat}
+use Rattle.mode_marks.specs.Tables.{DeclarationsAt}
+use Rattle.mode_repeats.proofs.first_repeat.Given as goal
+
+-- LOOK: bound names i
+abbrev pub invariant-loop-i : goal.invariant-loop-i
+invariant-loop-i l =
+    (l.i ≤ l.n) × ((w : DeclarationsAt l.s l.declared l.n) → first_repeat [] w.list ≡ first_repeat (take l.i w.list) (drop l.i w.list))
+
+abbrev pub decreases-loop-i : goal.decreases-loop-i
+decreases-loop-i l =
+    l.n - l.i

@@ -1,0 +1,13 @@
+-- `mode_undeclared::head_near` meets its contract. Assumes nothing.
+use native.Mathlib.Omega.{arith}
+use Rattle.mode_undeclared.proofs.Clauses.{clause-room, head-at}
+use Rattle.mode_undeclared.proofs.head_near.Goals as goal
+
+pub overflow_add-head : goal.overflow_add-head
+overflow_add-head c = omega (arith, clause-room c.requires.clause_at)
+
+pub is_near-requires : goal.is_near-requires
+is_near-requires c = record { declarations_at = c.requires.declarations_at; atom_at = head-at c.requires.clause_at }
+
+pub find_atom-requires : goal.find_atom-requires
+find_atom-requires c = record { declarations_at = c.requires.declarations_at; atom_at = head-at c.requires.clause_at }

@@ -1,0 +1,15 @@
+-- `parse_cursor::leaves::number_of` meets its contract: each way out is a law of `Reading`. Assumes nothing.
+use Prim.Native.Nat.{◌-◌, ◌≤◌}
+use mathlib.Core.Path.{◌≡◌}
+use lib.ListN.{length}
+use Rattle.syntax.specs.Limits.{variables}
+use Rattle.parse_cursor.proofs.Reading.{searched}
+use Rattle.parse_cursor.proofs.leaves.number_of.Given as goal
+
+abbrev pub invariant-loop-i : goal.invariant-loop-i
+invariant-loop-i l =
+    (l.i ≤ l.count) × ((l.from ≡ length l.table - variables) × (searched l.s l.t l.count l.table 0 ≡ searched l.s l.t l.count l.table l.i))
+
+abbrev pub decreases-loop-i : goal.decreases-loop-i
+decreases-loop-i l =
+    l.count - l.i

@@ -1,0 +1,12 @@
+use Rattle.std.proofs.Common.{◌-◌}
+use Rattle.unify_bindings.specs.Queues.{Scannable}
+use Rattle.unify_bindings.proofs.Scan.{Scanning}
+use Rattle.unify_bindings.proofs.occurrence.scan.Given as goal
+
+abbrev pub invariant-loop-i : goal.invariant-loop-i
+invariant-loop-i l =
+    (g : Scannable l.nodes l.state l.initial.scratch l.q l.d l.m) → Scanning g.ss l.nodes l.state l.initial.scratch l.scratch l.q l.e l.d l.x l.m l.i l.n
+
+abbrev pub decreases-loop-i : goal.decreases-loop-i
+decreases-loop-i l =
+    l.e - l.i
