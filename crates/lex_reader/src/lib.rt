@@ -1,6 +1,5 @@
 // A reader over a sheet, which hands out one token at a time: a struct that holds the text and a position in it, and thin
-// functions over it. The borrow checker covers no function over such a struct, so the walks of `new`, `peek`, `moved` and
-// `nth_token` are proved by hand; the work is in `token_of` and `past_tokens` of `lex_positions`, which take the slice and the number.
+// functions over it. The work is in `token_of` and `past_tokens` of `lex_positions`, which take the slice and the number.
 
 #![tactic(auto)]
 

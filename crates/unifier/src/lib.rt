@@ -2,6 +2,5 @@
 
 #![tactic(auto)]
 
-
 pub mod solve;
 pub mod walk;

@@ -14,4 +14,4 @@ pub returns-in-OpenOutput : goal.returns-in-OpenOutput
 returns-in-OpenOutput c = (sym (ap (λ (r : Refusal). (name_span r).0) c.in-OpenOutput.is), sym (ap (λ (r : Refusal). (name_span r).1) c.in-OpenOutput.is))
 
 pub returns-in_default : goal.returns-in_default
-returns-in_default c = unnamed c.args.refusal c.in_default.keys4
+returns-in_default c = unnamed c.args.refusal c.in_default.not-Undeclared c.in_default.not-OpenInput c.in_default.not-OpenOutput

@@ -18,4 +18,4 @@ pub append-requires : goal.append-requires
 append-requires c = admit-room c.requires c.is_next.ensures c.word_at-m.ensures c.if-m-ge-CELLS.false c.if-x-ge-CELLS.false
 
 pub returns : goal.returns
-returns c = λ g. admit-new g c.is_next.ensures c.word_at-m.ensures c.if-m-ge-CELLS.false c.if-x-ge-CELLS.false c.place_of.ensures c.if-place_of-m.false (not-false c.is_next.result c.if-not-is_next.false) c.append.ensures
+returns c = λ g. admit-new g c.is_next.ensures c.word_at-m.ensures c.if-m-ge-CELLS.false c.if-x-ge-CELLS.false c.place_of.ensures c.if-place_of-m.false c.if-not-is_next.false c.append.ensures

@@ -19,7 +19,7 @@ pub is_anonymous-plain-requires : goal.is_anonymous-plain-requires
 is_anonymous-plain-requires c = word-inside _ _ c.args.count c.loop-i.i _ c.requires c.loop-i-test.true refl
 
 pub returns-then-not-plain : goal.returns-then-not-plain
-returns-then-not-plain c = let args = c.args in let loop = c.loop-i in all-not args.goal.now args.names.now args.count loop.i (get_or args.names.now loop.i 0) c.is_anonymous-plain.result c.loop-i-test.true refl c.is_anonymous-plain.ensures (not-true c.is_anonymous-plain.result c.if-not-plain.true) loop.invariant.1
+returns-then-not-plain c = let args = c.args in let loop = c.loop-i in all-not args.goal.now args.names.now args.count loop.i (get_or args.names.now loop.i 0) c.is_anonymous-plain.result c.loop-i-test.true refl c.is_anonymous-plain.ensures c.if-not-plain.true loop.invariant.1
 
 pub overflow_add-i : goal.overflow_add-i
 overflow_add-i c = omega arith
@@ -28,7 +28,7 @@ pub loop-i-smaller : goal.loop-i-smaller
 loop-i-smaller c = omega arith
 
 pub loop-i-preserved : goal.loop-i-preserved
-loop-i-preserved c = let args = c.args in let loop = c.loop-i in (omega arith, all_more args.goal.now args.names.now args.count loop.i (get_or args.names.now loop.i 0) c.is_anonymous-plain.result c.loop-i-test.true refl c.is_anonymous-plain.ensures (not-false c.is_anonymous-plain.result c.if-not-plain.false) loop.invariant.1)
+loop-i-preserved c = let args = c.args in let loop = c.loop-i in (omega arith, all_more args.goal.now args.names.now args.count loop.i (get_or args.names.now loop.i 0) c.is_anonymous-plain.result c.loop-i-test.true refl c.is_anonymous-plain.ensures c.if-not-plain.false loop.invariant.1)
 
 pub returns : goal.returns
 returns c = all_end _ _ c.args.count c.loop-i.i c.loop-i-test.false c.loop-i.invariant.1

@@ -1,0 +1,37 @@
+use Prim.Native.Nat.{◌-◌}
+use Rattle.linker.proofs.Sheets.{clause-ends, heads-begin, heads-clause, heads-room, heads-size, heads-next, heads-end}
+use native.Mathlib.Omega.{arith}
+use Rattle.linker.proofs.put_heads.Goals as goal
+
+pub loop-k-init : goal.loop-k-init
+loop-k-init c = λ ss cls w. heads-begin ss cls c.args.table.now c.args.q c.args.clauses c.args.code.now w
+
+pub overflow_mul-k : goal.overflow_mul-k
+overflow_mul-k c = omega (arith, (heads-room c.args.table.now c.loop-k.at c.loop-k.node c.args.clauses c.loop-k.code c.loop-k.k c.loop-k-test.true c.requires.0 _ (c.loop-k.invariant c.requires.0 c.requires.1.0 c.requires.1.1)).0)
+
+pub put-requires : goal.put-requires
+put-requires c = ((heads-room c.args.table.now c.loop-k.at c.loop-k.node c.args.clauses c.loop-k.code c.loop-k.k c.loop-k-test.true c.requires.0 _ (c.loop-k.invariant c.requires.0 c.requires.1.0 c.requires.1.1)).1.0, omega (arith, (heads-room c.args.table.now c.loop-k.at c.loop-k.node c.args.clauses c.loop-k.code c.loop-k.k c.loop-k-test.true c.requires.0 _ (c.loop-k.invariant c.requires.0 c.requires.1.0 c.requires.1.1)).1.1))
+
+pub clause_nodes-size-requires : goal.clause_nodes-size-requires
+clause_nodes-size-requires c = heads-clause c.args.table.now c.loop-k.at c.loop-k.node c.args.clauses c.loop-k.code c.loop-k.k c.loop-k-test.true c.requires.0 _ (c.loop-k.invariant c.requires.0 c.requires.1.0 c.requires.1.1)
+
+pub word_at-words-requires : goal.word_at-words-requires
+word_at-words-requires c = (clause-ends c.args.table.now c.loop-k.at (heads-clause c.args.table.now c.loop-k.at c.loop-k.node c.args.clauses c.loop-k.code c.loop-k.k c.loop-k-test.true c.requires.0 _ (c.loop-k.invariant c.requires.0 c.requires.1.0 c.requires.1.1)).0 (heads-clause c.args.table.now c.loop-k.at c.loop-k.node c.args.clauses c.loop-k.code c.loop-k.k c.loop-k-test.true c.requires.0 _ (c.loop-k.invariant c.requires.0 c.requires.1.0 c.requires.1.1)).1).0
+
+pub overflow_add-at : goal.overflow_add-at
+overflow_add-at c = omega (arith, c.word_at-words.ensures, (clause-ends c.args.table.now c.loop-k.at (heads-clause c.args.table.now c.loop-k.at c.loop-k.node c.args.clauses c.loop-k.code c.loop-k.k c.loop-k-test.true c.requires.0 _ (c.loop-k.invariant c.requires.0 c.requires.1.0 c.requires.1.1)).0 (heads-clause c.args.table.now c.loop-k.at c.loop-k.node c.args.clauses c.loop-k.code c.loop-k.k c.loop-k-test.true c.requires.0 _ (c.loop-k.invariant c.requires.0 c.requires.1.0 c.requires.1.1)).1).1)
+
+pub overflow_add-node : goal.overflow_add-node
+overflow_add-node c = omega (arith, heads-size c.args.table.now c.loop-k.at c.loop-k.node c.args.clauses c.loop-k.code c.loop-k.k c.loop-k-test.true c.clause_nodes-size.result c.clause_nodes-size.ensures c.requires.0 _ (c.loop-k.invariant c.requires.0 c.requires.1.0 c.requires.1.1))
+
+pub overflow_add-k : goal.overflow_add-k
+overflow_add-k c = omega (arith, (heads-room c.args.table.now c.loop-k.at c.loop-k.node c.args.clauses c.loop-k.code c.loop-k.k c.loop-k-test.true c.requires.0 _ (c.loop-k.invariant c.requires.0 c.requires.1.0 c.requires.1.1)).0)
+
+pub loop-k-smaller : goal.loop-k-smaller
+loop-k-smaller c = omega arith
+
+pub loop-k-preserved : goal.loop-k-preserved
+loop-k-preserved c = λ ss cls w. heads-next c.args.table.now c.loop-k.at c.loop-k.node c.args.clauses c.loop-k.code c.loop-k.k c.loop-k-test.true c.clause_nodes-size.result c.clause_nodes-size.ensures _ c.put.ensures c.word_at-words.result c.word_at-words.ensures ss _ (c.loop-k.invariant ss cls w)
+
+pub returns : goal.returns
+returns c = λ ss cls w. heads-end ss _ c.args.table.now c.loop-k.at c.loop-k.node c.args.clauses c.loop-k.code c.loop-k.k c.loop-k-test.false (c.loop-k.invariant ss cls w)

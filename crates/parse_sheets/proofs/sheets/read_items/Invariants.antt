@@ -1,0 +1,14 @@
+-- `parse_sheets::sheets::read_items` meets its contract: each way out is a law of `SheetLaws`. Assumes nothing.
+use Prim.Native.Nat.{◌-◌}
+use mathlib.Core.Path.{◌≡◌}
+use lib.ListN.{length}
+use Rattle.parse_sheets.specs.Sheets.{Loading}
+use Rattle.parse_sheets.proofs.sheets.read_items.Given as goal
+
+abbrev pub invariant-loop-st : goal.invariant-loop-st
+invariant-loop-st l =
+    Loading l.s l.declared l.table l.ds l.cs l.used l.st × (length l.declared ≡ length l.initial.declared) × (length l.table ≡ length l.initial.table)
+
+abbrev pub decreases-loop-st : goal.decreases-loop-st
+decreases-loop-st l =
+    length l.s - l.st.token.at

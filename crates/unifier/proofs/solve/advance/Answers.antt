@@ -1,0 +1,32 @@
+use Prim.Native.Nat.{ℕ}
+use native.Mathlib.Omega.{arith}
+use mathlib.Core.Path.{◌≡◌, sym, ap, ◌∙◌}
+use mathlib.Core.Logic.{⊎_elim}
+use denote.Enum.Declared.{tag_of, declared}
+use Rattle.unifier.specs.contracts.solve.Turn.{enum}
+use Rattle.unifier.proofs.Solving.{advance-begin, advance-turn, advance-next, advance-less, advance-stop, advance-end}
+use Rattle.unifier.proofs.solve.advance.Goals as goal
+
+-- src/solve.rt:109:5
+pub loop-k-init : goal.loop-k-init
+loop-k-init c = λ g. advance-begin c.args.nodes.now c.args.state.now c.args.scratch.now c.args.n c.args.h g
+
+-- src/solve.rt:110:13
+pub next_turn-t-requires : goal.next_turn-t-requires
+next_turn-t-requires c = advance-turn c.args.nodes.now c.args.state.now c.args.scratch.now c.loop-k.scratch c.args.n c.args.h c.loop-k.k c.requires.work (c.loop-k.invariant c.requires) c.loop-k-test.true
+
+-- src/solve.rt:112:13
+pub returns-in_default : goal.returns-in_default
+returns-in_default c = λ g. advance-stop c.args.nodes.now c.args.state.now c.args.scratch.now c.loop-k.scratch c.args.n c.args.h c.loop-k.k g.work (c.loop-k.invariant g) c.loop-k-test.true c.next_turn-t.new.scratch c.next_turn-t.result c.next_turn-t.ensures (λ j e. ⊎_elim (λ k. let z : ◌≡◌ {A = ℕ} 1 0 = sym k ∙ ap (tag_of (declared enum)) e in omega arith) (λ k. let z : ◌≡◌ {A = ℕ} 2 0 = sym k ∙ ap (tag_of (declared enum)) e in omega arith) c.in_default.keys2)
+
+-- src/solve.rt:109:5
+pub loop-k-smaller : goal.loop-k-smaller
+loop-k-smaller c = advance-less c.args.nodes.now c.args.state.now c.args.scratch.now c.loop-k.scratch c.args.n c.args.h c.loop-k.k c.requires.work (c.loop-k.invariant c.requires) c.loop-k-test.true c.next_turn-t.new.scratch c.next_turn-t.result c.next_turn-t.ensures c.in-Go.next c.in-Go.is
+
+-- src/solve.rt:109:5
+pub loop-k-preserved : goal.loop-k-preserved
+loop-k-preserved c = λ g. advance-next c.args.nodes.now c.args.state.now c.args.scratch.now c.loop-k.scratch c.args.n c.args.h c.loop-k.k g.work (c.loop-k.invariant g) c.loop-k-test.true c.next_turn-t.new.scratch c.next_turn-t.result c.next_turn-t.ensures c.in-Go.next c.in-Go.is
+
+-- src/solve.rt:104:1
+pub returns : goal.returns
+returns c = λ g. advance-end c.args.nodes.now c.args.state.now c.args.scratch.now c.loop-k.scratch c.args.n c.args.h c.loop-k.k g.work (c.loop-k.invariant g) c.loop-k-test.false

@@ -1,0 +1,34 @@
+use Prim.Native.Nat.{◌-◌}
+use native.Mathlib.Omega.{arith}
+use Rattle.unifier.proofs.Solving.{solve-begin, solve-ready, solve-done, solve-clash, solve-check, solve-height, solve-room, solve-few, solve-closed, solve-stands, solve-next}
+use Rattle.unifier.proofs.solve.solve_pair.Goals as goal
+
+pub loop-trail-init : goal.loop-trail-init
+loop-trail-init c = (c.requires.closed, λ g. solve-begin g)
+
+pub advance-t-requires : goal.advance-t-requires
+advance-t-requires c = solve-ready c.requires.solvable (c.loop-trail.invariant.1 c.requires.solvable)
+
+pub returns-in-Go : goal.returns-in-Go
+returns-in-Go c = λ g. solve-done g (c.loop-trail.invariant.1 g) c.advance-t.result c.advance-t.ensures c.in-Go.is
+
+pub returns-in-Clash : goal.returns-in-Clash
+returns-in-Clash c = λ g. solve-clash g (c.loop-trail.invariant.1 g) c.advance-t.result c.advance-t.ensures c.in-Clash.is
+
+pub check-requires : goal.check-requires
+check-requires c = (solve-check c.requires.solvable (c.loop-trail.invariant.1 c.requires.solvable) c.advance-t.result c.advance-t.ensures c.in-Bind.is, (c.loop-trail.invariant.0, solve-height c.requires.solvable (c.loop-trail.invariant.1 c.requires.solvable) c.advance-t.result c.advance-t.ensures c.in-Bind.is))
+
+pub returns-then-check : goal.returns-then-check
+returns-then-check c = λ g. solve-stands g (c.loop-trail.invariant.1 g) c.advance-t.result c.advance-t.ensures c.in-Bind.is c.check.ensures c.if-check.true
+
+pub bind-requires : goal.bind-requires
+bind-requires c = solve-room c.requires.solvable (c.loop-trail.invariant.1 c.requires.solvable) c.advance-t.result c.advance-t.ensures c.in-Bind.is
+
+pub overflow_add-n : goal.overflow_add-n
+overflow_add-n c = omega (arith, solve-few c.requires.solvable (c.loop-trail.invariant.1 c.requires.solvable) c.advance-t.result c.advance-t.ensures c.in-Bind.is)
+
+pub loop-trail-smaller : goal.loop-trail-smaller
+loop-trail-smaller c = omega (arith, solve-few c.requires.solvable (c.loop-trail.invariant.1 c.requires.solvable) c.advance-t.result c.advance-t.ensures c.in-Bind.is)
+
+pub loop-trail-preserved : goal.loop-trail-preserved
+loop-trail-preserved c = (solve-closed c.requires.solvable (c.loop-trail.invariant.1 c.requires.solvable) c.advance-t.result c.advance-t.ensures c.in-Bind.is c.loop-trail.invariant.0 c.closed_to-closed.ensures c.bind.ensures, λ g. solve-next g (c.loop-trail.invariant.1 g) c.advance-t.result c.advance-t.ensures c.in-Bind.is c.check.ensures c.if-check.false c.bind.ensures)
