@@ -1,4 +1,4 @@
-// The entries of a sheet's declarations, for a caller who lends a list of them. The functions that take the list are proved by walks of their code.
+// The entries of a sheet's declarations, for a caller who lends a list of them.
 
 #![tactic(auto)]
 

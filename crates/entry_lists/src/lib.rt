@@ -1,4 +1,4 @@
-// A list of three entries that is lent to the functions that fill one. The two functions are proved by one walk of their code.
+// A list of three entries that is lent to the functions that fill one.
 
 #![tactic(auto)]
 

@@ -17,7 +17,7 @@ next_turn-t-requires c = advance-turn c.args.nodes.now c.args.state.now c.args.s
 
 -- src/solve.rt:112:13
 pub returns-in_default : goal.returns-in_default
-returns-in_default c = λ g. advance-stop c.args.nodes.now c.args.state.now c.args.scratch.now c.loop-k.scratch c.args.n c.args.h c.loop-k.k g.work (c.loop-k.invariant g) c.loop-k-test.true c.next_turn-t.new.scratch c.next_turn-t.result c.next_turn-t.ensures (λ j e. ⊎_elim (λ k. let z : ◌≡◌ {A = ℕ} 1 0 = sym k ∙ ap (tag_of (declared enum)) e in omega arith) (λ k. let z : ◌≡◌ {A = ℕ} 2 0 = sym k ∙ ap (tag_of (declared enum)) e in omega arith) c.in_default.keys2)
+returns-in_default c = λ g. advance-stop c.args.nodes.now c.args.state.now c.args.scratch.now c.loop-k.scratch c.args.n c.args.h c.loop-k.k g.work (c.loop-k.invariant g) c.loop-k-test.true c.next_turn-t.new.scratch c.next_turn-t.result c.next_turn-t.ensures c.in_default.not-Go
 
 -- src/solve.rt:109:5
 pub loop-k-smaller : goal.loop-k-smaller

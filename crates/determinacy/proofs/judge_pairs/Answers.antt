@@ -1,0 +1,15 @@
+-- `determinacy::judge_pairs` meets its contract. Assumes nothing.
+use Rattle.determinacy.proofs.JudgeLaws.{loads, links, linked, ready-judged}
+use Rattle.determinacy.proofs.judge_pairs.Goals as goal
+
+pub load_nodes-requires : goal.load_nodes-requires
+load_nodes-requires c = loads c.node_words-nodes.ensures c.node_words-symbols.ensures c.requires
+
+pub link-requires : goal.link-requires
+link-requires c = links c.node_words-nodes.ensures c.node_words-symbols.ensures c.load_nodes.auto.nodes c.load_nodes.ensures c.code_words-code.ensures c.requires
+
+pub judge_linked-requires : goal.judge_linked-requires
+judge_linked-requires c = linked c.node_words-nodes.ensures c.node_words-symbols.ensures c.load_nodes.auto.nodes c.load_nodes.ensures c.code_words-code.ensures c.link.ensures c.requires
+
+pub returns : goal.returns
+returns c = λ w. ready-judged c.node_words-nodes.ensures c.node_words-symbols.ensures c.load_nodes.auto.nodes c.load_nodes.ensures c.code_words-code.ensures c.link.ensures c.judge_linked.ensures w

@@ -1,2 +1,0 @@
-pub mod Filled
-pub mod Listed
