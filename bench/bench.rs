@@ -55,8 +55,8 @@ const MOST_GROWTH: f64 = 5.0;
 const MOST_MICROSECONDS: f64 = 2_000.0;
 const MOST_OF_SWI: f64 = 0.05;
 const MOST_RUN_GROWTH: f64 = 12.0;
-const SHEET_FILE: &str = "target/bench_sheet.pl";
-const GOAL_FILE: &str = "target/bench_goal.pl";
+const SHEET_FILE: &str = "bench/out/sheet.pl";
+const GOAL_FILE: &str = "bench/out/goal.pl";
 
 /// The counts of declarations and clauses of a sheet that is accepted.
 #[derive(Clone, Copy, Debug, PartialEq)]

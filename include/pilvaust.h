@@ -1,5 +1,5 @@
-/* Rule sheets read, checked and run, for C11 and C++. `rt staticlib exports` proves the library and writes it to target/staticlib/libexports.a, for x86-64
- * Linux. Each function does what its contract in crates/exports/src/lib.rt says, for all bytes, lengths and numbers, and comes to its end.
+/* Rule sheets read, checked and run, for C11 and C++. `(cd crates/exports && rt lib)` proves the library and writes it to crates/exports/out/libexports.a, for
+ * x86-64 Linux. Each function does what its contract in crates/exports/src/lib.rt says, for all bytes, lengths and numbers, and comes to its end.
  *
  * Memory. All of it is the caller's; the library allocates none and keeps no pointer. A text is as long as its length says, no byte ends it. No pointer
  * may be null, not even with length 0. Sheet, goal and trace are only read; `numbers` and `text` are written, and may overlap nothing else lent to the call.
@@ -10,8 +10,9 @@
  * Threads. There is no global state: calls may run at once on any threads, each with numbers and text of its own.
  *
  * Stack. Tables stand on the native stack. PILVAUST_STACK bytes are enough for pilvaust_read, _check, _check_goal and _entry (measured: 325 KB), and
- * PILVAUST_RUN_STACK for pilvaust_run and _run_traced (measured: 3,724 KB; 2,953 KB under a short sheet). A main thread has 8 MB as a rule, other threads often 2 MB or less: give them as much
- * (pthread_attr_setstacksize). On a smaller stack the program ends by a fault at the stack's guard page. */
+ * PILVAUST_RUN_STACK for pilvaust_run and _run_traced (measured: 3,724 KB; 2,953 KB under a short sheet), all measured with an older kit,
+ * rattle-kit-5b-plain. A main thread has 8 MB as a rule, other threads often 2 MB or less: give them as much (pthread_attr_setstacksize). On a smaller
+ * stack the program ends by a fault at the stack's guard page. */
 #ifndef PILVAUST_H
 #define PILVAUST_H
 

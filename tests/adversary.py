@@ -1,6 +1,6 @@
 """Sheets and goals in which one step is made to take long, at a size n, and the runner's time on them.
 
-    tests/adversary.py [KIND [N]]       times of target/bin/runner at n and 2n, for one kind or all
+    tests/adversary.py [KIND [N]]       times of crates/runner/out/runner at n and 2n, for one kind or all
     tests/adversary.py KIND N FOLDER    writes the files `sheet` and `goal` there
 
 RUNNER names another runner. An alternative has at most 255 copies, so n cannot be much more than as given here; at 2n a step may take at most three times as
@@ -196,7 +196,7 @@ def measure(runner, kind, n):
 
 
 def main(args):
-    runner = os.path.abspath(os.environ.get("RUNNER", "target/bin/runner"))
+    runner = os.path.abspath(os.environ.get("RUNNER", "crates/runner/out/runner"))
     if len(args) == 3:
         print(write(args[0], int(args[1]), args[2]))
         return 0

@@ -2,7 +2,7 @@
 
     tests/determinacy_times.py        milliseconds a sheet; exit status 1 where one is over the bound
 
-PROGRAM names another program than target/bin/case_answers. It runs in a folder with no other file of cases; the time of a file without a sheet is taken off.
+PROGRAM names another program than crates/case_answers/out/case_answers. It runs in a folder with no other file of cases; the time of a file without a sheet is taken off.
 """
 
 import os
@@ -94,7 +94,7 @@ def seconds(program, cases):
 
 
 def main():
-    program, slow = os.path.abspath(os.environ.get("PROGRAM", "target/bin/case_answers")), False
+    program, slow = os.path.abspath(os.environ.get("PROGRAM", "crates/case_answers/out/case_answers")), False
     for name, sheet in SHEETS.items():
         record = b"D" + len(sheet).to_bytes(3, "little") + sheet.encode()
         times = []

@@ -61,11 +61,12 @@ module _ (s words table : List ℕ) (size : declared_words ≡ length words) (ro
         record { is = refl; size = size; short = z; within = l.1; fills = λ es e. pasted-overlay (entry_from words) es sh.declarations m each a (subst (λ (x : ℕ). m ≤ x) (sym e) l.1) (λ h. subst (λ (x : ℕ). x ≤ m) (sym e) (l.2 h)) }
 
   lists-refused : (r : Refusal) → Lists (refused r) room (record { verdict = Refused in_sheet r; count = 0; words = words })
-  unfolding sheet_verdict declared_of
+  unfolding sheet_verdict declared_of pasted overlay
   lists-refused r = record { is = refl; size = size; short = zero-le; within = zero-le; fills = λ es e. kept es }
     where
       kept : (es : List Entry) → pasted (entry_from words) 0 es ≡ overlay es []
-      kept es = unfold pasted in unfold overlay in elim es [ [] ↦ refl | x ∷ xs ↦ refl ]
+      kept [] = refl
+      kept (x ∷ xs) = refl
 
   lists-by : (o : Outcome Sheet) → ((sh : Sheet) → o ≡ accepted sh → Tabled s words table sh) → Lists o room (record { verdict = sheet_verdict o; count = listed_of (sheet_verdict o) room; words = words })
   unfolding sheet_verdict listed_of

@@ -1,5 +1,4 @@
 use borrow.Author.Tests.{not-true, not-false}
-use Prim.Native.Nat.{◌-◌}
 use native.Mathlib.Omega.{arith}
 use Rattle.determinacy_inputs.proofs.JoinLaws.{join-none, join_first, join-inside, join-further, join-stops, join-rest, join-on}
 use Rattle.determinacy_inputs.proofs.+join_inputs.Goals as goal
