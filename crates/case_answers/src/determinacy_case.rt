@@ -1,47 +1,43 @@
 // `D` and a sheet, of which is told whether runs over it write at most one line. Printed is `yes`; `no` and the numbers of the two clauses that speak
 // against the sheet, or of one with a bracket and 0; or the line of the sheet's refusal.
-ghost use Rattle.std.specs.Prelude.{◌≤◌, ◌<◌, length};
+ghost use Rattle.std.specs.Prelude.{◌≤◌, ◌<◌, length, IfOk};
 
 use crate::output::print_number;
 use crate::records::text_at;
 use determinacy::Determinacy;
-use libc::STDOUT_FILENO;
+use std::io::{Result, Write};
 use syntax::{Refusal, Text, Verdict};
 
-fn print_refusal(sheet: &[u8], refusal: Refusal) {
+fn print_refusal<W: Write>(out: &mut W, sheet: &[u8], refusal: Refusal) -> Result<()> {
     let verdict = Verdict::Refused {
         text: Text::Sheet,
         refusal,
     };
-    out_printing::print_line(verdict, pilvaust::fault_name(sheet, b"", verdict));
+    out_printing::print_line(out, verdict, pilvaust::fault_name(sheet, b"", verdict))
 }
 
-fn print_determinacy(sheet: &[u8], told: Determinacy) {
+fn print_determinacy<W: Write>(out: &mut W, sheet: &[u8], told: Determinacy) -> Result<()> {
     match told {
-        Determinacy::Yes => {
-            io::write_all(STDOUT_FILENO, b"yes\n");
-        }
+        Determinacy::Yes => out.write_all(b"yes\n"),
         Determinacy::No { first, second } => {
-            io::write_all(STDOUT_FILENO, b"no");
-            print_number(first);
-            print_number(second);
-            io::write_all(STDOUT_FILENO, b"\n");
+            out.write_all(b"no")?;
+            print_number(out, first)?;
+            print_number(out, second)?;
+            out.write_all(b"\n")
         }
-        Determinacy::Refused(refusal) => {
-            print_refusal(sheet, refusal);
-        }
+        Determinacy::Refused(refusal) => print_refusal(out, sheet, refusal),
     }
 }
 
 // Answers the record at a place and returns the place past it.
-pub fn answer(cases: &[u8], at: usize) -> usize
+pub fn answer<W: Write>(out: &mut W, cases: &[u8], at: usize) -> Result<usize>
     requires { at < length cases.now }
-    ensures { (at < result) × (result ≤ length cases.now) }
+    ensures { IfOk result (λ next. (at < next) × (next ≤ length cases.now)) }
 {
     let sheet = text_at(cases, at + 1);
     let start = sheet.start;
     let end = sheet.end;
     let text = &cases[start..end];
-    print_determinacy(text, pilvaust::determinate(text));
-    end
+    print_determinacy(out, text, pilvaust::determinate(text))?;
+    Ok(end)
 }

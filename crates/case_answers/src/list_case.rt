@@ -1,13 +1,13 @@
 // `L` and a sheet, which is read, or `M` and a sheet, which is checked, with a list of three entries lent each time: the line of the verdict is
 // printed, and then the list, an entry to a line. `F`, words of four bytes, lowest first, a name and a text: the first word is a number of arguments,
 // the others are entries of the text, in which the predicate is looked for, and what the search tells is printed.
-ghost use Rattle.std.specs.Prelude.{◌≡◌, ◌+◌, ◌*◌, ◌≤◌, ◌<◌, length};
+ghost use Rattle.std.specs.Prelude.{◌≡◌, ◌+◌, ◌*◌, ◌≤◌, ◌<◌, length, IfOk};
 
 use crate::output::print_number;
 use crate::records::{BYTE, TWO_BYTES, text_at, wide};
 use entry_lists::Lent;
-use libc::STDOUT_FILENO;
 use mode_lookup::Lookup;
+use std::io::{Result, Write};
 use syntax::Entry;
 
 const READ: u8 = b'L';
@@ -46,22 +46,22 @@ fn held() -> [Entry; 3] {
     [first, second, third]
 }
 
-fn print_entry(entry: Entry) {
-    io::print_decimal(STDOUT_FILENO, entry.at as u64);
-    print_number(entry.len);
-    print_number(entry.arguments);
-    io::write_all(STDOUT_FILENO, b"\n");
+fn print_entry<W: Write>(out: &mut W, entry: Entry) -> Result<()> {
+    write!(out, "{}", entry.at)?;
+    print_number(out, entry.len)?;
+    print_number(out, entry.arguments)?;
+    out.write_all(b"\n")
 }
 
-fn print_lent(sheet: &[u8], lent: Lent)
+fn print_lent<W: Write>(out: &mut W, sheet: &[u8], lent: Lent) -> Result<()>
     requires { 3 ≡ length lent.list }
 {
     let verdict = lent.verdict;
     let list = lent.list;
-    out_printing::print_line(verdict, pilvaust::fault_name(sheet, b"", verdict));
-    print_entry(list[0]);
-    print_entry(list[1]);
-    print_entry(list[2]);
+    out_printing::print_line(out, verdict, pilvaust::fault_name(sheet, b"", verdict))?;
+    print_entry(out, list[0])?;
+    print_entry(out, list[1])?;
+    print_entry(out, list[2])
 }
 
 // The word whose bytes stand at a place.
@@ -96,36 +96,36 @@ fn words_of(bytes: &[u8]) -> [u32; MOST_WORDS]
     words
 }
 
-fn print_lookup(lookup: Lookup) {
+fn print_lookup<W: Write>(out: &mut W, lookup: Lookup) -> Result<()> {
     match lookup {
         Lookup::Found { place, compared } => {
-            io::write_all(STDOUT_FILENO, b"found");
-            print_number(place);
-            print_number(compared);
+            out.write_all(b"found")?;
+            print_number(out, place)?;
+            print_number(out, compared)?;
         }
         Lookup::Missing { compared } => {
-            io::write_all(STDOUT_FILENO, b"missing");
-            print_number(compared);
+            out.write_all(b"missing")?;
+            print_number(out, compared)?;
         }
     }
-    io::write_all(STDOUT_FILENO, b"\n");
+    out.write_all(b"\n")
 }
 
 // Searches for the name with the number of arguments that is the first word.
-fn search(text: &[u8], bytes: &[u8], name: &[u8]) {
+fn search<W: Write>(out: &mut W, text: &[u8], bytes: &[u8], name: &[u8]) -> Result<()> {
     let n = word_count(bytes);
     if n == 0 {
-        return;
+        return Ok(());
     }
     let words = words_of(bytes);
     let arguments = words[0] as usize;
-    print_lookup(pilvaust::look_up(text, &words[1..n], name, arguments));
+    print_lookup(out, pilvaust::look_up(text, &words[1..n], name, arguments))
 }
 
 // Answers the rest of a record that asks for a search.
-fn answer_search(cases: &[u8], at: usize) -> usize
+fn answer_search<W: Write>(out: &mut W, cases: &[u8], at: usize) -> Result<usize>
     requires { at ≤ length cases.now }
-    ensures { (at ≤ result) × (result ≤ length cases.now) }
+    ensures { IfOk result (λ next. (at ≤ next) × (next ≤ length cases.now)) }
 {
     let words = text_at(cases, at);
     let first = words.start;
@@ -136,26 +136,31 @@ fn answer_search(cases: &[u8], at: usize) -> usize
     let text = text_at(cases, to);
     let start = text.start;
     let end = text.end;
-    search(&cases[start..end], &cases[first..last], &cases[from..to]);
-    end
+    search(
+        out,
+        &cases[start..end],
+        &cases[first..last],
+        &cases[from..to],
+    )?;
+    Ok(end)
 }
 
 // Answers the record at a place and returns the place past it.
-pub fn answer(cases: &[u8], at: usize) -> usize
+pub fn answer<W: Write>(out: &mut W, cases: &[u8], at: usize) -> Result<usize>
     requires { at < length cases.now }
-    ensures { (at < result) × (result ≤ length cases.now) }
+    ensures { IfOk result (λ next. (at < next) × (next ≤ length cases.now)) }
 {
     if cases[at] == SEARCH {
-        return answer_search(cases, at + 1);
+        return answer_search(out, cases, at + 1);
     }
     let text = text_at(cases, at + 1);
     let start = text.start;
     let end = text.end;
     let sheet = &cases[start..end];
     if cases[at] == READ {
-        print_lent(sheet, entry_lists::read_lent(sheet, held()));
-        return end;
+        print_lent(out, sheet, entry_lists::read_lent(sheet, held()))?;
+        return Ok(end);
     }
-    print_lent(sheet, entry_lists::check_lent(sheet, held()));
-    end
+    print_lent(out, sheet, entry_lists::check_lent(sheet, held()))?;
+    Ok(end)
 }

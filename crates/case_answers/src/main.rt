@@ -11,7 +11,12 @@ mod records;
 mod rooms;
 mod run_case;
 
-ghost use Rattle.std.specs.Prelude.{◌≤◌, ◌<◌, length};
+ghost use Rattle.std.specs.Prelude.{◌≤◌, ◌<◌, length, IfOk};
+
+use in_reading::read_file;
+use std::io;
+use std::io::{Result, Write};
+use std::rt::Files;
 
 // What the cases of a file ask for, where they ask for no run.
 #[derive(Clone, Copy)]
@@ -23,48 +28,45 @@ enum Kind {
 }
 
 // Answers the record at a place and returns the place past it.
-fn answer(kind: Kind, cases: &[u8], at: usize) -> usize
+fn answer<W: Write>(out: &mut W, kind: Kind, cases: &[u8], at: usize) -> Result<usize>
     requires { at < length cases.now }
-    ensures { (at < result) × (result ≤ length cases.now) }
+    ensures { IfOk result (λ next. (at < next) × (next ≤ length cases.now)) }
 {
     match kind {
-        Kind::Read => read_case::answer(cases, at),
-        Kind::Check => check_case::answer(cases, at),
-        Kind::List => list_case::answer(cases, at),
-        Kind::Determinacy => determinacy_case::answer(cases, at),
+        Kind::Read => read_case::answer(out, cases, at),
+        Kind::Check => check_case::answer(out, cases, at),
+        Kind::List => list_case::answer(out, cases, at),
+        Kind::Determinacy => determinacy_case::answer(out, cases, at),
     }
 }
 
-fn answer_all(kind: Kind, cases: &[u8]) {
+fn answer_all<W: Write>(out: &mut W, kind: Kind, cases: &[u8]) -> Result<()> {
     let mut at = 0;
     while at < cases.len() {
-        at = answer(kind, cases, at);
+        at = answer(out, kind, cases, at)?;
     }
+    Ok(())
 }
 
 // Answers the cases of a file, with room for it.
-fn answer_file(kind: Kind, name: &[u8], room: &mut [u8]) {
-    let file = os::open_read(name);
-    let n = io::read_full(file, room);
-    libc::close(file);
-    answer_all(kind, &room[..n]);
+fn answer_file(rt: &(impl Files + Print), kind: Kind, name: &str, room: &mut [u8]) -> Result<()> {
+    let n = read_file(rt, name, room);
+    answer_all(&mut io::writer(rt), kind, &room[..n])
 }
 
 // The same of a file of runs. It is a function of its own so that no frame has both the tables of a run and those of the test for at most one end:
 // together they pass the usual native stack.
-fn answer_runs(name: &[u8], room: &mut [u8]) {
-    let file = os::open_read(name);
-    let n = io::read_full(file, room);
-    libc::close(file);
-    run_case::answer_all(&room[..n]);
+fn answer_runs(rt: &(impl Files + Print), name: &str, room: &mut [u8]) -> Result<()> {
+    let n = read_file(rt, name, room);
+    run_case::answer_all(&mut io::writer(rt), &room[..n])
 }
 
-fn main() {
+fn main(rt: HostRuntime) -> Result<()> {
     let mut room = rooms::file_room();
-    answer_file(Kind::Read, b"read", &mut room);
-    answer_file(Kind::Check, b"check", &mut room);
-    answer_runs(b"run", &mut room);
-    answer_file(Kind::List, b"list", &mut room);
-    answer_runs(b"trace", &mut room);
-    answer_file(Kind::Determinacy, b"determinacy", &mut room);
+    answer_file(&rt, Kind::Read, "read", &mut room)?;
+    answer_file(&rt, Kind::Check, "check", &mut room)?;
+    answer_runs(&rt, "run", &mut room)?;
+    answer_file(&rt, Kind::List, "list", &mut room)?;
+    answer_runs(&rt, "trace", &mut room)?;
+    answer_file(&rt, Kind::Determinacy, "determinacy", &mut room)
 }

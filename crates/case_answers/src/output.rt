@@ -1,8 +1,7 @@
 // Numbers in a line.
-use libc::STDOUT_FILENO;
+use std::io::{Result, Write};
 
 // Prints a blank and a number.
-pub fn print_number(n: usize) {
-    io::write_all(STDOUT_FILENO, b" ");
-    io::print_decimal(STDOUT_FILENO, n as u64);
+pub fn print_number<W: Write>(out: &mut W, n: usize) -> Result<()> {
+    write!(out, " {n}")
 }

@@ -1,10 +1,10 @@
 // `S` and a sheet or `G` and a goal, whose reading is printed; `E`, the number of a declaration from 0 on in one byte and a sheet, of which that
 // entry is printed; or `T`, a number in one byte and a text, of which the token is printed before which so many stand.
-ghost use Rattle.std.specs.Prelude.{◌≤◌, ◌<◌, length};
+ghost use Rattle.std.specs.Prelude.{◌≤◌, ◌<◌, length, IfOk};
 
 use crate::output::print_number;
 use crate::records::{text_at, wide};
-use libc::STDOUT_FILENO;
+use std::io::{Result, Write};
 use syntax::Declared;
 
 const SHEET: u8 = b'S';
@@ -13,75 +13,73 @@ const ENTRY: u8 = b'E';
 
 const TOKEN: u8 = b'T';
 
-fn print_declared(declared: Declared) {
+fn print_declared<W: Write>(out: &mut W, declared: Declared) -> Result<()> {
     match declared {
         Declared::As(entry) => {
-            io::write_all(STDOUT_FILENO, b"entry");
-            print_number(entry.at);
-            print_number(entry.len);
-            print_number(entry.arguments);
-            io::write_all(STDOUT_FILENO, b"\n");
+            out.write_all(b"entry")?;
+            print_number(out, entry.at)?;
+            print_number(out, entry.len)?;
+            print_number(out, entry.arguments)?;
+            out.write_all(b"\n")
         }
-        Declared::Nothing => {
-            io::write_all(STDOUT_FILENO, b"none\n");
-        }
+        Declared::Nothing => out.write_all(b"none\n"),
     }
 }
 
 // Answers the record at a place and returns the place past it.
-pub fn answer(cases: &[u8], at: usize) -> usize
+pub fn answer<W: Write>(out: &mut W, cases: &[u8], at: usize) -> Result<usize>
     requires { at < length cases.now }
-    ensures { (at < result) × (result ≤ length cases.now) }
+    ensures { IfOk result (λ next. (at < next) × (next ≤ length cases.now)) }
 {
     let kind = cases[at];
     if kind == ENTRY {
-        return answer_entry(cases, at + 1);
+        return answer_entry(out, cases, at + 1);
     }
     if kind == TOKEN {
-        return answer_token(cases, at + 1);
+        return answer_token(out, cases, at + 1);
     }
     let text = text_at(cases, at + 1);
     let start = text.start;
     let end = text.end;
     if kind == SHEET {
-        out_printing::print_line(pilvaust::read(&cases[start..end]), b"");
-        return end;
+        out_printing::print_line(out, pilvaust::read(&cases[start..end]), b"")?;
+        return Ok(end);
     }
-    out_printing::print_line(pilvaust::read_goal(&cases[start..end]), b"");
-    end
+    out_printing::print_line(out, pilvaust::read_goal(&cases[start..end]), b"")?;
+    Ok(end)
 }
 
 // Answers the rest of a record that asks for an entry.
-fn answer_entry(cases: &[u8], at: usize) -> usize
+fn answer_entry<W: Write>(out: &mut W, cases: &[u8], at: usize) -> Result<usize>
     requires { at ≤ length cases.now }
-    ensures { (at ≤ result) × (result ≤ length cases.now) }
+    ensures { IfOk result (λ next. (at ≤ next) × (next ≤ length cases.now)) }
 {
     if at == cases.len() {
-        return at;
+        return Ok(at);
     }
     let text = text_at(cases, at + 1);
     let start = text.start;
     let end = text.end;
-    print_declared(pilvaust::entry(&cases[start..end], wide(cases[at])));
-    end
+    print_declared(out, pilvaust::entry(&cases[start..end], wide(cases[at])))?;
+    Ok(end)
 }
 
 // Answers the rest of a record that asks for a token.
-fn answer_token(cases: &[u8], at: usize) -> usize
+fn answer_token<W: Write>(out: &mut W, cases: &[u8], at: usize) -> Result<usize>
     requires { at ≤ length cases.now }
-    ensures { (at ≤ result) × (result ≤ length cases.now) }
+    ensures { IfOk result (λ next. (at ≤ next) × (next ≤ length cases.now)) }
 {
     if at == cases.len() {
-        return at;
+        return Ok(at);
     }
     let text = text_at(cases, at + 1);
     let start = text.start;
     let end = text.end;
     let token = lex_reader::nth_token(&cases[start..end], wide(cases[at]));
-    io::write_all(STDOUT_FILENO, b"token");
-    print_number(token.kind);
-    print_number(token.at);
-    print_number(token.len);
-    io::write_all(STDOUT_FILENO, b"\n");
-    end
+    out.write_all(b"token")?;
+    print_number(out, token.kind)?;
+    print_number(out, token.at)?;
+    print_number(out, token.len)?;
+    out.write_all(b"\n")?;
+    Ok(end)
 }

@@ -1,11 +1,12 @@
 // `R`, the settings, a sheet and a goal, or `T`, the settings, a sheet, a goal and a trace. What the runner would print with these settings is printed.
 // The settings are the allowance in 3 bytes, the wanted answers in 2, the room in 3 and a byte that is 1 for the mark of a sheet stored earlier.
-ghost use Rattle.std.specs.Prelude.{◌+◌, ◌≤◌, ◌<◌, length};
+ghost use Rattle.std.specs.Prelude.{◌+◌, ◌≤◌, ◌<◌, length, IfOk};
 ghost use Rattle.case_answers.specs.Rooms.{settings_size};
 
 use crate::records::{text_at, three, two};
 use crate::rooms::{TEXT_ROOM, text_room};
 use out_printing::print_run;
+use std::io::{Result, Write};
 use syntax::RunSettings;
 
 const RUN: u8 = b'R';
@@ -34,54 +35,68 @@ fn room_at(cases: &[u8], at: usize) -> usize
 }
 
 // Runs with a text, and prints what comes of it.
-fn run_with<'a>(sheet: &'a [u8], goal: &'a [u8], asked: RunSettings, text: &mut [u8]) {
+fn run_with<'a, W: Write>(
+    out: &mut W,
+    sheet: &'a [u8],
+    goal: &'a [u8],
+    asked: RunSettings,
+    text: &mut [u8],
+) -> Result<()> {
     let run = pilvaust::run(sheet, goal, asked, text);
-    print_run(sheet, goal, run, text);
+    print_run(out, sheet, goal, run, text)
 }
 
-fn trace_with<'a>(
+fn trace_with<'a, W: Write>(
+    out: &mut W,
     sheet: &'a [u8],
     goal: &'a [u8],
     trace: &[u8],
     asked: RunSettings,
     text: &mut [u8],
-) {
+) -> Result<()> {
     let r = pilvaust::run_traced(sheet, goal, trace, asked, text);
     let run = r.run;
-    print_run(sheet, goal, run, text);
+    print_run(out, sheet, goal, run, text)
 }
 
 // Runs with so much room; a record that asks for more than there is is passed over.
-fn answer_run<'a>(sheet: &'a [u8], goal: &'a [u8], asked: RunSettings, room: usize) {
+fn answer_run<'a, W: Write>(
+    out: &mut W,
+    sheet: &'a [u8],
+    goal: &'a [u8],
+    asked: RunSettings,
+    room: usize,
+) -> Result<()> {
     if TEXT_ROOM < room {
-        return;
+        return Ok(());
     }
     let mut text = text_room();
-    run_with(sheet, goal, asked, &mut text[..room]);
+    run_with(out, sheet, goal, asked, &mut text[..room])
 }
 
-fn answer_trace<'a>(
+fn answer_trace<'a, W: Write>(
+    out: &mut W,
     sheet: &'a [u8],
     goal: &'a [u8],
     trace: &[u8],
     asked: RunSettings,
     room: usize,
-) {
+) -> Result<()> {
     if TEXT_ROOM < room {
-        return;
+        return Ok(());
     }
     let mut text = text_room();
-    trace_with(sheet, goal, trace, asked, &mut text[..room]);
+    trace_with(out, sheet, goal, trace, asked, &mut text[..room])
 }
 
 // Answers the record at a place and returns the place past it.
-fn answer(cases: &[u8], at: usize) -> usize
+fn answer<W: Write>(out: &mut W, cases: &[u8], at: usize) -> Result<usize>
     requires { at < length cases.now }
-    ensures { (at < result) × (result ≤ length cases.now) }
+    ensures { IfOk result (λ next. (at < next) × (next ≤ length cases.now)) }
 {
     let all = cases.len();
     if all - at < SETTINGS {
-        return all;
+        return Ok(all);
     }
     let asked = settings_at(cases, at);
     let room = room_at(cases, at);
@@ -92,25 +107,27 @@ fn answer(cases: &[u8], at: usize) -> usize
     let from = goal.start;
     let to = goal.end;
     if cases[at] == RUN {
-        answer_run(&cases[start..end], &cases[from..to], asked, room);
-        return to;
+        answer_run(out, &cases[start..end], &cases[from..to], asked, room)?;
+        return Ok(to);
     }
     let trace = text_at(cases, to);
     let first = trace.start;
     let last = trace.end;
     answer_trace(
+        out,
         &cases[start..end],
         &cases[from..to],
         &cases[first..last],
         asked,
         room,
-    );
-    last
+    )?;
+    Ok(last)
 }
 
-pub fn answer_all(cases: &[u8]) {
+pub fn answer_all<W: Write>(out: &mut W, cases: &[u8]) -> Result<()> {
     let mut at = 0;
     while at < cases.len() {
-        at = answer(cases, at);
+        at = answer(out, cases, at)?;
     }
+    Ok(())
 }

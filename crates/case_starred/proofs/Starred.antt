@@ -2,7 +2,7 @@
 -- about the list, by evaluation of the definitions. Assumes nothing.
 use Prim.Native.Nat.{ℕ}
 use mathlib.Core.Path.{◌≡◌, refl}
-use mathlib.Core.List.{List, [], ◌∷◌, ◌++◌}
+use mathlib.Core.List.{List, [], ◌∷◌}
 use Rattle.syntax.specs.Quote.{bytes}
 use Rattle.case_starred.specs.Programs.{checker, runner, verdict_line, run_lines}
 use Rattle.syntax.specs.Bytes

@@ -3,15 +3,16 @@
 
 #![tactic(auto)]
 
-use libc::STDIN_FILENO;
+use std::io;
 use syntax::SHEET_BYTES;
 
 const ROOM: usize = SHEET_BYTES + 1;
 
-fn main() {
+fn main(rt: HostRuntime) -> io::Result<()> {
     let mut sheet = [0u8; ROOM];
-    let n = io::read_full(STDIN_FILENO, &mut sheet);
+    let n = in_reading::read_full(&mut rt.stdin(), &mut sheet)?;
     let text = &sheet[..n];
     let verdict = pilvaust::check(text);
-    out_printing::print_line(verdict, pilvaust::fault_name(text, b"", verdict));
+    let name = pilvaust::fault_name(text, b"", verdict);
+    out_printing::print_line(&mut io::writer(&rt), verdict, name)
 }

@@ -7,7 +7,7 @@ use Rattle.mode_rules.specs.Modes.{marks_for}
 use Rattle.machine.specs.Machine.{is_for, clause_at}
 use Rattle.machine.specs.Determinacy.{overlaps, first_overlap}
 use Rattle.run_layout.specs.Nodes.{Symbol}
-use Rattle.run_layout.specs.State.{bindings, Store}
+use Rattle.run_layout.specs.State.{Store}
 use Rattle.run_layout.specs.Program.{Program}
 use Rattle.unify_bindings.specs.Scratch.{Roomy}
 use Rattle.unify_bindings.specs.Queues.{Clean}

@@ -1,7 +1,7 @@
 -- The name that a refusal hands back lies in the text at fault, so that a caller may read its bytes there. Assumes nothing.
 use Prim.Native.Nat.{ℕ, suc, ◌+◌, ◌≤◌}
 use native.Mathlib.Omega.{arith}
-use mathlib.Core.Path.{◌≡◌, refl, sym, ap, ◌∙◌, subst}
+use mathlib.Core.Path.{◌≡◌, refl, subst}
 use mathlib.Core.Bool.{Bool, true, false, cond, ◌||◌}
 use mathlib.Core.List.{List, [], ◌∷◌}
 use mathlib.Core.Option.{Option, none, some}
@@ -10,21 +10,20 @@ use lib.ListN.{length}
 use Rattle.syntax.specs.Limits.{sheet_bytes, goal_bytes}
 use Rattle.syntax.specs.Terms.{Atom, Literal, Body, call, equation, truth, falsity, either, done, also, literals_in, literals_of, Mark, Declaration, Clause, Sheet, Goal, term_of}
 use Rattle.syntax.specs.Reading.{Read, fault, ok, read_sheet, read_goal, first_repeat}
-use Rattle.syntax.specs.Verdicts.{fault_of, Outcome, refused, accepted, without_repeats, sheet_from, goal_from, sheet_of, goal_outcome, sheet_verdict}
+use Rattle.syntax.specs.Verdicts.{Outcome, refused, accepted, without_repeats, sheet_from, goal_from, sheet_of, goal_outcome, sheet_verdict}
 use Rattle.syntax.specs.declared.Refusal.{Refusal}
-use Rattle.syntax.specs.declared.Refusal.TheVariants.{Settings, TooLong, NoToken, Overlong, Misplaced, OverLimit, Repeated, Unwritten}
-use Rattle.syntax.specs.declared.Run.{Run}
+use Rattle.syntax.specs.declared.Refusal.TheVariants.{Settings, TooLong, NoToken, Overlong, Misplaced, OverLimit, Unwritten}
 use Rattle.syntax.specs.declared.Run.TheVariants.{Refused as stopped_by}
 use Rattle.syntax.specs.declared.Text.{Text}
-use Rattle.syntax.specs.declared.Text.TheVariants.{Sheet as in_sheet, Goal as in_goal, Neither}
+use Rattle.syntax.specs.declared.Text.TheVariants.{Neither}
 use Rattle.syntax.specs.declared.Verdict.{Verdict}
 use Rattle.syntax.specs.declared.Verdict.TheVariants.{Accepted, Refused}
-use Rattle.mode_rules.specs.Modes.{Known, none_ground, OpenArgument, Walk, faulted, known, marks_of, marks_for, first_open, undeclared, undeclared_atom, undeclared_literal, undeclared_body, undeclared_clause, undeclared_clauses, undeclared_in_sheet, undeclared_in_goal, open_input, open_output, ground_marked, unless_fault, walk_on, in_both, call_walk, literal_walk, body_fault, head_fault, start_known, clause_fault, clauses_fault, first_of, sheet_fault, walk_fault, goal_fault}
+use Rattle.mode_rules.specs.Modes.{Known, none_ground, OpenArgument, Walk, faulted, known, marks_of, undeclared, undeclared_atom, undeclared_literal, undeclared_body, undeclared_clause, undeclared_clauses, undeclared_in_sheet, undeclared_in_goal, open_input, open_output, unless_fault, walk_on, in_both, call_walk, literal_walk, body_fault, head_fault, start_known, clause_fault, clauses_fault, first_of, sheet_fault, walk_fault, goal_fault}
 use Rattle.mode_rules.specs.Written.{is_written, is_exempt, first_unwritten, unwritten}
 use Rattle.mode_rules.specs.Checking.{name_span, faultless, checked_from, checked_with, checked_sheet, verdict_with, check_verdict, checked_goal_from, checked_goal, goal_answer, check_goal_from, check_goal_verdict}
-use Rattle.mode_marks.specs.Standing.{TermSpelt, stands_compound, LiteralSpelt, call_stands, equation_stands, truth_stands, falsity_stands, either_stands, BodySpelt, done_stands, also_stands, ClauseSpelt, ClausesSpelt, no_clauses, clause_stands, SheetSpelt, GoalSpelt}
+use Rattle.mode_marks.specs.Standing.{TermSpelt, stands_compound, LiteralSpelt, call_stands, either_stands, BodySpelt, also_stands, ClauseSpelt, ClausesSpelt, clause_stands, SheetSpelt, GoalSpelt}
 use Rattle.mode_clauses.proofs.Accepted.{read-stands, goal_stands}
-use Rattle.machine.specs.Runs.{RunOutcome, stopped, ran, Ended, reported, run, over_goal, over_sheet, in_range, RunSettings, run_outcome, run_answer}
+use Rattle.machine.specs.Runs.{RunOutcome, stopped, ran, reported, over_goal, over_sheet, in_range, RunSettings, run_outcome, run_answer}
 use Rattle.exports.specs.Names.{NameInside}
 
 -- what holds of a refusal, if there is one

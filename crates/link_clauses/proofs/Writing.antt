@@ -7,7 +7,7 @@ use lib.ListN.{length, get_or, length-set}
 use lib.Seq.{get_or-set_other}
 use Rattle.syntax.specs.Terms.{term_of, Clause, Sheet}
 use Rattle.syntax.specs.Words.{program_clauses}
-use Rattle.table_words.specs.Items.{Item, behind}
+use Rattle.table_words.specs.Items.{Item}
 use Rattle.run_layout.specs.Regions.{places, body_end_kind, bodies, code_words, next_literal, clause_record}
 use Rattle.run_layout.specs.Nodes.{Symbol, TermLoaded}
 use Rattle.run_layout.specs.Program.{head_at}

@@ -3,7 +3,7 @@ use Rattle.std.specs.Prelude.{ℕ, ◌+◌, List, [], ◌∷◌, length, set}
 use Rattle.syntax.specs.Terms.{term_of, Body, Clause, Sheet}
 use Rattle.machine.specs.Machine.{next_for}
 use Rattle.syntax.specs.Words.{body_length}
-use Rattle.table_words.specs.Items.{Item, behind, items}
+use Rattle.table_words.specs.Items.{Item, items}
 use Rattle.run_layout.specs.Regions.{body_end_kind, next_literal, literal_from, clause_record}
 use Rattle.run_layout.specs.Nodes.{Symbol, loaded_words}
 use Rattle.link_records.specs.Records.{put_pair, put_record}

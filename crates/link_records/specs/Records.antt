@@ -1,6 +1,5 @@
 -- The words of a record, as the code is when they were written.
 use Rattle.std.specs.Prelude.{ℕ, ◌+◌, List, set}
-use Rattle.table_words.specs.Items.{behind}
 
 -- two words at p
 unfoldable pub put_pair : List ℕ → ℕ → ℕ → ℕ → List ℕ

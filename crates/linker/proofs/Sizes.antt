@@ -7,7 +7,6 @@ use lib.ListN.{length, get_or}
 use Rattle.syntax.specs.Terms.{Literal, call, equation, truth, falsity, either, Body, done, also, literals_in, literals_of, Clause}
 use Rattle.syntax.specs.Words.{literal_length, body_length, clause_words}
 use Rattle.table_words.specs.Tables.{Has}
-use Rattle.table_words.specs.Items.{items}
 use Rattle.machine.specs.Low.{LiteralFilled, BodyFilled, BodyShort}
 use Rattle.run_layout.specs.Regions.{most_items}
 use Rattle.run_layout.specs.Nodes.{Symbol}

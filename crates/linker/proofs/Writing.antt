@@ -12,7 +12,7 @@ use Rattle.syntax.specs.Terms.{term_of, Literal, call, equation, truth, falsity,
 use Rattle.syntax.specs.Words.{literal_length, body_length, program_clauses}
 use Rattle.table_words.specs.Items.{Item, before_right, behind, literal_items, items}
 use Rattle.table_words.proofs.Items.{literal-many, body-many}
-use Rattle.run_layout.specs.Regions.{places, body_end_kind, split_kind, jump_kind, bodies, next_literal, clause_record, literal_from}
+use Rattle.run_layout.specs.Regions.{body_end_kind, split_kind, jump_kind, bodies, next_literal, clause_record, literal_from}
 use Rattle.machine.specs.Machine.{next_for, nth_clause}
 use Rattle.machine.proofs.Tests.{both, some-eq, some-none}
 use Rattle.table_words.specs.Tables.{Has}

@@ -1,7 +1,6 @@
 -- The words that linking writes for all clauses, as the code is when they were written.
 use Rattle.std.specs.Prelude.{ℕ, ◌+◌, List, [], ◌∷◌, length, set}
 use Rattle.syntax.specs.Terms.{Clause, Sheet}
-use Rattle.table_words.specs.Items.{behind}
 use Rattle.run_layout.specs.Regions.{clause_record}
 use Rattle.run_layout.specs.Nodes.{Symbol}
 use Rattle.run_layout.specs.Program.{clause_nodes}

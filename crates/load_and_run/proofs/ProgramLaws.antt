@@ -4,16 +4,13 @@ use native.Mathlib.Omega.{arith}
 use mathlib.Core.Path.{◌≡◌}
 use mathlib.Core.List.{List}
 use lib.ListN.{length}
-use Rattle.syntax.specs.Terms.{Sheet, Goal}
 use Rattle.syntax.specs.Words.{goal_words}
 use Rattle.run_layout.specs.Regions.{nodes_words, code_words, state_words}
 use Rattle.run_layout.specs.Program.{Program}
 use Rattle.unify_bindings.specs.Scratch.{Roomy}
-use Rattle.unify_bindings.specs.Queues.{Clean}
 use Rattle.loader.specs.Loading.{Loadable, Loaded}
 use Rattle.linker.specs.Linking.{Linkable}
 use Rattle.run_whole.specs.declared.Ran.{Ran}
-use Rattle.run_answers.specs.Telling.{Spelt, LentScratch}
 use Rattle.run_whole.specs.Running.{Runnable, Runs}
 use Rattle.run_rooms.specs.Rooms.{Zeros}
 use Rattle.load_and_run.specs.Programs.{ZeroScratch, Programmed, ProgramLinked}

@@ -6,7 +6,7 @@ use mathlib.Core.List.{List, [], ◌∷◌, ◌++◌}
 use lib.ListN.{length, length-append}
 use Rattle.syntax.specs.Words.{node_words, goal_words}
 use Rattle.table_words.specs.Tables.{Has}
-use Rattle.table_words.specs.Items.{Item, behind, item_words, items_words, items}
+use Rattle.table_words.specs.Items.{Item, item_words, items_words, items}
 use Rattle.table_words.proofs.Items.{body-many, items-stand, first-stands, rest-stand, item_room}
 use Rattle.run_layout.specs.Regions.{loaded_node}
 use Rattle.load_words.specs.Flat.{NodeAsRead, parsed_words, body_parsed, flat_words, flat_all, AllFit, put_all, RunAt, BodyHere}

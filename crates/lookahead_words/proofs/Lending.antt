@@ -1,9 +1,9 @@
 -- Laws of words that are lent from a place on.
-use Prim.Native.Nat.{ℕ, ◌+◌, ◌≤◌, ◌<◌}
+use Prim.Native.Nat.{ℕ, ◌+◌, ◌≤◌}
 use mathlib.Core.Path.{◌≡◌, refl, ◌∙◌}
 use mathlib.Core.List.{List, ◌++◌}
 use native.Mathlib.Omega.{arith}
-use lib.ListN.{length, get_or, set, take, length-set, get_or-append}
+use lib.ListN.{length, set, take, length-set, get_or-append}
 use lib.Seq.{get_or-set_other, get_or-take, length-take-le}
 use Rattle.lookahead_words.specs.Room.{KeptBelow}
 

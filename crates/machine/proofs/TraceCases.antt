@@ -3,7 +3,7 @@
 use Prim.Native.Nat.{ℕ, zero, suc}
 use Prim.Native.String.{String}
 use mathlib.Core.Path.{◌≡◌, refl}
-use mathlib.Core.Bool.{Bool, true, false}
+use mathlib.Core.Bool.{false}
 use mathlib.Core.List.{List, [], ◌∷◌, ◌++◌, map}
 use lib.ListN.{length}
 use Rattle.syntax.specs.Quote.{bytes}
@@ -11,8 +11,8 @@ use Rattle.syntax.specs.Terms.{Sheet}
 use Rattle.syntax.specs.Verdicts.{Outcome, refused, accepted, sheet_of}
 use Rattle.syntax.specs.declared.Text.TheVariants.{Sheet as in_sheet, Goal as in_goal, Trace as in_trace, Neither}
 use Rattle.syntax.specs.declared.Refusal.TheVariants.{Settings, NoToken, Misplaced, OpenInput, Unwritten, BadTrace, TraceOverLimit, SeenUndeclared}
-use Rattle.machine.specs.Runs.{Kind, Done, Steps, RunSettings, RunOutcome, ran, stopped}
-use Rattle.machine.specs.Traces.{between, Fact, facts_in, records_of, fact_texts, with_facts}
+use Rattle.machine.specs.Runs.{Done, RunSettings, RunOutcome, ran, stopped}
+use Rattle.machine.specs.Traces.{between, Fact, fact_texts, with_facts}
 use Rattle.machine.proofs.Compute.{computed_traced}
 
 pub record Case : Type 0 where

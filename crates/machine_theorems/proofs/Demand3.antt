@@ -19,7 +19,7 @@ use Rattle.machine.specs.Counts.{open_arguments, inputs_of, inputs_first, open_i
 use Rattle.machine.specs.Claims.{BothZero}
 use Rattle.machine.proofs.Tests.{both, some-eq, some-none}
 use Rattle.machine_theorems.proofs.Piles.{All, all_append}
-use Rattle.machine_theorems.proofs.Terms.{Grows, grows-refl, grows-more}
+use Rattle.machine_theorems.proofs.Terms.{Grows, grows-more}
 use Rattle.machine_theorems.proofs.Unifier.{unify-spec}
 use Rattle.machine_theorems.proofs.Grounding.{sound-nothing, marked-count}
 use Rattle.machine_theorems.proofs.Safety.{ClosedArguments, Shown, First, Side, Safe, safe-shown, Bounded, bounded-up, bounded-pending, side-safe, Ends, body-safe, clause-safe}

@@ -1,7 +1,6 @@
 -- "The answers that change are exactly those where the wanted count is reached and no alternative is left" (document 02, (vii)): a run is the run in
 -- document 01's order with its kind turned there, and nothing else. Assumes nothing.
 use Prim.Native.Nat.{ℕ, zero, suc, ◌+◌}
-use native.Mathlib.Omega.{arith}
 use mathlib.Core.Path.{◌≡◌, refl, sym, ap}
 use mathlib.Core.Bool.{Bool, true, false, ◌&&◌}
 use mathlib.Core.Option.{Option, none, some}

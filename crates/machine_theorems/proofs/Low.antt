@@ -1,6 +1,6 @@
 -- Every pile reached from a goal is low, if no body has more than 16 literals or an empty side: with paths up to 255 it has at most 4,096 alternatives.
 -- A clause adds an alternative, takes its call away and adds a body and one to the path; each side of a bracket lacks the literals of the other.
-use Prim.Native.Nat.{ℕ, zero, suc, ◌+◌, ◌*◌, ◌≤◌, ◌<◌}
+use Prim.Native.Nat.{ℕ, zero, suc, ◌+◌, ◌*◌, ◌≤◌}
 use native.Mathlib.Omega.{arith}
 use mathlib.Core.Path.{◌≡◌, refl, sym, ap, subst}
 use mathlib.Core.List.{List, [], ◌∷◌, ◌++◌}

@@ -2,14 +2,13 @@
 -- sheet's own clauses keep their numbers; and an empty trace is none. Assumes nothing.
 use Prim.Native.Nat.{ℕ, zero, suc, ◌+◌, ◌<◌}
 use native.Mathlib.Omega.{arith}
-use native.Mathlib.Nat.{suc-add}
-use mathlib.Core.Path.{◌≡◌, refl, sym, ap, ◌∙◌, subst}
+use mathlib.Core.Path.{◌≡◌, refl, sym, ap, ◌∙◌}
 use mathlib.Core.Bool.{Bool, true, false, ◌||◌}
 use mathlib.Core.List.{List, [], ◌∷◌, ◌++◌, append-nil}
 use mathlib.Core.Option.{Option, none, some}
 use lib.ListN.{length}
 use Rattle.syntax.specs.Limits.{most_facts, trace_bytes}
-use Rattle.syntax.specs.Terms.{Term, Terms, compound, nil, cons, Mark, output, Atom, Declaration, Clause, Sheet, Goal}
+use Rattle.syntax.specs.Terms.{Term, Mark, output, Atom, Declaration, Clause, Sheet, Goal}
 use Rattle.syntax.specs.Verdicts.{Outcome, refused, accepted, goal_outcome}
 use Rattle.syntax.specs.declared.Refusal.{Refusal}
 use Rattle.syntax.specs.declared.Refusal.TheVariants.{Settings, SeenUndeclared}
@@ -18,13 +17,12 @@ use Rattle.syntax.specs.declared.Text.TheVariants.{Sheet as in_sheet, Goal as in
 use Rattle.mode_rules.specs.Written.{is_exempt}
 use Rattle.mode_rules.specs.Modes.{Known, open_byte, open_byte_of, if_marked, OpenArgument, first_open, same_mark, marks_of, marks_for, list_of, undeclared, undeclared_atom, undeclared_body, undeclared_clause, undeclared_clauses, undeclared_in_goal, open_output, body_fault, head_fault, clause_fault, clauses_fault, start_known, sheet_fault, goal_fault}
 use Rattle.mode_rules.specs.Checking.{checked_with, checked_goal_from, checked_goal}
-use Rattle.mode_theorems.proofs.Bodies.{first-none, second_none, both-none}
+use Rattle.mode_theorems.proofs.Bodies.{second_none, both-none}
 use Rattle.mode_theorems.proofs.Appended.{with-more}
-use Rattle.machine.specs.Machine.{nth_clause, clause_at, pile_after}
-use Rattle.machine.specs.Runs.{Report, RunSettings, RunOutcome, stopped, ran, run, over_goal, over_sheet, in_range, run_outcome}
-use Rattle.machine.specs.Counts.{tally}
+use Rattle.machine.specs.Machine.{nth_clause, clause_at}
+use Rattle.machine.specs.Runs.{Report, RunSettings, RunOutcome, stopped, ran, over_goal, over_sheet, in_range, run_outcome}
 use Rattle.machine.specs.Traces.{Trace, broken, records, records_from, records_of, Fact, facts_of, facts_in, fact_clause, fact_text, fact_clauses, with_facts, if_over, declares_seen, unseen, records_fault, trace_fault, traced_sheet, over_trace, over_traced, traced_outcome}
-use Rattle.machine.specs.Claims.{BothZero, Beginning, ZeroTraced, TracedOver}
+use Rattle.machine.specs.Claims.{TracedOver}
 use Rattle.machine_theorems.proofs.Demand3.{demand-3}
 use Rattle.machine_theorems.proofs.EveryRun.{sheet-passes, goal-passes, run-begins, tally-pile}
 

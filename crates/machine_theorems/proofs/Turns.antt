@@ -4,12 +4,12 @@ use native.Mathlib.Omega.{arith}
 use native.Mathlib.Nat.{zero-add, suc-add}
 use mathlib.Core.Path.{◌≡◌, refl, sym, ap, ◌∙◌}
 use mathlib.Core.Bool.{Bool, true, false, ◌&&◌}
-use mathlib.Core.Option.{Option, none, some}
-use lib.Dec.{leb, ltb, eqb}
+use mathlib.Core.Option.{none, some}
+use lib.Dec.{leb, ltb}
 use lib.ListN.{length}
 use borrow.Author.Tests.{ne_eqb}
 use Rattle.syntax.specs.Terms.{Sheet, Goal}
-use Rattle.machine.specs.Runs.{Kind, Wanted, Done, Steps, Full, Deep, Progress, Ended, is_empty, is_answer, next_line, goes_deeper, endings, first_end, advance, end_or, run_from, resumed}
+use Rattle.machine.specs.Runs.{Wanted, Done, Steps, Full, Deep, Progress, Ended, is_empty, is_answer, next_line, goes_deeper, first_end, advance, end_or, run_from, resumed}
 
 module _ (sh : Sheet) (g : Goal) (wanted room : ℕ) where
   -- an end by the five tests, or else on

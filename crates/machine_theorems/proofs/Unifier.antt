@@ -12,7 +12,7 @@ use lib.ListN.{length, length-append}
 use Rattle.syntax.specs.Terms.{same_name}
 use Rattle.machine.specs.Substitution.{Variable, same_variable, is_later, RTerm, RTerms, var, app, rnil, rcons, occurs, occurs_in, replace, Binding, resolve}
 use Rattle.machine.specs.Unification.{Difference, same, clash, apart, differ_variables, differ_mixed, or_else, differ, differ_all, bound, rounds, places, places_in, unify}
-use Rattle.machine.specs.Unifiers.{Substitution, apply, apply_all, Unifies, MostGeneral, NoUnifier, Unified}
+use Rattle.machine.specs.Unifiers.{Substitution, apply, apply_all, Unifies, MostGeneral, Unified}
 use Rattle.machine.proofs.Tests.{either, or_left, or_right, name-eq, name-refl, variable-eq, variable-refl, variable-sym}
 use Rattle.machine_theorems.proofs.Terms.{occurs-replace, apply-replace, no-circle}
 

@@ -9,7 +9,6 @@ use mathlib.Core.Option.{Option, none, some}
 use lib.Dec.{eqb}
 use lib.ListN.{length, get_or, length-append}
 use borrow.Author.Tests.{eq-eqb, ne_eqb}
-use Rattle.syntax.specs.Limits.{arguments}
 use Rattle.syntax.specs.Terms.{Term, Terms, nil, cons, Mark, input, output, free}
 use Rattle.syntax.specs.Words.{term_words, terms_words, mark_number, marks_number, first_mark, other_marks}
 use Rattle.syntax.proofs.Words.{mark-some, marks-first, marks-others}

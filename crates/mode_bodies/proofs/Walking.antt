@@ -44,8 +44,8 @@ stopped : {r : Passed} {w : Walk} {next items literal : ℕ} (rest : Known → W
 stopped {r} {w} rest t p whole e stop all last = record {
   walk = stays_by r.fault r.known w rest p.walk t ∙ sym e;
   next_is = λ f. not-both t f;
-  items-are = λ f. not-both t f;
-  literal-is = λ f. not-both t f;
+  items_are = λ f. not-both t f;
+  literal_is = λ f. not-both t f;
 }
 
 -- ---- how many literals, items and words
@@ -155,7 +155,7 @@ module _ {g table : List ℕ} {p : ℕ} (s : left_kind ≤ get_or table p 0) whe
       pub right-literal : (w : LiteralAt g table p) → literal ≤ p + 1 → l.literal ≤ l.next + 1
       right-literal w k =
           let q : PastBody l ds c literal τ (p + 1) (left_of w) = left-passes w in
-          omega (arith, q.next_is f, q.literal-is f, (body-sizes (left_of w)).numbered, (body-sizes (left_of w)).worded)
+          omega (arith, q.next_is f, q.literal_is f, (body-sizes (left_of w)).numbered, (body-sizes (left_of w)).worded)
 
       pub right-further : LiteralAt g table p → p < l.next
       right-further w = omega (arith, (left-passes w).next_is f)
@@ -169,7 +169,7 @@ module _ {g table : List ℕ} {p : ℕ} (s : left_kind ≤ get_or table p 0) whe
 
         right-passes : (w : LiteralAt g table p) → RightPasses w
         right-passes w =
-            subst (λ (k : ℕ). RightAt (p + 1 + length (body_words (left_of w))) k) ((left-passes w).literal-is f)
+            subst (λ (k : ℕ). RightAt (p + 1 + length (body_words (left_of w))) k) ((left-passes w).literal_is f)
             (subst (λ (k : ℕ). RightAt k l.literal) ((left-passes w).next_is f) er) (either-at w).right
 
         from-right : (w : LiteralAt g table p) → literal_walk ds c literal τ w.literal
@@ -193,8 +193,8 @@ module _ {g table : List ℕ} {p : ℕ} (s : left_kind ≤ get_or table p 0) whe
               record {
                 walk = ap known e ∙ sym (from-right w ∙ goes_by r.fault r.known _ (λ ρ. known (in_both l.known ρ)) k.walk h);
                 next_is = λ t. omega (arith, k.next_is h, q.words);
-                items-are = λ t. omega (arith, (left-passes w).items-are f, k.items-are h);
-                literal-is = λ t. omega (arith, k.literal-is h);
+                items_are = λ t. omega (arith, (left-passes w).items_are f, k.items_are h);
+                literal_is = λ t. omega (arith, k.literal_is h);
               }
 
           pub both-room : (w : LiteralAt g table p) → (r.next < length table) × (l.items + r.items + 3 ≤ length table)
@@ -203,7 +203,7 @@ module _ {g table : List ℕ} {p : ℕ} (s : left_kind ≤ get_or table p 0) whe
               let k : RightPasses w = right-passes w in
               let a : body_length (left_of w) ≤ length (body_words (left_of w)) = (body-sizes (left_of w)).worded in
               let b : body_length (right_of w) ≤ length (body_words (right_of w)) = (body-sizes (right_of w)).worded in
-              (omega (arith, k.next_is h, q.words, q.room), omega (arith, (left-passes w).items-are f, k.items-are h, q.words, q.room))
+              (omega (arith, k.next_is h, q.words, q.room), omega (arith, (left-passes w).items_are f, k.items_are h, q.words, q.room))
 
 -- a side of a bracket, by the word before it
 module _ {g table : List ℕ} {p items : ℕ} (e : items ≡ side_items (get_or table p 0)) where
@@ -268,8 +268,8 @@ module _ {ds : List Declaration} {c : ℕ} {g table : List ℕ} {at i items numb
       record {
         walk = sym (a.same ∙ ap (body_fault ds c number τ) d);
         next_is = λ t. omega (arith, a.ends);
-        items-are = λ t. m;
-        literal-is = λ t. omega (arith, a.numbers);
+        items_are = λ t. m;
+        literal_is = λ t. omega (arith, a.numbers);
       }
 
   module _ (l : i < items) (a : Ahead ds c g table at i items number τ whole stop last) where
@@ -293,7 +293,7 @@ module _ {ds : List Declaration} {c : ℕ} {g table : List ℕ} {at i items numb
             × (i < i + w.items) × (i + w.items ≤ items)
         further-on =
             let q : PastLiteral w ds c number τ at here = ew turn.literal in
-            (q.next_is f, q.literal-is f, omega (arith, q.items-are f, turn.some), omega (arith, q.items-are f, turn.count))
+            (q.next_is f, q.literal_is f, omega (arith, q.items_are f, turn.some), omega (arith, q.items_are f, turn.count))
 
         -- the place and the number rise together
         pub rises : number ≤ at + 1 → (w.literal ≤ w.next + 1) × (at ≤ w.next)
@@ -313,12 +313,12 @@ module _ {ds : List Declaration} {c : ℕ} {g table : List ℕ} {at i items numb
             record {
               body = t.left;
               has = subst⁻¹ (λ (k : ℕ). Has table k (body_words t.left)) (q.next_is f) t.has;
-              count = omega (arith, t.count, q.items-are f);
+              count = omega (arith, t.count, q.items_are f);
               stands = t.stands;
               same =
                   whole_is
                   ∙ goes_by w.fault w.known _ (λ σ. body_fault ds c (literals_in here + number) σ t.left) q.walk f
-                  ∙ ap (λ (k : ℕ). body_fault ds c k w.known t.left) (sym (q.literal-is f));
+                  ∙ ap (λ (k : ℕ). body_fault ds c k w.known t.left) (sym (q.literal_is f));
               ends = omega (arith, q.next_is f, a.ends);
-              numbers = omega (arith, q.literal-is f, a.numbers);
+              numbers = omega (arith, q.literal_is f, a.numbers);
             }

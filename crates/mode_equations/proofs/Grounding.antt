@@ -5,7 +5,7 @@ use mathlib.Core.Path.{◌≡◌, refl, sym, ap, ap₂, ◌∙◌}
 use mathlib.Core.Bool.{Bool, true, false, ◌||◌}
 use mathlib.Core.List.{List}
 use mathlib.Core.Option.{Option, none, some}
-use Rattle.syntax.specs.Terms.{Term, variable}
+use Rattle.syntax.specs.Terms.{Term}
 use Rattle.mode_rules.specs.Modes.{Known, is_ground, open_byte, ground_term, ground_both, equate_variable}
 use Rattle.mode_rules.proofs.Terms.{is_none, ground-none}
 use Rattle.mode_marks.specs.Tables.{TermAt}

@@ -8,9 +8,7 @@ use mathlib.Core.List.{[], ◌∷◌, ◌++◌, append_assoc, append-nil}
 use lib.ListN.{length, get_or, set, take, drop, drop_of_length-le, length-set}
 use lib.Seq.{drop-cons, take_all, take-suc-set}
 use Rattle.syntax.specs.Limits.{variables}
-use Rattle.syntax.specs.Terms.{variable}
 use Rattle.mode_rules.specs.Modes.{Known, further, in_both}
-use Rattle.mode_rules.proofs.Terms.{both}
 
 -- ---- whether some variable became ground, from the left
 

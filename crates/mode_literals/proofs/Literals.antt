@@ -93,7 +93,7 @@ plain_passes : {g table : List ℕ} {p : ℕ} (s : get_or table p 0 < left_kind)
     → PastLiteral (record { fault = Fine; known = σ; next = next; items = 1; literal = m + 1 }) ds c m τ p w.literal
 plain_passes s ds c m τ σ w e n =
     let q : Plain w.literal = plain_by s (view w) in
-    record { walk = e; next_is = λ t. n; items-are = λ t. sym q.one-item; literal-is = λ t. omega (arith, q.one_literal) }
+    record { walk = e; next_is = λ t. n; items_are = λ t. sym q.one-item; literal_is = λ t. omega (arith, q.one_literal) }
 
 module _ {g table : List ℕ} {p : ℕ} (kind : ℕ) (e : kind ≡ get_or table p 0) (most : get_or table p 0 < left_kind) where
   truth-by : {l : Literal} → kind ≡ truth_kind → View g table p l → l ≡ truth
@@ -156,8 +156,8 @@ module _ {g table : List ℕ} {p : ℕ} (kind : ℕ) (e : kind ≡ get_or table 
         record {
           walk = (h q.atom).walk ∙ sym (ap (literal_walk ds c m τ) q.is);
           next_is = λ t. omega (arith, (h q.atom).next_is t);
-          items-are = λ t. (h q.atom).items-are t ∙ sym one.one-item;
-          literal-is = λ t. omega (arith, (h q.atom).literal-is t, one.one_literal);
+          items_are = λ t. (h q.atom).items_are t ∙ sym one.one-item;
+          literal_is = λ t. omega (arith, (h q.atom).literal_is t, one.one_literal);
         }
 
   module _ (least : call_kind ≤ kind) where
@@ -240,8 +240,8 @@ module _ (s declared : List ℕ) (n : ℕ) (g table : List ℕ) (p marks : ℕ)
         walk_is _ f after (ground_marked output (marks_for d.list w.atom) (list_of w.atom.args) τ) (ef (judged-at d w))
         (h (judged-marked table p marks stop es output (judged-at d w)));
     next_is = λ t. es (record { term = term_of w.atom; has = w.has; numbered = numbered w.stands });
-    items-are = λ t. refl;
-    literal-is = λ t. refl;
+    items_are = λ t. refl;
+    literal_is = λ t. refl;
   }
 
 -- a first word that is neither 0 nor 1

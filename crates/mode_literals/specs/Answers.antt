@@ -17,8 +17,8 @@ walk_by (Fault r) τ = faulted r
 pub record Passes (r : Passed) (w : Walk) (next items literal : ℕ) : Type 0 where
   pub walk : walk_by r.fault r.known ≡ w
   pub next_is : is_fault r.fault ≡ false → r.next ≡ next
-  pub items-are : is_fault r.fault ≡ false → r.items ≡ items
-  pub literal-is : is_fault r.fault ≡ false → r.literal ≡ literal
+  pub items_are : is_fault r.fault ≡ false → r.items ≡ items
+  pub literal_is : is_fault r.fault ≡ false → r.literal ≡ literal
 
 -- along a literal that stands at p, number l of clause c, before which τ is known ground
 abbrev pub PastLiteral : Passed → List Declaration → ℕ → ℕ → Known → ℕ → Literal → Type 0

@@ -1,6 +1,6 @@
 -- What stands in a table of words. A function on a table asks for a record of something that stands there, and answers for every such
 -- record.
-use Rattle.std.specs.Prelude.{ℕ, ◌+◌, ◌≤◌, ◌<◌, ◌≡◌, List, ◌∷◌, length}
+use Rattle.std.specs.Prelude.{ℕ, ◌+◌, ◌≤◌, ◌≡◌, List, length}
 use Rattle.syntax.specs.Limits.{word_bytes}
 use Rattle.syntax.specs.Terms.{Term, Terms, arity, Atom, term_of, Literal, Body, Mark, Declaration, Clause, Sheet, Goal}
 use Rattle.syntax.specs.Words.{term_words, terms_words, atom_words, literal_words, body_words, body_length, clause_words, clauses_words, mark_number, marks_number}

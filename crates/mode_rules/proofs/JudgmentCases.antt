@@ -3,7 +3,7 @@ use mathlib.Core.Path.{refl}
 use mathlib.Core.Bool.{false≢true, true≢false}
 use mathlib.Core.List.{List, [], ◌∷◌}
 use Rattle.syntax.specs.Quote.{bytes}
-use Rattle.syntax.specs.Terms.{variable, nil, cons, Atom, call, also, done, Mark, input, Declaration, Sheet, Goal, same_bytes}
+use Rattle.syntax.specs.Terms.{variable, nil, cons, Atom, call, also, done, Mark, input, Sheet, Goal, same_bytes}
 use Rattle.mode_rules.specs.Modes.{none_ground}
 use Rattle.mode_rules.specs.Judgment.{ground_variable, MarkedGround, marked_one, marked_other, DeclaredMarks, first, later, atom, BodyModed, conjunction, WellModedGoal}
 

@@ -1,18 +1,17 @@
 -- The flags of the heads, one pass: what is left of the clauses, and which declarations have a clause so far. Assumes nothing.
 use Prim.Native.Nat.{ℕ, zero, suc, ◌+◌, ◌≤◌, ◌<◌}
 use native.Mathlib.Omega.{arith}
-use mathlib.Core.Path.{◌≡◌, refl, sym, ap, ap₂, ◌∙◌, subst⁻¹}
+use mathlib.Core.Path.{◌≡◌, refl, sym, ap, ◌∙◌, subst⁻¹}
 use mathlib.Core.Bool.{Bool, true, false, ◌||◌}
 use mathlib.Core.List.{List, [], ◌∷◌}
-use mathlib.Core.Option.{Option, none}
+use mathlib.Core.Option.{none}
 use lib.Dec.{eqb}
 use lib.ListN.{length, get_or, set, replicate}
 use lib.Seq.{get_or-set_same, get_or-set_other}
 use borrow.Author.Tests.{eqb-true, eqb-false}
 use Rattle.syntax.specs.Terms.{Declaration, Clause}
 use Rattle.syntax.specs.Words.{clause_words, clauses_words}
-use Rattle.syntax.specs.declared.Refusal.{Refusal}
-use Rattle.mode_rules.specs.Written.{writes, is_written}
+use Rattle.mode_rules.specs.Written.{is_written}
 use Rattle.table_words.specs.Tables.{Has}
 use Rattle.mode_marks.specs.Standing.{ClausesSpelt}
 use Rattle.mode_marks.specs.Tables.{ClauseAt, SheetAt}

@@ -2,27 +2,25 @@
 use Prim.Native.Nat.{ℕ, zero, suc, ◌+◌, ◌*◌, ◌≤◌, ◌<◌}
 use native.Mathlib.Numerals.{add-one}
 use native.Mathlib.Omega.{arith}
-use mathlib.Core.Path.{◌≡◌, refl, sym, ap, ap₂, ◌∙◌, subst}
-use mathlib.Core.Bool.{Bool, true, false, not, ◌&&◌, ◌||◌}
+use mathlib.Core.Path.{◌≡◌, refl, sym, ap, ap₂, ◌∙◌}
+use mathlib.Core.Bool.{Bool, true, false, ◌&&◌, ◌||◌}
 use mathlib.Core.List.{List, [], ◌∷◌}
 use mathlib.Core.Option.{Option, none, some}
-use lib.Dec.{eqb}
 use lib.ListN.{length, get_or, take, drop}
 use lib.Seq.{drop-cons}
-use borrow.Author.Tests.{eq-eqb, ne_eqb, not-true, not-false}
+use borrow.Author.Tests.{eq-eqb, ne_eqb}
 use Rattle.syntax.specs.Limits.{declarations}
 use Rattle.syntax.specs.Reading.{first_repeat}
-use Rattle.syntax.specs.Terms.{arity, Atom, Declaration, Clause, Sheet, same_bytes, same_name, same_predicate, seen_name, seen_arguments}
+use Rattle.syntax.specs.Terms.{arity, Declaration, Clause, Sheet, same_bytes, same_name, same_predicate, seen_name, seen_arguments}
 use Rattle.syntax.specs.Tokens.{spelling}
-use Rattle.syntax.specs.Words.{declaration_words}
 use Rattle.syntax.specs.declared.Refusal.{Refusal}
 use Rattle.syntax.specs.declared.Refusal.TheVariants.{Unwritten}
 use Rattle.mode_rules.specs.Modes.{undeclared_clauses, undeclared_in_sheet, clauses_fault, first_of, sheet_fault}
 use Rattle.mode_rules.specs.Written.{is_written, is_exempt, first_unwritten, unwritten}
 use Rattle.mode_lookup.specs.Searching.{matches, stored_entry}
 use Rattle.mode_lookup.proofs.Laws.{lengths_differ, spelling-long}
-use Rattle.mode_marks.specs.Answers.{checked_of, atom_name, position, is_fault}
-use Rattle.mode_marks.specs.Tables.{DeclarationsAt, AtomAt, NamedAt, ClausesAt, SheetAt}
+use Rattle.mode_marks.specs.Answers.{checked_of, atom_name, is_fault}
+use Rattle.mode_marks.specs.Tables.{DeclarationsAt, AtomAt, NamedAt, ClausesAt}
 use Rattle.mode_marks.specs.declared.Checked.{Checked}
 use Rattle.mode_marks.specs.declared.Checked.TheVariants.{Fine, Fault}
 use Rattle.mode_marks.specs.declared.marks.Name.{Name}
@@ -32,7 +30,7 @@ use Rattle.mode_undeclared.proofs.Faults.{fault-stays, fine-goes}
 use Rattle.mode_repeats.specs.Repeating.{nth_declaration}
 use Rattle.mode_repeats.proofs.Laws.{one_has, one-stands, at_is, name-is, arity-is}
 use Rattle.mode_sheets.specs.Flags.{DeclaredOnce, Finds, Flagged}
-use Rattle.mode_sheets.proofs.Once.{of, near-finds, search-finds}
+use Rattle.mode_sheets.proofs.Once.{of, near-finds}
 
 -- ---- the declaration of a head
 

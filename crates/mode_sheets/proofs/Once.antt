@@ -7,7 +7,7 @@ use mathlib.Core.List.{List, [], ◌∷◌, ◌++◌}
 use mathlib.Core.Option.{Option, none, some}
 use lib.Dec.{eqb, ltb}
 use lib.ListN.{length}
-use borrow.Author.Tests.{eqb-true, eqb-false, eq-eqb, ne_eqb, ltb-true, ltb-false}
+use borrow.Author.Tests.{eqb-true, eqb-false, ne_eqb, ltb-true, ltb-false}
 use Rattle.syntax.specs.Terms.{arity, Atom, Declaration, same_bytes, same_predicate}
 use Rattle.syntax.specs.Reading.{declares, repeats, first_repeat}
 use Rattle.mode_marks.specs.Answers.{position}

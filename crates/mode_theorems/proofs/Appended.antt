@@ -3,7 +3,7 @@ use Prim.Native.Nat.{ℕ, suc}
 use mathlib.Core.Path.{◌≡◌}
 use mathlib.Core.Bool.{Bool, true, false}
 use mathlib.Core.List.{List, [], ◌∷◌, ◌++◌}
-use mathlib.Core.Option.{Option, none, some}
+use mathlib.Core.Option.{none}
 use Rattle.syntax.specs.Terms.{Declaration, Clause, Sheet}
 use Rattle.mode_rules.specs.Modes.{undeclared_clause, undeclared_clauses, undeclared_in_sheet, clause_fault, clauses_fault, first_of, sheet_fault}
 use Rattle.mode_rules.specs.Written.{unwritten, WrittenIn, here, later, AllWritten, no_more, written, exempt, WrittenOrStored}

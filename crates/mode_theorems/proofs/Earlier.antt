@@ -13,7 +13,6 @@ use Rattle.syntax.specs.Reading.{Read, fault, ok, read_sheet, read_goal, first_r
 use Rattle.syntax.specs.Verdicts.{Outcome, refused, accepted, fault_of, without_repeats, sheet_from, goal_from, sheet_of, goal_outcome, sheet_verdict}
 use Rattle.syntax.specs.declared.Refusal.{Refusal}
 use Rattle.syntax.specs.declared.Refusal.TheVariants.{TooLong, NoToken, Overlong, Misplaced, OverLimit, Unwritten}
-use Rattle.syntax.specs.declared.Verdict.{Verdict}
 use Rattle.mode_rules.specs.Modes.{Known, none_ground, open_unless, open_byte, marks_of, marks_for, same_mark, list_of, if_marked, OpenArgument, first_open, undeclared, undeclared_atom, undeclared_literal, undeclared_body, undeclared_clause, undeclared_clauses, undeclared_in_sheet, undeclared_in_goal, ground_marked, open_input, open_output, Walk, faulted, known, unless_fault, walk_on, in_both, call_walk, literal_walk, body_fault, start_known, head_fault, clause_fault, clauses_fault, first_of, sheet_fault, walk_fault, goal_fault}
 use Rattle.mode_rules.specs.Written.{is_written, is_exempt, first_unwritten, unwritten}
 use Rattle.mode_rules.specs.Checking.{faultless, checked_from, checked_with, checked_sheet, verdict_with, check_verdict, checked_goal_from, checked_goal, goal_answer, check_goal_from, check_goal_verdict}

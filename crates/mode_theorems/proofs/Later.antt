@@ -18,7 +18,7 @@ use Rattle.syntax.specs.declared.Refusal.{Refusal}
 use Rattle.syntax.specs.declared.Refusal.TheVariants.{OpenInput, OpenOutput}
 use Rattle.syntax.specs.declared.Verdict.{Verdict}
 use Rattle.syntax.specs.declared.Verdict.TheVariants.{Accepted, Refused}
-use Rattle.mode_rules.specs.Modes.{Known, knows, none_ground, everything, is_ground, open_byte, ground_term, ground_terms, ground_both, equate_variable, equate_same, equate, equate_all, settle, marks_for, same_mark, list_of, if_marked, OpenArgument, first_open, ground_if, ground_marked, undeclared_in_sheet, undeclared_in_goal, open_input, open_output, Walk, faulted, known, unless_fault, walk_on, in_both, call_walk, literal_walk, body_fault, start_known, head_fault, clause_fault, clauses_fault, first_of, sheet_fault, walk_fault, goal_fault}
+use Rattle.mode_rules.specs.Modes.{Known, knows, none_ground, is_ground, open_byte, ground_term, ground_terms, ground_both, equate_variable, equate_same, equate, equate_all, settle, marks_for, same_mark, list_of, if_marked, OpenArgument, first_open, ground_if, ground_marked, undeclared_in_sheet, undeclared_in_goal, open_input, open_output, Walk, faulted, known, unless_fault, walk_on, in_both, call_walk, literal_walk, body_fault, start_known, head_fault, clause_fault, clauses_fault, first_of, sheet_fault, walk_fault, goal_fault}
 use Rattle.mode_rules.specs.Written.{unwritten}
 use Rattle.mode_rules.specs.Checking.{faultless, checked_from, checked_with, verdict_with, check_verdict, checked_goal_from, checked_goal, goal_answer, check_goal_from, check_goal_verdict}
 use Rattle.mode_rules.specs.Earlier as earlier

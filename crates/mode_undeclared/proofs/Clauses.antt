@@ -10,7 +10,7 @@ use lib.ListN.{length, get_or}
 use Rattle.syntax.specs.Terms.{term_of, Declaration, Clause}
 use Rattle.syntax.specs.Words.{clause_start, term_words, atom_words, body_words, body_length, clause_words, clauses_words}
 use Rattle.syntax.specs.declared.Refusal.{Refusal}
-use Rattle.mode_rules.specs.Modes.{none_ground, undeclared_atom, undeclared_body, undeclared_clause, undeclared_clauses}
+use Rattle.mode_rules.specs.Modes.{undeclared_atom, undeclared_body, undeclared_clause, undeclared_clauses}
 use Rattle.mode_marks.specs.Standing.{ClausesSpelt, clause_stands}
 use Rattle.table_words.specs.Tables.{Has}
 use Rattle.mode_marks.specs.Tables.{TermAt, AtomAt, BodyAt, ClauseAt, ClausesAt}

@@ -15,7 +15,6 @@ use Rattle.syntax.specs.declared.Refusal.{Refusal}
 use Rattle.syntax.specs.declared.Verdict.{Verdict}
 use Rattle.syntax.specs.declared.Verdict.TheVariants.{Accepted, Refused}
 use Rattle.syntax.specs.declared.Entry.{Entry}
-use Rattle.syntax.specs.declared.Declared.{Declared}
 use Rattle.syntax.specs.declared.Declared.TheVariants.{As, Nothing}
 use Rattle.out_listings.specs.Listings.{overlay, listed_of, pasted, entry_words}
 

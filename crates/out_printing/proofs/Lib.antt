@@ -1,1 +1,1 @@
-mod Fits
+pub mod Fits

@@ -1,41 +1,64 @@
-// Prints an answer as every program does.
+// Prints an answer as every program does, to any writer. Of an error only part may have been written.
 
 #![tactic(auto)]
 
+ghost use Rattle.std.specs.Prelude.{OnOk};
+ghost use Rattle.std.specs.Io.KnownBytes.{Appends};
+ghost use Rattle.out_reports.specs.Reports.{report_line};
+ghost use Rattle.out_printing.specs.Prints.{printed_line, printed_lines, printed_run};
+
 use buffers::past_lines;
-use libc::STDOUT_FILENO;
-use syntax::{Report, Run, Verdict};
+use std::io::{Result, Write};
+use syntax::{Kind, Report, Run, Verdict};
 
 // Prints the line of a verdict, with the name handed back if there is one. The words of a verdict take at most 118 bytes
 // and a name of a sheet or goal 31; with a longer name, that of no sheet, nothing is printed.
-pub fn print_line(verdict: Verdict, name: &[u8]) {
+pub fn print_line<W: Write>(out: &mut W, verdict: Verdict, name: &[u8]) -> Result<()>
+    ensures { OnOk result (Appends (W.contents out.old) (W.contents out.new) (printed_line verdict name.now)) }
+{
     let mut line = [0u8; 160];
     let n = out_lines::put_line(verdict, name, &mut line);
-    io::write_all(STDOUT_FILENO, &line[..n]);
+    out.write_all(&line[..n])
 }
 
 // Prints so many lines of a text.
-pub fn print_lines(text: &[u8], lines: usize) {
+pub fn print_lines<W: Write>(out: &mut W, text: &[u8], lines: usize) -> Result<()>
+    ensures { OnOk result (Appends (W.contents out.old) (W.contents out.new) (printed_lines text.now lines)) }
+{
     let n = past_lines(text, lines);
-    io::write_all(STDOUT_FILENO, &text[..n]);
+    out.write_all(&text[..n])
 }
 
-// Prints the report of a run, the line that ends it, which takes at most 52 bytes.
-pub fn print_report(report: Report) {
+// Prints the report of a run, the line that ends it.
+pub fn print_report<W: Write>(out: &mut W, report: Report) -> Result<()>
+    ensures { OnOk result (Appends (W.contents out.old) (W.contents out.new) (report_line report.kind report.answers report.steps)) }
+{
+    print_end(out, report.kind, report.answers, report.steps)
+}
+
+// The same of the three parts of a report. The line takes at most 53 bytes.
+fn print_end<W: Write>(out: &mut W, kind: Kind, answers: usize, steps: usize) -> Result<()>
+    ensures { OnOk result (Appends (W.contents out.old) (W.contents out.new) (report_line kind answers steps)) }
+{
     let mut line = [0u8; 64];
-    let answers = report.answers;
-    let steps = report.steps;
-    let kind = report.kind;
     let n = out_reports::put_report(kind, answers, steps, &mut line);
-    io::write_all(STDOUT_FILENO, &line[..n]);
+    out.write_all(&line[..n])
 }
 
 // Prints what a run gave: the lines of its answers and its report; or the line of its refusal.
-pub fn print_run<'a>(sheet: &'a [u8], goal: &'a [u8], run: Run, text: &[u8]) {
+pub fn print_run<'a, W: Write>(
+    out: &mut W,
+    sheet: &'a [u8],
+    goal: &'a [u8],
+    run: Run,
+    text: &[u8],
+) -> Result<()>
+    ensures { OnOk result (Appends (W.contents out.old) (W.contents out.new) (printed_run sheet.now goal.now run text.now)) }
+{
     match run {
         Run::Ended(report) => {
-            print_lines(text, report.answers);
-            print_report(report);
+            print_lines(out, text, report.answers)?;
+            print_report(out, report)
         }
         Run::Refused {
             text: part,
@@ -45,7 +68,7 @@ pub fn print_run<'a>(sheet: &'a [u8], goal: &'a [u8], run: Run, text: &[u8]) {
                 text: part,
                 refusal,
             };
-            print_line(verdict, out_names::fault_name(sheet, goal, verdict));
+            print_line(out, verdict, out_names::fault_name(sheet, goal, verdict))
         }
     }
 }

@@ -1,19 +1,16 @@
 -- Laws of reading bodies and clauses: one for each way out of the functions that read them. Assumes nothing.
-use Prim.Native.Nat.{ℕ, zero, suc, ◌+◌, ◌-◌, ◌*◌, ◌≤◌, ◌<◌, ◌^◌}
+use Prim.Native.Nat.{ℕ, suc, ◌+◌, ◌-◌, ◌*◌, ◌≤◌, ◌<◌, ◌^◌}
 use native.Mathlib.Omega.{arith}
-use mathlib.Core.Path.{◌≡◌, refl, sym, ap, ap₂, ◌∙◌, subst, subst⁻¹}
-use mathlib.Core.Bool.{Bool, true, false, cond}
-use mathlib.Core.List.{List, [], ◌∷◌, ◌++◌}
-use lib.ListN.{length, set, take, length-append}
-use lib.Dec.{eqb}
-use borrow.Author.Tests.{eq-eqb, ne_eqb}
-use Rattle.syntax.specs.Terms.{Atom, Literal, call, equation, truth, falsity, either, Body, done, also}
-use Rattle.syntax.specs.Reading.{Cursor, Read, fault, ok, and_then, next, wrong_number, read_literal, read_to, read_body_with, read_body, body_after, after_of, After, more, last, neither}
+use mathlib.Core.Path.{◌≡◌, refl, sym, ap, ◌∙◌, subst, subst⁻¹}
+use mathlib.Core.List.{List, [], ◌++◌}
+use lib.ListN.{length, length-append}
+use Rattle.syntax.specs.Terms.{Literal, call, equation, truth, falsity, either, Body, done, also}
+use Rattle.syntax.specs.Reading.{Cursor, Read, ok, and_then, wrong_number, read_literal, read_to, read_body_with, read_body, body_after, after_of, After, more, last, neither}
 use Rattle.syntax.specs.Limits.{variables, sheet_bytes, brackets, literals}
 use Rattle.syntax.specs.Tokens.{comma_kind, stop_kind, end_kind}
 use Rattle.syntax.specs.Words.{node_words, literal_words, literal_length, body_words, body_length}
 use Rattle.syntax.specs.declared.State.{State}
-use Rattle.parse_cursor.specs.Gives.{cursor_of, bytes_left, CursorInside, PastToken, RoomToRead, Given, Gives, GivenWith, GivesWith, Refused, ItemCount}
+use Rattle.parse_cursor.specs.Gives.{cursor_of, bytes_left, CursorInside, PastToken, RoomToRead, Gives, GivenWith, GivesWith, Refused, ItemCount}
 use Rattle.parse_cursor.specs.declared.Parsed.{Parsed}
 use Rattle.parse_cursor.proofs.Reading.{refused-wrong, next_of}
 use Rattle.parse_cursor.proofs.Starts.{after_more, after_last, after-neither}

@@ -1,21 +1,20 @@
 -- Laws of reading clauses: one for each way out of the functions that read them. Assumes nothing.
-use Prim.Native.Nat.{ℕ, zero, suc, ◌+◌, ◌-◌, ◌*◌, ◌≤◌, ◌<◌, ◌^◌}
+use Prim.Native.Nat.{ℕ, ◌+◌, ◌-◌, ◌*◌, ◌≤◌, ◌<◌, ◌^◌}
 use native.Mathlib.Omega.{arith}
 use mathlib.Core.Path.{◌≡◌, refl, sym, ap, ap₂, ◌∙◌, subst, subst⁻¹}
-use mathlib.Core.Bool.{Bool, true, false, cond}
 use mathlib.Core.List.{List, [], ◌∷◌, ◌++◌, append-nil}
 use lib.ListN.{length, set, take, length-append}
-use lib.Dec.{eqb, lit<}
+use lib.Dec.{lit<}
 use borrow.Author.Tests.{eq-eqb, ne_eqb}
 use Rattle.syntax.specs.Tokens.{name_kind, neck_kind, stop_kind}
-use Rattle.syntax.specs.Terms.{Atom, Body, done, also, Clause}
+use Rattle.syntax.specs.Terms.{Atom, Body}
 use Rattle.syntax.specs.Reading.{Cursor, begin, Read, fault, ok, and_then, next, wrong_number, read_atom, read_body, read_clause, clause_after, clause_of, Tail, tail_of, fact, rule, other}
 use Rattle.syntax.specs.Limits.{variables, brackets}
-use Rattle.syntax.specs.Spans.{names_from, met, Held}
+use Rattle.syntax.specs.Spans.{names_from, met}
 use Rattle.syntax.proofs.Spans.{names-length, met-three}
-use Rattle.syntax.specs.Words.{node_words, term_words, atom_words, body_words, body_length, clause_words, clause_start}
+use Rattle.syntax.specs.Words.{node_words, atom_words, body_words, body_length, clause_words, clause_start}
 use Rattle.syntax.specs.declared.State.{State}
-use Rattle.parse_cursor.specs.Gives.{cursor_of, state_onward, fresh, bytes_left, CursorInside, PastToken, RoomToRead, Faulted, Given, Gives, GivenWith, GivesWith, Refused, one}
+use Rattle.parse_cursor.specs.Gives.{cursor_of, state_onward, fresh, bytes_left, CursorInside, PastToken, RoomToRead, Faulted, Given, Gives, Refused, one}
 use Rattle.parse_cursor.specs.declared.Parsed.{Parsed}
 use Rattle.parse_cursor.proofs.Reading.{refused-wrong, moved-onward, next_of, held_of, cursor-kept, held_kept}
 use Rattle.parse_cursor.proofs.Sequence.{seq-fault, seq-ok, shorter, kept-before, joined, header}

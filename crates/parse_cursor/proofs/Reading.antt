@@ -1,26 +1,25 @@
 -- Laws of readers and of what was read, which the functions that read cite. Assumes nothing.
-use Prim.Native.Nat.{ℕ, zero, suc, ◌+◌, ◌-◌, ◌*◌, ◌/◌, ◌%◌, ◌≤◌, ◌<◌, ◌^◌}
+use Prim.Native.Nat.{ℕ, zero, suc, ◌+◌, ◌-◌, ◌*◌, ◌≤◌, ◌<◌, ◌^◌}
 use native.Mathlib.Numerals.{add-one}
-use native.Mathlib.Nat.{le_of_suc-le-suc, add-zero, add_assoc, add-suc}
 use native.Mathlib.Omega.{arith}
 use mathlib.Core.Path.{◌≡◌, refl, sym, ap, ap₂, ◌∙◌, subst, subst⁻¹}
-use mathlib.Core.Bool.{Bool, true, false, cond, ◌&&◌}
+use mathlib.Core.Bool.{Bool, true, false, cond}
 use mathlib.Core.List.{List, [], ◌∷◌, ◌++◌, append_assoc}
 use mathlib.Core.Option.{Option, none, some}
-use lib.ListN.{length, get_or, set, take, drop, length-take, length-drop, length-set}
+use lib.ListN.{length, get_or, set, take, drop, length-set}
 use lib.Seq.{take-suc-set, take-set-le}
 use lib.Dec.{eqb, lit<}
-use borrow.Author.Tests.{eq-eqb, ne_eqb, lt-ltb, le-ltb}
+use borrow.Author.Tests.{lt-ltb, le-ltb}
 use Rattle.syntax.specs.Tokens.{token_at, spelling, variable_kind, end_kind, overlong_kind}
-use Rattle.syntax.specs.Limits.{sheet_bytes, word_bytes, lengths, variables}
+use Rattle.syntax.specs.Limits.{sheet_bytes, word_bytes, variables}
 use Rattle.syntax.specs.Spans.{packed, spanned, SpanInside, names_from, met, Held}
 use Rattle.syntax.proofs.Spans.{packed-inside, packed-spelt, names-length, names-new, held_new, met-three, met-new, met-length}
-use Rattle.syntax.specs.Reading.{Cursor, Read, fault, ok, cursor_at, next, variable_number, is_anonymous, with_new, new_variable, old_variable, read_variable, wrong, wrong_number, beyond}
-use Rattle.syntax.specs.Terms.{Term, Terms, Atom, variable, compound, nil, cons, arity, term_of, same_name}
+use Rattle.syntax.specs.Reading.{Cursor, Read, ok, cursor_at, next, variable_number, is_anonymous, with_new, new_variable, old_variable, read_variable, wrong, wrong_number, beyond}
+use Rattle.syntax.specs.Terms.{Term, variable, same_name}
 use Rattle.syntax.specs.declared.Token.{Token}
 use Rattle.syntax.specs.declared.State.{State}
-use Rattle.parse_cursor.specs.Gives.{cursor_of, state_onward, found, CursorInside, PastToken, FoundAs, MetAs, RoomToRead, Faulted, Given, Gives, GivesWith, bytes_left, one, Refused, full_number}
-use Rattle.syntax.specs.Words.{node_words, term_words, terms_words, atom_words}
+use Rattle.parse_cursor.specs.Gives.{cursor_of, state_onward, found, CursorInside, PastToken, FoundAs, MetAs, RoomToRead, Given, Gives, GivesWith, bytes_left, one, Refused}
+use Rattle.syntax.specs.Words.{node_words, term_words}
 use Rattle.parse_cursor.specs.declared.Parsed.{Parsed}
 use Rattle.lex_tokens.proofs.Laws.{token-inside, token-at-from, token-some, token-word-short}
 

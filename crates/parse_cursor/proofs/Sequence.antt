@@ -1,19 +1,16 @@
 -- Laws of reading one thing after another: what the parts give, the whole gives. Assumes nothing.
-use Prim.Native.Nat.{ℕ, zero, suc, ◌+◌, ◌-◌, ◌*◌, ◌≤◌, ◌<◌, ◌^◌}
-use native.Mathlib.Numerals.{add-one}
-use native.Mathlib.Nat.{add-zero, add_assoc}
+use Prim.Native.Nat.{ℕ, ◌+◌, ◌≤◌, ◌<◌}
+use native.Mathlib.Nat.{add_assoc}
 use native.Mathlib.Omega.{arith}
-use mathlib.Core.Path.{◌≡◌, refl, sym, ap, ap₂, ◌∙◌, subst, subst⁻¹}
-use mathlib.Core.Bool.{Bool, true, false, cond}
+use mathlib.Core.Path.{◌≡◌, sym, ap, ap₂, ◌∙◌, subst⁻¹}
 use mathlib.Core.List.{List, [], ◌∷◌, ◌++◌, append_assoc}
-use lib.ListN.{length, set, take, drop, length-take, length-set, length-append}
+use lib.ListN.{length, set, take, length-take, length-set, length-append}
 use lib.Seq.{take-take, take-append-le, take-set-lt, set-append_left, take_all}
-use lib.Dec.{eqb}
-use Rattle.syntax.specs.Reading.{Cursor, Read, fault, ok, and_then, next, wrong_number, wrong, beyond, full}
+use Rattle.syntax.specs.Reading.{Cursor, Read, fault, ok, and_then}
 use Rattle.syntax.specs.declared.State.{State}
-use Rattle.parse_cursor.specs.Gives.{cursor_of, CursorInside, PastToken, RoomToRead, Faulted, GivenWith, GivesWith}
+use Rattle.parse_cursor.specs.Gives.{cursor_of, Faulted, GivenWith, GivesWith}
 use Rattle.parse_cursor.specs.declared.Parsed.{Parsed}
-use Rattle.parse_cursor.proofs.Reading.{three, refused-beyond, refused-wrong}
+use Rattle.parse_cursor.proofs.Reading.{three}
 
 -- ---- tables
 

@@ -5,7 +5,7 @@ use mathlib.Core.Bool.{Bool, true, false, cond}
 use lib.Dec.{eqb}
 use borrow.Author.Tests.{eq-eqb, ne_eqb}
 use Rattle.syntax.specs.Tokens.{name_kind, variable_kind, numeral_kind, comma_kind}
-use Rattle.syntax.specs.Reading.{Start, a_variable, a_numeral, a_name, nothing, start_of, begins, After, more, last, neither, after_of, wrong_number}
+use Rattle.syntax.specs.Reading.{a_variable, a_numeral, a_name, nothing, start_of, begins, more, last, neither, after_of, wrong_number}
 use Rattle.parse_cursor.specs.Gives.{full_number}
 
 pub start-variable : (k : ℕ) → k ≡ variable_kind → start_of k ≡ a_variable

@@ -1,9 +1,9 @@
 -- Laws of reading atoms, terms and lists of terms: one for each way out of the functions that read them. Assumes nothing.
-use Prim.Native.Nat.{ℕ, zero, suc, ◌+◌, ◌-◌, ◌*◌, ◌≤◌, ◌<◌, ◌^◌}
-use native.Mathlib.Nat.{zero-mul, zero-add, add-zero, add_assoc}
+use Prim.Native.Nat.{ℕ, suc, ◌+◌, ◌-◌, ◌*◌, ◌≤◌, ◌<◌, ◌^◌}
+use native.Mathlib.Nat.{add-zero}
 use native.Mathlib.Omega.{arith}
 use mathlib.Core.Path.{◌≡◌, refl, sym, ap, ap₂, ◌∙◌, subst, subst⁻¹}
-use mathlib.Core.Bool.{Bool, true, false, cond}
+use mathlib.Core.Bool.{Bool, true, false}
 use mathlib.Core.List.{List, [], ◌∷◌, ◌++◌, append-nil}
 use lib.ListN.{length, set, take, length-append}
 use lib.Dec.{eqb}
@@ -12,13 +12,13 @@ use Rattle.syntax.specs.Terms.{Term, Terms, Atom, variable, compound, nil, cons,
 use Rattle.syntax.specs.Tokens.{spelling, comma_kind, end_kind, name_kind, variable_kind, numeral_kind, open_kind, close_kind}
 use Rattle.syntax.specs.Numerals.{trimmed, dropped}
 use Rattle.syntax.proofs.Numerals.{trimmed-short}
-use Rattle.syntax.specs.Reading.{Cursor, numeral_at, spelt, Read, fault, ok, and_then, next, wrong_number, wrong, beyond, full, read_variable, read_term, read_term_with, term_with, read_atom, read_atom_with, atom_with, atom_at, read_list, read_arguments, arguments_after, start_of, begins, after_of, After, more, last, neither, Start, a_variable, a_numeral, a_name, nothing}
+use Rattle.syntax.specs.Reading.{Cursor, numeral_at, spelt, Read, fault, ok, and_then, next, wrong_number, beyond, full, read_variable, read_term, read_term_with, term_with, read_atom, read_atom_with, atom_with, atom_at, read_list, read_arguments, arguments_after, start_of, begins, after_of, After, more, last, neither, Start, a_variable, a_numeral, a_name, nothing}
 use Rattle.syntax.specs.Words.{node_words, term_words, terms_words, atom_words, functor}
 use Rattle.syntax.specs.Limits.{sheet_bytes, variables, arguments}
-use Rattle.syntax.specs.Spans.{names_from, met, Held}
+use Rattle.syntax.specs.Spans.{met, Held}
 use Rattle.syntax.proofs.Spans.{met-three}
 use Rattle.syntax.specs.declared.State.{State}
-use Rattle.parse_cursor.specs.Gives.{cursor_of, state_onward, bytes_left, CursorInside, PastToken, RoomToRead, Faulted, Given, Gives, GivenWith, GivesWith, Refused, ItemCount, full_number, one}
+use Rattle.parse_cursor.specs.Gives.{cursor_of, bytes_left, CursorInside, PastToken, RoomToRead, Given, Gives, GivenWith, GivesWith, Refused, ItemCount, full_number, one}
 use Rattle.parse_cursor.specs.declared.Parsed.{Parsed}
 use Rattle.texts.proofs.Laws.{length-spelling}
 use Rattle.parse_cursor.proofs.Reading.{refused-beyond, refused-wrong, refused-beyond-with, refused-wrong-with, next_of, held_of, cursor-kept, held_kept}

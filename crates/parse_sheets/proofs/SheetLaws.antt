@@ -1,28 +1,28 @@
 -- Laws of reading a sheet item by item: the tables hold what was read so far, and the whole is that and the rest. Assumes nothing.
-use Prim.Native.Nat.{ℕ, zero, suc, ◌+◌, ◌-◌, ◌*◌, ◌≤◌, ◌<◌, ◌^◌}
+use Prim.Native.Nat.{ℕ, suc, ◌+◌, ◌-◌, ◌*◌, ◌≤◌, ◌<◌, ◌^◌}
 use native.Mathlib.Omega.{arith}
 use mathlib.Core.Path.{◌≡◌, refl, sym, ap, ap₂, ◌∙◌, subst, subst⁻¹}
 use mathlib.Core.Bool.{Bool, true, false, cond}
 use mathlib.Core.List.{List, [], ◌∷◌, ◌++◌, append_assoc, append-nil}
-use lib.ListN.{length, set, take, length-append}
+use lib.ListN.{length, take, length-append}
 use lib.Dec.{eqb, lit<}
 use borrow.Author.Tests.{eq-eqb, ne_eqb, eqb-false}
 use Rattle.syntax.specs.Limits.{word_bytes, variables, sheet_bytes, declarations, clauses}
 use Rattle.syntax.specs.Spans.{names_from, met, Held}
 use Rattle.syntax.proofs.Spans.{held_none}
 use Rattle.syntax.specs.Tokens.{token_at, variable_kind, name_kind, neck_kind, end_kind}
-use Rattle.syntax.specs.Terms.{Declaration, Clause, Sheet, Body, Goal}
-use Rattle.syntax.specs.Reading.{Cursor, begin, fresh, Read, fault, ok, and_then, next, wrong, wrong_number, beyond, read_declaration, read_clause, with_declaration, with_clause, item_with, item_of, SheetItem, no_item, a_declaration, a_clause, past_limit, misplaced, read_items, read_sheet, at_start, read_body, read_goal, goal_end}
+use Rattle.syntax.specs.Terms.{Declaration, Clause, Sheet, Body}
+use Rattle.syntax.specs.Reading.{Cursor, begin, fresh, Read, fault, ok, and_then, wrong, wrong_number, beyond, read_declaration, read_clause, with_declaration, with_clause, item_with, item_of, no_item, a_declaration, a_clause, past_limit, misplaced, read_items, read_sheet, at_start, read_body, read_goal, goal_end}
 use Rattle.syntax.specs.Words.{node_words, declaration_words, declarations_words, clause_words, clauses_words, body_words, body_length, declaration_size, sheet_words}
 use Rattle.syntax.specs.declared.State.{State}
 use Rattle.syntax.specs.declared.Token.{Token}
 use Rattle.lex_tokens.proofs.Laws.{token-inside, token-some, token-word-short}
-use Rattle.parse_cursor.specs.Gives.{cursor_of, bytes_left, CursorInside, RoomToRead, Faulted, Given, Gives, Refused, one}
+use Rattle.parse_cursor.specs.Gives.{cursor_of, bytes_left, CursorInside, RoomToRead, Given, Gives, Refused, one}
 use Rattle.parse_cursor.specs.declared.Parsed.{Parsed}
 use Rattle.parse_cursor.proofs.Reading.{refused-beyond, wrong-positive}
 use Rattle.parse_cursor.proofs.Sequence.{seq-ok}
 use Rattle.parse_declarations.specs.Marks.{DeclarationGiven, DeclarationGives}
-use Rattle.parse_sheets.specs.Sheets.{declaration_next, clause_next, items_before, Holds, Loading, ItemFault, LoadFault, LoadGiven, Parses, GoalParses}
+use Rattle.parse_sheets.specs.Sheets.{declaration_next, clause_next, items_before, Holds, Loading, ItemFault, LoadFault, Parses, GoalParses}
 use Rattle.parse_sheets.specs.declared.SheetParsed.{SheetParsed}
 
 -- ---- the first token

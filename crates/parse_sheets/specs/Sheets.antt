@@ -1,5 +1,5 @@
 -- What reading a sheet promises of its answer and of the two tables.
-use Rattle.std.specs.Prelude.{ℕ, ◌+◌, ◌-◌, ◌*◌, ◌≤◌, ◌<◌, ◌≡◌, Bool, true, false, cond, List, ◌++◌, eqb, length, take}
+use Rattle.std.specs.Prelude.{ℕ, ◌+◌, ◌-◌, ◌*◌, ◌≤◌, ◌<◌, ◌≡◌, true, false, List, ◌++◌, eqb, length, take}
 use Rattle.syntax.specs.Limits.{variables, declarations, clauses}
 use Rattle.syntax.specs.Spans.{names_from, met, Held}
 use Rattle.syntax.specs.Terms.{Declaration, Clause, Sheet, Goal}

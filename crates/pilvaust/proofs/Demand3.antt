@@ -1,11 +1,10 @@
 -- Demand 3 of what `run` answers: both counts are zero in the run that it reports. Assumes nothing.
 use Prim.Native.Nat.{ℕ}
 use native.Mathlib.Omega.{arith}
-use mathlib.Core.Path.{◌≡◌, refl, sym, ap, ◌∙◌, subst}
-use mathlib.Core.List.{List, []}
+use mathlib.Core.Path.{◌≡◌, refl, ap, ◌∙◌}
+use mathlib.Core.List.{List}
 use Rattle.syntax.specs.declared.Report.{Report}
-use Rattle.syntax.specs.declared.Run.{Run}
-use Rattle.syntax.specs.declared.Run.TheVariants.{Ended, Refused}
+use Rattle.syntax.specs.declared.Run.TheVariants.{Ended}
 use Rattle.machine.specs.Runs.{RunSettings, RunOutcome, stopped, ran, run_outcome, run_answer, run_text}
 use Rattle.machine.specs.Claims.{RunOver}
 use Rattle.machine_theorems.proofs.EveryRun.{demand-3-runs}

@@ -12,7 +12,7 @@ use Rattle.syntax.specs.declared.Text.TheVariants.{Sheet as in_sheet}
 use Rattle.syntax.specs.declared.Refusal.{Refusal}
 use Rattle.syntax.specs.declared.Verdict.{Verdict}
 use Rattle.syntax.specs.declared.Verdict.TheVariants.{Accepted, Refused}
-use Rattle.mode_rules.specs.Checking.{checked_with, checked_sheet, check_verdict, verdict_with}
+use Rattle.mode_rules.specs.Checking.{checked_sheet, check_verdict, verdict_with}
 use Rattle.machine.specs.Determinacy.{against, judged_by, judged_from, judged}
 use Rattle.run_layout.proofs.Limits.{checked-sheet-limited}
 use Rattle.read_and_check.specs.Tables.{Tabled}

@@ -1,29 +1,26 @@
 -- Laws of listings: what stands in the table is written over a list as `overlay` says. Assumes nothing.
-use Prim.Native.Nat.{ℕ, zero, suc, ◌+◌, ◌*◌, ◌≤◌, ◌<◌, zero-le}
+use Prim.Native.Nat.{ℕ, ◌*◌, ◌≤◌, ◌<◌, zero-le}
 use native.Mathlib.Omega.{arith}
 use mathlib.Core.Path.{◌≡◌, refl, sym, ap, ap₂, ◌∙◌, subst}
-use mathlib.Core.Bool.{Bool, true, false, cond, not}
+use mathlib.Core.Bool.{Bool, cond}
 use mathlib.Core.List.{List, [], ◌∷◌}
-use lib.ListN.{length, get_or, set}
-use lib.Dec.{T, leb, leb→le, nleb→lt}
-use borrow.Author.Tests.{le-leb, lt-leb}
-use Rattle.syntax.specs.Terms.{Sheet, Declaration}
+use lib.ListN.{length}
+use lib.Dec.{leb}
+use borrow.Author.Tests.{lt-leb}
+use Rattle.syntax.specs.Terms.{Sheet}
 use Rattle.syntax.specs.Limits.{declarations}
 use Rattle.syntax.specs.Words.{declaration_size, declared_words, declarations_words}
-use Rattle.syntax.specs.Verdicts.{Outcome, refused, accepted, sheet_of, sheet_verdict, read_verdict, nth_entry, entry_of}
-use Rattle.syntax.specs.declared.Text.{Text}
+use Rattle.syntax.specs.Verdicts.{Outcome, refused, accepted, sheet_of, sheet_verdict, read_verdict, nth_entry}
 use Rattle.syntax.specs.declared.Text.TheVariants.{Sheet as in_sheet}
 use Rattle.syntax.specs.declared.Refusal.{Refusal}
 use Rattle.syntax.specs.declared.Verdict.{Verdict}
 use Rattle.syntax.specs.declared.Verdict.TheVariants.{Accepted, Refused}
 use Rattle.syntax.specs.declared.Entry.{Entry}
-use Rattle.syntax.specs.declared.Declared.{Declared}
 use Rattle.syntax.specs.declared.Declared.TheVariants.{As, Nothing}
 use Rattle.mode_rules.specs.Checking.{checked_sheet, verdict_with, check_verdict}
 use Rattle.table_words.specs.Tables.{Has}
 use Rattle.read_and_check.specs.Tables.{Tabled}
 use Rattle.out_listings.specs.Listings.{overlay, declared_of, listed_of, entry_from, pasted, Lists}
-use Rattle.out_listings.specs.declared.Listing.{Listing}
 use Rattle.out_listings.proofs.Laws.{least_by, pasted-overlay}
 use Rattle.read_and_check.proofs.Laws.{four-words}
 use Rattle.read_and_check.proofs.Entries.{entry-from, long-by}

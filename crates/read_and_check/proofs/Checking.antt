@@ -1,7 +1,7 @@
 -- Laws of checking a sheet and a goal: one for each way out of the functions. Assumes nothing.
 use Prim.Native.Nat.{ℕ, ◌≤◌}
 use native.Mathlib.Omega.{arith}
-use mathlib.Core.Path.{◌≡◌, refl, sym, ap, ap₂, ◌∙◌, subst, subst⁻¹}
+use mathlib.Core.Path.{◌≡◌, refl, sym, ap, ap₂, ◌∙◌, subst}
 use mathlib.Core.Bool.{Bool, true, false}
 use mathlib.Core.List.{List, []}
 use mathlib.Core.Option.{Option, none, some}
@@ -9,7 +9,7 @@ use lib.Dec.{leb}
 use lib.ListN.{length}
 use Rattle.syntax.specs.Limits.{sheet_bytes, declarations}
 use Rattle.syntax.specs.Terms.{Sheet, Goal}
-use Rattle.syntax.specs.Reading.{Cursor, Read, fault, ok, read_sheet, first_repeat}
+use Rattle.syntax.specs.Reading.{Read, fault, ok, read_sheet, first_repeat}
 use Rattle.syntax.specs.Words.{declarations_words}
 use Rattle.syntax.specs.Verdicts.{Outcome, refused, accepted, without_repeats, sheet_from, sheet_of, sheet_verdict, read_verdict, goal_outcome, goal_verdict}
 use Rattle.syntax.specs.declared.Text.{Text}

@@ -1,19 +1,17 @@
 -- Laws of the entries of a sheet, and of reading a goal: one for each way out of the functions. Assumes nothing.
-use Prim.Native.Nat.{ℕ, zero, suc, ◌+◌, ◌*◌, ◌≤◌, ◌<◌, ◌^◌}
-use native.Mathlib.Numerals.{add-one}
+use Prim.Native.Nat.{ℕ, zero, suc, ◌+◌, ◌*◌, ◌≤◌, ◌<◌}
 use native.Mathlib.Omega.{arith}
-use mathlib.Core.Path.{◌≡◌, refl, sym, ap, ap₂, ◌∙◌, subst, subst⁻¹}
+use mathlib.Core.Path.{◌≡◌, refl, sym, ap, ap₂, ◌∙◌, subst}
 use mathlib.Core.Bool.{Bool, true, false, cond}
-use mathlib.Core.List.{List, [], ◌∷◌, ◌++◌}
-use lib.ListN.{length, get_or, take, replicate}
-use lib.Dec.{leb, eqb, leb-suc-suc}
+use mathlib.Core.List.{List, [], ◌∷◌}
+use lib.ListN.{length, get_or}
+use lib.Dec.{leb, leb-suc-suc}
 use borrow.Author.Tests.{le-leb, lt-leb}
 use Rattle.syntax.specs.Terms.{Sheet, Goal, Declaration}
 use Rattle.syntax.specs.Reading.{Cursor, Read, fault, ok, read_goal}
-use Rattle.syntax.specs.Words.{declarations_words, declaration_words, body_words, body_length, declaration_size}
+use Rattle.syntax.specs.Words.{declarations_words, declaration_words, body_words, declaration_size}
 use Rattle.syntax.specs.Verdicts.{Outcome, refused, accepted, fault_of, goal_from, goal_outcome, goal_verdict, sheet_of, sheet_verdict, read_verdict, read_goal_verdict, nth_entry, outcome_entry, entry_at}
 use Rattle.syntax.specs.Limits.{variables, goal_bytes}
-use Rattle.syntax.specs.Spans.{met, Held}
 use Rattle.syntax.proofs.Spans.{met-length}
 use Rattle.syntax.specs.declared.Text.{Text}
 use Rattle.syntax.specs.declared.Text.TheVariants.{Sheet as in_sheet, Goal as in_goal}
@@ -24,7 +22,6 @@ use Rattle.syntax.specs.declared.Verdict.TheVariants.{Accepted, Refused}
 use Rattle.syntax.specs.declared.Declared.{Declared}
 use Rattle.syntax.specs.declared.Declared.TheVariants.{As, Nothing}
 use Rattle.parse_cursor.specs.declared.Parsed.{Parsed}
-use Rattle.parse_declarations.specs.Marks.{Stopped}
 use Rattle.parse_sheets.specs.Sheets.{GoalGiven, GoalParses}
 use Rattle.table_words.specs.Tables.{Has}
 use Rattle.table_words.proofs.Laws.{has_left, has_right, has-inside, has-taken}
@@ -33,8 +30,6 @@ use Rattle.out_listings.specs.Listings.{entry_words}
 use Rattle.read_and_check.specs.declared.GoalRead.{GoalRead}
 use Rattle.read_and_check.proofs.Laws.{four-words, never}
 use Rattle.mode_clauses.proofs.Accepted.{goal_stands}
-use Rattle.syntax.specs.Spans.{names_from}
-use Rattle.out_terms.specs.Words.{Named}
 
 -- ---- the entries of a sheet
 

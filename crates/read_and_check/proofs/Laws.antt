@@ -1,25 +1,24 @@
 -- Laws of reading a sheet whole: one for each way out of `load`. Assumes nothing.
-use Prim.Native.Nat.{ℕ, zero, suc, ◌+◌, ◌*◌, ◌≤◌, ◌<◌, ◌^◌}
+use Prim.Native.Nat.{ℕ, ◌*◌, ◌≤◌, ◌<◌}
 use native.Mathlib.Omega.{arith}
-use mathlib.Core.Path.{◌≡◌, refl, sym, ap, ap₂, ◌∙◌, subst, subst⁻¹}
-use mathlib.Core.Bool.{Bool, true, false, cond}
+use mathlib.Core.Path.{◌≡◌, refl, sym, ap, ap₂, ◌∙◌, subst}
+use mathlib.Core.Bool.{Bool, true, false}
 use mathlib.Core.List.{List, [], ◌∷◌}
 use mathlib.Core.Option.{Option, none, some}
-use lib.ListN.{length, get_or, take}
-use lib.Dec.{leb, eqb}
-use borrow.Author.Tests.{eq-eqb, ne_eqb, le-leb, lt-leb}
+use lib.ListN.{length}
+use borrow.Author.Tests.{le-leb, lt-leb}
 use Rattle.syntax.specs.Limits.{sheet_bytes}
-use Rattle.syntax.specs.Terms.{Sheet, Goal, Declaration, Clause}
+use Rattle.syntax.specs.Terms.{Sheet, Declaration}
 use Rattle.syntax.specs.Reading.{Read, fault, ok, read_sheet, first_repeat}
 use Rattle.syntax.specs.Words.{declarations_words, clauses_words, declaration_words, declaration_size}
 use Rattle.syntax.specs.Verdicts.{Outcome, refused, accepted, fault_of, sheet_from, without_repeats, sheet_of, sheet_verdict, read_verdict}
 use Rattle.syntax.specs.Reading.{Cursor}
 use Rattle.syntax.specs.declared.Text.TheVariants.{Sheet as in_sheet}
 use Rattle.syntax.specs.declared.Refusal.{Refusal}
-use Rattle.syntax.specs.declared.Refusal.TheVariants.{TooLong, NoToken, Overlong, Misplaced, OverLimit, Repeated}
+use Rattle.syntax.specs.declared.Refusal.TheVariants.{TooLong, Repeated}
 use Rattle.syntax.specs.declared.Verdict.{Verdict}
 use Rattle.syntax.specs.declared.Verdict.TheVariants.{Accepted, Refused}
-use Rattle.parse_sheets.specs.Sheets.{Holds, LoadFault, LoadGiven, Parses}
+use Rattle.parse_sheets.specs.Sheets.{LoadGiven, Parses}
 use Rattle.parse_sheets.specs.declared.SheetParsed.{SheetParsed}
 use Rattle.table_words.specs.Tables.{Has}
 use Rattle.mode_marks.specs.Tables.{DeclarationsAt, SheetAt}

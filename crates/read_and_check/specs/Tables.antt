@@ -1,10 +1,8 @@
 -- What the tables hold after a sheet and a goal were read.
-use Rattle.std.specs.Prelude.{ℕ, ◌+◌, ◌*◌, ◌≡◌, cond, List, leb, length, get_or}
+use Rattle.std.specs.Prelude.{ℕ, ◌≡◌, List, length}
 use Rattle.syntax.specs.Terms.{Sheet, Goal}
 use Rattle.syntax.specs.Verdicts.{accepted, goal_outcome, goal_verdict}
-use Rattle.syntax.specs.Words.{declaration_size, body_words, body_length, declarations_words}
-use Rattle.syntax.specs.declared.Declared.{Declared}
-use Rattle.syntax.specs.declared.Declared.TheVariants.{As, Nothing}
+use Rattle.syntax.specs.Words.{body_words, body_length, declarations_words}
 use Rattle.mode_marks.specs.Standing.{DeclarationsSpelt, GoalSpelt}
 use Rattle.table_words.specs.Tables.{Has}
 use Rattle.mode_marks.specs.Tables.{SheetAt}

@@ -15,7 +15,7 @@ use Rattle.machine.specs.Substitution.{copied, Binding}
 use Rattle.machine.specs.Unification.{unify}
 use Rattle.machine.specs.Machine.{Pending, Alternative, pending, is_for, next_for, topmost, clause_at, moved_on, laid, tried, on_top, called, worked, step}
 use Rattle.machine.specs.Runs.{is_there, tries_with, tries_first, goes_deeper}
-use Rattle.run_layout.specs.Regions.{copy_cells, places, bodies, trail, alternatives, state_words, frame_of, alternative_of, literal_size, next_literal, frame_size, alternative_size, most_alternatives, clause_record, frames}
+use Rattle.run_layout.specs.Regions.{copy_cells, places, bodies, trail, state_words, frame_of, alternative_of, literal_size, next_literal, frame_size, alternative_size, most_alternatives, clause_record}
 use Rattle.run_layout.specs.Nodes.{Symbol, TermLoaded}
 use Rattle.run_layout.specs.State.{copy_of, cell_at, trail_at, bindings, Within}
 use Rattle.run_layout.specs.Program.{head_at, body_at, after_at, record_kind, record_place, other_at}

@@ -1,5 +1,5 @@
 -- The first literal left is found up the callers, and an alternative is laid there. Assumes nothing.
-use Prim.Native.Nat.{ℕ, ◌+◌, ◌-◌, ◌*◌, ◌≤◌, ◌<◌, ◌^◌}
+use Prim.Native.Nat.{ℕ, ◌+◌, ◌-◌, ◌≤◌, ◌<◌, ◌^◌}
 use native.Mathlib.Omega.{arith}
 use mathlib.Core.Path.{◌≡◌, refl, sym, ap, ◌∙◌, subst, subst⁻¹}
 use mathlib.Core.List.{List}
@@ -138,8 +138,8 @@ module _ {code state : List ℕ} {c l : ℕ} (w : Climbable code state c l) {cop
     copy_is : s.copy ≡ caller_of state copy
     copy_is = ap (λ (x : Spot). x.copy) is
 
-    literal-is : s.literal ≡ call_of state copy
-    literal-is = ap (λ (x : Spot). x.literal) is
+    literal_is : s.literal ≡ call_of state copy
+    literal_is = ap (λ (x : Spot). x.literal) is
 
     pub along-less : s.copy < copy
     along-less = let x : caller_of state copy < copy = rising.below in let y : s.copy ≡ caller_of state copy = copy_is in omega arith

@@ -1,5 +1,5 @@
 -- The laws of the top as the code meets them: for a height and the number below it, and words that were read. Assumes nothing.
-use Prim.Native.Nat.{ℕ, suc, ◌+◌, ◌-◌, ◌*◌, ◌≤◌, ◌<◌, ◌^◌}
+use Prim.Native.Nat.{ℕ, suc, ◌+◌, ◌-◌, ◌≤◌, ◌<◌, ◌^◌}
 use native.Mathlib.Omega.{arith}
 use mathlib.Core.Path.{◌≡◌, refl, sym, ap, ◌∙◌, subst, subst⁻¹}
 use mathlib.Core.Bool.{true, false}
@@ -81,8 +81,8 @@ module _ {nodes code state scratch : List ℕ} {h : ℕ} (w : Steppable nodes co
     copy_is : s.copy ≡ copy_at state (h - 1)
     copy_is = ap (λ (x : Top). x.copy) is
 
-    literal-is : s.literal ≡ literal_at state (h - 1)
-    literal-is = ap (λ (x : Top). x.literal) is
+    literal_is : s.literal ≡ literal_at state (h - 1)
+    literal_is = ap (λ (x : Top). x.literal) is
 
     next_is : s.next ≡ next_at state (h - 1)
     next_is = ap (λ (x : Top). x.next) is
@@ -96,15 +96,15 @@ module _ {nodes code state scratch : List ℕ} {h : ℕ} (w : Steppable nodes co
     pub work-inside : (s.literal + literal_size ≤ length code) × (length code ≤ places)
     work-inside =
         let a : literal_at state (h - 1) + literal_size ≤ length code = facts.1.0 in
-        let b : s.literal ≡ literal_at state (h - 1) = literal-is in
+        let b : s.literal ≡ literal_at state (h - 1) = literal_is in
         (omega arith, facts.1.1)
 
     -- the kind, as it was read
     pub kind-read : {v k : ℕ} → v ≡ get_or code s.literal 0 → v ≡ k → record_kind code (literal_at state (h - 1)) ≡ k
-    kind-read {v} {k} e q = sym (ap (λ (x : ℕ). get_or code x 0) literal-is) ∙ (sym e ∙ q)
+    kind-read {v} {k} e q = sym (ap (λ (x : ℕ). get_or code x 0) literal_is) ∙ (sym e ∙ q)
 
     other-read : {v k : ℕ} → v ≡ get_or code s.literal 0 → (v ≡ k → ⊥) → record_kind code (literal_at state (h - 1)) ≡ k → ⊥
-    other-read {v} {k} e z q = z (e ∙ (ap (λ (x : ℕ). get_or code x 0) literal-is ∙ q))
+    other-read {v} {k} e z q = z (e ∙ (ap (λ (x : ℕ). get_or code x 0) literal_is ∙ q))
 
     pub work-pops : {v : ℕ} → v ≡ get_or code s.literal 0 → (v ≡ call_kind → ⊥) → (v ≡ equation_kind → ⊥) → (v ≡ split_kind → ⊥) → (v ≡ truth_kind → ⊥)
         → Stepped w.running.ss w.running.sh w.running.g nodes code state state scratch scratch h (record { height = h - 1; trail = s.mark })
@@ -115,7 +115,7 @@ module _ {nodes code state scratch : List ℕ} {h : ℕ} (w : Steppable nodes co
 
     pub truth-layable : {v i : ℕ} → v ≡ get_or code s.literal 0 → v ≡ truth_kind → i ≡ next_literal s.literal → Layable code state (h - 1) s.copy i s.mark s.path
     truth-layable e q n =
-        layable-of copy_is (n ∙ ap (λ (x : ℕ). next_literal x) literal-is) mark-is path-is
+        layable-of copy_is (n ∙ ap (λ (x : ℕ). next_literal x) literal_is) mark-is path-is
         (at_top (λ (h j : ℕ). Steppable nodes code state scratch h (mark_at state j) → record_kind code (literal_at state j) ≡ truth_kind → Layable code state j (copy_at state j) (next_literal (literal_at state j)) (mark_at state j) (path_at state j))
         (λ j w x. truth-layable-top nodes code state scratch j w x) h w.some w (kind-read e q))
 
@@ -124,12 +124,12 @@ module _ {nodes code state scratch : List ℕ} {h : ℕ} (w : Steppable nodes co
     truth-end e q n after k =
         subst⁻¹ (λ (x : ℕ). Stepped w.running.ss w.running.sh w.running.g nodes code state after scratch scratch h (record { height = h; trail = x })) mark-is
         (at_top (λ (h j : ℕ). (w : Steppable nodes code state scratch h (mark_at state j)) → record_kind code (literal_at state j) ≡ truth_kind → LayEnds code state after j (copy_at state j) (next_literal (literal_at state j)) (mark_at state j) (path_at state j) → Stepped w.running.ss w.running.sh w.running.g nodes code state after scratch scratch h (record { height = h; trail = mark_at state j }))
-        (λ j w x y. truth-core nodes code state scratch j w x after y) h w.some w (kind-read e q) (lay-ends copy_is (n ∙ ap (λ (x : ℕ). next_literal x) literal-is) mark-is path-is after k))
+        (λ j w x y. truth-core nodes code state scratch j w x after y) h w.some w (kind-read e q) (lay-ends copy_is (n ∙ ap (λ (x : ℕ). next_literal x) literal_is) mark-is path-is after k))
 
     -- a bracket
     module _ (kind : record_kind code (literal_at state (h - 1)) ≡ split_kind) {r : ℕ} (re : r ≡ get_or code (s.literal + 2) 0) where
       right_is : r ≡ other_at code (literal_at state (h - 1))
-      right_is = re ∙ ap (λ (x : ℕ). get_or code (x + 2) 0) literal-is
+      right_is = re ∙ ap (λ (x : ℕ). get_or code (x + 2) 0) literal_is
 
       pub right-layable : Layable code state (h - 1) s.copy r s.mark s.path
       right-layable =
@@ -143,7 +143,7 @@ module _ {nodes code state scratch : List ℕ} {h : ℕ} (w : Steppable nodes co
 
         pub left-layable : Layable code state1 h s.copy i s.mark s.path
         left-layable =
-            layable-of copy_is (n ∙ ap (λ (x : ℕ). next_literal x) literal-is) mark-is path-is
+            layable-of copy_is (n ∙ ap (λ (x : ℕ). next_literal x) literal_is) mark-is path-is
             (at_top (λ (h j : ℕ). Steppable nodes code state scratch h (mark_at state j) → record_kind code (literal_at state j) ≡ split_kind
             → LayEnds code state state1 j (copy_at state j) (other_at code (literal_at state j)) (mark_at state j) (path_at state j) → Layable code state1 h (copy_at state j) (next_literal (literal_at state j)) (mark_at state j) (path_at state j))
             (λ j w x y. left-layable-top nodes code state scratch j w x state1 y) h w.some w kind right-ends)
@@ -155,15 +155,15 @@ module _ {nodes code state scratch : List ℕ} {h : ℕ} (w : Steppable nodes co
             (at_top (λ (h j : ℕ). (w : Steppable nodes code state scratch h (mark_at state j)) → record_kind code (literal_at state j) ≡ split_kind
             → LayEnds code state state1 j (copy_at state j) (other_at code (literal_at state j)) (mark_at state j) (path_at state j) → LayEnds code state1 after h (copy_at state j) (next_literal (literal_at state j)) (mark_at state j) (path_at state j)
             → Stepped w.running.ss w.running.sh w.running.g nodes code state after scratch scratch h (record { height = h + 1; trail = mark_at state j }))
-            (λ j w x u z. either-core nodes code state scratch j w x state1 u after z) h w.some w kind right-ends (lay-ends copy_is (n ∙ ap (λ (x : ℕ). next_literal x) literal-is) mark-is path-is after y))
+            (λ j w x u z. either-core nodes code state scratch j w x state1 u after z) h w.some w kind right-ends (lay-ends copy_is (n ∙ ap (λ (x : ℕ). next_literal x) literal_is) mark-is path-is after y))
 
     -- an equation
     module _ (kind : record_kind code (literal_at state (h - 1)) ≡ equation_kind) {p q : ℕ} (pe : p ≡ get_or code (s.literal + 1) 0) (qe : q ≡ get_or code (s.literal + 2) 0) where
       place_is : p ≡ record_place code (literal_at state (h - 1))
-      place_is = pe ∙ ap (λ (x : ℕ). get_or code (x + 1) 0) literal-is
+      place_is = pe ∙ ap (λ (x : ℕ). get_or code (x + 1) 0) literal_is
 
       other-is : q ≡ other_at code (literal_at state (h - 1))
-      other-is = qe ∙ ap (λ (x : ℕ). get_or code (x + 2) 0) literal-is
+      other-is = qe ∙ ap (λ (x : ℕ). get_or code (x + 2) 0) literal_is
 
       pub equation-unifiable : Unifiable nodes state scratch p s.copy q s.copy s.mark
       equation-unifiable =
@@ -182,7 +182,7 @@ module _ {nodes code state scratch : List ℕ} {h : ℕ} (w : Steppable nodes co
 
         pub equation-layable : {i : ℕ} → r.equal ≡ true → i ≡ next_literal s.literal → Layable code state1 (h - 1) s.copy i r.trail s.path
         equation-layable e n =
-            layable-of copy_is (n ∙ ap (λ (x : ℕ). next_literal x) literal-is) refl path-is
+            layable-of copy_is (n ∙ ap (λ (x : ℕ). next_literal x) literal_is) refl path-is
             (at_top (λ (h j : ℕ). Steppable nodes code state scratch h (mark_at state j) → record_kind code (literal_at state j) ≡ equation_kind → UnifyEnds nodes state state1 scratch later (record_place code (literal_at state j)) (copy_at state j) (other_at code (literal_at state j)) (copy_at state j) (mark_at state j) r → Layable code state1 j (copy_at state j) (next_literal (literal_at state j)) r.trail (path_at state j))
             (λ j w x u. equation-layable-top nodes code state scratch j w x state1 later r u e) h w.some w kind ends_is)
 
@@ -190,7 +190,7 @@ module _ {nodes code state scratch : List ℕ} {h : ℕ} (w : Steppable nodes co
             → Stepped w.running.ss w.running.sh w.running.g nodes code state after scratch later h (record { height = h; trail = r.trail })
         equation-end e n after y =
             at_top (λ (h j : ℕ). (w : Steppable nodes code state scratch h (mark_at state j)) → record_kind code (literal_at state j) ≡ equation_kind → UnifyEnds nodes state state1 scratch later (record_place code (literal_at state j)) (copy_at state j) (other_at code (literal_at state j)) (copy_at state j) (mark_at state j) r → LayEnds code state1 after j (copy_at state j) (next_literal (literal_at state j)) r.trail (path_at state j) → Stepped w.running.ss w.running.sh w.running.g nodes code state after scratch later h (record { height = h; trail = r.trail }))
-            (λ j w x u z. equation-core nodes code state scratch j w x state1 later r u e after z) h w.some w kind ends_is (lay-ends copy_is (n ∙ ap (λ (x : ℕ). next_literal x) literal-is) refl path-is after y)
+            (λ j w x u z. equation-core nodes code state scratch j w x state1 later r u e after z) h w.some w kind ends_is (lay-ends copy_is (n ∙ ap (λ (x : ℕ). next_literal x) literal_is) refl path-is after y)
 
     -- a call
     module _ (kind : record_kind code (literal_at state (h - 1)) ≡ call_kind) where

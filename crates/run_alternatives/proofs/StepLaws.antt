@@ -1,5 +1,5 @@
 -- A step undoes the trail to the top's mark and works on the top; the start lays the goal. Assumes nothing.
-use Prim.Native.Nat.{ℕ, suc, ◌+◌, ◌-◌, ◌*◌, ◌≤◌, ◌<◌}
+use Prim.Native.Nat.{ℕ, suc, ◌+◌, ◌-◌, ◌≤◌, ◌<◌}
 use native.Mathlib.Omega.{arith}
 use mathlib.Core.Path.{◌≡◌, refl, sym, ap, ap₂, ◌∙◌, subst, subst⁻¹}
 use mathlib.Core.Bool.{Bool, true, false, ◌&&◌}
@@ -264,8 +264,8 @@ module _ {nodes code state : List ℕ} {h n : ℕ} (w : Running nodes code state
         at_top (λ (h j : ℕ). Running nodes code state h n → alternative_of j + alternative_size ≤ length state) (λ j w. top-room w.ss w.sh w.g nodes code state j n w.piled w.low) h filled w
 
     module _ {s : Top} (is : s ≡ top_at state (h - 1)) where
-      literal-is : s.literal ≡ literal_at state (h - 1)
-      literal-is = ap (λ (x : Top). x.literal) is
+      literal_is : s.literal ≡ literal_at state (h - 1)
+      literal_is = ap (λ (x : Top). x.literal) is
 
       next_is : s.next ≡ next_at state (h - 1)
       next_is = ap (λ (x : Top). x.next) is
@@ -277,12 +277,12 @@ module _ {nodes code state : List ℕ} {h n : ℕ} (w : Running nodes code state
       run_inside =
           let a : literal_at state (h - 1) + literal_size ≤ length code =
           at_top (λ (h j : ℕ). Running nodes code state h n → literal_at state j + literal_size ≤ length code) (λ j w. top-inside w.ss w.sh w.g nodes code state j n w.piled) h filled w in
-          let b : s.literal ≡ literal_at state (h - 1) = literal-is in
+          let b : s.literal ≡ literal_at state (h - 1) = literal_is in
           omega arith
 
       module _ {v : ℕ} (e : v ≡ get_or code s.literal 0) where
         kind_is : v ≡ record_kind code (literal_at state (h - 1))
-        kind_is = e ∙ ap (λ (x : ℕ). get_or code x 0) literal-is
+        kind_is = e ∙ ap (λ (x : ℕ). get_or code x 0) literal_is
 
         pub answer-end : eqb v body_end_kind ≡ is_answer (pile_of w.ss w.sh w.g nodes code state h)
         answer-end =

@@ -1,5 +1,5 @@
 -- The words of frames and alternatives, read and stored.
-use Rattle.std.specs.Prelude.{ℕ, ◌+◌, ◌*◌, true, false, List, eqb, set}
+use Rattle.std.specs.Prelude.{ℕ, ◌+◌, true, false, List, eqb, set}
 use Rattle.syntax.specs.Words.{call_kind}
 use Rattle.run_layout.specs.Regions.{frame_of, alternative_of}
 use Rattle.run_layout.specs.Program.{record_kind, other_at}

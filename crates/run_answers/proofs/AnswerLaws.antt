@@ -3,18 +3,18 @@ use Prim.Native.Nat.{ℕ, zero, suc, ◌+◌, ◌-◌, ◌*◌, ◌≤◌, ◌<�
 use native.Mathlib.Omega.{arith}
 use mathlib.Core.Path.{◌≡◌, refl, sym, ap, ap₂, ◌∙◌, subst, subst⁻¹}
 use mathlib.Core.Bool.{Bool, true, false, cond}
-use mathlib.Core.List.{List, [], ◌∷◌, ◌++◌}
+use mathlib.Core.List.{List, ◌++◌}
 use lib.Dec.{leb, eqb}
-use lib.ListN.{length, get_or, take, get_or-append}
+use lib.ListN.{length, take, get_or-append}
 use lib.Seq.{length-take-le, get_or-take}
-use borrow.Author.Tests.{le-leb, lt-leb, eq-eqb, ne_eqb}
+use borrow.Author.Tests.{ne_eqb}
 use Rattle.syntax.specs.Terms.{Sheet, Goal}
 use Rattle.syntax.specs.declared.Kind.{Kind}
 use Rattle.syntax.specs.declared.Kind.TheVariants.{Wanted, Done, Steps, Deep}
 use Rattle.run_settings.specs.declared.RunState.{RunState}
 use Rattle.run_settings.specs.declared.RunState.TheVariants.{Over, Open}
 use Rattle.run_settings.specs.Ends.{ended_by}
-use Rattle.machine.specs.Machine.{Alternative, step}
+use Rattle.machine.specs.Machine.{Alternative}
 use Rattle.machine.specs.Answers.{line}
 use Rattle.machine.specs.Runs.{is_empty, is_answer, goes_deeper}
 use Rattle.run_layout.specs.Regions.{alternatives, alternative_size, most_alternatives, state_words, store_words, stack}
@@ -31,7 +31,7 @@ use Rattle.run_alternatives.specs.Steps.{Running, Steppable, Stepped}
 use Rattle.run_alternatives.specs.declared.Pile.{Pile}
 use Rattle.run_answers.specs.declared.Next.{Next}
 use Rattle.run_answers.specs.declared.Next.TheVariants.{End, Answer, Step}
-use Rattle.run_answers.specs.Telling.{before_step, Tellable, Spelt, Under, Rewindable, SamePile, Rewound, Answering, Answered}
+use Rattle.run_answers.specs.Telling.{before_step, Tellable, Rewindable, SamePile, Rewound, Answering, Answered}
 use Rattle.run_answers.proofs.EndLaws.{answer-flat}
 
 -- ---- what comes next

@@ -1,7 +1,7 @@
 -- The ends of a run by what comes before its next step.
-use Prim.Native.Nat.{ℕ, zero, suc, ◌+◌, ◌-◌, ◌≤◌, ◌<◌}
+use Prim.Native.Nat.{ℕ, zero, suc, ◌+◌, ◌-◌, ◌<◌}
 use native.Mathlib.Omega.{arith}
-use mathlib.Core.Path.{◌≡◌, refl, sym, ap, ap₂, ◌∙◌, subst}
+use mathlib.Core.Path.{◌≡◌, refl, sym, ap, ap₂, ◌∙◌}
 use mathlib.Core.Bool.{Bool, true, false, cond, ◌&&◌}
 use mathlib.Core.List.{List, [], ◌∷◌, ◌++◌, append-nil}
 use mathlib.Core.Option.{Option, none, some}
@@ -13,7 +13,7 @@ use Rattle.syntax.specs.Terms.{Sheet, Goal}
 use Rattle.syntax.specs.declared.Kind.{Kind}
 use Rattle.syntax.specs.declared.Kind.TheVariants.{Wanted, Done, Steps, Full, Deep}
 use Rattle.machine.specs.Machine.{Pending, Alternative, path, step}
-use Rattle.machine.specs.Runs.{Progress, Ended, is_empty, is_answer, next_line, line_with, tries_first, goes_deeper, endings, first_end, one_if, advance, end_or, run_from}
+use Rattle.machine.specs.Runs.{Progress, is_empty, is_answer, next_line, line_with, tries_first, goes_deeper, endings, first_end, one_if, advance, end_or, run_from}
 use Rattle.run_answers.specs.declared.Next.{Next}
 use Rattle.run_answers.specs.declared.Next.TheVariants.{End, Answer, Step}
 use Rattle.run_answers.specs.Telling.{before_step}

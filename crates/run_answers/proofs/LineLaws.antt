@@ -1,16 +1,16 @@
 -- Answer lines: none is empty, and the line of the next step is that of the top alternative's bindings.
-use Prim.Native.Nat.{ℕ, zero, suc, ◌+◌, ◌≤◌}
+use Prim.Native.Nat.{ℕ, suc, ◌+◌, ◌≤◌}
 use native.Mathlib.Omega.{arith}
-use mathlib.Core.Path.{◌≡◌, refl, sym, ap, ◌∙◌, subst}
+use mathlib.Core.Path.{◌≡◌, refl}
 use mathlib.Core.Bool.{Bool, true, false}
 use mathlib.Core.List.{List, [], ◌∷◌, ◌++◌}
 use mathlib.Core.Option.{Option, none, some}
 use lib.ListN.{length}
 use Rattle.syntax.specs.Quote.{bytes}
 use Rattle.syntax.specs.Terms.{Sheet, Goal}
-use Rattle.machine.specs.Substitution.{Variable, RTerm, RTerms, var, app, rnil, rcons, Binding, resolve}
+use Rattle.machine.specs.Substitution.{Variable, var, Binding, resolve}
 use Rattle.machine.specs.Machine.{Pending, Alternative}
-use Rattle.machine.specs.Answers.{Piece, byte, unbound, bytes_then, spelt, spelt_args, numbered, place_of, bytes_of, is_anonymous, all_anonymous, values_from, line}
+use Rattle.machine.specs.Answers.{Piece, byte, unbound, bytes_then, spelt, numbered, place_of, bytes_of, is_anonymous, all_anonymous, values_from, line}
 use Rattle.machine.specs.Runs.{is_empty, is_answer, line_with, next_line}
 use Rattle.run_layout.specs.Nodes.{Symbol}
 use Rattle.run_layout.specs.State.{bindings}

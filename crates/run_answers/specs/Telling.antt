@@ -5,7 +5,7 @@ use Rattle.syntax.specs.declared.Kind.TheVariants.{Wanted, Done, Steps, Deep}
 use Rattle.machine.specs.Machine.{Alternative}
 use Rattle.machine.specs.Low.{Low}
 use Rattle.machine.specs.Answers.{line}
-use Rattle.machine.specs.Runs.{is_empty, is_answer, goes_deeper, run}
+use Rattle.machine.specs.Runs.{is_empty, is_answer, goes_deeper}
 use Rattle.run_layout.specs.Regions.{deepest, open_size, stack}
 use Rattle.run_layout.specs.Nodes.{Symbol}
 use Rattle.run_layout.specs.State.{bindings}

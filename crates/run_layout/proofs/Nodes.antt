@@ -1,9 +1,8 @@
 -- Laws of the node table: what stands at a place is what is read back from it. Assumes nothing.
-use Prim.Native.Nat.{ℕ, zero, suc, max, ◌+◌, ◌-◌, ◌*◌, ◌≤◌, ◌<◌}
+use Prim.Native.Nat.{ℕ, zero, suc, max, ◌+◌, ◌-◌, ◌≤◌, ◌<◌}
 use native.Mathlib.Omega.{arith}
-use native.Mathlib.Nat.{not-suc-le-zero}
 use mathlib.Core.Path.{◌≡◌, refl, sym, ap, ap₂, ◌∙◌, subst, subst⁻¹}
-use mathlib.Core.Bool.{Bool, true, false, ◌&&◌, ◌||◌}
+use mathlib.Core.Bool.{Bool, true, false, ◌||◌}
 use mathlib.Core.List.{List, [], ◌∷◌, ◌++◌, append_assoc, append-nil}
 use mathlib.Core.Logic.{◌⊎◌, inl, inr}
 use lib.Dec.{T, ltb, eqb, eqb→eq, ltb→lt}
@@ -12,9 +11,9 @@ use borrow.Author.Tests.{lt-ltb, le-ltb}
 use Rattle.table_words.proofs.Laws.{has_end, has-append, has_left, has_right}
 use Rattle.syntax.specs.Limits.{brackets}
 use Rattle.syntax.specs.Words.{first_name}
-use Rattle.syntax.specs.Terms.{Term, Terms, variable, compound, nil, cons, arity, same_name, same_predicate}
+use Rattle.syntax.specs.Terms.{Term, Terms, variable, compound, nil, cons, arity, same_name}
 use Rattle.machine.specs.Substitution.{RTerm, RTerms, var, app, rnil, rcons, copied, copied_all}
-use Rattle.machine.proofs.Tests.{both, and, either, name-eq}
+use Rattle.machine.proofs.Tests.{both, and, name-eq}
 use Rattle.run_layout.specs.Regions.{loaded_node}
 use Rattle.table_words.specs.Tables.{Has}
 use Rattle.run_layout.specs.Nodes.{Symbol, is_symbol, symbol_of, is_listed, name_of_symbol, loaded_words, loaded_all, is_loadable, are_loadable, brackets_of, brackets_all, TermLoaded, TermsLoaded, Node, Row, decoded, decoded_all, term_at, terms_at, followed, count}

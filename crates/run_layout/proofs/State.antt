@@ -3,19 +3,18 @@ use Prim.Native.Nat.{ℕ, zero, suc, ◌+◌, ◌-◌, ◌*◌, ◌/◌, ◌%◌
 use native.Mathlib.Omega.{arith}
 use mathlib.Core.Path.{◌≡◌, refl, sym, ap, ap₂, ◌∙◌, subst, subst⁻¹}
 use mathlib.Core.Bool.{Bool, true, false, cond}
-use mathlib.Core.List.{List, [], ◌∷◌}
-use mathlib.Core.Logic.{◌⊎◌, inl, inr}
+use mathlib.Core.List.{List, ◌∷◌}
 use lib.Dec.{T, eqb}
 use lib.ListN.{length, get_or, set, length-set}
 use lib.Seq.{get_or-set_same, get_or-set_other}
-use borrow.Author.Tests.{eqb-true, eqb-false, eq-eqb}
+use borrow.Author.Tests.{eqb-true, eqb-false}
 use Rattle.syntax.specs.Words.{first_name}
 use Rattle.machine.specs.Substitution.{Variable, same_variable, RTerm, RTerms, var, app, rnil, rcons, occurs, occurs_in, replace, replace_all, Binding, resolve}
-use Rattle.machine.proofs.Tests.{variable-eq, variable-refl, either, or_left, or_right}
+use Rattle.machine.proofs.Tests.{variable-eq, variable-refl, or_left, or_right}
 use Rattle.run_layout.specs.Regions.{copies, copy_cells, places, cells, trail, store_words}
 use Rattle.run_layout.specs.Nodes.{Symbol, Node, term_at}
 use Rattle.run_layout.specs.State.{cell_of, variable_of, word_of, node_of, copy_of, cell_at, trail_at, value_of, bindings, TrailEntry, Store, Within, Agrees, Keeps, bound_words}
-use Rattle.run_layout.proofs.Pigeonhole.{pigeonhole, find}
+use Rattle.run_layout.proofs.Pigeonhole.{pigeonhole}
 
 -- ---- cells and their words
 

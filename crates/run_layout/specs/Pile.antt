@@ -1,12 +1,12 @@
 -- What the words of a run's state mean: literals left, calls, alternatives, the pile. Each is by recursion on a count, so that the words of what lies
 -- above the count are of no account.
-use Rattle.std.specs.Prelude.{ℕ, zero, suc, ◌+◌, ◌-◌, ◌*◌, ◌/◌, ◌<◌, ◌≤◌, ◌≡◌, Bool, true, false, List, [], ◌∷◌, T, leb, ltb, eqb, length, get_or}
+use Rattle.std.specs.Prelude.{ℕ, zero, suc, ◌+◌, ◌-◌, ◌/◌, ◌<◌, ◌≤◌, ◌≡◌, true, false, List, [], ◌∷◌, T, leb, ltb, eqb, length, get_or}
 use Rattle.std.proofs.Math.Option.{Option, none, some}
 use Rattle.syntax.specs.Limits.{longest_path}
 use Rattle.syntax.specs.Terms.{Atom, nil, Literal, call, equation, truth, falsity, either, Body, done, also, Clause, Sheet, Goal}
 use Rattle.syntax.specs.Words.{literal_length, body_length}
 use Rattle.machine.specs.Machine.{Pending, Call, Alternative, pending, is_for, clause_at}
-use Rattle.run_layout.specs.Regions.{store_words, state_words, frame_of, alternative_of, literal_size, jump_kind, next_literal, literal_from}
+use Rattle.run_layout.specs.Regions.{state_words, frame_of, alternative_of, literal_size, jump_kind, next_literal, literal_from}
 use Rattle.run_layout.specs.Nodes.{Symbol}
 use Rattle.run_layout.specs.State.{bindings, Store, Within}
 use Rattle.run_layout.specs.Program.{body_at, record_kind, Program}

@@ -1,6 +1,6 @@
 -- A loaded sheet and goal: what stands in the table of clauses and literals.
-use Rattle.std.specs.Prelude.{ℕ, zero, suc, ◌+◌, ◌*◌, ◌<◌, ◌≤◌, ◌≡◌, Bool, true, ◌&&◌, List, [], ◌∷◌, ◌++◌, length, get_or}
-use Rattle.std.proofs.Math.Option.{Option, none, some}
+use Rattle.std.specs.Prelude.{ℕ, ◌+◌, ◌≤◌, ◌≡◌, Bool, true, ◌&&◌, List, [], ◌∷◌, ◌++◌, length, get_or}
+use Rattle.std.proofs.Math.Option.{some}
 use Rattle.syntax.specs.Words.{truth_kind, falsity_kind, call_kind, equation_kind, literal_length, body_length, program_clauses}
 use Rattle.syntax.specs.Terms.{term_of, Literal, call, equation, truth, falsity, either, Body, done, also, Clause, Sheet, Goal}
 use Rattle.machine.specs.Machine.{next_for, clause_at}

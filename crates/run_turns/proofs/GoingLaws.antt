@@ -8,7 +8,6 @@ use lib.ListN.{length}
 use lib.Seq.{length-sets}
 use Rattle.syntax.specs.declared.Kind.{Kind}
 use Rattle.syntax.specs.declared.Kind.TheVariants.{Full}
-use Rattle.machine.specs.Machine.{step}
 use Rattle.machine.specs.Runs.{Ended, goes_deeper, run_from}
 use Rattle.run_layout.specs.Pile.{pile_of}
 use Rattle.unify_bindings.specs.Queues.{Clean}

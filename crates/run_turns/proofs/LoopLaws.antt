@@ -1,10 +1,10 @@
 -- A run under way: its beginning, its ends, a step and an answer.
-use Prim.Native.Nat.{ℕ, zero, suc, ◌+◌, ◌-◌, ◌*◌, ◌≤◌, ◌<◌}
+use Prim.Native.Nat.{ℕ, zero, suc, ◌+◌, ◌-◌, ◌≤◌, ◌<◌}
 use native.Mathlib.Omega.{arith}
 use native.Mathlib.Nat.{zero-add}
 use mathlib.Core.Path.{◌≡◌, refl, sym, ap, ap₂, ◌∙◌, subst, subst⁻¹}
 use mathlib.Core.Bool.{Bool, true, false}
-use mathlib.Core.List.{List, [], ◌++◌}
+use mathlib.Core.List.{List, ◌++◌}
 use mathlib.Core.Logic.{◌⊎◌, inl, inr}
 use lib.Dec.{ltb, eqb}
 use lib.ListN.{length, length-append}
@@ -14,20 +14,19 @@ use Rattle.syntax.specs.Terms.{Sheet, Goal}
 use Rattle.syntax.specs.declared.Kind.{Kind}
 use Rattle.syntax.specs.declared.Kind.TheVariants.{Full}
 use Rattle.buffers.proofs.Laws.{sets-append}
-use Rattle.machine.specs.Machine.{Alternative, step, start}
+use Rattle.machine.specs.Machine.{Alternative, step}
 use Rattle.machine.specs.Low.{Low}
 use Rattle.machine_theorems.proofs.Low.{low_step}
 use Rattle.machine.specs.Answers.{line}
-use Rattle.machine.specs.Runs.{Progress, Ended, is_empty, is_answer, next_line, goes_deeper, run_from, begun, run}
+use Rattle.machine.specs.Runs.{Progress, Ended, is_empty, is_answer, next_line, goes_deeper, run_from}
 use Rattle.run_layout.specs.Nodes.{Symbol}
 use Rattle.run_layout.specs.State.{bindings}
 use Rattle.run_layout.specs.Pile.{pile_of, Piled, mark_at}
 use Rattle.unify_bindings.specs.Queues.{Clean}
 use Rattle.unify_bindings.specs.Scratch.{Roomy}
 use Rattle.out_answers.specs.Fitting.{Fitted}
-use Rattle.run_answers.specs.declared.Next.{Next}
 use Rattle.run_answers.specs.declared.Next.TheVariants.{End, Answer, Step}
-use Rattle.run_answers.specs.Telling.{before_step, Tellable, LentScratch, Under}
+use Rattle.run_answers.specs.Telling.{before_step, Tellable, Under}
 use Rattle.run_turns.specs.Turns.{Ongoing, Carries, Turned}
 use Rattle.run_turns.specs.declared.Carried.{Carried}
 use Rattle.run_answers.proofs.EndLaws.{Goes, Answers, run_ends, run-steps, run-answers}

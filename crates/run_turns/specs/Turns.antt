@@ -2,7 +2,7 @@
 use Rattle.std.specs.Prelude.{ℕ, ◌-◌, ◌≤◌, ◌≡◌, List, length}
 use Rattle.std.proofs.lemmas.List.Edits.{sets}
 use Rattle.syntax.specs.Terms.{Sheet, Goal}
-use Rattle.machine.specs.Runs.{Progress, Ended, run_from, run}
+use Rattle.machine.specs.Runs.{Progress, Ended, run_from}
 use Rattle.run_layout.specs.Nodes.{Symbol}
 use Rattle.run_layout.specs.Pile.{pile_of}
 use Rattle.run_answers.specs.Telling.{Spelt, Under}

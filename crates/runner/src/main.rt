@@ -4,6 +4,8 @@
 
 #![tactic(auto)]
 
+use in_reading::read_file;
+use std::io;
 use syntax::{GOAL_BYTES, MOST_STEPS, RunSettings, SHEET_BYTES, TRACE_BYTES};
 
 const SHEET_ROOM: usize = SHEET_BYTES + 1;
@@ -16,20 +18,14 @@ const ANSWERS: usize = 16;
 
 const TEXT_BYTES: usize = 4096;
 
-fn main() {
+fn main(rt: HostRuntime) -> io::Result<()> {
     let mut sheet = [0u8; SHEET_ROOM];
     let mut goal = [0u8; GOAL_ROOM];
     let mut trace = [0u8; TRACE_ROOM];
     let mut text = [0u8; TEXT_BYTES];
-    let first = os::open_read(b"sheet");
-    let n = io::read_full(first, &mut sheet);
-    libc::close(first);
-    let second = os::open_read(b"goal");
-    let m = io::read_full(second, &mut goal);
-    libc::close(second);
-    let third = os::open_read(b"trace");
-    let k = io::read_full(third, &mut trace);
-    libc::close(third);
+    let n = read_file(&rt, "sheet", &mut sheet);
+    let m = read_file(&rt, "goal", &mut goal);
+    let k = read_file(&rt, "trace", &mut trace);
     let clauses = &sheet[..n];
     let asked = &goal[..m];
     let settings = RunSettings {
@@ -39,5 +35,5 @@ fn main() {
     };
     let r = pilvaust::run_traced(clauses, asked, &trace[..k], settings, &mut text);
     let run = r.run;
-    out_printing::print_run(clauses, asked, run, &text);
+    out_printing::print_run(&mut io::writer(&rt), clauses, asked, run, &text)
 }

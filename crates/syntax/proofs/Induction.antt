@@ -7,13 +7,12 @@ use mathlib.Core.Bool.{Bool, true, false, cond}
 use mathlib.Core.List.{List, [], ◌∷◌}
 use mathlib.Core.Option.{Option, none, some}
 use lib.Dec.{eqb, ltb}
-use lib.ListN.{length, take, length-take}
+use lib.ListN.{length}
 use borrow.Author.Tests.{eqb-true, eqb-false, ltb-true}
 use Rattle.syntax.specs.Limits.{brackets, arguments, variables, literals, declarations, clauses}
 use Rattle.syntax.specs.Tokens.{name_kind, variable_kind, numeral_kind, neck_kind, open_kind, close_kind, stop_kind, equals_kind, end_kind, semicolon_kind}
 use Rattle.syntax.specs.Terms.{same_name, Term, Terms, variable, nil, cons, arity, Atom, term_of, Literal, Body, call, equation, truth, falsity, either, done, also, literal_of, Mark, Declaration, Clause, Sheet, Goal, same_predicate, true_name, fail_name}
 use Rattle.syntax.specs.Reading.{Cursor, numeral_at, Read, fault, ok, and_then, token_kind, is, cursor_at, next, wrong, beyond, full, spelt, variable_number, is_anonymous, with_new, new_variable, old_variable, read_variable, a_variable, a_numeral, a_name, start_of, begins, After, more, last, neither, after_of, atom_at, atom_with, read_atom_with, term_with, read_term_with, arguments_after, read_arguments, read_list, read_term, read_atom, read_right, after_atom, after_term, literal_with, one_literal_more, plain_with, read_plain, read_literal, body_after, read_body_with, read_sides, read_to, read_body, fresh, Tail, fact, rule, other, tail_of, clause_of, clause_after, read_clause, Sign, mark, no_mark, sign_of, is_mark, marks_after, marks_with, read_marks, marks_read, declaration_of, declaration_end, declaration_from, is_mode, after_neck, read_declaration, no_item, a_declaration, a_clause, past_limit, misplaced, with_declaration, with_clause, item_with, read_items, at_start, read_sheet, goal_of, goal_end, read_goal}
-use Rattle.syntax.specs.declared.Token.{Token}
 
 -- ---- what must be kept
 

@@ -5,7 +5,7 @@ use mathlib.Core.Path.{◌≡◌}
 use mathlib.Core.List.{List, ◌∷◌}
 use Rattle.syntax.specs.Limits.{lengths}
 use Rattle.syntax.specs.Terms.{Mark, input, output, free}
-use Rattle.syntax.specs.Words.{first_name, functor, functor_arity, functor_length, item_kinds, marker, item_kind, side_items, mark_numbers, mark_number, with_mark, marks_number, first_mark, other_marks}
+use Rattle.syntax.specs.Words.{functor, functor_arity, functor_length, item_kinds, marker, item_kind, side_items, mark_numbers, mark_number, with_mark, marks_number, first_mark, other_marks}
 
 -- ---- a name's first word
 

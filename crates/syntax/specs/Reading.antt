@@ -1,13 +1,13 @@
 -- Reading a sheet or a goal from left to right, to its first fault (document 01, "How a sheet is spelt", its table, and "The ten numbers", 2 to 7).
 -- The limits of the table are what the recursion counts down.
-use Rattle.std.specs.Prelude.{ℕ, zero, suc, ◌+◌, ◌-◌, Bool, true, false, cond, ◌&&◌, ◌||◌, List, [], ◌∷◌, ◌++◌, leb, ltb, eqb, length, get_or}
+use Rattle.std.specs.Prelude.{ℕ, zero, suc, ◌+◌, ◌-◌, Bool, true, false, cond, ◌&&◌, ◌||◌, List, [], ◌∷◌, ◌++◌, ltb, eqb, length, get_or}
 use Rattle.std.proofs.Math.Option.{Option, none, some}
 use Rattle.syntax.specs.Limits.{brackets, arguments, variables, literals, declarations, clauses}
 use Rattle.syntax.specs.Tokens.{token_at, spelling, no_token, name_kind, variable_kind, numeral_kind, neck_kind, open_kind, close_kind, comma_kind, stop_kind}
 use Rattle.syntax.specs.Tokens.{equals_kind, plus_kind, minus_kind, star_kind, overlong_kind, end_kind, semicolon_kind}
 use Rattle.syntax.specs.Numerals.{trimmed, dropped}
-use Rattle.syntax.specs.Terms.{Term, Terms, variable, compound, nil, cons, Atom, term_of, Literal, Body, equation, either, done, also, literal_of, Mark}
-use Rattle.syntax.specs.Terms.{input, output, free, Declaration, Clause, Sheet, Goal, arity, same_name, same_predicate, true_name, fail_name, mode_name}
+use Rattle.syntax.specs.Terms.{Term, Terms, variable, nil, cons, Atom, term_of, Literal, Body, equation, either, done, also, literal_of, Mark}
+use Rattle.syntax.specs.Terms.{input, output, free, Declaration, Clause, Sheet, Goal, same_name, same_predicate, true_name, fail_name, mode_name}
 use Rattle.syntax.specs.declared.Token.{Token}
 
 -- Where the reader stands: the token at hand, the spellings of the variables that the clause or goal has so far, the first one met first, and how many

@@ -1,5 +1,5 @@
 -- One token at a position of a text (document 01, "How a sheet is spelt").
-use Rattle.std.specs.Prelude.{ℕ, suc, ◌+◌, Bool, true, false, cond, List, [], ◌∷◌, leb, eqb, length, drop, take}
+use Rattle.std.specs.Prelude.{ℕ, suc, ◌+◌, Bool, true, false, cond, List, [], ◌∷◌, leb, eqb, drop, take}
 use Rattle.syntax.specs.Limits.{word_bytes}
 use Rattle.syntax.specs.Bytes.{class_of, in_word, in_numeral}
 use Rattle.syntax.specs.declared.Token.{Token}

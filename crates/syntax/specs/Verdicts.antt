@@ -1,10 +1,9 @@
 -- The answer to a text that is read and not checked further: refusals 2 to 7, in document 01's order.
-use Rattle.std.specs.Prelude.{ℕ, zero, suc, Bool, true, false, cond, List, [], ◌∷◌, leb, eqb, length}
+use Rattle.std.specs.Prelude.{ℕ, zero, suc, true, false, cond, List, [], ◌∷◌, leb, eqb, length}
 use Rattle.std.proofs.Math.Option.{Option, none, some}
 use Rattle.syntax.specs.Terms.{Sheet, Goal, Declaration}
 use Rattle.syntax.specs.Limits.{sheet_bytes, goal_bytes}
 use Rattle.syntax.specs.Reading.{Read, fault, ok, read_sheet, read_goal, first_repeat}
-use Rattle.syntax.specs.declared.Text.{Text}
 use Rattle.syntax.specs.declared.Text.TheVariants.{Sheet as in_sheet, Goal as in_goal}
 use Rattle.syntax.specs.declared.Refusal.{Refusal}
 use Rattle.syntax.specs.declared.Refusal.TheVariants.{TooLong, NoToken, Overlong, Misplaced, OverLimit, Repeated}

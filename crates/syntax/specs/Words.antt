@@ -3,7 +3,7 @@ use Rattle.std.specs.Prelude.{ℕ, suc, ◌+◌, ◌-◌, ◌*◌, ◌/◌, ◌%
 use Rattle.syntax.specs.Limits.{sheet_bytes, goal_bytes, lengths, declarations, clauses, most_facts}
 use Rattle.syntax.specs.Reading.{Sign, mark, no_mark}
 use Rattle.syntax.specs.Terms.{Term, Terms, variable, compound, nil, cons, Atom, term_of, arity, Literal, Body, call, equation, truth, falsity, either}
-use Rattle.syntax.specs.Terms.{done, also, Mark, input, output, free, Declaration, Clause, Sheet}
+use Rattle.syntax.specs.Terms.{done, also, Mark, input, output, free, Declaration, Clause}
 
 -- A node's first word is a variable's number, below this, or a name's, from this on.
 abbrev pub first_name : ℕ

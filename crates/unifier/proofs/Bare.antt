@@ -2,11 +2,11 @@
 use Prim.Native.Nat.{ℕ, zero, suc, ◌+◌, ◌-◌}
 use mathlib.Core.Path.{◌≡◌, refl, sym, ap, ap₂, ◌∙◌}
 use mathlib.Core.Bool.{Bool, true, false, cond}
-use mathlib.Core.List.{List, [], ◌∷◌}
+use mathlib.Core.List.{List, []}
 use lib.Dec.{ltb}
 use lib.ListN.{length, get_or}
 use Rattle.syntax.specs.Words.{first_name}
-use Rattle.machine.specs.Substitution.{Variable, same_variable, RTerm, RTerms, var, app, rnil, rcons, replace, replace_all, Binding, resolve}
+use Rattle.machine.specs.Substitution.{Variable, same_variable, RTerm, RTerms, var, app, rnil, rcons, replace, replace_all, resolve}
 use Rattle.run_layout.specs.Regions.{loaded_node}
 use Rattle.run_layout.specs.Nodes.{Symbol, name_of_symbol, decoded, decoded_all, term_at, terms_at, followed}
 use Rattle.run_layout.specs.State.{node_of, copy_of, variable_of, cell_at, trail_at, value_of, bindings}

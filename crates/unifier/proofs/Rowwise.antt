@@ -1,20 +1,19 @@
 -- Laws of the walk over two rows. Assumes nothing.
-use Prim.Native.Nat.{ℕ, zero, suc, ◌+◌, ◌-◌, ◌*◌, ◌≤◌, ◌<◌}
+use Prim.Native.Nat.{ℕ, suc, ◌+◌, ◌-◌, ◌≤◌, ◌<◌}
 use native.Mathlib.Omega.{arith}
-use mathlib.Core.Path.{◌≡◌, refl, sym, ap, ap₂, ◌∙◌, subst, subst⁻¹}
+use mathlib.Core.Path.{◌≡◌, refl, sym, ap, ap₂, ◌∙◌, subst}
 use mathlib.Core.Bool.{Bool, true, false}
-use mathlib.Core.List.{List, [], ◌∷◌}
-use mathlib.Core.Option.{none}
-use mathlib.Core.Logic.{◌⊎◌, inl, inr}
+use mathlib.Core.List.{List}
+use mathlib.Core.Logic.{◌⊎◌}
 use lib.Dec.{ltb}
 use lib.ListN.{length, get_or}
 use borrow.Author.Tests.{ltb-true, ltb-false}
 use Rattle.syntax.specs.Words.{first_name}
-use Rattle.machine.specs.Substitution.{RTerm, RTerms, var, app, rnil, rcons, Binding, resolve}
+use Rattle.machine.specs.Substitution.{RTerm, RTerms, app, rnil, rcons, Binding, resolve}
 use Rattle.machine_theorems.proofs.Terms.{resolve_all, resolve-app, resolve-nil, resolve-cons}
 use Rattle.run_layout.specs.Regions.{loaded_node}
-use Rattle.run_layout.specs.Nodes.{Symbol, name_of_symbol, Node, Row, term_at, terms_at, followed, count}
-use Rattle.run_layout.proofs.Nodes.{node-inside, node_end, node-size, variable-at, variable-size, compound-at, compound-row, row_one, row-one-is, row-order, row-none, row_first, row-rest, row_cons, row_open, row_opened, same_count, other-symbol, row-join, row-joined}
+use Rattle.run_layout.specs.Nodes.{name_of_symbol, Row, term_at, terms_at, followed, count}
+use Rattle.run_layout.proofs.Nodes.{node-inside, node_end, node-size, compound-at, compound-row, row_one, row-one-is, row-order, row-none, row_first, row-rest, row_cons, same_count, other-symbol, row-join, row-joined}
 use Rattle.unifier.specs.Rows.{unify_rows, nodes_of, nodes_of_all, rows_size}
 use Rattle.unifier.specs.Walks.{RowsBeside, Walkable, TwoNodes, StopsAt, Walks}
 use Rattle.unifier.specs.declared.walk.RowsWalked.{RowsWalked}

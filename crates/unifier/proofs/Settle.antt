@@ -1,36 +1,36 @@
 -- Laws of a crossing whose two terms are dereferenced: one for each way out. Assumes nothing.
-use Prim.Native.Nat.{ℕ, zero, suc, ◌+◌, ◌-◌, ◌*◌, ◌≤◌, ◌<◌, ◌^◌}
+use Prim.Native.Nat.{ℕ, suc, ◌+◌, ◌-◌, ◌*◌, ◌≤◌, ◌<◌, ◌^◌}
 use native.Mathlib.Omega.{arith}
 use mathlib.Core.Path.{◌≡◌, refl, sym, ap, ap₂, ◌∙◌, subst, subst⁻¹}
 use mathlib.Core.Bool.{Bool, true, false}
-use mathlib.Core.List.{List, [], ◌∷◌, ◌++◌}
+use mathlib.Core.List.{List, [], ◌++◌}
 use mathlib.Core.Option.{none}
 use mathlib.Core.Logic.{inr}
 use lib.Dec.{T, eqb}
 use lib.ListN.{length, get_or}
 use borrow.Author.Tests.{eqb-true, eqb-false}
 use Rattle.syntax.specs.Words.{first_name}
-use Rattle.machine.specs.Substitution.{Variable, same_variable, is_later, RTerm, RTerms, var, app, rnil, rcons, occurs, occurs_in, Binding, resolve}
+use Rattle.machine.specs.Substitution.{Variable, is_later, RTerm, RTerms, var, app, rcons, occurs, Binding, resolve}
 use Rattle.machine.proofs.Tests.{variable-eq}
 use Rattle.machine_theorems.proofs.Terms.{resolve_all, resolve-app}
 use Rattle.run_layout.specs.Regions.{copies, copy_cells, places, stack, pairs, pair_of, memo, rows, loaded_node, pair_size}
-use Rattle.run_layout.specs.Nodes.{Symbol, name_of_symbol, Node, Row, term_at, terms_at, followed, count}
-use Rattle.run_layout.specs.State.{cell_of, variable_of, word_of, cell_at, value_of, bindings, Store}
-use Rattle.run_layout.proofs.Nodes.{node-inside, node_end, variable-at, compound-at, same_count, other-symbol}
+use Rattle.run_layout.specs.Nodes.{Symbol, name_of_symbol, term_at, terms_at, followed, count}
+use Rattle.run_layout.specs.State.{cell_of, variable_of, word_of, value_of, bindings, Store}
+use Rattle.run_layout.proofs.Nodes.{node-inside, variable-at, compound-at, same_count, other-symbol}
 use Rattle.run_layout.proofs.State.{variable-cell, cell-eq, cell-small, resolve-unbound}
 use Rattle.unify_memos.specs.Memos.{KnownEqual}
-use Rattle.unify_bindings.specs.Scratch.{left_at, right_at, pair_words, SameMarks, Roomy}
+use Rattle.unify_bindings.specs.Scratch.{left_at, right_at, pair_words, SameMarks}
 use Rattle.unify_bindings.specs.declared.stack.Side.{Side}
 use Rattle.unify_memos.proofs.Remembering.{value-word, memo-kept, memo-found}
 use Rattle.unifier.specs.Rows.{unify_rows, nodes_of, rows_size}
-use Rattle.unifier.specs.Stacks.{end_of, whole_of, row_of, rows_of, Half, Via, Stack, no_term, Closes}
-use Rattle.unifier.specs.Turns.{Work, Goes, Binds, Turns, Dereferenced, Crossed, Openable, PairTurned}
+use Rattle.unifier.specs.Stacks.{end_of, whole_of, row_of, rows_of, Via, Stack, no_term, Closes}
+use Rattle.unifier.specs.Turns.{Binds, Dereferenced, Crossed, Openable, PairTurned}
 use Rattle.unifier.specs.declared.solve.Turn.{Turn}
 use Rattle.unifier.specs.declared.solve.Turn.TheVariants.{Go, Clash, Bind}
 use Rattle.unifier.proofs.Rules.{rows_same, rows-open, rows-clash, rows-occurs-left, rows-occurs-right, rows-bind-left, rows-bind-right, left-is-bound, right-is-bound, left-bound, right-bound, later-cell, earlier-cell, count-resolve}
 use Rattle.unifier.proofs.Rowwise.{size-cons, size-app, size-followed}
 use Rattle.unifier.proofs.Closing.{equal-named, closes-settled, closes-bound, closes-pushed}
-use Rattle.unifier.proofs.Stacked.{pair-long, pair-others, pair-marks, pair_left, pair-right, pair-left-others, pair-right-others, rows_agree, rows-top, half-agrees, half-pushed, stack-agrees, height}
+use Rattle.unifier.proofs.Stacked.{pair-others, pair-marks, pair_left, pair-right, pair-left-others, pair-right-others, rows_agree, rows-top, half-pushed, height}
 
 marks-refl : (scratch : List ℕ) → SameMarks scratch scratch
 marks-refl scratch = record { long = refl; words = λ j l. refl }

@@ -2,7 +2,7 @@
 use Prim.Native.Nat.{ℕ, zero, suc, ◌+◌, ◌-◌, ◌*◌, ◌≤◌, ◌<◌}
 use native.Mathlib.Omega.{arith}
 use mathlib.Core.Path.{◌≡◌, refl, sym, ap, ap₂, ◌∙◌, subst, subst⁻¹}
-use mathlib.Core.Bool.{Bool, true, false, cond}
+use mathlib.Core.Bool.{Bool, true, false}
 use mathlib.Core.List.{List, [], ◌∷◌, ◌++◌, append_assoc}
 use mathlib.Core.Logic.{◌⊎◌, inl, inr}
 use lib.Dec.{ltb, eqb}
@@ -10,18 +10,17 @@ use lib.ListN.{length, get_or, set, length-set}
 use lib.Seq.{get_or-set_same, get_or-set_other}
 use borrow.Author.Tests.{ltb-true, ltb-false, eqb-true, eqb-false}
 use Rattle.syntax.specs.Words.{first_name}
-use Rattle.machine.specs.Substitution.{RTerm, RTerms, var, app, rnil, rcons, replace, Binding, resolve}
-use Rattle.run_layout.specs.Regions.{cut_list, copies, cells, stack, pairs, pair_of, memo, loaded_node, side_size, pair_size}
+use Rattle.machine.specs.Substitution.{RTerm, var, replace, Binding, resolve}
+use Rattle.run_layout.specs.Regions.{cut_list, copies, cells, stack, pairs, pair_of, loaded_node, side_size, pair_size}
 use Rattle.run_layout.specs.Nodes.{Symbol, name_of_symbol, Node, Row, term_at, terms_at, followed, count}
 use Rattle.run_layout.specs.State.{variable_of}
 use Rattle.run_layout.proofs.Nodes.{compound-at, compound-row}
 use Rattle.run_layout.proofs.Pigeonhole.{pigeonhole}
-use Rattle.unify_bindings.specs.Scratch.{stack_side, stack_side_words, left_at, right_at, pair_words, SameMarks, Roomy}
+use Rattle.unify_bindings.specs.Scratch.{stack_side, stack_side_words, left_at, right_at, pair_words, SameMarks}
 use Rattle.unify_bindings.specs.declared.stack.Side.{Side}
-use Rattle.unifier.specs.Rows.{unify_rows, nodes_of, rows_size}
+use Rattle.unifier.specs.Rows.{nodes_of, rows_size}
 use Rattle.unifier.specs.Stacks.{end_of, whole_of, row_of, rows_of, Half, Via, Stack}
 use Rattle.unifier.proofs.Rowwise.{size-app}
-use Rattle.unifier.proofs.Rules.{resolve-append}
 
 -- ---- words
 

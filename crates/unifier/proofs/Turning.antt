@@ -1,24 +1,23 @@
 -- Laws of a turn: the top pair's rows walked, the crossing dereferenced. Assumes nothing.
-use Prim.Native.Nat.{ℕ, zero, suc, ◌+◌, ◌-◌, ◌*◌, ◌≤◌, ◌<◌, ◌^◌}
+use Prim.Native.Nat.{ℕ, suc, ◌+◌, ◌-◌, ◌*◌, ◌≤◌, ◌<◌, ◌^◌}
 use native.Mathlib.Omega.{arith}
 use mathlib.Core.Path.{◌≡◌, refl, sym, ap, ap₂, ◌∙◌, subst, subst⁻¹}
 use mathlib.Core.Bool.{Bool, true, false}
-use mathlib.Core.List.{List, [], ◌∷◌, ◌++◌}
+use mathlib.Core.List.{List, [], ◌++◌}
 use lib.Dec.{eqb}
 use borrow.Author.Tests.{eqb-true, eqb-false}
-use mathlib.Core.Option.{none}
 use mathlib.Core.Logic.{◌⊎◌, inl, inr}
 use lib.ListN.{length, get_or}
 use Rattle.syntax.specs.Words.{first_name}
-use Rattle.machine.specs.Substitution.{RTerm, RTerms, var, app, rnil, rcons, Binding, resolve}
-use Rattle.run_layout.specs.Regions.{copies, places, cells, trail, store_words, stack, pairs, pair_of, memo, rows, loaded_node, pair_size}
+use Rattle.machine.specs.Substitution.{RTerm, RTerms, var, app, rcons, Binding, resolve}
+use Rattle.run_layout.specs.Regions.{copies, places, cells, store_words, stack, pairs, pair_of, memo, rows, loaded_node, pair_size}
 use Rattle.run_layout.specs.Nodes.{Symbol, Node, Row, term_at, terms_at, followed, count}
-use Rattle.run_layout.specs.State.{cell_of, variable_of, word_of, value_of, bindings, Store, Within}
-use Rattle.run_layout.proofs.Nodes.{node-inside, node_end, node-size, variable-at, row_first, row-rest, row_cons, row-order}
+use Rattle.run_layout.specs.State.{cell_of, variable_of, word_of, value_of, bindings}
+use Rattle.run_layout.proofs.Nodes.{node-inside, node_end, variable-at, row_first, row-rest, row_cons}
 use Rattle.run_layout.proofs.State.{variable-cell, cell-small}
-use Rattle.unify_bindings.specs.Cells.{StoredTerm, Leads, Derefs}
+use Rattle.unify_bindings.specs.Cells.{StoredTerm, Derefs}
 use Rattle.unify_memos.specs.Memos.{Remembers}
-use Rattle.unify_bindings.specs.Scratch.{left_at, right_at, pair_words, SameMarks, Roomy}
+use Rattle.unify_bindings.specs.Scratch.{left_at, right_at, pair_words, SameMarks}
 use Rattle.unify_bindings.specs.declared.stack.Side.{Side}
 use Rattle.unify_cuts.specs.Chains.{Eased, Both, BothFollowed}
 use Rattle.unify_cuts.specs.declared.Ends.{Ends}
@@ -26,7 +25,7 @@ use Rattle.unify_memos.proofs.Remembering.{value-word, memo-kept, memo-eased, me
 use Rattle.unifier.specs.Rows.{unify_rows, nodes_of, rows_size}
 use Rattle.unifier.specs.Walks.{RowsBeside, Walkable, StopsAt, Walks}
 use Rattle.unifier.specs.Stacks.{end_of, whole_of, row_of, rows_of, Half, Via, Stack, SameRows, no_term, Closes}
-use Rattle.unifier.specs.Turns.{Work, Goes, Binds, Turns, TurnGives, Dereferenced, Crossed, PairTurned, Crossable, Crosses, Meetable, Passable, Turnable}
+use Rattle.unifier.specs.Turns.{Work, Turns, TurnGives, Crossed, PairTurned, Crossable, Crosses, Meetable, Passable, Turnable}
 use Rattle.unifier.specs.declared.walk.RowsWalked.{RowsWalked}
 use Rattle.unifier.specs.declared.walk.RowsWalked.TheVariants.{Done, Clash as Differ, Met}
 use Rattle.unifier.specs.declared.solve.Turn.{Turn}

@@ -1,19 +1,17 @@
 -- Laws of `unify`: the first pair laid, and the definition's answer. Assumes nothing.
-use Prim.Native.Nat.{ℕ, zero, suc, ◌+◌, ◌-◌, ◌*◌, ◌≤◌, ◌<◌, ◌^◌}
+use Prim.Native.Nat.{ℕ, zero, ◌+◌, ◌-◌, ◌≤◌, ◌<◌, ◌^◌}
 use native.Mathlib.Omega.{arith}
 use mathlib.Core.Path.{◌≡◌, refl, sym, ap, ap₂, ◌∙◌, subst, subst⁻¹}
-use mathlib.Core.List.{List, [], ◌∷◌, ◌++◌}
+use mathlib.Core.List.{List, [], ◌++◌}
 use mathlib.Core.Logic.{inl, inr}
 use lib.ListN.{length, get_or, set, length-set}
 use lib.Seq.{get_or-set_same, get_or-set_other}
-use Rattle.syntax.specs.Terms.{Term}
-use Rattle.machine.specs.Substitution.{RTerm, RTerms, app, rnil, rcons, copied, Binding, resolve}
+use Rattle.machine.specs.Substitution.{RTerms, app, rnil, rcons, Binding, resolve}
 use Rattle.machine.specs.Unification.{unify}
 use Rattle.run_layout.specs.Regions.{copies, places, order, stack, pair_of, order_word, bounds_word, cuts_word, memo, rows, loaded_node, pair_size}
-use Rattle.run_layout.specs.Nodes.{Symbol, TermLoaded, Node, Row, term_at, terms_at, followed, count}
+use Rattle.run_layout.specs.Nodes.{Symbol, Node, Row, term_at, terms_at, followed, count}
 use Rattle.run_layout.specs.State.{bindings}
 use Rattle.run_layout.proofs.Nodes.{node-inside, row_one, row-one-is, term-at}
-use Rattle.unify_bindings.specs.Queues.{Clean}
 use Rattle.unify_cuts.specs.Cuts.{cuts_made}
 use Rattle.unify_memos.specs.Memos.{classes_made}
 use Rattle.unify_bindings.specs.Scratch.{left_at, right_at, pair_words, SameMarks}
@@ -24,7 +22,7 @@ use Rattle.unify_orders.proofs.Lists.{ordered-none}
 use Rattle.unify_cycles.specs.Checks.{Begun}
 use Rattle.unifier.specs.Rows.{unify_rows}
 use Rattle.unifier.specs.Stacks.{end_of, whole_of, row_of, rows_of, Half, Stack, no_term, Closes}
-use Rattle.unifier.specs.Turns.{Work, Solvable, Solved, Unifiable, UnifyGives, answered}
+use Rattle.unifier.specs.Turns.{Solvable, Solved, Unifiable, UnifyGives}
 use Rattle.unifier.specs.declared.solve.UnifyAnswer.{UnifyAnswer}
 use Rattle.unifier.proofs.Rules.{rows-begin}
 use Rattle.unifier.proofs.Rowwise.{one-followed, none-followed, count-one}

@@ -6,7 +6,6 @@ use mathlib.Core.List.{List}
 use lib.ListN.{length, get_or, replicate, length-replicate, get_or-replicate}
 use Rattle.run_layout.specs.Regions.{cells, rows}
 use Rattle.run_layout.proofs.Witness.{symbols, table, state, node, empty}
-use Rattle.unify_bindings.specs.Queues.{Clean}
 use Rattle.unifier.specs.Turns.{Unifiable}
 
 unfoldable pub scratch : List ℕ

@@ -3,7 +3,7 @@ use Rattle.std.specs.Prelude.{ℕ, ◌+◌, ◌-◌, ◌*◌, ◌≤◌, ◌<◌
 use Rattle.std.proofs.Math.Option.{Option, none, some}
 use Rattle.syntax.specs.Words.{first_name}
 use Rattle.syntax.specs.Terms.{Term}
-use Rattle.machine.specs.Substitution.{RTerm, RTerms, rcons, copied, occurs, Binding, resolve}
+use Rattle.machine.specs.Substitution.{RTerms, rcons, copied, occurs, Binding, resolve}
 use Rattle.machine.specs.Unification.{unify}
 use Rattle.run_layout.specs.Regions.{copies, copy_cells, cells, stack, memo}
 use Rattle.run_layout.specs.Nodes.{Symbol, TermLoaded, Node, term_at}

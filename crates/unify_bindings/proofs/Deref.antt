@@ -1,8 +1,8 @@
 -- Laws of dereferencing and undoing. Assumes nothing.
-use Rattle.std.proofs.Common.{◌≡◌, ℕ, zero, suc, ◌+◌, ◌-◌, ◌*◌, ◌/◌, ◌%◌, ◌<◌, ◌≤◌, Bool, true, false, ltb, List, length, get_or, set, sym, refl, ap, ◌∙◌, subst, ap₂, arith, ltb-false, ltb-true, le-ltb, lt-ltb}
+use Rattle.std.proofs.Common.{◌≡◌, ℕ, suc, ◌+◌, ◌-◌, ◌<◌, ◌≤◌, Bool, true, false, ltb, List, length, get_or, set, sym, refl, ap, ◌∙◌, subst, arith, ltb-false, ltb-true, le-ltb, lt-ltb}
 use mathlib.Core.Path.{subst⁻¹}
 use Rattle.syntax.specs.Words.{first_name}
-use Rattle.machine.specs.Substitution.{RTerm, var, resolve}
+use Rattle.machine.specs.Substitution.{var, resolve}
 use Rattle.run_layout.specs.Regions.{copies, cells, trail, store_words, loaded_node}
 use Rattle.run_layout.specs.Nodes.{Symbol, Node, term_at}
 use Rattle.run_layout.specs.State.{cell_of, variable_of, node_of, copy_of, cell_at, trail_at, value_of, bindings, TrailEntry, Store, Within, Keeps}

@@ -1,22 +1,22 @@
 -- Laws of the occurs check. Assumes nothing.
-use Rattle.std.proofs.Common.{◌≡◌, ℕ, zero, suc, ◌+◌, ◌-◌, ◌*◌, ◌/◌, ◌%◌, ◌^◌, ◌<◌, ◌≤◌, Bool, true, false, ◌||◌, T, eqb, ltb, ◌⊎◌, List, [], ◌∷◌, length, get_or, set, sym, refl, ap, ◌∙◌, subst, ap₂, inl, inr, arith, length-set, get_or-set_other, ltb-false, ltb-true, le-ltb, lt-ltb, eq-eqb, eqb-true}
+use Rattle.std.proofs.Common.{◌≡◌, ℕ, zero, suc, ◌+◌, ◌-◌, ◌^◌, ◌<◌, ◌≤◌, Bool, true, false, ◌||◌, T, eqb, ltb, ◌⊎◌, List, [], length, get_or, set, sym, refl, ap, ◌∙◌, subst, ap₂, inl, inr, arith, length-set, get_or-set_other, ltb-false, ltb-true, le-ltb, lt-ltb, eqb-true}
 use mathlib.Core.Path.{subst⁻¹}
 use borrow.Author.Tests.{eqb-false}
 use Rattle.syntax.specs.Words.{first_name}
-use Rattle.machine.specs.Substitution.{Variable, same_variable, RTerm, RTerms, var, app, rnil, rcons, occurs, occurs_in, replace, Binding, resolve}
+use Rattle.machine.specs.Substitution.{Variable, same_variable, RTerm, RTerms, var, app, rnil, rcons, occurs, occurs_in, Binding, resolve}
 use Rattle.machine.proofs.Tests.{either, or_left, or_right, variable-eq, variable-refl}
 use Rattle.machine_theorems.proofs.Terms.{resolve_all, resolve-app, resolve-nil, resolve-cons, occurs-replace}
 use Rattle.run_layout.specs.Regions.{places, cells, trail, store_words, loaded_node}
-use Rattle.run_layout.specs.Nodes.{Symbol, is_symbol, symbol_of, is_listed, name_of_symbol, loaded_words, loaded_all, is_loadable, are_loadable, brackets_of, TermLoaded, Node, Row, decoded, term_at, terms_at, followed}
-use Rattle.run_layout.specs.State.{cell_of, variable_of, word_of, node_of, copy_of, cell_at, trail_at, value_of, bindings, TrailEntry, Store, Within, Keeps, bound_words}
-use Rattle.run_layout.proofs.Nodes.{node-inside, node_end, node-size, variable-at, variable-size, compound-at, row_one, row-one-is, row-order, row-none, row_first, row-rest, row_cons, row_open, row_opened}
+use Rattle.run_layout.specs.Nodes.{Symbol, is_symbol, symbol_of, is_listed, name_of_symbol, loaded_words, is_loadable, brackets_of, Node, Row, decoded, term_at, terms_at, followed}
+use Rattle.run_layout.specs.State.{cell_of, variable_of, word_of, node_of, copy_of, cell_at, trail_at, value_of, bindings, Store, Keeps, bound_words}
+use Rattle.run_layout.proofs.Nodes.{node-inside, node_end, variable-at, variable-size, compound-at, row_one, row-one-is, row-none, row_first, row-rest, row_cons, row_open, row_opened}
 use Rattle.run_layout.proofs.State.{replace-away, variable-cell, cell-eq, cell-small, copy-small, resolve-bound, resolve-unbound, room, few, agrees, store-agrees, bind-store, bind-keeps, bound-entry, keeps-refl, keeps-trans, keeps-less, no-entries}
 use Rattle.syntax.specs.Terms.{compound, nil, same_bytes}
 use Rattle.unify_bindings.specs.declared.At.{At}
 use Rattle.unify_bindings.specs.declared.occurrence.Queue.{Queue}
 use Rattle.unify_bindings.specs.Cells.{at_of, Undone, Stored}
 use Rattle.unify_bindings.specs.Queues.{mark_symbols, mark_table, Queued, Clean, is_cell, Visitable, CellDealtWith, Visited, Scannable, Dealt, TermScanned, Seen, QueueChanged, Lookable, Looked, OccursReady, Searched, Checkable, OccursChecked}
-use Rattle.unify_bindings.proofs.Deref.{BoundCell, bound-cell-is}
+use Rattle.unify_bindings.proofs.Deref.{bound-cell-is}
 
 -- ---- marks
 

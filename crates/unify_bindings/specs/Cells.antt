@@ -1,6 +1,6 @@
 -- What the functions on cells and trail are given, and what they promise. The symbols are no argument of the code: a function is given some with
 -- which the words make sense, and promises for all of them.
-use Rattle.std.specs.Prelude.{◌≡◌, ℕ, suc, ◌+◌, ◌*◌, ◌<◌, ◌≤◌, true, false, List, length, nat_lt, slice_index, slice_index_or}
+use Rattle.std.specs.Prelude.{◌≡◌, ℕ, ◌<◌, ◌≤◌, true, false, List, nat_lt, slice_index, slice_index_or}
 use Rattle.syntax.specs.Words.{first_name}
 use Rattle.machine.specs.Substitution.{resolve}
 use Rattle.run_layout.specs.Regions.{copies}

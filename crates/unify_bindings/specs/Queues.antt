@@ -5,7 +5,7 @@ use Rattle.syntax.specs.Words.{first_name}
 use Rattle.syntax.specs.Limits.{arguments}
 use Rattle.machine.specs.Substitution.{Variable, var, occurs, resolve}
 use Rattle.run_layout.specs.Regions.{copies, copy_cells, cells, store_words, loaded_node}
-use Rattle.run_layout.specs.Nodes.{Symbol, Node, Row, term_at, terms_at}
+use Rattle.run_layout.specs.Nodes.{Symbol, Node, term_at}
 use Rattle.run_layout.specs.State.{cell_of, variable_of, copy_of, cell_at, trail_at, value_of, bindings, Store, Keeps}
 use Rattle.unify_bindings.specs.declared.occurrence.Queue.{Queue}
 

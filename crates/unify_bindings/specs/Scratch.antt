@@ -1,5 +1,5 @@
 -- Scratch words: sides and pairs of the work stack, and room for all that stands there.
-use Rattle.std.specs.Prelude.{◌≡◌, ℕ, ◌+◌, ◌*◌, ◌<◌, ◌≤◌, List, length, slice_index, slice_set}
+use Rattle.std.specs.Prelude.{◌≡◌, ℕ, ◌+◌, ◌<◌, ◌≤◌, List, length, slice_index, slice_set}
 use Rattle.run_layout.specs.Regions.{stack, pair_of, rows, side_size}
 use Rattle.unify_bindings.specs.declared.stack.Side.{Side}
 

@@ -1,5 +1,5 @@
 -- Laws of short cuts. Assumes nothing.
-use Prim.Native.Nat.{ℕ, zero, suc, ◌+◌, ◌*◌, ◌/◌, ◌%◌, ◌-◌, ◌≤◌, ◌<◌}
+use Prim.Native.Nat.{ℕ, suc, ◌+◌, ◌-◌, ◌≤◌, ◌<◌}
 use native.Mathlib.Omega.{arith}
 use mathlib.Core.Path.{◌≡◌, refl, sym, ap, ◌∙◌, subst, subst⁻¹}
 use mathlib.Core.Bool.{Bool, true, false}
@@ -9,17 +9,17 @@ use lib.ListN.{length, get_or, set, take, length-set}
 use lib.Seq.{get_or-set_same, get_or-set_other, length-take-le, get_or-take}
 use borrow.Author.Tests.{ltb-true, ltb-false, eqb-true, eqb-false}
 use Rattle.syntax.specs.Words.{first_name}
-use Rattle.machine.specs.Substitution.{RTerm, var, replace, Binding, resolve}
-use Rattle.run_layout.specs.Regions.{copies, cells, store_words, loaded_node, cut_list, cut_count, cut_of, cuts_word, memo, slots, keys, rows}
+use Rattle.machine.specs.Substitution.{var, replace, Binding, resolve}
+use Rattle.run_layout.specs.Regions.{copies, cells, loaded_node, cut_list, cut_count, cut_of, cuts_word, memo, slots, keys, rows}
 use Rattle.run_layout.specs.Nodes.{Symbol, Node, term_at}
-use Rattle.run_layout.specs.State.{cell_of, variable_of, node_of, copy_of, cell_at, bindings, Store}
+use Rattle.run_layout.specs.State.{cell_of, node_of, copy_of, cell_at, bindings}
 use Rattle.run_layout.proofs.Nodes.{node-inside, variable-at}
 use Rattle.run_layout.proofs.State.{variable-cell, cell-small, copy-small}
-use Rattle.unify_bindings.specs.Cells.{at_of, bound_at, StoredTerm, Leads, Derefs}
+use Rattle.unify_bindings.specs.Cells.{at_of, bound_at, Leads}
 use Rattle.unify_bindings.specs.declared.At.{At}
 use Rattle.unify_bindings.specs.Scratch.{Roomy}
 use Rattle.unify_bindings.proofs.Deref.{BoundCell, bound-cell-is, bound-variable, bound-name, depth, depth-variable}
-use Rattle.unify_cuts.specs.Cuts.{cuts_made, cut_from, cut_to, cell_means, Cuts, Cut, CutsOnly, Cutting}
+use Rattle.unify_cuts.specs.Cuts.{cuts_made, cut_from, cut_to, cell_means, Cuts, Cut, Cutting}
 use Rattle.unify_cuts.specs.Chains.{Fronted, Followable, Next, Staged, Further, Strode, Cuttable, Eased, Followed, Both, BothFollowed}
 use Rattle.unify_cuts.specs.declared.Stage.{Stage}
 use Rattle.unify_cuts.specs.declared.Ends.{Ends}

@@ -1,5 +1,5 @@
 -- Chains of variables followed by short cuts: what the functions are given and what they promise.
-use Rattle.std.specs.Prelude.{ℕ, ◌+◌, ◌≤◌, ◌<◌, ◌≡◌, List, length, get_or}
+use Rattle.std.specs.Prelude.{ℕ, ◌≤◌, ◌<◌, ◌≡◌, List, length, get_or}
 use Rattle.syntax.specs.Words.{first_name}
 use Rattle.machine.specs.Substitution.{Binding}
 use Rattle.run_layout.specs.Regions.{copies, cells}

@@ -1,7 +1,7 @@
 -- Short cuts through chains of variables: a list of pairs of cells whose variables mean the same.
 use Rattle.std.specs.Prelude.{ℕ, ◌+◌, ◌≤◌, ◌<◌, ◌≡◌, List, length, get_or}
 use Rattle.machine.specs.Substitution.{RTerm, var, Binding, resolve}
-use Rattle.run_layout.specs.Regions.{cells, cut_list, cut_count, cut_of, cuts_word, memo, slots, keys}
+use Rattle.run_layout.specs.Regions.{cut_list, cut_count, cut_of, cuts_word, memo, slots, keys}
 use Rattle.run_layout.specs.State.{variable_of}
 
 -- how many cuts there are, and from which cell to which a cut leads

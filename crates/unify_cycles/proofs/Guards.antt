@@ -8,7 +8,7 @@ use lib.Dec.{T}
 use lib.ListN.{length, get_or, set, length-set}
 use lib.Seq.{get_or-set_same, get_or-set_other}
 use Rattle.machine.specs.Substitution.{Binding, occurs, resolve}
-use Rattle.run_layout.specs.Regions.{cells, copies, places, store_words, order, order_word, bounds_word, purse_word, purse_size, stack, pairs, cut_list, cuts_word, memo, rows, loaded_node}
+use Rattle.run_layout.specs.Regions.{cells, places, store_words, order, order_word, bounds_word, purse_word, purse_size, stack, cuts_word, memo, rows, loaded_node}
 use Rattle.run_layout.specs.Nodes.{Symbol, term_at}
 use Rattle.run_layout.specs.State.{variable_of, word_of, bindings, bound_words}
 use Rattle.run_layout.proofs.Nodes.{node-inside}
@@ -18,7 +18,7 @@ use Rattle.unify_bindings.proofs.Scan.{is_false}
 use Rattle.unify_bindings.proofs.Apart.{plain-checked}
 use Rattle.unify_memos.specs.Memos.{Memo}
 use Rattle.unify_memos.proofs.Remembering.{memo-none, memo-kept}
-use Rattle.unify_orders.specs.Orders.{ordered, bounds_made, CellsListed, Ordered, Ahead, Unplaced, Reordered, Boundable, Freed, Dropped, Orderable, Arranged}
+use Rattle.unify_orders.specs.Orders.{ordered, CellsListed, Ordered, Ahead, Reordered, Boundable, Freed, Dropped, Orderable, Arranged}
 use Rattle.unify_orders.proofs.Lists.{ordered-kept, reordered-trans, forgotten-reordered}
 use Rattle.unify_orders.proofs.Ahead.{ahead-free, ahead-bound, unplaced-bound}
 use Rattle.lookahead_words.specs.Room.{KeptBelow}

@@ -1,9 +1,9 @@
 -- The memo of terms that are equal already: what its words mean, and what its functions promise.
-use Rattle.std.specs.Prelude.{ℕ, zero, suc, ◌+◌, ◌-◌, ◌*◌, ◌/◌, ◌%◌, ◌≤◌, ◌<◌, ◌≡◌, List, ◌⊎◌, length, get_or}
+use Rattle.std.specs.Prelude.{ℕ, ◌+◌, ◌-◌, ◌/◌, ◌%◌, ◌≤◌, ◌<◌, ◌≡◌, List, ◌⊎◌, length, get_or}
 use Rattle.syntax.specs.Limits.{longest_path}
 use Rattle.machine.specs.Substitution.{RTerm, Binding, resolve}
 use Rattle.run_layout.specs.Regions.{copies, memo, rows_word, keys, key_count, classes, class_count, memo_class, weights, rows, row_words, memo_row}
-use Rattle.run_layout.specs.Halves.{half, stored}
+use Rattle.run_layout.specs.Halves.{half}
 use Rattle.run_layout.specs.Nodes.{Symbol}
 use Rattle.run_layout.specs.State.{value_of}
 use Rattle.unify_cuts.specs.Cuts.{Cuts}

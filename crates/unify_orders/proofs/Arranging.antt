@@ -7,7 +7,7 @@ use mathlib.Core.List.{List}
 use lib.Dec.{leb}
 use lib.ListN.{length}
 use borrow.Author.Tests.{leb-true}
-use Rattle.run_layout.specs.Regions.{copies, cells, order, rows}
+use Rattle.run_layout.specs.Regions.{copies, cells, rows}
 use Rattle.run_layout.specs.Nodes.{Symbol, Node, term_at}
 use Rattle.run_layout.specs.State.{node_of, cell_at, value_of}
 use Rattle.run_layout.proofs.State.{copy-small}

@@ -9,7 +9,7 @@ use lib.ListN.{length, get_or, set, length-set}
 use lib.Seq.{get_or-set_same, get_or-set_other}
 use borrow.Author.Tests.{eqb-true, eqb-false}
 use Rattle.machine.specs.Substitution.{RTerm}
-use Rattle.run_layout.specs.Regions.{cells, order, order_places, order_word, bound_list, bound_count, bound_of, bounds_word, purse_word, stack, rows}
+use Rattle.run_layout.specs.Regions.{cells, order, order_places, order_word, bound_list, bound_count, bound_of, bounds_word, purse_word, rows}
 use Rattle.run_layout.specs.Nodes.{Symbol}
 use Rattle.run_layout.specs.State.{variable_of, cell_at, value_of}
 use Rattle.unify_bindings.specs.Scratch.{Roomy}

@@ -1,4 +1,3 @@
-use Prim.Native.Nat.{◌-◌}
 use Rattle.lex_scanning.proofs.Laws.{runs-low, runs-high, runs_on, runs-end}
 use borrow.Author.Rules.{rules}
 use Rattle.lex_scanning.proofs.run_end.Goals as goal

@@ -1,4 +1,3 @@
-use Prim.Native.Nat.{◌-◌}
 use Rattle.lex_scanning.proofs.Laws.{ahead-first, ahead-blank, ahead-percent, ahead-feed, ahead-comment, ahead-end, ahead-token}
 use borrow.Author.Rules.{rules}
 use Rattle.lex_scanning.proofs.skip.Goals as goal

@@ -1,4 +1,3 @@
-use Prim.Native.Nat.{◌-◌}
 use native.Mathlib.Omega.{arith}
 use Rattle.mode_flags.proofs.Laws.{halfway-starts, halfway-on, halfway-ends}
 use borrow.Author.Rules.{rules}

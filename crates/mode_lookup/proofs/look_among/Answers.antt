@@ -1,4 +1,3 @@
-use Prim.Native.Nat.{◌-◌}
 use Rattle.mode_lookup.proofs.Laws.{rest-first, rest-room, rest_found, rest_on, rest-missing}
 use borrow.Author.Rules.{rules}
 use Rattle.mode_lookup.proofs.look_among.Goals as goal
@@ -6,7 +5,6 @@ use Rattle.mode_lookup.proofs.look_among.Goals as goal
 pub loop-p-init : goal.loop-p-init
 loop-p-init c = search (rest-first, rules)
 
--- LOOK: goal of clauses p_in_bounds len_in_bounds
 pub is_match-requires : goal.is_match-requires
 is_match-requires c = search (rest-room, rules)
 

@@ -7,7 +7,6 @@ use Rattle.syntax.specs.Reading.{first_repeat}
 use Rattle.mode_marks.specs.Tables.{DeclarationsAt}
 use Rattle.mode_repeats.proofs.first_repeat.Given as goal
 
--- LOOK: bound names i
 abbrev pub invariant-loop-i : goal.invariant-loop-i
 invariant-loop-i l =
     (l.i ≤ l.n) × ((w : DeclarationsAt l.s l.declared l.n) → first_repeat [] w.list ≡ first_repeat (take l.i w.list) (drop l.i w.list))

@@ -1,5 +1,4 @@
 use lib.Dec.{lit<}
-use Prim.Native.Nat.{◌<◌}
 use native.Mathlib.Omega.{arith}
 use Rattle.parse_cursor.proofs.TermLaws.{name-fits, leaf-asked, atom-bare, atom-deep, atom-fault, atom-list, list-ready, close-ready, term-name, term-simple, arguments-full, arguments-fault, arguments-standing, arguments-ready, arguments-few, arguments-more, arguments-last, arguments-wrong}
 use borrow.Author.Rules.{rules}
@@ -41,7 +40,6 @@ read_arguments-returns t c = let args = c.args in arguments-wrong args.left args
 pub read_atom-pack_functor-what-requires : goal.read_atom-pack_functor-what-requires
 read_atom-pack_functor-what-requires t c = search (name-fits, rules)
 
--- LOOK: goal of clauses room_to_read what_bound
 pub read_atom-leaf-requires : goal.read_atom-leaf-requires
 read_atom-leaf-requires t c = search (leaf-asked, rules)
 

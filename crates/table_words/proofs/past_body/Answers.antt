@@ -1,4 +1,3 @@
-use Prim.Native.Nat.{◌-◌}
 use Rattle.table_words.proofs.Items.{on-begin, on-first, on-next, on-end}
 use native.Mathlib.Omega.{arith}
 use Rattle.table_words.proofs.past_body.Goals as goal

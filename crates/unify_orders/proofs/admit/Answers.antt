@@ -1,4 +1,3 @@
-use borrow.Author.Tests.{not-false}
 use Rattle.unify_orders.proofs.Arranging.{admit-none, admit-not, admit-room, admit-new}
 use Rattle.unify_orders.proofs.admit.Goals as goal
 

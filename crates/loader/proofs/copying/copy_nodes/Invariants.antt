@@ -6,7 +6,6 @@ use Rattle.load_words.specs.Flat.{flat_words, flat_all, RunAt}
 use Rattle.loader.proofs.Runs.{Running}
 use Rattle.loader.proofs.copying.copy_nodes.Given as goal
 
--- LOOK: bound names text
 abbrev pub invariant-loop-p : goal.invariant-loop-p
 invariant-loop-p l =
     (length l.nodes ≡ length l.initial.nodes) × ((w : RunAt l.table l.from l.stop) → Running l.table l.stop l.text l.initial.nodes l.at (flat_words (flat_all l.text w.run)) l.nodes l.p l.q)

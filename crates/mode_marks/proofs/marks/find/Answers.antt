@@ -3,7 +3,6 @@ use Rattle.mode_marks.proofs.Marking.{declarations-room, place_found, place-miss
 use borrow.Author.Rules.{rules}
 use Rattle.mode_marks.proofs.marks.find.Goals as goal
 
--- LOOK: goal of clauses declaration_size_in_bounds len_in_bounds
 pub look_among-requires : goal.look_among-requires
 look_among-requires c = search (declarations-room, rules)
 

@@ -2,7 +2,6 @@ use mathlib.Core.Path.{refl}
 use lib.ListN.{get_or}
 use native.Mathlib.Omega.{arith}
 use Prim.Native.Nat.{◌-◌}
-use borrow.Author.Tests.{not-true, not-false}
 use Rattle.out_terms.proofs.ValueLaws.{all_start, all_more, all-not, all_end, word-inside}
 use Rattle.out_terms.proofs.values.all_anonymous.Goals as goal
 

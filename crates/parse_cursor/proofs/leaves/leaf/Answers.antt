@@ -3,6 +3,5 @@ use Rattle.parse_cursor.proofs.Reading.{node-room}
 use borrow.Author.Rules.{rules}
 use Rattle.parse_cursor.proofs.leaves.leaf.Goals as goal
 
--- LOOK: goal of clauses room_to_read what_bound
 pub leaf_at-requires : goal.leaf_at-requires
 leaf_at-requires c = search (node-room, rules)

@@ -3,7 +3,6 @@ use Rattle.parse_cursor.proofs.Reading.{leaf-ready, variable-met, variable-unmet
 use borrow.Author.Rules.{rules}
 use Rattle.parse_cursor.proofs.leaves.read_variable.Goals as goal
 
--- LOOK: goal of clauses room_to_read what_bound
 pub leaf-requires : goal.leaf-requires
 leaf-requires c = search (leaf-ready, rules)
 

@@ -1,9 +1,3 @@
-use Prim.Native.Nat.{ℕ}
-use native.Mathlib.Omega.{arith}
-use mathlib.Core.Path.{◌≡◌, sym, ap, ◌∙◌}
-use mathlib.Core.Logic.{⊎_elim}
-use denote.Enum.Declared.{tag_of, declared}
-use Rattle.unifier.specs.contracts.solve.Turn.{enum}
 use Rattle.unifier.proofs.Solving.{advance-begin, advance-turn, advance-next, advance-less, advance-stop, advance-end}
 use Rattle.unifier.proofs.solve.advance.Goals as goal
 
