@@ -1,7 +1,7 @@
 -- The length of an array of zeros is known by a law: to compute it would walk the whole array. Assumes nothing.
-use Prim.Native.Nat.{ℕ}
-use mathlib.Core.Path.{◌≡◌, sym}
-use lib.ListN.{length, replicate, length-replicate}
+use Rattle.std.proofs.Common.{◌≡◌, ℕ, length, sym}
+use Rattle.std.specs.Prelude.{replicate}
+use Rattle.std.proofs.Math.ListN.{length-replicate}
 
 pub zeros : (n byte : ℕ) → n ≡ length (replicate n byte)
 zeros n byte = sym (length-replicate n byte)
