@@ -26,12 +26,30 @@ pub fn read_full<R: Read>(input: &mut R, room: &mut [u8]) -> Result<usize>
     Ok(done)
 }
 
-// The same of a file. One that cannot be read counts as empty.
+// The same of a file. One that cannot be opened counts as empty, and one that fails further on as what it gave before.
 pub fn read_file<F: Files>(files: &F, name: &str, room: &mut [u8]) -> usize
     ensures { result ≤ length room.new }
 {
     match fs::open(files, name) {
-        Ok(mut file) => read_full(&mut file, room).unwrap_or(0),
+        Ok(mut file) => read_well(&mut file, room),
         Err(_) => 0,
     }
+}
+
+// Reads until the room is full, the input ends or a read fails, and returns how many bytes it put at the start of the room.
+fn read_well<R: Read>(input: &mut R, room: &mut [u8]) -> usize
+    ensures { result ≤ length room.new }
+{
+    let mut past = 0;
+    while past < room.len() {
+        let n = match input.read(&mut room[past..]) {
+            Ok(n) => n,
+            Err(_) => 0,
+        };
+        if n < 1 {
+            break;
+        }
+        past += n;
+    }
+    past
 }
