@@ -3,18 +3,25 @@
 python3 tests/try_cases.py read|check|run|list|trace|determinacy
 
 The program finds the file of that kind alone: a file that is not there counts as empty.  `rt try`
-takes at most 1,048,576 bytes of output, less than the cases of all kinds have.
+takes at most 1,048,576 bytes of output, less than the cases of all kinds have.  It compiles with tests of
+each access and sum, and so the kinds run, trace and determinacy have tables that pass the usual
+native stack: they get STACK bytes.
 """
 
+import resource
 import subprocess
 import sys
 from itertools import zip_longest
 
 import make_cases
 
+STACK, SECONDS = 1 << 26, 900
+
 
 def main(stage):
-    words = ["rt", "try", "--data", "%s=data/%s" % (stage, stage)]
+    _, most = resource.getrlimit(resource.RLIMIT_STACK)
+    resource.setrlimit(resource.RLIMIT_STACK, (STACK if most == resource.RLIM_INFINITY else min(STACK, most), most))
+    words = ["rt", "try", "--seconds", str(SECONDS), "--data", "%s=data/%s" % (stage, stage)]
     ran = subprocess.run(words, cwd=make_cases.CRATE, stdin=subprocess.DEVNULL, stdout=subprocess.PIPE)
     expected = make_cases.output_parts()[stage]
     if ran.stdout == expected:
