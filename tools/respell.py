@@ -2,7 +2,7 @@
 """Brings this repository's own definitions and lemmas to the spelling of the kit's guide to style:
 facts and types in upper camel case, everything else in snake case; a dash joins the names of a lemma.
 
-usage: python3 tools/respell.py [--dry]        at the top, once, right after /opt/rattle/port/port.py
+usage: python3 tools/respell.py [--dry]        at the top, once, right after the kit's port.py
 
 It reads what crates/*/specs and crates/*/proofs declare, and turns the words of .antt files, of clauses, comments and
 `ghost use` lines of .rt files, of must-fail edits, of README.md and of docs/*.md. Strings keep their words. It prints the names
@@ -12,16 +12,13 @@ import os
 import re
 import sys
 
+from respell_names import BY_HAND, IN_CRATE, LABELS
+
 ROOT = os.getcwd()
 CRATES = os.path.join(ROOT, "crates")
 WORD = re.compile(r"[A-Za-z_◌][\w'₀-₉◌-]*")
 HEAD = re.compile(r"^(\s*)((?:(?:abbrev|unfoldable|pub|data|record)\s+)*)([^\s(){}:;,.]+(?:\s+[^\s(){}:;,.]+)*?)((?:\s+[({].*)?)\s*:(?=\s|$)(.*)$")
-# names that would fall together with another, or read badly, by hand: old name, new name
-BY_HAND = {}
-# the same in one crate alone: crate, old name, new name
-IN_CRATE = {}
-LABELS = set()
-exec(open(os.path.join(os.path.dirname(os.path.abspath(__file__)), "respell_names.py"), encoding="utf-8").read(), {"BY_HAND": BY_HAND, "IN_CRATE": IN_CRATE, "LABELS": LABELS})
+
 
 
 def files():

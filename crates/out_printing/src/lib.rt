@@ -1,4 +1,4 @@
-// Prints an answer as every program does, to any writer. Of an error only part may have been written.
+// Prints an answer as every program does, to any writer. After an error only a part may be written.
 
 #![tactic(auto)]
 
