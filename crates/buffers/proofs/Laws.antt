@@ -1,33 +1,34 @@
 -- Laws of appending and of decimal digits.
-use Prim.Native.Nat.{ℕ, zero, suc, ◌+◌, ◌/◌, ◌%◌, ◌^◌, ◌≤◌, ◌<◌, zero-le}
+use Prim.Native.Nat.{ℕ, zero, suc, min, ◌+◌, ◌-◌, ◌/◌, ◌%◌, ◌^◌, ◌≤◌, ◌<◌, zero-le}
 use native.Mathlib.Nat.{div-lt_iff_lt-mul, pow-suc, add-zero, add-suc, suc-add}
-use native.Mathlib.Numerals.{add-one}
 use native.Mathlib.Omega.{arith}
 use mathlib.Core.Path.{◌≡◌, refl, sym, ap, ◌∙◌}
 use mathlib.Core.Bool.{Bool, true, false}
 use mathlib.Core.List.{List, [], ◌∷◌, ◌++◌}
 use lib.Dec.{leb, ltb, lit<}
-use lib.ListN.{length, take, drop, get_or, set, length-append, length-drop}
-use lib.Seq.{sets, set_out, take-suc, take_all, get_or-drop}
+use lib.ListN.{length, take, drop, set, length-set, length-append}
+use lib.Seq.{sets, sets-eq, length-take-le, set_out, take_all}
+use borrow.Rule.Slice.PartMut.{put_mid}
+use Rattle.std.proofs.lemmas.Slice.{put_mid-paste}
 use borrow.Author.Tests.{ltb-true, ltb-false, lt-ltb, le-ltb, le-leb, lt-leb}
 use Rattle.buffers.specs.Buffers.{Put, digits, decimal, fitted_length, fitted}
 
 -- ---- appending
 
-pub sets-append : (l : List ℕ) (i : ℕ) (xs ys : List ℕ) → sets l i (xs ++ ys) ≡ sets (sets l i xs) (i + length xs) ys
+pub sets-append : {A : Type 0} (l : List A) (i : ℕ) (xs ys : List A) → sets l i (xs ++ ys) ≡ sets (sets l i xs) (i + length xs) ys
 sets-append l i [] ys = ap (λ (k : ℕ). sets l k ys) (sym (add-zero i))
 sets-append l i (x ∷ xs) ys =
     sets-append (set l i x) (suc i) xs ys
     ∙ ap (λ (k : ℕ). sets (sets (set l i x) (suc i) xs) k ys) (suc-add i (length xs) ∙ sym (add-suc i (length xs)))
 
-pub nothing : (l : List ℕ) (i : ℕ) → Put l i [] l i
+pub nothing : {A : Type 0} (l : List A) (i : ℕ) → Put l i [] l i
 nothing l i = record { text = refl; past = sym (add-zero i) }
 
 -- one append after another
-pub then : {l l' l'' : List ℕ} {i j k : ℕ} {xs ys : List ℕ} → Put l i xs l' j → Put l' j ys l'' k → Put l i (xs ++ ys) l'' k
-then {l} {l'} {l''} {i} {j} {k} {xs} {ys} p q =
+pub then : {A : Type 0} {l l' l'' : List A} {i j k : ℕ} {xs ys : List A} → Put l i xs l' j → Put l' j ys l'' k → Put l i (xs ++ ys) l'' k
+then {A} {l} {l'} {l''} {i} {j} {k} {xs} {ys} p q =
     record {
-      text = q.text ∙ ap (λ (n : ℕ). sets l' n ys) p.past ∙ ap (λ (m : List ℕ). sets m (i + length xs) ys) p.text ∙ sym (sets-append l i xs ys);
+      text = q.text ∙ ap (λ (n : ℕ). sets l' n ys) p.past ∙ ap (λ (m : List A). sets m (i + length xs) ys) p.text ∙ sym (sets-append l i xs ys);
       past = let e : length (xs ++ ys) ≡ length xs + length ys = length-append xs ys in let f : j ≡ i + length xs = p.past in let g : k ≡ j + length ys = q.past in omega arith;
     }
 
@@ -36,24 +37,33 @@ pub spelt : {l l' : List ℕ} {i j : ℕ} {ws vs : List ℕ} → ws ≡ vs → P
 spelt e p = rw e p
 
 -- past the end there is nothing to store
-pub out_of_range : (l : List ℕ) (i b : ℕ) → length l ≤ i → Put l i (b ∷ []) l (i + 1)
+pub out_of_range : {A : Type 0} (l : List A) (i : ℕ) (b : A) → length l ≤ i → Put l i (b ∷ []) l (i + 1)
 out_of_range l i b h = record { text = sym (set_out l i b h); past = refl }
 
--- one byte more of a text that is appended
-another : (l : List ℕ) (at : ℕ) (ws m : List ℕ) (past i : ℕ) (m' : List ℕ) (past' : ℕ) → i < length ws → Put l at (take i ws) m past → Put m past (get_or ws i 0 ∷ []) m' past'
-    → Put l at (take (i + 1) ws) m' past'
-another l at ws m past i m' past' h p q = rw (add-one, take-suc ws i 0 h) (then p q)
+-- items behind those that fit are not stored
+sets_fitting : {A : Type 0} (l : List A) (i n : ℕ) (xs : List A) → min (length xs) (length l - i) ≤ n → sets l i xs ≡ sets l i (take n xs)
+sets_fitting l i zero [] h = refl
+sets_fitting l i (suc n) [] h = refl
+sets_fitting l i zero (x ∷ xs) h =
+    ap (λ m. sets m (suc i) xs) (set_out l i x (omega (arith, h))) ∙ sets_fitting l (suc i) zero xs (omega (arith, h))
+sets_fitting l i (suc n) (x ∷ xs) h = sets_fitting (set l i x) (suc i) n xs (omega (arith, h, length-set l i x))
 
--- one byte more of a part
-pub part-more : (l : List ℕ) (at : ℕ) (text : List ℕ) (from len : ℕ) (m : List ℕ) (past i : ℕ) (m' : List ℕ) (past' : ℕ) → from + len ≤ length text → i < len
-    → Put l at (take i (drop from text)) m past → Put m past (get_or text (from + i) 0 ∷ []) m' past' → Put l at (take (i + 1) (drop from text)) m' past'
-part-more l at text from len m past i m' past' h k p q =
-    another l at (drop from text) m past i m' past' (rw length-drop (omega arith)) p (rw get_or-drop q)
+-- past the end none fits
+pub all_out : {A : Type 0} (l : List A) (i : ℕ) (xs : List A) → length l ≤ i → Put l i xs l (i + length xs)
+all_out l i xs h = record { text = sym (sets_fitting l i 0 xs (omega (arith, h))); past = refl }
 
--- all of it
-pub part-whole : (l : List ℕ) (at : ℕ) (text : List ℕ) (from len : ℕ) (m : List ℕ) (past i : ℕ) → len ≤ i → i ≤ len → Put l at (take i (drop from text)) m past
-    → Put l at (take len (drop from text)) m past
-part-whole l at text from len m past i h k p = let e : len ≡ i = omega arith in rw e p
+-- those that fit, stored at once
+pub all_fitting : {A : Type 0} (l : List A) (i n k : ℕ) (xs ys : List A) → i < length l → n ≡ min (length xs) (length l - i) → k ≡ n → ys ≡ take n xs
+    → Put l i xs (put_mid i k l ys) (i + length xs)
+all_fitting l i n k xs ys h e f w =
+    let long : length (take n xs) ≡ n = length-take-le n xs (omega (arith, e)) in
+    record {
+      text =
+          put_mid-paste i k l ys (take n xs) n w (sym f) (sym long)
+          ∙ ap (λ m. take i l ++ m ++ drop (i + n) l) (take_all n (take n xs) (omega (arith, long)))
+          ∙ sym (sets_fitting l i n xs (omega (arith, e)) ∙ sets-eq (take n xs) l i (omega (arith, e, long)) ∙ simp long);
+      past = refl;
+    }
 
 -- all of a text is such a part
 pub whole_part : (l : List ℕ) (at : ℕ) (ws m : List ℕ) (past : ℕ) → Put l at (take (length ws) (drop 0 ws)) m past → Put l at ws m past

@@ -24,6 +24,6 @@ abbrev pub fitted : List ℕ → List ℕ → List ℕ
 fitted line out = cond (leb (length line) (length out)) (sets out 0 line) out
 
 -- What appending leaves: the words stand in the buffer from `at` on, as far as it goes, and the next position is past them.
-pub record Put (old : List ℕ) (at : ℕ) (words new : List ℕ) (next : ℕ) : Type 0 where
+pub record Put {A : Type 0} (old : List A) (at : ℕ) (words new : List A) (next : ℕ) : Type 0 where
   pub text : new ≡ sets old at words
   pub past : next ≡ at + length words

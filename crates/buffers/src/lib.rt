@@ -14,9 +14,20 @@ pub fn append_byte(byte: u8, out: &mut [u8], at: usize) -> usize
 {
     if at < out.len() {
         out[at] = byte;
-        return at + 1;
     }
     at + 1
+}
+
+// All of the items, of whatever type.
+pub fn append_all<T: Copy>(items: &[T], out: &mut [T], at: usize) -> usize
+    requires { at + length items.now < 2 ^ 64 }
+    ensures { Put out.old at items.now out.new result }
+{
+    if at < out.len() {
+        let fitting = items.len().min(out.len() - at);
+        out[at..at + fitting].copy_from_slice(&items[..fitting]);
+    }
+    at + items.len()
 }
 
 // The len bytes of a text that begin at from.
@@ -24,17 +35,10 @@ pub fn append_part(text: &[u8], from: usize, len: usize, out: &mut [u8], at: usi
     requires { (from + len ≤ length text.now) × (at + len < 2 ^ 64) }
     ensures { Put out.old at (spelling text.now from len) out.new result }
 {
-    let mut past = at;
-    let mut i = 0;
-    while i < len {
-        let place = from + i;
-        past = append_byte(text[place], out, past);
-        i += 1;
-    }
-    past
+    append_all(&text[from..from + len], out, at)
 }
 
-// The digits of n / 10, then the last one.
+// The digits of n / 10, then the last one. (By hand: with `Display` a `fmt::Write` would be needed whose clauses say all this again.)
 pub fn append_decimal(n: usize, out: &mut [u8], at: usize) -> usize
     requires { at + 21 < 2 ^ 64 }
     ensures { Put out.old at (decimal n) out.new result }
@@ -61,23 +65,21 @@ pub fn append(text: &[u8], out: &mut [u8], at: usize) -> usize
     requires { at ≤ 119 }
     ensures { Put out.old at text.now out.new result }
 {
-    append_part(text, 0, text.len(), out, at)
+    append_all(text, out, at)
 }
 
 // The position behind so many lines of a text.
 pub fn past_lines(text: &[u8], lines: usize) -> usize
     ensures { result ≡ past_lines lines text.now }
 {
-    let mut at = 0;
     let mut left = lines;
-    while at < text.len() {
+    for (at, &byte) in text.iter().enumerate() {
         if left == 0 {
             return at;
         }
-        if text[at] == b'\n' {
+        if byte == b'\n' {
             left -= 1;
         }
-        at += 1;
     }
-    at
+    text.len()
 }

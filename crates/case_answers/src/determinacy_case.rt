@@ -6,13 +6,13 @@ use crate::output::print_number;
 use crate::records::text_at;
 use determinacy::Determinacy;
 use std::io::{Result, Write};
-use syntax::{Refusal, Text, Verdict};
+use syntax::{Fault, Refusal, Text};
 
 fn print_refusal<W: Write>(out: &mut W, sheet: &[u8], refusal: Refusal) -> Result<()> {
-    let verdict = Verdict::Refused {
+    let verdict = Err(Fault {
         text: Text::Sheet,
         refusal,
-    };
+    });
     out_printing::print_line(out, verdict, pilvaust::fault_name(sheet, b"", verdict))
 }
 

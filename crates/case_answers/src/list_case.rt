@@ -4,7 +4,7 @@
 ghost use Rattle.std.specs.Prelude.{◌≡◌, ◌+◌, ◌*◌, ◌≤◌, ◌<◌, length, IfOk};
 
 use crate::output::print_number;
-use crate::records::{BYTE, TWO_BYTES, text_at, wide};
+use crate::records::text_at;
 use entry_lists::Lent;
 use mode_lookup::Lookup;
 use std::io::{Result, Write};
@@ -68,19 +68,13 @@ fn print_lent<W: Write>(out: &mut W, sheet: &[u8], lent: Lent) -> Result<()>
 fn word_of(bytes: &[u8], at: usize) -> u32
     requires { at + 3 < length bytes.now }
 {
-    let low = wide(bytes[at]) + BYTE * wide(bytes[at + 1]);
-    let high = wide(bytes[at + 2]) + BYTE * wide(bytes[at + 3]);
-    (low + TWO_BYTES * high) as u32
+    u32::from_le_bytes([bytes[at], bytes[at + 1], bytes[at + 2], bytes[at + 3]])
 }
 
 fn word_count(bytes: &[u8]) -> usize
     ensures { (result ≤ 270) × (result * 4 ≤ length bytes.now) }
 {
-    let n = bytes.len() / WORD;
-    if MOST_WORDS < n {
-        return MOST_WORDS;
-    }
-    n
+    (bytes.len() / WORD).min(MOST_WORDS)
 }
 
 fn words_of(bytes: &[u8]) -> [u32; MOST_WORDS]
@@ -88,26 +82,21 @@ fn words_of(bytes: &[u8]) -> [u32; MOST_WORDS]
 {
     let mut words = [0u32; MOST_WORDS];
     let n = word_count(bytes);
-    let mut i = 0;
-    while i < n {
+    for i in 0..n {
         words[i] = word_of(bytes, i * WORD);
-        i += 1;
     }
     words
 }
 
 fn print_lookup<W: Write>(out: &mut W, lookup: Lookup) -> Result<()> {
-    match lookup {
-        Lookup::Found { place, compared } => {
+    match lookup.place {
+        Some(place) => {
             out.write_all(b"found")?;
             print_number(out, place)?;
-            print_number(out, compared)?;
         }
-        Lookup::Missing { compared } => {
-            out.write_all(b"missing")?;
-            print_number(out, compared)?;
-        }
+        None => out.write_all(b"missing")?,
     }
+    print_number(out, lookup.compared)?;
     out.write_all(b"\n")
 }
 

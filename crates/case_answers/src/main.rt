@@ -42,6 +42,7 @@ fn answer<W: Write>(out: &mut W, kind: Kind, cases: &[u8], at: usize) -> Result<
 
 fn answer_all<W: Write>(out: &mut W, kind: Kind, cases: &[u8]) -> Result<()> {
     let mut at = 0;
+    // a record is as long as it says, so no `for` counts the places
     while at < cases.len() {
         at = answer(out, kind, cases, at)?;
     }

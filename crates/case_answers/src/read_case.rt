@@ -5,7 +5,7 @@ ghost use Rattle.std.specs.Prelude.{◌≤◌, ◌<◌, length, IfOk};
 use crate::output::print_number;
 use crate::records::{text_at, wide};
 use std::io::{Result, Write};
-use syntax::Declared;
+use syntax::{Entry, TokenKind};
 
 const SHEET: u8 = b'S';
 
@@ -13,16 +13,38 @@ const ENTRY: u8 = b'E';
 
 const TOKEN: u8 = b'T';
 
-fn print_declared<W: Write>(out: &mut W, declared: Declared) -> Result<()> {
+fn print_declared<W: Write>(out: &mut W, declared: Option<Entry>) -> Result<()> {
     match declared {
-        Declared::As(entry) => {
+        Some(entry) => {
             out.write_all(b"entry")?;
             print_number(out, entry.at)?;
             print_number(out, entry.len)?;
             print_number(out, entry.arguments)?;
             out.write_all(b"\n")
         }
-        Declared::Nothing => out.write_all(b"none\n"),
+        None => out.write_all(b"none\n"),
+    }
+}
+
+// The kinds of token as the files of cases number them.
+fn kind_number(kind: TokenKind) -> usize {
+    match kind {
+        TokenKind::NoToken => 0,
+        TokenKind::Name => 3,
+        TokenKind::Variable => 4,
+        TokenKind::Numeral => 5,
+        TokenKind::Neck => 6,
+        TokenKind::Open => 7,
+        TokenKind::Close => 8,
+        TokenKind::Comma => 9,
+        TokenKind::Stop => 10,
+        TokenKind::Equals => 11,
+        TokenKind::Plus => 12,
+        TokenKind::Minus => 13,
+        TokenKind::Star => 14,
+        TokenKind::Overlong => 15,
+        TokenKind::End => 16,
+        TokenKind::Semicolon => 17,
     }
 }
 
@@ -77,7 +99,7 @@ fn answer_token<W: Write>(out: &mut W, cases: &[u8], at: usize) -> Result<usize>
     let end = text.end;
     let token = lex_reader::nth_token(&cases[start..end], wide(cases[at]));
     out.write_all(b"token")?;
-    print_number(out, token.kind)?;
+    print_number(out, kind_number(token.kind))?;
     print_number(out, token.at)?;
     print_number(out, token.len)?;
     out.write_all(b"\n")?;

@@ -2,11 +2,6 @@
 ghost use Rattle.std.specs.Prelude.{◌≡◌, ◌+◌, ◌≤◌, ◌<◌, length};
 ghost use Rattle.case_answers.specs.Rooms.{byte_values};
 
-// The values of a byte and of two.
-pub const BYTE: usize = 256;
-
-pub const TWO_BYTES: usize = BYTE * BYTE;
-
 // A text of the file.
 #[derive(Clone, Copy)]
 pub struct Part {
@@ -35,7 +30,7 @@ pub fn text_at(cases: &[u8], at: usize) -> Part
         };
     }
     Part {
-        start: start,
+        start,
         end: start + len,
     }
 }
@@ -44,13 +39,13 @@ pub fn text_at(cases: &[u8], at: usize) -> Part
 pub fn two(cases: &[u8], at: usize) -> usize
     requires { at + 2 ≤ length cases.now }
 {
-    wide(cases[at]) + BYTE * wide(cases[at + 1])
+    u16::from_le_bytes([cases[at], cases[at + 1]]) as usize
 }
 
 pub fn three(cases: &[u8], at: usize) -> usize
     requires { at + 3 ≤ length cases.now }
 {
-    wide(cases[at]) + BYTE * wide(cases[at + 1]) + TWO_BYTES * wide(cases[at + 2])
+    u32::from_le_bytes([cases[at], cases[at + 1], cases[at + 2], 0]) as usize
 }
 
 pub fn wide(byte: u8) -> usize

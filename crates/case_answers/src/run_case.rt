@@ -34,7 +34,7 @@ fn room_at(cases: &[u8], at: usize) -> usize
     three(cases, at + 6)
 }
 
-// Runs with a text, and prints what comes of it.
+// Runs with a text, and prints what comes of it. A run with a trace is a function of its own, so that no frame has the tables of both.
 fn run_with<'a, W: Write>(
     out: &mut W,
     sheet: &'a [u8],
@@ -54,8 +54,7 @@ fn trace_with<'a, W: Write>(
     asked: RunSettings,
     text: &mut [u8],
 ) -> Result<()> {
-    let r = pilvaust::run_traced(sheet, goal, trace, asked, text);
-    let run = r.run;
+    let run = pilvaust::run_traced(sheet, goal, trace, asked, text).map(|written| written.report);
     print_run(out, sheet, goal, run, text)
 }
 
@@ -126,6 +125,7 @@ fn answer<W: Write>(out: &mut W, cases: &[u8], at: usize) -> Result<usize>
 
 pub fn answer_all<W: Write>(out: &mut W, cases: &[u8]) -> Result<()> {
     let mut at = 0;
+    // a record is as long as it says, so no `for` counts the places
     while at < cases.len() {
         at = answer(out, cases, at)?;
     }

@@ -1,8 +1,8 @@
 -- What the two programs print (document 01, "Two programs and what they print").
 use Rattle.std.specs.Prelude.{ℕ, false, List, [], ◌++◌}
 use Rattle.syntax.specs.Limits.{most_steps}
-use Rattle.syntax.specs.declared.Verdict.{Verdict}
-use Rattle.syntax.specs.declared.Verdict.TheVariants.{Refused}
+use Rattle.syntax.specs.Verdicts.{Verdict}
+use Rattle.syntax.specs.Verdicts.{Refused}
 use Rattle.out_lines.specs.Lines.{line_of}
 use Rattle.out_reports.specs.Reports.{report_line}
 use Rattle.mode_rules.specs.Checking.{check_verdict, fault_name}

@@ -19,15 +19,15 @@ use Rattle.syntax.specs.declared.Text.{Text}
 use Rattle.syntax.specs.declared.Text.TheVariants.{Goal as in_goal}
 use Rattle.syntax.specs.declared.Refusal.{Refusal}
 use Rattle.syntax.specs.declared.Refusal.TheVariants.{TooLong}
-use Rattle.syntax.specs.declared.Verdict.TheVariants.{Accepted, Refused}
-use Rattle.syntax.specs.declared.Run.TheVariants.{Ended as Ended-by}
+use Rattle.syntax.specs.Verdicts.{Accepted, Refused}
+use Rattle.syntax.specs.Verdicts.{Ended as Ended-by}
 use Rattle.mode_rules.specs.Modes.{goal_fault}
 use Rattle.mode_rules.specs.Checking.{faultless, checked_goal_from, checked_goal}
 use Rattle.machine.specs.Runs.{RunOutcome, stopped, reported, run, over_goal, run_answer, run_text}
 use Rattle.mode_marks.specs.Tables.{GoalAt}
-use Rattle.mode_marks.specs.Answers.{checked_of}
-use Rattle.mode_marks.specs.declared.Checked.{Checked}
-use Rattle.mode_marks.specs.declared.Checked.TheVariants.{Fine, Fault}
+use Rattle.std.specs.Prelude.{Result, Ok, Err}
+use Rattle.syntax.specs.declared.Fault.{Fault}
+use Rattle.mode_marks.specs.Answers.{Checked, checked_of}
 use Rattle.run_layout.proofs.Limits.{goal-limited}
 use Rattle.run_whole.specs.declared.Ran.{Ran}
 use Rattle.run_whole.specs.Running.{Runs}
@@ -37,7 +37,7 @@ use Rattle.check_and_run.specs.Goals.{ProgramReady, Answers}
 use Rattle.run_results.specs.declared.Written.{Written}
 use Rattle.read_and_check.specs.declared.GoalRead.{GoalRead}
 use Rattle.read_and_check.proofs.Laws.{never}
-use Rattle.read_and_check.proofs.Checking.{fine-none, fault-some, goal-refused-by, goal-of, standing, goal-stands-at, checked-over}
+use Rattle.read_and_check.proofs.Checking.{goal-of, standing, fine-none, fault-some, goal-refused-by, goal-stands-at, checked-over}
 use Rattle.run_results.specs.Results.{Stops, EndsWith}
 
 -- ---- the words of a goal's variables
@@ -86,7 +86,7 @@ goal_short s g e = by (leb (length s) goal_bytes) refl e
     by false t e1 = absurd (never TooLong g e1)
 
 -- a refusal writes nothing
-pub stopped-answers : (o : RunOutcome) (t : Text) (q : Refusal) → o ≡ stopped t q → (u : Written) → Stops t q u → (old : List ℕ) → Answers o old old u
+pub stopped-answers : (o : RunOutcome) (t : Text) (q : Refusal) → o ≡ stopped t q → (u : Result Written Fault) → Stops t q u → (old : List ℕ) → Answers o old old u
 unfolding run_answer run_text
 stopped-answers o t q e u eu old =
     record {
@@ -99,30 +99,30 @@ module _ (s declared : List ℕ) (n : ℕ) (table : List ℕ) (k : ℕ) where
   abbrev over-of : ProgramReady s declared n table k → Over s declared n k
   over-of w = record { sheet = w.stands.sheet; has = w.stands.has_declarations; count = w.stands.declarations_count; clauses = w.stands.clauses_count; stand = w.stands.stands.declarations }
 
-  module _ (g goals : List ℕ) (r : GoalRead) (t : GoalTabled g goals r) (allowance wanted : ℕ) where
+  module _ (g goals : List ℕ) (allowance wanted : ℕ) where
     -- the run of the goal, with room for so much text
     abbrev outcome : ProgramReady s declared n table k → List ℕ → RunOutcome
     outcome w old = over_goal w.stands.sheet allowance wanted (length old) (checked_goal w.stands.sheet g)
 
-    pub goal-stops : (x : Text) (q : Refusal) → r.verdict ≡ Refused x q → (u : Written) → Stops x q u → (old : List ℕ) (w : ProgramReady s declared n table k)
+    pub goal-stops : (f : Fault) → GoalTabled g goals (Err f) → (u : Result Written Fault) → Stops f.text f.refusal u → (old : List ℕ) (w : ProgramReady s declared n table k)
         → Answers (outcome w old) old old u
     unfolding checked_goal checked_goal_from over_goal
-    goal-stops x q e u eu old w =
-        let o : (goal_outcome g ≡ refused q) × (x ≡ in_goal) = goal-refused-by (goal_outcome g) x q (sym t.is ∙ e) in
-        let c : outcome w old ≡ stopped in_goal q = ap (λ (y : Outcome Goal). over_goal w.stands.sheet allowance wanted (length old) (checked_goal_from w.stands.sheet y)) o.0 in
-        stopped-answers (outcome w old) x q (c ∙ ap (λ (y : Text). stopped y q) (sym o.1)) u eu old
+    goal-stops f t u eu old w =
+        let o : (goal_outcome g ≡ refused f.refusal) × (f.text ≡ in_goal) = goal-refused-by (goal_outcome g) f.text f.refusal (sym t) in
+        let c : outcome w old ≡ stopped in_goal f.refusal = ap (λ (y : Outcome Goal). over_goal w.stands.sheet allowance wanted (length old) (checked_goal_from w.stands.sheet y)) o.0 in
+        stopped-answers (outcome w old) f.text f.refusal (c ∙ ap (λ (y : Text). stopped y f.refusal) (sym o.1)) u eu old
 
-    module _ (a b : ℕ) (e : r.verdict ≡ Accepted a b) where
+    module _ (r : GoalRead) (t : GoalTabled g goals (Ok r)) where
       abbrev the-goal : Goal
-      the-goal = (goal-of s declared n k g goals r t a b e).0
+      the-goal = (goal-of s declared n k g goals r t).0
 
       pub goal-at : ProgramReady s declared n table k → GoalAt s declared n g goals r.literals
-      goal-at w = goal-stands-at s declared n k g goals r t a b e (over-of w)
+      goal-at w = goal-stands-at s declared n k g goals r t (over-of w)
 
       pub goal-programmed : length goals ≤ goal_words → ProgramReady s declared n table k → Programmed s table k g goals r.literals (met goals) r.count
       goal-programmed short w =
-          let x : GoalInTable g goals r.literals r.count the-goal = standing s declared n k g goals r t a b e in
-          let y : goal_outcome g ≡ accepted the-goal = (goal-of s declared n k g goals r t a b e).1 in
+          let x : GoalInTable g goals r.literals r.count the-goal = standing s declared n k g goals r t in
+          let y : goal_outcome g ≡ accepted the-goal = (goal-of s declared n k g goals r t).1 in
           record {
             sh = w.stands.sheet;
             g = the-goal;
@@ -144,21 +144,21 @@ module _ (s declared : List ℕ) (n : ℕ) (table : List ℕ) (k : ℕ) where
 
       module _ (ck : Checked) (ec : (w : GoalAt s declared n g goals r.literals) → ck ≡ checked_of (goal_fault w.sheet w.goal)) where
         goal-checked : (w : ProgramReady s declared n table k) → ck ≡ checked_of (goal_fault w.stands.sheet the-goal)
-        goal-checked w = checked-over s declared n k g goals r t a b e ck ec (over-of w)
+        goal-checked w = checked-over s declared n k g goals r t ck ec (over-of w)
 
-        pub fault-stops : (q : Refusal) → ck ≡ Fault q → (u : Written) → Stops in_goal q u → (old : List ℕ) (w : ProgramReady s declared n table k)
+        pub fault-stops : (q : Refusal) → ck ≡ Err q → (u : Result Written Fault) → Stops in_goal q u → (old : List ℕ) (w : ProgramReady s declared n table k)
             → Answers (outcome w old) old old u
         unfolding checked_goal checked_goal_from faultless over_goal
         fault-stops q h u eu old w =
-            let o : checked_goal w.stands.sheet g ≡ refused q = ap (checked_goal_from w.stands.sheet) (goal-of s declared n k g goals r t a b e).1 ∙ ap (faultless the-goal) (fault-some (goal_fault w.stands.sheet the-goal) q (sym h ∙ goal-checked w)) in
+            let o : checked_goal w.stands.sheet g ≡ refused q = ap (checked_goal_from w.stands.sheet) (goal-of s declared n k g goals r t).1 ∙ ap (faultless the-goal) (fault-some (goal_fault w.stands.sheet the-goal) q (sym h ∙ goal-checked w)) in
             stopped-answers (outcome w old) in_goal q (ap (over_goal w.stands.sheet allowance wanted (length old)) o) u eu old
 
-        pub goal-runs : ck ≡ Fine → length goals ≤ goal_words → (x : Ran) (old new : List ℕ)
+        pub goal-runs : ck ≡ Ok tt → length goals ≤ goal_words → (x : Ran) (old new : List ℕ)
             → ((p : Programmed s table k g goals r.literals (met goals) r.count) → Runs p.sh p.g allowance wanted old new x)
-            → (v : Written) → EndsWith x.report x.bytes v → (w : ProgramReady s declared n table k) → Answers (outcome w old) old new v
+            → (v : Result Written Fault) → EndsWith x.report x.bytes v → (w : ProgramReady s declared n table k) → Answers (outcome w old) old new v
         unfolding checked_goal checked_goal_from faultless over_goal reported run_answer run_text goal-programmed
         goal-runs h short x old new f v ev w =
-            let o : checked_goal w.stands.sheet g ≡ accepted the-goal = ap (checked_goal_from w.stands.sheet) (goal-of s declared n k g goals r t a b e).1 ∙ ap (faultless the-goal) (fine-none (goal_fault w.stands.sheet the-goal) (sym h ∙ goal-checked w)) in
+            let o : checked_goal w.stands.sheet g ≡ accepted the-goal = ap (checked_goal_from w.stands.sheet) (goal-of s declared n k g goals r t).1 ∙ ap (faultless the-goal) (fine-none (goal_fault w.stands.sheet the-goal) (sym h ∙ goal-checked w)) in
             let c : outcome w old ≡ reported (run w.stands.sheet the-goal allowance wanted (length old)) = ap (over_goal w.stands.sheet allowance wanted (length old)) o in
             let u : Runs w.stands.sheet the-goal allowance wanted old new x = f (goal-programmed short w) in
             record {

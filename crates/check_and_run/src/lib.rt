@@ -12,11 +12,10 @@ ghost use Rattle.machine.specs.Runs.{over_goal};
 ghost use Rattle.check_and_run.specs.Goals.{ProgramReady, Answers};
 
 use load_and_run::load_and_run;
-use mode_marks::Checked;
 use read_and_check::{goal_room, read_goal_text};
-use run_results::{Written, goal_refused, run_ended, run_refused};
+use run_results::{Written, goal_refused, run_ended};
 use run_whole::Ran;
-use syntax::{VARIABLES, Verdict};
+use syntax::{Fault, VARIABLES};
 
 // A goal that was read into its table, with the words of its variables last, run over a sheet that stands in another.
 fn check_goal_and_run(
@@ -63,37 +62,30 @@ pub fn read_goal_and_run(
     text: &mut [u8],
     allowance: usize,
     wanted: usize,
-) -> Written
+) -> Result<Written, Fault>
     requires { ProgramReady sheet.now declared.now n table.now k }
     ensures { (w : ProgramReady sheet.now declared.now n table.now k)
         → Answers (over_goal w.stands.sheet allowance wanted (length text.old) (checked_goal w.stands.sheet goal.now))
         text.old text.new result }
 {
     let mut goals = goal_room();
-    let r = read_goal_text(goal, &mut goals);
-    let v = r.verdict;
-    let literals = r.literals;
-    let count = r.count;
-    match v {
-        Verdict::Refused {
-            text: at_fault,
-            refusal,
-        } => run_refused(at_fault, refusal),
-        Verdict::Accepted {
-            declarations: _,
-            clauses: _,
-        } => {
-            let fault = mode_clauses::check_goal(sheet, declared, n, goal, &goals, literals);
-            match fault {
-                Checked::Fine => {
-                    let ran = check_goal_and_run(
-                        sheet, table, k, goal, &goals, literals, count, text, allowance, wanted,
-                    );
-                    let report = ran.report;
-                    run_ended(report, ran.bytes)
-                }
-                Checked::Fault(refusal) => goal_refused(refusal),
-            }
+    let read = read_goal_text(goal, &mut goals)?;
+    match mode_clauses::check_goal(sheet, declared, n, goal, &goals, read.literals) {
+        Ok(()) => {
+            let ran = check_goal_and_run(
+                sheet,
+                table,
+                k,
+                goal,
+                &goals,
+                read.literals,
+                read.count,
+                text,
+                allowance,
+                wanted,
+            );
+            run_ended(ran.report, ran.bytes)
         }
+        Err(refusal) => goal_refused(refusal),
     }
 }

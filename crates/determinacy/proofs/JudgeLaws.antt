@@ -1,16 +1,15 @@
 -- Laws of the test of a sheet that stands in its tables: one for each way out of `judge`, and what loading, linking and unification ask. Assumes nothing.
-use Prim.Native.Nat.{ℕ, suc, ◌≤◌}
+use Prim.Native.Nat.{ℕ}
 use native.Mathlib.Omega.{arith}
 use mathlib.Core.Path.{◌≡◌, refl, sym, ap, ◌∙◌}
-use mathlib.Core.Bool.{Bool, true, false}
 use mathlib.Core.List.{List, [], ◌∷◌}
 use mathlib.Core.Option.{Option, none, some}
+use Rattle.std.specs.Prelude.{Option as Told, Some, None}
 use lib.ListN.{length}
-use Rattle.syntax.specs.Terms.{done, Clause, Sheet, Goal, literals_of}
+use Rattle.syntax.specs.Terms.{done, Sheet, Goal, literals_of}
 use Rattle.syntax.specs.Words.{body_words, body_length}
 use Rattle.mode_marks.specs.Standing.{done_stands}
-use Rattle.machine.specs.Determinacy.{without_brackets, first_bracketed, Pair, first_pair, against, judged_by}
-use Rattle.machine.proofs.Tests.{some-eq, some-none}
+use Rattle.machine.specs.Determinacy.{first_bracketed, Pair, first_pair, against, judged_by}
 use Rattle.run_layout.proofs.Limits.{program-limited}
 use Rattle.run_layout.specs.Regions.{nodes_words, code_words, store_words, narrow_words}
 use Rattle.run_layout.specs.Limits.{GoalLimited}
@@ -21,7 +20,7 @@ use Rattle.linker.specs.Linking.{Linkable}
 use Rattle.determinacy.specs.declared.Determinacy.{Determinacy}
 use Rattle.determinacy.specs.declared.Determinacy.TheVariants.{No}
 use Rattle.determinacy.specs.Told.{told}
-use Rattle.determinacy_brackets.specs.Clauses.{or_zero, ClausesIn}
+use Rattle.determinacy_brackets.specs.Clauses.{told_number, ClausesIn}
 use Rattle.run_rooms.specs.Rooms.{Zeros}
 use Rattle.determinacy.specs.Tables.{SheetReady, SheetLinked, PairsReady}
 use Rattle.determinacy_brackets.proofs.Numbers.{number-none, number-some}
@@ -142,34 +141,19 @@ against-by : (sh : Sheet) (o : Option ℕ) → first_bracketed 1 sh.clauses ≡ 
 unfolding against
 against-by sh o e = ap (bracket-choice sh) e
 
-abbrev choice : ℕ → List Clause → Bool → Option ℕ
-choice n cls b = elim b [ true ↦ first_bracketed (suc n) cls | false ↦ some n ]
-
--- clause numbers are not 0
-bracket-high : (n m : ℕ) (cls : List Clause) → first_bracketed n cls ≡ some m → n ≤ m
-bracket-high n m [] e = absurd (some-none m (sym (unfold first_bracketed in e)))
-bracket-high n m (x ∷ cls) e = go (without_brackets x.body) refl (λ q. bracket-high (suc n) m cls q)
-  where
-    by : (b : Bool) → without_brackets x.body ≡ b → first_bracketed n (x ∷ cls) ≡ choice n cls b
-    by b t = unfold first_bracketed in ap (choice n cls) t
-
-    go : (b : Bool) → without_brackets x.body ≡ b → (first_bracketed (suc n) cls ≡ some m → suc n ≤ m) → n ≤ m
-    go true t k = let z : suc n ≤ m = k (sym (by true t) ∙ e) in omega arith
-    go false t k = let z : n ≡ m = some-eq n m (sym (by false t) ∙ e) in omega arith
-
 module _ {s declared : List ℕ} {n : ℕ} {table : List ℕ} {k : ℕ} where
   abbrev pub clauses-in : SheetReady s declared n table k → ClausesIn table k
   clauses-in w = record { list = w.stands.sheet.clauses; has = w.stands.has_clauses; count = w.stands.clauses_count }
 
-  module _ {b : ℕ} (f : (v : ClausesIn table k) → b ≡ or_zero (first_bracketed 1 v.list)) (w : SheetReady s declared n table k) where
-    pub bracket-judged : (b ≡ 0 → ⊥) → No b 0 ≡ told (judged_by (against w.stands.sheet))
-    bracket-judged d =
-        let e : first_bracketed 1 w.stands.sheet.clauses ≡ some b = number-some (first_bracketed 1 w.stands.sheet.clauses) b (f (clauses-in w)) d in
+  module _ {r : Told ℕ} (f : (v : ClausesIn table k) → r ≡ told_number (first_bracketed 1 v.list)) (w : SheetReady s declared n table k) where
+    pub bracket-judged : {b : ℕ} → r ≡ Some b → No b 0 ≡ told (judged_by (against w.stands.sheet))
+    bracket-judged {b} d =
+        let e : first_bracketed 1 w.stands.sheet.clauses ≡ some b = number-some (first_bracketed 1 w.stands.sheet.clauses) b (sym d ∙ f (clauses-in w)) in
         sym (ap (λ (p : Option Pair). told (judged_by p)) (against-by w.stands.sheet (some b) e) ∙ told-no b 0)
 
-    pub pairs-judged : b ≡ 0 → {r : Determinacy}
-        → ((v : SheetReady s declared n table k) → r ≡ told (judged_by (first_pair v.stands.sheet.declarations 1 v.stands.sheet.clauses))) → r ≡ told (judged_by (against w.stands.sheet))
+    pub pairs-judged : r ≡ None → {a : Determinacy}
+        → ((v : SheetReady s declared n table k) → a ≡ told (judged_by (first_pair v.stands.sheet.declarations 1 v.stands.sheet.clauses))) → a ≡ told (judged_by (against w.stands.sheet))
     pairs-judged d h =
         let e : first_bracketed 1 w.stands.sheet.clauses ≡ none =
-        number-none (first_bracketed 1 w.stands.sheet.clauses) (λ m q. bracket-high 1 m w.stands.sheet.clauses q) (sym (f (clauses-in w)) ∙ d) in
+        number-none (first_bracketed 1 w.stands.sheet.clauses) (sym d ∙ f (clauses-in w)) in
         h w ∙ sym (ap (λ (p : Option Pair). told (judged_by p)) (against-by w.stands.sheet none e))

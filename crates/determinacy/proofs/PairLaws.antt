@@ -5,6 +5,7 @@ use native.Mathlib.Omega.{arith}
 use mathlib.Core.Path.{◌≡◌, refl, sym, ap, ◌∙◌, subst⁻¹}
 use mathlib.Core.List.{List, [], ◌∷◌}
 use mathlib.Core.Option.{Option, none, some}
+use Rattle.std.specs.Prelude.{Option as Told, Some, None}
 use lib.ListN.{length, drop}
 use Rattle.syntax.specs.Terms.{Declaration, Clause, Sheet}
 use Rattle.syntax.specs.Words.{marks_number, clause_words, clauses_words}
@@ -16,13 +17,13 @@ use Rattle.mode_marks.specs.Tables.{DeclarationsAt, AtomAt}
 use Rattle.machine.specs.Machine.{clause_at}
 use Rattle.machine.specs.Determinacy.{first_overlap, Pair, first_pair, judged_by}
 use Rattle.determinacy.specs.Told.{told}
-use Rattle.determinacy_brackets.specs.Clauses.{or_zero}
+use Rattle.determinacy_brackets.specs.Clauses.{told_number}
 use Rattle.determinacy.specs.declared.Determinacy.TheVariants.{Yes, No}
 use Rattle.determinacy_overlaps.specs.Overlaps.{NothingBound, ClauseOf, FirstBehind}
 use Rattle.determinacy.specs.Tables.{PairsReady}
 use Rattle.determinacy_brackets.proofs.BracketLaws.{clause-inside, head-has}
-use Rattle.determinacy_overlaps.proofs.Clauses.{drop-tail, drop_nth, lap-none}
-use Rattle.determinacy_brackets.proofs.Numbers.{number-some}
+use Rattle.determinacy_overlaps.proofs.Clauses.{drop-tail, drop_nth}
+use Rattle.determinacy_brackets.proofs.Numbers.{number-none, number-some}
 
 abbrev pair-choice : List Declaration → ℕ → List Clause → Option ℕ → Option Pair
 pair-choice ds n cls o = elim o [ none ↦ first_pair ds (suc n) cls | some m ↦ some (record { first = n; second = m }) ]
@@ -137,31 +138,31 @@ module _ {s declared : List ℕ} {n : ℕ} {table : List ℕ} {k : ℕ} {nodes c
         number = em (declarations-at w) (range_head w o);
       }
 
-      module _ {state1 later1 : List ℕ} {r : ℕ} (f : (v : ClauseOf nodes code state later (i + 1) marks) → FirstBehind nodes code state state1 later later1 (i + 1) marks v r)
+      module _ {state1 later1 : List ℕ} {r : Told ℕ} (f : (v : ClauseOf nodes code state later (i + 1) marks) → FirstBehind nodes code state state1 later later1 (i + 1) marks v r)
           (w : PairsReady s declared n table k nodes code before scratch) (o : Ranging w state later at i) where
-        behind_is : r ≡ or_zero (first_overlap (sheet-of w).declarations (turn w o).clause (suc (suc i)) (turn w o).left)
+        behind_is : r ≡ told_number (first_overlap (sheet-of w).declarations (turn w o).clause (suc (suc i)) (turn w o).left)
         unfolding range_of
         behind_is =
             (f (range_of w o)).is
-            ∙ ap (λ (m : ℕ). or_zero (first_overlap (sheet-of w).declarations (turn w o).clause (suc m) (drop m (sheet-of w).clauses))) (add-one i)
-            ∙ ap (λ (cls : List Clause). or_zero (first_overlap (sheet-of w).declarations (turn w o).clause (suc (suc i)) cls)) (sym (turn w o).is)
+            ∙ ap (λ (m : ℕ). told_number (first_overlap (sheet-of w).declarations (turn w o).clause (suc m) (drop m (sheet-of w).clauses))) (add-one i)
+            ∙ ap (λ (cls : List Clause). told_number (first_overlap (sheet-of w).declarations (turn w o).clause (suc (suc i)) cls)) (sym (turn w o).is)
 
         blank_after : NothingBound w.linked.ss nodes state1 later1
         unfolding range_of
         blank_after = (f (range_of w o)).blank
 
-        pub range_stops : (r ≡ 0 → ⊥) → No (i + 1) r ≡ told (judged_by (first_pair (sheet-of w).declarations 1 (sheet-of w).clauses))
-        range_stops d =
-            let a : first_overlap (sheet-of w).declarations (turn w o).clause (suc (suc i)) (turn w o).left ≡ some r =
-            number-some (first_overlap (sheet-of w).declarations (turn w o).clause (suc (suc i)) (turn w o).left) r behind_is d in
-            let b : first_pair (sheet-of w).declarations 1 (sheet-of w).clauses ≡ some (record { first = suc i; second = r }) =
-            (turn w o).same ∙ pair-by (sheet-of w).declarations (suc i) (turn w o).clause (turn w o).left (some r) a in
-            ap (λ (m : ℕ). No m r) (add-one i) ∙ sym (ap (λ (p : Option Pair). told (judged_by p)) b ∙ told-no (suc i) r)
+        pub range_stops : {m : ℕ} → r ≡ Some m → No (i + 1) m ≡ told (judged_by (first_pair (sheet-of w).declarations 1 (sheet-of w).clauses))
+        range_stops {m} d =
+            let a : first_overlap (sheet-of w).declarations (turn w o).clause (suc (suc i)) (turn w o).left ≡ some m =
+            number-some (first_overlap (sheet-of w).declarations (turn w o).clause (suc (suc i)) (turn w o).left) m (sym d ∙ behind_is) in
+            let b : first_pair (sheet-of w).declarations 1 (sheet-of w).clauses ≡ some (record { first = suc i; second = m }) =
+            (turn w o).same ∙ pair-by (sheet-of w).declarations (suc i) (turn w o).clause (turn w o).left (some m) a in
+            ap (λ (j : ℕ). No j m) (add-one i) ∙ sym (ap (λ (p : Option Pair). told (judged_by p)) b ∙ told-no (suc i) m)
 
-        pub range_on : r ≡ 0 → {next : ℕ} → ((x : Clause) → Has table at (clause_words x) → next ≡ at + length (clause_words x)) → Ranging w state1 later1 next (i + 1)
+        pub range_on : r ≡ None → {next : ℕ} → ((x : Clause) → Has table at (clause_words x) → next ≡ at + length (clause_words x)) → Ranging w state1 later1 next (i + 1)
         range_on d {next} en =
             let a : first_overlap (sheet-of w).declarations (turn w o).clause (suc (suc i)) (turn w o).left ≡ none =
-            lap-none (sheet-of w).declarations (turn w o).clause (suc i) (turn w o).left (sym behind_is ∙ d) in
+            number-none (first_overlap (sheet-of w).declarations (turn w o).clause (suc (suc i)) (turn w o).left) (sym d ∙ behind_is) in
             let c : k ≡ i + suc (length (turn w o).left) = (turn w o).count in
             record {
               list = (turn w o).left;

@@ -14,11 +14,13 @@ use determinacy_brackets::bracketed_clause;
 use linker::link;
 use loader::load_nodes;
 use pairs::first_pair;
-use run_rooms::{code_words, narrow_words, node_words, store_words};
+use run_layout::{CODE_WORDS, NARROW_WORDS, NODES_WORDS, STORE_WORDS};
+use run_rooms::cleared;
 use syntax::Refusal;
 
 // The answer to the test: yes; no, with the first two clauses that speak against the sheet, or the first that has a bracket and 0; or the sheet's
-// refusal.
+// refusal. Three ways with a name each, where a Result of an Option would call a yes `Ok(None)`; a no has two numbers, so that a bracket's second
+// is 0.
 #[derive(Clone, Copy)]
 pub enum Determinacy {
     Yes,
@@ -40,8 +42,8 @@ fn judge_linked(
     ensures { (w : SheetLinked sheet.now declared.now n table.now k nodes.now code.now)
         → result ≡ told (judged_by (first_pair w.stands.sheet.declarations 1 w.stands.sheet.clauses)) }
 {
-    let mut state = store_words();
-    let mut scratch = narrow_words();
+    let mut state: [u32; STORE_WORDS] = cleared();
+    let mut scratch: [u32; NARROW_WORDS] = cleared();
     first_pair(
         sheet,
         declared,
@@ -63,9 +65,9 @@ fn judge_pairs(sheet: &[u8], declared: &[u32], n: usize, table: &[u32], k: usize
 {
     let goal = [0u8; 1];
     let goals = [0u32; 1];
-    let mut nodes = node_words();
-    let mut symbols = node_words();
-    let mut code = code_words();
+    let mut nodes: [u32; NODES_WORDS] = cleared();
+    let mut symbols: [u32; NODES_WORDS] = cleared();
+    let mut code: [u32; CODE_WORDS] = cleared();
     load_nodes(sheet, table, k, &goal, &goals, 0, &mut nodes, &mut symbols);
     link(table, k, &goals, 0, &nodes, &mut code);
     judge_linked(sheet, declared, n, table, k, &nodes, &code)
@@ -77,8 +79,7 @@ pub fn judge(sheet: &[u8], declared: &[u32], n: usize, table: &[u32], k: usize) 
     ensures { (w : SheetReady sheet.now declared.now n table.now k) → result
         ≡ told (judged_by (against w.stands.sheet)) }
 {
-    let first = bracketed_clause(table, k);
-    if first != 0 {
+    if let Some(first) = bracketed_clause(table, k) {
         return Determinacy::No { first, second: 0 };
     }
     judge_pairs(sheet, declared, n, table, k)

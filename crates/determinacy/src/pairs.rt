@@ -28,20 +28,17 @@ pub fn first_pair(
         ≡ told (judged_by (first_pair w.linked.stands.sheet.declarations 1 w.linked.stands.sheet.clauses)) }
 {
     let mut at = 0;
-    let mut i = 0;
-    while i < k {
+    for i in 0..k {
         let number = i + 1;
         let head = at + CLAUSE_START;
         let marks = marks_of(sheet, declared, n, sheet, table, head);
-        let second = first_overlap(nodes, code, state, scratch, number, marks);
-        if second != 0 {
+        if let Some(second) = first_overlap(nodes, code, state, scratch, number, marks) {
             return Determinacy::No {
                 first: number,
                 second,
             };
         }
         at = past_clause(table, at);
-        i = number;
     }
     Determinacy::Yes
 }

@@ -6,6 +6,7 @@ use mathlib.Core.Path.{◌≡◌, refl, sym, ap, ◌∙◌, subst⁻¹}
 use mathlib.Core.Bool.{Bool, true, false, not}
 use mathlib.Core.List.{List, [], ◌∷◌}
 use mathlib.Core.Option.{Option, none, some}
+use Rattle.std.specs.Prelude.{Some, None}
 use lib.ListN.{length, get_or}
 use borrow.Author.Tests.{not-true, not-false}
 use Rattle.syntax.specs.Terms.{term_of, Literal, call, equation, truth, falsity, either, Body, done, also, Clause}
@@ -15,7 +16,7 @@ use Rattle.table_words.specs.Items.{Item, plain_call, plain_equation, plain_trut
 use Rattle.table_words.proofs.Laws.{has_left, has_right, size_is, term_inside, clause-says}
 use Rattle.table_words.proofs.Items.{item_room, on-begin, on-first}
 use Rattle.machine.specs.Determinacy.{is_bracket, without_brackets, first_bracketed}
-use Rattle.determinacy_brackets.specs.Clauses.{or_zero, ClausesIn}
+use Rattle.determinacy_brackets.specs.Clauses.{told_number, ClausesIn}
 use Rattle.determinacy_brackets.proofs.Numbers.{number_is, number-nothing}
 
 -- ---- a body
@@ -161,15 +162,15 @@ module _ {table : List ℕ} {at i k : ℕ} {whole : Option ℕ} (l : i < k) wher
       by (x ∷ cls) h c = (x, has_left table at (clause_words x) (clauses_words cls) (unfold clauses_words in h))
 
   module _ {r : Bool} (er : (x : Clause) → Has table at (clause_words x) → r ≡ not (without_brackets x.body)) where
-    pub ahead-stops : r ≡ true → Ahead table at i k whole → i + 1 ≡ or_zero whole
+    pub ahead-stops : r ≡ true → Ahead table at i k whole → Some (i + 1) ≡ told_number whole
     ahead-stops t o = by o.list o.has o.count o.same
       where
-        by : (cls : List Clause) → Has table at (clauses_words cls) → k ≡ i + length cls → whole ≡ first_bracketed (suc i) cls → i + 1 ≡ or_zero whole
+        by : (cls : List Clause) → Has table at (clauses_words cls) → k ≡ i + length cls → whole ≡ first_bracketed (suc i) cls → Some (i + 1) ≡ told_number whole
         by [] h c s = absurd (let z : k ≡ i + 0 = c in omega arith)
         by (x ∷ cls) h c s =
             let q : without_brackets x.body ≡ false = not-true (without_brackets x.body) (sym (er x (has_left table at (clause_words x) (clauses_words cls) (unfold clauses_words in h))) ∙ t) in
             let v : whole ≡ some (suc i) = s ∙ first-by (suc i) x cls false q in
-            add-one i ∙ sym (ap or_zero v ∙ number_is (suc i))
+            ap Some (add-one i) ∙ sym (ap told_number v ∙ number_is (suc i))
 
     pub ahead-on : r ≡ false → {next : ℕ} → ((x : Clause) → Has table at (clause_words x) → next ≡ at + length (clause_words x)) → Ahead table at i k whole → Ahead table next (i + 1) k whole
     ahead-on t {next} n o = by o.list o.has o.count o.same
@@ -187,9 +188,9 @@ module _ {table : List ℕ} {at i k : ℕ} {whole : Option ℕ} (l : i < k) wher
               same = s ∙ first-by (suc i) x cls true q ∙ ap (λ (j : ℕ). first_bracketed (suc j) cls) (sym (add-one i));
             }
 
-pub ahead-ends : {table : List ℕ} {at i k : ℕ} {whole : Option ℕ} → k ≤ i → Ahead table at i k whole → 0 ≡ or_zero whole
+pub ahead-ends : {table : List ℕ} {at i k : ℕ} {whole : Option ℕ} → k ≤ i → Ahead table at i k whole → None ≡ told_number whole
 ahead-ends {table} {at} {i} {k} {whole} l o = by o.list o.count o.same
   where
-    by : (cls : List Clause) → k ≡ i + length cls → whole ≡ first_bracketed (suc i) cls → 0 ≡ or_zero whole
-    by [] c s = let z : first_bracketed (suc i) [] ≡ none = (unfold first_bracketed in refl) in sym (ap or_zero (s ∙ z) ∙ number-nothing)
+    by : (cls : List Clause) → k ≡ i + length cls → whole ≡ first_bracketed (suc i) cls → None ≡ told_number whole
+    by [] c s = let z : first_bracketed (suc i) [] ≡ none = (unfold first_bracketed in refl) in sym (ap told_number (s ∙ z) ∙ number-nothing)
     by (x ∷ cls) c s = absurd (let z : k ≡ i + suc (length cls) = c in omega arith)

@@ -1,24 +1,24 @@
 -- Laws of a clause's number. Assumes nothing.
-use Prim.Native.Nat.{ℕ, ◌≤◌}
-use native.Mathlib.Omega.{arith}
-use mathlib.Core.Path.{◌≡◌, refl, sym, ap}
+use Prim.Native.Nat.{ℕ}
+use mathlib.Core.Path.{◌≡◌, refl}
 use mathlib.Core.Option.{Option, none, some}
-use Rattle.determinacy_brackets.specs.Clauses.{or_zero}
+use Rattle.std.specs.Prelude.{Some, None}
+use Rattle.determinacy_brackets.specs.Clauses.{told_number}
 
-pub number_is : (n : ℕ) → or_zero (some n) ≡ n
-unfolding or_zero
+pub number_is : (n : ℕ) → told_number (some n) ≡ Some n
+unfolding told_number
 number_is n = refl
 
-pub number-nothing : or_zero none ≡ 0
-unfolding or_zero
+pub number-nothing : told_number none ≡ None
+unfolding told_number
 number-nothing = refl
 
-pub number-none : (o : Option ℕ) → ((m : ℕ) → o ≡ some m → 1 ≤ m) → or_zero o ≡ 0 → o ≡ none
-unfolding or_zero
-number-none none h e = refl
-number-none (some m) h e = absurd (let z : 1 ≤ m = h m refl in let y : m ≡ 0 = e in omega arith)
+pub number-none : (o : Option ℕ) → None ≡ told_number o → o ≡ none
+unfolding told_number
+number-none none e = refl
+number-none (some m) e = cc
 
-pub number-some : (o : Option ℕ) (r : ℕ) → r ≡ or_zero o → (r ≡ 0 → ⊥) → o ≡ some r
-unfolding or_zero
-number-some none r e d = absurd (d e)
-number-some (some m) r e d = ap some (sym e)
+pub number-some : (o : Option ℕ) (r : ℕ) → Some r ≡ told_number o → o ≡ some r
+unfolding told_number
+number-some none r e = cc
+number-some (some m) r e = cc

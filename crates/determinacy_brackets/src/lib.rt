@@ -8,7 +8,7 @@ ghost use Rattle.table_words.specs.Items.{ItemsAt};
 ghost use Rattle.machine.specs.Determinacy.{without_brackets, first_bracketed};
 ghost use Rattle.syntax.specs.Words.{clause_words};
 ghost use Rattle.table_words.specs.Tables.{Has};
-ghost use Rattle.determinacy_brackets.specs.Clauses.{or_zero, ClausesIn};
+ghost use Rattle.determinacy_brackets.specs.Clauses.{told_number, ClausesIn};
 
 use syntax::{CLAUSE_START, EQUATION_KIND};
 use table_words::{CLAUSE_ITEMS, past, past_clause, past_item, word_at};
@@ -19,13 +19,11 @@ fn has_bracket(table: &[u32], p: usize, items: usize) -> bool
     ensures { (b : Body) → ItemsAt table.now p items b → result ≡ not (without_brackets b) }
 {
     let mut at = p;
-    let mut left = items;
-    while 0 < left {
+    for _ in 0..items {
         if EQUATION_KIND < word_at(table, at) {
             return true;
         }
         at = past_item(table, at);
-        left -= 1;
     }
     false
 }
@@ -41,20 +39,18 @@ fn is_bracketed(table: &[u32], p: usize) -> bool
     has_bracket(table, first, items)
 }
 
-// The number of the first of k clauses that has a bracket; 0 where none has.
-pub fn bracketed_clause(table: &[u32], k: usize) -> usize
+// The number of the first of k clauses that has a bracket.
+pub fn bracketed_clause(table: &[u32], k: usize) -> Option<usize>
     requires { ClausesIn table.now k }
-    ensures { (w : ClausesIn table.now k) → result ≡ or_zero (first_bracketed 1 w.list) }
+    ensures { (w : ClausesIn table.now k) → result ≡ told_number (first_bracketed 1 w.list) }
 {
     let mut at = 0;
-    let mut i = 0;
-    while i < k {
+    for i in 0..k {
         let number = i + 1;
         if is_bracketed(table, at) {
-            return number;
+            return Some(number);
         }
         at = past_clause(table, at);
-        i = number;
     }
-    0
+    None
 }

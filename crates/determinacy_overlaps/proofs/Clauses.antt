@@ -11,8 +11,6 @@ use Rattle.syntax.specs.Terms.{Atom, Declaration, Clause, Sheet}
 use Rattle.machine.specs.Machine.{is_for, first_for, next_for, nth_clause, clause_at}
 use Rattle.machine.specs.Determinacy.{inputs, joins, overlaps, first_overlap}
 use Rattle.machine.proofs.Tests.{some-eq, some-none}
-use Rattle.determinacy_brackets.specs.Clauses.{or_zero}
-use Rattle.determinacy_brackets.proofs.Numbers.{number-none}
 
 -- ---- lists
 
@@ -83,18 +81,6 @@ lap-by ds cl n x xs b e = ap (lap-choice ds cl n xs) e
 apart : (ds : List Declaration) (cl x : Clause) → is_for cl.head x ≡ false → overlaps ds cl x ≡ false
 unfolding overlaps
 apart ds cl x e = ap (λ (b : Bool). b && joins (inputs ds cl.head) (inputs ds x.head)) e
-
--- clause numbers are not 0
-lap-high : (ds : List Declaration) (cl : Clause) (n m : ℕ) (xs : List Clause) → first_overlap ds cl n xs ≡ some m → n ≤ m
-lap-high ds cl n m [] e = absurd (some-none m (sym (unfold first_overlap in e)))
-lap-high ds cl n m (x ∷ xs) e = go (overlaps ds cl x) refl (λ q. lap-high ds cl (suc n) m xs q)
-  where
-    go : (b : Bool) → overlaps ds cl x ≡ b → (first_overlap ds cl (suc n) xs ≡ some m → suc n ≤ m) → n ≤ m
-    go true t k = let z : n ≡ m = some-eq n m (sym (lap-by ds cl n x xs true t) ∙ e) in omega arith
-    go false t k = let z : suc n ≤ m = k (sym (lap-by ds cl n x xs false t) ∙ e) in omega arith
-
-pub lap-none : (ds : List Declaration) (cl : Clause) (n : ℕ) (xs : List Clause) → or_zero (first_overlap ds cl (suc n) xs) ≡ 0 → first_overlap ds cl (suc n) xs ≡ none
-lap-none ds cl n xs e = number-none (first_overlap ds cl (suc n) xs) (λ m q. let z : suc n ≤ m = lap-high ds cl (suc n) m xs q in let y : 1 ≤ m = omega arith in y) e
 
 module _ (ds : List Declaration) (cl : Clause) (cls : List Clause) where
   -- the first overlap from the clause of a number on; there is none from 0 on

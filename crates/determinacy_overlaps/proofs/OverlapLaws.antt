@@ -5,6 +5,7 @@ use mathlib.Core.Path.{◌≡◌, refl, sym, ap, ◌∙◌, subst, subst⁻¹}
 use mathlib.Core.Bool.{Bool, true, false, ◌&&◌}
 use mathlib.Core.List.{List, []}
 use mathlib.Core.Option.{some}
+use Rattle.std.specs.Prelude.{Some, None}
 use mathlib.Core.Logic.{◌⊎◌, inl, inr}
 use lib.Dec.{T, eqb, eqb→eq}
 use lib.ListN.{length, get_or, drop}
@@ -28,7 +29,7 @@ use Rattle.unify_bindings.specs.Scratch.{Roomy}
 use Rattle.unify_bindings.specs.Cells.{Stored, Undone}
 use Rattle.unifier.specs.Turns.{answered}
 use Rattle.unifier.specs.declared.solve.UnifyAnswer.{UnifyAnswer}
-use Rattle.determinacy_brackets.specs.Clauses.{or_zero}
+use Rattle.determinacy_brackets.specs.Clauses.{told_number}
 use Rattle.determinacy_inputs.specs.Joins.{Joinable, Joins}
 use Rattle.determinacy_overlaps.specs.Overlaps.{NothingBound, ClauseOf, PairOf, Overlaps, FirstBehind}
 use Rattle.determinacy_brackets.proofs.Numbers.{number_is, number-nothing}
@@ -193,9 +194,9 @@ module _ {nodes code before scratch : List ℕ} {i marks : ℕ} where
       }
 
   pub seek-ends : {state later : List ℕ} {j : ℕ} → j ≡ 0 → (w : ClauseOf nodes code before scratch i marks) → Seeking nodes code before scratch i marks w state later j
-      → FirstBehind nodes code before state scratch later i marks w 0
+      → FirstBehind nodes code before state scratch later i marks w None
   seek-ends e w s = record {
-    is = sym (ap or_zero (s.same ∙ ap (from w.sh w.clause) e ∙ from-none w.sh w.clause) ∙ number-nothing);
+    is = sym (ap told_number (s.same ∙ ap (from w.sh w.clause) e ∙ from-none w.sh w.clause) ∙ number-nothing);
     blank = s.blank;
   }
 
@@ -229,9 +230,9 @@ module _ {nodes code before scratch : List ℕ} {i marks : ℕ} where
       unfolding seek-pair
       blank_after = (f (seek-pair w s)).blank
 
-      pub seek_found : r ≡ true → FirstBehind nodes code before state1 scratch later1 i marks w j
+      pub seek_found : r ≡ true → FirstBehind nodes code before state1 scratch later1 i marks w (Some j)
       seek_found t = record {
-        is = sym (ap or_zero (s.same ∙ from-hit w.sh w.clause j (other-of w s).0 (other-of w s).1 (sym overlap-is ∙ t)) ∙ number_is j);
+        is = sym (ap told_number (s.same ∙ from-hit w.sh w.clause j (other-of w s).0 (other-of w s).1 (sym overlap-is ∙ t)) ∙ number_is j);
         blank = blank_after;
       }
 

@@ -1,5 +1,5 @@
 -- What the functions on two clauses of one predicate are given, and what they promise.
-use Rattle.std.specs.Prelude.{ℕ, suc, ◌≡◌, Bool, List, T, drop}
+use Rattle.std.specs.Prelude.{ℕ, suc, ◌≡◌, Bool, List, T, drop, Option as Told}
 use Rattle.std.proofs.Math.Option.{some}
 use Rattle.syntax.specs.Terms.{Clause, Sheet, Goal}
 use Rattle.syntax.specs.Words.{marks_number}
@@ -11,7 +11,7 @@ use Rattle.run_layout.specs.State.{Store}
 use Rattle.run_layout.specs.Program.{Program}
 use Rattle.unify_bindings.specs.Scratch.{Roomy}
 use Rattle.unify_bindings.specs.Queues.{Clean}
-use Rattle.determinacy_brackets.specs.Clauses.{or_zero}
+use Rattle.determinacy_brackets.specs.Clauses.{told_number}
 
 -- ---- two clauses
 
@@ -46,6 +46,6 @@ pub record Overlaps (nodes code before after scratch later : List ℕ) (i j mark
 
 -- the first clause behind clause i that overlaps with it, and no bindings again
 pub record FirstBehind (nodes code before after scratch later : List ℕ) (i marks : ℕ) (w : ClauseOf nodes code before scratch i marks)
-    (r : ℕ) : Type 0 where
-  pub is : r ≡ or_zero (first_overlap w.sh.declarations w.clause (suc i) (drop i w.sh.clauses))
+    (r : Told ℕ) : Type 0 where
+  pub is : r ≡ told_number (first_overlap w.sh.declarations w.clause (suc i) (drop i w.sh.clauses))
   pub blank : NothingBound w.ss nodes after later

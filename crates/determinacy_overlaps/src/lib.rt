@@ -55,7 +55,7 @@ fn overlaps(
     u.equal
 }
 
-// The first clause behind clause i, of its predicate, that overlaps with it; 0 where there is none.
+// The first clause behind clause i, of its predicate, that overlaps with it.
 pub fn first_overlap(
     nodes: &[u32],
     code: &[u32],
@@ -63,18 +63,19 @@ pub fn first_overlap(
     scratch: &mut [u32],
     i: usize,
     marks: usize,
-) -> usize
+) -> Option<usize>
     requires { ClauseOf nodes.now code.now state.old scratch.old i marks }
     ensures { (w : ClauseOf nodes.now code.now state.old scratch.old i marks)
         → FirstBehind nodes.now code.now state.old state.new scratch.old scratch.new i marks
         w result }
 {
     let mut j = after_of(code, i);
+    // The clauses of a predicate are a chain of numbers in the table, and 0 ends it: there is no range to count.
     while j != 0 {
         if overlaps(nodes, code, state, scratch, i, j, marks) {
-            return j;
+            return Some(j);
         }
         j = after_of(code, j);
     }
-    0
+    None
 }

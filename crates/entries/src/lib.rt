@@ -32,12 +32,8 @@ fn fill(found: Listing, entries: &mut [Entry])
     requires { (declared_words ≡ length found.words) × ((found.count ≤ declarations) × (found.count ≤ length entries.old)) }
     ensures { entries.new ≡ pasted (entry_from found.words) found.count entries.old }
 {
-    let n = found.count;
-    let mut i = 0;
-    while i < n {
-        let e = entry_in(found, i);
-        entries[i] = e;
-        i = i + 1;
+    for i in 0..found.count {
+        entries[i] = entry_in(found, i);
     }
 }
 

@@ -13,11 +13,12 @@ use Rattle.syntax.specs.Reading.{Read, fault, ok, read_sheet, read_goal, first_r
 use Rattle.syntax.specs.Verdicts.{Outcome, refused, accepted, without_repeats, sheet_from, goal_from, sheet_of, goal_outcome, sheet_verdict}
 use Rattle.syntax.specs.declared.Refusal.{Refusal}
 use Rattle.syntax.specs.declared.Refusal.TheVariants.{Settings, TooLong, NoToken, Overlong, Misplaced, OverLimit, Unwritten}
-use Rattle.syntax.specs.declared.Run.TheVariants.{Refused as stopped_by}
+use Rattle.std.proofs.Common.{Ok, Err}
+use Rattle.syntax.specs.Verdicts.{Run, Refused as stopped_by}
 use Rattle.syntax.specs.declared.Text.{Text}
 use Rattle.syntax.specs.declared.Text.TheVariants.{Neither}
-use Rattle.syntax.specs.declared.Verdict.{Verdict}
-use Rattle.syntax.specs.declared.Verdict.TheVariants.{Accepted, Refused}
+use Rattle.syntax.specs.Verdicts.{Verdict}
+use Rattle.syntax.specs.Verdicts.{Refused}
 use Rattle.mode_rules.specs.Modes.{Known, none_ground, OpenArgument, Walk, faulted, known, marks_of, undeclared, undeclared_atom, undeclared_literal, undeclared_body, undeclared_clause, undeclared_clauses, undeclared_in_sheet, undeclared_in_goal, open_input, open_output, unless_fault, walk_on, in_both, call_walk, literal_walk, body_fault, head_fault, start_known, clause_fault, clauses_fault, first_of, sheet_fault, walk_fault, goal_fault}
 use Rattle.mode_rules.specs.Written.{is_written, is_exempt, first_unwritten, unwritten}
 use Rattle.mode_rules.specs.Checking.{name_span, faultless, checked_from, checked_with, checked_sheet, verdict_with, check_verdict, checked_goal_from, checked_goal, goal_answer, check_goal_from, check_goal_verdict}
@@ -233,8 +234,12 @@ module _ (s : List ℕ) where
 
 module _ (s g : List ℕ) where
   abbrev OfVerdict : Verdict → Type 0
-  OfVerdict (Accepted n k) = Unit {0}
-  OfVerdict (Refused t r) = NameInside s g t r
+  OfVerdict (Ok counts) = Unit {0}
+  OfVerdict (Err f) = NameInside s g f.text f.refusal
+
+  abbrev OfAnswer : Run → Type 0
+  OfAnswer (Ok report) = Unit {0}
+  OfAnswer (Err f) = NameInside s g f.text f.refusal
 
   abbrev OfRun : RunOutcome → Type 0
   OfRun (stopped t r) = NameInside s g t r
@@ -282,7 +287,7 @@ module _ (s g : List ℕ) where
 
     answer-in : (o : RunOutcome) → OfRun o → (t : Text) (r : Refusal) → run_answer o ≡ stopped_by t r → NameInside s g t r
     unfolding run_answer
-    answer-in (stopped x q) h t r e = let a : x ≡ t = cc in let b : q ≡ r = cc in subst (λ (y : Text). NameInside s g y r) a (subst (λ (z : Refusal). NameInside s g x z) b h)
+    answer-in (stopped x q) h t r e = subst OfAnswer e h
     answer-in (ran report text) h t r e = absurd (let z : ◌≡◌ {A = ℕ} 0 1 = cc in omega arith)
 
     -- of a run

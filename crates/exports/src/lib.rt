@@ -92,9 +92,7 @@ pub extern "C" fn pilvaust_run(
         (outcome_numbers (run_outcome sheet.now goal.now (asking allowance wanted stored) (length text.old))) }
 {
     let asked = settings(allowance, wanted, stored);
-    let r = pilvaust::run_written(sheet, goal, asked, text);
-    let run = r.run;
-    out_numbers::put_run(run, r.bytes, numbers)
+    out_numbers::put_run(pilvaust::run_written(sheet, goal, asked, text), numbers)
 }
 
 // The same with the trace of a recorded session; an empty one is none.
@@ -117,7 +115,8 @@ pub extern "C" fn pilvaust_run_traced(
         goal.now trace.now (asking allowance wanted stored) (length text.old))) }
 {
     let asked = settings(allowance, wanted, stored);
-    let r = pilvaust::run_traced(sheet, goal, trace, asked, text);
-    let run = r.run;
-    out_numbers::put_run(run, r.bytes, numbers)
+    out_numbers::put_run(
+        pilvaust::run_traced(sheet, goal, trace, asked, text),
+        numbers,
+    )
 }

@@ -10,9 +10,8 @@ ghost use Rattle.table_words.specs.Tables.{Has};
 ghost use Rattle.mode_rules.specs.Checking.{checked_goal, goal_answer};
 ghost use Rattle.read_and_check.specs.Tables.{Over};
 
-use mode_marks::Checked;
 use read_and_check::read_goal_text;
-use syntax::{Text, Verdict};
+use syntax::{Counts, Fault, Text, Verdict};
 
 // A goal over the declarations of a checked sheet, which has k clauses. The table is for the goal's words, which it holds where the goal is read.
 pub fn goal_over(
@@ -29,29 +28,15 @@ pub fn goal_over(
         (checked_goal w.sheet goal.now) }
     ensures holds { (g : Goal) → goal_outcome goal.now ≡ accepted g → Has table.new 0 (body_words g.body) }
 {
-    let r = read_goal_text(goal, table);
-    let v = r.verdict;
-    let literals = r.literals;
-    match v {
-        Verdict::Refused {
-            text: _,
-            refusal: _,
-        } => v,
-        Verdict::Accepted {
-            declarations: _,
-            clauses: _,
-        } => {
-            let fault = mode_clauses::check_goal(sheet, declared, n, goal, table, literals);
-            match fault {
-                Checked::Fine => Verdict::Accepted {
-                    declarations: n,
-                    clauses: k,
-                },
-                Checked::Fault(refusal) => Verdict::Refused {
-                    text: Text::Goal,
-                    refusal,
-                },
-            }
-        }
+    let read = read_goal_text(goal, table)?;
+    match mode_clauses::check_goal(sheet, declared, n, goal, table, read.literals) {
+        Ok(()) => Ok(Counts {
+            declarations: n,
+            clauses: k,
+        }),
+        Err(refusal) => Err(Fault {
+            text: Text::Goal,
+            refusal,
+        }),
     }
 }

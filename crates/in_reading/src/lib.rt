@@ -2,7 +2,7 @@
 
 #![tactic(auto)]
 
-ghost use Rattle.std.specs.Prelude.{◌≤◌, ◌<◌, IfOk, length, take};
+ghost use Rattle.std.specs.Prelude.{◌≤◌, ◌<◌, IfOk, OnOk, length, take};
 ghost use Rattle.std.specs.Io.KnownBytes.{Consumes, IsAtEnd};
 
 use std::fs;
@@ -15,14 +15,8 @@ pub fn read_full<R: Read>(input: &mut R, room: &mut [u8]) -> Result<usize>
     ensures bytes { IfOk result (λ n. Consumes (R.remaining input.old) (R.remaining input.new) (take n room.new)) }
     ensures end { IfOk result (λ n. n < length room.new → IsAtEnd (R.remaining input.new)) }
 {
-    let mut done = 0;
-    while done < room.len() {
-        let n = input.read(&mut room[done..])?;
-        if n == 0 {
-            break;
-        }
-        done += n;
-    }
+    let (done, ended) = fill(input, room);
+    ended?;
     Ok(done)
 }
 
@@ -31,25 +25,25 @@ pub fn read_file<F: Files>(files: &F, name: &str, room: &mut [u8]) -> usize
     ensures { result ≤ length room.new }
 {
     match fs::open(files, name) {
-        Ok(mut file) => read_well(&mut file, room),
+        Ok(mut file) => fill(&mut file, room).0,
         Err(_) => 0,
     }
 }
 
-// Reads until the room is full, the input ends or a read fails, and returns how many bytes it put at the start of the room.
-fn read_well<R: Read>(input: &mut R, room: &mut [u8]) -> usize
-    ensures { result ≤ length room.new }
+// Reads until the room is full, the input ends or a read fails: how many bytes it put at the start of the room, and the failure. The place moves by what
+// each read gives, so no `for` counts it, and the library's own calls that read on want a `Vec`, or count a short input as a failure.
+fn fill<R: Read>(input: &mut R, room: &mut [u8]) -> (usize, Result<()>)
+    ensures fits { result.0 ≤ length room.new }
+    ensures bytes { OnOk result.1 (Consumes (R.remaining input.old) (R.remaining input.new) (take result.0 room.new)) }
+    ensures end { OnOk result.1 (result.0 < length room.new → IsAtEnd (R.remaining input.new)) }
 {
-    let mut past = 0;
-    while past < room.len() {
-        let n = match input.read(&mut room[past..]) {
-            Ok(n) => n,
-            Err(_) => 0,
-        };
-        if n < 1 {
-            break;
+    let mut done = 0;
+    while done < room.len() {
+        match input.read(&mut room[done..]) {
+            Ok(0) => break,
+            Ok(n) => done += n,
+            Err(error) => return (done, Err(error)),
         }
-        past += n;
     }
-    past
+    (done, Ok(()))
 }

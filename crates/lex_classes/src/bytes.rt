@@ -1,86 +1,271 @@
 // The class of each byte, by its number (document 01, "How a sheet is spelt").
-pub const CLASSES: [u8; 256] = [
-    0, 0, 0, 0, 0, 0, 0, 0, 0, 1, // tab
-    1, // line feed
-    0, 0, 1, // carriage return
-    0, 0, 0, 0, 0, 0, 0, 0, 0, 0, 0, 0, 0, 0, 0, 0, 0, 0, 1, // space
-    0, 0, 0, 0, 2, // %
-    0, 0, 7, // (
-    8, // )
-    14, // *
-    12, // +
-    9, // ,
-    13, // -
-    10, // .
-    0, 5, // 0
-    5, // 1
-    5, // 2
-    5, // 3
-    5, // 4
-    5, // 5
-    5, // 6
-    5, // 7
-    5, // 8
-    5, // 9
-    6, // :
-    17, // ;
-    0, 11, // =
-    0, 0, 0, 4, // A
-    4, // B
-    4, // C
-    4, // D
-    4, // E
-    4, // F
-    4, // G
-    4, // H
-    4, // I
-    4, // J
-    4, // K
-    4, // L
-    4, // M
-    4, // N
-    4, // O
-    4, // P
-    4, // Q
-    4, // R
-    4, // S
-    4, // T
-    4, // U
-    4, // V
-    4, // W
-    4, // X
-    4, // Y
-    4, // Z
-    0, 0, 0, 0, 4, // _
-    0, 3, // a
-    3, // b
-    3, // c
-    3, // d
-    3, // e
-    3, // f
-    3, // g
-    3, // h
-    3, // i
-    3, // j
-    3, // k
-    3, // l
-    3, // m
-    3, // n
-    3, // o
-    3, // p
-    3, // q
-    3, // r
-    3, // s
-    3, // t
-    3, // u
-    3, // v
-    3, // w
-    3, // x
-    3, // y
-    3, // z
-    0, 0, 0, 0, 0, 0, // 128, past ASCII
-    0, 0, 0, 0, 0, 0, 0, 0, 0, 0, 0, 0, 0, 0, 0, 0, 0, 0, 0, 0, 0, 0, 0, 0, 0, 0, 0, 0, 0, 0, 0, 0,
-    0, 0, 0, 0, 0, 0, 0, 0, 0, 0, 0, 0, 0, 0, 0, 0, 0, 0, 0, 0, 0, 0, 0, 0, 0, 0, 0, 0, 0, 0, 0, 0,
-    0, 0, 0, 0, 0, 0, 0, 0, 0, 0, 0, 0, 0, 0, 0, 0, 0, 0, 0, 0, 0, 0, 0, 0, 0, 0, 0, 0, 0, 0, 0, 0,
-    0, 0, 0, 0, 0, 0, 0, 0, 0, 0, 0, 0, 0, 0, 0, 0, 0, 0, 0, 0, 0, 0, 0, 0, 0, 0, 0, 0, 0, 0, 0,
+use syntax::{Class, TokenKind};
+
+const NOTHING: Class = Class::Nothing;
+
+const BLANK: Class = Class::Blank;
+
+const LOWER: Class = Class::Lower;
+
+const UPPER: Class = Class::Upper;
+
+const DIGIT: Class = Class::Digit;
+
+pub static CLASSES: [Class; 256] = [
+    NOTHING,
+    NOTHING,
+    NOTHING,
+    NOTHING,
+    NOTHING,
+    NOTHING,
+    NOTHING,
+    NOTHING,
+    NOTHING,
+    BLANK, // tab
+    BLANK, // line feed
+    NOTHING,
+    NOTHING,
+    BLANK, // carriage return
+    NOTHING,
+    NOTHING,
+    NOTHING,
+    NOTHING,
+    NOTHING,
+    NOTHING,
+    NOTHING,
+    NOTHING,
+    NOTHING,
+    NOTHING,
+    NOTHING,
+    NOTHING,
+    NOTHING,
+    NOTHING,
+    NOTHING,
+    NOTHING,
+    NOTHING,
+    NOTHING,
+    BLANK, // space
+    NOTHING,
+    NOTHING,
+    NOTHING,
+    NOTHING,
+    Class::Percent, // %
+    NOTHING,
+    NOTHING,
+    Class::Single(TokenKind::Open), // (
+    Class::Single(TokenKind::Close), // )
+    Class::Single(TokenKind::Star), // *
+    Class::Single(TokenKind::Plus), // +
+    Class::Single(TokenKind::Comma), // ,
+    Class::Single(TokenKind::Minus), // -
+    Class::Single(TokenKind::Stop), // .
+    NOTHING,
+    DIGIT, // 0
+    DIGIT, // 1
+    DIGIT, // 2
+    DIGIT, // 3
+    DIGIT, // 4
+    DIGIT, // 5
+    DIGIT, // 6
+    DIGIT, // 7
+    DIGIT, // 8
+    DIGIT, // 9
+    Class::Colon, // :
+    Class::Single(TokenKind::Semicolon), // ;
+    NOTHING,
+    Class::Single(TokenKind::Equals), // =
+    NOTHING,
+    NOTHING,
+    NOTHING,
+    UPPER, // A
+    UPPER, // B
+    UPPER, // C
+    UPPER, // D
+    UPPER, // E
+    UPPER, // F
+    UPPER, // G
+    UPPER, // H
+    UPPER, // I
+    UPPER, // J
+    UPPER, // K
+    UPPER, // L
+    UPPER, // M
+    UPPER, // N
+    UPPER, // O
+    UPPER, // P
+    UPPER, // Q
+    UPPER, // R
+    UPPER, // S
+    UPPER, // T
+    UPPER, // U
+    UPPER, // V
+    UPPER, // W
+    UPPER, // X
+    UPPER, // Y
+    UPPER, // Z
+    NOTHING,
+    NOTHING,
+    NOTHING,
+    NOTHING,
+    UPPER, // _
+    NOTHING,
+    LOWER, // a
+    LOWER, // b
+    LOWER, // c
+    LOWER, // d
+    LOWER, // e
+    LOWER, // f
+    LOWER, // g
+    LOWER, // h
+    LOWER, // i
+    LOWER, // j
+    LOWER, // k
+    LOWER, // l
+    LOWER, // m
+    LOWER, // n
+    LOWER, // o
+    LOWER, // p
+    LOWER, // q
+    LOWER, // r
+    LOWER, // s
+    LOWER, // t
+    LOWER, // u
+    LOWER, // v
+    LOWER, // w
+    LOWER, // x
+    LOWER, // y
+    LOWER, // z
+    NOTHING,
+    NOTHING,
+    NOTHING,
+    NOTHING,
+    NOTHING,
+    NOTHING, // 128, past ASCII
+    NOTHING,
+    NOTHING,
+    NOTHING,
+    NOTHING,
+    NOTHING,
+    NOTHING,
+    NOTHING,
+    NOTHING,
+    NOTHING,
+    NOTHING,
+    NOTHING,
+    NOTHING,
+    NOTHING,
+    NOTHING,
+    NOTHING,
+    NOTHING,
+    NOTHING,
+    NOTHING,
+    NOTHING,
+    NOTHING,
+    NOTHING,
+    NOTHING,
+    NOTHING,
+    NOTHING,
+    NOTHING,
+    NOTHING,
+    NOTHING,
+    NOTHING,
+    NOTHING,
+    NOTHING,
+    NOTHING,
+    NOTHING,
+    NOTHING,
+    NOTHING,
+    NOTHING,
+    NOTHING,
+    NOTHING,
+    NOTHING,
+    NOTHING,
+    NOTHING,
+    NOTHING,
+    NOTHING,
+    NOTHING,
+    NOTHING,
+    NOTHING,
+    NOTHING,
+    NOTHING,
+    NOTHING,
+    NOTHING,
+    NOTHING,
+    NOTHING,
+    NOTHING,
+    NOTHING,
+    NOTHING,
+    NOTHING,
+    NOTHING,
+    NOTHING,
+    NOTHING,
+    NOTHING,
+    NOTHING,
+    NOTHING,
+    NOTHING,
+    NOTHING,
+    NOTHING,
+    NOTHING,
+    NOTHING,
+    NOTHING,
+    NOTHING,
+    NOTHING,
+    NOTHING,
+    NOTHING,
+    NOTHING,
+    NOTHING,
+    NOTHING,
+    NOTHING,
+    NOTHING,
+    NOTHING,
+    NOTHING,
+    NOTHING,
+    NOTHING,
+    NOTHING,
+    NOTHING,
+    NOTHING,
+    NOTHING,
+    NOTHING,
+    NOTHING,
+    NOTHING,
+    NOTHING,
+    NOTHING,
+    NOTHING,
+    NOTHING,
+    NOTHING,
+    NOTHING,
+    NOTHING,
+    NOTHING,
+    NOTHING,
+    NOTHING,
+    NOTHING,
+    NOTHING,
+    NOTHING,
+    NOTHING,
+    NOTHING,
+    NOTHING,
+    NOTHING,
+    NOTHING,
+    NOTHING,
+    NOTHING,
+    NOTHING,
+    NOTHING,
+    NOTHING,
+    NOTHING,
+    NOTHING,
+    NOTHING,
+    NOTHING,
+    NOTHING,
+    NOTHING,
+    NOTHING,
+    NOTHING,
+    NOTHING,
+    NOTHING,
+    NOTHING,
+    NOTHING,
+    NOTHING,
+    NOTHING,
+    NOTHING,
+    NOTHING,
+    NOTHING,
 ];

@@ -1,26 +1,34 @@
-// The class of a byte (document 01, "How a sheet is spelt"). Document 01 is the paper "Rule sheets".
+// The class of a byte, and which bytes go on with a token (document 01, "How a sheet is spelt"). Document 01 is the paper "Rule sheets".
 
 #![tactic(auto)]
 
 mod bytes;
 
 ghost use Rattle.std.specs.Prelude.{◌≡◌};
-ghost use Rattle.syntax.specs.Bytes.{class_of};
-ghost use Rattle.lex_classes.specs.Classes.{Classified};
+ghost use Rattle.syntax.specs.Bytes.{class_of, in_word, in_numeral};
 
 use bytes::CLASSES;
+use syntax::Class;
 
-// The table of classes. A constant array is put into memory wherever it is used, so a token is scanned with one copy of it.
-pub fn class_table() -> [u8; 256]
-    ensures { Classified result }
-{
-    CLASSES
-}
-
-// The class of a byte.
-pub fn class(table: &[u8; 256], b: u8) -> usize
-    requires { Classified table.now }
+// The class of a byte. A static table is in memory once, and is not copied where it is used.
+pub fn class(b: u8) -> Class
     ensures { result ≡ class_of b }
 {
-    table[b as usize] as usize
+    CLASSES[b as usize]
+}
+
+// Whether a byte goes on with a name or a variable: letters, digits, underscores.
+#[tactic(auto, unfolding(syntax::specs::Bytes::in_word))]
+pub fn in_word(b: u8) -> bool
+    ensures { result ≡ in_word b }
+{
+    matches!(b, b'a'..=b'z' | b'A'..=b'Z' | b'_' | b'0'..=b'9')
+}
+
+// Whether a byte goes on with a numeral.
+#[tactic(auto, unfolding(syntax::specs::Bytes::in_numeral))]
+pub fn in_numeral(b: u8) -> bool
+    ensures { result ≡ in_numeral b }
+{
+    matches!(b, b'0'..=b'9')
 }

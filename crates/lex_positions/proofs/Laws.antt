@@ -1,12 +1,11 @@
 -- Laws of the tokens of a text, over plain variables: past the end of the text, at a position that stays, and a turn of the loop.
 use Prim.Native.Nat.{ℕ, zero, suc, ◌+◌, ◌-◌, ◌≤◌, ◌<◌}
-use native.Mathlib.Nat.{add-zero, not-suc-le-zero}
-use native.Mathlib.Numerals.{unary_clauses}
+use native.Mathlib.Nat.{add-zero}
 use native.Mathlib.Omega.{arith}
 use mathlib.Core.Path.{◌≡◌, refl, sym, ap, ◌∙◌}
 use mathlib.Core.List.{List}
 use lib.ListN.{length, drop_of_length-le}
-use Rattle.syntax.specs.Tokens.{skipped, token_place, token_at}
+use Rattle.syntax.specs.Tokens.{end_kind, skipped, token_place, token_at}
 use Rattle.syntax.specs.declared.Token.{Token}
 use Rattle.lex_positions.specs.Nth.{past_token, past_tokens, nth_token}
 use Rattle.lex_tokens.proofs.Laws.{token-none, token-inside}
@@ -16,7 +15,7 @@ place-past : (s : List ℕ) (p : ℕ) → length s < p → p ≡ token_place s p
 unfolding token_place skipped
 place-past s p h = rw (drop_of_length-le s {i = p} (omega arith)) (omega arith)
 
-pub token-past : (s : List ℕ) (p : ℕ) → length s < p → record { kind = 16; at = p; len = 0 } ≡ token_at s p
+pub token-past : (s : List ℕ) (p : ℕ) → length s < p → record { kind = end_kind; at = p; len = 0 } ≡ token_at s p
 token-past s p h = token-none s p p (place-past s p h) (omega arith)
 
 -- a position that one token does not move stays
@@ -32,25 +31,28 @@ past_end s p h = ap (λ (t : Token). t.at + t.len) (sym (token-past s p h)) ∙ 
 pub tokens-past : (s : List ℕ) (p n : ℕ) → length s < p → p ≡ past_tokens n s p
 tokens-past s p n h = sym (stays s p n (past_end s p h))
 
--- A turn: the tokens left from the place reached end where all end.
-pub turn : (s : List ℕ) (p left past x : ℕ) → 0 < left → past ≡ (token_at s p).at + (token_at s p).len
-    → past_tokens left s p ≡ x → past_tokens (left - 1) s past ≡ x
+-- Turns of the loop: the tokens left from the place reached end where all end.
+pub turn-first : (s : List ℕ) (p n : ℕ) → past_tokens (n - 0) s p ≡ past_tokens n s p
+turn-first s p n = ap (λ (k : ℕ). past_tokens k s p) (omega arith)
+
+pub turn : (s : List ℕ) (p n i past x : ℕ) → i < n → past ≡ (token_at s p).at + (token_at s p).len
+    → past_tokens (n - i) s p ≡ x → past_tokens (n - (i + 1)) s past ≡ x
 unfolding past_tokens past_token
-turn s p zero past x h e i = absurd (not-suc-le-zero h)
-turn s p (suc n) past x h e i = simp unary_clauses (ap (past_tokens n s) e ∙ i)
+turn s p n i past x h e f =
+    let left : n - i ≡ suc (n - (i + 1)) = omega arith in
+    ap (past_tokens (n - (i + 1)) s) e ∙ (ap (λ (k : ℕ). past_tokens k s p) (sym left) ∙ f)
 
 pub turn_inside : (s : List ℕ) (p past : ℕ) → p ≤ length s → past ≡ (token_at s p).at + (token_at s p).len → past ≤ length s
 turn_inside s p past h e = omega (arith, token-inside s p h)
 
-pub turn-stays : (s : List ℕ) (p left past x : ℕ) → past ≡ (token_at s p).at + (token_at s p).len → past ≡ p
-    → past_tokens left s p ≡ x → p ≡ x
+pub turn-stays : (s : List ℕ) (p n i past x : ℕ) → past ≡ (token_at s p).at + (token_at s p).len → past ≡ p
+    → past_tokens (n - i) s p ≡ x → p ≡ x
 unfolding past_token
-turn-stays s p left past x e f i = sym (stays s p left (sym e ∙ f)) ∙ i
+turn-stays s p n i past x e f h = sym (stays s p (n - i) (sym e ∙ f)) ∙ h
 
-pub turn_last : (s : List ℕ) (p left x : ℕ) → left ≤ 0 → past_tokens left s p ≡ x → p ≡ x
+pub turn_last : (s : List ℕ) (p n i x : ℕ) → n ≤ i → past_tokens (n - i) s p ≡ x → p ≡ x
 unfolding past_tokens
-turn_last s p zero x h i = i
-turn_last s p (suc n) x h i = absurd (not-suc-le-zero h)
+turn_last s p n i x h f = let left : n - i ≡ 0 = omega arith in ap (λ (k : ℕ). past_tokens k s p) (sym left) ∙ f
 
 -- The token that a reader finds, made at the beginning and moved past n tokens.
 pub nth-is : (s x y : List ℕ) (n p r : ℕ) (t : Token) → x ≡ s → p ≡ 0 → y ≡ x → r ≡ past_tokens n x p → t ≡ token_at y r → t ≡ nth_token s n

@@ -7,7 +7,7 @@ ghost use Rattle.syntax.specs.Tokens.{token_at};
 ghost use Rattle.lex_positions.specs.Nth.{past_tokens};
 
 use lex_tokens::{past_at, token_at};
-use syntax::{END, Token};
+use syntax::{Token, TokenKind};
 
 // The first token from a position on; past the end of the text, its end.
 pub fn token_of(text: &[u8], at: usize) -> Token
@@ -15,7 +15,7 @@ pub fn token_of(text: &[u8], at: usize) -> Token
 {
     if text.len() < at {
         return Token {
-            kind: END,
+            kind: TokenKind::End,
             at,
             len: 0,
         };
@@ -31,14 +31,12 @@ pub fn past_tokens(text: &[u8], from: usize, n: usize) -> usize
         return from;
     }
     let mut at = from;
-    let mut left = n;
-    while 0 < left {
+    for _ in 0..n {
         let past = past_at(text, at);
         if past == at {
             return at;
         }
         at = past;
-        left -= 1;
     }
     at
 }

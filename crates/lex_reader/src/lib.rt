@@ -1,5 +1,5 @@
-// A reader over a sheet, which hands out one token at a time: a struct that holds the text and a position in it, and thin
-// functions over it. The work is in `token_of` and `past_tokens` of `lex_positions`, which take the slice and the number.
+// A reader over a sheet, which hands out one token at a time: a struct that holds the text and a position in it, with thin
+// methods. The work is in `token_of` and `past_tokens` of `lex_positions`, which take the slice and the number.
 
 #![tactic(auto)]
 
@@ -16,31 +16,36 @@ pub struct Reader<'a> {
     at: usize,
 }
 
-// A reader at the beginning of a text.
-pub fn new<'a>(text: &'a [u8]) -> Reader<'a>
-    ensures { (result.text ≡ text.entry) × (result.at ≡ 0) }
-{
-    Reader { text, at: 0 }
-}
+impl<'a> Reader<'a> {
+    // A reader at the beginning of a text.
+    pub fn new(text: &'a [u8]) -> Reader<'a>
+        ensures { (result.text ≡ text.entry) × (result.at ≡ 0) }
+    {
+        Reader { text, at: 0 }
+    }
 
-// The token at a reader's place, where the reader stays.
-pub fn peek<'a>(r: Reader<'a>) -> Token
-    ensures { result ≡ token_at r.entry.text.now r.entry.at }
-{
-    token_of(r.text, r.at)
-}
+    // The token at a reader's place, where the reader stays.
+    pub fn peek(self) -> Token
+        ensures { result ≡ token_at self.entry.text.now self.entry.at }
+    {
+        token_of(self.text, self.at)
+    }
 
-// The reader moved past its next `n` tokens.
-pub fn moved<'a>(r: Reader<'a>, n: usize) -> Reader<'a>
-    ensures { (result.text ≡ r.entry.text) × (result.at ≡ past_tokens n r.entry.text.now r.entry.at) }
-{
-    let at = past_tokens(r.text, r.at, n);
-    Reader { text: r.text, at }
+    // The reader moved past its next `n` tokens.
+    pub fn moved(self, n: usize) -> Reader<'a>
+        ensures { (result.text ≡ self.entry.text) × (result.at ≡ past_tokens n self.entry.text.now self.entry.at) }
+    {
+        let at = past_tokens(self.text, self.at, n);
+        Reader {
+            text: self.text,
+            at,
+        }
+    }
 }
 
 // The token of a text before which `n` tokens stand; the end of the text where there are not so many.
 pub fn nth_token(text: &[u8], n: usize) -> Token
     ensures { result ≡ nth_token text.now n }
 {
-    peek(moved(new(text), n))
+    Reader::new(text).moved(n).peek()
 }

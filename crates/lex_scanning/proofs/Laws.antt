@@ -3,17 +3,19 @@
 use Prim.Native.Nat.{ℕ, zero, suc, ◌+◌, ◌-◌, ◌≤◌, ◌<◌}
 use native.Mathlib.Numerals.{add-one}
 use native.Mathlib.Omega.{arith}
-use mathlib.Core.Path.{◌≡◌, refl, ap, ◌∙◌}
-use mathlib.Core.Bool.{Bool, true, false}
+use mathlib.Core.Path.{◌≡◌, refl, sym, ap, ◌∙◌}
+use mathlib.Core.Bool.{Bool, true, false, cond}
 use mathlib.Core.List.{List, [], ◌∷◌}
 use lib.Dec.{leb, eqb}
 use lib.ListN.{length, get_or, drop, length-drop, drop_of_length-le}
 use lib.Seq.{drop-cons}
 use borrow.Author.Tests.{le-leb, lt-leb, ne_eqb}
 use Rattle.syntax.specs.Limits.{word_bytes}
-use Rattle.syntax.specs.Bytes.{class_of}
-use Rattle.syntax.specs.Tokens.{Gap, outside, in_comment, Move, on, at_token, move_of, skipped, run_length, word, dash_first, neck_kind, overlong_kind, token_of, token_place}
-use Rattle.lex_scanning.specs.Runs.{goes_on}
+use Rattle.syntax.specs.Bytes.{is_blank, is_lower, is_upper, is_digit, class_of}
+use Rattle.syntax.specs.declared.Class.{Class}
+use Rattle.syntax.specs.declared.Class.TheVariants.{Nothing, Blank, Percent, Lower, Upper, Digit, Colon, Single}
+use Rattle.syntax.specs.declared.TokenKind.{TokenKind}
+use Rattle.syntax.specs.Tokens.{Gap, outside, in_comment, Move, on, at_token, move_of, skipped, run_length, word, dash_first, no_token, neck_kind, overlong_kind, token_of, token_place}
 
 -- what stands from a place on: the byte there and the rest
 pub drop-next : (s : List ℕ) (i : ℕ) → i < length s → drop i s ≡ get_or s i 0 ∷ drop (i + 1) s
@@ -53,13 +55,58 @@ ahead-on g h s from i lt e a =
     ap (skipped g) (drop-next s i lt) ∙ skipped-by g (on h) (get_or s i 0) (drop (i + 1) s) e in
     omega arith
 
-pub ahead-blank : (s : List ℕ) (from i k : ℕ) → i < length s → k ≡ class_of (get_or s i 0) → k ≡ 1 → Ahead outside s from i
-    → Ahead outside s from (i + 1)
-ahead-blank s from i k lt c e a = ahead-on outside outside s from i lt (let q : class_of (get_or s i 0) ≡ 1 = cc in simp q) a
+-- where a byte of a class takes a scanner that is outside
+move_by : Class → Move
+move_by Blank = on outside
+move_by Percent = on in_comment
+move_by Nothing = at_token
+move_by Lower = at_token
+move_by Upper = at_token
+move_by Digit = at_token
+move_by Colon = at_token
+move_by (Single kind) = at_token
 
-pub ahead-percent : (s : List ℕ) (from i k : ℕ) → i < length s → k ≡ class_of (get_or s i 0) → k ≡ 2 → Ahead outside s from i
+either_way : (t : Bool) (a b : Class) (m : Move) → move_by a ≡ m → move_by b ≡ m → move_by (cond t a b) ≡ m
+either_way true a b m e f = e
+either_way false a b m e f = f
+
+gap_or_token : (t u : Bool) (c : Class) → move_by c ≡ at_token
+    → cond t (on outside) (cond u (on in_comment) at_token) ≡ move_by (cond t Blank (cond u Percent c))
+unfolding move_by
+gap_or_token true u c e = refl
+gap_or_token false true c e = refl
+gap_or_token false false c e = sym e
+
+move-by_class : (b : ℕ) → move_of outside b ≡ move_by (class_of b)
+unfolding class_of move_by
+move-by_class b =
+    gap_or_token (is_blank b) (eqb b 37) _ (either_way (is_lower b) _ _ _ refl (either_way (is_upper b) _ _ _ refl
+    (either_way (is_digit b) _ _ _ refl (either_way (eqb b 58) _ _ _ refl (either_way (eqb b 40) _ _ _ refl
+    (either_way (eqb b 41) _ _ _ refl (either_way (eqb b 44) _ _ _ refl (either_way (eqb b 46) _ _ _ refl
+    (either_way (eqb b 61) _ _ _ refl (either_way (eqb b 43) _ _ _ refl (either_way (eqb b 45) _ _ _ refl
+    (either_way (eqb b 42) _ _ _ refl (either_way (eqb b 59) _ _ _ refl refl)))))))))))))
+
+token_by : (c : Class) → (c ≡ Blank → ⊥) → (c ≡ Percent → ⊥) → move_by c ≡ at_token
+unfolding move_by
+token_by Blank n m = absurd (n refl)
+token_by Percent n m = absurd (m refl)
+token_by Nothing n m = refl
+token_by Lower n m = refl
+token_by Upper n m = refl
+token_by Digit n m = refl
+token_by Colon n m = refl
+token_by (Single kind) n m = refl
+
+-- a byte outside comments: a blank and the percent sign
+pub ahead-blank : (s : List ℕ) (from i : ℕ) (c : Class) → i < length s → c ≡ class_of (get_or s i 0) → c ≡ Blank → Ahead outside s from i
+    → Ahead outside s from (i + 1)
+unfolding move_by
+ahead-blank s from i c lt e f a = ahead-on outside outside s from i lt (move-by_class (get_or s i 0) ∙ ap move_by (sym e ∙ f)) a
+
+pub ahead-percent : (s : List ℕ) (from i : ℕ) (c : Class) → i < length s → c ≡ class_of (get_or s i 0) → c ≡ Percent → Ahead outside s from i
     → Ahead in_comment s from (i + 1)
-ahead-percent s from i k lt c e a = ahead-on outside in_comment s from i lt (let q : class_of (get_or s i 0) ≡ 2 = cc in simp q) a
+unfolding move_by
+ahead-percent s from i c lt e f a = ahead-on outside in_comment s from i lt (move-by_class (get_or s i 0) ∙ ap move_by (sym e ∙ f)) a
 
 pub ahead-feed : (s : List ℕ) (from i : ℕ) → i < length s → get_or s i 0 ≡ 10 → Ahead in_comment s from i → Ahead outside s from (i + 1)
 ahead-feed s from i lt e a = ahead-on in_comment outside s from i lt (simp e) a
@@ -73,10 +120,10 @@ ahead-end g s from i le a =
     let q : skipped g (drop i s) ≡ 0 = ap (skipped g) (drop_of_length-le s le) ∙ skipped-none g in
     omega arith
 
-pub ahead-token : (s : List ℕ) (from i k : ℕ) → i < length s → k ≡ class_of (get_or s i 0) → (k ≡ 1 → ⊥) → (k ≡ 2 → ⊥)
+pub ahead-token : (s : List ℕ) (from i : ℕ) (c : Class) → i < length s → c ≡ class_of (get_or s i 0) → (c ≡ Blank → ⊥) → (c ≡ Percent → ⊥)
     → Ahead outside s from i → i ≡ token_place s from
-ahead-token s from i k lt c n1 n2 a =
-    let m : move_of outside (get_or s i 0) ≡ at_token = simp (← c, ne_eqb _ _ n1, ne_eqb _ _ n2) in
+ahead-token s from i c lt e n1 n2 a =
+    let m : move_of outside (get_or s i 0) ≡ at_token = move-by_class (get_or s i 0) ∙ (ap move_by (sym e) ∙ token_by c n1 n2) in
     let q : skipped outside (drop i s) ≡ 0 = ap (skipped outside) (drop-next s i lt) ∙ skipped-by outside at_token (get_or s i 0) (drop (i + 1) s) m in
     omega arith
 
@@ -110,45 +157,34 @@ run_inside f (b ∷ r) = by-test (f b) (run_length f r) (length r) (run_inside f
 abbrev pub Runs : (ℕ → Bool) → List ℕ → ℕ → ℕ → Type 0
 Runs f s from i = from + run_length f (drop from s) ≡ i + run_length f (drop i s)
 
-runs-stop : (f : ℕ → Bool) (s : List ℕ) (from i : ℕ) → i < length s → f (get_or s i 0) ≡ false → Runs f s from i
+pub runs-stop : (f : ℕ → Bool) (s : List ℕ) (from i : ℕ) → i < length s → f (get_or s i 0) ≡ false → Runs f s from i
     → i ≡ from + run_length f (drop from s)
 runs-stop f s from i lt e a =
     let q : run_length f (drop i s) ≡ 0 = ap (run_length f) (drop-next s i lt) ∙ run_by f false (get_or s i 0) (drop (i + 1) s) e in
     omega arith
 
-pub runs-low : (s : List ℕ) (from i least k : ℕ) → i < length s → k ≡ class_of (get_or s i 0) → k < least → Runs (goes_on least) s from i
-    → i ≡ from + run_length (goes_on least) (drop from s)
-unfolding goes_on
-runs-low s from i least k lt c h a = runs-stop (goes_on least) s from i lt (simp (← c, lt-leb _ _ h)) a
-
-pub runs-high : (s : List ℕ) (from i least k : ℕ) → i < length s → k ≡ class_of (get_or s i 0) → least ≤ k → 5 < k
-    → Runs (goes_on least) s from i → i ≡ from + run_length (goes_on least) (drop from s)
-unfolding goes_on
-runs-high s from i least k lt c l h a = runs-stop (goes_on least) s from i lt (simp (← c, le-leb _ _ l, lt-leb _ _ h)) a
-
-pub runs_on : (s : List ℕ) (from i least k : ℕ) → i < length s → k ≡ class_of (get_or s i 0) → least ≤ k → k ≤ 5
-    → Runs (goes_on least) s from i → Runs (goes_on least) s from (i + 1)
-unfolding goes_on
-runs_on s from i least k lt c l h a =
-    let e : goes_on least (get_or s i 0) ≡ true = simp (← c, le-leb _ _ l, le-leb _ _ h) in
-    let q : run_length (goes_on least) (drop i s) ≡ suc (run_length (goes_on least) (drop (i + 1) s)) =
-    ap (run_length (goes_on least)) (drop-next s i lt) ∙ run_by (goes_on least) true (get_or s i 0) (drop (i + 1) s) e in
+pub runs_on : (f : ℕ → Bool) (s : List ℕ) (from i : ℕ) → i < length s → f (get_or s i 0) ≡ true → Runs f s from i → Runs f s from (i + 1)
+runs_on f s from i lt e a =
+    let q : run_length f (drop i s) ≡ suc (run_length f (drop (i + 1) s)) =
+    ap (run_length f) (drop-next s i lt) ∙ run_by f true (get_or s i 0) (drop (i + 1) s) e in
     omega arith
 
-pub runs-end : (f : ℕ → Bool) (s : List ℕ) (from i : ℕ) → length s ≤ i → Runs f s from i → i ≡ from + run_length f (drop from s)
-runs-end f s from i le a =
+pub runs-end : (f : ℕ → Bool) (s : List ℕ) (from i : ℕ) → length s ≤ i → i ≤ length s → Runs f s from i
+    → length s ≡ from + run_length f (drop from s)
+runs-end f s from i le ge a =
     let q : run_length f (drop i s) ≡ 0 = ap (run_length f) (drop_of_length-le s le) ∙ run_none f in
     omega arith
 
 -- Tokens.
-pub word_in : (kind i n e : ℕ) → e ≡ i + 1 + n → e - i ≤ word_bytes → record { kind = kind; at = i; len = e - i } ≡ word kind i (suc n)
+pub word_in : (kind : TokenKind) (i n e : ℕ) → e ≡ i + 1 + n → e - i ≤ word_bytes → record { kind = kind; at = i; len = e - i } ≡ word kind i (suc n)
 unfolding word
 word_in kind i n e p h =
     let q : e - i ≡ suc n = omega arith in
     let l : leb (suc n) word_bytes ≡ true = le-leb (suc n) word_bytes (omega arith) in
     simp (q, l)
 
-pub word_over : (kind i n e : ℕ) → e ≡ i + 1 + n → word_bytes < e - i → record { kind = overlong_kind; at = i; len = e - i } ≡ word kind i (suc n)
+pub word_over : (kind : TokenKind) (i n e : ℕ) → e ≡ i + 1 + n → word_bytes < e - i
+    → record { kind = overlong_kind; at = i; len = e - i } ≡ word kind i (suc n)
 unfolding word
 word_over kind i n e p h =
     let q : e - i ≡ suc n = omega arith in
@@ -167,12 +203,16 @@ unfolding dash_first
 dash-inside [] e = let z : ◌≡◌ {A = Bool} false true = e in let w : ◌≡◌ {A = ℕ} 0 1 = cc in absurd (omega arith)
 dash-inside (b ∷ r) e = omega arith
 
-pub colon-neck : (s : List ℕ) (i b : ℕ) → b ≡ get_or s (i + 1) 0 → b ≡ 45
-    → record { kind = neck_kind; at = i; len = 2 } ≡ token_of 6 i (drop (i + 1) s)
+pub colon-neck : (s : List ℕ) (i : ℕ) → get_or s (i + 1) 0 ≡ 45
+    → record { kind = neck_kind; at = i; len = 2 } ≡ token_of Colon i (drop (i + 1) s)
 unfolding token_of
-colon-neck s i b p e = let q : get_or s (i + 1) 0 ≡ 45 = cc in simp (dash-first, q)
+colon-neck s i e = simp (dash-first, e)
 
-pub colon-alone : (s : List ℕ) (i b : ℕ) → b ≡ get_or s (i + 1) 0 → (b ≡ 45 → ⊥)
-    → record { kind = 0; at = i; len = 1 } ≡ token_of 6 i (drop (i + 1) s)
+pub colon-alone : (s : List ℕ) (i : ℕ) → (get_or s (i + 1) 0 ≡ 45 → ⊥)
+    → record { kind = no_token; at = i; len = 1 } ≡ token_of Colon i (drop (i + 1) s)
 unfolding token_of
-colon-alone s i b p e = simp (dash-first, ← p, ne_eqb _ _ e)
+colon-alone s i e = simp (dash-first, ne_eqb _ _ e)
+
+pub colon-end : (s : List ℕ) (i : ℕ) → length s ≤ i + 1 → record { kind = no_token; at = i; len = 1 } ≡ token_of Colon i (drop (i + 1) s)
+unfolding token_of dash_first
+colon-end s i le = rw (drop_of_length-le s {i = i + 1} le) refl

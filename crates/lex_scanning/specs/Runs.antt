@@ -1,7 +1,6 @@
 -- Which bytes go on with a token of several bytes.
-use Rattle.std.specs.Prelude.{ℕ, Bool, ◌&&◌, leb}
-use Rattle.syntax.specs.Bytes.{class_of}
+use Rattle.std.specs.Prelude.{ℕ, ◌<◌, ◌≡◌, Bool}
 
--- a byte whose class is from least to 5: from 3 on those of a word, from 5 on those of a numeral
-unfoldable pub goes_on : ℕ → ℕ → Bool
-goes_on least b = leb least (class_of b) && leb (class_of b) 5
+-- a function's answers, as its calls relate a byte and an answer, are those of a test
+abbrev pub Decides : (ℕ → Bool → Type 0) → (ℕ → Bool) → Type 0
+Decides answers test = (b : ℕ) (r : Bool) → b < 256 → answers b r → r ≡ test b

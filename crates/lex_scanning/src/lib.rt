@@ -2,112 +2,93 @@
 
 #![tactic(auto)]
 
-ghost use Rattle.std.specs.Prelude.{◌≡◌, suc, ◌+◌, ◌≤◌, ◌<◌, length, drop};
+ghost use Rattle.std.specs.Prelude.{◌≡◌, ℕ, Bool, suc, ◌+◌, ◌≤◌, ◌<◌, length, drop};
+ghost use Rattle.syntax.specs.declared.Class.TheVariants.{Colon};
 ghost use Rattle.syntax.specs.Tokens.{run_length, word, token_of, token_place};
-ghost use Rattle.lex_classes.specs.Classes.{Classified};
-ghost use Rattle.lex_scanning.specs.Runs.{goes_on};
+ghost use Rattle.lex_scanning.specs.Runs.{Decides};
 
 use lex_classes::class;
-use syntax::{NECK, NO_TOKEN, NUMERAL, OVERLONG, Token, WORD_BYTES};
-use texts::byte_at;
+use syntax::{Class, Token, TokenKind, WORD_BYTES};
 
-// The classes of bytes that are no kind of token.
-const BLANK: usize = 1;
+const LINE_FEED: u8 = b'\n';
 
-const PERCENT: usize = 2;
-
-const LINE_FEED: u8 = 10;
-
-const DASH: u8 = 45;
+const DASH: u8 = b'-';
 
 // Where the first token from a position on begins, past blanks and comments; the length where only these are left.
-pub fn skip(table: &[u8; 256], s: &[u8], from: usize) -> usize
-    requires classified { Classified table.now }
-    requires from_in_bounds { from ≤ length s.now }
+pub fn skip(s: &[u8], from: usize) -> usize
+    requires { from ≤ length s.now }
     ensures { result ≡ token_place s.now from }
 {
     let mut at = from;
-    // A turn passes one blank or one comment; both loops are left at the token's first byte, or at the end.
+    // A turn passes one blank or one comment; both loops are left at the token's first byte, or at the end. (Two loops with labels are the form that
+    // the project's paper gives this place.)
     'token: loop {
         if s.len() <= at {
             break 'token;
         }
-        let c = class(table, s[at]);
-        if c == BLANK {
-            at += 1;
-            continue 'token;
-        }
-        if c != PERCENT {
-            break 'token;
-        }
-        'comment: loop {
-            at += 1;
-            if s.len() <= at {
-                break 'token;
-            }
-            if s[at] == LINE_FEED {
-                break 'comment;
-            }
+        match class(s[at]) {
+            Class::Blank => {}
+            Class::Percent => 'comment: loop {
+                at += 1;
+                if s.len() <= at {
+                    break 'token;
+                }
+                if s[at] == LINE_FEED {
+                    break 'comment;
+                }
+            },
+            _ => break 'token,
         }
         at += 1;
     }
     at
 }
 
-// Where the bytes whose classes are from `least` to that of a digit end: those of a word or of a numeral.
-pub fn run_end(table: &[u8; 256], s: &[u8], from: usize, least: usize) -> usize
-    requires classified { Classified table.now }
+// Where the bytes that pass a test end, from a position on: those of a word or of a numeral.
+pub fn run_end<F: Fn(u8) -> bool>(s: &[u8], from: usize, goes_on: F) -> usize
     requires from_in_bounds { from ≤ length s.now }
-    ensures { result ≡ from + run_length (goes_on least) (drop from s.now) }
+    requires callable { F.IsAlwaysCallable goes_on }
+    ensures within { (from ≤ result) × (result ≤ length s.now) }
+    ensures run { (test : ℕ → Bool) → Decides (F.post goes_on) test → result ≡ from + run_length test (drop from s.now) }
 {
-    let mut at = from;
-    while at < s.len() {
-        let c = class(table, s[at]);
-        if c < least {
-            return at;
+    for end in from..s.len() {
+        if !goes_on(s[end]) {
+            return end;
         }
-        if NUMERAL < c {
-            return at;
-        }
-        at += 1;
     }
-    at
+    s.len()
 }
 
-// The name, variable or numeral that begins at a position and goes on with classes from `least` to that of a digit.
-pub fn word_token(table: &[u8; 256], s: &[u8], at: usize, kind: usize, least: usize) -> Token
-    requires classified { Classified table.now }
+// The name, variable or numeral that begins at a position and goes on with the bytes that pass a test.
+pub fn word_token<F: Fn(u8) -> bool>(s: &[u8], at: usize, kind: TokenKind, goes_on: F) -> Token
     requires at_in_bounds { at < length s.now }
-    ensures { result ≡ word kind at (suc (run_length (goes_on least) (drop (at + 1) s.now))) }
+    requires callable { F.IsAlwaysCallable goes_on }
+    ensures { (test : ℕ → Bool) → Decides (F.post goes_on) test → result ≡ word kind at (suc (run_length test (drop (at + 1) s.now))) }
 {
-    let end = run_end(table, s, at + 1, least);
-    let len = end - at;
-    if len <= WORD_BYTES {
-        return Token { kind, at, len };
-    }
-    Token {
-        kind: OVERLONG,
-        at,
-        len,
-    }
+    let len = run_end(s, at + 1, goes_on) - at;
+    let kind = if len <= WORD_BYTES {
+        kind
+    } else {
+        TokenKind::Overlong
+    };
+    Token { kind, at, len }
 }
 
 // What begins with a colon: the pair with its dash, or no token.
 pub fn colon_token(s: &[u8], at: usize) -> Token
     requires { at < length s.now }
-    ensures { result ≡ token_of 6 at (drop (at + 1) s.now) }
+    ensures { result ≡ token_of Colon at (drop (at + 1) s.now) }
 {
-    let next = at + 1;
-    if byte_at(s, next) == DASH {
-        return Token {
-            kind: NECK,
+    match s.get(at + 1) {
+        Some(next) if *next == DASH => Token {
+            kind: TokenKind::Neck,
             at,
             len: 2,
-        };
-    }
-    Token {
-        kind: NO_TOKEN,
-        at,
-        len: 1,
+        },
+        _ => Token {
+            kind: TokenKind::NoToken,
+            at,
+            len: 1,
+        },
     }
 }

@@ -6,7 +6,7 @@ use mathlib.Core.List.{List}
 use lib.Dec.{le→leb}
 use lib.ListN.{length}
 use Rattle.syntax.specs.Limits.{word_bytes}
-use Rattle.syntax.specs.Tokens.{token_at, numeral_kind}
+use Rattle.syntax.specs.Tokens.{kind_place, token_at, numeral_kind}
 use Rattle.syntax.specs.declared.Token.{Token}
 use Rattle.lex_tokens.proofs.Laws.{token-inside, token-word-short}
 
@@ -25,8 +25,8 @@ pub placed-next : {s : List ℕ} {t : Token} → Placed s t → Placed s (token_
 placed-next {s} {t} p = record { from = t.at + t.len; inside = placed-ends p; found = refl }
 
 -- a name, a variable or a numeral
-pub placed-short : {s : List ℕ} {t : Token} → Placed s t → t.kind ≤ numeral_kind → t.len ≤ word_bytes
+pub placed-short : {s : List ℕ} {t : Token} → Placed s t → kind_place t.kind ≤ kind_place numeral_kind → t.len ≤ word_bytes
 placed-short {s} {t} p l =
     let short : (token_at s p.from).len ≤ word_bytes =
-    token-word-short s p.from t.kind (sym (ap (λ (u : Token). u.kind) p.found)) (le→leb t.kind numeral_kind l) in
+    token-word-short s p.from t.kind (sym (ap (λ (u : Token). u.kind) p.found)) (le→leb (kind_place t.kind) 3 l) in
     omega (arith, ap (λ (u : Token). u.len) p.found)

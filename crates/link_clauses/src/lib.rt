@@ -33,16 +33,12 @@ pub fn put_body(
     let mut at = p;
     let mut node = q;
     let mut to = l;
-    let mut i = 0;
-    while i < items {
+    for _item in 0..items {
         put_item(table, at, nodes, node, clauses, code, to);
         let next = past_item(table, at);
-        let words = next - at;
-        let size = nodes_of(words, 1);
+        node += nodes_of(next - at, 1);
         at = next;
-        node += size;
         to = next_literal(to);
-        i += 1;
     }
     put(code, to, END_KIND);
 }

@@ -1,4 +1,4 @@
--- TODO head of ('clause_search', 'proofs', 'Seeking')
+-- Laws of the search for clauses: it finds what it seeks, and by first words it finds the clauses of a predicate. Assumes nothing.
 use Prim.Native.Nat.{ℕ, zero, suc, ◌+◌, ◌-◌, ◌≤◌, ◌<◌}
 use native.Mathlib.Numerals.{add-one}
 use native.Mathlib.Omega.{arith}

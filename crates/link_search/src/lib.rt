@@ -21,19 +21,17 @@ fn head_word(nodes: &[u32], code: &[u32], j: usize) -> usize
     word_at(nodes, head)
 }
 
-// The topmost clause after clause k whose head has this first word; 0 where there is none.
+// The topmost clause after clause k whose head has this first word; 0 where there is none. The number goes as it is into a word of the code, where 0 says so
+// too.
 pub fn next_for(nodes: &[u32], code: &[u32], clauses: usize, word: usize, k: usize) -> usize
     requires heads_placed { HeadsPlaced nodes.now code.now clauses }
     requires k_le_clauses { k ≤ clauses }
     ensures { result ≡ sought nodes.now code.now word (k + 1) (clauses - k) }
 {
-    let mut j = k + 1;
-    while j <= clauses {
-        let head = head_word(nodes, code, j);
-        if head == word {
+    for j in k + 1..=clauses {
+        if head_word(nodes, code, j) == word {
             return j;
         }
-        j += 1;
     }
     0
 }

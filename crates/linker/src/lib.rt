@@ -37,18 +37,15 @@ pub fn put_heads(table: &[u32], clauses: usize, q: usize, code: &mut [u32])
 {
     let mut at = 0;
     let mut node = q;
-    let mut k = 1;
-    while k <= clauses {
+    for k in 1..=clauses {
         put(code, k * CLAUSE_SIZE, node);
-        let size = clause_nodes(table, at);
-        let words = word_at(table, at);
-        at += words;
-        node += size;
-        k += 1;
+        node += clause_nodes(table, at);
+        at += word_at(table, at);
     }
 }
 
-// The same for all clauses, their bodies one behind the other.
+// The same for all clauses, their bodies one behind the other. (One function for both walks would have to be given what a turn writes, and where the last
+// turn's records ended.)
 pub fn put_clauses(table: &[u32], clauses: usize, nodes: &[u32], q: usize, code: &mut [u32])
     requires { (ss : List Symbol) × ((sh : Sheet) × ((cls : List Clause) × ClausesTo ss sh cls table.now 0 nodes.now q clauses code.old 1
         clause_bodies)) }
@@ -58,14 +55,10 @@ pub fn put_clauses(table: &[u32], clauses: usize, nodes: &[u32], q: usize, code:
     let mut at = 0;
     let mut node = q;
     let mut to = CLAUSE_BODIES;
-    let mut k = 1;
-    while k <= clauses {
+    for k in 1..=clauses {
         to = put_clause(table, at, nodes, node, clauses, code, k, to);
-        let size = clause_nodes(table, at);
-        let words = word_at(table, at);
-        at += words;
-        node += size;
-        k += 1;
+        node += clause_nodes(table, at);
+        at += word_at(table, at);
     }
 }
 

@@ -1,5 +1,5 @@
 -- What loading, linking and running ask of each other.
-use Prim.Native.Nat.{ℕ, zero, ◌≤◌}
+use Prim.Native.Nat.{ℕ, ◌≤◌}
 use native.Mathlib.Omega.{arith}
 use mathlib.Core.Path.{◌≡◌}
 use mathlib.Core.List.{List}
@@ -10,6 +10,7 @@ use Rattle.run_layout.specs.Program.{Program}
 use Rattle.unify_bindings.specs.Scratch.{Roomy}
 use Rattle.loader.specs.Loading.{Loadable, Loaded}
 use Rattle.linker.specs.Linking.{Linkable}
+use Rattle.run_answers.specs.declared.LoadedProgram.{LoadedProgram}
 use Rattle.run_whole.specs.declared.Ran.{Ran}
 use Rattle.run_whole.specs.Running.{Runnable, Runs}
 use Rattle.run_rooms.specs.Rooms.{Zeros}
@@ -74,15 +75,27 @@ module _ {sheet table : List ℕ} {clauses : ℕ} {goal goals : List ℕ} {liter
       unfolding links
       program = p (links x)
 
-      pub linked : ProgramLinked sheet goal names count nodes code symbols
-      linked = record { ss = loaded.ss; sh = w.sh; g = w.g; program = program; spelt = record { spelt = loaded.names; named = w.named; names_are = w.names_are } }
+-- what is loaded and linked, as one value
+module _ (l : LoadedProgram) {table : List ℕ} {clauses : ℕ} {goals : List ℕ} {literals : ℕ} (w : Programmed l.sheet.now table clauses l.goal.now goals literals l.names.now l.count)
+    {nodes0 symbols0 code0 : List ℕ} (z : Zeros nodes_words nodes0) (y : Zeros nodes_words symbols0) (a : length l.nodes.now ≡ length nodes0)
+    (k : (v : Loadable l.sheet.now table clauses l.goal.now goals literals nodes0 symbols0) → Loaded l.sheet.now l.goal.now v.sh v.g l.nodes.now l.symbols.now)
+    (x : Zeros code_words code0) (p : (v : Linkable table clauses goals literals l.nodes.now code0) → Program v.ss v.sh v.g l.nodes.now l.code.now) where
+  pub linked : ProgramLinked l
+  linked =
+      record {
+        ss = (loaded w z y a k).ss;
+        sh = w.sh;
+        g = w.g;
+        program = program w z y a k x p;
+        spelt = record { spelt = (loaded w z y a k).names; named = w.named; names_are = w.names_are };
+      }
 
-      pub program_runs : {allowance wanted : ℕ} {old new : List ℕ} {r : Ran} → ((v : ProgramLinked sheet goal names count nodes code symbols) → Runs v.sh v.g allowance wanted old new r) → Runs w.sh w.g allowance wanted old new r
-      unfolding linked
-      program_runs q = q linked
+  pub program_runs : {allowance wanted : ℕ} {old new : List ℕ} {r : Ran} → ((v : ProgramLinked l) → Runs v.sh v.g allowance wanted old new r) → Runs w.sh w.g allowance wanted old new r
+  unfolding linked
+  program_runs q = q linked
 
-module _ {sheet goal names : List ℕ} {count : ℕ} {nodes code symbols : List ℕ} (w : ProgramLinked sheet goal names count nodes code symbols) where
-  pub runnable : {state scratch text : List ℕ} → Zeros state_words state → ZeroScratch scratch (length text) → Runnable sheet goal names count nodes code symbols state scratch text
+module _ {l : LoadedProgram} (w : ProgramLinked l) where
+  pub runnable : {state scratch text : List ℕ} → Zeros state_words state → ZeroScratch scratch (length text) → Runnable l state scratch text
   runnable {state} {scratch} {text} z y =
       let a : state_words ≡ length state = z.long in
       let b : Roomy scratch = y.roomy in
@@ -97,6 +110,6 @@ module _ {sheet goal names : List ℕ} {count : ℕ} {nodes code symbols : List 
         lent = record { roomy = omega arith; clean = record { long = omega arith; zero = λ i l. y.zero_words i }; deep = y.tells };
       }
 
-  pub linked_runs : {state scratch text : List ℕ} {allowance wanted : ℕ} {old new : List ℕ} {r : Ran} → Zeros state_words state → ZeroScratch scratch (length text) → ((v : Runnable sheet goal names count nodes code symbols state scratch text) → Runs v.sh v.g allowance wanted old new r) → Runs w.sh w.g allowance wanted old new r
+  pub linked_runs : {state scratch text : List ℕ} {allowance wanted : ℕ} {old new : List ℕ} {r : Ran} → Zeros state_words state → ZeroScratch scratch (length text) → ((v : Runnable l state scratch text) → Runs v.sh v.g allowance wanted old new r) → Runs w.sh w.g allowance wanted old new r
   unfolding runnable
   linked_runs z y k = k (runnable z y)

@@ -1,5 +1,6 @@
 -- A sheet and a goal as they were read into their tables.
-use Rattle.std.specs.Prelude.{ℕ, ◌≤◌, ◌≡◌, List, length, get_or}
+use Rattle.std.specs.Prelude.{ℕ, ◌+◌, ◌*◌, ◌^◌, ◌<◌, ◌≤◌, ◌≡◌, min, List, length, get_or}
+use Rattle.run_layout.specs.Regions.{stack, deepest, open_size, rows}
 use Rattle.syntax.specs.Terms.{Sheet, Goal}
 use Rattle.syntax.specs.Limits.{goal_bytes}
 use Rattle.unify_bindings.specs.Scratch.{Roomy}
@@ -11,6 +12,7 @@ use Rattle.run_layout.specs.Limits.{ProgramLimited, GoalLimited}
 use Rattle.run_layout.specs.Program.{Program}
 use Rattle.syntax.specs.Spans.{names_from}
 use Rattle.out_terms.specs.Words.{Named}
+use Rattle.run_answers.specs.declared.LoadedProgram.{LoadedProgram}
 use Rattle.run_answers.specs.Telling.{Spelt, Tellable}
 
 -- Words for unification and for answers in a text of so many bytes, all zero.
@@ -18,6 +20,12 @@ pub record ZeroScratch (scratch : List ℕ) (room : ℕ) : Type 0 where
   pub roomy : Roomy scratch
   pub tells : Tellable scratch room
   pub zero_words : (i : ℕ) → get_or scratch i 0 ≡ 0
+
+-- so many words are enough for unification, and for answers in a text of so many bytes, and no more than an array can have
+pub record RoomFor (words room : ℕ) : Type 0 where
+  pub array : words < 2 ^ 61
+  pub rows_fit : rows ≤ words
+  pub brackets_fit : min (deepest * open_size) (room * 2 + 4) + stack ≤ words
 
 -- Within the limits of a program and of a goal, in tables of these sizes; the goal's variables are spelt in it.
 pub record Programmed (sheet table : List ℕ) (clauses : ℕ) (goal goals : List ℕ) (literals : ℕ) (names : List ℕ) (count : ℕ) : Type 0 where
@@ -39,9 +47,9 @@ pub record Programmed (sheet table : List ℕ) (clauses : ℕ) (goal goals : Lis
   pub goals_short : length goals ≤ goal_words
 
 -- loaded and linked
-pub record ProgramLinked (sheet goal names : List ℕ) (count : ℕ) (nodes code symbols : List ℕ) : Type 0 where
+pub record ProgramLinked (loaded : LoadedProgram) : Type 0 where
   pub ss : List Symbol
   pub sh : Sheet
   pub g : Goal
-  pub program : Program ss sh g nodes code
-  pub spelt : Spelt ss g sheet goal names count symbols
+  pub program : Program ss sh g loaded.nodes.now loaded.code.now
+  pub spelt : Spelt ss g loaded

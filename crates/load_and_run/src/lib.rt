@@ -2,175 +2,65 @@
 
 #![tactic(auto)]
 
-ghost use Rattle.std.specs.Prelude.{◌≤◌, length};
-ghost use Rattle.run_layout.specs.Regions.{short_text};
+ghost use Rattle.std.specs.Prelude.{length};
 ghost use Rattle.run_whole.specs.Running.{Runs};
-ghost use Rattle.load_and_run.specs.Programs.{ZeroScratch, Programmed, ProgramLinked};
+ghost use Rattle.load_and_run.specs.Programs.{RoomFor, ZeroScratch, Programmed, ProgramLinked};
 
 use linker::link;
 use loader::load_nodes;
-use run_layout::{SHORT_SHEET, SHORT_TEXT};
-use run_rooms::{code_words, narrow_words, node_words, state_words, wide_words};
+use run_answers::LoadedProgram;
+use run_layout::{
+    CODE_WORDS, NARROW_WORDS, NODES_WORDS, SHORT_SHEET, SHORT_TEXT, STATE_WORDS, WIDE_WORDS,
+};
+use run_rooms::cleared;
 use run_whole::{Ran, run};
 use syntax::MOST_STEPS;
 
 // A loaded and linked program run, with room for unification and for the open brackets of an answer.
 fn with_state(
-    sheet: &[u8],
-    goal: &[u8],
-    names: &[u32],
-    count: usize,
-    nodes: &[u32],
-    code: &[u32],
-    symbols: &[u32],
+    loaded: LoadedProgram,
     scratch: &mut [u32],
     text: &mut [u8],
     allowance: usize,
     wanted: usize,
 ) -> Ran
-    requires { (ProgramLinked sheet.now goal.now names.now count nodes.now code.now symbols.now)
-        × ZeroScratch scratch.old (length text.old) }
-    ensures { (w : ProgramLinked sheet.now goal.now names.now count nodes.now code.now
-        symbols.now) → Runs w.sh w.g allowance wanted text.old text.new result }
+    requires { (ProgramLinked loaded) × ZeroScratch scratch.old (length text.old) }
+    ensures { (w : ProgramLinked loaded.entry) → Runs w.sh w.g allowance wanted text.old text.new result }
 {
-    let mut state = state_words();
-    run(
-        sheet, goal, names, count, nodes, code, symbols, &mut state, scratch, text, allowance,
-        wanted,
-    )
+    let mut state: [u32; STATE_WORDS] = cleared();
+    run(loaded, &mut state, scratch, text, allowance, wanted)
 }
 
-// The run under a short sheet, with a short text. First the function calls itself so often as `again` says: never. But a function that can is compiled on its
-// own, so that a run needs no native stack for the other room.
-fn with_short_room(
-    sheet: &[u8],
-    goal: &[u8],
-    names: &[u32],
-    count: usize,
-    nodes: &[u32],
-    code: &[u32],
-    symbols: &[u32],
+// The run with so many words for unification and for the open brackets of an answer. First the function calls itself so often as `again` says: never. But a
+// function that can is compiled on its own, so that a run needs no native stack for a room of another size.
+fn with_room<const WORDS: usize>(
+    loaded: LoadedProgram,
     text: &mut [u8],
     allowance: usize,
     wanted: usize,
     again: usize,
 ) -> Ran
-    requires { (ProgramLinked sheet.now goal.now names.now count nodes.now code.now symbols.now) × (length text.old ≤ short_text) }
-    ensures { (w : ProgramLinked sheet.now goal.now names.now count nodes.now code.now
-        symbols.now) → Runs w.sh w.g allowance wanted text.old text.new result }
+    requires { (ProgramLinked loaded) × RoomFor WORDS (length text.old) }
+    ensures { (w : ProgramLinked loaded.entry) → Runs w.sh w.g allowance wanted text.old text.new result }
 {
     if again != 0 {
-        return with_short_room(
-            sheet,
-            goal,
-            names,
-            count,
-            nodes,
-            code,
-            symbols,
-            text,
-            allowance,
-            wanted,
-            again - 1,
-        );
+        return with_room::<WORDS>(loaded, text, allowance, wanted, again - 1);
     }
-    let mut scratch = narrow_words();
-    with_state(
-        sheet,
-        goal,
-        names,
-        count,
-        nodes,
-        code,
-        symbols,
-        &mut scratch,
-        text,
-        allowance,
-        wanted,
-    )
+    let mut scratch: [u32; WORDS] = cleared();
+    with_state(loaded, &mut scratch, text, allowance, wanted)
 }
 
-// The run under any sheet, with any text. `again` is 0, as above.
-fn with_full_room(
-    sheet: &[u8],
-    goal: &[u8],
-    names: &[u32],
-    count: usize,
-    nodes: &[u32],
-    code: &[u32],
-    symbols: &[u32],
-    text: &mut [u8],
-    allowance: usize,
-    wanted: usize,
-    again: usize,
-) -> Ran
-    requires { ProgramLinked sheet.now goal.now names.now count nodes.now code.now symbols.now }
-    ensures { (w : ProgramLinked sheet.now goal.now names.now count nodes.now code.now
-        symbols.now) → Runs w.sh w.g allowance wanted text.old text.new result }
-{
-    if again != 0 {
-        return with_full_room(
-            sheet,
-            goal,
-            names,
-            count,
-            nodes,
-            code,
-            symbols,
-            text,
-            allowance,
-            wanted,
-            again - 1,
-        );
-    }
-    let mut scratch = wide_words();
-    with_state(
-        sheet,
-        goal,
-        names,
-        count,
-        nodes,
-        code,
-        symbols,
-        &mut scratch,
-        text,
-        allowance,
-        wanted,
-    )
-}
-
-// A loaded and linked program run. Only the room that it needs is cleared.
-fn choose_room(
-    sheet: &[u8],
-    goal: &[u8],
-    names: &[u32],
-    count: usize,
-    nodes: &[u32],
-    code: &[u32],
-    symbols: &[u32],
-    text: &mut [u8],
-    allowance: usize,
-    wanted: usize,
-) -> Ran
-    requires { ProgramLinked sheet.now goal.now names.now count nodes.now code.now symbols.now }
-    ensures { (w : ProgramLinked sheet.now goal.now names.now count nodes.now code.now
-        symbols.now) → Runs w.sh w.g allowance wanted text.old text.new result }
+// A loaded and linked program run. Only the room that it needs is cleared: less under a short sheet with a short text.
+fn choose_room(loaded: LoadedProgram, text: &mut [u8], allowance: usize, wanted: usize) -> Ran
+    requires { ProgramLinked loaded }
+    ensures { (w : ProgramLinked loaded.entry) → Runs w.sh w.g allowance wanted text.old text.new result }
 {
     // 0, since no run has a larger allowance
     let again = allowance / (MOST_STEPS + 1);
-    if SHORT_SHEET < sheet.len() {
-        return with_full_room(
-            sheet, goal, names, count, nodes, code, symbols, text, allowance, wanted, again,
-        );
+    if SHORT_SHEET < loaded.sheet.len() || SHORT_TEXT < text.len() {
+        return with_room::<WIDE_WORDS>(loaded, text, allowance, wanted, again);
     }
-    if SHORT_TEXT < text.len() {
-        return with_full_room(
-            sheet, goal, names, count, nodes, code, symbols, text, allowance, wanted, again,
-        );
-    }
-    with_short_room(
-        sheet, goal, names, count, nodes, code, symbols, text, allowance, wanted, again,
-    )
+    with_room::<NARROW_WORDS>(loaded, text, allowance, wanted, again)
 }
 
 // The goal that stands in one table run over the sheet that stands in the other.
@@ -191,9 +81,9 @@ pub fn load_and_run(
     ensures { (w : Programmed sheet.now table.now clauses goal.now goals.now literals
         names.now count) → Runs w.sh w.g allowance wanted text.old text.new result }
 {
-    let mut nodes = node_words();
-    let mut symbols = node_words();
-    let mut code = code_words();
+    let mut nodes: [u32; NODES_WORDS] = cleared();
+    let mut symbols: [u32; NODES_WORDS] = cleared();
+    let mut code: [u32; CODE_WORDS] = cleared();
     load_nodes(
         sheet,
         table,
@@ -205,7 +95,14 @@ pub fn load_and_run(
         &mut symbols,
     );
     link(table, clauses, goals, literals, &nodes, &mut code);
-    choose_room(
-        sheet, goal, names, count, &nodes, &code, &symbols, text, allowance, wanted,
-    )
+    let loaded = LoadedProgram {
+        sheet,
+        goal,
+        names,
+        count,
+        nodes: &nodes,
+        code: &code,
+        symbols: &symbols,
+    };
+    choose_room(loaded, text, allowance, wanted)
 }

@@ -9,7 +9,6 @@ use mathlib.Core.Logic.{◌⊎◌, inl, inr}
 use lib.Dec.{T}
 use lib.ListN.{length, get_or, set, length-set}
 use lib.Seq.{get_or-set_same, get_or-set_other}
-use Rattle.syntax.specs.Limits.{arguments}
 use Rattle.run_layout.specs.Regions.{most_nodes, nodes_words}
 use Rattle.run_layout.specs.Nodes.{Symbol, symbol_of, is_listed}
 use Rattle.load_symbols.specs.Symbols.{word_name, SymbolInside, symbol_at, symbols_of, SymbolsListed}

@@ -1,6 +1,5 @@
 -- A symbol listed where it is new.
 use Rattle.std.specs.Prelude.{ℕ, ◌+◌, ◌<◌, ◌≤◌, ◌≡◌, cond, List, [], ◌∷◌, ◌++◌}
-use Rattle.syntax.specs.Limits.{arguments}
 use Rattle.run_layout.specs.Nodes.{Symbol, symbol_of, is_listed}
 use Rattle.load_symbols.specs.Symbols.{word_name, symbols_of, SymbolsListed}
 

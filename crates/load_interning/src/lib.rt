@@ -24,8 +24,7 @@ pub fn intern(
         × ((nodes_words ≤ length symbols.old) × SymbolInside sheet.now goal.now w) }
     ensures { Interned sheet.now goal.now symbols.old count w arguments symbols.new result }
 {
-    let k = find_symbol(sheet, goal, symbols, count, w, arguments);
-    if k < count {
+    if let Some(k) = find_symbol(sheet, goal, symbols, count, w, arguments) {
         return k;
     }
     let j = MOST_NODES + count;
@@ -39,8 +38,5 @@ pub fn counted(count: usize, k: usize) -> usize
     requires { (count < most_nodes) × (k ≤ count) }
     ensures { SymbolCount count k result }
 {
-    if k < count {
-        return count;
-    }
-    count + 1
+    count.max(k + 1)
 }

@@ -9,7 +9,6 @@ use mathlib.Core.Logic.{◌⊎◌, inl, inr}
 use lib.Dec.{T, eqb, ltb, eqb_refl, ltb→lt, nltb→le}
 use lib.ListN.{length, get_or, length-append}
 use lib.Seq.{get_or_at}
-use Rattle.syntax.specs.Limits.{arguments}
 use Rattle.machine.proofs.Tests.{and, or_left, or_right}
 use Rattle.syntax.specs.Terms.{same_bytes}
 use Rattle.run_layout.specs.Nodes.{Symbol, is_symbol, symbol_of, is_listed}

@@ -1,6 +1,5 @@
 -- The symbols that the words of a table list.
 use Rattle.std.specs.Prelude.{ℕ, zero, suc, ◌+◌, ◌<◌, ◌≤◌, List, [], ◌∷◌, ◌++◌, length, get_or}
-use Rattle.syntax.specs.Limits.{arguments}
 use Rattle.run_layout.specs.Regions.{most_nodes}
 use Rattle.run_layout.specs.Nodes.{Symbol}
 use Rattle.run_layout.specs.Symbols.{symbol_place, symbol_length}

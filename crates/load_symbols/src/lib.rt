@@ -2,7 +2,7 @@
 
 #![tactic(auto)]
 
-ghost use Rattle.std.specs.Prelude.{◌≡◌, ◌+◌, ◌≤◌, ◌<◌, length, get_or};
+ghost use Rattle.std.specs.Prelude.{◌≡◌, ◌+◌, ◌≤◌, ◌<◌, IfNone, IfSome, length, get_or};
 ghost use Rattle.syntax.specs.Terms.{same_bytes};
 ghost use Rattle.syntax.specs.Tokens.{spelling};
 ghost use Rattle.run_layout.specs.Symbols.{symbol_length};
@@ -56,7 +56,7 @@ fn is_symbol(sheet: &[u8], goal: &[u8], symbols: &[u32], k: usize, w: u32, argum
     same_name(sheet, goal, symbols[k], w)
 }
 
-// The number of the symbol with the name of a word and so many arguments; `count` where it is not among those so far.
+// The number of the symbol with the name of a word and so many arguments, if it is among those so far.
 pub fn find_symbol(
     sheet: &[u8],
     goal: &[u8],
@@ -64,17 +64,17 @@ pub fn find_symbol(
     count: usize,
     w: u32,
     arguments: u32,
-) -> usize
+) -> Option<usize>
     requires { SymbolsListed sheet.now goal.now symbols.now count × SymbolInside sheet.now goal.now w }
-    ensures { result ≡ symbol_of (symbols_of sheet.now goal.now symbols.now count)
-        (word_name sheet.now goal.now w) arguments }
+    ensures none { IfNone result (count ≡ symbol_of (symbols_of sheet.now goal.now symbols.now count)
+        (word_name sheet.now goal.now w) arguments) }
+    ensures some { IfSome result (λ k. (k < count) × (k ≡ symbol_of (symbols_of sheet.now goal.now symbols.now count)
+        (word_name sheet.now goal.now w) arguments)) }
 {
-    let mut k = 0;
-    while k < count {
+    for k in 0..count {
         if is_symbol(sheet, goal, symbols, k, w, arguments) {
-            return k;
+            return Some(k);
         }
-        k += 1;
     }
-    count
+    None
 }

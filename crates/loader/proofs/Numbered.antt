@@ -10,7 +10,6 @@ use lib.ListN.{length, get_or, set, length-set}
 use lib.Seq.{get_or-set_other, set-get_or}
 use borrow.Author.Tests.{lt-ltb, le-ltb}
 use Rattle.syntax.specs.Words.{first_name}
-use Rattle.syntax.specs.Limits.{arguments}
 use Rattle.run_layout.specs.Regions.{nodes_words}
 use Rattle.machine.proofs.Tests.{or_right}
 use Rattle.table_words.specs.Tables.{Has}

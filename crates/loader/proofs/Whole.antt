@@ -5,7 +5,7 @@ use mathlib.Core.Path.{◌≡◌, refl, sym, ap, ap₂, ◌∙◌, subst}
 use mathlib.Core.List.{List, [], ◌∷◌, ◌++◌}
 use lib.Dec.{T}
 use lib.ListN.{length, length-append}
-use Rattle.syntax.specs.Limits.{goal_bytes, arguments}
+use Rattle.syntax.specs.Limits.{goal_bytes}
 use Rattle.syntax.specs.Words.{body_words, clauses_words, program_words, goal_words, program_bytes}
 use Rattle.table_words.specs.Tables.{Has}
 use Rattle.table_words.proofs.Laws.{has-inside}

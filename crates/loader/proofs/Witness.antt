@@ -4,7 +4,7 @@ use native.Mathlib.Omega.{arith}
 use mathlib.Core.Path.{◌≡◌, refl}
 use mathlib.Core.List.{List, [], ◌∷◌}
 use lib.ListN.{length, replicate, length-replicate}
-use Rattle.syntax.specs.Limits.{goal_bytes, declarations}
+use Rattle.syntax.specs.Limits.{goal_bytes}
 use Rattle.syntax.specs.Terms.{truth, done, also}
 use Rattle.syntax.specs.Words.{literal_words, body_length, body_words, clauses_words, program_words, goal_words, program_bytes}
 use Rattle.mode_marks.specs.Standing.{no_clauses, truth_stands, done_stands, also_stands}

@@ -42,7 +42,8 @@ pub record Copied (sheet goal nodes : List ℕ) (stop : ℕ) : Type 0 where
 
 -- the node at p has its symbol's number, and there are r symbols
 pub record NodeNumbered (sheet goal nodes : List ℕ) (p : ℕ) (symbols : List ℕ) (count : ℕ) (nodes' symbols' : List ℕ) (r : ℕ) : Type 0 where
-  pub nodes_are : nodes' ≡ set nodes p (numbered_what sheet goal (with_node sheet goal (symbols_of sheet goal symbols count) (get_or nodes p 0)) (get_or nodes p 0))
+  pub nodes_are : nodes' ≡ set nodes p
+      (numbered_what sheet goal (with_node sheet goal (symbols_of sheet goal symbols count) (get_or nodes p 0)) (get_or nodes p 0))
   pub symbols_are : symbols_of sheet goal symbols' r ≡ with_node sheet goal (symbols_of sheet goal symbols count) (get_or nodes p 0)
   pub listed : SymbolsListed sheet goal symbols' r
   pub few : r ≤ count + 1

@@ -24,15 +24,10 @@ fn copy_nodes(
     ensures { (w : RunAt table.now from stop) → (nodes.new ≡ put_all nodes.old at (flat_words (flat_all text w.run)))
         × (result ≡ at + length (flat_words (flat_all text w.run))) }
 {
-    let mut p = from;
     let mut q = at;
-    while p < stop {
-        let b = p + 1;
-        let c = p + 2;
-        let d = q + 1;
-        nodes[q] = name_word(table[p], table[c], text);
-        nodes[d] = two_of_three(table[b]);
-        p += NODE_WORDS;
+    for p in (from..stop).step_by(NODE_WORDS) {
+        nodes[q] = name_word(table[p], table[p + 2], text);
+        nodes[q + 1] = two_of_three(table[p + 1]);
         q += LOADED_NODE;
     }
     q
@@ -56,20 +51,19 @@ pub fn copy_body(
 {
     let mut p = from;
     let mut q = at;
-    let mut i = 0;
-    while i < items {
+    for _item in 0..items {
         let first = p + 1;
         let next = past_item(table, p);
         q = copy_nodes(table, first, next, text, nodes, q);
         p = next;
-        i += 1;
     }
     q
 }
 
 // The nodes of the clause at a place: its head's, then its body's.
 fn copy_clause(table: &[u32], p: usize, nodes: &mut [u32], at: usize) -> usize
-    requires table_len_bound { (length table.now ≤ program_words) × ((nodes_words ≤ length nodes.old) × (at * node_words ≤ p * loaded_node + goal_words * loaded_node)) }
+    requires table_len_bound { (length table.now ≤ program_words) × ((nodes_words ≤ length nodes.old)
+        × (at * node_words ≤ p * loaded_node + goal_words * loaded_node)) }
     requires clause_here { ClauseHere table.now p }
     ensures { (w : ClauseHere table.now p) → (nodes.new
         ≡ put_all nodes.old at (flat_words (flat_all 0 (clause_parsed w.clause))))
@@ -92,11 +86,9 @@ pub fn copy_clauses(table: &[u32], clauses: usize, nodes: &mut [u32], at: usize)
 {
     let mut p = 0;
     let mut q = at;
-    let mut i = 0;
-    while i < clauses {
+    for _clause in 0..clauses {
         q = copy_clause(table, p, nodes, q);
         p = past_clause(table, p);
-        i += 1;
     }
     q
 }

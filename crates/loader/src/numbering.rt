@@ -55,11 +55,9 @@ pub fn number_nodes(
     ensures { (w : Copied sheet.now goal.now nodes.old stop)
         → NodesNumbered sheet.now goal.now w.flats nodes.old nodes.new symbols.new result }
 {
-    let mut p = 0;
     let mut count = 0;
-    while p < stop {
+    for p in (0..stop).step_by(LOADED_NODE) {
         count = number_node(sheet, goal, nodes, p, symbols, count);
-        p += LOADED_NODE;
     }
     count
 }

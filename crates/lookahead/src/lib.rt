@@ -6,11 +6,11 @@
 
 ghost use Rattle.std.specs.Prelude.{◌<◌, ◌≤◌, ◌^◌, ◌≡◌, length};
 ghost use Rattle.run_layout.specs.Regions.{memo, cells, pairs, places, copies};
-ghost use Rattle.lookahead_words.specs.Room.{KeptBelow, Small};
+ghost use Rattle.lookahead_words.specs.Room.{KeptBelow, Word, Small};
 
 use lookahead_bindings::{MOST_ROWS, ROW_SIZE, guess, put_row};
 use lookahead_sorting::sort_most;
-use lookahead_words::guesses::word_of;
+use lookahead_words::guesses::{At, word_of};
 use lookahead_words::room::{LIST, WORK, get, size_of};
 use run_layout::{MEMO, PAIR_SIZE, SIDE_SIZE, STACK};
 
@@ -20,13 +20,15 @@ pub const PROPOSED: usize = MEMO + LIST;
 // So many pairs of the work stack are looked at, from the top on.
 const MOST_PAIRS: usize = MOST_ROWS / 4;
 
-fn least(a: usize, b: usize) -> usize
-    ensures { (result ≤ a) × (result ≤ b) }
+// The term whose node and copy stand at a place.
+fn term_at(scratch: &[u32], i: usize) -> At
+    requires { i < 2 ^ 41 }
+    ensures { (Word result.node) × Word result.copy }
 {
-    if a < b {
-        return a;
+    At {
+        node: get(scratch, i),
+        copy: get(scratch, i + 1),
     }
-    b
 }
 
 // The pair of the work stack at a place, as a row at another.
@@ -35,12 +37,10 @@ fn copy_pair(nodes: &[u32], scratch: &mut [u32], from: usize, to: usize)
     ensures { KeptBelow to scratch.old scratch.new }
 {
     let root = get(scratch, from);
-    let p = get(scratch, from + 1);
-    let c = get(scratch, from + 2);
-    let q = get(scratch, from + SIDE_SIZE + 1);
-    let d = get(scratch, from + SIDE_SIZE + 2);
+    let left = term_at(scratch, from + 1);
+    let right = term_at(scratch, from + SIDE_SIZE + 1);
     let e = root + size_of(nodes, root);
-    put_row(scratch, to, word_of(p, c), e, word_of(q, d));
+    put_row(scratch, to, word_of(left), e, word_of(right));
 }
 
 // The upper n of the h pairs on the work stack as rows, the top one last.
@@ -49,12 +49,10 @@ fn copy_stack(nodes: &[u32], scratch: &mut [u32], h: usize, n: usize)
     ensures { KeptBelow memo scratch.old scratch.new }
 {
     let first = h - n;
-    let mut k = 0;
-    while k < n {
+    for k in 0..n {
         let from = STACK + (first + k) * PAIR_SIZE;
         let to = MEMO + WORK + k * ROW_SIZE;
         copy_pair(nodes, scratch, from, to);
-        k += 1;
     }
 }
 
@@ -98,9 +96,9 @@ pub fn look_ahead(
     requires h_le_pairs { (h ≤ pairs) × ((x < cells) × ((q < places) × (d < copies))) }
     ensures { (KeptBelow memo scratch.old scratch.new) × (result ≤ cells) }
 {
-    let n = least(h, least(turns, MOST_PAIRS));
+    let n = h.min(turns).min(MOST_PAIRS);
     copy_stack(nodes, scratch, h, n);
-    let w = word_of(q, d);
+    let w = word_of(At { node: q, copy: d });
     let from = lent_from();
     propose(nodes, state, &mut scratch[from..], n, x, w, turns)
 }

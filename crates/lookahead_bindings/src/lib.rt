@@ -3,13 +3,12 @@
 
 #![tactic(auto)]
 
-ghost use Rattle.std.specs.Prelude.{◌+◌, ◌-◌, ◌<◌, ◌≤◌, ◌^◌};
+ghost use Rattle.std.specs.Prelude.{◌≡◌, ◌+◌, ◌-◌, ◌<◌, ◌≤◌, ◌^◌, IfSome};
 ghost use Rattle.run_layout.specs.Regions.{cells, copies};
 ghost use Rattle.lookahead_words.specs.Room.{KeptBelow, Word, IsPlace, Small};
-ghost use Rattle.lookahead_words.specs.Progress.{LeadBounded};
-ghost use Rattle.lookahead_bindings.specs.Guesses.{Guesses};
+ghost use Rattle.lookahead_bindings.specs.Guesses.{Guesses, Reached, RowBounded, RowReached};
 
-use lookahead_words::guesses::{Led, at_of, lead, word_of};
+use lookahead_words::guesses::{At, Led, at_of, lead, word_of};
 use lookahead_words::room::{
     CUTS, GUESSES, MET, MET_COUNT, WORK, add, find, get, hash_of, put, rest, size_of,
 };
@@ -30,7 +29,15 @@ pub struct Guessing {
     pub left: usize,
 }
 
-// A row at a place.
+// What is still to be gone over: from a term on the left up to an end, and from a term on the right on.
+#[derive(Clone, Copy)]
+struct Row {
+    left: At,
+    end: usize,
+    right: At,
+}
+
+// A row's words at a place.
 pub fn put_row(t: &mut [u32], i: usize, left: usize, e: usize, right: usize)
     requires { Small i }
     ensures { KeptBelow i t.old t.new }
@@ -45,33 +52,26 @@ fn same_words(nodes: &[u32], p: usize, e: usize, q: usize) -> usize
     requires { (Word p) × (Word e × Word q) }
     ensures { result ≤ e + 1 }
 {
-    let mut n = 0;
-    while p + n < e {
+    let most = e.saturating_sub(p);
+    for n in (0..most).step_by(LOADED_NODE) {
         let w = get(nodes, p + n);
-        if w < FIRST_NAME {
+        if w < FIRST_NAME || get(nodes, q + n) != w {
             return n;
         }
-        if get(nodes, q + n) != w {
-            return n;
-        }
-        n += LOADED_NODE;
     }
-    n
+    most
 }
 
-// Row k, from i up to e in copy c on the left, and from j on in copy d on the right, unless it is empty or there is no room: how many rows there are then.
-fn push(room: &mut [u32], k: usize, i: usize, e: usize, c: usize, j: usize, d: usize) -> usize
-    requires { (k ≤ cells) × ((Small i) × ((c < copies) × ((Small j) × (d < copies)))) }
+// Row k, unless it is empty or there is no room: how many rows there are then.
+fn push(room: &mut [u32], k: usize, row: Row) -> usize
+    requires { (k ≤ cells) × RowBounded row }
     ensures { result ≤ cells }
 {
-    if e <= i {
-        return k;
-    }
-    if MOST_ROWS <= k {
+    if row.end <= row.left.node || MOST_ROWS <= k {
         return k;
     }
     let base = WORK + k * ROW_SIZE;
-    put_row(room, base, word_of(i, c), e, word_of(j, d));
+    put_row(room, base, word_of(row.left), row.end, word_of(row.right));
     k + 1
 }
 
@@ -79,127 +79,131 @@ fn push(room: &mut [u32], k: usize, i: usize, e: usize, c: usize, j: usize, d: u
 fn met(room: &mut [u32], left: usize, right: usize) -> bool {
     let slot = (hash_of(left) * LEFT_SPREAD + hash_of(right)) % MET_COUNT;
     let n = get(room, MET);
-    if find(room, MET, MET_COUNT, n, slot, left) == right {
+    if find(room, MET, MET_COUNT, n, slot, left) == Some(right) {
         return true;
     }
     add(room, MET, MET_COUNT, slot, left, right);
     false
 }
 
-// Two terms of one name, before k rows: their arguments come next, unless the two are one or were met before.
-fn open(nodes: &[u32], room: &mut [u32], k: usize, a: Led, b: Led) -> usize
-    requires { (k ≤ cells) × (LeadBounded a.left a × LeadBounded b.left b) }
-    ensures { result ≤ cells }
+// The term behind so many words.
+fn behind(at: At, words: usize) -> At
+    requires { at.node + words < 2 ^ 40 }
+    ensures { (result.node ≡ at.node + words) × (result.copy ≡ at.copy) }
 {
-    let i = a.node + LOADED_NODE;
-    let j = b.node + LOADED_NODE;
-    let e = a.node + size_of(nodes, a.node);
-    if e <= i {
-        return k;
+    At {
+        node: at.node + words,
+        copy: at.copy,
     }
-    let left = word_of(a.node, a.copy);
-    let right = word_of(b.node, b.copy);
-    if left == right {
-        return k;
-    }
-    if met(room, left, right) {
-        return k;
-    }
-    push(room, k, i, e, a.copy, j, b.copy)
 }
 
-// The cell of the variable that a walk has come to and 1; 0 where it is a name.
-fn cell_at(nodes: &[u32], a: Led) -> usize
-    requires { LeadBounded a.left a }
+// Two terms of one name, before k rows: their arguments come next, unless the two are one or were met before.
+fn open(nodes: &[u32], room: &mut [u32], k: usize, a: At, b: At) -> usize
+    requires { (k ≤ cells) × (Reached a × Reached b) }
     ensures { result ≤ cells }
+{
+    let row = Row {
+        left: behind(a, LOADED_NODE),
+        end: a.node + size_of(nodes, a.node),
+        right: behind(b, LOADED_NODE),
+    };
+    if row.end <= row.left.node || a == b || met(room, word_of(a), word_of(b)) {
+        return k;
+    }
+    push(room, k, row)
+}
+
+// The cell of the variable that a walk has come to, unless it is a name.
+fn cell_at(nodes: &[u32], a: At) -> Option<usize>
+    requires { Reached a }
+    ensures { IfSome result (λ x. x < cells) }
 {
     let v = get(nodes, a.node);
     if FIRST_NAME <= v {
-        return 0;
+        return None;
     }
-    cell_of(a.copy, v) + 1
+    Some(cell_of(a.copy, v))
 }
 
 // A guess: cell x is bound to the term that a walk has come to.
-fn bind(room: &mut [u32], x: usize, a: Led)
-    requires { (x < cells) × LeadBounded a.left a }
+fn bind(room: &mut [u32], x: usize, a: At)
+    requires { (x < cells) × Reached a }
 {
-    let w = word_of(a.node, a.copy);
-    add(room, GUESSES, CELLS, x, x, w);
+    add(room, GUESSES, CELLS, x, x, word_of(a));
 }
 
-// Two terms that lead no further, before k rows. Of two variables the later is bound to the earlier.
-fn settle(nodes: &[u32], room: &mut [u32], k: usize, a: Led, b: Led) -> Guessing
-    requires { (k ≤ cells) × (LeadBounded a.left a × LeadBounded b.left b) }
-    ensures { Guesses b.left result }
+// Two terms that lead no further, before k rows: how many rows there are then, unless their names differ. Of two variables the later is bound to the earlier.
+fn settle(nodes: &[u32], room: &mut [u32], k: usize, a: At, b: At) -> Option<usize>
+    requires { (k ≤ cells) × (Reached a × Reached b) }
+    ensures { IfSome result (λ rows. rows ≤ cells) }
 {
-    let rows = k;
-    let left = b.left;
-    let x = cell_at(nodes, a);
-    let y = cell_at(nodes, b);
-    if x < y {
-        bind(room, y - 1, a);
-        return Guessing { rows, left };
+    match (cell_at(nodes, a), cell_at(nodes, b)) {
+        (Some(x), Some(y)) if x == y => Some(k),
+        (Some(x), Some(y)) if x < y => {
+            bind(room, y, a);
+            Some(k)
+        }
+        (Some(x), _) => {
+            bind(room, x, b);
+            Some(k)
+        }
+        (None, Some(y)) => {
+            bind(room, y, a);
+            Some(k)
+        }
+        (None, None) => {
+            if get(nodes, a.node) != get(nodes, b.node) {
+                return None;
+            }
+            Some(open(nodes, room, k, a, b))
+        }
     }
-    if y < x {
-        bind(room, x - 1, b);
-        return Guessing { rows, left };
-    }
-    if 0 < x {
-        return Guessing { rows, left };
-    }
-    if get(nodes, a.node) != get(nodes, b.node) {
-        return Guessing { rows, left: 0 };
-    }
-    let rows = open(nodes, room, k, a, b);
-    Guessing { rows, left }
 }
 
-// The terms at p and q, in copies c and d, that come next in row k, which ends at e.
-fn meet(
-    nodes: &[u32],
-    state: &[u32],
-    room: &mut [u32],
-    g: Guessing,
-    e: usize,
-    p: usize,
-    c: usize,
-    q: usize,
-    d: usize,
-) -> Guessing
-    requires { (Guesses g.left g) × ((IsPlace p) × ((c < copies) × ((IsPlace q) × (d < copies)))) }
-    ensures { Guesses g.left result }
+// The two terms that come next in a row; nothing where their names differ or no turns are left.
+fn meet(nodes: &[u32], state: &[u32], room: &mut [u32], g: Guessing, row: Row) -> Option<Guessing>
+    requires { (Guesses g.left g) × RowReached row }
+    ensures { IfSome result (λ h. Guesses g.left h) }
 {
-    let i = p + size_of(nodes, p);
-    let j = q + size_of(nodes, q);
-    let rows = push(room, g.rows, i, e, c, j, d);
-    let l = lead(nodes, state, room, p, c, g.left);
-    let r = lead(nodes, state, room, q, d, l.left);
-    if r.left == 0 {
-        return Guessing { rows, left: 0 };
+    let after = Row {
+        left: behind(row.left, size_of(nodes, row.left.node)),
+        end: row.end,
+        right: behind(row.right, size_of(nodes, row.right.node)),
+    };
+    let k = push(room, g.rows, after);
+    let a = lead(nodes, state, room, row.left, g.left);
+    let b = lead(nodes, state, room, row.right, a.left);
+    if b.left == 0 {
+        return None;
     }
-    settle(nodes, room, rows, l, r)
+    let rows = settle(nodes, room, k, a.at, b.at)?;
+    Some(Guessing { rows, left: b.left })
 }
 
 // One turn at the top row: past names that are the same, and at the two terms behind them.
-fn turn(nodes: &[u32], state: &[u32], room: &mut [u32], g: Guessing) -> Guessing
+fn turn(nodes: &[u32], state: &[u32], room: &mut [u32], g: Guessing) -> Option<Guessing>
     requires { (0 < g.rows) × Guesses g.left g }
-    ensures { Guesses (g.left - 1) result }
+    ensures { IfSome result (λ h. Guesses (g.left - 1) h) }
 {
     let rows = g.rows - 1;
     let base = WORK + rows * ROW_SIZE;
     let a = at_of(get(room, base));
-    let e = get(room, base + 1);
+    let end = get(room, base + 1);
     let b = at_of(get(room, base + 2));
-    let n = same_words(nodes, a.node, e, b.node);
-    let left = rest(g.left, n / LOADED_NODE);
-    let p = a.node + n;
-    let q = b.node + n;
-    let h = Guessing { rows, left };
-    if e <= p {
-        return h;
+    let n = same_words(nodes, a.node, end, b.node);
+    let h = Guessing {
+        rows,
+        left: rest(g.left, n / LOADED_NODE),
+    };
+    let row = Row {
+        left: behind(a, n),
+        end,
+        right: behind(b, n),
+    };
+    if end <= row.left.node {
+        return Some(h);
     }
-    meet(nodes, state, room, h, e, p, a.copy, q, b.copy)
+    meet(nodes, state, room, h, row)
 }
 
 // How many guesses so many rows come to, in at most so many turns, the first being that cell x is bound to a word.
@@ -220,11 +224,12 @@ pub fn guess(
     put(room, MET, 0);
     add(room, GUESSES, CELLS, x, x, w);
     let mut g = Guessing { rows, left: turns };
-    while 0 < g.left {
-        if g.rows == 0 {
-            return get(room, GUESSES);
-        }
-        g = turn(nodes, state, room, g);
+    // a turn takes as many of the turns left as the words that it read and the links that it followed
+    while 0 < g.left && 0 < g.rows {
+        let Some(h) = turn(nodes, state, room, g) else {
+            break;
+        };
+        g = h;
     }
     get(room, GUESSES)
 }

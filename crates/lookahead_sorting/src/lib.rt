@@ -3,11 +3,11 @@
 
 #![tactic(auto)]
 
-ghost use Rattle.std.specs.Prelude.{◌+◌, ◌-◌, ◌<◌, ◌≤◌, ◌^◌, get_or};
+ghost use Rattle.std.specs.Prelude.{◌+◌, ◌-◌, ◌<◌, ◌≤◌, ◌^◌, IfSome, MatchResult, get_or};
 ghost use Rattle.syntax.specs.Words.{first_name};
 ghost use Rattle.run_layout.specs.Regions.{cells, copies};
 ghost use Rattle.lookahead_words.specs.Room.{Word, Small};
-ghost use Rattle.lookahead_sorting.specs.Sorts.{Sorts};
+ghost use Rattle.lookahead_sorting.specs.Sorts.{Sorts, Cycled};
 
 use lookahead_words::guesses::{at_of, bound_word};
 use lookahead_words::room::{
@@ -16,54 +16,55 @@ use lookahead_words::room::{
 use run_layout::{CELLS, LOADED_NODE, cell_of};
 use syntax::FIRST_NAME;
 
-// How far a search has come: so many guesses met, so many cells done, the place of the cell opened last, so many turns left; a cycle was met.
+// How far a search has come: so many guesses met, so many cells done, the place of the cell opened last, so many turns left.
 #[derive(Clone, Copy)]
 pub struct Sorting {
     pub met: usize,
     pub done: usize,
     pub top: usize,
     pub left: usize,
-    pub cycle: bool,
 }
 
-// The place of cell x among those that are done or open, or the number of cells where it has none.
-fn place_of(room: &[u32], s: Sorting, x: usize) -> usize
+// A search has met a cycle: so many cells are done, and so many turns left.
+#[derive(Clone, Copy)]
+pub struct Cycle {
+    pub done: usize,
+    pub left: usize,
+}
+
+// How far a search has come with a cell.
+#[derive(Clone, Copy, PartialEq, Eq)]
+enum Stage {
+    New,
+    Open,
+    Done,
+}
+
+fn stage_of(room: &[u32], s: Sorting, x: usize) -> Stage
     requires { Small x }
-    ensures { result ≤ cells }
 {
     let i = get(room, PLACE_OF + x);
-    if CELLS <= i {
-        return CELLS;
-    }
-    if get(room, LIST + i) != x {
-        return CELLS;
+    if CELLS <= i || get(room, LIST + i) != x {
+        return Stage::New;
     }
     if i < s.done {
-        return i;
+        return Stage::Done;
     }
-    if s.top <= i {
-        return i;
-    }
-    CELLS
+    if s.top <= i { Stage::Open } else { Stage::New }
 }
 
-// Where from p on, up to e, a variable of copy c stands whose cell is not done; e or more where none does.
-fn next_cell(nodes: &[u32], room: &[u32], s: Sorting, c: usize, p: usize, e: usize) -> usize
+// Where from p on, up to e, the first variable of copy c stands whose cell is not done.
+fn next_cell(nodes: &[u32], room: &[u32], s: Sorting, c: usize, p: usize, e: usize) -> Option<usize>
     requires { (c < copies) × (Small p × Small e) }
-    ensures { (p ≤ result) × ((result ≤ p + e + 1) × (result < e → get_or nodes.now result 0 < first_name)) }
+    ensures { IfSome result (λ i. (p ≤ i) × ((i < e) × (get_or nodes.now i 0 < first_name))) }
 {
-    let mut i = p;
-    while i < e {
+    for i in (p..e).step_by(LOADED_NODE) {
         let v = get(nodes, i);
-        if v < FIRST_NAME {
-            let x = cell_of(c, v);
-            if s.done <= place_of(room, s, x) {
-                return i;
-            }
+        if v < FIRST_NAME && stage_of(room, s, cell_of(c, v)) != Stage::Done {
+            return Some(i);
         }
-        i += LOADED_NODE;
     }
-    i
+    None
 }
 
 // Where a place of the list is noted for a word.
@@ -76,11 +77,7 @@ fn slot_of(w: usize) -> usize
 // Whether a cell that is done is bound to the word.
 fn is_sorted(state: &[u32], room: &[u32], s: Sorting, n: usize, w: usize) -> bool {
     let i = get(room, slot_of(w));
-    if s.done <= i {
-        return false;
-    }
-    let x = get(room, LIST + i);
-    bound_word(state, room, n, x) == w
+    i < s.done && bound_word(state, room, n, get(room, LIST + i)) == Some(w)
 }
 
 // Cell x is done.
@@ -88,12 +85,12 @@ fn close(room: &mut [u32], s: Sorting, n: usize, x: usize) -> Sorting
     requires { (s.done < s.top) × (Sorts n s.left s × Small x) }
     ensures { Sorts n s.left result }
 {
-    let mut t = s;
-    let m = s.done;
-    put(room, LIST + m, x);
-    put(room, PLACE_OF + x, m);
-    t.done = m + 1;
-    t
+    put(room, LIST + s.done, x);
+    put(room, PLACE_OF + x, s.done);
+    Sorting {
+        done: s.done + 1,
+        ..s
+    }
 }
 
 // Cell x, bound to a word, is open.
@@ -101,14 +98,11 @@ fn open(room: &mut [u32], s: Sorting, n: usize, x: usize, w: usize) -> Sorting
     requires { (s.done < s.top) × (Sorts n s.left s × (Small x × Word w)) }
     ensures { Sorts n s.left result }
 {
-    let mut t = s;
     let k = s.top - 1;
-    let at = at_of(w);
     put(room, LIST + k, x);
     put(room, PLACE_OF + x, k);
-    put(room, REACHED + k, at.node);
-    t.top = k;
-    t
+    put(room, REACHED + k, at_of(w).node);
+    Sorting { top: k, ..s }
 }
 
 // Cell x, opened last and bound to a word, is done.
@@ -116,100 +110,113 @@ fn finish(room: &mut [u32], s: Sorting, n: usize, x: usize, w: usize) -> Sorting
     requires { (s.top < cells) × (Sorts n s.left s × Small x) }
     ensures { Sorts n s.left result }
 {
-    let mut t = s;
     put(room, slot_of(w), s.done);
-    t.top = s.top + 1;
+    let t = Sorting {
+        top: s.top + 1,
+        ..s
+    };
     close(room, t, n, x)
 }
 
-// Cell x, which a term has or which will be bound.
-fn meet(state: &[u32], room: &mut [u32], s: Sorting, n: usize, x: usize) -> Sorting
+// Cell x, which a term has or which will be bound. Where the list has no room for it, no turns are left.
+fn meet(state: &[u32], room: &mut [u32], s: Sorting, n: usize, x: usize) -> Result<Sorting, Cycle>
     requires { (Sorts n s.left s) × Small x }
-    ensures { Sorts n s.left result }
+    ensures { MatchResult result (λ t. Sorts n s.left t) (λ c. Cycled s.left c) }
 {
-    let mut t = s;
-    let i = place_of(room, s, x);
-    if i < s.done {
-        return s;
-    }
-    if i < CELLS {
-        t.cycle = true;
-        return t;
+    match stage_of(room, s, x) {
+        Stage::Done => return Ok(s),
+        Stage::Open => {
+            return Err(Cycle {
+                done: s.done,
+                left: s.left,
+            });
+        }
+        Stage::New => {}
     }
     if s.top <= s.done {
-        t.left = 0;
-        return t;
+        return Ok(Sorting { left: 0, ..s });
     }
-    let w = bound_word(state, room, n, x);
-    if w == 0 {
-        return close(room, s, n, x);
-    }
+    let Some(w) = bound_word(state, room, n, x) else {
+        return Ok(close(room, s, n, x));
+    };
     if is_sorted(state, room, s, n, w) {
-        return close(room, s, n, x);
+        return Ok(close(room, s, n, x));
     }
-    open(room, s, n, x, w)
+    Ok(open(room, s, n, x, w))
 }
 
-// One turn at the cell opened last: its next cell, or it is done.
-fn turn(nodes: &[u32], state: &[u32], room: &mut [u32], s: Sorting, n: usize) -> Sorting
+// One turn at the cell opened last: its next cell, or it is done. A cell that is open is bound.
+fn turn(
+    nodes: &[u32],
+    state: &[u32],
+    room: &mut [u32],
+    s: Sorting,
+    n: usize,
+) -> Result<Sorting, Cycle>
     requires { (s.top < cells) × Sorts n s.left s }
-    ensures { Sorts n (s.left - 1) result }
+    ensures { MatchResult result (λ t. Sorts n (s.left - 1) t) (λ c. Cycled (s.left - 1) c) }
 {
-    let mut t = s;
     let k = s.top;
     let x = get(room, LIST + k);
-    let w = bound_word(state, room, n, x);
+    let w = bound_word(state, room, n, x).unwrap_or(0);
     let at = at_of(w);
     let e = at.node + size_of(nodes, at.node);
     let from = get(room, REACHED + k);
-    let i = next_cell(nodes, room, s, at.copy, from, e);
-    t.left = rest(s.left, (i - from) / LOADED_NODE);
-    if e <= i {
-        return finish(room, t, n, x, w);
-    }
+    let next = next_cell(nodes, room, s, at.copy, from, e);
+    let read = next.unwrap_or(e).saturating_sub(from) / LOADED_NODE;
+    let t = Sorting {
+        left: rest(s.left, read),
+        ..s
+    };
+    let Some(i) = next else {
+        return Ok(finish(room, t, n, x, w));
+    };
     put(room, REACHED + k, i + LOADED_NODE);
-    let y = cell_of(at.copy, get(nodes, i));
-    meet(state, room, t, n, y)
+    meet(state, room, t, n, cell_of(at.copy, get(nodes, i)))
 }
 
 // A turn where no cell is open, at the cell of the next guess.
-fn begin(state: &[u32], room: &mut [u32], s: Sorting, n: usize) -> Sorting
+fn begin(state: &[u32], room: &mut [u32], s: Sorting, n: usize) -> Result<Sorting, Cycle>
     requires { (s.met < n) × (Word n × Sorts n s.left s) }
-    ensures { Sorts n (s.left - 1) result }
+    ensures { MatchResult result (λ t. Sorts n (s.left - 1) t) (λ c. Cycled (s.left - 1) c) }
 {
-    let mut t = s;
     let x = get(room, entry_of(GUESSES, CELLS, s.met));
-    t.met = s.met + 1;
-    t.left = rest(s.left, 0);
+    let t = Sorting {
+        met: s.met + 1,
+        left: rest(s.left, 0),
+        ..s
+    };
     meet(state, room, t, n, x)
 }
 
 // The cells of the first n guesses, and all that they lead to.
-fn sort(nodes: &[u32], state: &[u32], room: &mut [u32], n: usize, turns: usize) -> Sorting
+fn sort(
+    nodes: &[u32],
+    state: &[u32],
+    room: &mut [u32],
+    n: usize,
+    turns: usize,
+) -> Result<Sorting, Cycle>
     requires { Word n }
-    ensures { Sorts n turns result }
+    ensures { MatchResult result (λ s. Sorts n turns s) (λ c. Cycled turns c) }
 {
     let mut s = Sorting {
         met: 0,
         done: 0,
         top: CELLS,
         left: turns,
-        cycle: false,
     };
+    // a turn takes as many of the turns left as the words that it read
     while 0 < s.left {
-        if s.cycle {
-            return s;
-        }
         if s.top < CELLS {
-            s = turn(nodes, state, room, s, n);
+            s = turn(nodes, state, room, s, n)?;
+        } else if s.met < n {
+            s = begin(state, room, s, n)?;
         } else {
-            if n <= s.met {
-                return s;
-            }
-            s = begin(state, room, s, n);
+            return Ok(s);
         }
     }
-    s
+    Ok(s)
 }
 
 // The same of as many guesses as have no cycle, found by halving. The turns are those of all attempts.
@@ -217,26 +224,32 @@ pub fn sort_most(nodes: &[u32], state: &[u32], room: &mut [u32], n: usize, turns
     requires { Word n }
     ensures { result ≤ cells }
 {
-    let s = sort(nodes, state, room, n, turns);
-    if !s.cycle {
-        return s.done;
-    }
-    let mut left = s.left;
+    let mut left = match sort(nodes, state, room, n, turns) {
+        Ok(s) => return s.done,
+        Err(cycle) => cycle.left,
+    };
     let mut low = 0;
     let mut high = n;
+    // no search in a sorted slice: each attempt is a sort of its own, and the turns may run out at any
     while low + 1 < high {
-        let mid = (low + high) / 2;
-        let t = sort(nodes, state, room, mid, left);
-        if t.left == 0 {
-            return t.done;
+        let middle = (low + high) / 2;
+        let (done, rest) = match sort(nodes, state, room, middle, left) {
+            Ok(s) => {
+                low = middle;
+                (s.done, s.left)
+            }
+            Err(cycle) => {
+                high = middle;
+                (cycle.done, cycle.left)
+            }
+        };
+        if rest == 0 {
+            return done;
         }
-        left = t.left;
-        if t.cycle {
-            high = mid;
-        } else {
-            low = mid;
-        }
+        left = rest;
     }
-    let r = sort(nodes, state, room, low, left);
-    r.done
+    match sort(nodes, state, room, low, left) {
+        Ok(s) => s.done,
+        Err(cycle) => cycle.done,
+    }
 }

@@ -5,6 +5,6 @@ use Rattle.lookahead_words.specs.declared.guesses.Led.{Led}
 use Rattle.lookahead_words.specs.Room.{IsPlace}
 
 pub record LeadBounded (turns : ℕ) (a : Led) : Type 0 where
-  pub node : IsPlace a.node
-  pub copy : a.copy < copies
+  pub node : IsPlace a.at.node
+  pub copy : a.at.copy < copies
   pub left : a.left ≤ turns

@@ -1,11 +1,11 @@
 // Bindings that are only guessed, beside those of the state, and where a term leads by both.
-ghost use Rattle.std.specs.Prelude.{◌≡◌, ◌<◌, ◌≤◌, ◌^◌};
+ghost use Rattle.std.specs.Prelude.{◌≡◌, ◌<◌, ◌≤◌, ◌^◌, IfSome};
 ghost use Rattle.run_layout.specs.Regions.{cells, copies};
 ghost use Rattle.run_layout.specs.State.{word_of};
 ghost use Rattle.lookahead_words.specs.Room.{Word, IsPlace, Small};
 ghost use Rattle.lookahead_words.specs.Progress.{LeadBounded};
 
-use crate::room::{CUTS, GUESSES, add, find, get};
+use crate::room::{CUTS, GUESSES, add, find, get, some_word};
 use run_layout::{CELLS, COPIES, cell_of};
 use syntax::FIRST_NAME;
 
@@ -13,7 +13,7 @@ use syntax::FIRST_NAME;
 const STRIDE: usize = 16;
 
 // A run-time term: the place of a node, and a copy.
-#[derive(Clone, Copy)]
+#[derive(Clone, Copy, PartialEq, Eq)]
 pub struct At {
     pub node: usize,
     pub copy: usize,
@@ -22,17 +22,16 @@ pub struct At {
 // Where a walk has come to, and how many turns are left.
 #[derive(Clone, Copy)]
 pub struct Led {
-    pub node: usize,
-    pub copy: usize,
+    pub at: At,
     pub left: usize,
 }
 
 // A run-time term as a cell's word.
-pub fn word_of(node: usize, copy: usize) -> usize
-    requires { (Small node) × Small copy }
-    ensures { result ≡ word_of node copy }
+pub fn word_of(at: At) -> usize
+    requires { (Small at.node) × Small at.copy }
+    ensures { result ≡ word_of at.node at.copy }
 {
-    node * COPIES + copy + 1
+    at.node * COPIES + at.copy + 1
 }
 
 // The run-time term of a cell's word.
@@ -40,81 +39,66 @@ pub fn at_of(w: usize) -> At
     requires { Word w }
     ensures { (Word result.node) × (result.copy < copies) }
 {
-    if w == 0 {
-        return At { node: 0, copy: 0 };
+    let v = w.saturating_sub(1);
+    At {
+        node: v / COPIES,
+        copy: v % COPIES,
     }
-    let v = w - 1;
-    let node = v / COPIES;
-    let copy = v % COPIES;
-    At { node, copy }
 }
 
-// The word that cell x is bound to, or will be by the first n guesses; 0 where it is not.
-pub fn bound_word(state: &[u32], room: &[u32], n: usize, x: usize) -> usize
+// The word that cell x is bound to, or will be by the first n guesses.
+pub fn bound_word(state: &[u32], room: &[u32], n: usize, x: usize) -> Option<usize>
     requires { Small x }
-    ensures { Word result }
+    ensures { IfSome result (λ w. (0 < w) × Word w) }
 {
-    let w = get(state, x);
-    if w != 0 {
-        return w;
-    }
-    find(room, GUESSES, CELLS, n, x, x)
+    some_word(get(state, x)).or_else(|| find(room, GUESSES, CELLS, n, x, x))
 }
 
 // The word that leads on from cell x, by a short cut where there is one.
-fn next_word(state: &[u32], room: &[u32], x: usize) -> usize
+fn next_word(state: &[u32], room: &[u32], x: usize) -> Option<usize>
     requires { Small x }
-    ensures { Word result }
+    ensures { IfSome result (λ w. (0 < w) × Word w) }
 {
     let cuts = get(room, CUTS);
-    let w = find(room, CUTS, CELLS, cuts, x, x);
-    if w != 0 {
-        return w;
-    }
     let n = get(room, GUESSES);
-    bound_word(state, room, n, x)
+    find(room, CUTS, CELLS, cuts, x, x).or_else(|| bound_word(state, room, n, x))
 }
 
-// A walk has come to cell x, by a word. Where it stops, it makes a short cut from cell y, at which it stopped before, if that is a cell. The cell of its last
+// A walk has come to cell x, by a word. Where it stops, it makes a short cut from the cell at which it stopped before, if there is one. The cell of its last
 // stop from then on.
-fn stop(room: &mut [u32], left: usize, y: usize, x: usize, w: usize) -> usize
-    requires { (y ≤ cells) × (x ≤ cells) }
-    ensures { result ≤ cells }
+fn stop(room: &mut [u32], left: usize, before: Option<usize>, x: usize, w: usize) -> Option<usize>
+    requires { (IfSome before (λ y. y < cells)) × (x < cells) }
+    ensures { IfSome result (λ y. y < cells) }
 {
     if left % STRIDE != 0 {
-        return y;
+        return before;
     }
-    if y < CELLS {
+    if let Some(y) = before {
         add(room, CUTS, CELLS, y, y, w);
     }
-    x
+    Some(x)
 }
 
-// Where a term leads, by at most so many links.
-pub fn lead(nodes: &[u32], state: &[u32], room: &mut [u32], p: usize, c: usize, turns: usize) -> Led
-    requires { (IsPlace p) × (c < copies) }
-    ensures { LeadBounded turns result }
+// Where a term leads, by at most so many links. Each costs a turn.
+pub fn lead(nodes: &[u32], state: &[u32], room: &mut [u32], from: At, turns: usize) -> Led
+    requires { (IsPlace from.node) × (from.copy < copies) }
+    ensures bounded { LeadBounded turns result }
+    ensures paid { result.left ≡ turns → result.at ≡ from }
 {
-    let mut node = p;
-    let mut copy = c;
-    let mut left = turns;
-    let mut y = CELLS;
-    while 0 < left {
-        let v = get(nodes, node);
+    let mut at = from;
+    let mut before = None;
+    for links in 0..turns {
+        let left = turns - links;
+        let v = get(nodes, at.node);
         if FIRST_NAME <= v {
-            return Led { node, copy, left };
+            return Led { at, left };
         }
-        let x = cell_of(copy, v);
-        let w = next_word(state, room, x);
-        if w == 0 {
-            return Led { node, copy, left };
-        }
-        let here = word_of(node, copy);
-        y = stop(room, left, y, x, here);
-        let at = at_of(w);
-        node = at.node;
-        copy = at.copy;
-        left -= 1;
+        let x = cell_of(at.copy, v);
+        let Some(w) = next_word(state, room, x) else {
+            return Led { at, left };
+        };
+        before = stop(room, left, before, x, word_of(at));
+        at = at_of(w);
     }
-    Led { node, copy, left }
+    Led { at, left: 0 }
 }

@@ -1,5 +1,5 @@
 // The room that is lent: its regions, and words of it and of the tables, read and written wherever they stand.
-ghost use Rattle.std.specs.Prelude.{◌≡◌, ◌+◌, ◌-◌, ◌*◌, ◌%◌, ◌<◌, ◌≤◌, ◌^◌, length, get_or, set};
+ghost use Rattle.std.specs.Prelude.{◌≡◌, ◌+◌, ◌-◌, ◌*◌, ◌%◌, ◌<◌, ◌≤◌, ◌^◌, ◌==◌, if◌then◌else◌, IfSome, None, Some, length, get_or, set};
 ghost use Rattle.run_layout.specs.Regions.{loaded_node};
 ghost use Rattle.lookahead_words.specs.Room.{Word, Small};
 
@@ -42,10 +42,7 @@ pub const SORTED: usize = MET + 1;
 pub fn get(t: &[u32], i: usize) -> usize
     ensures { (result ≡ get_or t.now i 0) × Word result }
 {
-    if i < t.len() {
-        return t[i] as usize;
-    }
-    0
+    t.get(i).copied().unwrap_or(0) as usize
 }
 
 // A word stored at a place, unless it is behind the last.
@@ -57,26 +54,26 @@ pub fn put(t: &mut [u32], i: usize, w: usize)
     }
 }
 
+// A word that a table has for something; 0 where it has nothing.
+pub fn some_word(w: usize) -> Option<usize>
+    ensures { result ≡ (if w == 0 then None else Some w) }
+{
+    if w == 0 { None } else { Some(w) }
+}
+
 // How many words the node at p takes with its arguments; never none.
 pub fn size_of(nodes: &[u32], p: usize) -> usize
     requires { Small p }
     ensures { (loaded_node ≤ result) × Word result }
 {
-    let n = get(nodes, p + 1);
-    if n < LOADED_NODE {
-        return LOADED_NODE;
-    }
-    n
+    get(nodes, p + 1).max(LOADED_NODE)
 }
 
 // What is left of so many turns after one that took the work of so many more.
 pub fn rest(turns: usize, more: usize) -> usize
     ensures { result ≡ turns - more - 1 }
 {
-    if turns <= more {
-        return 0;
-    }
-    turns - more - 1
+    turns.saturating_sub(more).saturating_sub(1)
 }
 
 // A number for a word, for the choice of a slot.
@@ -94,20 +91,27 @@ pub fn entry_of(map: usize, slots: usize, i: usize) -> usize
     map + 1 + slots + i * ENTRY_SIZE
 }
 
-// The value of a key among the first n entries; 0 where it has none.
-pub fn find(room: &[u32], map: usize, slots: usize, n: usize, slot: usize, key: usize) -> usize
+// The value of a key among the first n entries; no entry has the value 0.
+pub fn find(
+    room: &[u32],
+    map: usize,
+    slots: usize,
+    n: usize,
+    slot: usize,
+    key: usize,
+) -> Option<usize>
     requires { (Small map) × (Small slots × Small slot) }
-    ensures { Word result }
+    ensures { IfSome result (λ w. (0 < w) × Word w) }
 {
     let i = get(room, map + 1 + slot);
     if n <= i {
-        return 0;
+        return None;
     }
     let at = entry_of(map, slots, i);
     if get(room, at) != key {
-        return 0;
+        return None;
     }
-    get(room, at + 1)
+    some_word(get(room, at + 1))
 }
 
 // One entry more. A map that is full begins anew.

@@ -1,11 +1,11 @@
 -- Document 02, (xiii), "More steps, same beginning": "Show for one accepted sheet, goal, trace, wanted count and buffer size, allowances in range: the text
 -- at a smaller allowance is the beginning of the text at a larger one, and a run that ended otherwise than by `steps` gives an equal report and text at
 -- every larger allowance." What its theorems say.
-use Rattle.std.specs.Prelude.{ℕ, ◌≡◌, List, ◌++◌}
+use Rattle.std.specs.Prelude.{ℕ, ◌≡◌, List, ◌++◌, Ok, Err}
 use Rattle.syntax.specs.declared.Text.{Text}
 use Rattle.syntax.specs.declared.Refusal.{Refusal}
-use Rattle.syntax.specs.declared.Run.{Run}
-use Rattle.syntax.specs.declared.Run.TheVariants.{Ended as Ended-by, Refused as refused-by}
+use Rattle.syntax.specs.Verdicts.{Run}
+use Rattle.syntax.specs.Verdicts.{Ended as Ended-by, Refused as refused-by}
 use Rattle.machine.specs.Runs.{Steps, Ended, RunOutcome, stopped, ran, run_answer, run_text}
 
 -- a text is the beginning of another
@@ -31,8 +31,8 @@ pub record MoreStepsOver (fewer more : RunOutcome) : Type 0 where
 
 -- what a run gives back is a refusal, or the report of an end otherwise than by `steps`
 unfoldable pub NotReportedSteps : Run → Type 0
-NotReportedSteps (Ended-by report) = report.kind ≡ Steps → ⊥
-NotReportedSteps (refused-by text refusal) = Unit {0}
+NotReportedSteps (Ok report) = report.kind ≡ Steps → ⊥
+NotReportedSteps (Err fault) = Unit {0}
 
 -- of what a run gives back and of the text that it writes
 pub record MoreStepsAnswered (fewer : Run) (text : List ℕ) (more : Run) (longer : List ℕ) : Type 0 where

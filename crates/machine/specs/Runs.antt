@@ -9,9 +9,9 @@ use Rattle.syntax.specs.declared.Text.TheVariants.{Sheet as in_sheet, Goal as in
 pub use Rattle.syntax.specs.declared.Kind.{Kind}
 pub use Rattle.syntax.specs.declared.Kind.TheVariants.{Wanted, Done, Steps, Full, Deep}
 pub use Rattle.syntax.specs.declared.Report.{Report}
-use Rattle.syntax.specs.declared.Run.{Run}
+use Rattle.syntax.specs.Verdicts.{Run}
 pub use Rattle.syntax.specs.declared.RunSettings.{RunSettings}
-use Rattle.syntax.specs.declared.Run.TheVariants.{Ended as Ended-by, Refused as refused-by}
+use Rattle.syntax.specs.Verdicts.{Ended as Ended-by, Refused as refused-by}
 use Rattle.syntax.specs.declared.Refusal.{Refusal}
 use Rattle.syntax.specs.declared.Refusal.TheVariants.{Settings}
 use Rattle.mode_rules.specs.Checking.{checked_with, checked_goal}

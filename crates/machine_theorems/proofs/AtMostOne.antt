@@ -15,7 +15,7 @@ use lib.ListN.{drop}
 use Rattle.syntax.specs.Terms.{Term, Terms, variable, compound, nil, cons, arity, Atom, term_of, Literal, call, equation, truth, falsity, either, Body, done, also, Mark, input, Clause, Sheet, Goal}
 use Rattle.syntax.specs.Verdicts.{Outcome, refused, accepted, sheet_of, goal_outcome}
 use Rattle.syntax.specs.declared.Refusal.{Refusal}
-use Rattle.syntax.specs.declared.Run.TheVariants.{Ended as Ended-by}
+use Rattle.syntax.specs.Verdicts.{Ended as Ended-by}
 use Rattle.mode_rules.specs.Modes.{same_mark, marks_for, or_no_marks, list_of, sheet_fault, goal_fault}
 use Rattle.mode_rules.specs.Checking.{faultless, checked_from, checked_with, checked_goal_from, checked_goal}
 use Rattle.buffers.specs.Feeds.{InLines}

@@ -14,7 +14,7 @@ use Rattle.syntax.specs.declared.Refusal.{Refusal}
 use Rattle.syntax.specs.declared.Refusal.TheVariants.{Settings}
 use Rattle.syntax.specs.declared.Text.{Text}
 use Rattle.syntax.specs.declared.Text.TheVariants.{Sheet as in_sheet, Goal as in_goal, Neither}
-use Rattle.syntax.specs.declared.Verdict.TheVariants.{Accepted, Refused}
+use Rattle.syntax.specs.Verdicts.{Accepted, Refused}
 use Rattle.mode_rules.specs.Modes.{sheet_fault, goal_fault}
 use Rattle.mode_rules.specs.Checking.{faultless, checked_from, checked_with, checked_sheet, checked_goal_from, checked_goal, goal_answer, check_goal_from, check_goal_verdict}
 use Rattle.machine.specs.Machine.{Alternative, step, pile_after}

@@ -9,7 +9,10 @@ use lib.ListN.{take, drop}
 use lib.Seq.{drop-drop}
 use borrow.Author.Tests.{eqb-true}
 use Rattle.syntax.specs.Bytes.{class_of, in_word, in_numeral}
-use Rattle.syntax.specs.Tokens.{Gap, outside, in_comment, Move, on, at_token, move_of, skipped, run_length, word, dash_first, token_of, token_from, token_place, token_at, spelling}
+use Rattle.syntax.specs.declared.TokenKind.{TokenKind}
+use Rattle.syntax.specs.declared.Class.{Class}
+use Rattle.syntax.specs.declared.Class.TheVariants.{Nothing, Blank, Percent, Lower, Upper, Digit, Colon, Single}
+use Rattle.syntax.specs.Tokens.{name_kind, variable_kind, numeral_kind, Gap, outside, in_comment, Move, on, at_token, move_of, skipped, run_length, word, dash_first, token_of, token_from, token_place, token_at, spelling}
 use Rattle.syntax.specs.Numerals.{zero_digit, trimmed}
 use Rattle.syntax.specs.Terms.{Term, Terms, variable, compound, nil, cons, term_of, Literal, call, equation, truth, falsity, either, Body, done, also, Clause, Sheet, Goal}
 use Rattle.syntax.specs.Reading.{Cursor, spelt, cursor_at, next, with_new, at_start}
@@ -29,7 +32,6 @@ Starts (b ∷ s) = b ≡ 10 → ⊥
 
 -- a token does not begin with a line feed, which is a blank
 not-blank : (b : ℕ) → move_of outside b ≡ at_token → b ≡ 10 → ⊥
-unfolding class_of
 not-blank b e f = let z : on outside ≡ at_token = subst (λ (x : ℕ). move_of outside x ≡ at_token) f e in let y : ◌≡◌ {A = ℕ} 0 1 = cc in omega arith
 
 not-in-comment : (b : ℕ) → move_of in_comment b ≡ at_token → ⊥
@@ -68,7 +70,7 @@ one-feedless : (b : ℕ) (s : List ℕ) → (b ≡ 10 → ⊥) → feeds (take 1
 unfolding feeds
 one-feedless b s h = feedless-cons b [] h refl
 
-word-feedless : (kind at b : ℕ) (f : ℕ → Bool) → f 10 ≡ false → (s : List ℕ) → (b ≡ 10 → ⊥)
+word-feedless : (kind : TokenKind) (at b : ℕ) (f : ℕ → Bool) → f 10 ≡ false → (s : List ℕ) → (b ≡ 10 → ⊥)
     → feeds (take (word kind at (suc (run_length f s))).len (b ∷ s)) ≡ 0
 unfolding word
 word-feedless kind at b f n s h = feedless-cons b (take (run_length f s) s) h (run-feedless f n s)
@@ -82,29 +84,27 @@ neck-feedless b (d ∷ s) h = go (eqb d 45) refl
     go true e = feedless-cons b (take 1 (d ∷ s)) h (one-feedless d s (λ q. omega (arith, eqb-true d 45 e)))
     go false e = one-feedless b (d ∷ s) h
 
-token-of-feedless : (c at b : ℕ) (s : List ℕ) → (b ≡ 10 → ⊥) → feeds (take (token_of c at s).len (b ∷ s)) ≡ 0
-unfolding token_of in_word in_numeral class_of
-token-of-feedless c at b s h = go (eqb c 3) (eqb c 4) (eqb c 5) (eqb c 6)
-  where
-    go : (x y z w : Bool)
-        → feeds (take (cond x (word 3 at (suc (run_length in_word s))) (cond y (word 4 at (suc (run_length in_word s))) (cond z (word 5 at (suc (run_length in_numeral s))) (cond w (record { kind = cond (dash_first s) 6 0; at = at; len = cond (dash_first s) 2 1 }) (record { kind = c; at = at; len = 1 }))))).len (b ∷ s)) ≡ 0
-    go true y z w = word-feedless 3 at b in_word refl s h
-    go false true z w = word-feedless 4 at b in_word refl s h
-    go false false true w = word-feedless 5 at b in_numeral refl s h
-    go false false false true = neck-feedless b s h
-    go false false false false = one-feedless b s h
+token-of-feedless : (c : Class) (at b : ℕ) (s : List ℕ) → (b ≡ 10 → ⊥) → feeds (take (token_of c at s).len (b ∷ s)) ≡ 0
+unfolding token_of in_word in_numeral
+token-of-feedless Lower at b s h = word-feedless name_kind at b in_word refl s h
+token-of-feedless Upper at b s h = word-feedless variable_kind at b in_word refl s h
+token-of-feedless Digit at b s h = word-feedless numeral_kind at b in_numeral refl s h
+token-of-feedless Colon at b s h = neck-feedless b s h
+token-of-feedless (Single kind) at b s h = one-feedless b s h
+token-of-feedless Nothing at b s h = one-feedless b s h
+token-of-feedless Blank at b s h = one-feedless b s h
+token-of-feedless Percent at b s h = one-feedless b s h
 
-token-of-place : (c at : ℕ) (s : List ℕ) → (token_of c at s).at ≡ at
+token-of-place : (c : Class) (at : ℕ) (s : List ℕ) → (token_of c at s).at ≡ at
 unfolding token_of word
-token-of-place c at s = go (eqb c 3) (eqb c 4) (eqb c 5) (eqb c 6)
-  where
-    go : (x y z w : Bool)
-        → (cond x (word 3 at (suc (run_length in_word s))) (cond y (word 4 at (suc (run_length in_word s))) (cond z (word 5 at (suc (run_length in_numeral s))) (cond w (record { kind = cond (dash_first s) 6 0; at = at; len = cond (dash_first s) 2 1 }) (record { kind = c; at = at; len = 1 }))))).at ≡ at
-    go true y z w = refl
-    go false true z w = refl
-    go false false true w = refl
-    go false false false true = refl
-    go false false false false = refl
+token-of-place Lower at s = refl
+token-of-place Upper at s = refl
+token-of-place Digit at s = refl
+token-of-place Colon at s = refl
+token-of-place (Single kind) at s = refl
+token-of-place Nothing at s = refl
+token-of-place Blank at s = refl
+token-of-place Percent at s = refl
 
 -- no token has a line feed
 token-feedless : (s : List ℕ) (from : ℕ) → feeds (spelling s (token_at s from).at (token_at s from).len) ≡ 0

@@ -1,7 +1,7 @@
 -- Laws of the faults of a call and of a head, one for each way out of the functions. Assumes nothing.
 use Prim.Native.Nat.{ℕ, ◌+◌, ◌≤◌, ◌<◌}
 use native.Mathlib.Omega.{arith}
-use mathlib.Core.Path.{◌≡◌, refl, sym, ap, ap₂, ◌∙◌}
+use mathlib.Core.Path.{◌≡◌, refl, sym, ap, ap₂, ◌∙◌, subst, subst⁻¹}
 use mathlib.Core.List.{List}
 use mathlib.Core.Option.{Option, none, some}
 use lib.ListN.{length}
@@ -14,29 +14,27 @@ use Rattle.mode_marks.specs.Tables.{TermAt, NamedAt, MarkedAt, JudgedAt}
 use Rattle.mode_marks.specs.Answers.{checked_of, atom_name}
 use Rattle.mode_arguments.specs.Answers.{first_open_of}
 use Rattle.mode_arguments.specs.declared.FirstOpen.{FirstOpen}
-use Rattle.mode_arguments.specs.declared.FirstOpen.TheVariants.{Nowhere, At}
+use Rattle.std.specs.Prelude.{Option as Perhaps, Some, None, Ok, Err}
 use Rattle.mode_marks.specs.declared.marks.Name.{Name}
-use Rattle.mode_marks.specs.declared.Checked.TheVariants.{Fine, Fault}
 use Rattle.mode_marks.proofs.Places.{Says, says, sized}
 
 -- ---- the first open argument
 
-call_none : (c l : ℕ) (a : Atom) (o : Option OpenArgument) → first_open_of o ≡ Nowhere → Fine ≡ checked_of (open_input c l a o)
+call_none : (c l : ℕ) (a : Atom) (o : Option OpenArgument) → first_open_of o ≡ None → Ok tt ≡ checked_of (open_input c l a o)
 unfolding open_input
 call_none c l a none e = refl
 call_none c l a (some o) e = let z : ◌≡◌ {A = ℕ} 0 1 = cc in absurd (omega arith)
 
-head-none : (c : ℕ) (a : Atom) (o : Option OpenArgument) → first_open_of o ≡ Nowhere → Fine ≡ checked_of (open_output c a o)
+head-none : (c : ℕ) (a : Atom) (o : Option OpenArgument) → first_open_of o ≡ None → Ok tt ≡ checked_of (open_output c a o)
 unfolding open_output
 head-none c a none e = refl
 head-none c a (some o) e = let z : ◌≡◌ {A = ℕ} 0 1 = cc in absurd (omega arith)
 
-some-open : (o : Option OpenArgument) (argument byte : ℕ) → first_open_of o ≡ At argument byte → o ≡ some (record { argument = argument; byte = byte })
-some-open none argument byte e = let z : ◌≡◌ {A = ℕ} 0 1 = cc in absurd (omega arith)
-some-open (some o) argument byte e =
-    let i : o.argument ≡ argument = cc in
-    let j : o.byte ≡ byte = cc in
-    ap₂ (λ (x y : ℕ). some (record { argument = x; byte = y })) i j
+some-open : (o : Option OpenArgument) (f : FirstOpen) → first_open_of o ≡ Some f → o ≡ some (record { argument = f.argument; byte = f.byte })
+some-open none f e = let z : ◌≡◌ {A = ℕ} 0 1 = cc in absurd (omega arith)
+some-open (some o) f e =
+    let g : ◌≡◌ {A = FirstOpen} (record { argument = o.argument; byte = o.byte }) f = cc in
+    ap₂ (λ (x y : ℕ). some (record { argument = x; byte = y })) (ap (λ (x : FirstOpen). x.argument) g) (ap (λ (x : FirstOpen). x.byte) g)
 
 -- ---- an atom with its marks
 
@@ -68,36 +66,46 @@ module _ (table : List ℕ) (p marks stop : ℕ) (s : (u : TermAt table p) → s
   pub judged-number : JudgedAt table p marks → 1 + stop ≤ length table + (p + 3)
   judged-number w = omega (arith, s (judged-term w), (sized table p (judged-term w)).inside)
 
-  module _ (τ : Known) (m : Mark) (r : FirstOpen)
-      (er : (u : MarkedAt table (p + 3) stop marks (mark_number m)) → r ≡ first_open_of (first_open u.wanted τ u.listed (list_of u.terms) 1)) where
-    pub call-fine : r ≡ Nowhere → (c l : ℕ) (w : JudgedAt table p marks)
-        → Fine ≡ checked_of (open_input c l w.atom (first_open m τ w.listed (list_of w.atom.args) 1))
-    call-fine e c l w = call_none c l w.atom (first_open m τ w.listed (list_of w.atom.args) 1) (sym (er (judged-marked m w)) ∙ e)
+  -- the same of a mark's number
+  pub mark-judged : {mark : ℕ} (m : Mark) → mark ≡ mark_number m → JudgedAt table p marks → MarkedAt table (p + 3) stop marks mark
+  mark-judged m e w = subst⁻¹ (MarkedAt table (p + 3) stop marks) e (judged-marked m w)
 
-    pub head-fine : r ≡ Nowhere → (c : ℕ) (w : JudgedAt table p marks)
-        → Fine ≡ checked_of (open_output c w.atom (first_open m τ w.listed (list_of w.atom.args) 1))
-    head-fine e c w = head-none c w.atom (first_open m τ w.listed (list_of w.atom.args) 1) (sym (er (judged-marked m w)) ∙ e)
+  pub first-judged : {mark : ℕ} (τ : Known) {r : Perhaps FirstOpen}
+      → ((u : MarkedAt table (p + 3) stop marks mark) → r ≡ first_open_of (first_open u.wanted τ u.listed (list_of u.terms) 1))
+      → (w : JudgedAt table p marks) (m : Mark) → mark ≡ mark_number m → r ≡ first_open_of (first_open m τ w.listed (list_of w.atom.args) 1)
+  first-judged τ {r} er w m e =
+      subst (λ (k : ℕ). (u : MarkedAt table (p + 3) stop marks k) → r ≡ first_open_of (first_open u.wanted τ u.listed (list_of u.terms) 1)) e er (judged-marked m w)
 
-    module _ (argument byte : ℕ) (e : r ≡ At argument byte) (name : Name) (en : (w : NamedAt table p) → name ≡ atom_name w.atom) where
-      is_open : (w : JudgedAt table p marks) → first_open m τ w.listed (list_of w.atom.args) 1 ≡ some (record { argument = argument; byte = byte })
-      is_open w = some-open (first_open m τ w.listed (list_of w.atom.args) 1) argument byte (sym (er (judged-marked m w)) ∙ e)
+module _ {table : List ℕ} {p marks : ℕ} (τ : Known) (m : Mark) (r : Perhaps FirstOpen)
+    (er : (w : JudgedAt table p marks) → r ≡ first_open_of (first_open m τ w.listed (list_of w.atom.args) 1)) where
+  pub call-fine : r ≡ None → (c l : ℕ) (w : JudgedAt table p marks)
+      → Ok tt ≡ checked_of (open_input c l w.atom (first_open m τ w.listed (list_of w.atom.args) 1))
+  call-fine e c l w = call_none c l w.atom (first_open m τ w.listed (list_of w.atom.args) 1) (sym (er w) ∙ e)
 
-      at_is : (w : JudgedAt table p marks) → name.at ≡ w.atom.at
-      at_is w = ap (λ (x : Name). x.at) (en (judged-name w))
+  pub head-fine : r ≡ None → (c : ℕ) (w : JudgedAt table p marks)
+      → Ok tt ≡ checked_of (open_output c w.atom (first_open m τ w.listed (list_of w.atom.args) 1))
+  head-fine e c w = head-none c w.atom (first_open m τ w.listed (list_of w.atom.args) 1) (sym (er w) ∙ e)
 
-      len_is : (w : JudgedAt table p marks) → name.len ≡ length w.atom.name
-      len_is w = ap (λ (x : Name). x.len) (en (judged-name w))
+  module _ (f : FirstOpen) (e : r ≡ Some f) (name : Name) (en : (w : NamedAt table p) → name ≡ atom_name w.atom) where
+    is_open : (w : JudgedAt table p marks) → first_open m τ w.listed (list_of w.atom.args) 1 ≡ some (record { argument = f.argument; byte = f.byte })
+    is_open w = some-open (first_open m τ w.listed (list_of w.atom.args) 1) f (sym (er w) ∙ e)
 
-      pub call-faulty : (c l : ℕ) (w : JudgedAt table p marks)
-          → Fault (OpenInput byte c l argument name.at name.len) ≡ checked_of (open_input c l w.atom (first_open m τ w.listed (list_of w.atom.args) 1))
-      unfolding open_input
-      call-faulty c l w =
-          ap₂ (λ (a k : ℕ). Fault (OpenInput byte c l argument a k)) (at_is w) (len_is w)
-          ∙ sym (ap (λ (o : Option OpenArgument). checked_of (open_input c l w.atom o)) (is_open w))
+    at_is : (w : JudgedAt table p marks) → name.at ≡ w.atom.at
+    at_is w = ap (λ (x : Name). x.at) (en (judged-name w))
 
-      pub head-faulty : (c : ℕ) (w : JudgedAt table p marks)
-          → Fault (OpenOutput byte c argument name.at name.len) ≡ checked_of (open_output c w.atom (first_open m τ w.listed (list_of w.atom.args) 1))
-      unfolding open_output
-      head-faulty c w =
-          ap₂ (λ (a k : ℕ). Fault (OpenOutput byte c argument a k)) (at_is w) (len_is w)
-          ∙ sym (ap (λ (o : Option OpenArgument). checked_of (open_output c w.atom o)) (is_open w))
+    len_is : (w : JudgedAt table p marks) → name.len ≡ length w.atom.name
+    len_is w = ap (λ (x : Name). x.len) (en (judged-name w))
+
+    pub call-faulty : (c l : ℕ) (w : JudgedAt table p marks)
+        → Err (OpenInput f.byte c l f.argument name.at name.len) ≡ checked_of (open_input c l w.atom (first_open m τ w.listed (list_of w.atom.args) 1))
+    unfolding open_input
+    call-faulty c l w =
+        ap₂ (λ (a k : ℕ). Err (OpenInput f.byte c l f.argument a k)) (at_is w) (len_is w)
+        ∙ sym (ap (λ (o : Option OpenArgument). checked_of (open_input c l w.atom o)) (is_open w))
+
+    pub head-faulty : (c : ℕ) (w : JudgedAt table p marks)
+        → Err (OpenOutput f.byte c f.argument name.at name.len) ≡ checked_of (open_output c w.atom (first_open m τ w.listed (list_of w.atom.args) 1))
+    unfolding open_output
+    head-faulty c w =
+        ap₂ (λ (a k : ℕ). Err (OpenOutput f.byte c f.argument a k)) (at_is w) (len_is w)
+        ∙ sym (ap (λ (o : Option OpenArgument). checked_of (open_output c w.atom o)) (is_open w))

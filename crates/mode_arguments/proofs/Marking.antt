@@ -1,5 +1,5 @@
 -- Laws of the arguments of one mark, one for each way out of the functions. Assumes nothing.
-use Prim.Native.Nat.{ℕ, suc, ◌+◌, ◌-◌, ◌≤◌, ◌<◌}
+use Prim.Native.Nat.{ℕ, suc, ◌+◌, ◌≤◌, ◌<◌}
 use native.Mathlib.Numerals.{add-one}
 use native.Mathlib.Omega.{arith}
 use mathlib.Core.Path.{◌≡◌, refl, sym, ap, ap₂, ◌∙◌, subst⁻¹}
@@ -18,10 +18,8 @@ use Rattle.table_words.specs.Tables.{Has}
 use Rattle.mode_marks.specs.Tables.{TermAt, TermsAt, MarkedAt}
 use Rattle.mode_marks.specs.Answers.{groundness_of}
 use Rattle.mode_arguments.specs.Answers.{first_open_of}
-use Rattle.mode_marks.specs.declared.terms.Groundness.{Groundness}
-use Rattle.mode_marks.specs.declared.terms.Groundness.TheVariants.{Ground, Open}
+use Rattle.std.specs.Prelude.{Option as Perhaps, Some, None}
 use Rattle.mode_arguments.specs.declared.FirstOpen.{FirstOpen}
-use Rattle.mode_arguments.specs.declared.FirstOpen.TheVariants.{Nowhere, At}
 use Rattle.table_words.proofs.Laws.{has_left, has_right, has-inside}
 use Rattle.mode_marks.proofs.Places.{sized, past-ends, cons-long, Parted, parted}
 
@@ -118,20 +116,23 @@ none-marked (k ∷ ks) m nil p stop l e = ((λ τ n. refl), (λ τ. refl))
 none-marked (k ∷ ks) m (cons t ts) p stop l e = absurd (omega (arith, cons-long t ts))
 
 -- the test of an argument, by its mark
-pub other-passes : {table : List ℕ} {p mark k : ℕ} (τ : Known) (marks : ℕ) → k ≡ first_mark marks → (k ≡ mark → ⊥) → (w : TermAt table p) → Ground ≡ groundness_of (if_marked (eqb (first_mark marks) mark) (open_byte τ w.term))
+pub other-passes : {table : List ℕ} {p mark k : ℕ} (τ : Known) (marks : ℕ) → k ≡ first_mark marks → (k ≡ mark → ⊥) → (w : TermAt table p) → None ≡ groundness_of (if_marked (eqb (first_mark marks) mark) (open_byte τ w.term))
 unfolding if_marked
 other-passes {mark = mark} τ marks e n w = sym (ap (λ (b : Bool). groundness_of (if_marked b (open_byte τ w.term))) (ne_eqb (first_mark marks) mark (λ q. n (e ∙ q))))
 
-pub same-tested : {table : List ℕ} {p mark k : ℕ} (τ : Known) (marks : ℕ) → k ≡ first_mark marks → k ≡ mark → {g : Groundness} → ((w : TermAt table p) → g ≡ groundness_of (open_byte τ w.term))
+pub same-tested : {table : List ℕ} {p mark k : ℕ} (τ : Known) (marks : ℕ) → k ≡ first_mark marks → k ≡ mark → {g : Perhaps ℕ} → ((w : TermAt table p) → g ≡ groundness_of (open_byte τ w.term))
     → (w : TermAt table p) → g ≡ groundness_of (if_marked (eqb (first_mark marks) mark) (open_byte τ w.term))
 unfolding if_marked
 same-tested {mark = mark} τ marks e q h w = h w ∙ sym (ap (λ (b : Bool). groundness_of (if_marked b (open_byte τ w.term))) (eq-eqb (first_mark marks) mark (sym e ∙ q)))
 
-or-found : (o : Option ℕ) (n b : ℕ) (rest : Option OpenArgument) → groundness_of o ≡ Open b → At n b ≡ first_open_of (open_or o n rest)
-or-found none n b rest e = let z : ◌≡◌ {A = ℕ} 0 1 = cc in absurd (omega arith)
-or-found (some i) n b rest e = let k : i ≡ b = cc in ap (At n) (sym k)
+abbrev pub open-at : ℕ → ℕ → Perhaps FirstOpen
+open-at argument byte = Some (record { argument = argument; byte = byte })
 
-or-rest : (o : Option ℕ) (n : ℕ) (rest : Option OpenArgument) → groundness_of o ≡ Ground → first_open_of rest ≡ first_open_of (open_or o n rest)
+or-found : (o : Option ℕ) (n b : ℕ) (rest : Option OpenArgument) → groundness_of o ≡ Some b → open-at n b ≡ first_open_of (open_or o n rest)
+or-found none n b rest e = let z : ◌≡◌ {A = ℕ} 0 1 = cc in absurd (omega arith)
+or-found (some i) n b rest e = let k : i ≡ b = cc in ap (open-at n) (sym k)
+
+or-rest : (o : Option ℕ) (n : ℕ) (rest : Option OpenArgument) → groundness_of o ≡ None → first_open_of rest ≡ first_open_of (open_or o n rest)
 or-rest none n rest e = refl
 or-rest (some i) n rest e = let z : ◌≡◌ {A = ℕ} 0 1 = cc in absurd (omega arith)
 
@@ -139,7 +140,7 @@ abbrev terms-of : {table : List ℕ} {p stop marks mark : ℕ} → MarkedAt tabl
 terms-of w = record { terms = w.terms; has = w.has; ends = w.ends; numbered = w.numbered }
 
 module _ {table : List ℕ} {p stop marks mark : ℕ} where
-  pub none_open : (τ : Known) (number : ℕ) → stop ≤ p → (w : MarkedAt table p stop marks mark) → Nowhere ≡ first_open_of (first_open w.wanted τ w.listed (list_of w.terms) number)
+  pub none_open : (τ : Known) (number : ℕ) → stop ≤ p → (w : MarkedAt table p stop marks mark) → None ≡ first_open_of (first_open w.wanted τ w.listed (list_of w.terms) number)
   none_open τ number l w = sym (ap first_open_of ((none-marked w.listed w.wanted w.terms p stop l w.ends).0 τ number))
 
   pub none-given : (τ : Known) → stop ≤ p → (w : MarkedAt table p stop marks mark) → τ ≡ ground_marked w.wanted w.listed (list_of w.terms) τ
@@ -161,8 +162,8 @@ module _ {table : List ℕ} {p stop marks mark : ℕ} where
       pub marked-rest : MarkedAt table p stop marks mark → MarkedAt table next stop left mark
       marked-rest w = (marked w).rest
 
-      pub open-on : (τ : Known) (number : ℕ) {more : ℕ} {g : Groundness} → ((w : TermAt table p) → g ≡ groundness_of (if_marked (eqb (first_mark marks) mark) (open_byte τ w.term))) → g ≡ Ground → more ≡ number + 1
-          → {r : FirstOpen} → ((w : MarkedAt table next stop left mark) → r ≡ first_open_of (first_open w.wanted τ w.listed (list_of w.terms) more))
+      pub open-on : (τ : Known) (number : ℕ) {more : ℕ} {g : Perhaps ℕ} → ((w : TermAt table p) → g ≡ groundness_of (if_marked (eqb (first_mark marks) mark) (open_byte τ w.term))) → g ≡ None → more ≡ number + 1
+          → {r : Perhaps FirstOpen} → ((w : MarkedAt table next stop left mark) → r ≡ first_open_of (first_open w.wanted τ w.listed (list_of w.terms) more))
           → (w : MarkedAt table p stop marks mark) → r ≡ first_open_of (first_open w.wanted τ w.listed (list_of w.terms) number)
       open-on τ number h e em k w =
           let q : Marked table p stop marks mark next left w.wanted w.listed w.terms = marked w in
@@ -192,8 +193,8 @@ module _ {table : List ℕ} {p stop marks mark : ℕ} where
       unfolding ground_if
       given-other τ ek e {r} k w = given-on τ false τ r w (ne_eqb (first_mark marks) mark (λ q. e (ek ∙ q))) refl k
 
-    pub found-open : (τ : Known) (number : ℕ) {g : Groundness} → ((w : TermAt table p) → g ≡ groundness_of (if_marked (eqb (first_mark marks) mark) (open_byte τ w.term))) → {byte : ℕ} → g ≡ Open byte
-        → (w : MarkedAt table p stop marks mark) → At number byte ≡ first_open_of (first_open w.wanted τ w.listed (list_of w.terms) number)
+    pub found-open : (τ : Known) (number : ℕ) {g : Perhaps ℕ} → ((w : TermAt table p) → g ≡ groundness_of (if_marked (eqb (first_mark marks) mark) (open_byte τ w.term))) → {byte : ℕ} → g ≡ Some byte
+        → (w : MarkedAt table p stop marks mark) → open-at number byte ≡ first_open_of (first_open w.wanted τ w.listed (list_of w.terms) number)
     found-open τ number h {byte} e w =
         let q : Marked table p stop marks mark (p + get_or table (p + 1) 0) (other_marks marks) w.wanted w.listed w.terms = marked refl refl w in
         or-found (if_marked (eqb (first_mark marks) mark) (open_byte τ q.first.term)) number byte (first_open q.rest.wanted τ q.rest.listed (list_of q.rest.terms) (suc number)) (sym (h q.first) ∙ e)

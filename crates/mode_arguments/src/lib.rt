@@ -3,35 +3,34 @@
 #![tactic(auto)]
 
 ghost use Rattle.std.specs.Prelude.{◌≡◌, ◌+◌, ◌≤◌, eqb, length};
-ghost use Rattle.syntax.specs.Terms.{input, output};
-ghost use Rattle.syntax.specs.Words.{first_mark};
+ghost use Rattle.syntax.specs.Terms.{input, output, Mark};
+ghost use Rattle.syntax.specs.Words.{first_mark, mark_number};
 ghost use Rattle.mode_rules.specs.Modes.{open_byte, list_of, if_marked, first_open, ground_marked, open_input, open_output};
 ghost use Rattle.mode_marks.specs.Tables.{TermAt, MarkedAt, JudgedAt};
 ghost use Rattle.mode_marks.specs.Answers.{checked_of, groundness_of};
 ghost use Rattle.mode_arguments.specs.Answers.{first_open_of};
 
 use mode_flags::Known;
-use mode_marks::Checked;
 use mode_marks::marks::name_at;
-use mode_marks::terms::{Groundness, ground_term, ground_test};
+use mode_marks::terms::{ground_term, ground_test};
 use packed_words::{first_mark, other_marks};
 use syntax::{INPUT, NODE_WORDS, OUTPUT, Refusal};
 use table_words::past;
 
 // The first argument that has a mark and is not ground: its number, and the byte of the first variable in it that is not known ground.
 #[derive(Clone, Copy)]
-pub enum FirstOpen {
-    Nowhere,
-    At { argument: usize, byte: usize },
+pub struct FirstOpen {
+    pub argument: usize,
+    pub byte: usize,
 }
 
 // The ground test of a term whose mark is the lowest of `marks`; with another mark it passes.
-fn marked_test(table: &[u32], p: usize, marks: usize, mark: usize, known: Known) -> Groundness
+fn marked_test(table: &[u32], p: usize, marks: usize, mark: usize, known: Known) -> Option<usize>
     requires { TermAt table.now p }
     ensures { (w : TermAt table.now p) → result ≡ groundness_of (if_marked (eqb (first_mark marks) mark) (open_byte known w.term)) }
 {
     if first_mark(marks) != mark {
-        return Groundness::Ground;
+        return None;
     }
     ground_test(table, p, known)
 }
@@ -45,22 +44,21 @@ fn first_open(
     mark: usize,
     known: Known,
     number: usize,
-) -> FirstOpen
+) -> Option<FirstOpen>
     requires marked_at { MarkedAt table.now p stop marks mark }
     requires stop_in_bounds { number + stop ≤ length table.now + p }
     ensures { (w : MarkedAt table.now p stop marks mark) → result ≡ first_open_of (first_open w.wanted known w.listed (list_of w.terms)
         number) }
 {
     if stop <= p {
-        return FirstOpen::Nowhere;
+        return None;
     }
-    let test = marked_test(table, p, marks, mark, known);
-    match test {
-        Groundness::Open(byte) => FirstOpen::At {
+    match marked_test(table, p, marks, mark, known) {
+        Some(byte) => Some(FirstOpen {
             argument: number,
             byte,
-        },
-        Groundness::Ground => {
+        }),
+        None => {
             let next = past(table, p);
             let rest = other_marks(marks);
             let more = number + 1;
@@ -93,6 +91,24 @@ pub fn ground_marked(
     ground_marked(table, next, stop, rest, mark, known)
 }
 
+// The first argument of an atom that has the mark and is not ground, by the atom's marks.
+fn open_argument(
+    table: &[u32],
+    p: usize,
+    marks: usize,
+    mark: usize,
+    known: Known,
+) -> Option<FirstOpen>
+    requires judged_at { JudgedAt table.now p marks }
+    requires mark_is { (m : Mark) × (mark ≡ mark_number m) }
+    ensures { (w : JudgedAt table.now p marks) (m : Mark) → mark ≡ mark_number m
+        → result ≡ first_open_of (first_open m known w.listed (list_of w.atom.args) 1) }
+{
+    let from = p + NODE_WORDS;
+    let stop = past(table, p);
+    first_open(table, from, stop, marks, mark, known, 1)
+}
+
 // The fault of a call, by its marks: the first + argument that is not ground.
 pub fn call_fault(
     table: &[u32],
@@ -101,53 +117,49 @@ pub fn call_fault(
     known: Known,
     clause: usize,
     literal: usize,
-) -> Checked
+) -> Result<(), Refusal>
     requires { JudgedAt table.now p marks }
     ensures { (w : JudgedAt table.now p marks) → result
         ≡ checked_of (open_input clause literal w.atom (first_open input known w.listed (list_of w.atom.args) 1)) }
 {
-    let from = p + NODE_WORDS;
-    let stop = past(table, p);
-    let found = first_open(table, from, stop, marks, INPUT, known, 1);
-    match found {
-        FirstOpen::Nowhere => Checked::Fine,
-        FirstOpen::At { argument, byte } => {
+    match open_argument(table, p, marks, INPUT, known) {
+        None => Ok(()),
+        Some(found) => {
             let name = name_at(table, p);
-            let at = name.at;
-            let len = name.len;
-            Checked::Fault(Refusal::OpenInput {
-                byte,
+            Err(Refusal::OpenInput {
+                byte: found.byte,
                 clause,
                 literal,
-                argument,
-                at,
-                len,
+                argument: found.argument,
+                at: name.at,
+                len: name.len,
             })
         }
     }
 }
 
 // The fault of a head after its body, by its marks: the first - argument that is not ground.
-pub fn head_fault(table: &[u32], p: usize, marks: usize, known: Known, clause: usize) -> Checked
+pub fn head_fault(
+    table: &[u32],
+    p: usize,
+    marks: usize,
+    known: Known,
+    clause: usize,
+) -> Result<(), Refusal>
     requires { JudgedAt table.now p marks }
     ensures { (w : JudgedAt table.now p marks) → result
         ≡ checked_of (open_output clause w.atom (first_open output known w.listed (list_of w.atom.args) 1)) }
 {
-    let from = p + NODE_WORDS;
-    let stop = past(table, p);
-    let found = first_open(table, from, stop, marks, OUTPUT, known, 1);
-    match found {
-        FirstOpen::Nowhere => Checked::Fine,
-        FirstOpen::At { argument, byte } => {
+    match open_argument(table, p, marks, OUTPUT, known) {
+        None => Ok(()),
+        Some(found) => {
             let name = name_at(table, p);
-            let at = name.at;
-            let len = name.len;
-            Checked::Fault(Refusal::OpenOutput {
-                byte,
+            Err(Refusal::OpenOutput {
+                byte: found.byte,
                 clause,
-                argument,
-                at,
-                len,
+                argument: found.argument,
+                at: name.at,
+                len: name.len,
             })
         }
     }

@@ -2,9 +2,7 @@
 use Prim.Native.Nat.{ℕ, suc, ◌+◌, ◌≤◌, ◌<◌}
 use native.Mathlib.Omega.{arith}
 use mathlib.Core.Path.{◌≡◌, refl, sym, ap, ◌∙◌, subst, subst⁻¹}
-use mathlib.Core.Bool.{Bool, true, false}
 use mathlib.Core.List.{List, [], ◌∷◌, ◌++◌}
-use mathlib.Core.Option.{some}
 use lib.ListN.{length, get_or, length-append}
 use Rattle.syntax.specs.Terms.{Literal, Body, call, equation, truth, falsity, either, done, also, literals_in, literals_of, Declaration}
 use Rattle.syntax.specs.Words.{literal_words, body_words, literal_length, body_length, side_words, side_items, left_kind, right_kind, behind_kind}
@@ -13,40 +11,26 @@ use Rattle.mode_rules.specs.Modes.{Known, Walk, known, walk_on, in_both, literal
 use Rattle.mode_marks.specs.Standing.{BodySpelt, also_stands}
 use Rattle.table_words.specs.Tables.{Has}
 use Rattle.mode_marks.specs.Tables.{LiteralAt, BodyAt}
-use Rattle.mode_marks.specs.Answers.{is_fault}
+use Rattle.std.specs.Prelude.{Result, Ok, Err}
+use Rattle.syntax.specs.declared.Refusal.{Refusal}
 use Rattle.mode_literals.specs.Answers.{walk_by, Passes, PastLiteral, PastBody}
 use Rattle.mode_bodies.specs.Sides.{SideAt}
-use Rattle.mode_marks.specs.declared.Checked.{Checked}
-use Rattle.mode_marks.specs.declared.Checked.TheVariants.{Fine, Fault}
 use Rattle.mode_literals.specs.declared.Passed.{Passed}
 use Rattle.table_words.proofs.Laws.{has_left, has_right, has-inside}
-use Rattle.mode_marks.proofs.Places.{numbered}
-use Rattle.mode_literals.proofs.Literals.{View, view_truth, view_falsity, view_call, view_equation, view_either, view}
+use Rattle.mode_literals.proofs.Literals.{passes-ok, passes-err, View, view_truth, view_falsity, view_call, view_equation, view_either, view}
 
 -- ---- answers
 
-stays_by : (f : Checked) (τ : Known) (x : Walk) (rest : Known → Walk) → walk_by f τ ≡ x → is_fault f ≡ true → walk_by f τ ≡ walk_on x rest
+goes_by : {r : Result Passed Refusal} {x : Passed} {w : Walk} (rest : Known → Walk) → walk_by r ≡ w → r ≡ Ok x → walk_on w rest ≡ rest x.known
 unfolding walk_on
-stays_by Fine τ x rest e t = let y : ◌≡◌ {A = ℕ} 0 1 = cc in absurd (omega arith)
-stays_by (Fault r) τ x rest e t = ap (λ (z : Walk). walk_on z rest) e
-
-goes_by : (f : Checked) (τ : Known) (x : Walk) (rest : Known → Walk) → walk_by f τ ≡ x → is_fault f ≡ false → walk_on x rest ≡ rest τ
-unfolding walk_on
-goes_by (Fault r) τ x rest e t = let y : ◌≡◌ {A = ℕ} 0 1 = cc in absurd (omega arith)
-goes_by Fine τ x rest e t = sym (ap (λ (z : Walk). walk_on z rest) e)
-
-not-both : {b : Bool} {A : Type 0} → b ≡ true → b ≡ false → A
-not-both t f = let z : ◌≡◌ {A = Bool} true false = sym t ∙ f in let y : ◌≡◌ {A = ℕ} 0 1 = cc in absurd (omega arith)
+goes_by rest e t = ap (λ (z : Walk). walk_on z rest) (sym e ∙ ap walk_by t)
 
 -- a walk that stops at a fault of its first part
-stopped : {r : Passed} {w : Walk} {next items literal : ℕ} (rest : Known → Walk) → is_fault r.fault ≡ true → Passes r w next items literal
-    → (whole : Walk) → whole ≡ walk_on w rest → (stop all last : ℕ) → Passes r whole stop all last
-stopped {r} {w} rest t p whole e stop all last = record {
-  walk = stays_by r.fault r.known w rest p.walk t ∙ sym e;
-  next_is = λ f. not-both t f;
-  items_are = λ f. not-both t f;
-  literal_is = λ f. not-both t f;
-}
+stopped : {r : Result Passed Refusal} {q : Refusal} {w : Walk} {next items literal : ℕ} (rest : Known → Walk) → r ≡ Err q → Passes r w next items literal
+    → (whole : Walk) → whole ≡ walk_on w rest → (stop all last : ℕ) → Passes (Err q) whole stop all last
+unfolding walk_on
+stopped {r} {q} {w} rest t p whole e stop all last =
+    passes-err q stop all last (ap (λ (z : Walk). walk_on z rest) (ap walk_by (sym t) ∙ p.walk) ∙ sym e)
 
 -- ---- how many literals, items and words
 
@@ -134,8 +118,8 @@ module _ {g table : List ℕ} {p : ℕ} (s : left_kind ≤ get_or table p 0) whe
   abbrev right_of : LiteralAt g table p → Body
   right_of w = (either-at w).right.body
 
-  module _ (ds : List Declaration) (c literal : ℕ) (τ : Known) (l : Passed) (el : (u : SideAt g table p) → PastBody l ds c literal τ (p + 1) u.body) where
-    left-passes : (w : LiteralAt g table p) → PastBody l ds c literal τ (p + 1) (left_of w)
+  module _ (ds : List Declaration) (c literal : ℕ) (τ : Known) {lr : Result Passed Refusal} (el : (u : SideAt g table p) → PastBody lr ds c literal τ (p + 1) u.body) where
+    left-passes : (w : LiteralAt g table p) → PastBody lr ds c literal τ (p + 1) (left_of w)
     left-passes w = el (either-at w).left
 
     from-left : (w : LiteralAt g table p) → literal_walk ds c literal τ w.literal
@@ -144,58 +128,56 @@ module _ {g table : List ℕ} {p : ℕ} (s : left_kind ≤ get_or table p 0) whe
     from-left w = ap (literal_walk ds c literal τ) (either-at w).is
 
     -- the left side has a fault
-    pub left-stops : is_fault l.fault ≡ true → (w : LiteralAt g table p) → PastLiteral l ds c literal τ p w.literal
+    pub left-stops : {q : Refusal} → lr ≡ Err q → (w : LiteralAt g table p) → PastLiteral (Err q) ds c literal τ p w.literal
     left-stops t w = stopped _ t (left-passes w) (literal_walk ds c literal τ w.literal) (from-left w) _ _ _
 
-    module _ (f : is_fault l.fault ≡ false) where
+    module _ {l : Passed} (f : lr ≡ Ok l) where
       -- the right side begins where the left one ends
       pub right-at : LiteralAt g table p → SideAt g table l.next
-      right-at w = subst⁻¹ (SideAt g table) ((left-passes w).next_is f) (either-at w).right
+      right-at w = subst⁻¹ (SideAt g table) ((left-passes w).next_is l f) (either-at w).right
 
       pub right-literal : (w : LiteralAt g table p) → literal ≤ p + 1 → l.literal ≤ l.next + 1
       right-literal w k =
-          let q : PastBody l ds c literal τ (p + 1) (left_of w) = left-passes w in
-          omega (arith, q.next_is f, q.literal_is f, (body-sizes (left_of w)).numbered, (body-sizes (left_of w)).worded)
+          let q : PastBody lr ds c literal τ (p + 1) (left_of w) = left-passes w in
+          omega (arith, q.next_is l f, q.literal_is l f, (body-sizes (left_of w)).numbered, (body-sizes (left_of w)).worded)
 
       pub right-further : LiteralAt g table p → p < l.next
-      right-further w = omega (arith, (left-passes w).next_is f)
+      right-further w = omega (arith, (left-passes w).next_is l f)
 
-      module _ (r : Passed) (er : (u : SideAt g table l.next) → PastBody r ds c l.literal τ (l.next + 1) u.body) where
+      module _ {rr : Result Passed Refusal} (er : (u : SideAt g table l.next) → PastBody rr ds c l.literal τ (l.next + 1) u.body) where
         abbrev RightPasses : LiteralAt g table p → Type 0
-        RightPasses w = PastBody r ds c (literals_of (left_of w) + literal) τ (p + 1 + length (body_words (left_of w)) + 1) (right_of w)
+        RightPasses w = PastBody rr ds c (literals_of (left_of w) + literal) τ (p + 1 + length (body_words (left_of w)) + 1) (right_of w)
 
         abbrev RightAt : ℕ → ℕ → Type 0
-        RightAt next number = (u : SideAt g table next) → PastBody r ds c number τ (next + 1) u.body
+        RightAt next number = (u : SideAt g table next) → PastBody rr ds c number τ (next + 1) u.body
 
         right-passes : (w : LiteralAt g table p) → RightPasses w
         right-passes w =
-            subst (λ (k : ℕ). RightAt (p + 1 + length (body_words (left_of w))) k) ((left-passes w).literal_is f)
-            (subst (λ (k : ℕ). RightAt k l.literal) ((left-passes w).next_is f) er) (either-at w).right
+            subst (λ (k : ℕ). RightAt (p + 1 + length (body_words (left_of w))) k) ((left-passes w).literal_is l f)
+            (subst (λ (k : ℕ). RightAt k l.literal) ((left-passes w).next_is l f) er) (either-at w).right
 
         from-right : (w : LiteralAt g table p) → literal_walk ds c literal τ w.literal
             ≡ walk_on (body_fault ds c (literals_of (left_of w) + literal) τ (right_of w)) (λ ρ. known (in_both l.known ρ))
-        from-right w = from-left w ∙ goes_by l.fault l.known (body_fault ds c literal τ (left_of w)) _ (left-passes w).walk f
+        from-right w = from-left w ∙ goes_by _ (left-passes w).walk f
 
         -- the right side has a fault
-        pub right-stops : is_fault r.fault ≡ true → (w : LiteralAt g table p) → PastLiteral r ds c literal τ p w.literal
+        pub right-stops : {q : Refusal} → rr ≡ Err q → (w : LiteralAt g table p) → PastLiteral (Err q) ds c literal τ p w.literal
         right-stops t w = stopped _ t (right-passes w) (literal_walk ds c literal τ w.literal) (from-right w) _ _ _
 
-        module _ (h : is_fault r.fault ≡ false) where
+        module _ {r : Passed} (h : rr ≡ Ok r) where
           -- neither has one
           pub both-pass : {both : Known} → both ≡ in_both l.known r.known → (w : LiteralAt g table p)
-              → PastLiteral (record { fault = Fine; known = both; next = r.next + 1; items = l.items + r.items + 3; literal = r.literal }) ds c literal τ p w.literal
+              → PastLiteral (Ok (record { known = both; next = r.next + 1; items = l.items + r.items + 3; literal = r.literal })) ds c literal τ p w.literal
           unfolding literal_length literals_in
           both-pass e w =
               let q : EitherAt g table p w.literal = either-at w in
               let k : RightPasses w = right-passes w in
               let items : literal_length w.literal ≡ 3 + (body_length (left_of w) + body_length (right_of w)) = ap literal_length q.is in
               let literals : literals_in w.literal ≡ literals_of (left_of w) + literals_of (right_of w) = ap literals_in q.is in
-              record {
-                walk = ap known e ∙ sym (from-right w ∙ goes_by r.fault r.known _ (λ ρ. known (in_both l.known ρ)) k.walk h);
-                next_is = λ t. omega (arith, k.next_is h, q.words);
-                items_are = λ t. omega (arith, (left-passes w).items_are f, k.items_are h);
-                literal_is = λ t. omega (arith, k.literal_is h);
-              }
+              passes-ok _ (ap known e ∙ sym (from-right w ∙ goes_by (λ ρ. known (in_both l.known ρ)) k.walk h))
+              (omega (arith, k.next_is r h, q.words))
+              (omega (arith, (left-passes w).items_are l f, k.items_are r h))
+              (omega (arith, k.literal_is r h))
 
           pub both-room : (w : LiteralAt g table p) → (r.next < length table) × (l.items + r.items + 3 ≤ length table)
           both-room w =
@@ -203,7 +185,7 @@ module _ {g table : List ℕ} {p : ℕ} (s : left_kind ≤ get_or table p 0) whe
               let k : RightPasses w = right-passes w in
               let a : body_length (left_of w) ≤ length (body_words (left_of w)) = (body-sizes (left_of w)).worded in
               let b : body_length (right_of w) ≤ length (body_words (right_of w)) = (body-sizes (right_of w)).worded in
-              (omega (arith, k.next_is h, q.words, q.room), omega (arith, (left-passes w).items_are f, k.items_are h, q.words, q.room))
+              (omega (arith, k.next_is r h, q.words, q.room), omega (arith, (left-passes w).items_are l f, k.items_are r h, q.words, q.room))
 
 -- a side of a bracket, by the word before it
 module _ {g table : List ℕ} {p items : ℕ} (e : items ≡ side_items (get_or table p 0)) where
@@ -259,18 +241,13 @@ begun w = record { body = w.body; has = w.has; count = omega (arith, w.count); s
 
 module _ {ds : List Declaration} {c : ℕ} {g table : List ℕ} {at i items number : ℕ} {τ : Known} {whole : Walk} {stop last : ℕ} where
   pub walk-ended : {many : ℕ} → items ≡ many → items ≤ i → Ahead ds c g table at i items number τ whole stop last
-      → Passes (record { fault = Fine; known = τ; next = at; items = items; literal = number }) whole stop many last
+      → Passes (Ok (record { known = τ; next = at; items = items; literal = number })) whole stop many last
   unfolding body_fault body_words literals_of
   walk-ended m l a =
       let d : a.body ≡ done = over i items a.body l a.count in
       let none_left : length (body_words a.body) ≡ 0 = ap (λ (b : Body). length (body_words b)) d in
       let no_number : literals_of a.body ≡ 0 = ap literals_of d in
-      record {
-        walk = sym (a.same ∙ ap (body_fault ds c number τ) d);
-        next_is = λ t. omega (arith, a.ends);
-        items_are = λ t. m;
-        literal_is = λ t. omega (arith, a.numbers);
-      }
+      passes-ok _ (sym (a.same ∙ ap (body_fault ds c number τ) d)) (omega (arith, a.ends)) m (omega (arith, a.numbers))
 
   module _ (l : i < items) (a : Ahead ds c g table at i items number τ whole stop last) where
     pub turn : Turn g table at i items a.body
@@ -283,17 +260,17 @@ module _ {ds : List Declaration} {c : ℕ} {g table : List ℕ} {at i items numb
     unfolding body_fault
     whole_is = a.same ∙ ap (body_fault ds c number τ) turn.is
 
-    module _ (w : Passed) (ew : (u : LiteralAt g table at) → PastLiteral w ds c number τ at u.literal) where
-      pub walk-stopped : is_fault w.fault ≡ true → (next count after : ℕ) → Passes w whole next count after
+    module _ {wr : Result Passed Refusal} (ew : (u : LiteralAt g table at) → PastLiteral wr ds c number τ at u.literal) where
+      pub walk-stopped : {q : Refusal} → wr ≡ Err q → (next count after : ℕ) → Passes (Err q) whole next count after
       walk-stopped t next count after = stopped _ t (ew turn.literal) whole whole_is next count after
 
-      module _ (f : is_fault w.fault ≡ false) where
+      module _ {w : Passed} (f : wr ≡ Ok w) where
         -- how far it goes
         pub further-on : (w.next ≡ at + length (literal_words here)) × (w.literal ≡ literals_in here + number)
             × (i < i + w.items) × (i + w.items ≤ items)
         further-on =
-            let q : PastLiteral w ds c number τ at here = ew turn.literal in
-            (q.next_is f, q.literal_is f, omega (arith, q.items_are f, turn.some), omega (arith, q.items_are f, turn.count))
+            let q : PastLiteral wr ds c number τ at here = ew turn.literal in
+            (q.next_is w f, q.literal_is w f, omega (arith, q.items_are w f, turn.some), omega (arith, q.items_are w f, turn.count))
 
         -- the place and the number rise together
         pub rises : number ≤ at + 1 → (w.literal ≤ w.next + 1) × (at ≤ w.next)
@@ -305,20 +282,20 @@ module _ {ds : List Declaration} {c : ℕ} {g table : List ℕ} {at i items numb
         unfolding body_words literals_of
         walk-on =
             let t : Turn g table at i items a.body = turn in
-            let q : PastLiteral w ds c number τ at here = ew t.literal in
+            let q : PastLiteral wr ds c number τ at here = ew t.literal in
             let long : length (literal_words here ++ body_words t.left) ≡ length (literal_words here) + length (body_words t.left) =
             length-append (literal_words here) (body_words t.left) in
             let words : length (body_words a.body) ≡ length (literal_words here ++ body_words t.left) = ap (λ (b : Body). length (body_words b)) t.is in
             let literals : literals_of a.body ≡ literals_in here + literals_of t.left = ap literals_of t.is in
             record {
               body = t.left;
-              has = subst⁻¹ (λ (k : ℕ). Has table k (body_words t.left)) (q.next_is f) t.has;
-              count = omega (arith, t.count, q.items_are f);
+              has = subst⁻¹ (λ (k : ℕ). Has table k (body_words t.left)) (q.next_is w f) t.has;
+              count = omega (arith, t.count, q.items_are w f);
               stands = t.stands;
               same =
                   whole_is
-                  ∙ goes_by w.fault w.known _ (λ σ. body_fault ds c (literals_in here + number) σ t.left) q.walk f
-                  ∙ ap (λ (k : ℕ). body_fault ds c k w.known t.left) (sym (q.literal_is f));
-              ends = omega (arith, q.next_is f, a.ends);
-              numbers = omega (arith, q.literal_is f, a.numbers);
+                  ∙ goes_by (λ σ. body_fault ds c (literals_in here + number) σ t.left) q.walk f
+                  ∙ ap (λ (k : ℕ). body_fault ds c k w.known t.left) (sym (q.literal_is w f));
+              ends = omega (arith, q.next_is w f, a.ends);
+              numbers = omega (arith, q.literal_is w f, a.numbers);
             }

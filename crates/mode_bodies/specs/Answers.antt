@@ -1,7 +1,8 @@
 -- The definition's answer as the code gives it.
-use Rattle.mode_rules.specs.Modes.{Walk, known}
-use Rattle.mode_bodies.specs.declared.BodyWalked.{BodyWalked}
-use Rattle.mode_literals.specs.Answers.{walk_by}
+use Rattle.std.specs.Prelude.{Result, Ok, Err}
+use Rattle.syntax.specs.declared.Refusal.{Refusal}
+use Rattle.mode_rules.specs.Modes.{Known, Walk, known, faulted}
 
-abbrev pub walk_of : BodyWalked → Walk
-walk_of w = walk_by w.fault w.known
+abbrev pub walk_of : Result Known Refusal → Walk
+walk_of (Ok τ) = known τ
+walk_of (Err r) = faulted r

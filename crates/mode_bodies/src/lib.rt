@@ -12,17 +12,9 @@ ghost use Rattle.mode_bodies.specs.Sides.{SideAt};
 
 use mode_flags::{Known, in_both};
 use mode_literals::{Passed, plain_walk};
-use mode_marks::{Checked, is_fault};
 use packed_words::items_of_side;
-use syntax::LEFT_KIND;
+use syntax::{LEFT_KIND, Refusal};
 use table_words::word_at;
-
-// What a walk along a body gives: its first fault, or what is known ground after it.
-#[derive(Clone, Copy)]
-pub struct BodyWalked {
-    pub fault: Checked,
-    pub known: Known,
-}
 
 // The words of a bracket beside its sides': before the left one, before the right one, behind it.
 const BRACKET_WORDS: usize = 3;
@@ -39,7 +31,7 @@ fn literal_walk(
     clause: usize,
     literal: usize,
     known: Known,
-) -> Passed
+) -> Result<Passed, Refusal>
     requires declarations_at { DeclarationsAt s.now declared.now n }
     requires literal_at { LiteralAt g.now table.now p }
     requires literal_bound { literal ≤ p + 1 }
@@ -64,40 +56,23 @@ fn either_walk(
     clause: usize,
     literal: usize,
     known: Known,
-) -> Passed
+) -> Result<Passed, Refusal>
     requires declarations_at { DeclarationsAt s.now declared.now n }
     requires literal_at { LiteralAt g.now table.now p }
     requires left_kind_bound { (left_kind ≤ get_or table.now p 0) × (literal ≤ p + 1) }
     ensures { (d : DeclarationsAt s.now declared.now n) (w : LiteralAt g.now table.now p)
         → PastLiteral result d.list clause literal known p w.literal }
 {
-    let left = side_walk(s, declared, n, g, table, p, clause, literal, known);
-    let first_fault = left.fault;
-    if is_fault(first_fault) {
-        return left;
-    }
+    let left = side_walk(s, declared, n, g, table, p, clause, literal, known)?;
     let middle = left.next;
     let more = left.literal;
-    let one = left.known;
-    let right = side_walk(s, declared, n, g, table, middle, clause, more, known);
-    let second_fault = right.fault;
-    if is_fault(second_fault) {
-        return right;
-    }
-    let other = right.known;
-    let both = in_both(one, other);
-    let stop = right.next;
-    let next = stop + 1;
-    let a = left.items;
-    let b = right.items;
-    let items = a + b + BRACKET_WORDS;
-    Passed {
-        fault: Checked::Fine,
-        known: both,
-        next,
-        items,
+    let right = side_walk(s, declared, n, g, table, middle, clause, more, known)?;
+    Ok(Passed {
+        known: in_both(left.known, right.known),
+        next: right.next + 1,
+        items: left.items + right.items + BRACKET_WORDS,
         literal: right.literal,
-    }
+    })
 }
 
 // A side of a bracket, behind the word before it.
@@ -112,7 +87,7 @@ fn side_walk(
     clause: usize,
     literal: usize,
     known: Known,
-) -> Passed
+) -> Result<Passed, Refusal>
     requires declarations_at { DeclarationsAt s.now declared.now n }
     requires side_at { SideAt g.now table.now p }
     requires literal_bound { literal ≤ p + 1 }
@@ -137,7 +112,7 @@ fn literals_walk(
     clause: usize,
     literal: usize,
     known: Known,
-) -> Passed
+) -> Result<Passed, Refusal>
     requires declarations_at { DeclarationsAt s.now declared.now n }
     requires body_at { BodyAt g.now table.now p items }
     requires literal_bound { literal ≤ p + 1 }
@@ -148,28 +123,23 @@ fn literals_walk(
     let mut i = 0;
     let mut number = literal;
     let mut flags = known;
+    // A bracket is several items, so the count rises by as many as the literal turned out to be: no range or iterator steps so.
     while i < items {
-        let w = literal_walk(s, declared, n, g, table, at, clause, number, flags);
-        let fault = w.fault;
-        if is_fault(fault) {
-            return w;
-        }
-        flags = w.known;
-        at = w.next;
-        number = w.literal;
-        let gone = w.items;
-        i = i + gone;
+        let walked = literal_walk(s, declared, n, g, table, at, clause, number, flags)?;
+        flags = walked.known;
+        at = walked.next;
+        number = walked.literal;
+        i += walked.items;
     }
-    Passed {
-        fault: Checked::Fine,
+    Ok(Passed {
         known: flags,
         next: at,
         items,
         literal: number,
-    }
+    })
 }
 
-// The literals of a body, from number 1 on.
+// The literals of a body, from number 1 on: the first fault, or what is known ground after them.
 pub fn body_walk(
     s: &[u8],
     declared: &[u32],
@@ -180,17 +150,12 @@ pub fn body_walk(
     items: usize,
     clause: usize,
     known: Known,
-) -> BodyWalked
+) -> Result<Known, Refusal>
     requires declarations_at { DeclarationsAt s.now declared.now n }
     requires body_at { BodyAt g.now table.now p items }
     ensures { (d : DeclarationsAt s.now declared.now n) (w : BodyAt g.now table.now p items)
         → walk_of result ≡ body_fault d.list clause 1 known w.body }
 {
-    let r = literals_walk(s, declared, n, g, table, p, items, clause, 1, known);
-    let fault = r.fault;
-    let after = r.known;
-    BodyWalked {
-        fault,
-        known: after,
-    }
+    let walked = literals_walk(s, declared, n, g, table, p, items, clause, 1, known)?;
+    Ok(walked.known)
 }

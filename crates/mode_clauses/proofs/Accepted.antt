@@ -6,7 +6,7 @@ use mathlib.Core.List.{List, [], ◌∷◌}
 use lib.ListN.{length, drop, length-drop, length-append}
 use lib.Seq.{length-take-le}
 use Rattle.syntax.specs.Limits.{variables, word_bytes, declarations}
-use Rattle.syntax.specs.Tokens.{spelling, numeral_kind}
+use Rattle.syntax.specs.Tokens.{spelling, kind_place, numeral_kind}
 use Rattle.syntax.specs.Terms.{Terms, nil, arity, Sheet, Goal}
 use Rattle.syntax.specs.Numerals.{trimmed, dropped}
 use Rattle.syntax.proofs.Numerals.{trimmed-short, trimmed-spelling}
@@ -43,7 +43,7 @@ met-below : {s : List ℕ} {st : Cursor} {i : ℕ} → Reader s st → i < lengt
 met-below r low = omega (arith, r.few)
 
 -- a word at hand is a name of the text
-name-here : {s : List ℕ} {t : Token} → Placed s t → t.kind ≤ numeral_kind → NameAt s t.at (spelling s t.at t.len)
+name-here : {s : List ℕ} {t : Token} → Placed s t → kind_place t.kind ≤ kind_place numeral_kind → NameAt s t.at (spelling s t.at t.len)
 name-here {s} {t} p l =
     let ends : t.at + t.len ≤ length s = placed-ends p in
     let short : t.len ≤ word_bytes = placed-short p l in
@@ -51,7 +51,7 @@ name-here {s} {t} p l =
     record { spelt = ap (spelling s t.at) (sym long); inside = omega arith; short = omega arith }
 
 -- and so is a numeral, without its leading zeros
-numeral-here : {s : List ℕ} {t : Token} → Placed s t → t.kind ≤ numeral_kind → NameAt s (t.at + dropped (spelling s t.at t.len)) (trimmed (spelling s t.at t.len))
+numeral-here : {s : List ℕ} {t : Token} → Placed s t → kind_place t.kind ≤ kind_place numeral_kind → NameAt s (t.at + dropped (spelling s t.at t.len)) (trimmed (spelling s t.at t.len))
 numeral-here {s} {t} p l =
     let ends : t.at + t.len ≤ length s = placed-ends p in
     let short : t.len ≤ word_bytes = placed-short p l in
@@ -84,8 +84,8 @@ kept s =
       without_variables = reader-fresh;
       new-variable = λ r low. stands_variable low;
       old-variable = λ r low. stands_variable (met-below r low);
-      numeral = λ r e. stands_compound {ts = nil} (numeral-here r.placed (omega (arith, e))) (omega arith) stand_nil;
-      named = λ r e h. stands_compound (name-here r.placed (omega (arith, e))) h.1 h.0;
+      numeral = λ r e. stands_compound {ts = nil} (numeral-here r.placed (omega (arith, ap kind_place e))) (omega arith) stand_nil;
+      named = λ r e h. stands_compound (name-here r.placed (omega (arith, ap kind_place e))) h.1 h.0;
       no_terms = (stand_nil, omega arith);
       one_term = λ h hs. (stand_cons h hs.0, omega (arith, hs.1));
       called = λ few low h. call_stands h;
@@ -96,7 +96,7 @@ kept s =
       no_literals = done_stands;
       one_literal = also_stands;
       clause = λ h b r. record { head = h; body = b };
-      declaration = λ r e l. record { name = name-here r.placed (omega (arith, e)); few = l };
+      declaration = λ r e l. record { name = name-here r.placed (omega (arith, ap kind_place e)); few = l };
       no_items = (record { declarations = no_declarations; clauses = no_clauses }, omega arith);
       one_declaration = λ d h. (record { declarations = declaration_stands d h.0.declarations; clauses = h.0.clauses }, omega (arith, h.1));
       one_clause = λ c h. (record { declarations = h.0.declarations; clauses = clause_stands c h.0.clauses }, h.1);

@@ -1,8 +1,6 @@
 -- Laws of clauses, sheets and goals in a table, one for each way out of the functions. Assumes nothing.
 use Prim.Native.Nat.{ℕ, suc, ◌+◌}
-use native.Mathlib.Omega.{arith}
 use mathlib.Core.Path.{◌≡◌, refl, sym, ap, ◌∙◌}
-use mathlib.Core.Bool.{true, false}
 use mathlib.Core.List.{List, [], ◌∷◌}
 use mathlib.Core.Option.{Option, none, some}
 use lib.ListN.{length, get_or}
@@ -11,12 +9,9 @@ use Rattle.syntax.specs.Words.{term_words, mark_number, marks_number}
 use Rattle.syntax.specs.declared.Refusal.{Refusal}
 use Rattle.mode_rules.specs.Modes.{Known, none_ground, marks_for, list_of, first_open, ground_marked, open_output, undeclared_body, undeclared_in_goal, start_known, head_fault, clause_fault, clauses_fault, goal_fault, walk_fault, Walk, body_fault}
 use Rattle.mode_marks.specs.Tables.{TermAt, MarkedAt, JudgedAt, DeclarationsAt, AtomAt, BodyAt, ClauseAt, ClausesAt, SheetAt, GoalAt}
-use Rattle.mode_marks.specs.Answers.{checked_of, is_fault}
-use Rattle.mode_literals.specs.Answers.{walk_by}
+use Rattle.std.specs.Prelude.{Result, Ok, Err}
+use Rattle.mode_marks.specs.Answers.{Checked, checked_of}
 use Rattle.mode_bodies.specs.Answers.{walk_of}
-use Rattle.mode_marks.specs.declared.Checked.{Checked}
-use Rattle.mode_marks.specs.declared.Checked.TheVariants.{Fine, Fault}
-use Rattle.mode_bodies.specs.declared.BodyWalked.{BodyWalked}
 use Rattle.mode_arguments.proofs.Judging.{judged-marked}
 use Rattle.mode_literals.proofs.Literals.{judged-at}
 use Rattle.mode_undeclared.proofs.Faults.{fault-stays, fine-goes}
@@ -24,16 +19,14 @@ use Rattle.mode_undeclared.proofs.Clauses.{head-at, body_at}
 
 -- ---- refusals 9 and 10 of a clause
 
-stopped_by : (ds : List Declaration) (c : ℕ) (h : Atom) (f : Checked) (τ : Known) (x : Walk) → walk_by f τ ≡ x → is_fault f ≡ true → f ≡ checked_of (head_fault ds c h x)
+stopped_by : (ds : List Declaration) (c : ℕ) (h : Atom) {w : Result Known Refusal} {r : Refusal} {x : Walk} → walk_of w ≡ x → w ≡ Err r → Err r ≡ checked_of (head_fault ds c h x)
 unfolding head_fault
-stopped_by ds c h Fine τ x e t = let y : ◌≡◌ {A = ℕ} 0 1 = cc in absurd (omega arith)
-stopped_by ds c h (Fault r) τ x e t = ap (λ (z : Walk). checked_of (head_fault ds c h z)) e
+stopped_by ds c h e t = ap (λ (z : Walk). checked_of (head_fault ds c h z)) (ap walk_of (sym t) ∙ e)
 
-passed-by : (ds : List Declaration) (c : ℕ) (h : Atom) (f : Checked) (τ : Known) (x : Walk) → walk_by f τ ≡ x → is_fault f ≡ false
+passed-by : (ds : List Declaration) (c : ℕ) (h : Atom) {w : Result Known Refusal} {τ : Known} {x : Walk} → walk_of w ≡ x → w ≡ Ok τ
     → checked_of (open_output c h (first_open output τ (marks_for ds h) (list_of h.args) 1)) ≡ checked_of (head_fault ds c h x)
 unfolding head_fault
-passed-by ds c h Fine τ x e t = ap (λ (z : Walk). checked_of (head_fault ds c h z)) e
-passed-by ds c h (Fault r) τ x e t = let y : ◌≡◌ {A = ℕ} 0 1 = cc in absurd (omega arith)
+passed-by ds c h e t = ap (λ (z : Walk). checked_of (head_fault ds c h z)) (ap walk_of (sym t) ∙ e)
 
 module _ (s declared : List ℕ) (n : ℕ) (table : List ℕ) (p c marks : ℕ)
     (em : (d : DeclarationsAt s declared n) (w : AtomAt s table (p + 3)) → marks ≡ marks_number (marks_for d.list w.atom))
@@ -45,22 +38,22 @@ module _ (s declared : List ℕ) (n : ℕ) (table : List ℕ) (p c marks : ℕ)
   head-marked m d w = judged-marked table (p + 3) marks first e1 m (head-judged d w)
 
   module _ (start : Known) (es : (u : MarkedAt table (p + 3 + 3) first marks 1) → start ≡ ground_marked u.wanted u.listed (list_of u.terms) none_ground)
-      (w : BodyWalked) (ew : (d : DeclarationsAt s declared n) (b : BodyAt s table first literals) → walk_of w ≡ body_fault d.list c 1 start b.body) where
+      (w : Result Known Refusal) (ew : (d : DeclarationsAt s declared n) (b : BodyAt s table first literals) → walk_of w ≡ body_fault d.list c 1 start b.body) where
     walked : (d : DeclarationsAt s declared n) (u : ClauseAt s table p) → walk_of w ≡ body_fault d.list c 1 (start_known d.list u.clause.head) u.clause.body
     unfolding start_known
     walked d u =
         ew d (body_at s table p literals el first e1 u)
         ∙ ap (λ (τ : Known). body_fault d.list c 1 τ u.clause.body) (es (head-marked input d u))
 
-    pub clause-stopped : is_fault w.fault ≡ true → (d : DeclarationsAt s declared n) (u : ClauseAt s table p) → w.fault ≡ checked_of (clause_fault d.list c u.clause)
+    pub clause-stopped : {r : Refusal} → w ≡ Err r → (d : DeclarationsAt s declared n) (u : ClauseAt s table p) → Err r ≡ checked_of (clause_fault d.list c u.clause)
     unfolding clause_fault
-    clause-stopped t d u = stopped_by d.list c u.clause.head w.fault w.known _ (walked d u) t
+    clause-stopped t d u = stopped_by d.list c u.clause.head (walked d u) t
 
-    pub clause-passed : is_fault w.fault ≡ false → (r : Checked)
-        → ((j : JudgedAt table (p + 3) marks) → r ≡ checked_of (open_output c j.atom (first_open output w.known j.listed (list_of j.atom.args) 1)))
+    pub clause-passed : {τ : Known} → w ≡ Ok τ → {r : Checked}
+        → ((j : JudgedAt table (p + 3) marks) → r ≡ checked_of (open_output c j.atom (first_open output τ j.listed (list_of j.atom.args) 1)))
         → (d : DeclarationsAt s declared n) (u : ClauseAt s table p) → r ≡ checked_of (clause_fault d.list c u.clause)
     unfolding clause_fault
-    clause-passed t r h d u = h (head-judged d u) ∙ passed-by d.list c u.clause.head w.fault w.known _ (walked d u) t
+    clause-passed t h d u = h (head-judged d u) ∙ passed-by d.list c u.clause.head (walked d u) t
 
 -- ---- the clauses in turn
 
@@ -87,21 +80,24 @@ goal-declarations w = record { list = w.sheet.declarations; has = w.has_declarat
 abbrev pub goal-body : {s declared : List ℕ} {n : ℕ} {g table : List ℕ} {literals : ℕ} → GoalAt s declared n g table literals → BodyAt g table 0 literals
 goal-body w = record { body = w.goal.body; has = w.has_body; count = w.literals_count; stands = w.stands }
 
-walked-fault : (f : Checked) (τ : Known) (x : Walk) → walk_by f τ ≡ x → f ≡ checked_of (walk_fault x)
-unfolding walk_fault
-walked-fault Fine τ x e = ap (λ (z : Walk). checked_of (walk_fault z)) e
-walked-fault (Fault r) τ x e = ap (λ (z : Walk). checked_of (walk_fault z)) e
-
-module _ (s declared : List ℕ) (n : ℕ) (g table : List ℕ) (literals : ℕ) (f : Checked)
+module _ (s declared : List ℕ) (n : ℕ) (g table : List ℕ) (literals : ℕ) {f : Checked}
     (ef : (d : DeclarationsAt s declared n) (w : BodyAt g table 0 literals) → f ≡ checked_of (undeclared_body d.list 0 1 w.body)) where
-  pub goal-undeclared : is_fault f ≡ true → (w : GoalAt s declared n g table literals) → f ≡ checked_of (goal_fault w.sheet w.goal)
+  pub goal-undeclared : {r : Refusal} → f ≡ Err r → (w : GoalAt s declared n g table literals) → Err r ≡ checked_of (goal_fault w.sheet w.goal)
   unfolding goal_fault undeclared_in_goal
   goal-undeclared t w =
-      fault-stays (undeclared_in_goal w.sheet w.goal) (walk_fault (body_fault w.sheet.declarations 0 1 none_ground w.goal.body)) f (ef (goal-declarations w) (goal-body w)) t
+      fault-stays (undeclared_in_goal w.sheet w.goal) (walk_fault (body_fault w.sheet.declarations 0 1 none_ground w.goal.body)) (ef (goal-declarations w) (goal-body w)) t
 
-  pub goal-walked : is_fault f ≡ false → (r : BodyWalked) → ((d : DeclarationsAt s declared n) (w : BodyAt g table 0 literals) → walk_of r ≡ body_fault d.list 0 1 none_ground w.body)
-      → (w : GoalAt s declared n g table literals) → r.fault ≡ checked_of (goal_fault w.sheet w.goal)
-  unfolding goal_fault undeclared_in_goal
-  goal-walked t r h w =
-      walked-fault r.fault r.known _ (h (goal-declarations w) (goal-body w))
-      ∙ sym (ap checked_of (fine-goes (undeclared_in_goal w.sheet w.goal) (walk_fault (body_fault w.sheet.declarations 0 1 none_ground w.goal.body)) f (ef (goal-declarations w) (goal-body w)) t))
+  module _ (t : f ≡ Ok tt) (r : Result Known Refusal) (h : (d : DeclarationsAt s declared n) (w : BodyAt g table 0 literals) → walk_of r ≡ body_fault d.list 0 1 none_ground w.body) where
+    goal-walk : (w : GoalAt s declared n g table literals) → checked_of (walk_fault (walk_of r)) ≡ checked_of (goal_fault w.sheet w.goal)
+    unfolding goal_fault undeclared_in_goal
+    goal-walk w =
+        ap (λ (z : Walk). checked_of (walk_fault z)) (h (goal-declarations w) (goal-body w))
+        ∙ sym (ap checked_of (fine-goes (undeclared_in_goal w.sheet w.goal) (walk_fault (body_fault w.sheet.declarations 0 1 none_ground w.goal.body)) (ef (goal-declarations w) (goal-body w)) t))
+
+    pub goal-stopped : {q : Refusal} → r ≡ Err q → (w : GoalAt s declared n g table literals) → Err q ≡ checked_of (goal_fault w.sheet w.goal)
+    unfolding walk_fault
+    goal-stopped e w = sym (ap (λ (x : Result Known Refusal). checked_of (walk_fault (walk_of x))) e) ∙ goal-walk w
+
+    pub goal-walked : {τ : Known} → r ≡ Ok τ → (w : GoalAt s declared n g table literals) → Ok tt ≡ checked_of (goal_fault w.sheet w.goal)
+    unfolding walk_fault
+    goal-walked e w = sym (ap (λ (x : Result Known Refusal). checked_of (walk_fault (walk_of x))) e) ∙ goal-walk w

@@ -7,8 +7,7 @@ ghost use Rattle.mode_marks.specs.Answers.{checked_of};
 use mode_arguments::{ground_marked, head_fault};
 use mode_bodies::body_walk;
 use mode_marks::marks::marks_of;
-use mode_marks::{Checked, is_fault};
-use syntax::{CLAUSE_START, INPUT, NODE_WORDS, VARIABLES};
+use syntax::{CLAUSE_START, INPUT, NODE_WORDS, Refusal, VARIABLES};
 use table_words::{CLAUSE_ITEMS, past, past_clause, word_at};
 
 // One clause: the first fault along its body, then that of its head.
@@ -19,7 +18,7 @@ fn clause_fault(
     table: &[u32],
     p: usize,
     clause: usize,
-) -> Checked
+) -> Result<(), Refusal>
     requires declarations_at { DeclarationsAt s.now declared.now n }
     requires clause_at { ClauseAt s.now table.now p }
     ensures { (d : DeclarationsAt s.now declared.now n) (w : ClauseAt s.now table.now p) → result
@@ -31,32 +30,27 @@ fn clause_fault(
     let from = head + NODE_WORDS;
     let first = past(table, head);
     let start = ground_marked(table, from, first, marks, INPUT, [false; VARIABLES]);
-    let w = body_walk(s, declared, n, s, table, first, items, clause, start);
-    let fault = w.fault;
-    if is_fault(fault) {
-        return fault;
-    }
-    let known = w.known;
+    let known = body_walk(s, declared, n, s, table, first, items, clause, start)?;
     head_fault(table, head, marks, known, clause)
 }
 
 // The first fault of the clauses in turn.
-pub fn clauses_fault(s: &[u8], declared: &[u32], n: usize, table: &[u32], clauses: usize) -> Checked
+pub fn clauses_fault(
+    s: &[u8],
+    declared: &[u32],
+    n: usize,
+    table: &[u32],
+    clauses: usize,
+) -> Result<(), Refusal>
     requires declarations_at { DeclarationsAt s.now declared.now n }
     requires clauses_at { ClausesAt s.now table.now 0 clauses }
     ensures { (d : DeclarationsAt s.now declared.now n) (w : ClausesAt s.now table.now 0 clauses) → result
         ≡ checked_of (clauses_fault d.list 1 w.list) }
 {
     let mut at = 0;
-    let mut i = 0;
-    while i < clauses {
-        let number = i + 1;
-        let fault = clause_fault(s, declared, n, table, at, number);
-        if is_fault(fault) {
-            return fault;
-        }
+    for i in 0..clauses {
+        clause_fault(s, declared, n, table, at, i + 1)?;
         at = past_clause(table, at);
-        i = number;
     }
-    Checked::Fine
+    Ok(())
 }

@@ -10,9 +10,8 @@ ghost use Rattle.mode_marks.specs.Tables.{GoalAt};
 ghost use Rattle.mode_marks.specs.Answers.{checked_of};
 
 use mode_bodies::body_walk;
-use mode_marks::{Checked, is_fault};
 use mode_undeclared::undeclared_body;
-use syntax::VARIABLES;
+use syntax::{Refusal, VARIABLES};
 
 // Refusals 8 and 9 of a goal whose items stand in the table, by the sheet's `n` declarations.
 pub fn check_goal(
@@ -22,15 +21,12 @@ pub fn check_goal(
     g: &[u8],
     table: &[u32],
     items: usize,
-) -> Checked
+) -> Result<(), Refusal>
     requires { GoalAt s.now declared.now n g.now table.now items }
     ensures { (w : GoalAt s.now declared.now n g.now table.now items)
         → result ≡ checked_of (goal_fault w.sheet w.goal) }
 {
-    let fault = undeclared_body(s, declared, n, g, table, 0, items, 0, 0);
-    if is_fault(fault) {
-        return fault;
-    }
-    let w = body_walk(s, declared, n, g, table, 0, items, 0, [false; VARIABLES]);
-    w.fault
+    undeclared_body(s, declared, n, g, table, 0, items, 0, 0)?;
+    body_walk(s, declared, n, g, table, 0, items, 0, [false; VARIABLES])?;
+    Ok(())
 }

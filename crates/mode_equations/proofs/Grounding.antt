@@ -1,8 +1,7 @@
 -- Laws of the test of a side of an equation and of one with a variable, one for each way out of the functions. Assumes nothing.
 use Prim.Native.Nat.{ℕ}
-use native.Mathlib.Omega.{arith}
 use mathlib.Core.Path.{◌≡◌, refl, sym, ap, ap₂, ◌∙◌}
-use mathlib.Core.Bool.{Bool, true, false, ◌||◌}
+use mathlib.Core.Bool.{Bool, true, false, not, ◌||◌}
 use mathlib.Core.List.{List}
 use mathlib.Core.Option.{Option, none, some}
 use Rattle.syntax.specs.Terms.{Term}
@@ -10,25 +9,22 @@ use Rattle.mode_rules.specs.Modes.{Known, is_ground, open_byte, ground_term, gro
 use Rattle.mode_rules.proofs.Terms.{is_none, ground-none}
 use Rattle.mode_marks.specs.Tables.{TermAt}
 use Rattle.mode_marks.specs.Answers.{groundness_of}
-use Rattle.mode_marks.specs.declared.terms.Groundness.{Groundness}
-use Rattle.mode_marks.specs.declared.terms.Groundness.TheVariants.{Ground, Open}
+use Rattle.std.specs.Prelude.{Option as Groundness}
+use Rattle.std.specs.Prelude.{is_some, is_none as is_closed}
 
 -- ---- yes or no
 
-module _ (table : List ℕ) (p : ℕ) (τ : Known) (g : Groundness) (eg : (w : TermAt table p) → g ≡ groundness_of (open_byte τ w.term)) where
-  pub test-yes : g ≡ Ground → (w : TermAt table p) → true ≡ is_ground τ w.term
-  test-yes e w = by (open_byte τ w.term) (sym (eg w) ∙ e) ∙ sym (ground-none τ w.term)
-    where
-      by : (o : Option ℕ) → groundness_of o ≡ Ground → true ≡ is_none o
-      by none h = refl
-      by (some b) h = let z : ◌≡◌ {A = ℕ} 0 1 = cc in absurd (omega arith)
+pub test-is : (table : List ℕ) (p : ℕ) (τ : Known) {g : Groundness ℕ} → ((w : TermAt table p) → g ≡ groundness_of (open_byte τ w.term)) → {r : Bool} → is_some g ≡ not r
+    → (w : TermAt table p) → r ≡ is_ground τ w.term
+test-is table p τ {g} eg {r} er w = twice r ∙ ap not (sym er) ∙ ap (λ (o : Groundness ℕ). is_closed o) (eg w) ∙ by (open_byte τ w.term) ∙ sym (ground-none τ w.term)
+  where
+    twice : (b : Bool) → b ≡ not (not b)
+    twice true = refl
+    twice false = refl
 
-  pub test-no : (b : ℕ) → g ≡ Open b → (w : TermAt table p) → false ≡ is_ground τ w.term
-  test-no b e w = by (open_byte τ w.term) (sym (eg w) ∙ e) ∙ sym (ground-none τ w.term)
-    where
-      by : (o : Option ℕ) → groundness_of o ≡ Open b → false ≡ is_none o
-      by none h = let z : ◌≡◌ {A = ℕ} 0 1 = cc in absurd (omega arith)
-      by (some i) h = refl
+    by : (o : Option ℕ) → is_closed (groundness_of o) ≡ is_none o
+    by none = refl
+    by (some b) = refl
 
 -- ---- an equation with a variable
 

@@ -9,7 +9,7 @@ ghost use Rattle.mode_marks.specs.Tables.{TermAt, PairAt, PairsAt};
 ghost use Rattle.mode_equations.specs.Functors.{same_functor};
 
 use mode_flags::{Known, further};
-use mode_marks::terms::{Groundness, ground_term, ground_test};
+use mode_marks::terms::{ground_term, ground_test};
 use packed_words::length_of;
 use syntax::{FIRST_NAME, NODE_WORDS, VARIABLES};
 use table_words::{past, word_at};
@@ -20,11 +20,7 @@ fn is_ground(table: &[u32], p: usize, known: Known) -> bool
     requires { TermAt table.now p }
     ensures { (w : TermAt table.now p) → result ≡ is_ground known w.term }
 {
-    let test = ground_test(table, p, known);
-    match test {
-        Groundness::Ground => true,
-        Groundness::Open(_) => false,
-    }
+    ground_test(table, p, known).is_none()
 }
 
 // The effect of an equation with a variable on either side.
@@ -103,6 +99,7 @@ fn go_over(s: &[u8], table: &[u32], p: usize, q: usize, known: Known) -> Known
     ensures { (w : PairAt s.now table.now p q) → result ≡ settle w.left w.right known }
 {
     let mut flags = known;
+    // How many passes there are is known only from what they leave, so no range or iterator counts them.
     loop {
         let after = equate(s, table, p, q, flags);
         if !further(flags, after) {

@@ -1,32 +1,61 @@
 -- Laws of literals in a table that are no brackets, one for each way out of the functions. Assumes nothing.
 use Prim.Native.Nat.{ℕ, zero, suc, ◌+◌, ◌≤◌, ◌<◌}
 use native.Mathlib.Omega.{arith}
-use mathlib.Core.Path.{◌≡◌, refl, sym, ap, ap₂, ◌∙◌, subst, subst⁻¹}
+use mathlib.Core.Path.{◌≡◌, refl, sym, ap, ◌∙◌, subst, subst⁻¹}
 use mathlib.Core.List.{List, ◌++◌}
 use mathlib.Core.Option.{Option, none, some}
 use lib.ListN.{length, get_or, length-append}
 use Rattle.syntax.specs.Terms.{Term, Atom, term_of, Literal, Body, call, equation, truth, falsity, either, literals_in, input, output, Declaration}
 use Rattle.syntax.specs.Words.{term_words, atom_words, literal_words, literal_length, body_length, marker, marks_number, truth_kind, falsity_kind, call_kind, equation_kind, left_kind}
 use Rattle.syntax.specs.declared.Refusal.{Refusal}
-use Rattle.mode_rules.specs.Modes.{Known, everything, marks_for, list_of, first_open, ground_marked, settle, open_input, known, unless_fault, call_walk, literal_walk}
+use Rattle.mode_rules.specs.Modes.{Known, everything, marks_for, list_of, first_open, ground_marked, settle, open_input, Walk, faulted, known, unless_fault, call_walk, literal_walk}
 use Rattle.mode_marks.specs.Standing.{TermSpelt, LiteralSpelt, call_stands, equation_stands, either_stands, BodySpelt}
 use Rattle.table_words.specs.Tables.{Has}
 use Rattle.mode_marks.specs.Tables.{TermAt, PairAt, MarkedAt, JudgedAt, DeclarationsAt, AtomAt, LiteralAt}
-use Rattle.mode_marks.specs.Answers.{checked_of}
-use Rattle.mode_literals.specs.Answers.{walk_by, Passes, PastLiteral}
-use Rattle.mode_marks.specs.declared.Checked.{Checked}
-use Rattle.mode_marks.specs.declared.Checked.TheVariants.{Fine}
+use Rattle.std.specs.Prelude.{Result, Ok, Err}
+use Rattle.mode_marks.specs.Answers.{Checked, checked_of}
+use Rattle.mode_literals.specs.Answers.{Passes, PastLiteral}
 use Rattle.mode_literals.specs.declared.Passed.{Passed}
 use Rattle.table_words.proofs.Laws.{has_left, has_right}
 use Rattle.mode_marks.proofs.Places.{numbered, all-numbered}
 use Rattle.mode_marks.proofs.Marking.{in-text}
 use Rattle.mode_arguments.proofs.Judging.{judged-marked}
 
--- a call's fault and what is known after it, as the walk has them
-pub walk_is : (o : Option Refusal) (f : Checked) (τ σ : Known) → f ≡ checked_of o → τ ≡ σ → walk_by f τ ≡ unless_fault o σ
+-- ---- answers
+
+-- a walk that meets no fault, and one that does
+pub passes-ok : (x : Passed) {w : Walk} {next items literal : ℕ} → known x.known ≡ w → x.next ≡ next → x.items ≡ items → x.literal ≡ literal → Passes (Ok x) w next items literal
+passes-ok x e n i l = record {
+  walk = e;
+  next_is = λ y q. let z : x ≡ y = same q in ap (λ (u : Passed). u.next) (sym z) ∙ n;
+  items_are = λ y q. let z : x ≡ y = same q in ap (λ (u : Passed). u.items) (sym z) ∙ i;
+  literal_is = λ y q. let z : x ≡ y = same q in ap (λ (u : Passed). u.literal) (sym z) ∙ l;
+}
+  where
+    same : {y : Passed} → ◌≡◌ {A = Result Passed Refusal} (Ok x) (Ok y) → x ≡ y
+    same q = cc
+
+pub passes-err : (r : Refusal) {w : Walk} (next items literal : ℕ) → faulted r ≡ w → Passes (Err r) w next items literal
+passes-err r next items literal e = record {
+  walk = e;
+  next_is = λ x q. no q;
+  items_are = λ x q. no q;
+  literal_is = λ x q. no q;
+}
+  where
+    no : {A : Type 0} {x : Passed} → ◌≡◌ {A = Result Passed Refusal} (Err r) (Ok x) → A
+    no q = let y : ◌≡◌ {A = ℕ} 0 1 = cc in absurd (omega arith)
+
+-- a call's fault, or what is known after it, as the walk has them
+call-faulted : (o : Option Refusal) {f : Checked} {r : Refusal} (σ : Known) → f ≡ checked_of o → f ≡ Err r → faulted r ≡ unless_fault o σ
 unfolding unless_fault
-walk_is none f τ σ e es = ap₂ walk_by e es
-walk_is (some r) f τ σ e es = ap (λ (x : Checked). walk_by x τ) e
+call-faulted none {f} {r} σ e t = let z : ◌≡◌ {A = Checked} (Ok tt) (Err r) = sym e ∙ t in let y : ◌≡◌ {A = ℕ} 0 1 = cc in absurd (omega arith)
+call-faulted (some q) {f} {r} σ e t = let z : ◌≡◌ {A = Checked} (Err r) (Err q) = sym t ∙ e in let y : r ≡ q = cc in ap faulted y
+
+call-passes : (o : Option Refusal) {f : Checked} {τ σ : Known} → f ≡ checked_of o → f ≡ Ok tt → τ ≡ σ → known τ ≡ unless_fault o σ
+unfolding unless_fault
+call-passes none e t es = ap known es
+call-passes (some q) e t es = let z : ◌≡◌ {A = Checked} (Ok tt) (Err q) = sym t ∙ e in let y : ◌≡◌ {A = ℕ} 0 1 = cc in absurd (omega arith)
 
 -- ---- literals
 
@@ -90,10 +119,10 @@ plain_by s (view_either q h ky kz) = absurd (omega arith)
 
 plain_passes : {g table : List ℕ} {p : ℕ} (s : get_or table p 0 < left_kind) (ds : List Declaration) (c m : ℕ) (τ σ : Known) {next : ℕ} (w : LiteralAt g table p)
     → known σ ≡ literal_walk ds c m τ w.literal → next ≡ p + length (literal_words w.literal)
-    → PastLiteral (record { fault = Fine; known = σ; next = next; items = 1; literal = m + 1 }) ds c m τ p w.literal
+    → PastLiteral (Ok (record { known = σ; next = next; items = 1; literal = m + 1 })) ds c m τ p w.literal
 plain_passes s ds c m τ σ w e n =
     let q : Plain w.literal = plain_by s (view w) in
-    record { walk = e; next_is = λ t. n; items_are = λ t. sym q.one-item; literal_is = λ t. omega (arith, q.one_literal) }
+    passes-ok _ e n (sym q.one-item) (omega (arith, q.one_literal))
 
 module _ {g table : List ℕ} {p : ℕ} (kind : ℕ) (e : kind ≡ get_or table p 0) (most : get_or table p 0 < left_kind) where
   truth-by : {l : Literal} → kind ≡ truth_kind → View g table p l → l ≡ truth
@@ -132,20 +161,20 @@ module _ {g table : List ℕ} {p : ℕ} (kind : ℕ) (e : kind ≡ get_or table 
   -- ---- the walk past it
   module _ (ds : List Declaration) (c m : ℕ) (τ : Known) where
     pub walked-truth : kind ≡ truth_kind → (w : LiteralAt g table p)
-        → PastLiteral (record { fault = Fine; known = τ; next = p + 1; items = 1; literal = m + 1 }) ds c m τ p w.literal
+        → PastLiteral (Ok (record { known = τ; next = p + 1; items = 1; literal = m + 1 })) ds c m τ p w.literal
     unfolding literal_walk literal_words
     walked-truth k w =
         let one : length (literal_words w.literal) ≡ 1 = ap (λ (x : Literal). length (literal_words x)) (truth-is k w) in
         plain_passes most ds c m τ τ w (sym (ap (literal_walk ds c m τ) (truth-is k w))) (omega arith)
 
     pub walked-falsity : kind ≡ falsity_kind → (w : LiteralAt g table p)
-        → PastLiteral (record { fault = Fine; known = everything; next = p + 1; items = 1; literal = m + 1 }) ds c m τ p w.literal
+        → PastLiteral (Ok (record { known = everything; next = p + 1; items = 1; literal = m + 1 })) ds c m τ p w.literal
     unfolding literal_walk literal_words
     walked-falsity k w =
         let one : length (literal_words w.literal) ≡ 1 = ap (λ (x : Literal). length (literal_words x)) (falsity-is k w) in
         plain_passes most ds c m τ everything w (sym (ap (literal_walk ds c m τ) (falsity-is k w))) (omega arith)
 
-    pub walked_call : kind ≡ call_kind → (r : Passed)
+    pub walked_call : kind ≡ call_kind → (r : Result Passed Refusal)
         → ((a : AtomAt g table (p + 1)) → Passes r (call_walk ds c m τ a.atom) (p + 1 + length (atom_words a.atom)) 1 (m + 1))
         → (w : LiteralAt g table p) → PastLiteral r ds c m τ p w.literal
     unfolding literal_walk literal_words
@@ -155,9 +184,9 @@ module _ {g table : List ℕ} {p : ℕ} (kind : ℕ) (e : kind ≡ get_or table 
         let words : length (literal_words w.literal) ≡ suc (length (atom_words q.atom.atom)) = ap (λ (x : Literal). length (literal_words x)) q.is in
         record {
           walk = (h q.atom).walk ∙ sym (ap (literal_walk ds c m τ) q.is);
-          next_is = λ t. omega (arith, (h q.atom).next_is t);
-          items_are = λ t. (h q.atom).items_are t ∙ sym one.one-item;
-          literal_is = λ t. omega (arith, (h q.atom).literal_is t, one.one_literal);
+          next_is = λ x t. omega (arith, (h q.atom).next_is x t);
+          items_are = λ x t. (h q.atom).items_are x t ∙ sym one.one-item;
+          literal_is = λ x t. omega (arith, (h q.atom).literal_is x t, one.one_literal);
         }
 
   module _ (least : call_kind ≤ kind) where
@@ -200,7 +229,7 @@ module _ {g table : List ℕ} {p : ℕ} (kind : ℕ) (e : kind ≡ get_or table 
 
         pub walked-equation : (ds : List Declaration) (c m : ℕ) (τ after : Known) → ((u : PairAt g table (p + 1) next) → after ≡ settle u.left u.right τ)
             → {stop : ℕ} → ((u : TermAt table next) → stop ≡ next + length (term_words u.term)) → (w : LiteralAt g table p)
-            → PastLiteral (record { fault = Fine; known = after; next = stop; items = 1; literal = m + 1 }) ds c m τ p w.literal
+            → PastLiteral (Ok (record { known = after; next = stop; items = 1; literal = m + 1 })) ds c m τ p w.literal
         unfolding literal_walk literal_words
         walked-equation ds c m τ after h {stop} b w =
             let q : EquationAt g table p w.literal = equation-at w in
@@ -228,21 +257,21 @@ module _ (s declared : List ℕ) (n : ℕ) (g table : List ℕ) (p marks : ℕ)
     number = em d w;
   }
 
-  pub walked-fault : (τ : Known) (c l : ℕ) (f : Checked)
-      → ((u : JudgedAt table p marks) → f ≡ checked_of (open_input c l u.atom (first_open input τ u.listed (list_of u.atom.args) 1)))
-      → (stop : ℕ) → ((u : TermAt table p) → stop ≡ p + length (term_words u.term)) → (after : Known)
-      → ((u : MarkedAt table (p + 3) stop marks 2) → after ≡ ground_marked u.wanted u.listed (list_of u.terms) τ)
-      → (d : DeclarationsAt s declared n) (w : AtomAt g table p)
-      → Passes (record { fault = f; known = after; next = stop; items = 1; literal = l + 1 }) (call_walk d.list c l τ w.atom) (p + length (atom_words w.atom)) 1 (l + 1)
-  unfolding call_walk
-  walked-fault τ c l f ef stop es after h d w = record {
-    walk =
-        walk_is _ f after (ground_marked output (marks_for d.list w.atom) (list_of w.atom.args) τ) (ef (judged-at d w))
-        (h (judged-marked table p marks stop es output (judged-at d w)));
-    next_is = λ t. es (record { term = term_of w.atom; has = w.has; numbered = numbered w.stands });
-    items_are = λ t. refl;
-    literal_is = λ t. refl;
-  }
+  module _ (τ : Known) (c l : ℕ) {f : Checked}
+      (ef : (u : JudgedAt table p marks) → f ≡ checked_of (open_input c l u.atom (first_open input τ u.listed (list_of u.atom.args) 1))) where
+    pub walked-fault : {r : Refusal} → f ≡ Err r → (d : DeclarationsAt s declared n) (w : AtomAt g table p)
+        → Passes (Err r) (call_walk d.list c l τ w.atom) (p + length (atom_words w.atom)) 1 (l + 1)
+    unfolding call_walk
+    walked-fault {r} e d w = passes-err r _ _ _ (call-faulted _ (ground_marked output (marks_for d.list w.atom) (list_of w.atom.args) τ) (ef (judged-at d w)) e)
+
+    pub walked-past : f ≡ Ok tt → (stop : ℕ) → ((u : TermAt table p) → stop ≡ p + length (term_words u.term)) → (after : Known)
+        → ((u : MarkedAt table (p + 3) stop marks 2) → after ≡ ground_marked u.wanted u.listed (list_of u.terms) τ)
+        → (d : DeclarationsAt s declared n) (w : AtomAt g table p)
+        → Passes (Ok (record { known = after; next = stop; items = 1; literal = l + 1 })) (call_walk d.list c l τ w.atom) (p + length (atom_words w.atom)) 1 (l + 1)
+    unfolding call_walk
+    walked-past e stop es after h d w =
+        passes-ok _ (call-passes _ (ef (judged-at d w)) e (h (judged-marked table p marks stop es output (judged-at d w))))
+        (es (record { term = term_of w.atom; has = w.has; numbered = numbered w.stands })) refl refl
 
 -- a first word that is neither 0 nor 1
 pub at_least : (kind : ℕ) → (kind ≡ truth_kind → ⊥) → (kind ≡ falsity_kind → ⊥) → call_kind ≤ kind

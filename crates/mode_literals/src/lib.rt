@@ -11,16 +11,14 @@ ghost use Rattle.mode_literals.specs.Answers.{Passes, PastLiteral};
 use mode_arguments::{call_fault, ground_marked};
 use mode_equations::settle;
 use mode_flags::Known;
-use mode_marks::Checked;
 use mode_marks::marks::marks_of;
-use syntax::{CALL_KIND, FALSITY_KIND, NODE_WORDS, OUTPUT, TRUTH_KIND, VARIABLES};
+use syntax::{CALL_KIND, FALSITY_KIND, NODE_WORDS, OUTPUT, Refusal, TRUTH_KIND, VARIABLES};
 use table_words::{past, word_at};
 
-// What a walk along a part of a body gives: its first fault, or what is known ground after it; and for what goes on behind it, where there is no
-// fault, the place past the part, how many items it is, and the number of the next literal.
+// What a walk along a part of a body gives where it meets no fault: what is known ground after it, the place past the part, how many items it is,
+// and the number of the next literal.
 #[derive(Clone, Copy)]
 pub struct Passed {
-    pub fault: Checked,
     pub known: Known,
     pub next: usize,
     pub items: usize,
@@ -38,7 +36,7 @@ fn call_walk(
     clause: usize,
     literal: usize,
     known: Known,
-) -> Passed
+) -> Result<Passed, Refusal>
     requires declarations_at { DeclarationsAt s.now declared.now n }
     requires atom_at { AtomAt g.now table.now p }
     requires literal_le_p { literal ≤ p }
@@ -49,15 +47,13 @@ fn call_walk(
     let from = p + NODE_WORDS;
     let stop = past(table, p);
     let after = ground_marked(table, from, stop, marks, OUTPUT, known);
-    let fault = call_fault(table, p, marks, known, clause, literal);
-    let more = literal + 1;
-    Passed {
-        fault,
+    call_fault(table, p, marks, known, clause, literal)?;
+    Ok(Passed {
         known: after,
         next: stop,
         items: 1,
-        literal: more,
-    }
+        literal: literal + 1,
+    })
 }
 
 // A literal that is no bracket. A literal takes a word or more, so its number is at most its place and one.
@@ -71,7 +67,7 @@ pub fn plain_walk(
     clause: usize,
     literal: usize,
     known: Known,
-) -> Passed
+) -> Result<Passed, Refusal>
     requires declarations_at { DeclarationsAt s.now declared.now n }
     requires literal_at { LiteralAt g.now table.now p }
     requires p_bound { (get_or table.now p 0 < left_kind) × (literal ≤ p + 1) }
@@ -82,22 +78,20 @@ pub fn plain_walk(
     let q = p + 1;
     let more = literal + 1;
     if kind == TRUTH_KIND {
-        return Passed {
-            fault: Checked::Fine,
+        return Ok(Passed {
             known,
             next: q,
             items: 1,
             literal: more,
-        };
+        });
     }
     if kind == FALSITY_KIND {
-        return Passed {
-            fault: Checked::Fine,
+        return Ok(Passed {
             known: [true; VARIABLES],
             next: q,
             items: 1,
             literal: more,
-        };
+        });
     }
     if kind == CALL_KIND {
         return call_walk(s, declared, n, g, table, q, clause, literal, known);
@@ -105,11 +99,10 @@ pub fn plain_walk(
     let right = past(table, q);
     let next = past(table, right);
     let after = settle(g, table, q, right, known);
-    Passed {
-        fault: Checked::Fine,
+    Ok(Passed {
         known: after,
         next,
         items: 1,
         literal: more,
-    }
+    })
 }

@@ -5,8 +5,7 @@ use mathlib.Core.List.{List, [], ◌∷◌, map}
 use Rattle.syntax.specs.Quote.{bytes}
 use Rattle.syntax.specs.Terms.{same_bytes}
 use Rattle.mode_lookup.specs.declared.Lookup.{Lookup}
-use Rattle.mode_lookup.specs.declared.Lookup.TheVariants.{Found, Missing}
-use Rattle.mode_lookup.specs.Searching.{matches, look_from, look_up, stored_entries, whole_entries}
+use Rattle.mode_lookup.specs.Searching.{matches, found, missing, look_from, look_up, stored_entries, whole_entries}
 
 -- the lent words, the name and its number of arguments
 record Case : Type 0 where
@@ -31,7 +30,7 @@ cases =
     ∷ []
 
 answers : List Lookup
-answers = Found 0 1 ∷ Found 1 2 ∷ Missing 2 ∷ Found 1 2 ∷ Found 2 3 ∷ Found 1 2 ∷ Missing 1 ∷ Missing 1 ∷ Missing 0 ∷ []
+answers = found 0 ∷ found 1 ∷ missing 2 ∷ found 1 ∷ found 2 ∷ found 1 ∷ missing 1 ∷ missing 1 ∷ missing 0 ∷ []
 
 cases-agree : map (λ (c : Case). look_up (bytes "abcab") c.name c.arguments (whole_entries c.words)) cases ≡ answers
 unfolding cases answers case matches look_from stored_entries same_bytes

@@ -6,10 +6,10 @@ use mathlib.Core.Path.{◌≡◌, refl, subst, subst⁻¹}
 use mathlib.Core.Bool.{Bool, true, false}
 use mathlib.Core.List.{List, [], ◌∷◌}
 use lib.ListN.{length, get_or}
+use Rattle.std.specs.Prelude.{Option, Some, None}
 use Rattle.syntax.specs.declared.Entry.{Entry}
 use Rattle.mode_lookup.specs.declared.Lookup.{Lookup}
-use Rattle.mode_lookup.specs.declared.Lookup.TheVariants.{Found, Missing}
-use Rattle.mode_lookup.specs.Searching.{matches, look_from, look_up, IsFirst, IsNone, Says}
+use Rattle.mode_lookup.specs.Searching.{matches, look_from, look_up, IsFirst, IsNone, SaysOf, Says}
 use Rattle.mode_lookup.proofs.Laws.{look-by}
 
 module _ (text name : List ℕ) (n : ℕ) where
@@ -24,23 +24,26 @@ module _ (text name : List ℕ) (n : ℕ) where
     is : IsNone text name n es (length es)
     count : compared ≡ k + length es
 
+  abbrev SaysFromOf : ℕ → List Entry → Option ℕ → ℕ → Type 0
+  SaysFromOf k es (Some place) compared = FirstFrom k es place compared
+  SaysFromOf k es None compared = NoneFrom k es compared
+
   abbrev SaysFrom : ℕ → List Entry → Lookup → Type 0
-  SaysFrom k es (Found place compared) = FirstFrom k es place compared
-  SaysFrom k es (Missing compared) = NoneFrom k es compared
+  SaysFrom k es r = SaysFromOf k es r.place r.compared
 
   later : (e : Entry) (es : List Entry) → matches text name n e ≡ false → (m : ℕ) → ((d : Entry) (j : ℕ) → j < m → matches text name n (get_or es j d) ≡ false)
       → (d : Entry) (j : ℕ) → j < suc m → matches text name n (get_or (e ∷ es) j d) ≡ false
   later e es h m before d zero l = h
   later e es h m before d (suc j) l = before d j (omega arith)
 
-  on : (k : ℕ) (e : Entry) (es : List Entry) (r : Lookup) → matches text name n e ≡ false → SaysFrom (suc k) es r → SaysFrom k (e ∷ es) r
-  on k e es (Found place compared) h w = record {
+  on : (k : ℕ) (e : Entry) (es : List Entry) (o : Option ℕ) (compared : ℕ) → matches text name n e ≡ false → SaysFromOf (suc k) es o compared → SaysFromOf k (e ∷ es) o compared
+  on k e es (Some place) compared h w = record {
     offset = suc w.offset;
     place_is = omega (arith, w.place_is);
     is = record { inside = omega (arith, w.is.inside); found = w.is.found; first = later e es h w.offset w.is.first; count = refl };
     count = w.count;
   }
-  on k e es (Missing compared) h w = record {
+  on k e es None compared h w = record {
     is = record { none = later e es h (length es) w.is.none; count = refl };
     count = omega (arith, w.count);
   }
@@ -54,19 +57,19 @@ module _ (text name : List ℕ) (n : ℕ) where
         is = record { inside = omega arith; found = λ d. h; first = λ d j l. absurd (omega arith); count = refl };
         count = refl;
       }
-  step k e es false h w = subst⁻¹ (SaysFrom k (e ∷ es)) (look-by text name n k e es false h) (on k e es (look_from text name n (suc k) es) h w)
+  step k e es false h w = subst⁻¹ (SaysFrom k (e ∷ es)) (look-by text name n k e es false h) (on k e es (look_from text name n (suc k) es).place (look_from text name n (suc k) es).compared h w)
 
   says-from : (k : ℕ) (es : List Entry) → SaysFrom k es (look_from text name n k es)
   unfolding look_from
   says-from k [] = record { is = record { none = λ d j l. absurd (omega arith); count = refl }; count = omega arith }
   says-from k (e ∷ es) = step k e es _ refl (says-from (suc k) es)
 
-  from_start : (es : List Entry) (r : Lookup) → SaysFrom 0 es r → Says text name n es r
-  from_start es (Found place compared) w =
+  from_start : (es : List Entry) (o : Option ℕ) (compared : ℕ) → SaysFromOf 0 es o compared → SaysOf text name n es o compared
+  from_start es (Some place) compared w =
       let o : w.offset ≡ place = omega (arith, w.place_is) in
       let f : IsFirst text name n es place (suc place) = subst (λ (i : ℕ). IsFirst text name n es i (suc i)) o w.is in
       record { inside = f.inside; found = f.found; first = f.first; count = w.count }
-  from_start es (Missing compared) w = record { none = w.is.none; count = omega (arith, w.count) }
+  from_start es None compared w = record { none = w.is.none; count = omega (arith, w.count) }
 
   pub look-up-says : (es : List Entry) → Says text name n es (look_up text name n es)
-  look-up-says es = from_start es (look_up text name n es) (says-from 0 es)
+  look-up-says es = from_start es (look_up text name n es).place (look_up text name n es).compared (says-from 0 es)

@@ -1,5 +1,5 @@
 -- Laws of the search, one for each way out of the functions. Assumes nothing.
-use Prim.Native.Nat.{ℕ, zero, suc, ◌+◌, ◌-◌, ◌*◌, ◌/◌, ◌≤◌, ◌<◌}
+use Prim.Native.Nat.{ℕ, zero, suc, ◌+◌, ◌-◌, ◌*◌, ◌≤◌, ◌<◌}
 use native.Mathlib.Numerals.{add-one}
 use native.Mathlib.Omega.{arith}
 use mathlib.Core.Path.{◌≡◌, refl, sym, ap, ap₂, ◌∙◌}
@@ -14,9 +14,9 @@ use Rattle.syntax.specs.Terms.{same_bytes, same_predicate}
 use Rattle.syntax.specs.Tokens.{spelling}
 use Rattle.syntax.specs.Words.{declaration_size}
 use Rattle.syntax.specs.declared.Entry.{Entry}
+use Rattle.std.specs.Prelude.{Some}
 use Rattle.mode_lookup.specs.declared.Lookup.{Lookup}
-use Rattle.mode_lookup.specs.declared.Lookup.TheVariants.{Found, Missing}
-use Rattle.mode_lookup.specs.Searching.{matches, look_from, look_up, stored_entry, stored_entries}
+use Rattle.mode_lookup.specs.Searching.{matches, found, missing, look_from, look_up, stored_entry, stored_entries}
 
 -- ---- a name at a place
 
@@ -122,72 +122,70 @@ module _ (text entries g : List ℕ) (p at len arguments bytes : ℕ) (eb : byte
 -- ---- the search
 
 pub look-by : (text name : List ℕ) (n k : ℕ) (e : Entry) (es : List Entry) (b : Bool) → matches text name n e ≡ b
-    → look_from text name n k (e ∷ es) ≡ elim b as (λ _. Lookup) [ true ↦ Found k (suc k) | false ↦ look_from text name n (suc k) es ]
+    → look_from text name n k (e ∷ es) ≡ elim b as (λ _. Lookup) [ true ↦ found k | false ↦ look_from text name n (suc k) es ]
 unfolding look_from
-look-by text name n k e es b h = ap (λ (t : Bool). elim t as (λ _. Lookup) [ true ↦ Found k (suc k) | false ↦ look_from text name n (suc k) es ]) h
+look-by text name n k e es b h = ap (λ (t : Bool). elim t as (λ _. Lookup) [ true ↦ found k | false ↦ look_from text name n (suc k) es ]) h
 
--- what is left of the search from the entry on whose words stand at p
-pub record Rest (text entries : List ℕ) (n : ℕ) (name : List ℕ) (arguments p : ℕ) : Type 0 where
-  pub index : ℕ
+-- a place, and how many entries were compared
+abbrev answer : ℕ → ℕ → Lookup
+answer i k = record { place = Some i; compared = k }
+
+-- what is left of the search from entry i on
+pub record Rest (text entries : List ℕ) (n : ℕ) (name : List ℕ) (arguments i : ℕ) : Type 0 where
   pub left : ℕ
-  pub place : p ≡ index * declaration_size
-  pub count : n ≡ index + left
-  pub same : look_up text name arguments (stored_entries entries 0 n) ≡ look_from text name arguments index (stored_entries entries p left)
+  pub count : n ≡ i + left
+  pub same : look_up text name arguments (stored_entries entries 0 n) ≡ look_from text name arguments i (stored_entries entries (i * declaration_size) left)
 
 pub rest-first : {text entries : List ℕ} {n : ℕ} {name : List ℕ} {arguments : ℕ} → Rest text entries n name arguments 0
-rest-first {text} {entries} {n} = record { index = 0; left = n; place = refl; count = omega arith; same = refl }
+rest-first {text} {entries} {n} = record { left = n; count = omega arith; same = refl }
 
-module _ {text entries : List ℕ} {n : ℕ} {name : List ℕ} {arguments p : ℕ} where
-  pub rest-room : p < n * declaration_size → Rest text entries n name arguments p → p + declaration_size ≤ n * declaration_size
-  rest-room l r = omega (arith, r.place)
-
-  none_left : n * declaration_size ≤ p → (r : Rest text entries n name arguments p) (left : ℕ) → r.left ≡ left → Missing n ≡ look_up text name arguments (stored_entries entries 0 n)
+module _ {text entries : List ℕ} {n : ℕ} {name : List ℕ} {arguments i : ℕ} where
+  none_left : n ≤ i → (r : Rest text entries n name arguments i) (left : ℕ) → r.left ≡ left → missing n ≡ look_up text name arguments (stored_entries entries 0 n)
   unfolding look_from stored_entries
   none_left l r zero e =
-      let k : n ≡ r.index = omega (arith, r.count) in
-      ap Missing k ∙ sym (r.same ∙ ap (λ (m : ℕ). look_from text name arguments r.index (stored_entries entries p m)) e)
-  none_left l r (suc left) e = absurd (omega (arith, r.count, r.place))
+      let k : n ≡ i = omega (arith, r.count) in
+      ap missing k ∙ sym (r.same ∙ ap (λ (m : ℕ). look_from text name arguments i (stored_entries entries (i * declaration_size) m)) e)
+  none_left l r (suc left) e = absurd (omega (arith, r.count))
 
-  pub rest-missing : n * declaration_size ≤ p → Rest text entries n name arguments p → Missing n ≡ look_up text name arguments (stored_entries entries 0 n)
+  pub rest-missing : n ≤ i → Rest text entries n name arguments i → missing n ≡ look_up text name arguments (stored_entries entries 0 n)
   rest-missing l r = none_left l r r.left refl
 
   -- with one entry at least left, the search looks at it
-  record Turn (r : Rest text entries n name arguments p) : Type 0 where
+  record Turn (r : Rest text entries n name arguments i) : Type 0 where
     others : ℕ
-    count : n ≡ r.index + suc others
+    count : n ≡ i + suc others
     same : look_up text name arguments (stored_entries entries 0 n)
-        ≡ look_from text name arguments r.index (stored_entry entries p ∷ stored_entries entries (p + declaration_size) others)
+        ≡ look_from text name arguments i (stored_entry entries (i * declaration_size) ∷ stored_entries entries (i * declaration_size + declaration_size) others)
 
-  turn_by : p < n * declaration_size → (r : Rest text entries n name arguments p) (left : ℕ) → r.left ≡ left → Turn r
+  turn_by : i < n → (r : Rest text entries n name arguments i) (left : ℕ) → r.left ≡ left → Turn r
   unfolding stored_entries
-  turn_by l r zero e = absurd (omega (arith, r.count, r.place))
+  turn_by l r zero e = absurd (omega (arith, r.count))
   turn_by l r (suc others) e = record {
     others = others;
     count = omega (arith, r.count);
-    same = r.same ∙ ap (λ (m : ℕ). look_from text name arguments r.index (stored_entries entries p m)) e;
+    same = r.same ∙ ap (λ (m : ℕ). look_from text name arguments i (stored_entries entries (i * declaration_size) m)) e;
   }
 
-  turn : p < n * declaration_size → (r : Rest text entries n name arguments p) → Turn r
+  turn : i < n → (r : Rest text entries n name arguments i) → Turn r
   turn l r = turn_by l r r.left refl
 
-  module _ (l : p < n * declaration_size) {b : Bool} (eb : b ≡ matches text name arguments (stored_entry entries p)) where
-    pub rest_found : b ≡ true → Rest text entries n name arguments p
-        → Found (p / declaration_size) (p / declaration_size + 1) ≡ look_up text name arguments (stored_entries entries 0 n)
+  module _ (l : i < n) {b : Bool} (eb : b ≡ matches text name arguments (stored_entry entries (i * declaration_size))) where
+    pub rest_found : b ≡ true → Rest text entries n name arguments i → record { place = Some i; compared = i + 1 } ≡ look_up text name arguments (stored_entries entries 0 n)
     rest_found t r =
         let w : Turn r = turn l r in
-        let i : p / declaration_size ≡ r.index = omega (arith, r.place) in
-        ap₂ Found i (ap (λ (k : ℕ). k + 1) i ∙ add-one r.index)
-        ∙ sym (w.same ∙ look-by text name arguments r.index (stored_entry entries p) (stored_entries entries (p + declaration_size) w.others) true (sym eb ∙ t))
+        ap (answer i) (add-one i)
+        ∙ sym (w.same ∙ look-by text name arguments i (stored_entry entries (i * declaration_size)) (stored_entries entries (i * declaration_size + declaration_size) w.others) true (sym eb ∙ t))
 
-    pub rest_on : b ≡ false → Rest text entries n name arguments p → Rest text entries n name arguments (p + declaration_size)
+    pub rest_on : b ≡ false → Rest text entries n name arguments i → Rest text entries n name arguments (i + 1)
     rest_on f r =
         let w : Turn r = turn l r in
+        let next : i * declaration_size + declaration_size ≡ (i + 1) * declaration_size = omega arith in
         record {
-          index = suc r.index;
           left = w.others;
-          place = omega (arith, r.place);
           count = omega (arith, w.count);
-          same = w.same ∙ look-by text name arguments r.index (stored_entry entries p) (stored_entries entries (p + declaration_size) w.others) false (sym eb ∙ f);
+          same =
+              w.same ∙ look-by text name arguments i (stored_entry entries (i * declaration_size)) (stored_entries entries (i * declaration_size + declaration_size) w.others) false (sym eb ∙ f)
+              ∙ ap₂ (λ (k p : ℕ). look_from text name arguments k (stored_entries entries p w.others)) (sym (add-one i)) next;
         }
 
 -- a whole name is its own spelling

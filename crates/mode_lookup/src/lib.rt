@@ -14,9 +14,9 @@ use texts::same_bytes;
 
 // The place of the first match among the entries, from 0 on, and how many entries were compared, it included; or none, and how many there are.
 #[derive(Clone, Copy)]
-pub enum Lookup {
-    Found { place: usize, compared: usize },
-    Missing { compared: usize },
+pub struct Lookup {
+    pub place: Option<usize>,
+    pub compared: usize,
 }
 
 // Whether the `len` bytes of `g` from `at` on stand in the text at a place, which may be any number: no sum of place and length is taken before both
@@ -86,17 +86,19 @@ pub fn look_among(
     requires len_in_bounds { at + len ≤ length g.now }
     ensures { result ≡ look_up text.now (spelling g.now at len) arguments (stored_entries entries.now 0 n) }
 {
-    let stop = n * DECLARATION_SIZE;
-    let mut p = 0;
-    while p < stop {
+    for i in 0..n {
+        let p = i * DECLARATION_SIZE;
         if is_match(text, entries, p, g, at, len, arguments) {
-            let place = p / DECLARATION_SIZE;
-            let compared = place + 1;
-            return Lookup::Found { place, compared };
+            return Lookup {
+                place: Some(i),
+                compared: i + 1,
+            };
         }
-        p += DECLARATION_SIZE;
     }
-    Lookup::Missing { compared: n }
+    Lookup {
+        place: None,
+        compared: n,
+    }
 }
 
 // The search for the predicate of a name and a number of arguments among as many entries as are whole in the lent words, four words an

@@ -13,8 +13,7 @@ use Rattle.table_words.specs.Tables.{Has}
 use Rattle.table_words.proofs.Laws.{node}
 use Rattle.mode_marks.specs.Tables.{TermAt, TermsAt}
 use Rattle.mode_marks.specs.Answers.{groundness_of}
-use Rattle.mode_marks.specs.declared.terms.Groundness.{Groundness}
-use Rattle.mode_marks.specs.declared.terms.Groundness.TheVariants.{Ground, Open}
+use Rattle.std.specs.Prelude.{Option as Groundness, Some, None}
 use Rattle.mode_marks.proofs.Places.{Opened, opened, none_left, Parted, parted}
 
 -- ---- one term
@@ -34,19 +33,19 @@ module _ (table : List ℕ) (p : ℕ) (τ : Known) (v : ℕ) (e : v ≡ get_or t
   tested : v < first_name → (w : TermAt table p) → open_unless (get_or τ v false) (get_or table (p + 2) 0) ≡ open_byte τ w.term
   tested l w = ap (λ (k : ℕ). open_unless (get_or τ k false) (get_or table (p + 2) 0)) e ∙ test_by table p τ w.term w.has (omega arith)
 
-  pub variable-ground : v < first_name → get_or τ v false ≡ true → (w : TermAt table p) → Ground ≡ groundness_of (open_byte τ w.term)
+  pub variable-ground : v < first_name → get_or τ v false ≡ true → (w : TermAt table p) → None ≡ groundness_of (open_byte τ w.term)
   unfolding open_unless
   variable-ground l k w = sym (ap (λ (b : Bool). groundness_of (open_unless b (get_or table (p + 2) 0))) k) ∙ ap groundness_of (tested l w)
 
-  pub variable-open : v < first_name → get_or τ v false ≡ false → (byte : ℕ) → byte ≡ get_or table (p + 2) 0 → (w : TermAt table p) → Open byte ≡ groundness_of (open_byte τ w.term)
+  pub variable-open : v < first_name → get_or τ v false ≡ false → (byte : ℕ) → byte ≡ get_or table (p + 2) 0 → (w : TermAt table p) → Some byte ≡ groundness_of (open_byte τ w.term)
   unfolding open_unless
-  variable-open l k byte eb w = ap Open eb ∙ sym (ap (λ (b : Bool). groundness_of (open_unless b (get_or table (p + 2) 0))) k) ∙ ap groundness_of (tested l w)
+  variable-open l k byte eb w = ap Some eb ∙ sym (ap (λ (b : Bool). groundness_of (open_unless b (get_or table (p + 2) 0))) k) ∙ ap groundness_of (tested l w)
 
   pub stored : v < first_name → (w : TermAt table p) → set τ v true ≡ ground_term w.term τ
   stored l w = ap (λ (k : ℕ). set τ k true) e ∙ stored-by table p τ w.term w.has (omega arith)
 
   module _ (stop : ℕ) (l : first_name ≤ v) (s : (w : TermAt table p) → stop ≡ p + length (term_words w.term)) where
-    pub test-inner : (g : Groundness) → ((u : TermsAt table (p + 3) stop) → g ≡ groundness_of (open_byte_of τ u.terms)) → (w : TermAt table p) → g ≡ groundness_of (open_byte τ w.term)
+    pub test-inner : (g : Groundness ℕ) → ((u : TermsAt table (p + 3) stop) → g ≡ groundness_of (open_byte_of τ u.terms)) → (w : TermAt table p) → g ≡ groundness_of (open_byte τ w.term)
     unfolding open_byte
     test-inner g h w =
         let o : Opened table p stop w.term = opened v stop e l w (s w) in
@@ -61,16 +60,16 @@ module _ (table : List ℕ) (p : ℕ) (τ : Known) (v : ℕ) (e : v ≡ get_or t
 -- ---- lists of terms
 
 -- the first of two tests that finds an open variable
-then-open : (o p : Option ℕ) (b : ℕ) → groundness_of o ≡ Open b → groundness_of (elim o as (λ _. Option ℕ) [ none ↦ p | some i ↦ some i ]) ≡ groundness_of o
+then-open : (o p : Option ℕ) (b : ℕ) → groundness_of o ≡ Some b → groundness_of (elim o as (λ _. Option ℕ) [ none ↦ p | some i ↦ some i ]) ≡ groundness_of o
 then-open none p b e = let z : ◌≡◌ {A = ℕ} 0 1 = cc in absurd (omega arith)
 then-open (some i) p b e = refl
 
-then-rest : (o p : Option ℕ) → groundness_of o ≡ Ground → groundness_of (elim o as (λ _. Option ℕ) [ none ↦ p | some i ↦ some i ]) ≡ groundness_of p
+then-rest : (o p : Option ℕ) → groundness_of o ≡ None → groundness_of (elim o as (λ _. Option ℕ) [ none ↦ p | some i ↦ some i ]) ≡ groundness_of p
 then-rest none p e = refl
 then-rest (some i) p e = let z : ◌≡◌ {A = ℕ} 0 1 = cc in absurd (omega arith)
 
 module _ (table : List ℕ) (p stop : ℕ) (τ : Known) where
-  pub none-tested : stop ≤ p → (w : TermsAt table p stop) → Ground ≡ groundness_of (open_byte_of τ w.terms)
+  pub none-tested : stop ≤ p → (w : TermsAt table p stop) → None ≡ groundness_of (open_byte_of τ w.terms)
   unfolding open_byte
   none-tested l w = sym (ap (λ (ts : Terms). groundness_of (open_byte_of τ ts)) (none_left l w))
 
@@ -79,7 +78,7 @@ module _ (table : List ℕ) (p stop : ℕ) (τ : Known) where
   none-stored l w = sym (ap (λ (ts : Terms). ground_terms ts τ) (none_left l w))
 
   module _ (l : p < stop) where
-    pub first-open : (g : Groundness) → ((u : TermAt table p) → g ≡ groundness_of (open_byte τ u.term)) → (b : ℕ) → g ≡ Open b → (w : TermsAt table p stop) → g ≡ groundness_of (open_byte_of τ w.terms)
+    pub first-open : (g : Groundness ℕ) → ((u : TermAt table p) → g ≡ groundness_of (open_byte τ u.term)) → (b : ℕ) → g ≡ Some b → (w : TermsAt table p stop) → g ≡ groundness_of (open_byte_of τ w.terms)
     unfolding open_byte
     first-open g h b f w =
         let q : Parted table p stop w.terms = parted l w in
@@ -96,7 +95,7 @@ module _ (table : List ℕ) (p stop : ℕ) (τ : Known) where
       moved P h w =
           subst (λ (k : ℕ). (u : TermsAt table k stop) → P u.terms) (n (parted l w).first) h (parted l w).rest
 
-      pub rest-tested : (g : Groundness) → ((u : TermAt table p) → g ≡ groundness_of (open_byte τ u.term)) → g ≡ Ground → (r : Groundness) → ((u : TermsAt table next stop) → r ≡ groundness_of (open_byte_of τ u.terms)) → (w : TermsAt table p stop) → r ≡ groundness_of (open_byte_of τ w.terms)
+      pub rest-tested : (g : Groundness ℕ) → ((u : TermAt table p) → g ≡ groundness_of (open_byte τ u.term)) → g ≡ None → (r : Groundness ℕ) → ((u : TermsAt table next stop) → r ≡ groundness_of (open_byte_of τ u.terms)) → (w : TermsAt table p stop) → r ≡ groundness_of (open_byte_of τ w.terms)
       unfolding open_byte
       rest-tested g h f r k w =
           let q : Parted table p stop w.terms = parted l w in

@@ -3,7 +3,7 @@ use Rattle.std.specs.Prelude.{ℕ, ◌+◌, ◌≤◌, ◌<◌, ◌≡◌, List,
 use Rattle.syntax.specs.Terms.{Term, Terms, variable, compound, nil, cons, arity, Atom, term_of, Literal, Body, call, equation, truth, falsity, either, done}
 use Rattle.syntax.specs.Terms.{also, Declaration, Clause, Sheet, Goal}
 use Rattle.syntax.specs.Tokens.{spelling}
-use Rattle.syntax.specs.Limits.{variables, arguments, word_bytes, declarations}
+use Rattle.syntax.specs.Limits.{variables, arguments, word_bytes}
 
 -- a name is the text's bytes at its place, no more of them than a name may have
 pub record NameAt (s : List ℕ) (at : ℕ) (name : List ℕ) : Type 0 where

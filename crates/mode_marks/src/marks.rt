@@ -1,5 +1,5 @@
 // The declaration of a predicate, and its marks.
-ghost use Rattle.std.specs.Prelude.{◌≡◌, true, ◌+◌, ◌≤◌, ◌<◌, length};
+ghost use Rattle.std.specs.Prelude.{◌≡◌, true, ◌+◌, ◌≤◌, length, is_some};
 ghost use Rattle.syntax.specs.Tokens.{spelling};
 ghost use Rattle.syntax.specs.Terms.{arity};
 ghost use Rattle.syntax.specs.Words.{marks_number};
@@ -7,8 +7,7 @@ ghost use Rattle.mode_rules.specs.Modes.{marks_for, undeclared_atom};
 ghost use Rattle.mode_marks.specs.Tables.{DeclarationsAt, AtomAt, NamedAt};
 ghost use Rattle.mode_marks.specs.Answers.{checked_of, atom_name, position};
 
-use crate::Checked;
-use mode_lookup::{Lookup, is_match, look_among};
+use mode_lookup::{is_match, look_among};
 use packed_words::{arity_of, length_of};
 use syntax::{DECLARATION_SIZE, Refusal};
 use table_words::word_at;
@@ -35,7 +34,7 @@ pub fn name_at(table: &[u32], p: usize) -> Name
     }
 }
 
-// The search for a predicate's declaration: which of the `n` it is, or `n` where there is none.
+// The search for a predicate's declaration: which of the `n` it is.
 pub fn find(
     s: &[u8],
     declared: &[u32],
@@ -44,19 +43,23 @@ pub fn find(
     at: usize,
     len: usize,
     arguments: usize,
-) -> usize
+) -> Option<usize>
     requires declarations_at { DeclarationsAt s.now declared.now n }
     requires len_in_bounds { at + len ≤ length g.now }
     ensures { (w : DeclarationsAt s.now declared.now n) → result ≡ position w.list (spelling g.now at len) arguments }
 {
-    match look_among(s, declared, n, g, at, len, arguments) {
-        Lookup::Found { place, compared: _ } => place,
-        Lookup::Missing { compared } => compared,
-    }
+    look_among(s, declared, n, g, at, len, arguments).place
 }
 
 // The same for the predicate of the atom at a place.
-pub fn find_atom(s: &[u8], declared: &[u32], n: usize, g: &[u8], table: &[u32], p: usize) -> usize
+pub fn find_atom(
+    s: &[u8],
+    declared: &[u32],
+    n: usize,
+    g: &[u8],
+    table: &[u32],
+    p: usize,
+) -> Option<usize>
     requires declarations_at { DeclarationsAt s.now declared.now n }
     requires atom_at { AtomAt g.now table.now p }
     ensures { (d : DeclarationsAt s.now declared.now n) (w : AtomAt g.now table.now p) → result
@@ -83,7 +86,7 @@ pub fn is_near(
     requires declarations_at { DeclarationsAt s.now declared.now n }
     requires atom_at { AtomAt g.now table.now p }
     ensures { result ≡ true → (d : DeclarationsAt s.now declared.now n) (w : AtomAt g.now table.now p)
-        → position d.list w.atom.name (arity w.atom.args) < n }
+        → is_some (position d.list w.atom.name (arity w.atom.args)) ≡ true }
 {
     if n <= near {
         return false;
@@ -103,12 +106,10 @@ pub fn marks_of(s: &[u8], declared: &[u32], n: usize, g: &[u8], table: &[u32], p
     ensures { (d : DeclarationsAt s.now declared.now n) (w : AtomAt g.now table.now p) → result
         ≡ marks_number (marks_for d.list w.atom) }
 {
-    let i = find_atom(s, declared, n, g, table, p);
-    if i < n {
-        let q = i * DECLARATION_SIZE + 3;
-        return word_at(declared, q);
+    match find_atom(s, declared, n, g, table, p) {
+        Some(i) => word_at(declared, i * DECLARATION_SIZE + 3),
+        None => 0,
     }
-    0
 }
 
 // The fault of a head or call that has no declaration; the one numbered `near` is tried first.
@@ -122,23 +123,22 @@ pub fn undeclared_atom(
     clause: usize,
     literal: usize,
     near: usize,
-) -> Checked
+) -> Result<(), Refusal>
     requires declarations_at { DeclarationsAt s.now declared.now n }
     requires atom_at { AtomAt g.now table.now p }
     ensures { (d : DeclarationsAt s.now declared.now n) (w : AtomAt g.now table.now p) → result
         ≡ checked_of (undeclared_atom d.list clause literal w.atom) }
 {
     if is_near(s, declared, n, g, table, p, near) {
-        return Checked::Fine;
+        return Ok(());
     }
-    let i = find_atom(s, declared, n, g, table, p);
-    if i < n {
-        return Checked::Fine;
+    if find_atom(s, declared, n, g, table, p).is_some() {
+        return Ok(());
     }
     let name = name_at(table, p);
     let at = name.at;
     let len = name.len;
-    Checked::Fault(Refusal::Undeclared {
+    Err(Refusal::Undeclared {
         clause,
         literal,
         at,

@@ -9,26 +9,19 @@ use mode_flags::Known;
 use syntax::{FIRST_NAME, NODE_WORDS};
 use table_words::{past, word_at};
 
-// The answer of the ground test: ground, or the byte of the first variable that is not known ground.
-#[derive(Clone, Copy)]
-pub enum Groundness {
-    Ground,
-    Open(usize),
-}
-
-// The ground test of a term.
+// The ground test of a term: the byte of the first variable in it that is not known ground, or none where the term is ground.
 #[cycle(ground_test_ground_test_all)]
-pub fn ground_test(table: &[u32], p: usize, known: Known) -> Groundness
+pub fn ground_test(table: &[u32], p: usize, known: Known) -> Option<usize>
     requires { TermAt table.now p }
     ensures { (w : TermAt table.now p) → result ≡ groundness_of (open_byte known w.term) }
 {
     let v = word_at(table, p);
     if v < FIRST_NAME {
         if known[v] {
-            return Groundness::Ground;
+            return None;
         }
         let byte = word_at(table, p + 2);
-        return Groundness::Open(byte);
+        return Some(byte);
     }
     let from = p + NODE_WORDS;
     let stop = past(table, p);
@@ -37,17 +30,17 @@ pub fn ground_test(table: &[u32], p: usize, known: Known) -> Groundness
 
 // The ground test of all terms up to a place, from left to right.
 #[cycle(ground_test_ground_test_all)]
-fn ground_test_all(table: &[u32], p: usize, stop: usize, known: Known) -> Groundness
+fn ground_test_all(table: &[u32], p: usize, stop: usize, known: Known) -> Option<usize>
     requires { TermsAt table.now p stop }
     ensures { (w : TermsAt table.now p stop) → result ≡ groundness_of (open_byte_of known w.terms) }
 {
     if stop <= p {
-        return Groundness::Ground;
+        return None;
     }
     let first = ground_test(table, p, known);
     match first {
-        Groundness::Open(_) => first,
-        Groundness::Ground => {
+        Some(_) => first,
+        None => {
             let next = past(table, p);
             ground_test_all(table, next, stop, known)
         }

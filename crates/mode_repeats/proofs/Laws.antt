@@ -1,5 +1,5 @@
 -- Laws of refusal 7: one for each way out of the functions that look for it. Assumes nothing.
-use Prim.Native.Nat.{ℕ, zero, suc, ◌+◌, ◌-◌, ◌*◌, ◌≤◌, ◌<◌}
+use Prim.Native.Nat.{ℕ, zero, suc, ◌+◌, ◌*◌, ◌≤◌, ◌<◌}
 use native.Mathlib.Numerals.{add-one}
 use native.Mathlib.Nat.{le_of_suc-le-suc}
 use native.Mathlib.Omega.{arith}
@@ -7,6 +7,7 @@ use mathlib.Core.Path.{◌≡◌, refl, sym, ap, ap₂, ◌∙◌, subst}
 use mathlib.Core.Bool.{Bool, true, false, ◌||◌}
 use mathlib.Core.List.{List, [], ◌∷◌, ◌++◌, append_assoc}
 use mathlib.Core.Option.{Option, some}
+use Rattle.std.specs.Prelude.{Option as Place, Some, None, is_some, option_map}
 use lib.ListN.{length, get_or, take, drop, length-take}
 use lib.Seq.{split_at, take-suc, drop-cons}
 use borrow.Author.Tests.{eq-eqb, ne_eqb}
@@ -45,26 +46,19 @@ stand-first : {s : List ℕ} {d : Declaration} {b : List Declaration} → Declar
 stand-first (declaration_stands k h) = k
 
 -- the search finds a declaration exactly where there is one
-declares-by : (b : Bool) (d : Declaration) (ds : List Declaration) (name : List ℕ) (n : ℕ) → same_predicate d.name (length d.marks) name n ≡ b → (declares (d ∷ ds) name n ≡ (b || declares ds name n)) × (position (d ∷ ds) name n ≡ (elim b as (λ _. ℕ) [ true ↦ 0 | false ↦ suc (position ds name n) ]))
+counted : (o : Place ℕ) → is_some (option_map suc o) ≡ is_some o
+counted None = refl
+counted (Some i) = refl
+
+declared-is : (ds : List Declaration) (name : List ℕ) (n : ℕ) → declares ds name n ≡ is_some (position ds name n)
 unfolding declares position
-declares-by b d ds name n e = (ap (λ (t : Bool). t || declares ds name n) e, ap (λ (t : Bool). elim t as (λ _. ℕ) [ true ↦ 0 | false ↦ suc (position ds name n) ]) e)
-
-declared-below : (ds : List Declaration) (name : List ℕ) (n : ℕ) → position ds name n < length ds → declares ds name n ≡ true
-declared-below [] name n h = absurd (omega arith)
-declared-below (d ∷ ds) name n h = by (same_predicate d.name (length d.marks) name n) refl (declared-below ds name n)
+declared-is [] name n = refl
+declared-is (d ∷ ds) name n = by (same_predicate d.name (length d.marks) name n) (declared-is ds name n)
   where
-    by : (b : Bool) → same_predicate d.name (length d.marks) name n ≡ b → (position ds name n < length ds → declares ds name n ≡ true) → declares (d ∷ ds) name n ≡ true
-    by true e k = (declares-by true d ds name n e).0
-    by false e k = (declares-by false d ds name n e).0 ∙ k (let q : position (d ∷ ds) name n ≡ suc (position ds name n) = (declares-by false d ds name n e).1 in omega arith)
-
-declared-none : (ds : List Declaration) (name : List ℕ) (n : ℕ) → length ds ≤ position ds name n → declares ds name n ≡ false
-unfolding declares
-declared-none [] name n h = refl
-declared-none (d ∷ ds) name n h = by (same_predicate d.name (length d.marks) name n) refl (declared-none ds name n)
-  where
-    by : (b : Bool) → same_predicate d.name (length d.marks) name n ≡ b → (length ds ≤ position ds name n → declares ds name n ≡ false) → declares (d ∷ ds) name n ≡ false
-    by true e k = let q : position (d ∷ ds) name n ≡ 0 = (declares-by true d ds name n e).1 in absurd (omega arith)
-    by false e k = (declares-by false d ds name n e).0 ∙ k (let q : position (d ∷ ds) name n ≡ suc (position ds name n) = (declares-by false d ds name n e).1 in omega arith)
+    by : (b : Bool) → declares ds name n ≡ is_some (position ds name n)
+        → (b || declares ds name n) ≡ is_some (elim b as (λ _. Place ℕ) [ true ↦ Some 0 | false ↦ option_map suc (position ds name n) ])
+    by true e = refl
+    by false e = e ∙ sym (counted (position ds name n))
 
 past : (i : ℕ) (l : List Declaration) → length l ≤ i → drop i l ≡ []
 past zero [] h = refl
@@ -137,18 +131,18 @@ module _ (s declared : List ℕ) (n : ℕ) (w : DeclarationsAt s declared n) (i 
     pub arity-is : marks ≡ length one.marks
     arity-is = em ∙ marks-is
 
-    module _ (j : ℕ) (found : (v : DeclarationsAt s declared i) → j ≡ position v.list (spelling s at len) marks) where
-      place_is : j ≡ position earlier one.name (length one.marks)
+    module _ (j : Place ℕ) (found : (v : DeclarationsAt s declared i) → j ≡ position v.list (spelling s at len) marks) where
+      earlier-is : declares earlier one.name (length one.marks) ≡ is_some j
       unfolding earlier-at
-      place_is = found earlier-at ∙ ap₂ (position earlier) name-is arity-is
+      earlier-is = declared-is earlier one.name (length one.marks) ∙ sym (ap (λ (o : Place ℕ). is_some o) (found earlier-at ∙ ap₂ (position earlier) name-is arity-is))
 
-      pub repeat-earlier : j < i → true ≡ repeats earlier one
+      pub repeat-earlier : is_some j ≡ true → true ≡ repeats earlier one
       unfolding repeats
-      repeat-earlier l = simp (declared-below earlier one.name (length one.marks) (let e : length earlier ≡ i = earlier-long in let p : j ≡ position earlier one.name (length one.marks) = place_is in omega arith))
+      repeat-earlier l = simp (earlier-is ∙ l)
 
-      module _ (l : i ≤ j) where
+      module _ (l : is_some j ≡ false) where
         not_earlier : declares earlier one.name (length one.marks) ≡ false
-        not_earlier = declared-none earlier one.name (length one.marks) (let e : length earlier ≡ i = earlier-long in let p : j ≡ position earlier one.name (length one.marks) = place_is in omega arith)
+        not_earlier = earlier-is ∙ l
 
         pub repeat-marked : (marks ≡ 0 → ⊥) → false ≡ repeats earlier one
         unfolding repeats
@@ -171,7 +165,7 @@ module _ (s declared : List ℕ) (n : ℕ) (w : DeclarationsAt s declared n) (i 
     turn : first_repeat [] w.list ≡ first_repeat earlier (one ∷ drop (suc i) w.list)
     turn = so_far ∙ ap (first_repeat earlier) first-here
 
-    pub found_here : (b : Bool) (byte : ℕ) → b ≡ repeats earlier one → b ≡ true → byte ≡ get_or declared (4 * i) 0 → record { found = true; byte = byte } ≡ repeat_of (first_repeat [] w.list)
+    pub found_here : (b : Bool) (byte : ℕ) → b ≡ repeats earlier one → b ≡ true → byte ≡ get_or declared (4 * i) 0 → Some byte ≡ repeat_of (first_repeat [] w.list)
     unfolding first_repeat
     found_here b byte eb e ey =
         ap (λ (k : ℕ). repeat_of (some k)) (ey ∙ at_is)
@@ -185,6 +179,6 @@ module _ (s declared : List ℕ) (n : ℕ) (w : DeclarationsAt s declared n) (i 
         ∙ ap (λ (l : List Declaration). first_repeat l (drop (suc i) w.list)) (sym (take-suc w.list i (record { at = 0; name = []; marks = [] }) i-in))
         ∙ ap (λ (k : ℕ). first_repeat (take k w.list) (drop k w.list)) (sym (add-one i))
 
-pub none_left : (s declared : List ℕ) (n : ℕ) (w : DeclarationsAt s declared n) (i : ℕ) → n ≤ i → first_repeat [] w.list ≡ first_repeat (take i w.list) (drop i w.list) → record { found = false; byte = 0 } ≡ repeat_of (first_repeat [] w.list)
+pub none_left : (s declared : List ℕ) (n : ℕ) (w : DeclarationsAt s declared n) (i : ℕ) → n ≤ i → first_repeat [] w.list ≡ first_repeat (take i w.list) (drop i w.list) → None ≡ repeat_of (first_repeat [] w.list)
 unfolding first_repeat
 none_left s declared n w i h so_far = sym (ap repeat_of (so_far ∙ ap (first_repeat (take i w.list)) (past i w.list (let c : n ≡ length w.list = w.count in omega arith))))

@@ -1,13 +1,13 @@
 -- The first declaration at fault, as the code answers it.
-use Rattle.std.specs.Prelude.{ℕ, true, false, List, [], get_or}
-use Rattle.std.proofs.Math.Option.{Option, none, some}
+use Rattle.std.specs.Prelude.{ℕ, List, [], get_or, Option, Some, None}
+use Rattle.std.proofs.Math.Option as maybe
+use Rattle.std.proofs.Math.Option.{none, some}
 use Rattle.syntax.specs.Terms.{Declaration}
-use Rattle.mode_repeats.specs.declared.Repeat.{Repeat}
 
--- whether there is one, and its byte
-abbrev pub repeat_of : Option ℕ → Repeat
-repeat_of none = record { found = false; byte = 0 }
-repeat_of (some b) = record { found = true; byte = b }
+-- its byte, if there is one
+abbrev pub repeat_of : maybe.Option ℕ → Option ℕ
+repeat_of none = None
+repeat_of (some b) = Some b
 
 -- the i-th of some declarations
 abbrev pub nth_declaration : List Declaration → ℕ → Declaration

@@ -12,13 +12,6 @@ use syntax::DECLARATION_SIZE;
 use table_words::word_at;
 use texts::{is_fail, is_true};
 
-// Whether a declaration is at fault, and its byte.
-#[derive(Clone, Copy)]
-pub struct Repeat {
-    pub found: bool,
-    pub byte: usize,
-}
-
 // Whether declaration i is at fault.
 fn is_repeat(s: &[u8], declared: &[u32], n: usize, i: usize) -> bool
     requires declarations_at { DeclarationsAt s.now declared.now n }
@@ -29,8 +22,7 @@ fn is_repeat(s: &[u8], declared: &[u32], n: usize, i: usize) -> bool
     let at = word_at(declared, p);
     let len = word_at(declared, p + 1);
     let marks = word_at(declared, p + 2);
-    let j = find(s, declared, i, s, at, len, marks);
-    if j < i {
+    if find(s, declared, i, s, at, len, marks).is_some() {
         return true;
     }
     if marks != 0 {
@@ -42,21 +34,16 @@ fn is_repeat(s: &[u8], declared: &[u32], n: usize, i: usize) -> bool
     is_fail(s, at, len)
 }
 
-// The first of n declarations at fault.
-pub fn first_repeat(s: &[u8], declared: &[u32], n: usize) -> Repeat
+// The byte of the first of n declarations at fault.
+pub fn first_repeat(s: &[u8], declared: &[u32], n: usize) -> Option<usize>
     requires { DeclarationsAt s.now declared.now n }
     ensures { (w : DeclarationsAt s.now declared.now n) → result ≡ repeat_of (first_repeat [] w.list) }
 {
-    let mut i = 0;
-    while i < n {
+    for i in 0..n {
         if is_repeat(s, declared, n, i) {
             let byte = word_at(declared, DECLARATION_SIZE * i);
-            return Repeat { found: true, byte };
+            return Some(byte);
         }
-        i += 1;
     }
-    Repeat {
-        found: false,
-        byte: 0,
-    }
+    None
 }

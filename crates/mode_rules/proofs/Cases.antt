@@ -4,6 +4,7 @@ use Prim.Native.String.{String}
 use mathlib.Core.Path.{◌≡◌, refl}
 use mathlib.Core.Bool.{true}
 use mathlib.Core.List.{List, [], ◌∷◌, map}
+use Rattle.std.proofs.Common.{Ok, Err}
 use Rattle.syntax.specs.Quote.{bytes}
 use Rattle.syntax.specs.Bytes.{class_of, in_word, in_numeral}
 use Rattle.syntax.specs.Tokens.{skipped, run_length, word, dash_first, token_of, token_from, token_place, token_at}
@@ -14,8 +15,8 @@ use Rattle.syntax.specs.Reading.{marks_read as marks_behind}
 use Rattle.syntax.specs.Refusals.{five, numbers_of}
 use Rattle.syntax.specs.Verdicts.{without_repeats, sheet_from, goal_from, sheet_of, goal_outcome, sheet_verdict}
 use Rattle.syntax.specs.declared.Five.{Five}
-use Rattle.syntax.specs.declared.Verdict.{Verdict}
-use Rattle.syntax.specs.declared.Verdict.TheVariants.{Accepted, Refused}
+use Rattle.syntax.specs.Verdicts.{Verdict}
+use Rattle.syntax.specs.Verdicts.{Accepted, Refused}
 use Rattle.syntax.specs.declared.Text.{Text}
 use Rattle.syntax.specs.declared.Text.TheVariants.{Sheet, Goal}
 use Rattle.mode_rules.specs.Modes.{none_ground, everything, is_ground, open_unless, open_byte, ground_term, ground_both, equate_variable, equate_same, equate, further, go_over, passes, settle, marks_of, or_no_marks, marks_for, same_mark, if_marked, first_open, ground_if, ground_marked, undeclared, undeclared_atom, undeclared_literal, undeclared_body, undeclared_clause, undeclared_clauses, undeclared_in_sheet, undeclared_in_goal, open_input, open_output, unless_fault, walk_on, in_both, call_walk, literal_walk, body_fault, start_known, head_fault, clause_fault, clauses_fault, sheet_fault, walk_fault, goal_fault}
@@ -28,8 +29,8 @@ data Answer : Type 0 where
   refused : Text → Five → List ℕ → Answer
 
 abbrev answer : List ℕ → List ℕ → Verdict → Answer
-answer s g (Accepted declarations clauses) = accepted declarations clauses
-answer s g (Refused text refusal) = refused text (numbers_of refusal) (fault_name s g (Refused text refusal))
+answer s g (Ok counts) = accepted counts.declarations counts.clauses
+answer s g (Err fault) = refused fault.text (numbers_of fault.refusal) (fault_name s g (Err fault))
 
 -- a sheet, one with document 02 (x)'s mark, or a sheet and a goal, with the answer
 data Case : Type 0 where

@@ -1,5 +1,5 @@
 -- The answers to a sheet and to a goal over it, refusals 2 to 10 and 16 in their order, and the name handed back.
-use Rattle.std.specs.Prelude.{ℕ, Bool, false, List, []}
+use Rattle.std.specs.Prelude.{ℕ, Bool, false, List, [], Ok, Err}
 use Rattle.std.proofs.Math.Option.{Option, none, some}
 use Rattle.syntax.specs.Terms.{Sheet, Goal}
 use Rattle.syntax.specs.Tokens.{spelling}
@@ -9,8 +9,8 @@ use Rattle.syntax.specs.declared.Text.TheVariants.{Sheet as in_sheet, Goal as in
 use Rattle.syntax.specs.declared.Refusal.{Refusal}
 use Rattle.syntax.specs.declared.Refusal.TheVariants.{Settings, TooLong, NoToken, Overlong, Misplaced, OverLimit, Repeated, Undeclared, OpenInput, OpenOutput}
 use Rattle.syntax.specs.declared.Refusal.TheVariants.{BadTrace, TraceOverLimit, SeenUndeclared, Unwritten}
-use Rattle.syntax.specs.declared.Verdict.{Verdict}
-use Rattle.syntax.specs.declared.Verdict.TheVariants.{Accepted, Refused}
+use Rattle.syntax.specs.Verdicts.{Verdict}
+use Rattle.syntax.specs.Verdicts.{Accepted, Refused}
 use Rattle.mode_rules.specs.Modes.{sheet_fault, goal_fault}
 
 -- what was read, or the fault found in it
@@ -87,5 +87,5 @@ text_at_fault sheet goal Neither = []
 
 -- "as the part of the sheet or goal where it stands"
 unfoldable pub fault_name : List ℕ → List ℕ → Verdict → List ℕ
-fault_name sheet goal (Accepted declarations clauses) = []
-fault_name sheet goal (Refused text refusal) = spelling (text_at_fault sheet goal text) (name_span refusal).0 (name_span refusal).1
+fault_name sheet goal (Ok counts) = []
+fault_name sheet goal (Err fault) = spelling (text_at_fault sheet goal fault.text) (name_span fault.refusal).0 (name_span fault.refusal).1

@@ -1,6 +1,6 @@
 -- Checking as it was before document 02's (ii), and as it was before its (xiv): one definition, over what each of them changed, with 16 of (x) in both.
 -- Theorems say that nothing else changed, and how (xiv) moves a verdict.
-use Rattle.std.specs.Prelude.{ℕ, suc, ◌+◌, ◌≤◌, ◌<◌, ◌≡◌, Bool, false, List, [], ◌∷◌}
+use Rattle.std.specs.Prelude.{ℕ, suc, ◌+◌, ◌≤◌, ◌<◌, ◌≡◌, Bool, false, List, [], ◌∷◌, Ok, Err}
 use Rattle.std.proofs.Math.Option.{Option, none, some}
 use Rattle.syntax.specs.Terms.{Term, Atom, Literal, Body, call, equation, truth, falsity, either, done, also, literals_in, literals_of, Mark, input, output}
 use Rattle.syntax.specs.Terms.{Declaration, Clause, Sheet, Goal}
@@ -12,8 +12,8 @@ use Rattle.syntax.specs.declared.Text.TheVariants.{Sheet as in_sheet, Goal as in
 use Rattle.syntax.specs.declared.Refusal.{Refusal}
 use Rattle.syntax.specs.declared.Refusal.TheVariants.{Settings, TooLong, NoToken, Overlong, Misplaced, OverLimit, Repeated, Undeclared, OpenInput, OpenOutput}
 use Rattle.syntax.specs.declared.Refusal.TheVariants.{BadTrace, TraceOverLimit, SeenUndeclared, Unwritten}
-use Rattle.syntax.specs.declared.Verdict.{Verdict}
-use Rattle.syntax.specs.declared.Verdict.TheVariants.{Accepted, Refused}
+use Rattle.syntax.specs.Verdicts.{Verdict}
+use Rattle.syntax.specs.Verdicts.{Accepted, Refused}
 use Rattle.mode_rules.specs.Modes.{Known, none_ground, everything, is_ground, open_unless, open_byte, equate, settle, marks_for, same_mark, list_of, if_marked}
 use Rattle.mode_rules.specs.Modes.{OpenArgument, ground_marked, undeclared_in_sheet, undeclared_in_goal, open_input, open_output, Walk, faulted, known}
 use Rattle.mode_rules.specs.Modes.{unless_fault}
@@ -134,8 +134,8 @@ outcome_without (refused r) = refused (without_byte r)
 outcome_without (accepted x) = accepted x
 
 abbrev pub verdict_without : Verdict → Verdict
-verdict_without (Accepted declarations clauses) = Accepted declarations clauses
-verdict_without (Refused text r) = Refused text (without_byte r)
+verdict_without (Ok counts) = Ok counts
+verdict_without (Err fault) = Refused fault.text (without_byte fault.refusal)
 
 -- ---- (xiv): what it does to a verdict
 

@@ -5,6 +5,7 @@ use mathlib.Core.Path.{◌≡◌, refl, sym, ap, ◌∙◌, subst⁻¹}
 use mathlib.Core.Bool.{Bool, true, false, ◌||◌}
 use mathlib.Core.List.{List, [], ◌∷◌}
 use mathlib.Core.Option.{none}
+use Rattle.std.specs.Prelude.{Option as Place}
 use lib.Dec.{eqb}
 use lib.ListN.{length, get_or, set, replicate}
 use lib.Seq.{get_or-set_same, get_or-set_other}
@@ -17,7 +18,7 @@ use Rattle.mode_marks.specs.Standing.{ClausesSpelt}
 use Rattle.mode_marks.specs.Tables.{ClauseAt, SheetAt}
 use Rattle.mode_undeclared.proofs.Clauses.{Ahead, Turn, turn}
 use Rattle.mode_repeats.specs.Repeating.{nth_declaration}
-use Rattle.mode_sheets.specs.Flags.{Finds, Flagged}
+use Rattle.mode_sheets.specs.Flags.{is_place, Finds, Flagged}
 
 -- the clauses from the i-th on, and the flags of those before
 pub record Left (s table : List ℕ) (at i clauses : ℕ) (flags : List Bool) (ds : List Declaration) (all : List Clause) : Type 0 where
@@ -43,7 +44,7 @@ begun m w = record {
 }
 
 -- a flag more
-flag-set : (flags : List Bool) (j k : ℕ) → j < length flags → get_or (set flags j true) k false ≡ (eqb k j || get_or flags k false)
+pub flag-set : (flags : List Bool) (j k : ℕ) → j < length flags → get_or (set flags j true) k false ≡ (eqb k j || get_or flags k false)
 flag-set flags j k h = by (eqb k j) refl
   where
     by : (b : Bool) → eqb k j ≡ b → get_or (set flags j true) k false ≡ (b || get_or flags k false)
@@ -64,11 +65,11 @@ module _ {s table : List ℕ} {at i clauses : ℕ} {flags : List Bool} {ds : Lis
   abbrev pub here : i < clauses → (a : Left s table at i clauses flags ds all) → Turn s table at i clauses a.list
   here l a = turn l (ahead a)
 
-  pub flagged-on : (l : i < clauses) (a : Left s table at i clauses flags ds all) (j : ℕ) → j < length flags
-      → Finds ds (here l a).clause.clause.head j
+  pub flagged-on : (l : i < clauses) (a : Left s table at i clauses flags ds all) (r : Place ℕ) → Finds ds (here l a).clause.clause.head r
+      → (after : List Bool) → ((k : ℕ) → k < length ds → get_or after k false ≡ (is_place r k || get_or flags k false))
       → (next : ℕ) → ((w : ClauseAt s table at) → next ≡ at + length (clause_words w.clause))
-      → Left s table next (i + 1) clauses (set flags j true) ds all
-  flagged-on l a j h f next e =
+      → Left s table next (i + 1) clauses after ds all
+  flagged-on l a r f after h next e =
       let z : Turn s table at i clauses a.list = here l a in
       record {
         list = z.left;
@@ -78,14 +79,14 @@ module _ {s table : List ℕ} {at i clauses : ℕ} {flags : List Bool} {ds : Lis
         same = λ k low. so_far z f k low;
       }
     where
-      so_far : (z : Turn s table at i clauses a.list) → Finds ds z.clause.clause.head j → (k : ℕ) → k < length ds
-          → is_written all (nth_declaration ds k) ≡ (get_or (set flags j true) k false || is_written z.left (nth_declaration ds k))
+      so_far : (z : Turn s table at i clauses a.list) → Finds ds z.clause.clause.head r → (k : ℕ) → k < length ds
+          → is_written all (nth_declaration ds k) ≡ (get_or after k false || is_written z.left (nth_declaration ds k))
       so_far z g k low = unfold is_written in
           a.same k low
           ∙ ap (λ (cs : List Clause). get_or flags k false || is_written cs (nth_declaration ds k)) z.is
           ∙ ap (λ (b : Bool). get_or flags k false || (b || is_written z.left (nth_declaration ds k))) (g.only k low)
-          ∙ moved (get_or flags k false) (eqb k j) (is_written z.left (nth_declaration ds k))
-          ∙ ap (λ (b : Bool). b || is_written z.left (nth_declaration ds k)) (sym (flag-set flags j k h))
+          ∙ moved (get_or flags k false) (is_place r k) (is_written z.left (nth_declaration ds k))
+          ∙ ap (λ (b : Bool). b || is_written z.left (nth_declaration ds k)) (sym (h k low))
 
   pub all-flagged : clauses ≤ i → Left s table at i clauses flags ds all → Flagged flags ds all
   all-flagged l a k low = by a.list a.count (a.same k low)

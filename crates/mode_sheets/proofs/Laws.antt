@@ -9,7 +9,6 @@ use mathlib.Core.Option.{Option, none, some}
 use lib.ListN.{length, get_or, take, drop}
 use lib.Seq.{drop-cons}
 use borrow.Author.Tests.{eq-eqb, ne_eqb}
-use Rattle.syntax.specs.Limits.{declarations}
 use Rattle.syntax.specs.Reading.{first_repeat}
 use Rattle.syntax.specs.Terms.{arity, Declaration, Clause, Sheet, same_bytes, same_name, same_predicate, seen_name, seen_arguments}
 use Rattle.syntax.specs.Tokens.{spelling}
@@ -19,10 +18,9 @@ use Rattle.mode_rules.specs.Modes.{undeclared_clauses, undeclared_in_sheet, clau
 use Rattle.mode_rules.specs.Written.{is_written, is_exempt, first_unwritten, unwritten}
 use Rattle.mode_lookup.specs.Searching.{matches, stored_entry}
 use Rattle.mode_lookup.proofs.Laws.{lengths_differ, spelling-long}
-use Rattle.mode_marks.specs.Answers.{checked_of, atom_name, is_fault}
+use Rattle.std.specs.Prelude.{Some, Ok, Err}
+use Rattle.mode_marks.specs.Answers.{Checked, checked_of, atom_name}
 use Rattle.mode_marks.specs.Tables.{DeclarationsAt, AtomAt, NamedAt, ClausesAt}
-use Rattle.mode_marks.specs.declared.Checked.{Checked}
-use Rattle.mode_marks.specs.declared.Checked.TheVariants.{Fine, Fault}
 use Rattle.mode_marks.specs.declared.marks.Name.{Name}
 use Rattle.mode_marks.proofs.Marking.{matches-declared, atom-name, in-text}
 use Rattle.mode_clauses.proofs.Sheets.{sheet-declarations, sheet-clauses}
@@ -54,7 +52,7 @@ module _ (s table : List ℕ) (p : ℕ) (name : Name) (en : (v : NamedAt table p
 
   pub near-found : (declared : List ℕ) (n near : ℕ)
       → ((d : DeclarationsAt s declared n) → (near < n) × (of (nth_declaration d.list near) (spelling s name.at name.len) name.arguments ≡ true))
-      → (d : DeclarationsAt s declared n) (w : AtomAt s table p) → first_repeat [] d.list ≡ none → Finds d.list w.atom near
+      → (d : DeclarationsAt s declared n) (w : AtomAt s table p) → first_repeat [] d.list ≡ none → Finds d.list w.atom (Some near)
   near-found declared n near h d w once =
       near-finds d.list once w.atom near (omega (arith, (h d).0, d.count)) (sym (of-atom w (nth_declaration d.list near)) ∙ (h d).1)
 
@@ -114,9 +112,9 @@ module _ {s declared : List ℕ} {n : ℕ} {table : List ℕ} {clauses : ℕ} (w
         so_far ∙ ap (first_unwritten cs) (drop-cons ds i (record { at = 0; name = []; marks = [] }) low)
         ∙ ap (λ (b : Bool). elim b as (λ _. Option Refusal) [ true ↦ first_unwritten cs (drop (suc i) ds) | false ↦ some (Unwritten (nth_declaration ds i).at) ]) tested
 
-    pub found_here : r ≡ false → (byte : ℕ) → byte ≡ get_or declared (4 * i) 0 → Fault (Unwritten byte) ≡ checked_of (first_unwritten cs ds)
+    pub found_here : r ≡ false → (byte : ℕ) → byte ≡ get_or declared (4 * i) 0 → Err (Unwritten byte) ≡ checked_of (first_unwritten cs ds)
     found_here e byte eb =
-        ap (λ (k : ℕ). Fault (Unwritten k)) (eb ∙ at_is s declared n (sheet-declarations w.stands) i h)
+        ap (λ (k : ℕ). Err (Unwritten k)) (eb ∙ at_is s declared n (sheet-declarations w.stands) i h)
         ∙ sym (ap checked_of (turn ∙ ap (λ (b : Bool). elim b as (λ _. Option Refusal) [ true ↦ first_unwritten cs (drop (suc i) ds) | false ↦ some (Unwritten (nth_declaration ds i).at) ]) e))
 
     pub not-here : r ≡ true → Decides (i + 1)
@@ -130,13 +128,13 @@ module _ {s declared : List ℕ} {n : ℕ} {table : List ℕ} {clauses : ℕ} (w
   past (suc i) [] h = refl
   past (suc i) (x ∷ l) h = past i l (omega arith)
 
-  pub nowhere : (i : ℕ) → n ≤ i → Decides i → Fine ≡ checked_of (first_unwritten cs ds)
+  pub nowhere : (i : ℕ) → n ≤ i → Decides i → Ok tt ≡ checked_of (first_unwritten cs ds)
   unfolding first_unwritten
   nowhere i h so_far = sym (ap checked_of (so_far ∙ ap (first_unwritten cs) (past i ds (omega (arith, w.stands.declarations_count)))))
 
 -- ---- the mark
 
-pub passed_over : {stored : Bool} → stored ≡ true → (sh : Sheet) → Fine ≡ checked_of (unwritten stored sh)
+pub passed_over : {stored : Bool} → stored ≡ true → (sh : Sheet) → Ok tt ≡ checked_of (unwritten stored sh)
 unfolding unwritten
 passed_over {stored = true} e sh = refl
 passed_over {stored = false} e sh = absurd (let z : ◌≡◌ {A = ℕ} 0 1 = cc in omega arith)
@@ -148,7 +146,7 @@ asked {stored = false} e sh h = h
 
 -- ---- the tests in their order
 
-module _ (stored : Bool) {s declared : List ℕ} {n : ℕ} {table : List ℕ} {clauses : ℕ} (f : Checked)
+module _ (stored : Bool) {s declared : List ℕ} {n : ℕ} {table : List ℕ} {clauses : ℕ} {f : Checked}
     (ef : (d : DeclarationsAt s declared n) (w : ClausesAt s table 0 clauses) → f ≡ checked_of (undeclared_clauses d.list 1 w.list)) where
   eight : (w : DeclaredOnce s declared n table clauses) → f ≡ checked_of (undeclared_in_sheet w.stands.sheet)
   unfolding undeclared_in_sheet
@@ -157,23 +155,23 @@ module _ (stored : Bool) {s declared : List ℕ} {n : ℕ} {table : List ℕ} {c
   abbrev later : Sheet → Option Refusal
   later sh = first_of (unwritten stored sh) (clauses_fault sh.declarations 1 sh.clauses)
 
-  pub undeclared-first : is_fault f ≡ true → (w : DeclaredOnce s declared n table clauses) → f ≡ checked_of (sheet_fault stored w.stands.sheet)
+  pub undeclared-first : {r : Refusal} → f ≡ Err r → (w : DeclaredOnce s declared n table clauses) → Err r ≡ checked_of (sheet_fault stored w.stands.sheet)
   unfolding sheet_fault
-  undeclared-first t w = fault-stays (undeclared_in_sheet w.stands.sheet) (later w.stands.sheet) f (eight w) t
+  undeclared-first t w = fault-stays (undeclared_in_sheet w.stands.sheet) (later w.stands.sheet) (eight w) t
 
-  module _ (fine : is_fault f ≡ false) (g : Checked) (eg : (w : DeclaredOnce s declared n table clauses) → g ≡ checked_of (unwritten stored w.stands.sheet)) where
+  module _ (fine : f ≡ Ok tt) {g : Checked} (eg : (w : DeclaredOnce s declared n table clauses) → g ≡ checked_of (unwritten stored w.stands.sheet)) where
     past-eight : (w : DeclaredOnce s declared n table clauses) → sheet_fault stored w.stands.sheet ≡ later w.stands.sheet
     unfolding sheet_fault
-    past-eight w = fine-goes (undeclared_in_sheet w.stands.sheet) (later w.stands.sheet) f (eight w) fine
+    past-eight w = fine-goes (undeclared_in_sheet w.stands.sheet) (later w.stands.sheet) (eight w) fine
 
-    pub unwritten-next : is_fault g ≡ true → (w : DeclaredOnce s declared n table clauses) → g ≡ checked_of (sheet_fault stored w.stands.sheet)
+    pub unwritten-next : {r : Refusal} → g ≡ Err r → (w : DeclaredOnce s declared n table clauses) → Err r ≡ checked_of (sheet_fault stored w.stands.sheet)
     unwritten-next t w =
-        fault-stays (unwritten stored w.stands.sheet) (clauses_fault w.stands.sheet.declarations 1 w.stands.sheet.clauses) g (eg w) t
+        fault-stays (unwritten stored w.stands.sheet) (clauses_fault w.stands.sheet.declarations 1 w.stands.sheet.clauses) (eg w) t
         ∙ sym (ap checked_of (past-eight w))
 
-    pub marks-last : is_fault g ≡ false → (r : Checked)
+    pub marks-last : g ≡ Ok tt → {r : Checked}
         → ((d : DeclarationsAt s declared n) (w : ClausesAt s table 0 clauses) → r ≡ checked_of (clauses_fault d.list 1 w.list))
         → (w : DeclaredOnce s declared n table clauses) → r ≡ checked_of (sheet_fault stored w.stands.sheet)
-    marks-last t r h w =
+    marks-last t h w =
         h (sheet-declarations w.stands) (sheet-clauses w.stands)
-        ∙ sym (ap checked_of (past-eight w ∙ fine-goes (unwritten stored w.stands.sheet) (clauses_fault w.stands.sheet.declarations 1 w.stands.sheet.clauses) g (eg w) t))
+        ∙ sym (ap checked_of (past-eight w ∙ fine-goes (unwritten stored w.stands.sheet) (clauses_fault w.stands.sheet.declarations 1 w.stands.sheet.clauses) (eg w) t))

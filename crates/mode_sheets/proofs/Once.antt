@@ -1,13 +1,14 @@
 -- Where no declaration repeats an earlier one, a head has one declaration or none. Assumes nothing.
-use Prim.Native.Nat.{ℕ, zero, suc, ◌≤◌, ◌<◌}
+use Prim.Native.Nat.{ℕ, zero, suc, ◌<◌}
 use native.Mathlib.Omega.{arith}
-use mathlib.Core.Path.{◌≡◌, refl, sym, ap, ap₂, ◌∙◌, subst}
+use mathlib.Core.Path.{◌≡◌, refl, sym, ap, ap₂, ◌∙◌, subst⁻¹}
 use mathlib.Core.Bool.{Bool, true, false, ◌&&◌, ◌||◌, false≢true}
 use mathlib.Core.List.{List, [], ◌∷◌, ◌++◌}
 use mathlib.Core.Option.{Option, none, some}
+use Rattle.std.specs.Prelude.{Option as Place, Some, None, option_map}
 use lib.Dec.{eqb, ltb}
 use lib.ListN.{length}
-use borrow.Author.Tests.{eqb-true, eqb-false, ne_eqb, ltb-true, ltb-false}
+use borrow.Author.Tests.{eqb-true, eqb-false, ltb-true, ltb-false}
 use Rattle.syntax.specs.Terms.{arity, Atom, Declaration, same_bytes, same_predicate}
 use Rattle.syntax.specs.Reading.{declares, repeats, first_repeat}
 use Rattle.mode_marks.specs.Answers.{position}
@@ -108,61 +109,56 @@ module _ (ds : List Declaration) (once : first_repeat [] ds ≡ none) (name : Li
 
 -- ---- the search
 
-position-low : (ds : List Declaration) (name : List ℕ) (n : ℕ) → position ds name n ≤ length ds
-unfolding position
-position-low [] name n = omega arith
-position-low (d ∷ ds) name n = by (of d name n) (position-low ds name n)
-  where
-    by : (b : Bool) → position ds name n ≤ length ds → elim b as (λ _. ℕ) [ true ↦ 0 | false ↦ suc (position ds name n) ] ≤ suc (length ds)
-    by true h = omega arith
-    by false h = omega arith
+-- a place behind the first one is that of another declaration
+behind : (o : Place ℕ) (k : ℕ) → option_map suc o ≡ Some k → (j : ℕ) × ((o ≡ Some j) × (k ≡ suc j))
+behind None k e = let y : ◌≡◌ {A = ℕ} 0 1 = cc in absurd (omega arith)
+behind (Some j) k e = let z : k ≡ suc j = cc in (j, (refl, z))
+
+nowhere : (o : Place ℕ) → option_map suc o ≡ None → o ≡ None
+nowhere None e = refl
+nowhere (Some j) e = let y : ◌≡◌ {A = ℕ} 0 1 = cc in absurd (omega arith)
 
 -- it comes to a declaration of the predicate
-position-hits : (ds : List Declaration) (name : List ℕ) (n : ℕ) → position ds name n < length ds → of (nth_declaration ds (position ds name n)) name n ≡ true
+abbrev Hits : List Declaration → List ℕ → ℕ → ℕ → Type 0
+Hits ds name n k = (k < length ds) × (of (nth_declaration ds k) name n ≡ true)
+
+position-hits : (ds : List Declaration) (name : List ℕ) (n k : ℕ) → position ds name n ≡ Some k → Hits ds name n k
 unfolding position
-position-hits [] name n h = absurd (omega arith)
-position-hits (d ∷ ds) name n h = by (of d name n) refl h (position-hits ds name n)
+position-hits [] name n k h = let y : ◌≡◌ {A = ℕ} 0 1 = cc in absurd (omega arith)
+position-hits (d ∷ ds) name n k h = by (of d name n) refl h (λ j q. position-hits ds name n j q)
   where
-    abbreviated : Bool → ℕ
-    abbreviated b = elim b [ true ↦ 0 | false ↦ suc (position ds name n) ]
+    by : (b : Bool) → of d name n ≡ b → elim b as (λ _. Place ℕ) [ true ↦ Some 0 | false ↦ option_map suc (position ds name n) ] ≡ Some k
+        → ((j : ℕ) → position ds name n ≡ Some j → (j < length ds) × (of (nth_declaration ds j) name n ≡ true))
+        → (k < suc (length ds)) × (of (nth_declaration (d ∷ ds) k) name n ≡ true)
+    by true e m more = let z : k ≡ 0 = cc in subst⁻¹ (λ (j : ℕ). (j < suc (length ds)) × (of (nth_declaration (d ∷ ds) j) name n ≡ true)) z (omega arith, e)
+    by false e m more =
+        let o : (j : ℕ) × ((position ds name n ≡ Some j) × (k ≡ suc j)) = behind (position ds name n) k m in
+        let q : (o.0 < length ds) × (of (nth_declaration ds o.0) name n ≡ true) = more o.0 o.1.0 in
+        subst⁻¹ (λ (j : ℕ). (j < suc (length ds)) × (of (nth_declaration (d ∷ ds) j) name n ≡ true)) o.1.1 (omega (arith, q.0), q.1)
 
-    by : (b : Bool) → of d name n ≡ b → abbreviated b < suc (length ds) → (position ds name n < length ds → of (nth_declaration ds (position ds name n)) name n ≡ true)
-        → of (nth_declaration (d ∷ ds) (abbreviated b)) name n ≡ true
-    by true e l k = e
-    by false e l k = k (omega arith)
-
--- or past them all, where none is of it
-position-misses : (ds : List Declaration) (name : List ℕ) (n : ℕ) → length ds ≤ position ds name n → (i : ℕ) → i < length ds → of (nth_declaration ds i) name n ≡ false
+-- or to no place, where none is of it
+position-misses : (ds : List Declaration) (name : List ℕ) (n : ℕ) → position ds name n ≡ None → (i : ℕ) → i < length ds → of (nth_declaration ds i) name n ≡ false
 unfolding position
 position-misses [] name n h i l = absurd (omega arith)
 position-misses (d ∷ ds) name n h i l = by (of d name n) refl h (position-misses ds name n) i l
   where
-    abbreviated : Bool → ℕ
-    abbreviated b = elim b [ true ↦ 0 | false ↦ suc (position ds name n) ]
-
-    by : (b : Bool) → of d name n ≡ b → suc (length ds) ≤ abbreviated b
-        → (length ds ≤ position ds name n → (k : ℕ) → k < length ds → of (nth_declaration ds k) name n ≡ false)
+    by : (b : Bool) → of d name n ≡ b → elim b as (λ _. Place ℕ) [ true ↦ Some 0 | false ↦ option_map suc (position ds name n) ] ≡ None
+        → (position ds name n ≡ None → (k : ℕ) → k < length ds → of (nth_declaration ds k) name n ≡ false)
         → (i : ℕ) → i < suc (length ds) → of (nth_declaration (d ∷ ds) i) name n ≡ false
-    by true e m k i l = absurd (omega arith)
-    by false e m k zero l = e
-    by false e m k (suc i) l = k (omega arith) i (omega arith)
+    by true e m more i l = let y : ◌≡◌ {A = ℕ} 0 1 = cc in absurd (omega arith)
+    by false e m more zero l = e
+    by false e m more (suc i) l = more (nowhere (position ds name n) m) i (omega arith)
 
-module _ (ds : List Declaration) (once : first_repeat [] ds ≡ none) (a : Atom) (r : ℕ) where
-  pub near-finds : r < length ds → of (nth_declaration ds r) a.name (arity a.args) ≡ true → Finds ds a r
-  near-finds h q = record { low = omega arith; only = one_found ds once a.name (arity a.args) r h q }
+module _ (ds : List Declaration) (once : first_repeat [] ds ≡ none) (a : Atom) where
+  pub near-finds : (r : ℕ) → r < length ds → of (nth_declaration ds r) a.name (arity a.args) ≡ true → Finds ds a (Some r)
+  near-finds r h q = record {
+    low = λ k e. (let z : k ≡ r = cc in omega arith);
+    only = one_found ds once a.name (arity a.args) r h q;
+  }
 
-  pub search-finds : r ≡ position ds a.name (arity a.args) → Finds ds a r
-  search-finds e = by (ltb r (length ds)) refl
-    where
-      by : (b : Bool) → ltb r (length ds) ≡ b → Finds ds a r
-      by true x =
-          let h : r < length ds = ltb-true r (length ds) x in
-          let g : position ds a.name (arity a.args) < length ds = subst (λ (k : ℕ). k < length ds) e h in
-          near-finds h (subst (λ (k : ℕ). of (nth_declaration ds k) a.name (arity a.args) ≡ true) (sym e) (position-hits ds a.name (arity a.args) g))
-      by false x =
-          let h : length ds ≤ r = ltb-false r (length ds) x in
-          let g : length ds ≤ position ds a.name (arity a.args) = subst (λ (k : ℕ). length ds ≤ k) e h in
-          record {
-            low = subst (λ (k : ℕ). k ≤ length ds) (sym e) (position-low ds a.name (arity a.args));
-            only = λ i l. position-misses ds a.name (arity a.args) g i l ∙ sym (ne_eqb i r (λ q. omega arith));
-          }
+  pub search-finds : (r : Place ℕ) → r ≡ position ds a.name (arity a.args) → Finds ds a r
+  search-finds None e = record {
+    low = λ k q. (let y : ◌≡◌ {A = ℕ} 0 1 = cc in absurd (omega arith));
+    only = position-misses ds a.name (arity a.args) (sym e);
+  }
+  search-finds (Some k) e = let h : Hits ds a.name (arity a.args) k = position-hits ds a.name (arity a.args) k (sym e) in near-finds k h.0 h.1

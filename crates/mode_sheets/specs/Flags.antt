@@ -1,5 +1,5 @@
 -- The tables of a sheet that 7 has passed, and which of its declarations have a clause.
-use Rattle.std.specs.Prelude.{ℕ, ◌≤◌, ◌<◌, ◌≡◌, Bool, false, List, [], eqb, length, get_or}
+use Rattle.std.specs.Prelude.{ℕ, ◌≤◌, ◌<◌, ◌≡◌, Bool, false, List, [], eqb, length, get_or, Option, Some, None}
 use Rattle.std.proofs.Math.Option.{none}
 use Rattle.syntax.specs.Limits.{declarations}
 use Rattle.syntax.specs.Reading.{first_repeat}
@@ -14,10 +14,15 @@ pub record DeclaredOnce (s declared : List ℕ) (n : ℕ) (table : List ℕ) (cl
   pub few : n ≤ declarations
   pub once : first_repeat [] stands.sheet.declarations ≡ none
 
--- r is the number of the only declaration of an atom's predicate, or how many declarations there are
-pub record Finds (ds : List Declaration) (a : Atom) (r : ℕ) : Type 0 where
-  pub low : r ≤ length ds
-  pub only : (i : ℕ) → i < length ds → same_predicate (nth_declaration ds i).name (length (nth_declaration ds i).marks) a.name (arity a.args) ≡ eqb i r
+-- i is the place, if there is one
+abbrev pub is_place : Option ℕ → ℕ → Bool
+is_place None i = false
+is_place (Some k) i = eqb i k
+
+-- r is the number of the only declaration of an atom's predicate, or none where it has no declaration
+pub record Finds (ds : List Declaration) (a : Atom) (r : Option ℕ) : Type 0 where
+  pub low : (k : ℕ) → r ≡ Some k → k < length ds
+  pub only : (i : ℕ) → i < length ds → same_predicate (nth_declaration ds i).name (length (nth_declaration ds i).marks) a.name (arity a.args) ≡ is_place r i
 
 -- a flag for each declaration: whether it has a clause
 abbrev pub Flagged : List Bool → List Declaration → List Clause → Type 0

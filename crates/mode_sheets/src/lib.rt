@@ -17,16 +17,13 @@ ghost use Rattle.mode_sheets.specs.Flags.{DeclaredOnce, Finds, Flagged};
 use mode_clauses::clause_faults::clauses_fault;
 use mode_lookup::is_match;
 use mode_marks::marks::{Name, find, name_at};
-use mode_marks::{Checked, is_fault};
 use mode_undeclared::undeclared_clauses;
 use syntax::{CLAUSE_START, DECLARATION_SIZE, DECLARATIONS, Refusal};
 use table_words::{past_clause, word_at};
 use texts::same_bytes;
 
-// A flag for each declaration that a sheet may have, and one more for heads without a declaration.
-const FLAGS: usize = DECLARATIONS + 1;
-
-pub type Flags = [bool; FLAGS];
+// A flag for each declaration that a sheet may have.
+pub type Flags = [bool; DECLARATIONS];
 
 // The predicate that needs no clause.
 const SEEN: [u8; 4] = *b"seen";
@@ -52,8 +49,7 @@ fn declares(s: &[u8], declared: &[u32], n: usize, i: usize, name: Name) -> bool
     is_match(s, declared, q, s, at, len, arguments)
 }
 
-// The number of the declaration of the head at a place, of which `near` is tried first: clauses of a predicate stand together. It is `n` where
-// there is none.
+// The number of the declaration of the head at a place, of which `near` is tried first: clauses of a predicate stand together.
 fn head_declaration(
     s: &[u8],
     declared: &[u32],
@@ -61,7 +57,7 @@ fn head_declaration(
     table: &[u32],
     p: usize,
     near: usize,
-) -> usize
+) -> Option<usize>
     requires declarations_at { DeclarationsAt s.now declared.now n }
     requires atom_at { AtomAt s.now table.now p }
     ensures { (d : DeclarationsAt s.now declared.now n) (w : AtomAt s.now table.now p)
@@ -69,7 +65,7 @@ fn head_declaration(
 {
     let name = name_at(table, p);
     if declares(s, declared, n, near, name) {
-        return near;
+        return Some(near);
     }
     let at = name.at;
     let len = name.len;
@@ -83,16 +79,16 @@ fn head_flags(s: &[u8], declared: &[u32], n: usize, table: &[u32], clauses: usiz
     ensures { (w : DeclaredOnce s.now declared.now n table.now clauses)
         → Flagged result w.stands.sheet.declarations w.stands.sheet.clauses }
 {
-    let mut flags = [false; FLAGS];
+    let mut flags = [false; DECLARATIONS];
     let mut at = 0;
-    let mut i = 0;
     let mut near = 0;
-    while i < clauses {
+    for _clause in 0..clauses {
         let head = at + CLAUSE_START;
-        near = head_declaration(s, declared, n, table, head, near);
-        flags[near] = true;
+        if let Some(found) = head_declaration(s, declared, n, table, head, near) {
+            flags[found] = true;
+            near = found;
+        }
         at = past_clause(table, at);
-        i += 1;
     }
     flags
 }
@@ -128,22 +124,26 @@ pub fn may_stay(s: &[u8], declared: &[u32], n: usize, i: usize, written: bool) -
 }
 
 // The first declaration without a clause that may not stand so.
-fn first_unwritten(s: &[u8], declared: &[u32], n: usize, table: &[u32], clauses: usize) -> Checked
+fn first_unwritten(
+    s: &[u8],
+    declared: &[u32],
+    n: usize,
+    table: &[u32],
+    clauses: usize,
+) -> Result<(), Refusal>
     requires { DeclaredOnce s.now declared.now n table.now clauses }
     ensures { (w : DeclaredOnce s.now declared.now n table.now clauses) → result
         ≡ checked_of (first_unwritten w.stands.sheet.clauses w.stands.sheet.declarations) }
 {
     let flags = head_flags(s, declared, n, table, clauses);
-    let mut i = 0;
-    while i < n {
+    for i in 0..n {
         let written = flags[i];
         if !may_stay(s, declared, n, i, written) {
             let byte = word_at(declared, DECLARATION_SIZE * i);
-            return Checked::Fault(Refusal::Unwritten(byte));
+            return Err(Refusal::Unwritten(byte));
         }
-        i += 1;
     }
-    Checked::Fine
+    Ok(())
 }
 
 // Refusal 16, which is passed over for a sheet stored earlier.
@@ -154,13 +154,13 @@ fn unwritten_fault(
     table: &[u32],
     clauses: usize,
     stored: bool,
-) -> Checked
+) -> Result<(), Refusal>
     requires { DeclaredOnce s.now declared.now n table.now clauses }
     ensures { (w : DeclaredOnce s.now declared.now n table.now clauses) → result
         ≡ checked_of (unwritten stored w.stands.sheet) }
 {
     if stored {
-        return Checked::Fine;
+        return Ok(());
     }
     first_unwritten(s, declared, n, table, clauses)
 }
@@ -173,18 +173,12 @@ pub fn check_sheet(
     table: &[u32],
     clauses: usize,
     stored: bool,
-) -> Checked
+) -> Result<(), Refusal>
     requires { DeclaredOnce s.now declared.now n table.now clauses }
     ensures { (w : DeclaredOnce s.now declared.now n table.now clauses) → result
         ≡ checked_of (sheet_fault stored w.stands.sheet) }
 {
-    let undeclared = undeclared_clauses(s, declared, n, table, clauses);
-    if is_fault(undeclared) {
-        return undeclared;
-    }
-    let unwritten = unwritten_fault(s, declared, n, table, clauses, stored);
-    if is_fault(unwritten) {
-        return unwritten;
-    }
+    undeclared_clauses(s, declared, n, table, clauses)?;
+    unwritten_fault(s, declared, n, table, clauses, stored)?;
     clauses_fault(s, declared, n, table, clauses)
 }

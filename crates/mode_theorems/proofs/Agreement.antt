@@ -13,7 +13,7 @@ use lib.ListN.{length}
 use Rattle.syntax.specs.Terms.{Sheet, Goal}
 use Rattle.syntax.specs.Verdicts.{accepted, sheet_of, goal_outcome, sheet_verdict}
 use Rattle.syntax.specs.declared.Refusal.{Refusal}
-use Rattle.syntax.specs.declared.Verdict.TheVariants.{Accepted}
+use Rattle.syntax.specs.Verdicts.{Accepted}
 use Rattle.mode_rules.specs.Modes.{none_ground, Walk, faulted, known, body_fault, undeclared_in_sheet, undeclared_in_goal, clauses_fault, first_of, sheet_fault, walk_fault, goal_fault}
 use Rattle.mode_rules.specs.Written.{unwritten, WrittenOrStored}
 use Rattle.mode_rules.specs.Checking.{faultless, checked_from, checked_with, verdict_with, checked_goal_from, checked_goal, goal_answer, check_goal_from, check_goal_verdict}

@@ -16,8 +16,9 @@ use Rattle.syntax.specs.declared.Text.{Text}
 use Rattle.syntax.specs.declared.Text.TheVariants.{Sheet as in_sheet}
 use Rattle.syntax.specs.declared.Refusal.{Refusal}
 use Rattle.syntax.specs.declared.Refusal.TheVariants.{OpenInput, OpenOutput}
-use Rattle.syntax.specs.declared.Verdict.{Verdict}
-use Rattle.syntax.specs.declared.Verdict.TheVariants.{Accepted, Refused}
+use Rattle.syntax.proofs.VerdictParts.{same_refusal}
+use Rattle.syntax.specs.Verdicts.{Verdict}
+use Rattle.syntax.specs.Verdicts.{Accepted, Refused}
 use Rattle.mode_rules.specs.Modes.{Known, knows, none_ground, is_ground, open_byte, ground_term, ground_terms, ground_both, equate_variable, equate_same, equate, equate_all, settle, marks_for, same_mark, list_of, if_marked, OpenArgument, first_open, ground_if, ground_marked, undeclared_in_sheet, undeclared_in_goal, open_input, open_output, Walk, faulted, known, unless_fault, walk_on, in_both, call_walk, literal_walk, body_fault, start_known, head_fault, clause_fault, clauses_fault, first_of, sheet_fault, walk_fault, goal_fault}
 use Rattle.mode_rules.specs.Written.{unwritten}
 use Rattle.mode_rules.specs.Checking.{faultless, checked_from, checked_with, verdict_with, check_verdict, checked_goal_from, checked_goal, goal_answer, check_goal_from, check_goal_verdict}
@@ -513,14 +514,11 @@ accepted-stays (now_accepted h) n m e = absurd (let z : ◌≡◌ {A = ℕ} 0 1 
 accepted-stays (later h k b) n m e = absurd (let z : ◌≡◌ {A = ℕ} 0 1 = cc in omega arith)
 accepted-stays (goal_tested h) n m e = absurd (let z : ◌≡◌ {A = ℕ} 0 1 = cc in omega arith)
 
-refusal-same : {a b : Text} {q r : Refusal} → Refused a q ≡ Refused b r → q ≡ r
-refusal-same e = cc
-
 other-stays : {v w : Verdict} → VerdictMoved v w → (text : Text) (r : Refusal) → v ≡ Refused text r → ¬ ByMarks r → w ≡ Refused text r
 other-stays stays text r e n = e
-other-stays (now_accepted {r = q} h) text r e n = absurd (n (subst ByMarks (refusal-same e) h))
-other-stays (later {r = q} h k b) text r e n = absurd (n (subst ByMarks (refusal-same e) h))
-other-stays (goal_tested {r = q} h) text r e n = absurd (n (subst ByMarks (refusal-same e) h))
+other-stays (now_accepted {r = q} h) text r e n = absurd (n (subst ByMarks (same_refusal e) h))
+other-stays (later {r = q} h k b) text r e n = absurd (n (subst ByMarks (same_refusal e) h))
+other-stays (goal_tested {r = q} h) text r e n = absurd (n (subst ByMarks (same_refusal e) h))
 
 -- "Sheets and goals accepted so far are accepted still."
 pub accepted-still : (s : List ℕ) (n m : ℕ) → earlier.check_verdict single_pass s ≡ Accepted n m → check_verdict s ≡ Accepted n m

@@ -3,7 +3,6 @@ use Prim.Native.Nat.{ℕ, suc, ◌+◌, ◌≤◌, ◌<◌}
 use native.Mathlib.Numerals.{add-one}
 use native.Mathlib.Omega.{arith}
 use mathlib.Core.Path.{◌≡◌, refl, sym, ap, ◌∙◌, subst⁻¹}
-use mathlib.Core.Bool.{true, false}
 use mathlib.Core.List.{List, [], ◌∷◌, ◌++◌}
 use mathlib.Core.Option.{Option, none, some}
 use lib.ListN.{length, get_or}
@@ -14,9 +13,8 @@ use Rattle.mode_rules.specs.Modes.{undeclared_atom, undeclared_body, undeclared_
 use Rattle.mode_marks.specs.Standing.{ClausesSpelt, clause_stands}
 use Rattle.table_words.specs.Tables.{Has}
 use Rattle.mode_marks.specs.Tables.{TermAt, AtomAt, BodyAt, ClauseAt, ClausesAt}
-use Rattle.mode_marks.specs.Answers.{checked_of, is_fault}
-use Rattle.mode_marks.specs.declared.Checked.{Checked}
-use Rattle.mode_marks.specs.declared.Checked.TheVariants.{Fine}
+use Rattle.std.specs.Prelude.{Ok, Err}
+use Rattle.mode_marks.specs.Answers.{Checked, checked_of}
 use Rattle.table_words.proofs.Laws.{Node, has_left, has_right, clause-says}
 use Rattle.mode_marks.proofs.Places.{numbered}
 use Rattle.mode_undeclared.proofs.Faults.{fault-stays, fine-goes}
@@ -58,17 +56,17 @@ module _ (s table : List ℕ) (p literals : ℕ) (el : literals ≡ get_or table
 -- ---- refusal 8 of a clause
 
 module _ (ds : List Declaration) (s table : List ℕ) (p c : ℕ) (f : Checked) (ef : (a : AtomAt s table (p + 3)) → f ≡ checked_of (undeclared_atom ds c 0 a.atom)) where
-  pub clause-undeclared : is_fault f ≡ true → (w : ClauseAt s table p) → f ≡ checked_of (undeclared_clause ds c w.clause)
+  pub clause-undeclared : {r : Refusal} → f ≡ Err r → (w : ClauseAt s table p) → Err r ≡ checked_of (undeclared_clause ds c w.clause)
   unfolding undeclared_clause
-  clause-undeclared t w = fault-stays (undeclared_atom ds c 0 w.clause.head) (undeclared_body ds c 1 w.clause.body) f (ef (head-at w)) t
+  clause-undeclared t w = fault-stays (undeclared_atom ds c 0 w.clause.head) (undeclared_body ds c 1 w.clause.body) (ef (head-at w)) t
 
-  pub clause-body : is_fault f ≡ false → (literals : ℕ) → literals ≡ get_or table (p + 2) 0 → (first : ℕ) → ((u : TermAt table (p + 3)) → first ≡ p + 3 + length (term_words u.term))
+  pub clause-body : f ≡ Ok tt → (literals : ℕ) → literals ≡ get_or table (p + 2) 0 → (first : ℕ) → ((u : TermAt table (p + 3)) → first ≡ p + 3 + length (term_words u.term))
       → (r : Checked) → ((b : BodyAt s table first literals) → r ≡ checked_of (undeclared_body ds c 1 b.body)) → (w : ClauseAt s table p)
       → r ≡ checked_of (undeclared_clause ds c w.clause)
   unfolding undeclared_clause
   clause-body t literals el first e1 r h w =
       h (body_at s table p literals el first e1 w)
-      ∙ sym (ap checked_of (fine-goes (undeclared_atom ds c 0 w.clause.head) (undeclared_body ds c 1 w.clause.body) f (ef (head-at w)) t))
+      ∙ sym (ap checked_of (fine-goes (undeclared_atom ds c 0 w.clause.head) (undeclared_body ds c 1 w.clause.body) (ef (head-at w)) t))
 
 -- ---- the clauses in turn
 
@@ -112,7 +110,7 @@ module _ {s table : List ℕ} {at i clauses : ℕ} {whole : Option Refusal} {res
   pub turn : i < clauses → (a : Ahead s table at i clauses whole rest) → Turn s table at i clauses a.list
   turn l a = turn_by s table at i clauses a.list l a.has a.count a.stand
 
-  pub ended : clauses ≤ i → (a : Ahead s table at i clauses whole rest) → rest (suc i) [] ≡ none → Fine ≡ checked_of whole
+  pub ended : clauses ≤ i → (a : Ahead s table at i clauses whole rest) → rest (suc i) [] ≡ none → Ok tt ≡ checked_of whole
   ended l a e = sym (ap checked_of (a.same ∙ ap (rest (suc i)) (over i clauses a.list l a.count) ∙ e))
 
   -- `one` is the fault of one clause
@@ -126,11 +124,11 @@ module _ {s table : List ℕ} {at i clauses : ℕ} {whole : Option Refusal} {res
         → whole ≡ elim (one (suc i) (turn l a).clause.clause) as (λ _. Option Refusal) [ none ↦ rest (suc (suc i)) (turn l a).left | some r ↦ some r ]
     whole_is a = a.same ∙ ap (rest (suc i)) (turn l a).is ∙ goes (suc i) (turn l a).clause.clause (turn l a).left
 
-    pub clauses-stopped : is_fault f ≡ true → (a : Ahead s table at i clauses whole rest) → f ≡ checked_of whole
+    pub clauses-stopped : {r : Refusal} → f ≡ Err r → (a : Ahead s table at i clauses whole rest) → Err r ≡ checked_of whole
     clauses-stopped t a =
-        fault-stays (one (suc i) (turn l a).clause.clause) (rest (suc (suc i)) (turn l a).left) f (here a) t ∙ sym (ap checked_of (whole_is a))
+        fault-stays (one (suc i) (turn l a).clause.clause) (rest (suc (suc i)) (turn l a).left) (here a) t ∙ sym (ap checked_of (whole_is a))
 
-    pub clauses-on : is_fault f ≡ false → (next : ℕ) → ((w : ClauseAt s table at) → next ≡ at + length (clause_words w.clause))
+    pub clauses-on : f ≡ Ok tt → (next : ℕ) → ((w : ClauseAt s table at) → next ≡ at + length (clause_words w.clause))
         → (a : Ahead s table at i clauses whole rest) → Ahead s table next (i + 1) clauses whole rest
     clauses-on t next n a =
         let z : Turn s table at i clauses a.list = turn l a in
@@ -139,7 +137,7 @@ module _ {s table : List ℕ} {at i clauses : ℕ} {whole : Option Refusal} {res
           has = subst⁻¹ (λ (k : ℕ). Has table k (clauses_words z.left)) (n z.clause) z.has;
           count = omega (arith, z.count);
           stand = z.stand;
-          same = whole_is a ∙ fine-goes (one (suc i) z.clause.clause) (rest (suc (suc i)) z.left) f (here a) t
+          same = whole_is a ∙ fine-goes (one (suc i) z.clause.clause) (rest (suc (suc i)) z.left) (here a) t
               ∙ ap (λ (k : ℕ). rest (suc k) z.left) (sym (add-one i));
         }
 

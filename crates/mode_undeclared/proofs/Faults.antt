@@ -1,19 +1,18 @@
 -- Laws of a first fault and what comes after it. Assumes nothing.
 use Prim.Native.Nat.{ℕ}
 use native.Mathlib.Omega.{arith}
-use mathlib.Core.Path.{◌≡◌, refl, sym, ap, ◌∙◌}
-use mathlib.Core.Bool.{Bool, true, false}
+use mathlib.Core.Path.{◌≡◌, refl, sym, ◌∙◌}
 use mathlib.Core.Option.{Option, none, some}
+use Rattle.std.specs.Prelude.{Ok, Err}
 use Rattle.syntax.specs.declared.Refusal.{Refusal}
-use Rattle.mode_marks.specs.Answers.{checked_of, is_fault}
-use Rattle.mode_marks.specs.declared.Checked.{Checked}
+use Rattle.mode_marks.specs.Answers.{Checked, checked_of}
 
-pub fault-stays : (o rest : Option Refusal) (f : Checked) → f ≡ checked_of o → is_fault f ≡ true
-    → f ≡ checked_of (elim o as (λ _. Option Refusal) [ none ↦ rest | some r ↦ some r ])
-fault-stays none rest f e t = let z : ◌≡◌ {A = Bool} false true = sym (ap is_fault e) ∙ t in let y : ◌≡◌ {A = ℕ} 0 1 = cc in absurd (omega arith)
-fault-stays (some r) rest f e t = e
+pub fault-stays : (o rest : Option Refusal) {f : Checked} {r : Refusal} → f ≡ checked_of o → f ≡ Err r
+    → Err r ≡ checked_of (elim o as (λ _. Option Refusal) [ none ↦ rest | some q ↦ some q ])
+fault-stays none rest {f} {r} e t = let z : ◌≡◌ {A = Checked} (Ok tt) (Err r) = sym e ∙ t in let y : ◌≡◌ {A = ℕ} 0 1 = cc in absurd (omega arith)
+fault-stays (some q) rest e t = sym t ∙ e
 
-pub fine-goes : (o rest : Option Refusal) (f : Checked) → f ≡ checked_of o → is_fault f ≡ false
+pub fine-goes : (o rest : Option Refusal) {f : Checked} → f ≡ checked_of o → f ≡ Ok tt
     → elim o as (λ _. Option Refusal) [ none ↦ rest | some r ↦ some r ] ≡ rest
-fine-goes none rest f e t = refl
-fine-goes (some r) rest f e t = let z : ◌≡◌ {A = Bool} true false = sym (ap is_fault e) ∙ t in let y : ◌≡◌ {A = ℕ} 0 1 = cc in absurd (omega arith)
+fine-goes none rest e t = refl
+fine-goes (some r) rest e t = let z : ◌≡◌ {A = Checked} (Ok tt) (Err r) = sym t ∙ e in let y : ◌≡◌ {A = ℕ} 0 1 = cc in absurd (omega arith)

@@ -2,7 +2,6 @@
 use Prim.Native.Nat.{ℕ, ◌+◌, ◌≤◌, ◌<◌}
 use native.Mathlib.Omega.{arith}
 use mathlib.Core.Path.{◌≡◌, refl, sym, ap, ◌∙◌, subst⁻¹}
-use mathlib.Core.Bool.{true, false}
 use mathlib.Core.List.{List, [], ◌∷◌, ◌++◌, append_assoc, append-nil}
 use mathlib.Core.Option.{Option, none, some}
 use lib.ListN.{length, get_or}
@@ -16,9 +15,8 @@ use Rattle.table_words.proofs.Items.{View, view_truth, view_falsity, view_call, 
 use Rattle.table_words.proofs.Items as of
 use Rattle.mode_marks.specs.Standing.{LiteralSpelt, call_stands, either_stands, BodySpelt, also_stands}
 use Rattle.mode_marks.specs.Tables.{AtomAt, BodyAt}
-use Rattle.mode_marks.specs.Answers.{checked_of, is_fault}
-use Rattle.mode_marks.specs.declared.Checked.{Checked}
-use Rattle.mode_marks.specs.declared.Checked.TheVariants.{Fine}
+use Rattle.std.specs.Prelude.{Ok, Err}
+use Rattle.mode_marks.specs.Answers.{Checked, checked_of}
 use Rattle.mode_undeclared.specs.Items.{literals_at, undeclared_item, ItemSpelt, ItemAt}
 use Rattle.mode_undeclared.proofs.Faults.{fault-stays, fine-goes}
 
@@ -55,7 +53,7 @@ module _ (table : List ℕ) (p word : ℕ) (e : word ≡ get_or table p 0) where
   pub one_literal : word < left_kind → (x : Item) → Has table p (item_words x) → 1 ≡ literals_at x
   one_literal k x h = one-by k (view table p x h)
 
-fine-by : {table : List ℕ} {p word : ℕ} {x : Item} → word ≡ get_or table p 0 → (word ≡ call_kind → ⊥) → View table p x → (ds : List Declaration) (c m : ℕ) → Fine ≡ checked_of (undeclared_item ds c m x)
+fine-by : {table : List ℕ} {p word : ℕ} {x : Item} → word ≡ get_or table p 0 → (word ≡ call_kind → ⊥) → View table p x → (ds : List Declaration) (c m : ℕ) → Ok tt ≡ checked_of (undeclared_item ds c m x)
 fine-by e k (view_truth q) ds c m = refl
 fine-by e k (view_falsity q) ds c m = refl
 fine-by e k (view_call q h) ds c m = absurd (k (e ∙ q))
@@ -70,7 +68,7 @@ record CallItem (g table : List ℕ) (p : ℕ) (x : Item) : Type 0 where
   is : x ≡ plain_call atom.atom
 
 module _ {g table : List ℕ} {p word : ℕ} (e : word ≡ get_or table p 0) where
-  pub no_call : (word ≡ call_kind → ⊥) → (ds : List Declaration) (c m : ℕ) (w : ItemAt g table p) → Fine ≡ checked_of (undeclared_item ds c m w.item)
+  pub no_call : (word ≡ call_kind → ⊥) → (ds : List Declaration) (c m : ℕ) (w : ItemAt g table p) → Ok tt ≡ checked_of (undeclared_item ds c m w.item)
   no_call k ds c m w = fine-by e k (view table p w.item w.has) ds c m
 
   call_by : {x : Item} → word ≡ call_kind → View table p x → ItemSpelt g x → CallItem g table p x
@@ -242,7 +240,7 @@ over i many [] l e = refl
 over i many (x ∷ xs) l e = absurd (omega arith)
 
 module _ {ds : List Declaration} {c : ℕ} {g table : List ℕ} {at i many literal : ℕ} {whole : Option Refusal} where
-  pub left-none : many ≤ i → Left ds c g table at i many literal whole → Fine ≡ checked_of whole
+  pub left-none : many ≤ i → Left ds c g table at i many literal whole → Ok tt ≡ checked_of whole
   unfolding undeclared_items
   left-none l a = sym (ap checked_of (a.same ∙ ap (undeclared_items ds c literal) (over i many a.rest l a.count)))
 
@@ -255,12 +253,12 @@ module _ {ds : List Declaration} {c : ℕ} {g table : List ℕ} {at i many liter
     whole_is = a.same ∙ ap (undeclared_items ds c literal) first.is
 
     module _ {f : Checked} (ef : (w : ItemAt g table at) → f ≡ checked_of (undeclared_item ds c literal w.item)) where
-      pub left-stops : is_fault f ≡ true → f ≡ checked_of whole
+      pub left-stops : {r : Refusal} → f ≡ Err r → Err r ≡ checked_of whole
       left-stops t =
-          fault-stays (undeclared_item ds c literal first.item.item) (undeclared_items ds c (literals_at first.item.item + literal) first.others) f (ef first.item) t
+          fault-stays (undeclared_item ds c literal first.item.item) (undeclared_items ds c (literals_at first.item.item + literal) first.others) (ef first.item) t
           ∙ sym (ap checked_of whole_is)
 
-      pub left-on : is_fault f ≡ false → {gone next : ℕ} → ((x : Item) → Has table at (item_words x) → gone ≡ literals_at x)
+      pub left-on : f ≡ Ok tt → {gone next : ℕ} → ((x : Item) → Has table at (item_words x) → gone ≡ literals_at x)
           → ((x : Item) → Has table at (item_words x) → next ≡ at + length (item_words x)) → Left ds c g table next (i + 1) many (literal + gone) whole
       left-on t {gone} {next} m n =
           let k : literals_at first.item.item + literal ≡ literal + gone = omega (arith, m first.item.item first.item.has) in
@@ -271,7 +269,7 @@ module _ {ds : List Declaration} {c : ℕ} {g table : List ℕ} {at i many liter
             stand = first.stand;
             same =
                 whole_is
-                ∙ fine-goes (undeclared_item ds c literal first.item.item) (undeclared_items ds c (literals_at first.item.item + literal) first.others) f (ef first.item) t
+                ∙ fine-goes (undeclared_item ds c literal first.item.item) (undeclared_items ds c (literals_at first.item.item + literal) first.others) (ef first.item) t
                 ∙ ap (λ (j : ℕ). undeclared_items ds c j first.others) k;
           }
 

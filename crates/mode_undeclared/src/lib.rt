@@ -11,8 +11,7 @@ ghost use Rattle.table_words.specs.Items.{Item, item_words};
 ghost use Rattle.mode_undeclared.specs.Items.{ItemAt, undeclared_item, literals_at};
 
 use mode_marks::marks::{find_atom, is_near, undeclared_atom};
-use mode_marks::{Checked, is_fault};
-use syntax::{CALL_KIND, CLAUSE_START, LEFT_KIND};
+use syntax::{CALL_KIND, CLAUSE_START, LEFT_KIND, Refusal};
 use table_words::{CLAUSE_ITEMS, past, past_clause, past_item, word_at};
 
 // The fault of an item that is a call without declaration.
@@ -26,14 +25,14 @@ fn undeclared_item(
     clause: usize,
     literal: usize,
     near: usize,
-) -> Checked
+) -> Result<(), Refusal>
     requires declarations_at { DeclarationsAt s.now declared.now n }
     requires item_at { ItemAt g.now table.now p }
     ensures { (d : DeclarationsAt s.now declared.now n) (w : ItemAt g.now table.now p)
         → result ≡ checked_of (undeclared_item d.list clause literal w.item) }
 {
     if word_at(table, p) != CALL_KIND {
-        return Checked::Fine;
+        return Ok(());
     }
     let q = p + 1;
     undeclared_atom(s, declared, n, g, table, q, clause, literal, near)
@@ -61,25 +60,20 @@ pub fn undeclared_body(
     items: usize,
     clause: usize,
     near: usize,
-) -> Checked
+) -> Result<(), Refusal>
     requires declarations_at { DeclarationsAt s.now declared.now n }
     requires body_at { BodyAt g.now table.now p items }
     ensures { (d : DeclarationsAt s.now declared.now n) (w : BodyAt g.now table.now p items)
         → result ≡ checked_of (undeclared_body d.list clause 1 w.body) }
 {
     let mut at = p;
-    let mut i = 0;
     let mut literal = 1;
-    while i < items {
-        let fault = undeclared_item(s, declared, n, g, table, at, clause, literal, near);
-        if is_fault(fault) {
-            return fault;
-        }
-        literal = literal + literals_at(table, at);
+    for _item in 0..items {
+        undeclared_item(s, declared, n, g, table, at, clause, literal, near)?;
+        literal += literals_at(table, at);
         at = past_item(table, at);
-        i = i + 1;
     }
-    Checked::Fine
+    Ok(())
 }
 
 // The number of the declaration of a clause's head, of which `near` is tried first. It only says where to look first, so any number would do.
@@ -91,7 +85,7 @@ fn head_near(s: &[u8], declared: &[u32], n: usize, table: &[u32], p: usize, near
     if is_near(s, declared, n, s, table, head, near) {
         return near;
     }
-    find_atom(s, declared, n, s, table, head)
+    find_atom(s, declared, n, s, table, head).unwrap_or(near)
 }
 
 // The first of a clause's head and calls that has no declaration.
@@ -103,7 +97,7 @@ fn undeclared_clause(
     p: usize,
     clause: usize,
     near: usize,
-) -> Checked
+) -> Result<(), Refusal>
     requires declarations_at { DeclarationsAt s.now declared.now n }
     requires clause_at { ClauseAt s.now table.now p }
     ensures { (d : DeclarationsAt s.now declared.now n) (w : ClauseAt s.now table.now p) → result
@@ -111,10 +105,7 @@ fn undeclared_clause(
 {
     let items = word_at(table, p + CLAUSE_ITEMS);
     let head = p + CLAUSE_START;
-    let fault = undeclared_atom(s, declared, n, s, table, head, clause, 0, near);
-    if is_fault(fault) {
-        return fault;
-    }
+    undeclared_atom(s, declared, n, s, table, head, clause, 0, near)?;
     let first = past(table, head);
     undeclared_body(s, declared, n, s, table, first, items, clause, near)
 }
@@ -126,24 +117,18 @@ pub fn undeclared_clauses(
     n: usize,
     table: &[u32],
     clauses: usize,
-) -> Checked
+) -> Result<(), Refusal>
     requires declarations_at { DeclarationsAt s.now declared.now n }
     requires clauses_at { ClausesAt s.now table.now 0 clauses }
     ensures { (d : DeclarationsAt s.now declared.now n) (w : ClausesAt s.now table.now 0 clauses) → result
         ≡ checked_of (undeclared_clauses d.list 1 w.list) }
 {
     let mut at = 0;
-    let mut i = 0;
     let mut near = 0;
-    while i < clauses {
-        let number = i + 1;
+    for i in 0..clauses {
         near = head_near(s, declared, n, table, at, near);
-        let fault = undeclared_clause(s, declared, n, table, at, number, near);
-        if is_fault(fault) {
-            return fault;
-        }
+        undeclared_clause(s, declared, n, table, at, i + 1, near)?;
         at = past_clause(table, at);
-        i = number;
     }
-    Checked::Fine
+    Ok(())
 }

@@ -86,7 +86,8 @@ fn append_again(
     limit: usize,
 ) -> usize
     requires some_values { SomeValues nodes.now state.now symbols.now sheet.now goal.now stack.old names.now count }
-    requires some_numbers { (SomeNumbers numbers.old) × ((at + 400 < 2 ^ 64) × ((limit + 400 < 2 ^ 64) × Ample stack.old ((limit - at) * open_size + 2 * open_size))) }
+    requires some_numbers { (SomeNumbers numbers.old) × ((at + 400 < 2 ^ 64) × ((limit + 400 < 2 ^ 64)
+        × Ample stack.old ((limit - at) * open_size + 2 * open_size))) }
     ensures { (ss : List Symbol) (n : ℕ) → Values ss n nodes.now state.now symbols.now sheet.now
         goal.now stack.old names.now count
         → Lined limit (bytes_of [] (values_from (bindings ss nodes.now state.now n) 0 []

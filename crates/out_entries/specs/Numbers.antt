@@ -1,13 +1,12 @@
 -- A declaration as a list of numbers, for callers in other languages.
-use Rattle.std.specs.Prelude.{ℕ, List, [], ◌∷◌}
-use Rattle.syntax.specs.declared.Declared.{Declared}
-use Rattle.syntax.specs.declared.Declared.TheVariants.{As, Nothing}
+use Rattle.std.specs.Prelude.{ℕ, List, [], ◌∷◌, Option, Some, None}
+use Rattle.syntax.specs.declared.Entry.{Entry}
 
 -- which of the lists of numbers, and of the functions that give them, a library has
 abbrev pub version : ℕ
 version = 2
 
 -- a declaration: byte and length of its name, number of arguments; nothing where there is none
-unfoldable pub entry_numbers : Declared → List ℕ
-entry_numbers (As entry) = entry.at ∷ entry.len ∷ entry.arguments ∷ []
-entry_numbers Nothing = []
+unfoldable pub entry_numbers : Option Entry → List ℕ
+entry_numbers (Some entry) = entry.at ∷ entry.len ∷ entry.arguments ∷ []
+entry_numbers None = []

@@ -8,7 +8,7 @@ ghost use Rattle.std.proofs.lemmas.List.Edits.{sets};
 ghost use Rattle.out_entries.specs.Numbers.{version, entry_numbers};
 
 use out_storing::put_numbers;
-use syntax::Declared;
+use syntax::Entry;
 
 // The lists of numbers that this library gives.
 const VERSION: usize = 2;
@@ -21,15 +21,16 @@ pub fn version_number() -> usize
 }
 
 // A declaration; how many numbers it has is returned, 0 where there is none.
-pub fn put_entry(declared: Declared, out: &mut [usize]) -> usize
+#[tactic(auto, unfolding(crate::specs::Numbers::entry_numbers))]
+pub fn put_entry(declared: Option<Entry>, out: &mut [usize]) -> usize
     ensures is { result ≡ length (entry_numbers declared) }
     ensures numbers { out.new ≡ sets out.old 0 (entry_numbers declared) }
 {
     match declared {
-        Declared::As(entry) => {
+        Some(entry) => {
             let numbers = [entry.at, entry.len, entry.arguments];
             put_numbers(&numbers, out, 0)
         }
-        Declared::Nothing => 0,
+        None => 0,
     }
 }

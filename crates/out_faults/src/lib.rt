@@ -5,11 +5,12 @@
 ghost use Rattle.std.specs.Prelude.{◌≡◌};
 ghost use Rattle.out_faults.specs.Numbers.{text_number, fault_numbers};
 
-use syntax::{Refusal, Text};
+use syntax::{Fault, Text};
 
 // How many numbers a fault has.
 pub const FAULT: usize = 8;
 
+// A `From<Text>` would have to stand beside the type, in a crate that knows nothing of these numbers.
 fn text_number(text: Text) -> usize
     ensures { result ≡ text_number text }
 {
@@ -22,12 +23,13 @@ fn text_number(text: Text) -> usize
 }
 
 // A refusal, in the order in which it is told.
-pub fn fault_numbers(text: Text, refusal: Refusal) -> [usize; FAULT]
-    ensures { result ≡ fault_numbers text refusal }
+#[tactic(auto, unfolding(crate::specs::Numbers::fault_numbers))]
+pub fn fault_numbers(fault: Fault) -> [usize; FAULT]
+    ensures { result ≡ fault_numbers fault.text fault.refusal }
 {
-    let which = text_number(text);
-    let five = refusals::numbers(refusal);
-    let name = out_names::name_span(refusal);
+    let which = text_number(fault.text);
+    let five = refusals::numbers(fault.refusal);
+    let name = out_names::name_span(fault.refusal);
     [
         which,
         five.number,

@@ -5,7 +5,7 @@ use mathlib.Core.List.{List, [], ◌∷◌}
 use Rattle.syntax.specs.Quote.{bytes}
 use Rattle.syntax.specs.declared.Text.TheVariants.{Sheet, Goal, Trace, Neither}
 use Rattle.syntax.specs.declared.Refusal.TheVariants.{Settings, Misplaced, OpenOutput, BadTrace, TraceOverLimit}
-use Rattle.syntax.specs.declared.Verdict.TheVariants.{Accepted, Refused}
+use Rattle.syntax.specs.Verdicts.{Accepted, Refused}
 use Rattle.buffers.specs.Buffers.{digits, decimal}
 use Rattle.out_lines.specs.Lines.{line_of}
 

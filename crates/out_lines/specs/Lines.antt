@@ -1,6 +1,6 @@
 -- The line of a verdict (document 01, "Two programs and what they print"), as a list of bytes.
 use Rattle.std.specs.Prelude.{ℕ, List, [], ◌∷◌, ◌++◌}
-use Rattle.syntax.specs.declared.Verdict.{Verdict}
+use Rattle.syntax.specs.Verdicts.{Verdict}
 use Rattle.out_verdicts.specs.Words.{verdict_words}
 
 -- a space and the name handed back, nothing where it is empty

@@ -1,13 +1,10 @@
 -- The entries of a sheet's declarations, written over a caller's list as far as it goes.
-use Rattle.std.specs.Prelude.{ℕ, zero, suc, ◌+◌, ◌*◌, ◌≤◌, ◌≡◌, cond, List, [], ◌∷◌, leb, length, get_or, set}
+use Rattle.std.specs.Prelude.{ℕ, zero, suc, ◌+◌, ◌*◌, ◌≤◌, ◌≡◌, cond, List, [], ◌∷◌, leb, length, get_or, set, Option, Some, None, Ok, Err}
 use Rattle.syntax.specs.Limits.{declarations}
 use Rattle.syntax.specs.Words.{declaration_size, declared_words}
 use Rattle.syntax.specs.Terms.{Sheet, Declaration}
-use Rattle.syntax.specs.declared.Declared.{Declared}
-use Rattle.syntax.specs.declared.Declared.TheVariants.{Nothing, As}
 use Rattle.syntax.specs.Verdicts.{Outcome, refused, accepted, sheet_verdict, entry_of}
-use Rattle.syntax.specs.declared.Verdict.{Verdict}
-use Rattle.syntax.specs.declared.Verdict.TheVariants.{Accepted, Refused}
+use Rattle.syntax.specs.Verdicts.{Verdict}
 use Rattle.syntax.specs.declared.Entry.{Entry}
 use Rattle.out_listings.specs.declared.Listing.{Listing}
 
@@ -23,8 +20,8 @@ declared_of (refused r) = []
 declared_of (accepted sh) = sh.declarations
 
 unfoldable pub listed_of : Verdict → ℕ → ℕ
-listed_of (Accepted n k) room = cond (leb n room) n room
-listed_of (Refused t r) room = 0
+listed_of (Ok counts) room = cond (leb counts.declarations room) counts.declarations room
+listed_of (Err fault) room = 0
 
 -- the entry of the i-th declaration
 abbrev pub entry_from : List ℕ → ℕ → Entry
@@ -35,8 +32,8 @@ entry_from words i = record {
 }
 
 -- the entry of the i-th of n declarations, four words each
-abbrev pub entry_words : List ℕ → ℕ → ℕ → Declared
-entry_words declared n i = cond (leb n i) Nothing (As (record {
+abbrev pub entry_words : List ℕ → ℕ → ℕ → Option Entry
+entry_words declared n i = cond (leb n i) None (Some (record {
   at = get_or declared (declaration_size * i) 0;
   len = get_or declared (declaration_size * i + 1) 0;
   arguments = get_or declared (declaration_size * i + 2) 0;

@@ -6,22 +6,22 @@ ghost use Rattle.std.specs.Prelude.{◌≡◌, ◌*◌, ◌≤◌, length};
 ghost use Rattle.syntax.specs.Words.{declaration_size};
 ghost use Rattle.out_listings.specs.Listings.{entry_words, listed_of};
 
-use syntax::{DECLARATION_SIZE, DECLARED_WORDS, Declared, Entry, Verdict};
+use syntax::{DECLARATION_SIZE, DECLARED_WORDS, Entry, Verdict};
 use table_words::word_at;
 
 // The entry of the i-th of n declarations that stand in a table.
-pub fn entry_of(declared: &[u32], n: usize, i: usize) -> Declared
+pub fn entry_of(declared: &[u32], n: usize, i: usize) -> Option<Entry>
     requires { declaration_size * n ≤ length declared.now }
     ensures { result ≡ entry_words declared.now n i }
 {
     if n <= i {
-        return Declared::Nothing;
+        return None;
     }
     let p = DECLARATION_SIZE * i;
     let at = word_at(declared, p);
     let len = word_at(declared, p + 1);
     let arguments = word_at(declared, p + 2);
-    Declared::As(Entry { at, len, arguments })
+    Some(Entry { at, len, arguments })
 }
 
 // The answer to a sheet, with its declarations as the table holds them, and how many of them a list takes.
@@ -37,18 +37,7 @@ pub fn listed(verdict: Verdict, room: usize) -> usize
     ensures { result ≡ listed_of verdict room }
 {
     match verdict {
-        Verdict::Accepted {
-            declarations,
-            clauses: _,
-        } => {
-            if declarations <= room {
-                return declarations;
-            }
-            room
-        }
-        Verdict::Refused {
-            text: _,
-            refusal: _,
-        } => 0,
+        Ok(counts) => counts.declarations.min(room),
+        Err(_) => 0,
     }
 }

@@ -20,27 +20,9 @@ pub fn name_span(refusal: Refusal) -> Span
     ensures { (result.at ≡ (name_span refusal).0) × (result.len ≡ (name_span refusal).1) }
 {
     match refusal {
-        Refusal::Undeclared {
-            clause: _,
-            literal: _,
-            at,
-            len,
-        } => Span { at, len },
-        Refusal::OpenInput {
-            byte: _,
-            clause: _,
-            literal: _,
-            argument: _,
-            at,
-            len,
-        } => Span { at, len },
-        Refusal::OpenOutput {
-            byte: _,
-            clause: _,
-            argument: _,
-            at,
-            len,
-        } => Span { at, len },
+        Refusal::Undeclared { at, len, .. }
+        | Refusal::OpenInput { at, len, .. }
+        | Refusal::OpenOutput { at, len, .. } => Span { at, len },
         _ => Span { at: 0, len: 0 },
     }
 }
@@ -49,16 +31,8 @@ pub fn name_span(refusal: Refusal) -> Span
 fn part<'a>(text: &'a [u8], at: usize, len: usize) -> &'a [u8]
     ensures { result.now ≡ spelling text.now at len }
 {
-    let all = text.len();
-    if all <= at {
-        return &text[all..];
-    }
-    let left = all - at;
-    if left <= len {
-        return &text[at..];
-    }
-    let end = at + len;
-    &text[at..end]
+    let rest = &text[at.min(text.len())..];
+    &rest[..len.min(rest.len())]
 }
 
 // The part of the text at fault.
@@ -66,38 +40,23 @@ fn part_at_fault<'a>(sheet: &'a [u8], goal: &'a [u8], text: Text, at: usize, len
     ensures { result.now ≡ spelling (text_at_fault sheet.now goal.now text) at len }
 {
     match text {
-        Text::Sheet => {
-            return part(sheet, at, len);
-        }
-        Text::Goal => {
-            return part(goal, at, len);
-        }
-        Text::Trace => {
-            return &sheet[..0];
-        }
-        Text::Neither => {
-            return &sheet[..0];
-        }
+        Text::Sheet => part(sheet, at, len),
+        Text::Goal => part(goal, at, len),
+        Text::Trace | Text::Neither => &sheet[..0],
     }
 }
 
 // The name that a verdict on a sheet, or on a goal over it, hands back: for refusals 8 to 10 the predicate's, as the part of
 // the sheet or goal where it stands; otherwise an empty part.
+#[tactic(auto, unfolding(mode_rules::specs::Checking::fault_name))]
 pub fn fault_name<'a>(sheet: &'a [u8], goal: &'a [u8], verdict: Verdict) -> &'a [u8]
     ensures { result.now ≡ fault_name sheet.now goal.now verdict }
 {
     match verdict {
-        Verdict::Accepted {
-            declarations: _,
-            clauses: _,
-        } => {
-            return &sheet[..0];
-        }
-        Verdict::Refused { text, refusal } => {
-            let span = name_span(refusal);
-            let at = span.at;
-            let len = span.len;
-            return part_at_fault(sheet, goal, text, at, len);
+        Ok(_) => &sheet[..0],
+        Err(fault) => {
+            let span = name_span(fault.refusal);
+            part_at_fault(sheet, goal, fault.text, span.at, span.len)
         }
     }
 }

@@ -5,11 +5,13 @@
 
 ghost use Rattle.std.specs.Prelude.{◌≡◌, ◌++◌, ◌≤◌, length};
 ghost use Rattle.std.proofs.lemmas.List.Edits.{sets};
+ghost use Rattle.run_results.specs.Results.{run_of, bytes_of};
 ghost use Rattle.out_numbers.specs.Numbers.{verdict_numbers, run_numbers, refusal_in};
 
 use out_faults::{FAULT, fault_numbers};
 use out_storing::put_numbers;
-use syntax::{Run, Verdict};
+use run_results::Written;
+use syntax::{Fault, Verdict};
 
 // Which of a fault's numbers is the refusal's:
 const NUMBER: usize = 1;
@@ -31,44 +33,30 @@ fn put_both(fault: [usize; FAULT], rest: &[usize], out: &mut [usize]) -> usize
 }
 
 // A verdict; the number of its refusal is returned, 0 for none.
+#[tactic(auto, unfolding(crate::specs::Numbers::verdict_numbers))]
 pub fn put_verdict(verdict: Verdict, out: &mut [usize]) -> usize
     ensures is { result ≡ refusal_in (verdict_numbers verdict) }
     ensures numbers { out.new ≡ sets out.old 0 (verdict_numbers verdict) }
 {
     match verdict {
-        Verdict::Accepted {
-            declarations,
-            clauses,
-        } => {
-            let fault = [0; FAULT];
-            let counts = [declarations, clauses];
-            put_both(fault, &counts, out)
-        }
-        Verdict::Refused { text, refusal } => {
-            let fault = fault_numbers(text, refusal);
-            let counts = [0; COUNTS];
-            put_both(fault, &counts, out)
-        }
+        Ok(counts) => put_both([0; FAULT], &[counts.declarations, counts.clauses], out),
+        Err(fault) => put_both(fault_numbers(fault), &[0; COUNTS], out),
     }
 }
 
-// The answer to a run that has written so many bytes; returned as above.
-pub fn put_run(run: Run, bytes: usize, out: &mut [usize]) -> usize
-    ensures is { result ≡ refusal_in (run_numbers run bytes) }
-    ensures numbers { out.new ≡ sets out.old 0 (run_numbers run bytes) }
+// The answer to a run that writes; returned as above.
+#[tactic(auto, unfolding(crate::specs::Numbers::run_numbers))]
+pub fn put_run(run: Result<Written, Fault>, out: &mut [usize]) -> usize
+    ensures is { result ≡ refusal_in (run_numbers (run_of run) (bytes_of run)) }
+    ensures numbers { out.new ≡ sets out.old 0 (run_numbers (run_of run) (bytes_of run)) }
 {
     match run {
-        Run::Ended(report) => {
-            let fault = [0; FAULT];
-            let kind = report.kind;
-            let number = out_reports::kind_number(kind);
-            let rest = [number, report.answers, report.steps, bytes];
-            put_both(fault, &rest, out)
+        Ok(written) => {
+            let report = written.report;
+            let kind = out_reports::kind_number(report.kind);
+            let rest = [kind, report.answers, report.steps, written.bytes];
+            put_both([0; FAULT], &rest, out)
         }
-        Run::Refused { text, refusal } => {
-            let fault = fault_numbers(text, refusal);
-            let rest = [0; REPORT];
-            put_both(fault, &rest, out)
-        }
+        Err(fault) => put_both(fault_numbers(fault), &[0; REPORT], out),
     }
 }

@@ -1,4 +1,6 @@
-// Prints an answer as every program does, to any writer. After an error only a part may be written.
+// Prints an answer as every program does, to any writer. After an error only a part may be written. The bytes are those of `out_lines` and
+// `out_reports`: a verdict is std's `Result`, for which only std may write a `Display`, and that of a report would have to stand in `syntax`, which knows
+// nothing of lines.
 
 #![tactic(auto)]
 
@@ -9,7 +11,7 @@ ghost use Rattle.out_printing.specs.Prints.{printed_line, printed_lines, printed
 
 use buffers::past_lines;
 use std::io::{Result, Write};
-use syntax::{Kind, Report, Run, Verdict};
+use syntax::{Report, Run, Verdict};
 
 // Prints the line of a verdict, with the name handed back if there is one. The words of a verdict take at most 118 bytes
 // and a name of a sheet or goal 31; with a longer name, that of no sheet, nothing is printed.
@@ -29,19 +31,12 @@ pub fn print_lines<W: Write>(out: &mut W, text: &[u8], lines: usize) -> Result<(
     out.write_all(&text[..n])
 }
 
-// Prints the report of a run, the line that ends it.
+// Prints the report of a run, the line that ends it. The line takes at most 53 bytes.
 pub fn print_report<W: Write>(out: &mut W, report: Report) -> Result<()>
     ensures { OnOk result (Appends (W.contents out.old) (W.contents out.new) (report_line report.kind report.answers report.steps)) }
 {
-    print_end(out, report.kind, report.answers, report.steps)
-}
-
-// The same of the three parts of a report. The line takes at most 53 bytes.
-fn print_end<W: Write>(out: &mut W, kind: Kind, answers: usize, steps: usize) -> Result<()>
-    ensures { OnOk result (Appends (W.contents out.old) (W.contents out.new) (report_line kind answers steps)) }
-{
     let mut line = [0u8; 64];
-    let n = out_reports::put_report(kind, answers, steps, &mut line);
+    let n = out_reports::put_report(report, &mut line);
     out.write_all(&line[..n])
 }
 
@@ -56,18 +51,12 @@ pub fn print_run<'a, W: Write>(
     ensures { OnOk result (Appends (W.contents out.old) (W.contents out.new) (printed_run sheet.now goal.now run text.now)) }
 {
     match run {
-        Run::Ended(report) => {
+        Ok(report) => {
             print_lines(out, text, report.answers)?;
             print_report(out, report)
         }
-        Run::Refused {
-            text: part,
-            refusal,
-        } => {
-            let verdict = Verdict::Refused {
-                text: part,
-                refusal,
-            };
+        Err(fault) => {
+            let verdict = Err(fault);
             print_line(out, verdict, out_names::fault_name(sheet, goal, verdict))
         }
     }

@@ -7,9 +7,9 @@ ghost use Rattle.buffers.specs.Buffers.{Put, fitted_length, fitted};
 ghost use Rattle.out_reports.specs.Reports.{report_line, kind_number, kind_word};
 
 use buffers::{append, append_byte, append_number};
-use syntax::Kind;
+use syntax::{Kind, Report};
 
-// The number of a kind of end.
+// The number of a kind of end. A `From<Kind>` would have to stand beside the type, in a crate that knows nothing of these numbers.
 pub fn kind_number(kind: Kind) -> usize
     ensures { result ≡ kind_number kind }
 {
@@ -24,14 +24,14 @@ pub fn kind_number(kind: Kind) -> usize
 
 // Writes the line that ends a run to the start of out and returns its length; where the whole line does not fit, writes
 // nothing and returns 0.
-pub fn put_report(kind: Kind, answers: usize, steps: usize, out: &mut [u8]) -> usize
-    ensures length { result ≡ fitted_length (report_line kind answers steps) out.old }
-    ensures text { out.new ≡ fitted (report_line kind answers steps) out.old }
+pub fn put_report(report: Report, out: &mut [u8]) -> usize
+    ensures length { result ≡ fitted_length (report_line report.kind report.answers report.steps) out.old }
+    ensures text { out.new ≡ fitted (report_line report.kind report.answers report.steps) out.old }
 {
     let mut nothing = [0u8; 0];
-    let report_length = append_report(kind, answers, steps, &mut nothing);
+    let report_length = append_report(report, &mut nothing);
     if report_length <= out.len() {
-        append_report(kind, answers, steps, out)
+        append_report(report, out)
     } else {
         0
     }
@@ -39,13 +39,13 @@ pub fn put_report(kind: Kind, answers: usize, steps: usize, out: &mut [u8]) -> u
 
 // The functions below append as those of `buffers` do.
 
-fn append_report(kind: Kind, answers: usize, steps: usize, out: &mut [u8]) -> usize
-    ensures { Put out.old 0 (report_line kind answers steps) out.new result }
+fn append_report(report: Report, out: &mut [u8]) -> usize
+    ensures { Put out.old 0 (report_line report.kind report.answers report.steps) out.new result }
 {
     let past_word = append(b"end ", out, 0);
-    let past_kind = append_kind(kind, out, past_word);
-    let past_answers = append_number(answers, out, past_kind);
-    let past_steps = append_number(steps, out, past_answers);
+    let past_kind = append_kind(report.kind, out, past_word);
+    let past_answers = append_number(report.answers, out, past_kind);
+    let past_steps = append_number(report.steps, out, past_answers);
     append_byte(b'\n', out, past_steps)
 }
 

@@ -6,7 +6,8 @@ ghost use Rattle.buffers.specs.Buffers.{Put};
 ghost use Rattle.machine.specs.Substitution.{Variable};
 ghost use Rattle.machine.specs.Answers.{Piece, unbound, bytes_of};
 ghost use Rattle.run_layout.specs.State.{variable_of};
-ghost use Rattle.out_terms.specs.Words.{name_at, NamePlaced, Numbers, row_word, end_word, new_row, moved_row, row_place, row_more, span_word, row_last, row_copy};
+ghost use Rattle.out_terms.specs.Words.{name_at, NamePlaced, Numbers, row_word, end_word, new_row, moved_row};
+ghost use Rattle.out_terms.specs.Words.{row_place, row_more, span_word, row_last, row_copy};
 ghost use Rattle.out_terms.specs.Telling.{VariableNumbered, SpeltSoFar};
 
 use buffers::{append_byte, append_decimal, append_part};

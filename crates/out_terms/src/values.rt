@@ -35,14 +35,10 @@ pub fn all_anonymous(goal: &[u8], names: &[u32], count: usize) -> bool
     requires { Named goal.now names.now count }
     ensures { result ≡ all_anonymous (names_from goal.now names.now 0 count) }
 {
-    let mut i = 0;
-    while i < count {
-        let w = names[i];
-        let plain = is_anonymous(goal, w);
-        if !plain {
+    for i in 0..count {
+        if !is_anonymous(goal, names[i]) {
             return false;
         }
-        i += 1;
     }
     true
 }
@@ -183,8 +179,7 @@ pub fn append_values(
 {
     let mut past = at;
     let mut more = 0;
-    let mut i = 0;
-    while i < count {
+    for i in 0..count {
         if limit < past {
             return past;
         }
@@ -194,7 +189,6 @@ pub fn append_values(
         );
         past = listed.at;
         more = listed.more;
-        i += 1;
     }
     append_byte(10, out, past)
 }

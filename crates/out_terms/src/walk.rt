@@ -183,17 +183,12 @@ pub fn append_rows(
 {
     let mut past = at;
     let mut rows = height;
-    loop {
-        if rows == 0 {
-            return past;
-        }
-        if limit < past {
-            return past;
-        }
+    while rows != 0 && past <= limit {
         let turned = turn(
             nodes, state, symbols, sheet, goal, numbers, stack, out, past, rows,
         );
         past = turned.at;
         rows = turned.height;
     }
+    past
 }

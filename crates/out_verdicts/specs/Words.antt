@@ -1,13 +1,12 @@
 -- The words of a verdict (document 01, "Two programs and what they print"), as a list of bytes.
-use Rattle.std.specs.Prelude.{ℕ, List, [], ◌++◌}
+use Rattle.std.specs.Prelude.{ℕ, List, [], ◌++◌, Ok, Err}
 use Rattle.buffers.specs.Buffers.{number}
 use Rattle.syntax.specs.Quote.{bytes}
 use Rattle.syntax.specs.Refusals.{numbers_of}
 use Rattle.syntax.specs.declared.Five.{Five}
 use Rattle.syntax.specs.declared.Text.{Text}
 use Rattle.syntax.specs.declared.Text.TheVariants.{Sheet, Goal, Trace, Neither}
-use Rattle.syntax.specs.declared.Verdict.{Verdict}
-use Rattle.syntax.specs.declared.Verdict.TheVariants.{Accepted, Refused}
+use Rattle.syntax.specs.Verdicts.{Verdict}
 
 -- number, byte, clause, literal, argument
 abbrev pub five_words : Five → List ℕ
@@ -21,5 +20,5 @@ text_word Trace = bytes " trace"
 text_word Neither = []
 
 abbrev pub verdict_words : Verdict → List ℕ
-verdict_words (Accepted declarations clauses) = bytes "accepted" ++ number declarations ++ number clauses
-verdict_words (Refused text refusal) = bytes "refused" ++ text_word text ++ five_words (numbers_of refusal)
+verdict_words (Ok counts) = bytes "accepted" ++ number counts.declarations ++ number counts.clauses
+verdict_words (Err fault) = bytes "refused" ++ text_word fault.text ++ five_words (numbers_of fault.refusal)

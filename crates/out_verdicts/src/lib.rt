@@ -15,18 +15,15 @@ pub fn append_verdict(verdict: Verdict, out: &mut [u8]) -> usize
     ensures within { result ≤ 118 }
 {
     match verdict {
-        Verdict::Accepted {
-            declarations,
-            clauses,
-        } => {
+        Ok(counts) => {
             let past_word = append(b"accepted", out, 0);
-            let past_declarations = append_number(declarations, out, past_word);
-            append_number(clauses, out, past_declarations)
+            let past_declarations = append_number(counts.declarations, out, past_word);
+            append_number(counts.clauses, out, past_declarations)
         }
-        Verdict::Refused { text, refusal } => {
+        Err(fault) => {
             let past_word = append(b"refused", out, 0);
-            let past_text = append_text(text, out, past_word);
-            let numbers = refusals::numbers(refusal);
+            let past_text = append_text(fault.text, out, past_word);
+            let numbers = refusals::numbers(fault.refusal);
             append_five(numbers, out, past_text)
         }
     }

@@ -1,4 +1,5 @@
-// Numbers packed into the words of a table, and each of them out of its word.
+// Numbers packed into the words of a table, and each of them out of its word. Kinds and marks are numbers here and no enums, since a table is of words
+// that the caller lends.
 
 #![tactic(auto)]
 
@@ -9,9 +10,7 @@ ghost use Rattle.syntax.specs.Spans.{packed, span_at, span_length};
 ghost use Rattle.syntax.specs.Words.{first_name, functor, functor_arity, functor_length, marker, item_kind, side_items, sign_number, with_mark, first_mark};
 ghost use Rattle.syntax.specs.Words.{other_marks};
 
-use syntax::{
-    FIRST_NAME, FREE, INPUT, ITEM_KINDS, LENGTHS, MARK_NUMBERS, MINUS, OUTPUT, PLUS, STAR,
-};
+use syntax::{FIRST_NAME, FREE, INPUT, ITEM_KINDS, LENGTHS, MARK_NUMBERS, OUTPUT, TokenKind};
 
 // A part of a text in one word (syntax/specs/Spans): its place and its length.
 pub fn pack_span(at: usize, len: usize) -> u32
@@ -85,19 +84,15 @@ pub fn items_of_side(word: usize) -> usize
 }
 
 // The number of the mark that a token of a kind is, 0 for none.
-pub fn mark_number(kind: usize) -> usize
+pub fn mark_number(kind: TokenKind) -> usize
     ensures { result ≡ sign_number (sign_of kind) }
 {
-    if kind == PLUS {
-        return INPUT;
+    match kind {
+        TokenKind::Plus => INPUT,
+        TokenKind::Minus => OUTPUT,
+        TokenKind::Star => FREE,
+        _ => 0,
     }
-    if kind == MINUS {
-        return OUTPUT;
-    }
-    if kind == STAR {
-        return FREE;
-    }
-    0
 }
 
 // The numbers of marks in one (syntax/specs/Words): the first mark's, and that of the others.

@@ -7,19 +7,22 @@ use mathlib.Core.Bool.{Bool, true, false}
 use mathlib.Core.List.{List, [], ◌∷◌, ◌++◌}
 use lib.ListN.{length, set, take, length-append}
 use lib.Seq.{take-suc-set}
-use lib.Dec.{eqb}
-use borrow.Author.Tests.{eq-eqb, ne_eqb}
+use Rattle.std.specs.Prelude.{Result, Ok, Err}
+use Rattle.syntax.proofs.SameKind.{eq-kind, ne_kind}
 use Rattle.syntax.specs.Limits.{sheet_bytes, variables}
 use Rattle.syntax.specs.Terms.{Literal, Body, either}
-use Rattle.syntax.specs.Tokens.{open_kind, close_kind, semicolon_kind}
+use Rattle.syntax.specs.Tokens.{same_kind, open_kind, close_kind, semicolon_kind, stop_kind, end_kind}
 use Rattle.syntax.specs.Spans.{met}
 use Rattle.syntax.proofs.Spans.{met-kept}
 use Rattle.syntax.specs.Reading.{Cursor, Read, fault, ok, and_then, beyond, read_plain, read_literal, read_to, read_sides}
 use Rattle.syntax.specs.Words.{node_words, left_kind, right_kind, behind_kind, item_kinds, marker, literal_words, literal_length, body_words, body_length, side_words, side_length}
 use Rattle.syntax.specs.declared.State.{State}
+use Rattle.syntax.specs.declared.Refusal.{Refusal}
+use Rattle.syntax.specs.declared.TokenKind.{TokenKind}
 use Rattle.parse_cursor.specs.Gives.{cursor_of, bytes_left, PastToken, RoomToRead, Given, Gives, GivenWith, GivesWith, Refused}
 use Rattle.parse_cursor.specs.declared.Parsed.{Parsed}
 use Rattle.parse_cursor.proofs.Reading.{refused-beyond-with, next_of, held_of, cursor-kept, held_kept}
+use Rattle.parse_cursor.proofs.TermLaws.{open-no_end}
 use Rattle.parse_cursor.proofs.Sequence.{seq-fault, seq-ok, shorter, kept-before, joined}
 use Rattle.parse_clauses.specs.Brackets.{read_side, bracket_at}
 use Rattle.parse_literals.proofs.LiteralLaws.{front}
@@ -27,39 +30,43 @@ use Rattle.parse_clauses.proofs.BodyLaws.{body-words}
 
 -- ---- one literal
 
-plain-is : (most : ℕ) (s : List ℕ) (c : Cursor) → eqb c.token.kind open_kind ≡ false → read_literal most s c ≡ read_plain most s c
+plain-is : (most : ℕ) (s : List ℕ) (c : Cursor) → same_kind c.token.kind open_kind ≡ false → read_literal most s c ≡ read_plain most s c
 unfolding read_literal read_to
 plain-is zero s c e = ap (λ (b : Bool). elim b as (λ _. Read Literal) [ true ↦ beyond c | false ↦ read_plain zero s c ]) e
 plain-is (suc most) s c e = ap (λ (b : Bool). elim b as (λ _. Read Literal) [ true ↦ bracket_at most s c | false ↦ read_plain (suc most) s c ]) e
 
-deep_is : (s : List ℕ) (c : Cursor) → eqb c.token.kind open_kind ≡ true → read_literal zero s c ≡ beyond c
+deep_is : (s : List ℕ) (c : Cursor) → same_kind c.token.kind open_kind ≡ true → read_literal zero s c ≡ beyond c
 unfolding read_literal
 deep_is s c e = ap (λ (b : Bool). elim b as (λ _. Read Literal) [ true ↦ beyond c | false ↦ read_plain zero s c ]) e
 
-bracket-is : (most : ℕ) (s : List ℕ) (c : Cursor) → eqb c.token.kind open_kind ≡ true → read_literal (suc most) s c ≡ bracket_at most s c
+bracket-is : (most : ℕ) (s : List ℕ) (c : Cursor) → same_kind c.token.kind open_kind ≡ true → read_literal (suc most) s c ≡ bracket_at most s c
 unfolding read_literal read_to
 bracket-is most s c e = ap (λ (b : Bool). elim b as (λ _. Read Literal) [ true ↦ bracket_at most s c | false ↦ read_plain (suc most) s c ]) e
 
-module _ (most : ℕ) (s : List ℕ) (st : State) (entry exit : List ℕ) (n : ℕ) (r : Parsed) where
-  pub literal-plain : (st.token.kind ≡ open_kind → ⊥) → GivesWith 0 literal_words literal_length s st entry exit n r (read_plain most s (cursor_of s entry st))
+module _ (most : ℕ) (s : List ℕ) (st : State) (entry exit : List ℕ) (n : ℕ) where
+  pub literal-plain : (r : Result Parsed Refusal) → (st.token.kind ≡ open_kind → ⊥) → GivesWith 0 literal_words literal_length s st entry exit n r (read_plain most s (cursor_of s entry st))
       → GivesWith 0 literal_words literal_length s st entry exit n r (read_literal most s (cursor_of s entry st))
-  literal-plain e g = subst⁻¹ (GivesWith 0 literal_words literal_length s st entry exit n r)
-      (plain-is most s (cursor_of s entry st) (ne_eqb st.token.kind open_kind e)) g
+  literal-plain r e g = subst⁻¹ (GivesWith 0 literal_words literal_length s st entry exit n r)
+      (plain-is most s (cursor_of s entry st) (ne_kind st.token.kind open_kind e)) g
 
-  pub literal-deep : st.token.kind ≡ open_kind → most ≡ 0 → Refused st 6 r
-      → GivesWith 0 literal_words literal_length s st entry entry n r (read_literal most s (cursor_of s entry st))
-  literal-deep e z f =
-      subst⁻¹ (GivesWith 0 literal_words literal_length s st entry entry n r)
-      (ap (λ (m : ℕ). read_literal m s (cursor_of s entry st)) z ∙ deep_is s (cursor_of s entry st) (eq-eqb st.token.kind open_kind e))
+  pub literal-deep : (r : Refusal) → st.token.kind ≡ open_kind → most ≡ 0 → Refused st 6 r
+      → GivesWith 0 literal_words literal_length s st entry entry n (Err r) (read_literal most s (cursor_of s entry st))
+  literal-deep r e z f =
+      subst⁻¹ (GivesWith 0 literal_words literal_length s st entry entry n (Err r))
+      (ap (λ (m : ℕ). read_literal m s (cursor_of s entry st)) z ∙ deep_is s (cursor_of s entry st) (eq-kind st.token.kind open_kind e))
       (refused-beyond-with 0 literal_words literal_length s st st entry entry n r (cursor_of s entry st) refl f refl)
 
-  pub literal-sides : st.token.kind ≡ open_kind → (most ≡ 0 → ⊥)
+  pub literal-sides : (r : Result Parsed Refusal) → st.token.kind ≡ open_kind → (most ≡ 0 → ⊥)
       → GivesWith 0 literal_words literal_length s st entry exit n r (bracket_at (most - 1) s (cursor_of s entry st))
       → GivesWith 0 literal_words literal_length s st entry exit n r (read_literal most s (cursor_of s entry st))
-  literal-sides e z g =
+  literal-sides r e z g =
       let d : most ≡ suc (most - 1) = omega (arith, z) in
       subst⁻¹ (GivesWith 0 literal_words literal_length s st entry exit n r)
-      (ap (λ (m : ℕ). read_literal m s (cursor_of s entry st)) d ∙ bracket-is (most - 1) s (cursor_of s entry st) (eq-eqb st.token.kind open_kind e)) g
+      (ap (λ (m : ℕ). read_literal m s (cursor_of s entry st)) d ∙ bracket-is (most - 1) s (cursor_of s entry st) (eq-kind st.token.kind open_kind e)) g
+
+-- none of the tokens that end a side or a body is the end of the text
+pub no_end : ((semicolon_kind ≡ end_kind → ⊥) × ((close_kind ≡ end_kind → ⊥) × (stop_kind ≡ end_kind → ⊥)))
+no_end = ((λ e. cc), ((λ e. cc), (λ e. cc)))
 
 -- ---- one side
 
@@ -67,7 +74,7 @@ module _ (most : ℕ) (s : List ℕ) (st : State) (entry exit : List ℕ) (n : �
 pub stored : (entry exit : List ℕ) (n w v : ℕ) → exit ≡ set entry n w → w ≡ v → exit ≡ set entry n v
 stored entry exit n w v e q = e ∙ ap (set entry n) q
 
-module _ (most end kind : ℕ) {s : List ℕ} {st : State} {entry : List ℕ} {n : ℕ} (ready : RoomToRead s st entry n 2) (low : kind < item_kinds) where
+module _ (most : ℕ) (end : TokenKind) (kind : ℕ) {s : List ℕ} {st : State} {entry : List ℕ} {n : ℕ} (ready : RoomToRead s st entry n 2) (low : kind < item_kinds) where
   side-in : n + 1 ≤ length entry
   side-in = let room : n + node_words * bytes_left s st + 2 + variables ≤ length entry = ready.room in omega arith
 
@@ -76,20 +83,21 @@ module _ (most end kind : ℕ) {s : List ℕ} {st : State} {entry : List ℕ} {n
       let room : n + node_words * bytes_left s st + 2 + variables ≤ length entry = ready.room in
       record { standing = ready.standing; held = ready.held; room = omega arith; small = ready.small }
 
-  module _ (mid : List ℕ) (r : Parsed) (l : length mid ≡ length entry)
-      (g : Gives body_words body_length s st entry mid (n + 1) r (read_side most s end (cursor_of s entry st))) where
-    side-by : (d : Read Body) → Gives body_words body_length s st entry mid (n + 1) r d → (r.number ≡ 0 → ⊥)
-        → GivesWith 0 (side_words kind) side_length s st entry mid n r d
-    side-by (fault k b) h z = record { number_is = h.number_is; some = h.some; byte_is = h.byte_is; kept = shorter n (n + 1) entry mid (omega arith) h.kept }
-    side-by (ok b after) h z = absurd (z h.number_is)
+  module _ (mid : List ℕ) where
+    side-by : (q : Refusal) (d : Read Body) → Gives body_words body_length s st entry mid (n + 1) (Err q) d
+        → GivesWith 0 (side_words kind) side_length s st entry mid n (Err q) d
+    side-by q (fault k b) h = record { is = h.is; kept = shorter n (n + 1) entry mid (omega arith) h.kept }
+    side-by q (ok b after) h = absurd h
 
-    pub side-fault : (r.number ≡ 0 → ⊥) → GivesWith 0 (side_words kind) side_length s st entry mid n r (read_side most s end (cursor_of s entry st))
-    side-fault z = side-by (read_side most s end (cursor_of s entry st)) g z
+    pub side-fault : (q : Refusal) → Gives body_words body_length s st entry mid (n + 1) (Err q) (read_side most s end (cursor_of s entry st))
+        → GivesWith 0 (side_words kind) side_length s st entry mid n (Err q) (read_side most s end (cursor_of s entry st))
+    side-fault q g = side-by q (read_side most s end (cursor_of s entry st)) g
 
-    module _ (z : r.number ≡ 0) where
+    module _ (r : Parsed) (l : length mid ≡ length entry)
+        (g : Gives body_words body_length s st entry mid (n + 1) (Ok r) (read_side most s end (cursor_of s entry st))) where
       side-read : (b : Body) × (read_side most s end (cursor_of s entry st) ≡ ok b (cursor_of s mid r.state))
           × Given s st entry mid (n + 1) r (body_words b) (body_length b) (cursor_of s mid r.state)
-      side-read = seq-ok 1 body_words body_length s st entry mid (n + 1) r (read_side most s end (cursor_of s entry st)) g z
+      side-read = seq-ok 1 body_words body_length s st entry mid (n + 1) r (read_side most s end (cursor_of s entry st)) g
 
       -- what `open_side` asks
       pub side-asked : (n < length mid) × ((kind < item_kinds) × (r.items < 2 ^ 28))
@@ -102,7 +110,7 @@ module _ (most end kind : ℕ) {s : List ℕ} {st : State} {entry : List ℕ} {n
           (omega arith, (low, omega arith))
 
       side-words : (exit : List ℕ) → exit ≡ set mid n (marker kind r.items)
-          → GivenWith 0 s st entry exit n (record { number = r.number; used = r.used; items = r.items + 1; state = r.state })
+          → GivenWith 0 s st entry exit n (record { used = r.used; items = r.items + 1; state = r.state })
           (side_words kind side-read.0) (side_length side-read.0) (cursor_of s mid r.state)
       side-words exit ex =
           let given : Given s st entry mid (n + 1) r (body_words side-read.0) (body_length side-read.0) (cursor_of s mid r.state) = side-read.2 in
@@ -112,7 +120,6 @@ module _ (most end kind : ℕ) {s : List ℕ} {st : State} {entry : List ℕ} {n
           let fits : length (body_words side-read.0) + node_words * bytes_left s r.state + 1 ≤ node_words * bytes_left s st + 1 = given.room in
           let same : met exit ≡ met mid = ap met ex ∙ met-kept mid n (marker kind r.items) (omega arith) in
           record {
-            number_is = z;
             state_is = cursor-kept s mid exit r.state same;
             items_is = omega arith;
             used_is = omega arith;
@@ -123,11 +130,11 @@ module _ (most end kind : ℕ) {s : List ℕ} {st : State} {entry : List ℕ} {n
             room = omega arith;
           }
 
-      pub side-given : (exit : List ℕ) (q : Parsed) → q ≡ record { number = r.number; used = r.used; items = r.items + 1; state = r.state }
+      pub side-given : (exit : List ℕ) (q : Parsed) → q ≡ record { used = r.used; items = r.items + 1; state = r.state }
           → exit ≡ set mid n (marker kind r.items)
-          → GivesWith 0 (side_words kind) side_length s st entry exit n q (read_side most s end (cursor_of s entry st))
+          → GivesWith 0 (side_words kind) side_length s st entry exit n (Ok q) (read_side most s end (cursor_of s entry st))
       side-given exit q eq ex =
-          subst⁻¹ (GivesWith 0 (side_words kind) side_length s st entry exit n q) side-read.1
+          subst⁻¹ (GivesWith 0 (side_words kind) side_length s st entry exit n (Ok q)) side-read.1
           (subst⁻¹ (λ (x : Parsed). GivenWith 0 s st entry exit n x (side_words kind side-read.0) (side_length side-read.0) (cursor_of s mid r.state)) eq
           (side-words exit ex))
 
@@ -145,7 +152,7 @@ module _ (most : ℕ) {s : List ℕ} {st past : State} {entry : List ℕ} {n : �
   -- the bracket takes a byte
   past-less : node_words + node_words * bytes_left s past ≤ node_words * bytes_left s st
   past-less =
-      let some : 0 < st.token.len = ready.standing.some (λ q. let e : st.token.kind ≡ open_kind = opens in omega arith) in
+      let some : 0 < st.token.len = ready.standing.some (open-no_end opens) in
       let inside : st.token.at + st.token.len ≤ length s = ready.standing.inside in
       let f : st.token.at + st.token.len ≤ past.token.at = m.forward in
       omega arith
@@ -156,18 +163,20 @@ module _ (most : ℕ) {s : List ℕ} {st past : State} {entry : List ℕ} {n : �
       let less : node_words + node_words * bytes_left s past ≤ node_words * bytes_left s st = past-less in
       record { standing = m.standing; held = held_of m ready.held; room = omega arith; small = ready.small }
 
-  module _ (mid : List ℕ) (y : Parsed) (l : length mid ≡ length entry)
-      (g : GivesWith 0 (side_words left_kind) side_length s past entry mid n y (read_side most s semicolon_kind (cursor_of s entry past))) where
-    pub left-fault : (y.number ≡ 0 → ⊥) → GivesWith 0 literal_words literal_length s st entry mid n y (bracket_at most s (cursor_of s entry st))
-    left-fault z =
-        subst⁻¹ (GivesWith 0 literal_words literal_length s st entry mid n y) bracket-from
+  module _ (mid : List ℕ) where
+    pub left-fault : (y : Refusal)
+        → GivesWith 0 (side_words left_kind) side_length s past entry mid n (Err y) (read_side most s semicolon_kind (cursor_of s entry past))
+        → GivesWith 0 literal_words literal_length s st entry mid n (Err y) (bracket_at most s (cursor_of s entry st))
+    left-fault y g =
+        subst⁻¹ (GivesWith 0 literal_words literal_length s st entry mid n (Err y)) bracket-from
         (seq-fault 0 0 (side_words left_kind) side_length literal_words literal_length s st past entry mid n n y
-        (read_side most s semicolon_kind (cursor_of s entry past)) right-of (omega arith) g z)
+        (read_side most s semicolon_kind (cursor_of s entry past)) right-of (omega arith) g)
 
-    module _ (yz : y.number ≡ 0) where
+    module _ (y : Parsed) (l : length mid ≡ length entry)
+        (g : GivesWith 0 (side_words left_kind) side_length s past entry mid n (Ok y) (read_side most s semicolon_kind (cursor_of s entry past))) where
       left-read : (b : Body) × (read_side most s semicolon_kind (cursor_of s entry past) ≡ ok b (cursor_of s mid y.state))
           × GivenWith 0 s past entry mid n y (side_words left_kind b) (side_length b) (cursor_of s mid y.state)
-      left-read = seq-ok 0 (side_words left_kind) side_length s past entry mid n y (read_side most s semicolon_kind (cursor_of s entry past)) g yz
+      left-read = seq-ok 0 (side_words left_kind) side_length s past entry mid n y (read_side most s semicolon_kind (cursor_of s entry past)) g
 
       abbrev left-side : Body
       left-side = left-read.0
@@ -199,24 +208,26 @@ module _ (most : ℕ) {s : List ℕ} {st past : State} {entry : List ℕ} {n : �
           kept-before n n (length (side_words left_kind left-side)) entry mid (side_words left_kind left-side) (omega arith) (omega arith)
           left-read.2.table_is
 
-      module _ (after : List ℕ) (q : Parsed) (l2 : length after ≡ length mid)
-          (h : GivesWith 0 (side_words right_kind) side_length s y.state mid after y.used q (read_side most s close_kind (cursor_of s mid y.state))) where
-        right_by : (d : Read Body) → GivesWith 0 (side_words right_kind) side_length s y.state mid after y.used q d → (q.number ≡ 0 → ⊥)
-            → GivesWith 0 literal_words literal_length s st entry after n q (and_then d (λ z end. ok (either left-side z) end))
+      module _ (after : List ℕ) where
+        right_by : (q : Refusal) (d : Read Body) → GivesWith 0 (side_words right_kind) side_length s y.state mid after y.used (Err q) d
+            → GivesWith 0 literal_words literal_length s st entry after n (Err q) (and_then d (λ z end. ok (either left-side z) end))
         unfolding and_then
-        right_by (fault k b) f z =
+        right_by q (fault k b) f =
             let used : y.used ≡ n + (1 + length (body_words left-side)) = left-used in
-            record { number_is = f.number_is; some = f.some; byte_is = f.byte_is; kept = shorter n y.used mid after (omega arith) f.kept ∙ left-kept }
-        right_by (ok b end) f z = absurd (z f.number_is)
+            record { is = f.is; kept = shorter n y.used mid after (omega arith) f.kept ∙ left-kept }
+        right_by q (ok b end) f = absurd f
 
-        pub right-fault : (q.number ≡ 0 → ⊥) → GivesWith 0 literal_words literal_length s st entry after n q (bracket_at most s (cursor_of s entry st))
-        right-fault z = subst⁻¹ (GivesWith 0 literal_words literal_length s st entry after n q) bracket-behind
-            (right_by (read_side most s close_kind (cursor_of s mid y.state)) h z)
+        pub right-fault : (q : Refusal)
+            → GivesWith 0 (side_words right_kind) side_length s y.state mid after y.used (Err q) (read_side most s close_kind (cursor_of s mid y.state))
+            → GivesWith 0 literal_words literal_length s st entry after n (Err q) (bracket_at most s (cursor_of s entry st))
+        right-fault q h = subst⁻¹ (GivesWith 0 literal_words literal_length s st entry after n (Err q)) bracket-behind
+            (right_by q (read_side most s close_kind (cursor_of s mid y.state)) h)
 
-        module _ (qz : q.number ≡ 0) where
+        module _ (q : Parsed) (l2 : length after ≡ length mid)
+            (h : GivesWith 0 (side_words right_kind) side_length s y.state mid after y.used (Ok q) (read_side most s close_kind (cursor_of s mid y.state))) where
           right-read : (b : Body) × (read_side most s close_kind (cursor_of s mid y.state) ≡ ok b (cursor_of s after q.state))
               × GivenWith 0 s y.state mid after y.used q (side_words right_kind b) (side_length b) (cursor_of s after q.state)
-          right-read = seq-ok 0 (side_words right_kind) side_length s y.state mid after y.used q (read_side most s close_kind (cursor_of s mid y.state)) h qz
+          right-read = seq-ok 0 (side_words right_kind) side_length s y.state mid after y.used q (read_side most s close_kind (cursor_of s mid y.state)) h
 
           abbrev right_side : Body
           right_side = right-read.0
@@ -286,7 +297,7 @@ module _ (most : ℕ) {s : List ℕ} {st past : State} {entry : List ℕ} {n : �
             unfolding literal_length
             bracket-items = refl
 
-            bracket-words : GivenWith 0 s st entry exit n (record { number = q.number; used = q.used + 1; items = y.items + q.items + 1; state = q.state })
+            bracket-words : GivenWith 0 s st entry exit n (record { used = q.used + 1; items = y.items + q.items + 1; state = q.state })
                 (literal_words bracket) (literal_length bracket) (cursor_of s after q.state)
             bracket-words =
                 let room : q.used + 1 + variables ≤ length after = last-in in
@@ -301,7 +312,6 @@ module _ (most : ℕ) {s : List ℕ} {st past : State} {entry : List ℕ} {n : �
                 let items : literal_length bracket ≡ 3 + (body_length left-side + body_length right_side) = bracket-items in
                 let same : met exit ≡ met after = ap met ex ∙ met-kept after q.used behind_kind (omega arith) in
                 record {
-                  number_is = qz;
                   state_is = cursor-kept s after exit q.state same;
                   items_is = omega arith;
                   used_is = omega arith;
@@ -311,11 +321,11 @@ module _ (most : ℕ) {s : List ℕ} {st past : State} {entry : List ℕ} {n : �
                   room = omega arith;
                 }
 
-            pub bracket-given : (p : Parsed) → p ≡ record { number = q.number; used = q.used + 1; items = y.items + q.items + 1; state = q.state }
-                → GivesWith 0 literal_words literal_length s st entry exit n p (bracket_at most s (cursor_of s entry st))
+            pub bracket-given : (p : Parsed) → p ≡ record { used = q.used + 1; items = y.items + q.items + 1; state = q.state }
+                → GivesWith 0 literal_words literal_length s st entry exit n (Ok p) (bracket_at most s (cursor_of s entry st))
             unfolding and_then
             bracket-given p ep =
-                subst⁻¹ (GivesWith 0 literal_words literal_length s st entry exit n p)
+                subst⁻¹ (GivesWith 0 literal_words literal_length s st entry exit n (Ok p))
                 (bracket-behind ∙ ap (λ (d : Read Body). and_then d (λ z end. ok (either left-side z) end)) right-read.1)
                 (subst⁻¹ (λ (x : Parsed). GivenWith 0 s st entry exit n x (literal_words bracket) (literal_length bracket) (cursor_of s after q.state)) ep
                 bracket-words)

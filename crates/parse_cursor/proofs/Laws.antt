@@ -4,27 +4,11 @@ use mathlib.Core.Path.{◌≡◌, sym, ap₂, ◌∙◌}
 use mathlib.Core.Bool.{Bool, false}
 use mathlib.Core.List.{List}
 use lib.ListN.{length, take, drop}
-use borrow.Author.Tests.{eq-eqb, ne_eqb}
 use Rattle.syntax.specs.Terms.{same_bytes, same_name}
-use Rattle.syntax.specs.Tokens.{spelling, overlong_kind}
-use Rattle.syntax.specs.Reading.{wrong_number}
+use Rattle.syntax.specs.Tokens.{spelling}
 use Rattle.syntax.specs.Spans.{span_at, span_length, spanned, SpanInside}
 use Rattle.syntax.specs.declared.Token.{Token}
 use Rattle.texts.proofs.Laws.{same_length, length-spelling}
-
--- ---- the number of a token that cannot stand
-
-pub wrong-none : {r k : ℕ} → r ≡ 3 → k ≡ 0 → r ≡ wrong_number k
-unfolding wrong_number
-wrong-none {r} {k} e z = e ∙ rw (eq-eqb k 0 z)
-
-pub wrong-long : {r k : ℕ} → r ≡ 4 → (k ≡ 0 → ⊥) → k ≡ overlong_kind → r ≡ wrong_number k
-unfolding wrong_number
-wrong-long {r} {k} e z f = e ∙ rw (ne_eqb k 0 z, eq-eqb k overlong_kind f)
-
-pub wrong-other : {r k : ℕ} → r ≡ 5 → (k ≡ 0 → ⊥) → (k ≡ overlong_kind → ⊥) → r ≡ wrong_number k
-unfolding wrong_number
-wrong-other {r} {k} e z f = e ∙ rw (ne_eqb k 0 z, ne_eqb k overlong_kind f)
 
 -- ---- the same bytes
 

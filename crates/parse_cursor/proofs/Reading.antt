@@ -3,14 +3,18 @@ use Prim.Native.Nat.{ℕ, zero, suc, ◌+◌, ◌-◌, ◌*◌, ◌≤◌, ◌<�
 use native.Mathlib.Numerals.{add-one}
 use native.Mathlib.Omega.{arith}
 use mathlib.Core.Path.{◌≡◌, refl, sym, ap, ap₂, ◌∙◌, subst, subst⁻¹}
-use mathlib.Core.Bool.{Bool, true, false, cond}
+use mathlib.Core.Bool.{Bool, true, false}
 use mathlib.Core.List.{List, [], ◌∷◌, ◌++◌, append_assoc}
 use mathlib.Core.Option.{Option, none, some}
+use Rattle.std.specs.Prelude.{Result, Ok, Err, Some, None}
+use Rattle.std.specs.Prelude.{Option as OptionOf}
 use lib.ListN.{length, get_or, set, take, drop, length-set}
 use lib.Seq.{take-suc-set, take-set-le}
-use lib.Dec.{eqb, lit<}
 use borrow.Author.Tests.{lt-ltb, le-ltb}
-use Rattle.syntax.specs.Tokens.{token_at, spelling, variable_kind, end_kind, overlong_kind}
+use Rattle.syntax.specs.Tokens.{token_at, spelling, variable_kind, end_kind}
+use Rattle.syntax.specs.Verdicts.{fault_of}
+use Rattle.syntax.specs.declared.Refusal.{Refusal}
+use Rattle.syntax.specs.declared.TokenKind.{TokenKind}
 use Rattle.syntax.specs.Limits.{sheet_bytes, word_bytes, variables}
 use Rattle.syntax.specs.Spans.{packed, spanned, SpanInside, names_from, met, Held}
 use Rattle.syntax.proofs.Spans.{packed-inside, packed-spelt, names-length, names-new, held_new, met-three, met-new, met-length}
@@ -100,19 +104,19 @@ module _ (s : List ℕ) (t : Token) (count : ℕ) (table : List ℕ) (from i w :
       ∙ ap₂ (λ (x j : ℕ). variable_number (spelling s t.at t.len) i (spanned s x ∷ names_from s (met table) j (count - (i + 1)))) (sym word-is) (sym (add-one i))
 
   module _ (b : Bool) (eb : b ≡ same_name (spanned s w) (spelling s t.at t.len)) (so_far : searched s t count table 0 ≡ searched s t count table i) where
-    pub number-found : b ≡ true → FoundAs (variable_number (spelling s t.at t.len) 0 (names_from s (met table) 0 count)) count i
+    pub number-found : b ≡ true → FoundAs (variable_number (spelling s t.at t.len) 0 (names_from s (met table) 0 count)) count (Some i)
     unfolding by-same
-    number-found e = subst⁻¹ (λ (o : Option ℕ). FoundAs o count i) (number-start s t count table ∙ so_far ∙ number-unfold ∙ ap by-same (sym eb ∙ e)) (refl, h)
+    number-found e = subst⁻¹ (λ (o : Option ℕ). FoundAs o count (Some i)) (number-start s t count table ∙ so_far ∙ number-unfold ∙ ap by-same (sym eb ∙ e)) (refl, h)
 
     pub number_step : b ≡ false → searched s t count table 0 ≡ searched s t count table (i + 1)
     unfolding by-same rest
     number_step e = so_far ∙ number-unfold ∙ ap by-same (sym eb ∙ e) ∙ ap (λ (n : ℕ). variable_number (spelling s t.at t.len) n (names_from s (met table) (i + 1) (count - (i + 1)))) (sym (add-one i))
 
-pub number-none : (s : List ℕ) (t : Token) (count : ℕ) (table : List ℕ) (i : ℕ) → count ≤ i → searched s t count table 0 ≡ searched s t count table i → FoundAs (variable_number (spelling s t.at t.len) 0 (names_from s (met table) 0 count)) count count
+pub number-none : (s : List ℕ) (t : Token) (count : ℕ) (table : List ℕ) (i : ℕ) → count ≤ i → searched s t count table 0 ≡ searched s t count table i → FoundAs (variable_number (spelling s t.at t.len) 0 (names_from s (met table) 0 count)) count None
 unfolding variable_number names_from
 number-none s t count table i h so_far =
     let z : count - i ≡ 0 = omega arith in
-    subst⁻¹ (λ (o : Option ℕ). FoundAs o count count) (number-start s t count table ∙ so_far ∙ ap (λ (k : ℕ). variable_number (spelling s t.at t.len) i (names_from s (met table) i k)) z) refl
+    subst⁻¹ (λ (o : Option ℕ). FoundAs o count None) (number-start s t count table ∙ so_far ∙ ap (λ (k : ℕ). variable_number (spelling s t.at t.len) i (names_from s (met table) i k)) z) refl
 
 -- ---- words
 
@@ -131,7 +135,7 @@ three l n a b c h =
     e2 : n + 2 ≡ suc (n + 1)
     e2 = omega arith
 
-pub leaf-given : (s : List ℕ) (st : State) (entry exit : List ℕ) (n what b : ℕ) (after : State) → RoomToRead s st entry n 0 → (st.token.kind ≡ end_kind → ⊥) → exit ≡ set (set (set entry n what) (n + 1) node_words) (n + 2) b → PastToken s st after → Given s st entry exit n (record { number = 0; used = n + node_words; items = 1; state = after }) (what ∷ node_words ∷ b ∷ []) 1 (next s (cursor_of s entry st))
+pub leaf-given : (s : List ℕ) (st : State) (entry exit : List ℕ) (n what b : ℕ) (after : State) → RoomToRead s st entry n 0 → (st.token.kind ≡ end_kind → ⊥) → exit ≡ set (set (set entry n what) (n + 1) node_words) (n + 2) b → PastToken s st after → Given s st entry exit n (record { used = n + node_words; items = 1; state = after }) (what ∷ node_words ∷ b ∷ []) 1 (next s (cursor_of s entry st))
 leaf-given s st entry exit n what b after ready k e m =
     let some : 0 < st.token.len = ready.standing.some k in
     let inside : st.token.at + st.token.len ≤ length s = ready.standing.inside in
@@ -139,7 +143,6 @@ leaf-given s st entry exit n what b after ready k e m =
     let forward : st.token.at + st.token.len ≤ after.token.at = m.forward in
     let kept : met exit ≡ met entry = ap met e ∙ met-three entry n what node_words b (omega arith) in
     record {
-      number_is = refl;
       state_is = cursor-kept s entry exit after kept ∙ next_of entry m;
       items_is = refl;
       used_is = refl;
@@ -160,39 +163,26 @@ node-room s st table n ready k =
 
 -- ---- faults
 
-pub wrong-positive : (k : ℕ) → 0 < wrong_number k
-unfolding wrong_number
-wrong-positive k = by_cases (eqb k 0) (eqb k overlong_kind)
-  where
-    by_cases : (a b : Bool) → 0 < cond a 3 (cond b 4 5)
-    by_cases true b = lit< tt
-    by_cases false true = lit< tt
-    by_cases false false = lit< tt
-
 -- The fault of a reader that stands for the state.
-module _ {A : Type 0} (spare : ℕ) (words : A → List ℕ) (items : A → ℕ) (s : List ℕ) (from st : State) (entry exit : List ℕ) (n : ℕ) (r : Parsed) (c : Cursor) (t : c.token ≡ st.token) where
-  pub refused-beyond-with : Refused st 6 r → take n exit ≡ take n entry → GivesWith spare words items s from entry exit n r (beyond c)
-  unfolding beyond
-  refused-beyond-with f k =
-      record { number_is = f.number_is; some = lit< tt; byte_is = ap (λ (x : State). x.token.at) f.state_is ∙ ap (λ (x : Token). x.at) (sym t); kept = k }
+module _ {A : Type 0} (spare : ℕ) (words : A → List ℕ) (items : A → ℕ) (s : List ℕ) (from st : State) (entry exit : List ℕ) (n : ℕ) (q : Refusal) (c : Cursor) (t : c.token ≡ st.token) where
+  refused-at : (k : TokenKind → ℕ) → Refused st (k st.token.kind) q → q ≡ fault_of (k c.token.kind) c.token.at
+  refused-at k f = f ∙ ap (λ (x : Token). fault_of (k x.kind) x.at) (sym t)
 
-  pub refused-wrong-with : Refused st (wrong_number st.token.kind) r → take n exit ≡ take n entry → GivesWith spare words items s from entry exit n r (wrong c)
+  pub refused-beyond-with : Refused st 6 q → take n exit ≡ take n entry → GivesWith spare words items s from entry exit n (Err q) (beyond c)
+  unfolding beyond
+  refused-beyond-with f k = record { is = refused-at (λ _. 6) f; kept = k }
+
+  pub refused-wrong-with : Refused st (wrong_number st.token.kind) q → take n exit ≡ take n entry → GivesWith spare words items s from entry exit n (Err q) (wrong c)
   unfolding wrong
-  refused-wrong-with f k =
-      record {
-        number_is = f.number_is ∙ ap (λ (x : Token). wrong_number x.kind) (sym t);
-        some = wrong-positive c.token.kind;
-        byte_is = ap (λ (x : State). x.token.at) f.state_is ∙ ap (λ (x : Token). x.at) (sym t);
-        kept = k;
-      }
+  refused-wrong-with f k = record { is = refused-at wrong_number f; kept = k }
 
 -- the same with one word left over
-module _ {A : Type 0} (words : A → List ℕ) (items : A → ℕ) (s : List ℕ) (from st : State) (entry exit : List ℕ) (n : ℕ) (r : Parsed) (c : Cursor) (t : c.token ≡ st.token) where
-  pub refused-beyond : Refused st 6 r → take n exit ≡ take n entry → Gives words items s from entry exit n r (beyond c)
-  refused-beyond f k = refused-beyond-with 1 words items s from st entry exit n r c t f k
+module _ {A : Type 0} (words : A → List ℕ) (items : A → ℕ) (s : List ℕ) (from st : State) (entry exit : List ℕ) (n : ℕ) (q : Refusal) (c : Cursor) (t : c.token ≡ st.token) where
+  pub refused-beyond : Refused st 6 q → take n exit ≡ take n entry → Gives words items s from entry exit n (Err q) (beyond c)
+  refused-beyond f k = refused-beyond-with 1 words items s from st entry exit n q c t f k
 
-  pub refused-wrong : Refused st (wrong_number st.token.kind) r → take n exit ≡ take n entry → Gives words items s from entry exit n r (wrong c)
-  refused-wrong f k = refused-wrong-with 1 words items s from st entry exit n r c t f k
+  pub refused-wrong : Refused st (wrong_number st.token.kind) q → take n exit ≡ take n entry → Gives words items s from entry exit n (Err q) (wrong c)
+  refused-wrong f k = refused-wrong-with 1 words items s from st entry exit n q c t f k
 
 -- ---- variables
 
@@ -204,8 +194,8 @@ new-beyond : (s : List ℕ) (c : Cursor) → variables ≤ length c.names → ne
 unfolding new_variable
 new-beyond s c h = rw (le-ltb (length c.names) variables h, new_variable)
 
-not_end : {k : ℕ} → k ≡ variable_kind → k ≡ end_kind → ⊥
-not_end e f = omega arith
+not_end : {k : TokenKind} → k ≡ variable_kind → k ≡ end_kind → ⊥
+not_end e f = cc
 
 pub new-stored : (table : List ℕ) (p w at len : ℕ) → w ≡ packed at len → set table p w ≡ set table p (packed at len)
 new-stored table p w at len e = ap (set table p) e
@@ -248,7 +238,7 @@ module _ (s : List ℕ) (st new : State) (entry mid : List ℕ) (n : ℕ) (e : n
       ∙ names-new s (met entry) st.count (packed st.token.at st.token.len) count-in
       ∙ ap (λ (x : List ℕ). names_from s (met entry) 0 st.count ++ (x ∷ [])) (packed-spelt s st.token.at st.token.len (omega arith)))
 
-  pub new-given : (exit : List ℕ) (r : Parsed) → Given s new mid exit n r (st.count ∷ node_words ∷ new.token.at ∷ []) 1 (next s (cursor_of s mid new)) → Gives term_words one s st entry exit n r (new_variable s (cursor_of s entry st))
+  pub new-given : (exit : List ℕ) (r : Parsed) → Given s new mid exit n r (st.count ∷ node_words ∷ new.token.at ∷ []) 1 (next s (cursor_of s mid new)) → Gives term_words one s st entry exit n (Ok r) (new_variable s (cursor_of s entry st))
   unfolding term_words
   new-given exit r g =
       let room : n + node_words * bytes_left s st + 0 + variables ≤ length entry = table-room in
@@ -258,9 +248,8 @@ module _ (s : List ℕ) (st new : State) (entry mid : List ℕ) (n : ℕ) (e : n
       let words : st.count ∷ node_words ∷ new.token.at ∷ [] ≡ length (names_from s (met entry) 0 st.count) ∷ node_words ∷ st.token.at ∷ [] = ap₂ (λ (x : ℕ) (t : Token). x ∷ node_words ∷ t.at ∷ []) (sym count) token in
       let front : take n mid ≡ take n entry = ap (take n) em ∙ take-set-le n entry (length entry - variables + st.count) (packed st.token.at st.token.len) (omega arith) in
       let room' : node_words + node_words * bytes_left s r.state + 1 ≤ node_words * (length s - st.token.at) + 1 = subst (λ (t : Token). node_words + node_words * bytes_left s r.state + 1 ≤ node_words * (length s - t.at) + 1) token g.room in
-      subst⁻¹ (Gives term_words one s st entry exit n r) (new_ok s (cursor_of s entry st) (omega arith))
+      subst⁻¹ (Gives term_words one s st entry exit n (Ok r)) (new_ok s (cursor_of s entry st) (omega arith))
       (record {
-        number_is = g.number_is;
         state_is = g.state_is ∙ ap (next s) cursor-new;
         items_is = g.items_is;
         used_is = g.used_is;
@@ -270,59 +259,67 @@ module _ (s : List ℕ) (st new : State) (entry mid : List ℕ) (n : ℕ) (e : n
         room = room';
       })
 
-pub leaf-ready : (s : List ℕ) (st : State) (table : List ℕ) (n v : ℕ) → RoomToRead s st table n 0 → v < st.count → st.token.kind ≡ variable_kind → RoomToRead s st table n 0 × ((v < 2 ^ 32) × (st.token.kind ≡ end_kind → ⊥))
-leaf-ready s st table n v ready h k = let few : st.count ≤ variables = ready.standing.few in (ready, (omega arith, not_end k))
+pub new-refused : (s : List ℕ) (st : State) (entry : List ℕ) (n : ℕ) (q : Refusal) → variables ≤ st.count → Refused st 6 q → Gives term_words one s st entry entry n (Err q) (new_variable s (cursor_of s entry st))
+new-refused s st entry n q h f =
+    let count : length (names_from s (met entry) 0 st.count) ≡ st.count = names-length s (met entry) 0 st.count in
+    subst⁻¹ (Gives term_words one s st entry entry n (Err q)) (new-beyond s (cursor_of s entry st) (omega arith)) (refused-beyond term_words one s st st entry entry n q (cursor_of s entry st) refl f refl)
 
-module _ (s : List ℕ) (st : State) (entry exit : List ℕ) (n : ℕ) (r : Parsed) where
-  pub new-refused : variables ≤ st.count → Refused st 6 r → Gives term_words one s st entry entry n r (new_variable s (cursor_of s entry st))
-  new-refused h f =
-      let count : length (names_from s (met entry) 0 st.count) ≡ st.count = names-length s (met entry) 0 st.count in
-      subst⁻¹ (Gives term_words one s st entry entry n r) (new-beyond s (cursor_of s entry st) (omega arith)) (refused-beyond term_words one s st st entry entry n r (cursor_of s entry st) refl f refl)
+module _ (s : List ℕ) (st : State) (entry exit : List ℕ) (n : ℕ) where
+  by-name : Bool → Read Term
+  by-name b = elim b as (λ _. Read Term) [ true ↦ new_variable s (cursor_of s entry st) | false ↦ old_variable s (cursor_of s entry st) (found s entry st) ]
 
-  module _ (b : Bool) (eb : b ≡ is_anonymous s st.token) where
-    pub variable-anonymous : b ≡ true → Gives term_words one s st entry exit n r (new_variable s (cursor_of s entry st)) → Gives term_words one s st entry exit n r (read_variable s (cursor_of s entry st))
-    unfolding read_variable
-    variable-anonymous e g = subst (λ (u : Bool). Gives term_words one s st entry exit n r (elim u as (λ _. Read Term) [ true ↦ new_variable s (cursor_of s entry st) | false ↦ old_variable s (cursor_of s entry st) (found s entry st) ])) (sym e ∙ eb) g
+  read-by : (b : Bool) → is_anonymous s st.token ≡ b → read_variable s (cursor_of s entry st) ≡ by-name b
+  unfolding read_variable by-name
+  read-by b e = ap by-name e
 
-    named-old : b ≡ false → Gives term_words one s st entry exit n r (old_variable s (cursor_of s entry st) (found s entry st)) → Gives term_words one s st entry exit n r (read_variable s (cursor_of s entry st))
-    unfolding read_variable
-    named-old e g = subst (λ (u : Bool). Gives term_words one s st entry exit n r (elim u as (λ _. Read Term) [ true ↦ new_variable s (cursor_of s entry st) | false ↦ old_variable s (cursor_of s entry st) (found s entry st) ])) (sym e ∙ eb) g
-
-    old-by : (o : Option ℕ) (v : ℕ) → FoundAs o st.count v → v < st.count → Given s st entry exit n r (v ∷ node_words ∷ st.token.at ∷ []) 1 (next s (cursor_of s entry st)) → Gives term_words one s st entry exit n r (old_variable s (cursor_of s entry st) o)
-    unfolding old_variable term_words
-    old-by none v e h g = absurd (omega (arith, e))
-    old-by (some i) v e h g = subst (λ (x : ℕ). Given s st entry exit n r (x ∷ node_words ∷ st.token.at ∷ []) 1 (next s (cursor_of s entry st))) e.0 g
-
-    new_by : (o : Option ℕ) (v : ℕ) → FoundAs o st.count v → st.count ≤ v → Gives term_words one s st entry exit n r (new_variable s (cursor_of s entry st)) → Gives term_words one s st entry exit n r (old_variable s (cursor_of s entry st) o)
-    unfolding old_variable
-    new_by none v e h g = g
-    new_by (some i) v e h g = absurd (omega (arith, e.0, e.1))
-
-    pub variable-old : b ≡ false → (v : ℕ) → FoundAs (found s entry st) st.count v → v < st.count → Given s st entry exit n r (v ∷ node_words ∷ st.token.at ∷ []) 1 (next s (cursor_of s entry st)) → Gives term_words one s st entry exit n r (read_variable s (cursor_of s entry st))
-    variable-old e v f h g = named-old e (old-by (found s entry st) v f h g)
-
-    pub variable-new : b ≡ false → (v : ℕ) → FoundAs (found s entry st) st.count v → st.count ≤ v → Gives term_words one s st entry exit n r (new_variable s (cursor_of s entry st)) → Gives term_words one s st entry exit n r (read_variable s (cursor_of s entry st))
-    variable-new e v f h g = named-old e (new_by (found s entry st) v f h g)
-
-  module _ (v : ℕ) (f : MetAs (is_anonymous s st.token) (found s entry st) st.count v) where
-    pub variable-met : v < st.count → Given s st entry exit n r (v ∷ node_words ∷ st.token.at ∷ []) 1 (next s (cursor_of s entry st)) → Gives term_words one s st entry exit n r (read_variable s (cursor_of s entry st))
-    variable-met h g = by (is_anonymous s st.token) refl f
+  module _ (o : OptionOf ℕ) (f : MetAs (is_anonymous s st.token) (found s entry st) st.count o) where
+    pub variable-met : (r : Parsed) (v : ℕ) → o ≡ Some v → Given s st entry exit n r (v ∷ node_words ∷ st.token.at ∷ []) 1 (next s (cursor_of s entry st)) → Gives term_words one s st entry exit n (Ok r) (read_variable s (cursor_of s entry st))
+    unfolding old_variable term_words by-name
+    variable-met r v h g = by (is_anonymous s st.token) refl f
       where
-        by : (b : Bool) → b ≡ is_anonymous s st.token → MetAs b (found s entry st) st.count v → Gives term_words one s st entry exit n r (read_variable s (cursor_of s entry st))
-        by true e k = absurd (omega (arith, k))
-        by false e k = variable-old false e refl v k h g
+        old-by : (d : Option ℕ) → FoundAs d st.count o → Gives term_words one s st entry exit n (Ok r) (old_variable s (cursor_of s entry st) d)
+        old-by none k = absurd (let z : ◌≡◌ {A = OptionOf ℕ} (Some v) None = sym h ∙ k in cc)
+        old-by (some i) k = let z : v ≡ i = (let w : ◌≡◌ {A = OptionOf ℕ} (Some v) (Some i) = sym h ∙ k.0 in cc) in subst (λ (x : ℕ). Given s st entry exit n r (x ∷ node_words ∷ st.token.at ∷ []) 1 (next s (cursor_of s entry st))) z g
 
-    pub variable-unmet : st.count ≤ v → Gives term_words one s st entry exit n r (new_variable s (cursor_of s entry st)) → Gives term_words one s st entry exit n r (read_variable s (cursor_of s entry st))
-    variable-unmet h g = by (is_anonymous s st.token) refl f
+        by : (b : Bool) → is_anonymous s st.token ≡ b → MetAs b (found s entry st) st.count o → Gives term_words one s st entry exit n (Ok r) (read_variable s (cursor_of s entry st))
+        by true e k = absurd (let z : ◌≡◌ {A = OptionOf ℕ} (Some v) None = sym h ∙ k in cc)
+        by false e k = subst⁻¹ (Gives term_words one s st entry exit n (Ok r)) (read-by false e) (old-by (found s entry st) k)
+
+    -- what `leaf` asks
+    pub leaf-ready : (v : ℕ) → o ≡ Some v → RoomToRead s st entry n 0 → st.token.kind ≡ variable_kind → RoomToRead s st entry n 0 × ((v < 2 ^ 32) × (st.token.kind ≡ end_kind → ⊥))
+    leaf-ready v h ready k = (ready, (low, not_end k))
       where
-        by : (b : Bool) → b ≡ is_anonymous s st.token → MetAs b (found s entry st) st.count v → Gives term_words one s st entry exit n r (read_variable s (cursor_of s entry st))
-        by true e k = variable-anonymous true e refl g
-        by false e k = variable-new false e refl v k h g
+        low-by : (d : Option ℕ) → FoundAs d st.count o → v < 2 ^ 32
+        low-by none w = absurd (let z : ◌≡◌ {A = OptionOf ℕ} (Some v) None = sym h ∙ w in cc)
+        low-by (some i) w =
+            let few : st.count ≤ variables = ready.standing.few in
+            let z : v ≡ i = (let w : ◌≡◌ {A = OptionOf ℕ} (Some v) (Some i) = sym h ∙ w.0 in cc) in
+            let b : i < st.count = w.1 in
+            omega arith
+
+        by : (b : Bool) → MetAs b (found s entry st) st.count o → v < 2 ^ 32
+        by true w = absurd (let z : ◌≡◌ {A = OptionOf ℕ} (Some v) None = sym h ∙ w in cc)
+        by false w = low-by (found s entry st) w
+
+        low : v < 2 ^ 32
+        low = by (is_anonymous s st.token) f
+
+    pub variable-unmet : (r : Result Parsed Refusal) → o ≡ None → Gives term_words one s st entry exit n r (new_variable s (cursor_of s entry st)) → Gives term_words one s st entry exit n r (read_variable s (cursor_of s entry st))
+    unfolding old_variable by-name
+    variable-unmet r h g = by (is_anonymous s st.token) refl f
+      where
+        new-by : (d : Option ℕ) → FoundAs d st.count o → Gives term_words one s st entry exit n r (old_variable s (cursor_of s entry st) d)
+        new-by none k = g
+        new-by (some i) k = absurd (let z : ◌≡◌ {A = OptionOf ℕ} None (Some i) = sym h ∙ k.0 in cc)
+
+        by : (b : Bool) → is_anonymous s st.token ≡ b → MetAs b (found s entry st) st.count o → Gives term_words one s st entry exit n r (read_variable s (cursor_of s entry st))
+        by true e k = subst⁻¹ (Gives term_words one s st entry exit n r) (read-by true e) g
+        by false e k = subst⁻¹ (Gives term_words one s st entry exit n r) (read-by false e) (new-by (found s entry st) k)
 
 -- which variable the token at hand is
 module _ (s : List ℕ) (st : State) (b : Bool) (eb : b ≡ is_anonymous s st.token) (found : Option ℕ) where
-  pub met-anonymous : b ≡ true → MetAs (is_anonymous s st.token) found st.count st.count
-  met-anonymous e = subst (λ (u : Bool). MetAs u found st.count st.count) (sym e ∙ eb) refl
+  pub met-anonymous : b ≡ true → MetAs (is_anonymous s st.token) found st.count None
+  met-anonymous e = subst (λ (u : Bool). MetAs u found st.count None) (sym e ∙ eb) refl
 
-  pub met-named : b ≡ false → (v : ℕ) → FoundAs found st.count v → MetAs (is_anonymous s st.token) found st.count v
+  pub met-named : b ≡ false → (v : OptionOf ℕ) → FoundAs found st.count v → MetAs (is_anonymous s st.token) found st.count v
   met-named e v f = subst (λ (u : Bool). MetAs u found st.count v) (sym e ∙ eb) f

@@ -1,5 +1,5 @@
 -- Laws of reading one thing after another: what the parts give, the whole gives. Assumes nothing.
-use Prim.Native.Nat.{ℕ, ◌+◌, ◌≤◌, ◌<◌}
+use Prim.Native.Nat.{ℕ, ◌+◌, ◌≤◌}
 use native.Mathlib.Nat.{add_assoc}
 use native.Mathlib.Omega.{arith}
 use mathlib.Core.Path.{◌≡◌, sym, ap, ap₂, ◌∙◌, subst⁻¹}
@@ -8,7 +8,9 @@ use lib.ListN.{length, set, take, length-take, length-set, length-append}
 use lib.Seq.{take-take, take-append-le, take-set-lt, set-append_left, take_all}
 use Rattle.syntax.specs.Reading.{Cursor, Read, fault, ok, and_then}
 use Rattle.syntax.specs.declared.State.{State}
-use Rattle.parse_cursor.specs.Gives.{cursor_of, Faulted, GivenWith, GivesWith}
+use Rattle.std.specs.Prelude.{Ok, Err}
+use Rattle.syntax.specs.declared.Refusal.{Refusal}
+use Rattle.parse_cursor.specs.Gives.{cursor_of, GivenWith, GivesWith}
 use Rattle.parse_cursor.specs.declared.Parsed.{Parsed}
 use Rattle.parse_cursor.proofs.Reading.{three}
 
@@ -55,16 +57,13 @@ header entry mid exit w n a b c h e f =
 
 module _ {A B : Type 0} (spare spare' : ℕ) (wa : A → List ℕ) (ia : A → ℕ) (wb : B → List ℕ) (ib : B → ℕ) (s : List ℕ) where
   -- a fault of the part is the whole's
-  pub seq-fault : (from st : State) (entry exit : List ℕ) (n m : ℕ) (r : Parsed) (d : Read A) (k : A → Cursor → Read B) → n ≤ m → GivesWith spare wa ia s st entry exit m r d → (r.number ≡ 0 → ⊥) → GivesWith spare' wb ib s from entry exit n r (and_then d k)
+  pub seq-fault : (from st : State) (entry exit : List ℕ) (n m : ℕ) (q : Refusal) (d : Read A) (k : A → Cursor → Read B) → n ≤ m → GivesWith spare wa ia s st entry exit m (Err q) d → GivesWith spare' wb ib s from entry exit n (Err q) (and_then d k)
   unfolding and_then
-  seq-fault from st entry exit n m r (fault f b) k h g z = record { number_is = g.number_is; some = g.some; byte_is = g.byte_is; kept = shorter n m entry exit h g.kept }
-  seq-fault from st entry exit n m r (ok a after) k h g z = absurd (z g.number_is)
+  seq-fault from st entry exit n m q (fault f b) k h g = record { is = g.is; kept = shorter n m entry exit h g.kept }
+  seq-fault from st entry exit n m q (ok a after) k h g = absurd g
 
 module _ {A : Type 0} (spare : ℕ) (wa : A → List ℕ) (ia : A → ℕ) (s : List ℕ) where
-  faulted-not : {entry exit : List ℕ} {n : ℕ} {r : Parsed} {f b : ℕ} → Faulted entry exit n r f b → r.number ≡ 0 → ⊥
-  faulted-not {r = r} {f = f} g z = let e : r.number ≡ f = g.number_is in let p : 0 < f = g.some in omega arith
-
   -- otherwise it is what was read, with the reader that the code has
-  pub seq-ok : (st : State) (entry exit : List ℕ) (n : ℕ) (r : Parsed) (d : Read A) → GivesWith spare wa ia s st entry exit n r d → r.number ≡ 0 → (a : A) × (d ≡ ok a (cursor_of s exit r.state)) × GivenWith spare s st entry exit n r (wa a) (ia a) (cursor_of s exit r.state)
-  seq-ok st entry exit n r (fault f b) g z = absurd (faulted-not g z)
-  seq-ok st entry exit n r (ok a after) g z = (a, ap (ok a) (sym g.state_is), subst⁻¹ (λ (x : Cursor). GivenWith spare s st entry exit n r (wa a) (ia a) x) g.state_is g)
+  pub seq-ok : (st : State) (entry exit : List ℕ) (n : ℕ) (r : Parsed) (d : Read A) → GivesWith spare wa ia s st entry exit n (Ok r) d → (a : A) × (d ≡ ok a (cursor_of s exit r.state)) × GivenWith spare s st entry exit n r (wa a) (ia a) (cursor_of s exit r.state)
+  seq-ok st entry exit n r (fault f b) g = absurd g
+  seq-ok st entry exit n r (ok a after) g = (a, ap (ok a) (sym g.state_is), subst⁻¹ (λ (x : Cursor). GivenWith spare s st entry exit n r (wa a) (ia a) x) g.state_is g)

@@ -6,10 +6,10 @@ use mathlib.Core.Path.{◌≡◌, refl, sym, ap, ap₂, ◌∙◌, subst, subst�
 use mathlib.Core.Bool.{Bool, true, false}
 use mathlib.Core.List.{List, [], ◌∷◌, ◌++◌, append-nil}
 use lib.ListN.{length, set, take, length-append}
-use lib.Dec.{eqb}
-use borrow.Author.Tests.{eq-eqb, ne_eqb}
+use Rattle.std.specs.Prelude.{Result, Ok, Err}
+use Rattle.syntax.proofs.SameKind.{eq-kind, ne_kind}
 use Rattle.syntax.specs.Terms.{Term, Terms, Atom, variable, compound, nil, cons, arity, term_of}
-use Rattle.syntax.specs.Tokens.{spelling, comma_kind, end_kind, name_kind, variable_kind, numeral_kind, open_kind, close_kind}
+use Rattle.syntax.specs.Tokens.{spelling, same_kind, comma_kind, end_kind, name_kind, variable_kind, numeral_kind, open_kind, close_kind}
 use Rattle.syntax.specs.Numerals.{trimmed, dropped}
 use Rattle.syntax.proofs.Numerals.{trimmed-short}
 use Rattle.syntax.specs.Reading.{Cursor, numeral_at, spelt, Read, fault, ok, and_then, next, wrong_number, beyond, full, read_variable, read_term, read_term_with, term_with, read_atom, read_atom_with, atom_with, atom_at, read_list, read_arguments, arguments_after, start_of, begins, after_of, After, more, last, neither, Start, a_variable, a_numeral, a_name, nothing}
@@ -18,6 +18,8 @@ use Rattle.syntax.specs.Limits.{sheet_bytes, variables, arguments}
 use Rattle.syntax.specs.Spans.{met, Held}
 use Rattle.syntax.proofs.Spans.{met-three}
 use Rattle.syntax.specs.declared.State.{State}
+use Rattle.syntax.specs.declared.Refusal.{Refusal}
+use Rattle.syntax.specs.declared.TokenKind.{TokenKind}
 use Rattle.parse_cursor.specs.Gives.{cursor_of, bytes_left, CursorInside, PastToken, RoomToRead, Given, Gives, GivenWith, GivesWith, Refused, ItemCount, full_number, one}
 use Rattle.parse_cursor.specs.declared.Parsed.{Parsed}
 use Rattle.texts.proofs.Laws.{length-spelling}
@@ -51,6 +53,25 @@ mutual
   arity-words nil = omega arith
   arity-words (cons t ts) = let a : 1 ≤ length (term_words t) = term-some t in let b : arity ts ≤ length (terms_words ts) = arity-words ts in simp length-append (omega arith)
 
+-- none of these kinds is the end
+pub name-no_end : {k : TokenKind} → k ≡ name_kind → k ≡ end_kind → ⊥
+name-no_end e f = cc
+
+numeral-no_end : {k : TokenKind} → k ≡ numeral_kind → k ≡ end_kind → ⊥
+numeral-no_end e f = cc
+
+pub open-no_end : {k : TokenKind} → k ≡ open_kind → k ≡ end_kind → ⊥
+open-no_end e f = cc
+
+pub close-no_end : {k : TokenKind} → k ≡ close_kind → k ≡ end_kind → ⊥
+close-no_end e f = cc
+
+pub comma-no_end : {k : TokenKind} → k ≡ comma_kind → k ≡ end_kind → ⊥
+comma-no_end e f = cc
+
+pub close-no_comma : {k : TokenKind} → k ≡ close_kind → k ≡ comma_kind → ⊥
+close-no_comma e f = cc
+
 -- a name's first word fits
 pub name-fits : (s : List ℕ) (st : State) (table : List ℕ) (n : ℕ) → RoomToRead s st table n 0 → functor 0 st.token.len < 2 ^ 32
 name-fits s st table n ready =
@@ -60,7 +81,7 @@ name-fits s st table n ready =
 
 -- what `leaf` asks for a name
 pub leaf-asked : (s : List ℕ) (st : State) (table : List ℕ) (n what : ℕ) → RoomToRead s st table n 0 → st.token.kind ≡ name_kind → what ≡ functor 0 st.token.len → RoomToRead s st table n 0 × ((what < 2 ^ 32) × (st.token.kind ≡ end_kind → ⊥))
-leaf-asked s st table n what ready k e = (ready, (omega (arith, name-fits s st table n ready), λ q. absurd (omega (arith, k, q))))
+leaf-asked s st table n what ready k e = (ready, (omega (arith, name-fits s st table n ready), λ q. name-no_end k q))
 
 -- ---- numerals
 
@@ -83,7 +104,7 @@ module _ (s : List ℕ) (st : State) (table : List ℕ) (n p : ℕ) (ready : Roo
   numeral-asked what k is =
       let inside : st.token.at + st.token.len ≤ length s = ready.standing.inside in
       let short : length s ≤ sheet_bytes = ready.standing.short in
-      (ready, (omega (arith, numeral-fits), (omega (arith, numeral-low), λ q. absurd (omega (arith, k, q)))))
+      (ready, (omega (arith, numeral-fits), (omega (arith, numeral-low), λ q. numeral-no_end k q)))
 
 numeral-words : (s : List ℕ) (st : Cursor) (p what : ℕ) → st.token.at + st.token.len ≤ length s → p ≡ st.token.at + dropped (spelt s st) → what ≡ functor 0 (st.token.at + st.token.len - p)
     → what ∷ node_words ∷ p ∷ [] ≡ term_words (term_of (numeral_at s st))
@@ -105,11 +126,11 @@ module _ (most : ℕ) (s : List ℕ) (st : Cursor) where
   -- the definition, by what stands behind the name
   atom-open : (past : Cursor) → past ≡ next s st → past.token.kind ≡ open_kind → read_atom most s st ≡ and_then (read_list most s past) (λ ts after. ok (atom_at s st ts) after)
   unfolding read_atom read_atom_with atom_with
-  atom-open past e k = ap (λ (b : Bool). atom_with (λ x. read_list most s x) s st b) (ap (λ (x : Cursor). eqb x.token.kind open_kind) (sym e) ∙ eq-eqb past.token.kind open_kind k) ∙ ap (λ (x : Cursor). and_then (read_list most s x) (λ ts after. ok (atom_at s st ts) after)) (sym e)
+  atom-open past e k = ap (λ (b : Bool). atom_with (λ x. read_list most s x) s st b) (ap (λ (x : Cursor). same_kind x.token.kind open_kind) (sym e) ∙ eq-kind past.token.kind open_kind k) ∙ ap (λ (x : Cursor). and_then (read_list most s x) (λ ts after. ok (atom_at s st ts) after)) (sym e)
 
   atom-alone : (past : Cursor) → past ≡ next s st → (past.token.kind ≡ open_kind → ⊥) → read_atom most s st ≡ ok (atom_at s st nil) (next s st)
   unfolding read_atom read_atom_with atom_with
-  atom-alone past e k = ap (λ (b : Bool). atom_with (λ x. read_list most s x) s st b) (ap (λ (x : Cursor). eqb x.token.kind open_kind) (sym e) ∙ ne_eqb past.token.kind open_kind k)
+  atom-alone past e k = ap (λ (b : Bool). atom_with (λ x. read_list most s x) s st b) (ap (λ (x : Cursor). same_kind x.token.kind open_kind) (sym e) ∙ ne_kind past.token.kind open_kind k)
 
   list-down : (past inner : Cursor) → (most ≡ 0 → ⊥) → inner ≡ next s past → read_list most s past ≡ read_arguments (λ x. read_term (most - 1) s x) s arguments inner
   unfolding read_list read_term
@@ -118,17 +139,17 @@ module _ (most : ℕ) (s : List ℕ) (st : Cursor) where
       ap (λ (l : ℕ). read_list l s past) d ∙ ap (read_arguments (λ x. read_term (most - 1) s x) s arguments) (sym e)
 
 module _ (most : ℕ) (s : List ℕ) (st : State) where
-  module _ (entry : List ℕ) (n : ℕ) (r : Parsed) (ready : RoomToRead s st entry n 0) where
-    pub atom-bare : (exit : List ℕ) (past : State) (what : ℕ) → PastToken s st past → (past.token.kind ≡ open_kind → ⊥) → what ≡ functor 0 st.token.len
-        → Given s st entry exit n r (what ∷ node_words ∷ st.token.at ∷ []) 1 (next s (cursor_of s entry st)) → Gives atom_words one s st entry exit n r (read_atom most s (cursor_of s entry st))
-    atom-bare exit past what m k is g =
-        subst⁻¹ (Gives atom_words one s st entry exit n r) (atom-alone most s (cursor_of s entry st) (cursor_of s entry past) (next_of entry m) k)
+  module _ (entry : List ℕ) (n : ℕ) (ready : RoomToRead s st entry n 0) where
+    pub atom-bare : (r : Parsed) (exit : List ℕ) (past : State) (what : ℕ) → PastToken s st past → (past.token.kind ≡ open_kind → ⊥) → what ≡ functor 0 st.token.len
+        → Given s st entry exit n r (what ∷ node_words ∷ st.token.at ∷ []) 1 (next s (cursor_of s entry st)) → Gives atom_words one s st entry exit n (Ok r) (read_atom most s (cursor_of s entry st))
+    atom-bare r exit past what m k is g =
+        subst⁻¹ (Gives atom_words one s st entry exit n (Ok r)) (atom-alone most s (cursor_of s entry st) (cursor_of s entry past) (next_of entry m) k)
         (subst (λ (w : List ℕ). Given s st entry exit n r w 1 (next s (cursor_of s entry st))) (leaf-words s (cursor_of s entry st) what ready.standing.inside is) g)
 
-    pub atom-deep : (past : State) → PastToken s st past → past.token.kind ≡ open_kind → most ≡ 0 → Refused past 6 r → Gives atom_words one s st entry entry n r (read_atom most s (cursor_of s entry st))
+    pub atom-deep : (r : Refusal) (past : State) → PastToken s st past → past.token.kind ≡ open_kind → most ≡ 0 → Refused past 6 r → Gives atom_words one s st entry entry n (Err r) (read_atom most s (cursor_of s entry st))
     unfolding read_list and_then beyond
-    atom-deep past m k z f =
-        subst⁻¹ (Gives atom_words one s st entry entry n r) (atom-open most s (cursor_of s entry st) (cursor_of s entry past) (next_of entry m) k ∙ ap (λ (l : ℕ). and_then (read_list l s (cursor_of s entry past)) (λ ts after. ok (atom_at s (cursor_of s entry st) ts) after)) z)
+    atom-deep r past m k z f =
+        subst⁻¹ (Gives atom_words one s st entry entry n (Err r)) (atom-open most s (cursor_of s entry st) (cursor_of s entry past) (next_of entry m) k ∙ ap (λ (l : ℕ). and_then (read_list l s (cursor_of s entry past)) (λ ts after. ok (atom_at s (cursor_of s entry st) ts) after)) z)
         (refused-beyond atom_words one s st past entry entry n r (cursor_of s entry past) refl f refl)
 
   module _ (entry exit mid : List ℕ) (n : ℕ) (past inner : State) (ready : RoomToRead s st entry n 0) (name : st.token.kind ≡ name_kind) (m : PastToken s st past) (k : past.token.kind ≡ open_kind) (z : most ≡ 0 → ⊥) (m' : PastToken s past inner) where
@@ -138,8 +159,8 @@ module _ (most : ℕ) (s : List ℕ) (st : State) where
     -- the name takes a byte and the bracket another
     space : 2 * node_words + node_words * bytes_left s inner ≤ node_words * bytes_left s st
     space =
-        let a : 0 < st.token.len = ready.standing.some (λ e. let q : st.token.kind ≡ name_kind = name in omega arith) in
-        let b : 0 < past.token.len = m.standing.some (λ e. let q : past.token.kind ≡ open_kind = k in omega arith) in
+        let a : 0 < st.token.len = ready.standing.some (name-no_end name) in
+        let b : 0 < past.token.len = m.standing.some (open-no_end k) in
         let i : past.token.at + past.token.len ≤ length s = m.standing.inside in
         let f : st.token.at + st.token.len ≤ past.token.at = m.forward in
         let g : past.token.at + past.token.len ≤ inner.token.at = m'.forward in
@@ -152,14 +173,14 @@ module _ (most : ℕ) (s : List ℕ) (st : State) where
         let sp : 2 * node_words + node_words * bytes_left s inner ≤ node_words * bytes_left s st = space in
         record { standing = m'.standing; held = held_of m' (held_of m ready.held); room = omega arith; small = ready.small }
 
-    pub atom-fault : (r : Parsed) → Gives terms_words arity s inner entry exit (n + node_words) r (read_arguments (λ x. read_term (most - 1) s x) s arguments (cursor_of s entry inner)) → (r.number ≡ 0 → ⊥) → Gives atom_words one s st entry exit n r (read_atom most s (cursor_of s entry st))
-    atom-fault r g q = subst⁻¹ (Gives atom_words one s st entry exit n r) whole (seq-fault 1 1 terms_words arity atom_words one s st inner entry exit n (n + node_words) r (read_arguments (λ x. read_term (most - 1) s x) s arguments (cursor_of s entry inner)) (λ ts after. ok (atom_at s (cursor_of s entry st) ts) after) (omega arith) g q)
+    pub atom-fault : (r : Refusal) → Gives terms_words arity s inner entry exit (n + node_words) (Err r) (read_arguments (λ x. read_term (most - 1) s x) s arguments (cursor_of s entry inner)) → Gives atom_words one s st entry exit n (Err r) (read_atom most s (cursor_of s entry st))
+    atom-fault r g = subst⁻¹ (Gives atom_words one s st entry exit n (Err r)) whole (seq-fault 1 1 terms_words arity atom_words one s st inner entry exit n (n + node_words) r (read_arguments (λ x. read_term (most - 1) s x) s arguments (cursor_of s entry inner)) (λ ts after. ok (atom_at s (cursor_of s entry st) ts) after) (omega arith) g)
 
-    module _ (r : Parsed) (g : Gives terms_words arity s inner entry mid (n + node_words) r (read_arguments (λ x. read_term (most - 1) s x) s arguments (cursor_of s entry inner))) (e : r.number ≡ 0) where
+    module _ (r : Parsed) (g : Gives terms_words arity s inner entry mid (n + node_words) (Ok r) (read_arguments (λ x. read_term (most - 1) s x) s arguments (cursor_of s entry inner))) where
       -- what `close` asks
       pub close-ready : length mid ≡ length entry → (n + node_words ≤ length mid) × ((st.token.at < 2 ^ 31) × ((st.token.len < 2 ^ 15) × ((r.items < 2 ^ 20) × ((n ≤ r.used) × (r.used < 2 ^ 31)))))
       close-ready l =
-          let o : (ts : Terms) × (read_arguments (λ x. read_term (most - 1) s x) s arguments (cursor_of s entry inner) ≡ ok ts (cursor_of s mid r.state)) × Given s inner entry mid (n + node_words) r (terms_words ts) (arity ts) (cursor_of s mid r.state) = seq-ok 1 terms_words arity s inner entry mid (n + node_words) r (read_arguments (λ x. read_term (most - 1) s x) s arguments (cursor_of s entry inner)) g e in
+          let o : (ts : Terms) × (read_arguments (λ x. read_term (most - 1) s x) s arguments (cursor_of s entry inner) ≡ ok ts (cursor_of s mid r.state)) × Given s inner entry mid (n + node_words) r (terms_words ts) (arity ts) (cursor_of s mid r.state) = seq-ok 1 terms_words arity s inner entry mid (n + node_words) r (read_arguments (λ x. read_term (most - 1) s x) s arguments (cursor_of s entry inner)) g in
           let room : n + node_words * bytes_left s st + 0 + variables ≤ length entry = ready.room in
           let inside : st.token.at + st.token.len ≤ length s = ready.standing.inside in
           let short : length s ≤ sheet_bytes = ready.standing.short in
@@ -171,10 +192,10 @@ module _ (most : ℕ) (s : List ℕ) (st : State) where
           let few : arity o.0 ≤ length (terms_words o.0) = arity-words o.0 in
           (omega arith, (omega arith, (omega arith, (omega arith, (omega arith, omega arith)))))
 
-      pub atom-list : length mid ≡ length entry → (q : Parsed) → q ≡ record { number = 0; used = r.used; items = 1; state = r.state } → exit ≡ set (set (set mid n (functor r.items st.token.len)) (n + 1) (r.used - n)) (n + 2) st.token.at → Gives atom_words one s st entry exit n q (read_atom most s (cursor_of s entry st))
+      pub atom-list : length mid ≡ length entry → (q : Parsed) → q ≡ record { used = r.used; items = 1; state = r.state } → exit ≡ set (set (set mid n (functor r.items st.token.len)) (n + 1) (r.used - n)) (n + 2) st.token.at → Gives atom_words one s st entry exit n (Ok q) (read_atom most s (cursor_of s entry st))
       unfolding and_then
       atom-list l q eq ex =
-          let o : (ts : Terms) × (read_arguments (λ x. read_term (most - 1) s x) s arguments (cursor_of s entry inner) ≡ ok ts (cursor_of s mid r.state)) × Given s inner entry mid (n + node_words) r (terms_words ts) (arity ts) (cursor_of s mid r.state) = seq-ok 1 terms_words arity s inner entry mid (n + node_words) r (read_arguments (λ x. read_term (most - 1) s x) s arguments (cursor_of s entry inner)) g e in
+          let o : (ts : Terms) × (read_arguments (λ x. read_term (most - 1) s x) s arguments (cursor_of s entry inner) ≡ ok ts (cursor_of s mid r.state)) × Given s inner entry mid (n + node_words) r (terms_words ts) (arity ts) (cursor_of s mid r.state) = seq-ok 1 terms_words arity s inner entry mid (n + node_words) r (read_arguments (λ x. read_term (most - 1) s x) s arguments (cursor_of s entry inner)) g in
           let ts : Terms = o.0 in
           let given : Given s inner entry mid (n + node_words) r (terms_words ts) (arity ts) (cursor_of s mid r.state) = o.2 in
           let room : n + node_words * bytes_left s st + 0 + variables ≤ length entry = ready.room in
@@ -186,8 +207,7 @@ module _ (most : ℕ) (s : List ℕ) (st : State) where
           let stored : exit ≡ set (set (set mid n (functor (arity ts) st.token.len)) (n + 1) (node_words + length (terms_words ts))) (n + 2) st.token.at =
           ex ∙ ap₂ (λ (i z : ℕ). set (set (set mid n (functor i st.token.len)) (n + 1) z) (n + 2) st.token.at) given.items_is size in
           let same : met exit ≡ met mid = ap met ex ∙ met-three mid n (functor r.items st.token.len) (r.used - n) st.token.at (omega arith) in
-          let result : Given s st entry exit n (record { number = 0; used = r.used; items = 1; state = r.state }) words 1 (cursor_of s mid r.state) = record {
-            number_is = refl;
+          let result : Given s st entry exit n (record { used = r.used; items = 1; state = r.state }) words 1 (cursor_of s mid r.state) = record {
             state_is = cursor-kept s mid exit r.state same;
             items_is = refl;
             used_is = omega arith;
@@ -196,9 +216,9 @@ module _ (most : ℕ) (s : List ℕ) (st : State) where
             held = held_kept same given.held;
             room = omega arith;
           } in
-          subst⁻¹ (λ (d : Read Atom). Gives atom_words one s st entry exit n q d) (whole ∙ ap (λ (d : Read Terms). and_then d (λ ts after. ok (atom_at s (cursor_of s entry st) ts) after)) o.1)
+          subst⁻¹ (λ (d : Read Atom). Gives atom_words one s st entry exit n (Ok q) d) (whole ∙ ap (λ (d : Read Terms). and_then d (λ ts after. ok (atom_at s (cursor_of s entry st) ts) after)) o.1)
           (subst⁻¹ (λ (x : Parsed). Given s st entry exit n x (atom_words (atom_at s (cursor_of s entry st) ts)) 1 (cursor_of s mid r.state)) eq
-          (subst (λ (w : List ℕ). Given s st entry exit n (record { number = 0; used = r.used; items = 1; state = r.state }) w 1 (cursor_of s mid r.state)) (atom-words s (cursor_of s entry st) ts ready.standing.inside) result))
+          (subst (λ (w : List ℕ). Given s st entry exit n (record { used = r.used; items = 1; state = r.state }) w 1 (cursor_of s mid r.state)) (atom-words s (cursor_of s entry st) ts ready.standing.inside) result))
 
 -- ---- terms
 
@@ -208,45 +228,47 @@ module _ (most : ℕ) (s : List ℕ) (st : Cursor) where
   term-by x e = ap (term_with (λ st1. read_list most s st1) s st) e
 
 module _ (most : ℕ) (s : List ℕ) (st : State) where
-  module _ (entry exit : List ℕ) (n : ℕ) (r : Parsed) where
-    pub term-variable : st.token.kind ≡ variable_kind → Gives term_words one s st entry exit n r (read_variable s (cursor_of s entry st)) → Gives term_words one s st entry exit n r (read_term most s (cursor_of s entry st))
+  module _ (entry exit : List ℕ) (n : ℕ) where
+    pub term-variable : (r : Result Parsed Refusal) → st.token.kind ≡ variable_kind → Gives term_words one s st entry exit n r (read_variable s (cursor_of s entry st)) → Gives term_words one s st entry exit n r (read_term most s (cursor_of s entry st))
     unfolding term_with
-    term-variable e g = subst⁻¹ (Gives term_words one s st entry exit n r) (term-by most s (cursor_of s entry st) a_variable (start-variable st.token.kind e)) g
+    term-variable r e g = subst⁻¹ (Gives term_words one s st entry exit n r) (term-by most s (cursor_of s entry st) a_variable (start-variable st.token.kind e)) g
 
-    pub term-numeral : (st.token.kind ≡ variable_kind → ⊥) → st.token.kind ≡ numeral_kind → Given s st entry exit n r (term_words (term_of (numeral_at s (cursor_of s entry st)))) 1 (next s (cursor_of s entry st)) → Gives term_words one s st entry exit n r (read_term most s (cursor_of s entry st))
+    pub term-numeral : (r : Parsed) → st.token.kind ≡ numeral_kind → Given s st entry exit n r (term_words (term_of (numeral_at s (cursor_of s entry st)))) 1 (next s (cursor_of s entry st)) → Gives term_words one s st entry exit n (Ok r) (read_term most s (cursor_of s entry st))
     unfolding term_with
-    term-numeral f e g = subst⁻¹ (Gives term_words one s st entry exit n r) (term-by most s (cursor_of s entry st) a_numeral (start-numeral st.token.kind f e)) g
+    term-numeral r e g = subst⁻¹ (Gives term_words one s st entry exit n (Ok r)) (term-by most s (cursor_of s entry st) a_numeral (start-numeral st.token.kind e)) g
 
-    atom-term : (d : Read Atom) → Gives atom_words one s st entry exit n r d → Gives term_words one s st entry exit n r (and_then d (λ a after. ok (term_of a) after))
+    atom-term : (r : Result Parsed Refusal) (d : Read Atom) → Gives atom_words one s st entry exit n r d → Gives term_words one s st entry exit n r (and_then d (λ a after. ok (term_of a) after))
     unfolding and_then
-    atom-term (fault k b) g = g
-    atom-term (ok a after) g = g
+    atom-term (Err q) (fault k b) g = g
+    atom-term (Err q) (ok a after) g = g
+    atom-term (Ok r) (fault k b) g = g
+    atom-term (Ok r) (ok a after) g = g
 
-    pub term-name : st.token.kind ≡ name_kind → Gives atom_words one s st entry exit n r (read_atom most s (cursor_of s entry st)) → Gives term_words one s st entry exit n r (read_term most s (cursor_of s entry st))
+    pub term-name : (r : Result Parsed Refusal) → st.token.kind ≡ name_kind → Gives atom_words one s st entry exit n r (read_atom most s (cursor_of s entry st)) → Gives term_words one s st entry exit n r (read_term most s (cursor_of s entry st))
     unfolding term_with read_atom
-    term-name e g =
+    term-name r e g =
         subst⁻¹ (Gives term_words one s st entry exit n r)
-        (term-by most s (cursor_of s entry st) a_name (start-name st.token.kind (λ q. absurd (omega (arith, e, q))) (λ q. absurd (omega (arith, e, q))) e))
-        (atom-term (read_atom most s (cursor_of s entry st)) g)
+        (term-by most s (cursor_of s entry st) a_name (start-name st.token.kind e))
+        (atom-term r (read_atom most s (cursor_of s entry st)) g)
 
     -- a term that begins with no name is read the same whatever brackets are left
-    pub term-simple : ((k : ℕ) → Gives term_words one s st entry exit n r (read_term k s (cursor_of s entry st))) → Gives term_words one s st entry exit n r (read_term most s (cursor_of s entry st))
-    term-simple g = g most
+    pub term-simple : (r : Result Parsed Refusal) → ((k : ℕ) → Gives term_words one s st entry exit n r (read_term k s (cursor_of s entry st))) → Gives term_words one s st entry exit n r (read_term most s (cursor_of s entry st))
+    term-simple r g = g most
 
-    pub term-other : (st.token.kind ≡ variable_kind → ⊥) → (st.token.kind ≡ numeral_kind → ⊥) → (st.token.kind ≡ name_kind → ⊥) → Refused st (wrong_number st.token.kind) r → Gives term_words one s st entry entry n r (read_term most s (cursor_of s entry st))
+    pub term-other : (r : Refusal) → (st.token.kind ≡ variable_kind → ⊥) → (st.token.kind ≡ numeral_kind → ⊥) → (st.token.kind ≡ name_kind → ⊥) → Refused st (wrong_number st.token.kind) r → Gives term_words one s st entry entry n (Err r) (read_term most s (cursor_of s entry st))
     unfolding term_with
-    term-other f h e g = subst⁻¹ (Gives term_words one s st entry entry n r) (term-by most s (cursor_of s entry st) nothing (start-nothing st.token.kind f h e)) (refused-wrong term_words one s st st entry entry n r (cursor_of s entry st) refl g refl)
+    term-other r f h e g = subst⁻¹ (Gives term_words one s st entry entry n (Err r)) (term-by most s (cursor_of s entry st) nothing (start-nothing st.token.kind f h e)) (refused-wrong term_words one s st st entry entry n r (cursor_of s entry st) refl g refl)
 
 -- ---- lists
 
 -- a list or body that is full
-module _ {A : Type 0} (spare : ℕ) (words : A → List ℕ) (items : A → ℕ) (s : List ℕ) (from st : State) (entry : List ℕ) (n : ℕ) (r : Parsed) (c : Cursor) (t : c.token ≡ st.token) where
-  full_by : (b : Bool) → Refused st (full_number b st.token.kind) r → GivesWith spare words items s from entry entry n r (full b c)
+module _ {A : Type 0} (spare : ℕ) (words : A → List ℕ) (items : A → ℕ) (s : List ℕ) (from st : State) (entry : List ℕ) (n : ℕ) (r : Refusal) (c : Cursor) (t : c.token ≡ st.token) where
+  full_by : (b : Bool) → Refused st (full_number b st.token.kind) r → GivesWith spare words items s from entry entry n (Err r) (full b c)
   unfolding full
   full_by true g = refused-beyond-with spare words items s from st entry entry n r c t g refl
   full_by false g = refused-wrong-with spare words items s from st entry entry n r c t g refl
 
-  pub list_full : Refused st (full_number (begins (start_of st.token.kind)) st.token.kind) r → GivesWith spare words items s from entry entry n r (full (begins (start_of st.token.kind)) c)
+  pub list_full : Refused st (full_number (begins (start_of st.token.kind)) st.token.kind) r → GivesWith spare words items s from entry entry n (Err r) (full (begins (start_of st.token.kind)) c)
   list_full g = full_by (begins (start_of st.token.kind)) g
 
 -- One of a list was read; a list behind it is read by `rest`. The lists are `Terms` or a body, made by `put` from a thing and a list.
@@ -268,30 +290,30 @@ module _ {A L : Type 0} (over : ℕ) (wa : A → List ℕ) (ia : A → ℕ) (wl 
       let fits : length (wa a) + node_words * bytes_left s r.state + over ≤ node_words * bytes_left s st + 1 = g.room in
       record { standing = m.standing; held = held_of m g.held; room = omega arith; small = omega arith }
 
-  pub one-more : (exit : List ℕ) (after : State) (q p : Parsed) (d : Read L) → (r.state.token.kind ≡ end_kind → ⊥) → PastToken s r.state after → Gives wl il s after mid exit r.used q d → ItemCount q r.items p → n ≤ length entry → Gives wl il s st entry exit n p (and_then d (λ l end. ok (put a l) end))
+  -- a fault behind the comma is the whole's
+  pub more-fault : (exit : List ℕ) (after : State) (q : Refusal) (d : Read L) → Gives wl il s after mid exit r.used (Err q) d → n ≤ length entry → Gives wl il s st entry exit n (Err q) (and_then d (λ l end. ok (put a l) end))
   unfolding and_then
-  one-more exit after q p (fault f b) z m h e k =
+  more-fault exit after q (fault f b) h k =
       let used : r.used ≡ n + length (wa a) = g.used_is in
-      record {
-        number_is = e.number_is ∙ h.number_is;
-        some = h.some;
-        byte_is = ap (λ (x : State). x.token.at) e.state_is ∙ h.byte_is;
-        kept = shorter n r.used mid exit (omega arith) h.kept ∙ kept-before n n (length (wa a)) entry mid (wa a) (omega arith) k g.table_is;
-      }
-  one-more exit after q p (ok l end) z m h e k =
+      record { is = h.is; kept = shorter n r.used mid exit (omega arith) h.kept ∙ kept-before n n (length (wa a)) entry mid (wa a) (omega arith) k g.table_is }
+  more-fault exit after q (ok l end) h k = absurd h
+
+  pub one-more : (exit : List ℕ) (after : State) (q p : Parsed) (d : Read L) → (r.state.token.kind ≡ end_kind → ⊥) → PastToken s r.state after → Gives wl il s after mid exit r.used (Ok q) d → ItemCount q r.items p → Gives wl il s st entry exit n (Ok p) (and_then d (λ l end. ok (put a l) end))
+  unfolding and_then
+  one-more exit after q p (fault f b) z m h e = absurd h
+  one-more exit after q p (ok l end) z m h e =
       let less : node_words + node_words * bytes_left s after ≤ node_words * bytes_left s r.state = past-less after z m in
       let used : r.used ≡ n + length (wa a) = g.used_is in
       let used' : q.used ≡ r.used + length (wl l) = h.used_is in
       let used'' : p.used ≡ q.used = e.used_is in
       let items : q.items ≡ il l = h.items_is in
-      let items' : p.items ≡ q.items + r.items = e.items_is h.number_is in
+      let items' : p.items ≡ q.items + r.items = e.items_is in
       let items'' : r.items ≡ ia a = g.items_is in
       let fits : length (wa a) + node_words * bytes_left s r.state + over ≤ node_words * bytes_left s st + 1 = g.room in
       let fits' : length (wl l) + node_words * bytes_left s q.state + 1 ≤ node_words * bytes_left s after + 1 = h.room in
       let both : length (wa a ++ wl l) ≡ length (wa a) + length (wl l) = length-append (wa a) (wl l) in
       let ends : take ((n + length (wa a)) + length (wl l)) exit ≡ take (n + length (wa a)) mid ++ wl l = subst (λ (u : ℕ). take (u + length (wl l)) exit ≡ take u mid ++ wl l) used h.table_is in
       let result : Given s st entry exit n p (wa a ++ wl l) (ia a + il l) end = record {
-        number_is = e.number_is ∙ h.number_is;
         state_is = ap (cursor_of s exit) e.state_is ∙ h.state_is;
         items_is = omega arith;
         used_is = omega arith;
@@ -304,21 +326,20 @@ module _ {A L : Type 0} (over : ℕ) (wa : A → List ℕ) (ia : A → ℕ) (wl 
       (subst⁻¹ (λ (i : ℕ). Given s st entry exit n p (wa a ++ wl l) i end) (items-put a l) result)
 
   -- the things of a list that was read are few
-  pub few-items : ((l : L) → il l ≤ length (wl l)) → (exit : List ℕ) (after : State) (q : Parsed) (d : Read L) (m : ℕ) → CursorInside s after → Gives wl il s after mid exit m q d → q.number ≡ 0 → q.items < 2 ^ 31
-  few-items few exit after q d m stands h e =
-      let o : (l : L) × (d ≡ ok l (cursor_of s exit q.state)) × Given s after mid exit m q (wl l) (il l) (cursor_of s exit q.state) = seq-ok 1 wl il s after mid exit m q d h e in
+  pub few-items : ((l : L) → il l ≤ length (wl l)) → (exit : List ℕ) (after : State) (q : Parsed) (d : Read L) (m : ℕ) → CursorInside s after → Gives wl il s after mid exit m (Ok q) d → q.items < 2 ^ 31
+  few-items few exit after q d m stands h =
+      let o : (l : L) × (d ≡ ok l (cursor_of s exit q.state)) × Given s after mid exit m q (wl l) (il l) (cursor_of s exit q.state) = seq-ok 1 wl il s after mid exit m q d h in
       let items : q.items ≡ il o.0 = o.2.items_is in
       let fits : length (wl o.0) + node_words * bytes_left s q.state + 1 ≤ node_words * bytes_left s after + 1 = o.2.room in
       let short : length s ≤ sheet_bytes = stands.short in
       let b : il o.0 ≤ length (wl o.0) = few o.0 in
       omega arith
 
-  pub one_last : (after : State) → (r.state.token.kind ≡ end_kind → ⊥) → PastToken s r.state after → Given s st entry mid n (record { number = 0; used = r.used; items = r.items; state = after }) (wl (put a empty)) (il (put a empty)) (next s (cursor_of s mid r.state))
+  pub one_last : (after : State) → (r.state.token.kind ≡ end_kind → ⊥) → PastToken s r.state after → Given s st entry mid n (record { used = r.used; items = r.items; state = after }) (wl (put a empty)) (il (put a empty)) (next s (cursor_of s mid r.state))
   one_last after z m =
       let less : node_words + node_words * bytes_left s after ≤ node_words * bytes_left s r.state = past-less after z m in
       let fits : length (wa a) + node_words * bytes_left s r.state + over ≤ node_words * bytes_left s st + 1 = g.room in
-      let result : Given s st entry mid n (record { number = 0; used = r.used; items = r.items; state = after }) (wa a) (ia a) (cursor_of s mid after) = record {
-        number_is = refl;
+      let result : Given s st entry mid n (record { used = r.used; items = r.items; state = after }) (wa a) (ia a) (cursor_of s mid after) = record {
         state_is = refl;
         items_is = g.items_is;
         used_is = g.used_is;
@@ -327,16 +348,12 @@ module _ {A L : Type 0} (over : ℕ) (wa : A → List ℕ) (ia : A → ℕ) (wl 
         held = held_of m g.held;
         room = omega arith;
       } in
-      subst (λ (x : Cursor). Given s st entry mid n (record { number = 0; used = r.used; items = r.items; state = after }) (wl (put a empty)) (il (put a empty)) x) (next_of mid m)
-      (subst⁻¹ (λ (w : List ℕ). Given s st entry mid n (record { number = 0; used = r.used; items = r.items; state = after }) w (il (put a empty)) (cursor_of s mid after)) (words-put a empty ∙ ap (λ (w : List ℕ). wa a ++ w) words-empty ∙ append-nil (wa a))
-      (subst⁻¹ (λ (i : ℕ). Given s st entry mid n (record { number = 0; used = r.used; items = r.items; state = after }) (wa a) i (cursor_of s mid after)) (items-put a empty ∙ ap (λ (i : ℕ). ia a + i) items-empty ∙ add-zero (ia a)) result))
+      subst (λ (x : Cursor). Given s st entry mid n (record { used = r.used; items = r.items; state = after }) (wl (put a empty)) (il (put a empty)) x) (next_of mid m)
+      (subst⁻¹ (λ (w : List ℕ). Given s st entry mid n (record { used = r.used; items = r.items; state = after }) w (il (put a empty)) (cursor_of s mid after)) (words-put a empty ∙ ap (λ (w : List ℕ). wa a ++ w) words-empty ∙ append-nil (wa a))
+      (subst⁻¹ (λ (i : ℕ). Given s st entry mid n (record { used = r.used; items = r.items; state = after }) (wa a) i (cursor_of s mid after)) (items-put a empty ∙ ap (λ (i : ℕ). ia a + i) items-empty ∙ add-zero (ia a)) result))
 
   pub one_kept : n ≤ length entry → take n mid ≡ take n entry
   one_kept k = kept-before n n (length (wa a)) entry mid (wa a) (omega arith) k g.table_is
-
--- a comma is not the end
-pub comma-some : {k : ℕ} → k ≡ comma_kind → k ≡ end_kind → ⊥
-comma-some e f = omega arith
 
 -- the lists are `Terms`
 module _ (most : ℕ) (s : List ℕ) (k : ℕ) (st : Cursor) where
@@ -356,17 +373,17 @@ module _ (most : ℕ) (s : List ℕ) (k : ℕ) (st : Cursor) where
       ap (λ (j : ℕ). read_arguments (λ x. read_term most s x) s j st) d
 
 module _ (most : ℕ) (s : List ℕ) (k : ℕ) (st : State) where
-  pub arguments-full : (entry : List ℕ) (n : ℕ) (r : Parsed) → k ≡ 0 → Refused st (full_number (begins (start_of st.token.kind)) st.token.kind) r → Gives terms_words arity s st entry entry n r (read_arguments (λ x. read_term most s x) s k (cursor_of s entry st))
+  pub arguments-full : (entry : List ℕ) (n : ℕ) (r : Refusal) → k ≡ 0 → Refused st (full_number (begins (start_of st.token.kind)) st.token.kind) r → Gives terms_words arity s st entry entry n (Err r) (read_arguments (λ x. read_term most s x) s k (cursor_of s entry st))
   unfolding read_arguments
-  arguments-full entry n r z g = subst⁻¹ (λ (j : ℕ). Gives terms_words arity s st entry entry n r (read_arguments (λ x. read_term most s x) s j (cursor_of s entry st))) z (list_full 1 terms_words arity s st st entry n r (cursor_of s entry st) refl g)
+  arguments-full entry n r z g = subst⁻¹ (λ (j : ℕ). Gives terms_words arity s st entry entry n (Err r) (read_arguments (λ x. read_term most s x) s j (cursor_of s entry st))) z (list_full 1 terms_words arity s st st entry n r (cursor_of s entry st) refl g)
 
-  module _ (entry mid : List ℕ) (n : ℕ) (r : Parsed) (ready : RoomToRead s st entry n 0) (z : k ≡ 0 → ⊥) (g : Gives term_words one s st entry mid n r (read_term most s (cursor_of s entry st))) where
-    pub arguments-fault : (r.number ≡ 0 → ⊥) → Gives terms_words arity s st entry mid n r (read_arguments (λ x. read_term most s x) s k (cursor_of s entry st))
-    arguments-fault q = subst⁻¹ (Gives terms_words arity s st entry mid n r) (arguments-some most s k (cursor_of s entry st) z) (seq-fault 1 1 term_words one terms_words arity s st st entry mid n n r (read_term most s (cursor_of s entry st)) (go_on most s k (cursor_of s entry st)) (omega arith) g q)
+  module _ (entry mid : List ℕ) (n : ℕ) (z : k ≡ 0 → ⊥) where
+    pub arguments-fault : (q : Refusal) → Gives term_words one s st entry mid n (Err q) (read_term most s (cursor_of s entry st)) → Gives terms_words arity s st entry mid n (Err q) (read_arguments (λ x. read_term most s x) s k (cursor_of s entry st))
+    arguments-fault q g = subst⁻¹ (Gives terms_words arity s st entry mid n (Err q)) (arguments-some most s k (cursor_of s entry st) z) (seq-fault 1 1 term_words one terms_words arity s st st entry mid n n q (read_term most s (cursor_of s entry st)) (go_on most s k (cursor_of s entry st)) (omega arith) g)
 
-    module _ (e : r.number ≡ 0) where
+    module _ (r : Parsed) (ready : RoomToRead s st entry n 0) (g : Gives term_words one s st entry mid n (Ok r) (read_term most s (cursor_of s entry st))) where
       read : (t : Term) × (read_term most s (cursor_of s entry st) ≡ ok t (cursor_of s mid r.state)) × Given s st entry mid n r (term_words t) 1 (cursor_of s mid r.state)
-      read = seq-ok 1 term_words one s st entry mid n r (read_term most s (cursor_of s entry st)) g e
+      read = seq-ok 1 term_words one s st entry mid n r (read_term most s (cursor_of s entry st)) g
 
       n-in : n ≤ length entry
       n-in = let room : n + node_words * bytes_left s st + 0 + variables ≤ length entry = ready.room in omega arith
@@ -391,26 +408,35 @@ module _ (most : ℕ) (s : List ℕ) (k : ℕ) (st : State) where
       words-nil = refl
 
       pub arguments-ready : (after : State) → r.state.token.kind ≡ comma_kind → PastToken s r.state after → length mid ≡ length entry → RoomToRead s after mid r.used 0
-      arguments-ready after a m l = behind-ready 1 term_words one terms_words arity cons nil words-cons items-cons words-nil refl s st entry mid n r read.0 read.2 0 ready after (comma-some a) m l
+      arguments-ready after a m l = behind-ready 1 term_words one terms_words arity cons nil words-cons items-cons words-nil refl s st entry mid n r read.0 read.2 0 ready after (comma-no_end a) m l
 
-      pub arguments-more : (exit : List ℕ) (after : State) (q p : Parsed) → r.state.token.kind ≡ comma_kind → PastToken s r.state after → Gives terms_words arity s after mid exit r.used q (read_arguments (λ x. read_term most s x) s (k - 1) (cursor_of s mid after)) → ItemCount q 1 p → Gives terms_words arity s st entry exit n p (read_arguments (λ x. read_term most s x) s k (cursor_of s entry st))
+      -- the whole, by the list behind a comma
+      with-more : (after : State) → r.state.token.kind ≡ comma_kind → PastToken s r.state after → whole-list most s k (cursor_of s entry st) ≡ and_then (read_arguments (λ y. read_term most s y) s (k - 1) (cursor_of s mid after)) (λ ts end. ok (cons read.0 ts) end)
       unfolding arguments_after
+      with-more after a m = behind more (after_more close_kind r.state.token.kind a) ∙ ap (λ (x : Cursor). and_then (read_arguments (λ y. read_term most s y) s (k - 1) x) (λ ts end. ok (cons read.0 ts) end)) (sym (next_of mid m))
+
+      pub arguments-behind : (exit : List ℕ) (after : State) (q : Refusal) → r.state.token.kind ≡ comma_kind → PastToken s r.state after → Gives terms_words arity s after mid exit r.used (Err q) (read_arguments (λ x. read_term most s x) s (k - 1) (cursor_of s mid after)) → Gives terms_words arity s st entry exit n (Err q) (read_arguments (λ x. read_term most s x) s k (cursor_of s entry st))
+      arguments-behind exit after q a m h =
+          subst⁻¹ (Gives terms_words arity s st entry exit n (Err q)) (with-more after a m)
+          (more-fault 1 term_words one terms_words arity cons nil words-cons items-cons words-nil refl s st entry mid n r read.0 read.2 exit after q (read_arguments (λ x. read_term most s x) s (k - 1) (cursor_of s mid after)) h n-in)
+
+      pub arguments-more : (exit : List ℕ) (after : State) (q p : Parsed) → r.state.token.kind ≡ comma_kind → PastToken s r.state after → Gives terms_words arity s after mid exit r.used (Ok q) (read_arguments (λ x. read_term most s x) s (k - 1) (cursor_of s mid after)) → ItemCount q 1 p → Gives terms_words arity s st entry exit n (Ok p) (read_arguments (λ x. read_term most s x) s k (cursor_of s entry st))
       arguments-more exit after q p a m h ep =
-          subst⁻¹ (Gives terms_words arity s st entry exit n p) (behind more (after_more close_kind r.state.token.kind a) ∙ ap (λ (x : Cursor). and_then (read_arguments (λ y. read_term most s y) s (k - 1) x) (λ ts end. ok (cons read.0 ts) end)) (sym (next_of mid m)))
-          (one-more 1 term_words one terms_words arity cons nil words-cons items-cons words-nil refl s st entry mid n r read.0 read.2 exit after q p (read_arguments (λ x. read_term most s x) s (k - 1) (cursor_of s mid after)) (comma-some a) m h (subst⁻¹ (λ (i : ℕ). ItemCount q i p) read.2.items_is ep) n-in)
+          subst⁻¹ (Gives terms_words arity s st entry exit n (Ok p)) (with-more after a m)
+          (one-more 1 term_words one terms_words arity cons nil words-cons items-cons words-nil refl s st entry mid n r read.0 read.2 exit after q p (read_arguments (λ x. read_term most s x) s (k - 1) (cursor_of s mid after)) (comma-no_end a) m h (subst⁻¹ (λ (i : ℕ). ItemCount q i p) read.2.items_is ep))
 
-      pub arguments-few : (exit : List ℕ) (after : State) (q : Parsed) → PastToken s r.state after → Gives terms_words arity s after mid exit r.used q (read_arguments (λ x. read_term most s x) s (k - 1) (cursor_of s mid after)) → q.number ≡ 0 → q.items < 2 ^ 31
-      arguments-few exit after q m h zero_is = few-items 1 term_words one terms_words arity cons nil words-cons items-cons words-nil refl s st entry mid n r read.0 read.2 arity-words exit after q (read_arguments (λ x. read_term most s x) s (k - 1) (cursor_of s mid after)) r.used m.standing h zero_is
+      pub arguments-few : (exit : List ℕ) (after : State) (q : Parsed) → PastToken s r.state after → Gives terms_words arity s after mid exit r.used (Ok q) (read_arguments (λ x. read_term most s x) s (k - 1) (cursor_of s mid after)) → q.items < 2 ^ 31
+      arguments-few exit after q m h = few-items 1 term_words one terms_words arity cons nil words-cons items-cons words-nil refl s st entry mid n r read.0 read.2 arity-words exit after q (read_arguments (λ x. read_term most s x) s (k - 1) (cursor_of s mid after)) r.used m.standing h
 
-      pub arguments-last : (after : State) → (r.state.token.kind ≡ comma_kind → ⊥) → r.state.token.kind ≡ close_kind → PastToken s r.state after → Gives terms_words arity s st entry mid n (record { number = 0; used = r.used; items = 1; state = after }) (read_arguments (λ x. read_term most s x) s k (cursor_of s entry st))
+      pub arguments-last : (after : State) → r.state.token.kind ≡ close_kind → PastToken s r.state after → Gives terms_words arity s st entry mid n (Ok (record { used = r.used; items = 1; state = after })) (read_arguments (λ x. read_term most s x) s k (cursor_of s entry st))
       unfolding arguments_after
-      arguments-last after f a m =
-          subst⁻¹ (Gives terms_words arity s st entry mid n (record { number = 0; used = r.used; items = 1; state = after })) (behind last (after_last close_kind r.state.token.kind f a))
-          (subst (λ (i : ℕ). Given s st entry mid n (record { number = 0; used = r.used; items = i; state = after }) (terms_words (cons read.0 nil)) (arity (cons read.0 nil)) (next s (cursor_of s mid r.state))) read.2.items_is
-          (one_last 1 term_words one terms_words arity cons nil words-cons items-cons words-nil refl s st entry mid n r read.0 read.2 after (λ q. let e8 : r.state.token.kind ≡ close_kind = a in omega arith) m))
+      arguments-last after a m =
+          subst⁻¹ (Gives terms_words arity s st entry mid n (Ok (record { used = r.used; items = 1; state = after }))) (behind last (after_last close_kind r.state.token.kind (close-no_comma a) a))
+          (subst (λ (i : ℕ). Given s st entry mid n (record { used = r.used; items = i; state = after }) (terms_words (cons read.0 nil)) (arity (cons read.0 nil)) (next s (cursor_of s mid r.state))) read.2.items_is
+          (one_last 1 term_words one terms_words arity cons nil words-cons items-cons words-nil refl s st entry mid n r read.0 read.2 after (close-no_end a) m))
 
-      pub arguments-wrong : (q : Parsed) → (r.state.token.kind ≡ comma_kind → ⊥) → (r.state.token.kind ≡ close_kind → ⊥) → Refused r.state (wrong_number r.state.token.kind) q → Gives terms_words arity s st entry mid n q (read_arguments (λ x. read_term most s x) s k (cursor_of s entry st))
+      pub arguments-wrong : (q : Refusal) → (r.state.token.kind ≡ comma_kind → ⊥) → (r.state.token.kind ≡ close_kind → ⊥) → Refused r.state (wrong_number r.state.token.kind) q → Gives terms_words arity s st entry mid n (Err q) (read_arguments (λ x. read_term most s x) s k (cursor_of s entry st))
       unfolding arguments_after
       arguments-wrong q f a h =
-          subst⁻¹ (Gives terms_words arity s st entry mid n q) (behind neither (after-neither close_kind r.state.token.kind f a))
+          subst⁻¹ (Gives terms_words arity s st entry mid n (Err q)) (behind neither (after-neither close_kind r.state.token.kind f a))
           (refused-wrong terms_words arity s st r.state entry mid n q (cursor_of s mid r.state) refl h (one_kept 1 term_words one terms_words arity cons nil words-cons items-cons words-nil refl s st entry mid n r read.0 read.2 n-in))

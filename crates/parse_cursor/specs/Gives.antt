@@ -1,12 +1,16 @@
 -- What the functions of this crate promise: the answer is the definition's, and a lent table holds the words of what was read.
-use Rattle.std.specs.Prelude.{ℕ, ◌+◌, ◌-◌, ◌*◌, ◌≤◌, ◌<◌, ◌^◌, ◌≡◌, Bool, true, false, cond, List, ◌++◌, length, take}
+use Rattle.std.specs.Prelude.{ℕ, ◌+◌, ◌-◌, ◌*◌, ◌≤◌, ◌<◌, ◌^◌, ◌≡◌, Bool, true, false, cond, List, ◌++◌, length, take, Result, Ok, Err, Some, None}
+use Rattle.std.specs.Prelude.{Option as OptionOf}
 use Rattle.std.proofs.Math.Option.{Option, none, some}
 use Rattle.syntax.specs.Limits.{sheet_bytes, word_bytes, variables}
 use Rattle.syntax.specs.Tokens.{token_at, spelling, variable_kind, end_kind}
 use Rattle.syntax.specs.Reading.{Cursor, Read, fault, ok, wrong_number, variable_number}
 use Rattle.syntax.specs.Spans.{names_from, met, Held}
 use Rattle.syntax.specs.Words.{node_words}
+use Rattle.syntax.specs.Verdicts.{fault_of}
+use Rattle.syntax.specs.declared.Refusal.{Refusal}
 use Rattle.syntax.specs.declared.State.{State}
+use Rattle.syntax.specs.declared.TokenKind.{TokenKind}
 use Rattle.parse_cursor.specs.declared.Parsed.{Parsed}
 
 -- The reader that a state and a node table stand for.
@@ -47,18 +51,15 @@ pub record RoomToRead (s : List ℕ) (st : State) (table : List ℕ) (n spare : 
   pub room : n + node_words * bytes_left s st + spare + variables ≤ length table
   pub small : length table < 2 ^ 31
 
--- On a fault: its number and byte, and the words before n are as they were.
-pub record Faulted (entry exit : List ℕ) (n : ℕ) (r : Parsed) (k b : ℕ) : Type 0 where
-  pub number_is : r.number ≡ k
-  pub some : 0 < k
-  pub byte_is : r.state.token.at ≡ b
+-- On a fault: the refusal of its number and byte, and the words before n are as they were.
+pub record Faulted (entry exit : List ℕ) (n : ℕ) (q : Refusal) (k b : ℕ) : Type 0 where
+  pub is : q ≡ fault_of k b
   pub kept : take n exit ≡ take n entry
 
 -- Otherwise: the reader after what was read, how many things those are, and the words before n followed by the words of what was read. Of a
 -- node's words for each byte that was read, and one more, at least `spare` are left over.
 pub record GivenWith (spare : ℕ) (s : List ℕ) (from : State) (entry exit : List ℕ) (n : ℕ) (r : Parsed) (words : List ℕ) (items : ℕ) (after : Cursor) : Type 0
   where
-    pub number_is : r.number ≡ 0
     pub state_is : cursor_of s exit r.state ≡ after
     pub items_is : r.items ≡ items
     pub used_is : r.used ≡ n + length words
@@ -71,25 +72,28 @@ pub record GivenWith (spare : ℕ) (s : List ℕ) (from : State) (entry exit : L
 abbrev pub found : List ℕ → List ℕ → State → Option ℕ
 found s table st = variable_number (spelling s st.token.at st.token.len) 0 (names_from s (met table) 0 st.count)
 
--- What a search for a variable answers: the number of the one found, or one more than all of them.
-abbrev pub FoundAs : Option ℕ → ℕ → ℕ → Type 0
-FoundAs none count r = r ≡ count
-FoundAs (some i) count r = (r ≡ i) × (i < count)
+-- What a search for a variable answers: the number of the one found, if there is one.
+abbrev pub FoundAs : Option ℕ → ℕ → OptionOf ℕ → Type 0
+FoundAs none count r = r ≡ None
+FoundAs (some i) count r = (r ≡ Some i) × (i < count)
 
 -- The same for the variable at hand, of which is known whether it is `_` alone: that one was never met.
-abbrev pub MetAs : Bool → Option ℕ → ℕ → ℕ → Type 0
-MetAs true found count r = r ≡ count
+abbrev pub MetAs : Bool → Option ℕ → ℕ → OptionOf ℕ → Type 0
+MetAs true found count r = r ≡ None
 MetAs false found count r = FoundAs found count r
 
-abbrev pub GivesWith : ℕ → {A : Type 0} → (A → List ℕ) → (A → ℕ) → List ℕ → State → List ℕ → List ℕ → ℕ → Parsed → Read A → Type 0
-GivesWith spare words items s from entry exit n r (fault k b) = Faulted entry exit n r k b
-GivesWith spare words items s from entry exit n r (ok a after) = GivenWith spare s from entry exit n r (words a) (items a) after
+-- what a function gives, by what the definition gives: both are a fault, or both what was read
+abbrev pub GivesWith : ℕ → {A : Type 0} → (A → List ℕ) → (A → ℕ) → List ℕ → State → List ℕ → List ℕ → ℕ → Result Parsed Refusal → Read A → Type 0
+GivesWith spare words items s from entry exit n (Err q) (fault k b) = Faulted entry exit n q k b
+GivesWith spare words items s from entry exit n (Err q) (ok a after) = ⊥
+GivesWith spare words items s from entry exit n (Ok r) (fault k b) = ⊥
+GivesWith spare words items s from entry exit n (Ok r) (ok a after) = GivenWith spare s from entry exit n r (words a) (items a) after
 
 -- with one word left over
 abbrev pub Given : List ℕ → State → List ℕ → List ℕ → ℕ → Parsed → List ℕ → ℕ → Cursor → Type 0
 Given s from entry exit n r words items after = GivenWith 1 s from entry exit n r words items after
 
-abbrev pub Gives : {A : Type 0} → (A → List ℕ) → (A → ℕ) → List ℕ → State → List ℕ → List ℕ → ℕ → Parsed → Read A → Type 0
+abbrev pub Gives : {A : Type 0} → (A → List ℕ) → (A → ℕ) → List ℕ → State → List ℕ → List ℕ → ℕ → Result Parsed Refusal → Read A → Type 0
 Gives words items s from entry exit n r d = GivesWith 1 words items s from entry exit n r d
 
 -- one thing was read
@@ -97,17 +101,15 @@ abbrev pub one : {A : Type 0} → A → ℕ
 one a = 1
 
 -- the fault at the token at hand
-pub record Refused (st : State) (number : ℕ) (r : Parsed) : Type 0 where
-  pub number_is : r.number ≡ number
-  pub state_is : r.state ≡ st
+abbrev pub Refused : State → ℕ → Refusal → Type 0
+Refused st number q = q ≡ fault_of number st.token.at
 
 -- 6 for a token that could begin one more of a list that is full, else the number of a token that cannot stand here
-abbrev pub full_number : Bool → ℕ → ℕ
+abbrev pub full_number : Bool → TokenKind → ℕ
 full_number more k = cond more 6 (wrong_number k)
 
 -- what was read, counted with so many things more
 pub record ItemCount (q : Parsed) (by : ℕ) (p : Parsed) : Type 0 where
-  pub number_is : p.number ≡ q.number
   pub used_is : p.used ≡ q.used
   pub state_is : p.state ≡ q.state
-  pub items_is : q.number ≡ 0 → p.items ≡ q.items + by
+  pub items_is : p.items ≡ q.items + by

@@ -9,7 +9,7 @@ ghost use Rattle.parse_cursor.specs.Gives.{CursorInside, PastToken, Refused, Ite
 
 use crate::Parsed;
 use packed_words::{span_at, span_length};
-use syntax::{NAME, NO_TOKEN, NUMERAL, OVERLONG, State, Token, VARIABLE};
+use syntax::{Refusal, State, Token, TokenKind};
 use texts::same_bytes;
 
 // The reader past the token at hand.
@@ -18,42 +18,31 @@ pub fn next(s: &[u8], st: State) -> State
     ensures { PastToken s.now st result }
 {
     let t = st.token;
-    let p = t.at + t.len;
-    let token = lex_tokens::token_at(s, p);
-    let count = st.count;
-    let literals = st.literals;
     State {
-        token,
-        count,
-        literals,
+        token: lex_tokens::token_at(s, t.at + t.len),
+        count: st.count,
+        literals: st.literals,
     }
 }
 
-// A fault of the given number at the token at hand.
-pub fn refuse(st: State, number: usize) -> Parsed
-    ensures { Refused st number result }
+// The refusal of a token that goes past a limit.
+pub fn beyond(st: State) -> Refusal
+    ensures { Refused st 6 result }
 {
-    Parsed {
-        number,
-        used: 0,
-        items: 0,
-        state: st,
-    }
+    Refusal::OverLimit(st.token.at)
 }
 
-// The fault of a token that cannot stand here.
-pub fn wrong(st: State) -> Parsed
+// The refusal of a token that cannot stand here.
+#[tactic(auto, unfolding(syntax::specs::Reading::wrong_number))]
+pub fn wrong(st: State) -> Refusal
     ensures { Refused st (wrong_number st.token.kind) result }
 {
-    let t = st.token;
-    let kind = t.kind;
-    if kind == NO_TOKEN {
-        return refuse(st, 3);
+    let at = st.token.at;
+    match st.token.kind {
+        TokenKind::NoToken => Refusal::NoToken(at),
+        TokenKind::Overlong => Refusal::Overlong(at),
+        _ => Refusal::Misplaced(at),
     }
-    if kind == OVERLONG {
-        return refuse(st, 4);
-    }
-    refuse(st, 5)
 }
 
 // Three words from n on.
@@ -71,64 +60,27 @@ pub fn same_span(s: &[u8], t: Token, first: u32) -> bool
     requires { (t.at + t.len ≤ length s.now) × SpanInside s.now first }
     ensures { result ≡ same_name (spanned s.now first) (spelling s.now t.at t.len) }
 {
-    let at = t.at;
-    let len = t.len;
-    let a = span_at(first);
-    let m = span_length(first);
-    if m == len {
-        return same_bytes(s, a, s, at, len);
-    }
-    false
+    span_length(first) == t.len && same_bytes(s, span_at(first), s, t.at, t.len)
 }
 
-// One word at n.
-pub fn put(table: &mut [u32], n: usize, word: usize)
-    requires { (n < length table.old) × (word < 2 ^ 32) }
-    ensures { table.new ≡ set table.old n word }
-{
-    table[n] = word as u32;
-}
-
-// Whether a token of this kind begins a term.
-fn begins(kind: usize) -> bool
-    ensures { result ≡ Rattle.syntax.specs.Reading.begins (start_of kind) }
-{
-    if kind == VARIABLE {
-        return true;
-    }
-    if kind == NUMERAL {
-        return true;
-    }
-    kind == NAME
-}
-
-// The fault of a list or body that is full: the token at hand begins one more, or cannot stand here.
-pub fn full(st: State) -> Parsed
+// The refusal of a list or body that is full: the token at hand begins one more, or cannot stand here.
+pub fn full(st: State) -> Refusal
     ensures { Refused st (full_number (Rattle.syntax.specs.Reading.begins (start_of st.token.kind)) st.token.kind) result }
 {
-    let t = st.token;
-    let kind = t.kind;
-    if begins(kind) {
-        return refuse(st, 6);
+    match st.token.kind {
+        TokenKind::Variable | TokenKind::Numeral | TokenKind::Name => beyond(st),
+        _ => wrong(st),
     }
-    wrong(st)
 }
 
 // What was read behind a comma, counted with the things before it.
 pub fn counted(more: Parsed, by: usize) -> Parsed
-    requires { (more.number ≡ 0 → more.items < 2 ^ 31) × (by < 2 ^ 31) }
+    requires { (more.items < 2 ^ 31) × (by < 2 ^ 31) }
     ensures { ItemCount more by result }
 {
-    if more.number != 0 {
-        return more;
-    }
-    let used = more.used;
-    let items = more.items + by;
-    let state = more.state;
     Parsed {
-        number: 0,
-        used,
-        items,
-        state,
+        used: more.used,
+        items: more.items + by,
+        state: more.state,
     }
 }

@@ -9,42 +9,34 @@ ghost use Rattle.syntax.specs.Words.{node_words, term_words};
 ghost use Rattle.parse_cursor.specs.Gives.{cursor_of, found, CursorInside, RoomToRead, Given, Gives, FoundAs, MetAs, one};
 
 use crate::Parsed;
-use crate::cursor::{next, put_node, refuse, same_span, wrong};
+use crate::cursor::{beyond, next, put_node, same_span, wrong};
 use packed_words::{pack_functor, pack_span};
-use syntax::{NODE_WORDS, NUMERAL, State, VARIABLE, VARIABLES};
+use syntax::{NODE_WORDS, Refusal, State, TokenKind, VARIABLES};
 use texts::{first_kept, is_anonymous};
 
-// The number of the variable at hand: that of the same one met before, or one more than all of these.
-fn number_of(s: &[u8], st: State, table: &[u32]) -> usize
+// The number of the variable at hand among those met, if it was met before.
+fn number_of(s: &[u8], st: State, table: &[u32]) -> Option<usize>
     requires cursor_inside { CursorInside s.now st }
     requires variables_in_bounds { (variables ≤ length table.now) × Held s.now (met table.now) st.count }
     ensures { FoundAs (found s.now table.now st) st.count result }
 {
-    let t = st.token;
-    let count = st.count;
     let from = table.len() - VARIABLES;
-    let mut i = 0;
-    while i < count {
-        let p = from + i;
-        let w = table[p];
-        if same_span(s, t, w) {
-            return i;
+    for i in 0..st.count {
+        if same_span(s, st.token, table[from + i]) {
+            return Some(i);
         }
-        i += 1;
     }
-    count
+    None
 }
 
-// The number of the variable at hand if it was met before, else how many there are; `_` alone never was.
-fn known_number(s: &[u8], st: State, table: &[u32]) -> usize
+// The same; `_` alone was never met.
+fn known_number(s: &[u8], st: State, table: &[u32]) -> Option<usize>
     requires cursor_inside { CursorInside s.now st }
     requires variables_in_bounds { (variables ≤ length table.now) × Held s.now (met table.now) st.count }
     ensures { MetAs (is_anonymous s.now st.token) (found s.now table.now st) st.count result }
 {
-    let t = st.token;
-    let count = st.count;
-    if is_anonymous(s, t) {
-        return count;
+    if is_anonymous(s, st.token) {
+        return None;
     }
     number_of(s, st, table)
 }
@@ -58,16 +50,12 @@ fn with_new(st: State, table: &mut [u32]) -> State
         (packed st.token.at st.token.len) }
 {
     let token = st.token;
-    let w = pack_span(token.at, token.len);
-    let from = table.len() - VARIABLES;
-    let p = from + st.count;
-    table[p] = w;
-    let count = st.count + 1;
-    let literals = st.literals;
+    let p = table.len() - VARIABLES + st.count;
+    table[p] = pack_span(token.at, token.len);
     State {
         token,
-        count,
-        literals,
+        count: st.count + 1,
+        literals: st.literals,
     }
 }
 
@@ -79,13 +67,10 @@ fn leaf_at(s: &[u8], st: State, table: &mut [u32], n: usize, what: usize, at: us
         (Rattle.syntax.specs.Reading.next s.now (cursor_of s.now table.old st)) }
 {
     put_node(table, n, what, NODE_WORDS, at);
-    let after = next(s, st);
-    let used = n + NODE_WORDS;
     Parsed {
-        number: 0,
-        used,
+        used: n + NODE_WORDS,
         items: 1,
-        state: after,
+        state: next(s, st),
     }
 }
 
@@ -96,9 +81,7 @@ pub fn leaf(s: &[u8], st: State, table: &mut [u32], n: usize, what: usize) -> Pa
     ensures { Given s.now st table.old table.new n result (what ∷ node_words ∷ st.token.at ∷ []) 1
         (Rattle.syntax.specs.Reading.next s.now (cursor_of s.now table.old st)) }
 {
-    let t = st.token;
-    let at = t.at;
-    leaf_at(s, st, table, n, what, at)
+    leaf_at(s, st, table, n, what, st.token.at)
 }
 
 // The numeral at hand, without its leading zeros.
@@ -110,17 +93,14 @@ fn read_numeral(s: &[u8], st: State, table: &mut [u32], n: usize) -> Parsed
         (Rattle.syntax.specs.Reading.next s.now (cursor_of s.now table.old st)) }
 {
     let t = st.token;
-    let at = t.at;
-    let len = t.len;
-    let p = first_kept(s, at, len);
-    let past = at + len;
-    let kept = past - p;
+    let p = first_kept(s, t.at, t.len);
+    let kept = t.at + t.len - p;
     let what = pack_functor(0, kept);
     leaf_at(s, st, table, n, what, p)
 }
 
 // A variable that is met here first.
-fn new_variable(s: &[u8], st: State, table: &mut [u32], n: usize) -> Parsed
+fn new_variable(s: &[u8], st: State, table: &mut [u32], n: usize) -> Result<Parsed, Refusal>
     requires room_to_read { RoomToRead s.now st table.old n 0 }
     requires kind_value { st.token.kind ≡ variable_kind }
     ensures { Gives term_words one s.now st table.old table.new n result
@@ -129,39 +109,33 @@ fn new_variable(s: &[u8], st: State, table: &mut [u32], n: usize) -> Parsed
     let count = st.count;
     if count < VARIABLES {
         let new = with_new(st, table);
-        return leaf(s, new, table, n, count);
+        return Ok(leaf(s, new, table, n, count));
     }
-    refuse(st, 6)
+    Err(beyond(st))
 }
 
-fn read_variable(s: &[u8], st: State, table: &mut [u32], n: usize) -> Parsed
+fn read_variable(s: &[u8], st: State, table: &mut [u32], n: usize) -> Result<Parsed, Refusal>
     requires room_to_read { RoomToRead s.now st table.old n 0 }
     requires kind_value { st.token.kind ≡ variable_kind }
     ensures { Gives term_words one s.now st table.old table.new n result
         (read_variable s.now (cursor_of s.now table.old st)) }
 {
-    let count = st.count;
-    let v = known_number(s, st, table);
-    if v < count {
-        return leaf(s, st, table, n, v);
+    match known_number(s, st, table) {
+        Some(v) => Ok(leaf(s, st, table, n, v)),
+        None => new_variable(s, st, table, n),
     }
-    new_variable(s, st, table, n)
 }
 
 // A term that begins with no name: a variable or a numeral, or a token that cannot stand here. It has no brackets, so none are counted.
-pub fn read_simple(s: &[u8], st: State, table: &mut [u32], n: usize) -> Parsed
+pub fn read_simple(s: &[u8], st: State, table: &mut [u32], n: usize) -> Result<Parsed, Refusal>
     requires room_to_read { RoomToRead s.now st table.old n 0 }
     requires fact { st.token.kind ≡ name_kind → ⊥ }
     ensures { (most : ℕ) → Gives term_words one s.now st table.old table.new n result
         (read_term most s.now (cursor_of s.now table.old st)) }
 {
-    let t = st.token;
-    let kind = t.kind;
-    if kind == VARIABLE {
-        return read_variable(s, st, table, n);
+    match st.token.kind {
+        TokenKind::Variable => read_variable(s, st, table, n),
+        TokenKind::Numeral => Ok(read_numeral(s, st, table, n)),
+        _ => Err(wrong(st)),
     }
-    if kind == NUMERAL {
-        return read_numeral(s, st, table, n);
-    }
-    wrong(st)
 }

@@ -7,20 +7,24 @@ use mathlib.Core.Bool.{Bool, true, false}
 use mathlib.Core.List.{List, [], ◌∷◌, ◌++◌, append_assoc}
 use lib.ListN.{length, set, take, length-set}
 use lib.Seq.{take-suc-set}
-use lib.Dec.{eqb, lit<, lit≤}
+use lib.Dec.{lit≤}
 use lib.Pow.{pow-add}
-use borrow.Author.Tests.{eq-eqb, ne_eqb}
+use Rattle.std.specs.Prelude.{Result, Ok, Err}
+use Rattle.syntax.proofs.SameKind.{eq-kind, ne_kind}
 use Rattle.syntax.specs.Limits.{sheet_bytes, arguments}
 use Rattle.syntax.specs.Terms.{Mark, Declaration, same_name, mode_name}
-use Rattle.syntax.specs.Tokens.{spelling, name_kind, open_kind, close_kind, comma_kind, stop_kind}
+use Rattle.syntax.specs.Tokens.{spelling, same_kind, name_kind, open_kind, close_kind, comma_kind, stop_kind, end_kind}
 use Rattle.syntax.specs.Reading.{Cursor, begin, cursor_at, Read, fault, ok, and_then, next, wrong, wrong_number, beyond, full, Sign, mark, no_mark, sign_of, is_mark, read_marks, marks_with, marks_after, marks_read, After, more, last, neither, after_of, declaration_of, declaration_end, declaration_from, is_mode, after_neck, read_declaration}
 use Rattle.syntax.specs.Words.{mark_number, sign_number, marks_number, declaration_words, mark_numbers, with_mark, declaration_size}
 use Rattle.syntax.proofs.Words.{mark-some, mark-small as number_small}
 use Rattle.syntax.specs.declared.State.{State}
+use Rattle.syntax.specs.declared.Refusal.{Refusal}
+use Rattle.syntax.specs.declared.TokenKind.{TokenKind}
 use Rattle.parse_cursor.specs.Gives.{bytes_left, CursorInside, PastToken, Refused}
 use Rattle.parse_cursor.specs.declared.Parsed.{Parsed}
 use Rattle.texts.proofs.Laws.{length-spelling}
-use Rattle.parse_cursor.proofs.Reading.{three, wrong-positive}
+use Rattle.parse_cursor.proofs.Reading.{three}
+use Rattle.parse_cursor.proofs.TermLaws.{name-no_end, close-no_comma}
 use Rattle.parse_cursor.proofs.Starts.{after_more, after_last, after-neither}
 use Rattle.parse_declarations.specs.Marks.{Marked, MarksGive, DeclarationGives}
 
@@ -59,16 +63,16 @@ unfolding next cursor_at
 next-begin m = ap (λ (x : State). begin x.token) m.is
 
 module _ (s : List ℕ) (k : ℕ) (st : State) (m : ℕ) (em : m ≡ sign_number (sign_of st.token.kind)) where
-  stopped-wrong : (x : State) (r : Parsed) → Refused x (wrong_number x.token.kind) r → MarksGive s st k r (wrong (begin x.token))
+  stopped-wrong : (x : State) (q : Refusal) → Refused x (wrong_number x.token.kind) q → MarksGive s st k (Err q) (wrong (begin x.token))
   unfolding wrong
-  stopped-wrong x r f = record { number_is = f.number_is; some = wrong-positive x.token.kind; byte_is = ap (λ (y : State). y.token.at) f.state_is }
+  stopped-wrong x q f = f
 
-  none-by : (j : ℕ) (r : Parsed) → sign_of st.token.kind ≡ no_mark → Refused st (wrong_number st.token.kind) r → MarksGive s st k r (read_marks s j (begin st.token))
+  none-by : (j : ℕ) (r : Refusal) → sign_of st.token.kind ≡ no_mark → Refused st (wrong_number st.token.kind) r → MarksGive s st k (Err r) (read_marks s j (begin st.token))
   unfolding read_marks full marks_with
-  none-by zero r e f = subst⁻¹ (λ (x : Sign). MarksGive s st k r (full (is_mark x) (begin st.token))) e (stopped-wrong st r f)
-  none-by (suc j) r e f = subst⁻¹ (λ (x : Sign). MarksGive s st k r (marks_with (λ st1. read_marks s j st1) s (begin st.token) x)) e (stopped-wrong st r f)
+  none-by zero r e f = subst⁻¹ (λ (x : Sign). MarksGive s st k (Err r) (full (is_mark x) (begin st.token))) e (stopped-wrong st r f)
+  none-by (suc j) r e f = subst⁻¹ (λ (x : Sign). MarksGive s st k (Err r) (marks_with (λ st1. read_marks s j st1) s (begin st.token) x)) e (stopped-wrong st r f)
 
-  pub marks-none : (r : Parsed) → m ≡ 0 → Refused st (wrong_number st.token.kind) r → MarksGive s st k r (read_marks s k (begin st.token))
+  pub marks-none : (r : Refusal) → m ≡ 0 → Refused st (wrong_number st.token.kind) r → MarksGive s st k (Err r) (read_marks s k (begin st.token))
   marks-none r z f = none-by k r (no_sign (sign_of st.token.kind) (sym em ∙ z)) f
 
   module _ (z : m ≡ 0 → ⊥) where
@@ -81,12 +85,12 @@ module _ (s : List ℕ) (k : ℕ) (st : State) (m : ℕ) (em : m ≡ sign_number
     pub mark-small : m < mark_numbers
     mark-small = subst⁻¹ (λ (x : ℕ). x < mark_numbers) mark-is (number_small sign.0)
 
-    pub marks-full : (r : Parsed) → k ≡ 0 → Refused st 6 r → MarksGive s st k r (read_marks s k (begin st.token))
+    pub marks-full : (r : Refusal) → k ≡ 0 → Refused st 6 r → MarksGive s st k (Err r) (read_marks s k (begin st.token))
     unfolding read_marks full beyond
     marks-full r e f =
-        subst⁻¹ (λ (j : ℕ). MarksGive s st k r (read_marks s j (begin st.token))) e
-        (subst⁻¹ (λ (x : Sign). MarksGive s st k r (full (is_mark x) (begin st.token))) sign.1
-        (record { number_is = f.number_is; some = lit< tt; byte_is = ap (λ (y : State). y.token.at) f.state_is }))
+        subst⁻¹ (λ (j : ℕ). MarksGive s st k (Err r) (read_marks s j (begin st.token))) e
+        (subst⁻¹ (λ (x : Sign). MarksGive s st k (Err r) (full (is_mark x) (begin st.token))) sign.1
+        f)
 
     module _ (nz : k ≡ 0 → ⊥) (after : State) (stands : CursorInside s st) (mv : PastToken s st after) where
       behind : (x : After) → after_of close_kind after.token.kind ≡ x → read_marks s k (begin st.token) ≡ marks_after (λ st1. read_marks s (k - 1) st1) s sign.0 (begin after.token) x
@@ -98,89 +102,101 @@ module _ (s : List ℕ) (k : ℕ) (st : State) (m : ℕ) (em : m ≡ sign_number
           ∙ ap (λ (y : Cursor). marks_after (λ st1. read_marks s (k - 1) st1) s sign.0 y (after_of close_kind y.token.kind)) (sym (next-begin mv))
           ∙ ap (marks_after (λ st1. read_marks s (k - 1) st1) s sign.0 (begin after.token)) e
 
-      pub marks-wrong : (r : Parsed) → (after.token.kind ≡ comma_kind → ⊥) → (after.token.kind ≡ close_kind → ⊥) → Refused after (wrong_number after.token.kind) r → MarksGive s st k r (read_marks s k (begin st.token))
+      pub marks-wrong : (r : Refusal) → (after.token.kind ≡ comma_kind → ⊥) → (after.token.kind ≡ close_kind → ⊥) → Refused after (wrong_number after.token.kind) r → MarksGive s st k (Err r) (read_marks s k (begin st.token))
       unfolding marks_after
-      marks-wrong r f e g = subst⁻¹ (MarksGive s st k r) (behind neither (after-neither close_kind after.token.kind f e)) (stopped-wrong after r g)
+      marks-wrong r f e g = subst⁻¹ (MarksGive s st k (Err r)) (behind neither (after-neither close_kind after.token.kind f e)) (stopped-wrong after r g)
 
-      pub marks-last : (past : State) → (after.token.kind ≡ comma_kind → ⊥) → after.token.kind ≡ close_kind → PastToken s after past → MarksGive s st k (record { number = 0; used = m; items = 1; state = past }) (read_marks s k (begin st.token))
+      pub marks-last : (past : State) → after.token.kind ≡ close_kind → PastToken s after past → MarksGive s st k (Ok (record { used = m; items = 1; state = past })) (read_marks s k (begin st.token))
       unfolding marks_after marks_number
-      marks-last past f e p =
+      marks-last past e p =
           let four : mark_numbers ^ k ≡ mark_numbers * mark_numbers ^ (k - 1) = four-more k nz in
           let least : 1 ≤ mark_numbers ^ (k - 1) = four-least (k - 1) in
           let small : m < mark_numbers = mark-small in
           let is : m ≡ mark_number sign.0 = mark-is in
           let a : st.token.at + st.token.len ≤ after.token.at = mv.forward in
           let b : after.token.at + after.token.len ≤ past.token.at = p.forward in
-          subst⁻¹ (MarksGive s st k (record { number = 0; used = m; items = 1; state = past })) (behind last (after_last close_kind after.token.kind f e))
-          (subst (λ (y : Cursor). Marked s st k (record { number = 0; used = m; items = 1; state = past }) (sign.0 ∷ []) y) (next-begin p)
-          (record { number_is = refl; state_is = refl; items_is = refl; used_is = omega arith; few = omega (arith, nz); small = omega arith; standing = p.standing; forward = omega arith }))
+          subst⁻¹ (MarksGive s st k (Ok (record { used = m; items = 1; state = past }))) (behind last (after_last close_kind after.token.kind (close-no_comma e) e))
+          (subst (λ (y : Cursor). Marked s st k (record { used = m; items = 1; state = past }) (sign.0 ∷ []) y) (next-begin p)
+          (record { state_is = refl; items_is = refl; used_is = omega arith; few = omega (arith, nz); small = omega arith; standing = p.standing; forward = omega arith }))
 
-      module _ (past : State) (q : Parsed) (eight : k ≤ arguments) (comma : after.token.kind ≡ comma_kind) (p : PastToken s after past) (h : MarksGive s past (k - 1) q (read_marks s (k - 1) (begin past.token))) where
-        marks-small-by : (d : Read (List Mark)) → MarksGive s past (k - 1) q d → q.number ≡ 0 → (q.used < 2 ^ 20) × (q.items < 2 ^ 20)
-        marks-small-by (fault f b) g e = let x : q.number ≡ f = g.number_is in let y : 0 < f = g.some in absurd (omega arith)
-        marks-small-by (ok ms end) g e =
-            let u : q.used ≡ marks_number ms = g.used_is in
-            let i : q.items ≡ length ms = g.items_is in
-            let s1 : marks_number ms + 1 ≤ mark_numbers ^ (k - 1) = g.small in
-            let f : length ms ≤ k - 1 = g.few in
-            let most : mark_numbers ^ (k - 1) ≤ mark_numbers ^ arguments = four-most (arguments - (k - 1)) (k - 1) (omega arith) in
-            (omega arith, omega arith)
-
-        pub marks-small : q.number ≡ 0 → (q.used < 2 ^ 20) × (q.items < 2 ^ 20)
-        marks-small e = marks-small-by (read_marks s (k - 1) (begin past.token)) h e
-
-        more_by : (d : Read (List Mark)) (r : Parsed) → MarksGive s past (k - 1) q d → (r.number ≡ q.number) × ((r.state ≡ q.state) × (q.number ≡ 0 → (r.used ≡ with_mark m q.used) × (r.items ≡ q.items + 1))) → MarksGive s st k r (and_then d (λ ms end. ok (sign.0 ∷ ms) end))
-        unfolding and_then marks_number
-        more_by (fault f b) r g e = record { number_is = e.0 ∙ g.number_is; some = g.some; byte_is = ap (λ (y : State). y.token.at) e.1.0 ∙ g.byte_is }
-        more_by (ok ms end) r g e =
-            let o : (r.used ≡ with_mark m q.used) × (r.items ≡ q.items + 1) = e.1.1 g.number_is in
-            let used : r.used ≡ with_mark m q.used = o.0 in
-            let items : r.items ≡ q.items + 1 = o.1 in
-            let u : q.used ≡ marks_number ms = g.used_is in
-            let i : q.items ≡ length ms = g.items_is in
-            let s1 : marks_number ms + 1 ≤ mark_numbers ^ (k - 1) = g.small in
-            let f : length ms ≤ k - 1 = g.few in
-            let four : mark_numbers ^ k ≡ mark_numbers * mark_numbers ^ (k - 1) = four-more k nz in
-            let small : m < mark_numbers = mark-small in
-            let is : m ≡ mark_number sign.0 = mark-is in
-            let a : st.token.at + st.token.len ≤ after.token.at = mv.forward in
-            let b : after.token.at + after.token.len ≤ past.token.at = p.forward in
-            let c : past.token.at ≤ q.state.token.at = g.forward in
-            record {
-              number_is = e.0 ∙ g.number_is;
-              state_is = ap (λ (y : State). begin y.token) e.1.0 ∙ g.state_is;
-              items_is = omega arith;
-              used_is = omega arith;
-              few = omega (arith, nz);
-              small = omega arith;
-              standing = subst⁻¹ (CursorInside s) e.1.0 g.standing;
-              forward = subst⁻¹ (λ (y : State). st.token.at ≤ y.token.at) e.1.0 (omega arith);
-            }
-
-        pub marks-more : (r : Parsed) → (r.number ≡ q.number) × ((r.state ≡ q.state) × (q.number ≡ 0 → (r.used ≡ with_mark m q.used) × (r.items ≡ q.items + 1))) → MarksGive s st k r (read_marks s k (begin st.token))
+      module _ (past : State) (eight : k ≤ arguments) (comma : after.token.kind ≡ comma_kind) (p : PastToken s after past) where
+        with-more : read_marks s k (begin st.token) ≡ and_then (read_marks s (k - 1) (begin past.token)) (λ ms end. ok (sign.0 ∷ ms) end)
         unfolding marks_after
-        marks-more r e = subst⁻¹ (MarksGive s st k r) (behind more (after_more close_kind after.token.kind comma) ∙ ap (λ (y : Cursor). and_then (read_marks s (k - 1) y) (λ ms end. ok (sign.0 ∷ ms) end)) (sym (next-begin p))) (more_by (read_marks s (k - 1) (begin past.token)) r h e)
+        with-more = behind more (after_more close_kind after.token.kind comma) ∙ ap (λ (y : Cursor). and_then (read_marks s (k - 1) y) (λ ms end. ok (sign.0 ∷ ms) end)) (sym (next-begin p))
+
+        pub marks-behind : (q : Refusal) → MarksGive s past (k - 1) (Err q) (read_marks s (k - 1) (begin past.token)) → MarksGive s st k (Err q) (read_marks s k (begin st.token))
+        marks-behind q h = subst⁻¹ (MarksGive s st k (Err q)) with-more (by (read_marks s (k - 1) (begin past.token)) h)
+          where
+            by : (d : Read (List Mark)) → MarksGive s past (k - 1) (Err q) d → MarksGive s st k (Err q) (and_then d (λ ms end. ok (sign.0 ∷ ms) end))
+            by (fault f b) g = unfold and_then in g
+            by (ok ms end) g = absurd g
+
+        module _ (q : Parsed) (h : MarksGive s past (k - 1) (Ok q) (read_marks s (k - 1) (begin past.token))) where
+          pub marks-small : (q.used < 2 ^ 20) × (q.items < 2 ^ 20)
+          marks-small = by (read_marks s (k - 1) (begin past.token)) h
+            where
+              by : (d : Read (List Mark)) → MarksGive s past (k - 1) (Ok q) d → (q.used < 2 ^ 20) × (q.items < 2 ^ 20)
+              by (fault f b) g = absurd g
+              by (ok ms end) g =
+                  let u : q.used ≡ marks_number ms = g.used_is in
+                  let i : q.items ≡ length ms = g.items_is in
+                  let s1 : marks_number ms + 1 ≤ mark_numbers ^ (k - 1) = g.small in
+                  let f : length ms ≤ k - 1 = g.few in
+                  let most : mark_numbers ^ (k - 1) ≤ mark_numbers ^ arguments = four-most (arguments - (k - 1)) (k - 1) (omega arith) in
+                  (omega arith, omega arith)
+
+          more_by : (d : Read (List Mark)) (r : Parsed) → MarksGive s past (k - 1) (Ok q) d → (r.state ≡ q.state) × ((r.used ≡ with_mark m q.used) × (r.items ≡ q.items + 1)) → MarksGive s st k (Ok r) (and_then d (λ ms end. ok (sign.0 ∷ ms) end))
+          unfolding and_then marks_number
+          more_by (fault f b) r g e = absurd g
+          more_by (ok ms end) r g e =
+              let o : (r.used ≡ with_mark m q.used) × (r.items ≡ q.items + 1) = e.1 in
+              let used : r.used ≡ with_mark m q.used = o.0 in
+              let items : r.items ≡ q.items + 1 = o.1 in
+              let u : q.used ≡ marks_number ms = g.used_is in
+              let i : q.items ≡ length ms = g.items_is in
+              let s1 : marks_number ms + 1 ≤ mark_numbers ^ (k - 1) = g.small in
+              let f : length ms ≤ k - 1 = g.few in
+              let four : mark_numbers ^ k ≡ mark_numbers * mark_numbers ^ (k - 1) = four-more k nz in
+              let small : m < mark_numbers = mark-small in
+              let is : m ≡ mark_number sign.0 = mark-is in
+              let a : st.token.at + st.token.len ≤ after.token.at = mv.forward in
+              let b : after.token.at + after.token.len ≤ past.token.at = p.forward in
+              let c : past.token.at ≤ q.state.token.at = g.forward in
+              record {
+                state_is = ap (λ (y : State). begin y.token) e.0 ∙ g.state_is;
+                items_is = omega arith;
+                used_is = omega arith;
+                few = omega (arith, nz);
+                small = omega arith;
+                standing = subst⁻¹ (CursorInside s) e.0 g.standing;
+                forward = subst⁻¹ (λ (y : State). st.token.at ≤ y.token.at) e.0 (omega arith);
+              }
+
+          pub marks-more : (r : Parsed) → (r.state ≡ q.state) × ((r.used ≡ with_mark m q.used) × (r.items ≡ q.items + 1)) → MarksGive s st k (Ok r) (read_marks s k (begin st.token))
+          marks-more r e = subst⁻¹ (MarksGive s st k (Ok r)) with-more (more_by (read_marks s (k - 1) (begin past.token)) r h e)
 
 -- ---- the marks behind a name, or none
 
-some-by : (s : List ℕ) (st inner : State) (r : Parsed) (d : Read (List Mark)) → PastToken s st inner → MarksGive s inner arguments r d → MarksGive s st arguments r d
-some-by s st inner r (fault f b) m g = g
-some-by s st inner r (ok ms after) m g =
+some-by : (s : List ℕ) (st inner : State) (r : Result Parsed Refusal) (d : Read (List Mark)) → PastToken s st inner → MarksGive s inner arguments r d → MarksGive s st arguments r d
+some-by s st inner (Err q) (fault f b) m g = g
+some-by s st inner (Err q) (ok ms after) m g = g
+some-by s st inner (Ok r) (fault f b) m g = g
+some-by s st inner (Ok r) (ok ms after) m g =
     let a : st.token.at + st.token.len ≤ inner.token.at = m.forward in
     let b : inner.token.at ≤ r.state.token.at = g.forward in
-    record { number_is = g.number_is; state_is = g.state_is; items_is = g.items_is; used_is = g.used_is; few = g.few; small = g.small; standing = g.standing; forward = omega arith }
+    record { state_is = g.state_is; items_is = g.items_is; used_is = g.used_is; few = g.few; small = g.small; standing = g.standing; forward = omega arith }
 
-pub some-open : (s : List ℕ) (st inner : State) (r : Parsed) → st.token.kind ≡ open_kind → PastToken s st inner → MarksGive s inner arguments r (read_marks s arguments (begin inner.token)) → MarksGive s st arguments r (marks_read s (begin st.token) (eqb st.token.kind open_kind))
+pub some-open : (s : List ℕ) (st inner : State) (r : Result Parsed Refusal) → st.token.kind ≡ open_kind → PastToken s st inner → MarksGive s inner arguments r (read_marks s arguments (begin inner.token)) → MarksGive s st arguments r (marks_read s (begin st.token) (same_kind st.token.kind open_kind))
 unfolding marks_read
 some-open s st inner r e m g =
-    subst⁻¹ (λ (b : Bool). MarksGive s st arguments r (marks_read s (begin st.token) b)) (eq-eqb st.token.kind open_kind e)
+    subst⁻¹ (λ (b : Bool). MarksGive s st arguments r (marks_read s (begin st.token) b)) (eq-kind st.token.kind open_kind e)
     (subst (λ (y : Cursor). MarksGive s st arguments r (read_marks s arguments y)) (next-begin m) (some-by s st inner r (read_marks s arguments (begin inner.token)) m g))
 
-pub some-none : (s : List ℕ) (st : State) → CursorInside s st → (st.token.kind ≡ open_kind → ⊥) → MarksGive s st arguments (record { number = 0; used = 0; items = 0; state = st }) (marks_read s (begin st.token) (eqb st.token.kind open_kind))
+pub some-none : (s : List ℕ) (st : State) → CursorInside s st → (st.token.kind ≡ open_kind → ⊥) → MarksGive s st arguments (Ok (record { used = 0; items = 0; state = st })) (marks_read s (begin st.token) (same_kind st.token.kind open_kind))
 unfolding marks_read marks_number
 some-none s st h e =
-    subst⁻¹ (λ (b : Bool). MarksGive s st arguments (record { number = 0; used = 0; items = 0; state = st }) (marks_read s (begin st.token) b)) (ne_eqb st.token.kind open_kind e)
-    (record { number_is = refl; state_is = refl; items_is = refl; used_is = refl; few = lit≤ tt; small = lit≤ tt; standing = h; forward = omega arith })
+    subst⁻¹ (λ (b : Bool). MarksGive s st arguments (Ok (record { used = 0; items = 0; state = st })) (marks_read s (begin st.token) b)) (ne_kind st.token.kind open_kind e)
+    (record { state_is = refl; items_is = refl; used_is = refl; few = lit≤ tt; small = lit≤ tt; standing = h; forward = omega arith })
 
 -- ---- declarations
 
@@ -194,49 +210,53 @@ four l n a b c d h =
     ∙ append_assoc (take n l) (a ∷ b ∷ c ∷ []) (d ∷ [])
 
 -- a token that cannot stand, or goes past a limit
-pub declaration-refused : (s : List ℕ) (from st : State) (entry : List ℕ) (n : ℕ) (r : Parsed) → Refused st (wrong_number st.token.kind) r → DeclarationGives s from entry entry n r (wrong (begin st.token))
+pub declaration-refused : (s : List ℕ) (from st : State) (entry : List ℕ) (n : ℕ) (q : Refusal) → Refused st (wrong_number st.token.kind) q → DeclarationGives s from entry entry n (Err q) (wrong (begin st.token))
 unfolding wrong
-declaration-refused s from st entry n r f = record { number_is = f.number_is; some = wrong-positive st.token.kind; byte_is = ap (λ (x : State). x.token.at) f.state_is; kept = refl }
+declaration-refused s from st entry n q f = record { is = f; kept = refl }
+
+-- a full stop is not the end
+stop-no_end : {k : TokenKind} → k ≡ stop_kind → k ≡ end_kind → ⊥
+stop-no_end e f = cc
 
 module _ (s : List ℕ) (st : State) (entry : List ℕ) (n : ℕ) (stands : CursorInside s st) where
-  pub declared-wrong : (r : Parsed) → (st.token.kind ≡ name_kind → ⊥) → Refused st (wrong_number st.token.kind) r → DeclarationGives s st entry entry n r (declaration_from s (begin st.token) (eqb st.token.kind name_kind))
+  pub declared-wrong : (r : Refusal) → (st.token.kind ≡ name_kind → ⊥) → Refused st (wrong_number st.token.kind) r → DeclarationGives s st entry entry n (Err r) (declaration_from s (begin st.token) (same_kind st.token.kind name_kind))
   unfolding declaration_from
-  declared-wrong r e f = subst⁻¹ (λ (b : Bool). DeclarationGives s st entry entry n r (declaration_from s (begin st.token) b)) (ne_eqb st.token.kind name_kind e) (declaration-refused s st st entry n r f)
+  declared-wrong r e f = subst⁻¹ (λ (b : Bool). DeclarationGives s st entry entry n (Err r) (declaration_from s (begin st.token) b)) (ne_kind st.token.kind name_kind e) (declaration-refused s st st entry n r f)
 
-  module _ (past : State) (r : Parsed) (name : st.token.kind ≡ name_kind) (m : PastToken s st past) (g : MarksGive s past arguments r (marks_read s (begin past.token) (eqb past.token.kind open_kind))) where
+  module _ (past : State) (name : st.token.kind ≡ name_kind) (m : PastToken s st past) where
     abbrev ended : List Mark → Cursor → Read Declaration
-    ended ms after = declaration_end s (declaration_of s (begin st.token) ms) after (eqb after.token.kind stop_kind)
+    ended ms after = declaration_end s (declaration_of s (begin st.token) ms) after (same_kind after.token.kind stop_kind)
 
-    whole : declaration_from s (begin st.token) (eqb st.token.kind name_kind) ≡ and_then (marks_read s (begin past.token) (eqb past.token.kind open_kind)) ended
+    whole : declaration_from s (begin st.token) (same_kind st.token.kind name_kind) ≡ and_then (marks_read s (begin past.token) (same_kind past.token.kind open_kind)) ended
     unfolding declaration_from
-    whole = ap (declaration_from s (begin st.token)) (eq-eqb st.token.kind name_kind name) ∙ ap (λ (y : Cursor). and_then (marks_read s y (eqb y.token.kind open_kind)) ended) (sym (next-begin m))
+    whole = ap (declaration_from s (begin st.token)) (eq-kind st.token.kind name_kind name) ∙ ap (λ (y : Cursor). and_then (marks_read s y (same_kind y.token.kind open_kind)) ended) (sym (next-begin m))
 
-    fault-by : (d : Read (List Mark)) → MarksGive s past arguments r d → (r.number ≡ 0 → ⊥) → DeclarationGives s st entry entry n r (and_then d ended)
+    fault-by : (q : Refusal) (d : Read (List Mark)) → MarksGive s past arguments (Err q) d → DeclarationGives s st entry entry n (Err q) (and_then d ended)
     unfolding and_then
-    fault-by (fault k b) h z = record { number_is = h.number_is; some = h.some; byte_is = h.byte_is; kept = refl }
-    fault-by (ok ms after) h z = absurd (z h.number_is)
+    fault-by q (fault k b) h = record { is = h; kept = refl }
+    fault-by q (ok ms after) h = absurd h
 
-    pub declared-fault : (r.number ≡ 0 → ⊥) → DeclarationGives s st entry entry n r (declaration_from s (begin st.token) (eqb st.token.kind name_kind))
-    declared-fault z = subst⁻¹ (DeclarationGives s st entry entry n r) whole (fault-by (marks_read s (begin past.token) (eqb past.token.kind open_kind)) g z)
+    pub declared-fault : (q : Refusal) → MarksGive s past arguments (Err q) (marks_read s (begin past.token) (same_kind past.token.kind open_kind)) → DeclarationGives s st entry entry n (Err q) (declaration_from s (begin st.token) (same_kind st.token.kind name_kind))
+    declared-fault q g = subst⁻¹ (DeclarationGives s st entry entry n (Err q)) whole (fault-by q (marks_read s (begin past.token) (same_kind past.token.kind open_kind)) g)
 
-    module _ (z : r.number ≡ 0) where
-      read_by : (d : Read (List Mark)) → MarksGive s past arguments r d → (ms : List Mark) × (d ≡ ok ms (begin r.state.token)) × Marked s past arguments r ms (begin r.state.token)
-      read_by (fault k b) h = let x : r.number ≡ k = h.number_is in let y : 0 < k = h.some in absurd (omega arith)
+    module _ (r : Parsed) (g : MarksGive s past arguments (Ok r) (marks_read s (begin past.token) (same_kind past.token.kind open_kind))) where
+      read_by : (d : Read (List Mark)) → MarksGive s past arguments (Ok r) d → (ms : List Mark) × (d ≡ ok ms (begin r.state.token)) × Marked s past arguments r ms (begin r.state.token)
+      read_by (fault k b) h = absurd h
       read_by (ok ms after) h = (ms, ap (ok ms) (sym h.state_is), subst⁻¹ (Marked s past arguments r ms) h.state_is h)
 
-      read : (ms : List Mark) × (marks_read s (begin past.token) (eqb past.token.kind open_kind) ≡ ok ms (begin r.state.token)) × Marked s past arguments r ms (begin r.state.token)
-      read = read_by (marks_read s (begin past.token) (eqb past.token.kind open_kind)) g
+      read : (ms : List Mark) × (marks_read s (begin past.token) (same_kind past.token.kind open_kind) ≡ ok ms (begin r.state.token)) × Marked s past arguments r ms (begin r.state.token)
+      read = read_by (marks_read s (begin past.token) (same_kind past.token.kind open_kind)) g
 
       pub declared-standing : CursorInside s r.state
       declared-standing = read.2.standing
 
-      by-stop : (b : Bool) → eqb r.state.token.kind stop_kind ≡ b → declaration_from s (begin st.token) (eqb st.token.kind name_kind) ≡ declaration_end s (declaration_of s (begin st.token) read.0) (begin r.state.token) b
+      by-stop : (b : Bool) → same_kind r.state.token.kind stop_kind ≡ b → declaration_from s (begin st.token) (same_kind st.token.kind name_kind) ≡ declaration_end s (declaration_of s (begin st.token) read.0) (begin r.state.token) b
       unfolding and_then
       by-stop b e = whole ∙ ap (λ (d : Read (List Mark)). and_then d ended) read.1 ∙ ap (declaration_end s (declaration_of s (begin st.token) read.0) (begin r.state.token)) e
 
-      pub declared-stop : (q : Parsed) → (r.state.token.kind ≡ stop_kind → ⊥) → Refused r.state (wrong_number r.state.token.kind) q → DeclarationGives s st entry entry n q (declaration_from s (begin st.token) (eqb st.token.kind name_kind))
+      pub declared-stop : (q : Refusal) → (r.state.token.kind ≡ stop_kind → ⊥) → Refused r.state (wrong_number r.state.token.kind) q → DeclarationGives s st entry entry n (Err q) (declaration_from s (begin st.token) (same_kind st.token.kind name_kind))
       unfolding declaration_end
-      declared-stop q e f = subst⁻¹ (DeclarationGives s st entry entry n q) (by-stop false (ne_eqb r.state.token.kind stop_kind e)) (declaration-refused s st r.state entry n q f)
+      declared-stop q e f = subst⁻¹ (DeclarationGives s st entry entry n (Err q)) (by-stop false (ne_kind r.state.token.kind stop_kind e)) (declaration-refused s st r.state entry n q f)
 
       pub declared-asked : n + declaration_size ≤ length entry → ((n + 3 ≤ length entry) × ((st.token.at < 2 ^ 32) × ((st.token.len < 2 ^ 32) × (r.items < 2 ^ 32)))) × (r.used < 2 ^ 32)
       declared-asked h =
@@ -248,11 +268,11 @@ module _ (s : List ℕ) (st : State) (entry : List ℕ) (n : ℕ) (stands : Curs
           let small : marks_number read.0 + 1 ≤ mark_numbers ^ arguments = read.2.small in
           ((omega arith, (omega arith, (omega arith, omega arith))), omega arith)
 
-      pub declared-end : (end : State) (mid exit : List ℕ) → n + declaration_size ≤ length entry → r.state.token.kind ≡ stop_kind → PastToken s r.state end → mid ≡ set (set (set entry n st.token.at) (n + 1) st.token.len) (n + 2) r.items → exit ≡ set mid (n + 3) r.used → DeclarationGives s st entry exit n (record { number = 0; used = n + declaration_size; items = 1; state = end }) (declaration_from s (begin st.token) (eqb st.token.kind name_kind))
+      pub declared-end : (end : State) (mid exit : List ℕ) → n + declaration_size ≤ length entry → r.state.token.kind ≡ stop_kind → PastToken s r.state end → mid ≡ set (set (set entry n st.token.at) (n + 1) st.token.len) (n + 2) r.items → exit ≡ set mid (n + 3) r.used → DeclarationGives s st entry exit n (Ok (record { used = n + declaration_size; items = 1; state = end })) (declaration_from s (begin st.token) (same_kind st.token.kind name_kind))
       unfolding declaration_end declaration_words
       declared-end end mid exit h e p em ex =
-          let a : 0 < st.token.len = stands.some (λ x. let e3 : st.token.kind ≡ name_kind = name in omega arith) in
-          let b : 0 < r.state.token.len = read.2.standing.some (λ x. let e10 : r.state.token.kind ≡ stop_kind = e in omega arith) in
+          let a : 0 < st.token.len = stands.some (name-no_end name) in
+          let b : 0 < r.state.token.len = read.2.standing.some (stop-no_end e) in
           let f1 : st.token.at + st.token.len ≤ past.token.at = m.forward in
           let f2 : past.token.at ≤ r.state.token.at = read.2.forward in
           let f3 : r.state.token.at + r.state.token.len ≤ end.token.at = p.forward in
@@ -260,9 +280,8 @@ module _ (s : List ℕ) (st : State) (entry : List ℕ) (n : ℕ) (stands : Curs
           let lens : length (spelling s st.token.at st.token.len) ≡ st.token.len = length-spelling s st.token.at st.token.len stands.inside in
           let stored : exit ≡ set (set (set (set entry n st.token.at) (n + 1) (length (spelling s st.token.at st.token.len))) (n + 2) (length read.0)) (n + 3) (marks_number read.0) =
           ex ∙ ap₂ (λ (x : List ℕ) (u : ℕ). set x (n + 3) u) em read.2.used_is ∙ ap₂ (λ (x i : ℕ). set (set (set (set entry n st.token.at) (n + 1) x) (n + 2) i) (n + 3) (marks_number read.0)) (sym lens) read.2.items_is in
-          subst⁻¹ (DeclarationGives s st entry exit n (record { number = 0; used = n + declaration_size; items = 1; state = end })) (by-stop true (eq-eqb r.state.token.kind stop_kind e))
+          subst⁻¹ (DeclarationGives s st entry exit n (Ok (record { used = n + declaration_size; items = 1; state = end }))) (by-stop true (eq-kind r.state.token.kind stop_kind e))
           (record {
-            number_is = refl;
             state_is = next-begin p;
             table_is = ap (take (n + declaration_size)) stored ∙ four entry n st.token.at (length (spelling s st.token.at st.token.len)) (length read.0) (marks_number read.0) h;
             standing = p.standing;
@@ -275,25 +294,27 @@ module _ (s : List ℕ) (st past : State) (entry : List ℕ) (n : ℕ) (m : Past
   unfolding read_declaration
   by_mode b e = ap (λ (y : Cursor). after_neck s y (is_mode s y)) (sym (next-begin m)) ∙ ap (after_neck s (begin past.token)) e
 
-  pub declaration-wrong : (r : Parsed) → (past.token.kind ≡ name_kind → ⊥) → Refused past (wrong_number past.token.kind) r → DeclarationGives s st entry entry n r (read_declaration s (begin st.token))
+  pub declaration-wrong : (r : Refusal) → (past.token.kind ≡ name_kind → ⊥) → Refused past (wrong_number past.token.kind) r → DeclarationGives s st entry entry n (Err r) (read_declaration s (begin st.token))
   unfolding after_neck is_mode
-  declaration-wrong r e f = subst⁻¹ (DeclarationGives s st entry entry n r) (by_mode false (simp (ne_eqb past.token.kind name_kind e))) (declaration-refused s st past entry n r f)
+  declaration-wrong r e f = subst⁻¹ (DeclarationGives s st entry entry n (Err r)) (by_mode false (simp (ne_kind past.token.kind name_kind e))) (declaration-refused s st past entry n r f)
 
   module _ (name : past.token.kind ≡ name_kind) (b : Bool) (eb : b ≡ same_name (spelling s past.token.at past.token.len) mode_name) where
-    pub declaration-other : (r : Parsed) → b ≡ false → Refused past (wrong_number past.token.kind) r → DeclarationGives s st entry entry n r (read_declaration s (begin st.token))
+    pub declaration-other : (r : Refusal) → b ≡ false → Refused past (wrong_number past.token.kind) r → DeclarationGives s st entry entry n (Err r) (read_declaration s (begin st.token))
     unfolding after_neck is_mode
-    declaration-other r e f = subst⁻¹ (DeclarationGives s st entry entry n r) (by_mode false (simp (eq-eqb past.token.kind name_kind name, sym eb ∙ e))) (declaration-refused s st past entry n r f)
+    declaration-other r e f = subst⁻¹ (DeclarationGives s st entry entry n (Err r)) (by_mode false (simp (eq-kind past.token.kind name_kind name, sym eb ∙ e))) (declaration-refused s st past entry n r f)
 
-    further : (behind : State) (exit : List ℕ) (r : Parsed) (d : Read Declaration) → PastToken s past behind → DeclarationGives s behind entry exit n r d → DeclarationGives s st entry exit n r d
-    further behind exit r (fault k x) p g = g
-    further behind exit r (ok d after) p g =
+    further : (behind : State) (exit : List ℕ) (r : Result Parsed Refusal) (d : Read Declaration) → PastToken s past behind → DeclarationGives s behind entry exit n r d → DeclarationGives s st entry exit n r d
+    further behind exit (Err q) (fault k x) p g = g
+    further behind exit (Err q) (ok d after) p g = g
+    further behind exit (Ok r) (fault k x) p g = g
+    further behind exit (Ok r) (ok d after) p g =
         let f1 : st.token.at + st.token.len ≤ past.token.at = m.forward in
         let f2 : past.token.at + past.token.len ≤ behind.token.at = p.forward in
         let less : bytes_left s r.state < bytes_left s behind = g.less in
-        record { number_is = g.number_is; state_is = g.state_is; table_is = g.table_is; standing = g.standing; less = omega arith }
+        record { state_is = g.state_is; table_is = g.table_is; standing = g.standing; less = omega arith }
 
-    pub declaration-mode : (behind : State) (exit : List ℕ) (r : Parsed) → b ≡ true → PastToken s past behind → DeclarationGives s behind entry exit n r (declaration_from s (begin behind.token) (eqb behind.token.kind name_kind)) → DeclarationGives s st entry exit n r (read_declaration s (begin st.token))
+    pub declaration-mode : (behind : State) (exit : List ℕ) (r : Result Parsed Refusal) → b ≡ true → PastToken s past behind → DeclarationGives s behind entry exit n r (declaration_from s (begin behind.token) (same_kind behind.token.kind name_kind)) → DeclarationGives s st entry exit n r (read_declaration s (begin st.token))
     unfolding after_neck is_mode
     declaration-mode behind exit r e p g =
-        subst⁻¹ (DeclarationGives s st entry exit n r) (by_mode true (simp (eq-eqb past.token.kind name_kind name, sym eb ∙ e)) ∙ ap (λ (y : Cursor). declaration_from s y (eqb y.token.kind name_kind)) (sym (next-begin p)))
-        (further behind exit r (declaration_from s (begin behind.token) (eqb behind.token.kind name_kind)) p g)
+        subst⁻¹ (DeclarationGives s st entry exit n r) (by_mode true (simp (eq-kind past.token.kind name_kind name, sym eb ∙ e)) ∙ ap (λ (y : Cursor). declaration_from s y (same_kind y.token.kind name_kind)) (sym (next-begin p)))
+        (further behind exit r (declaration_from s (begin behind.token) (same_kind behind.token.kind name_kind)) p g)

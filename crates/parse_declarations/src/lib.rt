@@ -2,9 +2,9 @@
 
 #![tactic(auto)]
 
-ghost use Rattle.std.specs.Prelude.{◌≡◌, ◌+◌, ◌*◌, ◌≤◌, ◌<◌, ◌^◌, length, eqb};
+ghost use Rattle.std.specs.Prelude.{◌≡◌, ◌+◌, ◌*◌, ◌≤◌, ◌<◌, ◌^◌, length};
 ghost use Rattle.syntax.specs.Limits.{arguments};
-ghost use Rattle.syntax.specs.Tokens.{name_kind, open_kind};
+ghost use Rattle.syntax.specs.Tokens.{same_kind, name_kind, open_kind};
 ghost use Rattle.syntax.specs.Words.{mark_numbers, with_mark, declaration_size};
 ghost use Rattle.syntax.specs.Reading.{begin, read_marks, marks_read, declaration_from, read_declaration};
 ghost use Rattle.parse_cursor.specs.Gives.{CursorInside};
@@ -12,122 +12,98 @@ ghost use Rattle.parse_declarations.specs.Marks.{MarksGive, DeclarationGives};
 
 use packed_words::{mark_number, pack_mark};
 use parse_cursor::Parsed;
-use parse_cursor::cursor::{next, put, put_node, refuse, wrong};
-use syntax::{ARGUMENTS, CLOSE, COMMA, DECLARATION_SIZE, NAME, NODE_WORDS, OPEN, STOP, State};
+use parse_cursor::cursor::{beyond, next, put_node, wrong};
+use syntax::{ARGUMENTS, DECLARATION_SIZE, NODE_WORDS, Refusal, State, TokenKind};
+use table_words::put;
 use texts::is_mode;
 
 // A list of marks after its opening bracket, at most k: `used` is their number, the first mark lowest.
-fn read_marks(s: &[u8], k: usize, st: State) -> Parsed
+fn read_marks(s: &[u8], k: usize, st: State) -> Result<Parsed, Refusal>
     requires cursor_inside { CursorInside s.now st }
     requires k_le_arguments { k ≤ arguments }
     ensures { MarksGive s.now st k result (read_marks s.now k (begin st.token)) }
 {
-    let t = st.token;
-    let m = mark_number(t.kind);
+    let m = mark_number(st.token.kind);
     if m == 0 {
-        return wrong(st);
+        return Err(wrong(st));
     }
     if k == 0 {
-        return refuse(st, 6);
+        return Err(beyond(st));
     }
     let after = next(s, st);
-    let u = after.token;
-    let kind = u.kind;
-    if kind == COMMA {
-        let behind = next(s, after);
-        let fewer = k - 1;
-        let more = read_marks(s, fewer, behind);
-        return marked(m, more);
-    }
-    if kind == CLOSE {
-        let past = next(s, after);
-        return Parsed {
-            number: 0,
+    match after.token.kind {
+        TokenKind::Comma => {
+            let behind = next(s, after);
+            let more = read_marks(s, k - 1, behind)?;
+            Ok(marked(m, more))
+        }
+        TokenKind::Close => Ok(Parsed {
             used: m,
             items: 1,
-            state: past,
-        };
+            state: next(s, after),
+        }),
+        _ => Err(wrong(after)),
     }
-    wrong(after)
 }
 
 // The marks behind a comma, and the one before it.
 fn marked(m: usize, more: Parsed) -> Parsed
-    requires used_bound { more.number ≡ 0 → (more.used < 2 ^ 20) × (more.items < 2 ^ 20) }
+    requires used_bound { (more.used < 2 ^ 20) × (more.items < 2 ^ 20) }
     requires m_lt_mark_numbers { m < mark_numbers }
-    ensures { (result.number ≡ more.number) × ((result.state ≡ more.state) × (more.number ≡ 0 → (result.used ≡ with_mark m more.used)
-        × (result.items ≡ more.items + 1))) }
+    ensures { (result.state ≡ more.state) × ((result.used ≡ with_mark m more.used) × (result.items ≡ more.items + 1)) }
 {
-    if more.number != 0 {
-        return more;
-    }
-    let used = pack_mark(m, more.used);
-    let items = more.items + 1;
-    let state = more.state;
     Parsed {
-        number: 0,
-        used,
-        items,
-        state,
+        used: pack_mark(m, more.used),
+        items: more.items + 1,
+        state: more.state,
     }
 }
 
 // The marks behind a declaration's name, or none.
-fn read_some_marks(s: &[u8], st: State) -> Parsed
+fn read_some_marks(s: &[u8], st: State) -> Result<Parsed, Refusal>
     requires { CursorInside s.now st }
-    ensures { MarksGive s.now st arguments result (marks_read s.now (begin st.token) (eqb st.token.kind open_kind)) }
+    ensures { MarksGive s.now st arguments result (marks_read s.now (begin st.token) (same_kind st.token.kind open_kind)) }
 {
-    let t = st.token;
-    let kind = t.kind;
-    if kind == OPEN {
+    if st.token.kind == TokenKind::Open {
         let inner = next(s, st);
         return read_marks(s, ARGUMENTS, inner);
     }
-    Parsed {
-        number: 0,
+    Ok(Parsed {
         used: 0,
         items: 0,
         state: st,
-    }
+    })
 }
 
 // A declaration's name, marks and full stop.
-fn read_declared(s: &[u8], st: State, table: &mut [u32], n: usize) -> Parsed
+fn read_declared(s: &[u8], st: State, table: &mut [u32], n: usize) -> Result<Parsed, Refusal>
     requires cursor_inside { CursorInside s.now st }
     requires declaration_size_in_bounds { n + declaration_size ≤ length table.old }
     ensures { DeclarationGives s.now st table.old table.new n result (declaration_from s.now (begin st.token)
-        (eqb st.token.kind name_kind)) }
+        (same_kind st.token.kind name_kind)) }
 {
     let t = st.token;
-    let kind = t.kind;
-    if kind != NAME {
-        return wrong(st);
+    if t.kind != TokenKind::Name {
+        return Err(wrong(st));
     }
     let past = next(s, st);
-    let r = read_some_marks(s, past);
-    if r.number != 0 {
-        return r;
-    }
+    let r = read_some_marks(s, past)?;
     let after = r.state;
-    let u = after.token;
-    if u.kind != STOP {
-        return wrong(after);
+    if after.token.kind != TokenKind::Stop {
+        return Err(wrong(after));
     }
     let end = next(s, after);
     put_node(table, n, t.at, t.len, r.items);
-    let m = n + NODE_WORDS;
-    put(table, m, r.used);
-    let used = n + DECLARATION_SIZE;
-    Parsed {
-        number: 0,
-        used,
+    put(table, n + NODE_WORDS, r.used);
+    Ok(Parsed {
+        used: n + DECLARATION_SIZE,
         items: 1,
         state: end,
-    }
+    })
 }
 
 // A declaration, of which the :- is at hand.
-pub fn read_declaration(s: &[u8], st: State, table: &mut [u32], n: usize) -> Parsed
+pub fn read_declaration(s: &[u8], st: State, table: &mut [u32], n: usize) -> Result<Parsed, Refusal>
     requires cursor_inside { CursorInside s.now st }
     requires declaration_size_in_bounds { n + declaration_size ≤ length table.old }
     ensures { DeclarationGives s.now st table.old table.new n result
@@ -135,15 +111,8 @@ pub fn read_declaration(s: &[u8], st: State, table: &mut [u32], n: usize) -> Par
 {
     let past = next(s, st);
     let t = past.token;
-    let at = t.at;
-    let len = t.len;
-    let kind = t.kind;
-    if kind != NAME {
-        return wrong(past);
+    if t.kind == TokenKind::Name && is_mode(s, t.at, t.len) {
+        return read_declared(s, next(s, past), table, n);
     }
-    if is_mode(s, at, len) {
-        let behind = next(s, past);
-        return read_declared(s, behind, table, n);
-    }
-    wrong(past)
+    Err(wrong(past))
 }

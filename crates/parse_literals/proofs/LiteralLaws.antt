@@ -9,11 +9,15 @@ use lib.ListN.{length, set, take, length-append, length-take, length-set}
 use lib.Seq.{take-set-lt, take-set-le, set-append_left, take-suc-set, take-take, take_all}
 use lib.Dec.{eqb, lit<}
 use borrow.Author.Tests.{eq-eqb, ne_eqb, eqb-true, eqb-false}
+use Rattle.std.specs.Prelude.{Result, Ok, Err}
+use Rattle.syntax.proofs.SameKind.{eq-kind, ne_kind}
 use Rattle.syntax.specs.Terms.{Term, Terms, Atom, nil, cons, arity, term_of, Literal, call, equation, truth, falsity, literal_of, same_name, true_name, fail_name}
 use Rattle.syntax.specs.Limits.{variables}
 use Rattle.syntax.specs.Spans.{met}
 use Rattle.syntax.proofs.Spans.{met-kept}
-use Rattle.syntax.specs.Tokens.{spelling, equals_kind, name_kind, open_kind}
+use Rattle.syntax.specs.Tokens.{spelling, same_kind, equals_kind, end_kind, name_kind, open_kind}
+use Rattle.syntax.specs.declared.Refusal.{Refusal}
+use Rattle.syntax.specs.declared.TokenKind.{TokenKind}
 use Rattle.syntax.specs.Reading.{Cursor, Read, fault, ok, and_then, next, wrong_number, read_term, read_atom, atom_at, read_right, after_atom, after_term, literal_with, read_atom_with, atom_with, read_list}
 use Rattle.syntax.specs.Words.{node_words, term_words, terms_words, atom_words, literal_words, literal_length, truth_kind, falsity_kind, call_kind, equation_kind}
 use Rattle.syntax.specs.declared.State.{State}
@@ -43,7 +47,11 @@ front entry mid exit w n a h e f =
 
 -- ---- the right side of an equation
 
-pub right_given : (most : ℕ) (s : List ℕ) (st past : State) (entry mid exit : List ℕ) (n used : ℕ) (r : Parsed) → PastToken s st past → mid ≡ set entry n equation_kind → Gives term_words one s past mid exit used r (read_term most s (cursor_of s mid past)) → Gives term_words one s (state_onward s st) (set entry n equation_kind) exit used r (read_term most s (cursor_of s (set entry n equation_kind) (state_onward s st)))
+-- an equals sign is not the end
+equals-no_end : {k : TokenKind} → k ≡ equals_kind → k ≡ end_kind → ⊥
+equals-no_end e f = cc
+
+pub right_given : (most : ℕ) (s : List ℕ) (st past : State) (entry mid exit : List ℕ) (n used : ℕ) (r : Result Parsed Refusal) → PastToken s st past → mid ≡ set entry n equation_kind → Gives term_words one s past mid exit used r (read_term most s (cursor_of s mid past)) → Gives term_words one s (state_onward s st) (set entry n equation_kind) exit used r (read_term most s (cursor_of s (set entry n equation_kind) (state_onward s st)))
 right_given most s st past entry mid exit n used r m e g =
     subst (λ (x : State). Gives term_words one s x (set entry n equation_kind) exit used r (read_term most s (cursor_of s (set entry n equation_kind) x))) m.is
     (subst (λ (x : List ℕ). Gives term_words one s past x exit used r (read_term most s (cursor_of s x past))) e g)
@@ -134,7 +142,7 @@ named-list s st (ok ts after) = refl
 
 named-all : (bytes_left : ℕ) (s : List ℕ) (st : Cursor) → AllOk (λ (a : Atom). a.name ≡ spelling s st.token.at st.token.len) (read_atom bytes_left s st)
 unfolding AllOk read_atom read_atom_with atom_with
-named-all bytes_left s st = by (eqb (next s st).token.kind open_kind)
+named-all bytes_left s st = by (same_kind (next s st).token.kind open_kind)
   where
     by : (b : Bool) → AllOk (λ (a : Atom). a.name ≡ spelling s st.token.at st.token.len) (atom_with (λ x. read_list bytes_left s x) s st b)
     by true = named-list s st (read_list bytes_left s (next s st))
@@ -160,14 +168,12 @@ module _ (most : ℕ) (s : List ℕ) (st : State) (entry : List ℕ) (n : ℕ) (
         let fits : length (term_words t) + node_words * bytes_left s r.state + 1 ≤ node_words * bytes_left s st + 1 = g.room in
         (record { standing = g.standing; held = g.held; room = omega arith; small = omega arith }, (e, omega arith))
 
-    right-fault : (exit : List ℕ) (q : Parsed) (k b : ℕ) → Faulted (set mid n equation_kind) exit r.used q k b → Faulted entry exit n q k b
+    right-fault : (exit : List ℕ) (q : Refusal) (k b : ℕ) → Faulted (set mid n equation_kind) exit r.used q k b → Faulted entry exit n q k b
     right-fault exit q k b h =
         let used : r.used ≡ (n + 1) + length (term_words t) = g.used_is in
         let inn : n + 1 ≤ length entry = n-in in
         record {
-          number_is = h.number_is;
-          some = h.some;
-          byte_is = h.byte_is;
+          is = h.is;
           kept = shorter n r.used (set mid n equation_kind) exit (omega arith) h.kept ∙ take-set-le n mid n equation_kind (omega arith) ∙ kept-before n (n + 1) (length (term_words t)) entry mid (term_words t) (omega arith) inn g.table_is;
         }
 
@@ -175,7 +181,7 @@ module _ (most : ℕ) (s : List ℕ) (st : State) (entry : List ℕ) (n : ℕ) (
     unfolding literal_words literal_length
     right-words exit q u end e h =
         let m : PastToken s r.state (state_onward s r.state) = moved-onward s r.state g.standing in
-        let some : 0 < r.state.token.len = g.standing.some (λ x. let k : r.state.token.kind ≡ equals_kind = e in omega arith) in
+        let some : 0 < r.state.token.len = g.standing.some (equals-no_end e) in
         let inside : r.state.token.at + r.state.token.len ≤ length s = g.standing.inside in
         let used : r.used ≡ (n + 1) + length (term_words t) = g.used_is in
         let used' : q.used ≡ r.used + length (term_words u) = h.used_is in
@@ -187,7 +193,6 @@ module _ (most : ℕ) (s : List ℕ) (st : State) (entry : List ℕ) (n : ℕ) (
         let k : r.used ≡ n + length (equation_kind ∷ term_words t) = omega arith in
         let ends : take ((n + length (equation_kind ∷ term_words t)) + length (term_words u)) exit ≡ take (n + length (equation_kind ∷ term_words t)) (set mid n equation_kind) ++ term_words u = subst (λ (x : ℕ). take (x + length (term_words u)) exit ≡ take x (set mid n equation_kind) ++ term_words u) k h.table_is in
         record {
-          number_is = h.number_is;
           state_is = h.state_is;
           items_is = h.items_is;
           used_is = omega arith;
@@ -197,10 +202,12 @@ module _ (most : ℕ) (s : List ℕ) (st : State) (entry : List ℕ) (n : ℕ) (
           room = omega arith;
         }
 
-    right_by : (exit : List ℕ) (q : Parsed) (d : Read Term) → r.state.token.kind ≡ equals_kind → Gives term_words one s (state_onward s r.state) (set mid n equation_kind) exit r.used q d → GivesWith 0 literal_words literal_length s st entry exit n q (and_then d (λ u after. ok (equation t u) after))
+    right_by : (exit : List ℕ) (q : Result Parsed Refusal) (d : Read Term) → r.state.token.kind ≡ equals_kind → Gives term_words one s (state_onward s r.state) (set mid n equation_kind) exit r.used q d → GivesWith 0 literal_words literal_length s st entry exit n q (and_then d (λ u after. ok (equation t u) after))
     unfolding and_then
-    right_by exit q (fault k b) e h = right-fault exit q k b h
-    right_by exit q (ok u end) e h = right-words exit q u end e h
+    right_by exit (Err q) (fault k b) e h = right-fault exit q k b h
+    right_by exit (Err q) (ok u end) e h = h
+    right_by exit (Ok q) (fault k b) e h = h
+    right_by exit (Ok q) (ok u end) e h = right-words exit q u end e h
 
     -- the reader past the equals sign, over the table with the literal's first word
     behind-equals : cursor_of s (set mid n equation_kind) (state_onward s r.state) ≡ next s (cursor_of s mid r.state)
@@ -208,123 +215,120 @@ module _ (most : ℕ) (s : List ℕ) (st : State) (entry : List ℕ) (n : ℕ) (
         let room : n + node_words * bytes_left s st + 1 + variables ≤ length entry = ready.room in
         cursor-kept s mid (set mid n equation_kind) (state_onward s r.state) (met-kept mid n equation_kind (omega arith)) ∙ next_of mid (moved-onward s r.state g.standing)
 
-    pub equation-given : (exit : List ℕ) (q : Parsed) → r.state.token.kind ≡ equals_kind → Gives term_words one s (state_onward s r.state) (set mid n equation_kind) exit r.used q (read_term most s (cursor_of s (set mid n equation_kind) (state_onward s r.state))) → GivesWith 0 literal_words literal_length s st entry exit n q (read_right most s t (cursor_of s mid r.state))
+    pub equation-given : (exit : List ℕ) (q : Result Parsed Refusal) → r.state.token.kind ≡ equals_kind → Gives term_words one s (state_onward s r.state) (set mid n equation_kind) exit r.used q (read_term most s (cursor_of s (set mid n equation_kind) (state_onward s r.state))) → GivesWith 0 literal_words literal_length s st entry exit n q (read_right most s t (cursor_of s mid r.state))
     unfolding read_right
     equation-given exit q e h = right_by exit q (read_term most s (next s (cursor_of s mid r.state))) e (subst (λ (x : Cursor). Gives term_words one s (state_onward s r.state) (set mid n equation_kind) exit r.used q (read_term most s x)) behind-equals h)
 
     pub left-kept : take n mid ≡ take n entry
     left-kept = kept-before n (n + 1) (length (term_words t)) entry mid (term_words t) (omega arith) n-in g.table_is
 
+  -- a fault of its first term
+  pub named-fault : (mid : List ℕ) (q : Refusal) → Gives atom_words one s st entry mid (n + 1) (Err q) (read_atom most s (cursor_of s entry st)) → GivesWith 0 literal_words literal_length s st entry mid n (Err q) (literal_with most s (cursor_of s entry st) true)
+  unfolding literal_with read_atom
+  named-fault mid q g = seq-fault 1 0 atom_words one literal_words literal_length s st st entry mid n (n + 1) q (read_atom most s (cursor_of s entry st)) (λ a after. after_atom most s a after (same_kind after.token.kind equals_kind)) (omega arith) g
+
+  pub equation-fault : (mid : List ℕ) (q : Refusal) → Gives term_words one s st entry mid (n + 1) (Err q) (read_term most s (cursor_of s entry st)) → GivesWith 0 literal_words literal_length s st entry mid n (Err q) (literal_with most s (cursor_of s entry st) false)
+  unfolding literal_with
+  equation-fault mid q g = seq-fault 1 0 term_words one literal_words literal_length s st st entry mid n (n + 1) q (read_term most s (cursor_of s entry st)) (λ t after. after_term most s t after (same_kind after.token.kind equals_kind)) (omega arith) g
+
   -- the literal by what stands behind its first term
   module _ (mid : List ℕ) (r : Parsed) (l : length mid ≡ length entry) where
-    module _ (g : Gives atom_words one s st entry mid (n + 1) r (read_atom most s (cursor_of s entry st))) where
-      pub named-fault : (r.number ≡ 0 → ⊥) → GivesWith 0 literal_words literal_length s st entry mid n r (literal_with most s (cursor_of s entry st) true)
-      unfolding literal_with read_atom
-      named-fault z = seq-fault 1 0 atom_words one literal_words literal_length s st st entry mid n (n + 1) r (read_atom most s (cursor_of s entry st)) (λ a after. after_atom most s a after (eqb after.token.kind equals_kind)) (omega arith) g z
+    module _ (g : Gives atom_words one s st entry mid (n + 1) (Ok r) (read_atom most s (cursor_of s entry st))) where
+      atom-read : (a : Atom) × (read_atom most s (cursor_of s entry st) ≡ ok a (cursor_of s mid r.state)) × Given s st entry mid (n + 1) r (atom_words a) 1 (cursor_of s mid r.state)
+      atom-read = seq-ok 1 atom_words one s st entry mid (n + 1) r (read_atom most s (cursor_of s entry st)) g
 
-      module _ (z : r.number ≡ 0) where
-        atom-read : (a : Atom) × (read_atom most s (cursor_of s entry st) ≡ ok a (cursor_of s mid r.state)) × Given s st entry mid (n + 1) r (atom_words a) 1 (cursor_of s mid r.state)
-        atom-read = seq-ok 1 atom_words one s st entry mid (n + 1) r (read_atom most s (cursor_of s entry st)) g z
+      named_by : (b : Bool) → same_kind r.state.token.kind equals_kind ≡ b → literal_with most s (cursor_of s entry st) true ≡ after_atom most s atom-read.0 (cursor_of s mid r.state) b
+      unfolding literal_with read_atom and_then
+      named_by b e = ap (λ (d : Read Atom). and_then d (λ a after. after_atom most s a after (same_kind after.token.kind equals_kind))) atom-read.1 ∙ ap (after_atom most s atom-read.0 (cursor_of s mid r.state)) e
 
-        named_by : (b : Bool) → eqb r.state.token.kind equals_kind ≡ b → literal_with most s (cursor_of s entry st) true ≡ after_atom most s atom-read.0 (cursor_of s mid r.state) b
-        unfolding literal_with read_atom and_then
-        named_by b e = ap (λ (d : Read Atom). and_then d (λ a after. after_atom most s a after (eqb after.token.kind equals_kind))) atom-read.1 ∙ ap (after_atom most s atom-read.0 (cursor_of s mid r.state)) e
+      pub named-ready : r.state.token.kind ≡ equals_kind → RoomToRead s r.state mid r.used 0 × ((r.state.token.kind ≡ equals_kind) × (n < r.used))
+      named-ready e = right-ready mid r (term_of atom-read.0) atom-read.2 l e
 
-        pub named-ready : r.state.token.kind ≡ equals_kind → RoomToRead s r.state mid r.used 0 × ((r.state.token.kind ≡ equals_kind) × (n < r.used))
-        named-ready e = right-ready mid r (term_of atom-read.0) atom-read.2 l e
+      pub named-equation : (exit : List ℕ) (q : Result Parsed Refusal) → r.state.token.kind ≡ equals_kind → Gives term_words one s (state_onward s r.state) (set mid n equation_kind) exit r.used q (read_term most s (cursor_of s (set mid n equation_kind) (state_onward s r.state))) → GivesWith 0 literal_words literal_length s st entry exit n q (literal_with most s (cursor_of s entry st) true)
+      unfolding after_atom
+      named-equation exit q e h = subst⁻¹ (GivesWith 0 literal_words literal_length s st entry exit n q) (named_by true (eq-kind r.state.token.kind equals_kind e)) (equation-given mid r (term_of atom-read.0) atom-read.2 l exit q e h)
 
-        pub named-equation : (exit : List ℕ) (q : Parsed) → r.state.token.kind ≡ equals_kind → Gives term_words one s (state_onward s r.state) (set mid n equation_kind) exit r.used q (read_term most s (cursor_of s (set mid n equation_kind) (state_onward s r.state))) → GivesWith 0 literal_words literal_length s st entry exit n q (literal_with most s (cursor_of s entry st) true)
+      -- the number that was stored is the atom's
+      size_is : r.used - (n + 1) ≡ node_words + length (terms_words atom-read.0.args)
+      size_is = let used : r.used ≡ (n + 1) + length (atom_words atom-read.0) = atom-read.2.used_is in let k : length (atom_words atom-read.0) ≡ node_words + length (terms_words atom-read.0.args) = atom-length atom-read.0 in omega arith
+
+      number_is : atom_number (eqb (r.used - (n + 1)) node_words) (spelling s st.token.at st.token.len) ≡ atom_number (eqb (arity atom-read.0.args) 0) atom-read.0.name
+      number_is = ap₂ (λ (b : Bool) (x : List ℕ). atom_number b x) (ap (λ (k : ℕ). eqb k node_words) size_is ∙ bare-test atom-read.0.args) (sym (atom-named most s (cursor_of s entry st) (cursor_of s mid r.state) atom-read.0 atom-read.1))
+
+      module _ (number : ℕ) (en : number ≡ atom_number (eqb (r.used - (n + 1)) node_words) (spelling s st.token.at st.token.len)) (exit : List ℕ) (ex : exit ≡ set mid n number) (ne : r.state.token.kind ≡ equals_kind → ⊥) where
+        same : met exit ≡ met mid
+        same =
+            let room : n + node_words * bytes_left s st + 1 + variables ≤ length entry = ready.room in
+            ap met ex ∙ met-kept mid n number (omega arith)
+
+        pub named-call : number ≡ 2 → GivesWith 0 literal_words literal_length s st entry exit n (Ok (record { used = r.used; items = 1; state = r.state })) (literal_with most s (cursor_of s entry st) true)
+        unfolding after_atom literal_of literal_words literal_length
+        named-call two =
+            let a : Atom = atom-read.0 in
+            let is_call : literal_of atom-read.0 ≡ call atom-read.0 = call_by atom-read.0 (sym number_is ∙ sym en ∙ two) in
+            let used : r.used ≡ (n + 1) + length (atom_words atom-read.0) = atom-read.2.used_is in
+            let fits : length (atom_words atom-read.0) + node_words * bytes_left s r.state + 1 ≤ node_words * bytes_left s st + 1 = atom-read.2.room in
+            let result : GivenWith 0 s st entry exit n (record { used = r.used; items = 1; state = r.state }) (2 ∷ atom_words atom-read.0) 1 (cursor_of s mid r.state) = record {
+              state_is = cursor-kept s mid exit r.state same;
+              items_is = refl;
+              used_is = omega arith;
+              table_is = front entry mid exit (atom_words atom-read.0) n 2 n-in atom-read.2.table_is (ex ∙ ap (set mid n) two);
+              standing = atom-read.2.standing;
+              held = held_kept same atom-read.2.held;
+              room = omega arith;
+            } in
+            subst⁻¹ (GivesWith 0 literal_words literal_length s st entry exit n (Ok (record { used = r.used; items = 1; state = r.state }))) (named_by false (ne_kind r.state.token.kind equals_kind ne))
+            (subst⁻¹ (λ (x : Literal). GivenWith 0 s st entry exit n (record { used = r.used; items = 1; state = r.state }) (literal_words x) (literal_length x) (cursor_of s mid r.state)) is_call result)
+
+        pub named_other : (number ≡ 2 → ⊥) → GivesWith 0 literal_words literal_length s st entry exit n (Ok (record { used = n + 1; items = 1; state = r.state })) (literal_with most s (cursor_of s entry st) true)
         unfolding after_atom
-        named-equation exit q e h = subst⁻¹ (GivesWith 0 literal_words literal_length s st entry exit n q) (named_by true (eq-eqb r.state.token.kind equals_kind e)) (equation-given mid r (term_of atom-read.0) atom-read.2 l exit q e h)
-
-        -- the number that was stored is the atom's
-        size_is : r.used - (n + 1) ≡ node_words + length (terms_words atom-read.0.args)
-        size_is = let used : r.used ≡ (n + 1) + length (atom_words atom-read.0) = atom-read.2.used_is in let k : length (atom_words atom-read.0) ≡ node_words + length (terms_words atom-read.0.args) = atom-length atom-read.0 in omega arith
-
-        number_is : atom_number (eqb (r.used - (n + 1)) node_words) (spelling s st.token.at st.token.len) ≡ atom_number (eqb (arity atom-read.0.args) 0) atom-read.0.name
-        number_is = ap₂ (λ (b : Bool) (x : List ℕ). atom_number b x) (ap (λ (k : ℕ). eqb k node_words) size_is ∙ bare-test atom-read.0.args) (sym (atom-named most s (cursor_of s entry st) (cursor_of s mid r.state) atom-read.0 atom-read.1))
-
-        module _ (number : ℕ) (en : number ≡ atom_number (eqb (r.used - (n + 1)) node_words) (spelling s st.token.at st.token.len)) (exit : List ℕ) (ex : exit ≡ set mid n number) (ne : r.state.token.kind ≡ equals_kind → ⊥) where
-          same : met exit ≡ met mid
-          same =
-              let room : n + node_words * bytes_left s st + 1 + variables ≤ length entry = ready.room in
-              ap met ex ∙ met-kept mid n number (omega arith)
-
-          pub named-call : number ≡ 2 → GivesWith 0 literal_words literal_length s st entry exit n (record { number = 0; used = r.used; items = 1; state = r.state }) (literal_with most s (cursor_of s entry st) true)
-          unfolding after_atom literal_of literal_words literal_length
-          named-call two =
-              let a : Atom = atom-read.0 in
-              let is_call : literal_of atom-read.0 ≡ call atom-read.0 = call_by atom-read.0 (sym number_is ∙ sym en ∙ two) in
-              let used : r.used ≡ (n + 1) + length (atom_words atom-read.0) = atom-read.2.used_is in
-              let fits : length (atom_words atom-read.0) + node_words * bytes_left s r.state + 1 ≤ node_words * bytes_left s st + 1 = atom-read.2.room in
-              let result : GivenWith 0 s st entry exit n (record { number = 0; used = r.used; items = 1; state = r.state }) (2 ∷ atom_words atom-read.0) 1 (cursor_of s mid r.state) = record {
-                number_is = refl;
-                state_is = cursor-kept s mid exit r.state same;
-                items_is = refl;
-                used_is = omega arith;
-                table_is = front entry mid exit (atom_words atom-read.0) n 2 n-in atom-read.2.table_is (ex ∙ ap (set mid n) two);
-                standing = atom-read.2.standing;
-                held = held_kept same atom-read.2.held;
-                room = omega arith;
-              } in
-              subst⁻¹ (GivesWith 0 literal_words literal_length s st entry exit n (record { number = 0; used = r.used; items = 1; state = r.state })) (named_by false (ne_eqb r.state.token.kind equals_kind ne))
-              (subst⁻¹ (λ (x : Literal). GivenWith 0 s st entry exit n (record { number = 0; used = r.used; items = 1; state = r.state }) (literal_words x) (literal_length x) (cursor_of s mid r.state)) is_call result)
-
-          pub named_other : (number ≡ 2 → ⊥) → GivesWith 0 literal_words literal_length s st entry exit n (record { number = 0; used = n + 1; items = 1; state = r.state }) (literal_with most s (cursor_of s entry st) true)
-          unfolding after_atom
-          named_other two =
-              let words : literal_words (literal_of atom-read.0) ≡ number ∷ [] = other-by atom-read.0 number (en ∙ number_is) two in
-              let inn : n + 1 ≤ length entry = n-in in
-              let fits : length (atom_words atom-read.0) + node_words * bytes_left s r.state + 1 ≤ node_words * bytes_left s st + 1 = atom-read.2.room in
-              let result : GivenWith 0 s st entry exit n (record { number = 0; used = n + 1; items = 1; state = r.state }) (number ∷ []) 1 (cursor_of s mid r.state) = record {
-                number_is = refl;
-                state_is = cursor-kept s mid exit r.state same;
-                items_is = refl;
-                used_is = refl;
-                table_is = ap (take (n + 1)) ex ∙ ap (λ (j : ℕ). take j (set mid n number)) (add-one n) ∙ take-suc-set mid n number (omega arith) ∙ ap (λ (x : List ℕ). x ++ (number ∷ [])) (left-kept mid r (term_of atom-read.0) atom-read.2 l);
-                standing = atom-read.2.standing;
-                held = held_kept same atom-read.2.held;
-                room = omega arith;
-              } in
-              subst⁻¹ (GivesWith 0 literal_words literal_length s st entry exit n (record { number = 0; used = n + 1; items = 1; state = r.state })) (named_by false (ne_eqb r.state.token.kind equals_kind ne))
-              (subst⁻¹ (λ (w : List ℕ). GivenWith 0 s st entry exit n (record { number = 0; used = n + 1; items = 1; state = r.state }) w (literal_length (literal_of atom-read.0)) (cursor_of s mid r.state)) words
-              (subst⁻¹ (λ (i : ℕ). GivenWith 0 s st entry exit n (record { number = 0; used = n + 1; items = 1; state = r.state }) (number ∷ []) i (cursor_of s mid r.state)) (alone-length atom-read.0) result))
+        named_other two =
+            let words : literal_words (literal_of atom-read.0) ≡ number ∷ [] = other-by atom-read.0 number (en ∙ number_is) two in
+            let inn : n + 1 ≤ length entry = n-in in
+            let fits : length (atom_words atom-read.0) + node_words * bytes_left s r.state + 1 ≤ node_words * bytes_left s st + 1 = atom-read.2.room in
+            let result : GivenWith 0 s st entry exit n (record { used = n + 1; items = 1; state = r.state }) (number ∷ []) 1 (cursor_of s mid r.state) = record {
+              state_is = cursor-kept s mid exit r.state same;
+              items_is = refl;
+              used_is = refl;
+              table_is = ap (take (n + 1)) ex ∙ ap (λ (j : ℕ). take j (set mid n number)) (add-one n) ∙ take-suc-set mid n number (omega arith) ∙ ap (λ (x : List ℕ). x ++ (number ∷ [])) (left-kept mid r (term_of atom-read.0) atom-read.2 l);
+              standing = atom-read.2.standing;
+              held = held_kept same atom-read.2.held;
+              room = omega arith;
+            } in
+            subst⁻¹ (GivesWith 0 literal_words literal_length s st entry exit n (Ok (record { used = n + 1; items = 1; state = r.state }))) (named_by false (ne_kind r.state.token.kind equals_kind ne))
+            (subst⁻¹ (λ (w : List ℕ). GivenWith 0 s st entry exit n (record { used = n + 1; items = 1; state = r.state }) w (literal_length (literal_of atom-read.0)) (cursor_of s mid r.state)) words
+            (subst⁻¹ (λ (i : ℕ). GivenWith 0 s st entry exit n (record { used = n + 1; items = 1; state = r.state }) (number ∷ []) i (cursor_of s mid r.state)) (alone-length atom-read.0) result))
 
     -- ---- a literal that begins with something else
-    module _ (g : Gives term_words one s st entry mid (n + 1) r (read_term most s (cursor_of s entry st))) where
-      pub equation-fault : (r.number ≡ 0 → ⊥) → GivesWith 0 literal_words literal_length s st entry mid n r (literal_with most s (cursor_of s entry st) false)
-      unfolding literal_with
-      equation-fault z = seq-fault 1 0 term_words one literal_words literal_length s st st entry mid n (n + 1) r (read_term most s (cursor_of s entry st)) (λ t after. after_term most s t after (eqb after.token.kind equals_kind)) (omega arith) g z
+    module _ (g : Gives term_words one s st entry mid (n + 1) (Ok r) (read_term most s (cursor_of s entry st))) where
+      term-read : (t : Term) × (read_term most s (cursor_of s entry st) ≡ ok t (cursor_of s mid r.state)) × Given s st entry mid (n + 1) r (term_words t) 1 (cursor_of s mid r.state)
+      term-read = seq-ok 1 term_words one s st entry mid (n + 1) r (read_term most s (cursor_of s entry st)) g
 
-      module _ (z : r.number ≡ 0) where
-        term-read : (t : Term) × (read_term most s (cursor_of s entry st) ≡ ok t (cursor_of s mid r.state)) × Given s st entry mid (n + 1) r (term_words t) 1 (cursor_of s mid r.state)
-        term-read = seq-ok 1 term_words one s st entry mid (n + 1) r (read_term most s (cursor_of s entry st)) g z
+      unnamed-by : (b : Bool) → same_kind r.state.token.kind equals_kind ≡ b → literal_with most s (cursor_of s entry st) false ≡ after_term most s term-read.0 (cursor_of s mid r.state) b
+      unfolding literal_with and_then
+      unnamed-by b e = ap (λ (d : Read Term). and_then d (λ t after. after_term most s t after (same_kind after.token.kind equals_kind))) term-read.1 ∙ ap (after_term most s term-read.0 (cursor_of s mid r.state)) e
 
-        unnamed-by : (b : Bool) → eqb r.state.token.kind equals_kind ≡ b → literal_with most s (cursor_of s entry st) false ≡ after_term most s term-read.0 (cursor_of s mid r.state) b
-        unfolding literal_with and_then
-        unnamed-by b e = ap (λ (d : Read Term). and_then d (λ t after. after_term most s t after (eqb after.token.kind equals_kind))) term-read.1 ∙ ap (after_term most s term-read.0 (cursor_of s mid r.state)) e
+      pub equation-ready : r.state.token.kind ≡ equals_kind → RoomToRead s r.state mid r.used 0 × ((r.state.token.kind ≡ equals_kind) × (n < r.used))
+      equation-ready e = right-ready mid r term-read.0 term-read.2 l e
 
-        pub equation-ready : r.state.token.kind ≡ equals_kind → RoomToRead s r.state mid r.used 0 × ((r.state.token.kind ≡ equals_kind) × (n < r.used))
-        equation-ready e = right-ready mid r term-read.0 term-read.2 l e
+      pub equation-read : (exit : List ℕ) (q : Result Parsed Refusal) → r.state.token.kind ≡ equals_kind → Gives term_words one s (state_onward s r.state) (set mid n equation_kind) exit r.used q (read_term most s (cursor_of s (set mid n equation_kind) (state_onward s r.state))) → GivesWith 0 literal_words literal_length s st entry exit n q (literal_with most s (cursor_of s entry st) false)
+      unfolding after_term
+      equation-read exit q e h = subst⁻¹ (GivesWith 0 literal_words literal_length s st entry exit n q) (unnamed-by true (eq-kind r.state.token.kind equals_kind e)) (equation-given mid r term-read.0 term-read.2 l exit q e h)
 
-        pub equation-read : (exit : List ℕ) (q : Parsed) → r.state.token.kind ≡ equals_kind → Gives term_words one s (state_onward s r.state) (set mid n equation_kind) exit r.used q (read_term most s (cursor_of s (set mid n equation_kind) (state_onward s r.state))) → GivesWith 0 literal_words literal_length s st entry exit n q (literal_with most s (cursor_of s entry st) false)
-        unfolding after_term
-        equation-read exit q e h = subst⁻¹ (GivesWith 0 literal_words literal_length s st entry exit n q) (unnamed-by true (eq-eqb r.state.token.kind equals_kind e)) (equation-given mid r term-read.0 term-read.2 l exit q e h)
-
-        pub equation-wrong : (q : Parsed) → (r.state.token.kind ≡ equals_kind → ⊥) → Refused r.state (wrong_number r.state.token.kind) q → GivesWith 0 literal_words literal_length s st entry mid n q (literal_with most s (cursor_of s entry st) false)
-        unfolding after_term
-        equation-wrong q ne f = subst⁻¹ (GivesWith 0 literal_words literal_length s st entry mid n q) (unnamed-by false (ne_eqb r.state.token.kind equals_kind ne)) (refused-wrong-with 0 literal_words literal_length s st r.state entry mid n q (cursor_of s mid r.state) refl f (left-kept mid r term-read.0 term-read.2 l))
+      pub equation-wrong : (q : Refusal) → (r.state.token.kind ≡ equals_kind → ⊥) → Refused r.state (wrong_number r.state.token.kind) q → GivesWith 0 literal_words literal_length s st entry mid n (Err q) (literal_with most s (cursor_of s entry st) false)
+      unfolding after_term
+      equation-wrong q ne f = subst⁻¹ (GivesWith 0 literal_words literal_length s st entry mid n (Err q)) (unnamed-by false (ne_kind r.state.token.kind equals_kind ne)) (refused-wrong-with 0 literal_words literal_length s st r.state entry mid n q (cursor_of s mid r.state) refl f (left-kept mid r term-read.0 term-read.2 l))
 
 -- ---- by what begins it
 
-module _ (most : ℕ) (s : List ℕ) (st : State) (entry exit : List ℕ) (n : ℕ) (r : Parsed) where
+module _ (most : ℕ) (s : List ℕ) (st : State) (entry exit : List ℕ) (n : ℕ) (r : Result Parsed Refusal) where
   pub one-named : st.token.kind ≡ name_kind → GivesWith 0 literal_words literal_length s st entry exit n r (literal_with most s (cursor_of s entry st) true)
-      → GivesWith 0 literal_words literal_length s st entry exit n r (literal_with most s (cursor_of s entry st) (eqb st.token.kind name_kind))
-  one-named e g = subst⁻¹ (λ (b : Bool). GivesWith 0 literal_words literal_length s st entry exit n r (literal_with most s (cursor_of s entry st) b)) (eq-eqb st.token.kind name_kind e) g
+      → GivesWith 0 literal_words literal_length s st entry exit n r (literal_with most s (cursor_of s entry st) (same_kind st.token.kind name_kind))
+  one-named e g = subst⁻¹ (λ (b : Bool). GivesWith 0 literal_words literal_length s st entry exit n r (literal_with most s (cursor_of s entry st) b)) (eq-kind st.token.kind name_kind e) g
 
   pub one-other : (st.token.kind ≡ name_kind → ⊥) → GivesWith 0 literal_words literal_length s st entry exit n r (literal_with most s (cursor_of s entry st) false)
-      → GivesWith 0 literal_words literal_length s st entry exit n r (literal_with most s (cursor_of s entry st) (eqb st.token.kind name_kind))
-  one-other e g = subst⁻¹ (λ (b : Bool). GivesWith 0 literal_words literal_length s st entry exit n r (literal_with most s (cursor_of s entry st) b)) (ne_eqb st.token.kind name_kind e) g
+      → GivesWith 0 literal_words literal_length s st entry exit n r (literal_with most s (cursor_of s entry st) (same_kind st.token.kind name_kind))
+  one-other e g = subst⁻¹ (λ (b : Bool). GivesWith 0 literal_words literal_length s st entry exit n r (literal_with most s (cursor_of s entry st) b)) (ne_kind st.token.kind name_kind e) g
 
 -- ---- an atom alone, stored
 
@@ -337,32 +341,32 @@ number_small b name = small (b && same_name name true_name) (b && same_name name
     small false false = lit< tt
 
 module _ (s : List ℕ) (st : State) (r : Parsed) (entry exit : List ℕ) (n number : ℕ) (en : number ≡ alone_number s st r n) (ex : exit ≡ set entry n number) where
-  pub alone-call : number ≡ 2 → Alone s st r entry exit n (record { number = 0; used = r.used; items = 1; state = r.state })
+  pub alone-call : number ≡ 2 → Alone s st r entry exit n (record { used = r.used; items = 1; state = r.state })
   alone-call e = record {
-    is = ap (λ (b : Bool). record { number = 0; used = cond b r.used (n + 1); items = 1; state = r.state }) (sym (eq-eqb (alone_number s st r n) 2 (sym en ∙ e)));
+    is = ap (λ (b : Bool). record { used = cond b r.used (n + 1); items = 1; state = r.state }) (sym (eq-eqb (alone_number s st r n) 2 (sym en ∙ e)));
     stored = ex ∙ ap (set entry n) en;
   }
 
-  pub alone-other : (number ≡ 2 → ⊥) → Alone s st r entry exit n (record { number = 0; used = n + 1; items = 1; state = r.state })
+  pub alone-other : (number ≡ 2 → ⊥) → Alone s st r entry exit n (record { used = n + 1; items = 1; state = r.state })
   alone-other e = record {
-    is = ap (λ (b : Bool). record { number = 0; used = cond b r.used (n + 1); items = 1; state = r.state }) (sym (ne_eqb (alone_number s st r n) 2 (λ q. e (en ∙ q))));
+    is = ap (λ (b : Bool). record { used = cond b r.used (n + 1); items = 1; state = r.state }) (sym (ne_eqb (alone_number s st r n) 2 (λ q. e (en ∙ q))));
     stored = ex ∙ ap (set entry n) en;
   }
 
-module _ (most : ℕ) (s : List ℕ) (st : State) (entry : List ℕ) (n : ℕ) (ready : RoomToRead s st entry n 1) (mid : List ℕ) (r : Parsed) (l : length mid ≡ length entry) (g : Gives atom_words one s st entry mid (n + 1) r (read_atom most s (cursor_of s entry st))) (z : r.number ≡ 0) where
+module _ (most : ℕ) (s : List ℕ) (st : State) (entry : List ℕ) (n : ℕ) (ready : RoomToRead s st entry n 1) (mid : List ℕ) (r : Parsed) (l : length mid ≡ length entry) (g : Gives atom_words one s st entry mid (n + 1) (Ok r) (read_atom most s (cursor_of s entry st))) where
   pub alone-asked : (n + 1 ≤ r.used) × (n + 1 ≤ length mid)
   alone-asked =
-      let o : (a : Atom) × (read_atom most s (cursor_of s entry st) ≡ ok a (cursor_of s mid r.state)) × Given s st entry mid (n + 1) r (atom_words a) 1 (cursor_of s mid r.state) = seq-ok 1 atom_words one s st entry mid (n + 1) r (read_atom most s (cursor_of s entry st)) g z in
+      let o : (a : Atom) × (read_atom most s (cursor_of s entry st) ≡ ok a (cursor_of s mid r.state)) × Given s st entry mid (n + 1) r (atom_words a) 1 (cursor_of s mid r.state) = seq-ok 1 atom_words one s st entry mid (n + 1) r (read_atom most s (cursor_of s entry st)) g in
       let used : r.used ≡ (n + 1) + length (atom_words o.0) = o.2.used_is in
       let room : n + node_words * bytes_left s st + 1 + variables ≤ length entry = ready.room in
       (omega arith, omega arith)
 
-  alone-by : (exit : List ℕ) (q : Parsed) (b : Bool) → eqb (alone_number s st r n) 2 ≡ b → (r.state.token.kind ≡ equals_kind → ⊥) → exit ≡ set mid n (alone_number s st r n) → GivesWith 0 literal_words literal_length s st entry exit n (record { number = 0; used = cond b r.used (n + 1); items = 1; state = r.state }) (literal_with most s (cursor_of s entry st) true)
-  alone-by exit q true e ne ex = named-call most s st entry n ready mid r l g z (alone_number s st r n) refl exit ex ne (eqb-true (alone_number s st r n) 2 e)
-  alone-by exit q false e ne ex = named_other most s st entry n ready mid r l g z (alone_number s st r n) refl exit ex ne (eqb-false (alone_number s st r n) 2 e)
+  alone-by : (exit : List ℕ) (q : Parsed) (b : Bool) → eqb (alone_number s st r n) 2 ≡ b → (r.state.token.kind ≡ equals_kind → ⊥) → exit ≡ set mid n (alone_number s st r n) → GivesWith 0 literal_words literal_length s st entry exit n (Ok (record { used = cond b r.used (n + 1); items = 1; state = r.state })) (literal_with most s (cursor_of s entry st) true)
+  alone-by exit q true e ne ex = named-call most s st entry n ready mid r l g (alone_number s st r n) refl exit ex ne (eqb-true (alone_number s st r n) 2 e)
+  alone-by exit q false e ne ex = named_other most s st entry n ready mid r l g (alone_number s st r n) refl exit ex ne (eqb-false (alone_number s st r n) 2 e)
 
-  pub named-alone : (exit : List ℕ) (q : Parsed) → (r.state.token.kind ≡ equals_kind → ⊥) → Alone s st r mid exit n q → GivesWith 0 literal_words literal_length s st entry exit n q (literal_with most s (cursor_of s entry st) true)
-  named-alone exit q ne a = subst⁻¹ (λ (x : Parsed). GivesWith 0 literal_words literal_length s st entry exit n x (literal_with most s (cursor_of s entry st) true)) a.is (alone-by exit q (eqb (alone_number s st r n) 2) refl ne a.stored)
+  pub named-alone : (exit : List ℕ) (q : Parsed) → (r.state.token.kind ≡ equals_kind → ⊥) → Alone s st r mid exit n q → GivesWith 0 literal_words literal_length s st entry exit n (Ok q) (literal_with most s (cursor_of s entry st) true)
+  named-alone exit q ne a = subst⁻¹ (λ (x : Parsed). GivesWith 0 literal_words literal_length s st entry exit n (Ok x) (literal_with most s (cursor_of s entry st) true)) a.is (alone-by exit q (eqb (alone_number s st r n) 2) refl ne a.stored)
 
 pub number-asked : (b : Bool) (name : List ℕ) (k : ℕ) → k ≡ atom_number b name → k < 2 ^ 32
 number-asked b name k e = subst⁻¹ (λ (x : ℕ). x < 2 ^ 32) e (number_small b name)

@@ -5,10 +5,12 @@ use mathlib.Core.Path.{◌≡◌, refl, ap, subst, subst⁻¹}
 use mathlib.Core.Bool.{Bool, true, false}
 use mathlib.Core.List.{List}
 use lib.ListN.{length}
-use lib.Dec.{eqb, ltb}
+use Rattle.std.specs.Prelude.{Result, Ok, Err}
+use lib.Dec.{ltb}
 use borrow.Author.Tests.{lt-ltb, le-ltb}
 use Rattle.syntax.specs.Limits.{literals}
-use Rattle.syntax.specs.Tokens.{name_kind}
+use Rattle.syntax.specs.Tokens.{same_kind, name_kind}
+use Rattle.syntax.specs.declared.Refusal.{Refusal}
 use Rattle.syntax.specs.Reading.{Cursor, Read, fault, ok, begins, start_of, literal_with, plain_with, read_plain}
 use Rattle.syntax.specs.Words.{node_words, literal_words, literal_length}
 use Rattle.syntax.specs.declared.State.{State}
@@ -38,12 +40,13 @@ counted_ready {s} {st} {more} {table} {n} {spare} ready e =
     })
 
 -- what is read from a state with the same token
-from-same : {A : Type 0} (spare : ℕ) (wa : A → List ℕ) (ia : A → ℕ) (s : List ℕ) (st more : State) (entry exit : List ℕ) (n : ℕ) (r : Parsed) (d : Read A)
+from-same : {A : Type 0} (spare : ℕ) (wa : A → List ℕ) (ia : A → ℕ) (s : List ℕ) (st more : State) (entry exit : List ℕ) (n : ℕ) (r : Result Parsed Refusal) (d : Read A)
     → st.token ≡ more.token → GivesWith spare wa ia s more entry exit n r d → GivesWith spare wa ia s st entry exit n r d
-from-same spare wa ia s st more entry exit n r (fault k b) e g = g
-from-same spare wa ia s st more entry exit n r (ok a after) e g =
+from-same spare wa ia s st more entry exit n (Err q) (fault k b) e g = g
+from-same spare wa ia s st more entry exit n (Err q) (ok a after) e g = g
+from-same spare wa ia s st more entry exit n (Ok r) (fault k b) e g = g
+from-same spare wa ia s st more entry exit n (Ok r) (ok a after) e g =
     record {
-      number_is = g.number_is;
       state_is = g.state_is;
       items_is = g.items_is;
       used_is = g.used_is;
@@ -53,7 +56,7 @@ from-same spare wa ia s st more entry exit n r (ok a after) e g =
       room = subst⁻¹ (λ (t : Token). length (wa a) + node_words * bytes_left s r.state + spare ≤ node_words * (length s - t.at) + 1) e g.room;
     }
 
-module _ (most : ℕ) (s : List ℕ) (st : State) (entry : List ℕ) (n : ℕ) (r : Parsed) where
+module _ (most : ℕ) (s : List ℕ) (st : State) (entry : List ℕ) (n : ℕ) where
   plain_by : (b : Bool) → ltb st.literals literals ≡ b → read_plain most s (cursor_of s entry st) ≡ plain_with most s (cursor_of s entry st) b
   unfolding read_plain
   plain_by b e = ap (plain_with most s (cursor_of s entry st)) e
@@ -61,20 +64,20 @@ module _ (most : ℕ) (s : List ℕ) (st : State) (entry : List ℕ) (n : ℕ) (
   counted-cursor : cursor_of s entry (with_literal st) ≡ record { token = st.token; names = (cursor_of s entry st).names; literals = suc st.literals }
   counted-cursor = ap (λ (k : ℕ). record { token = st.token; names = (cursor_of s entry st).names; literals = k }) (add-one st.literals)
 
-  pub plain-one : (exit : List ℕ) (more : State) → st.literals < literals → more ≡ with_literal st
-      → GivesWith 0 literal_words literal_length s more entry exit n r (literal_with most s (cursor_of s entry more) (eqb more.token.kind name_kind))
+  pub plain-one : (r : Result Parsed Refusal) (exit : List ℕ) (more : State) → st.literals < literals → more ≡ with_literal st
+      → GivesWith 0 literal_words literal_length s more entry exit n r (literal_with most s (cursor_of s entry more) (same_kind more.token.kind name_kind))
       → GivesWith 0 literal_words literal_length s st entry exit n r (read_plain most s (cursor_of s entry st))
   unfolding plain_with
-  plain-one exit more h e g =
+  plain-one r exit more h e g =
       subst⁻¹ (GivesWith 0 literal_words literal_length s st entry exit n r) (plain_by true (lt-ltb st.literals literals h))
-      (subst (λ (c : Cursor). GivesWith 0 literal_words literal_length s st entry exit n r (literal_with most s c (eqb st.token.kind name_kind))) counted-cursor
+      (subst (λ (c : Cursor). GivesWith 0 literal_words literal_length s st entry exit n r (literal_with most s c (same_kind st.token.kind name_kind))) counted-cursor
       (from-same 0 literal_words literal_length s st (with_literal st) entry exit n r
-      (literal_with most s (cursor_of s entry (with_literal st)) (eqb st.token.kind name_kind)) refl
-      (subst (λ (x : State). GivesWith 0 literal_words literal_length s x entry exit n r (literal_with most s (cursor_of s entry x) (eqb x.token.kind name_kind))) e g)))
+      (literal_with most s (cursor_of s entry (with_literal st)) (same_kind st.token.kind name_kind)) refl
+      (subst (λ (x : State). GivesWith 0 literal_words literal_length s x entry exit n r (literal_with most s (cursor_of s entry x) (same_kind x.token.kind name_kind))) e g)))
 
-  pub plain-full : literals ≤ st.literals → Refused st (full_number (begins (start_of st.token.kind)) st.token.kind) r
-      → GivesWith 0 literal_words literal_length s st entry entry n r (read_plain most s (cursor_of s entry st))
+  pub plain-full : (r : Refusal) → literals ≤ st.literals → Refused st (full_number (begins (start_of st.token.kind)) st.token.kind) r
+      → GivesWith 0 literal_words literal_length s st entry entry n (Err r) (read_plain most s (cursor_of s entry st))
   unfolding plain_with
-  plain-full h g =
-      subst⁻¹ (GivesWith 0 literal_words literal_length s st entry entry n r) (plain_by false (le-ltb st.literals literals h))
+  plain-full r h g =
+      subst⁻¹ (GivesWith 0 literal_words literal_length s st entry entry n (Err r)) (plain_by false (le-ltb st.literals literals h))
       (list_full 0 literal_words literal_length s st st entry n r (cursor_of s entry st) refl g)

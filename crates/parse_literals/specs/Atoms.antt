@@ -15,5 +15,5 @@ abbrev pub alone_number : List ℕ → State → Parsed → ℕ → ℕ
 alone_number s st r n = atom_number (eqb (r.used - (n + 1)) node_words) (spelling s st.token.at st.token.len)
 
 pub record Alone (s : List ℕ) (st : State) (r : Parsed) (entry exit : List ℕ) (n : ℕ) (q : Parsed) : Type 0 where
-  pub is : q ≡ record { number = 0; used = cond (eqb (alone_number s st r n) call_kind) r.used (n + 1); items = 1; state = r.state }
+  pub is : q ≡ record { used = cond (eqb (alone_number s st r n) call_kind) r.used (n + 1); items = 1; state = r.state }
   pub stored : exit ≡ set entry n (alone_number s st r n)

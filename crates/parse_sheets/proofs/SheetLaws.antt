@@ -5,25 +5,28 @@ use mathlib.Core.Path.{◌≡◌, refl, sym, ap, ap₂, ◌∙◌, subst, subst�
 use mathlib.Core.Bool.{Bool, true, false, cond}
 use mathlib.Core.List.{List, [], ◌∷◌, ◌++◌, append_assoc, append-nil}
 use lib.ListN.{length, take, length-append}
-use lib.Dec.{eqb, lit<}
+use lib.Dec.{eqb}
 use borrow.Author.Tests.{eq-eqb, ne_eqb, eqb-false}
+use Rattle.std.specs.Prelude.{Result, Ok, Err}
+use Rattle.syntax.proofs.SameKind.{eq-kind, ne_kind}
 use Rattle.syntax.specs.Limits.{word_bytes, variables, sheet_bytes, declarations, clauses}
 use Rattle.syntax.specs.Spans.{names_from, met, Held}
 use Rattle.syntax.proofs.Spans.{held_none}
-use Rattle.syntax.specs.Tokens.{token_at, variable_kind, name_kind, neck_kind, end_kind}
+use Rattle.syntax.specs.Tokens.{token_at, same_kind, variable_kind, name_kind, neck_kind, end_kind}
 use Rattle.syntax.specs.Terms.{Declaration, Clause, Sheet, Body}
 use Rattle.syntax.specs.Reading.{Cursor, begin, fresh, Read, fault, ok, and_then, wrong, wrong_number, beyond, read_declaration, read_clause, with_declaration, with_clause, item_with, item_of, no_item, a_declaration, a_clause, past_limit, misplaced, read_items, read_sheet, at_start, read_body, read_goal, goal_end}
 use Rattle.syntax.specs.Words.{node_words, declaration_words, declarations_words, clause_words, clauses_words, body_words, body_length, declaration_size, sheet_words}
+use Rattle.syntax.specs.Verdicts.{fault_of}
 use Rattle.syntax.specs.declared.State.{State}
+use Rattle.syntax.specs.declared.Refusal.{Refusal}
 use Rattle.syntax.specs.declared.Token.{Token}
 use Rattle.lex_tokens.proofs.Laws.{token-inside, token-some, token-word-short}
 use Rattle.parse_cursor.specs.Gives.{cursor_of, bytes_left, CursorInside, RoomToRead, Given, Gives, Refused, one}
 use Rattle.parse_cursor.specs.declared.Parsed.{Parsed}
-use Rattle.parse_cursor.proofs.Reading.{refused-beyond, wrong-positive}
+use Rattle.parse_cursor.proofs.Reading.{refused-beyond}
 use Rattle.parse_cursor.proofs.Sequence.{seq-ok}
 use Rattle.parse_declarations.specs.Marks.{DeclarationGiven, DeclarationGives}
-use Rattle.parse_sheets.specs.Sheets.{declaration_next, clause_next, items_before, Holds, Loading, ItemFault, LoadFault, Parses, GoalParses}
-use Rattle.parse_sheets.specs.declared.SheetParsed.{SheetParsed}
+use Rattle.parse_sheets.specs.Sheets.{declaration_next, clause_next, items_before, Holds, Loading, ItemFault, Parses, GoalParses}
 
 -- ---- the first token
 
@@ -41,22 +44,22 @@ started s t h e = (
 
 -- ---- one more, with so many left
 
-module _ (s : List ℕ) (st : State) (entry exit : List ℕ) (n : ℕ) (r : Parsed) where
-  pub declaration-full : (ds : ℕ) → ds ≡ declarations → Refused st 6 r → DeclarationGives s st entry entry n r (declaration_next s (declarations - ds) (begin st.token))
+module _ (s : List ℕ) (st : State) (entry exit : List ℕ) (n : ℕ) where
+  pub declaration-full : (r : Refusal) (ds : ℕ) → ds ≡ declarations → Refused st 6 r → DeclarationGives s st entry entry n (Err r) (declaration_next s (declarations - ds) (begin st.token))
   unfolding declaration_next beyond
-  declaration-full ds e f = subst⁻¹ (λ (b : Bool). DeclarationGives s st entry entry n r (elim b as (λ _. Read Declaration) [ true ↦ beyond (begin st.token) | false ↦ read_declaration s (begin st.token) ])) (eq-eqb (declarations - ds) 0 (omega arith)) (record { number_is = f.number_is; some = lit< tt; byte_is = ap (λ (x : State). x.token.at) f.state_is; kept = refl })
+  declaration-full r ds e f = subst⁻¹ (λ (b : Bool). DeclarationGives s st entry entry n (Err r) (elim b as (λ _. Read Declaration) [ true ↦ beyond (begin st.token) | false ↦ read_declaration s (begin st.token) ])) (eq-eqb (declarations - ds) 0 (omega arith)) (record { is = f; kept = refl })
 
-  pub declaration-one : (ds : ℕ) → ds ≤ declarations → (ds ≡ declarations → ⊥) → DeclarationGives s st entry exit n r (read_declaration s (begin st.token)) → DeclarationGives s st entry exit n r (declaration_next s (declarations - ds) (begin st.token))
+  pub declaration-one : (r : Result Parsed Refusal) (ds : ℕ) → ds ≤ declarations → (ds ≡ declarations → ⊥) → DeclarationGives s st entry exit n r (read_declaration s (begin st.token)) → DeclarationGives s st entry exit n r (declaration_next s (declarations - ds) (begin st.token))
   unfolding declaration_next
-  declaration-one ds m e g = subst⁻¹ (λ (b : Bool). DeclarationGives s st entry exit n r (elim b as (λ _. Read Declaration) [ true ↦ beyond (begin st.token) | false ↦ read_declaration s (begin st.token) ])) (ne_eqb (declarations - ds) 0 (λ z. e (omega arith))) g
+  declaration-one r ds m e g = subst⁻¹ (λ (b : Bool). DeclarationGives s st entry exit n r (elim b as (λ _. Read Declaration) [ true ↦ beyond (begin st.token) | false ↦ read_declaration s (begin st.token) ])) (ne_eqb (declarations - ds) 0 (λ z. e (omega arith))) g
 
-  pub clause-full : (cs : ℕ) → cs ≡ clauses → Refused st 6 r → Gives clause_words one s st entry entry n r (clause_next s (clauses - cs) (begin st.token))
+  pub clause-full : (r : Refusal) (cs : ℕ) → cs ≡ clauses → Refused st 6 r → Gives clause_words one s st entry entry n (Err r) (clause_next s (clauses - cs) (begin st.token))
   unfolding clause_next
-  clause-full cs e f = subst⁻¹ (λ (b : Bool). Gives clause_words one s st entry entry n r (elim b as (λ _. Read Clause) [ true ↦ beyond (begin st.token) | false ↦ read_clause s (begin st.token) ])) (eq-eqb (clauses - cs) 0 (omega arith)) (refused-beyond clause_words one s st st entry entry n r (begin st.token) refl f refl)
+  clause-full r cs e f = subst⁻¹ (λ (b : Bool). Gives clause_words one s st entry entry n (Err r) (elim b as (λ _. Read Clause) [ true ↦ beyond (begin st.token) | false ↦ read_clause s (begin st.token) ])) (eq-eqb (clauses - cs) 0 (omega arith)) (refused-beyond clause_words one s st st entry entry n r (begin st.token) refl f refl)
 
-  pub clause-one : (cs : ℕ) → cs ≤ clauses → (cs ≡ clauses → ⊥) → Gives clause_words one s st entry exit n r (read_clause s (begin st.token)) → Gives clause_words one s st entry exit n r (clause_next s (clauses - cs) (begin st.token))
+  pub clause-one : (r : Result Parsed Refusal) (cs : ℕ) → cs ≤ clauses → (cs ≡ clauses → ⊥) → Gives clause_words one s st entry exit n r (read_clause s (begin st.token)) → Gives clause_words one s st entry exit n r (clause_next s (clauses - cs) (begin st.token))
   unfolding clause_next
-  clause-one cs m e g = subst⁻¹ (λ (b : Bool). Gives clause_words one s st entry exit n r (elim b as (λ _. Read Clause) [ true ↦ beyond (begin st.token) | false ↦ read_clause s (begin st.token) ])) (ne_eqb (clauses - cs) 0 (λ z. e (omega arith))) g
+  clause-one r cs m e g = subst⁻¹ (λ (b : Bool). Gives clause_words one s st entry exit n r (elim b as (λ _. Read Clause) [ true ↦ beyond (begin st.token) | false ↦ read_clause s (begin st.token) ])) (ne_eqb (clauses - cs) 0 (λ z. e (omega arith))) g
 
 below : {a most : ℕ} → (most - a ≡ 0 → ⊥) → a ≤ most → a < most
 below {a = a} {most = most} n m = omega (arith, n)
@@ -70,12 +73,12 @@ module _ (rest : ℕ → ℕ → Cursor → Read Sheet) (s : List ℕ) (ds cs : 
 
   item-end : st.token.kind ≡ end_kind → item ≡ ok (record { declarations = []; clauses = [] }) st
   unfolding item_with
-  item-end e = let i : item_of st.token.kind ds cs ≡ no_item = simp (eq-eqb st.token.kind end_kind e) in ap (item_with rest s ds cs st) i
+  item-end e = let i : item_of st.token.kind ds cs ≡ no_item = simp (eq-kind st.token.kind end_kind e) in ap (item_with rest s ds cs st) i
 
   item-misplaced : (st.token.kind ≡ end_kind → ⊥) → (st.token.kind ≡ neck_kind → ⊥) → (st.token.kind ≡ name_kind → ⊥) → item ≡ wrong st
   unfolding item_with
   item-misplaced e f g =
-      let i : item_of st.token.kind ds cs ≡ misplaced = simp (ne_eqb st.token.kind end_kind e, ne_eqb st.token.kind neck_kind f, ne_eqb st.token.kind name_kind g) in
+      let i : item_of st.token.kind ds cs ≡ misplaced = simp (ne_kind st.token.kind end_kind e, ne_kind st.token.kind neck_kind f, ne_kind st.token.kind name_kind g) in
       ap (item_with rest s ds cs st) i
 
   -- what reading a declaration, or a clause, leads to
@@ -92,7 +95,7 @@ module _ (rest : ℕ → ℕ → Cursor → Read Sheet) (s : List ℕ) (ds cs : 
 
   item-declaration : (st.token.kind ≡ end_kind → ⊥) → st.token.kind ≡ neck_kind → item ≡ after-declaration (declaration_next s ds st)
   unfolding declaration_next
-  item-declaration e f = ap (item_with rest s ds cs st) (simp (ne_eqb st.token.kind end_kind e, eq-eqb st.token.kind neck_kind f)) ∙ by-declaration (eqb ds 0)
+  item-declaration e f = ap (item_with rest s ds cs st) (simp (ne_kind st.token.kind end_kind e, eq-kind st.token.kind neck_kind f)) ∙ by-declaration (eqb ds 0)
 
   by-clause : (b : Bool) → item_with rest s ds cs st (cond b past_limit a_clause) ≡ after-clause (elim b as (λ _. Read Clause) [ true ↦ beyond st | false ↦ read_clause s st ])
   unfolding item_with and_then beyond
@@ -102,7 +105,7 @@ module _ (rest : ℕ → ℕ → Cursor → Read Sheet) (s : List ℕ) (ds cs : 
   item-clause : (st.token.kind ≡ end_kind → ⊥) → (st.token.kind ≡ neck_kind → ⊥) → st.token.kind ≡ name_kind → item ≡ after-clause (clause_next s cs st)
   unfolding clause_next
   item-clause e f g =
-      ap (item_with rest s ds cs st) (simp (ne_eqb st.token.kind end_kind e, ne_eqb st.token.kind neck_kind f, eq-eqb st.token.kind name_kind g)) ∙ by-clause (eqb cs 0)
+      ap (item_with rest s ds cs st) (simp (ne_kind st.token.kind end_kind e, ne_kind st.token.kind neck_kind f, eq-kind st.token.kind name_kind g)) ∙ by-clause (eqb cs 0)
 
 -- the items from here on are the one at hand and the others
 items : (s : List ℕ) (n ds cs : ℕ) (st : Cursor) → read_items s (suc n) ds cs st ≡ item (λ ds1 cs1 st1. read_items s n ds1 cs1 st1) s ds cs st
@@ -164,44 +167,43 @@ module _ (s declared table : List ℕ) (ds cs used : ℕ) (st : State) (l : Load
   here : read_items s (suc (declarations + clauses + 1 - (ds + cs) - 1)) (declarations - ds) (clauses - cs) (begin st.token) ≡ item others s (declarations - ds) (clauses - cs) (begin st.token)
   here = items s (declarations + clauses + 1 - (ds + cs) - 1) (declarations - ds) (clauses - cs) (begin st.token)
 
-  pub loading-end : st.token.kind ≡ end_kind → Parses s declared table (record { number = 0; byte = 0; declarations = ds; clauses = cs; used = used }) (read_sheet s)
+  pub loading-end : st.token.kind ≡ end_kind → Parses s declared table (Ok (record { declarations = ds; clauses = cs; used = used })) (read_sheet s)
   unfolding items_before
   loading-end e =
-      subst⁻¹ (Parses s declared table (record { number = 0; byte = 0; declarations = ds; clauses = cs; used = used }))
+      subst⁻¹ (Parses s declared table (Ok (record { declarations = ds; clauses = cs; used = used })))
       (whole-suc ∙ ap (items_before l.dl l.cl) (here ∙ item-end others s (declarations - ds) (clauses - cs) (begin st.token) e) ∙ ap₂ (λ (a : List Declaration) (b : List Clause). ok (record { declarations = a; clauses = b }) (begin st.token)) (append-nil l.dl) (append-nil l.cl))
-      (record { number_is = refl; holds = l.holds; few = l.ds_most })
+      (record { holds = l.holds; few = l.ds_most })
 
   -- a fault of the rest is the whole's
-  halt : (k b : ℕ) (r : Parsed) (q : SheetParsed) → read_sheet s ≡ fault k b → r.number ≡ k → 0 < k → r.state.token.at ≡ b → (declared2 table2 : List ℕ) → Holds declared2 table2 ds cs used l.dl l.cl → q ≡ record { number = r.number; byte = r.state.token.at; declarations = ds; clauses = cs; used = used } → ItemFault s (declarations - ds) (clauses - cs) (begin st.token) k b → Parses s declared2 table2 q (read_sheet s)
-  halt k b r q e n p a declared2 table2 h eq faulty =
-      subst⁻¹ (Parses s declared2 table2 q) e
-      (subst⁻¹ (λ (x : SheetParsed). LoadFault s declared2 table2 x k b) eq
-      (record { number_is = n; some = p; byte_is = a; dl = l.dl; cl = l.cl; holds = h; from = begin st.token; whole = l.whole; faulty = faulty }))
+  halt : (k b : ℕ) (q : Refusal) → read_sheet s ≡ fault k b → q ≡ fault_of k b → (declared2 table2 : List ℕ) → Holds declared2 table2 ds cs used l.dl l.cl → ItemFault s (declarations - ds) (clauses - cs) (begin st.token) k b → Parses s declared2 table2 (Err (record { refusal = q; before = record { declarations = ds; clauses = cs; used = used } })) (read_sheet s)
+  halt k b q e is declared2 table2 h faulty =
+      subst⁻¹ (Parses s declared2 table2 (Err (record { refusal = q; before = record { declarations = ds; clauses = cs; used = used } }))) e
+      (record { is = is; dl = l.dl; cl = l.cl; holds = h; from = begin st.token; whole = l.whole; faulty = faulty })
 
-  pub loading-wrong : (r : Parsed) (q : SheetParsed) → (st.token.kind ≡ end_kind → ⊥) → (st.token.kind ≡ neck_kind → ⊥) → (st.token.kind ≡ name_kind → ⊥) → Refused st (wrong_number st.token.kind) r → q ≡ record { number = r.number; byte = r.state.token.at; declarations = ds; clauses = cs; used = used } → Parses s declared table q (read_sheet s)
+  pub loading-wrong : (q : Refusal) → (st.token.kind ≡ end_kind → ⊥) → (st.token.kind ≡ neck_kind → ⊥) → (st.token.kind ≡ name_kind → ⊥) → Refused st (wrong_number st.token.kind) q → Parses s declared table (Err (record { refusal = q; before = record { declarations = ds; clauses = cs; used = used } })) (read_sheet s)
   unfolding items_before wrong
-  loading-wrong r q e f g h eq = halt (wrong_number st.token.kind) st.token.at r q (whole-suc ∙ ap (items_before l.dl l.cl) (here ∙ item-misplaced others s (declarations - ds) (clauses - cs) (begin st.token) e f g)) h.number_is (wrong-positive st.token.kind) (ap (λ (x : State). x.token.at) h.state_is) declared table l.holds eq
+  loading-wrong q e f g h = halt (wrong_number st.token.kind) st.token.at q (whole-suc ∙ ap (items_before l.dl l.cl) (here ∙ item-misplaced others s (declarations - ds) (clauses - cs) (begin st.token) e f g)) h declared table l.holds
       (λ rest. item-misplaced rest s (declarations - ds) (clauses - cs) (begin st.token) e f g)
 
   -- ---- a declaration
-  module _ (e : st.token.kind ≡ end_kind → ⊥) (f : st.token.kind ≡ neck_kind) (declared2 : List ℕ) (r : Parsed) (g : DeclarationGives s st declared declared2 (declaration_size * ds) r (declaration_next s (declarations - ds) (begin st.token))) where
+  module _ (e : st.token.kind ≡ end_kind → ⊥) (f : st.token.kind ≡ neck_kind) (declared2 : List ℕ) where
     at-declaration : read_sheet s ≡ items_before l.dl l.cl (and_then (declaration_next s (declarations - ds) (begin st.token)) (λ d after. and_then (read_items s (declarations + clauses + 1 - (ds + cs) - 1) (declarations - ds - 1) (clauses - cs) after) (λ sh end. ok (with_declaration d sh) end)))
     at-declaration = whole-suc ∙ ap (items_before l.dl l.cl) (here ∙ item-declaration others s (declarations - ds) (clauses - cs) (begin st.token) e f)
 
-    declaration-fault-by : (d : Read Declaration) (q : SheetParsed) → DeclarationGives s st declared declared2 (declaration_size * ds) r d → declaration_next s (declarations - ds) (begin st.token) ≡ d → (r.number ≡ 0 → ⊥) → q ≡ record { number = r.number; byte = r.state.token.at; declarations = ds; clauses = cs; used = used } → Parses s declared2 table q (read_sheet s)
+    declaration-fault-by : (q : Refusal) (d : Read Declaration) → DeclarationGives s st declared declared2 (declaration_size * ds) (Err q) d → declaration_next s (declarations - ds) (begin st.token) ≡ d → Parses s declared2 table (Err (record { refusal = q; before = record { declarations = ds; clauses = cs; used = used } })) (read_sheet s)
     unfolding items_before and_then
-    declaration-fault-by (fault k b) q h ed z eq =
-        halt k b r q (at-declaration ∙ ap (λ (d : Read Declaration). items_before l.dl l.cl (and_then d (λ d after. and_then (read_items s (declarations + clauses + 1 - (ds + cs) - 1) (declarations - ds - 1) (clauses - cs) after) (λ sh end. ok (with_declaration d sh) end)))) ed) h.number_is h.some h.byte_is declared2 table
-        (record { ds_is = l.holds.ds_is; cs_is = l.holds.cs_is; used_is = l.holds.used_is; declared_is = h.kept ∙ l.holds.declared_is; table_is = l.holds.table_is }) eq
+    declaration-fault-by q (fault k b) h ed =
+        halt k b q (at-declaration ∙ ap (λ (d : Read Declaration). items_before l.dl l.cl (and_then d (λ d after. and_then (read_items s (declarations + clauses + 1 - (ds + cs) - 1) (declarations - ds - 1) (clauses - cs) after) (λ sh end. ok (with_declaration d sh) end)))) ed) h.is declared2 table
+        (record { ds_is = l.holds.ds_is; cs_is = l.holds.cs_is; used_is = l.holds.used_is; declared_is = h.kept ∙ l.holds.declared_is; table_is = l.holds.table_is })
         (λ rest. item-declaration rest s (declarations - ds) (clauses - cs) (begin st.token) e f ∙ ap (after-declaration rest s (declarations - ds) (clauses - cs) (begin st.token)) ed)
-    declaration-fault-by (ok d after) q h ed z eq = absurd (z h.number_is)
+    declaration-fault-by q (ok d after) h ed = absurd h
 
-    pub loading-declaration-fault : (q : SheetParsed) → (r.number ≡ 0 → ⊥) → q ≡ record { number = r.number; byte = r.state.token.at; declarations = ds; clauses = cs; used = used } → Parses s declared2 table q (read_sheet s)
-    loading-declaration-fault q z eq = declaration-fault-by (declaration_next s (declarations - ds) (begin st.token)) q g refl z eq
+    pub loading-declaration-fault : (q : Refusal) → DeclarationGives s st declared declared2 (declaration_size * ds) (Err q) (declaration_next s (declarations - ds) (begin st.token)) → Parses s declared2 table (Err (record { refusal = q; before = record { declarations = ds; clauses = cs; used = used } })) (read_sheet s)
+    loading-declaration-fault q g = declaration-fault-by q (declaration_next s (declarations - ds) (begin st.token)) g refl
 
-    module _ (z : r.number ≡ 0) where
-      one-by : (d : Read Declaration) → DeclarationGives s st declared declared2 (declaration_size * ds) r d → (x : Declaration) × (d ≡ ok x (begin r.state.token)) × DeclarationGiven s st declared declared2 (declaration_size * ds) r x (begin r.state.token)
-      one-by (fault k b) h = let x : r.number ≡ k = h.number_is in let y : 0 < k = h.some in absurd (omega arith)
+    module _ (r : Parsed) (g : DeclarationGives s st declared declared2 (declaration_size * ds) (Ok r) (declaration_next s (declarations - ds) (begin st.token))) where
+      one-by : (d : Read Declaration) → DeclarationGives s st declared declared2 (declaration_size * ds) (Ok r) d → (x : Declaration) × (d ≡ ok x (begin r.state.token)) × DeclarationGiven s st declared declared2 (declaration_size * ds) r x (begin r.state.token)
+      one-by (fault k b) h = absurd h
       one-by (ok d after) h = (d, ap (ok d) (sym h.state_is), subst⁻¹ (DeclarationGiven s st declared declared2 (declaration_size * ds) r d) h.state_is h)
 
       one-read : (d : Declaration) × (declaration_next s (declarations - ds) (begin st.token) ≡ ok d (begin r.state.token)) × DeclarationGiven s st declared declared2 (declaration_size * ds) r d (begin r.state.token)
@@ -255,24 +257,24 @@ module _ (s declared table : List ℕ) (ds cs used : ℕ) (st : State) (l : Load
   pub clause-ready : length table < 2 ^ 31 → (st.token.kind ≡ end_kind → ⊥) → RoomToRead s (Rattle.parse_cursor.specs.Gives.fresh st) table used 4
   clause-ready small e = record { standing = record { inside = l.standing.inside; some = l.standing.some; brief = l.standing.brief; few = omega arith; short = l.standing.short }; held = held_none s (met table); room = l.room; small = small }
 
-  module _ (e : st.token.kind ≡ end_kind → ⊥) (f : st.token.kind ≡ neck_kind → ⊥) (c : st.token.kind ≡ name_kind) (table2 : List ℕ) (r : Parsed) (same : length table2 ≡ length table) (g : Gives clause_words one s st table table2 used r (clause_next s (clauses - cs) (begin st.token))) where
+  module _ (e : st.token.kind ≡ end_kind → ⊥) (f : st.token.kind ≡ neck_kind → ⊥) (c : st.token.kind ≡ name_kind) (table2 : List ℕ) (same : length table2 ≡ length table) where
     at-clause : read_sheet s ≡ items_before l.dl l.cl (and_then (clause_next s (clauses - cs) (begin st.token)) (λ x after. and_then (read_items s (declarations + clauses + 1 - (ds + cs) - 1) (declarations - ds) (clauses - cs - 1) (fresh after)) (λ sh end. ok (with_clause x sh) end)))
     at-clause = whole-suc ∙ ap (items_before l.dl l.cl) (here ∙ item-clause others s (declarations - ds) (clauses - cs) (begin st.token) e f c)
 
-    clause-fault-by : (d : Read Clause) (q : SheetParsed) → Gives clause_words one s st table table2 used r d → clause_next s (clauses - cs) (begin st.token) ≡ d → (r.number ≡ 0 → ⊥) → q ≡ record { number = r.number; byte = r.state.token.at; declarations = ds; clauses = cs; used = used } → Parses s declared table2 q (read_sheet s)
+    clause-fault-by : (q : Refusal) (d : Read Clause) → Gives clause_words one s st table table2 used (Err q) d → clause_next s (clauses - cs) (begin st.token) ≡ d → Parses s declared table2 (Err (record { refusal = q; before = record { declarations = ds; clauses = cs; used = used } })) (read_sheet s)
     unfolding items_before and_then
-    clause-fault-by (fault k b) q h ed z eq =
-        halt k b r q (at-clause ∙ ap (λ (d : Read Clause). items_before l.dl l.cl (and_then d (λ x after. and_then (read_items s (declarations + clauses + 1 - (ds + cs) - 1) (declarations - ds) (clauses - cs - 1) (fresh after)) (λ sh end. ok (with_clause x sh) end)))) ed) h.number_is h.some h.byte_is declared table2
-        (record { ds_is = l.holds.ds_is; cs_is = l.holds.cs_is; used_is = l.holds.used_is; declared_is = l.holds.declared_is; table_is = h.kept ∙ l.holds.table_is }) eq
+    clause-fault-by q (fault k b) h ed =
+        halt k b q (at-clause ∙ ap (λ (d : Read Clause). items_before l.dl l.cl (and_then d (λ x after. and_then (read_items s (declarations + clauses + 1 - (ds + cs) - 1) (declarations - ds) (clauses - cs - 1) (fresh after)) (λ sh end. ok (with_clause x sh) end)))) ed) h.is declared table2
+        (record { ds_is = l.holds.ds_is; cs_is = l.holds.cs_is; used_is = l.holds.used_is; declared_is = l.holds.declared_is; table_is = h.kept ∙ l.holds.table_is })
         (λ rest. item-clause rest s (declarations - ds) (clauses - cs) (begin st.token) e f c ∙ ap (after-clause rest s (declarations - ds) (clauses - cs) (begin st.token)) ed)
-    clause-fault-by (ok x after) q h ed z eq = absurd (z h.number_is)
+    clause-fault-by q (ok x after) h ed = absurd h
 
-    pub loading-clause-fault : (q : SheetParsed) → (r.number ≡ 0 → ⊥) → q ≡ record { number = r.number; byte = r.state.token.at; declarations = ds; clauses = cs; used = used } → Parses s declared table2 q (read_sheet s)
-    loading-clause-fault q z eq = clause-fault-by (clause_next s (clauses - cs) (begin st.token)) q g refl z eq
+    pub loading-clause-fault : (q : Refusal) → Gives clause_words one s st table table2 used (Err q) (clause_next s (clauses - cs) (begin st.token)) → Parses s declared table2 (Err (record { refusal = q; before = record { declarations = ds; clauses = cs; used = used } })) (read_sheet s)
+    loading-clause-fault q g = clause-fault-by q (clause_next s (clauses - cs) (begin st.token)) g refl
 
-    module _ (z : r.number ≡ 0) where
+    module _ (r : Parsed) (g : Gives clause_words one s st table table2 used (Ok r) (clause_next s (clauses - cs) (begin st.token))) where
       clause-read : (x : Clause) × (clause_next s (clauses - cs) (begin st.token) ≡ ok x (cursor_of s table2 r.state)) × Given s st table table2 used r (clause_words x) 1 (cursor_of s table2 r.state)
-      clause-read = seq-ok 1 clause_words one s st table table2 used r (clause_next s (clauses - cs) (begin st.token)) g z
+      clause-read = seq-ok 1 clause_words one s st table table2 used r (clause_next s (clauses - cs) (begin st.token)) g
 
       no-clause : (k b : ℕ) (x : Clause) (y : Cursor) → ◌≡◌ {A = Read Clause} (fault k b) (ok x y) → ⊥
       no-clause k b x y p = subst (λ (d : Read Clause). elim d as (λ _. Type 0) [ fault k b ↦ Unit {0} | ok x y ↦ ⊥ ]) p tt
@@ -327,37 +329,36 @@ module _ (s declared table : List ℕ) (ds cs used : ℕ) (st : State) (l : Load
 pub goal-ready : (s table : List ℕ) (st : State) → st ≡ record { token = token_at s 0; count = 0; literals = 0 } → CursorInside s st → node_words * length s + 1 + variables ≤ length table → length table < 2 ^ 31 → RoomToRead s st table 0 1
 goal-ready s table st e stands long small = record { standing = stands; held = subst⁻¹ (λ (x : State). Held s (met table) x.count) e (held_none s (met table)); room = omega arith; small = small }
 
-module _ (s : List ℕ) (entry exit : List ℕ) (st : State) (is : st ≡ record { token = token_at s 0; count = 0; literals = 0 }) (r : Parsed) (g : Gives body_words body_length s st entry exit 0 r (read_body s (cursor_of s entry st))) where
-  goal-whole : read_goal s ≡ and_then (read_body s (cursor_of s entry st)) (λ b after. goal_end s b after (eqb after.token.kind end_kind))
+module _ (s : List ℕ) (entry exit : List ℕ) (st : State) (is : st ≡ record { token = token_at s 0; count = 0; literals = 0 }) where
+  goal-whole : read_goal s ≡ and_then (read_body s (cursor_of s entry st)) (λ b after. goal_end s b after (same_kind after.token.kind end_kind))
   unfolding read_goal at_start names_from
-  goal-whole = ap (λ (x : State). and_then (read_body s (cursor_of s entry x)) (λ b after. goal_end s b after (eqb after.token.kind end_kind))) (sym is)
+  goal-whole = ap (λ (x : State). and_then (read_body s (cursor_of s entry x)) (λ b after. goal_end s b after (same_kind after.token.kind end_kind))) (sym is)
 
-  goal-fault-by : (d : Read Body) → Gives body_words body_length s st entry exit 0 r d → (r.number ≡ 0 → ⊥) → GoalParses s exit r (and_then d (λ b after. goal_end s b after (eqb after.token.kind end_kind)))
+  goal-fault-by : (q : Refusal) (d : Read Body) → Gives body_words body_length s st entry exit 0 (Err q) d → GoalParses s exit (Err q) (and_then d (λ b after. goal_end s b after (same_kind after.token.kind end_kind)))
   unfolding and_then
-  goal-fault-by (fault k b) h z = record { number_is = h.number_is; some = h.some; byte_is = h.byte_is }
-  goal-fault-by (ok b after) h z = absurd (z h.number_is)
+  goal-fault-by q (fault k b) h = h.is
+  goal-fault-by q (ok b after) h = absurd h
 
-  pub goal-fault : (r.number ≡ 0 → ⊥) → GoalParses s exit r (read_goal s)
-  goal-fault z = subst⁻¹ (GoalParses s exit r) goal-whole (goal-fault-by (read_body s (cursor_of s entry st)) g z)
+  pub goal-fault : (q : Refusal) → Gives body_words body_length s st entry exit 0 (Err q) (read_body s (cursor_of s entry st)) → GoalParses s exit (Err q) (read_goal s)
+  goal-fault q g = subst⁻¹ (GoalParses s exit (Err q)) goal-whole (goal-fault-by q (read_body s (cursor_of s entry st)) g)
 
-  module _ (z : r.number ≡ 0) where
+  module _ (r : Parsed) (g : Gives body_words body_length s st entry exit 0 (Ok r) (read_body s (cursor_of s entry st))) where
     goal_read : (b : Body) × (read_body s (cursor_of s entry st) ≡ ok b (cursor_of s exit r.state)) × Given s st entry exit 0 r (body_words b) (body_length b) (cursor_of s exit r.state)
-    goal_read = seq-ok 1 body_words body_length s st entry exit 0 r (read_body s (cursor_of s entry st)) g z
+    goal_read = seq-ok 1 body_words body_length s st entry exit 0 r (read_body s (cursor_of s entry st)) g
 
-    goal-by : (b : Bool) → eqb r.state.token.kind end_kind ≡ b → read_goal s ≡ goal_end s goal_read.0 (cursor_of s exit r.state) b
+    goal-by : (b : Bool) → same_kind r.state.token.kind end_kind ≡ b → read_goal s ≡ goal_end s goal_read.0 (cursor_of s exit r.state) b
     unfolding and_then
-    goal-by b e = goal-whole ∙ ap (λ (d : Read Body). and_then d (λ b after. goal_end s b after (eqb after.token.kind end_kind))) goal_read.1 ∙ ap (goal_end s goal_read.0 (cursor_of s exit r.state)) e
+    goal-by b e = goal-whole ∙ ap (λ (d : Read Body). and_then d (λ b after. goal_end s b after (same_kind after.token.kind end_kind))) goal_read.1 ∙ ap (goal_end s goal_read.0 (cursor_of s exit r.state)) e
 
-    pub goal-end : r.state.token.kind ≡ end_kind → GoalParses s exit r (read_goal s)
+    pub goal-end : r.state.token.kind ≡ end_kind → GoalParses s exit (Ok r) (read_goal s)
     unfolding goal_end
     goal-end e =
         let u : r.used ≡ 0 + length (body_words goal_read.0) = goal_read.2.used_is in
         let v : 0 + length (body_words goal_read.0) ≡ length (body_words goal_read.0) = omega arith in
-        subst⁻¹ (GoalParses s exit r) (goal-by true (eq-eqb r.state.token.kind end_kind e))
-        (record { number_is = z; few = goal_read.2.standing.few; held = goal_read.2.held; names_are = refl; items_is = goal_read.2.items_is; used_is = u ∙ v; table_is = ap (λ (k : ℕ). take k exit) u ∙ goal_read.2.table_is })
+        subst⁻¹ (GoalParses s exit (Ok r)) (goal-by true (eq-kind r.state.token.kind end_kind e))
+        (record { few = goal_read.2.standing.few; held = goal_read.2.held; names_are = refl; items_is = goal_read.2.items_is; used_is = u ∙ v; table_is = ap (λ (k : ℕ). take k exit) u ∙ goal_read.2.table_is })
 
-    pub goal-wrong : (q : Parsed) → (r.state.token.kind ≡ end_kind → ⊥) → Refused r.state (wrong_number r.state.token.kind) q → GoalParses s exit q (read_goal s)
+    pub goal-wrong : (q : Refusal) → (r.state.token.kind ≡ end_kind → ⊥) → Refused r.state (wrong_number r.state.token.kind) q → GoalParses s exit (Err q) (read_goal s)
     unfolding goal_end wrong
     goal-wrong q e f =
-        subst⁻¹ (GoalParses s exit q) (goal-by false (ne_eqb r.state.token.kind end_kind e))
-        (record { number_is = f.number_is; some = wrong-positive r.state.token.kind; byte_is = ap (λ (x : State). x.token.at) f.state_is })
+        subst⁻¹ (GoalParses s exit (Err q)) (goal-by false (ne_kind r.state.token.kind end_kind e)) f

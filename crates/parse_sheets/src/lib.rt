@@ -4,13 +4,19 @@
 
 pub mod sheets;
 
-// What reading a sheet gives: 0 or the number of a refusal with its byte, how many declarations and clauses were read, and
-// how much of the node table they use.
+use syntax::Refusal;
+
+// What was read of a sheet: how many declarations and clauses, and how much of the node table they use.
 #[derive(Clone, Copy)]
 pub struct SheetParsed {
-    pub number: usize,
-    pub byte: usize,
     pub declarations: usize,
     pub clauses: usize,
     pub used: usize,
+}
+
+// Where a fault ends the reading of a sheet: its refusal, and what was read before the item at fault.
+#[derive(Clone, Copy)]
+pub struct SheetFault {
+    pub refusal: Refusal,
+    pub before: SheetParsed,
 }

@@ -4,7 +4,7 @@ use native.Mathlib.Omega.{arith}
 use mathlib.Core.Path.{◌≡◌, refl, ap, ◌∙◌}
 use mathlib.Core.List.{List}
 use Rattle.syntax.specs.declared.Report.{Report}
-use Rattle.syntax.specs.declared.Run.TheVariants.{Ended}
+use Rattle.syntax.specs.Verdicts.{Ended}
 use Rattle.machine.specs.Runs.{RunSettings, RunOutcome, stopped, ran, run_outcome, run_answer, run_text}
 use Rattle.machine.specs.Claims.{RunOver}
 use Rattle.machine_theorems.proofs.EveryRun.{demand-3-runs}

@@ -10,13 +10,13 @@ use Rattle.syntax.specs.Verdicts.{Outcome, refused, accepted}
 use Rattle.syntax.specs.declared.Text.{Text}
 use Rattle.syntax.specs.declared.Text.TheVariants.{Sheet as in_sheet}
 use Rattle.syntax.specs.declared.Refusal.{Refusal}
-use Rattle.syntax.specs.declared.Verdict.{Verdict}
-use Rattle.syntax.specs.declared.Verdict.TheVariants.{Accepted, Refused}
+use Rattle.syntax.specs.Verdicts.{Verdict}
+use Rattle.syntax.specs.Verdicts.{Accepted, Refused}
 use Rattle.mode_rules.specs.Checking.{checked_sheet, check_verdict, verdict_with}
 use Rattle.machine.specs.Determinacy.{against, judged_by, judged_from, judged}
 use Rattle.run_layout.proofs.Limits.{checked-sheet-limited}
 use Rattle.read_and_check.specs.Tables.{Tabled}
-use Rattle.read_and_check.proofs.Checking.{checked-refused-by}
+use Rattle.read_and_check.proofs.Entries.{refused-by}
 use Rattle.check_and_run.proofs.SheetLaws.{sheet_short, accepted-sheet, sheet-at}
 use Rattle.determinacy.specs.Told.{told}
 use Rattle.determinacy.specs.Tables.{SheetReady}
@@ -35,7 +35,7 @@ module _ (s declared table : List ℕ) (v : Verdict) (ev : v ≡ check_verdict s
   pub sheet-declined : (x : Text) (q : Refusal) → v ≡ Refused x q → declined-by q ≡ told (judged s)
   unfolding verdict_with judged
   sheet-declined x q h =
-      let o : (checked_sheet s ≡ refused q) × (x ≡ in_sheet) = checked-refused-by (checked_sheet s) x q (sym ev ∙ h) in
+      let o : (checked_sheet s ≡ refused q) × (x ≡ in_sheet) = refused-by (checked_sheet s) x q (sym ev ∙ h) in
       sym (ap (λ (y : Outcome Sheet). told (judged_from y)) o.0 ∙ told-refused q)
 
   module _ (n k : ℕ) (h : v ≡ Accepted n k) (short : length table ≤ sheet_words) where

@@ -13,10 +13,10 @@ use Rattle.syntax.specs.Words.{declaration_size, declared_words, declarations_wo
 use Rattle.syntax.specs.Verdicts.{Outcome, refused, accepted, sheet_of, sheet_verdict, read_verdict, nth_entry}
 use Rattle.syntax.specs.declared.Text.TheVariants.{Sheet as in_sheet}
 use Rattle.syntax.specs.declared.Refusal.{Refusal}
-use Rattle.syntax.specs.declared.Verdict.{Verdict}
-use Rattle.syntax.specs.declared.Verdict.TheVariants.{Accepted, Refused}
+use Rattle.syntax.specs.Verdicts.{Verdict}
+use Rattle.syntax.specs.Verdicts.{Accepted, Refused}
 use Rattle.syntax.specs.declared.Entry.{Entry}
-use Rattle.syntax.specs.declared.Declared.TheVariants.{As, Nothing}
+use Rattle.std.specs.Prelude.{Some, None}
 use Rattle.mode_rules.specs.Checking.{checked_sheet, verdict_with, check_verdict}
 use Rattle.table_words.specs.Tables.{Has}
 use Rattle.read_and_check.specs.Tables.{Tabled}
@@ -45,8 +45,8 @@ module _ (s words table : List ℕ) (size : declared_words ≡ length words) (ro
         let z : declared_words ≡ length words = size in
         omega arith
 
-    each : (i : ℕ) → i < n → nth_entry sh.declarations i ≡ As (entry_from words i)
-    each i h = entry-from words sh.declarations 0 i (declaration_size * i) (omega arith) has ∙ ap (λ (b : Bool). cond b Nothing (As (entry_from words i))) (lt-leb n i h)
+    each : (i : ℕ) → i < n → nth_entry sh.declarations i ≡ Some (entry_from words i)
+    each i h = entry-from words sh.declarations 0 i (declaration_size * i) (omega arith) has ∙ ap (λ (b : Bool). cond b None (Some (entry_from words i))) (lt-leb n i h)
 
     lists-sheet : Lists (accepted sh) room (record { verdict = Accepted n (length sh.clauses); count = m; words = words })
     unfolding sheet_verdict declared_of

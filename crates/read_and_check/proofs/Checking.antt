@@ -16,32 +16,32 @@ use Rattle.syntax.specs.declared.Text.{Text}
 use Rattle.syntax.specs.declared.Text.TheVariants.{Sheet as in_sheet, Goal as in_goal}
 use Rattle.syntax.specs.declared.Refusal.{Refusal}
 use Rattle.syntax.specs.declared.Refusal.TheVariants.{TooLong}
-use Rattle.syntax.specs.declared.Verdict.{Verdict}
-use Rattle.syntax.specs.declared.Verdict.TheVariants.{Accepted, Refused}
+use Rattle.syntax.specs.Verdicts.{Verdict}
+use Rattle.syntax.specs.Verdicts.{Accepted, Refused}
 use Rattle.mode_rules.specs.Modes.{sheet_fault, goal_fault}
 use Rattle.mode_rules.specs.Checking.{faultless, checked_from, checked_with, checked_sheet, verdict_with, check_verdict, checked_goal_from, checked_goal, goal_answer, check_goal_from, check_goal_verdict}
 use Rattle.mode_marks.specs.Standing.{SheetSpelt, DeclarationsSpelt}
 use Rattle.table_words.specs.Tables.{Has}
 use Rattle.mode_marks.specs.Tables.{SheetAt, GoalAt}
-use Rattle.mode_marks.specs.Answers.{checked_of}
-use Rattle.mode_marks.specs.declared.Checked.{Checked}
-use Rattle.mode_marks.specs.declared.Checked.TheVariants.{Fine, Fault}
+use Rattle.std.specs.Prelude.{Ok, Err}
+use Rattle.syntax.specs.declared.Fault.{Fault}
+use Rattle.mode_marks.specs.Answers.{Checked, checked_of}
 use Rattle.read_and_check.specs.Tables.{Tabled, GoalInTable, GoalTabled, Over}
 use Rattle.read_and_check.specs.declared.GoalRead.{GoalRead}
 use Rattle.mode_sheets.specs.Flags.{DeclaredOnce}
 use Rattle.mode_clauses.proofs.Accepted.{read-few}
 use Rattle.read_and_check.proofs.Laws.{never}
-use Rattle.read_and_check.proofs.Entries.{counted-sheet, refused-sheet}
+use Rattle.read_and_check.proofs.Entries.{counted-by, refused-by, counted-sheet, refused-sheet}
 
 same : {A : Type 0} (a b : A) → ◌≡◌ {A = Outcome A} (accepted a) (accepted b) → a ≡ b
 same a b e = cc
 
 -- no fault, or the fault, as the definition has it
-pub fine-none : (o : Option Refusal) → Fine ≡ checked_of o → o ≡ none
+pub fine-none : (o : Option Refusal) → ◌≡◌ {A = Checked} (Ok tt) (checked_of o) → o ≡ none
 fine-none none e = refl
 fine-none (some r) e = absurd (let z : ◌≡◌ {A = ℕ} 0 1 = cc in omega arith)
 
-pub fault-some : (o : Option Refusal) (q : Refusal) → Fault q ≡ checked_of o → o ≡ some q
+pub fault-some : (o : Option Refusal) (q : Refusal) → ◌≡◌ {A = Checked} (Err q) (checked_of o) → o ≡ some q
 fault-some none q e = absurd (let z : ◌≡◌ {A = ℕ} 0 1 = cc in omega arith)
 fault-some (some r) q e = ap some (let z : r ≡ q = cc in z)
 
@@ -106,24 +106,26 @@ module _ (stored : Bool) (s declared table : List ℕ) (v : Verdict) (e : v ≡ 
       unfolding sheet-stands-at declared-once
       checked = ec declared-once
 
-      pub checked-fine : ck ≡ Fine → (Accepted n k ≡ verdict_with stored s) × ((sh : Sheet) → checked_with stored s ≡ accepted sh → Tabled s declared table sh)
+      pub checked-fine : ck ≡ Ok tt → (Accepted n k ≡ verdict_with stored s) × ((sh : Sheet) → checked_with stored s ≡ accepted sh → Tabled s declared table sh)
       unfolding verdict_with read_verdict checked_with checked_from faultless
       checked-fine g =
           let c : checked_from stored (sheet_of s) ≡ accepted of.0 = ap (checked_from stored) of.1 ∙ ap (faultless of.0) (fine-none (sheet_fault stored of.0) (sym g ∙ checked)) in
           (sym f ∙ e ∙ ap sheet_verdict (of.1 ∙ sym c), λ sh a. subst (Tabled s declared table) (same of.0 sh (sym c ∙ a)) tabled)
 
-      pub checked-fault : (q : Refusal) → ck ≡ Fault q → (u : Verdict) → u ≡ Refused in_sheet q
-          → (u ≡ verdict_with stored s) × ((sh : Sheet) → checked_with stored s ≡ accepted sh → Tabled s declared table sh)
+      pub checked-fault : (q : Refusal) → ck ≡ Err q → (u : Fault) → u ≡ record { text = in_sheet; refusal = q }
+          → (◌≡◌ {A = Verdict} (Err u) (verdict_with stored s)) × ((sh : Sheet) → checked_with stored s ≡ accepted sh → Tabled s declared table sh)
       unfolding verdict_with checked_with checked_from faultless sheet_verdict
       checked-fault q g u h =
           let c : checked_from stored (sheet_of s) ≡ refused q = ap (checked_from stored) of.1 ∙ ap (faultless of.0) (fault-some (sheet_fault stored of.0) q (sym g ∙ checked)) in
-          (h ∙ ap sheet_verdict (sym c), λ sh a. absurd (never q sh (sym c ∙ a)))
+          (ap (λ (x : Fault). Err x) h ∙ ap sheet_verdict (sym c), λ sh a. absurd (never q sh (sym c ∙ a)))
 
 -- ---- a goal over a sheet
 
 pub goal-refused-by : (o : Outcome Goal) (t : Text) (q : Refusal) → goal_verdict o ≡ Refused t q → (o ≡ refused q) × (t ≡ in_goal)
 unfolding goal_verdict
-goal-refused-by (refused r) t q e = (cc, cc)
+goal-refused-by (refused r) t q e =
+    let z : ◌≡◌ {A = Fault} (record { text = in_goal; refusal = r }) (record { text = t; refusal = q }) = cc in
+    (ap refused (ap (λ (x : Fault). x.refusal) z), sym (ap (λ (x : Fault). x.text) z))
 goal-refused-by (accepted g) t q e = absurd (let z : ◌≡◌ {A = ℕ} 0 1 = cc in omega arith)
 
 goal-accepted-by : (o : Outcome Goal) (n k : ℕ) → goal_verdict o ≡ Accepted n k → (g : Goal) × (o ≡ accepted g)
@@ -131,19 +133,20 @@ unfolding goal_verdict
 goal-accepted-by (refused r) n k e = absurd (let z : ◌≡◌ {A = ℕ} 0 1 = cc in omega arith)
 goal-accepted-by (accepted g) n k e = (g, refl)
 
-module _ (s declared : List ℕ) (n k : ℕ) (g table : List ℕ) (r : GoalRead) (t : GoalTabled g table r) where
-  pub over-refused : (x : Text) (q : Refusal) → r.verdict ≡ Refused x q → (w : Over s declared n k) → r.verdict ≡ goal_answer w.sheet (checked_goal w.sheet g)
+module _ (s declared : List ℕ) (n k : ℕ) (g table : List ℕ) where
+  pub over-refused : (f : Fault) → GoalTabled g table (Err f) → (w : Over s declared n k) → ◌≡◌ {A = Verdict} (Err f) (goal_answer w.sheet (checked_goal w.sheet g))
   unfolding checked_goal checked_goal_from goal_answer
-  over-refused x q e w =
-      let o : (goal_outcome g ≡ refused q) × (x ≡ in_goal) = goal-refused-by (goal_outcome g) x q (sym t.is ∙ e) in
-      e ∙ ap (λ (y : Text). Refused y q) o.1 ∙ sym (ap (λ (y : Outcome Goal). goal_answer w.sheet (checked_goal_from w.sheet y)) o.0)
+  over-refused f t w =
+      let o : (goal_outcome g ≡ refused f.refusal) × (f.text ≡ in_goal) = goal-refused-by (goal_outcome g) f.text f.refusal (sym t) in
+      ap (λ (y : Text). Refused y f.refusal) o.1 ∙ sym (ap (λ (y : Outcome Goal). goal_answer w.sheet (checked_goal_from w.sheet y)) o.0)
 
-  module _ (a b : ℕ) (e : r.verdict ≡ Accepted a b) where
+  module _ (r : GoalRead) (t : GoalTabled g table (Ok r)) where
     pub goal-of : (x : Goal) × (goal_outcome g ≡ accepted x)
-    goal-of = goal-accepted-by (goal_outcome g) a b (sym t.is ∙ e)
+    goal-of = (t.0, t.1)
 
     pub standing : GoalInTable g table r.literals r.count goal-of.0
-    standing = t.holds goal-of.0 goal-of.1
+    unfolding goal-of
+    standing = t.2
 
     pub goal-stands-at : Over s declared n k → GoalAt s declared n g table r.literals
     goal-stands-at w = record {
@@ -162,33 +165,26 @@ module _ (s declared : List ℕ) (n k : ℕ) (g table : List ℕ) (r : GoalRead)
       unfolding goal-stands-at
       checked-over w = ec (goal-stands-at w)
 
-      pub over-fine : ck ≡ Fine → (w : Over s declared n k) → Accepted n k ≡ goal_answer w.sheet (checked_goal w.sheet g)
+      pub over-fine : ck ≡ Ok tt → (w : Over s declared n k) → Accepted n k ≡ goal_answer w.sheet (checked_goal w.sheet g)
       unfolding checked_goal checked_goal_from goal_answer faultless sheet_verdict
       over-fine h w =
           ap₂ Accepted w.count w.clauses
           ∙ sym (ap (λ (y : Outcome Goal). goal_answer w.sheet (checked_goal_from w.sheet y)) goal-of.1 ∙ ap (λ (y : Option Refusal). goal_answer w.sheet (faultless goal-of.0 y)) (fine-none (goal_fault w.sheet goal-of.0) (sym h ∙ checked-over w)))
 
-      pub over-fault : (q : Refusal) → ck ≡ Fault q → (w : Over s declared n k) → Refused in_goal q ≡ goal_answer w.sheet (checked_goal w.sheet g)
+      pub over-fault : (q : Refusal) → ck ≡ Err q → (w : Over s declared n k) → Refused in_goal q ≡ goal_answer w.sheet (checked_goal w.sheet g)
       unfolding checked_goal checked_goal_from goal_answer faultless
       over-fault q h w = sym (ap (λ (y : Outcome Goal). goal_answer w.sheet (checked_goal_from w.sheet y)) goal-of.1 ∙ ap (λ (y : Option Refusal). goal_answer w.sheet (faultless goal-of.0 y)) (fault-some (goal_fault w.sheet goal-of.0) q (sym h ∙ checked-over w)))
 
 -- ---- both texts
 
 pub checked-refused-by : (o : Outcome Sheet) (t : Text) (q : Refusal) → sheet_verdict o ≡ Refused t q → (o ≡ refused q) × (t ≡ in_sheet)
-unfolding sheet_verdict
-checked-refused-by (refused r) t q e = (cc, cc)
-checked-refused-by (accepted sh) t q e = absurd (let z : ◌≡◌ {A = ℕ} 0 1 = cc in omega arith)
-
-pub checked-accepted-by : (o : Outcome Sheet) (n k : ℕ) → sheet_verdict o ≡ Accepted n k → (sh : Sheet) × (o ≡ accepted sh) × (n ≡ length sh.declarations) × (k ≡ length sh.clauses)
-unfolding sheet_verdict
-checked-accepted-by (refused r) n k e = absurd (let z : ◌≡◌ {A = ℕ} 0 1 = cc in omega arith)
-checked-accepted-by (accepted sh) n k e = (sh, refl, cc, cc)
+checked-refused-by o t q e = refused-by o t q e
 
 module _ (stored : Bool) (s declared table : List ℕ) (v : Verdict) (e : v ≡ verdict_with stored s)
     (holds : (sh : Sheet) → checked_with stored s ≡ accepted sh → Tabled s declared table sh) (n k : ℕ) (f : v ≡ Accepted n k) where
   pub checked-sheet : (sh : Sheet) × (checked_with stored s ≡ accepted sh) × (n ≡ length sh.declarations) × (k ≡ length sh.clauses)
   unfolding verdict_with
-  checked-sheet = checked-accepted-by (checked_with stored s) n k (sym e ∙ f)
+  checked-sheet = counted-by (checked_with stored s) n k (sym e ∙ f)
 
   pub checked-tabled : Tabled s declared table checked-sheet.0
   checked-tabled = holds checked-sheet.0 checked-sheet.1
@@ -198,7 +194,7 @@ module _ (s declared table g : List ℕ) (v : Verdict) (e : v ≡ check_verdict 
   pub both-refused : (t : Text) (q : Refusal) → v ≡ Refused t q → v ≡ check_goal_verdict s g
   unfolding check_goal_verdict verdict_with check_goal_from
   both-refused t q f =
-      let o : (checked_sheet s ≡ refused q) × (t ≡ in_sheet) = checked-refused-by (checked_sheet s) t q (sym e ∙ f) in
+      let o : (checked_sheet s ≡ refused q) × (t ≡ in_sheet) = refused-by (checked_sheet s) t q (sym e ∙ f) in
       f ∙ ap (λ (y : Text). Refused y q) o.1 ∙ sym (ap (check_goal_from g) o.0)
 
   module _ (n k : ℕ) (f : v ≡ Accepted n k) where

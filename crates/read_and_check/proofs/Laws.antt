@@ -6,24 +6,27 @@ use mathlib.Core.Bool.{Bool, true, false}
 use mathlib.Core.List.{List, [], ◌∷◌}
 use mathlib.Core.Option.{Option, none, some}
 use lib.ListN.{length}
+use Rattle.std.specs.Prelude.{Ok, Err, Some, None}
+use Rattle.std.specs.Prelude.{Option as OptionOf}
 use borrow.Author.Tests.{le-leb, lt-leb}
 use Rattle.syntax.specs.Limits.{sheet_bytes}
 use Rattle.syntax.specs.Terms.{Sheet, Declaration}
 use Rattle.syntax.specs.Reading.{Read, fault, ok, read_sheet, first_repeat}
 use Rattle.syntax.specs.Words.{declarations_words, clauses_words, declaration_words, declaration_size}
-use Rattle.syntax.specs.Verdicts.{Outcome, refused, accepted, fault_of, sheet_from, without_repeats, sheet_of, sheet_verdict, read_verdict}
+use Rattle.syntax.specs.Verdicts.{Outcome, refused, accepted, sheet_from, without_repeats, sheet_of, sheet_verdict, read_verdict}
 use Rattle.syntax.specs.Reading.{Cursor}
 use Rattle.syntax.specs.declared.Text.TheVariants.{Sheet as in_sheet}
 use Rattle.syntax.specs.declared.Refusal.{Refusal}
 use Rattle.syntax.specs.declared.Refusal.TheVariants.{TooLong, Repeated}
-use Rattle.syntax.specs.declared.Verdict.{Verdict}
-use Rattle.syntax.specs.declared.Verdict.TheVariants.{Accepted, Refused}
+use Rattle.syntax.specs.Verdicts.{Verdict}
+use Rattle.syntax.specs.Verdicts.{Accepted}
 use Rattle.parse_sheets.specs.Sheets.{LoadGiven, Parses}
 use Rattle.parse_sheets.specs.declared.SheetParsed.{SheetParsed}
+use Rattle.parse_sheets.specs.declared.SheetFault.{SheetFault}
+use Rattle.syntax.specs.declared.Fault.{Fault}
 use Rattle.table_words.specs.Tables.{Has}
 use Rattle.mode_marks.specs.Tables.{DeclarationsAt, SheetAt}
 use Rattle.mode_repeats.specs.Repeating.{repeat_of}
-use Rattle.mode_repeats.specs.declared.Repeat.{Repeat}
 use Rattle.read_and_check.specs.Tables.{Tabled}
 use Rattle.mode_clauses.proofs.Accepted.{read-stands}
 use Rattle.table_words.proofs.Laws.{has-taken}
@@ -39,33 +42,36 @@ four-words (d ∷ ds) = let h : length (declarations_words ds) ≡ declaration_s
 pub never : {A : Type 0} (r : Refusal) (x : A) → ◌≡◌ {A = Outcome A} (refused r) (accepted x) → ⊥
 never r x e = let z : ◌≡◌ {A = ℕ} 0 1 = cc in omega arith
 
-pub sheet-long : (s declared table : List ℕ) (v : Verdict) → sheet_bytes < length s → v ≡ Refused in_sheet TooLong → (v ≡ read_verdict s) × ((sh : Sheet) → sheet_of s ≡ accepted sh → Tabled s declared table sh)
+-- what `read_text` promises of an answer
+abbrev pub Answered : List ℕ → List ℕ → List ℕ → Verdict → Type 0
+Answered s declared table v = (v ≡ read_verdict s) × ((sh : Sheet) → sheet_of s ≡ accepted sh → Tabled s declared table sh)
+
+answer-refused : (s declared table : List ℕ) (q : Refusal) (f : Fault) → sheet_of s ≡ refused q → f ≡ record { text = in_sheet; refusal = q } → Answered s declared table (Err f)
 unfolding read_verdict sheet_verdict
-sheet-long s declared table v h e = (e ∙ ap sheet_verdict (sym is), λ sh a. absurd (never TooLong sh (sym is ∙ a)))
+answer-refused s declared table q f e h = (ap (λ (x : Fault). Err x) h ∙ ap sheet_verdict (sym e), λ sh a. absurd (never q sh (sym e ∙ a)))
+
+pub sheet-long : (s declared table : List ℕ) (f : Fault) → sheet_bytes < length s → f ≡ record { text = in_sheet; refusal = TooLong } → Answered s declared table (Err f)
+sheet-long s declared table f h e = answer-refused s declared table TooLong f is e
   where
     is : sheet_of s ≡ refused TooLong
     is = unfold sheet_of in ap (λ (b : Bool). elim b as (λ _. Outcome Sheet) [ true ↦ sheet_from (read_sheet s) | false ↦ refused TooLong ]) (lt-leb (length s) sheet_bytes h)
 
-module _ (s declared table : List ℕ) (r : SheetParsed) (short : length s ≤ sheet_bytes) (g : Parses s declared table r (read_sheet s)) where
+module _ (s declared table : List ℕ) (short : length s ≤ sheet_bytes) where
   sheet-from : sheet_of s ≡ sheet_from (read_sheet s)
   unfolding sheet_of
   sheet-from = ap (λ (b : Bool). elim b as (λ _. Outcome Sheet) [ true ↦ sheet_from (read_sheet s) | false ↦ refused TooLong ]) (le-leb (length s) sheet_bytes short)
 
-  fault-by : (d : Read Sheet) → read_sheet s ≡ d → Parses s declared table r d → (r.number ≡ 0 → ⊥) → sheet_of s ≡ refused (fault_of r.number r.byte)
+  pub sheet-fault : (stop : SheetFault) → Parses s declared table (Err stop) (read_sheet s) → (f : Fault) → f ≡ record { text = in_sheet; refusal = stop.refusal } → Answered s declared table (Err f)
   unfolding sheet_from
-  fault-by (fault k b) e h z = sheet-from ∙ ap sheet_from e ∙ ap₂ (λ (n b : ℕ). refused (fault_of n b)) (sym h.number_is) (sym h.byte_is)
-  fault-by (ok sh end) e h z = absurd (z h.number_is)
+  sheet-fault stop g f ef = answer-refused s declared table stop.refusal f (by (read_sheet s) refl g) ef
+    where
+      by : (d : Read Sheet) → read_sheet s ≡ d → Parses s declared table (Err stop) d → sheet_of s ≡ refused stop.refusal
+      by (fault k b) e h = sheet-from ∙ ap sheet_from e ∙ ap refused (sym h.is)
+      by (ok sh end) e h = absurd h
 
-  answer-refused : (q : Refusal) (v : Verdict) → sheet_of s ≡ refused q → v ≡ Refused in_sheet q → (v ≡ read_verdict s) × ((sh : Sheet) → sheet_of s ≡ accepted sh → Tabled s declared table sh)
-  unfolding read_verdict sheet_verdict
-  answer-refused q v e f = (f ∙ ap sheet_verdict (sym e), λ sh a. absurd (never q sh (sym e ∙ a)))
-
-  pub sheet-fault : (r.number ≡ 0 → ⊥) → (q : Refusal) (v : Verdict) → q ≡ fault_of r.number r.byte → v ≡ Refused in_sheet q → (v ≡ read_verdict s) × ((sh : Sheet) → sheet_of s ≡ accepted sh → Tabled s declared table sh)
-  sheet-fault z q v eq ev = answer-refused q v (fault-by (read_sheet s) refl g z ∙ ap refused (sym eq)) ev
-
-  module _ (z : r.number ≡ 0) where
-    read_by : (d : Read Sheet) → read_sheet s ≡ d → Parses s declared table r d → (sh : Sheet) × (end : Cursor) × (read_sheet s ≡ ok sh end) × LoadGiven declared table r sh
-    read_by (fault k b) e h = let x : r.number ≡ k = h.number_is in let y : 0 < k = h.some in absurd (omega arith)
+  module _ (r : SheetParsed) (g : Parses s declared table (Ok r) (read_sheet s)) where
+    read_by : (d : Read Sheet) → read_sheet s ≡ d → Parses s declared table (Ok r) d → (sh : Sheet) × (end : Cursor) × (read_sheet s ≡ ok sh end) × LoadGiven declared table r sh
+    read_by (fault k b) e h = absurd h
     read_by (ok sh end) e h = (sh, end, e, h)
 
     read : (sh : Sheet) × (end : Cursor) × (read_sheet s ≡ ok sh end) × LoadGiven declared table r sh
@@ -99,33 +105,33 @@ module _ (s declared table : List ℕ) (r : SheetParsed) (short : length s ≤ s
     unfolding sheet_from
     from-repeat = sheet-from ∙ ap sheet_from read.2
 
-    module _ (p : Repeat) (ep : (w : DeclarationsAt s declared r.declarations) → p ≡ repeat_of (first_repeat [] w.list)) where
+    module _ (p : OptionOf ℕ) (ep : (w : DeclarationsAt s declared r.declarations) → p ≡ repeat_of (first_repeat [] w.list)) where
       repeat-is : p ≡ repeat_of (first_repeat [] read.0.declarations)
       unfolding declarations-at
       repeat-is = ep declarations-at
 
-      repeat-by : (o : Option ℕ) → p ≡ repeat_of o → p.found ≡ true → without_repeats read.0 o ≡ refused (Repeated p.byte)
+      repeat-by : (o : Option ℕ) (byte : ℕ) → Some byte ≡ repeat_of o → without_repeats read.0 o ≡ refused (Repeated byte)
       unfolding without_repeats
-      repeat-by none e f = absurd (let b : ◌≡◌ {A = Bool} false true = sym (ap (λ (x : Repeat). x.found) e) ∙ f in let q : ◌≡◌ {A = ℕ} 0 1 = cc in omega arith)
-      repeat-by (some b) e f = ap (λ (k : ℕ). refused (Repeated k)) (sym (ap (λ (x : Repeat). x.byte) e))
+      repeat-by none byte e = absurd (let q : ◌≡◌ {A = ℕ} 0 1 = cc in omega arith)
+      repeat-by (some b) byte e = let q : byte ≡ b = cc in ap (λ (k : ℕ). refused (Repeated k)) (sym q)
 
-      pub sheet-repeats : p.found ≡ true → (v : Verdict) → v ≡ Refused in_sheet (Repeated p.byte) → (v ≡ read_verdict s) × ((sh : Sheet) → sheet_of s ≡ accepted sh → Tabled s declared table sh)
-      sheet-repeats f v ev = answer-refused (Repeated p.byte) v (from-repeat ∙ repeat-by (first_repeat [] read.0.declarations) repeat-is f) ev
+      pub sheet-repeats : (byte : ℕ) → p ≡ Some byte → (f : Fault) → f ≡ record { text = in_sheet; refusal = Repeated byte } → Answered s declared table (Err f)
+      sheet-repeats byte e f ef = answer-refused s declared table (Repeated byte) f (from-repeat ∙ repeat-by (first_repeat [] read.0.declarations) byte (sym e ∙ repeat-is)) ef
 
-      none-by : (o : Option ℕ) → p ≡ repeat_of o → p.found ≡ false → without_repeats read.0 o ≡ accepted read.0
+      none-by : (o : Option ℕ) → None ≡ repeat_of o → without_repeats read.0 o ≡ accepted read.0
       unfolding without_repeats
-      none-by none e f = refl
-      none-by (some b) e f = absurd (let c : ◌≡◌ {A = Bool} true false = sym (ap (λ (x : Repeat). x.found) e) ∙ f in let q : ◌≡◌ {A = ℕ} 0 1 = cc in omega arith)
+      none-by none e = refl
+      none-by (some b) e = absurd (let q : ◌≡◌ {A = ℕ} 0 1 = cc in omega arith)
 
-      accepted-is : p.found ≡ false → sheet_of s ≡ accepted read.0
-      accepted-is f = from-repeat ∙ none-by (first_repeat [] read.0.declarations) repeat-is f
+      accepted-is : p ≡ None → sheet_of s ≡ accepted read.0
+      accepted-is e = from-repeat ∙ none-by (first_repeat [] read.0.declarations) (sym e ∙ repeat-is)
 
       same-sheet : (a b : Sheet) → ◌≡◌ {A = Outcome Sheet} (accepted a) (accepted b) → a ≡ b
       same-sheet a b e = cc
 
-      pub sheet_accepted : p.found ≡ false → (Accepted r.declarations r.clauses ≡ read_verdict s) × ((sh : Sheet) → sheet_of s ≡ accepted sh → Tabled s declared table sh)
+      pub sheet_accepted : p ≡ None → Answered s declared table (Accepted r.declarations r.clauses)
       unfolding read_verdict sheet_verdict
-      sheet_accepted f = (
-        ap₂ Accepted read.3.holds.ds_is read.3.holds.cs_is ∙ ap sheet_verdict (sym (accepted-is f)),
-        λ sh a. subst (Tabled s declared table) (same-sheet read.0 sh (sym (accepted-is f) ∙ a)) (record { stands = sheet-at; is = unfold sheet-at in refl }),
+      sheet_accepted e = (
+        ap₂ Accepted read.3.holds.ds_is read.3.holds.cs_is ∙ ap sheet_verdict (sym (accepted-is e)),
+        λ sh a. subst (Tabled s declared table) (same-sheet read.0 sh (sym (accepted-is e) ∙ a)) (record { stands = sheet-at; is = unfold sheet-at in refl }),
       )

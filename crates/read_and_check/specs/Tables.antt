@@ -1,7 +1,8 @@
 -- What the tables hold after a sheet and a goal were read.
-use Rattle.std.specs.Prelude.{ℕ, ◌≡◌, List, length}
+use Rattle.std.specs.Prelude.{ℕ, ◌≡◌, List, length, Result, Ok, Err}
 use Rattle.syntax.specs.Terms.{Sheet, Goal}
-use Rattle.syntax.specs.Verdicts.{accepted, goal_outcome, goal_verdict}
+use Rattle.syntax.specs.Verdicts.{Verdict, accepted, goal_outcome, goal_verdict}
+use Rattle.syntax.specs.declared.Fault.{Fault}
 use Rattle.syntax.specs.Words.{body_words, body_length, declarations_words}
 use Rattle.mode_marks.specs.Standing.{DeclarationsSpelt, GoalSpelt}
 use Rattle.table_words.specs.Tables.{Has}
@@ -23,10 +24,10 @@ pub record GoalInTable (s table : List ℕ) (literals k : ℕ) (g : Goal) : Type
   pub named : Named s (met table) k
   pub names_are : g.names ≡ names_from s (met table) 0 k
 
--- the answer to a goal
-pub record GoalTabled (s table : List ℕ) (r : GoalRead) : Type 0 where
-  pub is : r.verdict ≡ goal_verdict (goal_outcome s)
-  pub holds : (g : Goal) → goal_outcome s ≡ accepted g → GoalInTable s table r.literals r.count g
+-- the answer to a goal: the fault that the definition gives, or what was read of a goal that it accepts
+abbrev pub GoalTabled : List ℕ → List ℕ → Result GoalRead Fault → Type 0
+GoalTabled s table (Err f) = ◌≡◌ {A = Verdict} (Err f) (goal_verdict (goal_outcome s))
+GoalTabled s table (Ok r) = (g : Goal) × (goal_outcome s ≡ accepted g) × GoalInTable s table r.literals r.count g
 
 -- a sheet of which the n declarations stand in a table, and which has k clauses
 pub record Over (s declared : List ℕ) (n k : ℕ) : Type 0 where

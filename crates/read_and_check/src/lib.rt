@@ -9,19 +9,27 @@ ghost use Rattle.syntax.specs.Verdicts.{accepted, sheet_of, read_verdict};
 ghost use Rattle.mode_rules.specs.Checking.{checked_with, verdict_with};
 ghost use Rattle.read_and_check.specs.Tables.{Tabled, GoalTabled};
 
-use mode_marks::Checked;
 use mode_repeats::first_repeat;
 use mode_sheets::check_sheet;
 use parse_sheets::sheets::read_items;
-use refusals::{fault_of, is_long_goal, is_long_sheet};
-use syntax::{DECLARED_WORDS, GOAL_WORDS, Refusal, SHEET_WORDS, Text, Verdict};
+use refusals::{is_long_goal, is_long_sheet};
+use syntax::{Counts, DECLARED_WORDS, Fault, GOAL_WORDS, Refusal, SHEET_WORDS, Text, Verdict};
 
-// The refusal of a sheet.
-fn sheet_refused(refusal: Refusal) -> Verdict
-    ensures { result ≡ Verdict.Refused Text.Sheet refusal }
+// The fault of a sheet, and of a goal.
+fn of_sheet(refusal: Refusal) -> Fault
+    ensures { result ≡ record { text = Text.Sheet; refusal = refusal } }
 {
-    Verdict::Refused {
+    Fault {
         text: Text::Sheet,
+        refusal,
+    }
+}
+
+fn of_goal(refusal: Refusal) -> Fault
+    ensures { result ≡ record { text = Text.Goal; refusal = refusal } }
+{
+    Fault {
+        text: Text::Goal,
         refusal,
     }
 }
@@ -34,24 +42,17 @@ pub fn read_text(sheet: &[u8], declared: &mut [u32], table: &mut [u32]) -> Verdi
         table.new sh }
 {
     if is_long_sheet(sheet.len()) {
-        return sheet_refused(Refusal::TooLong);
+        return Err(of_sheet(Refusal::TooLong));
     }
-    let r = read_items(sheet, declared, table);
-    let number = r.number;
-    if number != 0 {
-        let byte = r.byte;
-        return sheet_refused(fault_of(number, byte));
-    }
-    let declarations = r.declarations;
-    let clauses = r.clauses;
-    let repeat = first_repeat(sheet, declared, declarations);
-    if repeat.found {
-        let byte = repeat.byte;
-        return sheet_refused(Refusal::Repeated(byte));
-    }
-    Verdict::Accepted {
-        declarations,
-        clauses,
+    match read_items(sheet, declared, table) {
+        Err(stop) => Err(of_sheet(stop.refusal)),
+        Ok(r) => match first_repeat(sheet, declared, r.declarations) {
+            Some(byte) => Err(of_sheet(Refusal::Repeated(byte))),
+            None => Ok(Counts {
+                declarations: r.declarations,
+                clauses: r.clauses,
+            }),
+        },
     }
 }
 
@@ -74,54 +75,27 @@ pub fn goal_room() -> [u32; GOAL_WORDS]
     [0; GOAL_WORDS]
 }
 
-// What reading a goal gives: how many literals it has, and how many variables; their first occurrences stand in the last words of
-// the table.
+// A goal that was read: how many literals it has, and how many variables; their first occurrences stand in the last words of the table.
 #[derive(Clone, Copy)]
 pub struct GoalRead {
-    pub verdict: Verdict,
     pub literals: usize,
     pub count: usize,
 }
 
 // A goal into its table.
-pub fn read_goal_text(goal: &[u8], table: &mut [u32]) -> GoalRead
+pub fn read_goal_text(goal: &[u8], table: &mut [u32]) -> Result<GoalRead, Fault>
     requires { (goal_words ≤ length table.old) × (length table.old < 2 ^ 31) }
     ensures { GoalTabled goal.now table.new result }
 {
     if is_long_goal(goal.len()) {
-        return goal_refused(Refusal::TooLong);
+        return Err(of_goal(Refusal::TooLong));
     }
-    let r = parse_sheets::sheets::read_goal(goal, table);
-    let number = r.number;
-    let st = r.state;
-    if number != 0 {
-        let t = st.token;
-        let byte = t.at;
-        return goal_refused(fault_of(number, byte));
-    }
-    let literals = r.items;
-    let count = st.count;
-    GoalRead {
-        verdict: Verdict::Accepted {
-            declarations: 0,
-            clauses: 0,
-        },
-        literals,
-        count,
-    }
-}
-
-// The refusal of a goal.
-fn goal_refused(refusal: Refusal) -> GoalRead
-    ensures { result ≡ record { verdict = Verdict.Refused Text.Goal refusal; literals = 0; count = 0 } }
-{
-    GoalRead {
-        verdict: Verdict::Refused {
-            text: Text::Goal,
-            refusal,
-        },
-        literals: 0,
-        count: 0,
+    match parse_sheets::sheets::read_goal(goal, table) {
+        Err(refusal) => Err(of_goal(refusal)),
+        Ok(r) => Ok(GoalRead {
+            literals: r.items,
+            count: r.state.count,
+        }),
     }
 }
 
@@ -132,21 +106,16 @@ pub fn read_checked(sheet: &[u8], declared: &mut [u32], table: &mut [u32], store
     ensures holds { (sh : Sheet) → checked_with stored sheet.now ≡ accepted sh
         → Tabled sheet.now declared.new table.new sh }
 {
-    let v = read_text(sheet, declared, table);
-    match v {
-        Verdict::Refused {
-            text: _,
-            refusal: _,
-        } => v,
-        Verdict::Accepted {
-            declarations,
-            clauses,
-        } => {
-            let fault = check_sheet(sheet, declared, declarations, table, clauses, stored);
-            match fault {
-                Checked::Fine => v,
-                Checked::Fault(refusal) => sheet_refused(refusal),
-            }
-        }
+    let counts = read_text(sheet, declared, table)?;
+    match check_sheet(
+        sheet,
+        declared,
+        counts.declarations,
+        table,
+        counts.clauses,
+        stored,
+    ) {
+        Err(refusal) => Err(of_sheet(refusal)),
+        Ok(()) => Ok(counts),
     }
 }

@@ -9,126 +9,99 @@ ghost use Rattle.syntax.specs.Verdicts.{fault_of};
 
 use syntax::{Five, GOAL_BYTES, Refusal, SHEET_BYTES};
 
+// What a refusal has no number for is 0.
+const ZEROS: Five = Five {
+    number: 0,
+    byte: 0,
+    clause: 0,
+    literal: 0,
+    argument: 0,
+};
+
 // The five numbers that documents 01 and 02 give a refusal.
 pub fn numbers(refusal: Refusal) -> Five
     ensures { result ≡ numbers_of refusal }
 {
     match refusal {
-        Refusal::Settings => Five {
-            number: 1,
-            byte: 0,
-            clause: 0,
-            literal: 0,
-            argument: 0,
-        },
-        Refusal::TooLong => Five {
-            number: 2,
-            byte: 0,
-            clause: 0,
-            literal: 0,
-            argument: 0,
-        },
+        Refusal::Settings => Five { number: 1, ..ZEROS },
+        Refusal::TooLong => Five { number: 2, ..ZEROS },
         Refusal::NoToken(byte) => Five {
             number: 3,
-            byte: byte,
-            clause: 0,
-            literal: 0,
-            argument: 0,
+            byte,
+            ..ZEROS
         },
         Refusal::Overlong(byte) => Five {
             number: 4,
-            byte: byte,
-            clause: 0,
-            literal: 0,
-            argument: 0,
+            byte,
+            ..ZEROS
         },
         Refusal::Misplaced(byte) => Five {
             number: 5,
-            byte: byte,
-            clause: 0,
-            literal: 0,
-            argument: 0,
+            byte,
+            ..ZEROS
         },
         Refusal::OverLimit(byte) => Five {
             number: 6,
-            byte: byte,
-            clause: 0,
-            literal: 0,
-            argument: 0,
+            byte,
+            ..ZEROS
         },
         Refusal::Repeated(byte) => Five {
             number: 7,
-            byte: byte,
-            clause: 0,
-            literal: 0,
-            argument: 0,
+            byte,
+            ..ZEROS
         },
         Refusal::Undeclared {
             clause,
             literal,
-            at: _,
-            len: _,
+            ..
         } => Five {
             number: 8,
-            byte: 0,
-            clause: clause,
-            literal: literal,
-            argument: 0,
+            clause,
+            literal,
+            ..ZEROS
         },
         Refusal::OpenInput {
             byte,
             clause,
             literal,
             argument,
-            at: _,
-            len: _,
+            ..
         } => Five {
             number: 9,
-            byte: byte,
-            clause: clause,
-            literal: literal,
-            argument: argument,
+            byte,
+            clause,
+            literal,
+            argument,
         },
         Refusal::OpenOutput {
             byte,
             clause,
             argument,
-            at: _,
-            len: _,
+            ..
         } => Five {
             number: 10,
-            byte: byte,
-            clause: clause,
-            literal: 0,
-            argument: argument,
+            byte,
+            clause,
+            argument,
+            ..ZEROS
         },
         Refusal::BadTrace(byte) => Five {
             number: 13,
-            byte: byte,
-            clause: 0,
-            literal: 0,
-            argument: 0,
+            byte,
+            ..ZEROS
         },
         Refusal::TraceOverLimit => Five {
             number: 14,
-            byte: 0,
-            clause: 0,
-            literal: 0,
-            argument: 0,
+            ..ZEROS
         },
         Refusal::SeenUndeclared => Five {
             number: 15,
-            byte: 0,
-            clause: 0,
-            literal: 0,
-            argument: 0,
+            ..ZEROS
         },
         Refusal::Unwritten(byte) => Five {
             number: 16,
-            byte: byte,
-            clause: 0,
-            literal: 0,
-            argument: 0,
+            byte,
+            ..ZEROS
         },
     }
 }
@@ -150,14 +123,10 @@ pub fn is_long_goal(bytes: usize) -> bool
 pub fn fault_of(number: usize, byte: usize) -> Refusal
     ensures { result ≡ fault_of number byte }
 {
-    if number == 3 {
-        return Refusal::NoToken(byte);
+    match number {
+        3 => Refusal::NoToken(byte),
+        4 => Refusal::Overlong(byte),
+        5 => Refusal::Misplaced(byte),
+        _ => Refusal::OverLimit(byte),
     }
-    if number == 4 {
-        return Refusal::Overlong(byte);
-    }
-    if number == 5 {
-        return Refusal::Misplaced(byte);
-    }
-    Refusal::OverLimit(byte)
 }

@@ -7,7 +7,8 @@ use Rattle.machine.specs.Machine.{Pending, Alternative, topmost, clause_at, trie
 use Rattle.run_layout.specs.Regions.{cells, state_words, next_literal, most_alternatives}
 use Rattle.run_layout.specs.Nodes.{Symbol}
 use Rattle.run_layout.specs.Program.{Program}
-use Rattle.run_layout.specs.Pile.{Calls, rest_from, left_from, copy_at, literal_at, mark_at, path_at, alternative_at, pile_of, RecordOf, NoJump, Frame, NextFor, Piled}
+use Rattle.run_layout.specs.Pile.{Calls, rest_from, left_from, copy_at, literal_at, mark_at, path_at, alternative_at, pile_of}
+use Rattle.run_layout.specs.Pile.{RecordOf, NoJump, Frame, NextFor, Piled}
 use Rattle.unify_bindings.specs.Queues.{Clean}
 use Rattle.unify_bindings.specs.Scratch.{Roomy}
 use Rattle.run_alternatives.specs.Words.{top_words}
@@ -116,5 +117,6 @@ rest_at sh g code state j = left_from sh g code state (path_at state j) (copy_at
 -- what comes of the top alternative j when the clause is tried, and the pile below it
 abbrev pub tried_on : List Symbol → Sheet → Goal → List ℕ → List ℕ → List ℕ → ℕ → Atom → Clause → List Alternative
 tried_on ss sh g nodes code state j at cl =
-    on_top (tried sh (alternative_at ss sh g nodes code state j) (copy_at state j) at (rest_at sh g code state j) cl) (alternative_at ss sh g nodes code state j)
+    on_top (tried sh (alternative_at ss sh g nodes code state j) (copy_at state j) at (rest_at sh g code state j) cl)
+    (alternative_at ss sh g nodes code state j)
     ++ pile_of ss sh g nodes code state j

@@ -24,6 +24,7 @@ fn settled(code: &[u32], l: usize) -> usize
 {
     let mut literal = l;
     let mut kind = word_at(code, literal);
+    // Each jump names the record where the same goes on: a chain, with no range to count.
     while kind == JUMP_KIND {
         literal = word_at(code, literal + 2);
         kind = word_at(code, literal);
@@ -39,6 +40,7 @@ fn first_literal(code: &[u32], state: &[u32], c: usize, l: usize) -> Spot
 {
     let mut copy = c;
     let mut literal = settled(code, l);
+    // From a copy to the one that called it, down to the goal's own, 0: a chain, with no range to count.
     while 0 < copy {
         if word_at(code, literal) != END_KIND {
             return Spot { copy, literal };

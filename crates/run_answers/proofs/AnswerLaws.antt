@@ -11,8 +11,7 @@ use borrow.Author.Tests.{ne_eqb}
 use Rattle.syntax.specs.Terms.{Sheet, Goal}
 use Rattle.syntax.specs.declared.Kind.{Kind}
 use Rattle.syntax.specs.declared.Kind.TheVariants.{Wanted, Done, Steps, Deep}
-use Rattle.run_settings.specs.declared.RunState.{RunState}
-use Rattle.run_settings.specs.declared.RunState.TheVariants.{Over, Open}
+use Rattle.std.specs.Prelude.{Option, Some, None}
 use Rattle.run_settings.specs.Ends.{ended_by}
 use Rattle.machine.specs.Machine.{Alternative}
 use Rattle.machine.specs.Answers.{line}
@@ -29,10 +28,13 @@ use Rattle.out_answers.specs.Fitting.{Answerable, SomeAnswerable, Fitted}
 use Rattle.unify_bindings.specs.Scratch.{SameMarks, Roomy}
 use Rattle.run_alternatives.specs.Steps.{Running, Steppable, Stepped}
 use Rattle.run_alternatives.specs.declared.Pile.{Pile}
+use Rattle.run_answers.specs.declared.LoadedProgram.{LoadedProgram}
 use Rattle.run_answers.specs.declared.Next.{Next}
 use Rattle.run_answers.specs.declared.Next.TheVariants.{End, Answer, Step}
-use Rattle.run_answers.specs.Telling.{before_step, Tellable, Rewindable, SamePile, Rewound, Answering, Answered}
+use Rattle.run_answers.specs.Telling.{before_step, Tellable, Rewindable, SamePile, Rewound, Answering, LineTold, Answered}
+use Rattle.buffers.specs.Buffers.{Put}
 use Rattle.run_answers.proofs.EndLaws.{answer-flat}
+use Rattle.run_answers.proofs.LineLaws.{line-some}
 
 -- ---- what comes next
 
@@ -43,17 +45,17 @@ empty-is ss sh g nodes code state zero = refl
 empty-is ss sh g nodes code state (suc h) = sym (ne_eqb (suc h) 0 (λ e. omega arith))
 
 -- an end that the counts tell, or what comes else
-abbrev onward : RunState → Next → Next
-onward (Over k) rest = End k
-onward Open rest = rest
+abbrev onward : Option Kind → Next → Next
+onward (Some k) rest = End k
+onward None rest = rest
 
-by-counts : (a b c : Bool) (rest : Next) → cond a (End Done) (cond b (End Wanted) (cond c (End Steps) rest)) ≡ onward (cond a (Over Done) (cond b (Over Wanted) (cond c (Over Steps) Open))) rest
+by-counts : (a b c : Bool) (rest : Next) → cond a (End Done) (cond b (End Wanted) (cond c (End Steps) rest)) ≡ onward (cond a (Some Done) (cond b (Some Wanted) (cond c (Some Steps) None))) rest
 by-counts true b c rest = refl
 by-counts false true c rest = refl
 by-counts false false true rest = refl
 by-counts false false false rest = refl
 
-module _ {nodes code state : List ℕ} {h n : ℕ} (wanted answers left : ℕ) {s : RunState} (e : s ≡ ended_by h wanted answers left) (w : Running nodes code state h n) where
+module _ {nodes code state : List ℕ} {h n : ℕ} (wanted answers left : ℕ) {s : Option Kind} (e : s ≡ ended_by h wanted answers left) (w : Running nodes code state h n) where
   abbrev pile : List Alternative
   pile = pile_of w.ss w.sh w.g nodes code state h
 
@@ -68,21 +70,21 @@ module _ {nodes code state : List ℕ} {h n : ℕ} (wanted answers left : ℕ) {
   next-by =
       ap (λ (x : Bool). cond x (End Done) (cond (leb wanted answers) (End Wanted) (cond (eqb left 0) (End Steps) (rest (is_answer pile) (goes_deeper w.sh pile))))) (empty-is w.ss w.sh w.g nodes code state h)
       ∙ by-counts (eqb h 0) (leb wanted answers) (eqb left 0) (rest (is_answer pile) (goes_deeper w.sh pile))
-      ∙ ap (λ (x : RunState). onward x (rest (is_answer pile) (goes_deeper w.sh pile))) (sym e)
+      ∙ ap (λ (x : Option Kind). onward x (rest (is_answer pile) (goes_deeper w.sh pile))) (sym e)
 
-  pub next-over : {k : Kind} → s ≡ Over k → End k ≡ next
-  next-over q = sym (next-by ∙ ap (λ (x : RunState). onward x (rest (is_answer pile) (goes_deeper w.sh pile))) q)
+  pub next-over : {k : Kind} → s ≡ Some k → End k ≡ next
+  next-over q = sym (next-by ∙ ap (λ (x : Option Kind). onward x (rest (is_answer pile) (goes_deeper w.sh pile))) q)
 
-  next-open : (a d : Bool) → s ≡ Open → a ≡ is_answer pile → d ≡ goes_deeper w.sh pile → next ≡ rest a d
-  next-open a d q ea ed = next-by ∙ ap (λ (x : RunState). onward x (rest (is_answer pile) (goes_deeper w.sh pile))) q ∙ ap₂ rest (sym ea) (sym ed)
+  next-open : (a d : Bool) → s ≡ None → a ≡ is_answer pile → d ≡ goes_deeper w.sh pile → next ≡ rest a d
+  next-open a d q ea ed = next-by ∙ ap (λ (x : Option Kind). onward x (rest (is_answer pile) (goes_deeper w.sh pile))) q ∙ ap₂ rest (sym ea) (sym ed)
 
-  pub next-answer : s ≡ Open → true ≡ is_answer pile → Answer ≡ next
+  pub next-answer : s ≡ None → true ≡ is_answer pile → Answer ≡ next
   next-answer q ea = sym (next-open true (goes_deeper w.sh pile) q ea refl)
 
-  pub next-deep : s ≡ Open → false ≡ is_answer pile → true ≡ goes_deeper w.sh pile → End Deep ≡ next
+  pub next-deep : s ≡ None → false ≡ is_answer pile → true ≡ goes_deeper w.sh pile → End Deep ≡ next
   next-deep q ea ed = sym (next-open false true q ea ed)
 
-  pub next-step : s ≡ Open → false ≡ is_answer pile → false ≡ goes_deeper w.sh pile → Step ≡ next
+  pub next-step : s ≡ None → false ≡ is_answer pile → false ≡ goes_deeper w.sh pile → Step ≡ next
   next-step q ea ed = sym (next-open false false q ea ed)
 
 -- ---- the trail rewound
@@ -138,7 +140,31 @@ part-marks xs zs l e =
 
 -- ---- an answer
 
-module _ {sheet goal names : List ℕ} {count : ℕ} {nodes code symbols state scratch text : List ℕ} {h n at : ℕ} (w : Answering sheet goal names count nodes code symbols state scratch text h n at) where
+none-some : (k : ℕ) → ◌≡◌ {A = Option ℕ} None (Some k) → ⊥
+none-some k q = let z : ◌≡◌ {A = ℕ} 0 1 = cc in omega arith
+
+module _ {loaded : LoadedProgram} {state scratch text : List ℕ} {h n at : ℕ} (w : Answering loaded state scratch text h n at) where
+  abbrev sheet : List ℕ
+  sheet = loaded.sheet.now
+
+  abbrev goal : List ℕ
+  goal = loaded.goal.now
+
+  abbrev names : List ℕ
+  names = loaded.names.now
+
+  abbrev count : ℕ
+  count = loaded.count
+
+  abbrev nodes : List ℕ
+  nodes = loaded.nodes.now
+
+  abbrev code : List ℕ
+  code = loaded.code.now
+
+  abbrev symbols : List ℕ
+  symbols = loaded.symbols.now
+
   pub answer-rewinds : Rewindable state h n
   answer-rewinds = record { ss = w.ss; sh = w.sh; g = w.g; nodes = nodes; code = code; piled = w.under.piled; low = w.under.low; some = w.some }
 
@@ -172,7 +198,22 @@ module _ {sheet goal names : List ℕ} {count : ℕ} {nodes code symbols state s
       fitted-here : Fitted (line w.g (bindings w.ss nodes mid m)) text at new past
       fitted-here = f w.ss m w.g tells w.spelt.names_are
 
-      pub answer-full : {scratch1 : List ℕ} → SameMarks scratch scratch1 → past ≡ 0 → Answered w.ss w.sh w.g nodes code state mid scratch scratch1 text new h at (record { at = 0; height = h; trail = m })
+      told_none : past ≡ 0 → LineTold (line w.g (bindings w.ss nodes mid m)) text at new None
+      told_none z = record {
+        fits = λ l. absurd (let p : past ≡ at + length (line w.g (bindings w.ss nodes mid m)) = (fitted-here.fits l).past in let some : 1 ≤ length (line w.g (bindings w.ss nodes mid m)) = line-some w.g (bindings w.ss nodes mid m) in omega arith);
+        full = λ l. (refl, (fitted-here.full l).1);
+      }
+
+      told_some : (past ≡ 0 → ⊥) → LineTold (line w.g (bindings w.ss nodes mid m)) text at new (Some past)
+      told_some z = record {
+        fits = λ l. (
+          subst (Put text at (line w.g (bindings w.ss nodes mid m)) new) (fitted-here.fits l).past (fitted-here.fits l),
+          ap Some (fitted-here.fits l).past,
+        );
+        full = λ l. absurd (z (fitted-here.full l).0);
+      }
+
+      pub answer-full : {scratch1 : List ℕ} → SameMarks scratch scratch1 → past ≡ 0 → Answered w.ss w.sh w.g nodes code state mid scratch scratch1 text new h at (record { at = None; height = h; trail = m })
       answer-full {scratch1} y z =
           record {
             mid = mid;
@@ -180,15 +221,15 @@ module _ {sheet goal names : List ℕ} {count : ℕ} {nodes code symbols state s
             m = m;
             same = same-pile;
             mark = x.mark;
-            fitted = subst (Fitted (line w.g (bindings w.ss nodes mid m)) text at new) z fitted-here;
-            stepped = λ q. absurd (q refl);
+            told = told_none z;
+            stepped = λ k q. absurd (none-some k q);
             stopped = λ q. (refl, (refl, (refl, (answer-steps y).clean)));
             state_long = x.long;
             scratch_long = y.long;
             later_long = y.long;
           }
 
-      pub answer-on : {scratch1 : List ℕ} (y : SameMarks scratch scratch1) → (past ≡ 0 → ⊥) → (after later : List ℕ) (r : Pile) → ((v : Steppable nodes code mid scratch1 h m) → Stepped v.running.ss v.running.sh v.running.g nodes code mid after scratch1 later h r) → Answered w.ss w.sh w.g nodes code state after scratch later text new h at (record { at = past; height = r.height; trail = r.trail })
+      pub answer-on : {scratch1 : List ℕ} (y : SameMarks scratch scratch1) → (past ≡ 0 → ⊥) → (after later : List ℕ) (r : Pile) → ((v : Steppable nodes code mid scratch1 h m) → Stepped v.running.ss v.running.sh v.running.g nodes code mid after scratch1 later h r) → Answered w.ss w.sh w.g nodes code state after scratch later text new h at (record { at = Some past; height = r.height; trail = r.trail })
       unfolding answer-steps
       answer-on {scratch1} y some after later r k =
           let s : Stepped w.ss w.sh w.g nodes code mid after scratch1 later h r = k (answer-steps y) in
@@ -198,9 +239,9 @@ module _ {sheet goal names : List ℕ} {count : ℕ} {nodes code symbols state s
             m = m;
             same = same-pile;
             mark = x.mark;
-            fitted = fitted-here;
-            stepped = λ q. s;
-            stopped = λ q. absurd (some q);
+            told = told_some some;
+            stepped = λ k q. s;
+            stopped = λ q. absurd (none-some past (sym q));
             state_long = s.state_long ∙ x.long;
             scratch_long = y.long;
             later_long = s.scratch_long ∙ y.long;

@@ -1,5 +1,5 @@
 -- What comes before a step, and what telling an answer is given and promises.
-use Rattle.std.specs.Prelude.{ℕ, min, ◌+◌, ◌-◌, ◌*◌, ◌≤◌, ◌≡◌, true, cond, List, leb, eqb, length}
+use Rattle.std.specs.Prelude.{ℕ, min, ◌+◌, ◌-◌, ◌*◌, ◌≤◌, ◌<◌, ◌≡◌, true, cond, List, leb, eqb, length, Option, Some, None}
 use Rattle.syntax.specs.Terms.{Sheet, Goal}
 use Rattle.syntax.specs.declared.Kind.TheVariants.{Wanted, Done, Steps, Deep}
 use Rattle.machine.specs.Machine.{Alternative}
@@ -14,9 +14,10 @@ use Rattle.unify_bindings.specs.Queues.{Clean}
 use Rattle.unify_bindings.specs.Scratch.{Roomy}
 use Rattle.syntax.specs.Spans.{names_from}
 use Rattle.out_terms.specs.Words.{SymbolsSpelt, Named}
-use Rattle.out_answers.specs.Fitting.{Fitted}
+use Rattle.buffers.specs.Buffers.{Put}
 use Rattle.run_alternatives.specs.Steps.{Stepped}
 use Rattle.run_answers.specs.declared.AnswerTold.{AnswerTold}
+use Rattle.run_answers.specs.declared.LoadedProgram.{LoadedProgram}
 use Rattle.run_answers.specs.declared.Next.{Next}
 use Rattle.run_answers.specs.declared.Next.TheVariants.{End, Answer, Step}
 
@@ -30,10 +31,10 @@ before_step wanted answers left sh pile =
     (cond (goes_deeper sh pile) (End Deep) Step))))
 
 -- the symbols and the goal's variables are spelt in the two texts
-pub record Spelt (ss : List Symbol) (g : Goal) (sheet goal names : List ℕ) (count : ℕ) (symbols : List ℕ) : Type 0 where
-  pub spelt : SymbolsSpelt ss symbols sheet goal
-  pub named : Named goal names count
-  pub names_are : g.names ≡ names_from goal names 0 count
+pub record Spelt (ss : List Symbol) (g : Goal) (loaded : LoadedProgram) : Type 0 where
+  pub spelt : SymbolsSpelt ss loaded.symbols.now loaded.sheet.now loaded.goal.now
+  pub named : Named loaded.goal.now loaded.names.now loaded.count
+  pub names_are : g.names ≡ names_from loaded.goal.now loaded.names.now 0 loaded.count
 
 -- scratch words whose part behind marks and queue is an ample stack for the brackets of an answer with so many bytes of room
 abbrev pub Tellable : List ℕ → ℕ → Type 0
@@ -76,17 +77,22 @@ pub record Rewound (before after : List ℕ) (h n m : ℕ) : Type 0 where
       → SamePile ss sh g nodes code before after h m
 
 -- an answer is next
-pub record Answering (sheet goal names : List ℕ) (count : ℕ) (nodes code symbols state scratch text : List ℕ) (h n at : ℕ) : Type 0 where
+pub record Answering (loaded : LoadedProgram) (state scratch text : List ℕ) (h n at : ℕ) : Type 0 where
   pub ss : List Symbol
   pub sh : Sheet
   pub g : Goal
-  pub spelt : Spelt ss g sheet goal names count symbols
-  pub under : Under ss sh g nodes code state scratch (length text) h n
+  pub spelt : Spelt ss g loaded
+  pub under : Under ss sh g loaded.nodes.now loaded.code.now state scratch (length text) h n
   pub some : 1 ≤ h
-  pub answer : is_answer (pile_of ss sh g nodes code state h) ≡ true
+  pub answer : is_answer (pile_of ss sh g loaded.nodes.now loaded.code.now state h) ≡ true
   pub room : at ≤ length text
 
--- The line is written and the step taken, or the line does not fit: then the position is 0, and the pile as it was.
+-- A line written where the whole of it fits, and the position past it; where it does not fit, nothing is written, and there is no position.
+pub record LineTold (line old : List ℕ) (at : ℕ) (new : List ℕ) (r : Option ℕ) : Type 0 where
+  pub fits : at + length line ≤ length old → Put old at line new (at + length line) × (r ≡ Some (at + length line))
+  pub full : length old < at + length line → (r ≡ None) × (new ≡ old)
+
+-- The line is written and the step taken, or the line does not fit: then there is no position, and the pile is as it was.
 pub record Answered (ss : List Symbol) (sh : Sheet) (g : Goal) (nodes code before after scratch later old new : List ℕ) (h at : ℕ)
     (r : AnswerTold) : Type 0 where
   pub mid : List ℕ
@@ -94,9 +100,9 @@ pub record Answered (ss : List Symbol) (sh : Sheet) (g : Goal) (nodes code befor
   pub m : ℕ
   pub same : SamePile ss sh g nodes code before mid h m
   pub mark : mark_at mid (h - 1) ≡ m
-  pub fitted : Fitted (line g (bindings ss nodes mid m)) old at new r.at
-  pub stepped : (r.at ≡ 0 → ⊥) → Stepped ss sh g nodes code mid after between later h (record { height = r.height; trail = r.trail })
-  pub stopped : r.at ≡ 0 → (after ≡ mid) × ((r.height ≡ h) × ((r.trail ≡ m) × Clean later))
+  pub told : LineTold (line g (bindings ss nodes mid m)) old at new r.at
+  pub stepped : (past : ℕ) → r.at ≡ Some past → Stepped ss sh g nodes code mid after between later h (record { height = r.height; trail = r.trail })
+  pub stopped : r.at ≡ None → (after ≡ mid) × ((r.height ≡ h) × ((r.trail ≡ m) × Clean later))
   pub state_long : length after ≡ length before
   pub scratch_long : length between ≡ length scratch
   pub later_long : length later ≡ length scratch

@@ -16,7 +16,7 @@ ghost use Rattle.run_answers.specs.Telling.{before_step, Tellable, Rewindable, R
 
 use out_answers::put_answer;
 use run_layout::{ALTERNATIVE_SIZE, ALTERNATIVES, STACK};
-use run_settings::{RunState, ended};
+use run_settings::ended;
 use run_steps::{goes_deeper, is_answer, step};
 use syntax::Kind;
 use table_words::word_at;
@@ -24,6 +24,18 @@ use unify_bindings::store::undo;
 
 // Which word of an alternative is the length of its trail.
 const MARK: usize = 3;
+
+// What a run reads and never writes: the two texts, the words of the goal's variables and their count, and the tables of a loaded program.
+#[derive(Clone, Copy)]
+pub struct LoadedProgram<'a> {
+    pub sheet: &'a [u8],
+    pub goal: &'a [u8],
+    pub names: &'a [u32],
+    pub count: usize,
+    pub nodes: &'a [u32],
+    pub code: &'a [u32],
+    pub symbols: &'a [u32],
+}
 
 // What comes before the next step: an end, an answer's line, or nothing.
 #[derive(Clone, Copy)]
@@ -33,10 +45,10 @@ pub enum Next {
     Step,
 }
 
-// After an answer: the position past its line, 0 where the line does not fit; and the pile's height and the trail's length.
+// After an answer: the position past its line, none where the line does not fit; and the pile's height and the trail's length.
 #[derive(Clone, Copy)]
 pub struct AnswerTold {
-    pub at: usize,
+    pub at: Option<usize>,
     pub height: usize,
     pub trail: usize,
 }
@@ -59,19 +71,16 @@ pub fn next_of(
         → result ≡ before_step wanted answers (allowance - steps) w.sh (pile_of w.ss w.sh w.g nodes code.now state.now h) }
 {
     let left = allowance - steps;
-    let standing = ended(h, wanted, answers, left);
-    match standing {
-        RunState::Over(kind) => Next::End(kind),
-        RunState::Open => {
-            if is_answer(code, state, h, n) {
-                return Next::Answer;
-            }
-            if goes_deeper(code, state, h, n) {
-                return Next::End(Kind::Deep);
-            }
-            Next::Step
-        }
+    if let Some(kind) = ended(h, wanted, answers, left) {
+        return Next::End(kind);
     }
+    if is_answer(code, state, h, n) {
+        return Next::Answer;
+    }
+    if goes_deeper(code, state, h, n) {
+        return Next::End(Kind::Deep);
+    }
+    Next::Step
 }
 
 // The trail undone to the top's mark, which is its length then.
@@ -88,33 +97,30 @@ fn rewind(state: &mut [u32], h: usize, n: usize) -> usize
 
 // The line of an answer written from at on, the brackets in the scratch words behind marks and queue.
 fn tell(
-    sheet: &[u8],
-    goal: &[u8],
-    names: &[u32],
-    count: usize,
-    nodes: &[u32],
-    symbols: &[u32],
+    loaded: LoadedProgram,
     state: &[u32],
     scratch: &mut [u32],
     text: &mut [u8],
     at: usize,
 ) -> usize
-    requires some_answerable { SomeAnswerable nodes.now state.now symbols.now sheet.now goal.now names.now count }
+    requires some_answerable { SomeAnswerable loaded.nodes.now state.now loaded.symbols.now loaded.sheet.now loaded.goal.now
+        loaded.names.now loaded.count }
     requires at_in_bounds { (at ≤ length text.old) × Tellable scratch.old (length text.old - at) }
-    ensures fitted { (ss : List Symbol) (n : ℕ) (g : Goal) → Answerable ss n nodes.now state.now symbols.now
-        sheet.now goal.now names.now count → g.names ≡ names_from goal.now names.now 0 count
-        → Fitted (line g (bindings ss nodes.now state.now n)) text.old at text.new result }
+    ensures fitted { (ss : List Symbol) (n : ℕ) (g : Goal) → Answerable ss n loaded.entry.nodes.now state.now
+        loaded.entry.symbols.now loaded.entry.sheet.now loaded.entry.goal.now loaded.entry.names.now loaded.entry.count
+        → g.names ≡ names_from loaded.entry.goal.now loaded.entry.names.now 0 loaded.entry.count
+        → Fitted (line g (bindings ss loaded.entry.nodes.now state.now n)) text.old at text.new result }
     ensures marks { SameMarks scratch.old scratch.new }
 {
     let from = STACK;
     put_answer(
-        goal,
-        names,
-        count,
-        nodes,
+        loaded.goal,
+        loaded.names,
+        loaded.count,
+        loaded.nodes,
         state,
-        symbols,
-        sheet,
+        loaded.symbols,
+        loaded.sheet,
         &mut scratch[from..],
         text,
         at,
@@ -123,13 +129,7 @@ fn tell(
 
 // An answer: its line written from at on, and then the step.
 pub fn answer(
-    sheet: &[u8],
-    goal: &[u8],
-    names: &[u32],
-    count: usize,
-    nodes: &[u32],
-    code: &[u32],
-    symbols: &[u32],
+    loaded: LoadedProgram,
     state: &mut [u32],
     scratch: &mut [u32],
     text: &mut [u8],
@@ -137,26 +137,23 @@ pub fn answer(
     n: usize,
     at: usize,
 ) -> AnswerTold
-    requires { Answering sheet.now goal.now names.now count nodes.now code.now symbols.now state.old scratch.old text.old h n at }
-    ensures { (w : Answering sheet.now goal.now names.now count nodes.now code.now
-        symbols.now state.old scratch.old text.old h n at)
-        → Answered w.ss w.sh w.g nodes.now code.now state.old state.new scratch.old
+    requires { Answering loaded state.old scratch.old text.old h n at }
+    ensures { (w : Answering loaded.entry state.old scratch.old text.old h n at)
+        → Answered w.ss w.sh w.g loaded.entry.nodes.now loaded.entry.code.now state.old state.new scratch.old
         scratch.new text.old text.new h at result }
 {
     let m = rewind(state, h, n);
-    let past = tell(
-        sheet, goal, names, count, nodes, symbols, state, scratch, text, at,
-    );
+    let past = tell(loaded, state, scratch, text, at);
     if past == 0 {
         return AnswerTold {
-            at: 0,
+            at: None,
             height: h,
             trail: m,
         };
     }
-    let p = step(nodes, code, state, scratch, h, m);
+    let p = step(loaded.nodes, loaded.code, state, scratch, h, m);
     AnswerTold {
-        at: past,
+        at: Some(past),
         height: p.height,
         trail: p.trail,
     }

@@ -1,4 +1,5 @@
-// The regions of a run's tables (specs/Regions); what their words mean is defined in specs/.
+// The regions of a run's tables (specs/Regions); what their words mean is defined in specs/. They are arrays of words on the native stack, with places in
+// them for links and 0 for none: a run allocates nothing (include/pilvaust.h), so there are no vectors, boxes or maps.
 
 #![tactic(auto)]
 

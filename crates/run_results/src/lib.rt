@@ -1,38 +1,31 @@
-// The result of a run: its answer, and how many bytes it has written into the text.
+// The result of a run that writes into a text: its report and how many bytes it has written, or the fault of a text, and nothing is written.
 
 #![tactic(auto)]
 
-ghost use Rattle.std.specs.Prelude.{◌≡◌};
 ghost use Rattle.run_results.specs.Results.{Stops, EndsWith};
 
-use syntax::{Refusal, Report, Run, Text};
+use syntax::{Fault, Refusal, Report, Text};
 
-// The answer to a run, and how many bytes it has written into the text.
+// What a run that has ended reports, and how many bytes it has written into the text.
 #[derive(Clone, Copy)]
 pub struct Written {
-    pub run: Run,
+    pub report: Report,
     pub bytes: usize,
 }
 
-// The refusal of a run, with the text at fault: nothing is written.
-pub fn run_refused(text: Text, refusal: Refusal) -> Written
-    ensures { (result.run ≡ Run.Refused text refusal) × (result.bytes ≡ 0) }
-{
-    let run = Run::Refused { text, refusal };
-    Written { run, bytes: 0 }
-}
-
-// The refusal of a goal that does not meet the marks: the text at fault is the goal.
-pub fn goal_refused(refusal: Refusal) -> Written
+// The fault of a goal that does not meet the marks: the text at fault is the goal.
+pub fn goal_refused(refusal: Refusal) -> Result<Written, Fault>
     ensures { Stops Text.Goal refusal result }
 {
-    run_refused(Text::Goal, refusal)
+    Err(Fault {
+        text: Text::Goal,
+        refusal,
+    })
 }
 
 // A run that has ended, with its report.
-pub fn run_ended(report: Report, bytes: usize) -> Written
+pub fn run_ended(report: Report, bytes: usize) -> Result<Written, Fault>
     ensures { EndsWith report bytes result }
 {
-    let run = Run::Ended(report);
-    Written { run, bytes }
+    Ok(Written { report, bytes })
 }

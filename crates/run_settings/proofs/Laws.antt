@@ -7,7 +7,7 @@ use borrow.Author.Tests.{le-leb, lt-leb, eq-eqb, ne_eqb}
 use Rattle.syntax.specs.Limits.{most_steps, most_answers}
 use Rattle.syntax.specs.declared.Kind.TheVariants.{Wanted, Done, Steps}
 use Rattle.machine.specs.Runs.{in_range}
-use Rattle.run_settings.specs.declared.RunState.TheVariants.{Over, Open}
+use Rattle.std.specs.Prelude.{Some, None}
 use Rattle.run_settings.specs.Ends.{ended_by}
 
 pub range-no-steps : (a w : ℕ) → a < 1 → false ≡ in_range a w
@@ -30,14 +30,14 @@ range-answers a w l h m = sym (range_steps a w l h ∙ ap (λ (b : Bool). b && l
 
 -- ---- ends
 
-pub ended-done : {h : ℕ} (w a l : ℕ) → h ≡ 0 → Over Done ≡ ended_by h w a l
+pub ended-done : {h : ℕ} (w a l : ℕ) → h ≡ 0 → Some Done ≡ ended_by h w a l
 ended-done {h} w a l e = simp (eq-eqb h 0 e)
 
-pub ended-wanted : {h w a : ℕ} (l : ℕ) → (h ≡ 0 → ⊥) → w ≤ a → Over Wanted ≡ ended_by h w a l
+pub ended-wanted : {h w a : ℕ} (l : ℕ) → (h ≡ 0 → ⊥) → w ≤ a → Some Wanted ≡ ended_by h w a l
 ended-wanted {h} {w} {a} l e f = simp (ne_eqb h 0 e, le-leb w a f)
 
-pub ended-steps : {h w a l : ℕ} → (h ≡ 0 → ⊥) → a < w → l ≡ 0 → Over Steps ≡ ended_by h w a l
+pub ended-steps : {h w a l : ℕ} → (h ≡ 0 → ⊥) → a < w → l ≡ 0 → Some Steps ≡ ended_by h w a l
 ended-steps {h} {w} {a} {l} e f g = simp (ne_eqb h 0 e, lt-leb w a f, eq-eqb l 0 g)
 
-pub ended-open : {h w a l : ℕ} → (h ≡ 0 → ⊥) → a < w → (l ≡ 0 → ⊥) → Open ≡ ended_by h w a l
+pub ended-open : {h w a l : ℕ} → (h ≡ 0 → ⊥) → a < w → (l ≡ 0 → ⊥) → None ≡ ended_by h w a l
 ended-open {h} {w} {a} {l} e f g = simp (ne_eqb h 0 e, lt-leb w a f, ne_eqb l 0 g)

@@ -24,25 +24,19 @@ pub fn in_range(allowance: usize, wanted: usize) -> bool
     wanted <= MOST_ANSWERS
 }
 
-// How a run stands before its next step, as far as its counts tell.
-#[derive(Clone, Copy)]
-pub enum RunState {
-    Over(Kind),
-    Open,
-}
-
-// The ends are looked for in their order: no alternative left on the pile, as many answers as are wanted, no step left of the allowance.
-pub fn ended(height: usize, wanted: usize, answers: usize, left: usize) -> RunState
+// How a run has ended before its next step, as far as its counts tell; none while it may go on. The ends are looked for in their order: no alternative
+// left on the pile, as many answers as are wanted, no step left of the allowance.
+pub fn ended(height: usize, wanted: usize, answers: usize, left: usize) -> Option<Kind>
     ensures { result ≡ ended_by height wanted answers left }
 {
     if height == 0 {
-        return RunState::Over(Kind::Done);
+        return Some(Kind::Done);
     }
     if wanted <= answers {
-        return RunState::Over(Kind::Wanted);
+        return Some(Kind::Wanted);
     }
     if left == 0 {
-        return RunState::Over(Kind::Steps);
+        return Some(Kind::Steps);
     }
-    RunState::Open
+    None
 }

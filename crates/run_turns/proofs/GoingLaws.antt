@@ -4,6 +4,7 @@ use native.Mathlib.Omega.{arith}
 use mathlib.Core.Path.{◌≡◌, refl, sym, ap, ◌∙◌, subst, subst⁻¹}
 use mathlib.Core.Bool.{false}
 use mathlib.Core.List.{List}
+use Rattle.std.specs.Prelude.{Some, None}
 use lib.ListN.{length}
 use lib.Seq.{length-sets}
 use Rattle.syntax.specs.declared.Kind.{Kind}
@@ -13,6 +14,7 @@ use Rattle.run_layout.specs.Pile.{pile_of}
 use Rattle.unify_bindings.specs.Queues.{Clean}
 use Rattle.run_alternatives.specs.Steps.{Running, Steppable, Stepped}
 use Rattle.run_alternatives.specs.declared.Pile.{Pile}
+use Rattle.run_answers.specs.declared.LoadedProgram.{LoadedProgram}
 use Rattle.run_answers.specs.declared.Next.{Next}
 use Rattle.run_answers.specs.declared.Next.TheVariants.{End, Answer, Step}
 use Rattle.run_answers.specs.declared.AnswerTold.{AnswerTold}
@@ -21,17 +23,23 @@ use Rattle.run_turns.specs.Turns.{Ongoing, Turned, Underway}
 use Rattle.run_answers.proofs.EndLaws.{answer-below}
 use Rattle.run_turns.proofs.LoopLaws.{begins, ends, step-some, step-flat, step-few, steps_on, answer-some, answer-few, answer-here, full, answers-on}
 
-pub record Going (sheet goal names : List ℕ) (count : ℕ) (nodes code symbols state₀ scratch₀ text₀ : List ℕ) (k wanted h₀ n₀ answers₀ steps₀ at₀ : ℕ) (state scratch text : List ℕ) (h n answers steps at : ℕ) : Type 0 where
+pub record Going (loaded : LoadedProgram) (state₀ scratch₀ text₀ : List ℕ) (k wanted h₀ n₀ answers₀ steps₀ at₀ : ℕ) (state scratch text : List ℕ) (h n answers steps at : ℕ) : Type 0 where
   pub state_long : length state ≡ length state₀
   pub scratch_long : length scratch ≡ length scratch₀
   pub text_long : length text ≡ length text₀
-  pub on : (kind : Kind) (w : Underway sheet goal names count nodes code symbols state₀ scratch₀ text₀ (record { height = h₀; trail = n₀; answers = answers₀; steps = steps₀; at = at₀; kind = kind })) → Ongoing w.ss w.sh w.g nodes code state scratch (run_from w.sh w.g wanted (length w.old) k w.progress) (steps₀ + k) wanted w.old text h n answers steps at
+  pub on : (kind : Kind) (w : Underway loaded state₀ scratch₀ text₀ (record { height = h₀; trail = n₀; answers = answers₀; steps = steps₀; at = at₀; kind = kind })) → Ongoing w.ss w.sh w.g loaded.nodes.now loaded.code.now state scratch (run_from w.sh w.g wanted (length w.old) k w.progress) (steps₀ + k) wanted w.old text h n answers steps at
 
-pub go-begin : {sheet goal names : List ℕ} {count : ℕ} {nodes code symbols state scratch text : List ℕ} {k wanted h n answers steps at : ℕ} → Going sheet goal names count nodes code symbols state scratch text k wanted h n answers steps at state scratch text h n answers steps at
+pub go-begin : {loaded : LoadedProgram} {state scratch text : List ℕ} {k wanted h n answers steps at : ℕ} → Going loaded state scratch text k wanted h n answers steps at state scratch text h n answers steps at
 go-begin {k = k} {wanted = wanted} = record { state_long = refl; scratch_long = refl; text_long = refl; on = λ kind w. begins wanted k w.carries }
 
-module _ {sheet goal names : List ℕ} {count : ℕ} {nodes code symbols state₀ scratch₀ text₀ : List ℕ} {k wanted h₀ n₀ answers₀ steps₀ at₀ : ℕ} {state scratch text : List ℕ} {h n answers steps at : ℕ} (i : Going sheet goal names count nodes code symbols state₀ scratch₀ text₀ k wanted h₀ n₀ answers₀ steps₀ at₀ state scratch text h n answers steps at) where
-  module _ {kind : Kind} (w : Underway sheet goal names count nodes code symbols state₀ scratch₀ text₀ (record { height = h₀; trail = n₀; answers = answers₀; steps = steps₀; at = at₀; kind = kind })) where
+module _ {loaded : LoadedProgram} {state₀ scratch₀ text₀ : List ℕ} {k wanted h₀ n₀ answers₀ steps₀ at₀ : ℕ} {state scratch text : List ℕ} {h n answers steps at : ℕ} (i : Going loaded state₀ scratch₀ text₀ k wanted h₀ n₀ answers₀ steps₀ at₀ state scratch text h n answers steps at) where
+  abbrev nodes : List ℕ
+  nodes = loaded.nodes.now
+
+  abbrev code : List ℕ
+  code = loaded.code.now
+
+  module _ {kind : Kind} (w : Underway loaded state₀ scratch₀ text₀ (record { height = h₀; trail = n₀; answers = answers₀; steps = steps₀; at = at₀; kind = kind })) where
     running : Running nodes code state h n
     running = record { ss = w.ss; sh = w.sh; g = w.g; piled = (i.on kind w).under.piled; low = (i.on kind w).under.low }
 
@@ -87,7 +95,7 @@ module _ {sheet goal names : List ℕ} {count : ℕ} {nodes code symbols state�
         answering : before_step wanted answers (steps₀ + k - steps) w.sh (pile_of w.ss w.sh w.g nodes code state h) ≡ Answer
         answering = sym next ∙ q
 
-        pub go-answers : Answering sheet goal names count nodes code symbols state scratch text h n at
+        pub go-answers : Answering loaded state scratch text h n at
         go-answers =
             record {
               ss = w.ss;
@@ -106,27 +114,27 @@ module _ {sheet goal names : List ℕ} {count : ℕ} {nodes code symbols state�
         pub go-below : answers < wanted
         go-below = answer-below wanted answers (steps₀ + k - steps) w.sh (pile_of w.ss w.sh w.g nodes code state h) answering
 
-        module _ {state1 scratch1 text1 : List ℕ} {t : AnswerTold} (a : (v : Answering sheet goal names count nodes code symbols state scratch text h n at) → Answered v.ss v.sh v.g nodes code state state1 scratch scratch1 text text1 h at t) where
+        module _ {state1 scratch1 text1 : List ℕ} {t : AnswerTold} (a : (v : Answering loaded state scratch text h n at) → Answered v.ss v.sh v.g nodes code state state1 scratch scratch1 text text1 h at t) where
           answered : Answered w.ss w.sh w.g nodes code state state1 scratch scratch1 text text1 h at t
           unfolding go-answers
           answered = a go-answers
 
-          pub go-full : t.at ≡ 0 → Turned w.ss w.sh w.g nodes code state1 scratch1 w.old text1 (run_from w.sh w.g wanted (length w.old) k w.progress) (record { height = t.height; trail = t.trail; answers = answers; steps = steps; at = at; kind = Full })
+          pub go-full : t.at ≡ None → Turned w.ss w.sh w.g nodes code state1 scratch1 w.old text1 (run_from w.sh w.g wanted (length w.old) k w.progress) (record { height = t.height; trail = t.trail; answers = answers; steps = steps; at = at; kind = Full })
           go-full z =
               let s : (state1 ≡ answered.mid) × ((t.height ≡ h) × ((t.trail ≡ answered.m) × Clean scratch1)) = answered.stopped z in
               subst⁻¹ (λ (x : List ℕ). Turned w.ss w.sh w.g nodes code x scratch1 w.old text1 end (record { height = t.height; trail = t.trail; answers = answers; steps = steps; at = at; kind = Full })) s.0
               (subst⁻¹ (λ (x : ℕ). Turned w.ss w.sh w.g nodes code answered.mid scratch1 w.old text1 end (record { height = x; trail = t.trail; answers = answers; steps = steps; at = at; kind = Full })) s.1.0
               (subst⁻¹ (λ (x : ℕ). Turned w.ss w.sh w.g nodes code answered.mid scratch1 w.old text1 end (record { height = h; trail = x; answers = answers; steps = steps; at = at; kind = Full })) s.1.1.0
               (full (i.on kind w) answering
-              answered.mid answered.m answered.same.piled answered.same.is answered.mark text1 t.at answered.fitted z scratch1 s.1.1.1
+              answered.mid answered.m answered.same.piled answered.same.is answered.mark text1 t.at answered.told z scratch1 s.1.1.1
               answered.later_long)))
             where
               end : Ended
               end = run_from w.sh w.g wanted (length w.old) k w.progress
 
-          pub answers-going : (t.at ≡ 0 → ⊥) → Ongoing w.ss w.sh w.g nodes code state1 scratch1 (run_from w.sh w.g wanted (length w.old) k w.progress) (steps₀ + k) wanted w.old text1 t.height t.trail (answers + 1) (steps + 1) t.at
-          answers-going z =
-              let s : Stepped w.ss w.sh w.g nodes code answered.mid state1 answered.between scratch1 h (record { height = t.height; trail = t.trail }) = answered.stepped z in
+          pub answers-going : {past : ℕ} → t.at ≡ Some past → Ongoing w.ss w.sh w.g nodes code state1 scratch1 (run_from w.sh w.g wanted (length w.old) k w.progress) (steps₀ + k) wanted w.old text1 t.height t.trail (answers + 1) (steps + 1) past
+          answers-going {past} z =
+              let s : Stepped w.ss w.sh w.g nodes code answered.mid state1 answered.between scratch1 h (record { height = t.height; trail = t.trail }) = answered.stepped past z in
               answers-on (i.on kind w) answering
-              answered.mid answered.m answered.same.piled answered.same.is answered.mark text1 t.at answered.fitted z
+              answered.mid answered.m answered.same.piled answered.same.is answered.mark text1 t.at answered.told z
               state1 scratch1 t.height t.trail s.piled s.is s.clean (s.scratch_long ∙ answered.scratch_long)

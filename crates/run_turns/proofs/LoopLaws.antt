@@ -2,11 +2,12 @@
 use Prim.Native.Nat.{ℕ, zero, suc, ◌+◌, ◌-◌, ◌≤◌, ◌<◌}
 use native.Mathlib.Omega.{arith}
 use native.Mathlib.Nat.{zero-add}
-use mathlib.Core.Path.{◌≡◌, refl, sym, ap, ap₂, ◌∙◌, subst, subst⁻¹}
+use mathlib.Core.Path.{◌≡◌, refl, sym, ap, ap₂, ◌∙◌, subst⁻¹}
 use mathlib.Core.Bool.{Bool, true, false}
 use mathlib.Core.List.{List, ◌++◌}
 use mathlib.Core.Logic.{◌⊎◌, inl, inr}
 use lib.Dec.{ltb, eqb}
+use Rattle.std.specs.Prelude.{Option, Some, None}
 use lib.ListN.{length, length-append}
 use borrow.Author.Tests.{ltb-true, ltb-false, lt-ltb, le-ltb}
 use lib.Seq.{sets, length-sets}
@@ -24,13 +25,18 @@ use Rattle.run_layout.specs.State.{bindings}
 use Rattle.run_layout.specs.Pile.{pile_of, Piled, mark_at}
 use Rattle.unify_bindings.specs.Queues.{Clean}
 use Rattle.unify_bindings.specs.Scratch.{Roomy}
-use Rattle.out_answers.specs.Fitting.{Fitted}
 use Rattle.run_answers.specs.declared.Next.TheVariants.{End, Answer, Step}
-use Rattle.run_answers.specs.Telling.{before_step, Tellable, Under}
+use Rattle.run_answers.specs.Telling.{before_step, Tellable, LineTold, Under}
 use Rattle.run_turns.specs.Turns.{Ongoing, Carries, Turned}
 use Rattle.run_turns.specs.declared.Carried.{Carried}
 use Rattle.run_answers.proofs.EndLaws.{Goes, Answers, run_ends, run-steps, run-answers}
-use Rattle.run_answers.proofs.LineLaws.{line-some, line_of}
+use Rattle.run_answers.proofs.LineLaws.{line_of}
+
+none-some : (k : ℕ) → ◌≡◌ {A = Option ℕ} None (Some k) → ⊥
+none-some k q = let z : ◌≡◌ {A = ℕ} 0 1 = cc in omega arith
+
+some-eq : (m n : ℕ) → ◌≡◌ {A = Option ℕ} (Some m) (Some n) → m ≡ n
+some-eq m n q = cc
 
 left-some : (left : ℕ) → eqb left 0 ≡ false → 0 < left
 left-some zero q = absurd (let y : ◌≡◌ {A = Bool} true false = q in let x : ◌≡◌ {A = ℕ} 0 1 = cc in omega arith)
@@ -155,7 +161,7 @@ module _ {ss : List Symbol} {sh : Sheet} {g : Goal} {nodes code : List ℕ} {fin
         pub answer-room : at ≤ length new
         answer-room = let x : length new ≡ length old = ap length o.text_is ∙ length-sets old 0 o.written in let y : at ≤ length old = o.fits in omega arith
 
-        module _ (new1 : List ℕ) (r : ℕ) (f : Fitted (line g (bindings ss nodes state1 m)) new at new1 r) where
+        module _ (new1 : List ℕ) (r : Option ℕ) (f : LineTold (line g (bindings ss nodes state1 m)) new at new1 r) where
           abbrev L : ℕ
           L = length (line g (bindings ss nodes state1 m))
 
@@ -165,7 +171,7 @@ module _ {ss : List Symbol} {sh : Sheet} {g : Goal} {nodes code : List ℕ} {fin
           total : length o.written + length (next_line g (pile_of ss sh g nodes code state h)) ≡ at + L
           total = ap₂ (λ (a b : ℕ). a + b) (sym o.at_is) (ap length the-line)
 
-          pub full : r ≡ 0 → (scratch2 : List ℕ) → Clean scratch2 → length scratch2 ≡ length scratch
+          pub full : r ≡ None → (scratch2 : List ℕ) → Clean scratch2 → length scratch2 ≡ length scratch
               → Turned ss sh g nodes code state1 scratch2 old new1 final (record { height = h; trail = m; answers = answers; steps = steps; at = at; kind = Full })
           full z scratch2 c2 l2 = by (lt-or-le (length new) (at + L))
             where
@@ -189,20 +195,20 @@ module _ {ss : List Symbol} {sh : Sheet} {g : Goal} {nodes code : List ℕ} {fin
                     };
                   }))
               by (inr l) =
-                  absurd (let y : r ≡ at + L = (f.fits l).past in let t : 1 ≤ L = line-some g (bindings ss nodes state1 m) in omega arith)
+                  absurd (none-some (at + L) (sym z ∙ (f.fits l).1))
 
-          fitting : (r ≡ 0 → ⊥) → at + L ≤ length new
-          fitting z = by (lt-or-le (length new) (at + L))
+          fitting : {n : ℕ} → r ≡ Some n → at + L ≤ length new
+          fitting {n} z = by (lt-or-le (length new) (at + L))
             where
               by : (length new < at + L) ⊎ (at + L ≤ length new) → at + L ≤ length new
-              by (inl l) = absurd (z (f.full l).0)
+              by (inl l) = absurd (none-some n (sym (f.full l).0 ∙ z))
               by (inr l) = l
 
-          pub answers-on : (r ≡ 0 → ⊥) → (state2 scratch2 : List ℕ) (h2 n2 : ℕ) → Piled ss sh g nodes code state2 h2 n2 → pile_of ss sh g nodes code state2 h2 ≡ step sh (pile_of ss sh g nodes code state1 h) → Clean scratch2 → length scratch2 ≡ length scratch → Ongoing ss sh g nodes code state2 scratch2 final allowance wanted old new1 h2 n2 (answers + 1) (steps + 1) r
-          answers-on z state2 scratch2 h2 n2 p2 e2 c2 l2 =
+          pub answers-on : {n : ℕ} → r ≡ Some n → (state2 scratch2 : List ℕ) (h2 n2 : ℕ) → Piled ss sh g nodes code state2 h2 n2 → pile_of ss sh g nodes code state2 h2 ≡ step sh (pile_of ss sh g nodes code state1 h) → Clean scratch2 → length scratch2 ≡ length scratch → Ongoing ss sh g nodes code state2 scratch2 final allowance wanted old new1 h2 n2 (answers + 1) (steps + 1) n
+          answers-on {n} z state2 scratch2 h2 n2 p2 e2 c2 l2 =
               let x : steps < allowance = answer-few in
               let fit : at + L ≤ length new = fitting z in
-              let past : r ≡ at + L = (f.fits fit).past in
+              let past : n ≡ at + L = some-eq n (at + L) (sym z ∙ (f.fits fit).1) in
               let same : length new ≡ length old = room-same in
               let tot : length o.written + length (next_line g (pile_of ss sh g nodes code state h)) ≡ at + L = total in
               let w : allowance - steps - 1 ≡ allowance - (steps + 1) = omega arith in
@@ -212,7 +218,7 @@ module _ {ss : List Symbol} {sh : Sheet} {g : Goal} {nodes code : List ℕ} {fin
                 written = o.written ++ line g (bindings ss nodes state1 m);
                 at_is = past ∙ ap (λ (a : ℕ). a + L) o.at_is ∙ sym (length-append o.written (line g (bindings ss nodes state1 m)));
                 fits = omega arith;
-                text_is = (f.fits fit).text ∙ ap₂ (λ (t : List ℕ) (a : ℕ). sets t a (line g (bindings ss nodes state1 m))) o.text_is (o.at_is ∙ sym (zero-add (length o.written))) ∙ sym (sets-append old 0 o.written (line g (bindings ss nodes state1 m)));
+                text_is = (f.fits fit).0.text ∙ ap₂ (λ (t : List ℕ) (a : ℕ). sets t a (line g (bindings ss nodes state1 m))) o.text_is (o.at_is ∙ sym (zero-add (length o.written))) ∙ sym (sets-append old 0 o.written (line g (bindings ss nodes state1 m)));
                 steps_few = omega arith;
                 whole = o.whole ∙ answers-here.on (not-over (length old) (length o.written + length (next_line g (pile_of ss sh g nodes code state h))) (omega arith))
                     ∙ ap₂ (λ (k : ℕ) (v : List Alternative). run_from sh g wanted (length old) k (record { pile = v; answers = answers + 1; steps = suc steps; text = o.written ++ next_line g (pile_of ss sh g nodes code state h) })) w (ap (step sh) (sym e) ∙ sym e2)

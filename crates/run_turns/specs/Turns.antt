@@ -5,6 +5,7 @@ use Rattle.syntax.specs.Terms.{Sheet, Goal}
 use Rattle.machine.specs.Runs.{Progress, Ended, run_from}
 use Rattle.run_layout.specs.Nodes.{Symbol}
 use Rattle.run_layout.specs.Pile.{pile_of}
+use Rattle.run_answers.specs.declared.LoadedProgram.{LoadedProgram}
 use Rattle.run_answers.specs.Telling.{Spelt, Under}
 use Rattle.run_turns.specs.declared.Carried.{Carried}
 
@@ -36,11 +37,11 @@ pub record Turned (ss : List Symbol) (sh : Sheet) (g : Goal) (nodes code state s
   pub carries : Carries ss sh g nodes code state scratch old new e.at t
 
 -- a run under way
-pub record Underway (sheet goal names : List ℕ) (count : ℕ) (nodes code symbols state scratch text : List ℕ) (t : Carried) : Type 0 where
+pub record Underway (loaded : LoadedProgram) (state scratch text : List ℕ) (t : Carried) : Type 0 where
   pub ss : List Symbol
   pub sh : Sheet
   pub g : Goal
-  pub spelt : Spelt ss g sheet goal names count symbols
+  pub spelt : Spelt ss g loaded
   pub old : List ℕ
   pub progress : Progress
-  pub carries : Carries ss sh g nodes code state scratch old text progress t
+  pub carries : Carries ss sh g loaded.nodes.now loaded.code.now state scratch old text progress t

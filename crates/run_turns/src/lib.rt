@@ -7,7 +7,7 @@ ghost use Rattle.std.specs.Prelude.{◌+◌, ◌^◌, ◌<◌, length};
 ghost use Rattle.machine.specs.Runs.{run_from};
 ghost use Rattle.run_turns.specs.Turns.{Underway, Turned};
 
-use run_answers::{Next, answer, next_of};
+use run_answers::{LoadedProgram, Next, answer, next_of};
 use run_steps::step;
 use syntax::Kind;
 
@@ -25,13 +25,7 @@ pub struct Carried {
 
 // A run taken at most k steps further: the step repeated until an end applies or the k steps are used up.
 pub fn turn(
-    sheet: &[u8],
-    goal: &[u8],
-    names: &[u32],
-    count: usize,
-    nodes: &[u32],
-    code: &[u32],
-    symbols: &[u32],
+    loaded: LoadedProgram,
     state: &mut [u32],
     scratch: &mut [u32],
     text: &mut [u8],
@@ -39,11 +33,10 @@ pub fn turn(
     k: usize,
     wanted: usize,
 ) -> Carried
-    requires underway { Underway sheet.now goal.now names.now count nodes.now code.now symbols.now state.old scratch.old text.old carried }
+    requires underway { Underway loaded state.old scratch.old text.old carried }
     requires k_bound { carried.steps + k < 2 ^ 64 }
-    ensures { (w : Underway sheet.now goal.now names.now count nodes.now code.now
-        symbols.now state.old scratch.old text.old carried)
-        → Turned w.ss w.sh w.g nodes.now code.now state.new scratch.new w.old text.new
+    ensures { (w : Underway loaded.entry state.old scratch.old text.old carried)
+        → Turned w.ss w.sh w.g loaded.entry.nodes.now loaded.entry.code.now state.new scratch.new w.old text.new
         (run_from w.sh w.g wanted (length w.old) k w.progress) result }
 {
     let allowance = carried.steps + k;
@@ -52,8 +45,9 @@ pub fn turn(
     let mut answers = carried.answers;
     let mut steps = carried.steps;
     let mut at = carried.at;
+    // How many steps there are is known only when an end applies.
     loop {
-        match next_of(code, state, allowance, wanted, h, n, answers, steps) {
+        match next_of(loaded.code, state, allowance, wanted, h, n, answers, steps) {
             Next::End(kind) => {
                 return Carried {
                     height: h,
@@ -65,10 +59,8 @@ pub fn turn(
                 };
             }
             Next::Answer => {
-                let t = answer(
-                    sheet, goal, names, count, nodes, code, symbols, state, scratch, text, h, n, at,
-                );
-                if t.at == 0 {
+                let t = answer(loaded, state, scratch, text, h, n, at);
+                let Some(past) = t.at else {
                     return Carried {
                         height: t.height,
                         trail: t.trail,
@@ -77,15 +69,15 @@ pub fn turn(
                         at,
                         kind: Kind::Full,
                     };
-                }
-                at = t.at;
+                };
+                at = past;
                 h = t.height;
                 n = t.trail;
                 answers += 1;
                 steps += 1;
             }
             Next::Step => {
-                let p = step(nodes, code, state, scratch, h, n);
+                let p = step(loaded.nodes, loaded.code, state, scratch, h, n);
                 h = p.height;
                 n = p.trail;
                 steps += 1;

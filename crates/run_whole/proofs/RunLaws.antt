@@ -1,7 +1,7 @@
 -- A run in one turn: its start, what it gives and what it leaves.
-use Prim.Native.Nat.{ℕ, ◌-◌}
+use Prim.Native.Nat.{ℕ}
 use native.Mathlib.Omega.{arith}
-use mathlib.Core.Path.{refl, sym, ap, ap₂, ◌∙◌, subst, subst⁻¹}
+use mathlib.Core.Path.{refl, sym, ap, ap₂, ◌∙◌, subst⁻¹}
 use mathlib.Core.List.{List, []}
 use lib.ListN.{length}
 use Rattle.syntax.specs.declared.Kind.{Kind}
@@ -11,6 +11,7 @@ use Rattle.machine.specs.Runs.{Progress, run_from, begun, run}
 use Rattle.machine.specs.Low.{Low}
 use Rattle.machine_theorems.proofs.Low.{low-start}
 use Rattle.run_alternatives.specs.Steps.{Startable, Started}
+use Rattle.run_answers.specs.declared.LoadedProgram.{LoadedProgram}
 use Rattle.run_turns.specs.Turns.{Turned, Underway}
 use Rattle.run_whole.specs.Running.{Runs, Leaves, Runnable}
 use Rattle.run_turns.specs.declared.Carried.{Carried}
@@ -20,7 +21,13 @@ use Rattle.run_whole.specs.declared.Ran.{Ran}
 abbrev pub first : Carried
 first = record { height = 1; trail = 0; answers = 0; steps = 0; at = 0; kind = Steps }
 
-module _ {sheet goal names : List ℕ} {count : ℕ} {nodes code symbols state scratch text : List ℕ} (w : Runnable sheet goal names count nodes code symbols state scratch text) where
+module _ {loaded : LoadedProgram} {state scratch text : List ℕ} (w : Runnable loaded state scratch text) where
+  abbrev nodes : List ℕ
+  nodes = loaded.nodes.now
+
+  abbrev code : List ℕ
+  code = loaded.code.now
+
   startable : Startable nodes code state
   startable = record { ss = w.ss; sh = w.sh; g = w.g; program = w.program; long = w.long; zero_words = w.zero_words }
 
@@ -32,7 +39,7 @@ module _ {sheet goal names : List ℕ} {count : ℕ} {nodes code symbols state s
     unfolding startable
     started-here = s nodes startable
 
-    pub go-underway : Underway sheet goal names count nodes code symbols state1 scratch text first
+    pub go-underway : Underway loaded state1 scratch text first
     unfolding begun
     go-underway =
         record {
@@ -56,7 +63,7 @@ module _ {sheet goal names : List ℕ} {count : ℕ} {nodes code symbols state s
     ran t = record { report = record { kind = t.kind; answers = t.answers; steps = t.steps }; bytes = t.at }
 
     module _ (allowance wanted : ℕ) {state2 scratch2 new : List ℕ} {t : Carried}
-        (k : (v : Underway sheet goal names count nodes code symbols state1 scratch text first) → Turned v.ss v.sh v.g nodes code state2 scratch2 v.old new (run_from v.sh v.g wanted (length v.old) allowance v.progress) t) where
+        (k : (v : Underway loaded state1 scratch text first) → Turned v.ss v.sh v.g nodes code state2 scratch2 v.old new (run_from v.sh v.g wanted (length v.old) allowance v.progress) t) where
       turned-here : Turned w.ss w.sh w.g nodes code state2 scratch2 text new (run w.sh w.g allowance wanted (length text)) t
       unfolding go-underway run
       turned-here = k go-underway

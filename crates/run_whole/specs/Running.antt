@@ -10,6 +10,7 @@ use Rattle.run_layout.specs.Nodes.{Symbol}
 use Rattle.run_layout.specs.Program.{Program}
 use Rattle.run_layout.specs.Pile.{pile_of, Piled}
 use Rattle.unify_bindings.specs.Queues.{Clean}
+use Rattle.run_answers.specs.declared.LoadedProgram.{LoadedProgram}
 use Rattle.run_answers.specs.Telling.{Spelt, LentScratch}
 use Rattle.run_whole.specs.declared.Ran.{Ran}
 
@@ -32,12 +33,12 @@ pub record Runs (sh : Sheet) (g : Goal) (allowance wanted : ℕ) (old new : List
   pub text_is : new ≡ sets old 0 (run sh g allowance wanted (length old)).at.text
 
 -- a loaded program and a state of zeros
-pub record Runnable (sheet goal names : List ℕ) (count : ℕ) (nodes code symbols state scratch text : List ℕ) : Type 0 where
+pub record Runnable (loaded : LoadedProgram) (state scratch text : List ℕ) : Type 0 where
   pub ss : List Symbol
   pub sh : Sheet
   pub g : Goal
-  pub spelt : Spelt ss g sheet goal names count symbols
-  pub program : Program ss sh g nodes code
+  pub spelt : Spelt ss g loaded
+  pub program : Program ss sh g loaded.nodes.now loaded.code.now
   pub long : state_words ≤ length state
   pub zero_words : (i : ℕ) → get_or state i 0 ≡ 0
   pub lent : LentScratch scratch (length text)

@@ -33,7 +33,8 @@ fn main(rt: HostRuntime) -> io::Result<()> {
         wanted: ANSWERS,
         stored: false,
     };
-    let r = pilvaust::run_traced(clauses, asked, &trace[..k], settings, &mut text);
-    let run = r.run;
+    let run = pilvaust::run_traced(clauses, asked, &trace[..k], settings, &mut text).map(
+        |written| written.report,
+    );
     out_printing::print_run(&mut io::writer(&rt), clauses, asked, run, &text)
 }

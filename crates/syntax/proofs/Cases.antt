@@ -11,8 +11,8 @@ use Rattle.syntax.specs.Terms.{same_bytes, literal_of}
 use Rattle.syntax.specs.Reading.{and_then, cursor_at, next, wrong_number, wrong, beyond, full, variable_number, is_anonymous, with_new, new_variable, old_variable, read_variable, atom_with, read_atom_with, term_with, read_term_with, arguments_after, read_arguments, read_list, read_term, read_atom, read_right, after_atom, after_term, literal_with, plain_with, read_plain, read_literal, body_after, read_body_with, read_sides, read_to, read_body, clause_after, read_clause, marks_after, marks_with, read_marks, marks_read, declaration_end, declaration_from, is_mode, after_neck, read_declaration, item_with, read_items, at_start, read_sheet, goal_end, read_goal, declares, repeats, first_repeat}
 use Rattle.syntax.specs.Refusals.{five, numbers_of}
 use Rattle.syntax.specs.Verdicts.{without_repeats, sheet_from, goal_from, sheet_of, goal_outcome, sheet_verdict, goal_verdict, read_verdict, read_goal_verdict}
-use Rattle.syntax.specs.declared.Verdict.{Verdict}
-use Rattle.syntax.specs.declared.Verdict.TheVariants.{Accepted, Refused}
+use Rattle.syntax.specs.Verdicts.{Verdict}
+use Rattle.syntax.specs.Verdicts.{Accepted, Refused}
 use Rattle.syntax.specs.declared.Text.TheVariants.{Sheet, Goal}
 use Rattle.syntax.specs.declared.Five.{Five}
 use Rattle.syntax.specs.declared.Refusal.{Refusal}

@@ -10,7 +10,9 @@ use lib.Dec.{eqb, ltb}
 use lib.ListN.{length}
 use borrow.Author.Tests.{eqb-true, eqb-false, ltb-true}
 use Rattle.syntax.specs.Limits.{brackets, arguments, variables, literals, declarations, clauses}
-use Rattle.syntax.specs.Tokens.{name_kind, variable_kind, numeral_kind, neck_kind, open_kind, close_kind, stop_kind, equals_kind, end_kind, semicolon_kind}
+use Rattle.syntax.proofs.SameKind.{kind-true}
+use Rattle.syntax.specs.declared.TokenKind.{TokenKind}
+use Rattle.syntax.specs.Tokens.{same_kind, name_kind, variable_kind, numeral_kind, neck_kind, open_kind, close_kind, stop_kind, equals_kind, end_kind, semicolon_kind}
 use Rattle.syntax.specs.Terms.{same_name, Term, Terms, variable, nil, cons, arity, Atom, term_of, Literal, Body, call, equation, truth, falsity, either, done, also, literal_of, Mark, Declaration, Clause, Sheet, Goal, same_predicate, true_name, fail_name}
 use Rattle.syntax.specs.Reading.{Cursor, numeral_at, Read, fault, ok, and_then, token_kind, is, cursor_at, next, wrong, beyond, full, spelt, variable_number, is_anonymous, with_new, new_variable, old_variable, read_variable, a_variable, a_numeral, a_name, start_of, begins, After, more, last, neither, after_of, atom_at, atom_with, read_atom_with, term_with, read_term_with, arguments_after, read_arguments, read_list, read_term, read_atom, read_right, after_atom, after_term, literal_with, one_literal_more, plain_with, read_plain, read_literal, body_after, read_body_with, read_sides, read_to, read_body, fresh, Tail, fact, rule, other, tail_of, clause_of, clause_after, read_clause, Sign, mark, no_mark, sign_of, is_mark, marks_after, marks_with, read_marks, marks_read, declaration_of, declaration_end, declaration_from, is_mode, after_neck, read_declaration, no_item, a_declaration, a_clause, past_limit, misplaced, with_declaration, with_clause, item_with, read_items, at_start, read_sheet, goal_of, goal_end, read_goal}
 
@@ -159,20 +161,20 @@ module _ {s : List ℕ} {OfReader : Cursor → Type 0} {OfTerm : ℕ → Term �
   atom-with left list h st r e = atom-by left list h st (is open_kind (next s st)) r e
 
   term-by : {c : ℕ} (left : ℕ) (list : Cursor → Read Terms) → ((st : Cursor) → At OfReader c st → Reads (At OfReader c) (OfTerms left arguments) (list st))
-      → (st : Cursor) (v n a : Bool) → eqb (token_kind st) numeral_kind ≡ n → eqb (token_kind st) name_kind ≡ a → At OfReader c st
+      → (st : Cursor) (v n a : Bool) → same_kind (token_kind st) numeral_kind ≡ n → same_kind (token_kind st) name_kind ≡ a → At OfReader c st
       → Reads (At OfReader c) (OfTerm left) (term_with list s st (cond v a_variable (cond n a_numeral (cond a a_name Rattle.syntax.specs.Reading.nothing))))
   unfolding term_with
   term-by left list h st true n a en ea r = variable-given left st r
-  term-by left list h st false true a en ea r = given (kept.numeral r.0 (eqb-true (token_kind st) numeral_kind en)) (past r)
+  term-by left list h st false true a en ea r = given (kept.numeral r.0 (kind-true (token_kind st) numeral_kind en)) (past r)
   term-by left list h st false false true en ea r =
-      then-given (atom-with left list h st r (eqb-true (token_kind st) name_kind ea)) (λ a after g q. given g q)
+      then-given (atom-with left list h st r (kind-true (token_kind st) name_kind ea)) (λ a after g q. given g q)
   term-by left list h st false false false en ea r = wrong-given st
 
   term-with : {c : ℕ} (left : ℕ) (list : Cursor → Read Terms) → ((st : Cursor) → At OfReader c st → Reads (At OfReader c) (OfTerms left arguments) (list st))
       → (st : Cursor) → At OfReader c st → Reads (At OfReader c) (OfTerm left) (read_term_with list s st)
   unfolding read_term_with
   term-with left list h st r =
-      term-by left list h st (eqb (token_kind st) variable_kind) (eqb (token_kind st) numeral_kind) (eqb (token_kind st) name_kind) refl refl r
+      term-by left list h st (same_kind (token_kind st) variable_kind) (same_kind (token_kind st) numeral_kind) (same_kind (token_kind st) name_kind) refl refl r
 
   arguments-by : {c : ℕ} (left k : ℕ) (rest : Cursor → Read Terms) → ((st : Cursor) → At OfReader c st → Reads (At OfReader c) (OfTerms (suc left) k) (rest st))
       → (t : Term) → OfTerm left t → (st : Cursor) (a : After) → At OfReader c st → Reads (At OfReader c) (OfTerms (suc left) (suc k)) (arguments_after rest s t st a)
@@ -236,7 +238,7 @@ module _ {s : List ℕ} {OfReader : Cursor → Type 0} {OfTerm : ℕ → Term �
       → Reads (At OfReader (suc n)) (OfLiteral n (suc n)) (literal_with left s st b)
   unfolding literal_with
   literal-by left st true e few low r =
-      then-given (atom-given left st r (eqb-true (token_kind st) name_kind e)) (λ a after g q. after-atom left a after (is equals_kind after) few low g q)
+      then-given (atom-given left st r (kind-true (token_kind st) name_kind e)) (λ a after g q. after-atom left a after (is equals_kind after) few low g q)
   literal-by left st false e few low r = then-given (term-given left st r) (λ t after g q. after-term left t after (is equals_kind after) few low g q)
 
   -- one literal or more, which are so many afterwards
@@ -270,14 +272,14 @@ module _ {s : List ℕ} {OfReader : Cursor → Type 0} {OfTerm : ℕ → Term �
   body-by rest h l st neither g r = wrong-given st
 
   body-with : (literal : Cursor → Read Literal) → ((st : Cursor) → OfReader st → Gives OfReader (Grown OfLiteral st.literals) (literal st))
-      → (end k : ℕ) (st : Cursor) → OfReader st → Gives OfReader (Grown OfBody st.literals) (read_body_with literal s end k st)
+      → (end : TokenKind) (k : ℕ) (st : Cursor) → OfReader st → Gives OfReader (Grown OfBody st.literals) (read_body_with literal s end k st)
   unfolding read_body_with
   body-with literal h end zero st r = wrong-given st
   body-with literal h end (suc k) st r =
       then-given (h st r)
       (λ l after g q. body-by (λ st1. read_body_with literal s end k st1) (λ st1 r1. body-with literal h end k st1 r1) l after (after_of end (token_kind after)) g q)
 
-  sides-given : (body : ℕ → Cursor → Read Body) → ((end : ℕ) (st : Cursor) → OfReader st → Gives OfReader (Grown OfBody st.literals) (body end st))
+  sides-given : (body : TokenKind → Cursor → Read Body) → ((end : TokenKind) (st : Cursor) → OfReader st → Gives OfReader (Grown OfBody st.literals) (body end st))
       → (st : Cursor) → OfReader st → Gives OfReader (Grown OfLiteral st.literals) (read_sides body s st)
   unfolding read_sides next cursor_at
   sides-given body h st r =
@@ -362,7 +364,7 @@ module _ {s : List ℕ} {OfReader : Cursor → Type 0} {OfTerm : ℕ → Term �
   unfolding declaration_from
   declaration-from st true e r =
       then-given (marks-of (next s st) (is open_kind (next s st)) (past r))
-      (λ ms after l q. declaration-end (declaration_of s st ms) after (is stop_kind after) (kept.declaration r.0 (eqb-true (token_kind st) name_kind e) l) q)
+      (λ ms after l q. declaration-end (declaration_of s st ms) after (is stop_kind after) (kept.declaration r.0 (kind-true (token_kind st) name_kind e) l) q)
   declaration-from st false e r = wrong-given st
 
   after-neck : (st : Cursor) (b : Bool) → At OfReader 0 st → Reads (At OfReader 0) OfDeclaration (after_neck s st b)
@@ -399,7 +401,7 @@ module _ {s : List ℕ} {OfReader : Cursor → Type 0} {OfTerm : ℕ → Term �
       (λ sh end gs z. given (subst (λ (n : ℕ). OfSheet ds n (with_clause c sh)) one (kept.one_clause g gs)) z))
 
   item_by : (rest : ℕ → ℕ → Cursor → Read Sheet) → ((ds cs : ℕ) (st : Cursor) → At OfReader 0 st → Reads (At OfReader 0) (OfSheet ds cs) (rest ds cs st))
-      → (ds cs : ℕ) (st : Cursor) (stop neck d name c : Bool) → eqb ds 0 ≡ d → eqb (token_kind st) name_kind ≡ name → eqb cs 0 ≡ c → At OfReader 0 st
+      → (ds cs : ℕ) (st : Cursor) (stop neck d name c : Bool) → eqb ds 0 ≡ d → same_kind (token_kind st) name_kind ≡ name → eqb cs 0 ≡ c → At OfReader 0 st
       → Reads (At OfReader 0) (OfSheet ds cs)
       (item_with rest s ds cs st (cond stop no_item (cond neck (cond d past_limit a_declaration) (cond name (cond c past_limit a_clause) misplaced))))
   unfolding item_with
@@ -407,7 +409,7 @@ module _ {s : List ℕ} {OfReader : Cursor → Type 0} {OfTerm : ℕ → Term �
   item_by rest h ds cs st false true true name c ed en ec r = beyond-given st
   item_by rest h ds cs st false true false name c ed en ec r = item-declaration rest h ds cs st r ed
   item_by rest h ds cs st false false d true true ed en ec r = beyond-given st
-  item_by rest h ds cs st false false d true false ed en ec r = item-clause rest h ds cs st r (eqb-true (token_kind st) name_kind en) ec
+  item_by rest h ds cs st false false d true false ed en ec r = item-clause rest h ds cs st r (kind-true (token_kind st) name_kind en) ec
   item_by rest h ds cs st false false d false c ed en ec r = wrong-given st
 
   items-given : (n ds cs : ℕ) (st : Cursor) → At OfReader 0 st → Reads (At OfReader 0) (OfSheet ds cs) (read_items s n ds cs st)
@@ -415,7 +417,7 @@ module _ {s : List ℕ} {OfReader : Cursor → Type 0} {OfTerm : ℕ → Term �
   items-given zero ds cs st r = wrong-given st
   items-given (suc n) ds cs st r =
       item_by (λ ds1 cs1 st1. read_items s n ds1 cs1 st1) (λ ds1 cs1 st1 r1. items-given n ds1 cs1 st1 r1) ds cs st
-      (eqb (token_kind st) end_kind) (eqb (token_kind st) neck_kind) (eqb ds 0) (eqb (token_kind st) name_kind) (eqb cs 0) refl refl refl r
+      (same_kind (token_kind st) end_kind) (same_kind (token_kind st) neck_kind) (eqb ds 0) (same_kind (token_kind st) name_kind) (eqb cs 0) refl refl refl r
 
   sheet-given : Reads (At OfReader 0) (OfSheet declarations clauses) (read_sheet s)
   unfolding read_sheet

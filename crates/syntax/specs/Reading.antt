@@ -3,12 +3,14 @@
 use Rattle.std.specs.Prelude.{ℕ, zero, suc, ◌+◌, ◌-◌, Bool, true, false, cond, ◌&&◌, ◌||◌, List, [], ◌∷◌, ◌++◌, ltb, eqb, length, get_or}
 use Rattle.std.proofs.Math.Option.{Option, none, some}
 use Rattle.syntax.specs.Limits.{brackets, arguments, variables, literals, declarations, clauses}
-use Rattle.syntax.specs.Tokens.{token_at, spelling, no_token, name_kind, variable_kind, numeral_kind, neck_kind, open_kind, close_kind, comma_kind, stop_kind}
+use Rattle.syntax.specs.Tokens.{token_at, spelling, same_kind}
+use Rattle.syntax.specs.Tokens.{no_token, name_kind, variable_kind, numeral_kind, neck_kind, open_kind, close_kind, comma_kind, stop_kind}
 use Rattle.syntax.specs.Tokens.{equals_kind, plus_kind, minus_kind, star_kind, overlong_kind, end_kind, semicolon_kind}
 use Rattle.syntax.specs.Numerals.{trimmed, dropped}
 use Rattle.syntax.specs.Terms.{Term, Terms, variable, nil, cons, Atom, term_of, Literal, Body, equation, either, done, also, literal_of, Mark}
 use Rattle.syntax.specs.Terms.{input, output, free, Declaration, Clause, Sheet, Goal, same_name, same_predicate, true_name, fail_name, mode_name}
 use Rattle.syntax.specs.declared.Token.{Token}
+use Rattle.syntax.specs.declared.TokenKind.{TokenKind}
 
 -- Where the reader stands: the token at hand, the spellings of the variables that the clause or goal has so far, the first one met first, and how many
 -- literals it has so far.
@@ -30,11 +32,11 @@ unfoldable pub and_then : {A B : Type 0} → Read A → (A → Cursor → Read B
 and_then (fault n b) k = fault n b
 and_then (ok a st) k = k a st
 
-abbrev pub token_kind : Cursor → ℕ
+abbrev pub token_kind : Cursor → TokenKind
 token_kind st = st.token.kind
 
-abbrev pub is : ℕ → Cursor → Bool
-is k st = eqb (token_kind st) k
+abbrev pub is : TokenKind → Cursor → Bool
+is k st = same_kind (token_kind st) k
 
 -- how the token at hand is spelt
 abbrev pub spelt : List ℕ → Cursor → List ℕ
@@ -49,8 +51,8 @@ unfoldable pub next : List ℕ → Cursor → Cursor
 next s st = cursor_at s (st.token.at + st.token.len) st
 
 -- 3 where the byte begins no token, 4 for one too long, 5 for one that cannot stand here
-unfoldable pub wrong_number : ℕ → ℕ
-wrong_number k = cond (eqb k no_token) 3 (cond (eqb k overlong_kind) 4 5)
+unfoldable pub wrong_number : TokenKind → ℕ
+wrong_number k = cond (same_kind k no_token) 3 (cond (same_kind k overlong_kind) 4 5)
 
 unfoldable pub wrong : {A : Type 0} → Cursor → Read A
 wrong st = fault (wrong_number (token_kind st)) st.token.at
@@ -98,8 +100,8 @@ read_variable s st =
 pub data Start : Type 0 where
   a_variable a_numeral a_name nothing : Start
 
-abbrev pub start_of : ℕ → Start
-start_of k = cond (eqb k variable_kind) a_variable (cond (eqb k numeral_kind) a_numeral (cond (eqb k name_kind) a_name nothing))
+abbrev pub start_of : TokenKind → Start
+start_of k = cond (same_kind k variable_kind) a_variable (cond (same_kind k numeral_kind) a_numeral (cond (same_kind k name_kind) a_name nothing))
 
 abbrev pub begins : Start → Bool
 begins a_variable = true
@@ -111,8 +113,8 @@ begins nothing = false
 pub data After : Type 0 where
   more last neither : After
 
-abbrev pub after_of : ℕ → ℕ → After
-after_of end k = cond (eqb k comma_kind) more (cond (eqb k end) last neither)
+abbrev pub after_of : TokenKind → TokenKind → After
+after_of end k = cond (same_kind k comma_kind) more (cond (same_kind k end) last neither)
 
 -- the name at hand, with some arguments
 abbrev pub atom_at : List ℕ → Cursor → Terms → Atom
@@ -204,13 +206,13 @@ body_after rest s l st neither = wrong st
 
 -- Literals up to a token of the kind `end`; `literal` reads one. The number bounds how many they are: each counts for one or more, so one more than there
 -- may be never stops the reading.
-unfoldable pub read_body_with : (Cursor → Read Literal) → List ℕ → ℕ → ℕ → Cursor → Read Body
+unfoldable pub read_body_with : (Cursor → Read Literal) → List ℕ → TokenKind → ℕ → Cursor → Read Body
 read_body_with literal s end zero st = wrong st
 read_body_with literal s end (suc k) st =
     and_then (literal st) (λ l after. body_after (λ st1. read_body_with literal s end k st1) s l after (after_of end (token_kind after)))
 
 -- A bracket, which is at hand, with two bodies; `body` reads one up to a token of a kind.
-unfoldable pub read_sides : (ℕ → Cursor → Read Body) → List ℕ → Cursor → Read Literal
+unfoldable pub read_sides : (TokenKind → Cursor → Read Body) → List ℕ → Cursor → Read Literal
 read_sides body s st =
     and_then (body semicolon_kind (next s st)) (λ y after. and_then (body close_kind after) (λ z end. ok (either y z) end))
 
@@ -224,7 +226,7 @@ read_literal (suc left) s st =
     ]
 
 -- literals up to a token of a kind, with so many brackets left
-unfoldable pub read_to : ℕ → List ℕ → ℕ → ℕ → Cursor → Read Body
+unfoldable pub read_to : ℕ → List ℕ → TokenKind → ℕ → Cursor → Read Body
 read_to left s end k st = read_body_with (λ st1. read_literal left s st1) s end k st
 
 -- literals up to the full stop
@@ -241,8 +243,8 @@ fresh st = begin st.token
 pub data Tail : Type 0 where
   fact rule other : Tail
 
-abbrev pub tail_of : ℕ → Tail
-tail_of k = cond (eqb k stop_kind) fact (cond (eqb k neck_kind) rule other)
+abbrev pub tail_of : TokenKind → Tail
+tail_of k = cond (same_kind k stop_kind) fact (cond (same_kind k neck_kind) rule other)
 
 abbrev pub clause_of : Atom → Body → Cursor → Clause
 clause_of h b st = record { head = h; body = b; variables = length st.names }
@@ -260,8 +262,8 @@ pub data Sign : Type 0 where
   mark : Mark → Sign
   no_mark : Sign
 
-abbrev pub sign_of : ℕ → Sign
-sign_of k = cond (eqb k plus_kind) (mark input) (cond (eqb k minus_kind) (mark output) (cond (eqb k star_kind) (mark free) no_mark))
+abbrev pub sign_of : TokenKind → Sign
+sign_of k = cond (same_kind k plus_kind) (mark input) (cond (same_kind k minus_kind) (mark output) (cond (same_kind k star_kind) (mark free) no_mark))
 
 abbrev pub is_mark : Sign → Bool
 is_mark (mark m) = true
@@ -318,11 +320,11 @@ read_declaration s st = after_neck s (next s st) (is_mode s (next s st))
 pub data SheetItem : Type 0 where
   no_item a_declaration a_clause past_limit misplaced : SheetItem
 
-abbrev pub item_of : ℕ → ℕ → ℕ → SheetItem
+abbrev pub item_of : TokenKind → ℕ → ℕ → SheetItem
 item_of k ds cs =
-    cond (eqb k end_kind) no_item
-    (cond (eqb k neck_kind) (cond (eqb ds 0) past_limit a_declaration)
-    (cond (eqb k name_kind) (cond (eqb cs 0) past_limit a_clause) misplaced))
+    cond (same_kind k end_kind) no_item
+    (cond (same_kind k neck_kind) (cond (eqb ds 0) past_limit a_declaration)
+    (cond (same_kind k name_kind) (cond (eqb cs 0) past_limit a_clause) misplaced))
 
 abbrev pub with_declaration : Declaration → Sheet → Sheet
 with_declaration d sh = record { declarations = d ∷ sh.declarations; clauses = sh.clauses }

@@ -1,5 +1,6 @@
 -- The answer to a text that is read and not checked further: refusals 2 to 7, in document 01's order.
-use Rattle.std.specs.Prelude.{ℕ, zero, suc, true, false, cond, List, [], ◌∷◌, leb, eqb, length}
+use Rattle.std.specs.Prelude.{ℕ, zero, suc, true, false, cond, List, [], ◌∷◌, leb, eqb, length, Result, Ok, Err, Some, None}
+use Rattle.std.specs.Prelude.{Option as OptionOf}
 use Rattle.std.proofs.Math.Option.{Option, none, some}
 use Rattle.syntax.specs.Terms.{Sheet, Goal, Declaration}
 use Rattle.syntax.specs.Limits.{sheet_bytes, goal_bytes}
@@ -7,11 +8,28 @@ use Rattle.syntax.specs.Reading.{Read, fault, ok, read_sheet, read_goal, first_r
 use Rattle.syntax.specs.declared.Text.TheVariants.{Sheet as in_sheet, Goal as in_goal}
 use Rattle.syntax.specs.declared.Refusal.{Refusal}
 use Rattle.syntax.specs.declared.Refusal.TheVariants.{TooLong, NoToken, Overlong, Misplaced, OverLimit, Repeated}
-use Rattle.syntax.specs.declared.Verdict.{Verdict}
-use Rattle.syntax.specs.declared.Verdict.TheVariants.{Accepted, Refused}
+use Rattle.syntax.specs.declared.Text.{Text}
+use Rattle.syntax.specs.declared.Fault.{Fault}
+use Rattle.syntax.specs.declared.Counts.{Counts}
+use Rattle.syntax.specs.declared.Report.{Report}
 use Rattle.syntax.specs.declared.Entry.{Entry}
-use Rattle.syntax.specs.declared.Declared.{Declared}
-use Rattle.syntax.specs.declared.Declared.TheVariants.{As, Nothing}
+
+-- the answer to a text: accepted, with the counts of declarations and clauses, or the fault
+abbrev pub Verdict : Type 0
+Verdict = Result Counts Fault
+
+-- the answer to a run: its report, or the fault of a text
+abbrev pub Run : Type 0
+Run = Result Report Fault
+
+abbrev pub Accepted : ℕ → ℕ → Verdict
+Accepted n k = Ok (record { declarations = n; clauses = k })
+
+abbrev pub Ended : Report → Run
+Ended report = Ok report
+
+abbrev pub Refused : {A : Type 0} → Text → Refusal → Result A Fault
+Refused t r = Err (record { text = t; refusal = r })
 
 -- a fault of reading, 3 to 6, as a refusal
 abbrev pub fault_of : ℕ → ℕ → Refusal
@@ -61,15 +79,15 @@ abbrev pub entry_of : Declaration → Entry
 entry_of d = record { at = d.at; len = length d.name; arguments = length d.marks }
 
 -- the i-th of some declarations, as an entry
-unfoldable pub nth_entry : List Declaration → ℕ → Declared
-nth_entry [] i = Nothing
-nth_entry (d ∷ ds) zero = As (entry_of d)
+unfoldable pub nth_entry : List Declaration → ℕ → OptionOf Entry
+nth_entry [] i = None
+nth_entry (d ∷ ds) zero = Some (entry_of d)
 nth_entry (d ∷ ds) (suc i) = nth_entry ds i
 
-unfoldable pub outcome_entry : Outcome Sheet → ℕ → Declared
-outcome_entry (refused r) i = Nothing
+unfoldable pub outcome_entry : Outcome Sheet → ℕ → OptionOf Entry
+outcome_entry (refused r) i = None
 outcome_entry (accepted sh) i = nth_entry sh.declarations i
 
 -- the i-th declaration of a text that reading accepts
-unfoldable pub entry_at : List ℕ → ℕ → Declared
+unfoldable pub entry_at : List ℕ → ℕ → OptionOf Entry
 entry_at s i = outcome_entry (sheet_of s) i

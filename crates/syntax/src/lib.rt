@@ -2,39 +2,6 @@
 
 #![tactic(auto)]
 
-// The kinds of token. A byte's class has the same number where one byte is a token.
-pub const NO_TOKEN: usize = 0;
-
-pub const NAME: usize = 3;
-
-pub const VARIABLE: usize = 4;
-
-pub const NUMERAL: usize = 5;
-
-pub const NECK: usize = 6;
-
-pub const OPEN: usize = 7;
-
-pub const CLOSE: usize = 8;
-
-pub const COMMA: usize = 9;
-
-pub const STOP: usize = 10;
-
-pub const EQUALS: usize = 11;
-
-pub const PLUS: usize = 12;
-
-pub const MINUS: usize = 13;
-
-pub const STAR: usize = 14;
-
-pub const OVERLONG: usize = 15;
-
-pub const END: usize = 16;
-
-pub const SEMICOLON: usize = 17;
-
 // Document 01's limits (specs/Limits). Bytes of a sheet and of a goal:
 pub const SHEET_BYTES: usize = 16384;
 
@@ -71,7 +38,9 @@ pub const MOST_STEPS: usize = 65536;
 
 pub const MOST_ANSWERS: usize = 64;
 
-// The words of a table (specs/Words). A node's first word is a variable's number, below this, or a name's, from this on:
+// The words of a table (specs/Words). What is read stands in tables of words of a size that is known before, and not in vectors, boxes or maps: the
+// library allocates nothing (include/pilvaust.h). So kinds and marks are numbers there, where an enum would be made a number at each store, and at
+// each read be made from one that may be none. A node's first word is a variable's number, below this, or a name's, from this on:
 pub const FIRST_NAME: usize = 64;
 
 // the words of a node without its arguments, of a clause before its head, of a declaration:
@@ -126,10 +95,45 @@ pub const PROGRAM_WORDS: usize = SHEET_WORDS + FACTS * FACT_WORDS;
 
 pub const PROGRAM_CLAUSES: usize = CLAUSES + FACTS;
 
+// The kinds of token: a byte that begins none, a name, a variable, a numeral, the pair :-, the tokens of one byte, a word of more bytes than it may
+// have, and the end of the text.
+#[derive(Clone, Copy, PartialEq, Eq)]
+pub enum TokenKind {
+    NoToken,
+    Name,
+    Variable,
+    Numeral,
+    Neck,
+    Open,
+    Close,
+    Comma,
+    Stop,
+    Equals,
+    Plus,
+    Minus,
+    Star,
+    Semicolon,
+    Overlong,
+    End,
+}
+
+// The classes of bytes: what a byte begins, or the token that it is by itself.
+#[derive(Clone, Copy, PartialEq, Eq)]
+pub enum Class {
+    Nothing,
+    Blank,
+    Percent,
+    Lower,
+    Upper,
+    Digit,
+    Colon,
+    Single(TokenKind),
+}
+
 // One token of a text: its kind, first byte and length.
 #[derive(Clone, Copy)]
 pub struct Token {
-    pub kind: usize,
+    pub kind: TokenKind,
     pub at: usize,
     pub len: usize,
 }
@@ -191,12 +195,22 @@ pub enum Refusal {
     Unwritten(usize),
 }
 
-// The answer to a text: accepted, with the counts of declarations and clauses, or the refusal and the text at fault.
+// What is at fault: the text, and its refusal.
 #[derive(Clone, Copy)]
-pub enum Verdict {
-    Accepted { declarations: usize, clauses: usize },
-    Refused { text: Text, refusal: Refusal },
+pub struct Fault {
+    pub text: Text,
+    pub refusal: Refusal,
 }
+
+// How many declarations and clauses a sheet has.
+#[derive(Clone, Copy)]
+pub struct Counts {
+    pub declarations: usize,
+    pub clauses: usize,
+}
+
+// The answer to a text: accepted, with the counts, or its first fault.
+pub type Verdict = Result<Counts, Fault>;
 
 // What a run is asked for: the most steps, the most answers, and document 02 (x)'s mark for a sheet stored earlier, with which declared
 // predicates may have no clause.
@@ -225,12 +239,8 @@ pub struct Report {
     pub steps: usize,
 }
 
-// The answer to a run: its report, or the refusal and the text at fault.
-#[derive(Clone, Copy)]
-pub enum Run {
-    Ended(Report),
-    Refused { text: Text, refusal: Refusal },
-}
+// The answer to a run: its report, or the fault of a text.
+pub type Run = Result<Report, Fault>;
 
 // The five numbers of a refusal.
 #[derive(Clone, Copy)]
@@ -248,11 +258,4 @@ pub struct Entry {
     pub at: usize,
     pub len: usize,
     pub arguments: usize,
-}
-
-// What the i-th entry of a sheet is.
-#[derive(Clone, Copy)]
-pub enum Declared {
-    As(Entry),
-    Nothing,
 }

@@ -65,10 +65,8 @@ pub fn past_body(table: &[u32], p: usize, items: usize) -> usize
     ensures { (b : Body) → ItemsAt table.now p items b → result ≡ p + length (body_words b) }
 {
     let mut at = p;
-    let mut i = 0;
-    while i < items {
+    for _ in 0..items {
         at = past_item(table, at);
-        i += 1;
     }
     at
 }

@@ -1,19 +1,18 @@
--- Laws of parts of a text: comparing them byte by byte, names of four bytes, and `_`. Assumes nothing.
+-- Laws of parts of a text: comparing them, also from the last byte on. Assumes nothing.
 use Prim.Native.Nat.{ℕ, zero, suc, ◌+◌, ◌-◌, ◌≤◌, ◌<◌}
 use native.Mathlib.Nat.{le_of_suc-le-suc, not-suc-le-zero}
-use native.Mathlib.Numerals.{add-one}
 use native.Mathlib.Omega.{arith}
 use mathlib.Core.Path.{◌≡◌, refl, sym, ap, ◌∙◌}
-use mathlib.Core.Bool.{Bool, true, false, ◌&&◌, and-true}
+use mathlib.Core.Bool.{Bool, true, false, ◌&&◌, and-true, and_assoc}
 use mathlib.Core.List.{List, [], ◌∷◌}
 use lib.ListN.{length, get_or, take, drop, length-take, length-drop}
-use lib.Seq.{drop-cons, get_or-drop}
+use lib.Seq.{get_or-drop}
 use lib.Dec.{eqb}
 use borrow.Author.Tests.{eq-eqb, ne_eqb}
-use Rattle.syntax.specs.Reading.{is_anonymous}
-use Rattle.syntax.specs.Terms.{same_bytes, same_name}
+use Rattle.std.proofs.Common.{nat_eq, slice_range}
+use Rattle.std.specs.Cmp.Lexicographic.{pointwise}
+use Rattle.syntax.specs.Terms.{same_bytes}
 use Rattle.syntax.specs.Tokens.{spelling}
-use Rattle.syntax.specs.declared.Token.{Token}
 
 -- ---- the same bytes
 
@@ -33,17 +32,9 @@ length-spelling s at len h = simp (length-take, length-drop) (omega arith)
 
 -- ---- comparisons, from the last byte on: the bytes of names that begin alike are soon told apart
 
-and_right : (x : Bool) → (x && true) ≡ x
-and_right true = refl
-and_right false = refl
-
 and-off : (x : Bool) → (x && false) ≡ false
 and-off true = refl
 and-off false = refl
-
-and-over : (x y z : Bool) → (x && (y && z)) ≡ ((x && y) && z)
-and-over true y z = refl
-and-over false y z = refl
 
 -- one byte more
 same-snoc : (x y : List ℕ) (k : ℕ) → k < length x → k < length y
@@ -51,10 +42,10 @@ same-snoc : (x y : List ℕ) (k : ℕ) → k < length x → k < length y
 unfolding same_bytes
 same-snoc [] y k p q = absurd (not-suc-le-zero p)
 same-snoc (c ∷ r) [] k p q = absurd (not-suc-le-zero q)
-same-snoc (c ∷ r) (d ∷ u) zero p q = and_right (eqb c d)
+same-snoc (c ∷ r) (d ∷ u) zero p q = and-true (eqb c d)
 same-snoc (c ∷ r) (d ∷ u) (suc k) p q =
     ap (λ (v : Bool). eqb c d && v) (same-snoc r u k (le_of_suc-le-suc p) (le_of_suc-le-suc q))
-    ∙ and-over (eqb c d) (same_bytes (take k r) (take k u)) (eqb (get_or r k 0) (get_or u k 0))
+    ∙ sym (and_assoc (eqb c d) (same_bytes (take k r) (take k u)) (eqb (get_or r k 0) (get_or u k 0)))
 
 abbrev pub same_up_to : List ℕ → ℕ → List ℕ → ℕ → ℕ → Bool
 same_up_to s a t b i = same_bytes (take i (drop a s)) (take i (drop b t))
@@ -62,9 +53,6 @@ same_up_to s a t b i = same_bytes (take i (drop a s)) (take i (drop b t))
 -- the parts are the same where their first i bytes are
 abbrev pub Alike : List ℕ → ℕ → List ℕ → ℕ → ℕ → ℕ → Type 0
 Alike s a t b n i = same_bytes (take n (drop a s)) (take n (drop b t)) ≡ same_up_to s a t b i
-
-pub alike-first : (s : List ℕ) (a : ℕ) (t : List ℕ) (b n : ℕ) → Alike s a t b n n
-alike-first s a t b n = refl
 
 same_step : (s : List ℕ) (a : ℕ) (t : List ℕ) (b i : ℕ) → 0 < i → a + i ≤ length s → b + i ≤ length t
     → same_up_to s a t b i ≡ (same_up_to s a t b (i - 1) && eqb (get_or s (a + (i - 1)) 0) (get_or t (b + (i - 1)) 0))
@@ -83,7 +71,7 @@ alike-on s a t b n i h l p e w =
     w
     ∙ same_step s a t b i h (omega (arith, p.0)) (omega (arith, p.1))
     ∙ ap (λ (v : Bool). same_up_to s a t b (i - 1) && v) (eq-eqb _ _ e)
-    ∙ and_right (same_up_to s a t b (i - 1))
+    ∙ and-true (same_up_to s a t b (i - 1))
 
 pub alike-differ : (s : List ℕ) (a : ℕ) (t : List ℕ) (b n i : ℕ) → 0 < i → i ≤ n → (a + n ≤ length s) × (b + n ≤ length t)
     → (get_or s (a + (i - 1)) 0 ≡ get_or t (b + (i - 1)) 0 → ⊥) → Alike s a t b n i → false ≡ same_bytes (take n (drop a s)) (take n (drop b t))
@@ -99,52 +87,22 @@ pub alike_end : (s : List ℕ) (a : ℕ) (t : List ℕ) (b n i : ℕ) → i ≤ 
 unfolding same_bytes
 alike_end s a t b n i h w = let z : i ≡ 0 = omega arith in sym (w ∙ simp z)
 
--- ---- a name of four bytes
+-- ---- slices that are compared as a whole
 
-pub four-short : (s : List ℕ) (at len a b c d : ℕ) → at + len ≤ length s → (len ≡ 4 → ⊥) → same_name (spelling s at len) (a ∷ b ∷ c ∷ d ∷ []) ≡ false
-four-short s at len a b c d h n = same_length (spelling s at len) (a ∷ b ∷ c ∷ d ∷ []) (λ e. n (sym (length-spelling s at len h) ∙ e))
-
-pub four-no : (s : List ℕ) (at len a b c d : ℕ) → at + len ≤ length s → (len ≡ 4 → ⊥) → false ≡ same_name (spelling s at len) (a ∷ b ∷ c ∷ d ∷ [])
-four-no s at len a b c d h n = sym (four-short s at len a b c d h n)
-
--- one byte more of a text
-drop-step : (s : List ℕ) (at next : ℕ) → next ≡ at + 1 → at < length s → drop at s ≡ get_or s at 0 ∷ drop next s
-drop-step s at next e h = drop-cons s at 0 h ∙ ap (λ (n : ℕ). get_or s at 0 ∷ drop n s) (sym (add-one at) ∙ sym e)
-
-spelling-four : (s : List ℕ) (at : ℕ) → at + 4 ≤ length s → spelling s at 4 ≡ get_or s at 0 ∷ get_or s (at + 1) 0 ∷ get_or s (at + 2) 0 ∷ get_or s (at + 3) 0 ∷ []
-spelling-four s at h =
-    ap (λ (l : List ℕ). take 4 l) (drop-step s at (at + 1) refl (omega arith))
-    ∙ ap (λ (l : List ℕ). get_or s at 0 ∷ take 3 l) (drop-step s (at + 1) (at + 2) (omega arith) (omega arith))
-    ∙ ap (λ (l : List ℕ). get_or s at 0 ∷ get_or s (at + 1) 0 ∷ take 2 l) (drop-step s (at + 2) (at + 3) (omega arith) (omega arith))
-    ∙ ap (λ (l : List ℕ). get_or s at 0 ∷ get_or s (at + 1) 0 ∷ get_or s (at + 2) 0 ∷ take 1 l) (drop-step s (at + 3) (at + 4) (omega arith) (omega arith))
-
-pub four : (s : List ℕ) (at len a b c d : ℕ) → at + len ≤ length s → len ≡ 4 → same_name (spelling s at len) (a ∷ b ∷ c ∷ d ∷ []) ≡ (eqb (get_or s at 0) a && (eqb (get_or s (at + 1) 0) b && (eqb (get_or s (at + 2) 0) c && (eqb (get_or s (at + 3) 0) d && true))))
+pub same_pointwise : (a b : List ℕ) → pointwise nat_eq a b ≡ same_bytes a b
 unfolding same_bytes
-four s at len a b c d h e =
-    ap (λ (n : ℕ). same_bytes (spelling s at n) (a ∷ b ∷ c ∷ d ∷ [])) e ∙ ap (λ (l : List ℕ). same_bytes l (a ∷ b ∷ c ∷ d ∷ [])) (spelling-four s at (omega arith))
+same_pointwise [] [] = refl
+same_pointwise [] (y ∷ b) = refl
+same_pointwise (x ∷ a) [] = refl
+same_pointwise (x ∷ a) (y ∷ b) = ap (λ (v : Bool). eqb x y && v) (same_pointwise a b)
 
--- each byte that was read either differs from the one wanted, or the comparison goes on behind it
-module _ (s : List ℕ) (at len a b c d : ℕ) (h : at + len ≤ length s) (e : len ≡ 4) (w : ℕ) (ew : w ≡ get_or s at 0) where
-  pub four-1 : (w ≡ a → ⊥) → false ≡ same_name (spelling s at len) (a ∷ b ∷ c ∷ d ∷ [])
-  four-1 n = sym (four s at len a b c d h e ∙ simp (ne_eqb (get_or s at 0) a (λ q. n (ew ∙ q))))
+-- a slice by its two ends
+pub part_is : (s : List ℕ) (a n : ℕ) → slice_range s a (a + n) ≡ take n (drop a s)
+part_is s a n = let e : (a + n) - a ≡ n = omega arith in ap (λ (m : ℕ). take m (drop a s)) e
 
-  module _ (fw : w ≡ a) (x : ℕ) (ex : x ≡ get_or s (at + 1) 0) where
-    pub four-2 : (x ≡ b → ⊥) → false ≡ same_name (spelling s at len) (a ∷ b ∷ c ∷ d ∷ [])
-    four-2 n = sym (four s at len a b c d h e ∙ simp (eq-eqb (get_or s at 0) a (sym ew ∙ fw), ne_eqb (get_or s (at + 1) 0) b (λ q. n (ex ∙ q))))
+pub same_parts : (s : List ℕ) (a : ℕ) (t : List ℕ) (b n : ℕ)
+    → pointwise nat_eq (slice_range s a (a + n)) (slice_range t b (b + n)) ≡ same_bytes (take n (drop a s)) (take n (drop b t))
+same_parts s a t b n = simp (part_is s a n, part_is t b n, same_pointwise)
 
-    module _ (fx : x ≡ b) (y : ℕ) (ey : y ≡ get_or s (at + 2) 0) where
-      pub four-3 : (y ≡ c → ⊥) → false ≡ same_name (spelling s at len) (a ∷ b ∷ c ∷ d ∷ [])
-      four-3 n = sym (four s at len a b c d h e ∙ simp (eq-eqb (get_or s at 0) a (sym ew ∙ fw), eq-eqb (get_or s (at + 1) 0) b (sym ex ∙ fx), ne_eqb (get_or s (at + 2) 0) c (λ q. n (ey ∙ q))))
-
-      pub four-4 : y ≡ c → (z : ℕ) → z ≡ get_or s (at + 3) 0 → eqb z d ≡ same_name (spelling s at len) (a ∷ b ∷ c ∷ d ∷ [])
-      four-4 fy z ez = sym (four s at len a b c d h e ∙ simp (eq-eqb (get_or s at 0) a (sym ew ∙ fw), eq-eqb (get_or s (at + 1) 0) b (sym ex ∙ fx), eq-eqb (get_or s (at + 2) 0) c (sym ey ∙ fy), and-true, ← ez))
-
--- ---- `_` alone
-
-pub anonymous-long : (s : List ℕ) (t : Token) → (t.len ≡ 1 → ⊥) → false ≡ is_anonymous s t
-unfolding is_anonymous
-anonymous-long s t n = simp (ne_eqb t.len 1 n)
-
-pub anonymous-one : (s : List ℕ) (t : Token) (b : ℕ) → t.len ≡ 1 → b ≡ get_or s t.at 0 → eqb b 95 ≡ is_anonymous s t
-unfolding is_anonymous
-anonymous-one s t b e eb = simp (eq-eqb t.len 1 e, ← eb)
+pub same_as : (s : List ℕ) (at len : ℕ) (name : List ℕ) → pointwise nat_eq (slice_range s at (at + len)) name ≡ same_bytes (spelling s at len) name
+same_as s at len name = simp (part_is s at len, same_pointwise)

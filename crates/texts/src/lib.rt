@@ -20,47 +20,25 @@ const ZERO: u8 = 48;
 pub fn byte_at(s: &[u8], i: usize) -> u8
     ensures { result ≡ get_or s.now i 0 }
 {
-    if i < s.len() {
-        return s[i];
-    }
-    0
+    s.get(i).copied().unwrap_or(0)
 }
 
-// Whether the `n` bytes of `s` from `a` on and those of `t` from `b` on are the same, from the last one on.
+// Whether the `n` bytes of `s` from `a` on and those of `t` from `b` on are the same.
+#[tactic(auto, using(crate::proofs::Laws::same_parts))]
 pub fn same_bytes(s: &[u8], a: usize, t: &[u8], b: usize, n: usize) -> bool
     requires { (a + n ≤ length s.now) × (b + n ≤ length t.now) }
     ensures { result ≡ same_bytes (take n (drop a s.now)) (take n (drop b t.now)) }
 {
-    let mut i = n;
-    while 0 < i {
-        i -= 1;
-        let p = a + i;
-        let q = b + i;
-        if s[p] != t[q] {
-            return false;
-        }
-    }
-    true
+    s[a..a + n] == t[b..b + n]
 }
 
-// Whether a name is the one of these four bytes.
-fn is_four(s: &[u8], at: usize, len: usize, a: u8, b: u8, c: u8, d: u8) -> bool
+// Whether a name is the one of these bytes.
+#[tactic(auto, using(crate::proofs::Laws::same_as))]
+fn is_name(s: &[u8], at: usize, len: usize, name: &[u8]) -> bool
     requires { at + len ≤ length s.now }
-    ensures { result ≡ same_name (spelling s.now at len) (a ∷ b ∷ c ∷ d ∷ []) }
+    ensures { result ≡ same_name (spelling s.now at len) name.now }
 {
-    if len != 4 {
-        return false;
-    }
-    if byte_at(s, at) != a {
-        return false;
-    }
-    if byte_at(s, at + 1) != b {
-        return false;
-    }
-    if byte_at(s, at + 2) != c {
-        return false;
-    }
-    byte_at(s, at + 3) == d
+    &s[at..at + len] == name
 }
 
 // Whether it is one of the three names that document 01 uses itself.
@@ -68,32 +46,29 @@ pub fn is_true(s: &[u8], at: usize, len: usize) -> bool
     requires { at + len ≤ length s.now }
     ensures { result ≡ same_name (spelling s.now at len) true_name }
 {
-    is_four(s, at, len, 116, 114, 117, 101)
+    is_name(s, at, len, b"true")
 }
 
 pub fn is_fail(s: &[u8], at: usize, len: usize) -> bool
     requires { at + len ≤ length s.now }
     ensures { result ≡ same_name (spelling s.now at len) fail_name }
 {
-    is_four(s, at, len, 102, 97, 105, 108)
+    is_name(s, at, len, b"fail")
 }
 
 pub fn is_mode(s: &[u8], at: usize, len: usize) -> bool
     requires { at + len ≤ length s.now }
     ensures { result ≡ same_name (spelling s.now at len) mode_name }
 {
-    is_four(s, at, len, 109, 111, 100, 101)
+    is_name(s, at, len, b"mode")
 }
 
 // Whether a token is `_` alone.
+#[tactic(auto, unfolding(syntax::specs::Reading::is_anonymous))]
 pub fn is_anonymous(s: &[u8], t: Token) -> bool
     ensures { result ≡ is_anonymous s.now t }
 {
-    if t.len != 1 {
-        return false;
-    }
-    let at = t.at;
-    byte_at(s, at) == UNDERSCORE
+    t.len == 1 && byte_at(s, t.at) == UNDERSCORE
 }
 
 // The byte of the first digit that a numeral keeps: leading zeros are dropped, but never its last digit.
@@ -101,14 +76,14 @@ pub fn first_kept(s: &[u8], at: usize, len: usize) -> usize
     requires { at + len ≤ length s.now }
     ensures { result ≡ at + dropped (spelling s.now at len) }
 {
-    let mut p = at;
-    let mut left = len;
-    while 1 < left {
+    if len == 0 {
+        return at;
+    }
+    let last = at + len - 1;
+    for p in at..last {
         if s[p] != ZERO {
             return p;
         }
-        p += 1;
-        left -= 1;
     }
-    p
+    last
 }

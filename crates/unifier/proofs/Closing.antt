@@ -14,7 +14,7 @@ use Rattle.unify_bindings.specs.declared.stack.Side.{Side}
 use Rattle.unifier.specs.Rows.{unify_rows}
 use Rattle.unifier.specs.Walks.{StopsAt, Walks}
 use Rattle.unifier.specs.Stacks.{whole_of, row_of, SameRows, no_term, Closes}
-use Rattle.unifier.specs.declared.walk.RowsWalked.TheVariants.{Done}
+use Rattle.std.proofs.Common.{Ok}
 use Rattle.unifier.proofs.Rules.{rows-done, rows-equal, equal-rows, tail-of, args-of-app}
 
 -- ---- rows with the bindings put in
@@ -43,7 +43,7 @@ equal-first b t u ts us e =
     (sym (resolve-app b [] (rcons t ts) ∙ ap (app []) (resolve-cons b t ts)) ∙ (e ∙ (resolve-app b [] (rcons u us) ∙ ap (app []) (resolve-cons b u us))))
 
 -- what the walk over two rows says of them
-pub walk-equal : (ss : List Symbol) (nodes : List ℕ) (p e q f : ℕ) → Walks ss nodes p e q f Done → (b : List Binding) (c d : ℕ) → resolve b (app [] (terms_at ss nodes p e c)) ≡ resolve b (app [] (terms_at ss nodes q f d))
+pub walk-equal : (ss : List Symbol) (nodes : List ℕ) (p e q f : ℕ) → Walks ss nodes p e q f (Ok tt) → (b : List Binding) (c d : ℕ) → resolve b (app [] (terms_at ss nodes p e c)) ≡ resolve b (app [] (terms_at ss nodes q f d))
 walk-equal ss nodes p e q f w b c d =
     equal-rows b (terms_at ss nodes p e c) (terms_at ss nodes q f d)
     (ap₂ (unify_rows b) (sym (followed-none (terms_at ss nodes p e c))) (sym (followed-none (terms_at ss nodes q f d))) ∙ (w b c d rnil rnil ∙ rows-done b))

@@ -16,8 +16,10 @@ use Rattle.run_layout.specs.Nodes.{name_of_symbol, Row, term_at, terms_at, follo
 use Rattle.run_layout.proofs.Nodes.{node-inside, node_end, node-size, compound-at, compound-row, row_one, row-one-is, row-order, row-none, row_first, row-rest, row_cons, same_count, other-symbol, row-join, row-joined}
 use Rattle.unifier.specs.Rows.{unify_rows, nodes_of, nodes_of_all, rows_size}
 use Rattle.unifier.specs.Walks.{RowsBeside, Walkable, TwoNodes, StopsAt, Walks}
-use Rattle.unifier.specs.declared.walk.RowsWalked.{RowsWalked}
-use Rattle.unifier.specs.declared.walk.RowsWalked.TheVariants.{Done, Clash, Met}
+use Rattle.std.proofs.Common.{Ok, Err}
+use Rattle.unifier.specs.Walks.{RowsWalked}
+use Rattle.unifier.specs.declared.walk.WalkStop.{WalkStop}
+use Rattle.unifier.specs.declared.walk.WalkStop.TheVariants.{Clash, Met}
 use Rattle.unifier.proofs.Rules.{rows-open, rows-clash, count-resolve}
 
 -- ---- rows behind each other
@@ -90,7 +92,7 @@ module _ (nodes : List ℕ) (p q : ℕ) (g : TwoNodes nodes p q) where
         same = λ c d. ap count (row-one-is g.ss nodes p c g.left) ∙ (count-one (term_at g.ss nodes p c) rnil ∙ (sym (count-one (term_at g.ss nodes q d) rnil) ∙ sym (ap count (row-one-is g.ss nodes q d g.right))));
       }
 
-  pub term-met : (get_or nodes p 0 < first_name) ⊎ (get_or nodes q 0 < first_name) → Walks g.ss nodes p (p + get_or nodes (p + 1) 0) q (q + get_or nodes (q + 1) 0) (Met p q)
+  pub term-met : (get_or nodes p 0 < first_name) ⊎ (get_or nodes q 0 < first_name) → Walks g.ss nodes p (p + get_or nodes (p + 1) 0) q (q + get_or nodes (q + 1) 0) (Err (Met p q))
   term-met v =
       let k : loaded_node ≤ get_or nodes (p + 1) 0 = node-size g.ss nodes p g.left in
       record { beside = one-beside; some = omega arith; variable = v; means = λ b c d l r. refl; less = λ b c. omega arith; less_right = λ b d. omega arith }
@@ -109,7 +111,7 @@ module _ (nodes : List ℕ) (p q : ℕ) (g : TwoNodes nodes p q) where
     args-right : ℕ → RTerms
     args-right d = terms_at g.ss nodes (q + loaded_node) (q + get_or nodes (q + 1) 0) d
 
-    pub term-clash : (get_or nodes p 0 ≡ get_or nodes q 0 → ⊥) → Walks g.ss nodes p (p + get_or nodes (p + 1) 0) q (q + get_or nodes (q + 1) 0) Clash
+    pub term-clash : (get_or nodes p 0 ≡ get_or nodes q 0 → ⊥) → Walks g.ss nodes p (p + get_or nodes (p + 1) 0) q (q + get_or nodes (q + 1) 0) (Err Clash)
     unfolding args args-right
     term-clash z = λ b c d l r.
         ap₂ (unify_rows b) (row_is c l) (row-is-right d r)
@@ -152,9 +154,9 @@ module _ (nodes : List ℕ) (p q : ℕ) (g : TwoNodes nodes p q) where
 
       deeper : (o : RowsWalked) → Walks g.ss nodes (p + loaded_node) (p + get_or nodes (p + 1) 0) (q + loaded_node) (q + get_or nodes (q + 1) 0) o → Walks g.ss nodes p (p + get_or nodes (p + 1) 0) q (q + get_or nodes (q + 1) 0) o
       unfolding args args-right
-      deeper Done k = λ b c d l r. opened b c d l r ∙ k b c d l r
-      deeper Clash k = λ b c d l r. opened b c d l r ∙ k b c d l r
-      deeper (Met i j) k =
+      deeper (Ok u) k = λ b c d l r. opened b c d l r ∙ k b c d l r
+      deeper (Err Clash) k = λ b c d l r. opened b c d l r ∙ k b c d l r
+      deeper (Err (Met i j)) k =
           record {
             beside = k.beside;
             some = k.some;
@@ -171,7 +173,7 @@ module _ (nodes : List ℕ) (p q : ℕ) (g : TwoNodes nodes p q) where
 -- ---- two rows
 
 module _ (nodes : List ℕ) (p e q : ℕ) (g : Walkable nodes p e q) where
-  pub list-end : e ≤ p → Walks g.ss nodes p e q g.f Done
+  pub list-end : e ≤ p → Walks g.ss nodes p e q g.f (Ok tt)
   list-end l = λ b c d ls rs.
       (let left : terms_at g.ss nodes p e c ≡ rnil = row-none g.ss nodes p e g.beside.left c l in
       let right : terms_at g.ss nodes q g.f d ≡ rnil = count_none (terms_at g.ss nodes q g.f d) (sym (g.beside.same c d) ∙ (ap count left ∙ no_terms)) in
@@ -228,12 +230,12 @@ module _ (nodes : List ℕ) (p e q : ℕ) (g : Walkable nodes p e q) where
     unfolding list-pair
     first-term o k = k list-pair
 
-    pub list_clash : ((h : TwoNodes nodes p q) → Walks h.ss nodes p (p + get_or nodes (p + 1) 0) q (q + get_or nodes (q + 1) 0) Clash) → Walks g.ss nodes p e q g.f Clash
-    list_clash k = λ b c d ls rs. ap₂ (unify_rows b) (left_is c ls) (right_is d rs) ∙ first-term Clash k b c d (followed (terms_at g.ss nodes (p + get_or nodes (p + 1) 0) e c) ls) (followed (terms_at g.ss nodes (q + get_or nodes (q + 1) 0) g.f d) rs)
+    pub list_clash : ((h : TwoNodes nodes p q) → Walks h.ss nodes p (p + get_or nodes (p + 1) 0) q (q + get_or nodes (q + 1) 0) (Err Clash)) → Walks g.ss nodes p e q g.f (Err Clash)
+    list_clash k = λ b c d ls rs. ap₂ (unify_rows b) (left_is c ls) (right_is d rs) ∙ first-term (Err Clash) k b c d (followed (terms_at g.ss nodes (p + get_or nodes (p + 1) 0) e c) ls) (followed (terms_at g.ss nodes (q + get_or nodes (q + 1) 0) g.f d) rs)
 
-    pub list-met : (i j : ℕ) → ((h : TwoNodes nodes p q) → Walks h.ss nodes p (p + get_or nodes (p + 1) 0) q (q + get_or nodes (q + 1) 0) (Met i j)) → Walks g.ss nodes p e q g.f (Met i j)
+    pub list-met : (i j : ℕ) → ((h : TwoNodes nodes p q) → Walks h.ss nodes p (p + get_or nodes (p + 1) 0) q (q + get_or nodes (q + 1) 0) (Err (Met i j))) → Walks g.ss nodes p e q g.f (Err (Met i j))
     list-met i j k =
-        let m : StopsAt g.ss nodes p (p + get_or nodes (p + 1) 0) q (q + get_or nodes (q + 1) 0) i j = first-term (Met i j) k in
+        let m : StopsAt g.ss nodes p (p + get_or nodes (p + 1) 0) q (q + get_or nodes (q + 1) 0) i j = first-term (Err (Met i j)) k in
         let some : i < p + get_or nodes (p + 1) 0 = m.some in
         let order : p + get_or nodes (p + 1) 0 ≤ e = row-order g.ss nodes (p + get_or nodes (p + 1) 0) e rest in
         record {
@@ -264,12 +266,16 @@ module _ (nodes : List ℕ) (p e q : ℕ) (g : Walkable nodes p e q) where
               omega arith);
         }
 
+    pub list_stop : (x : WalkStop) → ((h : TwoNodes nodes p q) → Walks h.ss nodes p (p + get_or nodes (p + 1) 0) q (q + get_or nodes (q + 1) 0) (Err x)) → Walks g.ss nodes p e q g.f (Err x)
+    list_stop Clash k = list_clash k
+    list_stop (Met i j) k = list-met i j k
+
     pub list-rest : Walkable nodes (p + get_or nodes (p + 1) 0) e (q + get_or nodes (q + 1) 0)
     list-rest = record { ss = g.ss; f = g.f; beside = record { left = rest; right = rest-right; same = same_rest } }
 
-    module _ (k : (h : TwoNodes nodes p q) → Walks h.ss nodes p (p + get_or nodes (p + 1) 0) q (q + get_or nodes (q + 1) 0) Done) where
+    module _ (k : (h : TwoNodes nodes p q) → Walks h.ss nodes p (p + get_or nodes (p + 1) 0) q (q + get_or nodes (q + 1) 0) (Ok tt)) where
       passed : (b : List Binding) (c d : ℕ) (ls rs : RTerms) → unify_rows b (followed (terms_at g.ss nodes p e c) ls) (followed (terms_at g.ss nodes q g.f d) rs) ≡ unify_rows b (followed (terms_at g.ss nodes (p + get_or nodes (p + 1) 0) e c) ls) (followed (terms_at g.ss nodes (q + get_or nodes (q + 1) 0) g.f d) rs)
-      passed b c d ls rs = ap₂ (unify_rows b) (left_is c ls) (right_is d rs) ∙ first-term Done k b c d (followed (terms_at g.ss nodes (p + get_or nodes (p + 1) 0) e c) ls) (followed (terms_at g.ss nodes (q + get_or nodes (q + 1) 0) g.f d) rs)
+      passed b c d ls rs = ap₂ (unify_rows b) (left_is c ls) (right_is d rs) ∙ first-term (Ok tt) k b c d (followed (terms_at g.ss nodes (p + get_or nodes (p + 1) 0) e c) ls) (followed (terms_at g.ss nodes (q + get_or nodes (q + 1) 0) g.f d) rs)
 
       shorter : (b : List Binding) (c : ℕ) → rows_size b (terms_at g.ss nodes (p + get_or nodes (p + 1) 0) e c) ≤ rows_size b (terms_at g.ss nodes p e c)
       shorter b c = let v : rows_size b (terms_at g.ss nodes p e c) ≡ rows_size b (terms_at g.ss nodes p (p + get_or nodes (p + 1) 0) c) + rows_size b (terms_at g.ss nodes (p + get_or nodes (p + 1) 0) e c) = ap (rows_size b) (row-joined g.ss nodes p (p + get_or nodes (p + 1) 0) e c one rest) ∙ size-followed b (terms_at g.ss nodes p (p + get_or nodes (p + 1) 0) c) (terms_at g.ss nodes (p + get_or nodes (p + 1) 0) e c) in omega arith
@@ -278,9 +284,9 @@ module _ (nodes : List ℕ) (p e q : ℕ) (g : Walkable nodes p e q) where
       shorter-right b d = let v : rows_size b (terms_at g.ss nodes q g.f d) ≡ rows_size b (terms_at g.ss nodes q (q + get_or nodes (q + 1) 0) d) + rows_size b (terms_at g.ss nodes (q + get_or nodes (q + 1) 0) g.f d) = ap (rows_size b) (row-joined g.ss nodes q (q + get_or nodes (q + 1) 0) g.f d one_right rest-right) ∙ size-followed b (terms_at g.ss nodes q (q + get_or nodes (q + 1) 0) d) (terms_at g.ss nodes (q + get_or nodes (q + 1) 0) g.f d) in omega arith
 
       further : (o : RowsWalked) → Walks g.ss nodes (p + get_or nodes (p + 1) 0) e (q + get_or nodes (q + 1) 0) g.f o → Walks g.ss nodes p e q g.f o
-      further Done m = λ b c d ls rs. passed b c d ls rs ∙ m b c d ls rs
-      further Clash m = λ b c d ls rs. passed b c d ls rs ∙ m b c d ls rs
-      further (Met i j) m =
+      further (Ok u) m = λ b c d ls rs. passed b c d ls rs ∙ m b c d ls rs
+      further (Err Clash) m = λ b c d ls rs. passed b c d ls rs ∙ m b c d ls rs
+      further (Err (Met i j)) m =
           record {
             beside = m.beside;
             some = m.some;
@@ -295,7 +301,7 @@ module _ (nodes : List ℕ) (p e q : ℕ) (g : Walkable nodes p e q) where
       list-next o m = further o (m list-rest)
 
 -- the same with the sizes as they are read
-pub list_on : (nodes : List ℕ) (p e q : ℕ) (g : Walkable nodes p e q) (l : p < e) (first : RowsWalked) → first ≡ Done → ((h : TwoNodes nodes p q) → Walks h.ss nodes p (p + get_or nodes (p + 1) 0) q (q + get_or nodes (q + 1) 0) first)
+pub list_on : (nodes : List ℕ) (p e q : ℕ) (g : Walkable nodes p e q) (l : p < e) (first : RowsWalked) → first ≡ Ok tt → ((h : TwoNodes nodes p q) → Walks h.ss nodes p (p + get_or nodes (p + 1) 0) q (q + get_or nodes (q + 1) 0) first)
     → (s z : ℕ) → s ≡ get_or nodes (p + 1) 0 → z ≡ get_or nodes (q + 1) 0 → (o : RowsWalked) → ((h : Walkable nodes (p + s) e (q + z)) → Walks h.ss nodes (p + s) e (q + z) h.f o) → Walks g.ss nodes p e q g.f o
 list_on nodes p e q g l first d k s z a b o m =
     list-next nodes p e q g l (subst (λ (x : RowsWalked). (h : TwoNodes nodes p q) → Walks h.ss nodes p (p + get_or nodes (p + 1) 0) q (q + get_or nodes (q + 1) 0) x) d k) o

@@ -13,7 +13,7 @@ use Rattle.syntax.specs.Words.{first_name}
 use Rattle.machine.specs.Substitution.{Variable, is_later, RTerm, RTerms, var, app, rcons, occurs, Binding, resolve}
 use Rattle.machine.proofs.Tests.{variable-eq}
 use Rattle.machine_theorems.proofs.Terms.{resolve_all, resolve-app}
-use Rattle.run_layout.specs.Regions.{copies, copy_cells, places, stack, pairs, pair_of, memo, rows, loaded_node, pair_size}
+use Rattle.run_layout.specs.Regions.{copies, copy_cells, places, pairs, pair_of, rows, loaded_node, pair_size}
 use Rattle.run_layout.specs.Nodes.{Symbol, name_of_symbol, term_at, terms_at, followed, count}
 use Rattle.run_layout.specs.State.{cell_of, variable_of, word_of, value_of, bindings, Store}
 use Rattle.run_layout.proofs.Nodes.{node-inside, variable-at, compound-at, same_count, other-symbol}
@@ -25,8 +25,9 @@ use Rattle.unify_memos.proofs.Remembering.{value-word, memo-kept, memo-found}
 use Rattle.unifier.specs.Rows.{unify_rows, nodes_of, rows_size}
 use Rattle.unifier.specs.Stacks.{end_of, whole_of, row_of, rows_of, Via, Stack, no_term, Closes}
 use Rattle.unifier.specs.Turns.{Binds, Dereferenced, Crossed, Openable, PairTurned}
-use Rattle.unifier.specs.declared.solve.Turn.{Turn}
-use Rattle.unifier.specs.declared.solve.Turn.TheVariants.{Go, Clash, Bind}
+use Rattle.std.proofs.Common.{Ok, Err}
+use Rattle.unifier.specs.Turns.{Turn}
+use Rattle.unifier.specs.declared.solve.TurnStop.TheVariants.{Clash, Bind}
 use Rattle.unifier.proofs.Rules.{rows_same, rows-open, rows-clash, rows-occurs-left, rows-occurs-right, rows-bind-left, rows-bind-right, left-is-bound, right-is-bound, left-bound, right-bound, later-cell, earlier-cell, count-resolve}
 use Rattle.unifier.proofs.Rowwise.{size-cons, size-app, size-followed}
 use Rattle.unifier.proofs.Closing.{equal-named, closes-settled, closes-bound, closes-pushed}
@@ -135,7 +136,7 @@ module _ (nodes scratch : List ℕ) (h p c q d : ℕ) (g : Crossed nodes scratch
       }
 
   -- two terms that are equal already
-  pub settle-equal : resolve (bindings g.work.ss nodes g.state g.n) (term_at g.work.ss nodes p c) ≡ resolve (bindings g.work.ss nodes g.state g.n) (term_at g.work.ss nodes q d) → PairTurned nodes scratch scratch h p c q d g (Go h)
+  pub settle-equal : resolve (bindings g.work.ss nodes g.state g.n) (term_at g.work.ss nodes p c) ≡ resolve (bindings g.work.ss nodes g.state g.n) (term_at g.work.ss nodes q d) → PairTurned nodes scratch scratch h p c q d g (Ok h)
   unfolding b t u ls rs
   settle-equal e = (
     marks-refl scratch,
@@ -159,11 +160,11 @@ module _ (nodes scratch : List ℕ) (h p c q d : ℕ) (g : Crossed nodes scratch
     unfolding b u y
     right_is = is_open g.work.ss nodes g.state g.n g.work.top q d g.work.store g.right lq
 
-    pub settle-same : cell_of c (get_or nodes p 0) ≡ cell_of d (get_or nodes q 0) → PairTurned nodes scratch scratch h p c q d g (Go h)
+    pub settle-same : cell_of c (get_or nodes p 0) ≡ cell_of d (get_or nodes q 0) → PairTurned nodes scratch scratch h p c q d g (Ok h)
     unfolding b t u ls rs x y
     settle-same e = settle-equal (left_is ∙ (ap (λ (k : ℕ). var (variable_of k)) e ∙ sym right_is))
 
-    pub settle-later : cell_of d (get_or nodes q 0) < cell_of c (get_or nodes p 0) → PairTurned nodes scratch scratch h p c q d g (Bind h (cell_of c (get_or nodes p 0)) q d)
+    pub settle-later : cell_of d (get_or nodes q 0) < cell_of c (get_or nodes p 0) → PairTurned nodes scratch scratch h p c q d g (Err (Bind h (cell_of c (get_or nodes p 0)) q d))
     unfolding b t u ls rs x y
     settle-later e = (
       marks-refl scratch,
@@ -173,7 +174,7 @@ module _ (nodes scratch : List ℕ) (h p c q d : ℕ) (g : Crossed nodes scratch
           (λ k. absurd (let z : x ≡ y = cell-eq x y (variable-eq (variable_of x) (variable_of y) (subst (λ (v : RTerm). T (occurs (variable_of x) v)) right_is k)) in omega arith)),
     )
 
-    pub settle-earlier : cell_of c (get_or nodes p 0) < cell_of d (get_or nodes q 0) → PairTurned nodes scratch scratch h p c q d g (Bind h (cell_of d (get_or nodes q 0)) p c)
+    pub settle-earlier : cell_of c (get_or nodes p 0) < cell_of d (get_or nodes q 0) → PairTurned nodes scratch scratch h p c q d g (Err (Bind h (cell_of d (get_or nodes q 0)) p c))
     unfolding b t u ls rs x y
     settle-earlier e = (
       marks-refl scratch,
@@ -185,7 +186,7 @@ module _ (nodes scratch : List ℕ) (h p c q d : ℕ) (g : Crossed nodes scratch
 
   -- ---- a variable and a name
 
-  pub settle-left : get_or nodes p 0 < first_name → first_name ≤ get_or nodes q 0 → PairTurned nodes scratch scratch h p c q d g (Bind h (cell_of c (get_or nodes p 0)) q d)
+  pub settle-left : get_or nodes p 0 < first_name → first_name ≤ get_or nodes q 0 → PairTurned nodes scratch scratch h p c q d g (Err (Bind h (cell_of c (get_or nodes p 0)) q d))
   unfolding b t u ls rs x y
   settle-left lp hq =
       let name : resolve b u ≡ app (name_of_symbol g.work.ss (get_or nodes q 0 - first_name)) (resolve_all b (terms_at g.work.ss nodes (q + loaded_node) (q + get_or nodes (q + 1) 0) d)) = is_name g.work.ss nodes g.state g.n g.work.top q d g.work.store g.right hq in (
@@ -196,7 +197,7 @@ module _ (nodes scratch : List ℕ) (h p c q d : ℕ) (g : Crossed nodes scratch
             (λ k. rows-occurs-left b t u ls rs (variable_of x) (name_of_symbol g.work.ss (get_or nodes q 0 - first_name)) (resolve_all b (terms_at g.work.ss nodes (q + loaded_node) (q + get_or nodes (q + 1) 0) d)) (is_open g.work.ss nodes g.state g.n g.work.top p c g.work.store g.left lp) name (subst (λ (v : RTerm). T (occurs (variable_of x) v)) name k)),
       )
 
-  pub settle-right : first_name ≤ get_or nodes p 0 → get_or nodes q 0 < first_name → PairTurned nodes scratch scratch h p c q d g (Bind h (cell_of d (get_or nodes q 0)) p c)
+  pub settle-right : first_name ≤ get_or nodes p 0 → get_or nodes q 0 < first_name → PairTurned nodes scratch scratch h p c q d g (Err (Bind h (cell_of d (get_or nodes q 0)) p c))
   unfolding b t u ls rs x y
   settle-right hp lq =
       let name : resolve b t ≡ app (name_of_symbol g.work.ss (get_or nodes p 0 - first_name)) (resolve_all b (terms_at g.work.ss nodes (p + loaded_node) (p + get_or nodes (p + 1) 0) c)) = is_name g.work.ss nodes g.state g.n g.work.top p c g.work.store g.left hp in (
@@ -216,7 +217,7 @@ module _ (nodes scratch : List ℕ) (h p c q d : ℕ) (g : Crossed nodes scratch
     ar : RTerms
     ar = terms_at g.work.ss nodes (q + loaded_node) (q + get_or nodes (q + 1) 0) d
 
-    pub settle-clash : (get_or nodes p 0 ≡ get_or nodes q 0 → ⊥) → PairTurned nodes scratch scratch h p c q d g Clash
+    pub settle-clash : (get_or nodes p 0 ≡ get_or nodes q 0 → ⊥) → PairTurned nodes scratch scratch h p c q d g (Err Clash)
     unfolding b t u ls rs al ar
     settle-clash z = (
       marks-refl scratch,
@@ -304,10 +305,10 @@ module _ (nodes scratch : List ℕ) (h p c q d : ℕ) (g : Crossed nodes scratch
           ∙ (equal-named (newer ++ bindings g.work.ss nodes g.state g.n) al ar e (name_of_symbol g.work.ss (get_or nodes p 0 - first_name))
           ∙ sym (ap (resolve (newer ++ bindings g.work.ss nodes g.state g.n)) (compound-at g.work.ss nodes q g.right.node d hq ∙ ap (λ (k : ℕ). app (name_of_symbol g.work.ss (k - first_name)) ar) (sym w))))
 
-      pub settle-open : (after : List ℕ) → after ≡ pair_words scratch h p (p + loaded_node) c q (q + loaded_node) d → PairTurned nodes scratch after h p c q d g (Go (h + 1))
+      pub settle-open : (after : List ℕ) → after ≡ pair_words scratch h p (p + loaded_node) c q (q + loaded_node) d → PairTurned nodes scratch after h p c q d g (Ok (h + 1))
       unfolding b t u ls rs al ar
       settle-open after e =
-          subst⁻¹ (λ (s : List ℕ). PairTurned nodes scratch s h p c q d g (Go (h + 1))) e
+          subst⁻¹ (λ (s : List ℕ). PairTurned nodes scratch s h p c q d g (Ok (h + 1))) e
           (let fits : pair_of h + pair_size ≤ length scratch = settle-room in
           let l-below : (k : ℕ) → k < h → left_at (pair_words scratch h p (p + loaded_node) c q (q + loaded_node) d) k ≡ left_at scratch k = (λ k o. pair-left-others scratch h p (p + loaded_node) c q (q + loaded_node) d fits k (λ z. omega arith)) in
           let r-below : (k : ℕ) → k < h → right_at (pair_words scratch h p (p + loaded_node) c q (q + loaded_node) d) k ≡ right_at scratch k = (λ k o. pair-right-others scratch h p (p + loaded_node) c q (q + loaded_node) d fits k (λ z. omega arith)) in
@@ -347,27 +348,27 @@ module _ {nodes scratch : List ℕ} {h p c q d : ℕ} (g : Crossed nodes scratch
   right-cell : {j : ℕ} → j ≡ cell_of d z → j ≡ cell_of d (get_or nodes q 0)
   right-cell e = e ∙ ap (cell_of d) ez
 
-  pub read_left : w < first_name → first_name ≤ z → {i : ℕ} → i ≡ cell_of c w → {r : Turn} → r ≡ Bind h i q d → PairTurned nodes scratch scratch h p c q d g r
-  read_left lp hq ex {r} er = settle_as nodes scratch h p c q d g r (er ∙ ap (λ (k : ℕ). Bind h k q d) (left-cell ex)) (settle-left nodes scratch h p c q d g (lower ew lp) (higher ez hq))
+  pub read_left : w < first_name → first_name ≤ z → {i : ℕ} → i ≡ cell_of c w → {r : Turn} → r ≡ Err (Bind h i q d) → PairTurned nodes scratch scratch h p c q d g r
+  read_left lp hq ex {r} er = settle_as nodes scratch h p c q d g r (er ∙ ap (λ (k : ℕ). Err (Bind h k q d)) (left-cell ex)) (settle-left nodes scratch h p c q d g (lower ew lp) (higher ez hq))
 
-  pub read-right : first_name ≤ w → z < first_name → {j : ℕ} → j ≡ cell_of d z → {r : Turn} → r ≡ Bind h j p c → PairTurned nodes scratch scratch h p c q d g r
-  read-right hp lq ey {r} er = settle_as nodes scratch h p c q d g r (er ∙ ap (λ (k : ℕ). Bind h k p c) (right-cell ey)) (settle-right nodes scratch h p c q d g (higher ew hp) (lower ez lq))
+  pub read-right : first_name ≤ w → z < first_name → {j : ℕ} → j ≡ cell_of d z → {r : Turn} → r ≡ Err (Bind h j p c) → PairTurned nodes scratch scratch h p c q d g r
+  read-right hp lq ey {r} er = settle_as nodes scratch h p c q d g r (er ∙ ap (λ (k : ℕ). Err (Bind h k p c)) (right-cell ey)) (settle-right nodes scratch h p c q d g (higher ew hp) (lower ez lq))
 
   module _ (lp : w < first_name) (lq : z < first_name) {i j : ℕ} (ex : i ≡ cell_of c w) (ey : j ≡ cell_of d z) where
-    pub read_same : i ≡ j → PairTurned nodes scratch scratch h p c q d g (Go h)
+    pub read_same : i ≡ j → PairTurned nodes scratch scratch h p c q d g (Ok h)
     read_same e = settle-same nodes scratch h p c q d g (lower ew lp) (lower ez lq) (sym (left-cell ex) ∙ (e ∙ right-cell ey))
 
-    pub read-earlier : i < j → {r : Turn} → r ≡ Bind h j p c → PairTurned nodes scratch scratch h p c q d g r
+    pub read-earlier : i < j → {r : Turn} → r ≡ Err (Bind h j p c) → PairTurned nodes scratch scratch h p c q d g r
     read-earlier l {r} er =
-        settle_as nodes scratch h p c q d g r (er ∙ ap (λ (k : ℕ). Bind h k p c) (right-cell ey))
+        settle_as nodes scratch h p c q d g r (er ∙ ap (λ (k : ℕ). Err (Bind h k p c)) (right-cell ey))
         (settle-earlier nodes scratch h p c q d g (lower ew lp) (lower ez lq) (omega (arith, left-cell ex, right-cell ey, l)))
 
-    pub read-later : (i ≡ j → ⊥) → j ≤ i → {r : Turn} → r ≡ Bind h i q d → PairTurned nodes scratch scratch h p c q d g r
+    pub read-later : (i ≡ j → ⊥) → j ≤ i → {r : Turn} → r ≡ Err (Bind h i q d) → PairTurned nodes scratch scratch h p c q d g r
     read-later n o {r} er =
-        settle_as nodes scratch h p c q d g r (er ∙ ap (λ (k : ℕ). Bind h k q d) (left-cell ex))
+        settle_as nodes scratch h p c q d g r (er ∙ ap (λ (k : ℕ). Err (Bind h k q d)) (left-cell ex))
         (settle-later nodes scratch h p c q d g (lower ew lp) (lower ez lq) (omega (arith, left-cell ex, right-cell ey, n, o)))
 
-  pub read-clash : first_name ≤ w → first_name ≤ z → (w ≡ z → ⊥) → PairTurned nodes scratch scratch h p c q d g Clash
+  pub read-clash : first_name ≤ w → first_name ≤ z → (w ≡ z → ⊥) → PairTurned nodes scratch scratch h p c q d g (Err Clash)
   read-clash hp hq n = settle-clash nodes scratch h p c q d g (higher ew hp) (higher ez hq) (λ e. n (ew ∙ (e ∙ sym ez)))
 
   pub read-openable : first_name ≤ w → first_name ≤ z → w ≡ z → Openable scratch h p c q d
@@ -391,18 +392,18 @@ module _ (scratch : List ℕ) (h p c q d : ℕ) (g : Openable scratch h p c q d)
       ((omega arith, omega arith), ((g.crossed.left.copy, g.crossed.right.copy), g.crossed.work.roomy))
 
   words-equal : resolve (bindings g.crossed.work.ss g.nodes g.crossed.state g.crossed.n) (value_of g.crossed.work.ss g.nodes (word_of p c)) ≡ resolve (bindings g.crossed.work.ss g.nodes g.crossed.state g.crossed.n) (value_of g.crossed.work.ss g.nodes (word_of q d))
-      → PairTurned g.nodes scratch scratch h p c q d g.crossed (Go h)
+      → PairTurned g.nodes scratch scratch h p c q d g.crossed (Ok h)
   words-equal e =
       settle-equal g.nodes scratch h p c q d g.crossed
       (ap (resolve (bindings g.crossed.work.ss g.nodes g.crossed.state g.crossed.n)) (sym (value-word g.crossed.work.ss g.nodes p c g.crossed.left.copy))
       ∙ (e ∙ ap (resolve (bindings g.crossed.work.ss g.nodes g.crossed.state g.crossed.n)) (value-word g.crossed.work.ss g.nodes q d g.crossed.right.copy)))
 
   -- one term
-  pub open-same : {x y : ℕ} → x ≡ word_of p c → y ≡ word_of q d → x ≡ y → PairTurned g.nodes scratch scratch h p c q d g.crossed (Go h)
+  pub open-same : {x y : ℕ} → x ≡ word_of p c → y ≡ word_of q d → x ≡ y → PairTurned g.nodes scratch scratch h p c q d g.crossed (Ok h)
   open-same a b e = words-equal (ap (λ (k : ℕ). resolve (bindings g.crossed.work.ss g.nodes g.crossed.state g.crossed.n) (value_of g.crossed.work.ss g.nodes k)) (sym a ∙ (e ∙ b)))
 
   -- a pair of the memo
-  pub open-known : {x y : ℕ} → x ≡ word_of p c → y ≡ word_of q d → KnownEqual scratch x y → PairTurned g.nodes scratch scratch h p c q d g.crossed (Go h)
+  pub open-known : {x y : ℕ} → x ≡ word_of p c → y ≡ word_of q d → KnownEqual scratch x y → PairTurned g.nodes scratch scratch h p c q d g.crossed (Ok h)
   open-known {y = y} a b f = words-equal (memo-found g.crossed.work.ss g.nodes (bindings g.crossed.work.ss g.nodes g.crossed.state g.crossed.n) scratch g.crossed.work.memo (word_of p c) (word_of q d) (subst (KnownEqual scratch (word_of p c)) b (subst (λ (k : ℕ). KnownEqual scratch k y) a f)))
 
   pub open-room : (pair_of h + pair_size ≤ length scratch) × (((p < 2 ^ 32) × ((p + loaded_node < 2 ^ 32) × (c < 2 ^ 32))) × ((q < 2 ^ 32) × ((q + loaded_node < 2 ^ 32) × (d < 2 ^ 32))))
@@ -417,5 +418,5 @@ module _ (scratch : List ℕ) (h p c q d : ℕ) (g : Openable scratch h p c q d)
   pub open-high : h ≤ pairs
   open-high = height g.crossed.work.ss g.nodes (bindings g.crossed.work.ss g.nodes g.crossed.state g.crossed.n) g.crossed.work.top (left_at scratch) (right_at scratch) h g.crossed.work.stack
 
-  pub open_pushed : (after : List ℕ) → after ≡ pair_words scratch h p (p + loaded_node) c q (q + loaded_node) d → PairTurned g.nodes scratch after h p c q d g.crossed (Go (h + 1))
+  pub open_pushed : (after : List ℕ) → after ≡ pair_words scratch h p (p + loaded_node) c q (q + loaded_node) d → PairTurned g.nodes scratch after h p c q d g.crossed (Ok (h + 1))
   open_pushed = settle-open g.nodes scratch h p c q d g.crossed g.name other_name g.same

@@ -1,14 +1,14 @@
 -- Laws of the outer loops. Assumes nothing.
-use Prim.Native.Nat.{ℕ, zero, suc, ◌+◌, ◌*◌, ◌≤◌, ◌<◌, ◌^◌}
+use Prim.Native.Nat.{ℕ, suc, ◌+◌, ◌*◌, ◌≤◌, ◌<◌, ◌^◌}
 use native.Mathlib.Omega.{arith}
 use mathlib.Core.Path.{◌≡◌, refl, sym, ap, ap₂, ◌∙◌, subst, subst⁻¹}
 use mathlib.Core.Bool.{Bool, true, false}
 use mathlib.Core.List.{List, [], ◌∷◌}
-use mathlib.Core.Option.{none, some}
+use mathlib.Core.Option.{none}
 use lib.Dec.{T}
 use lib.ListN.{length}
 use Rattle.machine.specs.Substitution.{rnil, occurs, Binding, resolve}
-use Rattle.run_layout.specs.Regions.{copies, places, cells, trail, store_words, stack, pairs, rows, loaded_node}
+use Rattle.run_layout.specs.Regions.{copies, places, cells, trail, store_words, pairs, rows, loaded_node}
 use Rattle.run_layout.specs.Nodes.{Symbol, term_at}
 use Rattle.run_layout.specs.State.{variable_of, word_of, bindings, Store, Within, Keeps, bound_words}
 use Rattle.run_layout.proofs.Nodes.{node-inside}
@@ -24,8 +24,10 @@ use Rattle.unify_cycles.specs.Checks.{Guardable, Guarded}
 use Rattle.unifier.specs.Rows.{unify_rows, rows_size}
 use Rattle.unifier.specs.Stacks.{rows_of, Stack, no_term, Closes}
 use Rattle.unifier.specs.Turns.{Work, Goes, Binds, TurnGives, Turnable, ReadyToUnify, Advanced, Solvable, Solved, answered}
-use Rattle.unifier.specs.declared.solve.Turn.{Turn}
-use Rattle.unifier.specs.declared.solve.Turn.TheVariants.{Go, Clash, Bind}
+use Rattle.std.proofs.Common.{Ok, Err}
+use Rattle.unifier.specs.Turns.{Turn, TurnsTaken}
+use Rattle.unifier.specs.declared.solve.TurnStop.{TurnStop}
+use Rattle.unifier.specs.declared.solve.TurnStop.TheVariants.{Clash, Bind}
 use Rattle.unifier.proofs.Rules.{rows-done}
 use Rattle.unifier.proofs.Closing.{closes-agree}
 use Rattle.unifier.proofs.Stacked.{left-kept, right_kept, rows_agree, stack-agrees, stack-bound, height}
@@ -67,14 +69,14 @@ module _ (nodes state before after : List ℕ) (n h k : ℕ) (g : Work nodes sta
     unfolding advance-turn
     came = c (advance-turn l)
 
-    gone : (j : ℕ) → t ≡ Go j → SameMarks after later × Goes g.ss nodes (bindings g.ss nodes state n) g.top (rows_of g.ss nodes (left_at after) k) (rows_of g.ss nodes (right_at after) k) (2 * rows_size (bindings g.ss nodes state n) (rows_of g.ss nodes (left_at after) k) + k) later j
+    gone : (j : ℕ) → t ≡ Ok j → SameMarks after later × Goes g.ss nodes (bindings g.ss nodes state n) g.top (rows_of g.ss nodes (left_at after) k) (rows_of g.ss nodes (right_at after) k) (2 * rows_size (bindings g.ss nodes state n) (rows_of g.ss nodes (left_at after) k) + k) later j
     unfolding advance-work
     gone j e = subst (λ (x : Turn). TurnGives nodes state after later n k advance-work x) e came
 
-    pub advance-next : (j : ℕ) → t ≡ Go j → Advancing g.ss nodes state before later g.top n h j
+    pub advance-next : (j : ℕ) → t ≡ Ok j → Advancing g.ss nodes state before later g.top n h j
     advance-next j e = record { marks = marks-on later (gone j e).0; stack = (gone j e).1.stack; means = a.means ∙ (gone j e).1.means; memo = (gone j e).1.memo; closes = (gone j e).1.closes }
 
-    pub advance-less : (j : ℕ) → t ≡ Go j → left_over nodes state later n j < left_over nodes state after n k
+    pub advance-less : (j : ℕ) → t ≡ Ok j → left_over nodes state later n j < left_over nodes state after n k
     advance-less j e =
         let x : 2 * rows_size (bindings g.ss nodes state n) (rows_of g.ss nodes (left_at later) j) + j < 2 * rows_size (bindings g.ss nodes state n) (rows_of g.ss nodes (left_at after) k) + k = (gone j e).1.less in
         let y : rows_size (bindings [] nodes state n) (rows_of [] nodes (left_at later) j) ≡ rows_size (bindings g.ss nodes state n) (rows_of g.ss nodes (left_at later) j) = size-bare g.ss nodes state n (left_at later) j in
@@ -89,15 +91,14 @@ module _ (nodes state before after : List ℕ) (n h k : ℕ) (g : Work nodes sta
     unfolding advance-work
     binds-of i x p q s = record { stack = s.stack; cell = s.cell; unbound = s.unbound; below = s.below; node = s.node; copy = s.copy; copy_below = s.copy_below; down = s.down; stands = λ z. a.means ∙ s.stands z; free = λ z. a.means ∙ s.free z; memo = s.memo; closes = s.closes }
 
-    pub advance-stop : ((j : ℕ) → t ≡ Go j → ⊥) → Advanced nodes state before later n h g t
-    advance-stop z = go t z came
+    pub advance-stop : (y : TurnStop) → t ≡ Err y → Advanced nodes state before later n h g (Err y)
+    advance-stop y e = go y (subst (λ (x : Turn). TurnGives nodes state after later n k advance-work x) e came)
       where
-        go : (x : Turn) → ((j : ℕ) → x ≡ Go j → ⊥) → TurnGives nodes state after later n k advance-work x → Advanced nodes state before later n h g x
-        go (Go j) w s = absurd (w j refl)
-        go Clash w s = (marks-on later s.0, a.means ∙ clash-of s.1)
-        go (Bind i x p q) w s = (marks-on later s.0, binds-of i x p q s.1)
+        go : (x : TurnStop) → TurnGives nodes state after later n k advance-work (Err x) → Advanced nodes state before later n h g (Err x)
+        go Clash s = (marks-on later s.0, a.means ∙ clash-of s.1)
+        go (Bind i x p q) s = (marks-on later s.0, binds-of i x p q s.1)
 
-  pub advance-end : k ≤ 0 → Advanced nodes state before after n h g (Go 0)
+  pub advance-end : k ≤ 0 → Advanced nodes state before after n h g (Ok tt)
   advance-end l =
       let e : k ≡ 0 = omega arith in
       (a.marks, a.means ∙ (ap (λ (i : ℕ). unify_rows (bindings g.ss nodes state n) (rows_of g.ss nodes (left_at after) i) (rows_of g.ss nodes (right_at after) i)) e ∙ (ap₂ (unify_rows (bindings g.ss nodes state n)) (no_rows g.ss nodes after).0 (no_rows g.ss nodes after).1 ∙ rows-done (bindings g.ss nodes state n))))
@@ -135,7 +136,7 @@ module _ {nodes before after scratch later : List ℕ} {n m h : ℕ} (g : Solvab
   unfolding solve-work
   solve-ready = record { work = solve-work; closes = s.closes }
 
-  module _ {next : List ℕ} (t : Turn) (c : (w : ReadyToUnify nodes after later m h) → Advanced nodes after later next m h w.work t) where
+  module _ {next : List ℕ} (t : TurnsTaken) (c : (w : ReadyToUnify nodes after later m h) → Advanced nodes after later next m h w.work t) where
     gave : Advanced nodes after later next m h solve-work t
     unfolding solve-ready
     gave = c solve-ready
@@ -149,19 +150,19 @@ module _ {nodes before after scratch later : List ℕ} {n m h : ℕ} (g : Solvab
     long-next : length next ≡ length scratch
     long-next = gave.0.long ∙ s.long
 
-    pub solve-done : {k : ℕ} → t ≡ Go k → Solved ss nodes before after scratch next g.work.top n (rows_of ss nodes (left_at scratch) 1) (rows_of ss nodes (right_at scratch) 1) (record { equal = true; trail = m })
+    pub solve-done : t ≡ Ok tt → Solved ss nodes before after scratch next g.work.top n (rows_of ss nodes (left_at scratch) 1) (rows_of ss nodes (right_at scratch) 1) (record { equal = true; trail = m })
     unfolding solve-work answered
-    solve-done {k} e =
-        let x : Advanced nodes after later next m h solve-work (Go k) = subst (Advanced nodes after later next m h solve-work) e gave in
+    solve-done e =
+        let x : Advanced nodes after later next m h solve-work (Ok tt) = subst (Advanced nodes after later next m h solve-work) e gave in
         record { grows = s.grows; store = s.store; within = s.within; keeps = s.keeps; clean = clean-next; long = long-next; answer = s.means ∙ x.1 }
 
-    pub solve-clash : t ≡ Clash → Solved ss nodes before after scratch next g.work.top n (rows_of ss nodes (left_at scratch) 1) (rows_of ss nodes (right_at scratch) 1) (record { equal = false; trail = m })
+    pub solve-clash : t ≡ (Err Clash) → Solved ss nodes before after scratch next g.work.top n (rows_of ss nodes (left_at scratch) 1) (rows_of ss nodes (right_at scratch) 1) (record { equal = false; trail = m })
     unfolding solve-work answered
     solve-clash e =
-        let x : Advanced nodes after later next m h solve-work Clash = subst (Advanced nodes after later next m h solve-work) e gave in
+        let x : Advanced nodes after later next m h solve-work (Err Clash) = subst (Advanced nodes after later next m h solve-work) e gave in
         record { grows = s.grows; store = s.store; within = s.within; keeps = s.keeps; clean = clean-next; long = long-next; answer = s.means ∙ x.1 }
 
-    module _ {k x p d : ℕ} (e : t ≡ Bind k x p d) where
+    module _ {k x p d : ℕ} (e : t ≡ Err (Bind k x p d)) where
       binds : Binds ss nodes after b g.work.top (rows_of ss nodes (left_at later) h) (rows_of ss nodes (right_at later) h) next k x p d
       unfolding solve-work
       binds = (subst (Advanced nodes after later next m h solve-work) e gave).1

@@ -10,7 +10,7 @@ use mathlib.Core.Logic.{◌⊎◌, inl, inr}
 use lib.ListN.{length, get_or}
 use Rattle.syntax.specs.Words.{first_name}
 use Rattle.machine.specs.Substitution.{RTerm, RTerms, var, app, rcons, Binding, resolve}
-use Rattle.run_layout.specs.Regions.{copies, places, cells, store_words, stack, pairs, pair_of, memo, rows, loaded_node, pair_size}
+use Rattle.run_layout.specs.Regions.{copies, places, cells, store_words, pairs, pair_of, rows, loaded_node, pair_size}
 use Rattle.run_layout.specs.Nodes.{Symbol, Node, Row, term_at, terms_at, followed, count}
 use Rattle.run_layout.specs.State.{cell_of, variable_of, word_of, value_of, bindings}
 use Rattle.run_layout.proofs.Nodes.{node-inside, node_end, variable-at, row_first, row-rest, row_cons}
@@ -26,10 +26,11 @@ use Rattle.unifier.specs.Rows.{unify_rows, nodes_of, rows_size}
 use Rattle.unifier.specs.Walks.{RowsBeside, Walkable, StopsAt, Walks}
 use Rattle.unifier.specs.Stacks.{end_of, whole_of, row_of, rows_of, Half, Via, Stack, SameRows, no_term, Closes}
 use Rattle.unifier.specs.Turns.{Work, Turns, TurnGives, Crossed, PairTurned, Crossable, Crosses, Meetable, Passable, Turnable}
-use Rattle.unifier.specs.declared.walk.RowsWalked.{RowsWalked}
-use Rattle.unifier.specs.declared.walk.RowsWalked.TheVariants.{Done, Clash as Differ, Met}
-use Rattle.unifier.specs.declared.solve.Turn.{Turn}
-use Rattle.unifier.specs.declared.solve.Turn.TheVariants.{Go, Clash, Bind}
+use Rattle.unifier.specs.Walks.{RowsWalked}
+use Rattle.unifier.specs.declared.walk.WalkStop.TheVariants.{Clash as Differ, Met}
+use Rattle.std.proofs.Common.{Ok, Err}
+use Rattle.unifier.specs.Turns.{Turn}
+use Rattle.unifier.specs.declared.solve.TurnStop.TheVariants.{Clash, Bind}
 use Rattle.unifier.proofs.Rules.{rows-first, resolve-append}
 use Rattle.unifier.proofs.Rowwise.{size-cons, size-followed, one-followed, right-some, count-one}
 use Rattle.unifier.proofs.Closing.{equal-cons, walk-equal, meet-equal, closes-agree, closes-terms, closes-less, closes-moved}
@@ -40,9 +41,9 @@ marks-trans a b c x y = record { long = y.long ∙ x.long; words = λ j l. y.wor
 
 -- rows that unify alike come to the same
 pub turns-alike : (ss : List Symbol) (nodes state : List ℕ) (b : List Binding) (top : ℕ) (ls rs ls' rs' : RTerms) (size size' : ℕ) (after : List ℕ) (t : Turn) → unify_rows b ls rs ≡ unify_rows b ls' rs' → size' ≤ size → Turns ss nodes state b top ls' rs' size' after t → Turns ss nodes state b top ls rs size after t
-turns-alike ss nodes state b top ls rs ls' rs' size size' after (Go k) e l g = record { stack = g.stack; means = e ∙ g.means; less = (let z : 2 * rows_size b (rows_of ss nodes (left_at after) k) + k < size' = g.less in omega arith); memo = g.memo; closes = g.closes }
-turns-alike ss nodes state b top ls rs ls' rs' size size' after Clash e l g = e ∙ g
-turns-alike ss nodes state b top ls rs ls' rs' size size' after (Bind k x p c) e l g =
+turns-alike ss nodes state b top ls rs ls' rs' size size' after (Ok k) e l g = record { stack = g.stack; means = e ∙ g.means; less = (let z : 2 * rows_size b (rows_of ss nodes (left_at after) k) + k < size' = g.less in omega arith); memo = g.memo; closes = g.closes }
+turns-alike ss nodes state b top ls rs ls' rs' size size' after (Err Clash) e l g = e ∙ g
+turns-alike ss nodes state b top ls rs ls' rs' size size' after (Err (Bind k x p c)) e l g =
     record { stack = g.stack; cell = g.cell; unbound = g.unbound; below = g.below; node = g.node; copy = g.copy; copy_below = g.copy_below; down = g.down; stands = λ z. e ∙ g.stands z; free = λ z. e ∙ g.free z; memo = g.memo; closes = g.closes }
 
 -- ---- the crossing
@@ -171,11 +172,11 @@ module _ (nodes state scratch : List ℕ) (h p c q d : ℕ) (g : Crossable nodes
   abbrev once : Crossable nodes state mid h p c q d
   once = eased-crossable nodes state scratch h p c q d g mid ended.eased
 
-  pub cross-settled : Crossed nodes mid h r.node r.copy r.other r.second
-  cross-settled = cross-settle nodes state mid h p c q d once r.node r.copy r.other r.second ended.left ended.right
+  pub cross-settled : Crossed nodes mid h r.left.node r.left.copy r.right.node r.right.copy
+  cross-settled = cross-settle nodes state mid h p c q d once r.left.node r.left.copy r.right.node r.right.copy ended.left ended.right
 
-  pub cross-done : (after : List ℕ) (t : Turn) → ((k : Crossed nodes mid h r.node r.copy r.other r.second) → PairTurned nodes mid after h r.node r.copy r.other r.second k t) → Crosses nodes state scratch after h p c q d g t
-  cross-done after t s = eased-crosses nodes state scratch h p c q d g mid ended.eased after t (cross-end nodes state mid h p c q d once r.node r.copy r.other r.second ended.left ended.right after t s)
+  pub cross-done : (after : List ℕ) (t : Turn) → ((k : Crossed nodes mid h r.left.node r.left.copy r.right.node r.right.copy) → PairTurned nodes mid after h r.left.node r.left.copy r.right.node r.right.copy k t) → Crosses nodes state scratch after h p c q d g t
+  cross-done after t s = eased-crosses nodes state scratch h p c q d g mid ended.eased after t (cross-end nodes state mid h p c q d once r.left.node r.left.copy r.right.node r.right.copy ended.left ended.right after t s)
 
 -- ---- the top pair moved past the crossing
 
@@ -460,23 +461,23 @@ module _ (nodes state scratch : List ℕ) (h : ℕ) (g : Turnable nodes state sc
       top-rows-right : rows_of g.work.ss nodes (right_at scratch) h ≡ followed (terms_at g.work.ss nodes r.at (end_of nodes r) r.copy) (rows_of g.work.ss nodes (right_at scratch) (h - 1))
       top-rows-right = let q : 1 ≤ h = g.some in ap (rows_of g.work.ss nodes (right_at scratch)) (let e : h ≡ suc (h - 1) = omega arith in e) ∙ (rows-top g.work.ss nodes (right_at scratch) (h - 1) ∙ ap (λ (x : Side). followed (row_of g.work.ss nodes x) (rows_of g.work.ss nodes (right_at scratch) (h - 1))) (sym er))
 
-      pub turn-pass : o ≡ Done → Passable scratch h l r
+      pub turn-pass : o ≡ (Ok tt) → Passable scratch h l r
       turn-pass e =
           record { nodes = nodes; state = state; n = g.n; work = g.work; some = g.some; left_is = el; right_is = er; walks = subst (Walks g.work.ss nodes l.at (end_of nodes l) r.at (end_of nodes r)) e walked; closes = g.closes }
 
-      pub turn-done : (e : o ≡ Done) (after : List ℕ) (t : Turn) → ((v : Passable scratch h l r) → TurnGives v.nodes v.state scratch after v.n h v.work t) → TurnGives nodes state scratch after g.n h g.work t
+      pub turn-done : (e : o ≡ (Ok tt)) (after : List ℕ) (t : Turn) → ((v : Passable scratch h l r) → TurnGives v.nodes v.state scratch after v.n h v.work t) → TurnGives nodes state scratch after g.n h g.work t
       unfolding turn-pass
       turn-done e after t k = k (turn-pass e)
 
-      pub turn-clash : o ≡ Differ → TurnGives nodes state scratch scratch g.n h g.work Clash
+      pub turn-clash : o ≡ (Err Differ) → TurnGives nodes state scratch scratch g.n h g.work (Err Clash)
       turn-clash e =
-          let v : Walks g.work.ss nodes l.at (end_of nodes l) r.at (end_of nodes r) Differ = subst (Walks g.work.ss nodes l.at (end_of nodes l) r.at (end_of nodes r)) e walked in
+          let v : Walks g.work.ss nodes l.at (end_of nodes l) r.at (end_of nodes r) (Err Differ) = subst (Walks g.work.ss nodes l.at (end_of nodes l) r.at (end_of nodes r)) e walked in
           (record { long = refl; words = λ j i. refl }, ap₂ (unify_rows (bindings g.work.ss nodes state g.n)) top-rows top-rows-right ∙ v (bindings g.work.ss nodes state g.n) l.copy r.copy (rows_of g.work.ss nodes (left_at scratch) (h - 1)) (rows_of g.work.ss nodes (right_at scratch) (h - 1)))
 
-      pub turn-met : (p q : ℕ) → o ≡ Met p q → Meetable nodes state scratch h l r p q
+      pub turn-met : (p q : ℕ) → o ≡ Err (Met p q) → Meetable nodes state scratch h l r p q
       turn-met p q e = record { n = g.n; work = g.work; some = g.some; left_is = el; right_is = er; meets = subst (Walks g.work.ss nodes l.at (end_of nodes l) r.at (end_of nodes r)) e walked; closes = g.closes }
 
-      pub turn_end : (p q : ℕ) (e : o ≡ Met p q) (after : List ℕ) (t : Turn) → ((v : Meetable nodes state scratch h l r p q) → TurnGives nodes state scratch after v.n h v.work t) → TurnGives nodes state scratch after g.n h g.work t
+      pub turn_end : (p q : ℕ) (e : o ≡ Err (Met p q)) (after : List ℕ) (t : Turn) → ((v : Meetable nodes state scratch h l r p q) → TurnGives nodes state scratch after v.n h v.work t) → TurnGives nodes state scratch after g.n h g.work t
       unfolding turn-met
       turn_end p q e after t k = k (turn-met p q e)
 
@@ -551,7 +552,7 @@ module _ (scratch : List ℕ) (h : ℕ) (l r : Side) (g : Passable scratch h l r
         ap (rows_of g.work.ss g.nodes (right_at scratch)) (sym back-up)
         ∙ (rows-top g.work.ss g.nodes (right_at scratch) (h - 1) ∙ ap₂ followed (ap (row_of g.work.ss g.nodes) (sym g.right_is)) (sym (rows_agree g.work.ss g.nodes (right_at scratch) (right_at after) (h - 1) right-under)))
 
-    pub pass-turned : TurnGives g.nodes g.state scratch after g.n h g.work (Go (h - 1))
+    pub pass-turned : TurnGives g.nodes g.state scratch after g.n h g.work (Ok (h - 1))
     unfolding bs
     pass-turned = (
       record { long = k.long; words = λ j i. k.words j (omega arith) },

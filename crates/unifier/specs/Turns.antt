@@ -1,11 +1,11 @@
 -- What a turn of the unifier is given and what it comes to.
-use Rattle.std.specs.Prelude.{ℕ, ◌+◌, ◌-◌, ◌*◌, ◌≤◌, ◌<◌, ◌≡◌, Bool, true, false, List, ◌∷◌, ◌++◌, ◌⊎◌, T, length, get_or}
+use Rattle.std.specs.Prelude.{ℕ, ◌+◌, ◌-◌, ◌*◌, ◌≤◌, ◌<◌, ◌≡◌, Bool, true, false, Result, Ok, Err, List, ◌∷◌, ◌++◌, ◌⊎◌, T, length, get_or}
 use Rattle.std.proofs.Math.Option.{Option, none, some}
 use Rattle.syntax.specs.Words.{first_name}
 use Rattle.syntax.specs.Terms.{Term}
 use Rattle.machine.specs.Substitution.{RTerms, rcons, copied, occurs, Binding, resolve}
 use Rattle.machine.specs.Unification.{unify}
-use Rattle.run_layout.specs.Regions.{copies, copy_cells, cells, stack, memo}
+use Rattle.run_layout.specs.Regions.{copies, copy_cells, cells}
 use Rattle.run_layout.specs.Nodes.{Symbol, TermLoaded, Node, term_at}
 use Rattle.run_layout.specs.State.{cell_of, variable_of, cell_at, bindings, Store, Within, Keeps}
 use Rattle.unify_bindings.specs.Queues.{Clean}
@@ -16,9 +16,8 @@ use Rattle.unify_orders.specs.Orders.{Ordered}
 use Rattle.unifier.specs.Rows.{unify_rows, nodes_of, rows_size}
 use Rattle.unifier.specs.Walks.{StopsAt, Walks}
 use Rattle.unifier.specs.Stacks.{end_of, whole_of, rows_of, Via, Stack, no_term, Closes}
-use Rattle.unifier.specs.declared.walk.RowsWalked.TheVariants.{Done}
-use Rattle.unifier.specs.declared.solve.Turn.{Turn}
-use Rattle.unifier.specs.declared.solve.Turn.TheVariants.{Go, Clash, Bind}
+use Rattle.unifier.specs.declared.solve.TurnStop.{TurnStop}
+use Rattle.unifier.specs.declared.solve.TurnStop.TheVariants.{Clash, Bind}
 use Rattle.unifier.specs.declared.solve.UnifyAnswer.{UnifyAnswer}
 
 -- n bindings, a stack of height h, and a memo.
@@ -57,10 +56,14 @@ pub record Binds (ss : List Symbol) (nodes state : List ℕ) (b : List Binding) 
   pub closes : (T (occurs (variable_of x) (resolve b (term_at ss nodes p c))) → ⊥)
       → Closes ss nodes (record { variable = variable_of x; term = resolve b (term_at ss nodes p c) } ∷ b) (left_at after) (right_at after) k no_term no_term
 
+-- What a turn comes to: on with a stack of that height, or a stop.
+abbrev pub Turn : Type 0
+Turn = Result ℕ TurnStop
+
 abbrev pub Turns : List Symbol → List ℕ → List ℕ → List Binding → ℕ → RTerms → RTerms → ℕ → List ℕ → Turn → Type 0
-Turns ss nodes state b top ls rs size after (Go k) = Goes ss nodes b top ls rs size after k
-Turns ss nodes state b top ls rs size after Clash = unify_rows b ls rs ≡ none
-Turns ss nodes state b top ls rs size after (Bind k x p c) = Binds ss nodes state b top ls rs after k x p c
+Turns ss nodes state b top ls rs size after (Ok k) = Goes ss nodes b top ls rs size after k
+Turns ss nodes state b top ls rs size after (Err Clash) = unify_rows b ls rs ≡ none
+Turns ss nodes state b top ls rs size after (Err (Bind k x p c)) = Binds ss nodes state b top ls rs after k x p c
 
 -- what `turn` promises of n bindings and a stack of height h
 abbrev pub TurnGives : (nodes state before after : List ℕ) (n h : ℕ) → Work nodes state before n h → Turn → Type 0
@@ -154,7 +157,7 @@ pub record Passable (scratch : List ℕ) (h : ℕ) (l r : Side) : Type 0 where
   pub some : 1 ≤ h
   pub left_is : l ≡ left_at scratch (h - 1)
   pub right_is : r ≡ right_at scratch (h - 1)
-  pub walks : Walks work.ss nodes l.at (end_of nodes l) r.at (end_of nodes r) Done
+  pub walks : Walks work.ss nodes l.at (end_of nodes l) r.at (end_of nodes r) (Ok tt)
   pub closes : Closes work.ss nodes (bindings work.ss nodes state n) (left_at scratch) (right_at scratch) h no_term no_term
 
 -- n bindings, and a stack that is not empty
@@ -171,12 +174,16 @@ pub record ReadyToUnify (nodes state scratch : List ℕ) (n h : ℕ) : Type 0 wh
 
 -- ---- turns until something is to be bound
 
-abbrev pub LoopGives : List Symbol → List ℕ → List ℕ → List Binding → ℕ → RTerms → RTerms → List ℕ → Turn → Type 0
-LoopGives ss nodes state b top ls rs after (Go k) = unify_rows b ls rs ≡ some b
-LoopGives ss nodes state b top ls rs after Clash = unify_rows b ls rs ≡ none
-LoopGives ss nodes state b top ls rs after (Bind k x p c) = Binds ss nodes state b top ls rs after k x p c
+-- What turns come to: the stack is empty, or a stop.
+abbrev pub TurnsTaken : Type 0
+TurnsTaken = Result (Unit {0}) TurnStop
 
-abbrev pub Advanced : (nodes state before after : List ℕ) (n h : ℕ) → Work nodes state before n h → Turn → Type 0
+abbrev pub LoopGives : List Symbol → List ℕ → List ℕ → List Binding → ℕ → RTerms → RTerms → List ℕ → TurnsTaken → Type 0
+LoopGives ss nodes state b top ls rs after (Ok u) = unify_rows b ls rs ≡ some b
+LoopGives ss nodes state b top ls rs after (Err Clash) = unify_rows b ls rs ≡ none
+LoopGives ss nodes state b top ls rs after (Err (Bind k x p c)) = Binds ss nodes state b top ls rs after k x p c
+
+abbrev pub Advanced : (nodes state before after : List ℕ) (n h : ℕ) → Work nodes state before n h → TurnsTaken → Type 0
 Advanced nodes state before after n h g t =
     SameMarks before after × LoopGives g.ss nodes state (bindings g.ss nodes state n) g.top (rows_of g.ss nodes (left_at before) h)
     (rows_of g.ss nodes (right_at before) h) after t

@@ -1,12 +1,12 @@
 -- Two rows of terms side by side, and how far they are the same.
-use Rattle.std.specs.Prelude.{ℕ, ◌≤◌, ◌<◌, ◌≡◌, List, ◌⊎◌, get_or}
+use Rattle.std.specs.Prelude.{ℕ, ◌≤◌, ◌<◌, ◌≡◌, Result, Ok, Err, List, ◌⊎◌, get_or}
 use Rattle.std.proofs.Math.Option.{none}
 use Rattle.syntax.specs.Words.{first_name}
 use Rattle.machine.specs.Substitution.{RTerms, Binding}
 use Rattle.run_layout.specs.Nodes.{Symbol, Node, Row, terms_at, followed, count}
 use Rattle.unifier.specs.Rows.{unify_rows, rows_size}
-use Rattle.unifier.specs.declared.walk.RowsWalked.{RowsWalked}
-use Rattle.unifier.specs.declared.walk.RowsWalked.TheVariants.{Done, Clash, Met}
+use Rattle.unifier.specs.declared.walk.WalkStop.{WalkStop}
+use Rattle.unifier.specs.declared.walk.WalkStop.TheVariants.{Clash, Met}
 
 -- Rows from p to e and from q to f, of as many terms.
 pub record RowsBeside (ss : List Symbol) (nodes : List ℕ) (p e q f : ℕ) : Type 0 where
@@ -36,9 +36,13 @@ pub record StopsAt (ss : List Symbol) (nodes : List ℕ) (p e q f i j : ℕ) : T
   pub less : (b : List Binding) (c : ℕ) → rows_size b (terms_at ss nodes i e c) ≤ rows_size b (terms_at ss nodes p e c)
   pub less_right : (b : List Binding) (d : ℕ) → rows_size b (terms_at ss nodes j f d) ≤ rows_size b (terms_at ss nodes q f d)
 
+-- What a walk comes to: all the same, or a stop before the end.
+abbrev pub RowsWalked : Type 0
+RowsWalked = Result (Unit {0}) WalkStop
+
 abbrev pub Walks : List Symbol → List ℕ → ℕ → ℕ → ℕ → ℕ → RowsWalked → Type 0
-Walks ss nodes p e q f Done = (b : List Binding) (c d : ℕ) (l r : RTerms) → unify_rows b (followed (terms_at ss nodes p e c) l)
+Walks ss nodes p e q f (Ok u) = (b : List Binding) (c d : ℕ) (l r : RTerms) → unify_rows b (followed (terms_at ss nodes p e c) l)
     (followed (terms_at ss nodes q f d) r) ≡ unify_rows b l r
-Walks ss nodes p e q f Clash = (b : List Binding) (c d : ℕ) (l r : RTerms) → unify_rows b (followed (terms_at ss nodes p e c) l)
+Walks ss nodes p e q f (Err Clash) = (b : List Binding) (c d : ℕ) (l r : RTerms) → unify_rows b (followed (terms_at ss nodes p e c) l)
     (followed (terms_at ss nodes q f d) r) ≡ none
-Walks ss nodes p e q f (Met i j) = StopsAt ss nodes p e q f i j
+Walks ss nodes p e q f (Err (Met i j)) = StopsAt ss nodes p e q f i j

@@ -1,14 +1,14 @@
 // Unification: the outer loop, which takes over where a variable stands on a side, bound or not.
-ghost use Rattle.std.specs.Prelude.{◌≡◌};
+ghost use Rattle.std.specs.Prelude.{◌≡◌, Err};
 ghost use Rattle.unify_bindings.specs.Queues.{Closed};
 ghost use Rattle.unify_bindings.specs.Scratch.{left_at, right_at};
-ghost use Rattle.unifier.specs.declared.solve.Turn.TheVariants.{Bind};
+ghost use Rattle.unifier.specs.declared.solve.TurnStop.TheVariants.{Bind};
 ghost use Rattle.unifier.specs.Turns.{Crossed, Crossable, Crosses, Meetable, Turnable, TurnGives, Openable, Passable, ReadyToUnify, Advanced};
 ghost use Rattle.unifier.specs.Turns.{Solvable, Solved};
 ghost use Rattle.unifier.specs.Turns.{Unifiable, UnifyGives};
 ghost use Rattle.unifier.specs.Stacks.{rows_of};
 
-use crate::walk::{RowsWalked, walk_rows};
+use crate::walk::{WalkStop, walk_rows};
 use run_layout::{LOADED_NODE, PAIR_SIZE, SIDE_SIZE, STACK, cell_of};
 use syntax::FIRST_NAME;
 use table_words::word_at;
@@ -19,10 +19,9 @@ use unify_cuts::follow;
 use unify_cycles::{begin, check};
 use unify_memos::{forget, known, remember};
 
-// What a turn comes to: on with a stack of this height, names that differ, or a variable to be bound.
+// Why turns do not go on: names that differ, or a variable to be bound.
 #[derive(Clone, Copy)]
-pub enum Turn {
-    Go(usize),
+pub enum TurnStop {
     Clash,
     Bind {
         height: usize,
@@ -32,7 +31,7 @@ pub enum Turn {
     },
 }
 
-// Whether the two became equal, and the length of the trail.
+// Whether the two became equal, and the length of the trail, which is told in either case: a Result would have it on both sides.
 #[derive(Clone, Copy)]
 pub struct UnifyAnswer {
     pub equal: bool,
@@ -41,7 +40,14 @@ pub struct UnifyAnswer {
 
 // Two dereferenced terms of one name before the rows of a stack of height h. Where they are one term, or known to be equal, there is nothing to do;
 // else their arguments are looked at next.
-fn open_pair(scratch: &mut [u32], h: usize, p: usize, c: usize, q: usize, d: usize) -> Turn
+fn open_pair(
+    scratch: &mut [u32],
+    h: usize,
+    p: usize,
+    c: usize,
+    q: usize,
+    d: usize,
+) -> Result<usize, TurnStop>
     requires { Openable scratch.old h p c q d }
     ensures { (g : Openable scratch.old h p c q d) → Rattle.unifier.specs.Turns.PairTurned g.nodes scratch.old
         scratch.new h p c q d g.crossed result }
@@ -49,27 +55,27 @@ fn open_pair(scratch: &mut [u32], h: usize, p: usize, c: usize, q: usize, d: usi
     let left = pack(p, c);
     let right = pack(q, d);
     if left == right {
-        return Turn::Go(h);
+        return Ok(h);
     }
     if known(scratch, left, right) {
-        return Turn::Go(h);
+        return Ok(h);
     }
     let i = p + LOADED_NODE;
     let j = q + LOADED_NODE;
     put_pair(scratch, h, p, i, c, q, j, d);
-    Turn::Go(h + 1)
+    Ok(h + 1)
 }
 
 // The variable of cell x is to be bound to the term at p in copy c.
-fn bind_to(h: usize, x: usize, p: usize, c: usize) -> Turn
-    ensures { result ≡ Bind h x p c }
+fn bind_to(h: usize, x: usize, p: usize, c: usize) -> Result<usize, TurnStop>
+    ensures { result ≡ Err (Bind h x p c) }
 {
-    Turn::Bind {
+    Err(TurnStop::Bind {
         height: h,
         cell: x,
         node: p,
         copy: c,
-    }
+    })
 }
 
 // Two dereferenced terms before the rows of a stack of height h. Of two variables the later is bound to the earlier.
@@ -81,7 +87,7 @@ fn decide(
     c: usize,
     q: usize,
     d: usize,
-) -> Turn
+) -> Result<usize, TurnStop>
     requires { Crossed nodes.now scratch.old h p c q d }
     ensures { (g : Crossed nodes.now scratch.old h p c q d)
         → Rattle.unifier.specs.Turns.PairTurned nodes.now scratch.old scratch.new h p c q d g result }
@@ -93,7 +99,7 @@ fn decide(
         if z < FIRST_NAME {
             let y = cell_of(d, z);
             if x == y {
-                return Turn::Go(h);
+                return Ok(h);
             }
             if x < y {
                 return bind_to(h, y, p, c);
@@ -107,7 +113,7 @@ fn decide(
         return bind_to(h, v, p, c);
     }
     if w != z {
-        return Turn::Clash;
+        return Err(TurnStop::Clash);
     }
     open_pair(scratch, h, p, c, q, d)
 }
@@ -122,13 +128,21 @@ fn cross(
     c: usize,
     q: usize,
     d: usize,
-) -> Turn
+) -> Result<usize, TurnStop>
     requires { Crossable nodes.now state.now scratch.old h p c q d }
     ensures { (g : Crossable nodes.now state.now scratch.old h p c q d)
         → Crosses nodes.now state.now scratch.old scratch.new h p c q d g result }
 {
     let e = follow(nodes, state, scratch, p, c, q, d);
-    decide(nodes, scratch, h, e.node, e.copy, e.other, e.second)
+    decide(
+        nodes,
+        scratch,
+        h,
+        e.left.node,
+        e.left.copy,
+        e.right.node,
+        e.right.copy,
+    )
 }
 
 // The top pair, whose rows first have a variable on a side at p and q, moved past these two terms, which are then looked at.
@@ -141,7 +155,7 @@ fn meet(
     r: Side,
     p: usize,
     q: usize,
-) -> Turn
+) -> Result<usize, TurnStop>
     requires { Meetable nodes.now state.now scratch.old h l r p q }
     ensures { (g : Meetable nodes.now state.now scratch.old h l r p q)
         → TurnGives nodes.now state.now scratch.old scratch.new g.n h g.work result }
@@ -158,7 +172,7 @@ fn meet(
 }
 
 // The top pair's rows are done: its two terms, the left one of so many words, are equal from now on.
-fn pass(scratch: &mut [u32], h: usize, size: usize, l: Side, r: Side) -> Turn
+fn pass(scratch: &mut [u32], h: usize, size: usize, l: Side, r: Side) -> Result<usize, TurnStop>
     requires { Passable scratch.old h l r }
     ensures { (g : Passable scratch.old h l r) → TurnGives g.nodes g.state scratch.old scratch.new g.n h
         g.work result }
@@ -170,11 +184,11 @@ fn pass(scratch: &mut [u32], h: usize, size: usize, l: Side, r: Side) -> Turn
     let left = pack(root, c);
     let right = pack(other, d);
     remember(scratch, h, size, left, right);
-    Turn::Go(h - 1)
+    Ok(h - 1)
 }
 
 // One turn at the top of a stack of height h.
-fn next_turn(nodes: &[u32], state: &[u32], scratch: &mut [u32], h: usize) -> Turn
+fn next_turn(nodes: &[u32], state: &[u32], scratch: &mut [u32], h: usize) -> Result<usize, TurnStop>
     requires { Turnable nodes.now state.now scratch.old h }
     ensures { (g : Turnable nodes.now state.now scratch.old h)
         → TurnGives nodes.now state.now scratch.old scratch.new g.n h g.work result }
@@ -190,27 +204,30 @@ fn next_turn(nodes: &[u32], state: &[u32], scratch: &mut [u32], h: usize) -> Tur
     let e = root + size;
     let found = walk_rows(nodes, from, e, there);
     match found {
-        RowsWalked::Done => pass(scratch, h, size, l, r),
-        RowsWalked::Clash => Turn::Clash,
-        RowsWalked::Met { left, right } => meet(nodes, state, scratch, h, l, r, left, right),
+        Ok(()) => pass(scratch, h, size, l, r),
+        Err(WalkStop::Clash) => Err(TurnStop::Clash),
+        Err(WalkStop::Met { left, right }) => meet(nodes, state, scratch, h, l, r, left, right),
     }
 }
 
 // Turns, until the stack is empty or a turn does not go on. There are n bindings; they stay as they are, so the turns end.
-fn advance(nodes: &[u32], state: &[u32], scratch: &mut [u32], n: usize, h: usize) -> Turn
+fn advance(
+    nodes: &[u32],
+    state: &[u32],
+    scratch: &mut [u32],
+    n: usize,
+    h: usize,
+) -> Result<(), TurnStop>
     requires { ReadyToUnify nodes.now state.now scratch.old n h }
     ensures { (g : ReadyToUnify nodes.now state.now scratch.old n h)
         → Advanced nodes.now state.now scratch.old scratch.new n h g.work result }
 {
     let mut k = h;
+    // A turn may also put a pair upon the stack.
     while 0 < k {
-        let t = next_turn(nodes, state, scratch, k);
-        let Turn::Go(next) = t else {
-            return t;
-        };
-        k = next;
+        k = next_turn(nodes, state, scratch, k)?;
     }
-    Turn::Go(0)
+    Ok(())
 }
 
 // The one pair on the stack, with m bindings, the copies below k closed: turns, and a binding where they ask for one.
@@ -231,26 +248,29 @@ fn solve_pair(
     let mut n = m;
     let mut h = 1;
     let mut closed = k;
+    // How many bindings there will be is known only at the end.
     loop {
         let t = advance(nodes, state, scratch, n, h);
         match t {
-            Turn::Go(_) => {
+            Ok(()) => {
                 let trail = n;
                 return UnifyAnswer { equal: true, trail };
             }
-            Turn::Clash => {
+            Err(TurnStop::Clash) => {
                 let trail = n;
                 return UnifyAnswer {
                     equal: false,
                     trail,
                 };
             }
-            Turn::Bind {
-                height,
-                cell,
-                node,
-                copy,
-            } => {
+            Err(
+                TurnStop::Bind {
+                    height,
+                    cell,
+                    node,
+                    copy,
+                },
+            ) => {
                 if check(nodes, state, scratch, cell, node, copy, closed, height) {
                     let trail = n;
                     return UnifyAnswer {

@@ -62,11 +62,6 @@ constant-checked nodes state scratch x q d g h =
 
 -- ---- another unbound variable
 
-pub other-is : {nodes state : List ℕ} {x q d w y z : ℕ} → w ≡ get_or nodes q 0 → w < first_name → y ≡ cell_of d w → z ≡ get_or state y 0 → z ≡ 0 → (y ≡ x → ⊥) → Other nodes state x q d
-other-is {nodes} {state} {x} {q} {d} {w} {y} ew l ey ez h o =
-    let e : y ≡ cell_of d (get_or nodes q 0) = ey ∙ ap (cell_of d) ew in
-    record { variable = subst (λ (k : ℕ). k < first_name) ew l; unbound = sym (ap (cell_at state) e) ∙ (sym ez ∙ h); other = λ z. o (e ∙ z) }
-
 other-checked : (nodes state scratch : List ℕ) (x q d : ℕ) (g : Checkable nodes state scratch x q d) → Other nodes state x q d → OccursChecked g.ss nodes state g.n scratch scratch x q d false
 other-checked nodes state scratch x q d g h =
     record {

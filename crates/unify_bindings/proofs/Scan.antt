@@ -1,5 +1,5 @@
 -- Laws of the occurs check. Assumes nothing.
-use Rattle.std.proofs.Common.{◌≡◌, ℕ, zero, suc, ◌+◌, ◌-◌, ◌^◌, ◌<◌, ◌≤◌, Bool, true, false, ◌||◌, T, eqb, ltb, ◌⊎◌, List, [], length, get_or, set, sym, refl, ap, ◌∙◌, subst, ap₂, inl, inr, arith, length-set, get_or-set_other, ltb-false, ltb-true, le-ltb, lt-ltb, eqb-true}
+use Rattle.std.proofs.Common.{◌≡◌, ℕ, zero, suc, ◌+◌, ◌^◌, ◌<◌, ◌≤◌, Bool, true, false, ◌||◌, T, eqb, ltb, ◌⊎◌, List, [], length, get_or, sym, refl, ap, ◌∙◌, subst, ap₂, inl, inr, arith, ltb-false, ltb-true, le-ltb, lt-ltb, eqb-true}
 use mathlib.Core.Path.{subst⁻¹}
 use borrow.Author.Tests.{eqb-false}
 use Rattle.syntax.specs.Words.{first_name}
@@ -325,18 +325,6 @@ closed-under ss nodes state P (suc n) step t all v h =
         there y ih (inr k) = in-term v (subst (λ (u : RTerm). T (occurs v u)) (replace-away (variable_of (trail_at state n)) (resolve (bindings ss nodes state n) (value_of ss nodes (cell_at state (trail_at state n)))) (resolve (bindings ss nodes state n) t) k) h) ih
 
 -- ---- looking at a queued cell
-
-pub noted-refl : (scratch : List ℕ) (n : ℕ) → QueueChanged scratch scratch n
-noted-refl scratch n = record { long = refl; cell = λ y l. refl; entry = λ i l. refl; others = λ j l. refl }
-
-pub noted-slot : (scratch : List ℕ) (n i k : ℕ) → n ≤ i → i < cells → QueueChanged scratch (set scratch (trail + i) k) n
-noted-slot scratch n i k l h =
-    record {
-      long = length-set scratch (trail + i) k;
-      cell = λ y z. get_or-set_other scratch (trail + i) y k 0 (λ e. omega arith);
-      entry = λ j z. get_or-set_other scratch (trail + i) (trail + j) k 0 (λ e. omega arith);
-      others = λ j z. get_or-set_other scratch (trail + i) j k 0 (λ e. omega arith);
-    }
 
 module _ (state before after : List ℕ) (n : ℕ) (q : Queued state before n) (h : QueueChanged before after n) where
   noted-keeps : Keeps n before after

@@ -1,6 +1,6 @@
 -- What the functions on cells and trail are given, and what they promise. The symbols are no argument of the code: a function is given some with
 -- which the words make sense, and promises for all of them.
-use Rattle.std.specs.Prelude.{◌≡◌, ℕ, ◌<◌, ◌≤◌, true, false, List, nat_lt, slice_index, slice_index_or}
+use Rattle.std.specs.Prelude.{◌≡◌, ℕ, ◌<◌, ◌≤◌, true, false, Option, Some, None, List, nat_lt, slice_index, slice_index_or}
 use Rattle.syntax.specs.Words.{first_name}
 use Rattle.machine.specs.Substitution.{resolve}
 use Rattle.run_layout.specs.Regions.{copies}
@@ -11,6 +11,11 @@ use Rattle.unify_bindings.specs.declared.At.{At}
 -- the run-time term of a cell's word
 abbrev pub at_of : ℕ → At
 at_of w = record { node = node_of w; copy = copy_of w }
+
+-- the run-time term of a cell's word, or none for the word 0
+abbrev pub Held : ℕ → Option At → Type 0
+Held w None = w ≡ 0
+Held w (Some a) = (w ≡ 0 → ⊥) × (a ≡ at_of w)
 
 -- the word of the cell of the variable at a place; 0 where a name stands there
 unfoldable pub bound_at : List ℕ → List ℕ → ℕ → ℕ → ℕ

@@ -2,7 +2,6 @@
 -- is "bound" to the one node of a table of its own, so the laws of stores serve for both.
 use Rattle.std.specs.Prelude.{◌≡◌, ℕ, ◌+◌, ◌*◌, ◌<◌, ◌≤◌, Bool, true, false, T, ◌⊎◌, List, [], ◌∷◌, length, ◌≢◌, nat_eq, nat_lt, slice_index, slice_index_or}
 use Rattle.syntax.specs.Words.{first_name}
-use Rattle.syntax.specs.Limits.{arguments}
 use Rattle.machine.specs.Substitution.{Variable, var, occurs, resolve}
 use Rattle.run_layout.specs.Regions.{copies, copy_cells, cells, store_words, loaded_node}
 use Rattle.run_layout.specs.Nodes.{Symbol, Node, term_at}

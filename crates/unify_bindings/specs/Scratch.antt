@@ -18,7 +18,8 @@ abbrev pub right_at : List ℕ → ℕ → Side
 right_at scratch k = stack_side scratch (pair_of k + side_size)
 
 unfoldable pub pair_words : List ℕ → ℕ → ℕ → ℕ → ℕ → ℕ → ℕ → ℕ → List ℕ
-pair_words scratch k root at copy other there second = stack_side_words (stack_side_words scratch (pair_of k) root at copy) (pair_of k + side_size) other there second
+pair_words scratch k root at copy other there second =
+    stack_side_words (stack_side_words scratch (pair_of k) root at copy) (pair_of k + side_size) other there second
 
 -- what stands before the work stack is as it was: marks, queue and order; and so is the length
 pub record SameMarks (before after : List ℕ) : Type 0 where

@@ -1,4 +1,5 @@
-// Below unification, over flat words: cells and trail, the occurs check and the work stack.
+// Below unification, over flat words: cells and trail, the occurs check and the work stack. The library allocates nothing: these are tables of words that
+// are lent, with places in them, and no Vec or Box.
 
 #![tactic(auto)]
 

@@ -20,7 +20,7 @@ const NODE_WORDS: usize = LOADED_NODE * COPIES;
 // How far apart the slots of a node's copies are; odd, so that no two of them are the same.
 const SPREAD: usize = 97;
 
-// Whether a cell was found, how many are queued, and how many words were looked at.
+// Whether a cell was found, how many are queued, and how many words were looked at. All three are told in either case: an Option would leave none of them out.
 #[derive(Clone, Copy)]
 pub struct Queue {
     pub found: bool,
@@ -28,7 +28,7 @@ pub struct Queue {
     pub cost: usize,
 }
 
-// Whether a variable stands in a term, and how many words were looked at.
+// Whether a variable stands in a term, and how many words were looked at, which is told in either case: an Option would leave neither out.
 #[derive(Clone, Copy)]
 pub struct Occurrence {
     pub found: bool,
@@ -93,6 +93,7 @@ fn scan(
     let e = q + cost;
     let mut i = q;
     let mut n = m;
+    // A `for` over `(q..e).step_by(LOADED_NODE)` takes 29 in a hundred instructions more here, and one over the number of nodes 7.
     while i < e {
         if is_cell(nodes, i, d, x) {
             return Queue {
@@ -184,6 +185,7 @@ fn search(nodes: &[u32], state: &[u32], scratch: &mut [u32], x: usize, m: usize)
     let mut k = 0;
     let mut n = m;
     let mut cost = 0;
+    // A `for` fixes its end when it begins, and this queue grows meanwhile.
     while k < n {
         let r = look(nodes, state, scratch, x, k, n);
         if r.found {

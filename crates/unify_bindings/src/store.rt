@@ -2,13 +2,13 @@
 ghost use Rattle.std.specs.Prelude.{◌≡◌, ◌+◌, ◌*◌, ◌^◌, ◌<◌, ◌≤◌, length};
 ghost use Rattle.run_layout.specs.Regions.{copies, cells, trail};
 ghost use Rattle.run_layout.specs.State.{bound_words, word_of};
-ghost use Rattle.unify_bindings.specs.Cells.{at_of, bound_at, StoredTerm, Derefs, Stored, Undone};
+ghost use Rattle.unify_bindings.specs.Cells.{at_of, bound_at, Held, StoredTerm, Derefs, Stored, Undone};
 
 use crate::At;
 use run_layout::{COPIES, TRAIL, cell_of};
 use syntax::FIRST_NAME;
 
-// A run-time term as a cell's word.
+// A run-time term as a cell's word. This and `unpack` are no `From`, which may ask nothing: not every term has a word, and the word 0 has no term.
 pub fn pack(node: usize, copy: usize) -> usize
     requires { word_of node copy < 2 ^ 32 }
     ensures { result ≡ word_of node copy }
@@ -27,17 +27,27 @@ pub fn unpack(w: usize) -> At
     At { node, copy }
 }
 
-// The word of the cell of the variable at a place; 0 where it is unbound, or a name stands there.
-pub fn bound_at(nodes: &[u32], state: &[u32], p: usize, c: usize) -> usize
+// The run-time term of a cell's word; none where the cell is unbound, which is the word 0.
+pub fn held(w: usize) -> Option<At>
+    ensures { Held w result }
+{
+    if w == 0 {
+        return None;
+    }
+    Some(unpack(w))
+}
+
+// The term that the variable at a place is bound to; none where it is unbound, or a name stands there.
+pub fn bound_at(nodes: &[u32], state: &[u32], p: usize, c: usize) -> Option<At>
     requires { (p < length nodes.now) × ((cells ≤ length state.now) × (c < copies)) }
-    ensures { result ≡ bound_at nodes.now state.now p c }
+    ensures { Held (bound_at nodes.now state.now p c) result }
 {
     let w = nodes[p] as usize;
     if FIRST_NAME <= w {
-        return 0;
+        return None;
     }
     let x = cell_of(c, w);
-    state[x] as usize
+    held(state[x] as usize)
 }
 
 // Where a term leads: to a name, or to an unbound variable.
@@ -48,12 +58,9 @@ pub fn deref(nodes: &[u32], state: &[u32], p: usize, c: usize) -> At
 {
     let mut node = p;
     let mut copy = c;
-    let mut w = bound_at(nodes, state, p, c);
-    while w != 0 {
-        let at = unpack(w);
+    while let Some(at) = bound_at(nodes, state, node, copy) {
         node = at.node;
         copy = at.copy;
-        w = bound_at(nodes, state, node, copy);
     }
     At { node, copy }
 }
@@ -75,9 +82,7 @@ pub fn undo(state: &mut [u32], mark: usize, n: usize)
     requires mark_le_n { mark ≤ n }
     ensures { Undone state.old state.new mark n }
 {
-    let mut i = n;
-    while mark < i {
-        i -= 1;
+    for i in (mark..n).rev() {
         let at = TRAIL + i;
         let x = state[at] as usize;
         state[x] = 0;

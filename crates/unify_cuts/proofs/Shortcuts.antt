@@ -4,6 +4,8 @@ use native.Mathlib.Omega.{arith}
 use mathlib.Core.Path.{◌≡◌, refl, sym, ap, ◌∙◌, subst, subst⁻¹}
 use mathlib.Core.Bool.{Bool, true, false}
 use mathlib.Core.List.{List, ◌∷◌}
+use Rattle.std.proofs.Common.{Option, Some, None}
+use Rattle.std.specs.Option.{is_some}
 use lib.Dec.{ltb, eqb}
 use lib.ListN.{length, get_or, set, take, length-set}
 use lib.Seq.{get_or-set_same, get_or-set_other, length-take-le, get_or-take}
@@ -15,12 +17,12 @@ use Rattle.run_layout.specs.Nodes.{Symbol, Node, term_at}
 use Rattle.run_layout.specs.State.{cell_of, node_of, copy_of, cell_at, bindings}
 use Rattle.run_layout.proofs.Nodes.{node-inside, variable-at}
 use Rattle.run_layout.proofs.State.{variable-cell, cell-small, copy-small}
-use Rattle.unify_bindings.specs.Cells.{at_of, bound_at, Leads}
+use Rattle.unify_bindings.specs.Cells.{at_of, bound_at, Held, Leads}
 use Rattle.unify_bindings.specs.declared.At.{At}
 use Rattle.unify_bindings.specs.Scratch.{Roomy}
 use Rattle.unify_bindings.proofs.Deref.{BoundCell, bound-cell-is, bound-variable, bound-name, depth, depth-variable}
 use Rattle.unify_cuts.specs.Cuts.{cuts_made, cut_from, cut_to, cell_means, Cuts, Cut, Cutting}
-use Rattle.unify_cuts.specs.Chains.{Fronted, Followable, Next, Staged, Further, Strode, Cuttable, Eased, Followed, Both, BothFollowed}
+use Rattle.unify_cuts.specs.Chains.{Fronted, Followable, LeadsOn, Next, Staged, Further, Strode, Cuttable, Eased, Followed, Both, BothFollowed}
 use Rattle.unify_cuts.specs.declared.Stage.{Stage}
 use Rattle.unify_cuts.specs.declared.Ends.{Ends}
 
@@ -146,10 +148,35 @@ eased-trans e f =
 pub eased-roomy : {b : List Binding} {s t : List ℕ} → Eased b s t → Roomy s → Roomy t
 eased-roomy {b} {s} {t} e r = let l : rows ≤ length s = r in let z : length t ≡ length s = e.beside.long in omega arith
 
+-- ---- a next term, or none
+
+pub none-is : (r : Option At) → is_some r ≡ false → r ≡ None
+none-is None e = refl
+none-is (Some a) e = absurd (cc)
+
+pub some-is : (r : Option At) → is_some r ≡ true → r ≡ None → ⊥
+some-is None e z = absurd (cc)
+some-is (Some a) e z = absurd (cc)
+
 -- ---- where a word leads
 
 pub leads-trans : {ss : List Symbol} {nodes state : List ℕ} {n p c q d q1 d1 : ℕ} → Leads ss nodes state n p c q d → Leads ss nodes state n q d q1 d1 → Leads ss nodes state n p c q1 d1
 leads-trans k m = record { node = m.node; copy = m.copy; means = m.means ∙ k.means; within = λ j w l. m.within j w (k.within j w l) }
+
+-- The word w leads on from the term at p in copy c, to an earlier cell or to a name; where it is 0, nothing does.
+record NextWord (ss : List Symbol) (nodes state : List ℕ) (n p c w : ℕ) : Type 0 where
+  stops : w ≡ 0 → get_or nodes p 0 < first_name → cell_at state (cell_of c (get_or nodes p 0)) ≡ 0
+  variable : (w ≡ 0 → ⊥) → get_or nodes p 0 < first_name
+  leads : (w ≡ 0 → ⊥) → Leads ss nodes state n p c (node_of w) (copy_of w)
+  down : (w ≡ 0 → ⊥) → get_or nodes (node_of w) 0 < first_name → cell_of (copy_of w) (get_or nodes (node_of w) 0) < cell_of c (get_or nodes p 0)
+
+next-held : {ss : List Symbol} {nodes state : List ℕ} {n p c w : ℕ} → NextWord ss nodes state n p c w → (r : Option At) → Held w r → Next ss nodes state n p c r
+next-held k None h = record { stops = λ e. k.stops h; on = λ a e. absurd (cc) }
+next-held {ss} {nodes} {state} {n} {p} {c} {w} k (Some x) h =
+    record {
+      stops = λ e. absurd (cc);
+      on = λ a e. subst⁻¹ (LeadsOn ss nodes state n p c) (let i : a ≡ at_of w = cc (h.1) in i) (record { variable = k.variable h.0; leads = k.leads h.0; down = k.down h.0 });
+    }
 
 module _ (nodes front : List ℕ) (p c : ℕ) (g : Fronted nodes front p c) where
   abbrev ss : List Symbol
@@ -169,8 +196,8 @@ module _ (nodes front : List ℕ) (p c : ℕ) (g : Fronted nodes front p c) wher
   front_at k = record { state = g.state; given = record { ss = g.given.ss; n = g.given.n; store = g.given.store; node = k.node; copy = k.copy }; long = g.long; same = g.same }
 
   module _ {v : ℕ} (ev : v ≡ get_or nodes p 0) where
-    pub next-name : first_name ≤ v → Next g.given.ss nodes g.state g.given.n p c 0
-    next-name l = record { stops = λ e h. absurd (let z : get_or nodes p 0 < first_name = h in omega (arith, ev, l)); variable = λ z. absurd (z refl); leads = λ z. absurd (z refl); down = λ z. absurd (z refl) }
+    pub next-name : first_name ≤ v → Next g.given.ss nodes g.state g.given.n p c None
+    next-name l = record { stops = λ e h. absurd (let z : get_or nodes p 0 < first_name = h in omega (arith, ev, l)); on = λ a e. absurd (cc) }
 
     module _ (l : v < first_name) {x : ℕ} (ex : x ≡ cell_of c v) where
       low-here : get_or nodes p 0 < first_name
@@ -209,23 +236,28 @@ module _ (nodes front : List ℕ) (p c : ℕ) (g : Fronted nodes front p c) wher
             subst⁻¹ (λ (u : ℕ). get_or nodes (node_of u) 0 < first_name → cell_of (copy_of u) (get_or nodes (node_of u) 0) < cell_of c (get_or nodes p 0)) ew
             (λ q. let a : cell_of (copy_of (cell_at g.state y)) (get_or nodes (node_of (cell_at g.state y)) 0) < y = cell.down q in let e : x ≡ cell_of c (get_or nodes p 0) = cell-here in omega (arith, le))
 
-      pub next-plain : {w : ℕ} → w ≡ get_or front x 0 → Next g.given.ss nodes g.state g.given.n p c w
-      next-plain {w} ew = record { stops = λ e h. sym (ap (cell_at g.state) cell-here) ∙ (sym (g.same x next-cell) ∙ (sym ew ∙ e)); variable = λ z. low-here; leads = λ z. via-leads refl (omega arith) ew z; down = λ z. via-down refl (omega arith) ew z }
+      next-plain-word : {w : ℕ} → w ≡ get_or front x 0 → NextWord g.given.ss nodes g.state g.given.n p c w
+      next-plain-word {w} ew = record { stops = λ e h. sym (ap (cell_at g.state) cell-here) ∙ (sym (g.same x next-cell) ∙ (sym ew ∙ e)); variable = λ z. low-here; leads = λ z. via-leads refl (omega arith) ew z; down = λ z. via-down refl (omega arith) ew z }
 
-      pub next-cut : {scratch : List ℕ} {y w : ℕ} → Cuts b scratch → Cut scratch x y → y < x → w ≡ get_or front y 0 → (w ≡ 0 → ⊥) → Next g.given.ss nodes g.state g.given.n p c w
-      next-cut {scratch} {y} {w} r k le ew some =
-          let same : cell_means b x ≡ cell_means b y = k.is b r in
-          record { stops = λ e. absurd (some e); variable = λ z. low-here; leads = λ z. via-leads same (omega (arith, le)) ew z; down = λ z. via-down same (omega (arith, le)) ew z }
+      pub next-plain : {w : ℕ} → w ≡ get_or front x 0 → (r : Option At) → Held w r → Next g.given.ss nodes g.state g.given.n p c r
+      next-plain e r h = next-held (next-plain-word e) r h
 
-  -- the word of a variable's own cell
-  pub next-bound : {w : ℕ} → w ≡ bound_at nodes front p c → Next g.given.ss nodes g.state g.given.n p c w
-  next-bound {w} e = go (ltb (get_or nodes p 0) first_name) refl
+      pub next-cut : {scratch : List ℕ} {y w : ℕ} → Cuts b scratch → Cut scratch x y → y < x → w ≡ get_or front y 0 → (w ≡ 0 → ⊥) → (r : Option At) → Held w r → Next g.given.ss nodes g.state g.given.n p c r
+      next-cut {scratch} {y} {w} t k le ef some r h =
+          let same : cell_means b x ≡ cell_means b y = k.is b t in
+          next-held (record { stops = λ e. absurd (some e); variable = λ z. low-here; leads = λ z. via-leads same (omega (arith, le)) ef z; down = λ z. via-down same (omega (arith, le)) ef z }) r h
+
+  -- the term that the variable itself is bound to
+  pub next-bound : (r : Option At) → Held (bound_at nodes front p c) r → Next g.given.ss nodes g.state g.given.n p c r
+  next-bound r e = go (ltb (get_or nodes p 0) first_name) refl
     where
-      go : (t : Bool) → ltb (get_or nodes p 0) first_name ≡ t → Next g.given.ss nodes g.state g.given.n p c w
-      go true t = let l : get_or nodes p 0 < first_name = ltb-true (get_or nodes p 0) first_name t in next-plain refl l refl (e ∙ bound-variable nodes front p c l)
-      go false t =
-          let l : first_name ≤ get_or nodes p 0 = ltb-false (get_or nodes p 0) first_name t in
-          subst⁻¹ (λ (u : ℕ). Next g.given.ss nodes g.state g.given.n p c u) (e ∙ bound-name nodes front p c l) (next-name refl l)
+      nothing : first_name ≤ get_or nodes p 0 → (o : Option At) → Held (bound_at nodes front p c) o → Next g.given.ss nodes g.state g.given.n p c o
+      nothing l None h = next-name refl l
+      nothing l (Some a) h = absurd (h.0 (bound-name nodes front p c l))
+
+      go : (t : Bool) → ltb (get_or nodes p 0) first_name ≡ t → Next g.given.ss nodes g.state g.given.n p c r
+      go true t = let l : get_or nodes p 0 < first_name = ltb-true (get_or nodes p 0) first_name t in next-plain refl l refl (bound-variable nodes front p c l) r e
+      go false t = nothing (ltb-false (get_or nodes p 0) first_name t) r e
 
   -- what `bound_at` asks
   pub bound-asks : (p < length nodes) × ((cells ≤ length front) × (c < copies))
@@ -233,16 +265,19 @@ module _ (nodes front : List ℕ) (p c : ℕ) (g : Fronted nodes front p c) wher
 
 -- ---- the first links
 
+-- where something leads on, it is from a variable
+on-variable : {ss : List Symbol} {nodes state : List ℕ} {n p c : ℕ} (r : Option At) → Next ss nodes state n p c r → (r ≡ None → ⊥) → get_or nodes p 0 < first_name
+on-variable None k z = absurd (z refl)
+on-variable (Some a) k z = (k.on a refl).variable
+
 module _ (nodes front : List ℕ) (p c : ℕ) (g : Fronted nodes front p c) where
-  on_word : {w : ℕ} → Next g.given.ss nodes g.state g.given.n p c w → (w ≡ 0 → ⊥) → {a : At} → a ≡ at_of w → Leads g.given.ss nodes g.state g.given.n p c a.node a.copy
-  on_word k z e = subst⁻¹ (λ (u : At). Leads g.given.ss nodes g.state g.given.n p c u.node u.copy) e (k.leads z)
+  -- a next term, or none
+  pub lead-here : (r : Option At) → Held (bound_at nodes front p c) r → Staged g.given.ss nodes g.state g.given.n p c (record { at = record { node = p; copy = c }; next = r })
+  lead-here r e = record { leads = leads-here nodes front p c g; stops = (next-bound nodes front p c g r e).stops }
 
-  pub lead-none : {w : ℕ} → w ≡ bound_at nodes front p c → Staged g.given.ss nodes g.state g.given.n p c (record { node = p; copy = c; word = w })
-  lead-none e = record { leads = leads-here nodes front p c g; stops = (next-bound nodes front p c g e).stops }
-
-  module _ {w : ℕ} (e : w ≡ bound_at nodes front p c) (z : w ≡ 0 → ⊥) {a : At} (f : a ≡ at_of w) where
+  module _ {a : At} (e : Held (bound_at nodes front p c) (Some a)) where
     pub lead-leads : Leads g.given.ss nodes g.state g.given.n p c a.node a.copy
-    lead-leads = on_word (next-bound nodes front p c g e) z f
+    lead-leads = ((next-bound nodes front p c g (Some a) e).on a refl).leads
 
     abbrev pub lead-on : Fronted nodes front a.node a.copy
     lead-on = front_at nodes front p c g lead-leads
@@ -260,45 +295,45 @@ module _ (nodes front scratch : List ℕ) (p c : ℕ) (g : Followable nodes fron
   follow-at k = record { from = front_at nodes front p c g.from k; roomy = g.roomy; cuts = g.cuts }
 
 -- k links and cuts on; the cell of a variable is lower by as many at least
-pub record Striding (ss : List Symbol) (nodes state : List ℕ) (n p c k q d w : ℕ) : Type 0 where
-  pub leads : Leads ss nodes state n p c q d
-  pub next : Next ss nodes state n q d w
-  pub from : get_or nodes q 0 < first_name → get_or nodes p 0 < first_name
-  pub down : get_or nodes q 0 < first_name → cell_of d (get_or nodes q 0) + k ≤ cell_of c (get_or nodes p 0)
+pub record Striding (ss : List Symbol) (nodes state : List ℕ) (n p c k : ℕ) (a : At) (r : Option At) : Type 0 where
+  pub leads : Leads ss nodes state n p c a.node a.copy
+  pub next : Next ss nodes state n a.node a.copy r
+  pub from : get_or nodes a.node 0 < first_name → get_or nodes p 0 < first_name
+  pub down : get_or nodes a.node 0 < first_name → cell_of a.copy (get_or nodes a.node 0) + k ≤ cell_of c (get_or nodes p 0)
 
 module _ (nodes front scratch : List ℕ) (p c : ℕ) (g : Followable nodes front scratch p c) where
-  pub stride-begin : {w : ℕ} → ((h : Followable nodes front scratch p c) → Next h.from.given.ss nodes h.from.state h.from.given.n p c w) → Striding g.from.given.ss nodes g.from.state g.from.given.n p c 0 p c w
+  pub stride-begin : {r : Option At} → ((h : Followable nodes front scratch p c) → Next h.from.given.ss nodes h.from.state h.from.given.n p c r) → Striding g.from.given.ss nodes g.from.state g.from.given.n p c 0 (record { node = p; copy = c }) r
   stride-begin k = record { leads = leads-here nodes front p c g.from; next = k g; from = λ l. l; down = λ l. omega arith }
 
-  module _ {k q d w : ℕ} (s : Striding g.from.given.ss nodes g.from.state g.from.given.n p c k q d w) where
-    pub stride-end : w ≡ 0 → Strode g.from.given.ss nodes g.from.state g.from.given.n p c (record { node = q; copy = d; word = w })
+  module _ {k : ℕ} {q : At} {r : Option At} (s : Striding g.from.given.ss nodes g.from.state g.from.given.n p c k q r) where
+    pub stride-end : r ≡ None → Strode g.from.given.ss nodes g.from.state g.from.given.n p c (record { at = q; next = r })
     stride-end e = record { staged = record { leads = s.leads; stops = s.next.stops }; further = λ z. absurd (z e) }
 
-    pub stride-full : 1 ≤ k → (w ≡ 0 → ⊥) → Strode g.from.given.ss nodes g.from.state g.from.given.n p c (record { node = q; copy = d; word = w })
-    stride-full l z =
-        let v : get_or nodes q 0 < first_name = s.next.variable z in
-        let h : cell_of d (get_or nodes q 0) + k ≤ cell_of c (get_or nodes p 0) = s.down v in
-        record { staged = record { leads = s.leads; stops = s.next.stops }; further = λ z1. record { from = s.from v; to = v; down = omega arith } }
+    pub stride-full : 1 ≤ k → Strode g.from.given.ss nodes g.from.state g.from.given.n p c (record { at = q; next = r })
+    stride-full l =
+        record {
+          staged = record { leads = s.leads; stops = s.next.stops };
+          further = λ z.
+              (let v : get_or nodes q.node 0 < first_name = on-variable r s.next z in
+              let h : cell_of q.copy (get_or nodes q.node 0) + k ≤ cell_of c (get_or nodes p 0) = s.down v in
+              record { from = s.from v; to = v; down = omega arith });
+        }
 
-    module _ (z : w ≡ 0 → ⊥) {a : At} (e : a ≡ at_of w) where
-      pub step-leads : Leads g.from.given.ss nodes g.from.state g.from.given.n q d a.node a.copy
-      step-leads = subst⁻¹ (λ (u : At). Leads g.from.given.ss nodes g.from.state g.from.given.n q d u.node u.copy) e (s.next.leads z)
-
-      step_down : get_or nodes a.node 0 < first_name → cell_of a.copy (get_or nodes a.node 0) < cell_of d (get_or nodes q 0)
-      step_down = subst⁻¹ (λ (u : At). get_or nodes u.node 0 < first_name → cell_of u.copy (get_or nodes u.node 0) < cell_of d (get_or nodes q 0)) e (s.next.down z)
+    module _ {a : At} (e : r ≡ Some a) where
+      pub leads-on : LeadsOn g.from.given.ss nodes g.from.state g.from.given.n q.node q.copy a
+      leads-on = s.next.on a e
 
       abbrev pub stride-follow : Followable nodes front scratch a.node a.copy
-      stride-follow = follow-at nodes front scratch p c g (leads-trans s.leads step-leads)
+      stride-follow = follow-at nodes front scratch p c g (leads-trans s.leads leads-on.leads)
 
-      pub stride-next : {u : ℕ} → ((h : Followable nodes front scratch a.node a.copy) → Next h.from.given.ss nodes h.from.state h.from.given.n a.node a.copy u) → Striding g.from.given.ss nodes g.from.state g.from.given.n p c (k + 1) a.node a.copy u
+      pub stride-next : {u : Option At} → ((h : Followable nodes front scratch a.node a.copy) → Next h.from.given.ss nodes h.from.state h.from.given.n a.node a.copy u) → Striding g.from.given.ss nodes g.from.state g.from.given.n p c (k + 1) a u
       stride-next m =
-          let v : get_or nodes q 0 < first_name = s.next.variable z in
-          let h : cell_of d (get_or nodes q 0) + k ≤ cell_of c (get_or nodes p 0) = s.down v in
+          let h : cell_of q.copy (get_or nodes q.node 0) + k ≤ cell_of c (get_or nodes p 0) = s.down leads-on.variable in
           record {
-            leads = leads-trans s.leads step-leads;
+            leads = leads-trans s.leads leads-on.leads;
             next = m stride-follow;
-            from = λ l. s.from v;
-            down = λ l. (let f : cell_of a.copy (get_or nodes a.node 0) < cell_of d (get_or nodes q 0) = step_down l in omega arith);
+            from = λ l. s.from leads-on.variable;
+            down = λ l. (let f : cell_of a.copy (get_or nodes a.node 0) < cell_of q.copy (get_or nodes q.node 0) = leads-on.down l in omega arith);
           }
 
 -- ---- a walk
@@ -325,17 +360,17 @@ module _ (nodes front before : List ℕ) (p c : ℕ) (g : Followable nodes front
       strode : Strode g.from.given.ss nodes g.from.state g.from.given.n q d r
       strode = m walk-follow
 
-      pub walk_end : r.word ≡ 0 → Followed g.from.given.ss nodes g.from.state g.from.given.n before after p c r.node r.copy
+      pub walk_end : r.next ≡ None → Followed g.from.given.ss nodes g.from.state g.from.given.n before after p c r.at.node r.at.copy
       walk_end e = record { derefs = record { leads = leads-trans s.leads strode.staged.leads; stops = strode.staged.stops e }; eased = s.eased }
 
-      module _ (z : r.word ≡ 0 → ⊥) where
-        far : Further nodes q d r.node r.copy
+      module _ (z : r.next ≡ None → ⊥) where
+        far : Further nodes q d r.at.node r.at.copy
         far = strode.further z
 
         node_in : {i : ℕ} → Node g.from.given.ss nodes i → i < length nodes
         node_in {i} k = let a : i + loaded_node ≤ length nodes = node-inside g.from.given.ss nodes i k in omega arith
 
-        pub walk-cut : Cuttable nodes after q d r.node r.copy
+        pub walk-cut : Cuttable nodes after q d r.at.node r.at.copy
         walk-cut =
             record {
               left = far.from;
@@ -347,11 +382,11 @@ module _ (nodes front before : List ℕ) (p c : ℕ) (g : Followable nodes front
               roomy = eased-roomy s.eased g.roomy;
             }
 
-        pub walk-falls : depth nodes r.node r.copy < depth nodes q d
+        pub walk-falls : depth nodes r.at.node r.at.copy < depth nodes q d
         walk-falls =
-            let i : depth nodes r.node r.copy ≡ suc (cell_of r.copy (get_or nodes r.node 0)) = depth-variable nodes r.node r.copy far.to in
+            let i : depth nodes r.at.node r.at.copy ≡ suc (cell_of r.at.copy (get_or nodes r.at.node 0)) = depth-variable nodes r.at.node r.at.copy far.to in
             let j : depth nodes q d ≡ suc (cell_of d (get_or nodes q 0)) = depth-variable nodes q d far.from in
-            let h : cell_of r.copy (get_or nodes r.node 0) < cell_of d (get_or nodes q 0) = far.down in
+            let h : cell_of r.at.copy (get_or nodes r.at.node 0) < cell_of d (get_or nodes q 0) = far.down in
             omega arith
 
         -- a variable of the store is that of its cell
@@ -359,9 +394,9 @@ module _ (nodes front before : List ℕ) (p c : ℕ) (g : Followable nodes front
             → cell_means (bindings g.from.given.ss nodes g.from.state g.from.given.n) (cell_of e (get_or nodes i 0)) ≡ resolve (bindings g.from.given.ss nodes g.from.state g.from.given.n) (term_at g.from.given.ss nodes i e)
         variable-is {i} {e} k l = term_is nodes front i e (front_at nodes front p c g.from k) refl l refl
 
-        pub walk-next : {later : List ℕ} → Cutting after later (cell_of d (get_or nodes q 0)) (cell_of r.copy (get_or nodes r.node 0)) → Walking g.from.given.ss nodes g.from.state g.from.given.n before later p c r.node r.copy
+        pub walk-next : {later : List ℕ} → Cutting after later (cell_of d (get_or nodes q 0)) (cell_of r.at.copy (get_or nodes r.at.node 0)) → Walking g.from.given.ss nodes g.from.state g.from.given.n before later p c r.at.node r.at.copy
         walk-next k =
-            let t : Leads g.from.given.ss nodes g.from.state g.from.given.n p c r.node r.copy = leads-trans s.leads strode.staged.leads in
+            let t : Leads g.from.given.ss nodes g.from.state g.from.given.n p c r.at.node r.at.copy = leads-trans s.leads strode.staged.leads in
             record {
               leads = t;
               eased = eased-trans s.eased
@@ -381,7 +416,7 @@ module _ (nodes front before : List ℕ) (p c q d : ℕ) (g : Both nodes front b
     abbrev pub far-second : Followable nodes front after q d
     far-second = record { from = right-from; roomy = eased-roomy first-followed.eased g.left.roomy; cuts = first-followed.eased.cuts }
 
-    pub far-done : {later : List ℕ} {q2 d2 : ℕ} → ((h : Followable nodes front after q d) → Followed h.from.given.ss nodes h.from.state h.from.given.n after later q d q2 d2) → BothFollowed g.left.from.given.ss nodes g.left.from.state g.left.from.given.n before later p c q d (record { node = q1; copy = d1; other = q2; second = d2 })
+    pub far-done : {later : List ℕ} {q2 d2 : ℕ} → ((h : Followable nodes front after q d) → Followed h.from.given.ss nodes h.from.state h.from.given.n after later q d q2 d2) → BothFollowed g.left.from.given.ss nodes g.left.from.state g.left.from.given.n before later p c q d (record { left = record { node = q1; copy = d1 }; right = record { node = q2; copy = d2 } })
     far-done m =
         let s : Followed g.left.from.given.ss nodes g.left.from.state g.left.from.given.n after _ q d _ _ = m far-second in
         record { left = first-followed.derefs; right = s.derefs; eased = eased-trans first-followed.eased s.eased }
@@ -434,7 +469,7 @@ module _ (nodes state before : List ℕ) (p c q d : ℕ) (g : Both nodes state b
           eased = e.eased;
         }
 
-  pub both-near : {l r : Stage} → Staged g.left.from.given.ss nodes g.left.from.state g.left.from.given.n p c l → l.word ≡ 0 → Staged g.left.from.given.ss nodes g.left.from.state g.left.from.given.n q d r → r.word ≡ 0 → BothFollowed g.left.from.given.ss nodes g.left.from.state g.left.from.given.n before before p c q d (record { node = l.node; copy = l.copy; other = r.node; second = r.copy })
+  pub both-near : {l r : Stage} → Staged g.left.from.given.ss nodes g.left.from.state g.left.from.given.n p c l → l.next ≡ None → Staged g.left.from.given.ss nodes g.left.from.state g.left.from.given.n q d r → r.next ≡ None → BothFollowed g.left.from.given.ss nodes g.left.from.state g.left.from.given.n before before p c q d (record { left = l.at; right = r.at })
   both-near a e a1 e1 =
       record {
         left = record { leads = a.leads; stops = a.stops e };

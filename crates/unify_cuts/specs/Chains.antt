@@ -1,10 +1,11 @@
 -- Chains of variables followed by short cuts: what the functions are given and what they promise.
-use Rattle.std.specs.Prelude.{ℕ, ◌≤◌, ◌<◌, ◌≡◌, List, length, get_or}
+use Rattle.std.specs.Prelude.{ℕ, ◌≤◌, ◌<◌, ◌≡◌, Option, Some, None, List, length, get_or}
 use Rattle.syntax.specs.Words.{first_name}
 use Rattle.machine.specs.Substitution.{Binding}
 use Rattle.run_layout.specs.Regions.{copies, cells}
 use Rattle.run_layout.specs.Nodes.{Symbol, Node}
-use Rattle.run_layout.specs.State.{cell_of, node_of, copy_of, cell_at, bindings}
+use Rattle.run_layout.specs.State.{cell_of, cell_at, bindings}
+use Rattle.unify_bindings.specs.declared.At.{At}
 use Rattle.unify_bindings.specs.Cells.{StoredTerm, Leads, Derefs}
 use Rattle.unify_bindings.specs.Scratch.{Roomy}
 use Rattle.unify_cuts.specs.Cuts.{Cuts, CutsOnly}
@@ -28,17 +29,21 @@ pub record Followable (nodes front scratch : List ℕ) (p c : ℕ) : Type 0 wher
   pub roomy : Roomy scratch
   pub cuts : Cuts (bindings from.given.ss nodes from.state from.given.n) scratch
 
--- The word w leads on from the term at p in copy c, to an earlier cell or to a name; where it is 0, nothing does.
-pub record Next (ss : List Symbol) (nodes state : List ℕ) (n p c w : ℕ) : Type 0 where
-  pub stops : w ≡ 0 → get_or nodes p 0 < first_name → cell_at state (cell_of c (get_or nodes p 0)) ≡ 0
-  pub variable : (w ≡ 0 → ⊥) → get_or nodes p 0 < first_name
-  pub leads : (w ≡ 0 → ⊥) → Leads ss nodes state n p c (node_of w) (copy_of w)
-  pub down : (w ≡ 0 → ⊥) → get_or nodes (node_of w) 0 < first_name → cell_of (copy_of w) (get_or nodes (node_of w) 0) < cell_of c (get_or nodes p 0)
+-- The variable at p in copy c leads on to a term, that of an earlier cell or a name.
+pub record LeadsOn (ss : List Symbol) (nodes state : List ℕ) (n p c : ℕ) (a : At) : Type 0 where
+  pub variable : get_or nodes p 0 < first_name
+  pub leads : Leads ss nodes state n p c a.node a.copy
+  pub down : get_or nodes a.node 0 < first_name → cell_of a.copy (get_or nodes a.node 0) < cell_of c (get_or nodes p 0)
 
--- A walk from the term at p in copy c has come to another; where its word is 0, nothing leads on.
+-- Where the term at p in copy c leads on to; where that is nowhere, it is a name or an unbound variable.
+pub record Next (ss : List Symbol) (nodes state : List ℕ) (n p c : ℕ) (r : Option At) : Type 0 where
+  pub stops : r ≡ None → get_or nodes p 0 < first_name → cell_at state (cell_of c (get_or nodes p 0)) ≡ 0
+  pub on : (a : At) → r ≡ Some a → LeadsOn ss nodes state n p c a
+
+-- A walk from the term at p in copy c has come to another; where there is no next term, nothing leads on.
 pub record Staged (ss : List Symbol) (nodes state : List ℕ) (n p c : ℕ) (r : Stage) : Type 0 where
-  pub leads : Leads ss nodes state n p c r.node r.copy
-  pub stops : r.word ≡ 0 → get_or nodes r.node 0 < first_name → cell_at state (cell_of r.copy (get_or nodes r.node 0)) ≡ 0
+  pub leads : Leads ss nodes state n p c r.at.node r.at.copy
+  pub stops : r.next ≡ None → get_or nodes r.at.node 0 < first_name → cell_at state (cell_of r.at.copy (get_or nodes r.at.node 0)) ≡ 0
 
 -- Two variables, the second of an earlier cell.
 pub record Further (nodes : List ℕ) (p c q d : ℕ) : Type 0 where
@@ -46,10 +51,10 @@ pub record Further (nodes : List ℕ) (p c q d : ℕ) : Type 0 where
   pub to : get_or nodes q 0 < first_name
   pub down : cell_of d (get_or nodes q 0) < cell_of c (get_or nodes p 0)
 
--- The same as a walk, which has come to an earlier cell where a word leads on.
+-- The same as a walk, which has come to an earlier cell where there is a next term.
 pub record Strode (ss : List Symbol) (nodes state : List ℕ) (n p c : ℕ) (r : Stage) : Type 0 where
   pub staged : Staged ss nodes state n p c r
-  pub further : (r.word ≡ 0 → ⊥) → Further nodes p c r.node r.copy
+  pub further : (r.next ≡ None → ⊥) → Further nodes p c r.at.node r.at.copy
 
 -- Two variables.
 pub record Cuttable (nodes scratch : List ℕ) (p c q d : ℕ) : Type 0 where
@@ -79,6 +84,6 @@ pub record Both (nodes front scratch : List ℕ) (p c q d : ℕ) : Type 0 where
 
 -- Both are dereferenced, and only cuts changed.
 pub record BothFollowed (ss : List Symbol) (nodes state : List ℕ) (n : ℕ) (before after : List ℕ) (p c q d : ℕ) (r : Ends) : Type 0 where
-  pub left : Derefs ss nodes state n p c r.node r.copy
-  pub right : Derefs ss nodes state n q d r.other r.second
+  pub left : Derefs ss nodes state n p c r.left.node r.left.copy
+  pub right : Derefs ss nodes state n q d r.right.node r.right.copy
   pub eased : Eased (bindings ss nodes state n) before after

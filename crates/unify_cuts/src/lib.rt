@@ -1,6 +1,6 @@
 // Short cuts through chains of variables, which hold for one unification: a cut leads from a cell to one further along its chain. A slot for each cell says
 // which cut is the cell's: it is the higher half of one of the memo's slots. Slots are never cleared, since a cut names its cell. On a long walk a cut is made
-// every so many links, so a later walk along the chain is short.
+// every so many links, so a later walk along the chain is short. The library allocates nothing: list and slots are words that are lent, and no map.
 
 #![tactic(auto)]
 
@@ -17,26 +17,23 @@ use run_layout::{
 use syntax::FIRST_NAME;
 use table_words::{put, word_at};
 use unify_bindings::At;
-use unify_bindings::store::{bound_at, unpack};
+use unify_bindings::store::{bound_at, held};
 
 // A cut leads over so many links, or cuts.
 const STRIDE: usize = 32;
 
-// A term that a walk has come to, and the word that leads on from there; 0 where nothing does.
+// A term that a walk has come to, and the next one from there, if there is one.
 #[derive(Clone, Copy)]
 pub struct Stage {
-    pub node: usize,
-    pub copy: usize,
-    pub word: usize,
+    pub at: At,
+    pub next: Option<At>,
 }
 
 // Where two terms lead.
 #[derive(Clone, Copy)]
 pub struct Ends {
-    pub node: usize,
-    pub copy: usize,
-    pub other: usize,
-    pub second: usize,
+    pub left: At,
+    pub right: At,
 }
 
 // A cell that means what cell x does: where x has a cut, the cell that it leads to.
@@ -79,27 +76,27 @@ fn put_cut(scratch: &mut [u32], x: usize, y: usize)
     scratch[CUTS_WORD] = (k + 1) as u32;
 }
 
-// The word that leads on from the term at p in copy c, by a cut where there is one; 0 where nothing does.
-fn next_word(nodes: &[u32], front: &[u32], scratch: &[u32], p: usize, c: usize) -> usize
+// Where the term at p in copy c leads on to, by a cut where there is one.
+fn next_from(nodes: &[u32], front: &[u32], scratch: &[u32], p: usize, c: usize) -> Option<At>
     requires { Followable nodes.now front.now scratch.now p c }
     ensures { (g : Followable nodes.now front.now scratch.now p c)
         → Next g.from.given.ss nodes.now g.from.state g.from.given.n p c result }
 {
     let v = word_at(nodes, p);
     if FIRST_NAME <= v {
-        return 0;
+        return None;
     }
     let x = cell_of(c, v);
     let w = word_at(front, x);
     let y = cut_of(scratch, x);
     if x <= y {
-        return w;
+        return held(w);
     }
     let z = word_at(front, y);
     if z == 0 {
-        return w;
+        return held(w);
     }
-    z
+    held(z)
 }
 
 // At most so many links and cuts from a term on as a cut leads over.
@@ -108,21 +105,16 @@ fn stride(nodes: &[u32], front: &[u32], scratch: &[u32], p: usize, c: usize) -> 
     ensures { (g : Followable nodes.now front.now scratch.now p c)
         → Strode g.from.given.ss nodes.now g.from.state g.from.given.n p c result }
 {
-    let mut node = p;
-    let mut copy = c;
-    let mut k = 0;
-    let mut word = next_word(nodes, front, scratch, p, c);
-    while word != 0 {
-        if STRIDE <= k {
-            return Stage { node, copy, word };
-        }
-        let at = unpack(word);
-        node = at.node;
-        copy = at.copy;
-        word = next_word(nodes, front, scratch, node, copy);
-        k += 1;
+    let mut at = At { node: p, copy: c };
+    let mut next = next_from(nodes, front, scratch, p, c);
+    for _ in 0..STRIDE {
+        let Some(there) = next else {
+            return Stage { at, next };
+        };
+        at = there;
+        next = next_from(nodes, front, scratch, at.node, at.copy);
     }
-    Stage { node, copy, word }
+    Stage { at, next }
 }
 
 // A cut from the variable at p in copy c to the one at q in copy d.
@@ -147,12 +139,13 @@ fn walk_on(nodes: &[u32], front: &[u32], scratch: &mut [u32], p: usize, c: usize
 {
     let mut node = p;
     let mut copy = c;
+    // How many strides a walk has is known only at its end.
     loop {
         let s = stride(nodes, front, scratch, node, copy);
-        let i = s.node;
-        let d = s.copy;
-        if s.word == 0 {
-            return At { node: i, copy: d };
+        let i = s.at.node;
+        let d = s.at.copy;
+        if s.next.is_none() {
+            return s.at;
         }
         cut_between(nodes, scratch, node, copy, i, d);
         node = i;
@@ -168,11 +161,11 @@ fn go_on(nodes: &[u32], front: &[u32], scratch: &mut [u32], p: usize, c: usize) 
         result.copy }
 {
     let s = stride(nodes, front, scratch, p, c);
-    let i = s.node;
-    let d = s.copy;
-    if s.word == 0 {
-        return At { node: i, copy: d };
+    if s.next.is_none() {
+        return s.at;
     }
+    let i = s.at.node;
+    let d = s.at.copy;
     cut_between(nodes, scratch, p, c, i, d);
     walk_on(nodes, front, scratch, i, d)
 }
@@ -183,30 +176,20 @@ fn lead(nodes: &[u32], front: &[u32], p: usize, c: usize) -> Stage
     ensures { (g : Fronted nodes.now front.now p c)
         → Staged g.given.ss nodes.now g.state g.given.n p c result }
 {
-    let w = bound_at(nodes, front, p, c);
-    if w == 0 {
+    let Some(first) = bound_at(nodes, front, p, c) else {
         return Stage {
-            node: p,
-            copy: c,
-            word: w,
+            at: At { node: p, copy: c },
+            next: None,
         };
-    }
-    let a = unpack(w);
-    let i = a.node;
-    let d = a.copy;
-    let v = bound_at(nodes, front, i, d);
-    if v == 0 {
+    };
+    let Some(at) = bound_at(nodes, front, first.node, first.copy) else {
         return Stage {
-            node: i,
-            copy: d,
-            word: v,
+            at: first,
+            next: None,
         };
-    }
-    let b = unpack(v);
-    let node = b.node;
-    let copy = b.copy;
-    let word = bound_at(nodes, front, node, copy);
-    Stage { node, copy, word }
+    };
+    let next = bound_at(nodes, front, at.node, at.copy);
+    Stage { at, next }
 }
 
 // As `follow`, for terms that may be far from there.
@@ -224,14 +207,9 @@ fn follow_far(
         → BothFollowed g.left.from.given.ss nodes.now g.left.from.state g.left.from.given.n scratch.old scratch.new
         p c q d result }
 {
-    let a = go_on(nodes, front, scratch, p, c);
-    let b = go_on(nodes, front, scratch, q, d);
-    Ends {
-        node: a.node,
-        copy: a.copy,
-        other: b.node,
-        second: b.copy,
-    }
+    let left = go_on(nodes, front, scratch, p, c);
+    let right = go_on(nodes, front, scratch, q, d);
+    Ends { left, right }
 }
 
 // The same. Of the state only the cells are handed on, whose number is known: its length is then needed nowhere, and costs a step nothing.
@@ -269,21 +247,16 @@ pub fn follow(
         p c q d result }
 {
     let l = lead(nodes, state, p, c);
-    let i = l.node;
-    let x = l.copy;
-    if l.word != 0 {
-        return follow_on(nodes, state, scratch, i, x, q, d);
+    let left = l.at;
+    if l.next.is_some() {
+        return follow_on(nodes, state, scratch, left.node, left.copy, q, d);
     }
     let r = lead(nodes, state, q, d);
-    let j = r.node;
-    let y = r.copy;
-    if r.word != 0 {
-        return follow_on(nodes, state, scratch, i, x, j, y);
+    let right = r.at;
+    if r.next.is_some() {
+        return follow_on(
+            nodes, state, scratch, left.node, left.copy, right.node, right.copy,
+        );
     }
-    Ends {
-        node: i,
-        copy: x,
-        other: j,
-        second: y,
-    }
+    Ends { left, right }
 }

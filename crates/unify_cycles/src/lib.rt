@@ -30,7 +30,7 @@ const TURNS: usize = 8;
 fn counted(n: usize) -> usize
     ensures { result ≤ most_counted }
 {
-    if n < MOST_COUNTED { n } else { MOST_COUNTED }
+    n.min(MOST_COUNTED)
 }
 
 // A purse of n words.

@@ -4,13 +4,14 @@ use native.Mathlib.Omega.{arith}
 use mathlib.Core.Path.{◌≡◌, refl, sym, ap, ap₂, ◌∙◌, subst, subst⁻¹}
 use mathlib.Core.Bool.{Bool, true, false}
 use mathlib.Core.List.{List, ◌∷◌}
-use mathlib.Core.Logic.{◌⊎◌, inl, inr}
-use lib.Dec.{T, eqb}
+use mathlib.Core.Logic.{inl, inr}
+use Rattle.std.proofs.Common.{Option, Some}
+use lib.Dec.{eqb}
 use lib.ListN.{length, get_or, set, length-set}
 use lib.Seq.{get_or-set_same, get_or-set_other}
 use borrow.Author.Tests.{eqb-true, eqb-false}
 use Rattle.machine.specs.Substitution.{RTerm, replace, Binding, resolve}
-use Rattle.run_layout.specs.Regions.{copies, cut_list, memo, rows_word, slots, slot_count, keys, key_count, class_count, memo_class, weights, rows, row_words, half_word, memo_row}
+use Rattle.run_layout.specs.Regions.{copies, cut_list, memo, rows_word, slots, slot_count, keys, key_count, class_count, memo_class, weights, rows, row_words, memo_row}
 use Rattle.run_layout.specs.Nodes.{Symbol, term_at}
 use Rattle.run_layout.specs.State.{word_of, value_of}
 use Rattle.run_layout.proofs.State.{node-word, copy-word}
@@ -271,9 +272,6 @@ merged before after i j a b ra rb h =
     }
 
 -- links followed so far
-pub reaches-begin : (scratch : List ℕ) (i : ℕ) → Reaches scratch i i
-reaches-begin scratch i = record { is = λ meaning k n. record { numbered = n; same = refl } }
-
 pub reaches-on : (scratch : List ℕ) (i r w : ℕ) → Reaches scratch i r → w ≡ link_of scratch r → (w ≡ 0 → ⊥) → w ≤ class_count → (s : ℕ) → s ≡ w - 1 → Reaches scratch i s
 reaches-on scratch i r w h e n l s es =
     record {
@@ -288,26 +286,6 @@ reaches-on scratch i r w h e n l s es =
 pub number-of-half : (scratch : List ℕ) (k v w r : ℕ) → w ≡ get_or scratch (memo_row k + v % row_words) 0 → r ≡ half (v / row_words % 2) w → r ≡ class_in scratch k v
 number-of-half scratch k v w r e h = h ∙ ap (half (v / row_words % 2)) e
 
-pub rowed-at : (scratch : List ℕ) (key k n w : ℕ) → k < key_count → n ≡ rows_made scratch → k < n → w ≡ key_of scratch k → w ≡ key → memo_row k + row_words ≤ length scratch → (k + 1 ≡ 0) ⊎ Rowed scratch key (k + 1 - 1)
-rowed-at scratch key k n w small e below f g fits =
-    inr (subst⁻¹ (Rowed scratch key) (let z : k + 1 - 1 ≡ k = omega arith in z) (record { below = omega arith; small = small; fits = fits; names = sym f ∙ g }))
-
-pub entered_at : (scratch : List ℕ) (term row i : ℕ) → (row ≡ 0) ⊎ Rowed scratch ((term + shift) / copies) (row - 1) → (row ≡ 0 → ⊥) → i ≡ class_in scratch (row - 1) (term + shift) → i < class_count → (i ≡ 0) ⊎ Entered scratch term i
-entered_at scratch term row i (inl z) n e s = absurd (n z)
-entered_at scratch term row i (inr w) n e s = go (eqb i 0) refl
-  where
-    go : (z : Bool) → eqb i 0 ≡ z → (i ≡ 0) ⊎ Entered scratch term i
-    go true z = inl (eqb-true i 0 z)
-    go false z = inr (record { row = row - 1; rowed = w; is = sym e; some = eqb-false i 0 z; small = s })
-
-pub of_number : (scratch : List ℕ) (term i : ℕ) → (i ≡ 0) ⊎ Entered scratch term i → (i ≡ 0 → ⊥) → Entered scratch term i
-of_number scratch term i (inl z) n = absurd (n z)
-of_number scratch term i (inr e) n = e
-
-pub small-number : (scratch : List ℕ) (term i : ℕ) → (i ≡ 0) ⊎ Entered scratch term i → i < class_count
-small-number scratch term i (inl z) = omega arith
-small-number scratch term i (inr e) = e.small
-
 -- a term has the meaning of its number's class
 pub entered-belongs : (meaning : ℕ → RTerm) (scratch : List ℕ) (term i : ℕ) → Links meaning scratch → first_class ≤ classes_made scratch → Entered scratch term i → Belongs meaning scratch term i
 entered-belongs meaning scratch term i m t e = go (m.entries e.row (term + shift) e.rowed.below e.rowed.small t (sym e.rowed.names))
@@ -316,46 +294,10 @@ entered-belongs meaning scratch term i m t e = go (m.entries e.row (term + shift
     go (inl z) = absurd (e.some (sym e.is ∙ z))
     go (inr b) = subst (λ (x : ℕ). Belongs meaning scratch x i) (let z : term + shift - shift ≡ term = omega arith in z) (subst (Belongs meaning scratch (term + shift - shift)) e.is b)
 
-pub not_found : (scratch : List ℕ) (left right : ℕ) → false ≡ true → KnownEqual scratch left right
-not_found scratch left right e = absurd (subst T (sym e) tt)
-
-pub found_at : (scratch : List ℕ) (left right i j a b : ℕ) → first_class ≤ classes_made scratch → Entered scratch left i → Entered scratch right j → Reaches scratch i a → Reaches scratch j b → eqb a b ≡ true → KnownEqual scratch left right
-found_at scratch left right i j a b t ei ej ra rb e =
-    record {
-      is = λ meaning k.
-          (let u : Belongs meaning scratch left i = entered-belongs meaning scratch left i k t ei in
-          let v : Belongs meaning scratch right j = entered-belongs meaning scratch right j k t ej in
-          let x : SameClass meaning scratch i a = ra.is meaning k u.numbered in
-          let y : SameClass meaning scratch j b = rb.is meaning k v.numbered in
-          u.same ∙ (x.same ∙ (ap (λ (z : ℕ). meaning (class_term scratch z)) (eqb-true a b e) ∙ (sym y.same ∙ sym v.same))));
-    }
-
 -- ---- a row more
-
-pub cleared-none : (before : List ℕ) (base : ℕ) → Cleared before before base 0
-cleared-none before base = record { long = refl; zero_words = λ j a b. absurd (omega arith); low = λ j l. refl; high = λ j l. refl }
-
-pub cleared_more : (before after : List ℕ) (base k : ℕ) → base + k < length before → Cleared before after base k → Cleared before (set after (base + k) 0) base (k + 1)
-cleared_more before after base k room c =
-    record {
-      long = length-set after (base + k) 0 ∙ c.long;
-      zero_words = λ j a b. go j a b (eqb j (base + k)) refl;
-      low = λ j l. get_or-set_other after (base + k) j 0 0 (λ e. omega arith) ∙ c.low j l;
-      high = λ j l. get_or-set_other after (base + k) j 0 0 (λ e. omega arith) ∙ c.high j (omega arith);
-    }
-  where
-    go : (j : ℕ) → base ≤ j → j < base + (k + 1) → (z : Bool) → eqb j (base + k) ≡ z → get_or (set after (base + k) 0) j 0 ≡ 0
-    go j a b true z = subst⁻¹ (λ (x : ℕ). get_or (set after (base + k) 0) x 0 ≡ 0) (eqb-true j (base + k) z) (get_or-set_same after (base + k) 0 0 (let e : length after ≡ length before = c.long in omega arith))
-    go j a b false z = let d : j ≡ base + k → ⊥ = eqb-false j (base + k) z in get_or-set_other after (base + k) j 0 0 d ∙ c.zero_words j a (omega (arith, d))
-
-pub cleared-all : (before after : List ℕ) (base k : ℕ) → k ≡ row_words → Cleared before after base k → Cleared before after base row_words
-cleared-all before after base k e c = subst (Cleared before after base) e c
 
 kept-none : (before : List ℕ) → Kept before before
 kept-none before = record { long = refl; words = λ j l. refl; same_classes = λ j a b. refl }
-
-pub opens-none : (before : List ℕ) (key : ℕ) → Opens before before key 0
-opens-none before key = record { kept = kept-none before; row = inl refl; links = λ meaning m. m }
 
 -- classes that are as they were
 module _ (before after : List ℕ) (w : Kept before after) where
@@ -438,17 +380,16 @@ module _ (before clean : List ℕ) (k s key : ℕ) (is : k ≡ rows_made before)
           (m.entries r v (omega arith) t (let q : classes_made opened ≡ classes_made before = kept-terms before opened opened-kept in omega arith)
           (e ∙ (aside (keys + r) (λ x. omega arith) (λ x. omega arith) (λ x. omega arith) ∙ c.low (keys + r) (omega arith))))
 
-  pub opens-new : Opens before opened key (k + 1)
+  pub opens-new : Opens before opened key (Some k)
   opens-new =
       record {
         kept = opened-kept;
-        row = inr (subst⁻¹ (Rowed opened key) (let z : k + 1 - 1 ≡ k = omega arith in z)
-            (record {
-              below = (let n : rows_made opened ≡ k + 1 = opened-count in omega arith);
-              small = small;
-              fits = (let n : length opened ≡ length before = opened-kept.long in omega arith);
-              names = opened-key;
-            }));
+        row = record {
+          below = (let n : rows_made opened ≡ k + 1 = opened-count in omega arith);
+          small = small;
+          fits = (let n : length opened ≡ length before = opened-kept.long in omega arith);
+          names = opened-key;
+        };
         links = λ meaning m. record { links = kept-links before opened opened-kept meaning m; entries = opened-entry meaning m };
       }
 
@@ -539,28 +480,15 @@ module _ (before : List ℕ) (k v i : ℕ) (w : Rowed before (v / copies) k) (sm
 kept_then : (before mid after : List ℕ) → Kept before mid → Kept mid after → Kept before after
 kept_then before mid after f g = record { long = g.long ∙ f.long; words = λ j l. g.words j l ∙ f.words j l; same_classes = λ j a b. g.same_classes j a b ∙ f.same_classes j a b }
 
-pub assigned-none : (before after : List ℕ) (term i key r : ℕ) → Opens before after key r → Assigns before after term i
-assigned-none before after term i key r o = record { kept = o.kept; links = λ meaning m b. o.links meaning m }
-
-pub assigned : (before mid : List ℕ) (term i r : ℕ) → Opens before mid ((term + shift) / copies) r → (r ≡ 0 → ⊥) → i < class_count → (after : List ℕ) → after ≡ placed mid (r - 1) (term + shift) i → Assigns before after term i
-assigned before mid term i r o n small after e = subst⁻¹ (λ (l : List ℕ). Assigns before l term i) e (go o.row)
-  where
-    go : (r ≡ 0) ⊎ Rowed mid ((term + shift) / copies) (r - 1) → Assigns before (placed mid (r - 1) (term + shift) i) term i
-    go (inl z) = absurd (n z)
-    go (inr w) =
-        record {
-          kept = kept_then before mid (placed mid (r - 1) (term + shift) i) o.kept (placed-kept mid (r - 1) (term + shift) i w small);
-          links = λ meaning m b.
-              placed-links mid (r - 1) (term + shift) i w small meaning (o.links meaning m)
-              (subst⁻¹ (λ (x : ℕ). Belongs meaning mid x i) (let z : term + shift - shift ≡ term = omega arith in z) (kept-belongs before mid o.kept meaning term i b));
-        }
-
-pub row_fits : (scratch : List ℕ) (key r : ℕ) → (r ≡ 0) ⊎ Rowed scratch key (r - 1) → (r ≡ 0 → ⊥) → (r - 1 < key_count) × (memo_row (r - 1) + row_words ≤ length scratch)
-row_fits scratch key r (inl z) n = absurd (n z)
-row_fits scratch key r (inr w) n = (w.small, w.fits)
-
-pub row-then : (scratch : List ℕ) (key r i : ℕ) → (r ≡ 0) ⊎ Rowed scratch key (r - 1) → (r ≡ 0 → ⊥) → i < class_count → (r - 1 < key_count) × ((memo_row (r - 1) + row_words ≤ length scratch) × (i < half_word))
-row-then scratch key r i w n l = ((row_fits scratch key r w n).0, ((row_fits scratch key r w n).1, omega arith))
+pub assigned : (before mid : List ℕ) (term i k : ℕ) (r : Option ℕ) → Opens before mid ((term + shift) / copies) r → Rowed mid ((term + shift) / copies) k → i < class_count → (after : List ℕ) → after ≡ placed mid k (term + shift) i → Assigns before after term i
+assigned before mid term i k r o w small after e =
+    subst⁻¹ (λ (l : List ℕ). Assigns before l term i) e
+    (record {
+      kept = kept_then before mid (placed mid k (term + shift) i) o.kept (placed-kept mid k (term + shift) i w small);
+      links = λ meaning m b.
+          placed-links mid k (term + shift) i w small meaning (o.links meaning m)
+          (subst⁻¹ (λ (x : ℕ). Belongs meaning mid x i) (let z : term + shift - shift ≡ term = omega arith in z) (kept-belongs before mid o.kept meaning term i b));
+    })
 
 -- ---- remembering
 
@@ -608,14 +536,6 @@ merged-both before after left right i j t ei ej h =
 
 pub weighed-one : (before : List ℕ) (i v : ℕ) → weights ≤ i → i < rows → Weighed before (set before i v)
 weighed-one before i v li hi = record { long = length-set before i v; low = λ j l. get_or-set_other before i j v 0 (λ e. omega arith); high = λ j l. get_or-set_other before i j v 0 (λ e. omega arith) }
-
-pub weighed-two : (before : List ℕ) (i v j w : ℕ) → weights ≤ i → i < rows → weights ≤ j → j < rows → Weighed before (set (set before i v) j w)
-weighed-two before i v j w li hi lj hj =
-    record {
-      long = length-set (set before i v) j w ∙ length-set before i v;
-      low = λ x k. get_or-set_other (set before i v) j x w 0 (λ e. omega arith) ∙ get_or-set_other before i x v 0 (λ e. omega arith);
-      high = λ x k. get_or-set_other (set before i v) j x w 0 (λ e. omega arith) ∙ get_or-set_other before i x v 0 (λ e. omega arith);
-    }
 
 pub weighed-remembers : (before after : List ℕ) (left right : ℕ) → Weighed before after → Remembers before after left right
 weighed-remembers before after left right k =

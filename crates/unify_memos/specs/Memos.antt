@@ -1,5 +1,5 @@
 -- The memo of terms that are equal already: what its words mean, and what its functions promise.
-use Rattle.std.specs.Prelude.{ℕ, ◌+◌, ◌-◌, ◌/◌, ◌%◌, ◌≤◌, ◌<◌, ◌≡◌, List, ◌⊎◌, length, get_or}
+use Rattle.std.specs.Prelude.{ℕ, ◌+◌, ◌-◌, ◌/◌, ◌%◌, ◌≤◌, ◌<◌, ◌≡◌, Option, IfSome, List, ◌⊎◌, length, get_or}
 use Rattle.syntax.specs.Limits.{longest_path}
 use Rattle.machine.specs.Substitution.{RTerm, Binding, resolve}
 use Rattle.run_layout.specs.Regions.{copies, memo, rows_word, keys, key_count, classes, class_count, memo_class, weights, rows, row_words, memo_row}
@@ -81,7 +81,8 @@ Shows meaning scratch k v = (class_in scratch k v ≡ 0) ⊎ Belongs meaning scr
 -- that of its term's class.
 pub record Links (meaning : ℕ → RTerm) (scratch : List ℕ) : Type 0 where
   pub links : (i j : ℕ) → ClassNumber scratch i → link_of scratch i ≡ j + 1 → j < class_count → SameClass meaning scratch i j
-  pub entries : (k v : ℕ) → k < rows_made scratch → k < key_count → first_class ≤ classes_made scratch → v / copies ≡ key_of scratch k → Shows meaning scratch k v
+  pub entries : (k v : ℕ) → k < rows_made scratch → k < key_count → first_class ≤ classes_made scratch → v / copies ≡ key_of scratch k
+      → Shows meaning scratch k v
 
 -- Terms of one class are equal with the bindings put in, and each short cut leads to a cell that means the same.
 pub record Memo (ss : List Symbol) (nodes : List ℕ) (b : List Binding) (scratch : List ℕ) : Type 0 where
@@ -110,9 +111,9 @@ pub record Kept (before after : List ℕ) : Type 0 where
   pub same_classes : (j : ℕ) → classes ≤ j → j < weights → get_or after j 0 ≡ get_or before j 0
 
 -- There is a row for the node, or no room for it.
-pub record Opens (before after : List ℕ) (key r : ℕ) : Type 0 where
+pub record Opens (before after : List ℕ) (key : ℕ) (r : Option ℕ) : Type 0 where
   pub kept : Kept before after
-  pub row : (r ≡ 0) ⊎ Rowed after key (r - 1)
+  pub row : IfSome r (Rowed after key)
   pub links : (meaning : ℕ → RTerm) → Links meaning before → Links meaning after
 
 -- A term came into a class, where there was room.

@@ -3,11 +3,11 @@
 // half a word for each of its copies: the number of that term's class, or 0. A slot, chosen by the node's place, says which row is the node's. Slots
 // are never cleared: a row names its node, and the name is compared. A row is cleared when it is taken, and a call begins with no rows.
 // Of two terms that become equal one was reached by way of a bound cell, so there are no more new numbers than bound cells; and scratch words that have
-// a row for each node have room for every term.
+// a row for each node have room for every term. The library allocates nothing: all this is a table of words that is lent, and no Vec, Box or map.
 
 #![tactic(auto)]
 
-ghost use Rattle.std.specs.Prelude.{◌≡◌, true, ◌⊎◌, ◌+◌, ◌*◌, ◌/◌, ◌%◌, ◌-◌, ◌≤◌, ◌<◌, ◌^◌, length, get_or, set};
+ghost use Rattle.std.specs.Prelude.{IfSome, ◌≡◌, true, ◌⊎◌, ◌+◌, ◌*◌, ◌/◌, ◌%◌, ◌-◌, ◌≤◌, ◌<◌, ◌^◌, length, get_or, set};
 ghost use Rattle.run_layout.specs.Halves.{stored};
 ghost use Rattle.run_layout.specs.Regions.{pairs, memo, cuts_word, key_count, class_count, memo_class, row_words, half_word, memo_row};
 ghost use Rattle.unify_bindings.specs.Scratch.{Roomy};
@@ -48,27 +48,27 @@ pub fn forget(scratch: &mut [u32])
     scratch[CUTS_WORD] = 0;
 }
 
-// The row of a node and 1, or 0 where it has none.
-fn row_of(scratch: &[u32], key: usize) -> usize
+// The row of a node.
+fn row_of(scratch: &[u32], key: usize) -> Option<usize>
     requires { (Roomy scratch.now) × (key < 2 ^ 32) }
-    ensures { (result ≡ 0) ⊎ Rowed scratch.now key (result - 1) }
+    ensures { IfSome result (λ k. Rowed scratch.now key k) }
 {
     let slot = key / 2 % SLOT_COUNT;
     let w = word_at(scratch, SLOTS + slot);
     let k = half_of(0, w);
     if KEY_COUNT <= k {
-        return 0;
+        return None;
     }
     if word_at(scratch, ROWS_WORD) <= k {
-        return 0;
+        return None;
     }
     if word_at(scratch, KEYS + k) != key {
-        return 0;
+        return None;
     }
     if scratch.len() < ROWS + k * ROW_WORDS + ROW_WORDS {
-        return 0;
+        return None;
     }
-    k + 1
+    Some(k)
 }
 
 // The number that stands in row k for the word v.
@@ -81,22 +81,21 @@ fn number_in(scratch: &[u32], k: usize, v: usize) -> usize
     half_of(v / ROW_WORDS % 2, w)
 }
 
-// The number of a term's class, or 0 where it has none.
-fn number_of(scratch: &[u32], term: usize) -> usize
+// The number of a term's class.
+fn number_of(scratch: &[u32], term: usize) -> Option<usize>
     requires { (Roomy scratch.now) × (term < 2 ^ 32) }
-    ensures { (result ≡ 0) ⊎ Entered scratch.now term result }
+    ensures { IfSome result (λ i. Entered scratch.now term i) }
 {
     let v = term + SHIFT;
-    let row = row_of(scratch, v / COPIES);
-    if row == 0 {
-        return 0;
-    }
-    let k = row - 1;
+    let k = row_of(scratch, v / COPIES)?;
     let i = number_in(scratch, k, v);
-    if CLASS_COUNT <= i {
-        return 0;
+    if i == 0 {
+        return None;
     }
-    i
+    if CLASS_COUNT <= i {
+        return None;
+    }
+    Some(i)
 }
 
 // The link of number i: 0; or another number of its class, and 1; or, above CLASS_COUNT, its rank.
@@ -115,8 +114,7 @@ fn root_of(scratch: &[u32], i: usize) -> usize
     ensures leads { Reaches scratch.now i result }
 {
     let mut r = i;
-    let mut k = 0;
-    while k < CLASS_COUNT {
+    for _ in 0..CLASS_COUNT {
         let w = link_at(scratch, r);
         if w == 0 {
             return r;
@@ -125,7 +123,6 @@ fn root_of(scratch: &[u32], i: usize) -> usize
             return r;
         }
         r = w - 1;
-        k += 1;
     }
     r
 }
@@ -138,14 +135,12 @@ pub fn known(scratch: &[u32], left: usize, right: usize) -> bool
     if word_at(scratch, MEMO) <= COUNTED {
         return false;
     }
-    let i = number_of(scratch, left);
-    if i == 0 {
+    let Some(i) = number_of(scratch, left) else {
         return false;
-    }
-    let j = number_of(scratch, right);
-    if j == 0 {
+    };
+    let Some(j) = number_of(scratch, right) else {
         return false;
-    }
+    };
     let a = root_of(scratch, i);
     let b = root_of(scratch, j);
     a == b
@@ -156,41 +151,37 @@ fn clear(scratch: &mut [u32], base: usize)
     requires { base + row_words ≤ length scratch.old }
     ensures { Cleared scratch.old scratch.new base row_words }
 {
-    let mut k = 0;
-    while k < ROW_WORDS {
-        scratch[base + k] = 0;
-        k += 1;
-    }
+    scratch[base..base + ROW_WORDS].fill(0);
 }
 
-// A row for a node: its number and 1, or 0 where there is no room.
-fn new_row(scratch: &mut [u32], key: usize) -> usize
+// A row for a node, where there is room.
+fn new_row(scratch: &mut [u32], key: usize) -> Option<usize>
     requires { (Roomy scratch.old) × (key < 2 ^ 32) }
     ensures { Opens scratch.old scratch.new key result }
 {
     let k = word_at(scratch, ROWS_WORD);
     if KEY_COUNT <= k {
-        return 0;
+        return None;
     }
     let base = ROWS + k * ROW_WORDS;
     if scratch.len() < base + ROW_WORDS {
-        return 0;
+        return None;
     }
     clear(scratch, base);
     let slot = key / 2 % SLOT_COUNT;
     scratch[KEYS + k] = key as u32;
     scratch[SLOTS + slot] = k as u32;
     scratch[ROWS_WORD] = (k + 1) as u32;
-    k + 1
+    Some(k)
 }
 
 // The row of a node, which is new where it has none.
-fn row_for(scratch: &mut [u32], key: usize) -> usize
+fn row_for(scratch: &mut [u32], key: usize) -> Option<usize>
     requires { (Roomy scratch.old) × (key < 2 ^ 32) }
     ensures { Opens scratch.old scratch.new key result }
 {
     let row = row_of(scratch, key);
-    if row != 0 {
+    if row.is_some() {
         return row;
     }
     new_row(scratch, key)
@@ -213,11 +204,9 @@ fn assign(scratch: &mut [u32], term: usize, i: usize)
     ensures { Assigns scratch.old scratch.new term i }
 {
     let v = term + SHIFT;
-    let row = row_for(scratch, v / COPIES);
-    if row == 0 {
+    let Some(k) = row_for(scratch, v / COPIES) else {
         return;
-    }
-    let k = row - 1;
+    };
     put_number(scratch, k, v, i);
 }
 
@@ -302,17 +291,7 @@ fn merge(scratch: &mut [u32], i: usize, j: usize)
 fn sum(x: usize, y: usize) -> usize
     ensures { result ≤ heaviest }
 {
-    if HEAVIEST <= x {
-        return HEAVIEST;
-    }
-    if HEAVIEST <= y {
-        return HEAVIEST;
-    }
-    let z = x + y;
-    if HEAVIEST <= z {
-        return HEAVIEST;
-    }
-    z
+    x.saturating_add(y).min(HEAVIEST)
 }
 
 // No rows, and k classes, which have no number; so much a pair has to weigh.
@@ -342,21 +321,12 @@ fn place(scratch: &mut [u32], left: usize, right: usize)
         × ((left < 2 ^ 32) × (right < 2 ^ 32)))) }
     ensures { Remembers scratch.old scratch.new left right }
 {
-    let i = number_of(scratch, left);
-    let j = number_of(scratch, right);
-    if i == 0 {
-        if j == 0 {
-            pair_up(scratch, left, right);
-            return;
-        }
-        assign(scratch, left, j);
-        return;
+    match (number_of(scratch, left), number_of(scratch, right)) {
+        (None, None) => pair_up(scratch, left, right),
+        (None, Some(j)) => assign(scratch, left, j),
+        (Some(i), None) => assign(scratch, right, i),
+        (Some(i), Some(j)) => merge(scratch, i, j),
     }
-    if j == 0 {
-        assign(scratch, right, i);
-        return;
-    }
-    merge(scratch, i, j);
 }
 
 // The memo begins anew, and a pair has to weigh twice as much: so what fits no memo of pairs of a weight comes to fit, and is not found again and again.
@@ -391,8 +361,8 @@ fn enter(scratch: &mut [u32], left: usize, right: usize)
 }
 
 // The weight of the pair at height h of the stack, which is done: the number of words of its left term, and the weights of the pairs that were put upon
-// it. Where it is light, it is added to what was put upon the pair below, and 0 is told.
-fn weigh(scratch: &mut [u32], h: usize, size: usize) -> usize
+// it. Where it is light, it is added to what was put upon the pair below, and none is told.
+fn weigh(scratch: &mut [u32], h: usize, size: usize) -> Option<usize>
     requires { (Roomy scratch.old) × (h < pairs) }
     ensures { Weighed scratch.old scratch.new }
 {
@@ -402,9 +372,9 @@ fn weigh(scratch: &mut [u32], h: usize, size: usize) -> usize
     scratch[at + 1] = 0;
     if weight < HEAVY {
         scratch[at] = sum(below, weight) as u32;
-        return 0;
+        return None;
     }
-    weight
+    Some(weight)
 }
 
 // A weight added to what was put upon the pair below the one at height h.
@@ -451,9 +421,8 @@ pub fn remember(scratch: &mut [u32], h: usize, size: usize, left: usize, right: 
     if HEIGHTS - 2 < h {
         return;
     }
-    let weight = weigh(scratch, h, size);
-    if weight == 0 {
+    let Some(weight) = weigh(scratch, h, size) else {
         return;
-    }
+    };
     keep(scratch, h, weight, left, right);
 }

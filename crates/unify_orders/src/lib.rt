@@ -1,6 +1,6 @@
 // A topological order of cells, in the scratch words: a list in which each bound cell comes behind all variables of the term that it is bound to. A
 // variable may be bound without a search for it, where all variables of the term stand before it in the list. Any cells in any sequence may be proposed for
-// the list: each is looked at before it gets a place.
+// the list: each is looked at before it gets a place. The library allocates nothing: list, places and bounds are words that are lent, and no Vec or map.
 
 #![tactic(auto)]
 
@@ -38,7 +38,8 @@ pub fn forget_order(scratch: &mut [u32])
     truncate(scratch, 0);
 }
 
-// The place of cell x in the list, or the list's length where it has none.
+// The place of cell x in the list, or the list's length where it has none: it is then behind all that have one. So one comparison serves for both, where an
+// Option would ask for two.
 fn place_of(scratch: &[u32], x: usize) -> usize
     requires { (Roomy scratch.now) × ((CellsListed scratch.now) × (x < cells)) }
     ensures { PlaceOrNone scratch.now x result }
@@ -86,6 +87,7 @@ fn scan_bound(nodes: &[u32], scratch: &[u32], q: usize, d: usize) -> usize
     let e = q + size_at(nodes, q);
     let mut r = 0;
     let mut i = q;
+    // The same loop as in `scan` of unify_bindings, where a `for` over the places or over the number of nodes takes more instructions.
     while i < e {
         r = raised(nodes, scratch, i, d, r);
         if m < r {
@@ -229,16 +231,10 @@ pub fn order_cells(nodes: &[u32], state: &[u32], scratch: &mut [u32], from: usiz
         → Arranged g.ss nodes.now state.now scratch.old scratch.new }
 {
     forget_order(scratch);
-    let mut j = from;
-    let mut left = n;
-    while 0 < left {
-        if scratch.len() <= j {
-            return;
-        }
+    let end = from.saturating_add(n).min(scratch.len());
+    for j in from..end {
         let x = word_at(scratch, j);
         admit(nodes, state, scratch, x);
-        j += 1;
-        left -= 1;
     }
 }
 

@@ -4,26 +4,8 @@ use Prim.Native.Nat.{◌/◌}
 use borrow.Author.Rules.{rules}
 use Rattle.buffers.proofs.+append_decimal.Goals as goal
 
-pub overflow_add-n : goal.overflow_add-n
-overflow_add-n t c = omega arith
-
-pub overflow_cast-n : goal.overflow_cast-n
-overflow_cast-n t c = omega arith
-
-pub append_byte-requires : goal.append_byte-requires
-append_byte-requires t c = omega arith
-
 pub returns-then-n-lt10 : goal.returns-then-n-lt10
 returns-then-n-lt10 t c = first-digit (search rules) c.append_byte.ensures
-
-pub append_decimal-past-requires : goal.append_decimal-past-requires
-append_decimal-past-requires t c = omega arith
-
-pub overflow_add-n-2 : goal.overflow_add-n-2
-overflow_add-n-2 t c = omega arith
-
-pub overflow_cast-n-2 : goal.overflow_cast-n-2
-overflow_cast-n-2 t c = omega arith
 
 pub append_byte-requires-2 : goal.append_byte-requires-2
 append_byte-requires-2 t c = omega (arith, decimal-few (c.args.n / 10) (omega arith))

@@ -3,7 +3,7 @@ use Rattle.determinacy.proofs.JudgeLaws.{pairable, linked-judged}
 use Rattle.determinacy.proofs.judge_linked.Goals as goal
 
 pub first_pair-requires : goal.first_pair-requires
-first_pair-requires c = pairable c.store_words-state.ensures c.narrow_words-scratch.ensures c.requires
+first_pair-requires c = pairable c.cleared-state.ensures c.cleared-scratch.ensures c.requires
 
 pub returns : goal.returns
-returns c = λ w. linked-judged c.store_words-state.ensures c.narrow_words-scratch.ensures c.first_pair.ensures w
+returns c = λ w. linked-judged c.cleared-state.ensures c.cleared-scratch.ensures c.first_pair.ensures w

@@ -1,13 +1,9 @@
-use Prim.Native.Nat.{◌-◌}
 use native.Mathlib.Omega.{arith}
 use Rattle.determinacy_brackets.proofs.BracketLaws.{ahead-begins, ahead-clause, ahead-stops, ahead-on, ahead-ends}
 use Rattle.determinacy_brackets.proofs.bracketed_clause.Goals as goal
 
 pub loop-i-init : goal.loop-i-init
 loop-i-init c = (omega arith, λ w. ahead-begins w)
-
-pub overflow_add-number : goal.overflow_add-number
-overflow_add-number c = omega arith
 
 pub is_bracketed-requires : goal.is_bracketed-requires
 is_bracketed-requires c = ahead-clause c.loop-i-test.true (c.loop-i.invariant.1 c.requires)
@@ -17,9 +13,6 @@ returns-then-is_bracketed c = λ w. ahead-stops c.loop-i-test.true c.is_brackete
 
 pub past_clause-at-requires : goal.past_clause-at-requires
 past_clause-at-requires c = ahead-clause c.loop-i-test.true (c.loop-i.invariant.1 c.requires)
-
-pub loop-i-smaller : goal.loop-i-smaller
-loop-i-smaller c = omega arith
 
 pub loop-i-preserved : goal.loop-i-preserved
 loop-i-preserved c = (omega arith, λ w. ahead-on c.loop-i-test.true c.is_bracketed.ensures c.if-is_bracketed.false c.past_clause-at.ensures (c.loop-i.invariant.1 w))

@@ -1,5 +1,5 @@
 -- `determinacy_brackets::bracketed_clause` meets its contract. The invariant: what is left of the clauses gives the answer of the whole. Assumes nothing.
-use Prim.Native.Nat.{◌-◌, ◌≤◌}
+use Prim.Native.Nat.{◌≤◌}
 use Rattle.machine.specs.Determinacy.{first_bracketed}
 use Rattle.determinacy_brackets.specs.Clauses.{ClausesIn}
 use Rattle.determinacy_brackets.proofs.BracketLaws.{Ahead}
@@ -8,7 +8,3 @@ use Rattle.determinacy_brackets.proofs.bracketed_clause.Given as goal
 abbrev pub invariant-loop-i : goal.invariant-loop-i
 invariant-loop-i l =
     (l.i ≤ l.k) × ((w : ClausesIn l.table l.k) → Ahead l.table l.at l.i l.k (first_bracketed 1 w.list))
-
-abbrev pub decreases-loop-i : goal.decreases-loop-i
-decreases-loop-i l =
-    l.k - l.i

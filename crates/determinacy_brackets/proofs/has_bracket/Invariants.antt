@@ -1,13 +1,10 @@
 -- `determinacy_brackets::has_bracket` meets its contract. The invariant: what is left of the body has a bracket exactly where the whole has. Assumes nothing.
+use Prim.Native.Nat.{◌-◌}
 use Rattle.syntax.specs.Terms.{Body}
 use Rattle.table_words.specs.Items.{ItemsAt}
 use Rattle.determinacy_brackets.proofs.BracketLaws.{BodyOn}
 use Rattle.determinacy_brackets.proofs.has_bracket.Given as goal
 
-abbrev pub invariant-loop-left : goal.invariant-loop-left
-invariant-loop-left l =
-    (b : Body) → ItemsAt l.table l.p l.items b → BodyOn l.table l.at l.left b
-
-abbrev pub decreases-loop-left : goal.decreases-loop-left
-decreases-loop-left l =
-    l.left
+abbrev pub invariant-loop : goal.invariant-loop
+invariant-loop l =
+    (b : Body) → ItemsAt l.table l.p l.items b → BodyOn l.table l.at (l.items - l.counter) b

@@ -1,15 +1,18 @@
 -- `goal_checks::goal_over` meets its contract: each way out is a law of `Checking`. Assumes nothing.
+use Rattle.std.proofs.lemmas.Result.{err_from_is_err_and}
 use Rattle.read_and_check.proofs.Checking.{over-refused, goal-stands-at, over-fine, over-fault}
+use Rattle.read_and_check.proofs.Entries.{goal-held}
 use Rattle.goal_checks.proofs.goal_over.Goals as goal
 
-pub check_goal-fault-requires : goal.check_goal-fault-requires
-check_goal-fault-requires c = goal-stands-at c.args.sheet.now c.args.declared.now c.args.n c.args.k c.args.goal.now c.read_goal_text-r.new.table c.read_goal_text-r.result c.read_goal_text-r.ensures c.in-Accepted.declarations c.in-Accepted.clauses c.in-Accepted.is c.requires.over
+pub check_goal-requires : goal.check_goal-requires
+check_goal-requires c = goal-stands-at c.args.sheet.now c.args.declared.now c.args.n c.args.k c.args.goal.now c.read_goal_text.new.table c.in_ok-read.read c.in_ok-read.ensures c.requires.over
 
-pub returns-in-Refused : goal.returns-in-Refused
-returns-in-Refused c = record { is = λ w. over-refused c.args.sheet.now c.args.declared.now c.args.n c.args.k c.args.goal.now c.read_goal_text-r.new.table c.read_goal_text-r.result c.read_goal_text-r.ensures c.in-Refused.text c.in-Refused.refusal c.in-Refused.is w; holds = λ g e. (c.read_goal_text-r.ensures.holds g e).has }
+pub returns-in_err-read : goal.returns-in_err-read
+returns-in_err-read c = let p = err_from_is_err_and c.from_residual.result c.from_residual.ensures.1 in
+    rw (p.1, p.2) (record { is = λ w. over-refused c.args.sheet.now c.args.declared.now c.args.n c.args.k c.args.goal.now c.read_goal_text.new.table _ c.in_err-read.ensures w; holds = goal-held c.args.goal.now c.read_goal_text.new.table c.read_goal_text.result c.read_goal_text.ensures })
 
-pub returns-in-Fine : goal.returns-in-Fine
-returns-in-Fine c = record { is = λ w. over-fine c.args.sheet.now c.args.declared.now c.args.n c.args.k c.args.goal.now c.read_goal_text-r.new.table c.read_goal_text-r.result c.read_goal_text-r.ensures c.in-Accepted.declarations c.in-Accepted.clauses c.in-Accepted.is c.check_goal-fault.result c.check_goal-fault.ensures c.in-Fine.is w; holds = λ g e. (c.read_goal_text-r.ensures.holds g e).has }
+pub returns-in-Ok : goal.returns-in-Ok
+returns-in-Ok c = record { is = λ w. over-fine c.args.sheet.now c.args.declared.now c.args.n c.args.k c.args.goal.now c.read_goal_text.new.table c.in_ok-read.read c.in_ok-read.ensures c.check_goal.result c.check_goal.ensures c.in-Ok.is w; holds = goal-held c.args.goal.now c.read_goal_text.new.table c.read_goal_text.result c.read_goal_text.ensures }
 
-pub returns-in-Fault : goal.returns-in-Fault
-returns-in-Fault c = record { is = λ w. over-fault c.args.sheet.now c.args.declared.now c.args.n c.args.k c.args.goal.now c.read_goal_text-r.new.table c.read_goal_text-r.result c.read_goal_text-r.ensures c.in-Accepted.declarations c.in-Accepted.clauses c.in-Accepted.is c.check_goal-fault.result c.check_goal-fault.ensures c.in-Fault.refusal c.in-Fault.is w; holds = λ g e. (c.read_goal_text-r.ensures.holds g e).has }
+pub returns-in-Err : goal.returns-in-Err
+returns-in-Err c = record { is = λ w. over-fault c.args.sheet.now c.args.declared.now c.args.n c.args.k c.args.goal.now c.read_goal_text.new.table c.in_ok-read.read c.in_ok-read.ensures c.check_goal.result c.check_goal.ensures c.in-Err.refusal c.in-Err.is w; holds = goal-held c.args.goal.now c.read_goal_text.new.table c.read_goal_text.result c.read_goal_text.ensures }

@@ -1,11 +1,11 @@
--- `lex_classes::class` meets its contract: the table has the class of each byte, and a class is small.
-use native.Mathlib.Omega.{arith}
-use Rattle.lex_classes.proofs.Laws.{class-small}
-use borrow.Author.Rules.{rules}
+-- The table of the source is the rule's values at the 256 bytes, which antt computes once; the law `value` carries it to each byte.
+use Rattle.std.proofs.Common.{refl, arith}
+use Rattle.syntax.specs.Bytes.{class_of}
+use Rattle.syntax.specs.declared.Class.TheVariants.{Nothing}
+use Rattle.lex_classes.specs.declared.bytes.TheConstants.{CLASSES}
+use Rattle.lex_classes.proofs.Table.{value}
 use Rattle.lex_classes.proofs.class.Goals as goal
 
-pub overflow_cast-result-2 : goal.overflow_cast-result-2
-overflow_cast-result-2 c = omega (arith, c.requires.at c.args.b (search rules), class-small c.args.b)
-
 pub returns : goal.returns
-returns c = c.requires.at c.args.b (search rules)
+unfolding class_of
+returns c = value class_of Nothing CLASSES 256 c.args.b refl (omega arith)

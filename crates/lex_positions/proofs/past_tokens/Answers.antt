@@ -1,15 +1,18 @@
-use Rattle.lex_positions.proofs.Laws.{tokens-past, turn, turn_inside, turn-stays, turn_last}
-use borrow.Author.Rules.{rules}
+use Rattle.std.proofs.Common.{rules}
+use Rattle.lex_positions.proofs.Laws.{tokens-past, turn-first, turn, turn_inside, turn-stays, turn_last}
 use Rattle.lex_positions.proofs.past_tokens.Goals as goal
 
 pub returns-then-text-from : goal.returns-then-text-from
 returns-then-text-from c = search (tokens-past, rules)
 
+pub loop-init : goal.loop-init
+loop-init c = search (turn-first, rules)
+
 pub returns-then-past-at : goal.returns-then-past-at
 returns-then-past-at c = search (turn-stays, rules)
 
-pub loop-left-preserved : goal.loop-left-preserved
-loop-left-preserved c = search (turn, turn_inside, rules)
+pub loop-preserved : goal.loop-preserved
+loop-preserved c = search (turn, turn_inside, rules)
 
 pub returns : goal.returns
 returns c = search (turn_last, rules)

@@ -1,10 +1,13 @@
 -- `lex_scanning::colon_token` meets its contract, with and without a dash after the colon.
-use Rattle.lex_scanning.proofs.Laws.{colon-neck, colon-alone}
-use borrow.Author.Rules.{rules}
+use Rattle.std.proofs.Common.{rules}
+use Rattle.lex_scanning.proofs.Laws.{colon-neck, colon-alone, colon-end}
 use Rattle.lex_scanning.proofs.colon_token.Goals as goal
 
-pub returns-then-byte_at-eq-DASH : goal.returns-then-byte_at-eq-DASH
-returns-then-byte_at-eq-DASH c = search (colon-neck, rules)
+pub returns-in-Some : goal.returns-in-Some
+returns-in-Some c = search (colon-neck, rules)
 
-pub returns : goal.returns
-returns c = search (colon-alone, rules)
+pub returns-in_default : goal.returns-in_default
+returns-in_default c = search (colon-alone, rules)
+
+pub returns-in_default-2 : goal.returns-in_default-2
+returns-in_default-2 c = search (colon-end, rules)

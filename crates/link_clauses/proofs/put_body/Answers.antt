@@ -4,44 +4,38 @@ use Rattle.link_clauses.proofs.Turns.{body-begin, ahead-item, item-behind, item-
 use native.Mathlib.Omega.{arith}
 use Rattle.link_clauses.proofs.put_body.Goals as goal
 
-pub loop-i-init : goal.loop-i-init
-loop-i-init c = λ ss sh b w. body-begin ss sh b c.args.table.now c.args.p c.args.items c.args.nodes.now c.args.q c.args.clauses c.args.code.now c.args.l w
+pub loop-item-init : goal.loop-item-init
+loop-item-init c = λ ss sh b w. body-begin ss sh b c.args.table.now c.args.p c.args.items c.args.nodes.now c.args.q c.args.clauses c.args.code.now c.args.l w
 
 pub put_item-requires : goal.put_item-requires
-put_item-requires c = let t = ahead-item c.loop-i-test.true (c.loop-i.invariant c.requires.0 c.requires.1.0 c.requires.1.1.0 c.requires.1.1.1) in
+put_item-requires c = let t = ahead-item (omega arith) (c.loop-item.invariant c.requires.0 c.requires.1.0 c.requires.1.1.0 c.requires.1.1.1) in
     (c.requires.0, (c.requires.1.0, (t.item, t.ready)))
 
 pub past_item-next-requires : goal.past_item-next-requires
-past_item-next-requires c = let t = ahead-item c.loop-i-test.true (c.loop-i.invariant c.requires.0 c.requires.1.0 c.requires.1.1.0 c.requires.1.1.1) in
+past_item-next-requires c = let t = ahead-item (omega arith) (c.loop-item.invariant c.requires.0 c.requires.1.0 c.requires.1.1.0 c.requires.1.1.1) in
     (t.item, t.ready.has)
 
-pub overflow_sub-words : goal.overflow_sub-words
-overflow_sub-words c = let t = ahead-item c.loop-i-test.true (c.loop-i.invariant c.requires.0 c.requires.1.0 c.requires.1.1.0 c.requires.1.1.1) in
-    (item-behind c.args.table.now c.loop-i.at c.past_item-next.result c.past_item-next.ensures t.item t.ready.has).0
+pub overflow_sub-next : goal.overflow_sub-next
+overflow_sub-next c = let t = ahead-item (omega arith) (c.loop-item.invariant c.requires.0 c.requires.1.0 c.requires.1.1.0 c.requires.1.1.1) in
+    (item-behind c.args.table.now c.loop-item.at c.past_item-next.result c.past_item-next.ensures t.item t.ready.has).0
 
-pub nodes_of-size-requires : goal.nodes_of-size-requires
-nodes_of-size-requires c = let t = ahead-item c.loop-i-test.true (c.loop-i.invariant c.requires.0 c.requires.1.0 c.requires.1.1.0 c.requires.1.1.1) in
-    (item-behind c.args.table.now c.loop-i.at c.past_item-next.result c.past_item-next.ensures t.item t.ready.has).1
+pub nodes_of-node-requires : goal.nodes_of-node-requires
+nodes_of-node-requires c = let t = ahead-item (omega arith) (c.loop-item.invariant c.requires.0 c.requires.1.0 c.requires.1.1.0 c.requires.1.1.1) in
+    (item-behind c.args.table.now c.loop-item.at c.past_item-next.result c.past_item-next.ensures t.item t.ready.has).1
 
 pub overflow_add-node : goal.overflow_add-node
-overflow_add-node c = let t = ahead-item c.loop-i-test.true (c.loop-i.invariant c.requires.0 c.requires.1.0 c.requires.1.1.0 c.requires.1.1.1) in
-    omega (arith, t.fits, item-size c.args.table.now c.loop-i.at c.past_item-next.result c.past_item-next.ensures t.item t.ready.has c.requires.0 c.nodes_of-size.result c.nodes_of-size.ensures)
+overflow_add-node c = let t = ahead-item (omega arith) (c.loop-item.invariant c.requires.0 c.requires.1.0 c.requires.1.1.0 c.requires.1.1.1) in
+    omega (arith, t.fits, item-size c.args.table.now c.loop-item.at c.past_item-next.result c.past_item-next.ensures t.item t.ready.has c.requires.0 c.nodes_of-node.result c.nodes_of-node.ensures)
 
 pub next_literal-to-requires : goal.next_literal-to-requires
-next_literal-to-requires c = let t = ahead-bounds (c.loop-i.invariant c.requires.0 c.requires.1.0 c.requires.1.1.0 c.requires.1.1.1) in
+next_literal-to-requires c = let t = ahead-bounds (c.loop-item.invariant c.requires.0 c.requires.1.0 c.requires.1.1.0 c.requires.1.1.1) in
     omega (arith, t.0, t.1.0)
 
-pub overflow_add-i : goal.overflow_add-i
-overflow_add-i c = omega arith
-
-pub loop-i-smaller : goal.loop-i-smaller
-loop-i-smaller c = omega arith
-
-pub loop-i-preserved : goal.loop-i-preserved
-loop-i-preserved c = λ ss sh b w. ahead-next c.loop-i-test.true (c.loop-i.invariant ss sh b w) c.put_item.ensures c.past_item-next.ensures c.nodes_of-size.ensures c.next_literal-to.ensures
+pub loop-item-preserved : goal.loop-item-preserved
+loop-item-preserved c = λ ss sh b w. ahead-next (omega arith) (c.loop-item.invariant ss sh b w) c.put_item.ensures c.past_item-next.ensures c.nodes_of-node.ensures c.next_literal-to.ensures
 
 pub put-requires : goal.put-requires
-put-requires c = (omega (arith, (ahead-bounds (c.loop-i.invariant c.requires.0 c.requires.1.0 c.requires.1.1.0 c.requires.1.1.1)).0), omega arith)
+put-requires c = (omega (arith, (ahead-bounds (c.loop-item.invariant c.requires.0 c.requires.1.0 c.requires.1.1.0 c.requires.1.1.1)).0), omega arith)
 
 pub returns : goal.returns
-returns c = λ ss sh b w. ahead-end c.loop-i-test.false c.put.ensures (c.loop-i.invariant ss sh b w)
+returns c = λ ss sh b w. ahead-end (omega arith) c.put.ensures (c.loop-item.invariant ss sh b w)

@@ -9,10 +9,6 @@ use Rattle.link_clauses.specs.Places.{BodyTo}
 use Rattle.link_clauses.proofs.Turns.{BodyAhead}
 use Rattle.link_clauses.proofs.put_body.Given as goal
 
-abbrev pub invariant-loop-i : goal.invariant-loop-i
-invariant-loop-i l =
-    (ss : List Symbol) (sh : Sheet) (b : Body) → BodyTo ss sh b l.table l.p l.items l.nodes l.q l.clauses l.initial.code l.l → BodyAhead ss sh (put_body ss sh l.q b l.initial.code l.l) l.table l.at l.i l.items l.nodes l.node l.clauses l.code l.to
-
-abbrev pub decreases-loop-i : goal.decreases-loop-i
-decreases-loop-i l =
-    l.items - l.i
+abbrev pub invariant-loop-item : goal.invariant-loop-item
+invariant-loop-item l =
+    (ss : List Symbol) (sh : Sheet) (b : Body) → BodyTo ss sh b l.table l.p l.items l.nodes l.q l.clauses l.initial.code l.l → BodyAhead ss sh (put_body ss sh l.q b l.initial.code l.l) l.table l.at l._item l.items l.nodes l.node l.clauses l.code l.to

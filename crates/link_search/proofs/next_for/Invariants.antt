@@ -7,7 +7,3 @@ use Rattle.link_search.proofs.next_for.Given as goal
 abbrev pub invariant-loop-j : goal.invariant-loop-j
 invariant-loop-j l =
     (l.k + 1 ≤ l.j) × ((l.j ≤ l.clauses + 1) × (sought l.nodes l.code l.word l.j (suc l.clauses - l.j) ≡ sought l.nodes l.code l.word (l.k + 1) (l.clauses - l.k)))
-
-abbrev pub decreases-loop-j : goal.decreases-loop-j
-decreases-loop-j l =
-    suc l.clauses - l.j

@@ -1,5 +1,4 @@
 -- `linker::clauses::put_clauses` meets its contract. The invariant: what is left of the clauses makes the whole (`ClausesAhead`). Assumes nothing.
-use Prim.Native.Nat.{suc, ◌-◌}
 use mathlib.Core.List.{List}
 use Rattle.syntax.specs.Terms.{Sheet, Clause}
 use Rattle.run_layout.specs.Regions.{clause_bodies}
@@ -12,7 +11,3 @@ use Rattle.linker.proofs.put_clauses.Given as goal
 abbrev pub invariant-loop-k : goal.invariant-loop-k
 invariant-loop-k l =
     (ss : List Symbol) (sh : Sheet) (cls : List Clause) → ClausesTo ss sh cls l.table 0 l.nodes l.q l.clauses l.initial.code 1 clause_bodies → ClausesAhead ss sh (put_clauses ss sh l.q cls l.initial.code 1 clause_bodies) l.table l.at l.nodes l.node l.clauses l.code l.k l.to
-
-abbrev pub decreases-loop-k : goal.decreases-loop-k
-decreases-loop-k l =
-    suc l.clauses - l.k

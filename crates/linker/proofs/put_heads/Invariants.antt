@@ -1,5 +1,4 @@
 -- `linker::clauses::put_heads` meets its contract. The invariant: what is left of the heads makes the whole (`HeadsAhead`). Assumes nothing.
-use Prim.Native.Nat.{suc, ◌-◌}
 use mathlib.Core.List.{List}
 use Rattle.syntax.specs.Terms.{Clause}
 use Rattle.run_layout.specs.Nodes.{Symbol}
@@ -11,7 +10,3 @@ use Rattle.linker.proofs.put_heads.Given as goal
 abbrev pub invariant-loop-k : goal.invariant-loop-k
 invariant-loop-k l =
     (ss : List Symbol) (cls : List Clause) → HeadsTo ss cls l.table 0 l.q l.clauses l.initial.code 1 → HeadsAhead ss (put_heads ss l.q cls l.initial.code 1) l.table l.at l.node l.clauses l.code l.k
-
-abbrev pub decreases-loop-k : goal.decreases-loop-k
-decreases-loop-k l =
-    suc l.clauses - l.k

@@ -1,12 +1,10 @@
 -- `lookahead_sorting::sort` meets its contract. Each turn costs at least one of the turns left, which are the measure. Assumes nothing.
-use mathlib.Core.Path.{◌≡◌}
-use lib.ListN.{length}
 use Rattle.lookahead_sorting.specs.Sorts.{Sorts}
 use Rattle.lookahead_sorting.proofs.sort.Given as goal
 
 abbrev pub invariant-loop-s : goal.invariant-loop-s
 invariant-loop-s l =
-    (length l.room ≡ length l.initial.room) × Sorts l.n l.turns l.s
+    Sorts l.n l.turns l.s
 
 abbrev pub decreases-loop-s : goal.decreases-loop-s
 decreases-loop-s l =

@@ -1,12 +1,10 @@
 -- `lookahead_sorting::sort_most` meets its contract. The measure is what lies between the two bounds. Assumes nothing.
 use Prim.Native.Nat.{◌-◌, ◌≤◌}
-use mathlib.Core.Path.{◌≡◌}
-use lib.ListN.{length}
 use Rattle.lookahead_sorting.proofs.sort_most.Given as goal
 
 abbrev pub invariant-loop-low : goal.invariant-loop-low
 invariant-loop-low l =
-    (length l.room ≡ length l.initial.room) × (l.low ≤ l.high) × (l.high ≤ l.n)
+    (l.low ≤ l.high) × (l.high ≤ l.n)
 
 abbrev pub decreases-loop-low : goal.decreases-loop-low
 decreases-loop-low l =

@@ -1,15 +1,14 @@
 use native.Mathlib.Omega.{arith}
 use Rattle.mode_marks.proofs.Places.{node-inside}
 use Rattle.mode_arguments.proofs.Marking.{none_open, marked-first, found-open, marked-further, marked-rest, open-on}
-use Prim.Native.Nat.{◌-◌}
 use mathlib.Core.Path.{refl}
 use Rattle.mode_arguments.proofs.+first_open.Goals as goal
 
 pub returns-then-stop-p : goal.returns-then-stop-p
 returns-then-stop-p t c = none_open c.args.known c.args.number c.if-stop-p.true
 
-pub marked_test-test-requires : goal.marked_test-test-requires
-marked_test-test-requires t c = marked-first c.if-stop-p.false c.requires.marked_at
+pub marked_test-requires : goal.marked_test-requires
+marked_test-requires t c = marked-first c.if-stop-p.false c.requires.marked_at
 
 pub past-next-requires : goal.past-next-requires
 past-next-requires t c = node-inside (marked-first c.if-stop-p.false c.requires.marked_at)
@@ -20,8 +19,8 @@ overflow_add-more t c = omega (arith, marked-further c.if-stop-p.false c.past-ne
 pub first_open-requires : goal.first_open-requires
 first_open-requires t c = let pre = c.requires in (omega (arith, marked-further c.if-stop-p.false c.past-next.ensures pre.marked_at), (marked-rest c.if-stop-p.false c.past-next.ensures c.other_marks-rest.ensures pre.marked_at, omega (arith, marked-further c.if-stop-p.false c.past-next.ensures pre.marked_at)))
 
-pub returns-in-Open : goal.returns-in-Open
-returns-in-Open t c = found-open c.if-stop-p.false c.args.known c.args.number c.marked_test-test.ensures c.in-Open.is
+pub returns-in-Some : goal.returns-in-Some
+returns-in-Some t c = found-open c.if-stop-p.false c.args.known c.args.number c.marked_test.ensures c.in-Some.is
 
-pub returns-in-Ground : goal.returns-in-Ground
-returns-in-Ground t c = open-on c.if-stop-p.false c.past-next.ensures c.other_marks-rest.ensures c.args.known c.args.number c.marked_test-test.ensures c.in-Ground.is refl c.first_open.ensures
+pub returns-in-None : goal.returns-in-None
+returns-in-None t c = open-on c.if-stop-p.false c.past-next.ensures c.other_marks-rest.ensures c.args.known c.args.number c.marked_test.ensures c.in-None.is refl c.first_open.ensures

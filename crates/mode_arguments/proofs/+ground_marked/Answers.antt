@@ -1,5 +1,4 @@
 use Rattle.mode_marks.proofs.Places.{node-inside}
-use Prim.Native.Nat.{◌-◌}
 use native.Mathlib.Omega.{arith}
 use Rattle.mode_arguments.proofs.Marking.{none-given, marked-first, marked-further, marked-rest, given-same, given-other}
 use Rattle.mode_arguments.proofs.+ground_marked.Goals as goal

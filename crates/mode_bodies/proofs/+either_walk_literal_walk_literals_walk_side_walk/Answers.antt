@@ -1,61 +1,52 @@
-use Prim.Native.Nat.{◌-◌}
 use native.Mathlib.Omega.{arith}
-use mathlib.Core.Path.{sym, ap, ◌∙◌}
+use Rattle.std.proofs.lemmas.Result.{err_from_is_err_and}
+use mathlib.Core.Path.{ap, ◌∙◌}
 use Rattle.syntax.specs.Words.{side_items}
 use Rattle.mode_literals.proofs.Literals.{literal-room}
 use Rattle.mode_bodies.proofs.Walking.{either-at, left-stops, right-at, right-literal, right-further, right-stops, both-pass, both-room, side-body, begun, turn, walk-ended, walk-stopped, further-on, rises, walk-on}
 use Rattle.mode_bodies.proofs.+either_walk_literal_walk_literals_walk_side_walk.Goals as goal
 
-pub either_walk-side_walk-left-requires : goal.either_walk-side_walk-left-requires
-either_walk-side_walk-left-requires t c = (omega (arith, c.decreases), (c.requires.declarations_at, ((either-at c.requires.left_kind_bound.0 c.requires.literal_at).left, c.requires.left_kind_bound.1)))
+pub either_walk-side_walk-requires : goal.either_walk-side_walk-requires
+either_walk-side_walk-requires t c = (omega (arith, c.decreases), (c.requires.declarations_at, ((either-at c.requires.left_kind_bound.0 c.requires.literal_at).left, c.requires.left_kind_bound.1)))
 
-pub either_walk-returns-then-is_fault : goal.either_walk-returns-then-is_fault
-either_walk-returns-then-is_fault t c = λ d w. left-stops c.requires.left_kind_bound.0 d.list c.args.clause c.args.literal c.args.known c.side_walk-left.result (c.side_walk-left.ensures d) (sym c.is_fault.ensures ∙ c.if-is_fault.true) w
+pub either_walk-returns-in_err-left : goal.either_walk-returns-in_err-left
+either_walk-returns-in_err-left t c = let p = err_from_is_err_and c.from_residual.result c.from_residual.ensures.1 in
+    rw (p.1, p.2)
+    (λ d w. left-stops c.requires.left_kind_bound.0 d.list c.args.clause c.args.literal c.args.known (c.side_walk.ensures d) c.in_err-left.was w)
 
-pub either_walk-side_walk-right-requires : goal.either_walk-side_walk-right-requires
-either_walk-side_walk-right-requires t c = let f = sym c.is_fault.ensures ∙ c.if-is_fault.false in
-    let l = c.side_walk-left in
+pub either_walk-side_walk-requires-2 : goal.either_walk-side_walk-requires-2
+either_walk-side_walk-requires-2 t c = let f = c.in_ok-left.was in
+    let l = c.side_walk in
     let d = c.requires.declarations_at in
     let w = c.requires.literal_at in (
-      omega (arith, c.decreases, right-further c.requires.left_kind_bound.0 d.list c.args.clause c.args.literal c.args.known l.result (l.ensures d) f w),
+      omega (arith, c.decreases, right-further c.requires.left_kind_bound.0 d.list c.args.clause c.args.literal c.args.known (l.ensures d) f w),
       (
         d,
         (
-          right-at c.requires.left_kind_bound.0 d.list c.args.clause c.args.literal c.args.known l.result (l.ensures d) f w,
-          right-literal c.requires.left_kind_bound.0 d.list c.args.clause c.args.literal c.args.known l.result (l.ensures d) f w c.requires.left_kind_bound.1,
+          right-at c.requires.left_kind_bound.0 d.list c.args.clause c.args.literal c.args.known (l.ensures d) f w,
+          right-literal c.requires.left_kind_bound.0 d.list c.args.clause c.args.literal c.args.known (l.ensures d) f w c.requires.left_kind_bound.1,
         ),
       ),
     )
 
-pub either_walk-returns-then-is_fault-2 : goal.either_walk-returns-then-is_fault-2
-either_walk-returns-then-is_fault-2 t c = let f = sym c.is_fault.ensures ∙ c.if-is_fault.false in
-    let l = c.side_walk-left in
-    let r = c.side_walk-right in
-    λ d w. right-stops c.requires.left_kind_bound.0 d.list c.args.clause c.args.literal c.args.known l.result (l.ensures d) f r.result (r.ensures d) (sym c.is_fault-2.ensures ∙ c.if-is_fault-2.true) w
+pub either_walk-returns-in_err-right : goal.either_walk-returns-in_err-right
+either_walk-returns-in_err-right t c = let p = err_from_is_err_and c.from_residual-in_err-right.result c.from_residual-in_err-right.ensures.1 in
+    rw (p.1, p.2)
+    (λ d w. right-stops c.requires.left_kind_bound.0 d.list c.args.clause c.args.literal c.args.known (c.side_walk.ensures d) c.in_ok-left.was (c.side_walk-2.ensures d) c.in_err-right.was w)
 
-pub either_walk-overflow_add-next : goal.either_walk-overflow_add-next
-either_walk-overflow_add-next t c = let f = sym c.is_fault.ensures ∙ c.if-is_fault.false in
-    let l = c.side_walk-left in
-    let r = c.side_walk-right in
-    omega (arith, (both-room c.requires.left_kind_bound.0 c.requires.declarations_at.list c.args.clause c.args.literal c.args.known l.result (l.ensures c.requires.declarations_at) f r.result (r.ensures c.requires.declarations_at) (sym c.is_fault-2.ensures ∙ c.if-is_fault-2.false) c.requires.literal_at).0)
+pub either_walk-overflow_add-result : goal.either_walk-overflow_add-result
+either_walk-overflow_add-result t c = omega (arith, (both-room c.requires.left_kind_bound.0 c.requires.declarations_at.list c.args.clause c.args.literal c.args.known (c.side_walk.ensures c.requires.declarations_at) c.in_ok-left.was (c.side_walk-2.ensures c.requires.declarations_at) c.in_ok-right.was c.requires.literal_at).0)
 
-pub either_walk-overflow_add-items : goal.either_walk-overflow_add-items
-either_walk-overflow_add-items t c = let f = sym c.is_fault.ensures ∙ c.if-is_fault.false in
-    let l = c.side_walk-left in
-    let r = c.side_walk-right in
-    omega (arith, (both-room c.requires.left_kind_bound.0 c.requires.declarations_at.list c.args.clause c.args.literal c.args.known l.result (l.ensures c.requires.declarations_at) f r.result (r.ensures c.requires.declarations_at) (sym c.is_fault-2.ensures ∙ c.if-is_fault-2.false) c.requires.literal_at).1)
+pub either_walk-overflow_add-result-2 : goal.either_walk-overflow_add-result-2
+either_walk-overflow_add-result-2 t c = omega (arith, (both-room c.requires.left_kind_bound.0 c.requires.declarations_at.list c.args.clause c.args.literal c.args.known (c.side_walk.ensures c.requires.declarations_at) c.in_ok-left.was (c.side_walk-2.ensures c.requires.declarations_at) c.in_ok-right.was c.requires.literal_at).1)
 
-pub either_walk-overflow_add-items-2 : goal.either_walk-overflow_add-items-2
-either_walk-overflow_add-items-2 t c = let f = sym c.is_fault.ensures ∙ c.if-is_fault.false in
-    let l = c.side_walk-left in
-    let r = c.side_walk-right in
-    omega (arith, (both-room c.requires.left_kind_bound.0 c.requires.declarations_at.list c.args.clause c.args.literal c.args.known l.result (l.ensures c.requires.declarations_at) f r.result (r.ensures c.requires.declarations_at) (sym c.is_fault-2.ensures ∙ c.if-is_fault-2.false) c.requires.literal_at).1)
+pub either_walk-overflow_add-result-3 : goal.either_walk-overflow_add-result-3
+either_walk-overflow_add-result-3 t c = omega (arith, (both-room c.requires.left_kind_bound.0 c.requires.declarations_at.list c.args.clause c.args.literal c.args.known (c.side_walk.ensures c.requires.declarations_at) c.in_ok-left.was (c.side_walk-2.ensures c.requires.declarations_at) c.in_ok-right.was c.requires.literal_at).1)
 
 pub either_walk-returns : goal.either_walk-returns
-either_walk-returns t c = let f = sym c.is_fault.ensures ∙ c.if-is_fault.false in
-    let l = c.side_walk-left in
-    let r = c.side_walk-right in
-    λ d w. both-pass c.requires.left_kind_bound.0 d.list c.args.clause c.args.literal c.args.known l.result (l.ensures d) f r.result (r.ensures d) (sym c.is_fault-2.ensures ∙ c.if-is_fault-2.false) c.in_both-both.ensures w
+either_walk-returns t c = let l = c.side_walk in
+    let r = c.side_walk-2 in
+    λ d w. both-pass c.requires.left_kind_bound.0 d.list c.args.clause c.args.literal c.args.known (l.ensures d) c.in_ok-left.was (r.ensures d) c.in_ok-right.was c.in_both.ensures w
 
 pub literal_walk-word_at-requires : goal.literal_walk-word_at-requires
 literal_walk-word_at-requires t c = literal-room c.requires.literal_at
@@ -75,39 +66,42 @@ literal_walk-returns t c = c.plain_walk.ensures
 pub literals_walk-loop-i-init : goal.literals_walk-loop-i-init
 literals_walk-loop-i-init t c = (omega arith, omega arith, c.requires.literal_bound, λ d w. begun w)
 
-pub literals_walk-literal_walk-w-requires : goal.literals_walk-literal_walk-w-requires
-literals_walk-literal_walk-w-requires t c = let h = c.loop-i.invariant in (omega (arith, c.decreases, h.1), (c.requires.declarations_at, ((turn c.loop-i-test.true (h.3 c.requires.declarations_at c.requires.body_at)).literal, h.2)))
+pub literals_walk-literal_walk-requires : goal.literals_walk-literal_walk-requires
+literals_walk-literal_walk-requires t c = let h = c.loop-i.invariant in (omega (arith, c.decreases, h.1), (c.requires.declarations_at, ((turn c.loop-i-test.true (h.3 c.requires.declarations_at c.requires.body_at)).literal, h.2)))
 
-pub literals_walk-returns-then-is_fault : goal.literals_walk-returns-then-is_fault
-literals_walk-returns-then-is_fault t c = let h = c.loop-i.invariant in λ d w. walk-stopped c.loop-i-test.true (h.3 d w) c.literal_walk-w.result (c.literal_walk-w.ensures d) (sym c.is_fault.ensures ∙ c.if-is_fault.true) _ _ _
+pub literals_walk-returns-in_err-walked : goal.literals_walk-returns-in_err-walked
+literals_walk-returns-in_err-walked t c = let h = c.loop-i.invariant in
+    let p = err_from_is_err_and c.from_residual.result c.from_residual.ensures.1 in
+    rw (p.1, p.2)
+    (λ d w. walk-stopped c.loop-i-test.true (h.3 d w) (c.literal_walk.ensures d) c.in_err-walked.was _ _ _)
 
 pub literals_walk-overflow_add-i : goal.literals_walk-overflow_add-i
 literals_walk-overflow_add-i t c = let h = c.loop-i.invariant in
     let a = h.3 c.requires.declarations_at c.requires.body_at in
-    let f = sym c.is_fault.ensures ∙ c.if-is_fault.false in
-    let one = c.literal_walk-w in
-    let on = further-on c.loop-i-test.true a one.result (one.ensures c.requires.declarations_at) f in
+    let f = c.in_ok-walked.was in
+    let one = c.literal_walk in
+    let on = further-on c.loop-i-test.true a (one.ensures c.requires.declarations_at) f in
     omega (arith, on.3)
 
 pub literals_walk-loop-i-smaller : goal.literals_walk-loop-i-smaller
 literals_walk-loop-i-smaller t c = let h = c.loop-i.invariant in
     let a = h.3 c.requires.declarations_at c.requires.body_at in
-    let f = sym c.is_fault.ensures ∙ c.if-is_fault.false in
-    let one = c.literal_walk-w in
-    let on = further-on c.loop-i-test.true a one.result (one.ensures c.requires.declarations_at) f in
+    let f = c.in_ok-walked.was in
+    let one = c.literal_walk in
+    let on = further-on c.loop-i-test.true a (one.ensures c.requires.declarations_at) f in
     omega (arith, on.2, on.3)
 
 pub literals_walk-loop-i-preserved : goal.literals_walk-loop-i-preserved
 literals_walk-loop-i-preserved t c = let h = c.loop-i.invariant in
     let a = h.3 c.requires.declarations_at c.requires.body_at in
-    let f = sym c.is_fault.ensures ∙ c.if-is_fault.false in
-    let one = c.literal_walk-w in
-    let on = further-on c.loop-i-test.true a one.result (one.ensures c.requires.declarations_at) f in
-    let up = rises c.loop-i-test.true a one.result (one.ensures c.requires.declarations_at) f h.2 in (
+    let f = c.in_ok-walked.was in
+    let one = c.literal_walk in
+    let on = further-on c.loop-i-test.true a (one.ensures c.requires.declarations_at) f in
+    let up = rises c.loop-i-test.true a (one.ensures c.requires.declarations_at) f h.2 in (
       on.3,
       omega (arith, h.1, up.1),
       up.0,
-      λ d w. walk-on c.loop-i-test.true (h.3 d w) one.result (one.ensures d) f,
+      λ d w. walk-on c.loop-i-test.true (h.3 d w) (one.ensures d) f,
     )
 
 pub literals_walk-returns : goal.literals_walk-returns

@@ -1,18 +1,26 @@
 -- `mode_clauses::check_goal` meets its contract. Assumes nothing.
-use mathlib.Core.Path.{sym, ◌∙◌}
+use Rattle.std.proofs.lemmas.Result.{err_from_is_err_and}
 use Rattle.mode_rules.specs.Modes.{none_ground}
-use Rattle.mode_clauses.proofs.Sheets.{goal-declarations, goal-body, goal-undeclared, goal-walked}
+use Rattle.mode_clauses.proofs.Sheets.{goal-declarations, goal-body, goal-undeclared, goal-stopped, goal-walked}
 use Rattle.mode_clauses.proofs.check_goal.Goals as goal
 
-pub undeclared_body-fault-requires : goal.undeclared_body-fault-requires
-undeclared_body-fault-requires c = record { declarations_at = goal-declarations c.requires; body_at = goal-body c.requires }
+pub undeclared_body-requires : goal.undeclared_body-requires
+undeclared_body-requires c = record { declarations_at = goal-declarations c.requires; body_at = goal-body c.requires }
 
-pub returns-then-is_fault : goal.returns-then-is_fault
-returns-then-is_fault c = goal-undeclared c.args.s.now c.args.declared.now c.args.n c.args.g.now c.args.table.now c.args.items c.undeclared_body-fault.result c.undeclared_body-fault.ensures (sym c.is_fault.ensures ∙ c.if-is_fault.true)
+pub returns-in_err-undeclared_body : goal.returns-in_err-undeclared_body
+returns-in_err-undeclared_body c = let p = err_from_is_err_and c.from_residual.result c.from_residual.ensures.1 in
+    rw (p.1, p.2)
+    (goal-undeclared c.args.s.now c.args.declared.now c.args.n c.args.g.now c.args.table.now c.args.items c.undeclared_body.ensures c.in_err-undeclared_body.was)
 
-pub body_walk-w-requires : goal.body_walk-w-requires
-body_walk-w-requires c = record { declarations_at = goal-declarations c.requires; body_at = goal-body c.requires }
+pub body_walk-requires : goal.body_walk-requires
+body_walk-requires c = record { declarations_at = goal-declarations c.requires; body_at = goal-body c.requires }
+
+pub returns-in_err-body_walk : goal.returns-in_err-body_walk
+unfolding none_ground
+returns-in_err-body_walk c = let p = err_from_is_err_and c.from_residual-in_err-body_walk.result c.from_residual-in_err-body_walk.ensures.1 in
+    rw (p.1, p.2)
+    (goal-stopped c.args.s.now c.args.declared.now c.args.n c.args.g.now c.args.table.now c.args.items c.undeclared_body.ensures c.in_ok-undeclared_body.was c.body_walk.result c.body_walk.ensures c.in_err-body_walk.was)
 
 pub returns : goal.returns
 unfolding none_ground
-returns c = goal-walked c.args.s.now c.args.declared.now c.args.n c.args.g.now c.args.table.now c.args.items c.undeclared_body-fault.result c.undeclared_body-fault.ensures (sym c.is_fault.ensures ∙ c.if-is_fault.false) c.body_walk-w.result c.body_walk-w.ensures
+returns c = goal-walked c.args.s.now c.args.declared.now c.args.n c.args.g.now c.args.table.now c.args.items c.undeclared_body.ensures c.in_ok-undeclared_body.was c.body_walk.result c.body_walk.ensures c.in_ok-body_walk.was

@@ -1,4 +1,3 @@
-use Prim.Native.Nat.{◌-◌}
 use native.Mathlib.Omega.{arith}
 use Rattle.mode_rules.specs.Modes.{everything}
 use Rattle.mode_marks.proofs.Places.{room-three, size-least, node-inside, past-ends}

@@ -1,4 +1,3 @@
-use Prim.Native.Nat.{◌-◌}
 use native.Mathlib.Omega.{arith}
 use Rattle.mode_equations.proofs.Passing.{going-starts, going-ends, going-adds, going_on}
 use borrow.Author.Rules.{rules}

@@ -5,44 +5,30 @@ use lib.ListN.{length}
 use Rattle.mode_flags.proofs.Laws.{found-further, known-before, unknown-after, none_left}
 use borrow.Author.Rules.{rules}
 use Rattle.mode_flags.proofs.further.Goals as goal
-use Rattle.mode_flags.proofs.further.Goals.{then-after-i+else-not-before-i, else-after-i}
+use Rattle.mode_flags.proofs.further.Goals.{else-after-i-via-then-after-i+else-not-before-i, else-after-i-via-else-after-i}
 
 pub loop-i-init : goal.loop-i-init
-loop-i-init c = (omega arith, search rules, search rules, refl)
-
-pub bounds-after-i : goal.bounds-after-i
-bounds-after-i c = omega arith
-
-pub bounds-before-i : goal.bounds-before-i
-bounds-before-i c = omega arith
+loop-i-init c = (search rules, search rules, refl)
 
 pub returns-then-not-before-i : goal.returns-then-not-before-i
 returns-then-not-before-i c = let h = c.loop-i.invariant in
     let a = c.args in
-    let i = c.loop-i.i in
-    sym (h.3 ∙ found-further a.before a.after i (omega arith) (omega arith) c.if-not-before-i.true c.if-after-i.true)
-
-pub overflow_add-i : goal.overflow_add-i
-overflow_add-i c = omega arith
-
-pub loop-i-smaller : goal.loop-i-smaller
-loop-i-smaller c = omega arith
+    sym (h.2 ∙ found-further a.before a.after c.loop-i.i (omega arith) (omega arith) c.if-not-before-i.true c.if-after-i.true)
 
 pub loop-i-preserved : goal.loop-i-preserved
 loop-i-preserved c = let h = c.loop-i.invariant in
     let a = c.args in
     let i = c.loop-i.i in
     let inner : (i < length a.before) × (i < length a.after) = omega arith in (
-      omega arith,
+      h.0,
       h.1,
-      h.2,
-      h.3 ∙ (elim c.if-after-i.branch [
-        | then-after-i+else-not-before-i w ↦ known-before a.before a.after i inner.0 inner.1 w.if-not-before-i.false
-        | else-after-i w ↦ unknown-after a.before a.after i inner.0 inner.1 w.if-after-i.false
+      h.2 ∙ (elim c.else-after-i.branch [
+        | else-after-i-via-then-after-i+else-not-before-i w ↦ known-before a.before a.after i inner.0 inner.1 w.if-not-before-i.false
+        | else-after-i-via-else-after-i w ↦ unknown-after a.before a.after i inner.0 inner.1 w.if-after-i.false
       ]),
     )
 
 pub returns : goal.returns
 returns c = let h = c.loop-i.invariant in
     let a = c.args in
-    sym (h.3 ∙ none_left a.before a.after c.loop-i.i (omega arith))
+    sym (h.2 ∙ none_left a.before a.after c.loop-i.i (omega arith))

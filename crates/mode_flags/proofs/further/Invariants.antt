@@ -1,5 +1,4 @@
 -- `mode_flags::further` meets its contract. The loop's invariant: the flags passed say nothing. Assumes nothing.
-use Prim.Native.Nat.{◌-◌, ◌≤◌}
 use mathlib.Core.Path.{◌≡◌}
 use lib.ListN.{length, drop}
 use Rattle.syntax.specs.Limits.{variables}
@@ -8,8 +7,4 @@ use Rattle.mode_flags.proofs.further.Given as goal
 
 abbrev pub invariant-loop-i : goal.invariant-loop-i
 invariant-loop-i l =
-    (l.i ≤ variables) × (length l.before ≡ variables) × (length l.after ≡ variables) × (further l.before l.after ≡ further (drop l.i l.before) (drop l.i l.after))
-
-abbrev pub decreases-loop-i : goal.decreases-loop-i
-decreases-loop-i l =
-    variables - l.i
+    (length l.before ≡ variables) × (length l.after ≡ variables) × (further l.before l.after ≡ further (drop l.i l.before) (drop l.i l.after))

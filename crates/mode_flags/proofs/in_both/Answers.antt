@@ -1,28 +1,22 @@
-use native.Mathlib.Omega.{arith}
+use mathlib.Core.Bool.{Bool, false, ◌&&◌}
+use mathlib.Core.Path.{sym, ap, ◌∙◌}
+use lib.ListN.{get_or}
 use Rattle.mode_flags.proofs.Laws.{halfway-starts, halfway-on, halfway-ends}
 use borrow.Author.Rules.{rules}
 use Rattle.mode_flags.proofs.in_both.Goals as goal
+use Rattle.mode_flags.proofs.in_both.Goals.{then-left-i, else-left-i}
 
 pub loop-i-init : goal.loop-i-init
 loop-i-init c = halfway-starts (search rules) (search rules)
 
-pub bounds-left-i : goal.bounds-left-i
-bounds-left-i c = omega (arith, c.loop-i.invariant.left_wide)
-
-pub bounds-right-i : goal.bounds-right-i
-bounds-right-i c = omega (arith, c.loop-i.invariant.right_wide)
-
-pub bounds-both-i : goal.bounds-both-i
-bounds-both-i c = omega (arith, c.loop-i.invariant.both_wide)
-
-pub overflow_add-i : goal.overflow_add-i
-overflow_add-i c = omega arith
-
-pub loop-i-smaller : goal.loop-i-smaller
-loop-i-smaller c = omega arith
-
 pub loop-i-preserved : goal.loop-i-preserved
-loop-i-preserved c = halfway-on c.loop-i-test.true c.both_ground.ensures c.loop-i.invariant
+loop-i-preserved c = let right = get_or c.args.right c.loop-i.i false in
+    halfway-on c.loop-i-test.true
+    (elim c.if-left-i.branch [
+      | then-left-i w ↦ w.both-is ∙ sym (ap (λ (l : Bool). l && right) w.if-left-i.true)
+      | else-left-i w ↦ w.both-is ∙ w.if-left-i.false ∙ sym (ap (λ (l : Bool). l && right) w.if-left-i.false)
+    ])
+    c.loop-i.invariant
 
 pub returns : goal.returns
 returns c = halfway-ends c.loop-i-test.false c.loop-i.invariant

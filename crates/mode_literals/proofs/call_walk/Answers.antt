@@ -1,9 +1,10 @@
 -- `literals::call_walk` meets its contract. Assumes nothing.
 use Rattle.mode_marks.proofs.Places.{node-inside, past-ends}
 use native.Mathlib.Omega.{arith}
+use Rattle.std.proofs.lemmas.Result.{err_from_is_err_and}
 use Rattle.syntax.specs.Terms.{output}
 use Rattle.mode_arguments.proofs.Judging.{judged-term, judged-room, judged-marked}
-use Rattle.mode_literals.proofs.Literals.{judged-at, walked-fault}
+use Rattle.mode_literals.proofs.Literals.{judged-at, walked-fault, walked-past}
 use Rattle.mode_literals.proofs.call_walk.Goals as goal
 
 pub marks_of-marks-requires : goal.marks_of-marks-requires
@@ -18,11 +19,16 @@ past-stop-requires c = node-inside (judged-term (judged-at c.args.s.now c.args.d
 pub ground_marked-after-requires : goal.ground_marked-after-requires
 ground_marked-after-requires c = judged-marked c.args.table.now c.args.p c.marks_of-marks.result c.past-stop.result (past-ends c.past-stop.ensures) output (judged-at c.args.s.now c.args.declared.now c.args.n c.args.g.now c.args.table.now c.args.p c.marks_of-marks.result c.marks_of-marks.ensures c.requires.declarations_at c.requires.atom_at)
 
-pub call_fault-fault-requires : goal.call_fault-fault-requires
-call_fault-fault-requires c = judged-at c.args.s.now c.args.declared.now c.args.n c.args.g.now c.args.table.now c.args.p c.marks_of-marks.result c.marks_of-marks.ensures c.requires.declarations_at c.requires.atom_at
+pub call_fault-requires : goal.call_fault-requires
+call_fault-requires c = judged-at c.args.s.now c.args.declared.now c.args.n c.args.g.now c.args.table.now c.args.p c.marks_of-marks.result c.marks_of-marks.ensures c.requires.declarations_at c.requires.atom_at
 
-pub overflow_add-more : goal.overflow_add-more
-overflow_add-more c = omega (arith, c.requires.literal_le_p, judged-room (judged-at c.args.s.now c.args.declared.now c.args.n c.args.g.now c.args.table.now c.args.p c.marks_of-marks.result c.marks_of-marks.ensures c.requires.declarations_at c.requires.atom_at))
+pub overflow_add-result : goal.overflow_add-result
+overflow_add-result c = omega (arith, c.requires.literal_le_p, judged-room (judged-at c.args.s.now c.args.declared.now c.args.n c.args.g.now c.args.table.now c.args.p c.marks_of-marks.result c.marks_of-marks.ensures c.requires.declarations_at c.requires.atom_at))
+
+pub returns-in_err-call_fault : goal.returns-in_err-call_fault
+returns-in_err-call_fault c = let p = err_from_is_err_and c.from_residual.result c.from_residual.ensures.1 in
+    rw (p.1, p.2)
+    (walked-fault c.args.s.now c.args.declared.now c.args.n c.args.g.now c.args.table.now c.args.p c.marks_of-marks.result c.marks_of-marks.ensures c.args.known c.args.clause c.args.literal c.call_fault.ensures c.in_err-call_fault.was)
 
 pub returns : goal.returns
-returns c = walked-fault c.args.s.now c.args.declared.now c.args.n c.args.g.now c.args.table.now c.args.p c.marks_of-marks.result c.marks_of-marks.ensures c.args.known c.args.clause c.args.literal c.call_fault-fault.result c.call_fault-fault.ensures c.past-stop.result (past-ends c.past-stop.ensures) c.ground_marked-after.result c.ground_marked-after.ensures
+returns c = walked-past c.args.s.now c.args.declared.now c.args.n c.args.g.now c.args.table.now c.args.p c.marks_of-marks.result c.marks_of-marks.ensures c.args.known c.args.clause c.args.literal c.call_fault.ensures c.in_ok-call_fault.was c.past-stop.result (past-ends c.past-stop.ensures) c.ground_marked-after.result c.ground_marked-after.ensures

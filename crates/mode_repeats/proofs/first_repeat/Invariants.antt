@@ -1,5 +1,4 @@
 -- `mode_repeats::first_repeat` meets its contract: each way out is a law of `Laws`. Assumes nothing.
-use Prim.Native.Nat.{◌-◌, ◌≤◌}
 use mathlib.Core.Path.{◌≡◌}
 use mathlib.Core.List.{[]}
 use lib.ListN.{take, drop}
@@ -9,8 +8,4 @@ use Rattle.mode_repeats.proofs.first_repeat.Given as goal
 
 abbrev pub invariant-loop-i : goal.invariant-loop-i
 invariant-loop-i l =
-    (l.i ≤ l.n) × ((w : DeclarationsAt l.s l.declared l.n) → first_repeat [] w.list ≡ first_repeat (take l.i w.list) (drop l.i w.list))
-
-abbrev pub decreases-loop-i : goal.decreases-loop-i
-decreases-loop-i l =
-    l.n - l.i
+    (w : DeclarationsAt l.s l.declared l.n) → first_repeat [] w.list ≡ first_repeat (take l.i w.list) (drop l.i w.list)

@@ -1,5 +1,6 @@
 -- `mode_repeats::is_repeat` meets its contract: each way out is a law of `Laws`. Assumes nothing.
 use native.Mathlib.Omega.{arith}
+use mathlib.Core.Path.{sym, ◌∙◌}
 use Rattle.mode_repeats.proofs.Laws.{earlier-at, place_in, name-inside, repeat-earlier, repeat-marked, repeat-true, repeat-fail}
 use Rattle.mode_repeats.proofs.is_repeat.Goals as goal
 
@@ -21,23 +22,23 @@ overflow_add-p-2 c = omega (arith, place_in c.args.s.now c.args.declared.now c.a
 pub word_at-marks-requires : goal.word_at-marks-requires
 word_at-marks-requires c = omega (arith, place_in c.args.s.now c.args.declared.now c.args.n c.requires.declarations_at c.args.i c.requires.i_lt_n)
 
-pub find-j-requires : goal.find-j-requires
-find-j-requires c = record { declarations_at = earlier-at c.args.s.now c.args.declared.now c.args.n c.requires.declarations_at c.args.i c.requires.i_lt_n; len_in_bounds = name-inside c.args.s.now c.args.declared.now c.args.n c.requires.declarations_at c.args.i c.requires.i_lt_n c.word_at-at.result c.word_at-len.result c.word_at-marks.result c.word_at-at.ensures c.word_at-len.ensures c.word_at-marks.ensures }
+pub find-requires : goal.find-requires
+find-requires c = record { declarations_at = earlier-at c.args.s.now c.args.declared.now c.args.n c.requires.declarations_at c.args.i c.requires.i_lt_n; len_in_bounds = name-inside c.args.s.now c.args.declared.now c.args.n c.requires.declarations_at c.args.i c.requires.i_lt_n c.word_at-at.result c.word_at-len.result c.word_at-marks.result c.word_at-at.ensures c.word_at-len.ensures c.word_at-marks.ensures }
 
-pub returns-then-j-i : goal.returns-then-j-i
-returns-then-j-i c = λ w. repeat-earlier c.args.s.now c.args.declared.now c.args.n w c.args.i c.requires.i_lt_n c.word_at-at.result c.word_at-len.result c.word_at-marks.result c.word_at-at.ensures c.word_at-len.ensures c.word_at-marks.ensures c.find-j.result c.find-j.ensures c.if-j-i.true
+pub returns-then-is_some : goal.returns-then-is_some
+returns-then-is_some c = λ w. repeat-earlier c.args.s.now c.args.declared.now c.args.n w c.args.i c.requires.i_lt_n c.word_at-at.result c.word_at-len.result c.word_at-marks.result c.word_at-at.ensures c.word_at-len.ensures c.word_at-marks.ensures c.find.result c.find.ensures (sym c.is_some.ensures ∙ c.if-is_some.true)
 
 pub returns-then-marks-ne0 : goal.returns-then-marks-ne0
-returns-then-marks-ne0 c = λ w. repeat-marked c.args.s.now c.args.declared.now c.args.n w c.args.i c.requires.i_lt_n c.word_at-at.result c.word_at-len.result c.word_at-marks.result c.word_at-at.ensures c.word_at-len.ensures c.word_at-marks.ensures c.find-j.result c.find-j.ensures c.if-j-i.false c.if-marks-ne0.true
+returns-then-marks-ne0 c = λ w. repeat-marked c.args.s.now c.args.declared.now c.args.n w c.args.i c.requires.i_lt_n c.word_at-at.result c.word_at-len.result c.word_at-marks.result c.word_at-at.ensures c.word_at-len.ensures c.word_at-marks.ensures c.find.result c.find.ensures (sym c.is_some.ensures ∙ c.if-is_some.false) c.if-marks-ne0.true
 
 pub is_true-requires : goal.is_true-requires
 is_true-requires c = name-inside c.args.s.now c.args.declared.now c.args.n c.requires.declarations_at c.args.i c.requires.i_lt_n c.word_at-at.result c.word_at-len.result c.word_at-marks.result c.word_at-at.ensures c.word_at-len.ensures c.word_at-marks.ensures
 
 pub returns-then-is_true : goal.returns-then-is_true
-returns-then-is_true c = λ w. repeat-true c.args.s.now c.args.declared.now c.args.n w c.args.i c.requires.i_lt_n c.word_at-at.result c.word_at-len.result c.word_at-marks.result c.word_at-at.ensures c.word_at-len.ensures c.word_at-marks.ensures c.find-j.result c.find-j.ensures c.if-j-i.false c.if-marks-ne0.false c.is_true.result c.is_true.ensures c.if-is_true.true
+returns-then-is_true c = λ w. repeat-true c.args.s.now c.args.declared.now c.args.n w c.args.i c.requires.i_lt_n c.word_at-at.result c.word_at-len.result c.word_at-marks.result c.word_at-at.ensures c.word_at-len.ensures c.word_at-marks.ensures c.find.result c.find.ensures (sym c.is_some.ensures ∙ c.if-is_some.false) c.if-marks-ne0.false c.is_true.result c.is_true.ensures c.if-is_true.true
 
 pub is_fail-requires : goal.is_fail-requires
 is_fail-requires c = name-inside c.args.s.now c.args.declared.now c.args.n c.requires.declarations_at c.args.i c.requires.i_lt_n c.word_at-at.result c.word_at-len.result c.word_at-marks.result c.word_at-at.ensures c.word_at-len.ensures c.word_at-marks.ensures
 
 pub returns : goal.returns
-returns c = λ w. repeat-fail c.args.s.now c.args.declared.now c.args.n w c.args.i c.requires.i_lt_n c.word_at-at.result c.word_at-len.result c.word_at-marks.result c.word_at-at.ensures c.word_at-len.ensures c.word_at-marks.ensures c.find-j.result c.find-j.ensures c.if-j-i.false c.if-marks-ne0.false c.is_true.result c.is_true.ensures c.if-is_true.false c.is_fail.result c.is_fail.ensures
+returns c = λ w. repeat-fail c.args.s.now c.args.declared.now c.args.n w c.args.i c.requires.i_lt_n c.word_at-at.result c.word_at-len.result c.word_at-marks.result c.word_at-at.ensures c.word_at-len.ensures c.word_at-marks.ensures c.find.result c.find.ensures (sym c.is_some.ensures ∙ c.if-is_some.false) c.if-marks-ne0.false c.is_true.result c.is_true.ensures c.if-is_true.false c.is_fail.result c.is_fail.ensures

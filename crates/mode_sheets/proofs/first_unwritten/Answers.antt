@@ -1,4 +1,3 @@
-use Prim.Native.Nat.{◌-◌}
 use native.Mathlib.Omega.{arith}
 use mathlib.Core.Path.{refl}
 use Rattle.mode_clauses.proofs.Sheets.{sheet-declarations}
@@ -7,7 +6,7 @@ use Rattle.mode_sheets.proofs.Laws.{found_here, not-here, nowhere}
 use Rattle.mode_sheets.proofs.first_unwritten.Goals as goal
 
 pub loop-i-init : goal.loop-i-init
-loop-i-init c = (omega arith, λ w. refl)
+loop-i-init c = λ w. refl
 
 pub bounds-flags-i : goal.bounds-flags-i
 bounds-flags-i c = omega (arith, c.requires.few)
@@ -22,21 +21,12 @@ pub word_at-byte-requires : goal.word_at-byte-requires
 word_at-byte-requires c = omega (arith, place_in c.args.s.now c.args.declared.now c.args.n (sheet-declarations c.requires.stands) c.loop-i.i c.loop-i-test.true)
 
 pub returns-then-not-may_stay : goal.returns-then-not-may_stay
-returns-then-not-may_stay c = λ w. found_here w c.loop-i.i c.loop-i-test.true (c.loop-i.invariant.1 w) c.head_flags-flags.result (c.head_flags-flags.ensures w)
+returns-then-not-may_stay c = λ w. found_here w c.loop-i.i c.loop-i-test.true (c.loop-i.invariant w) c.head_flags-flags.result (c.head_flags-flags.ensures w)
     c.may_stay.result c.may_stay.ensures c.if-not-may_stay.true c.word_at-byte.result c.word_at-byte.ensures
 
-pub overflow_add-i : goal.overflow_add-i
-overflow_add-i c = omega arith
-
-pub loop-i-smaller : goal.loop-i-smaller
-loop-i-smaller c = omega arith
-
 pub loop-i-preserved : goal.loop-i-preserved
-loop-i-preserved c = (
-  omega arith,
-  λ w. not-here w c.loop-i.i c.loop-i-test.true (c.loop-i.invariant.1 w) c.head_flags-flags.result (c.head_flags-flags.ensures w)
-      c.may_stay.result c.may_stay.ensures c.if-not-may_stay.false,
-)
+loop-i-preserved c = λ w. not-here w c.loop-i.i c.loop-i-test.true (c.loop-i.invariant w) c.head_flags-flags.result (c.head_flags-flags.ensures w)
+    c.may_stay.result c.may_stay.ensures c.if-not-may_stay.false
 
 pub returns : goal.returns
-returns c = λ w. nowhere w c.loop-i.i c.loop-i-test.false (c.loop-i.invariant.1 w)
+returns c = λ w. nowhere w c.loop-i.i c.loop-i-test.false (c.loop-i.invariant w)

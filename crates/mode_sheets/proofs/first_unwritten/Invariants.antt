@@ -1,13 +1,8 @@
 -- `mode_sheets::first_unwritten` meets its contract: each way out is a law of `Laws`. Assumes nothing.
-use Prim.Native.Nat.{◌-◌, ◌≤◌}
 use Rattle.mode_sheets.specs.Flags.{DeclaredOnce}
 use Rattle.mode_sheets.proofs.Laws.{Decides}
 use Rattle.mode_sheets.proofs.first_unwritten.Given as goal
 
 abbrev pub invariant-loop-i : goal.invariant-loop-i
 invariant-loop-i l =
-    (l.i ≤ l.n) × ((w : DeclaredOnce l.s l.declared l.n l.table l.clauses) → Decides w l.i)
-
-abbrev pub decreases-loop-i : goal.decreases-loop-i
-decreases-loop-i l =
-    l.n - l.i
+    (w : DeclaredOnce l.s l.declared l.n l.table l.clauses) → Decides w l.i

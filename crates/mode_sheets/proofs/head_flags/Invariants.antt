@@ -1,6 +1,5 @@
 -- `mode_sheets::head_flags` meets its contract. The invariant: what is left of the clauses, with the flags so far, gives those of the whole (`Left`).
 -- Assumes nothing.
-use Prim.Native.Nat.{◌+◌, ◌≤◌, ◌-◌}
 use mathlib.Core.Path.{◌≡◌}
 use lib.ListN.{length}
 use Rattle.syntax.specs.Limits.{declarations}
@@ -8,11 +7,7 @@ use Rattle.mode_sheets.specs.Flags.{DeclaredOnce}
 use Rattle.mode_sheets.proofs.Heads.{Left}
 use Rattle.mode_sheets.proofs.head_flags.Given as goal
 
-abbrev pub invariant-loop-i : goal.invariant-loop-i
-invariant-loop-i l =
-    (l.i ≤ l.clauses) × (length l.flags ≡ declarations + 1)
-    × ((w : DeclaredOnce l.s l.declared l.n l.table l.clauses) → Left l.s l.table l.at l.i l.clauses l.flags w.stands.sheet.declarations w.stands.sheet.clauses)
-
-abbrev pub decreases-loop-i : goal.decreases-loop-i
-decreases-loop-i l =
-    l.clauses - l.i
+abbrev pub invariant-loop-clause : goal.invariant-loop-clause
+invariant-loop-clause l =
+    (length l.flags ≡ declarations)
+    × ((w : DeclaredOnce l.s l.declared l.n l.table l.clauses) → Left l.s l.table l.at l._clause l.clauses l.flags w.stands.sheet.declarations w.stands.sheet.clauses)

@@ -1,39 +1,33 @@
-use Prim.Native.Nat.{◌-◌}
 use native.Mathlib.Omega.{arith}
-use mathlib.Core.Path.{sym, ◌∙◌}
+use Rattle.std.proofs.lemmas.Result.{err_from_is_err_and}
 use Rattle.mode_undeclared.proofs.Items.{left-whole, left-none, first, left-stops, left-on, left-rises, left-fits, item-words}
 use Rattle.mode_undeclared.proofs.undeclared_body.Goals as goal
 
-pub loop-i-init : goal.loop-i-init
-loop-i-init c = (omega arith, omega arith, λ d w. left-whole w)
+pub loop-item-init : goal.loop-item-init
+loop-item-init c = (omega arith, λ d w. left-whole w)
 
-pub undeclared_item-fault-requires : goal.undeclared_item-fault-requires
-undeclared_item-fault-requires c = record { declarations_at = c.requires.declarations_at; item_at = (first c.loop-i-test.true (c.loop-i.invariant.2 c.requires.declarations_at c.requires.body_at)).item }
+pub undeclared_item-requires-clause-item_at : goal.undeclared_item-requires-clause-item_at
+undeclared_item-requires-clause-item_at c = (first c.loop-item-test.true (c.loop-item.invariant.1 c.requires.declarations_at c.requires.body_at)).item
 
-pub returns-then-is_fault : goal.returns-then-is_fault
-returns-then-is_fault c = λ d w. left-stops c.loop-i-test.true (c.loop-i.invariant.2 d w) (c.undeclared_item-fault.ensures d) (sym c.is_fault.ensures ∙ c.if-is_fault.true)
+pub returns-in_err-undeclared_item : goal.returns-in_err-undeclared_item
+returns-in_err-undeclared_item c = let p = err_from_is_err_and c.from_residual.result c.from_residual.ensures.1 in
+    rw (p.1, p.2)
+    (λ d w. left-stops c.loop-item-test.true (c.loop-item.invariant.1 d w) (c.undeclared_item.ensures d) (c.in_err-undeclared_item.was))
 
 pub literals_at-literal-requires : goal.literals_at-literal-requires
-literals_at-literal-requires c = item-words (first c.loop-i-test.true (c.loop-i.invariant.2 c.requires.declarations_at c.requires.body_at)).item
+literals_at-literal-requires c = item-words (first c.loop-item-test.true (c.loop-item.invariant.1 c.requires.declarations_at c.requires.body_at)).item
 
 pub overflow_add-literal : goal.overflow_add-literal
-overflow_add-literal c = omega (arith, left-fits c.loop-i-test.true (c.loop-i.invariant.2 c.requires.declarations_at c.requires.body_at) c.literals_at-literal.ensures c.loop-i.invariant.1)
+overflow_add-literal c = omega (arith, left-fits c.loop-item-test.true (c.loop-item.invariant.1 c.requires.declarations_at c.requires.body_at) c.literals_at-literal.ensures c.loop-item.invariant.0)
 
 pub past_item-at-requires : goal.past_item-at-requires
-past_item-at-requires c = item-words (first c.loop-i-test.true (c.loop-i.invariant.2 c.requires.declarations_at c.requires.body_at)).item
+past_item-at-requires c = item-words (first c.loop-item-test.true (c.loop-item.invariant.1 c.requires.declarations_at c.requires.body_at)).item
 
-pub overflow_add-i : goal.overflow_add-i
-overflow_add-i c = omega arith
-
-pub loop-i-smaller : goal.loop-i-smaller
-loop-i-smaller c = omega arith
-
-pub loop-i-preserved : goal.loop-i-preserved
-loop-i-preserved c = (
-  omega arith,
-  left-rises c.loop-i-test.true (c.loop-i.invariant.2 c.requires.declarations_at c.requires.body_at) (c.undeclared_item-fault.ensures c.requires.declarations_at) c.literals_at-literal.ensures c.past_item-at.ensures c.loop-i.invariant.1,
-  λ d w. left-on c.loop-i-test.true (c.loop-i.invariant.2 d w) (c.undeclared_item-fault.ensures d) (sym c.is_fault.ensures ∙ c.if-is_fault.false) c.literals_at-literal.ensures c.past_item-at.ensures,
+pub loop-item-preserved : goal.loop-item-preserved
+loop-item-preserved c = (
+  left-rises c.loop-item-test.true (c.loop-item.invariant.1 c.requires.declarations_at c.requires.body_at) (c.undeclared_item.ensures c.requires.declarations_at) c.literals_at-literal.ensures c.past_item-at.ensures c.loop-item.invariant.0,
+  λ d w. left-on c.loop-item-test.true (c.loop-item.invariant.1 d w) (c.undeclared_item.ensures d) (c.in_ok-undeclared_item.was) c.literals_at-literal.ensures c.past_item-at.ensures,
 )
 
 pub returns : goal.returns
-returns c = λ d w. left-none c.loop-i-test.false (c.loop-i.invariant.2 d w)
+returns c = λ d w. left-none c.loop-item-test.false (c.loop-item.invariant.1 d w)

@@ -1,7 +1,7 @@
 -- `mode_undeclared::undeclared_clause` meets its contract. Assumes nothing.
 use Rattle.mode_marks.proofs.Places.{node-inside, past-ends}
 use native.Mathlib.Omega.{arith}
-use mathlib.Core.Path.{sym, ◌∙◌}
+use Rattle.std.proofs.lemmas.Result.{err_from_is_err_and}
 use Rattle.mode_undeclared.proofs.Clauses.{clause-room, head-at, head-term, body_at, clause-undeclared, clause-body}
 use Rattle.mode_undeclared.proofs.undeclared_clause.Goals as goal
 
@@ -14,11 +14,13 @@ word_at-items-requires c = omega (arith, clause-room c.requires.clause_at)
 pub overflow_add-head : goal.overflow_add-head
 overflow_add-head c = omega (arith, clause-room c.requires.clause_at)
 
-pub undeclared_atom-fault-requires : goal.undeclared_atom-fault-requires
-undeclared_atom-fault-requires c = record { declarations_at = c.requires.declarations_at; atom_at = head-at c.requires.clause_at }
+pub undeclared_atom-requires : goal.undeclared_atom-requires
+undeclared_atom-requires c = record { declarations_at = c.requires.declarations_at; atom_at = head-at c.requires.clause_at }
 
-pub returns-then-is_fault : goal.returns-then-is_fault
-returns-then-is_fault c = λ d w. clause-undeclared d.list c.args.s.now c.args.table.now c.args.p c.args.clause c.undeclared_atom-fault.result (c.undeclared_atom-fault.ensures d) (sym c.is_fault.ensures ∙ c.if-is_fault.true) w
+pub returns-in_err-undeclared_atom : goal.returns-in_err-undeclared_atom
+returns-in_err-undeclared_atom c = let p = err_from_is_err_and c.from_residual.result c.from_residual.ensures.1 in
+    rw (p.1, p.2)
+    (λ d w. clause-undeclared d.list c.args.s.now c.args.table.now c.args.p c.args.clause c.undeclared_atom.result (c.undeclared_atom.ensures d) (c.in_err-undeclared_atom.was) w)
 
 pub past-first-requires : goal.past-first-requires
 past-first-requires c = node-inside (head-term c.requires.clause_at)
@@ -27,4 +29,4 @@ pub undeclared_body-requires : goal.undeclared_body-requires
 undeclared_body-requires c = record { declarations_at = c.requires.declarations_at; body_at = body_at c.args.s.now c.args.table.now c.args.p c.word_at-items.result c.word_at-items.ensures c.past-first.result (past-ends c.past-first.ensures) c.requires.clause_at }
 
 pub returns : goal.returns
-returns c = λ d w. clause-body d.list c.args.s.now c.args.table.now c.args.p c.args.clause c.undeclared_atom-fault.result (c.undeclared_atom-fault.ensures d) (sym c.is_fault.ensures ∙ c.if-is_fault.false) c.word_at-items.result c.word_at-items.ensures c.past-first.result (past-ends c.past-first.ensures) c.undeclared_body.result (c.undeclared_body.ensures d) w
+returns c = λ d w. clause-body d.list c.args.s.now c.args.table.now c.args.p c.args.clause c.undeclared_atom.result (c.undeclared_atom.ensures d) (c.in_ok-undeclared_atom.was) c.word_at-items.result c.word_at-items.ensures c.past-first.result (past-ends c.past-first.ensures) c.undeclared_body.result (c.undeclared_body.ensures d) w

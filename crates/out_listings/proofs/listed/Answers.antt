@@ -1,13 +1,10 @@
--- `out_listings::listed` meets its contract. Assumes nothing.
-use Rattle.out_listings.proofs.Laws.{listed-all, listed-some, listed-none}
-use borrow.Author.Rules.{rules}
+-- As many as there are, and no more than there is room for. Assumes nothing.
+use mathlib.Core.Path.{◌∙◌}
+use Rattle.out_listings.proofs.Laws.{listed-accepted, listed-refused}
 use Rattle.out_listings.proofs.listed.Goals as goal
 
-pub returns-then-declarations-room : goal.returns-then-declarations-room
-returns-then-declarations-room c = search (listed-all, rules)
+pub returns-in-Ok : goal.returns-in-Ok
+returns-in-Ok c = c.min.ensures ∙ listed-accepted c.args.verdict c.in-Ok.counts c.args.room c.in-Ok.is
 
-pub returns-else-declarations-room : goal.returns-else-declarations-room
-returns-else-declarations-room c = search (listed-some, rules)
-
-pub returns-in-Refused : goal.returns-in-Refused
-returns-in-Refused c = search (listed-none, rules)
+pub returns-in-Err : goal.returns-in-Err
+returns-in-Err c = listed-refused c.args.verdict c.in-Err.field-0 c.args.room c.in-Err.is

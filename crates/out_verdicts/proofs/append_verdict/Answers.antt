@@ -5,8 +5,8 @@ use Rattle.out_verdicts.specs.Words.{verdict_words, five_words}
 use Rattle.buffers.proofs.Laws.{then, spelt}
 use Rattle.out_verdicts.proofs.append_verdict.Goals as goal
 
-pub returns-in-Accepted : goal.returns-in-Accepted
-returns-in-Accepted c = record { wrote = spelt (ap verdict_words c.in-Accepted.is) (then (then c.append-past_word.ensures c.append_number-past_declarations.ensures.wrote) c.append_number.ensures.wrote); within = omega arith }
+pub returns-in-Ok : goal.returns-in-Ok
+returns-in-Ok c = record { wrote = spelt (ap verdict_words c.in-Ok.is) (then (then c.append-past_word.ensures c.append_number-past_declarations.ensures.wrote) c.append_number.ensures.wrote); within = omega arith }
 
-pub returns-in-Refused : goal.returns-in-Refused
-returns-in-Refused c = record { wrote = spelt (ap verdict_words c.in-Refused.is) (then (then c.append-past_word-in-Refused.ensures c.append_text-past_text.ensures.wrote) (spelt (ap five_words (sym c.numbers-numbers.ensures)) c.append_five.ensures.wrote)); within = omega arith }
+pub returns-in-Err : goal.returns-in-Err
+returns-in-Err c = record { wrote = spelt (ap verdict_words c.in-Err.is) (then (then c.append-past_word-in-Err.ensures c.append_text-past_text.ensures.wrote) (spelt (ap five_words (sym c.numbers-numbers.ensures)) c.append_five.ensures.wrote)); within = omega arith }

@@ -1,10 +1,10 @@
 -- `parse_declarations::read_some_marks` meets its contract: each way out is a law of `MarkLaws`. Assumes nothing.
+use Rattle.parse_cursor.proofs.Starts.{kind-eq, kind-not_eq}
 use Rattle.parse_declarations.proofs.MarkLaws.{some-open, some-none}
-use borrow.Author.Rules.{rules}
 use Rattle.parse_declarations.proofs.read_some_marks.Goals as goal
 
-pub returns-then-kind-eq-OPEN : goal.returns-then-kind-eq-OPEN
-returns-then-kind-eq-OPEN c = search (some-open, rules)
+pub returns-then-eq : goal.returns-then-eq
+returns-then-eq c = some-open _ _ _ _ (kind-eq c.if-eq.ensures) c.next-inner.ensures c.read_marks.ensures
 
 pub returns : goal.returns
-returns c = search (some-none, rules)
+returns c = some-none _ _ c.requires (kind-not_eq c.if-eq.ensures)

@@ -1,15 +1,21 @@
 -- `parse_literals::read_equation` meets its contract: each way out is a law of `LiteralLaws`. Assumes nothing.
+use Rattle.std.proofs.lemmas.Result.{err_from_is_err_and}
+use Rattle.parse_cursor.proofs.Starts.{kind-eq, kind-not_eq}
 use Rattle.parse_literals.proofs.LiteralLaws.{equation-fault, equation-ready, equation-read, equation-wrong}
 use Rattle.parse_literals.proofs.read_equation.Goals as goal
 
-pub returns-then-r-ne0 : goal.returns-then-r-ne0
-returns-then-r-ne0 c = equation-fault c.args.left c.args.s.now c.args.st c.args.table.now c.args.n c.requires c.read_term-r.new.table c.read_term-r.result c.read_term-r.auto.table c.read_term-r.ensures c.if-r-ne0.true
+pub returns-in_err-r : goal.returns-in_err-r
+returns-in_err-r c =
+    let p = err_from_is_err_and c.from_residual.result c.from_residual.ensures.1 in
+    rw (p.1, p.2) (equation-fault c.args.left c.args.s.now c.args.st c.args.table.now c.args.n c.requires c.read_term.new.table _ c.in_err-r.ensures)
 
 pub read_right-requires : goal.read_right-requires
-read_right-requires c = let both = equation-ready c.args.left c.args.s.now c.args.st c.args.table.now c.args.n c.requires c.read_term-r.new.table c.read_term-r.result c.read_term-r.auto.table c.read_term-r.ensures c.if-r-ne0.false c.if-kind-eq-EQUALS.true in record { room_to_read = both.0; kind_value = both.1 }
+read_right-requires c =
+    let both = equation-ready c.args.left c.args.s.now c.args.st c.args.table.now c.args.n c.requires c.read_term.new.table _ c.read_term.auto.table c.in_ok-r.ensures (kind-eq c.if-eq.ensures) in
+    record { room_to_read = both.0; kind_value = both.1 }
 
-pub returns-then-kind-eq-EQUALS : goal.returns-then-kind-eq-EQUALS
-returns-then-kind-eq-EQUALS c = equation-read c.args.left c.args.s.now c.args.st c.args.table.now c.args.n c.requires c.read_term-r.new.table c.read_term-r.result c.read_term-r.auto.table c.read_term-r.ensures c.if-r-ne0.false c.read_right.new.table c.read_right.result c.if-kind-eq-EQUALS.true c.read_right.ensures
+pub returns-then-eq : goal.returns-then-eq
+returns-then-eq c = equation-read c.args.left c.args.s.now c.args.st c.args.table.now c.args.n c.requires c.read_term.new.table _ c.read_term.auto.table c.in_ok-r.ensures c.read_right.new.table c.read_right.result (kind-eq c.if-eq.ensures) c.read_right.ensures
 
 pub returns : goal.returns
-returns c = equation-wrong c.args.left c.args.s.now c.args.st c.args.table.now c.args.n c.requires c.read_term-r.new.table c.read_term-r.result c.read_term-r.auto.table c.read_term-r.ensures c.if-r-ne0.false c.wrong.result c.if-kind-eq-EQUALS.false c.wrong.ensures
+returns c = equation-wrong c.args.left c.args.s.now c.args.st c.args.table.now c.args.n c.requires c.read_term.new.table _ c.read_term.auto.table c.in_ok-r.ensures c.wrong.result (kind-not_eq c.if-eq.ensures) c.wrong.ensures

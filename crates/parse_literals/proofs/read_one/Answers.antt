@@ -3,8 +3,8 @@ use Rattle.parse_literals.proofs.LiteralLaws.{one-named, one-other}
 use borrow.Author.Rules.{rules}
 use Rattle.parse_literals.proofs.read_one.Goals as goal
 
-pub returns-then-kind-eq-NAME : goal.returns-then-kind-eq-NAME
-returns-then-kind-eq-NAME c = search (one-named, rules)
+pub returns-in-Name : goal.returns-in-Name
+returns-in-Name c = search (one-named, rules)
 
-pub returns : goal.returns
-returns c = search (one-other, rules)
+pub returns-in_default : goal.returns-in_default
+returns-in_default c = search (one-other, rules)

@@ -6,8 +6,8 @@ use Rattle.parse_literals.proofs.read_plain.Goals as goal
 pub read_one-requires : goal.read_one-requires
 read_one-requires c = search (counted_ready, rules)
 
-pub returns-then-literals-lt-LITERALS : goal.returns-then-literals-lt-LITERALS
-returns-then-literals-lt-LITERALS c = search (plain-one, rules)
+pub returns-then-st-lt-LITERALS : goal.returns-then-st-lt-LITERALS
+returns-then-st-lt-LITERALS c = search (plain-one, rules)
 
 pub returns : goal.returns
 returns c = search (plain-full, rules)

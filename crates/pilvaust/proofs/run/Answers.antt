@@ -1,4 +1,12 @@
+-- What `run_written` gives, without the count of bytes.
+use Rattle.std.proofs.Common.{ap, sym, ◌∙◌}
+use Rattle.std.proofs.lemmas.Result.{err_from_is_err_and}
+use Rattle.run_results.specs.Results.{run_of}
 use Rattle.pilvaust.proofs.run.Goals as goal
 
 pub returns : goal.returns
-returns c = record { is = c.run_written-r.ensures.is; text = c.run_written-r.ensures.text }
+returns c = record { is = sym (ap run_of c.in_ok-run_written.was) ∙ c.run_written.ensures.is; text = c.run_written.ensures.text }
+
+pub returns-in_err-run_written : goal.returns-in_err-run_written
+returns-in_err-run_written c = let p = err_from_is_err_and c.from_residual.result c.from_residual.ensures.1 in
+    rw (p.1, p.2) (record { is = sym (ap run_of c.in_err-run_written.was) ∙ c.run_written.ensures.is; text = c.run_written.ensures.text })

@@ -1,15 +1,20 @@
 -- `read_and_check::read_checked` meets its contract: each way out is a law of `Checking`. Assumes nothing.
+use mathlib.Core.Path.{refl}
+use Rattle.std.proofs.lemmas.Result.{err_from_is_err_and}
 use Rattle.read_and_check.proofs.Checking.{checked_refused, declared-once, checked-fine, checked-fault}
 use Rattle.read_and_check.proofs.read_checked.Goals as goal
 
-pub check_sheet-fault-requires : goal.check_sheet-fault-requires
-check_sheet-fault-requires c = declared-once c.args.stored c.args.sheet.now c.read_text-v.new.declared c.read_text-v.new.table c.read_text-v.result c.read_text-v.ensures.is c.read_text-v.ensures.holds c.in-Accepted.declarations c.in-Accepted.clauses c.in-Accepted.is
+pub returns-in_err-counts : goal.returns-in_err-counts
+returns-in_err-counts c =
+    let p = err_from_is_err_and c.from_residual.result c.from_residual.ensures.1 in
+    let both = checked_refused c.args.stored c.args.sheet.now c.read_text.new.declared c.read_text.new.table _ c.in_err-counts.ensures.is c.in_err-counts.ensures.holds _ _ refl in
+    rw (p.1, p.2) (record { is = both.0; holds = both.1 })
 
-pub returns-in-Refused : goal.returns-in-Refused
-returns-in-Refused c = let both = checked_refused c.args.stored c.args.sheet.now c.read_text-v.new.declared c.read_text-v.new.table c.read_text-v.result c.read_text-v.ensures.is c.read_text-v.ensures.holds c.in-Refused.text c.in-Refused.refusal c.in-Refused.is in record { is = both.0; holds = both.1 }
+pub check_sheet-requires : goal.check_sheet-requires
+check_sheet-requires c = declared-once c.args.stored c.args.sheet.now c.read_text.new.declared c.read_text.new.table _ c.in_ok-counts.ensures.is c.in_ok-counts.ensures.holds c.in_ok-counts.counts.declarations c.in_ok-counts.counts.clauses refl
 
-pub returns-in-Fine : goal.returns-in-Fine
-returns-in-Fine c = let both = checked-fine c.args.stored c.args.sheet.now c.read_text-v.new.declared c.read_text-v.new.table c.read_text-v.result c.read_text-v.ensures.is c.read_text-v.ensures.holds c.in-Accepted.declarations c.in-Accepted.clauses c.in-Accepted.is c.check_sheet-fault.result c.check_sheet-fault.ensures c.in-Fine.is in record { is = both.0; holds = both.1 }
+pub returns-in-Ok : goal.returns-in-Ok
+returns-in-Ok c = let both = checked-fine c.args.stored c.args.sheet.now c.read_text.new.declared c.read_text.new.table _ c.in_ok-counts.ensures.is c.in_ok-counts.ensures.holds c.in_ok-counts.counts.declarations c.in_ok-counts.counts.clauses refl c.check_sheet.result c.check_sheet.ensures c.in-Ok.is in record { is = both.0; holds = both.1 }
 
-pub returns-in-Fault : goal.returns-in-Fault
-returns-in-Fault c = let both = checked-fault c.args.stored c.args.sheet.now c.read_text-v.new.declared c.read_text-v.new.table c.read_text-v.result c.read_text-v.ensures.is c.read_text-v.ensures.holds c.in-Accepted.declarations c.in-Accepted.clauses c.in-Accepted.is c.check_sheet-fault.result c.check_sheet-fault.ensures c.in-Fault.refusal c.in-Fault.is c.sheet_refused.result c.sheet_refused.ensures in record { is = both.0; holds = both.1 }
+pub returns-in-Err : goal.returns-in-Err
+returns-in-Err c = let both = checked-fault c.args.stored c.args.sheet.now c.read_text.new.declared c.read_text.new.table _ c.in_ok-counts.ensures.is c.in_ok-counts.ensures.holds c.in_ok-counts.counts.declarations c.in_ok-counts.counts.clauses refl c.check_sheet.result c.check_sheet.ensures c.in-Err.refusal c.in-Err.is _ c.of_sheet.ensures in record { is = both.0; holds = both.1 }

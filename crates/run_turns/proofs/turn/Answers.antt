@@ -1,4 +1,3 @@
-use Prim.Native.Nat.{◌-◌}
 use native.Mathlib.Omega.{arith}
 use mathlib.Core.Path.{◌∙◌}
 use Rattle.run_turns.proofs.GoingLaws.{go-begin, go-running, go-few, go-end, go-answers, go-answer-more, go-below, go-full, answers-going, go-steps, go-more, steps-going}
@@ -16,8 +15,8 @@ returns-in-End c = λ w. go-end c.loop-kind.invariant w c.next_of.ensures c.in-E
 pub answer-t-requires : goal.answer-t-requires
 answer-t-requires c = go-answers c.loop-kind.invariant c.requires.underway c.next_of.ensures c.in-Answer.is
 
-pub returns-then-t-eq0 : goal.returns-then-t-eq0
-returns-then-t-eq0 c = λ w. go-full c.loop-kind.invariant w c.next_of.ensures c.in-Answer.is c.answer-t.ensures c.if-t-eq0.true
+pub returns-in_default : goal.returns-in_default
+returns-in_default c = λ w. go-full c.loop-kind.invariant w c.next_of.ensures c.in-Answer.is c.answer-t.ensures c.in_default.is
 
 pub overflow_add-answers : goal.overflow_add-answers
 overflow_add-answers c = omega (arith, go-below c.loop-kind.invariant c.requires.underway c.next_of.ensures c.in-Answer.is, c.well_formed)
@@ -29,7 +28,7 @@ pub loop-kind-smaller-in-Answer : goal.loop-kind-smaller-in-Answer
 loop-kind-smaller-in-Answer c = omega (arith, go-answer-more c.loop-kind.invariant c.requires.underway c.next_of.ensures c.in-Answer.is)
 
 pub loop-kind-preserved-in-Answer : goal.loop-kind-preserved-in-Answer
-loop-kind-preserved-in-Answer c = record { state_long = c.answer-t.auto.state ∙ c.loop-kind.invariant.state_long; scratch_long = c.answer-t.auto.scratch ∙ c.loop-kind.invariant.scratch_long; text_long = c.answer-t.auto.text ∙ c.loop-kind.invariant.text_long; on = λ kind w. answers-going c.loop-kind.invariant w c.next_of.ensures c.in-Answer.is c.answer-t.ensures c.if-t-eq0.false }
+loop-kind-preserved-in-Answer c = record { state_long = c.answer-t.auto.state ∙ c.loop-kind.invariant.state_long; scratch_long = c.answer-t.auto.scratch ∙ c.loop-kind.invariant.scratch_long; text_long = c.answer-t.auto.text ∙ c.loop-kind.invariant.text_long; on = λ kind w. answers-going c.loop-kind.invariant w c.next_of.ensures c.in-Answer.is c.answer-t.ensures c.in-Some.is }
 
 pub step-p-requires : goal.step-p-requires
 step-p-requires c = go-steps c.loop-kind.invariant c.requires.underway c.next_of.ensures c.in-Step.is

@@ -1,5 +1,5 @@
 -- `table_words::past_body` meets its contract. The invariant: what is left of the body ends where the whole does. Assumes nothing.
-use Prim.Native.Nat.{◌+◌, ◌-◌}
+use Prim.Native.Nat.{◌+◌}
 use lib.ListN.{length}
 use Rattle.syntax.specs.Terms.{Body}
 use Rattle.syntax.specs.Words.{body_words}
@@ -7,10 +7,6 @@ use Rattle.table_words.specs.Items.{ItemsAt}
 use Rattle.table_words.proofs.Items.{ItemsOn}
 use Rattle.table_words.proofs.past_body.Given as goal
 
-abbrev pub invariant-loop-i : goal.invariant-loop-i
-invariant-loop-i l =
-    (b : Body) → ItemsAt l.table l.p l.items b → ItemsOn l.table l.at l.i l.items (l.p + length (body_words b))
-
-abbrev pub decreases-loop-i : goal.decreases-loop-i
-decreases-loop-i l =
-    l.items - l.i
+abbrev pub invariant-loop : goal.invariant-loop
+invariant-loop l =
+    (b : Body) → ItemsAt l.table l.p l.items b → ItemsOn l.table l.at l.counter l.items (l.p + length (body_words b))

@@ -1,7 +1,6 @@
 -- `unify_cuts::follow` meets its contract. Assumes nothing.
-use native.Mathlib.Omega.{arith}
-use mathlib.Core.Path.{refl}
-use Rattle.unify_cuts.proofs.Shortcuts.{both_right, both-here, both-far, both-done, both-near}
+use mathlib.Core.Path.{refl, sym}
+use Rattle.unify_cuts.proofs.Shortcuts.{none-is, both_right, both-here, both-far, both-done, both-near}
 use Rattle.unify_cuts.proofs.follow.Goals as goal
 
 pub lead-l-requires : goal.lead-l-requires
@@ -10,17 +9,17 @@ lead-l-requires c = c.requires.left.from
 pub follow_on-requires : goal.follow_on-requires
 follow_on-requires c = both-far _ _ _ _ _ _ _ c.requires c.requires.left.from.long (λ x l. refl) (c.lead-l.ensures c.requires.left.from).leads (both-here _ _ _ _ _ _ _ c.requires)
 
-pub returns-then-l-ne0 : goal.returns-then-l-ne0
-returns-then-l-ne0 c = λ g. both-done _ _ _ _ _ _ _ g g.left.from.long (λ x l. refl) (c.lead-l.ensures g.left.from).leads (both-here _ _ _ _ _ _ _ g) c.follow_on.ensures
+pub returns-then-is_some : goal.returns-then-is_some
+returns-then-is_some c = λ g. both-done _ _ _ _ _ _ _ g g.left.from.long (λ x l. refl) (c.lead-l.ensures g.left.from).leads (both-here _ _ _ _ _ _ _ g) c.follow_on.ensures
 
 pub lead-r-requires : goal.lead-r-requires
 lead-r-requires c = both_right _ _ _ _ _ _ _ c.requires
 
-pub follow_on-requires-then-r-ne0 : goal.follow_on-requires-then-r-ne0
-follow_on-requires-then-r-ne0 c = both-far _ _ _ _ _ _ _ c.requires c.requires.left.from.long (λ x l. refl) (c.lead-l.ensures c.requires.left.from).leads (c.lead-r.ensures (both_right _ _ _ _ _ _ _ c.requires)).leads
+pub follow_on-requires-then-is_some-2 : goal.follow_on-requires-then-is_some-2
+follow_on-requires-then-is_some-2 c = both-far _ _ _ _ _ _ _ c.requires c.requires.left.from.long (λ x l. refl) (c.lead-l.ensures c.requires.left.from).leads (c.lead-r.ensures (both_right _ _ _ _ _ _ _ c.requires)).leads
 
-pub returns-then-r-ne0 : goal.returns-then-r-ne0
-returns-then-r-ne0 c = λ g. both-done _ _ _ _ _ _ _ g g.left.from.long (λ x l. refl) (c.lead-l.ensures g.left.from).leads (c.lead-r.ensures (both_right _ _ _ _ _ _ _ g)).leads c.follow_on-then-r-ne0.ensures
+pub returns-then-is_some-2 : goal.returns-then-is_some-2
+returns-then-is_some-2 c = λ g. both-done _ _ _ _ _ _ _ g g.left.from.long (λ x l. refl) (c.lead-l.ensures g.left.from).leads (c.lead-r.ensures (both_right _ _ _ _ _ _ _ g)).leads c.follow_on-then-is_some-2.ensures
 
 pub returns : goal.returns
-returns c = λ g. both-near _ _ _ _ _ _ _ g (c.lead-l.ensures g.left.from) (omega (arith, c.if-l-ne0.false)) (c.lead-r.ensures (both_right _ _ _ _ _ _ _ g)) (omega (arith, c.if-r-ne0.false))
+returns c = λ g. both-near _ _ _ _ _ _ _ g (c.lead-l.ensures g.left.from) (none-is _ (sym c.if-is_some.ensures)) (c.lead-r.ensures (both_right _ _ _ _ _ _ _ g)) (none-is _ (sym c.if-is_some-2.ensures))

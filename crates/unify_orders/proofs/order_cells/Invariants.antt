@@ -1,10 +1,6 @@
 use Rattle.unify_orders.specs.Orders.{Orderable, Arranged}
 use Rattle.unify_orders.proofs.order_cells.Given as goal
 
-abbrev pub invariant-loop-left : goal.invariant-loop-left
-invariant-loop-left l =
+abbrev pub invariant-loop-j : goal.invariant-loop-j
+invariant-loop-j l =
     (g : Orderable l.nodes l.state l.initial.scratch) → Arranged g.ss l.nodes l.state l.initial.scratch l.scratch
-
-abbrev pub decreases-loop-left : goal.decreases-loop-left
-decreases-loop-left l =
-    l.left

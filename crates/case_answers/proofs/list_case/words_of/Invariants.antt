@@ -4,6 +4,3 @@ use Rattle.case_answers.proofs.list_case.words_of.Given as goal
 
 abbrev pub invariant-loop-i : goal.invariant-loop-i
 invariant-loop-i l = (l.i ≤ l.n) × (l.n ≤ 270) × (l.n * 4 ≤ length l.fn.bytes) × (270 ≡ length l.words)
-
-abbrev pub decreases-loop-i : goal.decreases-loop-i
-decreases-loop-i l = l.n - l.i

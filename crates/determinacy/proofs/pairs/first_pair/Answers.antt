@@ -1,4 +1,3 @@
-use Prim.Native.Nat.{◌-◌}
 use native.Mathlib.Omega.{arith}
 use mathlib.Core.Path.{refl, ◌∙◌}
 use Rattle.determinacy.proofs.PairLaws.{declarations-at, range-begins, range-ends, range_clause, range_inside, range_head, range_of, range_stops, range_on}
@@ -7,29 +6,23 @@ use Rattle.determinacy.proofs.pairs.first_pair.Goals as goal
 pub loop-i-init : goal.loop-i-init
 loop-i-init c = (omega arith, (refl, (refl, λ w. range-begins w)))
 
-pub overflow_add-number : goal.overflow_add-number
-overflow_add-number c = omega arith
-
 pub overflow_add-head : goal.overflow_add-head
 overflow_add-head c = omega (arith, range_inside c.loop-i-test.true c.requires (c.loop-i.invariant.1.1.1 c.requires))
 
 pub marks_of-marks-requires : goal.marks_of-marks-requires
 marks_of-marks-requires c = record { declarations_at = declarations-at c.requires; atom_at = range_head c.loop-i-test.true c.requires (c.loop-i.invariant.1.1.1 c.requires) }
 
-pub first_overlap-second-requires : goal.first_overlap-second-requires
-first_overlap-second-requires c = range_of c.loop-i-test.true c.marks_of-marks.ensures c.requires (c.loop-i.invariant.1.1.1 c.requires)
+pub first_overlap-requires : goal.first_overlap-requires
+first_overlap-requires c = range_of c.loop-i-test.true c.marks_of-marks.ensures c.requires (c.loop-i.invariant.1.1.1 c.requires)
 
-pub returns-then-second-ne0 : goal.returns-then-second-ne0
-returns-then-second-ne0 c = λ w. range_stops c.loop-i-test.true c.marks_of-marks.ensures c.first_overlap-second.ensures w (c.loop-i.invariant.1.1.1 w) c.if-second-ne0.true
+pub returns-in-Some : goal.returns-in-Some
+returns-in-Some c = λ w. range_stops c.loop-i-test.true c.marks_of-marks.ensures c.first_overlap.ensures w (c.loop-i.invariant.1.1.1 w) c.in-Some.is
 
 pub past_clause-at-requires : goal.past_clause-at-requires
 past_clause-at-requires c = range_clause c.loop-i-test.true c.requires (c.loop-i.invariant.1.1.1 c.requires)
 
-pub loop-i-smaller : goal.loop-i-smaller
-loop-i-smaller c = omega arith
-
 pub loop-i-preserved : goal.loop-i-preserved
-loop-i-preserved c = (omega arith, (c.first_overlap-second.auto.state ∙ c.loop-i.invariant.1.0, (c.first_overlap-second.auto.scratch ∙ c.loop-i.invariant.1.1.0, λ w. range_on c.loop-i-test.true c.marks_of-marks.ensures c.first_overlap-second.ensures w (c.loop-i.invariant.1.1.1 w) c.if-second-ne0.false c.past_clause-at.ensures)))
+loop-i-preserved c = (omega arith, (c.first_overlap.auto.state ∙ c.loop-i.invariant.1.0, (c.first_overlap.auto.scratch ∙ c.loop-i.invariant.1.1.0, λ w. range_on c.loop-i-test.true c.marks_of-marks.ensures c.first_overlap.ensures w (c.loop-i.invariant.1.1.1 w) c.in_default.is c.past_clause-at.ensures)))
 
 pub returns : goal.returns
 returns c = λ w. range-ends c.loop-i-test.false w (c.loop-i.invariant.1.1.1 w)

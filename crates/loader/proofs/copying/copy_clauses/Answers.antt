@@ -1,37 +1,27 @@
-use Prim.Native.Nat.{◌-◌}
 use native.Mathlib.Omega.{arith}
 use mathlib.Core.Path.{refl, ◌∙◌}
 use Rattle.loader.proofs.Clauses.{clauses-begin, clauses-turn, clauses-end}
 use Rattle.loader.proofs.copying.copy_clauses.Goals as goal
 
-pub loop-i-init : goal.loop-i-init
-loop-i-init c = (omega arith, (refl, λ w. clauses-begin c.args.table.now c.args.clauses c.args.nodes.now c.args.at c.requires.table_len_bound.1.1 w))
+pub loop-clause-init : goal.loop-clause-init
+loop-clause-init c = (refl, λ w. clauses-begin c.args.table.now c.args.clauses c.args.nodes.now c.args.at c.requires.table_len_bound.1.1 w)
 
 pub copy_clause-q-requires : goal.copy_clause-q-requires
 copy_clause-q-requires c = let pre = c.requires in
-    let t = clauses-turn c.loop-i-test.true (c.loop-i.invariant.1.1 pre.clauses_here) in
-    record { table_len_bound = (pre.table_len_bound.0, (omega (arith, pre.table_len_bound.1.0, c.loop-i.invariant.1.0), t.near)); clause_here = t.clause }
+    let t = clauses-turn (omega arith) (c.loop-clause.invariant.1 pre.clauses_here) in
+    record { table_len_bound = (pre.table_len_bound.0, (omega (arith, pre.table_len_bound.1.0, c.loop-clause.invariant.0), t.near)); clause_here = t.clause }
 
 pub past_clause-p-requires : goal.past_clause-p-requires
-past_clause-p-requires c = let t = clauses-turn c.loop-i-test.true (c.loop-i.invariant.1.1 c.requires.clauses_here) in
+past_clause-p-requires c = let t = clauses-turn (omega arith) (c.loop-clause.invariant.1 c.requires.clauses_here) in
     (t.clause.clause, t.clause.has)
 
-pub overflow_add-i : goal.overflow_add-i
-overflow_add-i c = omega arith
-
-pub loop-i-smaller : goal.loop-i-smaller
-loop-i-smaller c = omega arith
-
-pub loop-i-preserved : goal.loop-i-preserved
-loop-i-preserved c = (
-  omega arith,
-  (
-    c.copy_clause-q.auto.nodes ∙ c.loop-i.invariant.1.0,
-    λ w.
-        let t = clauses-turn c.loop-i-test.true (c.loop-i.invariant.1.1 w) in
-        t.on c.past_clause-p.result c.copy_clause-q.new.nodes c.copy_clause-q.result (c.past_clause-p.ensures t.clause.clause t.clause.has) (c.copy_clause-q.ensures t.clause),
-  ),
+pub loop-clause-preserved : goal.loop-clause-preserved
+loop-clause-preserved c = (
+  c.copy_clause-q.auto.nodes ∙ c.loop-clause.invariant.0,
+  λ w.
+      let t = clauses-turn (omega arith) (c.loop-clause.invariant.1 w) in
+      t.on c.past_clause-p.result c.copy_clause-q.new.nodes c.copy_clause-q.result (c.past_clause-p.ensures t.clause.clause t.clause.has) (c.copy_clause-q.ensures t.clause),
 )
 
 pub returns : goal.returns
-returns c = λ w. clauses-end c.loop-i-test.false (c.loop-i.invariant.1.1 w)
+returns c = λ w. clauses-end (omega arith) (c.loop-clause.invariant.1 w)

@@ -1,5 +1,4 @@
 -- `loader::copying::copy_nodes` meets its contract. The invariant: what is left of the run gives the whole (`Running`). Assumes nothing.
-use Prim.Native.Nat.{◌-◌}
 use mathlib.Core.Path.{◌≡◌}
 use lib.ListN.{length}
 use Rattle.load_words.specs.Flat.{flat_words, flat_all, RunAt}
@@ -9,7 +8,3 @@ use Rattle.loader.proofs.copying.copy_nodes.Given as goal
 abbrev pub invariant-loop-p : goal.invariant-loop-p
 invariant-loop-p l =
     (length l.nodes ≡ length l.initial.nodes) × ((w : RunAt l.table l.from l.stop) → Running l.table l.stop l.text l.initial.nodes l.at (flat_words (flat_all l.text w.run)) l.nodes l.p l.q)
-
-abbrev pub decreases-loop-p : goal.decreases-loop-p
-decreases-loop-p l =
-    l.stop - l.p

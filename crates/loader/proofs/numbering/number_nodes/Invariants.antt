@@ -1,5 +1,5 @@
 -- `loader::numbering::number_nodes` meets its contract. The invariant: what is left of the nodes gives the whole (`Numbering`). Assumes nothing.
-use Prim.Native.Nat.{◌*◌, ◌-◌, ◌≤◌}
+use Prim.Native.Nat.{◌*◌, ◌≤◌}
 use mathlib.Core.Path.{◌≡◌}
 use lib.ListN.{length}
 use Rattle.load_symbols.specs.Symbols.{symbols_of, SymbolsListed}
@@ -10,7 +10,3 @@ use Rattle.loader.proofs.numbering.number_nodes.Given as goal
 abbrev pub invariant-loop-p : goal.invariant-loop-p
 invariant-loop-p l =
     (length l.nodes ≡ length l.initial.nodes) × ((length l.symbols ≡ length l.initial.symbols) × ((l.count * 2 ≤ l.p) × (SymbolsListed l.sheet l.goal l.symbols l.count × ((w : Copied l.sheet l.goal l.initial.nodes l.stop) → Numbering l.sheet l.goal w.flats l.initial.nodes l.nodes l.stop l.p (symbols_of l.sheet l.goal l.symbols l.count)))))
-
-abbrev pub decreases-loop-p : goal.decreases-loop-p
-decreases-loop-p l =
-    l.stop - l.p

@@ -1,15 +1,10 @@
--- `lookahead_words::guesses::lead` meets its contract. The loop's invariant bounds where the walk has come to; the measure is the turns left. Assumes nothing.
-use Prim.Native.Nat.{◌≤◌, ◌<◌}
-use mathlib.Core.Path.{◌≡◌}
-use lib.ListN.{length}
+-- `lookahead_words::guesses::lead` meets its contract. The loop's invariant bounds where the walk has come to; before the first link it is where it began.
+-- Assumes nothing.
+use Rattle.std.proofs.Common.{◌≡◌, ◌<◌, IfSome}
 use Rattle.run_layout.specs.Regions.{copies, cells}
 use Rattle.lookahead_words.specs.Room.{IsPlace}
 use Rattle.lookahead_words.proofs.guesses.lead.Given as goal
 
-abbrev pub invariant-loop-left : goal.invariant-loop-left
-invariant-loop-left l =
-    (length l.room ≡ length l.initial.room) × (IsPlace l.node) × (l.copy < copies) × (l.left ≤ l.turns) × (l.y ≤ cells)
-
-abbrev pub decreases-loop-left : goal.decreases-loop-left
-decreases-loop-left l =
-    l.left
+abbrev pub invariant-loop-links : goal.invariant-loop-links
+invariant-loop-links l =
+    (IsPlace l.at.node) × ((l.at.copy < copies) × ((IfSome l.before (λ y. y < cells)) × (l.links ≡ 0 → l.at ≡ l.initial.at)))

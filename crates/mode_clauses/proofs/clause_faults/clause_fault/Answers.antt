@@ -1,7 +1,7 @@
 -- `mode_clauses::clause_faults::clause_fault` meets its contract. Assumes nothing.
 use Rattle.mode_marks.proofs.Places.{node-inside, past-ends}
 use native.Mathlib.Omega.{arith}
-use mathlib.Core.Path.{sym, ◌∙◌}
+use Rattle.std.proofs.lemmas.Result.{err_from_is_err_and}
 use Rattle.syntax.specs.Terms.{input}
 use Rattle.mode_rules.specs.Modes.{none_ground}
 use Rattle.mode_undeclared.proofs.Clauses.{clause-room, head-room, head-at, head-term, body_at}
@@ -29,16 +29,18 @@ past-first-requires c = node-inside (head-term c.requires.clause_at)
 pub ground_marked-start-requires : goal.ground_marked-start-requires
 ground_marked-start-requires c = head-marked c.args.s.now c.args.declared.now c.args.n c.args.table.now c.args.p c.args.clause c.marks_of-marks.result c.marks_of-marks.ensures c.word_at-items.result c.word_at-items.ensures c.past-first.result (past-ends c.past-first.ensures) input c.requires.declarations_at c.requires.clause_at
 
-pub body_walk-w-requires : goal.body_walk-w-requires
-body_walk-w-requires c = record { declarations_at = c.requires.declarations_at; body_at = body_at c.args.s.now c.args.table.now c.args.p c.word_at-items.result c.word_at-items.ensures c.past-first.result (past-ends c.past-first.ensures) c.requires.clause_at }
+pub body_walk-requires : goal.body_walk-requires
+body_walk-requires c = record { declarations_at = c.requires.declarations_at; body_at = body_at c.args.s.now c.args.table.now c.args.p c.word_at-items.result c.word_at-items.ensures c.past-first.result (past-ends c.past-first.ensures) c.requires.clause_at }
 
-pub returns-then-is_fault : goal.returns-then-is_fault
+pub returns-in_err-known : goal.returns-in_err-known
 unfolding none_ground
-returns-then-is_fault c = clause-stopped c.args.s.now c.args.declared.now c.args.n c.args.table.now c.args.p c.args.clause c.marks_of-marks.result c.marks_of-marks.ensures c.word_at-items.result c.word_at-items.ensures c.past-first.result (past-ends c.past-first.ensures) c.ground_marked-start.result c.ground_marked-start.ensures c.body_walk-w.result c.body_walk-w.ensures (sym c.is_fault.ensures ∙ c.if-is_fault.true)
+returns-in_err-known c = let p = err_from_is_err_and c.from_residual.result c.from_residual.ensures.1 in
+    rw (p.1, p.2)
+    (clause-stopped c.args.s.now c.args.declared.now c.args.n c.args.table.now c.args.p c.args.clause c.marks_of-marks.result c.marks_of-marks.ensures c.word_at-items.result c.word_at-items.ensures c.past-first.result (past-ends c.past-first.ensures) c.ground_marked-start.result c.ground_marked-start.ensures c.body_walk.result c.body_walk.ensures c.in_err-known.was)
 
 pub head_fault-requires : goal.head_fault-requires
 head_fault-requires c = head-judged c.args.s.now c.args.declared.now c.args.n c.args.table.now c.args.p c.args.clause c.marks_of-marks.result c.marks_of-marks.ensures c.word_at-items.result c.word_at-items.ensures c.past-first.result (past-ends c.past-first.ensures) c.requires.declarations_at c.requires.clause_at
 
 pub returns : goal.returns
 unfolding none_ground
-returns c = clause-passed c.args.s.now c.args.declared.now c.args.n c.args.table.now c.args.p c.args.clause c.marks_of-marks.result c.marks_of-marks.ensures c.word_at-items.result c.word_at-items.ensures c.past-first.result (past-ends c.past-first.ensures) c.ground_marked-start.result c.ground_marked-start.ensures c.body_walk-w.result c.body_walk-w.ensures (sym c.is_fault.ensures ∙ c.if-is_fault.false) c.head_fault.result c.head_fault.ensures
+returns c = clause-passed c.args.s.now c.args.declared.now c.args.n c.args.table.now c.args.p c.args.clause c.marks_of-marks.result c.marks_of-marks.ensures c.word_at-items.result c.word_at-items.ensures c.past-first.result (past-ends c.past-first.ensures) c.ground_marked-start.result c.ground_marked-start.ensures c.body_walk.result c.body_walk.ensures c.in_ok-known.was c.head_fault.ensures

@@ -1,4 +1,3 @@
-use Prim.Native.Nat.{◌-◌}
 use native.Mathlib.Omega.{arith}
 use Rattle.mode_marks.proofs.Places.{room-three, size-least, variable-below, first_fits, parted, inner-at, next-further, node-inside, past-ends}
 use Rattle.mode_marks.proofs.Grounding.{stored, stored-inner, none-stored, rest_at, rest-stored}

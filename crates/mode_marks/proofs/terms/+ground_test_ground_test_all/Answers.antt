@@ -1,7 +1,6 @@
 use native.Mathlib.Omega.{arith}
 use Rattle.mode_marks.proofs.Places.{inner-at, next-further, room-three, size-least, variable-below, first_fits, parted, node-inside, past-ends}
 use Rattle.mode_marks.proofs.Grounding.{variable-ground, variable-open, test-inner, none-tested, first-open, rest_at, rest-tested}
-use Prim.Native.Nat.{◌-◌}
 use Rattle.mode_marks.proofs.terms.+ground_test_ground_test_all.Goals as goal
 
 pub ground_test-word_at-v-requires : goal.ground_test-word_at-v-requires
@@ -46,8 +45,8 @@ ground_test_all-past-next-requires t c = node-inside (parted c.if-stop-p.false c
 pub ground_test_all-ground_test_all-requires : goal.ground_test_all-ground_test_all-requires
 ground_test_all-ground_test_all-requires t c = let args = c.args in (omega (arith, next-further c.past-next.result c.if-stop-p.false (past-ends c.past-next.ensures) c.requires), rest_at args.table.now args.p args.stop args.known c.if-stop-p.false c.past-next.result (past-ends c.past-next.ensures) c.requires)
 
-pub ground_test_all-returns-in-Open : goal.ground_test_all-returns-in-Open
-ground_test_all-returns-in-Open t c = let args = c.args in first-open args.table.now args.p args.stop args.known c.if-stop-p.false c.ground_test-first.result c.ground_test-first.ensures c.in-Open.field-0 c.in-Open.is
+pub ground_test_all-returns-in-Some : goal.ground_test_all-returns-in-Some
+ground_test_all-returns-in-Some t c = let args = c.args in first-open args.table.now args.p args.stop args.known c.if-stop-p.false c.ground_test-first.result c.ground_test-first.ensures c.in-Some.field-0 c.in-Some.is
 
-pub ground_test_all-returns-in-Ground : goal.ground_test_all-returns-in-Ground
-ground_test_all-returns-in-Ground t c = let args = c.args in rest-tested args.table.now args.p args.stop args.known c.if-stop-p.false c.past-next.result (past-ends c.past-next.ensures) c.ground_test-first.result c.ground_test-first.ensures c.in-Ground.is c.ground_test_all.result c.ground_test_all.ensures
+pub ground_test_all-returns-in-None : goal.ground_test_all-returns-in-None
+ground_test_all-returns-in-None t c = let args = c.args in rest-tested args.table.now args.p args.stop args.known c.if-stop-p.false c.past-next.result (past-ends c.past-next.ensures) c.ground_test-first.result c.ground_test-first.ensures c.in-None.is c.ground_test_all.result c.ground_test_all.ensures

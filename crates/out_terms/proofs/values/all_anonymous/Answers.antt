@@ -14,20 +14,14 @@ offset_bounds-names-i c = omega (arith, c.requires.listed)
 pub bounds-names-i : goal.bounds-names-i
 bounds-names-i c = omega (arith, c.requires.listed)
 
-pub is_anonymous-plain-requires : goal.is_anonymous-plain-requires
-is_anonymous-plain-requires c = word-inside _ _ c.args.count c.loop-i.i _ c.requires c.loop-i-test.true refl
+pub is_anonymous-requires : goal.is_anonymous-requires
+is_anonymous-requires c = word-inside _ _ c.args.count c.loop-i.i _ c.requires c.loop-i-test.true refl
 
-pub returns-then-not-plain : goal.returns-then-not-plain
-returns-then-not-plain c = let args = c.args in let loop = c.loop-i in all-not args.goal.now args.names.now args.count loop.i (get_or args.names.now loop.i 0) c.is_anonymous-plain.result c.loop-i-test.true refl c.is_anonymous-plain.ensures c.if-not-plain.true loop.invariant.1
-
-pub overflow_add-i : goal.overflow_add-i
-overflow_add-i c = omega arith
-
-pub loop-i-smaller : goal.loop-i-smaller
-loop-i-smaller c = omega arith
+pub returns-then-not-is_anonymous : goal.returns-then-not-is_anonymous
+returns-then-not-is_anonymous c = let args = c.args in let loop = c.loop-i in all-not args.goal.now args.names.now args.count loop.i (get_or args.names.now loop.i 0) c.is_anonymous.result c.loop-i-test.true refl c.is_anonymous.ensures c.if-not-is_anonymous.true loop.invariant.1
 
 pub loop-i-preserved : goal.loop-i-preserved
-loop-i-preserved c = let args = c.args in let loop = c.loop-i in (omega arith, all_more args.goal.now args.names.now args.count loop.i (get_or args.names.now loop.i 0) c.is_anonymous-plain.result c.loop-i-test.true refl c.is_anonymous-plain.ensures c.if-not-plain.false loop.invariant.1)
+loop-i-preserved c = let args = c.args in let loop = c.loop-i in (omega arith, all_more args.goal.now args.names.now args.count loop.i (get_or args.names.now loop.i 0) c.is_anonymous.result c.loop-i-test.true refl c.is_anonymous.ensures c.if-not-is_anonymous.false loop.invariant.1)
 
 pub returns : goal.returns
 returns c = all_end _ _ c.args.count c.loop-i.i c.loop-i-test.false c.loop-i.invariant.1

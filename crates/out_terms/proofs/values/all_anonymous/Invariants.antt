@@ -5,7 +5,3 @@ use Rattle.out_terms.proofs.values.all_anonymous.Given as goal
 abbrev pub invariant-loop-i : goal.invariant-loop-i
 invariant-loop-i l =
     (l.i ≤ l.count) × AllFrom l.goal l.names l.count l.i
-
-abbrev pub decreases-loop-i : goal.decreases-loop-i
-decreases-loop-i l =
-    l.count - l.i

@@ -20,12 +20,6 @@ bounds-names-i c = omega (arith, c.requires.some_values.is.named.listed, c.loop-
 pub append_binding-listed-requires : goal.append_binding-listed-requires
 append_binding-listed-requires c = let pre = c.requires in let loop = c.loop-i in let loop-test = c.loop-i-test in record { some_valued = some-valued _ _ _ _ _ _ _ _ _ _ _ _ _ _ _ loop.more loop.i loop.invariant.5 _ pre.some_values loop.invariant.1 loop-test.true; span_inside = (word-inside _ _ c.args.count loop.i _ pre.some_values.is.named loop-test.true refl, (listing-counting _ _ _ _ _ _ _ _ _ _ _ _ _ _ _ loop.more loop.i loop.invariant.5 pre.some_values pre.counting.0 c.if-limit-past.false (omega (arith, loop.invariant.4)), (loop.invariant.4, (omega (arith, pre.counting.1.1.0), omega (arith, loop.invariant.1, loop.invariant.6, pre.counting.1.1.1))))) }
 
-pub overflow_add-i : goal.overflow_add-i
-overflow_add-i c = omega (arith, c.loop-i-test.true)
-
-pub loop-i-smaller : goal.loop-i-smaller
-loop-i-smaller c = omega (arith, c.loop-i-test.true)
-
 pub loop-i-preserved : goal.loop-i-preserved
 loop-i-preserved c = let loop = c.loop-i in let loop-test = c.loop-i-test in let if1 = c.if-limit-past in let append-binding = c.append_binding-listed in (append-binding.auto.numbers ∙ loop.invariant.0, append-binding.auto.stack ∙ loop.invariant.1, append-binding.auto.out ∙ loop.invariant.2, omega (arith, loop-test.true), near_on _ _ _ if1.false (omega (arith, c.requires.counting.1.1.0)) append-binding.ensures.near, listing-next _ _ _ _ _ _ _ _ _ _ _ _ _ _ _ loop.more loop.i loop.invariant.5 _ _ _ _ append-binding.result.more (get_or c.args.names.now loop.i 0) loop.invariant.1 loop-test.true refl if1.false append-binding.ensures.told, omega (arith, loop.invariant.6, append-binding.ensures.near.0))
 

@@ -3,8 +3,8 @@ use Rattle.parse_cursor.proofs.Laws.{span_same, span-other}
 use borrow.Author.Rules.{rules}
 use Rattle.parse_cursor.proofs.cursor.same_span.Goals as goal
 
-pub returns-then-m-len : goal.returns-then-m-len
-returns-then-m-len c = search (span_same, rules)
+pub returns-then-span_length-t : goal.returns-then-span_length-t
+returns-then-span_length-t c = search (span_same, rules)
 
-pub returns : goal.returns
-returns c = search (span-other, rules)
+pub returns-else-span_length-t : goal.returns-else-span_length-t
+returns-else-span_length-t c = search (span-other, rules)

@@ -1,4 +1,4 @@
--- `parse_cursor::leaves::leaf_at` meets its contract: each way out is a law of `Reading`. Assumes nothing.
+-- `parse_cursor::leaves::leaf_at` meets its contract. Assumes nothing.
 use native.Mathlib.Omega.{arith}
 use Rattle.parse_cursor.proofs.Reading.{leaf-given, node-room}
 use borrow.Author.Rules.{rules}

@@ -1,5 +1,5 @@
 -- `parse_cursor::leaves::number_of` meets its contract: each way out is a law of `Reading`. Assumes nothing.
-use Prim.Native.Nat.{◌-◌, ◌≤◌}
+use Prim.Native.Nat.{◌-◌}
 use mathlib.Core.Path.{◌≡◌}
 use lib.ListN.{length}
 use Rattle.syntax.specs.Limits.{variables}
@@ -7,9 +7,7 @@ use Rattle.parse_cursor.proofs.Reading.{searched}
 use Rattle.parse_cursor.proofs.leaves.number_of.Given as goal
 
 abbrev pub invariant-loop-i : goal.invariant-loop-i
-invariant-loop-i l =
-    (l.i ≤ l.count) × ((l.from ≡ length l.table - variables) × (searched l.s l.t l.count l.table 0 ≡ searched l.s l.t l.count l.table l.i))
-
-abbrev pub decreases-loop-i : goal.decreases-loop-i
-decreases-loop-i l =
-    l.count - l.i
+invariant-loop-i l = record {
+  from_is : l.from ≡ length l.table - variables;
+  so_far : searched l.s l.st.token l.st.count l.table 0 ≡ searched l.s l.st.token l.st.count l.table l.i;
+}

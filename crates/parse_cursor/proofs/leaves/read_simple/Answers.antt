@@ -3,11 +3,11 @@ use Rattle.parse_cursor.proofs.TermLaws.{term-variable, term-numeral, term-other
 use borrow.Author.Rules.{rules}
 use Rattle.parse_cursor.proofs.leaves.read_simple.Goals as goal
 
-pub returns-then-kind-eq-VARIABLE : goal.returns-then-kind-eq-VARIABLE
-returns-then-kind-eq-VARIABLE c = λ most. search (term-variable, rules)
+pub returns-in-Variable : goal.returns-in-Variable
+returns-in-Variable c = λ most. search (term-variable, rules)
 
-pub returns-then-kind-eq-NUMERAL : goal.returns-then-kind-eq-NUMERAL
-returns-then-kind-eq-NUMERAL c = λ most. search (term-numeral, rules)
+pub returns-in-Numeral : goal.returns-in-Numeral
+returns-in-Numeral c = λ most. search (term-numeral, rules)
 
-pub returns : goal.returns
-returns c = λ most. search (term-other, rules)
+pub returns-in_default : goal.returns-in_default
+returns-in_default c = λ most. search (term-other, rules)

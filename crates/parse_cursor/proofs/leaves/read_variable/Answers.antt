@@ -1,13 +1,12 @@
 -- `parse_cursor::leaves::read_variable` meets its contract: each way out is a law of `Reading`. Assumes nothing.
 use Rattle.parse_cursor.proofs.Reading.{leaf-ready, variable-met, variable-unmet}
-use borrow.Author.Rules.{rules}
 use Rattle.parse_cursor.proofs.leaves.read_variable.Goals as goal
 
 pub leaf-requires : goal.leaf-requires
-leaf-requires c = search (leaf-ready, rules)
+leaf-requires c = let both = leaf-ready c.args.s.now c.args.st c.args.table.now c.args.table.now c.args.n _ c.known_number.ensures _ c.in-Some.is c.requires.room_to_read c.requires.kind_value in record { room_to_read = both.0; what_bound = both.1 }
 
-pub returns-then-v-count : goal.returns-then-v-count
-returns-then-v-count c = search (variable-met, rules)
+pub returns-in-Some : goal.returns-in-Some
+returns-in-Some c = variable-met _ _ _ _ _ _ c.known_number.ensures _ _ c.in-Some.is c.leaf.ensures
 
-pub returns : goal.returns
-returns c = search (variable-unmet, rules)
+pub returns-in-None : goal.returns-in-None
+returns-in-None c = variable-unmet _ _ _ _ _ _ c.known_number.ensures _ c.in-None.is c.new_variable.ensures

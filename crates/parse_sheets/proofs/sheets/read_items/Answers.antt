@@ -1,47 +1,56 @@
-use Prim.Native.Nat.{◌-◌}
 use mathlib.Core.Path.{refl, ◌∙◌}
 use native.Mathlib.Omega.{arith}
+use Rattle.parse_cursor.proofs.Starts.{kind-eq, kind-not_eq, kind-ne, kind-not_ne}
 use Rattle.parse_sheets.proofs.SheetLaws.{loading-start, loading-end, loading-wrong, loading-declaration-fault, declaration-less, loading-declaration, clause-ready, loading-clause-fault, clause-less, loading-clause}
 use Rattle.parse_sheets.proofs.sheets.read_items.Goals as goal
 
-pub start-st-requires : goal.start-st-requires
-start-st-requires c = c.requires.s_len_bound
-
 pub loop-st-init : goal.loop-st-init
-loop-st-init c = (loading-start c.args.s.now c.args.declared.now c.args.table.now c.start-st.result c.requires.s_len_bound c.requires.declared_words_in_bounds.1.0 c.start-st.ensures.is c.start-st.ensures.stands, refl, refl)
+loop-st-init c = record {
+  loading = loading-start c.args.s.now c.args.declared.now c.args.table.now c.start-st.result c.requires.s_len_bound c.requires.declared_words_in_bounds.1.0 c.start-st.ensures.is c.start-st.ensures.stands;
+  declared_long = refl;
+  table_long = refl;
+}
 
-pub returns-then-kind-eq-END : goal.returns-then-kind-eq-END
-returns-then-kind-eq-END c = loading-end c.args.s.now c.loop-st.declared c.loop-st.table c.loop-st.ds c.loop-st.cs c.loop-st.used c.loop-st.st c.loop-st.invariant.0 c.if-kind-eq-END.true
+pub next_declaration-requires : goal.next_declaration-requires
+next_declaration-requires c = record { cursor_inside = c.loop-st.invariant.loading.standing; ds_le_declarations = (c.loop-st.invariant.loading.ds_most, omega (arith, c.requires.declared_words_in_bounds.0, c.loop-st.invariant.declared_long)) }
 
-pub next_declaration-r-requires : goal.next_declaration-r-requires
-next_declaration-r-requires c = record { cursor_inside = c.loop-st.invariant.0.standing; ds_le_declarations = (c.loop-st.invariant.0.ds_most, omega (arith, c.requires.declared_words_in_bounds.0, c.loop-st.invariant.1)) }
+pub overflow_add-read : goal.overflow_add-read
+overflow_add-read c = omega (arith, c.loop-st.invariant.loading.ds_most)
 
-pub returns-then-r-ne0 : goal.returns-then-r-ne0
-returns-then-r-ne0 c = loading-declaration-fault c.args.s.now c.loop-st.declared c.loop-st.table c.loop-st.ds c.loop-st.cs c.loop-st.used c.loop-st.st c.loop-st.invariant.0 c.if-kind-eq-END.false c.if-kind-eq-NECK.true c.next_declaration-r.new.declared c.next_declaration-r.result c.next_declaration-r.ensures c.halted.result c.if-r-ne0.true c.halted.ensures
+pub loop-st-smaller-in-Ok : goal.loop-st-smaller-in-Ok
+loop-st-smaller-in-Ok c = declaration-less c.args.s.now c.loop-st.declared c.loop-st.table c.loop-st.read.declarations c.loop-st.read.clauses c.loop-st.read.used c.loop-st.st c.loop-st.invariant.loading (kind-ne c.loop-st-test.ensures) (kind-eq c.if-eq.ensures) c.next_declaration.new.declared _ c.in-Ok.ensures
 
-pub overflow_add-ds : goal.overflow_add-ds
-overflow_add-ds c = omega (arith, c.loop-st.invariant.0.ds_most)
+pub loop-st-preserved-in-Ok : goal.loop-st-preserved-in-Ok
+loop-st-preserved-in-Ok c = record {
+  loading = loading-declaration c.args.s.now c.loop-st.declared c.loop-st.table c.loop-st.read.declarations c.loop-st.read.clauses c.loop-st.read.used c.loop-st.st c.loop-st.invariant.loading (kind-ne c.loop-st-test.ensures) (kind-eq c.if-eq.ensures) c.next_declaration.new.declared _ c.in-Ok.ensures;
+  declared_long = c.next_declaration.auto.declared ∙ c.loop-st.invariant.declared_long;
+  table_long = c.loop-st.invariant.table_long;
+}
 
-pub loop-st-smaller-then-kind-eq-NECK : goal.loop-st-smaller-then-kind-eq-NECK
-loop-st-smaller-then-kind-eq-NECK c = declaration-less c.args.s.now c.loop-st.declared c.loop-st.table c.loop-st.ds c.loop-st.cs c.loop-st.used c.loop-st.st c.loop-st.invariant.0 c.if-kind-eq-END.false c.if-kind-eq-NECK.true c.next_declaration-r.new.declared c.next_declaration-r.result c.next_declaration-r.ensures c.if-r-ne0.false
+pub returns-in-Err : goal.returns-in-Err
+returns-in-Err c = loading-declaration-fault c.args.s.now c.loop-st.declared c.loop-st.table c.loop-st.read.declarations c.loop-st.read.clauses c.loop-st.read.used c.loop-st.st c.loop-st.invariant.loading (kind-ne c.loop-st-test.ensures) (kind-eq c.if-eq.ensures) c.next_declaration.new.declared _ c.in-Err.ensures
 
-pub loop-st-preserved-then-kind-eq-NECK : goal.loop-st-preserved-then-kind-eq-NECK
-loop-st-preserved-then-kind-eq-NECK c = (loading-declaration c.args.s.now c.loop-st.declared c.loop-st.table c.loop-st.ds c.loop-st.cs c.loop-st.used c.loop-st.st c.loop-st.invariant.0 c.if-kind-eq-END.false c.if-kind-eq-NECK.true c.next_declaration-r.new.declared c.next_declaration-r.result c.next_declaration-r.ensures c.if-r-ne0.false, c.next_declaration-r.auto.declared ∙ c.loop-st.invariant.1, c.loop-st.invariant.2)
+pub returns-then-ne : goal.returns-then-ne
+returns-then-ne c = loading-wrong c.args.s.now c.loop-st.declared c.loop-st.table c.loop-st.read.declarations c.loop-st.read.clauses c.loop-st.read.used c.loop-st.st c.loop-st.invariant.loading c.wrong.result (kind-ne c.loop-st-test.ensures) (kind-not_eq c.if-eq.ensures) (kind-ne c.if-ne.ensures) c.wrong.ensures
 
-pub returns-then-kind-ne-NAME : goal.returns-then-kind-ne-NAME
-returns-then-kind-ne-NAME c = loading-wrong c.args.s.now c.loop-st.declared c.loop-st.table c.loop-st.ds c.loop-st.cs c.loop-st.used c.loop-st.st c.loop-st.invariant.0 c.wrong-r.result c.halted-then-kind-ne-NAME.result c.if-kind-eq-END.false c.if-kind-eq-NECK.false c.if-kind-ne-NAME.true c.wrong-r.ensures c.halted-then-kind-ne-NAME.ensures
-
-pub next_clause-r-requires : goal.next_clause-r-requires
-next_clause-r-requires c = record { room_to_read = clause-ready c.args.s.now c.loop-st.declared c.loop-st.table c.loop-st.ds c.loop-st.cs c.loop-st.used c.loop-st.st c.loop-st.invariant.0 (omega (arith, c.requires.declared_words_in_bounds.1.1, c.loop-st.invariant.2)) c.if-kind-eq-END.false; kind_value = (c.if-kind-ne-NAME.false, c.loop-st.invariant.0.cs_most) }
-
-pub returns-then-r-ne0-2 : goal.returns-then-r-ne0-2
-returns-then-r-ne0-2 c = loading-clause-fault c.args.s.now c.loop-st.declared c.loop-st.table c.loop-st.ds c.loop-st.cs c.loop-st.used c.loop-st.st c.loop-st.invariant.0 c.if-kind-eq-END.false c.if-kind-eq-NECK.false c.if-kind-ne-NAME.false c.next_clause-r.new.table c.next_clause-r.result c.next_clause-r.auto.table c.next_clause-r.ensures c.halted-then-r-ne0-2.result c.if-r-ne0-2.true c.halted-then-r-ne0-2.ensures
-
-pub overflow_add-cs : goal.overflow_add-cs
-overflow_add-cs c = omega (arith, c.loop-st.invariant.0.cs_most)
+pub next_clause-requires : goal.next_clause-requires
+next_clause-requires c = record {
+  room_to_read = clause-ready c.args.s.now c.loop-st.declared c.loop-st.table c.loop-st.read.declarations c.loop-st.read.clauses c.loop-st.read.used c.loop-st.st c.loop-st.invariant.loading (omega (arith, c.requires.declared_words_in_bounds.1.1, c.loop-st.invariant.table_long)) (kind-ne c.loop-st-test.ensures);
+  kind_value = (kind-not_ne c.if-ne.ensures, c.loop-st.invariant.loading.cs_most);
+}
 
 pub loop-st-smaller : goal.loop-st-smaller
-loop-st-smaller c = clause-less c.args.s.now c.loop-st.declared c.loop-st.table c.loop-st.ds c.loop-st.cs c.loop-st.used c.loop-st.st c.loop-st.invariant.0 c.if-kind-eq-END.false c.if-kind-eq-NECK.false c.if-kind-ne-NAME.false c.next_clause-r.new.table c.next_clause-r.result c.next_clause-r.auto.table c.next_clause-r.ensures c.if-r-ne0-2.false
+loop-st-smaller c = clause-less c.args.s.now c.loop-st.declared c.loop-st.table c.loop-st.read.declarations c.loop-st.read.clauses c.loop-st.read.used c.loop-st.st c.loop-st.invariant.loading (kind-ne c.loop-st-test.ensures) (kind-not_eq c.if-eq.ensures) (kind-not_ne c.if-ne.ensures) c.next_clause.new.table c.next_clause.auto.table _ c.in-Ok-next_clause.ensures
 
 pub loop-st-preserved : goal.loop-st-preserved
-loop-st-preserved c = (loading-clause c.args.s.now c.loop-st.declared c.loop-st.table c.loop-st.ds c.loop-st.cs c.loop-st.used c.loop-st.st c.loop-st.invariant.0 c.if-kind-eq-END.false c.if-kind-eq-NECK.false c.if-kind-ne-NAME.false c.next_clause-r.new.table c.next_clause-r.result c.next_clause-r.auto.table c.next_clause-r.ensures c.if-r-ne0-2.false, c.loop-st.invariant.1, c.next_clause-r.auto.table ∙ c.loop-st.invariant.2)
+loop-st-preserved c = record {
+  loading = loading-clause c.args.s.now c.loop-st.declared c.loop-st.table c.loop-st.read.declarations c.loop-st.read.clauses c.loop-st.read.used c.loop-st.st c.loop-st.invariant.loading (kind-ne c.loop-st-test.ensures) (kind-not_eq c.if-eq.ensures) (kind-not_ne c.if-ne.ensures) c.next_clause.new.table c.next_clause.auto.table _ c.in-Ok-next_clause.ensures;
+  declared_long = c.loop-st.invariant.declared_long;
+  table_long = c.next_clause.auto.table ∙ c.loop-st.invariant.table_long;
+}
+
+pub returns-in-Err-next_clause : goal.returns-in-Err-next_clause
+returns-in-Err-next_clause c = loading-clause-fault c.args.s.now c.loop-st.declared c.loop-st.table c.loop-st.read.declarations c.loop-st.read.clauses c.loop-st.read.used c.loop-st.st c.loop-st.invariant.loading (kind-ne c.loop-st-test.ensures) (kind-not_eq c.if-eq.ensures) (kind-not_ne c.if-ne.ensures) c.next_clause.new.table c.next_clause.auto.table _ c.in-Err-next_clause.ensures
+
+pub returns : goal.returns
+returns c = loading-end c.args.s.now c.loop-st.declared c.loop-st.table c.loop-st.read.declarations c.loop-st.read.clauses c.loop-st.read.used c.loop-st.st c.loop-st.invariant.loading (kind-not_ne c.loop-st-test.ensures)

@@ -6,9 +6,11 @@ use Rattle.parse_sheets.specs.Sheets.{Loading}
 use Rattle.parse_sheets.proofs.sheets.read_items.Given as goal
 
 abbrev pub invariant-loop-st : goal.invariant-loop-st
-invariant-loop-st l =
-    Loading l.s l.declared l.table l.ds l.cs l.used l.st × (length l.declared ≡ length l.initial.declared) × (length l.table ≡ length l.initial.table)
+invariant-loop-st l = record {
+  loading : Loading l.s l.declared l.table l.read.declarations l.read.clauses l.read.used l.st;
+  declared_long : length l.declared ≡ length l.initial.declared;
+  table_long : length l.table ≡ length l.initial.table;
+}
 
 abbrev pub decreases-loop-st : goal.decreases-loop-st
-decreases-loop-st l =
-    length l.s - l.st.token.at
+decreases-loop-st l = length l.s - l.st.token.at

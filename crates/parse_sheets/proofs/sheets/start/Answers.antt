@@ -3,4 +3,4 @@ use Rattle.parse_sheets.proofs.SheetLaws.{started}
 use Rattle.parse_sheets.proofs.sheets.start.Goals as goal
 
 pub returns : goal.returns
-returns c = let both = started _ _ c.requires c.token_at-token.ensures in record { is = both.0; stands = both.1 }
+returns c = let both = started _ _ c.requires c.token_at.ensures in record { is = both.0; stands = both.1 }

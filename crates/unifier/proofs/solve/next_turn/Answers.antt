@@ -1,3 +1,5 @@
+use Rattle.std.proofs.Common.{◌≡◌, ap, ◌∙◌, Err}
+use Rattle.unifier.specs.declared.walk.WalkStop.TheVariants.{Clash, Met}
 -- src/solve.rt:181:13
 use Rattle.unifier.proofs.Turning.{turn-room, turn_inside, turn-walk, turn-pass, turn-done, turn-clash, turn-met, turn_end}
 use native.Mathlib.Omega.{arith}
@@ -37,20 +39,20 @@ walk_rows-found-requires c = turn-walk c.args.nodes.now c.args.state.now c.args.
 
 -- src/solve.rt:191:25
 pub pass-requires : goal.pass-requires
-pass-requires c = turn-pass c.args.nodes.now c.args.state.now c.args.scratch.now c.args.h c.requires c.side_at-l.result c.side_at-r.result c.side_at-l.ensures c.side_at-r.ensures c.size_at-size.result c.size_at-size.ensures c.walk_rows-found.result c.walk_rows-found.ensures c.in-Done.is
+pass-requires c = turn-pass c.args.nodes.now c.args.state.now c.args.scratch.now c.args.h c.requires c.side_at-l.result c.side_at-r.result c.side_at-l.ensures c.side_at-r.ensures c.size_at-size.result c.size_at-size.ensures c.walk_rows-found.result c.walk_rows-found.ensures c.in-Ok.is
 
 -- src/solve.rt:193:40
 pub meet-requires : goal.meet-requires
-meet-requires c = turn-met c.args.nodes.now c.args.state.now c.args.scratch.now c.args.h c.requires c.side_at-l.result c.side_at-r.result c.side_at-l.ensures c.side_at-r.ensures c.size_at-size.result c.size_at-size.ensures c.walk_rows-found.result c.walk_rows-found.ensures c.in-Met.left c.in-Met.right c.in-Met.is
+meet-requires c = turn-met c.args.nodes.now c.args.state.now c.args.scratch.now c.args.h c.requires c.side_at-l.result c.side_at-r.result c.side_at-l.ensures c.side_at-r.ensures c.size_at-size.result c.size_at-size.ensures c.walk_rows-found.result c.walk_rows-found.ensures c.in-Err-Met.left c.in-Err-Met.right (let e : c.in-Err-Met.field-0 ≡ Met c.in-Err-Met.left c.in-Err-Met.right = rw c.in-Err-Met.is at c.in-Err-Met.field-0-is in c.in-Err-Met.is ∙ ap Err e)
 
 -- src/solve.rt:177:1
-pub returns-in-Done : goal.returns-in-Done
-returns-in-Done c = λ g. turn-done c.args.nodes.now c.args.state.now c.args.scratch.now c.args.h g c.side_at-l.result c.side_at-r.result c.side_at-l.ensures c.side_at-r.ensures c.size_at-size.result c.size_at-size.ensures c.walk_rows-found.result c.walk_rows-found.ensures c.in-Done.is c.pass.new.scratch c.pass.result c.pass.ensures
+pub returns-in-Ok : goal.returns-in-Ok
+returns-in-Ok c = λ g. turn-done c.args.nodes.now c.args.state.now c.args.scratch.now c.args.h g c.side_at-l.result c.side_at-r.result c.side_at-l.ensures c.side_at-r.ensures c.size_at-size.result c.size_at-size.ensures c.walk_rows-found.result c.walk_rows-found.ensures c.in-Ok.is c.pass.new.scratch c.pass.result c.pass.ensures
 
 -- src/solve.rt:177:1
-pub returns-in-Clash : goal.returns-in-Clash
-returns-in-Clash c = λ g. turn-clash c.args.nodes.now c.args.state.now c.args.scratch.now c.args.h g c.side_at-l.result c.side_at-r.result c.side_at-l.ensures c.side_at-r.ensures c.size_at-size.result c.size_at-size.ensures c.walk_rows-found.result c.walk_rows-found.ensures c.in-Clash.is
+pub returns-in-Err-Clash : goal.returns-in-Err-Clash
+returns-in-Err-Clash c = λ g. turn-clash c.args.nodes.now c.args.state.now c.args.scratch.now c.args.h g c.side_at-l.result c.side_at-r.result c.side_at-l.ensures c.side_at-r.ensures c.size_at-size.result c.size_at-size.ensures c.walk_rows-found.result c.walk_rows-found.ensures (let e : c.in-Err-Clash.field-0 ≡ Clash = rw c.in-Err-Clash.is at c.in-Err-Clash.field-0-is in c.in-Err-Clash.is ∙ ap Err e)
 
 -- src/solve.rt:177:1
-pub returns-in-Met : goal.returns-in-Met
-returns-in-Met c = λ g. turn_end c.args.nodes.now c.args.state.now c.args.scratch.now c.args.h g c.side_at-l.result c.side_at-r.result c.side_at-l.ensures c.side_at-r.ensures c.size_at-size.result c.size_at-size.ensures c.walk_rows-found.result c.walk_rows-found.ensures c.in-Met.left c.in-Met.right c.in-Met.is c.meet.new.scratch c.meet.result c.meet.ensures
+pub returns-in-Err-Met : goal.returns-in-Err-Met
+returns-in-Err-Met c = λ g. turn_end c.args.nodes.now c.args.state.now c.args.scratch.now c.args.h g c.side_at-l.result c.side_at-r.result c.side_at-l.ensures c.side_at-r.ensures c.size_at-size.result c.size_at-size.ensures c.walk_rows-found.result c.walk_rows-found.ensures c.in-Err-Met.left c.in-Err-Met.right (let e : c.in-Err-Met.field-0 ≡ Met c.in-Err-Met.left c.in-Err-Met.right = rw c.in-Err-Met.is at c.in-Err-Met.field-0-is in c.in-Err-Met.is ∙ ap Err e) c.meet.new.scratch c.meet.result c.meet.ensures

@@ -3,10 +3,10 @@ use mathlib.Core.Path.{sym, ◌∙◌, subst, subst⁻¹}
 use mathlib.Core.Logic.{inl, inr}
 use Rattle.syntax.specs.Words.{first_name}
 use Rattle.run_layout.specs.Regions.{loaded_node}
-use Rattle.unifier.specs.Walks.{Walkable, Walks}
-use Rattle.unifier.specs.declared.walk.RowsWalked.{RowsWalked}
-use Rattle.unifier.proofs.Rowwise.{pair_inside, term-met, term-clash, term-list, term-on, list_on, list-end, list-pair, list_inside, list_clash, list-met, list-rest}
-use Prim.Native.Nat.{ℕ, ◌<◌, ◌≤◌, ◌+◌, ◌-◌}
+use Rattle.unifier.specs.Walks.{Walkable}
+use Rattle.std.proofs.lemmas.Result.{err_from_is_err_and}
+use Rattle.unifier.proofs.Rowwise.{pair_inside, term-met, term-clash, term-list, term-on, list_on, list-end, list-pair, list_inside, list_stop, list-rest}
+use Prim.Native.Nat.{ℕ, ◌<◌, ◌≤◌, ◌+◌}
 use lib.ListN.{get_or}
 use Rattle.unifier.proofs.walk.+unify_list_unify_term.Goals as goal
 
@@ -15,8 +15,8 @@ pub unify_list-returns-then-e-p : goal.unify_list-returns-then-e-p
 unify_list-returns-then-e-p t c = λ g. list-end c.args.nodes.now c.args.p c.args.e c.args.q g c.if-e-p.true
 
 -- src/walk.rt:44:9
-pub unify_list-unify_term-r-requires : goal.unify_list-unify_term-r-requires
-unify_list-unify_term-r-requires t c = (omega (arith, list_inside c.args.nodes.now c.args.p c.args.e c.args.q c.requires c.if-e-p.false), list-pair c.args.nodes.now c.args.p c.args.e c.args.q c.requires c.if-e-p.false)
+pub unify_list-unify_term-requires : goal.unify_list-unify_term-requires
+unify_list-unify_term-requires t c = (omega (arith, list_inside c.args.nodes.now c.args.p c.args.e c.args.q c.requires c.if-e-p.false), list-pair c.args.nodes.now c.args.p c.args.e c.args.q c.requires c.if-e-p.false)
 
 -- src/walk.rt:48:17
 pub unify_list-size_at-requires : goal.unify_list-size_at-requires
@@ -27,25 +27,19 @@ pub unify_list-overflow_add-i : goal.unify_list-overflow_add-i
 unify_list-overflow_add-i t c = let args = c.args in omega (arith, c.size_at.ensures, list_inside args.nodes.now args.p args.e args.q c.requires c.if-e-p.false)
 
 -- src/walk.rt:49:17
-pub unify_list-size_at-requires-in-Done : goal.unify_list-size_at-requires-in-Done
-unify_list-size_at-requires-in-Done t c = let args = c.args in (list_inside args.nodes.now args.p args.e args.q c.requires c.if-e-p.false).0.1
+pub unify_list-size_at-requires-2 : goal.unify_list-size_at-requires-2
+unify_list-size_at-requires-2 t c = let args = c.args in (list_inside args.nodes.now args.p args.e args.q c.requires c.if-e-p.false).0.1
 
 -- src/walk.rt:49:13
 pub unify_list-overflow_add-j : goal.unify_list-overflow_add-j
-unify_list-overflow_add-j t c = let args = c.args in omega (arith, c.size_at-in-Done.ensures, list_inside args.nodes.now args.p args.e args.q c.requires c.if-e-p.false)
+unify_list-overflow_add-j t c = let args = c.args in omega (arith, c.size_at-2.ensures, list_inside args.nodes.now args.p args.e args.q c.requires c.if-e-p.false)
 
 -- src/walk.rt:50:5
 pub unify_list-unify_list-requires : goal.unify_list-unify_list-requires
-unify_list-unify_list-requires t c = let args = c.args in (omega (arith, c.size_at.ensures, list_inside args.nodes.now args.p args.e args.q c.requires c.if-e-p.false), subst⁻¹ (λ (k : ℕ). Walkable args.nodes.now (args.p + k) args.e (args.q + c.size_at-in-Done.result)) c.size_at.ensures (subst⁻¹ (λ (k : ℕ). Walkable args.nodes.now (args.p + get_or args.nodes.now (args.p + 1) 0) args.e (args.q + k)) c.size_at-in-Done.ensures (list-rest args.nodes.now args.p args.e args.q c.requires c.if-e-p.false)))
+unify_list-unify_list-requires t c = let args = c.args in (omega (arith, c.size_at.ensures, list_inside args.nodes.now args.p args.e args.q c.requires c.if-e-p.false), subst⁻¹ (λ (k : ℕ). Walkable args.nodes.now (args.p + k) args.e (args.q + c.size_at-2.result)) c.size_at.ensures (subst⁻¹ (λ (k : ℕ). Walkable args.nodes.now (args.p + get_or args.nodes.now (args.p + 1) 0) args.e (args.q + k)) c.size_at-2.ensures (list-rest args.nodes.now args.p args.e args.q c.requires c.if-e-p.false)))
 
-pub unify_list-returns-in-Done : goal.unify_list-returns-in-Done
-unify_list-returns-in-Done t c = let args = c.args in λ g. list_on args.nodes.now args.p args.e args.q g c.if-e-p.false c.unify_term-r.result c.in-Done.is c.unify_term-r.ensures c.size_at.result c.size_at-in-Done.result c.size_at.ensures c.size_at-in-Done.ensures c.unify_list.result c.unify_list.ensures
-
-pub unify_list-returns-in-Clash : goal.unify_list-returns-in-Clash
-unify_list-returns-in-Clash t c = let args = c.args in λ g. list_clash args.nodes.now args.p args.e args.q g c.if-e-p.false (λ v. subst (λ (x : RowsWalked). Walks v.ss args.nodes.now args.p (args.p + get_or args.nodes.now (args.p + 1) 0) args.q (args.q + get_or args.nodes.now (args.q + 1) 0) x) c.in-Clash.is (c.unify_term-r.ensures v))
-
-pub unify_list-returns-in-Met : goal.unify_list-returns-in-Met
-unify_list-returns-in-Met t c = let args = c.args in λ g. list-met args.nodes.now args.p args.e args.q g c.if-e-p.false c.in-Met.left c.in-Met.right (λ v. subst (λ (x : RowsWalked). Walks v.ss args.nodes.now args.p (args.p + get_or args.nodes.now (args.p + 1) 0) args.q (args.q + get_or args.nodes.now (args.q + 1) 0) x) c.in-Met.is (c.unify_term-r.ensures v))
+pub unify_list-returns : goal.unify_list-returns
+unify_list-returns t c = let args = c.args in λ g. list_on args.nodes.now args.p args.e args.q g c.if-e-p.false c.unify_term.result c.in_ok-unify_term.was c.unify_term.ensures c.size_at.result c.size_at-2.result c.size_at.ensures c.size_at-2.ensures c.unify_list.result c.unify_list.ensures
 
 -- src/walk.rt:19:9
 pub unify_term-word_at-w-requires : goal.unify_term-word_at-w-requires
@@ -90,3 +84,8 @@ unify_term-unify_list-requires t c = let args = c.args in (omega (arith, c.size_
 -- src/walk.rt:15:1
 pub unify_term-returns : goal.unify_term-returns
 unify_term-returns t c = let args = c.args in λ g. term-on args.nodes.now args.p args.q g c.word_at-w.result c.word_at-z.result c.size_at.result c.word_at-w.ensures c.word_at-z.ensures c.if-w-lt-FIRST_NAME.false c.if-z-lt-FIRST_NAME.false c.if-w-z.false c.size_at.ensures c.unify_list.result c.unify_list.ensures
+
+pub unify_list-returns-in_err-unify_term : goal.unify_list-returns-in_err-unify_term
+unify_list-returns-in_err-unify_term t c =
+    let p = err_from_is_err_and c.from_residual.result c.from_residual.ensures.1 in
+    rw (p.1, p.2) (λ g. list_stop c.args.nodes.now c.args.p c.args.e c.args.q g c.if-e-p.false c.in_err-unify_term.field-0.0 c.in_err-unify_term.ensures)

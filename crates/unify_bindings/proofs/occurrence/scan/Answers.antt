@@ -1,4 +1,4 @@
-use Rattle.std.proofs.Common.{◌+◌, ◌-◌, arith}
+use Rattle.std.proofs.Common.{◌+◌, arith}
 use Rattle.unify_bindings.proofs.Scan.{scan-inside, scan-begin, scan-place, scan-visit, scan-found, scan-next, scan-end}
 use Rattle.unify_bindings.proofs.occurrence.scan.Goals as goal
 

@@ -1,4 +1,4 @@
-use Rattle.std.proofs.Common.{◌-◌, arith}
+use Rattle.std.proofs.Common.{arith}
 use Rattle.unify_bindings.proofs.Scan.{search-begin, search-look, search-found, search-next, search-end, queue-few}
 use Rattle.unify_bindings.proofs.occurrence.search.Goals as goal
 

@@ -1,39 +1,28 @@
-use Rattle.std.proofs.Common.{◌≡◌, ℕ, ◌+◌, ◌-◌, subst, arith, rules}
-use Rattle.run_layout.specs.Regions.{trail}
+use Rattle.std.proofs.Common.{◌≡◌, ℕ, subst, arith}
 use Rattle.unify_bindings.specs.Cells.{Undone}
 use Rattle.unify_bindings.proofs.Deref.{undone-begin, undone-next, next-entry}
-use borrow.Author.Rules.{rules}
 use Rattle.unify_bindings.proofs.store.undo.Goals as goal
 
 pub loop-i-init : goal.loop-i-init
-loop-i-init c = (search rules, (search rules, undone-begin c.args.state.now c.args.n))
-
-pub overflow_sub-i : goal.overflow_sub-i
-overflow_sub-i c = omega arith
+loop-i-init c = (c.requires.mark_le_n, undone-begin c.args.state.now c.args.n)
 
 pub overflow_add-at : goal.overflow_add-at
-overflow_add-at c = omega (arith, next-entry c.args.state.now c.loop-i.state c.args.mark c.loop-i.i c.args.n c.loop-i-test.true c.requires.stored c.loop-i.invariant.1.1)
+overflow_add-at c = omega (arith, next-entry c.args.state.now c.loop-i.state c.args.mark c.loop-i.i c.args.n c.loop-i-test.true c.requires.stored c.loop-i.invariant.1)
 
 pub offset_bounds-state-at : goal.offset_bounds-state-at
-offset_bounds-state-at c = omega (arith, next-entry c.args.state.now c.loop-i.state c.args.mark c.loop-i.i c.args.n c.loop-i-test.true c.requires.stored c.loop-i.invariant.1.1)
+offset_bounds-state-at c = omega (arith, next-entry c.args.state.now c.loop-i.state c.args.mark c.loop-i.i c.args.n c.loop-i-test.true c.requires.stored c.loop-i.invariant.1)
 
 pub bounds-state-at : goal.bounds-state-at
-bounds-state-at c = omega (arith, next-entry c.args.state.now c.loop-i.state c.args.mark c.loop-i.i c.args.n c.loop-i-test.true c.requires.stored c.loop-i.invariant.1.1)
-
-pub overflow_cast-x : goal.overflow_cast-x
-overflow_cast-x c = omega (arith, c.slice_known-1.given (trail + (c.loop-i.i - 1)))
+bounds-state-at c = omega (arith, next-entry c.args.state.now c.loop-i.state c.args.mark c.loop-i.i c.args.n c.loop-i-test.true c.requires.stored c.loop-i.invariant.1)
 
 pub offset_bounds-state-x : goal.offset_bounds-state-x
-offset_bounds-state-x c = omega (arith, next-entry c.args.state.now c.loop-i.state c.args.mark c.loop-i.i c.args.n c.loop-i-test.true c.requires.stored c.loop-i.invariant.1.1)
+offset_bounds-state-x c = omega (arith, next-entry c.args.state.now c.loop-i.state c.args.mark c.loop-i.i c.args.n c.loop-i-test.true c.requires.stored c.loop-i.invariant.1)
 
 pub bounds-state-x : goal.bounds-state-x
-bounds-state-x c = omega (arith, next-entry c.args.state.now c.loop-i.state c.args.mark c.loop-i.i c.args.n c.loop-i-test.true c.requires.stored c.loop-i.invariant.1.1)
-
-pub loop-i-smaller : goal.loop-i-smaller
-loop-i-smaller c = omega arith
+bounds-state-x c = omega (arith, next-entry c.args.state.now c.loop-i.state c.args.mark c.loop-i.i c.args.n c.loop-i-test.true c.requires.stored c.loop-i.invariant.1)
 
 pub loop-i-preserved : goal.loop-i-preserved
-loop-i-preserved c = (omega arith, (omega arith, undone-next c.args.state.now c.loop-i.state c.args.mark c.loop-i.i c.args.n c.loop-i-test.true c.requires.stored c.loop-i.invariant.1.1))
+loop-i-preserved c = (omega arith, undone-next c.args.state.now c.loop-i.state c.args.mark c.loop-i.i c.args.n c.loop-i-test.true c.requires.stored c.loop-i.invariant.1)
 
 pub returns : goal.returns
-returns c = subst (λ (k : ℕ). Undone c.args.state.now c.loop-i.state k c.args.n) (let e : c.loop-i.i ≡ c.args.mark = omega arith in e) c.loop-i.invariant.1.1
+returns c = subst (λ (k : ℕ). Undone c.args.state.now c.loop-i.state k c.args.n) (let e : c.loop-i.i ≡ c.args.mark = omega arith in e) c.loop-i.invariant.1

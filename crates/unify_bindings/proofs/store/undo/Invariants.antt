@@ -1,11 +1,7 @@
-use Rattle.std.proofs.Common.{◌-◌, ◌≤◌}
+use Rattle.std.proofs.Common.{◌≤◌}
 use Rattle.unify_bindings.specs.Cells.{Undone}
 use Rattle.unify_bindings.proofs.store.undo.Given as goal
 
 abbrev pub invariant-loop-i : goal.invariant-loop-i
 invariant-loop-i l =
-    (l.mark ≤ l.i) × ((l.i ≤ l.n) × Undone l.initial.state l.state l.i l.n)
-
-abbrev pub decreases-loop-i : goal.decreases-loop-i
-decreases-loop-i l =
-    l.i
+    (l.mark ≤ l.i) × Undone l.initial.state l.state l.i l.n

@@ -1,2 +1,0 @@
-mod Parts
-mod Unnamed

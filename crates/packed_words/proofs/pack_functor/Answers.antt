@@ -1,6 +1,0 @@
--- `packed_words::pack_functor` meets its contract. Assumes nothing.
-use mathlib.Core.Path.{refl}
-use Rattle.packed_words.proofs.pack_functor.Goals as goal
-
-pub returns : goal.returns
-returns c = refl
