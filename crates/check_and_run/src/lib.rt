@@ -12,6 +12,7 @@ ghost use Rattle.machine.specs.Runs.{over_goal};
 ghost use Rattle.check_and_run.specs.Goals.{ProgramReady, Answers};
 
 use load_and_run::load_and_run;
+use mode_marks::marks::Declarations;
 use read_and_check::{goal_room, read_goal_text};
 use run_results::{Written, goal_refused, run_ended};
 use run_whole::Ran;
@@ -70,7 +71,12 @@ pub fn read_goal_and_run(
 {
     let mut goals = goal_room();
     let read = read_goal_text(goal, &mut goals)?;
-    match mode_clauses::check_goal(sheet, declared, n, goal, &goals, read.literals) {
+    let declarations = Declarations {
+        text: sheet,
+        words: declared,
+        count: n,
+    };
+    match mode_clauses::check_goal(declarations, goal, &goals, read.literals) {
         Ok(()) => {
             let ran = check_goal_and_run(
                 sheet,

@@ -6,7 +6,7 @@ ghost use Rattle.determinacy.specs.Tables.{PairsReady};
 
 use crate::Determinacy;
 use determinacy_overlaps::first_overlap;
-use mode_marks::marks::marks_of;
+use mode_marks::marks::Declarations;
 use syntax::CLAUSE_START;
 use table_words::past_clause;
 
@@ -27,11 +27,16 @@ pub fn first_pair(
         state.old scratch.old) → result
         ≡ told (judged_by (first_pair w.linked.stands.sheet.declarations 1 w.linked.stands.sheet.clauses)) }
 {
+    let declarations = Declarations {
+        text: sheet,
+        words: declared,
+        count: n,
+    };
     let mut at = 0;
     for i in 0..k {
         let number = i + 1;
         let head = at + CLAUSE_START;
-        let marks = marks_of(sheet, declared, n, sheet, table, head);
+        let marks = declarations.marks_of(sheet, table, head);
         if let Some(second) = first_overlap(nodes, code, state, scratch, number, marks) {
             return Determinacy::No {
                 first: number,

@@ -10,6 +10,7 @@ ghost use Rattle.table_words.specs.Tables.{Has};
 ghost use Rattle.mode_rules.specs.Checking.{checked_goal, goal_answer};
 ghost use Rattle.read_and_check.specs.Tables.{Over};
 
+use mode_marks::marks::Declarations;
 use read_and_check::read_goal_text;
 use syntax::{Counts, Fault, Text, Verdict};
 
@@ -29,7 +30,12 @@ pub fn goal_over(
     ensures holds { (g : Goal) → goal_outcome goal.now ≡ accepted g → Has table.new 0 (body_words g.body) }
 {
     let read = read_goal_text(goal, table)?;
-    match mode_clauses::check_goal(sheet, declared, n, goal, table, read.literals) {
+    let declarations = Declarations {
+        text: sheet,
+        words: declared,
+        count: n,
+    };
+    match mode_clauses::check_goal(declarations, goal, table, read.literals) {
         Ok(()) => Ok(Counts {
             declarations: n,
             clauses: k,

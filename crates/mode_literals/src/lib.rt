@@ -1,17 +1,18 @@
-// Refusal 9 at a literal that is no bracket, of a text `g`, by the declarations of a sheet `s`.
+// Refusal 9 at a literal that is no bracket, of a text `g`, by the declarations of a sheet.
 
 #![tactic(auto)]
 
 ghost use Rattle.std.specs.Prelude.{◌+◌, ◌≤◌, ◌<◌, length, get_or};
 ghost use Rattle.syntax.specs.Words.{atom_words, left_kind};
 ghost use Rattle.mode_rules.specs.Modes.{call_walk};
-ghost use Rattle.mode_marks.specs.Tables.{DeclarationsAt, AtomAt, LiteralAt};
+ghost use Rattle.mode_marks.specs.Tables.{AtomAt, LiteralAt};
 ghost use Rattle.mode_literals.specs.Answers.{Passes, PastLiteral};
+ghost use Rattle.mode_marks.specs.Stand.{Stand};
 
 use mode_arguments::{call_fault, ground_marked};
 use mode_equations::settle;
 use mode_flags::Known;
-use mode_marks::marks::marks_of;
+use mode_marks::marks::Declarations;
 use syntax::{CALL_KIND, FALSITY_KIND, NODE_WORDS, OUTPUT, Refusal, TRUTH_KIND, VARIABLES};
 use table_words::{past, word_at};
 
@@ -27,9 +28,7 @@ pub struct Passed {
 
 // A call: its fault, or what is known after it. The inputs are tested by what is known before it.
 fn call_walk(
-    s: &[u8],
-    declared: &[u32],
-    n: usize,
+    declarations: Declarations<'_>,
     g: &[u8],
     table: &[u32],
     p: usize,
@@ -37,13 +36,13 @@ fn call_walk(
     literal: usize,
     known: Known,
 ) -> Result<Passed, Refusal>
-    requires declarations_at { DeclarationsAt s.now declared.now n }
+    requires declarations_at { Stand declarations }
     requires atom_at { AtomAt g.now table.now p }
     requires literal_le_p { literal ≤ p }
-    ensures { (d : DeclarationsAt s.now declared.now n) (w : AtomAt g.now table.now p)
+    ensures { (d : Stand declarations.entry) (w : AtomAt g.now table.now p)
         → Passes result (call_walk d.list clause literal known w.atom) (p + length (atom_words w.atom)) 1 (literal + 1) }
 {
-    let marks = marks_of(s, declared, n, g, table, p);
+    let marks = declarations.marks_of(g, table, p);
     let from = p + NODE_WORDS;
     let stop = past(table, p);
     let after = ground_marked(table, from, stop, marks, OUTPUT, known);
@@ -58,9 +57,7 @@ fn call_walk(
 
 // A literal that is no bracket. A literal takes a word or more, so its number is at most its place and one.
 pub fn plain_walk(
-    s: &[u8],
-    declared: &[u32],
-    n: usize,
+    declarations: Declarations<'_>,
     g: &[u8],
     table: &[u32],
     p: usize,
@@ -68,10 +65,10 @@ pub fn plain_walk(
     literal: usize,
     known: Known,
 ) -> Result<Passed, Refusal>
-    requires declarations_at { DeclarationsAt s.now declared.now n }
+    requires declarations_at { Stand declarations }
     requires literal_at { LiteralAt g.now table.now p }
     requires p_bound { (get_or table.now p 0 < left_kind) × (literal ≤ p + 1) }
-    ensures { (d : DeclarationsAt s.now declared.now n) (w : LiteralAt g.now table.now p)
+    ensures { (d : Stand declarations.entry) (w : LiteralAt g.now table.now p)
         → PastLiteral result d.list clause literal known p w.literal }
 {
     let kind = word_at(table, p);
@@ -94,7 +91,7 @@ pub fn plain_walk(
         });
     }
     if kind == CALL_KIND {
-        return call_walk(s, declared, n, g, table, q, clause, literal, known);
+        return call_walk(declarations, g, table, q, clause, literal, known);
     }
     let right = past(table, q);
     let next = past(table, right);

@@ -6,6 +6,7 @@ use Rattle.syntax.specs.Reading.{first_repeat}
 use Rattle.syntax.specs.Terms.{arity, Atom, Declaration, Clause, same_predicate}
 use Rattle.mode_rules.specs.Written.{is_written}
 use Rattle.mode_marks.specs.Tables.{SheetAt}
+use Rattle.mode_marks.specs.declared.marks.Declarations.{Declarations}
 use Rattle.mode_repeats.specs.Repeating.{nth_declaration}
 
 -- a sheet that was read stands in the tables: no more declarations than there may be, each predicate declared once
@@ -13,6 +14,10 @@ pub record DeclaredOnce (s declared : List ℕ) (n : ℕ) (table : List ℕ) (cl
   pub stands : SheetAt s declared n table clauses
   pub few : n ≤ declarations
   pub once : first_repeat [] stands.sheet.declarations ≡ none
+
+-- the same of declarations as the code holds them
+abbrev pub StandOnce : Declarations → List ℕ → ℕ → Type 0
+StandOnce d table clauses = DeclaredOnce d.text.now d.words.now d.count table clauses
 
 -- i is the place, if there is one
 abbrev pub is_place : Option ℕ → ℕ → Bool

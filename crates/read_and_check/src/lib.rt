@@ -9,6 +9,7 @@ ghost use Rattle.syntax.specs.Verdicts.{accepted, sheet_of, read_verdict};
 ghost use Rattle.mode_rules.specs.Checking.{checked_with, verdict_with};
 ghost use Rattle.read_and_check.specs.Tables.{Tabled, GoalTabled};
 
+use mode_marks::marks::Declarations;
 use mode_repeats::first_repeat;
 use mode_sheets::check_sheet;
 use parse_sheets::sheets::read_items;
@@ -46,13 +47,20 @@ pub fn read_text(sheet: &[u8], declared: &mut [u32], table: &mut [u32]) -> Verdi
     }
     match read_items(sheet, declared, table) {
         Err(stop) => Err(of_sheet(stop.refusal)),
-        Ok(r) => match first_repeat(sheet, declared, r.declarations) {
-            Some(byte) => Err(of_sheet(Refusal::Repeated(byte))),
-            None => Ok(Counts {
-                declarations: r.declarations,
-                clauses: r.clauses,
-            }),
-        },
+        Ok(r) => {
+            let declarations = Declarations {
+                text: sheet,
+                words: declared,
+                count: r.declarations,
+            };
+            match first_repeat(declarations) {
+                Some(byte) => Err(of_sheet(Refusal::Repeated(byte))),
+                None => Ok(Counts {
+                    declarations: r.declarations,
+                    clauses: r.clauses,
+                }),
+            }
+        }
     }
 }
 
@@ -107,14 +115,12 @@ pub fn read_checked(sheet: &[u8], declared: &mut [u32], table: &mut [u32], store
         → Tabled sheet.now declared.new table.new sh }
 {
     let counts = read_text(sheet, declared, table)?;
-    match check_sheet(
-        sheet,
-        declared,
-        counts.declarations,
-        table,
-        counts.clauses,
-        stored,
-    ) {
+    let declarations = Declarations {
+        text: sheet,
+        words: declared,
+        count: counts.declarations,
+    };
+    match check_sheet(declarations, table, counts.clauses, stored) {
         Err(refusal) => Err(of_sheet(refusal)),
         Ok(()) => Ok(counts),
     }

@@ -4,7 +4,8 @@ use lib.ListN.{length}
 use Rattle.syntax.specs.Terms.{literals_of}
 use Rattle.syntax.specs.Words.{body_words}
 use Rattle.mode_rules.specs.Modes.{body_fault}
-use Rattle.mode_marks.specs.Tables.{DeclarationsAt, BodyAt}
+use Rattle.mode_marks.specs.Stand.{Stand}
+use Rattle.mode_marks.specs.Tables.{BodyAt}
 use Rattle.mode_bodies.proofs.Walking.{Ahead}
 use Rattle.mode_bodies.proofs.+either_walk_literal_walk_literals_walk_side_walk.Given as goal
 
@@ -22,7 +23,7 @@ decreases-side_walk l = 4 * (length l.table.now - l.p)
 
 abbrev pub invariant-literals_walk-loop-i : goal.invariant-literals_walk-loop-i
 invariant-literals_walk-loop-i l =
-    (l.i ≤ l.items) × (l.p ≤ l.at) × (l.number ≤ l.at + 1) × ((d : DeclarationsAt l.s l.declared l.n) (w : BodyAt l.g l.table l.p l.items)
+    (l.i ≤ l.items) × (l.p ≤ l.at) × (l.number ≤ l.at + 1) × ((d : Stand l.declarations) (w : BodyAt l.g l.table l.p l.items)
     → Ahead d.list l.clause l.g l.table l.at l.i l.items l.number l.flags (body_fault d.list l.clause l.literal l.initial.flags w.body) (l.p + length (body_words w.body)) (literals_of w.body + l.literal))
 
 abbrev pub decreases-literals_walk-loop-i : goal.decreases-literals_walk-loop-i

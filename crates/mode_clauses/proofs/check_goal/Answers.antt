@@ -10,7 +10,7 @@ undeclared_body-requires c = record { declarations_at = goal-declarations c.requ
 pub returns-in_err-undeclared_body : goal.returns-in_err-undeclared_body
 returns-in_err-undeclared_body c = let p = err_from_is_err_and c.from_residual.result c.from_residual.ensures.1 in
     rw (p.1, p.2)
-    (goal-undeclared c.args.s.now c.args.declared.now c.args.n c.args.g.now c.args.table.now c.args.items c.undeclared_body.ensures c.in_err-undeclared_body.was)
+    (goal-undeclared c.args.declarations.text.now c.args.declarations.words.now c.args.declarations.count c.args.g.now c.args.table.now c.args.items c.undeclared_body.ensures c.in_err-undeclared_body.was)
 
 pub body_walk-requires : goal.body_walk-requires
 body_walk-requires c = record { declarations_at = goal-declarations c.requires; body_at = goal-body c.requires }
@@ -19,8 +19,8 @@ pub returns-in_err-body_walk : goal.returns-in_err-body_walk
 unfolding none_ground
 returns-in_err-body_walk c = let p = err_from_is_err_and c.from_residual-in_err-body_walk.result c.from_residual-in_err-body_walk.ensures.1 in
     rw (p.1, p.2)
-    (goal-stopped c.args.s.now c.args.declared.now c.args.n c.args.g.now c.args.table.now c.args.items c.undeclared_body.ensures c.in_ok-undeclared_body.was c.body_walk.result c.body_walk.ensures c.in_err-body_walk.was)
+    (goal-stopped c.args.declarations.text.now c.args.declarations.words.now c.args.declarations.count c.args.g.now c.args.table.now c.args.items c.undeclared_body.ensures c.in_ok-undeclared_body.was c.body_walk.result c.body_walk.ensures c.in_err-body_walk.was)
 
 pub returns : goal.returns
 unfolding none_ground
-returns c = goal-walked c.args.s.now c.args.declared.now c.args.n c.args.g.now c.args.table.now c.args.items c.undeclared_body.ensures c.in_ok-undeclared_body.was c.body_walk.result c.body_walk.ensures c.in_ok-body_walk.was
+returns c = goal-walked c.args.declarations.text.now c.args.declarations.words.now c.args.declarations.count c.args.g.now c.args.table.now c.args.items c.undeclared_body.ensures c.in_ok-undeclared_body.was c.body_walk.result c.body_walk.ensures c.in_ok-body_walk.was

@@ -3,9 +3,9 @@ use mathlib.Core.Path.{◌≡◌}
 use mathlib.Core.List.{[]}
 use lib.ListN.{take, drop}
 use Rattle.syntax.specs.Reading.{first_repeat}
-use Rattle.mode_marks.specs.Tables.{DeclarationsAt}
+use Rattle.mode_marks.specs.Stand.{Stand}
 use Rattle.mode_repeats.proofs.first_repeat.Given as goal
 
 abbrev pub invariant-loop-i : goal.invariant-loop-i
 invariant-loop-i l =
-    (w : DeclarationsAt l.s l.declared l.n) → first_repeat [] w.list ≡ first_repeat (take l.i w.list) (drop l.i w.list)
+    (w : Stand l.declarations) → first_repeat [] w.list ≡ first_repeat (take l.i w.list) (drop l.i w.list)

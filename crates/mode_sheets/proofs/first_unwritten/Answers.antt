@@ -15,10 +15,10 @@ pub may_stay-requires : goal.may_stay-requires
 may_stay-requires c = record { declarations_at = sheet-declarations c.requires.stands; i_lt_n = c.loop-i-test.true }
 
 pub overflow_mul-i : goal.overflow_mul-i
-overflow_mul-i c = omega (arith, place_in c.args.s.now c.args.declared.now c.args.n (sheet-declarations c.requires.stands) c.loop-i.i c.loop-i-test.true, c.well_formed.1.0)
+overflow_mul-i c = omega (arith, place_in c.args.declarations.text.now c.args.declarations.words.now c.args.declarations.count (sheet-declarations c.requires.stands) c.loop-i.i c.loop-i-test.true, c.well_formed.1.0)
 
 pub word_at-byte-requires : goal.word_at-byte-requires
-word_at-byte-requires c = omega (arith, place_in c.args.s.now c.args.declared.now c.args.n (sheet-declarations c.requires.stands) c.loop-i.i c.loop-i-test.true)
+word_at-byte-requires c = omega (arith, place_in c.args.declarations.text.now c.args.declarations.words.now c.args.declarations.count (sheet-declarations c.requires.stands) c.loop-i.i c.loop-i-test.true)
 
 pub returns-then-not-may_stay : goal.returns-then-not-may_stay
 returns-then-not-may_stay c = λ w. found_here w c.loop-i.i c.loop-i-test.true (c.loop-i.invariant w) c.head_flags-flags.result (c.head_flags-flags.ensures w)

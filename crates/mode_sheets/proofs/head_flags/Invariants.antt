@@ -3,11 +3,11 @@
 use mathlib.Core.Path.{◌≡◌}
 use lib.ListN.{length}
 use Rattle.syntax.specs.Limits.{declarations}
-use Rattle.mode_sheets.specs.Flags.{DeclaredOnce}
+use Rattle.mode_sheets.specs.Flags.{StandOnce}
 use Rattle.mode_sheets.proofs.Heads.{Left}
 use Rattle.mode_sheets.proofs.head_flags.Given as goal
 
 abbrev pub invariant-loop-clause : goal.invariant-loop-clause
 invariant-loop-clause l =
     (length l.flags ≡ declarations)
-    × ((w : DeclaredOnce l.s l.declared l.n l.table l.clauses) → Left l.s l.table l.at l._clause l.clauses l.flags w.stands.sheet.declarations w.stands.sheet.clauses)
+    × ((w : StandOnce l.declarations l.table l.clauses) → Left l.declarations.text.now l.table l.at l._clause l.clauses l.flags w.stands.sheet.declarations w.stands.sheet.clauses)

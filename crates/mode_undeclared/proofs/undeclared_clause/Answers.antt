@@ -20,13 +20,13 @@ undeclared_atom-requires c = record { declarations_at = c.requires.declarations_
 pub returns-in_err-undeclared_atom : goal.returns-in_err-undeclared_atom
 returns-in_err-undeclared_atom c = let p = err_from_is_err_and c.from_residual.result c.from_residual.ensures.1 in
     rw (p.1, p.2)
-    (λ d w. clause-undeclared d.list c.args.s.now c.args.table.now c.args.p c.args.clause c.undeclared_atom.result (c.undeclared_atom.ensures d) (c.in_err-undeclared_atom.was) w)
+    (λ d w. clause-undeclared d.list c.args.declarations.text.now c.args.table.now c.args.p c.args.clause c.undeclared_atom.result (c.undeclared_atom.ensures d) (c.in_err-undeclared_atom.was) w)
 
 pub past-first-requires : goal.past-first-requires
 past-first-requires c = node-inside (head-term c.requires.clause_at)
 
 pub undeclared_body-requires : goal.undeclared_body-requires
-undeclared_body-requires c = record { declarations_at = c.requires.declarations_at; body_at = body_at c.args.s.now c.args.table.now c.args.p c.word_at-items.result c.word_at-items.ensures c.past-first.result (past-ends c.past-first.ensures) c.requires.clause_at }
+undeclared_body-requires c = record { declarations_at = c.requires.declarations_at; body_at = body_at c.args.declarations.text.now c.args.table.now c.args.p c.word_at-items.result c.word_at-items.ensures c.past-first.result (past-ends c.past-first.ensures) c.requires.clause_at }
 
 pub returns : goal.returns
-returns c = λ d w. clause-body d.list c.args.s.now c.args.table.now c.args.p c.args.clause c.undeclared_atom.result (c.undeclared_atom.ensures d) (c.in_ok-undeclared_atom.was) c.word_at-items.result c.word_at-items.ensures c.past-first.result (past-ends c.past-first.ensures) c.undeclared_body.result (c.undeclared_body.ensures d) w
+returns c = λ d w. clause-body d.list c.args.declarations.text.now c.args.table.now c.args.p c.args.clause c.undeclared_atom.result (c.undeclared_atom.ensures d) (c.in_ok-undeclared_atom.was) c.word_at-items.result c.word_at-items.ensures c.past-first.result (past-ends c.past-first.ensures) c.undeclared_body.result (c.undeclared_body.ensures d) w

@@ -27,20 +27,20 @@ pub past-first-requires : goal.past-first-requires
 past-first-requires c = node-inside (head-term c.requires.clause_at)
 
 pub ground_marked-start-requires : goal.ground_marked-start-requires
-ground_marked-start-requires c = head-marked c.args.s.now c.args.declared.now c.args.n c.args.table.now c.args.p c.args.clause c.marks_of-marks.result c.marks_of-marks.ensures c.word_at-items.result c.word_at-items.ensures c.past-first.result (past-ends c.past-first.ensures) input c.requires.declarations_at c.requires.clause_at
+ground_marked-start-requires c = head-marked c.args.declarations.text.now c.args.declarations.words.now c.args.declarations.count c.args.table.now c.args.p c.args.clause c.marks_of-marks.result c.marks_of-marks.ensures c.word_at-items.result c.word_at-items.ensures c.past-first.result (past-ends c.past-first.ensures) input c.requires.declarations_at c.requires.clause_at
 
 pub body_walk-requires : goal.body_walk-requires
-body_walk-requires c = record { declarations_at = c.requires.declarations_at; body_at = body_at c.args.s.now c.args.table.now c.args.p c.word_at-items.result c.word_at-items.ensures c.past-first.result (past-ends c.past-first.ensures) c.requires.clause_at }
+body_walk-requires c = record { declarations_at = c.requires.declarations_at; body_at = body_at c.args.declarations.text.now c.args.table.now c.args.p c.word_at-items.result c.word_at-items.ensures c.past-first.result (past-ends c.past-first.ensures) c.requires.clause_at }
 
 pub returns-in_err-known : goal.returns-in_err-known
 unfolding none_ground
 returns-in_err-known c = let p = err_from_is_err_and c.from_residual.result c.from_residual.ensures.1 in
     rw (p.1, p.2)
-    (clause-stopped c.args.s.now c.args.declared.now c.args.n c.args.table.now c.args.p c.args.clause c.marks_of-marks.result c.marks_of-marks.ensures c.word_at-items.result c.word_at-items.ensures c.past-first.result (past-ends c.past-first.ensures) c.ground_marked-start.result c.ground_marked-start.ensures c.body_walk.result c.body_walk.ensures c.in_err-known.was)
+    (clause-stopped c.args.declarations.text.now c.args.declarations.words.now c.args.declarations.count c.args.table.now c.args.p c.args.clause c.marks_of-marks.result c.marks_of-marks.ensures c.word_at-items.result c.word_at-items.ensures c.past-first.result (past-ends c.past-first.ensures) c.ground_marked-start.result c.ground_marked-start.ensures c.body_walk.result c.body_walk.ensures c.in_err-known.was)
 
 pub head_fault-requires : goal.head_fault-requires
-head_fault-requires c = head-judged c.args.s.now c.args.declared.now c.args.n c.args.table.now c.args.p c.args.clause c.marks_of-marks.result c.marks_of-marks.ensures c.word_at-items.result c.word_at-items.ensures c.past-first.result (past-ends c.past-first.ensures) c.requires.declarations_at c.requires.clause_at
+head_fault-requires c = head-judged c.args.declarations.text.now c.args.declarations.words.now c.args.declarations.count c.args.table.now c.args.p c.args.clause c.marks_of-marks.result c.marks_of-marks.ensures c.word_at-items.result c.word_at-items.ensures c.past-first.result (past-ends c.past-first.ensures) c.requires.declarations_at c.requires.clause_at
 
 pub returns : goal.returns
 unfolding none_ground
-returns c = clause-passed c.args.s.now c.args.declared.now c.args.n c.args.table.now c.args.p c.args.clause c.marks_of-marks.result c.marks_of-marks.ensures c.word_at-items.result c.word_at-items.ensures c.past-first.result (past-ends c.past-first.ensures) c.ground_marked-start.result c.ground_marked-start.ensures c.body_walk.result c.body_walk.ensures c.in_ok-known.was c.head_fault.ensures
+returns c = clause-passed c.args.declarations.text.now c.args.declarations.words.now c.args.declarations.count c.args.table.now c.args.p c.args.clause c.marks_of-marks.result c.marks_of-marks.ensures c.word_at-items.result c.word_at-items.ensures c.past-first.result (past-ends c.past-first.ensures) c.ground_marked-start.result c.ground_marked-start.ensures c.body_walk.result c.body_walk.ensures c.in_ok-known.was c.head_fault.ensures

@@ -1,9 +1,10 @@
 -- `mode_clauses::clause_faults::clauses_fault` meets its contract. The invariant: what is left of the clauses gives the answer of the whole (`Ahead`). Assumes nothing.
 use Rattle.mode_rules.specs.Modes.{clauses_fault}
-use Rattle.mode_marks.specs.Tables.{DeclarationsAt, ClausesAt}
+use Rattle.mode_marks.specs.Stand.{Stand}
+use Rattle.mode_marks.specs.Tables.{ClausesAt}
 use Rattle.mode_undeclared.proofs.Clauses.{Ahead}
 use Rattle.mode_clauses.proofs.clause_faults.clauses_fault.Given as goal
 
 abbrev pub invariant-loop-i : goal.invariant-loop-i
 invariant-loop-i l =
-    (d : DeclarationsAt l.s l.declared l.n) (w : ClausesAt l.s l.table 0 l.clauses) → Ahead l.s l.table l.at l.i l.clauses (clauses_fault d.list 1 w.list) (clauses_fault d.list)
+    (d : Stand l.declarations) (w : ClausesAt l.declarations.text.now l.table 0 l.clauses) → Ahead l.declarations.text.now l.table l.at l.i l.clauses (clauses_fault d.list 1 w.list) (clauses_fault d.list)

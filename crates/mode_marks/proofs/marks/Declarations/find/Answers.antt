@@ -1,7 +1,7 @@
--- `mode_marks::marks::find` meets its contract. Assumes nothing.
+-- `mode_marks::marks::Declarations::find` meets its contract. Assumes nothing.
 use Rattle.mode_marks.proofs.Marking.{declarations-room, place_is}
 use borrow.Author.Rules.{rules}
-use Rattle.mode_marks.proofs.marks.find.Goals as goal
+use Rattle.mode_marks.proofs.marks.Declarations.find.Goals as goal
 
 pub look_among-requires : goal.look_among-requires
 look_among-requires c = search (declarations-room, rules)
