@@ -415,7 +415,29 @@ fn runs_beside_swi() {
     }
 }
 
+/// One reading, checking or run by its name, so that the instructions of it alone can be counted (`bench/instructions`).
+fn once(name: &str) {
+    let makes: [(&str, fn(usize) -> String); 5] =
+        [("rules", rules), ("clinic", clinic), ("variables", variables), ("brackets", brackets), ("comments", comments)];
+    for (make, group) in makes {
+        if name == format!("read-{make}") {
+            black_box(read(&sheet(FULL, group)));
+        }
+        if name == format!("check-{make}") {
+            black_box(check(&sheet(FULL, group)));
+        }
+    }
+    for case in [reverse(), plus(), paths(), sides(), towers(), bits(), reverses()] {
+        if name == case.name {
+            black_box(run(&case, STEPS));
+        }
+    }
+}
+
 fn main() {
+    if let Some(name) = std::env::args().nth(1) {
+        return once(&name);
+    }
     let growth = growth();
     let (checked, of_swi) = beside_swi();
     let run_growth = run_growth();

@@ -1,5 +1,6 @@
-// Bytes into a lent buffer. Each function writes from a position on and returns the position past what it wrote; bytes at or
-// past the buffer's end are left out but counted, so a buffer of no bytes measures.
+// Bytes into a lent buffer. Each function writes from a position on and returns the position past what it wrote; bytes at or past the buffer's end are left
+// out but counted, so a buffer of no bytes measures. (Buffer and position, and no String or Vec: the library allocates nothing. And a slice is no writer of
+// `fmt`; one of our own would have to count on past the end and say all this again.)
 
 #![tactic(auto)]
 
@@ -44,10 +45,10 @@ pub fn append_decimal(n: usize, out: &mut [u8], at: usize) -> usize
     ensures { Put out.old at (decimal n) out.new result }
 {
     if n < 10 {
-        return append_byte((48 + n) as u8, out, at);
+        return append_byte(b'0' + n as u8, out, at);
     }
     let past = append_decimal(n / 10, out, at);
-    append_byte((48 + n % 10) as u8, out, past)
+    append_byte(b'0' + (n % 10) as u8, out, past)
 }
 
 // A space and the number, within a line: its words end at 118 at most.
@@ -60,7 +61,7 @@ pub fn append_number(n: usize, out: &mut [u8], at: usize) -> usize
     append_decimal(n, out, past_space)
 }
 
-// All of a text; within a line as above.
+// All of a text; within a line as above, so a caller says nothing of the text's length, which `append_all` asks.
 pub fn append(text: &[u8], out: &mut [u8], at: usize) -> usize
     requires { at ≤ 119 }
     ensures { Put out.old at text.now out.new result }
@@ -68,7 +69,8 @@ pub fn append(text: &[u8], out: &mut [u8], at: usize) -> usize
     append_all(text, out, at)
 }
 
-// The position behind so many lines of a text.
+// The position behind so many lines of a text. (By `for`: what `filter` and `nth` give of the line feeds is the last one's place, without the case of no
+// lines and that of too few.)
 pub fn past_lines(text: &[u8], lines: usize) -> usize
     ensures { result ≡ past_lines lines text.now }
 {

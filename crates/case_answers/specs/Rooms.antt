@@ -1,18 +1,17 @@
 -- Numbers of the files of cases.
-use Rattle.std.specs.Prelude.{ℕ}
+use Rattle.std.specs.Prelude.{ℕ, ◌+◌, ◌*◌, List, get_or}
 
 -- the values of a byte
 abbrev pub byte_values : ℕ
 byte_values = 256
 
--- the bytes that a file may have
-abbrev pub file_room : ℕ
-file_room = 1000000
-
--- the most room for answers that a case may ask for
-abbrev pub text_room : ℕ
-text_room = 200000
-
 -- the bytes of a record of a run before its texts
 abbrev pub settings_size : ℕ
 settings_size = 10
+
+-- a number of two bytes at a place, lowest first, and one of three
+abbrev pub two_at : List ℕ → ℕ → ℕ
+two_at s at = get_or s at 0 + 256 * get_or s (at + 1) 0
+
+abbrev pub three_at : List ℕ → ℕ → ℕ
+three_at s at = get_or s at 0 + 256 * (get_or s (at + 1) 0 + 256 * get_or s (at + 2) 0)

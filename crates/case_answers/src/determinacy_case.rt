@@ -2,6 +2,7 @@
 // against the sheet, or of one with a bracket and 0; or the line of the sheet's refusal.
 ghost use Rattle.std.specs.Prelude.{◌≤◌, ◌<◌, length, IfOk};
 
+use crate::case::Case;
 use crate::output::print_number;
 use crate::records::text_at;
 use determinacy::Determinacy;
@@ -29,15 +30,13 @@ fn print_determinacy<W: Write>(out: &mut W, sheet: &[u8], told: Determinacy) -> 
     }
 }
 
-// Answers the record at a place and returns the place past it.
-pub fn answer<W: Write>(out: &mut W, cases: &[u8], at: usize) -> Result<usize>
-    requires { at < length cases.now }
-    ensures { IfOk result (λ next. (at < next) × (next ≤ length cases.now)) }
-{
-    let sheet = text_at(cases, at + 1);
-    let start = sheet.start;
-    let end = sheet.end;
-    let text = &cases[start..end];
-    print_determinacy(out, text, pilvaust::determinate(text))?;
-    Ok(end)
+pub struct DeterminacyCase;
+
+impl Case for DeterminacyCase {
+    fn answer<W: Write>(out: &mut W, cases: &[u8], at: usize) -> Result<usize> {
+        let sheet = text_at(cases, at + 1);
+        let text = &cases[sheet.start..sheet.end];
+        print_determinacy(out, text, pilvaust::determinate(text))?;
+        Ok(sheet.end)
+    }
 }

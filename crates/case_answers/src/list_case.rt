@@ -3,6 +3,7 @@
 // the others are entries of the text, in which the predicate is looked for, and what the search tells is printed.
 ghost use Rattle.std.specs.Prelude.{◌≡◌, ◌+◌, ◌*◌, ◌≤◌, ◌<◌, length, IfOk};
 
+use crate::case::Case;
 use crate::output::print_number;
 use crate::records::text_at;
 use entry_lists::Lent;
@@ -53,15 +54,13 @@ fn print_entry<W: Write>(out: &mut W, entry: Entry) -> Result<()> {
     out.write_all(b"\n")
 }
 
-fn print_lent<W: Write>(out: &mut W, sheet: &[u8], lent: Lent) -> Result<()>
-    requires { 3 ≡ length lent.list }
-{
+fn print_lent<W: Write>(out: &mut W, sheet: &[u8], lent: Lent) -> Result<()> {
     let verdict = lent.verdict;
-    let list = lent.list;
     out_printing::print_line(out, verdict, pilvaust::fault_name(sheet, b"", verdict))?;
-    print_entry(out, list[0])?;
-    print_entry(out, list[1])?;
-    print_entry(out, list[2])
+    for entry in &lent.list {
+        print_entry(out, *entry)?;
+    }
+    Ok(())
 }
 
 // The word whose bytes stand at a place.
@@ -117,39 +116,31 @@ fn answer_search<W: Write>(out: &mut W, cases: &[u8], at: usize) -> Result<usize
     ensures { IfOk result (λ next. (at ≤ next) × (next ≤ length cases.now)) }
 {
     let words = text_at(cases, at);
-    let first = words.start;
-    let last = words.end;
-    let name = text_at(cases, last);
-    let from = name.start;
-    let to = name.end;
-    let text = text_at(cases, to);
-    let start = text.start;
-    let end = text.end;
+    let name = text_at(cases, words.end);
+    let text = text_at(cases, name.end);
     search(
         out,
-        &cases[start..end],
-        &cases[first..last],
-        &cases[from..to],
+        &cases[text.start..text.end],
+        &cases[words.start..words.end],
+        &cases[name.start..name.end],
     )?;
-    Ok(end)
+    Ok(text.end)
 }
 
-// Answers the record at a place and returns the place past it.
-pub fn answer<W: Write>(out: &mut W, cases: &[u8], at: usize) -> Result<usize>
-    requires { at < length cases.now }
-    ensures { IfOk result (λ next. (at < next) × (next ≤ length cases.now)) }
-{
-    if cases[at] == SEARCH {
-        return answer_search(out, cases, at + 1);
+pub struct ListCase;
+
+impl Case for ListCase {
+    fn answer<W: Write>(out: &mut W, cases: &[u8], at: usize) -> Result<usize> {
+        if cases[at] == SEARCH {
+            return answer_search(out, cases, at + 1);
+        }
+        let text = text_at(cases, at + 1);
+        let sheet = &cases[text.start..text.end];
+        if cases[at] == READ {
+            print_lent(out, sheet, entry_lists::read_lent(sheet, held()))?;
+            return Ok(text.end);
+        }
+        print_lent(out, sheet, entry_lists::check_lent(sheet, held()))?;
+        Ok(text.end)
     }
-    let text = text_at(cases, at + 1);
-    let start = text.start;
-    let end = text.end;
-    let sheet = &cases[start..end];
-    if cases[at] == READ {
-        print_lent(out, sheet, entry_lists::read_lent(sheet, held()))?;
-        return Ok(end);
-    }
-    print_lent(out, sheet, entry_lists::check_lent(sheet, held()))?;
-    Ok(end)
 }

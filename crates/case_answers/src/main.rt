@@ -2,6 +2,7 @@
 
 #![tactic(auto)]
 
+mod case;
 mod check_case;
 mod determinacy_case;
 mod list_case;
@@ -11,63 +12,32 @@ mod records;
 mod rooms;
 mod run_case;
 
-ghost use Rattle.std.specs.Prelude.{◌≤◌, ◌<◌, length, IfOk};
-
+use case::{Case, answer_all};
+use check_case::CheckCase;
+use determinacy_case::DeterminacyCase;
 use in_reading::read_file;
+use list_case::ListCase;
+use read_case::ReadCase;
+use rooms::{FILE_ROOM, cleared};
+use run_case::RunCase;
 use std::io;
-use std::io::{Result, Write};
+use std::io::Result;
 use std::rt::Files;
 
-// What the cases of a file ask for, where they ask for no run.
-#[derive(Clone, Copy)]
-enum Kind {
-    Read,
-    Check,
-    List,
-    Determinacy,
-}
-
-// Answers the record at a place and returns the place past it.
-fn answer<W: Write>(out: &mut W, kind: Kind, cases: &[u8], at: usize) -> Result<usize>
-    requires { at < length cases.now }
-    ensures { IfOk result (λ next. (at < next) × (next ≤ length cases.now)) }
-{
-    match kind {
-        Kind::Read => read_case::answer(out, cases, at),
-        Kind::Check => check_case::answer(out, cases, at),
-        Kind::List => list_case::answer(out, cases, at),
-        Kind::Determinacy => determinacy_case::answer(out, cases, at),
-    }
-}
-
-fn answer_all<W: Write>(out: &mut W, kind: Kind, cases: &[u8]) -> Result<()> {
-    let mut at = 0;
-    // a record is as long as it says, so no `for` counts the places
-    while at < cases.len() {
-        at = answer(out, kind, cases, at)?;
-    }
-    Ok(())
-}
-
-// Answers the cases of a file, with room for it.
-fn answer_file(rt: &(impl Files + Print), kind: Kind, name: &str, room: &mut [u8]) -> Result<()> {
+// Answers the cases of a file, with room for it. Each kind has a frame of its own: the tables of a run and those of the test for at most one end
+// together pass the usual native stack.
+#[inline(never)]
+fn answer_file<C: Case, R: Files + Print>(rt: &R, name: &str, room: &mut [u8]) -> Result<()> {
     let n = read_file(rt, name, room);
-    answer_all(&mut io::writer(rt), kind, &room[..n])
-}
-
-// The same of a file of runs. It is a function of its own so that no frame has both the tables of a run and those of the test for at most one end:
-// together they pass the usual native stack.
-fn answer_runs(rt: &(impl Files + Print), name: &str, room: &mut [u8]) -> Result<()> {
-    let n = read_file(rt, name, room);
-    run_case::answer_all(&mut io::writer(rt), &room[..n])
+    answer_all::<C, _>(&mut io::writer(rt), &room[..n])
 }
 
 fn main(rt: HostRuntime) -> Result<()> {
-    let mut room = rooms::file_room();
-    answer_file(&rt, Kind::Read, "read", &mut room)?;
-    answer_file(&rt, Kind::Check, "check", &mut room)?;
-    answer_runs(&rt, "run", &mut room)?;
-    answer_file(&rt, Kind::List, "list", &mut room)?;
-    answer_runs(&rt, "trace", &mut room)?;
-    answer_file(&rt, Kind::Determinacy, "determinacy", &mut room)
+    let mut room = cleared::<FILE_ROOM>();
+    answer_file::<ReadCase, _>(&rt, "read", &mut room)?;
+    answer_file::<CheckCase, _>(&rt, "check", &mut room)?;
+    answer_file::<RunCase, _>(&rt, "run", &mut room)?;
+    answer_file::<ListCase, _>(&rt, "list", &mut room)?;
+    answer_file::<RunCase, _>(&rt, "trace", &mut room)?;
+    answer_file::<DeterminacyCase, _>(&rt, "determinacy", &mut room)
 }

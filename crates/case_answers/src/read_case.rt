@@ -2,6 +2,7 @@
 // entry is printed; or `T`, a number in one byte and a text, of which the token is printed before which so many stand.
 ghost use Rattle.std.specs.Prelude.{◌≤◌, ◌<◌, length, IfOk};
 
+use crate::case::Case;
 use crate::output::print_number;
 use crate::records::{text_at, wide};
 use std::io::{Result, Write};
@@ -26,7 +27,8 @@ fn print_declared<W: Write>(out: &mut W, declared: Option<Entry>) -> Result<()> 
     }
 }
 
-// The kinds of token as the files of cases number them.
+// The kinds of token as the files of cases number them. (The engine that these come from is no Rattle, so they have numbers; a `From` would have to stand
+// beside the type, in a crate that knows nothing of cases.)
 fn kind_number(kind: TokenKind) -> usize {
     match kind {
         TokenKind::NoToken => 0,
@@ -48,27 +50,25 @@ fn kind_number(kind: TokenKind) -> usize {
     }
 }
 
-// Answers the record at a place and returns the place past it.
-pub fn answer<W: Write>(out: &mut W, cases: &[u8], at: usize) -> Result<usize>
-    requires { at < length cases.now }
-    ensures { IfOk result (λ next. (at < next) × (next ≤ length cases.now)) }
-{
-    let kind = cases[at];
-    if kind == ENTRY {
-        return answer_entry(out, cases, at + 1);
+pub struct ReadCase;
+
+impl Case for ReadCase {
+    fn answer<W: Write>(out: &mut W, cases: &[u8], at: usize) -> Result<usize> {
+        let kind = cases[at];
+        if kind == ENTRY {
+            return answer_entry(out, cases, at + 1);
+        }
+        if kind == TOKEN {
+            return answer_token(out, cases, at + 1);
+        }
+        let text = text_at(cases, at + 1);
+        if kind == SHEET {
+            out_printing::print_line(out, pilvaust::read(&cases[text.start..text.end]), b"")?;
+            return Ok(text.end);
+        }
+        out_printing::print_line(out, pilvaust::read_goal(&cases[text.start..text.end]), b"")?;
+        Ok(text.end)
     }
-    if kind == TOKEN {
-        return answer_token(out, cases, at + 1);
-    }
-    let text = text_at(cases, at + 1);
-    let start = text.start;
-    let end = text.end;
-    if kind == SHEET {
-        out_printing::print_line(out, pilvaust::read(&cases[start..end]), b"")?;
-        return Ok(end);
-    }
-    out_printing::print_line(out, pilvaust::read_goal(&cases[start..end]), b"")?;
-    Ok(end)
 }
 
 // Answers the rest of a record that asks for an entry.
@@ -80,10 +80,11 @@ fn answer_entry<W: Write>(out: &mut W, cases: &[u8], at: usize) -> Result<usize>
         return Ok(at);
     }
     let text = text_at(cases, at + 1);
-    let start = text.start;
-    let end = text.end;
-    print_declared(out, pilvaust::entry(&cases[start..end], wide(cases[at])))?;
-    Ok(end)
+    print_declared(
+        out,
+        pilvaust::entry(&cases[text.start..text.end], wide(cases[at])),
+    )?;
+    Ok(text.end)
 }
 
 // Answers the rest of a record that asks for a token.
@@ -95,13 +96,11 @@ fn answer_token<W: Write>(out: &mut W, cases: &[u8], at: usize) -> Result<usize>
         return Ok(at);
     }
     let text = text_at(cases, at + 1);
-    let start = text.start;
-    let end = text.end;
-    let token = lex_reader::nth_token(&cases[start..end], wide(cases[at]));
+    let token = lex_reader::nth_token(&cases[text.start..text.end], wide(cases[at]));
     out.write_all(b"token")?;
     print_number(out, kind_number(token.kind))?;
     print_number(out, token.at)?;
     print_number(out, token.len)?;
     out.write_all(b"\n")?;
-    Ok(end)
+    Ok(text.end)
 }

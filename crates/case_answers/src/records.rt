@@ -1,6 +1,6 @@
 // The fields of a record. A number is some bytes, lowest first; a text is its length in 3 bytes and then its bytes.
 ghost use Rattle.std.specs.Prelude.{◌≡◌, ◌+◌, ◌≤◌, ◌<◌, length};
-ghost use Rattle.case_answers.specs.Rooms.{byte_values};
+ghost use Rattle.case_answers.specs.Rooms.{byte_values, two_at, three_at};
 
 // A text of the file.
 #[derive(Clone, Copy)]
@@ -38,12 +38,14 @@ pub fn text_at(cases: &[u8], at: usize) -> Part
 // A number of two bytes, and one of three.
 pub fn two(cases: &[u8], at: usize) -> usize
     requires { at + 2 ≤ length cases.now }
+    ensures { result ≡ two_at cases.now at }
 {
     u16::from_le_bytes([cases[at], cases[at + 1]]) as usize
 }
 
 pub fn three(cases: &[u8], at: usize) -> usize
     requires { at + 3 ≤ length cases.now }
+    ensures { result ≡ three_at cases.now at }
 {
     u32::from_le_bytes([cases[at], cases[at + 1], cases[at + 2], 0]) as usize
 }

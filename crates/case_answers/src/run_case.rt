@@ -1,10 +1,11 @@
 // `R`, the settings, a sheet and a goal, or `T`, the settings, a sheet, a goal and a trace. What the runner would print with these settings is printed.
 // The settings are the allowance in 3 bytes, the wanted answers in 2, the room in 3 and a byte that is 1 for the mark of a sheet stored earlier.
-ghost use Rattle.std.specs.Prelude.{◌+◌, ◌≤◌, ◌<◌, length, IfOk};
-ghost use Rattle.case_answers.specs.Rooms.{settings_size};
+ghost use Rattle.std.specs.Prelude.{◌≡◌, ◌==◌, ◌+◌, ◌≤◌, length, get_or};
+ghost use Rattle.case_answers.specs.Rooms.{settings_size, two_at, three_at};
 
+use crate::case::Case;
 use crate::records::{text_at, three, two};
-use crate::rooms::{TEXT_ROOM, text_room};
+use crate::rooms::{TEXT_ROOM, cleared};
 use out_printing::print_run;
 use std::io::{Result, Write};
 use syntax::RunSettings;
@@ -17,6 +18,9 @@ const SETTINGS: usize = 10;
 // The settings of the record at a place, and its room.
 fn settings_at(cases: &[u8], at: usize) -> RunSettings
     requires { at + settings_size ≤ length cases.now }
+    ensures allowance { result.allowance ≡ three_at cases.now (at + 1) }
+    ensures wanted { result.wanted ≡ two_at cases.now (at + 4) }
+    ensures stored { result.stored ≡ (get_or cases.now (at + 9) 0 == 1) }
 {
     let allowance = three(cases, at + 1);
     let wanted = two(cases, at + 4);
@@ -30,11 +34,14 @@ fn settings_at(cases: &[u8], at: usize) -> RunSettings
 
 fn room_at(cases: &[u8], at: usize) -> usize
     requires { at + settings_size ≤ length cases.now }
+    ensures { result ≡ three_at cases.now (at + 6) }
 {
     three(cases, at + 6)
 }
 
-// Runs with a text, and prints what comes of it. A run with a trace is a function of its own, so that no frame has the tables of both.
+// Runs with a text, and prints what comes of it. A run with a trace is a function of its own, so that no frame has the tables of both. (Texts and settings
+// are parameters, as `pilvaust` takes them.)
+#[inline(never)]
 fn run_with<'a, W: Write>(
     out: &mut W,
     sheet: &'a [u8],
@@ -46,6 +53,7 @@ fn run_with<'a, W: Write>(
     print_run(out, sheet, goal, run, text)
 }
 
+#[inline(never)]
 fn trace_with<'a, W: Write>(
     out: &mut W,
     sheet: &'a [u8],
@@ -58,76 +66,40 @@ fn trace_with<'a, W: Write>(
     print_run(out, sheet, goal, run, text)
 }
 
-// Runs with so much room; a record that asks for more than there is is passed over.
-fn answer_run<'a, W: Write>(
-    out: &mut W,
-    sheet: &'a [u8],
-    goal: &'a [u8],
-    asked: RunSettings,
-    room: usize,
-) -> Result<()> {
-    if TEXT_ROOM < room {
-        return Ok(());
-    }
-    let mut text = text_room();
-    run_with(out, sheet, goal, asked, &mut text[..room])
-}
-
-fn answer_trace<'a, W: Write>(
-    out: &mut W,
-    sheet: &'a [u8],
-    goal: &'a [u8],
-    trace: &[u8],
-    asked: RunSettings,
-    room: usize,
-) -> Result<()> {
-    if TEXT_ROOM < room {
-        return Ok(());
-    }
-    let mut text = text_room();
-    trace_with(out, sheet, goal, trace, asked, &mut text[..room])
-}
-
-// Answers the record at a place and returns the place past it.
-fn answer<W: Write>(out: &mut W, cases: &[u8], at: usize) -> Result<usize>
-    requires { at < length cases.now }
-    ensures { IfOk result (λ next. (at < next) × (next ≤ length cases.now)) }
+// A run with so much room for its text; a record that asks for more than there is is passed over.
+fn in_room<F: FnOnce(&mut [u8]) -> Result<()>>(room: usize, run: F) -> Result<()>
+    requires { F.IsAlwaysCallable run }
 {
-    let all = cases.len();
-    if all - at < SETTINGS {
-        return Ok(all);
+    if TEXT_ROOM < room {
+        return Ok(());
     }
-    let asked = settings_at(cases, at);
-    let room = room_at(cases, at);
-    let sheet = text_at(cases, at + SETTINGS);
-    let start = sheet.start;
-    let end = sheet.end;
-    let goal = text_at(cases, end);
-    let from = goal.start;
-    let to = goal.end;
-    if cases[at] == RUN {
-        answer_run(out, &cases[start..end], &cases[from..to], asked, room)?;
-        return Ok(to);
-    }
-    let trace = text_at(cases, to);
-    let first = trace.start;
-    let last = trace.end;
-    answer_trace(
-        out,
-        &cases[start..end],
-        &cases[from..to],
-        &cases[first..last],
-        asked,
-        room,
-    )?;
-    Ok(last)
+    let mut text = cleared::<TEXT_ROOM>();
+    run(&mut text[..room])
 }
 
-pub fn answer_all<W: Write>(out: &mut W, cases: &[u8]) -> Result<()> {
-    let mut at = 0;
-    // a record is as long as it says, so no `for` counts the places
-    while at < cases.len() {
-        at = answer(out, cases, at)?;
+pub struct RunCase;
+
+impl Case for RunCase {
+    fn answer<W: Write>(out: &mut W, cases: &[u8], at: usize) -> Result<usize> {
+        let all = cases.len();
+        if all - at < SETTINGS {
+            return Ok(all);
+        }
+        let asked = settings_at(cases, at);
+        let room = room_at(cases, at);
+        let sheet_part = text_at(cases, at + SETTINGS);
+        let goal_part = text_at(cases, sheet_part.end);
+        let sheet = &cases[sheet_part.start..sheet_part.end];
+        let goal = &cases[goal_part.start..goal_part.end];
+        if cases[at] == RUN {
+            in_room(room, |text| run_with(out, sheet, goal, asked, text))?;
+            return Ok(goal_part.end);
+        }
+        let trace_part = text_at(cases, goal_part.end);
+        let trace = &cases[trace_part.start..trace_part.end];
+        in_room(room, |text| {
+            trace_with(out, sheet, goal, trace, asked, text)
+        })?;
+        Ok(trace_part.end)
     }
-    Ok(())
 }

@@ -19,17 +19,16 @@ use Rattle.syntax.specs.declared.Text.{Text}
 use Rattle.syntax.specs.declared.Text.TheVariants.{Goal as in_goal}
 use Rattle.syntax.specs.declared.Refusal.{Refusal}
 use Rattle.syntax.specs.declared.Refusal.TheVariants.{TooLong}
-use Rattle.syntax.specs.Verdicts.{Accepted, Refused}
 use Rattle.syntax.specs.Verdicts.{Ended as Ended-by}
 use Rattle.mode_rules.specs.Modes.{goal_fault}
 use Rattle.mode_rules.specs.Checking.{faultless, checked_goal_from, checked_goal}
 use Rattle.machine.specs.Runs.{RunOutcome, stopped, reported, run, over_goal, run_answer, run_text}
-use Rattle.mode_marks.specs.Tables.{GoalAt}
+use Rattle.mode_marks.specs.Tables.{GoalAt, DeclarationsAt}
+use Rattle.mode_clauses.proofs.Sheets.{sheet-declarations}
 use Rattle.std.specs.Prelude.{Result, Ok, Err}
 use Rattle.syntax.specs.declared.Fault.{Fault}
 use Rattle.mode_marks.specs.Answers.{Checked, checked_of}
 use Rattle.run_layout.proofs.Limits.{goal-limited}
-use Rattle.run_whole.specs.declared.Ran.{Ran}
 use Rattle.run_whole.specs.Running.{Runs}
 use Rattle.load_and_run.specs.Programs.{Programmed}
 use Rattle.read_and_check.specs.Tables.{GoalInTable, GoalTabled, Over}
@@ -70,7 +69,7 @@ module _ {sheet table : List ℕ} {k : ℕ} {goal goals : List ℕ} {literals co
     goals_short = w.goals_short;
   }
 
-  pub part-runs : {allowance wanted : ℕ} {old new : List ℕ} {r : Ran} → ((w : Programmed sheet table k goal goals literals (last-words goals) count) → Runs w.sh w.g allowance wanted old new r)
+  pub part-runs : {allowance wanted : ℕ} {old new : List ℕ} {r : Written} → ((w : Programmed sheet table k goal goals literals (last-words goals) count) → Runs w.sh w.g allowance wanted old new r)
       → (w : Programmed sheet table k goal goals literals (met goals) count) → Runs w.sh w.g allowance wanted old new r
   unfolding part-programmed
   part-runs f w = f (part-programmed w)
@@ -98,6 +97,9 @@ stopped-answers o t q e u eu old =
 module _ (s declared : List ℕ) (n : ℕ) (table : List ℕ) (k : ℕ) where
   abbrev over-of : ProgramReady s declared n table k → Over s declared n k
   over-of w = record { sheet = w.stands.sheet; has = w.stands.has_declarations; count = w.stands.declarations_count; clauses = w.stands.clauses_count; stand = w.stands.stands.declarations }
+
+  pub ready-declarations : ProgramReady s declared n table k → DeclarationsAt s declared n
+  ready-declarations w = sheet-declarations w.stands
 
   module _ (g goals : List ℕ) (allowance wanted : ℕ) where
     -- the run of the goal, with room for so much text
@@ -153,7 +155,7 @@ module _ (s declared : List ℕ) (n : ℕ) (table : List ℕ) (k : ℕ) where
             let o : checked_goal w.stands.sheet g ≡ refused q = ap (checked_goal_from w.stands.sheet) (goal-of s declared n k g goals r t).1 ∙ ap (faultless the-goal) (fault-some (goal_fault w.stands.sheet the-goal) q (sym h ∙ goal-checked w)) in
             stopped-answers (outcome w old) in_goal q (ap (over_goal w.stands.sheet allowance wanted (length old)) o) u eu old
 
-        pub goal-runs : ck ≡ Ok tt → length goals ≤ goal_words → (x : Ran) (old new : List ℕ)
+        pub goal-runs : ck ≡ Ok tt → length goals ≤ goal_words → (x : Written) (old new : List ℕ)
             → ((p : Programmed s table k g goals r.literals (met goals) r.count) → Runs p.sh p.g allowance wanted old new x)
             → (v : Result Written Fault) → EndsWith x.report x.bytes v → (w : ProgramReady s declared n table k) → Answers (outcome w old) old new v
         unfolding checked_goal checked_goal_from faultless over_goal reported run_answer run_text goal-programmed

@@ -12,39 +12,31 @@ ghost use Rattle.machine.specs.Runs.{over_goal};
 ghost use Rattle.check_and_run.specs.Goals.{ProgramReady, Answers};
 
 use load_and_run::load_and_run;
-use mode_marks::marks::Declarations;
-use read_and_check::{goal_room, read_goal_text};
+use load_words::{ReadGoal, ReadSheet};
+use mode_marks::marks::{Declarations, ReadText};
+use read_and_check::read_goal_text;
 use run_results::{Written, goal_refused, run_ended};
-use run_whole::Ran;
-use syntax::{Fault, VARIABLES};
+use syntax::{Fault, GOAL_WORDS, RunSettings, VARIABLES};
 
-// A goal that was read into its table, with the words of its variables last, run over a sheet that stands in another.
+// A goal that was read into its table, with the words of its variables last, run over a sheet that was read.
 fn check_goal_and_run(
-    sheet: &[u8],
-    table: &[u32],
-    k: usize,
-    goal: &[u8],
-    goals: &[u32],
-    literals: usize,
+    sheet: ReadSheet<'_>,
+    goal: ReadGoal<'_>,
     count: usize,
     text: &mut [u8],
     allowance: usize,
     wanted: usize,
-) -> Ran
-    requires variables_in_bounds { variables ≤ length goals.now }
-    requires programmed { Programmed sheet.now table.now k goal.now goals.now literals (met goals.now) count }
-    ensures { (w : Programmed sheet.now table.now k goal.now goals.now literals
-        (met goals.now) count) → Runs w.sh w.g allowance wanted text.old text.new result }
+) -> Written
+    requires variables_in_bounds { variables ≤ length goal.table.now }
+    requires programmed { Programmed sheet.text.now sheet.table.now sheet.clauses goal.text.now goal.table.now goal.literals (met goal.table.now) count }
+    ensures { (w : Programmed sheet.entry.text.now sheet.entry.table.now sheet.entry.clauses goal.entry.text.now goal.entry.table.now goal.entry.literals
+        (met goal.entry.table.now) count) → Runs w.sh w.g allowance wanted text.old text.new result }
 {
-    let from = goals.len() - VARIABLES;
+    let from = goal.table.len() - VARIABLES;
     load_and_run(
         sheet,
-        table,
-        k,
         goal,
-        goals,
-        literals,
-        &goals[from..],
+        &goal.table[from..],
         count,
         text,
         allowance,
@@ -52,43 +44,45 @@ fn check_goal_and_run(
     )
 }
 
-// A goal run over a checked sheet that stands in its tables.
+// A goal run as asked over a checked sheet that stands in its tables. (By `match`, as `read_and_check::read_text`.)
 pub fn read_goal_and_run(
-    sheet: &[u8],
-    declared: &[u32],
-    n: usize,
+    declarations: Declarations<'_>,
     table: &[u32],
     k: usize,
     goal: &[u8],
+    asked: RunSettings,
     text: &mut [u8],
-    allowance: usize,
-    wanted: usize,
 ) -> Result<Written, Fault>
-    requires { ProgramReady sheet.now declared.now n table.now k }
-    ensures { (w : ProgramReady sheet.now declared.now n table.now k)
-        → Answers (over_goal w.stands.sheet allowance wanted (length text.old) (checked_goal w.stands.sheet goal.now))
+    requires { ProgramReady declarations.text.now declarations.words.now declarations.count table.now k }
+    ensures { (w : ProgramReady declarations.entry.text.now declarations.entry.words.now declarations.entry.count table.now k)
+        → Answers (over_goal w.stands.sheet asked.allowance asked.wanted (length text.old) (checked_goal w.stands.sheet goal.now))
         text.old text.new result }
 {
-    let mut goals = goal_room();
+    let mut goals = [0; GOAL_WORDS];
     let read = read_goal_text(goal, &mut goals)?;
-    let declarations = Declarations {
-        text: sheet,
-        words: declared,
-        count: n,
+    let words = ReadText {
+        text: goal,
+        table: &goals,
     };
-    match mode_clauses::check_goal(declarations, goal, &goals, read.literals) {
+    match mode_clauses::check_goal(declarations, words, read.literals) {
         Ok(()) => {
+            let sheet = ReadSheet {
+                text: declarations.text,
+                table,
+                clauses: k,
+            };
+            let body = ReadGoal {
+                text: goal,
+                table: &goals,
+                literals: read.literals,
+            };
             let ran = check_goal_and_run(
                 sheet,
-                table,
-                k,
-                goal,
-                &goals,
-                read.literals,
+                body,
                 read.count,
                 text,
-                allowance,
-                wanted,
+                asked.allowance,
+                asked.wanted,
             );
             run_ended(ran.report, ran.bytes)
         }

@@ -12,15 +12,18 @@ ghost use Rattle.determinacy.specs.Tables.{SheetLinked, SheetReady};
 
 use determinacy_brackets::bracketed_clause;
 use linker::link;
+use load_words::{ReadGoal, ReadSheet};
 use loader::load_nodes;
+use mode_marks::marks::Declarations;
 use pairs::first_pair;
+use run_alternatives::Compiled;
 use run_layout::{CODE_WORDS, NARROW_WORDS, NODES_WORDS, STORE_WORDS};
 use run_rooms::cleared;
 use syntax::Refusal;
 
-// The answer to the test: yes; no, with the first two clauses that speak against the sheet, or the first that has a bracket and 0; or the sheet's
-// refusal. Three ways with a name each, where a Result of an Option would call a yes `Ok(None)`; a no has two numbers, so that a bracket's second
-// is 0.
+// The answer to the test: yes; no, with the first two clauses that speak against the sheet, or the first that has a bracket and 0; or the sheet's refusal.
+// Three ways with a name each, where a Result of an Option would call a yes `Ok(None)`. The second number is no Option, since the definition `against`, over
+// which the theorems are, has 0 for it at a bracket.
 #[derive(Clone, Copy)]
 pub enum Determinacy {
     Yes,
@@ -30,57 +33,60 @@ pub enum Determinacy {
 
 // The first two clauses of a loaded and linked sheet that overlap.
 fn judge_linked(
-    sheet: &[u8],
-    declared: &[u32],
-    n: usize,
+    declarations: Declarations,
     table: &[u32],
     k: usize,
-    nodes: &[u32],
-    code: &[u32],
+    program: Compiled,
 ) -> Determinacy
-    requires { SheetLinked sheet.now declared.now n table.now k nodes.now code.now }
-    ensures { (w : SheetLinked sheet.now declared.now n table.now k nodes.now code.now)
-        → result ≡ told (judged_by (first_pair w.stands.sheet.declarations 1 w.stands.sheet.clauses)) }
+    requires { SheetLinked declarations.text.now declarations.words.now declarations.count table.now k program.nodes.now program.code.now }
+    ensures { (w : SheetLinked declarations.entry.text.now declarations.entry.words.now declarations.entry.count
+        table.now k program.entry.nodes.now program.entry.code.now) → result
+        ≡ told (judged_by (first_pair w.stands.sheet.declarations 1 w.stands.sheet.clauses)) }
 {
     let mut state: [u32; STORE_WORDS] = cleared();
     let mut scratch: [u32; NARROW_WORDS] = cleared();
-    first_pair(
-        sheet,
-        declared,
-        n,
-        table,
-        k,
-        nodes,
-        code,
-        &mut state,
-        &mut scratch,
-    )
+    first_pair(declarations, table, k, program, &mut state, &mut scratch)
 }
 
 // The same of a sheet that stands in its tables: it is loaded and linked with a goal of no literals.
-fn judge_pairs(sheet: &[u8], declared: &[u32], n: usize, table: &[u32], k: usize) -> Determinacy
-    requires { SheetReady sheet.now declared.now n table.now k }
-    ensures { (w : SheetReady sheet.now declared.now n table.now k) → result
+fn judge_pairs(declarations: Declarations, table: &[u32], k: usize) -> Determinacy
+    requires { SheetReady declarations.text.now declarations.words.now declarations.count table.now k }
+    ensures { (w : SheetReady declarations.entry.text.now declarations.entry.words.now declarations.entry.count table.now k) → result
         ≡ told (judged_by (first_pair w.stands.sheet.declarations 1 w.stands.sheet.clauses)) }
 {
-    let goal = [0u8; 1];
-    let goals = [0u32; 1];
+    let sheet = ReadSheet {
+        text: declarations.text,
+        table,
+        clauses: k,
+    };
+    let text = [0u8; 1];
+    let words = [0u32; 1];
+    let goal = ReadGoal {
+        text: &text,
+        table: &words,
+        literals: 0,
+    };
     let mut nodes: [u32; NODES_WORDS] = cleared();
     let mut symbols: [u32; NODES_WORDS] = cleared();
     let mut code: [u32; CODE_WORDS] = cleared();
-    load_nodes(sheet, table, k, &goal, &goals, 0, &mut nodes, &mut symbols);
-    link(table, k, &goals, 0, &nodes, &mut code);
-    judge_linked(sheet, declared, n, table, k, &nodes, &code)
+    load_nodes(sheet, goal, &mut nodes, &mut symbols);
+    link(sheet, goal, &nodes, &mut code);
+    let program = Compiled {
+        nodes: &nodes,
+        code: &code,
+    };
+    judge_linked(declarations, table, k, program)
 }
 
-// The test of a checked sheet that stands in its tables: n declarations and k clauses.
-pub fn judge(sheet: &[u8], declared: &[u32], n: usize, table: &[u32], k: usize) -> Determinacy
-    requires { SheetReady sheet.now declared.now n table.now k }
-    ensures { (w : SheetReady sheet.now declared.now n table.now k) → result
+// The test of a checked sheet that stands in its tables: its declarations, and its clauses, k of them. (Declarations, table and number of clauses are three
+// parameters, as in `mode_sheets::check_sheet`: what is below wants the declarations with a place of the table or alone, and would open a struct at once.)
+pub fn judge(declarations: Declarations, table: &[u32], k: usize) -> Determinacy
+    requires { SheetReady declarations.text.now declarations.words.now declarations.count table.now k }
+    ensures { (w : SheetReady declarations.entry.text.now declarations.entry.words.now declarations.entry.count table.now k) → result
         ≡ told (judged_by (against w.stands.sheet)) }
 {
     if let Some(first) = bracketed_clause(table, k) {
         return Determinacy::No { first, second: 0 };
     }
-    judge_pairs(sheet, declared, n, table, k)
+    judge_pairs(declarations, table, k)
 }

@@ -19,6 +19,7 @@ fn has_bracket(table: &[u32], p: usize, items: usize) -> bool
     ensures { (b : Body) → ItemsAt table.now p items b → result ≡ not (without_brackets b) }
 {
     let mut at = p;
+    // Items are of several lengths, so each says where the next begins: no iterator has them.
     for _ in 0..items {
         if EQUATION_KIND < word_at(table, at) {
             return true;
@@ -45,6 +46,7 @@ pub fn bracketed_clause(table: &[u32], k: usize) -> Option<usize>
     ensures { (w : ClausesIn table.now k) → result ≡ told_number (first_bracketed 1 w.list) }
 {
     let mut at = 0;
+    // Clauses are of several lengths, so each says where the next begins: no iterator has them.
     for i in 0..k {
         let number = i + 1;
         if is_bracketed(table, at) {

@@ -30,7 +30,7 @@ use Rattle.determinacy_inputs.specs.Joins.{left_copy, right_copy, unify_if, Pair
 -- ---- one pair of arguments
 
 module _ {nodes state scratch : List ℕ} {p q n : ℕ} where
-  abbrev pub unifiable : Paired nodes state scratch p q n → Unifiable nodes state scratch p left_copy q right_copy n
+  abbrev pub unifiable : Paired nodes state scratch p q n → Unifiable nodes state scratch (record { node = p; copy = left_copy }) (record { node = q; copy = right_copy }) n
   unifiable w = record {
     ss = w.ss;
     top = right_copy;
@@ -58,10 +58,10 @@ module _ {nodes state scratch : List ℕ} {p q n : ℕ} where
     }
 
     pub meets-input : k ≡ mark_number input → {after later : List ℕ} {r : UnifyAnswer}
-        → ((v : Unifiable nodes state scratch p left_copy q right_copy n) → UnifyGives v.ss nodes state after scratch later v.top p left_copy q right_copy n r)
+        → ((v : Unifiable nodes state scratch (record { node = p; copy = left_copy }) (record { node = q; copy = right_copy }) n) → UnifyGives v after later r)
         → (w : Paired nodes state scratch p q n) → InputUnified w.ss nodes state after scratch later p q n (eqb (first_mark marks) (mark_number input)) r
     meets-input d {after} {later} {r} f w =
-        let u : UnifyGives w.ss nodes state after scratch later right_copy p left_copy q right_copy n r = f (unifiable w) in
+        let u : UnifyGives (unifiable w) after later r = f (unifiable w) in
         record {
           store = u.store;
           within = u.within;

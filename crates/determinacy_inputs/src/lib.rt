@@ -8,6 +8,7 @@ ghost use Rattle.syntax.specs.Words.{first_mark, mark_number};
 ghost use Rattle.determinacy_inputs.specs.Joins.{Paired, InputUnified, Joinable, Joins};
 
 use packed_words::{first_mark, other_marks};
+use run_layout::terms::At;
 use syntax::INPUT;
 use table_words::past;
 use unifier::solve::{UnifyAnswer, unify};
@@ -17,53 +18,70 @@ const LEFT_COPY: usize = 1;
 
 const RIGHT_COPY: usize = 2;
 
-// Two arguments unified where the first of the marks is +, with n bindings.
+// The arguments of two heads that are left: of one head those from `left` to `stop`, of the other, as many, those from `right` on; and their marks.
+#[derive(Clone, Copy)]
+pub struct Arguments {
+    pub left: usize,
+    pub stop: usize,
+    pub right: usize,
+    pub marks: usize,
+}
+
+// The first two of them unified where the first of the marks is +, with n bindings.
 fn unify_input(
     nodes: &[u32],
     state: &mut [u32],
     scratch: &mut [u32],
-    p: usize,
-    q: usize,
-    marks: usize,
+    args: Arguments,
     n: usize,
 ) -> UnifyAnswer
-    requires { Paired nodes.now state.old scratch.old p q n }
-    ensures { (w : Paired nodes.now state.old scratch.old p q n)
-        → InputUnified w.ss nodes.now state.old state.new scratch.old scratch.new p q n
-        (eqb (first_mark marks) (mark_number input)) result }
+    requires { Paired nodes.now state.old scratch.old args.left args.right n }
+    ensures { (w : Paired nodes.now state.old scratch.old args.left args.right n)
+        → InputUnified w.ss nodes.now state.old state.new scratch.old scratch.new args.left args.right n
+        (eqb (first_mark args.marks) (mark_number input)) result }
 {
-    if first_mark(marks) != INPUT {
+    if first_mark(args.marks) != INPUT {
         return UnifyAnswer {
             equal: true,
             trail: n,
         };
     }
-    unify(nodes, state, scratch, p, LEFT_COPY, q, RIGHT_COPY, n)
+    unify(
+        nodes,
+        state,
+        scratch,
+        At {
+            node: args.left,
+            copy: LEFT_COPY,
+        },
+        At {
+            node: args.right,
+            copy: RIGHT_COPY,
+        },
+        n,
+    )
 }
 
-// The arguments from p to stop and those from q on, as many, unified pair by pair where they are marked +, each under the bindings of those before.
+// The arguments unified pair by pair where they are marked +, each under the bindings of those before.
 pub fn join_inputs(
     nodes: &[u32],
     state: &mut [u32],
     scratch: &mut [u32],
-    p: usize,
-    stop: usize,
-    q: usize,
-    marks: usize,
+    args: Arguments,
     n: usize,
 ) -> UnifyAnswer
-    requires { Joinable nodes.now state.old scratch.old p stop q marks n }
-    ensures { (w : Joinable nodes.now state.old scratch.old p stop q marks n)
+    requires { Joinable nodes.now state.old scratch.old args.left args.stop args.right args.marks n }
+    ensures { (w : Joinable nodes.now state.old scratch.old args.left args.stop args.right args.marks n)
         → Joins w.ss nodes.now state.old state.new scratch.old scratch.new w.left w.right
         w.listed n result }
 {
-    if stop <= p {
+    if args.stop <= args.left {
         return UnifyAnswer {
             equal: true,
             trail: n,
         };
     }
-    let u = unify_input(nodes, state, scratch, p, q, marks, n);
+    let u = unify_input(nodes, state, scratch, args, n);
     let trail = u.trail;
     if !u.equal {
         return UnifyAnswer {
@@ -71,8 +89,11 @@ pub fn join_inputs(
             trail,
         };
     }
-    let next = past(nodes, p);
-    let other = past(nodes, q);
-    let rest = other_marks(marks);
-    join_inputs(nodes, state, scratch, next, stop, other, rest, trail)
+    let rest = Arguments {
+        left: past(nodes, args.left),
+        stop: args.stop,
+        right: past(nodes, args.right),
+        marks: other_marks(args.marks),
+    };
+    join_inputs(nodes, state, scratch, rest, trail)
 }

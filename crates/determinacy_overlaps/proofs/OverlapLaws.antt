@@ -5,7 +5,7 @@ use mathlib.Core.Path.{◌≡◌, refl, sym, ap, ◌∙◌, subst, subst⁻¹}
 use mathlib.Core.Bool.{Bool, true, false, ◌&&◌}
 use mathlib.Core.List.{List, []}
 use mathlib.Core.Option.{some}
-use Rattle.std.specs.Prelude.{Some, None}
+use Rattle.std.specs.Prelude.{Option as Told, Some, None}
 use mathlib.Core.Logic.{◌⊎◌, inl, inr}
 use lib.Dec.{T, eqb, eqb→eq}
 use lib.ListN.{length, get_or, drop}
@@ -31,7 +31,7 @@ use Rattle.unifier.specs.Turns.{answered}
 use Rattle.unifier.specs.declared.solve.UnifyAnswer.{UnifyAnswer}
 use Rattle.determinacy_brackets.specs.Clauses.{told_number}
 use Rattle.determinacy_inputs.specs.Joins.{Joinable, Joins}
-use Rattle.determinacy_overlaps.specs.Overlaps.{NothingBound, ClauseOf, PairOf, Overlaps, FirstBehind}
+use Rattle.determinacy_overlaps.specs.Overlaps.{some_number, NothingBound, ClauseOf, PairOf, Overlaps, FirstBehind}
 use Rattle.determinacy_brackets.proofs.Numbers.{number_is, number-nothing}
 use Rattle.determinacy_overlaps.proofs.Clauses.{from, from_next, from-hit, from-miss, from-none, next-later}
 
@@ -259,3 +259,56 @@ module _ {nodes code before scratch : List ℕ} {i marks : ℕ} where
             by (suc m) zero h l o = omega arith
             by (suc m) (suc n) h l (inl z) = absurd (let y : suc n ≡ 0 = z in omega arith)
             by (suc m) (suc n) h l (inr g) = let y : suc m < suc n = g in omega arith
+
+-- ---- the next clause as the code tells it
+
+abbrev or_zero : Told ℕ → ℕ
+or_zero o = elim o [ None ↦ 0 | Some j ↦ j ]
+
+or-zero : (n : ℕ) → or_zero (some_number n) ≡ n
+unfolding some_number
+or-zero zero = refl
+or-zero (suc n) = refl
+
+some-not-zero : (n j : ℕ) → Some j ≡ some_number n → j ≡ 0 → ⊥
+unfolding some_number
+some-not-zero zero j e z = cc
+some-not-zero (suc n) zero e z = cc
+some-not-zero (suc n) (suc j) e z = absurd (omega arith)
+
+-- how far the search can still go from what is told
+abbrev pub reach_told : List ℕ → Told ℕ → ℕ
+reach_told code o = reach code (or_zero o)
+
+-- What is told is the number from which the search goes on.
+pub record Told_seeking (nodes code before scratch : List ℕ) (i marks : ℕ) (w : ClauseOf nodes code before scratch i marks) (state later : List ℕ) (o : Told ℕ) : Type 0 where
+  pub number : ℕ
+  pub is : o ≡ some_number number
+  pub seeking : Seeking nodes code before scratch i marks w state later number
+
+module _ {nodes code before scratch : List ℕ} {i marks : ℕ} {w : ClauseOf nodes code before scratch i marks} {state later : List ℕ} {o : Told ℕ} (s : Told_seeking nodes code before scratch i marks w state later o) where
+  pub told-seeking : {j : ℕ} → o ≡ Some j → Seeking nodes code before scratch i marks w state later j
+  told-seeking {j} e =
+      subst (λ (n : ℕ). Seeking nodes code before scratch i marks w state later n) (sym (or-zero s.number) ∙ ap or_zero (sym s.is ∙ e)) s.seeking
+
+  pub told-not-zero : {j : ℕ} → o ≡ Some j → j ≡ 0 → ⊥
+  told-not-zero {j} e = some-not-zero s.number j (sym e ∙ s.is)
+
+  pub told-none : o ≡ None → Seeking nodes code before scratch i marks w state later 0
+  told-none e = subst (λ (n : ℕ). Seeking nodes code before scratch i marks w state later n) (sym (or-zero s.number) ∙ ap or_zero (sym s.is ∙ e)) s.seeking
+
+pub told-falls : (code : List ℕ) (k : ℕ) {o next : Told ℕ} {j : ℕ} → o ≡ Some j → next ≡ some_number k → reach code k < reach code j → reach_told code next < reach_told code o
+told-falls code k {o} {next} {j} e n l =
+    subst⁻¹ (λ (x : Told ℕ). reach_told code next < reach_told code x) e
+    (subst⁻¹ (λ (x : Told ℕ). reach_told code x < reach code j) n
+    (subst⁻¹ (λ (m : ℕ). reach code m < reach code j) (or-zero k) l))
+
+pub after-none : (n : ℕ) → n ≡ 0 → None ≡ some_number n
+unfolding some_number
+after-none zero e = refl
+after-none (suc n) e = absurd (omega arith)
+
+pub after-some : (n : ℕ) → (n ≡ 0 → ⊥) → Some n ≡ some_number n
+unfolding some_number
+after-some zero d = absurd (d refl)
+after-some (suc n) d = refl

@@ -1,5 +1,5 @@
 -- What the functions on two clauses of one predicate are given, and what they promise.
-use Rattle.std.specs.Prelude.{ℕ, suc, ◌≡◌, Bool, List, T, drop, Option as Told}
+use Rattle.std.specs.Prelude.{ℕ, zero, suc, ◌≡◌, Bool, List, T, drop, Option as Told, Some, None}
 use Rattle.std.proofs.Math.Option.{some}
 use Rattle.syntax.specs.Terms.{Clause, Sheet, Goal}
 use Rattle.syntax.specs.Words.{marks_number}
@@ -12,6 +12,13 @@ use Rattle.run_layout.specs.Program.{Program}
 use Rattle.unify_bindings.specs.Scratch.{Roomy}
 use Rattle.unify_bindings.specs.Queues.{Clean}
 use Rattle.determinacy_brackets.specs.Clauses.{told_number}
+
+-- ---- the next clause of a predicate
+
+-- a clause's number as the code tells it, where 0 says that there is none
+unfoldable pub some_number : ℕ → Told ℕ
+some_number zero = None
+some_number (suc n) = Some (suc n)
 
 -- ---- two clauses
 

@@ -5,9 +5,10 @@
 ghost use Rattle.std.specs.Prelude.{◌≡◌, ◌+◌, ◌≤◌, ◌<◌, ◌^◌, length};
 ghost use Rattle.run_layout.specs.Regions.{clause_record, clause_size};
 ghost use Rattle.run_layout.specs.Program.{head_at, after_at};
-ghost use Rattle.determinacy_overlaps.specs.Overlaps.{PairOf, Overlaps, ClauseOf, FirstBehind};
+ghost use Rattle.determinacy_overlaps.specs.Overlaps.{some_number, PairOf, Overlaps, ClauseOf, FirstBehind};
 
-use determinacy_inputs::join_inputs;
+use determinacy_inputs::{Arguments, join_inputs};
+use run_alternatives::Compiled;
 use run_layout::{CLAUSE_SIZE, LOADED_NODE};
 use table_words::{past, word_at};
 use unify_bindings::store::undo;
@@ -21,61 +22,66 @@ fn head_of(code: &[u32], k: usize) -> usize
     word_at(code, i)
 }
 
-// The next clause of its predicate, 0 where there is none.
-fn after_of(code: &[u32], k: usize) -> usize
+// The next clause of its predicate: the word is 0 where there is none.
+fn after_of(code: &[u32], k: usize) -> Option<usize>
     requires { (k < 2 ^ 32) × (clause_record k + clause_size ≤ length code.now) }
-    ensures { result ≡ after_at code.now k }
+    ensures { result ≡ some_number (after_at code.now k) }
 {
     let i = k * CLAUSE_SIZE + 2;
-    word_at(code, i)
+    let after = word_at(code, i);
+    if after == 0 {
+        return None;
+    }
+    Some(after)
 }
 
 // Whether the + arguments of clauses i and j, of one predicate with these marks, have a common instance.
 fn overlaps(
-    nodes: &[u32],
-    code: &[u32],
+    program: Compiled,
     state: &mut [u32],
     scratch: &mut [u32],
     i: usize,
     j: usize,
     marks: usize,
 ) -> bool
-    requires { PairOf nodes.now code.now state.old scratch.old i j marks }
-    ensures { (w : PairOf nodes.now code.now state.old scratch.old i j marks)
-        → Overlaps nodes.now code.now state.old state.new scratch.old scratch.new i j marks
+    requires { PairOf program.nodes.now program.code.now state.old scratch.old i j marks }
+    ensures { (w : PairOf program.entry.nodes.now program.entry.code.now state.old scratch.old i j marks)
+        → Overlaps program.entry.nodes.now program.entry.code.now state.old state.new scratch.old scratch.new i j marks
         w result }
 {
-    let p = head_of(code, i);
-    let q = head_of(code, j);
-    let stop = past(nodes, p);
-    let from = p + LOADED_NODE;
-    let other = q + LOADED_NODE;
-    let u = join_inputs(nodes, state, scratch, from, stop, other, marks, 0);
+    let p = head_of(program.code, i);
+    let q = head_of(program.code, j);
+    let args = Arguments {
+        left: p + LOADED_NODE,
+        stop: past(program.nodes, p),
+        right: q + LOADED_NODE,
+        marks,
+    };
+    let u = join_inputs(program.nodes, state, scratch, args, 0);
     undo(state, 0, u.trail);
     u.equal
 }
 
 // The first clause behind clause i, of its predicate, that overlaps with it.
 pub fn first_overlap(
-    nodes: &[u32],
-    code: &[u32],
+    program: Compiled,
     state: &mut [u32],
     scratch: &mut [u32],
     i: usize,
     marks: usize,
 ) -> Option<usize>
-    requires { ClauseOf nodes.now code.now state.old scratch.old i marks }
-    ensures { (w : ClauseOf nodes.now code.now state.old scratch.old i marks)
-        → FirstBehind nodes.now code.now state.old state.new scratch.old scratch.new i marks
+    requires { ClauseOf program.nodes.now program.code.now state.old scratch.old i marks }
+    ensures { (w : ClauseOf program.entry.nodes.now program.entry.code.now state.old scratch.old i marks)
+        → FirstBehind program.entry.nodes.now program.entry.code.now state.old state.new scratch.old scratch.new i marks
         w result }
 {
-    let mut j = after_of(code, i);
-    // The clauses of a predicate are a chain of numbers in the table, and 0 ends it: there is no range to count.
-    while j != 0 {
-        if overlaps(nodes, code, state, scratch, i, j, marks) {
+    let mut next = after_of(program.code, i);
+    // The clauses of a predicate are a chain: each record names the next, and how many there are is known at the end alone, so no range counts them.
+    while let Some(j) = next {
+        if overlaps(program, state, scratch, i, j, marks) {
             return Some(j);
         }
-        j = after_of(code, j);
+        next = after_of(program.code, j);
     }
     None
 }

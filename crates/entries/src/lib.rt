@@ -2,39 +2,26 @@
 
 #![tactic(auto)]
 
-ghost use Rattle.std.specs.Prelude.{◌≡◌, ◌≤◌, ◌<◌, length};
+ghost use Rattle.std.specs.Prelude.{◌≡◌, ◌≤◌, length};
 ghost use Rattle.syntax.specs.Limits.{declarations};
 ghost use Rattle.syntax.specs.Words.{declared_words};
 ghost use Rattle.syntax.specs.Verdicts.{sheet_of, read_verdict};
 ghost use Rattle.mode_rules.specs.Checking.{checked_sheet, check_verdict};
 ghost use Rattle.out_listings.specs.Listings.{overlay, declared_of, entry_from, pasted};
 
-use out_listings::Listing;
+use out_listings::{Listing, entry_at};
 use pilvaust::{check_listing, read_listing};
-use syntax::{DECLARATION_SIZE, Entry, Verdict};
-use table_words::word_at;
+use syntax::{Entry, Verdict};
 
-// The i-th entry of a listing.
-fn entry_in(listing: Listing, i: usize) -> Entry
-    requires { (declared_words ≡ length listing.words) × (i < declarations) }
-    ensures { result ≡ entry_from listing.words i }
-{
-    let words = listing.words;
-    let p = DECLARATION_SIZE * i;
-    let at = word_at(&words, p);
-    let len = word_at(&words, p + 1);
-    let arguments = word_at(&words, p + 2);
-    Entry { at, len, arguments }
-}
-
-// A listing's entries into the list.
-fn fill(found: Listing, entries: &mut [Entry])
+// A listing's entries into the list; its verdict is returned.
+fn fill(found: Listing, entries: &mut [Entry]) -> Verdict
     requires { (declared_words ≡ length found.words) × ((found.count ≤ declarations) × (found.count ≤ length entries.old)) }
-    ensures { entries.new ≡ pasted (entry_from found.words) found.count entries.old }
+    ensures { (result ≡ found.verdict) × (entries.new ≡ pasted (entry_from found.words) found.count entries.old) }
 {
     for i in 0..found.count {
-        entries[i] = entry_in(found, i);
+        entries[i] = entry_at(&found.words, i);
     }
+    found.verdict
 }
 
 // Reads a sheet; when it is accepted, the entries of its declarations, in sheet order, as far as the list goes.
@@ -42,17 +29,13 @@ pub fn read_entries(sheet: &[u8], entries: &mut [Entry]) -> Verdict
     ensures { (result ≡ read_verdict sheet.now) × (entries.new ≡ overlay entries.old
         (declared_of (sheet_of sheet.now))) }
 {
-    let found = read_listing(sheet, entries.len());
-    fill(found, entries);
-    found.verdict
+    fill(read_listing(sheet, entries.len()), entries)
 }
 
-// The same of a sheet that is checked.
+// The same of a sheet that is checked. (What the two share is `fill`; the rest of each is one call.)
 pub fn check_entries(sheet: &[u8], entries: &mut [Entry]) -> Verdict
     ensures { (result ≡ check_verdict sheet.now)
         × (entries.new ≡ overlay entries.old (declared_of (checked_sheet sheet.now))) }
 {
-    let found = check_listing(sheet, entries.len());
-    fill(found, entries);
-    found.verdict
+    fill(check_listing(sheet, entries.len()), entries)
 }

@@ -10,35 +10,30 @@ ghost use Rattle.out_listings.specs.Listings.{overlay, declared_of};
 use entries::{check_entries, read_entries};
 use syntax::{Entry, Verdict};
 
+// How many entries a list has. (The clauses have the number itself.)
+const ENTRIES: usize = 3;
+
 // A verdict, and the list after it.
 #[derive(Clone, Copy)]
 pub struct Lent {
     pub verdict: Verdict,
-    pub list: [Entry; 3],
+    pub list: [Entry; ENTRIES],
 }
 
 // Reads a sheet and lends it the list.
-pub fn read_lent(sheet: &[u8], list: [Entry; 3]) -> Lent
+pub fn read_lent(sheet: &[u8], mut list: [Entry; ENTRIES]) -> Lent
     ensures { (result.verdict ≡ read_verdict sheet.now) × ((result.list ≡ overlay list (declared_of (sheet_of sheet.now)))
         × (3 ≡ length result.list)) }
 {
-    let mut lent = list;
-    let verdict = read_entries(sheet, &mut lent);
-    Lent {
-        verdict,
-        list: lent,
-    }
+    let verdict = read_entries(sheet, &mut list);
+    Lent { verdict, list }
 }
 
-// The same of a sheet that is checked.
-pub fn check_lent(sheet: &[u8], list: [Entry; 3]) -> Lent
+// The same of a sheet that is checked. (Two lines each: one function for both would take the one to call as a closure, and say its contract again.)
+pub fn check_lent(sheet: &[u8], mut list: [Entry; ENTRIES]) -> Lent
     ensures { (result.verdict ≡ check_verdict sheet.now) × ((result.list ≡ overlay list (declared_of (checked_sheet sheet.now)))
         × (3 ≡ length result.list)) }
 {
-    let mut lent = list;
-    let verdict = check_entries(sheet, &mut lent);
-    Lent {
-        verdict,
-        list: lent,
-    }
+    let verdict = check_entries(sheet, &mut list);
+    Lent { verdict, list }
 }

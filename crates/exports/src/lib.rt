@@ -1,5 +1,5 @@
-// Reading, checking and running for programs in other languages: include/pilvaust.h. Each answer is a list of numbers (specs/Numbers of packing and of
-// out_entries), of which a lent slice takes as many as fit; later ones stay as they were.
+// Reading, checking and running for programs in other languages: include/pilvaust.h. Each answer is a list of numbers (specs/Numbers of out_numbers
+// and of out_entries), of which a lent slice takes as many as fit; later ones stay as they were.
 
 #![tactic(auto)]
 
@@ -61,7 +61,7 @@ pub extern "C" fn pilvaust_entry(sheet: &[u8], i: usize, numbers: &mut [usize]) 
     out_entries::put_entry(pilvaust::entry(sheet, i), numbers)
 }
 
-// What a run is asked for.
+// What a run is asked for, of what C passes: a mark is a `bool` there.
 fn settings(allowance: usize, wanted: usize, stored: bool) -> RunSettings
     ensures { result ≡ asking allowance wanted stored }
 {

@@ -36,10 +36,7 @@ impl<'a> Reader<'a> {
         ensures { (result.text ≡ self.entry.text) × (result.at ≡ past_tokens n self.entry.text.now self.entry.at) }
     {
         let at = past_tokens(self.text, self.at, n);
-        Reader {
-            text: self.text,
-            at,
-        }
+        Reader { at, ..self }
     }
 }
 

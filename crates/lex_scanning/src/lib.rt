@@ -44,7 +44,8 @@ pub fn skip(s: &[u8], from: usize) -> usize
     at
 }
 
-// Where the bytes that pass a test end, from a position on: those of a word or of a numeral.
+// Where the bytes that pass a test end, from a position on: those of a word or of a numeral. (By `for`: with `find` over the range, tried and proved,
+// lexing took 0.5 in a hundred more instructions.)
 pub fn run_end<F: Fn(u8) -> bool>(s: &[u8], from: usize, goes_on: F) -> usize
     requires from_in_bounds { from ≤ length s.now }
     requires callable { F.IsAlwaysCallable goes_on }

@@ -1,4 +1,4 @@
-// The records of a body and of a clause. A clause stands at p of the table that it was read into, and its loaded nodes stand at q.
+// The records of a body and of a clause.
 
 #![tactic(auto)]
 
@@ -9,63 +9,56 @@ ghost use Rattle.link_clauses.specs.Records.{put_body, behind_body, put_clause};
 ghost use Rattle.link_clauses.specs.Places.{BodyTo, ClauseTo};
 
 use link_items::put_item;
-use link_records::{literal_from, next_literal, nodes_of, put_pair};
-use link_search::next_for;
+use link_records::{Places, literal_from, next_literal, nodes_of, put_pair};
+use link_search::{Heads, next_for};
 use run_layout::{CLAUSE_SIZE, END_KIND};
 use syntax::CLAUSE_START;
 use table_words::{CLAUSE_ITEMS, past, past_item, put, word_at};
 
-// The records of a body's items from l on, and its end.
-pub fn put_body(
-    table: &[u32],
-    p: usize,
-    items: usize,
-    nodes: &[u32],
-    q: usize,
-    clauses: usize,
-    code: &mut [u32],
-    l: usize,
-)
-    requires { (ss : List Symbol) × ((sh : Sheet) × ((b : Body) × BodyTo ss sh b table.now p items nodes.now q clauses code.old l)) }
-    ensures { (ss : List Symbol) (sh : Sheet) (b : Body) → BodyTo ss sh b table.now p items nodes.now q clauses
-        code.old l → code.new ≡ put_body ss sh q b code.old l }
+// The records of a body of so many items, and its end.
+pub fn put_body(table: &[u32], items: usize, heads: Heads, code: &mut [u32], at: Places)
+    requires { (ss : List Symbol) × ((sh : Sheet) × ((b : Body) × BodyTo ss sh b table.now at.read items heads.nodes.now at.node
+        heads.clauses code.old at.literal)) }
+    ensures { (ss : List Symbol) (sh : Sheet) (b : Body) → BodyTo ss sh b table.now at.read items heads.entry.nodes.now at.node
+        heads.entry.clauses code.old at.literal → code.new ≡ put_body ss sh at.node b code.old at.literal }
 {
-    let mut at = p;
-    let mut node = q;
-    let mut to = l;
+    let mut read = at.read;
+    let mut node = at.node;
+    let mut literal = at.literal;
     for _item in 0..items {
-        put_item(table, at, nodes, node, clauses, code, to);
-        let next = past_item(table, at);
-        node += nodes_of(next - at, 1);
-        at = next;
-        to = next_literal(to);
+        let here = Places {
+            read,
+            node,
+            literal,
+        };
+        put_item(table, heads, code, here);
+        let next = past_item(table, read);
+        node += nodes_of(next - read, 1);
+        read = next;
+        literal = next_literal(literal);
     }
-    put(code, to, END_KIND);
+    put(code, literal, END_KIND);
 }
 
-// The record of clause k but for its head's place: where its body begins, which is at l, and the next clause of the same predicate. And the records of its
+// The record of clause k but for its head's place: where its body's records begin, and the next clause of the same predicate. And the records of its
 // body; the place behind them.
-pub fn put_clause(
-    table: &[u32],
-    p: usize,
-    nodes: &[u32],
-    q: usize,
-    clauses: usize,
-    code: &mut [u32],
-    k: usize,
-    l: usize,
-) -> usize
-    requires { (ss : List Symbol) × ((sh : Sheet) × ((cl : Clause) × ClauseTo ss sh cl table.now p nodes.now q clauses code.old k l)) }
-    ensures { (ss : List Symbol) (sh : Sheet) (cl : Clause) → ClauseTo ss sh cl table.now p nodes.now q clauses
-        code.old k l → (code.new ≡ put_clause ss sh q cl code.old k l) × (result ≡ behind_body l cl.body) }
+pub fn put_clause(table: &[u32], heads: Heads, code: &mut [u32], k: usize, at: Places) -> usize
+    requires { (ss : List Symbol) × ((sh : Sheet) × ((cl : Clause) × ClauseTo ss sh cl table.now at.read heads.nodes.now at.node
+        heads.clauses code.old k at.literal)) }
+    ensures { (ss : List Symbol) (sh : Sheet) (cl : Clause) → ClauseTo ss sh cl table.now at.read heads.entry.nodes.now at.node
+        heads.entry.clauses code.old k at.literal
+        → (code.new ≡ put_clause ss sh at.node cl code.old k at.literal) × (result ≡ behind_body at.literal cl.body) }
 {
-    let word = word_at(nodes, q);
-    let after = next_for(nodes, code, clauses, word, k);
-    put_pair(code, k * CLAUSE_SIZE + 1, l, after);
-    let items = word_at(table, p + CLAUSE_ITEMS);
-    let first = past(table, p + CLAUSE_START);
-    let node = past(nodes, q);
-    put_body(table, first, items, nodes, node, clauses, code, l);
-    let ends = literal_from(l, items);
+    let word = word_at(heads.nodes, at.node);
+    let after = next_for(heads, code, word, k);
+    put_pair(code, k * CLAUSE_SIZE + 1, at.literal, after);
+    let items = word_at(table, at.read + CLAUSE_ITEMS);
+    let body = Places {
+        read: past(table, at.read + CLAUSE_START),
+        node: past(heads.nodes, at.node),
+        literal: at.literal,
+    };
+    put_body(table, items, heads, code, body);
+    let ends = literal_from(at.literal, items);
     next_literal(ends)
 }

@@ -1,4 +1,4 @@
-// The record of a body's item. An item stands at p of the table that it was read into, and its loaded nodes stand at q.
+// The record of a body's item.
 
 #![tactic(auto)]
 
@@ -11,8 +11,8 @@ ghost use Rattle.run_layout.specs.Nodes.{Symbol};
 ghost use Rattle.link_items.specs.Places.{ItemTo};
 ghost use Rattle.link_records.specs.Records.{put_record};
 
-use link_records::{literal_from, next_literal, put_record};
-use link_search::next_for;
+use link_records::{Places, literal_from, next_literal, put_record};
+use link_search::{Heads, next_for};
 use packed_words::{items_of_side, kind_of_item};
 use run_layout::{JUMP_KIND, SPLIT_KIND};
 use syntax::{BEHIND_KIND, CALL_KIND, EQUATION_KIND, LEFT_KIND};
@@ -21,7 +21,8 @@ use table_words::{past, word_at};
 // The words around a side: the one before it, and the one behind it.
 const SIDE_ENDS: usize = 2;
 
-// The kind of an item's record: of a plain literal its own; where a bracket begins its sides part, and at its other words a side ends.
+// The kind of an item's record: of a plain literal its own; where a bracket begins its sides part, and at its other words a side ends. A plain
+// literal's kind is the same word in both tables and goes over as it is, so kinds are numbers here.
 fn kind_of(table: &[u32], p: usize) -> usize
     requires { (x : Item) × Has table.now p (item_words x) }
     ensures { (x : Item) → Has table.now p (item_words x) → result ≡ kind_of x }
@@ -37,54 +38,41 @@ fn kind_of(table: &[u32], p: usize) -> usize
     JUMP_KIND
 }
 
-// The third word of an item's record at l: the topmost clause for a call, the place of the right term of an equation, or the record behind the side that
-// the word of a bracket begins.
-fn other_of(
-    table: &[u32],
-    p: usize,
-    nodes: &[u32],
-    q: usize,
-    clauses: usize,
-    code: &[u32],
-    l: usize,
-) -> usize
-    requires { (ss : List Symbol) × ((sh : Sheet) × ((x : Item) × ItemTo ss sh x table.now p nodes.now q clauses code.now l)) }
-    ensures { (ss : List Symbol) (sh : Sheet) (x : Item) → ItemTo ss sh x table.now p nodes.now q clauses
-        code.now l → result ≡ other_of ss sh q l x }
+// The third word of an item's record: the topmost clause for a call, the place of the right term of an equation, or the record behind the side that the word
+// of a bracket begins. Truth and falsehood have none; the word is 0 then, and nothing reads it.
+fn other_of(table: &[u32], heads: Heads, code: &[u32], at: Places) -> usize
+    requires { (ss : List Symbol) × ((sh : Sheet) × ((x : Item) × ItemTo ss sh x table.now at.read heads.nodes.now at.node heads.clauses
+        code.now at.literal)) }
+    ensures { (ss : List Symbol) (sh : Sheet) (x : Item) → ItemTo ss sh x table.now at.read heads.entry.nodes.now at.node
+        heads.entry.clauses code.now at.literal → result ≡ other_of ss sh at.node at.literal x }
 {
-    let word = word_at(table, p);
+    let word = word_at(table, at.read);
     if word < CALL_KIND {
         return 0;
     }
     if word == CALL_KIND {
-        let name = word_at(nodes, q);
-        return next_for(nodes, code, clauses, name, 0);
+        let name = word_at(heads.nodes, at.node);
+        return next_for(heads, code, name, 0);
     }
     if word == EQUATION_KIND {
-        return past(nodes, q);
+        return past(heads.nodes, at.node);
     }
     if word == BEHIND_KIND {
-        return next_literal(l);
+        return next_literal(at.literal);
     }
     let items = items_of_side(word);
-    literal_from(l, items + SIDE_ENDS)
+    literal_from(at.literal, items + SIDE_ENDS)
 }
 
 // The record of an item.
-pub fn put_item(
-    table: &[u32],
-    p: usize,
-    nodes: &[u32],
-    q: usize,
-    clauses: usize,
-    code: &mut [u32],
-    l: usize,
-)
-    requires { (ss : List Symbol) × ((sh : Sheet) × ((x : Item) × ItemTo ss sh x table.now p nodes.now q clauses code.old l)) }
-    ensures { (ss : List Symbol) (sh : Sheet) (x : Item) → ItemTo ss sh x table.now p nodes.now q clauses
-        code.old l → code.new ≡ put_record code.old l (kind_of x) q (other_of ss sh q l x) }
+pub fn put_item(table: &[u32], heads: Heads, code: &mut [u32], at: Places)
+    requires { (ss : List Symbol) × ((sh : Sheet) × ((x : Item) × ItemTo ss sh x table.now at.read heads.nodes.now at.node heads.clauses
+        code.old at.literal)) }
+    ensures { (ss : List Symbol) (sh : Sheet) (x : Item) → ItemTo ss sh x table.now at.read heads.entry.nodes.now at.node
+        heads.entry.clauses code.old at.literal
+        → code.new ≡ put_record code.old at.literal (kind_of x) at.node (other_of ss sh at.node at.literal x) }
 {
-    let kind = kind_of(table, p);
-    let other = other_of(table, p, nodes, q, clauses, code, l);
-    put_record(code, l, kind, q, other);
+    let kind = kind_of(table, at.read);
+    let other = other_of(table, heads, code, at);
+    put_record(code, at.literal, kind, at.node, other);
 }

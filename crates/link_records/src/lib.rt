@@ -9,7 +9,15 @@ ghost use Rattle.link_records.specs.Records.{side_ends, put_pair, put_record};
 
 use run_layout::{LITERAL_SIZE, LOADED_NODE};
 use syntax::NODE_WORDS;
-use table_words::put;
+use table_words::{put, put_three};
+
+// Where a part of a program stands: its words as read from `read` on, its loaded nodes from `node` on, its records from `literal` on.
+#[derive(Clone, Copy)]
+pub struct Places {
+    pub read: usize,
+    pub node: usize,
+    pub literal: usize,
+}
 
 // How many words some nodes take once they are loaded, by how many they take as read. `words` is the number of words as read, `others` the number
 // of those that belong to no node: an item's first word, a clause's length and its two counts.
@@ -22,7 +30,7 @@ pub fn nodes_of(words: usize, others: usize) -> usize
 
 // The record behind another.
 pub fn next_literal(l: usize) -> usize
-    requires { l ≤ places }
+    requires { l < 2 ^ 32 }
     ensures { result ≡ next_literal l }
 {
     l + LITERAL_SIZE
@@ -41,15 +49,14 @@ pub fn put_pair(code: &mut [u32], p: usize, a: usize, b: usize)
     requires { (p + 1 < length code.old) × ((a < 2 ^ 32) × (b < 2 ^ 32)) }
     ensures { code.new ≡ put_pair code.old p a b }
 {
-    code[p] = a as u32;
-    code[p + 1] = b as u32;
+    put(code, p, a);
+    put(code, p + 1, b);
 }
 
-// A record at l: its kind and two words.
+// A record at l: its kind and two words. The kind is a word of the code, told from other words by its number alone, so it is a number here.
 pub fn put_record(code: &mut [u32], l: usize, kind: usize, place: usize, other: usize)
     requires { (l + 2 < length code.old) × ((kind < 2 ^ 32) × ((place < 2 ^ 32) × (other < 2 ^ 32))) }
     ensures { code.new ≡ put_record code.old l kind place other }
 {
-    put(code, l, kind);
-    put_pair(code, l + 1, place, other);
+    put_three(code, l, kind, place, other);
 }

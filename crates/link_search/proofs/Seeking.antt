@@ -6,6 +6,7 @@ use mathlib.Core.Path.{◌≡◌, refl, sym, ap, ap₂, ◌∙◌, subst}
 use mathlib.Core.Bool.{Bool, true, false}
 use mathlib.Core.List.{List, [], ◌∷◌}
 use mathlib.Core.Option.{some}
+use Rattle.std.specs.Prelude.{Option, None, Some, MatchOption, unwrap_or}
 use lib.Dec.{T, eqb, eqb→eq, eqb_refl}
 use lib.ListN.{length, get_or, drop, length-drop}
 use Rattle.syntax.specs.Words.{first_name}
@@ -45,22 +46,29 @@ module _ (nodes code : List ℕ) (word : ℕ) where
   unfolding sought
   miss j n d = ap (choice nodes code word j n) (eqb-other (get_or nodes (head_at code j) 0) word d)
 
-  module _ (clauses : ℕ) where
-    pub seek-begin : (k : ℕ) → sought nodes code word (k + 1) (suc clauses - (k + 1)) ≡ sought nodes code word (k + 1) (clauses - k)
-    seek-begin k = ap (sought nodes code word (k + 1)) (let e : suc clauses - (k + 1) ≡ clauses - k = omega arith in e)
+  abbrev Miss : ℕ → Type 0
+  Miss j = get_or nodes (head_at code j) 0 ≡ word → ⊥
 
-    module _ (j whole : ℕ) (s : sought nodes code word j (suc clauses - j) ≡ whole) where
-      pub seek_found : j ≤ clauses → get_or nodes (head_at code j) 0 ≡ word → j ≡ whole
-      seek_found l e = sym (hit j (clauses - j) e) ∙ (ap (sought nodes code word j) (let q : suc (clauses - j) ≡ suc clauses - j = omega arith in q) ∙ s)
+  skip : (n m j : ℕ) → ((i : ℕ) → j ≤ i → i < j + n → Miss i) → sought nodes code word j (n + m) ≡ sought nodes code word (j + n) m
+  skip zero m j d = ap₂ (sought nodes code word) (let e : j ≡ j + 0 = omega arith in e) (let e : 0 + m ≡ m = omega arith in e)
+  skip (suc n) m j d =
+      ap (sought nodes code word j) (let e : suc n + m ≡ suc (n + m) = omega arith in e) ∙ (miss j (n + m) (d j (omega arith) (omega arith))
+      ∙ (skip n m (j + 1) (λ i a b. d i (omega arith) (omega arith)) ∙ ap (λ (i : ℕ). sought nodes code word i m) (let e : j + 1 + n ≡ j + suc n = omega arith in e)))
 
-      pub seek-on : j ≤ clauses → (get_or nodes (head_at code j) 0 ≡ word → ⊥) → sought nodes code word (j + 1) (suc clauses - (j + 1)) ≡ whole
-      seek-on l d =
-          ap (sought nodes code word (j + 1)) (let q : suc clauses - (j + 1) ≡ clauses - j = omega arith in q)
-          ∙ (sym (miss j (clauses - j) d) ∙ (ap (sought nodes code word j) (let q : suc (clauses - j) ≡ suc clauses - j = omega arith in q) ∙ s))
-
-      pub seek-none : clauses < j → 0 ≡ whole
-      unfolding sought
-      seek-none l = ap (sought nodes code word j) (let q : 0 ≡ suc clauses - j = omega arith in q) ∙ s
+  -- what `find` over the numbers of the clauses gives is what the search gives
+  pub seek-first : (k clauses : ℕ) → k ≤ clauses → (r : Option ℕ)
+      → MatchOption r ((i : ℕ) → k + 1 ≤ i → i < clauses + 1 → get_or nodes (head_at code i) 0 ≡ word → ⊥)
+      (λ j. (k + 1 ≤ j) × (j < clauses + 1) × (get_or nodes (head_at code j) 0 ≡ word) × ((i : ℕ) → k + 1 ≤ i → i < j → get_or nodes (head_at code i) 0 ≡ word → ⊥))
+      → unwrap_or r 0 ≡ sought nodes code word (k + 1) (clauses - k)
+  unfolding sought
+  seek-first k clauses l None d =
+      sym (ap (sought nodes code word (k + 1)) (let e : clauses - k ≡ clauses - k + 0 = omega arith in e) ∙ skip (clauses - k) 0 (k + 1) (λ i a b. d i a (omega arith)))
+  seek-first k clauses l (Some j) d =
+      let low : k + 1 ≤ j = d.0 in
+      let high : j < clauses + 1 = d.1 in
+      sym (ap (sought nodes code word (k + 1)) (let e : clauses - k ≡ j - (k + 1) + suc (clauses - j) = omega arith in e)
+      ∙ (skip (j - (k + 1)) (suc (clauses - j)) (k + 1) (λ i a b. d.3 i a (omega arith))
+      ∙ (ap (λ (i : ℕ). sought nodes code word i (suc (clauses - j))) (let e : k + 1 + (j - (k + 1)) ≡ j = omega arith in e) ∙ hit j (clauses - j) d.2)))
 
 -- ---- predicates by words
 

@@ -11,6 +11,13 @@ ghost use Rattle.link_search.specs.Search.{sought, HeadsPlaced};
 use run_layout::CLAUSE_SIZE;
 use table_words::word_at;
 
+// The loaded nodes of a program, and how many clauses it has: the code has the places of their heads.
+#[derive(Clone, Copy)]
+pub struct Heads<'a> {
+    pub nodes: &'a [u32],
+    pub clauses: usize,
+}
+
 // The first word of the head of clause j.
 fn head_word(nodes: &[u32], code: &[u32], j: usize) -> usize
     requires { (j ≤ program_clauses) × ((clause_record j < length code.now) × (head_at code.now j < length nodes.now)) }
@@ -23,15 +30,16 @@ fn head_word(nodes: &[u32], code: &[u32], j: usize) -> usize
 
 // The topmost clause after clause k whose head has this first word; 0 where there is none. The number goes as it is into a word of the code, where 0 says so
 // too.
-pub fn next_for(nodes: &[u32], code: &[u32], clauses: usize, word: usize, k: usize) -> usize
-    requires heads_placed { HeadsPlaced nodes.now code.now clauses }
-    requires k_le_clauses { k ≤ clauses }
-    ensures { result ≡ sought nodes.now code.now word (k + 1) (clauses - k) }
+pub fn next_for(heads: Heads, code: &[u32], word: usize, k: usize) -> usize
+    requires heads_placed { HeadsPlaced heads.nodes.now code.now heads.clauses }
+    requires k_le_clauses { k ≤ heads.clauses }
+    ensures { result ≡ sought heads.entry.nodes.now code.now word (k + 1) (heads.entry.clauses - k) }
 {
-    for j in k + 1..=clauses {
-        if head_word(nodes, code, j) == word {
-            return j;
-        }
-    }
-    0
+    (k + 1..heads.clauses + 1)
+        .find(
+            |&j|
+                requires { (j ≤ program_clauses) × ((clause_record j < length code.now) × (head_at code.now j < length heads.nodes.now)) }
+            { head_word(heads.nodes, code, j) == word },
+        )
+        .unwrap_or(0)
 }

@@ -5,7 +5,7 @@ use mathlib.Core.Path.{◌≡◌, refl, sym, ap, ap₂, ◌∙◌, subst⁻¹}
 use mathlib.Core.Bool.{◌&&◌}
 use mathlib.Core.List.{List, [], ◌∷◌}
 use lib.Dec.{T}
-use lib.ListN.{length, get_or, set, length-set, length-append}
+use lib.ListN.{length, set, length-set, length-append}
 use Rattle.syntax.specs.Terms.{term_of, Clause, Sheet}
 use Rattle.syntax.specs.Words.{body_length, clause_words, clauses_words, program_clauses}
 use Rattle.machine.proofs.Tests.{both}
@@ -19,7 +19,6 @@ use Rattle.link_clauses.specs.Records.{behind_body, put_clause}
 use Rattle.linker.specs.Records.{put_heads, put_clauses}
 use Rattle.linker.specs.Places.{HeadsTo, ClausesTo}
 use Rattle.link_clauses.specs.Places.{ClauseTo}
-use Rattle.link_clauses.proofs.Sizes.{Says, says}
 use Rattle.link_search.proofs.Seeking.{atom-word}
 use Rattle.link_clauses.proofs.Writing.{SameHeads, headed-kept}
 use Rattle.linker.proofs.Writing.{heads-long, Kept, clause-kept, clauses-kept}
@@ -32,22 +31,18 @@ first-words : (table : List ℕ) (p : ℕ) (cl : Clause) (cls : List Clause) →
 unfolding clauses_words
 first-words table p cl cls h = has_left table p (clause_words cl) (clauses_words cls) h
 
-rest-words : (table : List ℕ) (p words : ℕ) (cl : Clause) (cls : List Clause) → words ≡ get_or table p 0 → Has table p (clauses_words (cl ∷ cls)) → Has table (p + words) (clauses_words cls)
+-- past the words of a clause at p
+abbrev pub Past : List ℕ → ℕ → ℕ → Type 0
+Past table p past = (cl : Clause) → Has table p (clause_words cl) → past ≡ p + length (clause_words cl)
+
+rest-words : (table : List ℕ) (p past : ℕ) (cl : Clause) (cls : List Clause) → Past table p past → Has table p (clauses_words (cl ∷ cls)) → Has table past (clauses_words cls)
 unfolding clauses_words
-rest-words table p words cl cls e h =
-    let s : get_or table p 0 ≡ length (clause_words cl) = (says [] table p cl (first-words table p cl cls h)).size in
-    subst⁻¹ (λ (k : ℕ). Has table (p + k) (clauses_words cls)) (e ∙ s) (has_right table p (clause_words cl) (clauses_words cls) h)
+rest-words table p past cl cls e h =
+    subst⁻¹ (λ (k : ℕ). Has table k (clauses_words cls)) (e cl (first-words table p cl cls h)) (has_right table p (clause_words cl) (clauses_words cls) h)
 
 clauses-sum : (ss : List Symbol) (cl : Clause) (cls : List Clause) → length (clauses_nodes ss (cl ∷ cls)) ≡ length (clause_nodes ss cl) + length (clauses_nodes ss cls)
 unfolding clauses_nodes
 clauses-sum ss cl cls = length-append (clause_nodes ss cl) (clauses_nodes ss cls)
-
--- where the code goes on: the clause at p ends inside the table
-pub clause-ends : (table : List ℕ) (p : ℕ) (cl : Clause) → Has table p (clause_words cl) → (p < length table) × (p + get_or table p 0 ≤ length table)
-clause-ends table p cl h =
-    let s : Says [] table p cl = says [] table p cl h in
-    let a : p + 2 < length table = s.inside in
-    (omega arith, s.fits)
 
 -- ---- heads
 
@@ -90,8 +85,8 @@ module _ (table : List ℕ) (at node clauses : ℕ) (code : List ℕ) (k : ℕ) 
     pub heads-size : (ss : List Symbol) (whole : List ℕ) → HeadsAhead ss whole table at node clauses code k → node + size ≤ places
     heads-size ss whole w = size_fits ss w.rest w.ready
 
-    module _ (new : List ℕ) (n : new ≡ set code (clause_record k) node) (words : ℕ) (m : words ≡ get_or table at 0) where
-      next-in : (ss : List Symbol) (whole : List ℕ) (cls : List Clause) → HeadsTo ss cls table at node clauses code k → put_heads ss node cls code k ≡ whole → HeadsAhead ss whole table (at + words) (node + size) clauses new (k + 1)
+    module _ (new : List ℕ) (n : new ≡ set code (clause_record k) node) (past : ℕ) (m : Past table at past) where
+      next-in : (ss : List Symbol) (whole : List ℕ) (cls : List Clause) → HeadsTo ss cls table at node clauses code k → put_heads ss node cls code k ≡ whole → HeadsAhead ss whole table past (node + size) clauses new (k + 1)
       unfolding put_heads
       next-in ss whole [] w g = absurd (let y : k + 0 ≡ suc clauses = w.count in omega arith)
       next-in ss whole (cl ∷ cls) w g =
@@ -104,7 +99,7 @@ module _ (table : List ℕ) (at node clauses : ℕ) (code : List ℕ) (k : ℕ) 
           record {
             rest = cls;
             ready = record {
-              has = rest-words table at words cl cls m w.has;
+              has = rest-words table at past cl cls m w.has;
               few = w.few;
               low = omega arith;
               count = omega arith;
@@ -114,7 +109,7 @@ module _ (table : List ℕ) (at node clauses : ℕ) (code : List ℕ) (k : ℕ) 
             gives = ap₂ (λ (i : ℕ) (c : List ℕ). put_heads ss i cls c (k + 1)) f n ∙ g;
           }
 
-      pub heads-next : (ss : List Symbol) (whole : List ℕ) → HeadsAhead ss whole table at node clauses code k → HeadsAhead ss whole table (at + words) (node + size) clauses new (k + 1)
+      pub heads-next : (ss : List Symbol) (whole : List ℕ) → HeadsAhead ss whole table at node clauses code k → HeadsAhead ss whole table past (node + size) clauses new (k + 1)
       heads-next ss whole w = next-in ss whole w.rest w.ready w.gives
 
 pub heads-end : (ss : List Symbol) (whole table : List ℕ) (at node clauses : ℕ) (code : List ℕ) (k : ℕ) → clauses < k → HeadsAhead ss whole table at node clauses code k → code ≡ whole
@@ -201,9 +196,6 @@ module _ {table : List ℕ} {at : ℕ} {nodes : List ℕ} {node clauses : ℕ} {
     pub clause-here : (cl : Clause) × Has table at (clause_words cl)
     clause-here = (ahead-clause.0, ahead-clause.1.has)
 
-    pub turn-ends : (at < length table) × (at + get_or table at 0 ≤ length table)
-    turn-ends = clause-ends table at ahead-clause.0 ahead-clause.1.has
-
     pub turn_small : k ≤ program_clauses
     turn_small = clause-small ahead-clause.1
 
@@ -221,13 +213,13 @@ module _ {table : List ℕ} {at : ℕ} {nodes : List ℕ} {node clauses : ℕ} {
               omega arith
 
       module _ {new : List ℕ} {to : ℕ} (n : (ss : List Symbol) (sh : Sheet) (cl : Clause) → ClauseTo ss sh cl table at nodes node clauses code k l → (new ≡ put_clause ss sh node cl code k l) × (to ≡ behind_body l cl.body))
-          {words : ℕ} (m : words ≡ get_or table at 0) where
-        pub clauses-next : ClausesAhead ss sh whole table (at + words) nodes (node + size) clauses new (k + 1) to
+          {past : ℕ} (m : Past table at past) where
+        pub clauses-next : ClausesAhead ss sh whole table past nodes (node + size) clauses new (k + 1) to
         unfolding put_clauses
         clauses-next = go w.rest w.ready w.gives
           where
             go : (cls : List Clause) → ClausesTo ss sh cls table at nodes node clauses code k l → put_clauses ss sh node cls code k l ≡ whole
-                → ClausesAhead ss sh whole table (at + words) nodes (node + size) clauses new (k + 1) to
+                → ClausesAhead ss sh whole table past nodes (node + size) clauses new (k + 1) to
             go [] v g = absurd (let y : k + 0 ≡ suc clauses = v.count in omega arith)
             go (cl ∷ cls) v g =
                 let o : Split ss sh table at nodes node clauses code k l cl cls = split high cl cls v in
@@ -244,7 +236,7 @@ module _ {table : List ℕ} {at : ℕ} {nodes : List ℕ} {node clauses : ℕ} {
                   rest = cls;
                   ready = record {
                     headed = headed-kept ss sh nodes clauses code new long (subst⁻¹ (SameHeads code) new_is kept.heads) v.headed;
-                    has = rest-words table at words cl cls m v.has;
+                    has = rest-words table at past cl cls m v.has;
                     stand = subst⁻¹ (λ (i : ℕ). Has nodes i (clauses_nodes ss cls)) f o.stand;
                     loadable = o.loadable;
                     limited = o.limited;

@@ -4,7 +4,6 @@ use native.Mathlib.Omega.{arith}
 use mathlib.Core.Path.{◌≡◌, refl}
 use mathlib.Core.List.{List, [], ◌∷◌}
 use lib.ListN.{length, replicate, length-replicate}
-use Rattle.syntax.specs.Limits.{arguments, variables, declarations}
 use Rattle.syntax.specs.Quote.{bytes}
 use Rattle.syntax.specs.Terms.{Atom, nil, call, either, done, also, literals_in, Sheet, Goal, same_bytes}
 use Rattle.syntax.specs.Words.{term_words, literal_words, literal_length, clause_words, clauses_words, first_name}

@@ -14,10 +14,12 @@ ghost use Rattle.run_layout.specs.Regions.{clause_bodies};
 ghost use Rattle.linker.specs.Linking.{Linkable};
 
 use link_clauses::{put_body, put_clause};
-use link_records::{nodes_of, put_pair};
+use link_records::{Places, nodes_of, put_pair};
+use link_search::Heads;
+use load_words::{ReadGoal, ReadSheet};
 use run_layout::{BODIES, CLAUSE_BODIES, CLAUSE_SIZE};
 use syntax::CLAUSE_START;
-use table_words::{CLAUSE_ITEMS, past_body, put, word_at};
+use table_words::{CLAUSE_ITEMS, past_body, past_clause, put, word_at};
 
 // How many words the loaded nodes of the clause at p take.
 fn clause_nodes(table: &[u32], p: usize) -> usize
@@ -40,45 +42,52 @@ pub fn put_heads(table: &[u32], clauses: usize, q: usize, code: &mut [u32])
     for k in 1..=clauses {
         put(code, k * CLAUSE_SIZE, node);
         node += clause_nodes(table, at);
-        at += word_at(table, at);
+        at = past_clause(table, at);
     }
 }
 
 // The same for all clauses, their bodies one behind the other. (One function for both walks would have to be given what a turn writes, and where the last
 // turn's records ended.)
-pub fn put_clauses(table: &[u32], clauses: usize, nodes: &[u32], q: usize, code: &mut [u32])
-    requires { (ss : List Symbol) × ((sh : Sheet) × ((cls : List Clause) × ClausesTo ss sh cls table.now 0 nodes.now q clauses code.old 1
-        clause_bodies)) }
-    ensures { (ss : List Symbol) (sh : Sheet) (cls : List Clause) → ClausesTo ss sh cls table.now 0 nodes.now q clauses
-        code.old 1 clause_bodies → code.new ≡ put_clauses ss sh q cls code.old 1 clause_bodies }
+pub fn put_clauses(table: &[u32], heads: Heads, q: usize, code: &mut [u32])
+    requires { (ss : List Symbol) × ((sh : Sheet) × ((cls : List Clause) × ClausesTo ss sh cls table.now 0 heads.nodes.now q heads.clauses
+        code.old 1 clause_bodies)) }
+    ensures { (ss : List Symbol) (sh : Sheet) (cls : List Clause) → ClausesTo ss sh cls table.now 0 heads.entry.nodes.now q
+        heads.entry.clauses code.old 1 clause_bodies → code.new ≡ put_clauses ss sh q cls code.old 1 clause_bodies }
 {
-    let mut at = 0;
+    let mut read = 0;
     let mut node = q;
-    let mut to = CLAUSE_BODIES;
-    for k in 1..=clauses {
-        to = put_clause(table, at, nodes, node, clauses, code, k, to);
-        node += clause_nodes(table, at);
-        at += word_at(table, at);
+    let mut literal = CLAUSE_BODIES;
+    for k in 1..=heads.clauses {
+        let here = Places {
+            read,
+            node,
+            literal,
+        };
+        literal = put_clause(table, heads, code, k, here);
+        node += clause_nodes(table, read);
+        read = past_clause(table, read);
     }
 }
 
 // The records of a sheet's clauses and of a goal whose nodes are loaded: the goal's nodes come first, then those of the clauses in their order.
-pub fn link(
-    table: &[u32],
-    clauses: usize,
-    goals: &[u32],
-    literals: usize,
-    nodes: &[u32],
-    code: &mut [u32],
-)
-    requires { Linkable table.now clauses goals.now literals nodes.now code.old }
-    ensures { (w : Linkable table.now clauses goals.now literals nodes.now code.old)
+pub fn link(sheet: ReadSheet, goal: ReadGoal, nodes: &[u32], code: &mut [u32])
+    requires { Linkable sheet.table.now sheet.clauses goal.table.now goal.literals nodes.now code.old }
+    ensures { (w : Linkable sheet.entry.table.now sheet.entry.clauses goal.entry.table.now goal.entry.literals nodes.now code.old)
         → Program w.ss w.sh w.g nodes.now code.new }
 {
-    let stop = past_body(goals, 0, literals);
-    let node = nodes_of(stop, literals);
-    put_heads(table, clauses, node, code);
+    let stop = past_body(goal.table, 0, goal.literals);
+    let node = nodes_of(stop, goal.literals);
+    put_heads(sheet.table, sheet.clauses, node, code);
     put_pair(code, 1, BODIES, 0);
-    put_body(goals, 0, literals, nodes, 0, clauses, code, BODIES);
-    put_clauses(table, clauses, nodes, node, code);
+    let heads = Heads {
+        nodes,
+        clauses: sheet.clauses,
+    };
+    let first = Places {
+        read: 0,
+        node: 0,
+        literal: BODIES,
+    };
+    put_body(goal.table, goal.literals, heads, code, first);
+    put_clauses(sheet.table, heads, node, code);
 }

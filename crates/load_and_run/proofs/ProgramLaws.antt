@@ -11,7 +11,7 @@ use Rattle.unify_bindings.specs.Scratch.{Roomy}
 use Rattle.loader.specs.Loading.{Loadable, Loaded}
 use Rattle.linker.specs.Linking.{Linkable}
 use Rattle.run_answers.specs.declared.LoadedProgram.{LoadedProgram}
-use Rattle.run_whole.specs.declared.Ran.{Ran}
+use Rattle.run_results.specs.declared.Written.{Written}
 use Rattle.run_whole.specs.Running.{Runnable, Runs}
 use Rattle.run_rooms.specs.Rooms.{Zeros}
 use Rattle.load_and_run.specs.Programs.{ZeroScratch, Programmed, ProgramLinked}
@@ -90,7 +90,7 @@ module _ (l : LoadedProgram) {table : List ℕ} {clauses : ℕ} {goals : List �
         spelt = record { spelt = (loaded w z y a k).names; named = w.named; names_are = w.names_are };
       }
 
-  pub program_runs : {allowance wanted : ℕ} {old new : List ℕ} {r : Ran} → ((v : ProgramLinked l) → Runs v.sh v.g allowance wanted old new r) → Runs w.sh w.g allowance wanted old new r
+  pub program_runs : {allowance wanted : ℕ} {old new : List ℕ} {r : Written} → ((v : ProgramLinked l) → Runs v.sh v.g allowance wanted old new r) → Runs w.sh w.g allowance wanted old new r
   unfolding linked
   program_runs q = q linked
 
@@ -110,6 +110,6 @@ module _ {l : LoadedProgram} (w : ProgramLinked l) where
         lent = record { roomy = omega arith; clean = record { long = omega arith; zero = λ i l. y.zero_words i }; deep = y.tells };
       }
 
-  pub linked_runs : {state scratch text : List ℕ} {allowance wanted : ℕ} {old new : List ℕ} {r : Ran} → Zeros state_words state → ZeroScratch scratch (length text) → ((v : Runnable l state scratch text) → Runs v.sh v.g allowance wanted old new r) → Runs w.sh w.g allowance wanted old new r
+  pub linked_runs : {state scratch text : List ℕ} {allowance wanted : ℕ} {old new : List ℕ} {r : Written} → Zeros state_words state → ZeroScratch scratch (length text) → ((v : Runnable l state scratch text) → Runs v.sh v.g allowance wanted old new r) → Runs w.sh w.g allowance wanted old new r
   unfolding runnable
   linked_runs z y k = k (runnable z y)

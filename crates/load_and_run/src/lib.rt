@@ -7,13 +7,15 @@ ghost use Rattle.run_whole.specs.Running.{Runs};
 ghost use Rattle.load_and_run.specs.Programs.{RoomFor, ZeroScratch, Programmed, ProgramLinked};
 
 use linker::link;
+use load_words::{ReadGoal, ReadSheet};
 use loader::load_nodes;
 use run_answers::LoadedProgram;
 use run_layout::{
     CODE_WORDS, NARROW_WORDS, NODES_WORDS, SHORT_SHEET, SHORT_TEXT, STATE_WORDS, WIDE_WORDS,
 };
+use run_results::Written;
 use run_rooms::cleared;
-use run_whole::{Ran, run};
+use run_whole::run;
 use syntax::MOST_STEPS;
 
 // A loaded and linked program run, with room for unification and for the open brackets of an answer.
@@ -23,7 +25,7 @@ fn with_state(
     text: &mut [u8],
     allowance: usize,
     wanted: usize,
-) -> Ran
+) -> Written
     requires { (ProgramLinked loaded) × ZeroScratch scratch.old (length text.old) }
     ensures { (w : ProgramLinked loaded.entry) → Runs w.sh w.g allowance wanted text.old text.new result }
 {
@@ -31,15 +33,15 @@ fn with_state(
     run(loaded, &mut state, scratch, text, allowance, wanted)
 }
 
-// The run with so many words for unification and for the open brackets of an answer. First the function calls itself so often as `again` says: never. But a
-// function that can is compiled on its own, so that a run needs no native stack for a room of another size.
+// The run with so many words for unification and for the open brackets of an answer. `again` is always 0, so the function never calls itself. That it could
+// keeps a compiler from putting it into its caller, where a run would need native stack for the rooms of both sizes at once.
 fn with_room<const WORDS: usize>(
     loaded: LoadedProgram,
     text: &mut [u8],
     allowance: usize,
     wanted: usize,
     again: usize,
-) -> Ran
+) -> Written
     requires { (ProgramLinked loaded) × RoomFor WORDS (length text.old) }
     ensures { (w : ProgramLinked loaded.entry) → Runs w.sh w.g allowance wanted text.old text.new result }
 {
@@ -51,7 +53,7 @@ fn with_room<const WORDS: usize>(
 }
 
 // A loaded and linked program run. Only the room that it needs is cleared: less under a short sheet with a short text.
-fn choose_room(loaded: LoadedProgram, text: &mut [u8], allowance: usize, wanted: usize) -> Ran
+fn choose_room(loaded: LoadedProgram, text: &mut [u8], allowance: usize, wanted: usize) -> Written
     requires { ProgramLinked loaded }
     ensures { (w : ProgramLinked loaded.entry) → Runs w.sh w.g allowance wanted text.old text.new result }
 {
@@ -63,41 +65,28 @@ fn choose_room(loaded: LoadedProgram, text: &mut [u8], allowance: usize, wanted:
     with_room::<NARROW_WORDS>(loaded, text, allowance, wanted, again)
 }
 
-// The goal that stands in one table run over the sheet that stands in the other.
+// A goal that was read run over a sheet that was read. The names are the words of the goal's variables, so many.
 pub fn load_and_run(
-    sheet: &[u8],
-    table: &[u32],
-    clauses: usize,
-    goal: &[u8],
-    goals: &[u32],
-    literals: usize,
+    sheet: ReadSheet<'_>,
+    goal: ReadGoal<'_>,
     names: &[u32],
     count: usize,
     text: &mut [u8],
     allowance: usize,
     wanted: usize,
-) -> Ran
-    requires { Programmed sheet.now table.now clauses goal.now goals.now literals names.now count }
-    ensures { (w : Programmed sheet.now table.now clauses goal.now goals.now literals
+) -> Written
+    requires { Programmed sheet.text.now sheet.table.now sheet.clauses goal.text.now goal.table.now goal.literals names.now count }
+    ensures { (w : Programmed sheet.entry.text.now sheet.entry.table.now sheet.entry.clauses goal.entry.text.now goal.entry.table.now goal.entry.literals
         names.now count) → Runs w.sh w.g allowance wanted text.old text.new result }
 {
     let mut nodes: [u32; NODES_WORDS] = cleared();
     let mut symbols: [u32; NODES_WORDS] = cleared();
     let mut code: [u32; CODE_WORDS] = cleared();
-    load_nodes(
-        sheet,
-        table,
-        clauses,
-        goal,
-        goals,
-        literals,
-        &mut nodes,
-        &mut symbols,
-    );
-    link(table, clauses, goals, literals, &nodes, &mut code);
+    load_nodes(sheet, goal, &mut nodes, &mut symbols);
+    link(sheet, goal, &nodes, &mut code);
     let loaded = LoadedProgram {
-        sheet,
-        goal,
+        sheet: sheet.text,
+        goal: goal.text,
         names,
         count,
         nodes: &nodes,

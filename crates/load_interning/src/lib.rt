@@ -8,23 +8,16 @@ ghost use Rattle.run_layout.specs.Regions.{most_nodes, nodes_words};
 ghost use Rattle.load_symbols.specs.Symbols.{SymbolInside, SymbolsListed};
 ghost use Rattle.load_interning.specs.Interning.{Interned, SymbolCount};
 
-use load_symbols::find_symbol;
+use load_symbols::{Texts, find_symbol};
 use run_layout::MOST_NODES;
 
 // The number of the symbol with the name of a word and so many arguments, which is listed where it is new.
-pub fn intern(
-    sheet: &[u8],
-    goal: &[u8],
-    symbols: &mut [u32],
-    count: usize,
-    w: u32,
-    arguments: u32,
-) -> usize
-    requires { (SymbolsListed sheet.now goal.now symbols.old count × (count < most_nodes))
-        × ((nodes_words ≤ length symbols.old) × SymbolInside sheet.now goal.now w) }
-    ensures { Interned sheet.now goal.now symbols.old count w arguments symbols.new result }
+pub fn intern(texts: Texts, symbols: &mut [u32], count: usize, w: u32, arguments: u32) -> usize
+    requires { (SymbolsListed texts.sheet.now texts.goal.now symbols.old count × (count < most_nodes))
+        × ((nodes_words ≤ length symbols.old) × SymbolInside texts.sheet.now texts.goal.now w) }
+    ensures { Interned texts.entry.sheet.now texts.entry.goal.now symbols.old count w arguments symbols.new result }
 {
-    if let Some(k) = find_symbol(sheet, goal, symbols, count, w, arguments) {
+    if let Some(k) = find_symbol(texts, symbols, count, w, arguments) {
         return k;
     }
     let j = MOST_NODES + count;

@@ -6,6 +6,7 @@ use mathlib.Core.Path.{◌≡◌, refl, sym, ap, ap₂, ◌∙◌, subst}
 use mathlib.Core.Bool.{Bool, true, false, not, ◌&&◌, ◌||◌}
 use mathlib.Core.List.{List, [], ◌∷◌, ◌++◌, append_assoc, append-nil}
 use mathlib.Core.Logic.{◌⊎◌, inl, inr}
+use Rattle.std.specs.Prelude.{Option, None, Some, MatchOption, IfNone, IfSome}
 use lib.Dec.{T, eqb, ltb, eqb_refl, ltb→lt, nltb→le}
 use lib.ListN.{length, get_or, length-append}
 use lib.Seq.{get_or_at}
@@ -137,11 +138,11 @@ module _ (sheet goal symbols : List ℕ) where
       ∙ get_or_at (symbols_of sheet goal symbols k) (symbol_at sheet goal symbols k) p.0 d k (length_symbols k)
 
   module _ (f : List ℕ) (n : ℕ) where
-    pub none_yet : is_listed (symbols_of sheet goal symbols 0) f n ≡ false
+    none_yet : is_listed (symbols_of sheet goal symbols 0) f n ≡ false
     unfolding symbols_of is_listed
     none_yet = refl
 
-    pub not-this : (k : ℕ) (b : Bool) → is_listed (symbols_of sheet goal symbols k) f n ≡ false → b ≡ is_symbol f n (symbol_at sheet goal symbols k) → b ≡ false
+    not-this : (k : ℕ) (b : Bool) → is_listed (symbols_of sheet goal symbols k) f n ≡ false → b ≡ is_symbol f n (symbol_at sheet goal symbols k) → b ≡ false
         → is_listed (symbols_of sheet goal symbols (k + 1)) f n ≡ false
     not-this k b e q r =
         ap (λ (j : ℕ). is_listed (symbols_of sheet goal symbols j) f n) (add-one k)
@@ -149,7 +150,7 @@ module _ (sheet goal symbols : List ℕ) where
         ∙ (listed-append (symbols_of sheet goal symbols k) (symbol_at sheet goal symbols k ∷ []) f n
         ∙ ap₂ ◌||◌ e (listed-one (symbol_at sheet goal symbols k) f n ∙ ap (λ (x : Bool). x || false) (sym q ∙ r))))
 
-    pub found : (k count : ℕ) (b : Bool) → k < count → is_listed (symbols_of sheet goal symbols k) f n ≡ false → b ≡ is_symbol f n (symbol_at sheet goal symbols k) → b ≡ true
+    found : (k count : ℕ) (b : Bool) → k < count → is_listed (symbols_of sheet goal symbols k) f n ≡ false → b ≡ is_symbol f n (symbol_at sheet goal symbols k) → b ≡ true
         → k ≡ symbol_of (symbols_of sheet goal symbols count) f n
     found k count b l e q r =
         let p : (more : List Symbol) × (symbols_of sheet goal symbols count ≡ symbols_of sheet goal symbols (suc k) ++ more) = split (suc k) (count - suc k) count (let z : count ≡ suc k + (count - suc k) = omega arith in z) in
@@ -164,9 +165,26 @@ module _ (sheet goal symbols : List ℕ) where
         let long : length (symbols_of sheet goal symbols k) ≡ k = length_symbols k in
         let y : k ≡ symbol_of (symbols_of sheet goal symbols count) f n = omega arith in y
 
-    pub not_found : (k count : ℕ) → k ≤ count → count ≤ k → is_listed (symbols_of sheet goal symbols k) f n ≡ false → count ≡ symbol_of (symbols_of sheet goal symbols count) f n
+    not_found : (k count : ℕ) → k ≤ count → count ≤ k → is_listed (symbols_of sheet goal symbols k) f n ≡ false → count ≡ symbol_of (symbols_of sheet goal symbols count) f n
     not_found k count l m e =
         let same : k ≡ count = omega arith in
         let z : symbol_of (symbols_of sheet goal symbols count) f n ≡ length (symbols_of sheet goal symbols count) = symbol-none (symbols_of sheet goal symbols count) f n (subst (λ (j : ℕ). is_listed (symbols_of sheet goal symbols j) f n ≡ false) same e) in
         let long : length (symbols_of sheet goal symbols count) ≡ count = length_symbols count in
         let y : count ≡ symbol_of (symbols_of sheet goal symbols count) f n = omega arith in y
+
+    abbrev Other : ℕ → Type 0
+    Other k = is_symbol f n (symbol_at sheet goal symbols k) ≡ false
+
+    none-before : (k : ℕ) → ((i : ℕ) → 0 ≤ i → i < k → Other i) → is_listed (symbols_of sheet goal symbols k) f n ≡ false
+    none-before zero h = none_yet
+    none-before (suc k) h =
+        ap (λ (j : ℕ). is_listed (symbols_of sheet goal symbols j) f n) (sym (add-one k))
+        ∙ not-this k (is_symbol f n (symbol_at sheet goal symbols k)) (none-before k (λ i a b. h i a (omega arith))) refl (h k (omega arith) (omega arith))
+
+    -- what `find` over the numbers of the symbols gives
+    pub found-first : (count : ℕ) (r : Option ℕ)
+        → MatchOption r ((i : ℕ) → 0 ≤ i → i < count → is_symbol f n (symbol_at sheet goal symbols i) ≡ false)
+        (λ k. (0 ≤ k) × (k < count) × (is_symbol f n (symbol_at sheet goal symbols k) ≡ true) × ((i : ℕ) → 0 ≤ i → i < k → is_symbol f n (symbol_at sheet goal symbols i) ≡ false))
+        → IfNone r (count ≡ symbol_of (symbols_of sheet goal symbols count) f n) × IfSome r (λ k. (k < count) × (k ≡ symbol_of (symbols_of sheet goal symbols count) f n))
+    found-first count None d = (not_found count count (omega arith) (omega arith) (none-before count d), tt)
+    found-first count (Some k) d = (tt, (d.1, found k count (is_symbol f n (symbol_at sheet goal symbols k)) d.1 (none-before k d.3) refl d.2))

@@ -28,12 +28,6 @@ pub record Part (s sheet goal : List ℕ) (w at len : ℕ) : Type 0 where
   pub place : at ≡ symbol_place w
   pub long : len ≡ symbol_length w
 
-pub in-sheet : (sheet goal : List ℕ) (w : ℕ) {t at len : ℕ} → t ≡ symbol_text w → at ≡ symbol_place w → len ≡ symbol_length w → t ≡ 0 → Part sheet sheet goal w at len
-in-sheet sheet goal w e p l z = record { text = sheet-text sheet goal w (sym e ∙ z); place = p; long = l }
-
-pub in-goal : (sheet goal : List ℕ) (w : ℕ) {t at len : ℕ} → t ≡ symbol_text w → at ≡ symbol_place w → len ≡ symbol_length w → (t ≡ 0 → ⊥) → Part goal sheet goal w at len
-in-goal sheet goal w e p l n = record { text = goal-text sheet goal w (λ z. n (e ∙ z)); place = p; long = l }
-
 module _ {s sheet goal : List ℕ} {w at len : ℕ} (part : Part s sheet goal w at len) where
   pub word-name : take len (drop at s) ≡ word_name sheet goal w
   unfolding word_name
@@ -48,11 +42,9 @@ module _ {s sheet goal : List ℕ} {w at len : ℕ} (part : Part s sheet goal w 
       let l : len ≡ symbol_length w = part.long in
       omega arith
 
-  pub part-is : (other : List ℕ) {r : Bool} → r ≡ same_bytes (take len (drop at s)) other → r ≡ same_bytes (word_name sheet goal w) other
-  part-is other e = e ∙ ap (λ (x : List ℕ). same_bytes x other) word-name
-
-  pub name-is : (other : List ℕ) {r : Bool} → r ≡ same_bytes other (take len (drop at s)) → r ≡ same_bytes other (word_name sheet goal w)
-  name-is other e = e ∙ ap (same_bytes other) word-name
+pub same-parts : {s t sheet goal : List ℕ} {v w at from len : ℕ} → Part s sheet goal v at len → Part t sheet goal w from len → {r : Bool}
+    → r ≡ same_bytes (take len (drop at s)) (take len (drop from t)) → r ≡ same_bytes (word_name sheet goal v) (word_name sheet goal w)
+same-parts p q e = e ∙ ap₂ same_bytes (word-name p) (word-name q)
 
 -- ---- words of other names
 
@@ -71,19 +63,27 @@ not_same a b n = go (same_bytes a b) refl
     go false e = refl
     go true e = absurd (n (ap length (name-eq a b (subst T (sym e) tt))))
 
+unequal : (m n : ℕ) → (m ≡ n → ⊥) → eqb m n ≡ false
+unequal m n k = go (eqb m n) (λ t. k (eqb→eq m n t))
+  where
+    go : (b : Bool) → (T b → ⊥) → b ≡ false
+    go false e = refl
+    go true e = absurd (e tt)
+
 pub other_length : (sheet goal : List ℕ) (v w : ℕ) {m n : ℕ} → SymbolInside sheet goal v → SymbolInside sheet goal w → m ≡ symbol_length v → n ≡ symbol_length w → (m ≡ n → ⊥)
-    → false ≡ same_bytes (word_name sheet goal v) (word_name sheet goal w)
-other_length sheet goal v w h k em en n =
-    not_same (word_name sheet goal v) (word_name sheet goal w) (λ e. n (em ∙ (sym (name-long sheet goal v h) ∙ (e ∙ (name-long sheet goal w k ∙ sym en)))))
+    → eqb m n ≡ same_bytes (word_name sheet goal v) (word_name sheet goal w)
+other_length sheet goal v w {m} {n = l} h k em en n =
+    unequal m l n
+    ∙ not_same (word_name sheet goal v) (word_name sheet goal w) (λ e. n (em ∙ (sym (name-long sheet goal v h) ∙ (e ∙ (name-long sheet goal w k ∙ sym en)))))
 
 -- ---- a symbol
 
-other-arguments : (m n : ℕ) (x : Bool) → (m ≡ n → ⊥) → false ≡ (eqb m n && x)
-other-arguments m n x k = go (eqb m n) refl
+other-arguments : (m n : ℕ) (x : Bool) → (m ≡ n → ⊥) → eqb m n ≡ (eqb m n && x)
+other-arguments m n x k = go (eqb m n) (λ t. k (eqb→eq m n t))
   where
-    go : (b : Bool) → eqb m n ≡ b → false ≡ (b && x)
+    go : (b : Bool) → (T b → ⊥) → b ≡ (b && x)
     go false e = refl
-    go true e = absurd (k (eqb→eq m n (subst T (sym e) tt)))
+    go true e = absurd (e tt)
 
 same-arguments : (m n : ℕ) (x r : Bool) → m ≡ n → r ≡ x → r ≡ (eqb m n && x)
 same-arguments m n x r k e = go (eqb m n) refl
@@ -92,7 +92,7 @@ same-arguments m n x r k e = go (eqb m n) refl
     go true q = e
     go false q = absurd (subst T q (subst (λ (j : ℕ). T (eqb m j)) k (eqb_refl m)))
 
-pub symbol-not : (sheet goal symbols : List ℕ) (k w n : ℕ) → (get_or symbols (most_nodes + k) 0 ≡ n → ⊥) → false ≡ is_symbol (word_name sheet goal w) n (symbol_at sheet goal symbols k)
+pub symbol-not : (sheet goal symbols : List ℕ) (k w n : ℕ) → (get_or symbols (most_nodes + k) 0 ≡ n → ⊥) → eqb (get_or symbols (most_nodes + k) 0) n ≡ is_symbol (word_name sheet goal w) n (symbol_at sheet goal symbols k)
 unfolding is_symbol symbol_at
 symbol-not sheet goal symbols k w n h = other-arguments (get_or symbols (most_nodes + k) 0) n (same_bytes (word_name sheet goal (get_or symbols k 0)) (word_name sheet goal w)) h
 

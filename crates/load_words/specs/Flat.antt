@@ -9,6 +9,8 @@ use Rattle.mode_marks.specs.Standing.{BodySpelt, ClauseSpelt, ClausesSpelt}
 use Rattle.table_words.specs.Tables.{Has}
 use Rattle.run_layout.specs.Regions.{loaded_node}
 use Rattle.run_layout.specs.Symbols.{symbol_word}
+use Rattle.load_words.specs.declared.Source.{Source}
+use Rattle.load_words.specs.declared.Source.TheVariants.{Sheet, Goal}
 
 -- ---- nodes as they were read
 
@@ -52,6 +54,11 @@ clauses_parsed [] = []
 clauses_parsed (cl ∷ cls) = clause_parsed cl ++ clauses_parsed cls
 
 -- ---- nodes as they are copied
+
+-- the number of a text in a symbol's word
+abbrev pub number_of : Source → ℕ
+number_of Sheet = 0
+number_of Goal = 1
 
 -- The two words of a copy: a variable's number, or the name from `first_name` on; how many words the copies of it and of its arguments take.
 pub record Flat : Type 0 where

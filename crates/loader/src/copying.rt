@@ -1,10 +1,11 @@
 // The nodes of terms copied one behind the other, a name by its place.
-ghost use Rattle.std.specs.Prelude.{◌≡◌, ◌+◌, ◌*◌, ◌≤◌, ◌<◌, length};
+ghost use Rattle.std.specs.Prelude.{◌≡◌, ◌+◌, ◌*◌, ◌≤◌, length};
 ghost use Rattle.syntax.specs.Words.{node_words, program_words, goal_words};
 ghost use Rattle.run_layout.specs.Regions.{loaded_node, nodes_words};
-ghost use Rattle.load_words.specs.Flat.{flat_words, flat_all, put_all, RunAt, body_parsed, BodyHere, clause_parsed, ClauseHere, clauses_parsed, ClausesHere};
+ghost use Rattle.load_words.specs.Flat.{number_of, flat_words, flat_all, put_all, RunAt, body_parsed, BodyHere, clause_parsed, ClauseHere, clauses_parsed};
+ghost use Rattle.load_words.specs.Flat.{ClausesHere};
 
-use load_words::{name_word, two_of_three};
+use load_words::{Source, name_word, two_of_three};
 use run_layout::LOADED_NODE;
 use syntax::{CLAUSE_START, NODE_WORDS};
 use table_words::{CLAUSE_ITEMS, past, past_clause, past_item, word_at};
@@ -14,19 +15,19 @@ fn copy_nodes(
     table: &[u32],
     from: usize,
     stop: usize,
-    text: u32,
+    source: Source,
     nodes: &mut [u32],
     at: usize,
 ) -> usize
-    requires text_bound { (text ≤ 1) × ((length table.now ≤ program_words) × ((nodes_words ≤ length nodes.old)
-        × (at * node_words ≤ from * loaded_node + goal_words * loaded_node))) }
+    requires room { (length table.now ≤ program_words) × ((nodes_words ≤ length nodes.old)
+        × (at * node_words ≤ from * loaded_node + goal_words * loaded_node)) }
     requires run_at { RunAt table.now from stop }
-    ensures { (w : RunAt table.now from stop) → (nodes.new ≡ put_all nodes.old at (flat_words (flat_all text w.run)))
-        × (result ≡ at + length (flat_words (flat_all text w.run))) }
+    ensures { (w : RunAt table.now from stop) → (nodes.new ≡ put_all nodes.old at (flat_words (flat_all (number_of source) w.run)))
+        × (result ≡ at + length (flat_words (flat_all (number_of source) w.run))) }
 {
     let mut q = at;
     for p in (from..stop).step_by(NODE_WORDS) {
-        nodes[q] = name_word(table[p], table[p + 2], text);
+        nodes[q] = name_word(table[p], table[p + 2], source);
         nodes[q + 1] = two_of_three(table[p + 1]);
         q += LOADED_NODE;
     }
@@ -38,23 +39,23 @@ pub fn copy_body(
     table: &[u32],
     from: usize,
     items: usize,
-    text: u32,
+    source: Source,
     nodes: &mut [u32],
     at: usize,
 ) -> usize
-    requires text_bound { (text ≤ 1) × ((length table.now ≤ program_words) × ((nodes_words ≤ length nodes.old)
-        × (at * node_words ≤ from * loaded_node + goal_words * loaded_node))) }
+    requires room { (length table.now ≤ program_words) × ((nodes_words ≤ length nodes.old)
+        × (at * node_words ≤ from * loaded_node + goal_words * loaded_node)) }
     requires body_here { BodyHere table.now from items }
     ensures { (w : BodyHere table.now from items) → (nodes.new
-        ≡ put_all nodes.old at (flat_words (flat_all text (body_parsed w.body))))
-        × (result ≡ at + length (flat_words (flat_all text (body_parsed w.body)))) }
+        ≡ put_all nodes.old at (flat_words (flat_all (number_of source) (body_parsed w.body))))
+        × (result ≡ at + length (flat_words (flat_all (number_of source) (body_parsed w.body)))) }
 {
     let mut p = from;
     let mut q = at;
     for _item in 0..items {
         let first = p + 1;
         let next = past_item(table, p);
-        q = copy_nodes(table, first, next, text, nodes, q);
+        q = copy_nodes(table, first, next, source, nodes, q);
         p = next;
     }
     q
@@ -72,8 +73,8 @@ fn copy_clause(table: &[u32], p: usize, nodes: &mut [u32], at: usize) -> usize
     let items = word_at(table, p + CLAUSE_ITEMS);
     let head = p + CLAUSE_START;
     let body = past(table, head);
-    let q = copy_nodes(table, head, body, 0, nodes, at);
-    copy_body(table, body, items, 0, nodes, q)
+    let q = copy_nodes(table, head, body, Source::Sheet, nodes, at);
+    copy_body(table, body, items, Source::Sheet, nodes, q)
 }
 
 // The nodes of so many clauses.

@@ -9,24 +9,21 @@ mod numbering;
 ghost use Rattle.loader.specs.Loading.{Loadable, Loaded};
 
 use copying::{copy_body, copy_clauses};
+use load_symbols::Texts;
+use load_words::{ReadGoal, ReadSheet, Source};
 use numbering::number_nodes;
 
-// The nodes and the symbols of the clauses and the goal that stand in their tables.
-pub fn load_nodes(
-    sheet: &[u8],
-    table: &[u32],
-    clauses: usize,
-    goal: &[u8],
-    goals: &[u32],
-    literals: usize,
-    nodes: &mut [u32],
-    symbols: &mut [u32],
-)
-    requires { Loadable sheet.now table.now clauses goal.now goals.now literals nodes.old symbols.old }
-    ensures { (w : Loadable sheet.now table.now clauses goal.now goals.now literals nodes.old
-        symbols.old) → Loaded sheet.now goal.now w.sh w.g nodes.new symbols.new }
+// The nodes and the symbols of a sheet's clauses and of a goal.
+pub fn load_nodes(sheet: ReadSheet, goal: ReadGoal, nodes: &mut [u32], symbols: &mut [u32])
+    requires { Loadable sheet.text.now sheet.table.now sheet.clauses goal.text.now goal.table.now goal.literals nodes.old symbols.old }
+    ensures { (w : Loadable sheet.entry.text.now sheet.entry.table.now sheet.entry.clauses goal.entry.text.now goal.entry.table.now
+        goal.entry.literals nodes.old symbols.old) → Loaded sheet.entry.text.now goal.entry.text.now w.sh w.g nodes.new symbols.new }
 {
-    let middle = copy_body(goals, 0, literals, 1, nodes, 0);
-    let stop = copy_clauses(table, clauses, nodes, middle);
-    number_nodes(sheet, goal, nodes, stop, symbols);
+    let middle = copy_body(goal.table, 0, goal.literals, Source::Goal, nodes, 0);
+    let stop = copy_clauses(sheet.table, sheet.clauses, nodes, middle);
+    let texts = Texts {
+        sheet: sheet.text,
+        goal: goal.text,
+    };
+    number_nodes(texts, nodes, stop, symbols);
 }

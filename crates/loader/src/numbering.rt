@@ -5,23 +5,23 @@ ghost use Rattle.load_symbols.specs.Symbols.{SymbolsListed};
 ghost use Rattle.loader.specs.Listing.{NodeInside, NodeNumbered, Copied, NodesNumbered};
 
 use load_interning::{counted, intern};
+use load_symbols::Texts;
 use load_words::{ARITIES, NAMED};
 use run_layout::LOADED_NODE;
 use syntax::FIRST_NAME;
 
 // The node at a place with its symbol's number; how many symbols there are then.
 fn number_node(
-    sheet: &[u8],
-    goal: &[u8],
+    texts: Texts,
     nodes: &mut [u32],
     p: usize,
     symbols: &mut [u32],
     count: usize,
 ) -> usize
-    requires symbols_listed { (SymbolsListed sheet.now goal.now symbols.old count × (count < most_nodes))
+    requires symbols_listed { (SymbolsListed texts.sheet.now texts.goal.now symbols.old count × (count < most_nodes))
         × ((nodes_words ≤ length symbols.old) × (p < length nodes.old)) }
-    requires node_inside { NodeInside sheet.now goal.now (get_or nodes.old p 0) }
-    ensures { NodeNumbered sheet.now goal.now nodes.old p symbols.old count nodes.new
+    requires node_inside { NodeInside texts.sheet.now texts.goal.now (get_or nodes.old p 0) }
+    ensures { NodeNumbered texts.entry.sheet.now texts.entry.goal.now nodes.old p symbols.old count nodes.new
         symbols.new result }
 {
     let v = nodes[p];
@@ -29,35 +29,22 @@ fn number_node(
         return count;
     }
     let named = v - NAMED;
-    let k = intern(
-        sheet,
-        goal,
-        symbols,
-        count,
-        named / ARITIES,
-        named % ARITIES,
-    );
+    let k = intern(texts, symbols, count, named / ARITIES, named % ARITIES);
     let number = k + FIRST_NAME;
     nodes[p] = number as u32;
     counted(count, k)
 }
 
 // All copied nodes up to a place with their symbols' numbers.
-pub fn number_nodes(
-    sheet: &[u8],
-    goal: &[u8],
-    nodes: &mut [u32],
-    stop: usize,
-    symbols: &mut [u32],
-) -> usize
+pub fn number_nodes(texts: Texts, nodes: &mut [u32], stop: usize, symbols: &mut [u32]) -> usize
     requires nodes_words_in_bounds { (nodes_words ≤ length symbols.old) × (stop ≤ nodes_words) }
-    requires copied { Copied sheet.now goal.now nodes.old stop }
-    ensures { (w : Copied sheet.now goal.now nodes.old stop)
-        → NodesNumbered sheet.now goal.now w.flats nodes.old nodes.new symbols.new result }
+    requires copied { Copied texts.sheet.now texts.goal.now nodes.old stop }
+    ensures { (w : Copied texts.entry.sheet.now texts.entry.goal.now nodes.old stop)
+        → NodesNumbered texts.entry.sheet.now texts.entry.goal.now w.flats nodes.old nodes.new symbols.new result }
 {
     let mut count = 0;
     for p in (0..stop).step_by(LOADED_NODE) {
-        count = number_node(sheet, goal, nodes, p, symbols, count);
+        count = number_node(texts, nodes, p, symbols, count);
     }
     count
 }

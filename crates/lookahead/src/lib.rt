@@ -10,8 +10,9 @@ ghost use Rattle.lookahead_words.specs.Room.{KeptBelow, Word, Small};
 
 use lookahead_bindings::{MOST_ROWS, ROW_SIZE, guess, put_row};
 use lookahead_sorting::sort_most;
-use lookahead_words::guesses::{At, word_of};
-use lookahead_words::room::{LIST, WORK, get, size_of};
+use lookahead_words::guesses::Tables;
+use lookahead_words::room::{LIST, WORK, get};
+use run_layout::terms::{At, pack};
 use run_layout::{MEMO, PAIR_SIZE, SIDE_SIZE, STACK};
 
 // Where the proposed cells stand in the scratch words.
@@ -31,20 +32,20 @@ fn term_at(scratch: &[u32], i: usize) -> At
     }
 }
 
-// The pair of the work stack at a place, as a row at another.
-fn copy_pair(nodes: &[u32], scratch: &mut [u32], from: usize, to: usize)
+// The pair of the work stack at a place, as a row at another. (A pair has six words and a row three others, so no slice is copied.)
+fn copy_pair(tables: Tables, scratch: &mut [u32], from: usize, to: usize)
     requires { (Small from) × Small to }
     ensures { KeptBelow to scratch.old scratch.new }
 {
     let root = get(scratch, from);
     let left = term_at(scratch, from + 1);
     let right = term_at(scratch, from + SIDE_SIZE + 1);
-    let e = root + size_of(nodes, root);
-    put_row(scratch, to, word_of(left), e, word_of(right));
+    let e = root + tables.size_of(root);
+    put_row(scratch, to, pack(left), e, pack(right));
 }
 
 // The upper n of the h pairs on the work stack as rows, the top one last.
-fn copy_stack(nodes: &[u32], scratch: &mut [u32], h: usize, n: usize)
+fn copy_stack(tables: Tables, scratch: &mut [u32], h: usize, n: usize)
     requires { (h ≤ pairs) × ((n ≤ h) × (n ≤ cells)) }
     ensures { KeptBelow memo scratch.old scratch.new }
 {
@@ -52,7 +53,7 @@ fn copy_stack(nodes: &[u32], scratch: &mut [u32], h: usize, n: usize)
     for k in 0..n {
         let from = STACK + (first + k) * PAIR_SIZE;
         let to = MEMO + WORK + k * ROW_SIZE;
-        copy_pair(nodes, scratch, from, to);
+        copy_pair(tables, scratch, from, to);
     }
 }
 
@@ -64,41 +65,31 @@ fn lent_from() -> usize
 }
 
 // As `look_ahead`, in room that has so many rows.
-fn propose(
-    nodes: &[u32],
-    state: &[u32],
-    room: &mut [u32],
-    rows: usize,
-    x: usize,
-    w: usize,
-    turns: usize,
-) -> usize
+fn propose(tables: Tables, room: &mut [u32], rows: usize, x: usize, w: usize, turns: usize) -> usize
     requires { (rows ≤ cells) × (x < cells) }
     ensures { result ≤ cells }
 {
-    let n = guess(nodes, state, room, rows, x, w, turns);
-    sort_most(nodes, state, room, n, turns)
+    let n = guess(tables, room, rows, x, w, turns);
+    sort_most(tables, room, n, turns)
 }
 
-// Cell x is about to be bound to the term at q in copy d, with h pairs on the work stack: how many cells are proposed. The work is at most that of some such
+// Cell x is about to be bound to a term, with h pairs on the work stack: how many cells are proposed. The work is at most that of some such
 // number of turns at the stack. The words from the memo on are overwritten.
 pub fn look_ahead(
-    nodes: &[u32],
-    state: &[u32],
+    tables: Tables,
     scratch: &mut [u32],
     h: usize,
     x: usize,
-    q: usize,
-    d: usize,
+    at: At,
     turns: usize,
 ) -> usize
     requires memo_in_bounds { memo ≤ length scratch.old }
-    requires h_le_pairs { (h ≤ pairs) × ((x < cells) × ((q < places) × (d < copies))) }
+    requires h_le_pairs { (h ≤ pairs) × ((x < cells) × ((at.node < places) × (at.copy < copies))) }
     ensures { (KeptBelow memo scratch.old scratch.new) × (result ≤ cells) }
 {
     let n = h.min(turns).min(MOST_PAIRS);
-    copy_stack(nodes, scratch, h, n);
-    let w = word_of(At { node: q, copy: d });
+    copy_stack(tables, scratch, h, n);
+    let w = pack(at);
     let from = lent_from();
-    propose(nodes, state, &mut scratch[from..], n, x, w, turns)
+    propose(tables, &mut scratch[from..], n, x, w, turns)
 }

@@ -4,14 +4,12 @@
 #![tactic(auto)]
 
 ghost use Rattle.std.specs.Prelude.{◌≡◌, ◌+◌, ◌-◌, ◌<◌, ◌≤◌, ◌^◌, IfSome};
-ghost use Rattle.run_layout.specs.Regions.{cells, copies};
-ghost use Rattle.lookahead_words.specs.Room.{KeptBelow, Word, IsPlace, Small};
-ghost use Rattle.lookahead_bindings.specs.Guesses.{Guesses, Reached, RowBounded, RowReached};
+ghost use Rattle.run_layout.specs.Regions.{cells};
+ghost use Rattle.lookahead_words.specs.Room.{KeptBelow, Word, Small};
 
-use lookahead_words::guesses::{At, Led, at_of, lead, word_of};
-use lookahead_words::room::{
-    CUTS, GUESSES, MET, MET_COUNT, WORK, add, find, get, hash_of, put, rest, size_of,
-};
+use lookahead_words::guesses::{Led, Tables};
+use lookahead_words::room::{CUTS, GUESSES, MET, MET_COUNT, WORK, get, hash_of, put, rest};
+use run_layout::terms::{At, pack, unpack};
 use run_layout::{CELLS, LOADED_NODE, cell_of};
 use syntax::FIRST_NAME;
 
@@ -24,10 +22,15 @@ const LEFT_SPREAD: usize = 61;
 
 // How far a guess has come: so many rows, and so many turns left.
 #[derive(Clone, Copy)]
-pub struct Guessing {
-    pub rows: usize,
-    pub left: usize,
+struct Guessing {
+    rows: usize,
+    left: usize,
+    ghost rows_in_room: { rows ≤ cells },
 }
+
+// A guess goes on no further: two names differ, or no turns are left.
+#[derive(Clone, Copy)]
+struct Stopped;
 
 // What is still to be gone over: from a term on the left up to an end, and from a term on the right on.
 #[derive(Clone, Copy)]
@@ -37,7 +40,7 @@ struct Row {
     right: At,
 }
 
-// A row's words at a place.
+// A row's words at a place. (`table_words::put_three` asks that the words are there; here nothing is asked of the room's length.)
 pub fn put_row(t: &mut [u32], i: usize, left: usize, e: usize, right: usize)
     requires { Small i }
     ensures { KeptBelow i t.old t.new }
@@ -47,42 +50,27 @@ pub fn put_row(t: &mut [u32], i: usize, left: usize, e: usize, right: usize)
     put(t, i + 2, right);
 }
 
-// How many words from p on, up to e, are the same names as from q on.
+// How many words from p on, up to e, are the same names as from q on. (Every second word is a node's size and the first variable ends it, so no slices are
+// compared.)
 fn same_words(nodes: &[u32], p: usize, e: usize, q: usize) -> usize
     requires { (Word p) × (Word e × Word q) }
     ensures { result ≤ e + 1 }
 {
     let most = e.saturating_sub(p);
-    for n in (0..most).step_by(LOADED_NODE) {
-        let w = get(nodes, p + n);
-        if w < FIRST_NAME || get(nodes, q + n) != w {
-            return n;
-        }
-    }
-    most
-}
-
-// Row k, unless it is empty or there is no room: how many rows there are then.
-fn push(room: &mut [u32], k: usize, row: Row) -> usize
-    requires { (k ≤ cells) × RowBounded row }
-    ensures { result ≤ cells }
-{
-    if row.end <= row.left.node || MOST_ROWS <= k {
-        return k;
-    }
-    let base = WORK + k * ROW_SIZE;
-    put_row(room, base, word_of(row.left), row.end, word_of(row.right));
-    k + 1
+    let other = |n: &usize| {
+        let w = get(nodes, p + *n);
+        w < FIRST_NAME || get(nodes, q + *n) != w
+    };
+    (0..most).step_by(LOADED_NODE).find(other).unwrap_or(most)
 }
 
 // Whether two words were met before; from then on they were.
 fn met(room: &mut [u32], left: usize, right: usize) -> bool {
     let slot = (hash_of(left) * LEFT_SPREAD + hash_of(right)) % MET_COUNT;
-    let n = get(room, MET);
-    if find(room, MET, MET_COUNT, n, slot, left) == Some(right) {
+    if MET.find(room, MET.count(room), slot, left) == Some(right) {
         return true;
     }
-    add(room, MET, MET_COUNT, slot, left, right);
+    MET.add(room, slot, left, right);
     false
 }
 
@@ -93,123 +81,137 @@ fn behind(at: At, words: usize) -> At
 {
     At {
         node: at.node + words,
-        copy: at.copy,
+        ..at
     }
-}
-
-// Two terms of one name, before k rows: their arguments come next, unless the two are one or were met before.
-fn open(nodes: &[u32], room: &mut [u32], k: usize, a: At, b: At) -> usize
-    requires { (k ≤ cells) × (Reached a × Reached b) }
-    ensures { result ≤ cells }
-{
-    let row = Row {
-        left: behind(a, LOADED_NODE),
-        end: a.node + size_of(nodes, a.node),
-        right: behind(b, LOADED_NODE),
-    };
-    if row.end <= row.left.node || a == b || met(room, word_of(a), word_of(b)) {
-        return k;
-    }
-    push(room, k, row)
 }
 
 // The cell of the variable that a walk has come to, unless it is a name.
-fn cell_at(nodes: &[u32], a: At) -> Option<usize>
-    requires { Reached a }
+fn cell_at(tables: Tables, a: Led) -> Option<usize>
     ensures { IfSome result (λ x. x < cells) }
 {
-    let v = get(nodes, a.node);
+    let v = get(tables.nodes, a.at.node);
     if FIRST_NAME <= v {
         return None;
     }
-    Some(cell_of(a.copy, v))
+    Some(cell_of(a.at.copy, v))
 }
 
 // A guess: cell x is bound to the term that a walk has come to.
-fn bind(room: &mut [u32], x: usize, a: At)
-    requires { (x < cells) × Reached a }
+fn bind(room: &mut [u32], x: usize, a: Led)
+    requires { x < cells }
 {
-    add(room, GUESSES, CELLS, x, x, word_of(a));
+    GUESSES.add(room, x, x, pack(a.at));
 }
 
-// Two terms that lead no further, before k rows: how many rows there are then, unless their names differ. Of two variables the later is bound to the earlier.
-fn settle(nodes: &[u32], room: &mut [u32], k: usize, a: At, b: At) -> Option<usize>
-    requires { (k ≤ cells) × (Reached a × Reached b) }
-    ensures { IfSome result (λ rows. rows ≤ cells) }
-{
-    match (cell_at(nodes, a), cell_at(nodes, b)) {
-        (Some(x), Some(y)) if x == y => Some(k),
-        (Some(x), Some(y)) if x < y => {
-            bind(room, y, a);
-            Some(k)
+impl Guessing {
+    ghost use Rattle.lookahead_bindings.specs.Rows.{RowBounded, RowReached};
+
+    // One row more, unless it is empty or there is no room.
+    fn push(&mut self, room: &mut [u32], row: Row)
+        requires { RowBounded row }
+        ensures { self.new.left ≡ self.old.left }
+    {
+        if row.end <= row.left.node || MOST_ROWS <= self.rows {
+            return;
         }
-        (Some(x), _) => {
-            bind(room, x, b);
-            Some(k)
+        let base = WORK + self.rows * ROW_SIZE;
+        put_row(room, base, pack(row.left), row.end, pack(row.right));
+        self.rows += 1;
+    }
+
+    // Two terms of one name: their arguments come next, unless the two are one or were met before.
+    fn open(&mut self, tables: Tables, room: &mut [u32], a: Led, b: Led)
+        ensures { self.new.left ≡ self.old.left }
+    {
+        let row = Row {
+            left: behind(a.at, LOADED_NODE),
+            end: a.at.node + tables.size_of(a.at.node),
+            right: behind(b.at, LOADED_NODE),
+        };
+        if row.end <= row.left.node || a.at == b.at || met(room, pack(a.at), pack(b.at)) {
+            return;
         }
-        (None, Some(y)) => {
-            bind(room, y, a);
-            Some(k)
-        }
-        (None, None) => {
-            if get(nodes, a.node) != get(nodes, b.node) {
-                return None;
+        self.push(room, row);
+    }
+
+    // Two terms that lead no further. Of two variables the later is bound to the earlier.
+    fn settle(&mut self, tables: Tables, room: &mut [u32], a: Led, b: Led) -> Result<(), Stopped>
+        ensures { self.new.left ≡ self.old.left }
+    {
+        match (cell_at(tables, a), cell_at(tables, b)) {
+            (Some(x), Some(y)) if x == y => {}
+            (Some(x), Some(y)) if x < y => bind(room, y, a),
+            (Some(x), _) => bind(room, x, b),
+            (None, Some(y)) => bind(room, y, a),
+            (None, None) => {
+                if get(tables.nodes, a.at.node) != get(tables.nodes, b.at.node) {
+                    return Err(Stopped);
+                }
+                self.open(tables, room, a, b);
             }
-            Some(open(nodes, room, k, a, b))
         }
+        Ok(())
     }
-}
 
-// The two terms that come next in a row; nothing where their names differ or no turns are left.
-fn meet(nodes: &[u32], state: &[u32], room: &mut [u32], g: Guessing, row: Row) -> Option<Guessing>
-    requires { (Guesses g.left g) × RowReached row }
-    ensures { IfSome result (λ h. Guesses g.left h) }
-{
-    let after = Row {
-        left: behind(row.left, size_of(nodes, row.left.node)),
-        end: row.end,
-        right: behind(row.right, size_of(nodes, row.right.node)),
-    };
-    let k = push(room, g.rows, after);
-    let a = lead(nodes, state, room, row.left, g.left);
-    let b = lead(nodes, state, room, row.right, a.left);
-    if b.left == 0 {
-        return None;
+    // The two terms that come next in a row.
+    fn meet(&mut self, tables: Tables, room: &mut [u32], row: Row) -> Result<(), Stopped>
+        requires { RowReached row }
+        ensures { self.new.left ≤ self.old.left }
+    {
+        let after = Row {
+            left: behind(row.left, tables.size_of(row.left.node)),
+            end: row.end,
+            right: behind(row.right, tables.size_of(row.right.node)),
+        };
+        self.push(room, after);
+        let a = tables.lead(room, row.left, self.left);
+        let b = tables.lead(room, row.right, a.left);
+        self.left = b.left;
+        if b.left == 0 {
+            return Err(Stopped);
+        }
+        self.settle(tables, room, a, b)
     }
-    let rows = settle(nodes, room, k, a.at, b.at)?;
-    Some(Guessing { rows, left: b.left })
-}
 
-// One turn at the top row: past names that are the same, and at the two terms behind them.
-fn turn(nodes: &[u32], state: &[u32], room: &mut [u32], g: Guessing) -> Option<Guessing>
-    requires { (0 < g.rows) × Guesses g.left g }
-    ensures { IfSome result (λ h. Guesses (g.left - 1) h) }
-{
-    let rows = g.rows - 1;
-    let base = WORK + rows * ROW_SIZE;
-    let a = at_of(get(room, base));
-    let end = get(room, base + 1);
-    let b = at_of(get(room, base + 2));
-    let n = same_words(nodes, a.node, end, b.node);
-    let h = Guessing {
-        rows,
-        left: rest(g.left, n / LOADED_NODE),
-    };
-    let row = Row {
-        left: behind(a, n),
-        end,
-        right: behind(b, n),
-    };
-    if end <= row.left.node {
-        return Some(h);
+    // One turn at the top row: past names that are the same, and at the two terms behind them.
+    fn turn(&mut self, tables: Tables, room: &mut [u32]) -> Result<(), Stopped>
+        requires { 0 < self.old.rows }
+        ensures { self.new.left ≤ self.old.left - 1 }
+    {
+        self.rows -= 1;
+        let base = WORK + self.rows * ROW_SIZE;
+        let a = unpack(get(room, base));
+        let end = get(room, base + 1);
+        let b = unpack(get(room, base + 2));
+        let n = same_words(tables.nodes, a.node, end, b.node);
+        self.left = rest(self.left, n / LOADED_NODE);
+        let row = Row {
+            left: behind(a, n),
+            end,
+            right: behind(b, n),
+        };
+        if end <= row.left.node {
+            return Ok(());
+        }
+        self.meet(tables, room, row)
     }
-    meet(nodes, state, room, h, row)
+
+    // As many turns as there are rows and turns left for.
+    fn run(&mut self, tables: Tables, room: &mut [u32]) -> Result<(), Stopped>
+        ensures { self.new.left ≤ self.old.left }
+    {
+        // Ends after at most so many turns as are left: each takes one of them and one for each node that it passed and each link that it followed, which is
+        // known only then. A range over the turns would count them beside `left`, which has to be asked all the same.
+        while 0 < self.left && 0 < self.rows {
+            self.turn(tables, room)?;
+        }
+        Ok(())
+    }
 }
 
 // How many guesses so many rows come to, in at most so many turns, the first being that cell x is bound to a word.
 pub fn guess(
-    nodes: &[u32],
-    state: &[u32],
+    tables: Tables,
     room: &mut [u32],
     rows: usize,
     x: usize,
@@ -219,17 +221,12 @@ pub fn guess(
     requires { (rows ≤ cells) × (x < cells) }
     ensures { Word result }
 {
-    put(room, GUESSES, 0);
-    put(room, CUTS, 0);
-    put(room, MET, 0);
-    add(room, GUESSES, CELLS, x, x, w);
-    let mut g = Guessing { rows, left: turns };
-    // a turn takes as many of the turns left as the words that it read and the links that it followed
-    while 0 < g.left && 0 < g.rows {
-        let Some(h) = turn(nodes, state, room, g) else {
-            break;
-        };
-        g = h;
-    }
-    get(room, GUESSES)
+    GUESSES.clear(room);
+    CUTS.clear(room);
+    MET.clear(room);
+    GUESSES.add(room, x, x, w);
+    let mut guessing = Guessing { rows, left: turns };
+    // the guesses stand in the room, wherever they end
+    let _ = guessing.run(tables, room);
+    GUESSES.count(room)
 }

@@ -1,4 +1,6 @@
-// The arguments of an atom that have one mark: the first that is not ground, and what they make ground.
+// The arguments of an atom that have one mark: the first that is not ground, and what they make ground. A mark is a number here, as it stands in the word
+// that packs an atom's marks. Place, marks and flags go along as parameters: they step on from argument to argument, so a struct of them would be made anew
+// at each.
 
 #![tactic(auto)]
 
@@ -138,7 +140,8 @@ pub fn call_fault(
     }
 }
 
-// The fault of a head after its body, by its marks: the first - argument that is not ground.
+// The fault of a head after its body, by its marks: the first - argument that is not ground. (Beside `call_fault`: the search is one, `open_argument`; what
+// is made of its find are two refusals with other fields.)
 pub fn head_fault(
     table: &[u32],
     p: usize,

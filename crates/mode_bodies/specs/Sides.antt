@@ -4,6 +4,7 @@ use Rattle.syntax.specs.Terms.{Body}
 use Rattle.syntax.specs.Words.{side_words, item_kinds}
 use Rattle.table_words.specs.Tables.{Has}
 use Rattle.mode_marks.specs.Standing.{BodySpelt}
+use Rattle.mode_marks.specs.declared.marks.ReadText.{ReadText}
 
 -- a side of a bracket of the text g stands at p, with the word before it
 pub record SideAt (g table : List ℕ) (p : ℕ) : Type 0 where
@@ -12,3 +13,6 @@ pub record SideAt (g table : List ℕ) (p : ℕ) : Type 0 where
   pub small : kind < item_kinds
   pub has : Has table p (side_words kind body)
   pub stands : BodySpelt g body
+
+abbrev pub SideIn : ReadText → ℕ → Type 0
+SideIn r p = SideAt r.text.now r.table.now p

@@ -1,19 +1,19 @@
-// Refusal 9 along the literals of a body of a text `g`, brackets among them, by the declarations of a sheet.
+// Refusal 9 along the literals of a body, brackets among them, by the declarations of a sheet. Place, number of the literal and flags go along as
+// parameters: see `mode_literals::Passed`.
 
 #![tactic(auto)]
 
 ghost use Rattle.std.specs.Prelude.{◌≡◌, ◌+◌, ◌≤◌, get_or};
 ghost use Rattle.syntax.specs.Words.{left_kind};
 ghost use Rattle.mode_rules.specs.Modes.{body_fault};
-ghost use Rattle.mode_marks.specs.Tables.{LiteralAt, BodyAt};
 ghost use Rattle.mode_bodies.specs.Answers.{walk_of};
 ghost use Rattle.mode_literals.specs.Answers.{PastLiteral, PastBody};
-ghost use Rattle.mode_bodies.specs.Sides.{SideAt};
-ghost use Rattle.mode_marks.specs.Stand.{Stand};
+ghost use Rattle.mode_bodies.specs.Sides.{SideIn};
+ghost use Rattle.mode_marks.specs.Stand.{Stand, LiteralIn, BodyIn};
 
 use mode_flags::{Known, in_both};
 use mode_literals::{Passed, plain_walk};
-use mode_marks::marks::Declarations;
+use mode_marks::marks::ClauseCheck;
 use packed_words::items_of_side;
 use syntax::{LEFT_KIND, Refusal};
 use table_words::word_at;
@@ -24,47 +24,39 @@ const BRACKET_WORDS: usize = 3;
 // One literal.
 #[cycle(either_walk_literal_walk_literals_walk_side_walk)]
 fn literal_walk(
-    declarations: Declarations<'_>,
-    g: &[u8],
-    table: &[u32],
+    check: ClauseCheck<'_>,
     p: usize,
-    clause: usize,
     literal: usize,
     known: Known,
 ) -> Result<Passed, Refusal>
-    requires declarations_at { Stand declarations }
-    requires literal_at { LiteralAt g.now table.now p }
+    requires literal_at { LiteralIn check.read p }
     requires literal_bound { literal ≤ p + 1 }
-    ensures { (d : Stand declarations.entry) (w : LiteralAt g.now table.now p)
-        → PastLiteral result d.list clause literal known p w.literal }
+    ensures { (d : Stand check.entry.declarations) (w : LiteralIn check.entry.read p)
+        → PastLiteral result d.list check.entry.clause literal known p w.literal }
 {
-    if LEFT_KIND <= word_at(table, p) {
-        return either_walk(declarations, g, table, p, clause, literal, known);
+    if LEFT_KIND <= word_at(check.read.table, p) {
+        return either_walk(check, p, literal, known);
     }
-    plain_walk(declarations, g, table, p, clause, literal, known)
+    plain_walk(check, p, literal, known)
 }
 
 // A bracket: both sides from what is known before it; behind it is known what both leave.
 #[cycle(either_walk_literal_walk_literals_walk_side_walk)]
 fn either_walk(
-    declarations: Declarations<'_>,
-    g: &[u8],
-    table: &[u32],
+    check: ClauseCheck<'_>,
     p: usize,
-    clause: usize,
     literal: usize,
     known: Known,
 ) -> Result<Passed, Refusal>
-    requires declarations_at { Stand declarations }
-    requires literal_at { LiteralAt g.now table.now p }
-    requires left_kind_bound { (left_kind ≤ get_or table.now p 0) × (literal ≤ p + 1) }
-    ensures { (d : Stand declarations.entry) (w : LiteralAt g.now table.now p)
-        → PastLiteral result d.list clause literal known p w.literal }
+    requires literal_at { LiteralIn check.read p }
+    requires left_kind_bound { (left_kind ≤ get_or check.read.table.now p 0) × (literal ≤ p + 1) }
+    ensures { (d : Stand check.entry.declarations) (w : LiteralIn check.entry.read p)
+        → PastLiteral result d.list check.entry.clause literal known p w.literal }
 {
-    let left = side_walk(declarations, g, table, p, clause, literal, known)?;
+    let left = side_walk(check, p, literal, known)?;
     let middle = left.next;
     let more = left.literal;
-    let right = side_walk(declarations, g, table, middle, clause, more, known)?;
+    let right = side_walk(check, middle, more, known)?;
     Ok(Passed {
         known: in_both(left.known, right.known),
         next: right.next + 1,
@@ -76,42 +68,34 @@ fn either_walk(
 // A side of a bracket, behind the word before it.
 #[cycle(either_walk_literal_walk_literals_walk_side_walk)]
 fn side_walk(
-    declarations: Declarations<'_>,
-    g: &[u8],
-    table: &[u32],
+    check: ClauseCheck<'_>,
     p: usize,
-    clause: usize,
     literal: usize,
     known: Known,
 ) -> Result<Passed, Refusal>
-    requires declarations_at { Stand declarations }
-    requires side_at { SideAt g.now table.now p }
+    requires side_at { SideIn check.read p }
     requires literal_bound { literal ≤ p + 1 }
-    ensures { (d : Stand declarations.entry) (w : SideAt g.now table.now p)
-        → PastBody result d.list clause literal known (p + 1) w.body }
+    ensures { (d : Stand check.entry.declarations) (w : SideIn check.entry.read p)
+        → PastBody result d.list check.entry.clause literal known (p + 1) w.body }
 {
-    let items = items_of_side(word_at(table, p));
+    let items = items_of_side(word_at(check.read.table, p));
     let q = p + 1;
-    literals_walk(declarations, g, table, q, items, clause, literal, known)
+    literals_walk(check, q, items, literal, known)
 }
 
 // The literals of a body or of a side in turn: the first fault, or what is known after them.
 #[cycle(either_walk_literal_walk_literals_walk_side_walk)]
 fn literals_walk(
-    declarations: Declarations<'_>,
-    g: &[u8],
-    table: &[u32],
+    check: ClauseCheck<'_>,
     p: usize,
     items: usize,
-    clause: usize,
     literal: usize,
     known: Known,
 ) -> Result<Passed, Refusal>
-    requires declarations_at { Stand declarations }
-    requires body_at { BodyAt g.now table.now p items }
+    requires body_at { BodyIn check.read p items }
     requires literal_bound { literal ≤ p + 1 }
-    ensures { (d : Stand declarations.entry) (w : BodyAt g.now table.now p items)
-        → PastBody result d.list clause literal known p w.body }
+    ensures { (d : Stand check.entry.declarations) (w : BodyIn check.entry.read p items)
+        → PastBody result d.list check.entry.clause literal known p w.body }
 {
     let mut at = p;
     let mut i = 0;
@@ -119,7 +103,7 @@ fn literals_walk(
     let mut flags = known;
     // A bracket is several items, so the count rises by as many as the literal turned out to be: no range or iterator steps so.
     while i < items {
-        let walked = literal_walk(declarations, g, table, at, clause, number, flags)?;
+        let walked = literal_walk(check, at, number, flags)?;
         flags = walked.known;
         at = walked.next;
         number = walked.literal;
@@ -135,19 +119,15 @@ fn literals_walk(
 
 // The literals of a body, from number 1 on: the first fault, or what is known ground after them.
 pub fn body_walk(
-    declarations: Declarations<'_>,
-    g: &[u8],
-    table: &[u32],
+    check: ClauseCheck<'_>,
     p: usize,
     items: usize,
-    clause: usize,
     known: Known,
 ) -> Result<Known, Refusal>
-    requires declarations_at { Stand declarations }
-    requires body_at { BodyAt g.now table.now p items }
-    ensures { (d : Stand declarations.entry) (w : BodyAt g.now table.now p items)
-        → walk_of result ≡ body_fault d.list clause 1 known w.body }
+    requires { BodyIn check.read p items }
+    ensures { (d : Stand check.entry.declarations) (w : BodyIn check.entry.read p items)
+        → walk_of result ≡ body_fault d.list check.entry.clause 1 known w.body }
 {
-    let walked = literals_walk(declarations, g, table, p, items, clause, 1, known)?;
+    let walked = literals_walk(check, p, items, 1, known)?;
     Ok(walked.known)
 }

@@ -28,30 +28,30 @@ passed-by : (ds : List Declaration) (c : ℕ) (h : Atom) {w : Result Known Refus
 unfolding head_fault
 passed-by ds c h e t = ap (λ (z : Walk). checked_of (head_fault ds c h z)) (ap walk_of (sym t) ∙ e)
 
-module _ (s declared : List ℕ) (n : ℕ) (table : List ℕ) (p c marks : ℕ)
-    (em : (d : DeclarationsAt s declared n) (w : AtomAt s table (p + 3)) → marks ≡ marks_number (marks_for d.list w.atom))
+module _ (s declared : List ℕ) (n : ℕ) (g table : List ℕ) (p c marks : ℕ)
+    (em : (d : DeclarationsAt s declared n) (w : AtomAt g table (p + 3)) → marks ≡ marks_number (marks_for d.list w.atom))
     (literals : ℕ) (el : literals ≡ get_or table (p + 2) 0) (first : ℕ) (e1 : (u : TermAt table (p + 3)) → first ≡ p + 3 + length (term_words u.term)) where
-  abbrev pub head-judged : DeclarationsAt s declared n → ClauseAt s table p → JudgedAt table (p + 3) marks
-  head-judged d w = judged-at s declared n s table (p + 3) marks em d (head-at w)
+  abbrev pub head-judged : DeclarationsAt s declared n → ClauseAt g table p → JudgedAt table (p + 3) marks
+  head-judged d w = judged-at s declared n g table (p + 3) marks em d (head-at w)
 
-  abbrev pub head-marked : (m : Mark) → DeclarationsAt s declared n → ClauseAt s table p → MarkedAt table (p + 3 + 3) first marks (mark_number m)
+  abbrev pub head-marked : (m : Mark) → DeclarationsAt s declared n → ClauseAt g table p → MarkedAt table (p + 3 + 3) first marks (mark_number m)
   head-marked m d w = judged-marked table (p + 3) marks first e1 m (head-judged d w)
 
   module _ (start : Known) (es : (u : MarkedAt table (p + 3 + 3) first marks 1) → start ≡ ground_marked u.wanted u.listed (list_of u.terms) none_ground)
-      (w : Result Known Refusal) (ew : (d : DeclarationsAt s declared n) (b : BodyAt s table first literals) → walk_of w ≡ body_fault d.list c 1 start b.body) where
-    walked : (d : DeclarationsAt s declared n) (u : ClauseAt s table p) → walk_of w ≡ body_fault d.list c 1 (start_known d.list u.clause.head) u.clause.body
+      (w : Result Known Refusal) (ew : (d : DeclarationsAt s declared n) (b : BodyAt g table first literals) → walk_of w ≡ body_fault d.list c 1 start b.body) where
+    walked : (d : DeclarationsAt s declared n) (u : ClauseAt g table p) → walk_of w ≡ body_fault d.list c 1 (start_known d.list u.clause.head) u.clause.body
     unfolding start_known
     walked d u =
-        ew d (body_at s table p literals el first e1 u)
+        ew d (body_at g table p literals el first e1 u)
         ∙ ap (λ (τ : Known). body_fault d.list c 1 τ u.clause.body) (es (head-marked input d u))
 
-    pub clause-stopped : {r : Refusal} → w ≡ Err r → (d : DeclarationsAt s declared n) (u : ClauseAt s table p) → Err r ≡ checked_of (clause_fault d.list c u.clause)
+    pub clause-stopped : {r : Refusal} → w ≡ Err r → (d : DeclarationsAt s declared n) (u : ClauseAt g table p) → Err r ≡ checked_of (clause_fault d.list c u.clause)
     unfolding clause_fault
     clause-stopped t d u = stopped_by d.list c u.clause.head (walked d u) t
 
     pub clause-passed : {τ : Known} → w ≡ Ok τ → {r : Checked}
         → ((j : JudgedAt table (p + 3) marks) → r ≡ checked_of (open_output c j.atom (first_open output τ j.listed (list_of j.atom.args) 1)))
-        → (d : DeclarationsAt s declared n) (u : ClauseAt s table p) → r ≡ checked_of (clause_fault d.list c u.clause)
+        → (d : DeclarationsAt s declared n) (u : ClauseAt g table p) → r ≡ checked_of (clause_fault d.list c u.clause)
     unfolding clause_fault
     clause-passed t h d u = h (head-judged d u) ∙ passed-by d.list c u.clause.head (walked d u) t
 

@@ -10,22 +10,26 @@ ghost use Rattle.mode_marks.specs.Tables.{GoalAt};
 ghost use Rattle.mode_marks.specs.Answers.{checked_of};
 
 use mode_bodies::body_walk;
-use mode_marks::marks::Declarations;
+use mode_marks::marks::{ClauseCheck, Declarations, ReadText};
 use mode_undeclared::undeclared_body;
 use syntax::{Refusal, VARIABLES};
 
 // Refusals 8 and 9 of a goal whose items stand in the table, by the sheet's declarations.
 pub fn check_goal(
     declarations: Declarations<'_>,
-    g: &[u8],
-    table: &[u32],
+    read: ReadText<'_>,
     items: usize,
 ) -> Result<(), Refusal>
-    requires { GoalAt declarations.text.now declarations.words.now declarations.count g.now table.now items }
-    ensures { (w : GoalAt declarations.entry.text.now declarations.entry.words.now declarations.entry.count g.now table.now items)
+    requires { GoalAt declarations.text.now declarations.words.now declarations.count read.text.now read.table.now items }
+    ensures { (w : GoalAt declarations.entry.text.now declarations.entry.words.now declarations.entry.count read.entry.text.now read.entry.table.now items)
         → result ≡ checked_of (goal_fault w.sheet w.goal) }
 {
-    undeclared_body(declarations, g, table, 0, items, 0, 0)?;
-    body_walk(declarations, g, table, 0, items, 0, [false; VARIABLES])?;
+    let check = ClauseCheck {
+        declarations,
+        read,
+        clause: 0,
+    };
+    undeclared_body(check, 0, items, 0)?;
+    body_walk(check, 0, items, [false; VARIABLES])?;
     Ok(())
 }

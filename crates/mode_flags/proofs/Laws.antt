@@ -1,38 +1,48 @@
 -- Laws of flags, one for each variable number, gone over from the left. Assumes nothing.
-use Prim.Native.Nat.{ℕ, ◌+◌, ◌≤◌, ◌<◌}
+use Prim.Native.Nat.{ℕ, zero, suc, ◌+◌, ◌≤◌, ◌<◌}
 use native.Mathlib.Omega.{arith}
 use native.Mathlib.Numerals.{add-one}
 use mathlib.Core.Path.{◌≡◌, refl, sym, ap, ap₂, ◌∙◌}
 use mathlib.Core.Bool.{Bool, true, false, not, ◌&&◌, ◌||◌}
 use mathlib.Core.List.{[], ◌∷◌, ◌++◌, append_assoc, append-nil}
 use lib.ListN.{length, get_or, set, take, drop, drop_of_length-le, length-set}
+use Rattle.std.specs.Bool.{MatchBool}
+use Rattle.std.specs.List.{zip, AllWithin, HoldsAt}
 use lib.Seq.{drop-cons, take_all, take-suc-set}
 use Rattle.syntax.specs.Limits.{variables}
 use Rattle.mode_rules.specs.Modes.{Known, further, in_both}
 
--- ---- whether some variable became ground, from the left
+-- ---- whether some variable became ground
 
-module _ (τ σ : Known) (i : ℕ) (l : i < length τ) (m : i < length σ) where
-  next : further (drop i τ) (drop i σ) ≡ ((not (get_or τ i false) && get_or σ i false) || further (drop (i + 1) τ) (drop (i + 1) σ))
-  unfolding further
-  next = rw add-one (ap₂ further (drop-cons τ i false l) (drop-cons σ i false m))
+-- the second of a pair of flags is set, and the first is not
+abbrev pub newly : Bool × Bool → Bool
+newly x = not x.0 && x.1
 
-  pub found-further : get_or τ i false ≡ false → get_or σ i false ≡ true → further (drop i τ) (drop i σ) ≡ true
-  found-further e f = next ∙ rw (e, f)
+or-true : (x : Bool) {y : Bool} → true ≡ y → true ≡ (x || y)
+or-true true e = refl
+or-true false e = e
 
-  pub known-before : get_or τ i false ≡ true → further (drop i τ) (drop i σ) ≡ further (drop (i + 1) τ) (drop (i + 1) σ)
-  known-before e = next ∙ rw e
-
-  pub unknown-after : get_or σ i false ≡ false → further (drop i τ) (drop i σ) ≡ further (drop (i + 1) τ) (drop (i + 1) σ)
-  unknown-after e = next ∙ by (get_or τ i false)
-    where
-      by : (b : Bool) → ((not b && get_or σ i false) || further (drop (i + 1) τ) (drop (i + 1) σ)) ≡ further (drop (i + 1) τ) (drop (i + 1) σ)
-      by true = refl
-      by false = rw e
-
-pub none_left : (τ σ : Known) (i : ℕ) → length τ ≤ i → further (drop i τ) (drop i σ) ≡ false
+-- where some pair says so there is one more, and where none does there is none
+pub some-further : (τ σ : Known) (k : ℕ) → k < length (zip τ σ) → HoldsAt (λ x. newly x ≡ true) (zip τ σ) k → true ≡ further τ σ
 unfolding further
-none_left τ σ i l = ap (λ (ρ : Known). further ρ (drop i σ)) (drop_of_length-le τ l)
+some-further [] σ k l h = absurd (omega arith)
+some-further (b ∷ τ) [] k l h = absurd (omega arith)
+some-further (b ∷ τ) (c ∷ σ) zero l h = sym (ap (λ (x : Bool). x || further τ σ) (h (b, c)))
+some-further (b ∷ τ) (c ∷ σ) (suc k) l h = or-true (not b && c) (some-further τ σ k (omega arith) h)
+
+pub none-further : (τ σ : Known) → AllWithin (λ x. newly x ≡ false) (zip τ σ) 0 (length (zip τ σ)) → false ≡ further τ σ
+unfolding further
+none-further [] σ h = refl
+none-further (b ∷ τ) [] h = refl
+none-further (b ∷ τ) (c ∷ σ) h =
+    none-further τ σ (λ k d z l. h (suc k) d (omega arith) (omega arith))
+    ∙ sym (ap (λ (x : Bool). x || further τ σ) (h 0 (b, c) (omega arith) (omega arith)))
+
+pub any-further : (τ σ : Known) (r : Bool)
+    → MatchBool r ((k : ℕ) × (k < length (zip τ σ)) × HoldsAt (λ x. newly x ≡ true) (zip τ σ) k) (AllWithin (λ x. newly x ≡ false) (zip τ σ) 0 (length (zip τ σ)))
+    → r ≡ further τ σ
+any-further τ σ true h = some-further τ σ h.0 h.1 h.2
+any-further τ σ false h = none-further τ σ h
 
 -- ---- what both sides of a bracket leave ground, from the left
 

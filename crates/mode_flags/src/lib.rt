@@ -14,12 +14,7 @@ pub type Known = [bool; VARIABLES];
 pub fn further(before: Known, after: Known) -> bool
     ensures { result ≡ further before after }
 {
-    for i in 0..VARIABLES {
-        if after[i] && !before[i] {
-            return true;
-        }
-    }
-    false
+    before.iter().zip(&after).any(|(was, is)| !*was && *is)
 }
 
 // What is known ground behind a bracket: what both sides leave ground.

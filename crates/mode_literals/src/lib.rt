@@ -1,23 +1,22 @@
-// Refusal 9 at a literal that is no bracket, of a text `g`, by the declarations of a sheet.
+// Refusal 9 at a literal that is no bracket, by the declarations of a sheet.
 
 #![tactic(auto)]
 
 ghost use Rattle.std.specs.Prelude.{◌+◌, ◌≤◌, ◌<◌, length, get_or};
 ghost use Rattle.syntax.specs.Words.{atom_words, left_kind};
 ghost use Rattle.mode_rules.specs.Modes.{call_walk};
-ghost use Rattle.mode_marks.specs.Tables.{AtomAt, LiteralAt};
 ghost use Rattle.mode_literals.specs.Answers.{Passes, PastLiteral};
-ghost use Rattle.mode_marks.specs.Stand.{Stand};
+ghost use Rattle.mode_marks.specs.Stand.{Stand, AtomIn, LiteralIn};
 
 use mode_arguments::{call_fault, ground_marked};
 use mode_equations::settle;
 use mode_flags::Known;
-use mode_marks::marks::Declarations;
+use mode_marks::marks::ClauseCheck;
 use syntax::{CALL_KIND, FALSITY_KIND, NODE_WORDS, OUTPUT, Refusal, TRUTH_KIND, VARIABLES};
 use table_words::{past, word_at};
 
-// What a walk along a part of a body gives where it meets no fault: what is known ground after it, the place past the part, how many items it is,
-// and the number of the next literal.
+// What a walk along a part of a body gives where it meets no fault: what is known ground after it, the place past the part, how many items it is, and the
+// number of the next literal. (A walk is given place, number and flags as parameters: it is given no count of items, and the three differ at each call.)
 #[derive(Clone, Copy)]
 pub struct Passed {
     pub known: Known,
@@ -28,25 +27,22 @@ pub struct Passed {
 
 // A call: its fault, or what is known after it. The inputs are tested by what is known before it.
 fn call_walk(
-    declarations: Declarations<'_>,
-    g: &[u8],
-    table: &[u32],
+    check: ClauseCheck<'_>,
     p: usize,
-    clause: usize,
     literal: usize,
     known: Known,
 ) -> Result<Passed, Refusal>
-    requires declarations_at { Stand declarations }
-    requires atom_at { AtomAt g.now table.now p }
+    requires atom_at { AtomIn check.read p }
     requires literal_le_p { literal ≤ p }
-    ensures { (d : Stand declarations.entry) (w : AtomAt g.now table.now p)
-        → Passes result (call_walk d.list clause literal known w.atom) (p + length (atom_words w.atom)) 1 (literal + 1) }
+    ensures { (d : Stand check.entry.declarations) (w : AtomIn check.entry.read p)
+        → Passes result (call_walk d.list check.entry.clause literal known w.atom) (p + length (atom_words w.atom)) 1 (literal + 1) }
 {
-    let marks = declarations.marks_of(g, table, p);
+    let table = check.read.table;
+    let marks = check.declarations.marks_of(check.read, p);
     let from = p + NODE_WORDS;
     let stop = past(table, p);
     let after = ground_marked(table, from, stop, marks, OUTPUT, known);
-    call_fault(table, p, marks, known, clause, literal)?;
+    call_fault(table, p, marks, known, check.clause, literal)?;
     Ok(Passed {
         known: after,
         next: stop,
@@ -57,20 +53,17 @@ fn call_walk(
 
 // A literal that is no bracket. A literal takes a word or more, so its number is at most its place and one.
 pub fn plain_walk(
-    declarations: Declarations<'_>,
-    g: &[u8],
-    table: &[u32],
+    check: ClauseCheck<'_>,
     p: usize,
-    clause: usize,
     literal: usize,
     known: Known,
 ) -> Result<Passed, Refusal>
-    requires declarations_at { Stand declarations }
-    requires literal_at { LiteralAt g.now table.now p }
-    requires p_bound { (get_or table.now p 0 < left_kind) × (literal ≤ p + 1) }
-    ensures { (d : Stand declarations.entry) (w : LiteralAt g.now table.now p)
-        → PastLiteral result d.list clause literal known p w.literal }
+    requires literal_at { LiteralIn check.read p }
+    requires p_bound { (get_or check.read.table.now p 0 < left_kind) × (literal ≤ p + 1) }
+    ensures { (d : Stand check.entry.declarations) (w : LiteralIn check.entry.read p)
+        → PastLiteral result d.list check.entry.clause literal known p w.literal }
 {
+    let table = check.read.table;
     let kind = word_at(table, p);
     let q = p + 1;
     let more = literal + 1;
@@ -91,11 +84,11 @@ pub fn plain_walk(
         });
     }
     if kind == CALL_KIND {
-        return call_walk(declarations, g, table, q, clause, literal, known);
+        return call_walk(check, q, literal, known);
     }
     let right = past(table, q);
     let next = past(table, right);
-    let after = settle(g, table, q, right, known);
+    let after = settle(check.read, q, right, known);
     Ok(Passed {
         known: after,
         next,

@@ -20,42 +20,47 @@ use Rattle.mode_lookup.specs.Searching.{matches, found, missing, look_from, look
 
 -- ---- a name at a place
 
-abbrev pub name_at : List ℕ → List ℕ → ℕ → ℕ → ℕ → Bool
-name_at text g place at len = leb (place + len) (length text) && same_bytes (spelling text place len) (spelling g at len)
+abbrev pub name_at : List ℕ → List ℕ → ℕ → Bool
+name_at text name place = leb (place + length name) (length text) && same_bytes (spelling text place (length name)) name
 
-module _ (text g : List ℕ) (place at len : ℕ) where
-  at-past : length text < place + len → false ≡ name_at text g place at len
-  at-past l = sym (ap (λ (t : Bool). t && same_bytes (spelling text place len) (spelling g at len)) (lt-leb (place + len) (length text) l))
+module _ (text name : List ℕ) (place : ℕ) where
+  at-past : length text < place + length name → false ≡ name_at text name place
+  at-past l = sym (ap (λ (t : Bool). t && same_bytes (spelling text place (length name)) name) (lt-leb (place + length name) (length text) l))
 
-  pub at_long : length text < len → false ≡ name_at text g place at len
+  pub at_long : length text < length name → false ≡ name_at text name place
   at_long l = at-past (omega arith)
 
-  module _ (l : len ≤ length text) where
-    pub at_end : length text - len < place → false ≡ name_at text g place at len
+  module _ (l : length name ≤ length text) where
+    pub at_end : length text - length name < place → false ≡ name_at text name place
     at_end m = at-past (omega arith)
 
-    module _ (m : place ≤ length text - len) where
-      at-inside : (r : Bool) → r ≡ same_bytes (spelling text place len) (spelling g at len) → r ≡ name_at text g place at len
+    module _ (m : place ≤ length text - length name) where
+      -- the name is compared as the part of itself from byte 0 on
+      at-inside : (r : Bool) → r ≡ same_bytes (spelling text place (length name)) (spelling name 0 (length name)) → r ≡ name_at text name place
       at-inside r e =
-          let k : place + len ≤ length text = omega arith in
-          e ∙ sym (ap (λ (t : Bool). t && same_bytes (spelling text place len) (spelling g at len)) (le-leb (place + len) (length text) k))
+          let k : place + length name ≤ length text = omega arith in
+          e ∙ ap (λ (x : List ℕ). same_bytes (spelling text place (length name)) x) (take-length name)
+          ∙ sym (ap (λ (t : Bool). t && same_bytes (spelling text place (length name)) name) (le-leb (place + length name) (length text) k))
 
-      pub at-empty : len ≡ 0 → true ≡ name_at text g place at len
-      at-empty z = at-inside true (alike_end text place g at len len (omega arith) refl)
+      pub at-empty : length name ≡ 0 → true ≡ name_at text name place
+      at-empty z = at-inside true (alike_end text place name 0 (length name) (length name) (omega arith) refl)
 
-      module _ (h : at + len ≤ length g) (z : len ≡ 0 → ⊥) where
-        both : (place + len ≤ length text) × (at + len ≤ length g)
-        both = (omega arith, h)
+      module _ (z : length name ≡ 0 → ⊥) where
+        both : (place + length name ≤ length text) × (0 + length name ≤ length name)
+        both = (omega arith, omega arith)
 
-        some : 0 < len
+        some : 0 < length name
         some = omega arith
 
-        pub at-differs : (get_or text (place + (len - 1)) 0 ≡ get_or g (at + (len - 1)) 0 → ⊥) → false ≡ name_at text g place at len
-        at-differs d = at-inside false (alike-differ text place g at len len some (omega arith) both d refl)
+        last : get_or name (length name - 1) 0 ≡ get_or name (0 + (length name - 1)) 0
+        last = let k : length name - 1 ≡ 0 + (length name - 1) = omega arith in ap (λ (j : ℕ). get_or name j 0) k
 
-        pub at_rest : get_or text (place + (len - 1)) 0 ≡ get_or g (at + (len - 1)) 0 → (r : Bool)
-            → r ≡ same_bytes (spelling text place (len - 1)) (spelling g at (len - 1)) → r ≡ name_at text g place at len
-        at_rest d r e = at-inside r (e ∙ sym (alike-on text place g at len len some (omega arith) both d refl))
+        pub at-differs : (get_or text (place + (length name - 1)) 0 ≡ get_or name (length name - 1) 0 → ⊥) → false ≡ name_at text name place
+        at-differs d = at-inside false (alike-differ text place name 0 (length name) (length name) some (omega arith) both (λ e. d (e ∙ sym last)) refl)
+
+        pub at_rest : get_or text (place + (length name - 1)) 0 ≡ get_or name (length name - 1) 0 → (r : Bool)
+            → r ≡ same_bytes (spelling text place (length name - 1)) (spelling name 0 (length name - 1)) → r ≡ name_at text name place
+        at_rest d r e = at-inside r (e ∙ sym (alike-on text place name 0 (length name) (length name) some (omega arith) both (d ∙ last) refl))
 
 -- ---- one entry
 
@@ -101,23 +106,23 @@ other_length text name n e true h d =
     ∙ and-false (eqb e.arguments n)
 other_length text name n e false h d = ap (λ (t : Bool). t && same_predicate (spelling text e.at e.len) e.arguments name n) h
 
-module _ (text entries g : List ℕ) (p at len arguments bytes : ℕ) (eb : bytes ≡ get_or entries (p + 1) 0) where
-  pub by_length : at + len ≤ length g → (bytes ≡ len → ⊥) → false ≡ matches text (spelling g at len) arguments (stored_entry entries p)
-  by_length h d = sym (other_length text (spelling g at len) arguments (stored_entry entries p) _ refl (λ e. d (eb ∙ e ∙ spelling-long g at len h)))
+module _ (text entries name : List ℕ) (p arguments bytes : ℕ) (eb : bytes ≡ get_or entries (p + 1) 0) where
+  pub by_length : (bytes ≡ length name → ⊥) → false ≡ matches text name arguments (stored_entry entries p)
+  by_length d = sym (other_length text name arguments (stored_entry entries p) _ refl (λ e. d (eb ∙ e)))
 
   module _ (count : ℕ) (ec : count ≡ get_or entries (p + 2) 0) where
-    pub by-arguments : (count ≡ arguments → ⊥) → false ≡ matches text (spelling g at len) arguments (stored_entry entries p)
-    by-arguments d = sym (other-arity text (spelling g at len) arguments (stored_entry entries p) (λ e. d (ec ∙ e)))
+    pub by-arguments : (count ≡ arguments → ⊥) → false ≡ matches text name arguments (stored_entry entries p)
+    by-arguments d = sym (other-arity text name arguments (stored_entry entries p) (λ e. d (ec ∙ e)))
 
-    pub by_name : bytes ≡ len → count ≡ arguments → (place : ℕ) → place ≡ get_or entries p 0 → (r : Bool) → r ≡ name_at text g place at len
-        → r ≡ matches text (spelling g at len) arguments (stored_entry entries p)
+    pub by_name : bytes ≡ length name → count ≡ arguments → (place : ℕ) → place ≡ get_or entries p 0 → (r : Bool) → r ≡ name_at text name place
+        → r ≡ matches text name arguments (stored_entry entries p)
     unfolding matches
     by_name el ea place ep r e =
         let es : eqb (get_or entries (p + 2) 0) arguments ≡ true = eq-eqb (get_or entries (p + 2) 0) arguments (sym ec ∙ ea) in
         e
-        ∙ ap₂ (λ (a l : ℕ). leb (a + l) (length text) && same_bytes (take l (drop a text)) (spelling g at len)) ep (sym el ∙ eb)
+        ∙ ap₂ (λ (a l : ℕ). leb (a + l) (length text) && same_bytes (take l (drop a text)) name) ep (sym el ∙ eb)
         ∙ ap (λ (t : Bool). leb (get_or entries p 0 + get_or entries (p + 1) 0) (length text)
-        && (t && same_bytes (spelling text (get_or entries p 0) (get_or entries (p + 1) 0)) (spelling g at len))) (sym es)
+        && (t && same_bytes (spelling text (get_or entries p 0) (get_or entries (p + 1) 0)) name)) (sym es)
 
 -- ---- the search
 
@@ -187,7 +192,3 @@ module _ {text entries : List ℕ} {n : ℕ} {name : List ℕ} {arguments i : �
               w.same ∙ look-by text name arguments i (stored_entry entries (i * declaration_size)) (stored_entries entries (i * declaration_size + declaration_size) w.others) false (sym eb ∙ f)
               ∙ ap₂ (λ (k p : ℕ). look_from text name arguments k (stored_entries entries p w.others)) (sym (add-one i)) next;
         }
-
--- a whole name is its own spelling
-pub whole : (text name : List ℕ) (arguments : ℕ) (es : List Entry) (r : Lookup) → r ≡ look_up text (spelling name 0 (length name)) arguments es → r ≡ look_up text name arguments es
-whole text name arguments es r e = e ∙ ap (λ (x : List ℕ). look_up text x arguments es) (take-length name)

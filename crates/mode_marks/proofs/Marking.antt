@@ -1,10 +1,11 @@
 -- Laws of declarations and of arguments with a mark, one for each way out of the functions. Assumes nothing.
-use Prim.Native.Nat.{ℕ, zero, suc, ◌+◌, ◌*◌, ◌≤◌, ◌<◌}
+use Prim.Native.Nat.{ℕ, zero, suc, ◌+◌, ◌-◌, ◌*◌, ◌≤◌, ◌<◌}
 use native.Mathlib.Omega.{arith}
 use mathlib.Core.Path.{◌≡◌, refl, sym, ap, ap₂, ◌∙◌, subst, subst⁻¹}
 use mathlib.Core.Bool.{Bool, true, false}
 use mathlib.Core.List.{List, [], ◌∷◌}
 use mathlib.Core.Option.{Option, none, some}
+use Rattle.std.proofs.Common.{slice_range}
 use Rattle.std.specs.Prelude.{Option as Place, Some, None, Ok, Err, is_some, option_map}
 use lib.ListN.{length, get_or, take, drop, length-append}
 use Rattle.syntax.specs.Limits.{arguments}
@@ -122,6 +123,10 @@ place_is s declared n name arguments r er w =
 
 -- ---- atoms
 
+-- the bytes of a text between two places, by the first and how many they are
+pub part_is : (s : List ℕ) (a n : ℕ) → slice_range s a (a + n) ≡ spelling s a n
+part_is s a n = let e : (a + n) - a ≡ n = omega arith in ap (λ (m : ℕ). take m (drop a s)) e
+
 pub name-room : {table : List ℕ} {p : ℕ} → NamedAt table p → p + 2 < length table
 name-room {table} {p} w = (atom-words table p w.atom w.has).inside
 
@@ -166,9 +171,10 @@ module _ (g table : List ℕ) (p : ℕ) (name : Name) (en : (w : NamedAt table p
   atom-position ds w =
       ap₂ (position ds) (ap₂ (λ (a l : ℕ). spelling g a l) (at_is w) (len_is w) ∙ sym (in-text w).name-at.spelt) (ap (λ (x : Name). x.arguments) (en (atom-name w)))
 
-  pub atom-found : (s declared : List ℕ) (n : ℕ) (r : Place ℕ) → ((d : DeclarationsAt s declared n) → r ≡ position d.list (spelling g name.at name.len) name.arguments)
+  pub atom-found : (s declared : List ℕ) (n : ℕ) (bytes : List ℕ) → bytes ≡ spelling g name.at name.len
+      → (r : Place ℕ) → ((d : DeclarationsAt s declared n) → r ≡ position d.list bytes name.arguments)
       → (d : DeclarationsAt s declared n) (w : AtomAt g table p) → r ≡ position d.list w.atom.name (arity w.atom.args)
-  atom-found s declared n r h d w = h d ∙ atom-position d.list w
+  atom-found s declared n bytes eb r h d w = h d ∙ ap (λ (x : List ℕ). position d.list x name.arguments) eb ∙ atom-position d.list w
 
   -- the fault of an atom without declaration
   pub undeclared-is : (ds : List Declaration) (c l : ℕ) (w : AtomAt g table p) → marks_of ds w.atom ≡ none
@@ -223,14 +229,15 @@ module _ (s declared : List ℕ) (n near : ℕ) (l : near < n) where
   pub near-at : DeclarationsAt s declared n → DeclarationAt s declared (near * declaration_size)
   near-at d = (near_of [] 0 d).it
 
-  pub near-declares : (g table : List ℕ) (p : ℕ) (name : Name) → ((w : NamedAt table p) → name ≡ atom_name w.atom) → (q : ℕ) → q ≡ near * declaration_size → (b : Bool)
-      → b ≡ matches s (spelling g name.at name.len) name.arguments (stored_entry declared q)
+  pub near-declares : (g table : List ℕ) (p : ℕ) (name : Name) → ((w : NamedAt table p) → name ≡ atom_name w.atom) → (q : ℕ) → q ≡ near * declaration_size
+      → (bytes : List ℕ) → bytes ≡ spelling g name.at name.len → (b : Bool) → b ≡ matches s bytes name.arguments (stored_entry declared q)
       → b ≡ true → (d : DeclarationsAt s declared n) (w : AtomAt g table p) → is_some (position d.list w.atom.name (arity w.atom.args)) ≡ true
-  near-declares g table p name en q eq b eb t d w =
+  near-declares g table p name en q eq bytes ey b eb t d w =
       let o : Near s declared q d.list (spelling g name.at name.len) name.arguments =
       subst⁻¹ (λ (j : ℕ). Near s declared j d.list (spelling g name.at name.len) name.arguments) eq (near_of (spelling g name.at name.len) name.arguments d) in
       ap (λ (x : Place ℕ). is_some x) (sym (atom-position g table p name en d.list w))
-      ∙ o.found (sym (matches-declared s declared q (spelling g name.at name.len) name.arguments o.it) ∙ sym eb ∙ t)
+      ∙ o.found (sym (matches-declared s declared q (spelling g name.at name.len) name.arguments o.it)
+      ∙ sym (eb ∙ ap (λ (x : List ℕ). matches s x name.arguments (stored_entry declared q)) ey) ∙ t)
 
 -- ---- the marks of a predicate
 

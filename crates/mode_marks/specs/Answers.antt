@@ -1,9 +1,10 @@
 -- The definitions' answers as the code gives them.
-use Rattle.std.specs.Prelude.{ℕ, suc, true, false, List, [], ◌∷◌, length, Option, Some, None, Result, Ok, Err}
+use Rattle.std.specs.Prelude.{ℕ, suc, ◌+◌, ◌*◌, true, false, List, [], ◌∷◌, length, get_or, Option, Some, None, Result, Ok, Err}
 use Rattle.std.specs.Prelude.{option_map}
 use Rattle.std.proofs.Math.Option as maybe
 use Rattle.std.proofs.Math.Option.{none, some}
 use Rattle.syntax.specs.Terms.{Atom, Declaration, arity, same_predicate}
+use Rattle.syntax.specs.Words.{declaration_size}
 use Rattle.syntax.specs.declared.Refusal.{Refusal}
 use Rattle.mode_marks.specs.declared.marks.Name.{Name}
 
@@ -18,6 +19,14 @@ checked_of (some r) = Err r
 -- a name's byte, length and number of arguments
 abbrev pub atom_name : Atom → Name
 atom_name a = record { at = a.at; len = length a.name; arguments = arity a.args }
+
+-- what the words of the i-th declaration say: its name's byte and length, and how many marks it has
+abbrev pub name_in : List ℕ → ℕ → Name
+name_in words i = record {
+  at = get_or words (declaration_size * i) 0;
+  len = get_or words (declaration_size * i + 1) 0;
+  arguments = get_or words (declaration_size * i + 2) 0;
+}
 
 -- no open variable, or the byte of the first one
 abbrev pub groundness_of : maybe.Option ℕ → Option ℕ

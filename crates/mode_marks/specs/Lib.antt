@@ -1,4 +1,5 @@
 pub mod Standing
 pub mod Tables
+pub mod Decoded
 pub mod Answers
 pub mod Stand

@@ -3,8 +3,8 @@
 use Rattle.std.specs.Prelude.{ℕ, ◌+◌, ◌≤◌, ◌≡◌, List, length}
 use Rattle.syntax.specs.Limits.{word_bytes}
 use Rattle.syntax.specs.Terms.{Term, Terms, arity, Atom, term_of, Literal, Body, Mark, Declaration, Clause, Sheet, Goal}
-use Rattle.syntax.specs.Words.{term_words, terms_words, atom_words, literal_words, body_words, body_length, clause_words, clauses_words, mark_number, marks_number}
-use Rattle.syntax.specs.Words.{declaration_words, declarations_words}
+use Rattle.syntax.specs.Words.{term_words, terms_words, atom_words, literal_words, body_words, body_length, clause_words, clauses_words}
+use Rattle.syntax.specs.Words.{mark_number, marks_number, declaration_words, declarations_words}
 use Rattle.table_words.specs.Tables.{Has}
 use Rattle.mode_marks.specs.Standing.{Numbered, AllNumbered, TermSpelt, TermsSpelt, LiteralSpelt, BodySpelt, ClauseSpelt, ClausesSpelt, DeclarationSpelt}
 use Rattle.mode_marks.specs.Standing.{DeclarationsSpelt, SheetSpelt, GoalSpelt}

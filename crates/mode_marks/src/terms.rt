@@ -1,5 +1,6 @@
 // What is known ground of terms in a node table: each function on a term and the one on a list of terms call each other, as far as the
-// brackets go.
+// brackets go. (Table, place and flags are three parameters: places, and in `ground_terms` flags, differ from call to call, so a struct of them would be made
+// anew at each.)
 ghost use Rattle.std.specs.Prelude.{◌≡◌};
 ghost use Rattle.mode_rules.specs.Modes.{open_byte, open_byte_of, ground_term, ground_terms};
 ghost use Rattle.mode_marks.specs.Tables.{TermAt, TermsAt};

@@ -131,10 +131,10 @@ module _ (s declared : List ℕ) (n : ℕ) (w : DeclarationsAt s declared n) (i 
     pub arity-is : marks ≡ length one.marks
     arity-is = em ∙ marks-is
 
-    module _ (j : Place ℕ) (found : (v : DeclarationsAt s declared i) → j ≡ position v.list (spelling s at len) marks) where
+    module _ (bytes : List ℕ) (eb : bytes ≡ spelling s at len) (j : Place ℕ) (found : (v : DeclarationsAt s declared i) → j ≡ position v.list bytes marks) where
       earlier-is : declares earlier one.name (length one.marks) ≡ is_some j
       unfolding earlier-at
-      earlier-is = declared-is earlier one.name (length one.marks) ∙ sym (ap (λ (o : Place ℕ). is_some o) (found earlier-at ∙ ap₂ (position earlier) name-is arity-is))
+      earlier-is = declared-is earlier one.name (length one.marks) ∙ sym (ap (λ (o : Place ℕ). is_some o) (found earlier-at ∙ ap₂ (position earlier) (eb ∙ name-is) arity-is))
 
       pub repeat-earlier : is_some j ≡ true → true ≡ repeats earlier one
       unfolding repeats
@@ -148,14 +148,14 @@ module _ (s declared : List ℕ) (n : ℕ) (w : DeclarationsAt s declared n) (i 
         unfolding repeats
         repeat-marked z = simp (not_earlier, ne_eqb (length one.marks) 0 (λ e. z (arity-is ∙ e)))
 
-        module _ (z : marks ≡ 0) (b : Bool) (eb : b ≡ same_name (spelling s at len) true_name) where
+        module _ (z : marks ≡ 0) (b : Bool) (et : b ≡ same_name (spelling s at len) true_name) where
           pub repeat-true : b ≡ true → true ≡ repeats earlier one
           unfolding repeats
-          repeat-true e = simp (not_earlier, eq-eqb (length one.marks) 0 (sym arity-is ∙ z), ap (λ (x : List ℕ). same_name x true_name) (sym name-is) ∙ sym eb ∙ e)
+          repeat-true e = simp (not_earlier, eq-eqb (length one.marks) 0 (sym arity-is ∙ z), ap (λ (x : List ℕ). same_name x true_name) (sym name-is) ∙ sym et ∙ e)
 
           pub repeat-fail : b ≡ false → (c : Bool) → c ≡ same_name (spelling s at len) fail_name → c ≡ repeats earlier one
           unfolding repeats
-          repeat-fail e c ec = ec ∙ ap (λ (x : List ℕ). same_name x fail_name) name-is ∙ simp (not_earlier, eq-eqb (length one.marks) 0 (sym arity-is ∙ z), ap (λ (x : List ℕ). same_name x true_name) (sym name-is) ∙ sym eb ∙ e)
+          repeat-fail e c ec = ec ∙ ap (λ (x : List ℕ). same_name x fail_name) name-is ∙ simp (not_earlier, eq-eqb (length one.marks) 0 (sym arity-is ∙ z), ap (λ (x : List ℕ). same_name x true_name) (sym name-is) ∙ sym et ∙ e)
 
   -- ---- the loop
   module _ (so_far : first_repeat [] w.list ≡ first_repeat (take i w.list) (drop i w.list)) where

@@ -8,45 +8,34 @@ ghost use Rattle.mode_repeats.specs.Repeating.{repeat_of, nth_declaration};
 ghost use Rattle.mode_marks.specs.Stand.{Stand};
 
 use mode_marks::marks::Declarations;
-use syntax::DECLARATION_SIZE;
-use table_words::word_at;
 use texts::{is_fail, is_true};
 
 // Whether declaration i is at fault.
 fn is_repeat(declarations: Declarations<'_>, i: usize) -> bool
-    requires declarations_at { Stand declarations }
-    requires i_lt_n { i < declarations.count }
+    requires { i < declarations.count }
     ensures { (w : Stand declarations.entry) → result ≡ repeats (take i w.list) (nth_declaration w.list i) }
 {
-    let p = DECLARATION_SIZE * i;
-    let at = word_at(declarations.words, p);
-    let len = word_at(declarations.words, p + 1);
-    let marks = word_at(declarations.words, p + 2);
+    let name = declarations.name_of(i);
+    let bytes = name.bytes(declarations.text);
     let earlier = Declarations {
+        text: declarations.text,
+        words: declarations.words,
         count: i,
-        ..declarations
     };
-    if earlier.find(declarations.text, at, len, marks).is_some() {
-        return true;
-    }
-    if marks != 0 {
-        return false;
-    }
-    if is_true(declarations.text, at, len) {
-        return true;
-    }
-    is_fail(declarations.text, at, len)
+    earlier.find(bytes, name.arguments).is_some()
+        || name.arguments == 0
+            && (is_true(declarations.text, name.at, name.len)
+                || is_fail(declarations.text, name.at, name.len))
 }
 
 // The byte of the first declaration at fault.
 pub fn first_repeat(declarations: Declarations<'_>) -> Option<usize>
-    requires { Stand declarations }
     ensures { (w : Stand declarations.entry) → result ≡ repeat_of (first_repeat [] w.list) }
 {
+    // A `position` would say the bound of `i` again, as its closure's own `requires`, and the byte is read behind it: no plainer than the `for`.
     for i in 0..declarations.count {
         if is_repeat(declarations, i) {
-            let byte = word_at(declarations.words, DECLARATION_SIZE * i);
-            return Some(byte);
+            return Some(declarations.name_of(i).at);
         }
     }
     None

@@ -17,16 +17,15 @@ use Rattle.syntax.specs.declared.Refusal.TheVariants.{Unwritten}
 use Rattle.mode_rules.specs.Modes.{undeclared_clauses, undeclared_in_sheet, clauses_fault, first_of, sheet_fault}
 use Rattle.mode_rules.specs.Written.{is_written, is_exempt, first_unwritten, unwritten}
 use Rattle.mode_lookup.specs.Searching.{matches, stored_entry}
-use Rattle.mode_lookup.proofs.Laws.{lengths_differ, spelling-long}
 use Rattle.std.specs.Prelude.{Some, Ok, Err}
-use Rattle.mode_marks.specs.Answers.{Checked, checked_of, atom_name}
+use Rattle.mode_marks.specs.Answers.{Checked, checked_of, atom_name, name_in}
 use Rattle.mode_marks.specs.Tables.{DeclarationsAt, AtomAt, NamedAt, ClausesAt}
 use Rattle.mode_marks.specs.declared.marks.Name.{Name}
 use Rattle.mode_marks.proofs.Marking.{matches-declared, atom-name, in-text}
 use Rattle.mode_clauses.proofs.Sheets.{sheet-declarations, sheet-clauses}
 use Rattle.mode_undeclared.proofs.Faults.{fault-stays, fine-goes}
 use Rattle.mode_repeats.specs.Repeating.{nth_declaration}
-use Rattle.mode_repeats.proofs.Laws.{one_has, one-stands, at_is, name-is, arity-is}
+use Rattle.mode_repeats.proofs.Laws.{one_has, one-stands, at_is, name-inside, name-is, arity-is}
 use Rattle.mode_sheets.specs.Flags.{DeclaredOnce, Finds, Flagged}
 use Rattle.mode_sheets.proofs.Once.{of, near-finds}
 
@@ -38,11 +37,9 @@ matches-one : (s declared : List ℕ) (n : ℕ) (d : DeclarationsAt s declared n
 matches-one s declared n d i h name m =
     matches-declared s declared (4 * i) name m (record { declaration = nth_declaration d.list i; has = one_has s declared n d i h; stands = one-stands s declared n d i h })
 
-pub declares-it : (s declared : List ℕ) (n i : ℕ) (h : i < n) (name : Name) (r : Bool)
-    → r ≡ matches s (spelling s name.at name.len) name.arguments (stored_entry declared (4 * i))
-    → r ≡ true → (d : DeclarationsAt s declared n) → (i < n) × (of (nth_declaration d.list i) (spelling s name.at name.len) name.arguments ≡ true)
-declares-it s declared n i h name r e t d =
-    (h, sym (matches-one s declared n d i h (spelling s name.at name.len) name.arguments) ∙ sym e ∙ t)
+pub declares-it : (s declared : List ℕ) (n i : ℕ) (h : i < n) (name : List ℕ) (m : ℕ) (r : Bool) → r ≡ matches s name m (stored_entry declared (4 * i))
+    → r ≡ true → (d : DeclarationsAt s declared n) → (i < n) × (of (nth_declaration d.list i) name m ≡ true)
+declares-it s declared n i h name m r e t d = (h, sym (matches-one s declared n d i h name m) ∙ sym e ∙ t)
 
 module _ (s table : List ℕ) (p : ℕ) (name : Name) (en : (v : NamedAt table p) → name ≡ atom_name v.atom) where
   of-atom : (w : AtomAt s table p) (d : Declaration) → of d (spelling s name.at name.len) name.arguments ≡ of d w.atom.name (arity w.atom.args)
@@ -50,40 +47,50 @@ module _ (s table : List ℕ) (p : ℕ) (name : Name) (en : (v : NamedAt table p
       ap (λ (x : Name). of d (spelling s x.at x.len) x.arguments) (en (atom-name w))
       ∙ ap (λ (x : List ℕ). of d x (arity w.atom.args)) (sym (in-text w).name-at.spelt)
 
-  pub near-found : (declared : List ℕ) (n near : ℕ)
-      → ((d : DeclarationsAt s declared n) → (near < n) × (of (nth_declaration d.list near) (spelling s name.at name.len) name.arguments ≡ true))
+  pub near-found : (declared : List ℕ) (n near : ℕ) (bytes : List ℕ) → bytes ≡ spelling s name.at name.len
+      → ((d : DeclarationsAt s declared n) → (near < n) × (of (nth_declaration d.list near) bytes name.arguments ≡ true))
       → (d : DeclarationsAt s declared n) (w : AtomAt s table p) → first_repeat [] d.list ≡ none → Finds d.list w.atom (Some near)
-  near-found declared n near h d w once =
-      near-finds d.list once w.atom near (omega (arith, (h d).0, d.count)) (sym (of-atom w (nth_declaration d.list near)) ∙ (h d).1)
+  near-found declared n near bytes eb h d w once =
+      near-finds d.list once w.atom near (omega (arith, (h d).0, d.count))
+      (sym (of-atom w (nth_declaration d.list near)) ∙ sym (ap (λ (x : List ℕ). of (nth_declaration d.list near) x name.arguments) eb) ∙ (h d).1)
 
 -- ---- the predicate that needs no clause
 
-module _ (s : List ℕ) (at len arguments : ℕ) (inside : at + len ≤ length s) where
-  pub other-arguments : (arguments ≡ seen_arguments → ⊥) → false ≡ same_predicate (spelling s at len) arguments seen_name seen_arguments
-  other-arguments h = sym (ap (λ (b : Bool). b && same_name (spelling s at len) seen_name) (ne_eqb arguments seen_arguments h))
+module _ {s declared : List ℕ} {n : ℕ} (d : DeclarationsAt s declared n) {i : ℕ} (h : i < n) {name : Name} (en : name ≡ name_in declared i) where
+  at : name.at ≡ get_or declared (4 * i) 0
+  at = ap (λ (x : Name). x.at) en
 
-  module _ (e : arguments ≡ seen_arguments) where
-    seen_by : same_predicate (spelling s at len) arguments seen_name seen_arguments ≡ same_name (spelling s at len) seen_name
-    seen_by = ap (λ (b : Bool). b && same_name (spelling s at len) seen_name) (eq-eqb arguments seen_arguments e)
+  len : name.len ≡ get_or declared (4 * i + 1) 0
+  len = ap (λ (x : Name). x.len) en
 
-    pub other_length : (len ≡ 4 → ⊥) → false ≡ same_predicate (spelling s at len) arguments seen_name seen_arguments
-    other_length h = sym (seen_by ∙ lengths_differ (spelling s at len) seen_name (λ q. h (sym (spelling-long s at len inside) ∙ q)))
+  marks : name.arguments ≡ get_or declared (4 * i + 2) 0
+  marks = ap (λ (x : Name). x.arguments) en
 
-    pub by_bytes : len ≡ 4 → (r : Bool) → r ≡ same_bytes (take len (drop at s)) (take len (drop 0 seen_name)) → r ≡ same_predicate (spelling s at len) arguments seen_name seen_arguments
-    by_bytes l r h = h ∙ ap (λ (k : ℕ). same_bytes (take len (drop at s)) (take k (drop 0 seen_name))) l ∙ sym seen_by
+  counted : name.arguments ≡ length (nth_declaration d.list i).marks
+  counted = arity-is s declared n d i h name.at name.len name.arguments at len marks
+
+  spelt : spelling s name.at name.len ≡ (nth_declaration d.list i).name
+  spelt = name-is s declared n d i h name.at name.len name.arguments at len marks
+
+  pub inside : name.at + name.len ≤ length s
+  inside = name-inside s declared n d i h name.at name.len name.arguments at len marks
+
+  abbrev by : Bool → Bool
+  by b = b && same_name (nth_declaration d.list i).name seen_name
+
+  pub other-arguments : (name.arguments ≡ seen_arguments → ⊥) → false ≡ is_exempt (nth_declaration d.list i)
+  other-arguments m = sym (ap by (ne_eqb (length (nth_declaration d.list i).marks) seen_arguments (λ q. m (counted ∙ q))))
+
+  pub by_bytes : name.arguments ≡ seen_arguments → {bytes : List ℕ} → bytes ≡ spelling s name.at name.len → same_bytes bytes seen_name ≡ is_exempt (nth_declaration d.list i)
+  by_bytes m eb = ap (λ (x : List ℕ). same_bytes x seen_name) (eb ∙ spelt) ∙ sym (ap by (eq-eqb (length (nth_declaration d.list i).marks) seen_arguments (sym counted ∙ m)))
 
 -- ---- one declaration
 
-pub has-clause : (b w : Bool) → w ≡ true → true ≡ (w || b)
-has-clause b w e = sym (ap (λ (x : Bool). x || b) e)
+pub has-clause : {w : Bool} (b : Bool) → w ≡ true → w ≡ (w || b)
+has-clause b e = e ∙ sym (ap (λ (x : Bool). x || b) e)
 
-pub stands_by : (s declared : List ℕ) (n : ℕ) (d : DeclarationsAt s declared n) (i : ℕ) (h : i < n) (w : Bool) → w ≡ false
-    → (at len marks : ℕ) → at ≡ get_or declared (4 * i) 0 → len ≡ get_or declared (4 * i + 1) 0 → marks ≡ get_or declared (4 * i + 2) 0
-    → (r : Bool) → r ≡ same_predicate (spelling s at len) marks seen_name seen_arguments → r ≡ (w || is_exempt (nth_declaration d.list i))
-stands_by s declared n d i h w e at len marks ea el em r er =
-    er
-    ∙ ap₂ (λ (x : List ℕ) (k : ℕ). same_predicate x k seen_name seen_arguments) (name-is s declared n d i h at len marks ea el em) (arity-is s declared n d i h at len marks ea el em)
-    ∙ sym (ap (λ (x : Bool). x || is_exempt (nth_declaration d.list i)) e)
+pub stands_by : {w b r : Bool} → w ≡ false → r ≡ b → r ≡ (w || b)
+stands_by {w} {b} {r} e er = er ∙ sym (ap (λ (x : Bool). x || b) e)
 
 -- ---- the first one without a clause
 

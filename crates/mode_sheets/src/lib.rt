@@ -2,13 +2,12 @@
 
 #![tactic(auto)]
 
-ghost use Rattle.std.specs.Prelude.{◌≡◌, Bool, true, false, not, ◌||◌, [], ◌+◌, ◌≤◌, ◌<◌, length};
+ghost use Rattle.std.specs.Prelude.{◌≡◌, true, ◌||◌, [], ◌<◌, length};
 ghost use Rattle.std.proofs.Math.Option.{none};
 ghost use Rattle.syntax.specs.Reading.{first_repeat};
-ghost use Rattle.syntax.specs.Terms.{same_predicate, seen_name, seen_arguments};
-ghost use Rattle.syntax.specs.Tokens.{spelling};
+ghost use Rattle.syntax.specs.Terms.{same_predicate};
 ghost use Rattle.mode_rules.specs.Modes.{sheet_fault};
-ghost use Rattle.mode_rules.specs.Written.{is_written, is_exempt, first_unwritten, unwritten};
+ghost use Rattle.mode_rules.specs.Written.{is_exempt, first_unwritten, unwritten};
 ghost use Rattle.mode_marks.specs.Answers.{checked_of};
 ghost use Rattle.mode_marks.specs.Tables.{AtomAt};
 ghost use Rattle.mode_repeats.specs.Repeating.{nth_declaration};
@@ -17,45 +16,32 @@ ghost use Rattle.mode_marks.specs.Stand.{Stand};
 
 use mode_clauses::clause_faults::clauses_fault;
 use mode_lookup::is_match;
-use mode_marks::marks::{Declarations, Name, name_at};
+use mode_marks::marks::{Declarations, name_at};
 use mode_undeclared::undeclared_clauses;
 use syntax::{CLAUSE_START, DECLARATION_SIZE, DECLARATIONS, Refusal};
-use table_words::{past_clause, word_at};
-use texts::same_bytes;
+use table_words::past_clause;
 
 // A flag for each declaration that a sheet may have.
 pub type Flags = [bool; DECLARATIONS];
 
-// The predicate that needs no clause.
+// The predicate that needs no clause. (`trace_facts::facts` has the name's length and the number of arguments too, which it packs into a word. What the two
+// crates share is that number of arguments alone: too little for a home in `syntax`, which holds what the tables' layout needs.)
 const SEEN: [u8; 4] = *b"seen";
 
 const SEEN_ARGUMENTS: usize = 3;
 
-// Whether declaration i is one of the predicate of a name.
-fn declares(declarations: Declarations<'_>, i: usize, name: Name) -> bool
-    requires declarations_at { Stand declarations }
-    requires len_in_bounds { name.at + name.len ≤ length declarations.text.now }
+// Whether declaration i is one of the predicate of a name and a number of arguments. (`Declarations::is_near` asks the same of an atom; what is promised here
+// is over `nth_declaration` of mode_repeats, which stands above it.)
+fn declares(declarations: Declarations<'_>, i: usize, name: &[u8], arguments: usize) -> bool
     ensures { result ≡ true → (d : Stand declarations.entry) → (i < declarations.entry.count)
-        × (same_predicate (nth_declaration d.list i).name (length (nth_declaration d.list i).marks) (spelling declarations.entry.text.now name.at
-        name.len) name.arguments
+        × (same_predicate (nth_declaration d.list i).name (length (nth_declaration d.list i).marks) name.now arguments
         ≡ true) }
 {
     if declarations.count <= i {
         return false;
     }
     let q = DECLARATION_SIZE * i;
-    let at = name.at;
-    let len = name.len;
-    let arguments = name.arguments;
-    is_match(
-        declarations.text,
-        declarations.words,
-        q,
-        declarations.text,
-        at,
-        len,
-        arguments,
-    )
+    is_match(declarations.text, declarations.words, q, name, arguments)
 }
 
 // The number of the declaration of the head at a place, of which `near` is tried first: clauses of a predicate stand together.
@@ -65,19 +51,16 @@ fn head_declaration(
     p: usize,
     near: usize,
 ) -> Option<usize>
-    requires declarations_at { Stand declarations }
-    requires atom_at { AtomAt declarations.text.now table.now p }
+    requires { AtomAt declarations.text.now table.now p }
     ensures { (d : Stand declarations.entry) (w : AtomAt declarations.entry.text.now table.now p)
         → first_repeat [] d.list ≡ none → Finds d.list w.atom result }
 {
     let name = name_at(table, p);
-    if declares(declarations, near, name) {
+    let bytes = name.bytes(declarations.text);
+    if declares(declarations, near, bytes, name.arguments) {
         return Some(near);
     }
-    let at = name.at;
-    let len = name.len;
-    let arguments = name.arguments;
-    declarations.find(declarations.text, at, len, arguments)
+    declarations.find(bytes, name.arguments)
 }
 
 // The declarations that a clause is of, one pass over the heads.
@@ -100,34 +83,21 @@ fn head_flags(declarations: Declarations<'_>, table: &[u32], clauses: usize) -> 
     flags
 }
 
-// Whether a name with so many arguments is the predicate that needs no clause.
-fn is_seen(s: &[u8], at: usize, len: usize, arguments: usize) -> bool
-    requires { at + len ≤ length s.now }
-    ensures { result ≡ same_predicate (spelling s.now at len) arguments seen_name seen_arguments }
+// Whether declaration i is of the predicate that needs no clause.
+pub fn needs_none(declarations: Declarations<'_>, i: usize) -> bool
+    requires { i < declarations.count }
+    ensures { (d : Stand declarations.entry) → result ≡ is_exempt (nth_declaration d.list i) }
 {
-    if arguments != SEEN_ARGUMENTS {
-        return false;
-    }
-    if len != SEEN.len() {
-        return false;
-    }
-    same_bytes(s, at, &SEEN, 0, len)
+    let name = declarations.name_of(i);
+    name.arguments == SEEN_ARGUMENTS && name.bytes(declarations.text) == &SEEN[..]
 }
 
 // Whether declaration i, which has a clause or not, may stand.
 pub fn may_stay(declarations: Declarations<'_>, i: usize, written: bool) -> bool
-    requires declarations_at { Stand declarations }
-    requires i_lt_n { i < declarations.count }
+    requires { i < declarations.count }
     ensures { (d : Stand declarations.entry) → result ≡ (written || is_exempt (nth_declaration d.list i)) }
 {
-    if written {
-        return true;
-    }
-    let p = DECLARATION_SIZE * i;
-    let at = word_at(declarations.words, p);
-    let len = word_at(declarations.words, p + 1);
-    let marks = word_at(declarations.words, p + 2);
-    is_seen(declarations.text, at, len, marks)
+    written || needs_none(declarations, i)
 }
 
 // The first declaration without a clause that may not stand so.
@@ -141,17 +111,17 @@ fn first_unwritten(
         ≡ checked_of (first_unwritten w.stands.sheet.clauses w.stands.sheet.declarations) }
 {
     let flags = head_flags(declarations, table, clauses);
+    // A `position` would say the bounds of `i` again, as its closure's own `requires`, and the byte is read behind it: no plainer than the `for`.
     for i in 0..declarations.count {
-        let written = flags[i];
-        if !may_stay(declarations, i, written) {
-            let byte = word_at(declarations.words, DECLARATION_SIZE * i);
-            return Err(Refusal::Unwritten(byte));
+        if !may_stay(declarations, i, flags[i]) {
+            return Err(Refusal::Unwritten(declarations.name_of(i).at));
         }
     }
     Ok(())
 }
 
-// Refusal 16, which is passed over for a sheet stored earlier.
+// Refusal 16, which is passed over for a sheet stored earlier: the host says of each sheet whether it was. (The test is a function of its own, since
+// what it found would be lost where an `if` joins before the next test.)
 fn unwritten_fault(
     declarations: Declarations<'_>,
     table: &[u32],
@@ -168,7 +138,9 @@ fn unwritten_fault(
     first_unwritten(declarations, table, clauses)
 }
 
-// The tests of a sheet whose declarations and `clauses` clauses stand in the tables: 8, then 16, then 9 and 10.
+// The tests of a sheet whose declarations and `clauses` clauses stand in the tables: 8, then 16, then 9 and 10. (Declarations, table and number of clauses
+// are three parameters: what is below wants the declarations with a place of the table or alone, and would open a struct of the three at once. So what is asked
+// of the three, `StandOnce`, is no struct's invariant, and stands in each contract.)
 pub fn check_sheet(
     declarations: Declarations<'_>,
     table: &[u32],

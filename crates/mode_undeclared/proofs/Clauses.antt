@@ -17,7 +17,7 @@ use Rattle.std.specs.Prelude.{Ok, Err}
 use Rattle.mode_marks.specs.Answers.{Checked, checked_of}
 use Rattle.table_words.proofs.Laws.{Node, has_left, has_right, clause-says}
 use Rattle.mode_marks.proofs.Places.{numbered}
-use Rattle.mode_undeclared.proofs.Faults.{fault-stays, fine-goes}
+use Rattle.mode_undeclared.proofs.Faults.{fault-stays, fine-goes, over}
 
 -- ---- one clause
 
@@ -98,10 +98,6 @@ turn_by s table at i clauses (x ∷ cs) l h c (clause_stands k ks) = record {
   count = omega arith;
   stand = ks;
 }
-
-over : (i clauses : ℕ) (cs : List Clause) → clauses ≤ i → clauses ≡ i + length cs → cs ≡ []
-over i clauses [] l c = refl
-over i clauses (x ∷ cs) l c = absurd (omega arith)
 
 pub begun : {s table : List ℕ} {clauses : ℕ} (rest : ℕ → List Clause → Option Refusal) (w : ClausesAt s table 0 clauses) → Ahead s table 0 0 clauses (rest 1 w.list) rest
 begun rest w = record { list = w.list; has = w.has; count = omega (arith, w.count); stand = w.stand; same = refl }

@@ -18,7 +18,7 @@ use Rattle.mode_marks.specs.Tables.{AtomAt, BodyAt}
 use Rattle.std.specs.Prelude.{Ok, Err}
 use Rattle.mode_marks.specs.Answers.{Checked, checked_of}
 use Rattle.mode_undeclared.specs.Items.{literals_at, undeclared_item, ItemSpelt, ItemAt}
-use Rattle.mode_undeclared.proofs.Faults.{fault-stays, fine-goes}
+use Rattle.mode_undeclared.proofs.Faults.{fault-stays, fine-goes, over}
 
 -- ---- one item
 
@@ -234,10 +234,6 @@ first-by g table at i many (x ∷ xs) l h e k = record {
   count = omega arith;
   stand = k.1;
 }
-
-over : (i many : ℕ) (xs : List Item) → many ≤ i → many ≡ i + length xs → xs ≡ []
-over i many [] l e = refl
-over i many (x ∷ xs) l e = absurd (omega arith)
 
 module _ {ds : List Declaration} {c : ℕ} {g table : List ℕ} {at i many literal : ℕ} {whole : Option Refusal} where
   pub left-none : many ≤ i → Left ds c g table at i many literal whole → Ok tt ≡ checked_of whole

@@ -7,6 +7,7 @@ use Rattle.mode_rules.specs.Modes.{undeclared_atom}
 use Rattle.table_words.specs.Tables.{Has}
 use Rattle.table_words.specs.Items.{Item, plain_call, plain_equation, plain_truth, plain_falsity, before_left, before_right, behind, item_words}
 use Rattle.mode_marks.specs.Standing.{TermSpelt}
+use Rattle.mode_marks.specs.declared.marks.ReadText.{ReadText}
 
 -- how many literals an item counts for: a word of a bracket counts for none
 abbrev pub literals_at : Item → ℕ
@@ -43,3 +44,6 @@ pub record ItemAt (g table : List ℕ) (p : ℕ) : Type 0 where
   pub item : Item
   pub has : Has table p (item_words item)
   pub stands : ItemSpelt g item
+
+abbrev pub ItemIn : ReadText → ℕ → Type 0
+ItemIn r p = ItemAt r.text.now r.table.now p

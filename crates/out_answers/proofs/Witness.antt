@@ -13,6 +13,8 @@ use Rattle.run_layout.proofs.Witness.{symbols, table, state, witness as bound}
 use Rattle.out_terms.specs.Words.{name_at, NamePlaced, SymbolsSpelt, Named}
 use Rattle.run_layout.specs.Symbols.{symbol_word}
 use Rattle.out_terms.specs.Telling.{Ample}
+use Rattle.std.proofs.Common.{Bor}
+use Rattle.out_terms.specs.declared.Solution.{Solution}
 use Rattle.out_answers.specs.Fitting.{SomeAnswerable}
 
 -- a stack for ten bytes of room
@@ -43,7 +45,22 @@ named = record { listed = omega arith; few = omega arith; inside = λ i l. insid
     inside zero l = omega arith
     inside (suc i) l = absurd (omega arith)
 
--- variable 0 of the goal is bound to f(X) of copy 1
-pub witness : SomeAnswerable table (bound_words state 0 0 (word_of 0 1)) (symbol_word 0 0 1 ∷ []) (bytes "f") (bytes "X") (packed 0 1 ∷ []) 1 × Ample stack (10 * open_size + 2 * open_size)
+-- variable 0 of the goal is bound to f(X) of copy 1; the places of the tables are of no account
+abbrev lent : List ℕ → Bor (List ℕ)
+lent words = record { ref_ptr = (0, 0); now = words }
+
+abbrev solution : Solution
+solution =
+    record {
+      nodes = lent table;
+      state = lent (bound_words state 0 0 (word_of 0 1));
+      symbols = lent (symbol_word 0 0 1 ∷ []);
+      sheet = lent (bytes "f");
+      goal = lent (bytes "X");
+      names = lent (packed 0 1 ∷ []);
+      count = 1;
+    }
+
+pub witness : SomeAnswerable solution × Ample stack (10 * open_size + 2 * open_size)
 witness =
     (record { ss = symbols; n = 1; is = record { store = bound; symbols_are = spelt; named = named } }, (let e : length stack ≡ 10 * open_size + 2 * open_size = stack-long in omega arith))

@@ -20,7 +20,7 @@ pub fn version_number() -> usize
     VERSION
 }
 
-// A declaration; how many numbers it has is returned, 0 where there is none.
+// A declaration; how many numbers it has is returned, 0 where there is none: the C interface returns it so.
 #[tactic(auto, unfolding(crate::specs::Numbers::entry_numbers))]
 pub fn put_entry(declared: Option<Entry>, out: &mut [usize]) -> usize
     ensures is { result ≡ length (entry_numbers declared) }

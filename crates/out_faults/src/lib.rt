@@ -1,4 +1,4 @@
-// A refusal as numbers, for callers in other languages.
+// A refusal as numbers, for callers in other languages: the C interface has no enum of Rattle's, so a text, a kind and a missing name are numbers here.
 
 #![tactic(auto)]
 

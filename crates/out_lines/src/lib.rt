@@ -12,8 +12,8 @@ use buffers::{append, append_byte};
 use out_verdicts::append_verdict;
 use syntax::Verdict;
 
-// Writes the line of a verdict, with the name handed back if there is one, to the start of out and returns its length;
-// where the whole line does not fit, writes nothing and returns 0.
+// Writes the line of a verdict, with the name handed back if there is one, to the start of out and returns its length; where the whole line does not fit,
+// writes nothing and returns 0. (No Option: a caller prints the first so many bytes of out, which are none then.)
 pub fn put_line(verdict: Verdict, name: &[u8], out: &mut [u8]) -> usize
     ensures length { result ≡ fitted_length (line_of verdict name.now) out.old }
     ensures text { out.new ≡ fitted (line_of verdict name.now) out.old }

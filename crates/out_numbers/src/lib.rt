@@ -21,7 +21,7 @@ const COUNTS: usize = 2;
 
 const REPORT: usize = 4;
 
-// A fault and what follows it; the refusal's number is returned, 0 for none.
+// A fault and what follows it; the refusal's number is returned, 0 for none: the C interface returns it so, and knows a fault that is none by eight zeros.
 fn put_both(fault: [usize; FAULT], rest: &[usize], out: &mut [usize]) -> usize
     requires { length rest.now ≤ 4 }
     ensures is { result ≡ refusal_in (fault ++ rest.now) }

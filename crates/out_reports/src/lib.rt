@@ -1,4 +1,5 @@
-// The line that ends a run, into a lent buffer. Document 01 is the paper "Rule sheets".
+// The line that ends a run, into a lent buffer. Document 01 is the paper "Rule sheets". Its words are appended, and not a `Display`, which would have to
+// stand in `syntax`, that knows nothing of lines, and would need a slice to be a writer of `fmt`.
 
 #![tactic(auto)]
 
@@ -9,7 +10,8 @@ ghost use Rattle.out_reports.specs.Reports.{report_line, kind_number, kind_word}
 use buffers::{append, append_byte, append_number};
 use syntax::{Kind, Report};
 
-// The number of a kind of end. A `From<Kind>` would have to stand beside the type, in a crate that knows nothing of these numbers.
+// The number of a kind of end, as programs in C are told it. A `From<Kind>` would have to stand beside the type, in a crate that knows nothing of these
+// numbers.
 pub fn kind_number(kind: Kind) -> usize
     ensures { result ≡ kind_number kind }
 {
@@ -22,8 +24,8 @@ pub fn kind_number(kind: Kind) -> usize
     }
 }
 
-// Writes the line that ends a run to the start of out and returns its length; where the whole line does not fit, writes
-// nothing and returns 0.
+// Writes the line that ends a run to the start of out and returns its length; where the whole line does not fit, writes nothing and returns 0. (No Option: a
+// caller prints the first so many bytes of out, which are none then.)
 pub fn put_report(report: Report, out: &mut [u8]) -> usize
     ensures length { result ≡ fitted_length (report_line report.kind report.answers report.steps) out.old }
     ensures text { out.new ≡ fitted (report_line report.kind report.answers report.steps) out.old }

@@ -7,7 +7,8 @@ ghost use Rattle.buffers.specs.Buffers.{Put};
 
 use buffers::append_all;
 
-// Numbers from a place on; returned is the place behind them, also where they do not fit.
+// Numbers from a place on; returned is the place behind them, also where they do not fit. (`append_all` at numbers, by a name that says what the answers to
+// C are made of; the edit of this crate is of it.)
 pub fn put_numbers(numbers: &[usize], out: &mut [usize], from: usize) -> usize
     requires { from + length numbers.now < 2 ^ 64 }
     ensures { Put out.old from numbers.now out.new result }

@@ -2,14 +2,14 @@
 use Prim.Native.Nat.{ℕ, suc, ◌+◌, ◌≤◌, ◌<◌, ◌^◌}
 use native.Mathlib.Nat.{add-zero}
 use native.Mathlib.Omega.{arith}
-use mathlib.Core.Path.{◌≡◌, refl, sym, ap, ◌∙◌, subst, ap₂}
+use mathlib.Core.Path.{◌≡◌, refl, sym, ap, ◌∙◌, subst, subst⁻¹, ap₂}
 use mathlib.Core.Bool.{Bool, true, false}
 use mathlib.Core.List.{List, [], ◌∷◌, ◌++◌}
 use mathlib.Core.Option.{Option, none, some}
 use lib.Dec.{T, eqb}
 use lib.ListN.{length, get_or, set, take, drop, length-set, length-append, length-take}
 use lib.Seq.{get_or-set_same, get_or-set_other}
-use borrow.Author.Tests.{eqb-true, eqb-false, eq-eqb, ne_eqb}
+use borrow.Author.Tests.{eqb-true, eqb-false}
 use Rattle.syntax.specs.Limits.{word_bytes}
 use Rattle.run_layout.specs.Regions.{cells}
 use Rattle.syntax.specs.Tokens.{spelling}
@@ -20,8 +20,8 @@ use Rattle.machine.specs.Answers.{Piece, unbound, place_of, numbered, bytes_of}
 use Rattle.machine.proofs.Tests.{variable-eq, variable-refl}
 use Rattle.run_layout.specs.State.{variable_of}
 use Rattle.run_layout.proofs.State.{cell-eq}
-use Rattle.out_terms.specs.Words.{name_at, number_among, Numbers, symbol_name, text_of}
-use Rattle.run_layout.specs.Symbols.{symbol_place, symbol_text, symbol_length}
+use Rattle.out_terms.specs.Words.{name_at, NamePlaced, number_among, Numbers, symbol_name, text_of}
+use Rattle.run_layout.specs.Symbols.{symbol_place, symbol_length}
 use Rattle.out_terms.specs.Telling.{VariableNumbered, SpeltSoFar}
 
 -- ---- a part of a text, by its place and length as they were taken out of a word
@@ -31,23 +31,18 @@ put-part text {out} {out'} {at} {r = r} e f p = subst (λ (x : List ℕ). Put ou
 
 -- ---- names
 
-pub name-in-sheet : (symbols sheet goal out out' : List ℕ) (k w at r : ℕ) → w ≡ get_or symbols k 0 → symbol_text w ≡ 0 → Put out at (spelling sheet (symbol_place w) (symbol_length w)) out' r
-    → Put out at (name_at symbols sheet goal k) out' r
-unfolding name_at
-name-in-sheet symbols sheet goal out out' k w at r e z p =
-    subst (λ (v : ℕ). Put out at (symbol_name sheet goal v) out' r) e (rw (eq-eqb (symbol_text w) 0 z) p)
+-- the name of symbol k is the part of a text that its word gives
+module _ (symbols sheet goal : List ℕ) (k w : ℕ) {text : List ℕ} {at len : ℕ} (is : text ≡ text_of w sheet goal) (listed : w ≡ get_or symbols k 0) (place : at ≡ symbol_place w) (long : len ≡ symbol_length w) where
+  pub name-inside : NamePlaced symbols sheet goal k → at + len ≤ length text
+  name-inside h =
+      let i : symbol_place (get_or symbols k 0) + symbol_length (get_or symbols k 0) ≤ length (text_of (get_or symbols k 0) sheet goal) = h.inside in
+      let e : symbol_place w + symbol_length w ≤ length (text_of w sheet goal) = subst⁻¹ (λ (x : ℕ). symbol_place x + symbol_length x ≤ length (text_of x sheet goal)) listed i in
+      rw (is, place, long) e
 
-pub name-in-goal : (symbols sheet goal out out' : List ℕ) (k w at r : ℕ) → w ≡ get_or symbols k 0 → (symbol_text w ≡ 0 → ⊥) → Put out at (spelling goal (symbol_place w) (symbol_length w)) out' r
-    → Put out at (name_at symbols sheet goal k) out' r
-unfolding name_at
-name-in-goal symbols sheet goal out out' k w at r e z p =
-    subst (λ (v : ℕ). Put out at (symbol_name sheet goal v) out' r) e (rw (ne_eqb (symbol_text w) 0 z) p)
-
-pub inside-sheet : (sheet goal : List ℕ) (w v : ℕ) → w ≡ v → symbol_text w ≡ 0 → symbol_place v + symbol_length v ≤ length (text_of v sheet goal) → symbol_place w + symbol_length w ≤ length sheet
-inside-sheet sheet goal w v e z h = let k : symbol_place w + symbol_length w ≤ length (text_of w sheet goal) = subst (λ (x : ℕ). symbol_place x + symbol_length x ≤ length (text_of x sheet goal)) (sym e) h in rw (eq-eqb (symbol_text w) 0 z) at k
-
-pub inside-goal : (sheet goal : List ℕ) (w v : ℕ) → w ≡ v → (symbol_text w ≡ 0 → ⊥) → symbol_place v + symbol_length v ≤ length (text_of v sheet goal) → symbol_place w + symbol_length w ≤ length goal
-inside-goal sheet goal w v e z h = let k : symbol_place w + symbol_length w ≤ length (text_of w sheet goal) = subst (λ (x : ℕ). symbol_place x + symbol_length x ≤ length (text_of x sheet goal)) (sym e) h in rw (ne_eqb (symbol_text w) 0 z) at k
+  pub name-is : {out out' : List ℕ} {from r : ℕ} → Put out from (spelling text at len) out' r → Put out from (name_at symbols sheet goal k) out' r
+  unfolding name_at
+  name-is {out} {out'} {from} {r} p =
+      subst (λ (v : ℕ). Put out from (symbol_name sheet goal v) out' r) listed (rw (← is, ← place, ← long) p)
 
 -- ---- places among the variables met
 

@@ -1,5 +1,5 @@
 -- Laws of the goal's variables. Assumes nothing.
-use Prim.Native.Nat.{ℕ, zero, suc, ◌+◌, ◌-◌, ◌*◌, ◌/◌, ◌%◌, ◌≤◌, ◌<◌, ◌^◌}
+use Prim.Native.Nat.{ℕ, suc, ◌+◌, ◌-◌, ◌*◌, ◌/◌, ◌%◌, ◌≤◌, ◌<◌, ◌^◌}
 use native.Mathlib.Numerals.{add-one}
 use native.Mathlib.Omega.{arith}
 use mathlib.Core.Path.{◌≡◌, refl, sym, ap, ◌∙◌, subst, subst⁻¹}
@@ -15,18 +15,18 @@ use Rattle.syntax.specs.Spans.{span_at, span_length, spanned, SpanInside, names_
 use Rattle.run_layout.specs.Regions.{copies, copy_cells, cells, deepest, open_size}
 use Rattle.syntax.specs.Quote.{bytes}
 use Rattle.syntax.specs.Terms.{same_bytes}
-use Rattle.syntax.specs.Tokens.{spelling}
 use Rattle.buffers.specs.Buffers.{Put}
 use Rattle.buffers.proofs.Laws.{then, nothing}
 use Rattle.machine.specs.Substitution.{Variable, RTerm, var, Binding, resolve}
 use Rattle.machine.specs.Answers.{Piece, unbound, bytes_then, spelt, bytes_of, is_anonymous, all_anonymous, values_from}
 use Rattle.run_layout.specs.Nodes.{Symbol, Node, term_at}
-use Rattle.unify_bindings.specs.declared.At.{At}
-use Rattle.unify_bindings.specs.Cells.{at_of}
-use Rattle.run_layout.specs.State.{variable_of, node_of, copy_of, cell_at, trail_at, value_of, bindings, TrailEntry}
+use Rattle.run_layout.specs.declared.terms.At.{At}
+use Rattle.run_layout.specs.State.{at_of, variable_of, node_of, copy_of, cell_at, trail_at, value_of, TrailEntry}
 use Rattle.run_layout.proofs.State.{copy-small, resolve-bound, resolve-unbound}
 use Rattle.out_terms.specs.Words.{Numbers, left_to_spell, depth, Named}
-use Rattle.out_terms.specs.Telling.{SpeltSoFar, Ample, Counting, SomeNumbers, Setting, SomeSetting, Facing, Spelling, SpeltToLimit, Lined, Valued, SomeValued, Values, SomeValues, value_in, gap}
+use Rattle.out_terms.specs.Telling.{SpeltSoFar, Ample, Counting, SomeNumbers, Setting, SomeSetting, Facing, Spelling, SpeltToLimit, Lined, Valued, SomeValued, Values, SomeValues, value_in, gap, bindings_of, names_of}
+use Rattle.out_terms.specs.declared.Solution.{Solution}
+use Rattle.out_terms.specs.declared.values.SpeltVariable.{SpeltVariable}
 use Rattle.out_terms.proofs.WalkLaws.{told-whole, told-words, told-after, told-then, few-met, bytes-written, walked-told}
 
 -- ---- `_`
@@ -110,99 +110,97 @@ walked-after {whole} {at = at} {m} {next} {ps} limit t w =
 
 -- ---- a variable's value
 
-module _ (ss : List Symbol) (n : ℕ) (nodes state symbols sheet goal stack : List ℕ) (i w : ℕ) (v : Valued ss n nodes state symbols sheet goal stack i) (e : w ≡ get_or state i 0) where
-  as-cell : value_in (bindings ss nodes state n) i ≡ resolve (bindings ss nodes state n) (var (variable_of i))
+module _ {ss : List Symbol} {n : ℕ} {sol : Solution} {stack : List ℕ} {i w : ℕ} (v : Valued ss n sol stack i) (e : w ≡ get_or sol.state.now i 0) where
+  as-cell : value_in (bindings_of ss n sol) i ≡ resolve (bindings_of ss n sol) (var (variable_of i))
   as-cell =
       let l : i < variables = v.low in
       let a : 0 ≡ i / copy_cells = omega arith in
       let d : i ≡ i % copy_cells = omega arith in
-      ap (λ (x : Variable). resolve (bindings ss nodes state n) (var x)) (λ j. record { copy = a j; number = d j })
+      ap (λ (x : Variable). resolve (bindings_of ss n sol) (var x)) (λ j. record { copy = a j; number = d j })
 
   small : i < cells
   small = let l : i < variables = v.low in omega arith
 
-  pub value-free : w ≡ 0 → value_in (bindings ss nodes state n) i ≡ var (variable_of i)
-  value-free z = as-cell ∙ resolve-unbound ss nodes state n i v.setting.store small (sym e ∙ z)
+  pub value-free : w ≡ 0 → value_in (bindings_of ss n sol) i ≡ var (variable_of i)
+  value-free z = as-cell ∙ resolve-unbound ss sol.nodes.now sol.state.now n i v.setting.store small (sym e ∙ z)
 
   -- an unbound variable
-  pub value-unbound : (limit : ℕ) (met : List Variable) (old new numbers : List ℕ) (at next : ℕ) (rest : List Piece) → w ≡ 0 → SpeltSoFar (bytes_of met (unbound (variable_of i) ∷ rest)) old at new next numbers rest
-      → SpeltToLimit limit (bytes_of met (spelt (value_in (bindings ss nodes state n) i) rest)) old at new next numbers rest
+  pub value-unbound : (limit : ℕ) (met : List Variable) {old new numbers : List ℕ} {at next : ℕ} {rest : List Piece} → w ≡ 0 → SpeltSoFar (bytes_of met (unbound (variable_of i) ∷ rest)) old at new next numbers rest
+      → SpeltToLimit limit (bytes_of met (spelt (value_in (bindings_of ss n sol) i) rest)) old at new next numbers rest
   unfolding spelt
-  value-unbound limit met old new numbers at next rest z t =
+  value-unbound limit met {rest = rest} z t =
       walked-told limit (told-whole (ap (λ (x : RTerm). bytes_of met (spelt x rest)) (value-free z)) t)
 
   -- a bound one, whose word was taken apart
-  module _ (z : w ≡ 0 → ⊥) (t : At) (et : t ≡ at_of w) where
-    pub value-bound : value_in (bindings ss nodes state n) i ≡ resolve (bindings ss nodes state n) (term_at ss nodes t.node t.copy)
+  module _ (z : w ≡ 0 → ⊥) {t : At} (et : t ≡ at_of w) where
+    pub value-bound : value_in (bindings_of ss n sol) i ≡ resolve (bindings_of ss n sol) (term_at ss sol.nodes.now t.node t.copy)
     unfolding value_of
     value-bound =
         as-cell
-        ∙ (resolve-bound ss nodes state n i v.setting.store small (λ q. z (e ∙ q))
-        ∙ (ap (λ (x : ℕ). resolve (bindings ss nodes state n) (term_at ss nodes (node_of x) (copy_of x))) (sym e)
-        ∙ ap (λ (a : At). resolve (bindings ss nodes state n) (term_at ss nodes a.node a.copy)) (sym et)))
+        ∙ (resolve-bound ss sol.nodes.now sol.state.now n i v.setting.store small (λ q. z (e ∙ q))
+        ∙ (ap (λ (x : ℕ). resolve (bindings_of ss n sol) (term_at ss sol.nodes.now (node_of x) (copy_of x))) (sym e)
+        ∙ ap (λ (a : At). resolve (bindings_of ss n sol) (term_at ss sol.nodes.now a.node a.copy)) (sym et)))
 
-    pub value-facing : Ample stack open_size → Facing ss n nodes state symbols sheet goal stack t.node t.copy 0
+    pub value-facing : Ample stack open_size → Facing ss n sol stack t.node t.copy 0
     value-facing room =
-        let b : cell_at state i ≡ 0 → ⊥ = (λ q. z (e ∙ q)) in
-        let o : (j : ℕ) × (j < n) × (trail_at state j ≡ i) = v.setting.store.only i small b in
-        let entry : TrailEntry ss nodes state o.0 = v.setting.store.entry o.0 o.1 in
+        let b : cell_at sol.state.now i ≡ 0 → ⊥ = (λ q. z (e ∙ q)) in
+        let o : (j : ℕ) × (j < n) × (trail_at sol.state.now j ≡ i) = v.setting.store.only i small b in
+        let entry : TrailEntry ss sol.nodes.now sol.state.now o.0 = v.setting.store.entry o.0 o.1 in
         record {
           setting = v.setting;
-          node = subst⁻¹ (λ (a : At). Node ss nodes a.node) et (subst (λ (x : ℕ). Node ss nodes (node_of x)) (ap (cell_at state) o.2 ∙ sym e) entry.node);
+          node = subst⁻¹ (λ (a : At). Node ss sol.nodes.now a.node) et (subst (λ (x : ℕ). Node ss sol.nodes.now (node_of x)) (ap (cell_at sol.state.now) o.2 ∙ sym e) entry.node);
           copy = subst⁻¹ (λ (a : At). a.copy < copies) et (copy-small w);
-          shallow = (let k : depth (value_in (bindings ss nodes state n) i) ≤ deepest = v.shallow in let q : depth (value_in (bindings ss nodes state n) i) ≡ depth (resolve (bindings ss nodes state n) (term_at ss nodes t.node t.copy)) = ap depth value-bound in omega arith);
+          shallow = (let k : depth (value_in (bindings_of ss n sol) i) ≤ deepest = v.shallow in let q : depth (value_in (bindings_of ss n sol) i) ≡ depth (resolve (bindings_of ss n sol) (term_at ss sol.nodes.now t.node t.copy)) = ap depth value-bound in omega arith);
           room = room;
         }
 
     -- the term, and then the rows that it laid
-    pub value-walked : (limit : ℕ) (met : List Variable) (old mid new nums numbers after : List ℕ) (at m next rows : ℕ) (rest : List Piece)
-        → Spelling ss nodes (bindings ss nodes state n) (bytes_of met (spelt (resolve (bindings ss nodes state n) (term_at ss nodes t.node t.copy)) (left_to_spell ss nodes (bindings ss nodes state n) stack 0 rest))) old at mid nums after m rows rest
-        → ((met' : List Variable) → Setting ss n nodes state symbols sheet goal after rows → Numbers nums met' → SpeltToLimit limit (bytes_of met' (left_to_spell ss nodes (bindings ss nodes state n) after rows rest)) mid m new next numbers rest)
-        → SpeltToLimit limit (bytes_of met (spelt (value_in (bindings ss nodes state n) i) rest)) old at new next numbers rest
+    pub value-walked : (limit : ℕ) (met : List Variable) {old mid new nums numbers after : List ℕ} {at m next rows : ℕ} {rest : List Piece}
+        → Spelling ss sol.nodes.now (bindings_of ss n sol) (bytes_of met (spelt (resolve (bindings_of ss n sol) (term_at ss sol.nodes.now t.node t.copy)) (left_to_spell ss sol.nodes.now (bindings_of ss n sol) stack 0 rest))) old at mid nums after m rows rest
+        → ((met' : List Variable) → Setting ss n sol after rows → Numbers nums met' → SpeltToLimit limit (bytes_of met' (left_to_spell ss sol.nodes.now (bindings_of ss n sol) after rows rest)) mid m new next numbers rest)
+        → SpeltToLimit limit (bytes_of met (spelt (value_in (bindings_of ss n sol) i) rest)) old at new next numbers rest
     unfolding left_to_spell
-    value-walked limit met old mid new nums numbers after at m next rows rest s f =
-        let x : SpeltSoFar (bytes_of met (spelt (value_in (bindings ss nodes state n) i) rest)) old at mid m nums (left_to_spell ss nodes (bindings ss nodes state n) after rows rest) = told-whole (ap (λ (r : RTerm). bytes_of met (spelt r rest)) value-bound) s.told in
-        let y : SpeltToLimit limit (bytes_of x.met (left_to_spell ss nodes (bindings ss nodes state n) after rows rest)) mid m new next numbers rest = f x.met (record { store = v.setting.store; names = v.setting.names; rows = s.rows }) x.numbers_are in
+    value-walked limit met {old} {mid} {new} {nums} {numbers} {after} {at} {m} {next} {rows} {rest} s f =
+        let x : SpeltSoFar (bytes_of met (spelt (value_in (bindings_of ss n sol) i) rest)) old at mid m nums (left_to_spell ss sol.nodes.now (bindings_of ss n sol) after rows rest) = told-whole (ap (λ (r : RTerm). bytes_of met (spelt r rest)) value-bound) s.told in
+        let y : SpeltToLimit limit (bytes_of x.met (left_to_spell ss sol.nodes.now (bindings_of ss n sol) after rows rest)) mid m new next numbers rest = f x.met (record { store = v.setting.store; names = v.setting.names; rows = s.rows }) x.numbers_are in
         walked-after limit x y
 
 -- ---- what stands before a value
 
-pub gap-none : (more : ℕ) (out : List ℕ) (at : ℕ) → more ≡ 0 → Put out at (gap more) out at
-gap-none zero out at e = nothing out at
-gap-none (suc more) out at e = absurd (omega arith)
+pub gap-none : {more : Bool} (out : List ℕ) (at : ℕ) → more ≡ false → Put out at (gap more) out at
+gap-none out at e = rw e (nothing out at)
 
-pub gap-some : (more : ℕ) (out new : List ℕ) (at next : ℕ) → (more ≡ 0 → ⊥) → Put out at (spelling (bytes ", ") 0 2) new next → Put out at (gap more) new next
-gap-some zero out new at next z p = absurd (z refl)
-gap-some (suc more) out new at next z p = p
+pub gap-some : {more : Bool} {out new : List ℕ} {at next : ℕ} → more ≡ true → Put out at (bytes ", ") new next → Put out at (gap more) new next
+gap-some e p = rw e p
 
-pub gap-short : (more : ℕ) → length (gap more) ≤ 2
-gap-short zero = omega arith
-gap-short (suc more) = omega arith
+pub gap-short : (more : Bool) → length (gap more) ≤ 2
+gap-short false = omega arith
+gap-short true = omega arith
 
 -- ---- between a term and its rows
 
-module _ (nodes state symbols sheet goal stack : List ℕ) (i w : ℕ) (numbers : List ℕ) (at : ℕ) (v : SomeValued nodes state symbols sheet goal stack i) (k : Counting numbers at) (e : w ≡ get_or state i 0) (z : w ≡ 0 → ⊥) (t : At) (et : t ≡ at_of w) (room : Ample stack open_size)
-    (out nums after mid : List ℕ) (m rows : ℕ)
-    (f : (ss : List Symbol) (n : ℕ) (met : List Variable) (rest : List Piece) → Facing ss n nodes state symbols sheet goal stack t.node t.copy 0 → Numbers numbers met
-    → Spelling ss nodes (bindings ss nodes state n) (bytes_of met (spelt (resolve (bindings ss nodes state n) (term_at ss nodes t.node t.copy)) (left_to_spell ss nodes (bindings ss nodes state n) stack 0 rest))) out at mid nums after m rows rest) where
-  first : Spelling v.ss nodes (bindings v.ss nodes state v.n) (bytes_of k.met (spelt (resolve (bindings v.ss nodes state v.n) (term_at v.ss nodes t.node t.copy)) (left_to_spell v.ss nodes (bindings v.ss nodes state v.n) stack 0 []))) out at mid nums after m rows []
-  first = f v.ss v.n k.met [] (value-facing v.ss v.n nodes state symbols sheet goal stack i w v.is e z t et room) k.numbers_are
+module _ {sol : Solution} {stack : List ℕ} {i w : ℕ} {numbers : List ℕ} {at : ℕ} (v : SomeValued sol stack i) (k : Counting numbers at) (e : w ≡ get_or sol.state.now i 0) (z : w ≡ 0 → ⊥) {t : At} (et : t ≡ at_of w) (room : Ample stack open_size)
+    {out nums after mid : List ℕ} {m rows : ℕ}
+    (f : (ss : List Symbol) (n : ℕ) (met : List Variable) (rest : List Piece) → Facing ss n sol stack t.node t.copy 0 → Numbers numbers met
+    → Spelling ss sol.nodes.now (bindings_of ss n sol) (bytes_of met (spelt (resolve (bindings_of ss n sol) (term_at ss sol.nodes.now t.node t.copy)) (left_to_spell ss sol.nodes.now (bindings_of ss n sol) stack 0 rest))) out at mid nums after m rows rest) where
+  first : Spelling v.ss sol.nodes.now (bindings_of v.ss v.n sol) (bytes_of k.met (spelt (resolve (bindings_of v.ss v.n sol) (term_at v.ss sol.nodes.now t.node t.copy)) (left_to_spell v.ss sol.nodes.now (bindings_of v.ss v.n sol) stack 0 []))) out at mid nums after m rows []
+  first = f v.ss v.n k.met [] (value-facing v.is e z et room) k.numbers_are
 
-  pub value-setting : SomeSetting nodes state symbols sheet goal after rows
+  pub value-setting : SomeSetting sol after rows
   value-setting = record { ss = v.ss; n = v.n; is = record { store = v.is.setting.store; names = v.is.setting.names; rows = first.rows } }
 
   pub value-counting : m + 100 < 2 ^ 64 → Counting nums m
   value-counting l = record { met = first.told.met; numbers_are = first.told.numbers_are; few = first.told.few; near = l }
 
-pub nearer : (at m r limit : ℕ) → (at ≤ m) × (m ≤ at + word_bytes) → (m ≤ r) × ((r ≤ limit + (word_bytes + 1)) ⊎ (r ≡ m)) → (at ≤ r) × ((r ≤ limit + (word_bytes + 1)) ⊎ (r ≤ at + word_bytes))
-nearer at m r limit a b = (omega (arith, a.0, b.0), go b.1)
+pub nearer : (limit : ℕ) {at m r : ℕ} → (at ≤ m) × (m ≤ at + word_bytes) → (m ≤ r) × ((r ≤ limit + (word_bytes + 1)) ⊎ (r ≡ m)) → (at ≤ r) × ((r ≤ limit + (word_bytes + 1)) ⊎ (r ≤ at + word_bytes))
+nearer limit {at} {m} {r} a b = (omega (arith, a.0, b.0), go b.1)
   where
     go : (r ≤ limit + (word_bytes + 1)) ⊎ (r ≡ m) → (r ≤ limit + (word_bytes + 1)) ⊎ (r ≤ at + word_bytes)
     go (inl x) = inl x
     go (inr x) = inr (omega (arith, a.1))
 
-pub word-inside : (goal names : List ℕ) (k i w : ℕ) → Named goal names k → i < k → w ≡ get_or names i 0 → SpanInside goal w
-word-inside goal names k i w n l e = subst (λ (x : ℕ). SpanInside goal x) (sym e) (n.inside i l)
+pub word-inside : {goal names : List ℕ} {k i w : ℕ} → Named goal names k → i < k → w ≡ get_or names i 0 → SpanInside goal w
+word-inside {goal} {i = i} n l e = subst (λ (x : ℕ). SpanInside goal x) (sym e) (n.inside i l)
 
 -- ---- a variable with its value
 
@@ -221,16 +219,16 @@ bytes-three met f g h ps =
     ∙ (ap (λ (l : List ℕ). f ++ l) (bytes-written met g (bytes_then h ps) ∙ ap (λ (l : List ℕ). g ++ l) (bytes-written met h ps))
     ∙ (ap (λ (l : List ℕ). f ++ l) (sym (append_assoc g h (bytes_of met ps))) ∙ sym (append_assoc f (g ++ h) (bytes_of met ps))))
 
-pub binding-skip : (b : List Binding) (i more w limit : ℕ) (goal : List ℕ) (xs : List (List ℕ)) (met : List Variable) (out numbers : List ℕ) (at : ℕ) (r : Bool) → r ≡ is_anonymous (spanned goal w) → r ≡ true → Counting numbers at → Numbers numbers met
+pub binding-skip : (b : List Binding) (i : ℕ) (more : Bool) (w limit : ℕ) (goal : List ℕ) (xs : List (List ℕ)) (met : List Variable) (out : List ℕ) {numbers : List ℕ} {at : ℕ} {r : Bool} → r ≡ is_anonymous (spanned goal w) → r ≡ true → Counting numbers at → Numbers numbers met
     → SpeltToLimit limit (bytes_of met (values_from b i (gap more) (spanned goal w ∷ xs))) out at out at numbers (values_from b (suc i) (gap more) xs)
-binding-skip b i more w limit goal xs met out numbers at r e t k n =
-    walked-told limit (told-words met [] out out at at numbers (bytes_of met (values_from b i (gap more) (spanned goal w ∷ xs))) (values_from b (suc i) (gap more) xs) n (few-met numbers at met k n) (nothing out at) (ap (bytes_of met) (values-skip b i (gap more) (spanned goal w) xs (sym e ∙ t))))
+binding-skip b i more w limit goal xs met out {numbers} {at} e t k n =
+    walked-told limit (told-words met [] out out at at numbers (bytes_of met (values_from b i (gap more) (spanned goal w ∷ xs))) (values_from b (suc i) (gap more) xs) n (few-met k n) (nothing out at) (ap (bytes_of met) (values-skip b i (gap more) (spanned goal w) xs (sym e ∙ t))))
 
-pub binding-give : (b : List Binding) (i more w limit : ℕ) (goal : List ℕ) (xs : List (List ℕ)) (met : List Variable) (old mid new numbers : List ℕ) (at m next : ℕ) (r : Bool) → r ≡ is_anonymous (spanned goal w) → r ≡ false
+pub binding-give : (b : List Binding) (i : ℕ) (more : Bool) (w limit : ℕ) (goal : List ℕ) (xs : List (List ℕ)) (met : List Variable) {old mid new numbers : List ℕ} {at m next : ℕ} {r : Bool} → r ≡ is_anonymous (spanned goal w) → r ≡ false
     → Put old at (gap more ++ (spanned goal w ++ bytes " = ")) mid m
     → SpeltToLimit limit (bytes_of met (spelt (value_in b i) (values_from b (suc i) (bytes ", ") xs))) mid m new next numbers (values_from b (suc i) (bytes ", ") xs)
-    → SpeltToLimit limit (bytes_of met (values_from b i (gap more) (spanned goal w ∷ xs))) old at new next numbers (values_from b (suc i) (gap 1) xs)
-binding-give b i more w limit goal xs met old mid new numbers at m next r e t p v =
+    → SpeltToLimit limit (bytes_of met (values_from b i (gap more) (spanned goal w ∷ xs))) old at new next numbers (values_from b (suc i) (gap true) xs)
+binding-give b i more w limit goal xs met {at = at} {m} e t p v =
     let is : bytes_of met (values_from b i (gap more) (spanned goal w ∷ xs)) ≡ (gap more ++ (spanned goal w ++ bytes " = ")) ++ bytes_of met (spelt (value_in b i) (values_from b (suc i) (bytes ", ") xs)) =
     ap (bytes_of met) (values-give b i (gap more) (spanned goal w) xs (sym e ∙ t)) ∙ bytes-three met (gap more) (spanned goal w) (bytes " = ") (spelt (value_in b i) (values_from b (suc i) (bytes ", ") xs)) in
     record {
@@ -238,8 +236,8 @@ binding-give b i more w limit goal xs met old mid new numbers at m next r e t p 
       over = λ l. let a : limit < m + length (bytes_of met (spelt (value_in b i) (values_from b (suc i) (bytes ", ") xs))) = v.over l in let d : m ≡ at + length (gap more ++ (spanned goal w ++ bytes " = ")) = p.past in let f : length (bytes_of met (values_from b i (gap more) (spanned goal w ∷ xs))) ≡ length ((gap more ++ (spanned goal w ++ bytes " = ")) ++ bytes_of met (spelt (value_in b i) (values_from b (suc i) (bytes ", ") xs))) = ap length is in let g : length ((gap more ++ (spanned goal w ++ bytes " = ")) ++ bytes_of met (spelt (value_in b i) (values_from b (suc i) (bytes ", ") xs))) ≡ length (gap more ++ (spanned goal w ++ bytes " = ")) + length (bytes_of met (spelt (value_in b i) (values_from b (suc i) (bytes ", ") xs))) = length-append (gap more ++ (spanned goal w ++ bytes " = ")) (bytes_of met (spelt (value_in b i) (values_from b (suc i) (bytes ", ") xs))) in omega arith;
     }
 
-pub nearer-value : (at m r limit : ℕ) → (at ≤ m) × (m ≤ at + (word_bytes + 5)) → (m ≤ r) × ((r ≤ limit + (word_bytes + 1)) ⊎ (r ≤ m + word_bytes)) → (at ≤ r) × ((r ≤ limit + (word_bytes + 1)) ⊎ (r ≤ at + (2 * word_bytes + 5)))
-nearer-value at m r limit a b = (omega (arith, a.0, b.0), go b.1)
+pub nearer-value : (limit : ℕ) {at m r : ℕ} → (at ≤ m) × (m ≤ at + (word_bytes + 5)) → (m ≤ r) × ((r ≤ limit + (word_bytes + 1)) ⊎ (r ≤ m + word_bytes)) → (at ≤ r) × ((r ≤ limit + (word_bytes + 1)) ⊎ (r ≤ at + (2 * word_bytes + 5)))
+nearer-value limit {at} {m} {r} a b = (omega (arith, a.0, b.0), go b.1)
   where
     go : (r ≤ limit + (word_bytes + 1)) ⊎ (r ≤ m + word_bytes) → (r ≤ limit + (word_bytes + 1)) ⊎ (r ≤ at + (2 * word_bytes + 5))
     go (inl x) = inl x
@@ -247,75 +245,87 @@ nearer-value at m r limit a b = (omega (arith, a.0, b.0), go b.1)
 
 -- ---- all variables, one after another
 
--- whatever the words mean, the variables before i are given, unless the limit is passed
-abbrev pub Listing : List ℕ → List ℕ → List ℕ → List ℕ → List ℕ → List ℕ → ℕ → List ℕ → List ℕ → List ℕ → ℕ → ℕ → List ℕ → List ℕ → ℕ → ℕ → ℕ → Type 0
-Listing nodes state symbols sheet goal names count numbers₀ stack₀ out₀ at limit numbers out past more i =
-    (ss : List Symbol) (n : ℕ) (met : List Variable) → Values ss n nodes state symbols sheet goal stack₀ names count → Numbers numbers₀ met
-    → SpeltToLimit limit (bytes_of met (values_from (bindings ss nodes state n) 0 [] (names_from goal names 0 count))) out₀ at out past numbers (values_from (bindings ss nodes state n) i (gap more) (names_from goal names i (count - i)))
+-- the names from variable i on
+abbrev names_after : Solution → ℕ → List (List ℕ)
+names_after sol i = names_from sol.goal.now sol.names.now i (sol.count - i)
 
-valued : (ss : List Symbol) (n : ℕ) (nodes state symbols sheet goal stack₀ stack names : List ℕ) (count i : ℕ) → Values ss n nodes state symbols sheet goal stack₀ names count → length stack ≡ length stack₀ → i < count → Valued ss n nodes state symbols sheet goal stack i
-valued ss n nodes state symbols sheet goal stack₀ stack names count i v e l =
+-- all values, and what is left of them from variable i on
+abbrev pieces : List Symbol → ℕ → Solution → List Piece
+pieces ss n sol = values_from (bindings_of ss n sol) 0 [] (names_of sol)
+
+abbrev pieces_after : List Symbol → ℕ → Solution → ℕ → Bool → List Piece
+pieces_after ss n sol i more = values_from (bindings_of ss n sol) i (gap more) (names_after sol i)
+
+-- whatever the words mean, the variables before i are given, unless the limit is passed
+abbrev pub Listing : Solution → List ℕ → List ℕ → List ℕ → ℕ → ℕ → List ℕ → List ℕ → SpeltVariable → ℕ → Type 0
+Listing sol numbers₀ stack₀ out₀ at limit numbers out listed i =
+    (ss : List Symbol) (n : ℕ) (met : List Variable) → Values ss n sol stack₀ → Numbers numbers₀ met
+    → SpeltToLimit limit (bytes_of met (pieces ss n sol)) out₀ at out listed.at numbers (pieces_after ss n sol i listed.more)
+
+valued : {ss : List Symbol} {n : ℕ} {sol : Solution} {stack₀ stack : List ℕ} {i : ℕ} → Values ss n sol stack₀ → length stack ≡ length stack₀ → i < sol.count → Valued ss n sol stack i
+valued {sol = sol} {i = i} v e l =
     record {
       setting = record { store = v.setting.store; names = v.setting.names; rows = record { high = omega arith; each = λ j k. absurd (let z : j < 0 = k in omega arith) } };
-      low = (let f : count ≤ variables = v.named.few in omega arith);
+      low = (let f : sol.count ≤ variables = v.named.few in omega arith);
       shallow = v.shallow i l;
     }
 
-module _ (nodes state symbols sheet goal names : List ℕ) (count : ℕ) (numbers₀ stack₀ out₀ : List ℕ) (at limit : ℕ) where
-  pub listing_none : Counting numbers₀ at → Listing nodes state symbols sheet goal names count numbers₀ stack₀ out₀ at limit numbers₀ out₀ at 0 0
+module _ {sol : Solution} {numbers₀ stack₀ out₀ : List ℕ} {at limit : ℕ} where
+  pub listing_none : Counting numbers₀ at → Listing sol numbers₀ stack₀ out₀ at limit numbers₀ out₀ (record { at = at; more = false }) 0
   listing_none k ss n met v h =
-      let e : count - 0 ≡ count = omega arith in
-      walked-told limit (told-words met [] out₀ out₀ at at numbers₀ (bytes_of met (values_from (bindings ss nodes state n) 0 [] (names_from goal names 0 count))) (values_from (bindings ss nodes state n) 0 [] (names_from goal names 0 (count - 0))) h (few-met numbers₀ at met k h) (nothing out₀ at)
-      (ap (λ (j : ℕ). bytes_of met (values_from (bindings ss nodes state n) 0 [] (names_from goal names 0 j))) (sym e)))
+      let e : sol.count - 0 ≡ sol.count = omega arith in
+      walked-told limit (told-words met [] out₀ out₀ at at numbers₀ (bytes_of met (pieces ss n sol)) (pieces_after ss n sol 0 false) h (few-met k h) (nothing out₀ at)
+      (ap (λ (j : ℕ). bytes_of met (values_from (bindings_of ss n sol) 0 [] (names_from sol.goal.now sol.names.now 0 j))) (sym e)))
 
-  module _ (numbers out : List ℕ) (past more i : ℕ) (g : Listing nodes state symbols sheet goal names count numbers₀ stack₀ out₀ at limit numbers out past more i) where
-    pub some-valued : (stack : List ℕ) → SomeValues nodes state symbols sheet goal stack₀ names count → length stack ≡ length stack₀ → i < count → SomeValued nodes state symbols sheet goal stack i
-    some-valued stack s e l = record { ss = s.ss; n = s.n; is = valued s.ss s.n nodes state symbols sheet goal stack₀ stack names count i s.is e l }
+  module _ (listed : SpeltVariable) (i : ℕ) {numbers out : List ℕ} (g : Listing sol numbers₀ stack₀ out₀ at limit numbers out listed i) where
+    pub some-valued : {stack : List ℕ} → SomeValues sol stack₀ → length stack ≡ length stack₀ → i < sol.count → SomeValued sol stack i
+    some-valued s e l = record { ss = s.ss; n = s.n; is = valued s.is e l }
 
-    pub listing-counting : SomeValues nodes state symbols sheet goal stack₀ names count → Counting numbers₀ at → past ≤ limit → past + 100 < 2 ^ 64 → Counting numbers past
+    pub listing-counting : SomeValues sol stack₀ → Counting numbers₀ at → listed.at ≤ limit → listed.at + 100 < 2 ^ 64 → Counting numbers listed.at
     listing-counting s k l f =
-        let t : SpeltSoFar (bytes_of k.met (values_from (bindings s.ss nodes state s.n) 0 [] (names_from goal names 0 count))) out₀ at out past numbers (values_from (bindings s.ss nodes state s.n) i (gap more) (names_from goal names i (count - i))) = (g s.ss s.n k.met s.is k.numbers_are).done l in
+        let t = (g s.ss s.n k.met s.is k.numbers_are).done l in
         record { met = t.met; numbers_are = t.numbers_are; few = t.few; near = f }
 
     -- the variables numbered at the end, where the limit is not passed
-    pub listing-counted : (new : List ℕ) (next : ℕ) → SomeValues nodes state symbols sheet goal stack₀ names count → Counting numbers₀ at → past + 100 < 2 ^ 64 → Put out past (10 ∷ []) new next → next ≤ limit → SomeNumbers numbers
-    listing-counted new next s k f p l =
-        let a : next ≡ past + 1 = p.past in
-        let t : Counting numbers past = listing-counting s k (omega arith) f in
+    pub listing-counted : {new : List ℕ} {next : ℕ} → SomeValues sol stack₀ → Counting numbers₀ at → listed.at + 100 < 2 ^ 64 → Put out listed.at (10 ∷ []) new next → next ≤ limit → SomeNumbers numbers
+    listing-counted {next = next} s k f p l =
+        let a : next ≡ listed.at + 1 = p.past in
+        let t : Counting numbers listed.at = listing-counting s k (omega arith) f in
         record { met = t.met; numbers_are = t.numbers_are }
 
-    pub listing-next : (stack numbers₁ out₁ : List ℕ) (past₁ more₁ w : ℕ) → length stack ≡ length stack₀ → i < count → w ≡ get_or names i 0 → past ≤ limit
-        → ((ss : List Symbol) (n : ℕ) (met : List Variable) (xs : List (List ℕ)) → Valued ss n nodes state symbols sheet goal stack i → Numbers numbers met
-        → SpeltToLimit limit (bytes_of met (values_from (bindings ss nodes state n) i (gap more) (spanned goal w ∷ xs))) out past out₁ past₁ numbers₁ (values_from (bindings ss nodes state n) (suc i) (gap more₁) xs))
-        → Listing nodes state symbols sheet goal names count numbers₀ stack₀ out₀ at limit numbers₁ out₁ past₁ more₁ (i + 1)
-    listing-next stack numbers₁ out₁ past₁ more₁ w e l ew p f ss n met v h =
-        let t : SpeltSoFar (bytes_of met (values_from (bindings ss nodes state n) 0 [] (names_from goal names 0 count))) out₀ at out past numbers (values_from (bindings ss nodes state n) i (gap more) (names_from goal names i (count - i))) = (g ss n met v h).done p in
-        let is : names_from goal names i (count - i) ≡ spanned goal w ∷ names_from goal names (i + 1) (count - (i + 1)) = names_more goal names i count l ∙ ap (λ (x : ℕ). spanned goal x ∷ names_from goal names (i + 1) (count - (i + 1))) (sym ew) in
-        let u : SpeltToLimit limit (bytes_of t.met (values_from (bindings ss nodes state n) i (gap more) (spanned goal w ∷ names_from goal names (i + 1) (count - (i + 1))))) out past out₁ past₁ numbers₁ (values_from (bindings ss nodes state n) (suc i) (gap more₁) (names_from goal names (i + 1) (count - (i + 1)))) =
-        f ss n t.met (names_from goal names (i + 1) (count - (i + 1))) (valued ss n nodes state symbols sheet goal stack₀ stack names count i v e l) t.numbers_are in
-        let y : SpeltToLimit limit (bytes_of t.met (values_from (bindings ss nodes state n) i (gap more) (names_from goal names i (count - i)))) out past out₁ past₁ numbers₁ (values_from (bindings ss nodes state n) (i + 1) (gap more₁) (names_from goal names (i + 1) (count - (i + 1)))) =
-        subst (λ (j : ℕ). SpeltToLimit limit (bytes_of t.met (values_from (bindings ss nodes state n) i (gap more) (names_from goal names i (count - i)))) out past out₁ past₁ numbers₁ (values_from (bindings ss nodes state n) j (gap more₁) (names_from goal names (i + 1) (count - (i + 1))))) (sym (add-one i)) (subst (λ (zs : List (List ℕ)). SpeltToLimit limit (bytes_of t.met (values_from (bindings ss nodes state n) i (gap more) zs)) out past out₁ past₁ numbers₁ (values_from (bindings ss nodes state n) (suc i) (gap more₁) (names_from goal names (i + 1) (count - (i + 1))))) (sym is) u) in
+    pub listing-next : {stack numbers₁ out₁ : List ℕ} (listed₁ : SpeltVariable) {w : ℕ} → length stack ≡ length stack₀ → i < sol.count → w ≡ get_or sol.names.now i 0 → listed.at ≤ limit
+        → ((ss : List Symbol) (n : ℕ) (met : List Variable) (xs : List (List ℕ)) → Valued ss n sol stack i → Numbers numbers met
+        → SpeltToLimit limit (bytes_of met (values_from (bindings_of ss n sol) i (gap listed.more) (spanned sol.goal.now w ∷ xs))) out listed.at out₁ listed₁.at numbers₁ (values_from (bindings_of ss n sol) (suc i) (gap listed₁.more) xs))
+        → Listing sol numbers₀ stack₀ out₀ at limit numbers₁ out₁ listed₁ (i + 1)
+    listing-next {stack} {numbers₁} {out₁} listed₁ {w} e l ew p f ss n met v h =
+        let t : SpeltSoFar (bytes_of met (pieces ss n sol)) out₀ at out listed.at numbers (pieces_after ss n sol i listed.more) = (g ss n met v h).done p in
+        let is : names_after sol i ≡ spanned sol.goal.now w ∷ names_after sol (i + 1) = names_more sol.goal.now sol.names.now i sol.count l ∙ ap (λ (x : ℕ). spanned sol.goal.now x ∷ names_after sol (i + 1)) (sym ew) in
+        let u : SpeltToLimit limit (bytes_of t.met (values_from (bindings_of ss n sol) i (gap listed.more) (spanned sol.goal.now w ∷ names_after sol (i + 1)))) out listed.at out₁ listed₁.at numbers₁ (values_from (bindings_of ss n sol) (suc i) (gap listed₁.more) (names_after sol (i + 1))) =
+        f ss n t.met (names_after sol (i + 1)) (valued v e l) t.numbers_are in
+        let y : SpeltToLimit limit (bytes_of t.met (pieces_after ss n sol i listed.more)) out listed.at out₁ listed₁.at numbers₁ (pieces_after ss n sol (i + 1) listed₁.more) =
+        subst (λ (j : ℕ). SpeltToLimit limit (bytes_of t.met (pieces_after ss n sol i listed.more)) out listed.at out₁ listed₁.at numbers₁ (values_from (bindings_of ss n sol) j (gap listed₁.more) (names_after sol (i + 1)))) (sym (add-one i))
+        (subst (λ (zs : List (List ℕ)). SpeltToLimit limit (bytes_of t.met (values_from (bindings_of ss n sol) i (gap listed.more) zs)) out listed.at out₁ listed₁.at numbers₁ (values_from (bindings_of ss n sol) (suc i) (gap listed₁.more) (names_after sol (i + 1)))) (sym is) u) in
         walked-after limit t y
 
-    pub listing-over : limit < past → (ss : List Symbol) (n : ℕ) (met : List Variable) → Values ss n nodes state symbols sheet goal stack₀ names count → Numbers numbers₀ met → Lined limit (bytes_of met (values_from (bindings ss nodes state n) 0 [] (names_from goal names 0 count))) out₀ at out past
+    pub listing-over : limit < listed.at → (ss : List Symbol) (n : ℕ) (met : List Variable) → Values ss n sol stack₀ → Numbers numbers₀ met → Lined limit (bytes_of met (pieces ss n sol)) out₀ at out listed.at
     listing-over l ss n met v h = record { done = λ k. absurd (omega arith); over = λ k. (g ss n met v h).over k }
 
-    pub listing-end : (new : List ℕ) (next : ℕ) → count ≤ i → Put out past (10 ∷ []) new next → (ss : List Symbol) (n : ℕ) (met : List Variable) → Values ss n nodes state symbols sheet goal stack₀ names count → Numbers numbers₀ met → Lined limit (bytes_of met (values_from (bindings ss nodes state n) 0 [] (names_from goal names 0 count))) out₀ at new next
+    pub listing-end : {new : List ℕ} {next : ℕ} → sol.count ≤ i → Put out listed.at (10 ∷ []) new next → (ss : List Symbol) (n : ℕ) (met : List Variable) → Values ss n sol stack₀ → Numbers numbers₀ met → Lined limit (bytes_of met (pieces ss n sol)) out₀ at new next
     unfolding values_from bytes_of
-    listing-end new next l p ss n met v h = record { done = λ k. ended (let a : next ≡ past + 1 = p.past in omega arith); over = λ k. past-it k (leb past limit) refl }
+    listing-end {new} {next} l p ss n met v h = record { done = λ k. ended (let a : next ≡ listed.at + 1 = p.past in omega arith); over = λ k. past-it k (leb listed.at limit) refl }
       where
-        ended : past ≤ limit → Put out₀ at (bytes_of met (values_from (bindings ss nodes state n) 0 [] (names_from goal names 0 count))) new next
+        ended : listed.at ≤ limit → Put out₀ at (bytes_of met (pieces ss n sol)) new next
         ended q =
-            let t : SpeltSoFar (bytes_of met (values_from (bindings ss nodes state n) 0 [] (names_from goal names 0 count))) out₀ at out past numbers (values_from (bindings ss nodes state n) i (gap more) (names_from goal names i (count - i))) = (g ss n met v h).done q in
-            let e : bytes_of met (values_from (bindings ss nodes state n) 0 [] (names_from goal names 0 count)) ≡ t.words ++ (10 ∷ []) = t.is ∙ ap (λ (zs : List (List ℕ)). t.words ++ bytes_of t.met (values_from (bindings ss nodes state n) i (gap more) zs)) (names-none goal names i count l) in
+            let t : SpeltSoFar (bytes_of met (pieces ss n sol)) out₀ at out listed.at numbers (pieces_after ss n sol i listed.more) = (g ss n met v h).done q in
+            let e : bytes_of met (pieces ss n sol) ≡ t.words ++ (10 ∷ []) = t.is ∙ ap (λ (zs : List (List ℕ)). t.words ++ bytes_of t.met (values_from (bindings_of ss n sol) i (gap listed.more) zs)) (names-none sol.goal.now sol.names.now i sol.count l) in
             rw e (then t.put p)
 
-        past-it : limit < next → (b : Bool) → leb past limit ≡ b → limit < at + length (bytes_of met (values_from (bindings ss nodes state n) 0 [] (names_from goal names 0 count)))
-        past-it k true q = let a : next ≡ at + length (bytes_of met (values_from (bindings ss nodes state n) 0 [] (names_from goal names 0 count))) = (ended (leb-true past limit q)).past in omega arith
-        past-it k false q = (g ss n met v h).over (leb-false past limit q)
+        past-it : limit < next → (b : Bool) → leb listed.at limit ≡ b → limit < at + length (bytes_of met (pieces ss n sol))
+        past-it k true q = let a : next ≡ at + length (bytes_of met (pieces ss n sol)) = (ended (leb-true listed.at limit q)).past in omega arith
+        past-it k false q = (g ss n met v h).over (leb-false listed.at limit q)
 
-pub near_on : (past r limit : ℕ) → past ≤ limit → limit + 400 < 2 ^ 64 → (past ≤ r) × ((r ≤ limit + (word_bytes + 1)) ⊎ (r ≤ past + (2 * word_bytes + 5))) → r + 300 < 2 ^ 64
-near_on past r limit l f h = go h.1
+pub near_on : {past r limit : ℕ} → past ≤ limit → limit + 400 < 2 ^ 64 → (past ≤ r) × ((r ≤ limit + (word_bytes + 1)) ⊎ (r ≤ past + (2 * word_bytes + 5))) → r + 300 < 2 ^ 64
+near_on {past} {r} {limit} l f h = go h.1
   where
     go : (r ≤ limit + (word_bytes + 1)) ⊎ (r ≤ past + (2 * word_bytes + 5)) → r + 300 < 2 ^ 64
     go (inl x) = omega arith

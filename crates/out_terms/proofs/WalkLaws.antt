@@ -1,9 +1,9 @@
 -- Laws of the walk: what a row, a name and an unbound variable leave to spell. Assumes nothing.
-use Prim.Native.Nat.{ℕ, zero, suc, max, ◌+◌, ◌-◌, ◌*◌, ◌≤◌, ◌<◌, ◌^◌}
+use Prim.Native.Nat.{ℕ, zero, suc, max, ◌+◌, ◌-◌, ◌*◌, ◌%◌, ◌≤◌, ◌<◌, ◌^◌}
 use native.Mathlib.Numerals.{add-one}
 use native.Mathlib.Omega.{arith}
 use mathlib.Core.Path.{◌≡◌, refl, sym, ap, ap₂, ◌∙◌, subst}
-use mathlib.Core.Bool.{Bool, true, false, ◌||◌}
+use mathlib.Core.Bool.{Bool, true, false, ◌||◌, true≢false}
 use mathlib.Core.List.{List, [], ◌∷◌, ◌++◌, append_assoc}
 use lib.Dec.{T, eqb, ltb→lt}
 use lib.ListN.{length, get_or, set, length-set, length-append}
@@ -19,12 +19,13 @@ use Rattle.machine.specs.Answers.{Piece, byte, unbound, bytes_then, spelt, spelt
 use Rattle.machine_theorems.proofs.Terms.{resolve_all, resolve-app, resolve-nil, resolve-cons}
 use Rattle.machine.proofs.Tests.{both}
 use Rattle.run_layout.specs.Nodes.{Symbol, is_symbol, symbol_of, is_listed, name_of_symbol, Node, TermLoaded, Row, loaded_words, is_loadable, are_loadable, term_at, terms_at}
-use Rattle.run_layout.specs.State.{cell_of, variable_of, bindings}
+use Rattle.run_layout.specs.State.{cell_of, variable_of}
 use Rattle.run_layout.proofs.Nodes.{node-inside, node-size, node_end, variable-at, compound-row, compound-at, row-none, row_cons, row_first, row-rest, row-order}
 use Rattle.run_layout.proofs.State.{variable-cell, cell-small, resolve-unbound}
-use Rattle.unify_bindings.specs.Cells.{Derefs}
+use Rattle.unify_bindings.specs.Cells.{StoredTerm, Derefs}
 use Rattle.out_terms.specs.Words.{NamePlaced, name_at, Numbers, resolved_all, depth, depth_all, spelt_row, row_terms, left_to_spell, RowPending, Rows, row_word, end_word, new_row, moved_row, row_place, row_more, span_word, row_last, row_copy}
-use Rattle.out_terms.specs.Telling.{separator_of, SpeltSoFar, Ample, Counting, Heading, Setting, SomeSetting, Facing, Spelling, SpeltToLimit}
+use Rattle.out_terms.specs.Telling.{bindings_of, separator_of, SpeltSoFar, Ample, Counting, Heading, Setting, SomeSetting, Facing, Spelling, SpeltToLimit}
+use Rattle.out_terms.specs.declared.Solution.{Solution}
 
 -- ---- resolved lists and depths
 
@@ -169,109 +170,109 @@ told-rest e t = rw e at t
 
 -- ---- a name or an unbound variable
 
-module _ (ss : List Symbol) (b : List Binding) (nodes symbols sheet goal stack : List ℕ) (p c height : ℕ) (h : Heading ss b nodes symbols sheet goal stack p c height) where
-  pub head-inside : p + loaded_node ≤ length nodes
-  head-inside = node-inside ss nodes p h.node
+module _ {ss : List Symbol} {b : List Binding} {sol : Solution} {stack : List ℕ} {p c height : ℕ} (h : Heading ss b sol stack p c height) where
+  pub head-inside : p + loaded_node ≤ length sol.nodes.now
+  head-inside = node-inside ss sol.nodes.now p h.node
 
-  pub head_small : p + get_or nodes (p + 1) 0 ≤ places
-  head_small = let a : p + get_or nodes (p + 1) 0 ≤ length nodes = node_end ss nodes p h.node in let d : length nodes ≤ places = h.small in omega arith
+  pub head_small : p + get_or sol.nodes.now (p + 1) 0 ≤ places
+  head_small = let a : p + get_or sol.nodes.now (p + 1) 0 ≤ length sol.nodes.now = node_end ss sol.nodes.now p h.node in let d : length sol.nodes.now ≤ places = h.small in omega arith
 
-  pub head-placed : (k : ℕ) → first_name ≤ get_or nodes p 0 → k ≡ get_or nodes p 0 - first_name → NamePlaced symbols sheet goal k
-  head-placed k l e = subst (λ (x : ℕ). NamePlaced symbols sheet goal x) (sym e) (h.names.placed (get_or nodes p 0 - first_name) (symbol-listed ss nodes p h.node l))
+  pub head-placed : {k : ℕ} → first_name ≤ get_or sol.nodes.now p 0 → k ≡ get_or sol.nodes.now p 0 - first_name → NamePlaced sol.symbols.now sol.sheet.now sol.goal.now k
+  head-placed l e = subst (λ (x : ℕ). NamePlaced sol.symbols.now sol.sheet.now sol.goal.now x) (sym e) (h.names.placed (get_or sol.nodes.now p 0 - first_name) (symbol-listed ss sol.nodes.now p h.node l))
 
-  head-name : (k : ℕ) → first_name ≤ get_or nodes p 0 → k ≡ get_or nodes p 0 - first_name → name_at symbols sheet goal k ≡ name_of_symbol ss (get_or nodes p 0 - first_name)
-  head-name k l e = ap (name_at symbols sheet goal) e ∙ h.names.name (get_or nodes p 0 - first_name) (symbol-listed ss nodes p h.node l)
+  head-name : (k : ℕ) → first_name ≤ get_or sol.nodes.now p 0 → k ≡ get_or sol.nodes.now p 0 - first_name → name_at sol.symbols.now sol.sheet.now sol.goal.now k ≡ name_of_symbol ss (get_or sol.nodes.now p 0 - first_name)
+  head-name k l e = ap (name_at sol.symbols.now sol.sheet.now sol.goal.now) e ∙ h.names.name (get_or sol.nodes.now p 0 - first_name) (symbol-listed ss sol.nodes.now p h.node l)
 
   args : RTerms
-  args = terms_at ss nodes (p + loaded_node) (p + get_or nodes (p + 1) 0) c
+  args = terms_at ss sol.nodes.now (p + loaded_node) (p + get_or sol.nodes.now (p + 1) 0) c
 
-  head-is : first_name ≤ get_or nodes p 0 → resolve b (term_at ss nodes p c) ≡ app (name_of_symbol ss (get_or nodes p 0 - first_name)) (resolved_all b args)
+  head-is : first_name ≤ get_or sol.nodes.now p 0 → resolve b (term_at ss sol.nodes.now p c) ≡ app (name_of_symbol ss (get_or sol.nodes.now p 0 - first_name)) (resolved_all b args)
   unfolding args
-  head-is l = ap (resolve b) (compound-at ss nodes p h.node c l) ∙ resolved-name b (name_of_symbol ss (get_or nodes p 0 - first_name)) (terms_at ss nodes (p + loaded_node) (p + get_or nodes (p + 1) 0) c)
+  head-is l = ap (resolve b) (compound-at ss sol.nodes.now p h.node c l) ∙ resolved-name b (name_of_symbol ss (get_or sol.nodes.now p 0 - first_name)) (terms_at ss sol.nodes.now (p + loaded_node) (p + get_or sol.nodes.now (p + 1) 0) c)
 
-  args-shallow : first_name ≤ get_or nodes p 0 → depth_all (resolved_all b args) + height ≤ deepest
+  args-shallow : first_name ≤ get_or sol.nodes.now p 0 → depth_all (resolved_all b args) + height ≤ deepest
   args-shallow l =
-      let e : depth (resolve b (term_at ss nodes p c)) ≡ depth_all (resolved_all b args) = ap depth (head-is l) ∙ depth-name (name_of_symbol ss (get_or nodes p 0 - first_name)) (resolved_all b args) in
-      let k : depth (resolve b (term_at ss nodes p c)) + height ≤ deepest = h.shallow in
+      let e : depth (resolve b (term_at ss sol.nodes.now p c)) ≡ depth_all (resolved_all b args) = ap depth (head-is l) ∙ depth-name (name_of_symbol ss (get_or sol.nodes.now p 0 - first_name)) (resolved_all b args) in
+      let k : depth (resolve b (term_at ss sol.nodes.now p c)) + height ≤ deepest = h.shallow in
       omega arith
 
-  opens : (get_or nodes (p + 1) 0 ≡ loaded_node → ⊥) → p + loaded_node < p + get_or nodes (p + 1) 0
-  opens z = let a : 2 ≤ get_or nodes (p + 1) 0 = node-size ss nodes p h.node in omega (arith, z)
+  opens : (get_or sol.nodes.now (p + 1) 0 ≡ loaded_node → ⊥) → p + loaded_node < p + get_or sol.nodes.now (p + 1) 0
+  opens z = let a : 2 ≤ get_or sol.nodes.now (p + 1) 0 = node-size ss sol.nodes.now p h.node in omega (arith, z)
 
-  pub head-room : first_name ≤ get_or nodes p 0 → (get_or nodes (p + 1) 0 ≡ loaded_node → ⊥) → height * open_size + open_size ≤ length stack
+  pub head-room : first_name ≤ get_or sol.nodes.now p 0 → (get_or sol.nodes.now (p + 1) 0 ≡ loaded_node → ⊥) → height * open_size + open_size ≤ length stack
   unfolding args
   head-room l z =
-      let o : p + loaded_node < p + get_or nodes (p + 1) 0 = opens z in
-      let r : Row ss nodes (p + loaded_node) (p + get_or nodes (p + 1) 0) = compound-row ss nodes p h.node l in
-      let e : depth_all (resolved_all b args) ≡ max (suc (depth (resolve b (term_at ss nodes (p + loaded_node) c)))) (depth_all (resolved_all b (terms_at ss nodes (p + loaded_node + get_or nodes (p + loaded_node + 1) 0) (p + get_or nodes (p + 1) 0) c))) =
-      ap (λ (ts : RTerms). depth_all (resolved_all b ts)) (row_cons ss nodes (p + loaded_node) (p + get_or nodes (p + 1) 0) r c o)
-      ∙ depth-cons b (term_at ss nodes (p + loaded_node) c) (terms_at ss nodes (p + loaded_node + get_or nodes (p + loaded_node + 1) 0) (p + get_or nodes (p + 1) 0) c) in
+      let o : p + loaded_node < p + get_or sol.nodes.now (p + 1) 0 = opens z in
+      let r : Row ss sol.nodes.now (p + loaded_node) (p + get_or sol.nodes.now (p + 1) 0) = compound-row ss sol.nodes.now p h.node l in
+      let e : depth_all (resolved_all b args) ≡ max (suc (depth (resolve b (term_at ss sol.nodes.now (p + loaded_node) c)))) (depth_all (resolved_all b (terms_at ss sol.nodes.now (p + loaded_node + get_or sol.nodes.now (p + loaded_node + 1) 0) (p + get_or sol.nodes.now (p + 1) 0) c))) =
+      ap (λ (ts : RTerms). depth_all (resolved_all b ts)) (row_cons ss sol.nodes.now (p + loaded_node) (p + get_or sol.nodes.now (p + 1) 0) r c o)
+      ∙ depth-cons b (term_at ss sol.nodes.now (p + loaded_node) c) (terms_at ss sol.nodes.now (p + loaded_node + get_or sol.nodes.now (p + loaded_node + 1) 0) (p + get_or sol.nodes.now (p + 1) 0) c) in
       let k : depth_all (resolved_all b args) + height ≤ deepest = args-shallow l in
       let a : Ample stack (height * open_size + open_size) = h.room in
       omega arith
 
   -- an unbound variable
-  pub head-variable : (met : List Variable) (w x : ℕ) (old new numbers : List ℕ) (at next : ℕ) (rest : List Piece) → w ≡ get_or nodes p 0 → w < first_name → x ≡ c * copy_cells + w
+  pub head-variable : (met : List Variable) {w x : ℕ} {old new numbers : List ℕ} {at next : ℕ} {rest : List Piece} → w ≡ get_or sol.nodes.now p 0 → w < first_name → x ≡ c * copy_cells + w
       → ((ps : List Piece) → SpeltSoFar (bytes_of met (unbound (variable_of x) ∷ ps)) old at new next numbers ps)
-      → Spelling ss nodes b (bytes_of met (spelt (resolve b (term_at ss nodes p c)) (left_to_spell ss nodes b stack height rest))) old at new numbers stack next height rest
-  head-variable met w x old new numbers at next rest e l q t =
-      let low : get_or nodes p 0 < first_name = omega arith in
-      let cell : x ≡ cell_of c (get_or nodes p 0) = q ∙ ap (λ (k : ℕ). c * copy_cells + k) e in
-      let term : resolve b (term_at ss nodes p c) ≡ var (variable_of x) = h.free low ∙ (variable-at ss nodes p h.node c low ∙ (ap var (sym (variable-cell c (get_or nodes p 0) low)) ∙ ap (λ (k : ℕ). var (variable_of k)) (sym cell))) in
+      → Spelling ss sol.nodes.now b (bytes_of met (spelt (resolve b (term_at ss sol.nodes.now p c)) (left_to_spell ss sol.nodes.now b stack height rest))) old at new numbers stack next height rest
+  head-variable met {w} {x} {rest = rest} e l q t =
+      let low : get_or sol.nodes.now p 0 < first_name = omega arith in
+      let cell : x ≡ cell_of c (get_or sol.nodes.now p 0) = q ∙ ap (λ (k : ℕ). c * copy_cells + k) e in
+      let term : resolve b (term_at ss sol.nodes.now p c) ≡ var (variable_of x) = h.free low ∙ (variable-at ss sol.nodes.now p h.node c low ∙ (ap var (sym (variable-cell c (get_or sol.nodes.now p 0) low)) ∙ ap (λ (k : ℕ). var (variable_of k)) (sym cell))) in
       record {
-        told = told-whole (ap (λ (s : RTerm). bytes_of met (spelt s (left_to_spell ss nodes b stack height rest))) term ∙ ap (bytes_of met) (spelt-var (variable_of x) (left_to_spell ss nodes b stack height rest))) (t (left_to_spell ss nodes b stack height rest));
+        told = told-whole (ap (λ (s : RTerm). bytes_of met (spelt s (left_to_spell ss sol.nodes.now b stack height rest))) term ∙ ap (bytes_of met) (spelt-var (variable_of x) (left_to_spell ss sol.nodes.now b stack height rest))) (t (left_to_spell ss sol.nodes.now b stack height rest));
         rows = h.rows;
       }
 
   -- a name: its bytes, and its arguments are left
-  name-told : (met : List Variable) (k : ℕ) (old new numbers : List ℕ) (at next : ℕ) (ps : List Piece) → first_name ≤ get_or nodes p 0 → k ≡ get_or nodes p 0 - first_name → Numbers numbers met → length met ≤ at
-      → Put old at (name_at symbols sheet goal k) new next → SpeltSoFar (bytes_of met (spelt (resolve b (term_at ss nodes p c)) ps)) old at new next numbers (spelt_args (resolved_all b args) ps)
+  name-told : (met : List Variable) (k : ℕ) (old new numbers : List ℕ) (at next : ℕ) (ps : List Piece) → first_name ≤ get_or sol.nodes.now p 0 → k ≡ get_or sol.nodes.now p 0 - first_name → Numbers numbers met → length met ≤ at
+      → Put old at (name_at sol.symbols.now sol.sheet.now sol.goal.now k) new next → SpeltSoFar (bytes_of met (spelt (resolve b (term_at ss sol.nodes.now p c)) ps)) old at new next numbers (spelt_args (resolved_all b args) ps)
   name-told met k old new numbers at next ps l e n few put =
-      told-words met (name_at symbols sheet goal k) old new at next numbers (bytes_of met (spelt (resolve b (term_at ss nodes p c)) ps)) (spelt_args (resolved_all b args) ps) n few put
+      told-words met (name_at sol.symbols.now sol.sheet.now sol.goal.now k) old new at next numbers (bytes_of met (spelt (resolve b (term_at ss sol.nodes.now p c)) ps)) (spelt_args (resolved_all b args) ps) n few put
       (ap (λ (s : RTerm). bytes_of met (spelt s ps)) (head-is l)
-      ∙ (ap (bytes_of met) (spelt-name (name_of_symbol ss (get_or nodes p 0 - first_name)) (resolved_all b args) ps)
-      ∙ (bytes-written met (name_of_symbol ss (get_or nodes p 0 - first_name)) (spelt_args (resolved_all b args) ps)
+      ∙ (ap (bytes_of met) (spelt-name (name_of_symbol ss (get_or sol.nodes.now p 0 - first_name)) (resolved_all b args) ps)
+      ∙ (bytes-written met (name_of_symbol ss (get_or sol.nodes.now p 0 - first_name)) (spelt_args (resolved_all b args) ps)
       ∙ ap (λ (f : List ℕ). f ++ bytes_of met (spelt_args (resolved_all b args) ps)) (sym (head-name k l e)))))
 
-  pub head-leaf : (met : List Variable) (k : ℕ) (old new numbers : List ℕ) (at next : ℕ) (rest : List Piece) → first_name ≤ get_or nodes p 0 → k ≡ get_or nodes p 0 - first_name → get_or nodes (p + 1) 0 ≡ 2 → Numbers numbers met → length met ≤ at
-      → Put old at (name_at symbols sheet goal k) new next
-      → Spelling ss nodes b (bytes_of met (spelt (resolve b (term_at ss nodes p c)) (left_to_spell ss nodes b stack height rest))) old at new numbers stack next height rest
+  pub head-leaf : {met : List Variable} {k : ℕ} {old new numbers : List ℕ} {at next : ℕ} {rest : List Piece} → first_name ≤ get_or sol.nodes.now p 0 → k ≡ get_or sol.nodes.now p 0 - first_name → get_or sol.nodes.now (p + 1) 0 ≡ 2 → Numbers numbers met → length met ≤ at
+      → Put old at (name_at sol.symbols.now sol.sheet.now sol.goal.now k) new next
+      → Spelling ss sol.nodes.now b (bytes_of met (spelt (resolve b (term_at ss sol.nodes.now p c)) (left_to_spell ss sol.nodes.now b stack height rest))) old at new numbers stack next height rest
   unfolding args resolved_all spelt_args
-  head-leaf met k old new numbers at next rest l e z n few put =
-      let r : Row ss nodes (p + loaded_node) (p + get_or nodes (p + 1) 0) = compound-row ss nodes p h.node l in
-      let none : args ≡ rnil = row-none ss nodes (p + loaded_node) (p + get_or nodes (p + 1) 0) r c (omega arith) in
+  head-leaf {met} {k} {old} {new} {numbers} {at} {next} {rest} l e z n few put =
+      let r : Row ss sol.nodes.now (p + loaded_node) (p + get_or sol.nodes.now (p + 1) 0) = compound-row ss sol.nodes.now p h.node l in
+      let none : args ≡ rnil = row-none ss sol.nodes.now (p + loaded_node) (p + get_or sol.nodes.now (p + 1) 0) r c (omega arith) in
       record {
-        told = told-rest (ap (λ (ts : RTerms). spelt_args (resolved_all b ts) (left_to_spell ss nodes b stack height rest)) none) (name-told met k old new numbers at next (left_to_spell ss nodes b stack height rest) l e n few put);
+        told = told-rest (ap (λ (ts : RTerms). spelt_args (resolved_all b ts) (left_to_spell ss sol.nodes.now b stack height rest)) none) (name-told met k old new numbers at next (left_to_spell ss sol.nodes.now b stack height rest) l e n few put);
         rows = h.rows;
       }
 
-  row-standing : first_name ≤ get_or nodes p 0 → (get_or nodes (p + 1) 0 ≡ loaded_node → ⊥) → RowPending ss nodes b height (new_row (p + loaded_node)) (span_word (p + get_or nodes (p + 1) 0) c)
+  row-standing : first_name ≤ get_or sol.nodes.now p 0 → (get_or sol.nodes.now (p + 1) 0 ≡ loaded_node → ⊥) → RowPending ss sol.nodes.now b height (new_row (p + loaded_node)) (span_word (p + get_or sol.nodes.now (p + 1) 0) c)
   unfolding args
   row-standing l z =
       let x : row_place (new_row (p + loaded_node)) ≡ p + loaded_node = omega arith in
       let small : c < copies = h.copy in
-      let y : row_last (span_word (p + get_or nodes (p + 1) 0) c) ≡ p + get_or nodes (p + 1) 0 = omega arith in
-      let w : row_copy (span_word (p + get_or nodes (p + 1) 0) c) ≡ c = omega arith in
-      record { row = rw (x, y) (compound-row ss nodes p h.node l); opened = λ q. rw (x, y) (opens z); shallow = rw (x, y, w) (args-shallow l) }
+      let y : row_last (span_word (p + get_or sol.nodes.now (p + 1) 0) c) ≡ p + get_or sol.nodes.now (p + 1) 0 = omega arith in
+      let w : row_copy (span_word (p + get_or sol.nodes.now (p + 1) 0) c) ≡ c = omega arith in
+      record { row = rw (x, y) (compound-row ss sol.nodes.now p h.node l); opened = λ q. rw (x, y) (opens z); shallow = rw (x, y, w) (args-shallow l) }
 
-  pub head-open : (met : List Variable) (k last : ℕ) (old new numbers after : List ℕ) (at next : ℕ) (rest : List Piece) → first_name ≤ get_or nodes p 0 → k ≡ get_or nodes p 0 - first_name → (get_or nodes (p + 1) 0 ≡ loaded_node → ⊥) → Numbers numbers met → length met ≤ at
-      → Put old at (name_at symbols sheet goal k) new next → last ≡ p + get_or nodes (p + 1) 0 → after ≡ set (set stack (height * open_size) (new_row (p + loaded_node))) (height * open_size + 1) (span_word last c)
-      → Spelling ss nodes b (bytes_of met (spelt (resolve b (term_at ss nodes p c)) (left_to_spell ss nodes b stack height rest))) old at new numbers after next (height + 1) rest
+  pub head-open : {met : List Variable} {k last : ℕ} {old new numbers after : List ℕ} {at next : ℕ} {rest : List Piece} → first_name ≤ get_or sol.nodes.now p 0 → k ≡ get_or sol.nodes.now p 0 - first_name → (get_or sol.nodes.now (p + 1) 0 ≡ loaded_node → ⊥) → Numbers numbers met → length met ≤ at
+      → Put old at (name_at sol.symbols.now sol.sheet.now sol.goal.now k) new next → last ≡ p + get_or sol.nodes.now (p + 1) 0 → after ≡ set (set stack (height * open_size) (new_row (p + loaded_node))) (height * open_size + 1) (span_word last c)
+      → Spelling ss sol.nodes.now b (bytes_of met (spelt (resolve b (term_at ss sol.nodes.now p c)) (left_to_spell ss sol.nodes.now b stack height rest))) old at new numbers after next (height + 1) rest
   unfolding args
-  head-open met k last old new numbers after at next rest l e z n few put m s =
-      let pushed : Pushed stack height (new_row (p + loaded_node)) (span_word (p + get_or nodes (p + 1) 0) c) after = put-pushed stack after height (new_row (p + loaded_node)) (span_word (p + get_or nodes (p + 1) 0) c) (head-room l z) (s ∙ ap (λ (j : ℕ). set (set stack (height * open_size) (new_row (p + loaded_node))) (height * open_size + 1) (span_word j c)) m) in
+  head-open {met} {k} {last} {old} {new} {numbers} {after} {at} {next} {rest} l e z n few put m s =
+      let pushed : Pushed stack height (new_row (p + loaded_node)) (span_word (p + get_or sol.nodes.now (p + 1) 0) c) after = put-pushed stack after height (new_row (p + loaded_node)) (span_word (p + get_or sol.nodes.now (p + 1) 0) c) (head-room l z) (s ∙ ap (λ (j : ℕ). set (set stack (height * open_size) (new_row (p + loaded_node))) (height * open_size + 1) (span_word j c)) m) in
       let x : row_place (new_row (p + loaded_node)) ≡ p + loaded_node = omega arith in
-      let x0 : row_more (new_row (p + loaded_node)) ≡ 0 = omega arith in
+      let x0 : row_more (new_row (p + loaded_node)) ≡ false = ne_eqb (new_row (p + loaded_node) % 2) 1 (λ e. omega arith) in
       let small : c < copies = h.copy in
-      let y : row_last (span_word (p + get_or nodes (p + 1) 0) c) ≡ p + get_or nodes (p + 1) 0 = omega arith in
-      let w : row_copy (span_word (p + get_or nodes (p + 1) 0) c) ≡ c = omega arith in
-      let rows : Rows ss nodes b after (suc height) = rows_pushed ss nodes b stack after height (new_row (p + loaded_node)) (span_word (p + get_or nodes (p + 1) 0) c) h.rows pushed (head-room l z) (row-standing l z) in
-      let is : left_to_spell ss nodes b after (suc height) rest ≡ spelt_args (resolved_all b args) (left_to_spell ss nodes b stack height rest) = left-pushed ss nodes b stack after height (new_row (p + loaded_node)) (span_word (p + get_or nodes (p + 1) 0) c) pushed rest ∙ rw (x, x0, y, w) in
-      rw (add-one height) (record { told = told-rest (sym is) (name-told met k old new numbers at next (left_to_spell ss nodes b stack height rest) l e n few put); rows = rows })
+      let y : row_last (span_word (p + get_or sol.nodes.now (p + 1) 0) c) ≡ p + get_or sol.nodes.now (p + 1) 0 = omega arith in
+      let w : row_copy (span_word (p + get_or sol.nodes.now (p + 1) 0) c) ≡ c = omega arith in
+      let rows : Rows ss sol.nodes.now b after (suc height) = rows_pushed ss sol.nodes.now b stack after height (new_row (p + loaded_node)) (span_word (p + get_or sol.nodes.now (p + 1) 0) c) h.rows pushed (head-room l z) (row-standing l z) in
+      let is : left_to_spell ss sol.nodes.now b after (suc height) rest ≡ spelt_args (resolved_all b args) (left_to_spell ss sol.nodes.now b stack height rest) = left-pushed ss sol.nodes.now b stack after height (new_row (p + loaded_node)) (span_word (p + get_or sol.nodes.now (p + 1) 0) c) pushed rest ∙ rw (x, x0, y, w) in
+      rw (add-one height) (record { told = told-rest (sym is) (name-told met k old new numbers at next (left_to_spell ss sol.nodes.now b stack height rest) l e n few put); rows = rows })
 
 -- those met are as many as the table counts
-pub few-met : (numbers : List ℕ) (at : ℕ) (met : List Variable) → Counting numbers at → Numbers numbers met → length met ≤ at
-few-met numbers at met k n =
+pub few-met : {numbers : List ℕ} {at : ℕ} {met : List Variable} → Counting numbers at → Numbers numbers met → length met ≤ at
+few-met {numbers} {at} {met} k n =
     let a : get_or numbers cells 0 ≡ length k.met = k.numbers_are.counted in
     let d : get_or numbers cells 0 ≡ length met = n.counted in
     let e : length k.met ≤ at = k.few in
@@ -279,9 +280,13 @@ few-met numbers at met k n =
 
 -- ---- a term, where it leads
 
-module _ (ss : List Symbol) (n : ℕ) (nodes state symbols sheet goal stack : List ℕ) (p c height : ℕ) (f : Facing ss n nodes state symbols sheet goal stack p c height) where
-  pub facing-head : (q d : ℕ) → Derefs ss nodes state n p c q d → Heading ss (bindings ss nodes state n) nodes symbols sheet goal stack q d height
-  facing-head q d l =
+module _ {ss : List Symbol} {n : ℕ} {sol : Solution} {stack : List ℕ} {p c height : ℕ} (f : Facing ss n sol stack p c height) where
+  -- what `deref` asks
+  abbrev pub facing-stored : StoredTerm sol.nodes.now sol.state.now p c
+  facing-stored = record { ss = ss; n = n; store = f.setting.store; node = f.node; copy = f.copy }
+
+  pub facing-head : {q d : ℕ} → Derefs ss sol.nodes.now sol.state.now n p c q d → Heading ss (bindings_of ss n sol) sol stack q d height
+  facing-head {q} {d} l =
       record {
         node = l.leads.node;
         copy = l.leads.copy;
@@ -289,20 +294,20 @@ module _ (ss : List Symbol) (n : ℕ) (nodes state symbols sheet goal stack : Li
         names = f.setting.names;
         free = λ low. free low;
         rows = f.setting.rows;
-        shallow = (let e : depth (resolve (bindings ss nodes state n) (term_at ss nodes p c)) ≡ depth (resolve (bindings ss nodes state n) (term_at ss nodes q d)) = ap depth (sym l.leads.means) in let k : depth (resolve (bindings ss nodes state n) (term_at ss nodes p c)) + height ≤ deepest = f.shallow in omega arith);
+        shallow = (let e : depth (resolve (bindings_of ss n sol) (term_at ss sol.nodes.now p c)) ≡ depth (resolve (bindings_of ss n sol) (term_at ss sol.nodes.now q d)) = ap depth (sym l.leads.means) in let k : depth (resolve (bindings_of ss n sol) (term_at ss sol.nodes.now p c)) + height ≤ deepest = f.shallow in omega arith);
         room = f.room;
       }
     where
-      free : get_or nodes q 0 < first_name → resolve (bindings ss nodes state n) (term_at ss nodes q d) ≡ term_at ss nodes q d
+      free : get_or sol.nodes.now q 0 < first_name → resolve (bindings_of ss n sol) (term_at ss sol.nodes.now q d) ≡ term_at ss sol.nodes.now q d
       free low =
-          let is : term_at ss nodes q d ≡ var (variable_of (cell_of d (get_or nodes q 0))) = variable-at ss nodes q l.leads.node d low ∙ ap var (sym (variable-cell d (get_or nodes q 0) low)) in
-          rw is (resolve-unbound ss nodes state n (cell_of d (get_or nodes q 0)) f.setting.store (cell-small d (get_or nodes q 0) l.leads.copy low) (l.stops low))
+          let is : term_at ss sol.nodes.now q d ≡ var (variable_of (cell_of d (get_or sol.nodes.now q 0))) = variable-at ss sol.nodes.now q l.leads.node d low ∙ ap var (sym (variable-cell d (get_or sol.nodes.now q 0) low)) in
+          rw is (resolve-unbound ss sol.nodes.now sol.state.now n (cell_of d (get_or sol.nodes.now q 0)) f.setting.store (cell-small d (get_or sol.nodes.now q 0) l.leads.copy low) (l.stops low))
 
-  pub facing-spelt : (q d : ℕ) (met : List Variable) (old new numbers after : List ℕ) (at next high : ℕ) (rest : List Piece) → Derefs ss nodes state n p c q d
-      → Spelling ss nodes (bindings ss nodes state n) (bytes_of met (spelt (resolve (bindings ss nodes state n) (term_at ss nodes q d)) (left_to_spell ss nodes (bindings ss nodes state n) stack height rest))) old at new numbers after next high rest
-      → Spelling ss nodes (bindings ss nodes state n) (bytes_of met (spelt (resolve (bindings ss nodes state n) (term_at ss nodes p c)) (left_to_spell ss nodes (bindings ss nodes state n) stack height rest))) old at new numbers after next high rest
-  facing-spelt q d met old new numbers after at next high rest l s =
-      record { told = told-whole (ap (λ (t : RTerm). bytes_of met (spelt t (left_to_spell ss nodes (bindings ss nodes state n) stack height rest))) (sym l.leads.means)) s.told; rows = s.rows }
+  pub facing-spelt : {q d : ℕ} (met : List Variable) {old new numbers after : List ℕ} {at next high : ℕ} (rest : List Piece) → Derefs ss sol.nodes.now sol.state.now n p c q d
+      → Spelling ss sol.nodes.now (bindings_of ss n sol) (bytes_of met (spelt (resolve (bindings_of ss n sol) (term_at ss sol.nodes.now q d)) (left_to_spell ss sol.nodes.now (bindings_of ss n sol) stack height rest))) old at new numbers after next high rest
+      → Spelling ss sol.nodes.now (bindings_of ss n sol) (bytes_of met (spelt (resolve (bindings_of ss n sol) (term_at ss sol.nodes.now p c)) (left_to_spell ss sol.nodes.now (bindings_of ss n sol) stack height rest))) old at new numbers after next high rest
+  facing-spelt met rest l s =
+      record { told = told-whole (ap (λ (t : RTerm). bytes_of met (spelt t (left_to_spell ss sol.nodes.now (bindings_of ss n sol) stack height rest))) (sym l.leads.means)) s.told; rows = s.rows }
 
 -- bytes before a part that is told
 pub told-after : {whole ws old mid new numbers : List ℕ} {at m next : ℕ} (met : List Variable) (ps : List Piece) {qs : List Piece} → Put old at ws mid m → whole ≡ ws ++ bytes_of met ps → SpeltSoFar (bytes_of met ps) mid m new next numbers qs → SpeltSoFar whole old at new next numbers qs
@@ -318,21 +323,15 @@ told-after {ws = ws} met ps {qs} p e u =
 
 -- ---- a turn
 
-pub separator-open : (more : ℕ) → more ≡ 0 → 40 ≡ separator_of more
-separator-open more e = rw (eq-eqb more 0 e)
-
-pub separator-comma : (more : ℕ) → (more ≡ 0 → ⊥) → 44 ≡ separator_of more
-separator-comma more e = rw (ne_eqb more 0 e)
-
-row-closed : (m : ℕ) → (m ≡ 0 → ⊥) → (ps : List Piece) → spelt_row m rnil ps ≡ byte 41 ∷ ps
+row-closed : (m : Bool) → (m ≡ false → ⊥) → (ps : List Piece) → spelt_row m rnil ps ≡ byte 41 ∷ ps
 unfolding spelt_more
-row-closed zero z ps = absurd (z refl)
-row-closed (suc m) z ps = refl
+row-closed false z ps = absurd (z refl)
+row-closed true z ps = refl
 
-row_next : (m : ℕ) (t : RTerm) (ts : RTerms) (ps : List Piece) → spelt_row m (rcons t ts) ps ≡ byte (separator_of m) ∷ spelt t (spelt_more ts ps)
+row_next : (m : Bool) (t : RTerm) (ts : RTerms) (ps : List Piece) → spelt_row m (rcons t ts) ps ≡ byte (separator_of m) ∷ spelt t (spelt_more ts ps)
 unfolding spelt_more spelt_args
-row_next zero t ts ps = refl
-row_next (suc m) t ts ps = ap (λ (x : ℕ). byte x ∷ spelt t (spelt_more ts ps)) (separator-comma (suc m) (λ e. omega arith))
+row_next false t ts ps = refl
+row_next true t ts ps = refl
 
 resolved-cons : (b : List Binding) (t : RTerm) (ts : RTerms) → resolved_all b (rcons t ts) ≡ rcons (resolve b t) (resolved_all b ts)
 unfolding resolved_all
@@ -342,155 +341,150 @@ resolved-nil : (b : List Binding) → resolved_all b rnil ≡ rnil
 unfolding resolved_all
 resolved-nil b = refl
 
-module _ (ss : List Symbol) (n : ℕ) (nodes state symbols sheet goal stack : List ℕ) (height top : ℕ) (s : Setting ss n nodes state symbols sheet goal stack height) (pos : 0 < height) (is-top : top ≡ height - 1) where
+module _ {ss : List Symbol} {n : ℕ} {sol : Solution} {stack : List ℕ} {height top : ℕ} (s : Setting ss n sol stack height) (pos : 0 < height) (is-top : top ≡ height - 1) where
   upper : height ≡ suc top
   upper = omega arith
 
   pub top-room : top * open_size + open_size ≤ length stack
   top-room = let h : height * open_size ≤ length stack = s.rows.high in let u : height ≡ suc top = upper in omega arith
 
-  standing : RowPending ss nodes (bindings ss nodes state n) top (row_word stack top) (end_word stack top)
+  standing : RowPending ss sol.nodes.now (bindings_of ss n sol) top (row_word stack top) (end_word stack top)
   standing = s.rows.each top (let u : height ≡ suc top = upper in omega arith)
 
-  lower : Rows ss nodes (bindings ss nodes state n) stack top
+  lower : Rows ss sol.nodes.now (bindings_of ss n sol) stack top
   lower = record { high = (let h : top * open_size + open_size ≤ length stack = top-room in omega arith); each = λ i k. s.rows.each i (let u : height ≡ suc top = upper in omega arith) }
 
-  left-top : (rest : List Piece) → left_to_spell ss nodes (bindings ss nodes state n) stack height rest
-      ≡ spelt_row (row_more (row_word stack top)) (resolved_all (bindings ss nodes state n) (row_terms ss nodes (row_word stack top) (end_word stack top))) (left_to_spell ss nodes (bindings ss nodes state n) stack top rest)
+  left-top : (rest : List Piece) → left_to_spell ss sol.nodes.now (bindings_of ss n sol) stack height rest
+      ≡ spelt_row (row_more (row_word stack top)) (resolved_all (bindings_of ss n sol) (row_terms ss sol.nodes.now (row_word stack top) (end_word stack top))) (left_to_spell ss sol.nodes.now (bindings_of ss n sol) stack top rest)
   unfolding left_to_spell
-  left-top rest = ap (λ (h : ℕ). left_to_spell ss nodes (bindings ss nodes state n) stack h rest) upper
+  left-top rest = ap (λ (h : ℕ). left_to_spell ss sol.nodes.now (bindings_of ss n sol) stack h rest) upper
 
   -- the closing bracket
-  pub turn-close : (place last : ℕ) → place ≡ row_place (row_word stack top) → last ≡ row_last (end_word stack top) → place ≡ last
-      → (met : List Variable) (old new numbers : List ℕ) (at next : ℕ) (rest : List Piece) → Numbers numbers met → length met ≤ at → Put old at (41 ∷ []) new next
-      → Spelling ss nodes (bindings ss nodes state n) (bytes_of met (left_to_spell ss nodes (bindings ss nodes state n) stack height rest)) old at new numbers stack next top rest
-  turn-close place last ep el e met old new numbers at next rest num few put =
+  pub turn-close : {place last : ℕ} → place ≡ row_place (row_word stack top) → last ≡ row_last (end_word stack top) → place ≡ last
+      → (met : List Variable) {old new numbers : List ℕ} {at next : ℕ} (rest : List Piece) → Numbers numbers met → length met ≤ at → Put old at (41 ∷ []) new next
+      → Spelling ss sol.nodes.now (bindings_of ss n sol) (bytes_of met (left_to_spell ss sol.nodes.now (bindings_of ss n sol) stack height rest)) old at new numbers stack next top rest
+  turn-close {place} {last} ep el e met {old} {new} {numbers} {at} {next} rest num few put =
       let same : row_place (row_word stack top) ≡ row_last (end_word stack top) = omega arith in
-      let some : row_more (row_word stack top) ≡ 0 → ⊥ = (λ z. let k : row_place (row_word stack top) < row_last (end_word stack top) = standing.opened z in omega arith) in
-      let none : row_terms ss nodes (row_word stack top) (end_word stack top) ≡ rnil = row-none ss nodes (row_place (row_word stack top)) (row_last (end_word stack top)) standing.row (row_copy (end_word stack top)) (omega arith) in
-      let is : left_to_spell ss nodes (bindings ss nodes state n) stack height rest ≡ byte 41 ∷ left_to_spell ss nodes (bindings ss nodes state n) stack top rest =
+      let some : row_more (row_word stack top) ≡ false → ⊥ = (λ z. let k : row_place (row_word stack top) < row_last (end_word stack top) = standing.opened z in omega arith) in
+      let none : row_terms ss sol.nodes.now (row_word stack top) (end_word stack top) ≡ rnil = row-none ss sol.nodes.now (row_place (row_word stack top)) (row_last (end_word stack top)) standing.row (row_copy (end_word stack top)) (omega arith) in
+      let is : left_to_spell ss sol.nodes.now (bindings_of ss n sol) stack height rest ≡ byte 41 ∷ left_to_spell ss sol.nodes.now (bindings_of ss n sol) stack top rest =
       left-top rest
-      ∙ (ap (λ (ts : RTerms). spelt_row (row_more (row_word stack top)) ts (left_to_spell ss nodes (bindings ss nodes state n) stack top rest)) (ap (resolved_all (bindings ss nodes state n)) none ∙ resolved-nil (bindings ss nodes state n))
-      ∙ row-closed (row_more (row_word stack top)) some (left_to_spell ss nodes (bindings ss nodes state n) stack top rest)) in
+      ∙ (ap (λ (ts : RTerms). spelt_row (row_more (row_word stack top)) ts (left_to_spell ss sol.nodes.now (bindings_of ss n sol) stack top rest)) (ap (resolved_all (bindings_of ss n sol)) none ∙ resolved-nil (bindings_of ss n sol))
+      ∙ row-closed (row_more (row_word stack top)) some (left_to_spell ss sol.nodes.now (bindings_of ss n sol) stack top rest)) in
       record {
-        told = told-words met (41 ∷ []) old new at next numbers (bytes_of met (left_to_spell ss nodes (bindings ss nodes state n) stack height rest)) (left_to_spell ss nodes (bindings ss nodes state n) stack top rest) num few put (ap (bytes_of met) is ∙ bytes-byte met 41 (left_to_spell ss nodes (bindings ss nodes state n) stack top rest));
+        told = told-words met (41 ∷ []) old new at next numbers (bytes_of met (left_to_spell ss sol.nodes.now (bindings_of ss n sol) stack height rest)) (left_to_spell ss sol.nodes.now (bindings_of ss n sol) stack top rest) num few put (ap (bytes_of met) is ∙ bytes-byte met 41 (left_to_spell ss sol.nodes.now (bindings_of ss n sol) stack top rest));
         rows = lower;
       }
 
-  module _ (place last copy : ℕ) (ep : place ≡ row_place (row_word stack top)) (el : last ≡ row_last (end_word stack top)) (ec : copy ≡ row_copy (end_word stack top)) (ne : place ≡ last → ⊥) where
-    row : Row ss nodes place last
+  module _ {place last copy : ℕ} (ep : place ≡ row_place (row_word stack top)) (el : last ≡ row_last (end_word stack top)) (ec : copy ≡ row_copy (end_word stack top)) (ne : place ≡ last → ⊥) where
+    row : Row ss sol.nodes.now place last
     row = rw (ep, el) standing.row
 
     before_last : place < last
-    before_last = let k : place ≤ last = row-order ss nodes place last row in omega (arith, ne)
+    before_last = let k : place ≤ last = row-order ss sol.nodes.now place last row in omega (arith, ne)
 
-    pub turn-node : Node ss nodes place
-    turn-node = row_first ss nodes place last row before_last
+    pub turn-node : Node ss sol.nodes.now place
+    turn-node = row_first ss sol.nodes.now place last row before_last
 
-    pub turn_inside : place + 2 ≤ length nodes
-    turn_inside = node-inside ss nodes place turn-node
+    pub turn_inside : place + 2 ≤ length sol.nodes.now
+    turn_inside = node-inside ss sol.nodes.now place turn-node
 
-    pub turn_small : place + get_or nodes (place + 1) 0 ≤ places
-    turn_small = let a : place + get_or nodes (place + 1) 0 ≤ length nodes = node_end ss nodes place turn-node in let d : length nodes ≤ places = s.store.small in omega arith
+    pub turn_end : place + get_or sol.nodes.now (place + 1) 0 ≤ length sol.nodes.now
+    turn_end = node_end ss sol.nodes.now place turn-node
 
-    terms-are : row_terms ss nodes (row_word stack top) (end_word stack top) ≡ rcons (term_at ss nodes place copy) (terms_at ss nodes (place + get_or nodes (place + 1) 0) last copy)
-    terms-are = rw (← ep, ← el, ← ec) (row_cons ss nodes place last row copy before_last)
+    pub turn_small : place + get_or sol.nodes.now (place + 1) 0 ≤ places
+    turn_small = let a : place + get_or sol.nodes.now (place + 1) 0 ≤ length sol.nodes.now = node_end ss sol.nodes.now place turn-node in let d : length sol.nodes.now ≤ places = s.store.small in omega arith
 
-    deep : max (suc (depth (resolve (bindings ss nodes state n) (term_at ss nodes place copy)))) (depth_all (resolved_all (bindings ss nodes state n) (terms_at ss nodes (place + get_or nodes (place + 1) 0) last copy))) + top ≤ deepest
+    terms-are : row_terms ss sol.nodes.now (row_word stack top) (end_word stack top) ≡ rcons (term_at ss sol.nodes.now place copy) (terms_at ss sol.nodes.now (place + get_or sol.nodes.now (place + 1) 0) last copy)
+    terms-are = rw (← ep, ← el, ← ec) (row_cons ss sol.nodes.now place last row copy before_last)
+
+    deep : max (suc (depth (resolve (bindings_of ss n sol) (term_at ss sol.nodes.now place copy)))) (depth_all (resolved_all (bindings_of ss n sol) (terms_at ss sol.nodes.now (place + get_or sol.nodes.now (place + 1) 0) last copy))) + top ≤ deepest
     deep =
-        let e : depth_all (resolved_all (bindings ss nodes state n) (row_terms ss nodes (row_word stack top) (end_word stack top))) ≡ max (suc (depth (resolve (bindings ss nodes state n) (term_at ss nodes place copy)))) (depth_all (resolved_all (bindings ss nodes state n) (terms_at ss nodes (place + get_or nodes (place + 1) 0) last copy))) =
-        ap (λ (ts : RTerms). depth_all (resolved_all (bindings ss nodes state n) ts)) terms-are ∙ depth-cons (bindings ss nodes state n) (term_at ss nodes place copy) (terms_at ss nodes (place + get_or nodes (place + 1) 0) last copy) in
-        let k : depth_all (resolved_all (bindings ss nodes state n) (row_terms ss nodes (row_word stack top) (end_word stack top))) + top ≤ deepest = standing.shallow in
+        let e : depth_all (resolved_all (bindings_of ss n sol) (row_terms ss sol.nodes.now (row_word stack top) (end_word stack top))) ≡ max (suc (depth (resolve (bindings_of ss n sol) (term_at ss sol.nodes.now place copy)))) (depth_all (resolved_all (bindings_of ss n sol) (terms_at ss sol.nodes.now (place + get_or sol.nodes.now (place + 1) 0) last copy))) =
+        ap (λ (ts : RTerms). depth_all (resolved_all (bindings_of ss n sol) ts)) terms-are ∙ depth-cons (bindings_of ss n sol) (term_at ss sol.nodes.now place copy) (terms_at ss sol.nodes.now (place + get_or sol.nodes.now (place + 1) 0) last copy) in
+        let k : depth_all (resolved_all (bindings_of ss n sol) (row_terms ss sol.nodes.now (row_word stack top) (end_word stack top))) + top ≤ deepest = standing.shallow in
         omega arith
 
-    module _ (next : ℕ) (after : List ℕ) (en : next ≡ place + get_or nodes (place + 1) 0) (ea : after ≡ set stack (top * open_size) (moved_row next)) where
+    module _ {next : ℕ} {after : List ℕ} (en : next ≡ place + get_or sol.nodes.now (place + 1) 0) (ea : after ≡ set stack (top * open_size) (moved_row next)) where
       pushed : Pushed stack top (moved_row next) (end_word stack top) after
       pushed = move-pushed stack after top (moved_row next) top-room ea
 
-      half : row_place (moved_row next) ≡ place + get_or nodes (place + 1) 0
+      half : row_place (moved_row next) ≡ place + get_or sol.nodes.now (place + 1) 0
       half = omega arith
 
-      moved : RowPending ss nodes (bindings ss nodes state n) top (moved_row next) (end_word stack top)
+      odd : row_more (moved_row next) ≡ true
+      odd = eq-eqb (moved_row next % 2) 1 (omega arith)
+
+      moved : RowPending ss sol.nodes.now (bindings_of ss n sol) top (moved_row next) (end_word stack top)
       moved =
           record {
-            row = rw (half, ← el) (row-rest ss nodes place last row before_last);
-            opened = λ z. absurd (omega arith);
-            shallow = rw (half, ← el, ← ec) (let k : max (suc (depth (resolve (bindings ss nodes state n) (term_at ss nodes place copy)))) (depth_all (resolved_all (bindings ss nodes state n) (terms_at ss nodes (place + get_or nodes (place + 1) 0) last copy))) + top ≤ deepest = deep in omega arith);
+            row = rw (half, ← el) (row-rest ss sol.nodes.now place last row before_last);
+            opened = λ z. absurd (true≢false (sym odd ∙ z));
+            shallow = rw (half, ← el, ← ec) (let k : max (suc (depth (resolve (bindings_of ss n sol) (term_at ss sol.nodes.now place copy)))) (depth_all (resolved_all (bindings_of ss n sol) (terms_at ss sol.nodes.now (place + get_or sol.nodes.now (place + 1) 0) last copy))) + top ≤ deepest = deep in omega arith);
           }
 
-      pub turn-facing : Ample stack (height * open_size + open_size) → Facing ss n nodes state symbols sheet goal after place copy height
+      pub turn-facing : Ample stack (height * open_size + open_size) → Facing ss n sol after place copy height
       turn-facing room =
           record {
-            setting = record { store = s.store; names = s.names; rows = rw upper (rows_pushed ss nodes (bindings ss nodes state n) stack after top (moved_row next) (end_word stack top) lower pushed top-room moved) };
+            setting = record { store = s.store; names = s.names; rows = rw upper (rows_pushed ss sol.nodes.now (bindings_of ss n sol) stack after top (moved_row next) (end_word stack top) lower pushed top-room moved) };
             node = turn-node;
             copy = (omega arith);
-            shallow = (let k : max (suc (depth (resolve (bindings ss nodes state n) (term_at ss nodes place copy)))) (depth_all (resolved_all (bindings ss nodes state n) (terms_at ss nodes (place + get_or nodes (place + 1) 0) last copy))) + top ≤ deepest = deep in let u : height ≡ suc top = upper in omega arith);
+            shallow = (let k : max (suc (depth (resolve (bindings_of ss n sol) (term_at ss sol.nodes.now place copy)))) (depth_all (resolved_all (bindings_of ss n sol) (terms_at ss sol.nodes.now (place + get_or sol.nodes.now (place + 1) 0) last copy))) + top ≤ deepest = deep in let u : height ≡ suc top = upper in omega arith);
             room = (let l : length after ≡ length stack = pushed.long in let a : Ample stack (height * open_size + open_size) = room in omega arith);
           }
 
-      left_after : (rest : List Piece) → left_to_spell ss nodes (bindings ss nodes state n) after height rest ≡ spelt_more (resolved_all (bindings ss nodes state n) (terms_at ss nodes (place + get_or nodes (place + 1) 0) last copy)) (left_to_spell ss nodes (bindings ss nodes state n) stack top rest)
+      left_after : (rest : List Piece) → left_to_spell ss sol.nodes.now (bindings_of ss n sol) after height rest ≡ spelt_more (resolved_all (bindings_of ss n sol) (terms_at ss sol.nodes.now (place + get_or sol.nodes.now (place + 1) 0) last copy)) (left_to_spell ss sol.nodes.now (bindings_of ss n sol) stack top rest)
       left_after rest =
-          let odd : row_more (moved_row next) ≡ suc 0 = omega arith in
-          ap (λ (h : ℕ). left_to_spell ss nodes (bindings ss nodes state n) after h rest) upper
-          ∙ (left-pushed ss nodes (bindings ss nodes state n) stack after top (moved_row next) (end_word stack top) pushed rest
+          ap (λ (h : ℕ). left_to_spell ss sol.nodes.now (bindings_of ss n sol) after h rest) upper
+          ∙ (left-pushed ss sol.nodes.now (bindings_of ss n sol) stack after top (moved_row next) (end_word stack top) pushed rest
           ∙ rw (odd, half, ← el, ← ec))
 
-      pub turn-spelt : (met : List Variable) (old mid new numbers stack' : List ℕ) (at m past more mark high : ℕ) (rest : List Piece) → more ≡ row_more (row_word stack top) → mark ≡ separator_of more → Put old at (mark ∷ []) mid m
-          → Spelling ss nodes (bindings ss nodes state n) (bytes_of met (spelt (resolve (bindings ss nodes state n) (term_at ss nodes place copy)) (left_to_spell ss nodes (bindings ss nodes state n) after height rest))) mid m new numbers stack' past high rest
-          → Spelling ss nodes (bindings ss nodes state n) (bytes_of met (left_to_spell ss nodes (bindings ss nodes state n) stack height rest)) old at new numbers stack' past high rest
-      turn-spelt met old mid new numbers stack' at m past more mark high rest em es put sp =
-          let is : left_to_spell ss nodes (bindings ss nodes state n) stack height rest ≡ byte mark ∷ spelt (resolve (bindings ss nodes state n) (term_at ss nodes place copy)) (left_to_spell ss nodes (bindings ss nodes state n) after height rest) =
+      pub turn-spelt : (met : List Variable) {old mid new numbers stack' : List ℕ} {at m past : ℕ} {more : Bool} {mark high : ℕ} (rest : List Piece) → more ≡ row_more (row_word stack top) → mark ≡ separator_of more → Put old at (mark ∷ []) mid m
+          → Spelling ss sol.nodes.now (bindings_of ss n sol) (bytes_of met (spelt (resolve (bindings_of ss n sol) (term_at ss sol.nodes.now place copy)) (left_to_spell ss sol.nodes.now (bindings_of ss n sol) after height rest))) mid m new numbers stack' past high rest
+          → Spelling ss sol.nodes.now (bindings_of ss n sol) (bytes_of met (left_to_spell ss sol.nodes.now (bindings_of ss n sol) stack height rest)) old at new numbers stack' past high rest
+      turn-spelt met {mark = mark} rest em es put sp =
+          let is : left_to_spell ss sol.nodes.now (bindings_of ss n sol) stack height rest ≡ byte mark ∷ spelt (resolve (bindings_of ss n sol) (term_at ss sol.nodes.now place copy)) (left_to_spell ss sol.nodes.now (bindings_of ss n sol) after height rest) =
           left-top rest
-          ∙ (ap (λ (ts : RTerms). spelt_row (row_more (row_word stack top)) ts (left_to_spell ss nodes (bindings ss nodes state n) stack top rest)) (ap (resolved_all (bindings ss nodes state n)) terms-are ∙ resolved-cons (bindings ss nodes state n) (term_at ss nodes place copy) (terms_at ss nodes (place + get_or nodes (place + 1) 0) last copy))
-          ∙ (row_next (row_more (row_word stack top)) (resolve (bindings ss nodes state n) (term_at ss nodes place copy)) (resolved_all (bindings ss nodes state n) (terms_at ss nodes (place + get_or nodes (place + 1) 0) last copy)) (left_to_spell ss nodes (bindings ss nodes state n) stack top rest)
-          ∙ ap₂ (λ (x : ℕ) (ps : List Piece). byte x ∷ spelt (resolve (bindings ss nodes state n) (term_at ss nodes place copy)) ps) (ap separator_of (sym em) ∙ sym es) (sym (left_after rest)))) in
+          ∙ (ap (λ (ts : RTerms). spelt_row (row_more (row_word stack top)) ts (left_to_spell ss sol.nodes.now (bindings_of ss n sol) stack top rest)) (ap (resolved_all (bindings_of ss n sol)) terms-are ∙ resolved-cons (bindings_of ss n sol) (term_at ss sol.nodes.now place copy) (terms_at ss sol.nodes.now (place + get_or sol.nodes.now (place + 1) 0) last copy))
+          ∙ (row_next (row_more (row_word stack top)) (resolve (bindings_of ss n sol) (term_at ss sol.nodes.now place copy)) (resolved_all (bindings_of ss n sol) (terms_at ss sol.nodes.now (place + get_or sol.nodes.now (place + 1) 0) last copy)) (left_to_spell ss sol.nodes.now (bindings_of ss n sol) stack top rest)
+          ∙ ap₂ (λ (x : ℕ) (ps : List Piece). byte x ∷ spelt (resolve (bindings_of ss n sol) (term_at ss sol.nodes.now place copy)) ps) (ap separator_of (sym em) ∙ sym es) (sym (left_after rest)))) in
           record {
-            told = told-after met (spelt (resolve (bindings ss nodes state n) (term_at ss nodes place copy)) (left_to_spell ss nodes (bindings ss nodes state n) after height rest)) put (ap (bytes_of met) is ∙ bytes-byte met mark (spelt (resolve (bindings ss nodes state n) (term_at ss nodes place copy)) (left_to_spell ss nodes (bindings ss nodes state n) after height rest))) sp.told;
+            told = told-after met (spelt (resolve (bindings_of ss n sol) (term_at ss sol.nodes.now place copy)) (left_to_spell ss sol.nodes.now (bindings_of ss n sol) after height rest)) put (ap (bytes_of met) is ∙ bytes-byte met mark (spelt (resolve (bindings_of ss n sol) (term_at ss sol.nodes.now place copy)) (left_to_spell ss sol.nodes.now (bindings_of ss n sol) after height rest))) sp.told;
             rows = sp.rows;
           }
 
 -- one byte on
-pub counting-on : (numbers : List ℕ) (at m : ℕ) → Counting numbers at → at + 200 < 2 ^ 64 → at ≤ m → m ≤ at + 100 → Counting numbers m
-counting-on numbers at m k l a d = record { met = k.met; numbers_are = k.numbers_are; few = (let e : length k.met ≤ at = k.few in omega arith); near = omega arith }
+pub counting-on : {numbers : List ℕ} {at m : ℕ} → Counting numbers at → at + 200 < 2 ^ 64 → at ≤ m → m ≤ at + 100 → Counting numbers m
+counting-on {at = at} k l a d = record { met = k.met; numbers_are = k.numbers_are; few = (let e : length k.met ≤ at = k.few in omega arith); near = omega arith }
 
 -- ---- turns, one after another
 
 -- whatever the words mean, what was to be spelt is partly spelt, and the rest is on the stack
-abbrev pub Going : List ℕ → List ℕ → List ℕ → List ℕ → List ℕ → List ℕ → List ℕ → List ℕ → ℕ → ℕ → List ℕ → List ℕ → List ℕ → ℕ → ℕ → Type 0
-Going nodes state symbols sheet goal numbers₀ stack₀ out₀ at height numbers stack out past rows =
-    (ss : List Symbol) (n : ℕ) (met : List Variable) (rest : List Piece) → Setting ss n nodes state symbols sheet goal stack₀ height → Numbers numbers₀ met
-    → Spelling ss nodes (bindings ss nodes state n) (bytes_of met (left_to_spell ss nodes (bindings ss nodes state n) stack₀ height rest)) out₀ at out numbers stack past rows rest
+abbrev pub Going : Solution → List ℕ → List ℕ → List ℕ → ℕ → ℕ → List ℕ → List ℕ → List ℕ → ℕ → ℕ → Type 0
+Going sol numbers₀ stack₀ out₀ at height numbers stack out past rows =
+    (ss : List Symbol) (n : ℕ) (met : List Variable) (rest : List Piece) → Setting ss n sol stack₀ height → Numbers numbers₀ met
+    → Spelling ss sol.nodes.now (bindings_of ss n sol) (bytes_of met (left_to_spell ss sol.nodes.now (bindings_of ss n sol) stack₀ height rest)) out₀ at out numbers stack past rows rest
 
-module _ (nodes state symbols sheet goal : List ℕ) where
-  pub going-none : (numbers stack out : List ℕ) (at height : ℕ) → Counting numbers at → Going nodes state symbols sheet goal numbers stack out at height numbers stack out at height
-  going-none numbers stack out at height k ss n met rest s h =
-      record { told = told-words met [] out out at at numbers (bytes_of met (left_to_spell ss nodes (bindings ss nodes state n) stack height rest)) (left_to_spell ss nodes (bindings ss nodes state n) stack height rest) h (few-met numbers at met k h) (nothing out at) refl; rows = s.rows }
+module _ {sol : Solution} where
+  pub going-none : {numbers stack out : List ℕ} {at height : ℕ} → Counting numbers at → Going sol numbers stack out at height numbers stack out at height
+  going-none {numbers} {stack} {out} {at} {height} k ss n met rest s h =
+      record { told = told-words met [] out out at at numbers (bytes_of met (left_to_spell ss sol.nodes.now (bindings_of ss n sol) stack height rest)) (left_to_spell ss sol.nodes.now (bindings_of ss n sol) stack height rest) h (few-met k h) (nothing out at) refl; rows = s.rows }
 
-  module _ (numbers₀ stack₀ out₀ : List ℕ) (at height : ℕ) (numbers stack out : List ℕ) (past rows : ℕ) (g : Going nodes state symbols sheet goal numbers₀ stack₀ out₀ at height numbers stack out past rows) where
-    pub going-then : (numbers₁ stack₁ out₁ : List ℕ) (past₁ rows₁ : ℕ) → Going nodes state symbols sheet goal numbers stack out past rows numbers₁ stack₁ out₁ past₁ rows₁
-        → Going nodes state symbols sheet goal numbers₀ stack₀ out₀ at height numbers₁ stack₁ out₁ past₁ rows₁
-    going-then numbers₁ stack₁ out₁ past₁ rows₁ f ss n met rest s h =
-        let x : Spelling ss nodes (bindings ss nodes state n) (bytes_of met (left_to_spell ss nodes (bindings ss nodes state n) stack₀ height rest)) out₀ at out numbers stack past rows rest = g ss n met rest s h in
-        let y : Spelling ss nodes (bindings ss nodes state n) (bytes_of x.told.met (left_to_spell ss nodes (bindings ss nodes state n) stack rows rest)) out past out₁ numbers₁ stack₁ past₁ rows₁ rest =
-        f ss n x.told.met rest (record { store = s.store; names = s.names; rows = x.rows }) x.told.numbers_are in
+  module _ {numbers₀ stack₀ out₀ : List ℕ} {at height : ℕ} {numbers stack out : List ℕ} {past rows : ℕ} (g : Going sol numbers₀ stack₀ out₀ at height numbers stack out past rows) where
+    pub going-then : {numbers₁ stack₁ out₁ : List ℕ} {past₁ rows₁ : ℕ} → Going sol numbers stack out past rows numbers₁ stack₁ out₁ past₁ rows₁
+        → Going sol numbers₀ stack₀ out₀ at height numbers₁ stack₁ out₁ past₁ rows₁
+    going-then f ss n met rest s h =
+        let x = g ss n met rest s h in
+        let y = f ss n x.told.met rest (record { store = s.store; names = s.names; rows = x.rows }) x.told.numbers_are in
         record { told = told-then x.told y.told; rows = y.rows }
 
-    pub some-on : SomeSetting nodes state symbols sheet goal stack₀ height → Counting numbers₀ at → SomeSetting nodes state symbols sheet goal stack rows
-    some-on s k =
-        record {
-          ss = s.ss;
-          n = s.n;
-          is = record { store = s.is.store; names = s.is.names; rows = (g s.ss s.n k.met [] s.is k.numbers_are).rows };
-        }
+    pub some-on : SomeSetting sol stack₀ height → Counting numbers₀ at → SomeSetting sol stack rows
+    some-on s k = record { ss = s.ss; n = s.n; is = record { store = s.is.store; names = s.is.names; rows = (g s.ss s.n k.met [] s.is k.numbers_are).rows } }
 
-    pub count-on : SomeSetting nodes state symbols sheet goal stack₀ height → Counting numbers₀ at → past + 100 < 2 ^ 64 → Counting numbers past
+    pub count-on : SomeSetting sol stack₀ height → Counting numbers₀ at → past + 100 < 2 ^ 64 → Counting numbers past
     count-on s k l =
-        record {
-          met = (g s.ss s.n k.met [] s.is k.numbers_are).told.met;
-          numbers_are = (g s.ss s.n k.met [] s.is k.numbers_are).told.numbers_are;
-          few = (g s.ss s.n k.met [] s.is k.numbers_are).told.few;
-          near = l;
-        }
+        let told = (g s.ss s.n k.met [] s.is k.numbers_are).told in
+        record { met = told.met; numbers_are = told.numbers_are; few = told.few; near = l }
 
 told_over : {whole old new numbers : List ℕ} {at next : ℕ} {ps : List Piece} (limit : ℕ) → SpeltSoFar whole old at new next numbers ps → limit < next → limit < at + length whole
 told_over {whole} {at = at} {next} {ps} limit t l =
@@ -510,15 +504,15 @@ left-none : (ss : List Symbol) (nodes : List ℕ) (b : List Binding) (stack : Li
 unfolding left_to_spell
 left-none ss nodes b stack rows rest e = ap (λ (h : ℕ). left_to_spell ss nodes b stack h rest) e
 
-abbrev pub Ended : List ℕ → List ℕ → List ℕ → List ℕ → List ℕ → List ℕ → List ℕ → List ℕ → ℕ → ℕ → ℕ → List ℕ → List ℕ → ℕ → Type 0
-Ended nodes state symbols sheet goal numbers₀ stack₀ out₀ at height limit numbers out past =
-    (ss : List Symbol) (n : ℕ) (met : List Variable) (rest : List Piece) → Setting ss n nodes state symbols sheet goal stack₀ height → Numbers numbers₀ met
-    → SpeltToLimit limit (bytes_of met (left_to_spell ss nodes (bindings ss nodes state n) stack₀ height rest)) out₀ at out past numbers rest
+abbrev pub Ended : Solution → List ℕ → List ℕ → List ℕ → ℕ → ℕ → ℕ → List ℕ → List ℕ → ℕ → Type 0
+Ended sol numbers₀ stack₀ out₀ at height limit numbers out past =
+    (ss : List Symbol) (n : ℕ) (met : List Variable) (rest : List Piece) → Setting ss n sol stack₀ height → Numbers numbers₀ met
+    → SpeltToLimit limit (bytes_of met (left_to_spell ss sol.nodes.now (bindings_of ss n sol) stack₀ height rest)) out₀ at out past numbers rest
 
-module _ (nodes state symbols sheet goal numbers₀ stack₀ out₀ : List ℕ) (at height limit : ℕ) (numbers stack out : List ℕ) (past rows : ℕ) (g : Going nodes state symbols sheet goal numbers₀ stack₀ out₀ at height numbers stack out past rows) where
-  pub going_done : rows ≡ 0 → Ended nodes state symbols sheet goal numbers₀ stack₀ out₀ at height limit numbers out past
+module _ {sol : Solution} {numbers₀ stack₀ out₀ : List ℕ} {at height limit : ℕ} {numbers stack out : List ℕ} {past rows : ℕ} (g : Going sol numbers₀ stack₀ out₀ at height numbers stack out past rows) where
+  pub going_done : rows ≡ 0 → Ended sol numbers₀ stack₀ out₀ at height limit numbers out past
   going_done e ss n met rest s h =
-      walked-told limit (told-rest (left-none ss nodes (bindings ss nodes state n) stack rows rest e) (g ss n met rest s h).told)
+      walked-told limit (told-rest (left-none ss sol.nodes.now (bindings_of ss n sol) stack rows rest e) (g ss n met rest s h).told)
 
-  pub going-over : limit < past → Ended nodes state symbols sheet goal numbers₀ stack₀ out₀ at height limit numbers out past
+  pub going-over : limit < past → Ended sol numbers₀ stack₀ out₀ at height limit numbers out past
   going-over l ss n met rest s h = walked-over limit l (g ss n met rest s h).told

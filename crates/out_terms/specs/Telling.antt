@@ -1,15 +1,17 @@
 -- What the functions promise: bytes appended, and what is still to be spelt.
-use Rattle.std.specs.Prelude.{ℕ, zero, suc, min, ◌+◌, ◌*◌, ◌<◌, ◌≤◌, ◌^◌, ◌≡◌, cond, List, [], ◌∷◌, ◌++◌, eqb, length, get_or}
+use Rattle.std.specs.Prelude.{ℕ, min, ◌+◌, ◌*◌, ◌<◌, ◌≤◌, ◌^◌, ◌≡◌, Bool, cond, List, [], ◌∷◌, ◌++◌, length, get_or}
 use Rattle.syntax.specs.Limits.{variables}
 use Rattle.syntax.specs.Words.{first_name}
 use Rattle.run_layout.specs.Regions.{copies, places, deepest, open_size}
 use Rattle.syntax.specs.Quote.{bytes}
+use Rattle.syntax.specs.Spans.{names_from}
 use Rattle.buffers.specs.Buffers.{Put}
 use Rattle.machine.specs.Substitution.{Variable, RTerm, var, Binding, resolve}
 use Rattle.machine.specs.Answers.{Piece, unbound, numbered, bytes_of}
 use Rattle.run_layout.specs.Nodes.{Symbol, Node, term_at}
 use Rattle.run_layout.specs.State.{variable_of, bindings, Store}
 use Rattle.out_terms.specs.Words.{SymbolsSpelt, Named, Numbers, Rows, left_to_spell, depth}
+use Rattle.out_terms.specs.declared.Solution.{Solution}
 
 -- A cell's number, before any pieces.
 pub record VariableNumbered (met : List Variable) (x : ℕ) (numbers : List ℕ) (r : ℕ) : Type 0 where
@@ -29,6 +31,14 @@ pub record SpeltSoFar (whole old : List ℕ) (at : ℕ) (new : List ℕ) (next :
 
 -- ---- the walk
 
+-- the bindings of a solution
+abbrev pub bindings_of : List Symbol → ℕ → Solution → List Binding
+bindings_of ss n sol = bindings ss sol.nodes.now sol.state.now n
+
+-- the names of its variables
+abbrev pub names_of : Solution → List (List ℕ)
+names_of sol = names_from sol.goal.now sol.names.now 0 sol.count
+
 -- The table numbers some variables, and numbers and positions fit.
 pub record Counting (numbers : List ℕ) (at : ℕ) : Type 0 where
   pub met : List Variable
@@ -46,44 +56,44 @@ abbrev pub Ample : List ℕ → ℕ → Type 0
 Ample stack words = min (deepest * open_size) words ≤ length stack
 
 -- A term at p, a name or an unbound variable, with a stack that has room for one more row where the term opens a bracket.
-pub record Heading (ss : List Symbol) (b : List Binding) (nodes symbols sheet goal stack : List ℕ) (p c height : ℕ) : Type 0 where
-  pub node : Node ss nodes p
+pub record Heading (ss : List Symbol) (b : List Binding) (sol : Solution) (stack : List ℕ) (p c height : ℕ) : Type 0 where
+  pub node : Node ss sol.nodes.now p
   pub copy : c < copies
-  pub small : length nodes ≤ places
-  pub names : SymbolsSpelt ss symbols sheet goal
-  pub free : get_or nodes p 0 < first_name → resolve b (term_at ss nodes p c) ≡ term_at ss nodes p c
-  pub rows : Rows ss nodes b stack height
-  pub shallow : depth (resolve b (term_at ss nodes p c)) + height ≤ deepest
+  pub small : length sol.nodes.now ≤ places
+  pub names : SymbolsSpelt ss sol.symbols.now sol.sheet.now sol.goal.now
+  pub free : get_or sol.nodes.now p 0 < first_name → resolve b (term_at ss sol.nodes.now p c) ≡ term_at ss sol.nodes.now p c
+  pub rows : Rows ss sol.nodes.now b stack height
+  pub shallow : depth (resolve b (term_at ss sol.nodes.now p c)) + height ≤ deepest
   pub room : Ample stack (height * open_size + open_size)
 
-pub record SomeHeading (nodes symbols sheet goal stack : List ℕ) (p c height : ℕ) : Type 0 where
+pub record SomeHeading (sol : Solution) (stack : List ℕ) (p c height : ℕ) : Type 0 where
   pub ss : List Symbol
   pub b : List Binding
-  pub is : Heading ss b nodes symbols sheet goal stack p c height
+  pub is : Heading ss b sol stack p c height
 
 -- The words mean a store, the symbols are spelt, and the rows stand.
-pub record Setting (ss : List Symbol) (n : ℕ) (nodes state symbols sheet goal stack : List ℕ) (height : ℕ) : Type 0 where
-  pub store : Store ss nodes state n
-  pub names : SymbolsSpelt ss symbols sheet goal
-  pub rows : Rows ss nodes (bindings ss nodes state n) stack height
+pub record Setting (ss : List Symbol) (n : ℕ) (sol : Solution) (stack : List ℕ) (height : ℕ) : Type 0 where
+  pub store : Store ss sol.nodes.now sol.state.now n
+  pub names : SymbolsSpelt ss sol.symbols.now sol.sheet.now sol.goal.now
+  pub rows : Rows ss sol.nodes.now (bindings_of ss n sol) stack height
 
 -- and a term at p is next
-pub record Facing (ss : List Symbol) (n : ℕ) (nodes state symbols sheet goal stack : List ℕ) (p c height : ℕ) : Type 0 where
-  pub setting : Setting ss n nodes state symbols sheet goal stack height
-  pub node : Node ss nodes p
+pub record Facing (ss : List Symbol) (n : ℕ) (sol : Solution) (stack : List ℕ) (p c height : ℕ) : Type 0 where
+  pub setting : Setting ss n sol stack height
+  pub node : Node ss sol.nodes.now p
   pub copy : c < copies
-  pub shallow : depth (resolve (bindings ss nodes state n) (term_at ss nodes p c)) + height ≤ deepest
+  pub shallow : depth (resolve (bindings_of ss n sol) (term_at ss sol.nodes.now p c)) + height ≤ deepest
   pub room : Ample stack (height * open_size + open_size)
 
-pub record SomeFacing (nodes state symbols sheet goal stack : List ℕ) (p c height : ℕ) : Type 0 where
+pub record SomeFacing (sol : Solution) (stack : List ℕ) (p c height : ℕ) : Type 0 where
   pub ss : List Symbol
   pub n : ℕ
-  pub is : Facing ss n nodes state symbols sheet goal stack p c height
+  pub is : Facing ss n sol stack p c height
 
-pub record SomeSetting (nodes state symbols sheet goal stack : List ℕ) (height : ℕ) : Type 0 where
+pub record SomeSetting (sol : Solution) (stack : List ℕ) (height : ℕ) : Type 0 where
   pub ss : List Symbol
   pub n : ℕ
-  pub is : Setting ss n nodes state symbols sheet goal stack height
+  pub is : Setting ss n sol stack height
 
 -- Bytes are appended, and the rest is on the stack.
 pub record Spelling (ss : List Symbol) (nodes : List ℕ) (b : List Binding) (whole old : List ℕ) (at : ℕ) (new numbers stack : List ℕ) (next height : ℕ)
@@ -97,8 +107,8 @@ pub record SpeltToLimit (limit : ℕ) (whole old : List ℕ) (at : ℕ) (new : L
   pub over : limit < next → limit < at + length whole
 
 -- an open bracket, or a comma
-abbrev pub separator_of : ℕ → ℕ
-separator_of more = cond (eqb more 0) 40 44
+abbrev pub separator_of : Bool → ℕ
+separator_of more = cond more 44 40
 
 -- ---- the goal's variables
 
@@ -107,31 +117,30 @@ abbrev pub value_in : List Binding → ℕ → RTerm
 value_in b i = resolve b (var (record { copy = 0; number = i }))
 
 -- the goal's variable i, whose value opens at most so many brackets at once as a value can
-pub record Valued (ss : List Symbol) (n : ℕ) (nodes state symbols sheet goal stack : List ℕ) (i : ℕ) : Type 0 where
-  pub setting : Setting ss n nodes state symbols sheet goal stack 0
+pub record Valued (ss : List Symbol) (n : ℕ) (sol : Solution) (stack : List ℕ) (i : ℕ) : Type 0 where
+  pub setting : Setting ss n sol stack 0
   pub low : i < variables
-  pub shallow : depth (value_in (bindings ss nodes state n) i) ≤ deepest
+  pub shallow : depth (value_in (bindings_of ss n sol) i) ≤ deepest
 
-pub record SomeValued (nodes state symbols sheet goal stack : List ℕ) (i : ℕ) : Type 0 where
+pub record SomeValued (sol : Solution) (stack : List ℕ) (i : ℕ) : Type 0 where
   pub ss : List Symbol
   pub n : ℕ
-  pub is : Valued ss n nodes state symbols sheet goal stack i
+  pub is : Valued ss n sol stack i
 
 -- what stands before a variable: nothing before the first
-abbrev pub gap : ℕ → List ℕ
-gap zero = []
-gap (suc more) = bytes ", "
+abbrev pub gap : Bool → List ℕ
+gap more = cond more (bytes ", ") []
 
 -- all of the goal's variables
-pub record Values (ss : List Symbol) (n : ℕ) (nodes state symbols sheet goal stack names : List ℕ) (count : ℕ) : Type 0 where
-  pub setting : Setting ss n nodes state symbols sheet goal stack 0
-  pub named : Named goal names count
-  pub shallow : (i : ℕ) → i < count → depth (value_in (bindings ss nodes state n) i) ≤ deepest
+pub record Values (ss : List Symbol) (n : ℕ) (sol : Solution) (stack : List ℕ) : Type 0 where
+  pub setting : Setting ss n sol stack 0
+  pub named : Named sol.goal.now sol.names.now sol.count
+  pub shallow : (i : ℕ) → i < sol.count → depth (value_in (bindings_of ss n sol) i) ≤ deepest
 
-pub record SomeValues (nodes state symbols sheet goal stack names : List ℕ) (count : ℕ) : Type 0 where
+pub record SomeValues (sol : Solution) (stack : List ℕ) : Type 0 where
   pub ss : List Symbol
   pub n : ℕ
-  pub is : Values ss n nodes state symbols sheet goal stack names count
+  pub is : Values ss n sol stack
 
 -- The whole stands in the buffer, or the limit is passed, as it is by the whole.
 pub record Lined (limit : ℕ) (whole old : List ℕ) (at : ℕ) (new : List ℕ) (next : ℕ) : Type 0 where

@@ -1,5 +1,5 @@
 -- What the tables of this crate mean: spellings of symbols, numbers of unbound variables, the stack of a walk, and the words of the goal's variables.
-use Rattle.std.specs.Prelude.{ℕ, zero, suc, max, ◌+◌, ◌*◌, ◌/◌, ◌%◌, ◌<◌, ◌≤◌, ◌≡◌, cond, List, eqb, length, get_or}
+use Rattle.std.specs.Prelude.{ℕ, zero, suc, max, ◌+◌, ◌*◌, ◌/◌, ◌%◌, ◌<◌, ◌≤◌, ◌≡◌, Bool, true, false, cond, List, eqb, length, get_or}
 use Rattle.std.proofs.Math.Option.{none, some}
 use Rattle.syntax.specs.Limits.{variables}
 use Rattle.syntax.specs.Tokens.{spelling}
@@ -63,9 +63,9 @@ unfoldable mutual
   depth_all (rcons t ts) = max (suc (depth t)) (depth_all ts)
 
 -- the rest of a list of arguments: all of it with its open bracket, or what is behind the first ones
-abbrev pub spelt_row : ℕ → RTerms → List Piece → List Piece
-spelt_row zero ts rest = spelt_args ts rest
-spelt_row (suc k) ts rest = spelt_more ts rest
+abbrev pub spelt_row : Bool → RTerms → List Piece → List Piece
+spelt_row false ts rest = spelt_args ts rest
+spelt_row true ts rest = spelt_more ts rest
 
 -- The two words of a row. The first gives the place of the next argument and whether some before it are spelt; the second the place behind the
 -- last argument, and the copy.
@@ -84,8 +84,8 @@ moved_row place = place * 2 + 1
 abbrev pub row_place : ℕ → ℕ
 row_place v = v / 2
 
-abbrev pub row_more : ℕ → ℕ
-row_more v = v % 2
+abbrev pub row_more : ℕ → Bool
+row_more v = eqb (v % 2) 1
 
 abbrev pub span_word : ℕ → ℕ → ℕ
 span_word last copy = last * copies + copy
@@ -108,7 +108,7 @@ left_to_spell ss nodes b stack (suc h) rest =
 -- A row at height i: some arguments of a node, which with the rows below open at most as many brackets at once as a value can.
 pub record RowPending (ss : List Symbol) (nodes : List ℕ) (b : List Binding) (i v w : ℕ) : Type 0 where
   pub row : Row ss nodes (row_place v) (row_last w)
-  pub opened : row_more v ≡ 0 → row_place v < row_last w
+  pub opened : row_more v ≡ false → row_place v < row_last w
   pub shallow : depth_all (resolved_all b (row_terms ss nodes v w)) + i ≤ deepest
 
 pub record Rows (ss : List Symbol) (nodes : List ℕ) (b : List Binding) (stack : List ℕ) (h : ℕ) : Type 0 where

@@ -10,42 +10,38 @@ ghost use Rattle.out_terms.specs.Words.{name_at, NamePlaced, Numbers, row_word, 
 ghost use Rattle.out_terms.specs.Words.{row_place, row_more, span_word, row_last, row_copy};
 ghost use Rattle.out_terms.specs.Telling.{VariableNumbered, SpeltSoFar};
 
+use crate::Solution;
+use crate::symbols::text_of;
 use buffers::{append_byte, append_decimal, append_part};
-use run_layout::{CELLS, COPIES, OPEN_SIZE, symbol_length, symbol_place, symbol_text};
+use run_layout::{CELLS, COPIES, OPEN_SIZE, symbol_length, symbol_place};
 use table_words::word_at;
 
-// The arguments from place to last in a copy that are still to be spelt; more is 0 where none of their list is spelt yet.
+// The arguments from place to last in a copy that are still to be spelt, and whether some of their list are spelt already.
 #[derive(Clone, Copy)]
 pub struct OpenRow {
     pub place: usize,
-    pub more: usize,
+    pub more: bool,
     pub last: usize,
     pub copy: usize,
 }
 
-// The name of a symbol.
-pub fn append_name(
-    symbols: &[u32],
-    sheet: &[u8],
-    goal: &[u8],
-    k: usize,
-    out: &mut [u8],
-    at: usize,
-) -> usize
-    requires { (NamePlaced symbols.now sheet.now goal.now k) × (at + word_bytes < 2 ^ 64) }
-    ensures wrote { Put out.old at (name_at symbols.now sheet.now goal.now k) out.new result }
-    ensures near { result ≤ at + word_bytes }
-{
-    let w = symbols[k];
-    let len = symbol_length(w);
-    let place = symbol_place(w);
-    if symbol_text(w) == 0 {
-        return append_part(sheet, place, len, out, at);
+impl<'a> Solution<'a> {
+    // The name of a symbol.
+    pub fn append_name(self, k: usize, out: &mut [u8], at: usize) -> usize
+        requires { (NamePlaced self.symbols.now self.sheet.now self.goal.now k) × (at + word_bytes < 2 ^ 64) }
+        ensures wrote { Put out.old at (name_at self.entry.symbols.now self.entry.sheet.now self.entry.goal.now k) out.new result }
+        ensures near { result ≤ at + word_bytes }
+    {
+        let w = self.symbols[k];
+        let len = symbol_length(w);
+        let place = symbol_place(w);
+        let text = text_of(w, self.sheet, self.goal);
+        append_part(text, place, len, out, at)
     }
-    append_part(goal, place, len, out, at)
 }
 
-// The number of an unbound cell: the one it has, or one more than all so far. The last word counts them.
+// The number of an unbound cell: the one it has, or one more than all so far. The last word counts them. A word is 0 where a cell has none: the table is
+// one array of words, zeros at first.
 pub fn number_of(numbers: &mut [usize], x: usize) -> usize
     requires { (x < cells) × ((length numbers.old ≡ cells + 1) × (get_or numbers.old cells 0 + 1 < 2 ^ 64)) }
     ensures { (met : List Variable) → Numbers numbers.old met → VariableNumbered met x numbers.new result }
@@ -85,7 +81,7 @@ pub fn row_at(stack: &[u32], h: usize) -> OpenRow
     let last = word_at(stack, i + 1);
     OpenRow {
         place: place / 2,
-        more: place % 2,
+        more: place % 2 == 1,
         last: last / COPIES,
         copy: last % COPIES,
     }

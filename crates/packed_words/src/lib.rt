@@ -1,5 +1,5 @@
-// Numbers packed into the words of a table, and each of them out of its word. Kinds and marks are numbers here and no enums, since a table is of words
-// that the caller lends.
+// Numbers packed into the words of a table, and each of them out of its word. Kinds (of `pack_marker`, `kind_of_item`) and marks (of `mark_number`,
+// `pack_mark`, `first_mark`) are numbers here and no enums, since a table is of words that the caller lends.
 
 #![tactic(auto)]
 
@@ -7,8 +7,9 @@ ghost use Rattle.std.specs.Prelude.{◌≡◌, ◌≤◌, ◌<◌, ◌^◌};
 ghost use Rattle.syntax.specs.Limits.{sheet_bytes};
 ghost use Rattle.syntax.specs.Reading.{sign_of};
 ghost use Rattle.syntax.specs.Spans.{packed, span_at, span_length};
-ghost use Rattle.syntax.specs.Words.{first_name, functor, functor_arity, functor_length, marker, item_kind, side_items, sign_number, with_mark, first_mark};
+ghost use Rattle.syntax.specs.Words.{first_name, functor, functor_arity, functor_length, marker, item_kind, side_items, with_mark, first_mark};
 ghost use Rattle.syntax.specs.Words.{other_marks};
+ghost use Rattle.packed_words.specs.Signs.{number_of_sign};
 
 use syntax::{FIRST_NAME, FREE, INPUT, ITEM_KINDS, LENGTHS, MARK_NUMBERS, OUTPUT, TokenKind};
 
@@ -29,7 +30,7 @@ pub fn span_at(word: u32) -> usize
     w / LENGTHS
 }
 
-// Its length.
+// Its length. (`run_layout::symbol_length` computes so too: each word is unpacked by the crate that packs it.)
 pub fn span_length(word: u32) -> usize
     ensures { result ≡ span_length word }
 {
@@ -83,15 +84,15 @@ pub fn items_of_side(word: usize) -> usize
     word / ITEM_KINDS
 }
 
-// The number of the mark that a token of a kind is, 0 for none.
-pub fn mark_number(kind: TokenKind) -> usize
-    ensures { result ≡ sign_number (sign_of kind) }
+// The number of the mark that a token of a kind is, if it is one.
+pub fn mark_number(kind: TokenKind) -> Option<usize>
+    ensures { result ≡ number_of_sign (sign_of kind) }
 {
     match kind {
-        TokenKind::Plus => INPUT,
-        TokenKind::Minus => OUTPUT,
-        TokenKind::Star => FREE,
-        _ => 0,
+        TokenKind::Plus => Some(INPUT),
+        TokenKind::Minus => Some(OUTPUT),
+        TokenKind::Star => Some(FREE),
+        _ => None,
     }
 }
 
@@ -103,7 +104,7 @@ pub fn pack_mark(mark: usize, others: usize) -> usize
     mark + MARK_NUMBERS * others
 }
 
-// The first of such marks, 0 where there is none.
+// The first of such marks. Where there is none it is 0, since the word is 0 then: its callers compare it with one mark's number.
 pub fn first_mark(marks: usize) -> usize
     ensures { result ≡ first_mark marks }
 {

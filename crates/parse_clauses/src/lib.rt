@@ -14,13 +14,13 @@ ghost use Rattle.parse_clauses.specs.Rules.{Ruled};
 
 use packed_words::pack_marker;
 use parse_cursor::Parsed;
-use parse_cursor::cursor::{beyond, counted, next, put_node, wrong};
+use parse_cursor::cursor::{beyond, counted, next, wrong};
 use parse_literals::read_plain;
 use parse_terms::read_atom;
 use syntax::{
     BEHIND_KIND, BRACKETS, CLAUSE_START, LEFT_KIND, LITERALS, RIGHT_KIND, Refusal, State, TokenKind,
 };
-use table_words::put;
+use table_words::{put, put_three};
 
 // One literal more than a body may have: so many at most are read into one, and the count of literals stops the reading before.
 const BODY_LITERALS: usize = LITERALS + 1;
@@ -75,7 +75,8 @@ fn read_sides(
     Ok(close_sides(z, y.items, table))
 }
 
-// A side of a bracket, up to a token of the kind `end`: its items, and before them the word of `kind`, at n.
+// A side of a bracket, up to a token of the kind `end`: its items, and before them the word of `kind`, at n. (The kind is a word of the table, so it is a
+// number here; an enum of two sides would be turned into that number and into `end` by two more functions.)
 #[cycle(read_body_read_literal_read_side_read_sides)]
 fn read_side(
     s: &[u8],
@@ -124,9 +125,8 @@ fn read_body(
     }
     if kind == end {
         return Ok(Parsed {
-            used: r.used,
-            items: r.items,
             state: next(s, after),
+            ..r
         });
     }
     Err(wrong(after))
@@ -140,9 +140,8 @@ fn open_side(r: Parsed, kind: usize, table: &mut [u32], n: usize) -> Parsed
 {
     put(table, n, pack_marker(kind, r.items));
     Parsed {
-        used: r.used,
         items: r.items + 1,
-        state: r.state,
+        ..r
     }
 }
 
@@ -194,12 +193,8 @@ fn read_rule(
 {
     let past = next(s, st);
     let r = read_whole(s, past, table, used)?;
-    put_node(table, n, r.used - n, r.state.count, r.items);
-    Ok(Parsed {
-        used: r.used,
-        items: 1,
-        state: r.state,
-    })
+    put_three(table, n, r.used - n, r.state.count, r.items);
+    Ok(Parsed { items: 1, ..r })
 }
 
 // A clause, of which the head's name is at hand.
@@ -215,7 +210,7 @@ pub fn read_clause(s: &[u8], st: State, table: &mut [u32], n: usize) -> Result<P
     match after.token.kind {
         TokenKind::Stop => {
             let past = next(s, after);
-            put_node(table, n, r.used - n, after.count, 0);
+            put_three(table, n, r.used - n, after.count, 0);
             Ok(Parsed {
                 used: r.used,
                 items: 1,

@@ -1,7 +1,6 @@
 // Where a reader stands, and what it stores.
-ghost use Rattle.std.specs.Prelude.{◌≡◌, ◌+◌, ◌≤◌, ◌<◌, ◌^◌, length, set};
+ghost use Rattle.std.specs.Prelude.{◌≡◌, ◌+◌, ◌≤◌, ◌<◌, ◌^◌, length};
 ghost use Rattle.syntax.specs.Reading.{wrong_number, start_of};
-ghost use Rattle.syntax.specs.Words.{node_words};
 ghost use Rattle.syntax.specs.Spans.{spanned, SpanInside};
 ghost use Rattle.syntax.specs.Tokens.{spelling};
 ghost use Rattle.syntax.specs.Terms.{same_name};
@@ -20,8 +19,7 @@ pub fn next(s: &[u8], st: State) -> State
     let t = st.token;
     State {
         token: lex_tokens::token_at(s, t.at + t.len),
-        count: st.count,
-        literals: st.literals,
+        ..st
     }
 }
 
@@ -43,16 +41,6 @@ pub fn wrong(st: State) -> Refusal
         TokenKind::Overlong => Refusal::Overlong(at),
         _ => Refusal::Misplaced(at),
     }
-}
-
-// Three words from n on.
-pub fn put_node(table: &mut [u32], n: usize, what: usize, size: usize, at: usize)
-    requires { (n + node_words ≤ length table.old) × ((what < 2 ^ 32) × ((size < 2 ^ 32) × (at < 2 ^ 32))) }
-    ensures { table.new ≡ set (set (set table.old n what) (n + 1) size) (n + 2) at }
-{
-    table[n] = what as u32;
-    table[n + 1] = size as u32;
-    table[n + 2] = at as u32;
 }
 
 // Whether a variable's first occurrence, packed, is spelt as a token.
@@ -79,8 +67,7 @@ pub fn counted(more: Parsed, by: usize) -> Parsed
     ensures { ItemCount more by result }
 {
     Parsed {
-        used: more.used,
         items: more.items + by,
-        state: more.state,
+        ..more
     }
 }

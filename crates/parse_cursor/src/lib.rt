@@ -1,4 +1,7 @@
-// The reader of terms: where it stands in a text, and terms without arguments into a table of words.
+// The reader of terms: where it stands in a text, and terms without arguments into a table of words. Text, reader, table and place go along as parameters,
+// here and in the crates above, and the number of brackets left where a term may have some: reader, place and number differ from call to call, so a struct of
+// them would be built anew at each, and one of text and table would have a `&mut` field, of which each function would promise that it is still the same
+// reference. So what is asked of them (`RoomToRead`, `CursorInside`) stands in each contract.
 
 #![tactic(auto)]
 

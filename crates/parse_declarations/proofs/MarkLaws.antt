@@ -9,14 +9,17 @@ use lib.ListN.{length, set, take, length-set}
 use lib.Seq.{take-suc-set}
 use lib.Dec.{lit≤}
 use lib.Pow.{pow-add}
-use Rattle.std.specs.Prelude.{Result, Ok, Err}
+use Rattle.std.specs.Prelude.{Result, Ok, Err, Option, Some, None}
+use Rattle.std.specs.Option.{unwrap_or}
+use Rattle.std.proofs.lemmas.Option.{none-some}
 use Rattle.syntax.proofs.SameKind.{eq-kind, ne_kind}
 use Rattle.syntax.specs.Limits.{sheet_bytes, arguments}
 use Rattle.syntax.specs.Terms.{Mark, Declaration, same_name, mode_name}
 use Rattle.syntax.specs.Tokens.{spelling, same_kind, name_kind, open_kind, close_kind, comma_kind, stop_kind, end_kind}
 use Rattle.syntax.specs.Reading.{Cursor, begin, cursor_at, Read, fault, ok, and_then, next, wrong, wrong_number, beyond, full, Sign, mark, no_mark, sign_of, is_mark, read_marks, marks_with, marks_after, marks_read, After, more, last, neither, after_of, declaration_of, declaration_end, declaration_from, is_mode, after_neck, read_declaration}
-use Rattle.syntax.specs.Words.{mark_number, sign_number, marks_number, declaration_words, mark_numbers, with_mark, declaration_size}
-use Rattle.syntax.proofs.Words.{mark-some, mark-small as number_small}
+use Rattle.packed_words.specs.Signs.{number_of_sign}
+use Rattle.syntax.specs.Words.{mark_number, marks_number, declaration_words, mark_numbers, with_mark, declaration_size}
+use Rattle.syntax.proofs.Words.{mark-small as number_small}
 use Rattle.syntax.specs.declared.State.{State}
 use Rattle.syntax.specs.declared.Refusal.{Refusal}
 use Rattle.syntax.specs.declared.TokenKind.{TokenKind}
@@ -26,18 +29,19 @@ use Rattle.texts.proofs.Laws.{length-spelling}
 use Rattle.parse_cursor.proofs.Reading.{three}
 use Rattle.parse_cursor.proofs.TermLaws.{name-no_end, close-no_comma}
 use Rattle.parse_cursor.proofs.Starts.{after_more, after_last, after-neither}
+use Rattle.parse_declarations.specs.declared.MarkList.{MarkList}
 use Rattle.parse_declarations.specs.Marks.{Marked, MarksGive, DeclarationGives}
 
 -- ---- the number of a mark
 
 -- a number says which mark it is, if any
-no_sign : (x : Sign) → sign_number x ≡ 0 → x ≡ no_mark
-no_sign (mark m) e = absurd (omega (arith, e, mark-some m))
+no_sign : (x : Sign) → number_of_sign x ≡ None → x ≡ no_mark
+no_sign (mark m) e = absurd (none-some (mark_number m) (sym e))
 no_sign no_mark e = refl
 
-some-sign : (x : Sign) → (sign_number x ≡ 0 → ⊥) → (m : Mark) × (x ≡ mark m) × (sign_number x ≡ mark_number m)
-some-sign (mark m) z = (m, refl, refl)
-some-sign no_mark z = absurd (z refl)
+some-sign : (x : Sign) (n : ℕ) → number_of_sign x ≡ Some n → (m : Mark) × (x ≡ mark m) × (n ≡ mark_number m)
+some-sign (mark m) n e = (m, refl, sym (ap (λ (o : Option ℕ). unwrap_or o 0) e))
+some-sign no_mark n e = absurd (none-some n e)
 
 -- ---- powers of four
 
@@ -62,7 +66,7 @@ pub next-begin : {s : List ℕ} {st r : State} → PastToken s st r → begin r.
 unfolding next cursor_at
 next-begin m = ap (λ (x : State). begin x.token) m.is
 
-module _ (s : List ℕ) (k : ℕ) (st : State) (m : ℕ) (em : m ≡ sign_number (sign_of st.token.kind)) where
+module _ (s : List ℕ) (k : ℕ) (st : State) where
   stopped-wrong : (x : State) (q : Refusal) → Refused x (wrong_number x.token.kind) q → MarksGive s st k (Err q) (wrong (begin x.token))
   unfolding wrong
   stopped-wrong x q f = f
@@ -72,15 +76,15 @@ module _ (s : List ℕ) (k : ℕ) (st : State) (m : ℕ) (em : m ≡ sign_number
   none-by zero r e f = subst⁻¹ (λ (x : Sign). MarksGive s st k (Err r) (full (is_mark x) (begin st.token))) e (stopped-wrong st r f)
   none-by (suc j) r e f = subst⁻¹ (λ (x : Sign). MarksGive s st k (Err r) (marks_with (λ st1. read_marks s j st1) s (begin st.token) x)) e (stopped-wrong st r f)
 
-  pub marks-none : (r : Refusal) → m ≡ 0 → Refused st (wrong_number st.token.kind) r → MarksGive s st k (Err r) (read_marks s k (begin st.token))
-  marks-none r z f = none-by k r (no_sign (sign_of st.token.kind) (sym em ∙ z)) f
+  pub marks-none : (r : Refusal) → number_of_sign (sign_of st.token.kind) ≡ None → Refused st (wrong_number st.token.kind) r → MarksGive s st k (Err r) (read_marks s k (begin st.token))
+  marks-none r z f = none-by k r (no_sign (sign_of st.token.kind) z) f
 
-  module _ (z : m ≡ 0 → ⊥) where
-    sign : (x : Mark) × (sign_of st.token.kind ≡ mark x) × (sign_number (sign_of st.token.kind) ≡ mark_number x)
-    sign = some-sign (sign_of st.token.kind) (λ e. z (em ∙ e))
+  module _ (m : ℕ) (em : number_of_sign (sign_of st.token.kind) ≡ Some m) where
+    sign : (x : Mark) × (sign_of st.token.kind ≡ mark x) × (m ≡ mark_number x)
+    sign = some-sign (sign_of st.token.kind) m em
 
     mark-is : m ≡ mark_number sign.0
-    mark-is = em ∙ sign.2
+    mark-is = sign.2
 
     pub mark-small : m < mark_numbers
     mark-small = subst⁻¹ (λ (x : ℕ). x < mark_numbers) mark-is (number_small sign.0)
@@ -106,7 +110,7 @@ module _ (s : List ℕ) (k : ℕ) (st : State) (m : ℕ) (em : m ≡ sign_number
       unfolding marks_after
       marks-wrong r f e g = subst⁻¹ (MarksGive s st k (Err r)) (behind neither (after-neither close_kind after.token.kind f e)) (stopped-wrong after r g)
 
-      pub marks-last : (past : State) → after.token.kind ≡ close_kind → PastToken s after past → MarksGive s st k (Ok (record { used = m; items = 1; state = past })) (read_marks s k (begin st.token))
+      pub marks-last : (past : State) → after.token.kind ≡ close_kind → PastToken s after past → MarksGive s st k (Ok (record { marks = m; items = 1; state = past })) (read_marks s k (begin st.token))
       unfolding marks_after marks_number
       marks-last past e p =
           let four : mark_numbers ^ k ≡ mark_numbers * mark_numbers ^ (k - 1) = four-more k nz in
@@ -115,8 +119,8 @@ module _ (s : List ℕ) (k : ℕ) (st : State) (m : ℕ) (em : m ≡ sign_number
           let is : m ≡ mark_number sign.0 = mark-is in
           let a : st.token.at + st.token.len ≤ after.token.at = mv.forward in
           let b : after.token.at + after.token.len ≤ past.token.at = p.forward in
-          subst⁻¹ (MarksGive s st k (Ok (record { used = m; items = 1; state = past }))) (behind last (after_last close_kind after.token.kind (close-no_comma e) e))
-          (subst (λ (y : Cursor). Marked s st k (record { used = m; items = 1; state = past }) (sign.0 ∷ []) y) (next-begin p)
+          subst⁻¹ (MarksGive s st k (Ok (record { marks = m; items = 1; state = past }))) (behind last (after_last close_kind after.token.kind (close-no_comma e) e))
+          (subst (λ (y : Cursor). Marked s st k (record { marks = m; items = 1; state = past }) (sign.0 ∷ []) y) (next-begin p)
           (record { state_is = refl; items_is = refl; used_is = omega arith; few = omega (arith, nz); small = omega arith; standing = p.standing; forward = omega arith }))
 
       module _ (past : State) (eight : k ≤ arguments) (comma : after.token.kind ≡ comma_kind) (p : PastToken s after past) where
@@ -131,28 +135,28 @@ module _ (s : List ℕ) (k : ℕ) (st : State) (m : ℕ) (em : m ≡ sign_number
             by (fault f b) g = unfold and_then in g
             by (ok ms end) g = absurd g
 
-        module _ (q : Parsed) (h : MarksGive s past (k - 1) (Ok q) (read_marks s (k - 1) (begin past.token))) where
-          pub marks-small : (q.used < 2 ^ 20) × (q.items < 2 ^ 20)
+        module _ (q : MarkList) (h : MarksGive s past (k - 1) (Ok q) (read_marks s (k - 1) (begin past.token))) where
+          pub marks-small : (q.marks < 2 ^ 20) × (q.items < 2 ^ 20)
           marks-small = by (read_marks s (k - 1) (begin past.token)) h
             where
-              by : (d : Read (List Mark)) → MarksGive s past (k - 1) (Ok q) d → (q.used < 2 ^ 20) × (q.items < 2 ^ 20)
+              by : (d : Read (List Mark)) → MarksGive s past (k - 1) (Ok q) d → (q.marks < 2 ^ 20) × (q.items < 2 ^ 20)
               by (fault f b) g = absurd g
               by (ok ms end) g =
-                  let u : q.used ≡ marks_number ms = g.used_is in
+                  let u : q.marks ≡ marks_number ms = g.used_is in
                   let i : q.items ≡ length ms = g.items_is in
                   let s1 : marks_number ms + 1 ≤ mark_numbers ^ (k - 1) = g.small in
                   let f : length ms ≤ k - 1 = g.few in
                   let most : mark_numbers ^ (k - 1) ≤ mark_numbers ^ arguments = four-most (arguments - (k - 1)) (k - 1) (omega arith) in
                   (omega arith, omega arith)
 
-          more_by : (d : Read (List Mark)) (r : Parsed) → MarksGive s past (k - 1) (Ok q) d → (r.state ≡ q.state) × ((r.used ≡ with_mark m q.used) × (r.items ≡ q.items + 1)) → MarksGive s st k (Ok r) (and_then d (λ ms end. ok (sign.0 ∷ ms) end))
+          more_by : (d : Read (List Mark)) (r : MarkList) → MarksGive s past (k - 1) (Ok q) d → (r.state ≡ q.state) × ((r.marks ≡ with_mark m q.marks) × (r.items ≡ q.items + 1)) → MarksGive s st k (Ok r) (and_then d (λ ms end. ok (sign.0 ∷ ms) end))
           unfolding and_then marks_number
           more_by (fault f b) r g e = absurd g
           more_by (ok ms end) r g e =
-              let o : (r.used ≡ with_mark m q.used) × (r.items ≡ q.items + 1) = e.1 in
-              let used : r.used ≡ with_mark m q.used = o.0 in
+              let o : (r.marks ≡ with_mark m q.marks) × (r.items ≡ q.items + 1) = e.1 in
+              let used : r.marks ≡ with_mark m q.marks = o.0 in
               let items : r.items ≡ q.items + 1 = o.1 in
-              let u : q.used ≡ marks_number ms = g.used_is in
+              let u : q.marks ≡ marks_number ms = g.used_is in
               let i : q.items ≡ length ms = g.items_is in
               let s1 : marks_number ms + 1 ≤ mark_numbers ^ (k - 1) = g.small in
               let f : length ms ≤ k - 1 = g.few in
@@ -172,12 +176,12 @@ module _ (s : List ℕ) (k : ℕ) (st : State) (m : ℕ) (em : m ≡ sign_number
                 forward = subst⁻¹ (λ (y : State). st.token.at ≤ y.token.at) e.0 (omega arith);
               }
 
-          pub marks-more : (r : Parsed) → (r.state ≡ q.state) × ((r.used ≡ with_mark m q.used) × (r.items ≡ q.items + 1)) → MarksGive s st k (Ok r) (read_marks s k (begin st.token))
+          pub marks-more : (r : MarkList) → (r.state ≡ q.state) × ((r.marks ≡ with_mark m q.marks) × (r.items ≡ q.items + 1)) → MarksGive s st k (Ok r) (read_marks s k (begin st.token))
           marks-more r e = subst⁻¹ (MarksGive s st k (Ok r)) with-more (more_by (read_marks s (k - 1) (begin past.token)) r h e)
 
 -- ---- the marks behind a name, or none
 
-some-by : (s : List ℕ) (st inner : State) (r : Result Parsed Refusal) (d : Read (List Mark)) → PastToken s st inner → MarksGive s inner arguments r d → MarksGive s st arguments r d
+some-by : (s : List ℕ) (st inner : State) (r : Result MarkList Refusal) (d : Read (List Mark)) → PastToken s st inner → MarksGive s inner arguments r d → MarksGive s st arguments r d
 some-by s st inner (Err q) (fault f b) m g = g
 some-by s st inner (Err q) (ok ms after) m g = g
 some-by s st inner (Ok r) (fault f b) m g = g
@@ -186,16 +190,16 @@ some-by s st inner (Ok r) (ok ms after) m g =
     let b : inner.token.at ≤ r.state.token.at = g.forward in
     record { state_is = g.state_is; items_is = g.items_is; used_is = g.used_is; few = g.few; small = g.small; standing = g.standing; forward = omega arith }
 
-pub some-open : (s : List ℕ) (st inner : State) (r : Result Parsed Refusal) → st.token.kind ≡ open_kind → PastToken s st inner → MarksGive s inner arguments r (read_marks s arguments (begin inner.token)) → MarksGive s st arguments r (marks_read s (begin st.token) (same_kind st.token.kind open_kind))
+pub some-open : (s : List ℕ) (st inner : State) (r : Result MarkList Refusal) → st.token.kind ≡ open_kind → PastToken s st inner → MarksGive s inner arguments r (read_marks s arguments (begin inner.token)) → MarksGive s st arguments r (marks_read s (begin st.token) (same_kind st.token.kind open_kind))
 unfolding marks_read
 some-open s st inner r e m g =
     subst⁻¹ (λ (b : Bool). MarksGive s st arguments r (marks_read s (begin st.token) b)) (eq-kind st.token.kind open_kind e)
     (subst (λ (y : Cursor). MarksGive s st arguments r (read_marks s arguments y)) (next-begin m) (some-by s st inner r (read_marks s arguments (begin inner.token)) m g))
 
-pub some-none : (s : List ℕ) (st : State) → CursorInside s st → (st.token.kind ≡ open_kind → ⊥) → MarksGive s st arguments (Ok (record { used = 0; items = 0; state = st })) (marks_read s (begin st.token) (same_kind st.token.kind open_kind))
+pub some-none : (s : List ℕ) (st : State) → CursorInside s st → (st.token.kind ≡ open_kind → ⊥) → MarksGive s st arguments (Ok (record { marks = 0; items = 0; state = st })) (marks_read s (begin st.token) (same_kind st.token.kind open_kind))
 unfolding marks_read marks_number
 some-none s st h e =
-    subst⁻¹ (λ (b : Bool). MarksGive s st arguments (Ok (record { used = 0; items = 0; state = st })) (marks_read s (begin st.token) b)) (ne_kind st.token.kind open_kind e)
+    subst⁻¹ (λ (b : Bool). MarksGive s st arguments (Ok (record { marks = 0; items = 0; state = st })) (marks_read s (begin st.token) b)) (ne_kind st.token.kind open_kind e)
     (record { state_is = refl; items_is = refl; used_is = refl; few = lit≤ tt; small = lit≤ tt; standing = h; forward = omega arith })
 
 -- ---- declarations
@@ -239,7 +243,7 @@ module _ (s : List ℕ) (st : State) (entry : List ℕ) (n : ℕ) (stands : Curs
     pub declared-fault : (q : Refusal) → MarksGive s past arguments (Err q) (marks_read s (begin past.token) (same_kind past.token.kind open_kind)) → DeclarationGives s st entry entry n (Err q) (declaration_from s (begin st.token) (same_kind st.token.kind name_kind))
     declared-fault q g = subst⁻¹ (DeclarationGives s st entry entry n (Err q)) whole (fault-by q (marks_read s (begin past.token) (same_kind past.token.kind open_kind)) g)
 
-    module _ (r : Parsed) (g : MarksGive s past arguments (Ok r) (marks_read s (begin past.token) (same_kind past.token.kind open_kind))) where
+    module _ (r : MarkList) (g : MarksGive s past arguments (Ok r) (marks_read s (begin past.token) (same_kind past.token.kind open_kind))) where
       read_by : (d : Read (List Mark)) → MarksGive s past arguments (Ok r) d → (ms : List Mark) × (d ≡ ok ms (begin r.state.token)) × Marked s past arguments r ms (begin r.state.token)
       read_by (fault k b) h = absurd h
       read_by (ok ms after) h = (ms, ap (ok ms) (sym h.state_is), subst⁻¹ (Marked s past arguments r ms) h.state_is h)
@@ -258,17 +262,17 @@ module _ (s : List ℕ) (st : State) (entry : List ℕ) (n : ℕ) (stands : Curs
       unfolding declaration_end
       declared-stop q e f = subst⁻¹ (DeclarationGives s st entry entry n (Err q)) (by-stop false (ne_kind r.state.token.kind stop_kind e)) (declaration-refused s st r.state entry n q f)
 
-      pub declared-asked : n + declaration_size ≤ length entry → ((n + 3 ≤ length entry) × ((st.token.at < 2 ^ 32) × ((st.token.len < 2 ^ 32) × (r.items < 2 ^ 32)))) × (r.used < 2 ^ 32)
+      pub declared-asked : n + declaration_size ≤ length entry → ((n + 3 ≤ length entry) × ((st.token.at < 2 ^ 32) × ((st.token.len < 2 ^ 32) × (r.items < 2 ^ 32)))) × (r.marks < 2 ^ 32)
       declared-asked h =
           let inside : st.token.at + st.token.len ≤ length s = stands.inside in
           let short : length s ≤ sheet_bytes = stands.short in
-          let u : r.used ≡ marks_number read.0 = read.2.used_is in
+          let u : r.marks ≡ marks_number read.0 = read.2.used_is in
           let i : r.items ≡ length read.0 = read.2.items_is in
           let few : length read.0 ≤ arguments = read.2.few in
           let small : marks_number read.0 + 1 ≤ mark_numbers ^ arguments = read.2.small in
           ((omega arith, (omega arith, (omega arith, omega arith))), omega arith)
 
-      pub declared-end : (end : State) (mid exit : List ℕ) → n + declaration_size ≤ length entry → r.state.token.kind ≡ stop_kind → PastToken s r.state end → mid ≡ set (set (set entry n st.token.at) (n + 1) st.token.len) (n + 2) r.items → exit ≡ set mid (n + 3) r.used → DeclarationGives s st entry exit n (Ok (record { used = n + declaration_size; items = 1; state = end })) (declaration_from s (begin st.token) (same_kind st.token.kind name_kind))
+      pub declared-end : (end : State) (mid exit : List ℕ) → n + declaration_size ≤ length entry → r.state.token.kind ≡ stop_kind → PastToken s r.state end → mid ≡ set (set (set entry n st.token.at) (n + 1) st.token.len) (n + 2) r.items → exit ≡ set mid (n + 3) r.marks → DeclarationGives s st entry exit n (Ok (record { used = n + declaration_size; items = 1; state = end })) (declaration_from s (begin st.token) (same_kind st.token.kind name_kind))
       unfolding declaration_end declaration_words
       declared-end end mid exit h e p em ex =
           let a : 0 < st.token.len = stands.some (name-no_end name) in

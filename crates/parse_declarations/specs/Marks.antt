@@ -8,22 +8,23 @@ use Rattle.syntax.specs.declared.State.{State}
 use Rattle.syntax.specs.declared.Refusal.{Refusal}
 use Rattle.parse_cursor.specs.Gives.{CursorInside, Faulted, bytes_left}
 use Rattle.parse_cursor.specs.declared.Parsed.{Parsed}
+use Rattle.parse_declarations.specs.declared.MarkList.{MarkList}
 
 -- the refusal of the fault's number and byte
 abbrev pub Stopped : Refusal → ℕ → ℕ → Type 0
 Stopped q k b = q ≡ fault_of k b
 
 -- the marks in one number, and how many they are
-pub record Marked (s : List ℕ) (st : State) (k : ℕ) (r : Parsed) (ms : List Mark) (after : Cursor) : Type 0 where
+pub record Marked (s : List ℕ) (st : State) (k : ℕ) (r : MarkList) (ms : List Mark) (after : Cursor) : Type 0 where
   pub state_is : begin r.state.token ≡ after
   pub items_is : r.items ≡ length ms
-  pub used_is : r.used ≡ marks_number ms
+  pub used_is : r.marks ≡ marks_number ms
   pub few : length ms ≤ k
   pub small : marks_number ms + 1 ≤ mark_numbers ^ k
   pub standing : CursorInside s r.state
   pub forward : st.token.at ≤ r.state.token.at
 
-abbrev pub MarksGive : List ℕ → State → ℕ → Result Parsed Refusal → Read (List Mark) → Type 0
+abbrev pub MarksGive : List ℕ → State → ℕ → Result MarkList Refusal → Read (List Mark) → Type 0
 MarksGive s st k (Err q) (fault f b) = Stopped q f b
 MarksGive s st k (Err q) (ok ms after) = ⊥
 MarksGive s st k (Ok r) (fault f b) = ⊥

@@ -2,7 +2,7 @@
 
 #![tactic(auto)]
 
-ghost use Rattle.std.specs.Prelude.{◌≡◌, ◌+◌, ◌*◌, ◌≤◌, ◌<◌, ◌^◌, length};
+ghost use Rattle.std.specs.Prelude.{◌≡◌, ◌+◌, ◌≤◌, ◌<◌, ◌^◌, length};
 ghost use Rattle.syntax.specs.Limits.{arguments};
 ghost use Rattle.syntax.specs.Tokens.{same_kind, name_kind, open_kind};
 ghost use Rattle.syntax.specs.Words.{mark_numbers, with_mark, declaration_size};
@@ -12,21 +12,28 @@ ghost use Rattle.parse_declarations.specs.Marks.{MarksGive, DeclarationGives};
 
 use packed_words::{mark_number, pack_mark};
 use parse_cursor::Parsed;
-use parse_cursor::cursor::{beyond, next, put_node, wrong};
-use syntax::{ARGUMENTS, DECLARATION_SIZE, NODE_WORDS, Refusal, State, TokenKind};
-use table_words::put;
+use parse_cursor::cursor::{beyond, next, wrong};
+use syntax::{ARGUMENTS, DECLARATION_SIZE, Refusal, State, TokenKind};
+use table_words::{put, put_three};
 use texts::is_mode;
 
-// A list of marks after its opening bracket, at most k: `used` is their number, the first mark lowest.
-fn read_marks(s: &[u8], k: usize, st: State) -> Result<Parsed, Refusal>
+// A list of marks that was read: their numbers in one, the first mark's lowest; how many they are; and where the reader stands.
+#[derive(Clone, Copy)]
+struct MarkList {
+    marks: usize,
+    items: usize,
+    state: State,
+}
+
+// A list of marks after its opening bracket, at most k.
+fn read_marks(s: &[u8], k: usize, st: State) -> Result<MarkList, Refusal>
     requires cursor_inside { CursorInside s.now st }
     requires k_le_arguments { k ≤ arguments }
     ensures { MarksGive s.now st k result (read_marks s.now k (begin st.token)) }
 {
-    let m = mark_number(st.token.kind);
-    if m == 0 {
+    let Some(m) = mark_number(st.token.kind) else {
         return Err(wrong(st));
-    }
+    };
     if k == 0 {
         return Err(beyond(st));
     }
@@ -37,8 +44,8 @@ fn read_marks(s: &[u8], k: usize, st: State) -> Result<Parsed, Refusal>
             let more = read_marks(s, k - 1, behind)?;
             Ok(marked(m, more))
         }
-        TokenKind::Close => Ok(Parsed {
-            used: m,
+        TokenKind::Close => Ok(MarkList {
+            marks: m,
             items: 1,
             state: next(s, after),
         }),
@@ -47,20 +54,20 @@ fn read_marks(s: &[u8], k: usize, st: State) -> Result<Parsed, Refusal>
 }
 
 // The marks behind a comma, and the one before it.
-fn marked(m: usize, more: Parsed) -> Parsed
-    requires used_bound { (more.used < 2 ^ 20) × (more.items < 2 ^ 20) }
+fn marked(m: usize, more: MarkList) -> MarkList
+    requires marks_bound { (more.marks < 2 ^ 20) × (more.items < 2 ^ 20) }
     requires m_lt_mark_numbers { m < mark_numbers }
-    ensures { (result.state ≡ more.state) × ((result.used ≡ with_mark m more.used) × (result.items ≡ more.items + 1)) }
+    ensures { (result.state ≡ more.state) × ((result.marks ≡ with_mark m more.marks) × (result.items ≡ more.items + 1)) }
 {
-    Parsed {
-        used: pack_mark(m, more.used),
+    MarkList {
+        marks: pack_mark(m, more.marks),
         items: more.items + 1,
-        state: more.state,
+        ..more
     }
 }
 
 // The marks behind a declaration's name, or none.
-fn read_some_marks(s: &[u8], st: State) -> Result<Parsed, Refusal>
+fn read_some_marks(s: &[u8], st: State) -> Result<MarkList, Refusal>
     requires { CursorInside s.now st }
     ensures { MarksGive s.now st arguments result (marks_read s.now (begin st.token) (same_kind st.token.kind open_kind)) }
 {
@@ -68,8 +75,8 @@ fn read_some_marks(s: &[u8], st: State) -> Result<Parsed, Refusal>
         let inner = next(s, st);
         return read_marks(s, ARGUMENTS, inner);
     }
-    Ok(Parsed {
-        used: 0,
+    Ok(MarkList {
+        marks: 0,
         items: 0,
         state: st,
     })
@@ -93,8 +100,8 @@ fn read_declared(s: &[u8], st: State, table: &mut [u32], n: usize) -> Result<Par
         return Err(wrong(after));
     }
     let end = next(s, after);
-    put_node(table, n, t.at, t.len, r.items);
-    put(table, n + NODE_WORDS, r.used);
+    put_three(table, n, t.at, t.len, r.items);
+    put(table, n + (DECLARATION_SIZE - 1), r.marks);
     Ok(Parsed {
         used: n + DECLARATION_SIZE,
         items: 1,

@@ -39,7 +39,8 @@ fn read_right(
     read_term(s, left, next(s, st), table, used)
 }
 
-// What an atom alone stands for: truth, falsehood or a call.
+// What an atom alone stands for: truth, falsehood or a call, as the number of that kind, which goes into the table as the literal's first word. (Its name is
+// text, byte and length, as in `texts`.)
 fn atom_number(s: &[u8], at: usize, len: usize, size: usize) -> usize
     requires { at + len ≤ length s.now }
     ensures { result ≡ atom_number (eqb size node_words) (spelling s.now at len) }

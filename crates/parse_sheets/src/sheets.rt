@@ -15,6 +15,12 @@ use parse_cursor::cursor::{beyond, wrong};
 use parse_declarations::read_declaration;
 use syntax::{CLAUSES, DECLARATION_SIZE, DECLARATIONS, Refusal, State, TokenKind};
 
+const NOTHING_READ: SheetParsed = SheetParsed {
+    declarations: 0,
+    clauses: 0,
+    used: 0,
+};
+
 // The reader at a text's first token.
 pub fn start(s: &[u8]) -> State
     requires { length s.now ≤ sheet_bytes }
@@ -60,7 +66,15 @@ fn next_clause(
     read_clause(s, st, table, used)
 }
 
-// Items up to the end of the text.
+// A fault behind what was read.
+fn fault_behind(before: SheetParsed, refusal: Refusal) -> SheetFault
+    ensures { result ≡ record { refusal = refusal; before = before } }
+{
+    SheetFault { refusal, before }
+}
+
+// Items up to the end of the text. (By `match`: from an arm the proof goes on with what was read, where behind a `map_err` a law would have to lead back to
+// it.)
 pub fn read_items(
     s: &[u8],
     declared: &mut [u32],
@@ -71,11 +85,7 @@ pub fn read_items(
     ensures { Parses s.now declared.new table.new result (read_sheet s.now) }
 {
     let mut st = start(s);
-    let mut read = SheetParsed {
-        declarations: 0,
-        clauses: 0,
-        used: 0,
-    };
+    let mut read = NOTHING_READ;
     // Where an item begins is known only when the one before it was read, so no iterator gives them.
     while st.token.kind != TokenKind::End {
         if st.token.kind == TokenKind::Neck {
@@ -85,17 +95,11 @@ pub fn read_items(
                     st = r.state;
                     continue;
                 }
-                Err(refusal) => return Err(SheetFault {
-                    refusal,
-                    before: read,
-                }),
+                Err(refusal) => return Err(fault_behind(read, refusal)),
             }
         }
         if st.token.kind != TokenKind::Name {
-            return Err(SheetFault {
-                refusal: wrong(st),
-                before: read,
-            });
+            return Err(fault_behind(read, wrong(st)));
         }
         match next_clause(s, st, table, read.used, read.clauses) {
             Ok(r) => {
@@ -103,10 +107,7 @@ pub fn read_items(
                 read.used = r.used;
                 st = r.state;
             }
-            Err(refusal) => return Err(SheetFault {
-                refusal,
-                before: read,
-            }),
+            Err(refusal) => return Err(fault_behind(read, refusal)),
         }
     }
     Ok(read)

@@ -12,9 +12,10 @@ ghost use Rattle.parse_cursor.specs.Gives.{cursor_of, RoomToRead, Gives, one};
 
 use packed_words::pack_functor;
 use parse_cursor::Parsed;
-use parse_cursor::cursor::{beyond, counted, full, next, put_node, wrong};
+use parse_cursor::cursor::{beyond, counted, full, next, wrong};
 use parse_cursor::leaves::{leaf, read_simple};
 use syntax::{ARGUMENTS, NODE_WORDS, Refusal, State, TokenKind};
+use table_words::put_three;
 
 // A name with an optional bracketed list; the name is at hand.
 #[cycle(read_arguments_read_atom_read_term)]
@@ -51,7 +52,7 @@ fn close(st: State, r: Parsed, table: &mut [u32], n: usize) -> Parsed
         × (table.new ≡ set (set (set table.old n (functor r.items st.token.len)) (n + 1) (r.used - n)) (n + 2) st.token.at) }
 {
     let what = pack_functor(r.items, st.token.len);
-    put_node(table, n, what, r.used - n, st.token.at);
+    put_three(table, n, what, r.used - n, st.token.at);
     Parsed {
         used: r.used,
         items: 1,

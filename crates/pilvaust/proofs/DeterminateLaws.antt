@@ -13,6 +13,7 @@ use Rattle.syntax.specs.declared.Refusal.{Refusal}
 use Rattle.syntax.specs.Verdicts.{Verdict}
 use Rattle.syntax.specs.Verdicts.{Accepted, Refused}
 use Rattle.mode_rules.specs.Checking.{checked_sheet, check_verdict, verdict_with}
+use Rattle.mode_marks.specs.Tables.{SheetAt, DeclarationsAt}
 use Rattle.machine.specs.Determinacy.{against, judged_by, judged_from, judged}
 use Rattle.run_layout.proofs.Limits.{checked-sheet-limited}
 use Rattle.read_and_check.specs.Tables.{Tabled}
@@ -50,6 +51,11 @@ module _ (s declared table : List ℕ) (v : Verdict) (ev : v ≡ check_verdict s
       short = sheet_short false s of.0 of.1;
       table_short = short;
     }
+
+    pub declared-at : DeclarationsAt s declared n
+    declared-at =
+        let at : SheetAt s declared n table k = sheet-at false s declared table v ev holds n k h in
+        record { list = at.sheet.declarations; has = at.has_declarations; count = at.declarations_count; stand = at.stands.declarations }
 
     pub sheet-judged : (r : Determinacy) → ((w : SheetReady s declared n table k) → r ≡ told (judged_by (against w.stands.sheet))) → r ≡ told (judged s)
     unfolding judgeable judged sheet-at

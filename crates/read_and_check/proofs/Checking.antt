@@ -22,7 +22,7 @@ use Rattle.mode_rules.specs.Modes.{sheet_fault, goal_fault}
 use Rattle.mode_rules.specs.Checking.{faultless, checked_from, checked_with, checked_sheet, verdict_with, check_verdict, checked_goal_from, checked_goal, goal_answer, check_goal_from, check_goal_verdict}
 use Rattle.mode_marks.specs.Standing.{SheetSpelt, DeclarationsSpelt}
 use Rattle.table_words.specs.Tables.{Has}
-use Rattle.mode_marks.specs.Tables.{SheetAt, GoalAt}
+use Rattle.mode_marks.specs.Tables.{SheetAt, GoalAt, DeclarationsAt}
 use Rattle.std.specs.Prelude.{Ok, Err}
 use Rattle.syntax.specs.declared.Fault.{Fault}
 use Rattle.mode_marks.specs.Answers.{Checked, checked_of}
@@ -120,6 +120,9 @@ module _ (stored : Bool) (s declared table : List ℕ) (v : Verdict) (e : v ≡ 
           (ap (λ (x : Fault). Err x) h ∙ ap sheet_verdict (sym c), λ sh a. absurd (never q sh (sym c ∙ a)))
 
 -- ---- a goal over a sheet
+
+pub over-declarations : {s declared : List ℕ} {n k : ℕ} → Over s declared n k → DeclarationsAt s declared n
+over-declarations w = record { list = w.sheet.declarations; has = w.has; count = w.count; stand = w.stand }
 
 pub goal-refused-by : (o : Outcome Goal) (t : Text) (q : Refusal) → goal_verdict o ≡ Refused t q → (o ≡ refused q) × (t ≡ in_goal)
 unfolding goal_verdict

@@ -13,40 +13,29 @@ use mode_marks::marks::Declarations;
 use mode_repeats::first_repeat;
 use mode_sheets::check_sheet;
 use parse_sheets::sheets::read_items;
-use refusals::{is_long_goal, is_long_sheet};
-use syntax::{Counts, DECLARED_WORDS, Fault, GOAL_WORDS, Refusal, SHEET_WORDS, Text, Verdict};
+use refusals::is_too_long;
+use syntax::{Counts, Fault, GOAL_BYTES, Refusal, SHEET_BYTES, Text, Verdict};
 
-// The fault of a sheet, and of a goal.
-fn of_sheet(refusal: Refusal) -> Fault
-    ensures { result ≡ record { text = Text.Sheet; refusal = refusal } }
+// The fault that a refusal of a text is.
+fn fault_in(text: Text, refusal: Refusal) -> Fault
+    ensures { result ≡ record { text = text; refusal = refusal } }
 {
-    Fault {
-        text: Text::Sheet,
-        refusal,
-    }
+    Fault { text, refusal }
 }
 
-fn of_goal(refusal: Refusal) -> Fault
-    ensures { result ≡ record { text = Text.Goal; refusal = refusal } }
-{
-    Fault {
-        text: Text::Goal,
-        refusal,
-    }
-}
-
-// A sheet into its tables.
+// A sheet into its tables. (By `match`, here and below: an arm says its fault, where `map_err` would say it in a closure, whose promise the proof has to take
+// up first.)
 pub fn read_text(sheet: &[u8], declared: &mut [u32], table: &mut [u32]) -> Verdict
     requires { (declared_words ≤ length declared.old) × ((sheet_words ≤ length table.old) × (length table.old < 2 ^ 31)) }
     ensures is { result ≡ read_verdict sheet.now }
     ensures holds { (sh : Sheet) → sheet_of sheet.now ≡ accepted sh → Tabled sheet.now declared.new
         table.new sh }
 {
-    if is_long_sheet(sheet.len()) {
-        return Err(of_sheet(Refusal::TooLong));
+    if is_too_long::<SHEET_BYTES>(sheet.len()) {
+        return Err(fault_in(Text::Sheet, Refusal::TooLong));
     }
     match read_items(sheet, declared, table) {
-        Err(stop) => Err(of_sheet(stop.refusal)),
+        Err(stop) => Err(fault_in(Text::Sheet, stop.refusal)),
         Ok(r) => {
             let declarations = Declarations {
                 text: sheet,
@@ -54,7 +43,7 @@ pub fn read_text(sheet: &[u8], declared: &mut [u32], table: &mut [u32]) -> Verdi
                 count: r.declarations,
             };
             match first_repeat(declarations) {
-                Some(byte) => Err(of_sheet(Refusal::Repeated(byte))),
+                Some(byte) => Err(fault_in(Text::Sheet, Refusal::Repeated(byte))),
                 None => Ok(Counts {
                     declarations: r.declarations,
                     clauses: r.clauses,
@@ -62,25 +51,6 @@ pub fn read_text(sheet: &[u8], declared: &mut [u32], table: &mut [u32]) -> Verdi
             }
         }
     }
-}
-
-// Room for a sheet's declarations, for the nodes of a sheet and for those of a goal. The contracts give the lengths alone.
-pub fn declared_room() -> [u32; DECLARED_WORDS]
-    ensures { declared_words ≡ length result }
-{
-    [0; DECLARED_WORDS]
-}
-
-pub fn node_room() -> [u32; SHEET_WORDS]
-    ensures { sheet_words ≡ length result }
-{
-    [0; SHEET_WORDS]
-}
-
-pub fn goal_room() -> [u32; GOAL_WORDS]
-    ensures { goal_words ≡ length result }
-{
-    [0; GOAL_WORDS]
 }
 
 // A goal that was read: how many literals it has, and how many variables; their first occurrences stand in the last words of the table.
@@ -95,11 +65,11 @@ pub fn read_goal_text(goal: &[u8], table: &mut [u32]) -> Result<GoalRead, Fault>
     requires { (goal_words ≤ length table.old) × (length table.old < 2 ^ 31) }
     ensures { GoalTabled goal.now table.new result }
 {
-    if is_long_goal(goal.len()) {
-        return Err(of_goal(Refusal::TooLong));
+    if is_too_long::<GOAL_BYTES>(goal.len()) {
+        return Err(fault_in(Text::Goal, Refusal::TooLong));
     }
     match parse_sheets::sheets::read_goal(goal, table) {
-        Err(refusal) => Err(of_goal(refusal)),
+        Err(refusal) => Err(fault_in(Text::Goal, refusal)),
         Ok(r) => Ok(GoalRead {
             literals: r.items,
             count: r.state.count,
@@ -121,7 +91,7 @@ pub fn read_checked(sheet: &[u8], declared: &mut [u32], table: &mut [u32], store
         count: counts.declarations,
     };
     match check_sheet(declarations, table, counts.clauses, stored) {
-        Err(refusal) => Err(of_sheet(refusal)),
+        Err(refusal) => Err(fault_in(Text::Sheet, refusal)),
         Ok(()) => Ok(counts),
     }
 }

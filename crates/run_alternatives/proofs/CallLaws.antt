@@ -1,5 +1,5 @@
 -- What comes of the top at a call: a clause is tried, and the alternative moves on. Assumes nothing.
-use Prim.Native.Nat.{ℕ, suc, ◌+◌, ◌-◌, ◌*◌, ◌≤◌, ◌<◌, ◌^◌}
+use Prim.Native.Nat.{ℕ, suc, ◌+◌, ◌*◌, ◌≤◌, ◌<◌, ◌^◌}
 use native.Mathlib.Omega.{arith}
 use mathlib.Core.Path.{◌≡◌, refl, sym, ap, ap₂, ◌∙◌, subst, subst⁻¹}
 use mathlib.Core.Bool.{Bool, true, false, ◌&&◌}
@@ -15,7 +15,7 @@ use Rattle.machine.specs.Substitution.{copied, Binding}
 use Rattle.machine.specs.Unification.{unify}
 use Rattle.machine.specs.Machine.{Pending, Alternative, pending, is_for, next_for, topmost, clause_at, moved_on, laid, tried, on_top, called, worked, step}
 use Rattle.machine.specs.Runs.{is_there, tries_with, tries_first, goes_deeper}
-use Rattle.run_layout.specs.Regions.{copy_cells, places, bodies, trail, state_words, frame_of, alternative_of, literal_size, next_literal, frame_size, alternative_size, most_alternatives, clause_record}
+use Rattle.run_layout.specs.Regions.{copy_cells, places, bodies, state_words, frame_of, alternative_of, literal_size, next_literal, frame_size, alternative_size, most_alternatives, clause_record}
 use Rattle.run_layout.specs.Nodes.{Symbol, TermLoaded}
 use Rattle.run_layout.specs.State.{copy_of, cell_at, trail_at, bindings, Within}
 use Rattle.run_layout.specs.Program.{head_at, body_at, after_at, record_kind, record_place, other_at}
@@ -67,8 +67,8 @@ module _ (nodes code state scratch : List ℕ) (j k : ℕ) (w : Tryable nodes co
   head-stands : TermLoaded ss nodes (head_at code k) (term_of w.clause.head)
   head-stands = (w.piled.program.clause k w.clause w.there).head
 
-  pub try-unifiable-top : Unifiable nodes state scratch (record_place code (literal_at state j)) (copy_at state j) (head_at code k) (path_at state j + 1) (mark_at state j)
-  try-unifiable-top =
+  abbrev head-unifiable : Unifiable nodes state scratch (record { node = record_place code (literal_at state j); copy = copy_at state j }) (record { node = head_at code k; copy = path_at state j + 1 }) (mark_at state j)
+  head-unifiable =
       let p : path_at state j < longest_path = w.low in
       let c : copy_at state j ≤ path_at state j = (top-stacked ss sh g nodes code state j (mark_at state j) w.piled).copy in
       record {
@@ -86,16 +86,18 @@ module _ (nodes code state scratch : List ℕ) (j k : ℕ) (w : Tryable nodes co
         below_right = omega arith;
       }
 
+  pub try-unifiable-top : Unifiable nodes state scratch (record { node = record_place code (literal_at state j); copy = copy_at state j }) (record { node = head_at code k; copy = path_at state j + 1 }) (mark_at state j)
+  try-unifiable-top = head-unifiable
+
   pub try-closed-top : Closed (path_at state j + 1) state
   try-closed-top =
       let p : path_at state j < longest_path = w.low in
       closed-within ss nodes state (mark_at state j) (path_at state j) w.piled.store (top-stacked ss sh g nodes code state j (mark_at state j) w.piled).within (omega arith)
 
   module _ (state1 later : List ℕ) (r : UnifyAnswer)
-      (u : (v : Unifiable nodes state scratch (record_place code (literal_at state j)) (copy_at state j) (head_at code k) (path_at state j + 1) (mark_at state j)) → UnifyGives v.ss nodes state state1 scratch later v.top (record_place code (literal_at state j)) (copy_at state j) (head_at code k) (path_at state j + 1) (mark_at state j) r) where
-    unifies : UnifyGives ss nodes state state1 scratch later (path_at state j + 1) (record_place code (literal_at state j)) (copy_at state j) (head_at code k) (path_at state j + 1) (mark_at state j) r
-    unfolding try-unifiable-top
-    unifies = u try-unifiable-top
+      (u : (v : Unifiable nodes state scratch (record { node = record_place code (literal_at state j); copy = copy_at state j }) (record { node = head_at code k; copy = path_at state j + 1 }) (mark_at state j)) → UnifyGives v state1 later r) where
+    unifies : UnifyGives head-unifiable state1 later r
+    unifies = u head-unifiable
 
     new_is : suc (length (calls_up_to sh g code state (path_at state j))) ≡ path_at state j + 1
     new_is = let q : length (calls_up_to sh g code state (path_at state j)) ≡ path_at state j = calls_count sh g code state (path_at state j) in omega arith

@@ -7,7 +7,7 @@ use mathlib.Core.List.{List}
 use lib.ListN.{length, get_or}
 use Rattle.syntax.specs.Words.{truth_kind, call_kind, equation_kind, program_clauses}
 use Rattle.syntax.specs.Limits.{longest_path}
-use Rattle.run_layout.specs.Regions.{split_kind, places, bodies, trail, state_words, most_alternatives, frame_of, alternative_of, literal_size, next_literal, frame_size, alternative_size, clause_record}
+use Rattle.run_layout.specs.Regions.{split_kind, places, bodies, state_words, most_alternatives, frame_of, alternative_of, literal_size, next_literal, frame_size, alternative_size, clause_record}
 use Rattle.run_layout.specs.Program.{head_at, body_at, after_at, record_kind, record_place, other_at}
 use Rattle.run_layout.specs.Pile.{copy_at, literal_at, next_at, mark_at, path_at}
 use Rattle.unify_bindings.specs.Queues.{Closed}
@@ -27,15 +27,15 @@ use Rattle.run_alternatives.proofs.CallLaws.{try-unifiable-top, try-closed-top, 
 -- ---- what a callee promises, of equal numbers
 
 abbrev pub UnifyEnds : (nodes state state1 scratch later : List ℕ) (p c q d n : ℕ) → UnifyAnswer → Type 0
-UnifyEnds nodes state state1 scratch later p c q d n r = (v : Unifiable nodes state scratch p c q d n) → UnifyGives v.ss nodes state state1 scratch later v.top p c q d n r
+UnifyEnds nodes state state1 scratch later p c q d n r = (v : Unifiable nodes state scratch (record { node = p; copy = c }) (record { node = q; copy = d }) n) → UnifyGives v state1 later r
 
 module _ {nodes state scratch : List ℕ} {p p2 c c2 q q2 d d2 n n2 : ℕ} (pe : p ≡ p2) (ce : c ≡ c2) (qe : q ≡ q2) (de : d ≡ d2) (ne : n ≡ n2) where
-  pub unifiable-of : Unifiable nodes state scratch p2 c2 q2 d2 n2 → Unifiable nodes state scratch p c q d n
+  pub unifiable-of : Unifiable nodes state scratch (record { node = p2; copy = c2 }) (record { node = q2; copy = d2 }) n2 → Unifiable nodes state scratch (record { node = p; copy = c }) (record { node = q; copy = d }) n
   unifiable-of v =
-      subst⁻¹ (λ (x : ℕ). Unifiable nodes state scratch x c q d n) pe
-      (subst⁻¹ (λ (x : ℕ). Unifiable nodes state scratch p2 x q d n) ce
-      (subst⁻¹ (λ (x : ℕ). Unifiable nodes state scratch p2 c2 x d n) qe
-      (subst⁻¹ (λ (x : ℕ). Unifiable nodes state scratch p2 c2 q2 x n) de (subst⁻¹ (λ (x : ℕ). Unifiable nodes state scratch p2 c2 q2 d2 x) ne v))))
+      subst⁻¹ (λ (x : ℕ). Unifiable nodes state scratch (record { node = x; copy = c }) (record { node = q; copy = d }) n) pe
+      (subst⁻¹ (λ (x : ℕ). Unifiable nodes state scratch (record { node = p2; copy = x }) (record { node = q; copy = d }) n) ce
+      (subst⁻¹ (λ (x : ℕ). Unifiable nodes state scratch (record { node = p2; copy = c2 }) (record { node = x; copy = d }) n) qe
+      (subst⁻¹ (λ (x : ℕ). Unifiable nodes state scratch (record { node = p2; copy = c2 }) (record { node = q2; copy = x }) n) de (subst⁻¹ (λ (x : ℕ). Unifiable nodes state scratch (record { node = p2; copy = c2 }) (record { node = q2; copy = d2 }) x) ne v))))
 
   pub unify-ends : (state1 later : List ℕ) (r : UnifyAnswer) → UnifyEnds nodes state state1 scratch later p c q d n r → UnifyEnds nodes state state1 scratch later p2 c2 q2 d2 n2 r
   unify-ends state1 later r k =
@@ -165,10 +165,10 @@ module _ {nodes code state scratch : List ℕ} {h : ℕ} (w : Steppable nodes co
       other-is : q ≡ other_at code (literal_at state (h - 1))
       other-is = qe ∙ ap (λ (x : ℕ). get_or code (x + 2) 0) literal_is
 
-      pub equation-unifiable : Unifiable nodes state scratch p s.copy q s.copy s.mark
+      pub equation-unifiable : Unifiable nodes state scratch (record { node = p; copy = s.copy }) (record { node = q; copy = s.copy }) s.mark
       equation-unifiable =
           unifiable-of place_is copy_is other-is copy_is mark-is
-          (at_top (λ (h j : ℕ). Steppable nodes code state scratch h (mark_at state j) → record_kind code (literal_at state j) ≡ equation_kind → Unifiable nodes state scratch (record_place code (literal_at state j)) (copy_at state j) (other_at code (literal_at state j)) (copy_at state j) (mark_at state j))
+          (at_top (λ (h j : ℕ). Steppable nodes code state scratch h (mark_at state j) → record_kind code (literal_at state j) ≡ equation_kind → Unifiable nodes state scratch (record { node = record_place code (literal_at state j); copy = copy_at state j }) (record { node = other_at code (literal_at state j); copy = copy_at state j }) (mark_at state j))
           (λ j w x. equation-unifiable-top nodes code state scratch j w x) h w.some w kind)
 
       module _ {state1 later : List ℕ} {r : UnifyAnswer} (k : UnifyEnds nodes state state1 scratch later p s.copy q s.copy s.mark r) where
@@ -298,10 +298,10 @@ module _ {nodes code state scratch : List ℕ} {h k : ℕ} (w : Tryable nodes co
       t-place : p ≡ record_place code (literal_at state (h - 1))
       t-place = pe ∙ ap (λ (x : ℕ). get_or code (x + 1) 0) t-literal
 
-      pub try-unifiable : Unifiable nodes state scratch p s.copy q (s.path + 1) s.mark
+      pub try-unifiable : Unifiable nodes state scratch (record { node = p; copy = s.copy }) (record { node = q; copy = s.path + 1 }) s.mark
       try-unifiable =
           unifiable-of t-place t-copy qe t-new t-mark
-          (at_top (λ (h j : ℕ). Tryable nodes code state scratch h j k → Unifiable nodes state scratch (record_place code (literal_at state j)) (copy_at state j) (head_at code k) (path_at state j + 1) (mark_at state j))
+          (at_top (λ (h j : ℕ). Tryable nodes code state scratch h j k → Unifiable nodes state scratch (record { node = record_place code (literal_at state j); copy = copy_at state j }) (record { node = head_at code k; copy = path_at state j + 1 }) (mark_at state j))
           (λ j w. try-unifiable-top nodes code state scratch j k w) h filled w)
 
       module _ {state1 later : List ℕ} {r : UnifyAnswer} (u : UnifyEnds nodes state state1 scratch later p s.copy q (s.path + 1) s.mark r) where

@@ -9,7 +9,7 @@ use lib.Dec.{eqb, leb}
 use lib.ListN.{length, get_or}
 use borrow.Author.Tests.{eq-eqb, ne_eqb}
 use Rattle.syntax.specs.Words.{truth_kind, falsity_kind, call_kind, equation_kind}
-use Rattle.syntax.specs.Limits.{longest_path, literals}
+use Rattle.syntax.specs.Limits.{longest_path}
 use Rattle.syntax.specs.Terms.{Atom, Literal, call, equation, truth, falsity, either, Body, done, also, Clause, Sheet}
 use Rattle.machine.specs.Machine.{Pending, Alternative, pending, topmost, clause_at, step, start}
 use Rattle.machine.specs.Low.{Low}

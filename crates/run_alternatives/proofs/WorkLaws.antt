@@ -1,5 +1,5 @@
 -- What comes of the top at `true`, at `fail`, at an equation and at the goal's end. Assumes nothing.
-use Prim.Native.Nat.{ℕ, zero, suc, ◌+◌, ◌-◌, ◌*◌, ◌≤◌, ◌<◌}
+use Prim.Native.Nat.{ℕ, zero, suc, ◌+◌, ◌*◌, ◌≤◌, ◌<◌}
 use native.Mathlib.Omega.{arith}
 use mathlib.Core.Path.{◌≡◌, refl, sym, ap, ◌∙◌, subst, subst⁻¹}
 use mathlib.Core.Bool.{Bool, true, false}
@@ -15,7 +15,7 @@ use Rattle.machine.specs.Unification.{unify}
 use Rattle.machine.specs.Machine.{new_alternative, step}
 use Rattle.machine.specs.Low.{Low}
 use Rattle.machine_theorems.proofs.Low.{low_step}
-use Rattle.run_layout.specs.Regions.{trail, state_words, alternative_of, body_end_kind, split_kind, next_literal, alternative_size, most_alternatives}
+use Rattle.run_layout.specs.Regions.{state_words, alternative_of, body_end_kind, split_kind, next_literal, alternative_size, most_alternatives}
 use Rattle.run_layout.specs.Nodes.{Symbol, TermLoaded}
 use Rattle.run_layout.specs.State.{bindings}
 use Rattle.run_layout.specs.Program.{record_kind, record_place, other_at}
@@ -144,8 +144,8 @@ module _ (nodes code state scratch : List ℕ) (j : ℕ) (w : Steppable nodes co
     sides-place : RecordOf sh g code state (copy_at state j) (next_literal (literal_at state j))
     sides-place = place-next piled-top.program stacked-top.place stacked-top.stays (one-equation sides.0 sides.1) sides.3
 
-    pub equation-unifiable-top : Unifiable nodes state scratch (record_place code (literal_at state j)) (copy_at state j) (other_at code (literal_at state j)) (copy_at state j) (mark_at state j)
-    equation-unifiable-top =
+    abbrev sides-unifiable : Unifiable nodes state scratch (record { node = record_place code (literal_at state j); copy = copy_at state j }) (record { node = other_at code (literal_at state j); copy = copy_at state j }) (mark_at state j)
+    sides-unifiable =
         let p : path_at state j ≤ longest_path = stacked-top.low in
         let c : copy_at state j ≤ path_at state j = stacked-top.copy in
         record {
@@ -163,11 +163,13 @@ module _ (nodes code state scratch : List ℕ) (j : ℕ) (w : Steppable nodes co
           below_right = c;
         }
 
+    pub equation-unifiable-top : Unifiable nodes state scratch (record { node = record_place code (literal_at state j); copy = copy_at state j }) (record { node = other_at code (literal_at state j); copy = copy_at state j }) (mark_at state j)
+    equation-unifiable-top = sides-unifiable
+
     module _ (state1 later : List ℕ) (r : UnifyAnswer)
-        (u : (v : Unifiable nodes state scratch (record_place code (literal_at state j)) (copy_at state j) (other_at code (literal_at state j)) (copy_at state j) (mark_at state j)) → UnifyGives v.ss nodes state state1 scratch later v.top (record_place code (literal_at state j)) (copy_at state j) (other_at code (literal_at state j)) (copy_at state j) (mark_at state j) r) where
-      unifies : UnifyGives ss nodes state state1 scratch later (path_at state j) (record_place code (literal_at state j)) (copy_at state j) (other_at code (literal_at state j)) (copy_at state j) (mark_at state j) r
-      unfolding equation-unifiable-top
-      unifies = u equation-unifiable-top
+        (u : (v : Unifiable nodes state scratch (record { node = record_place code (literal_at state j); copy = copy_at state j }) (record { node = other_at code (literal_at state j); copy = copy_at state j }) (mark_at state j)) → UnifyGives v state1 later r) where
+      unifies : UnifyGives sides-unifiable state1 later r
+      unifies = u sides-unifiable
 
       equation-answer : (b : Bool) → r.equal ≡ b → unify (bindings ss nodes state (mark_at state j)) (copied (copy_at state j) sides.0) (copied (copy_at state j) sides.1) ≡ answered b (bindings ss nodes state1 r.trail)
       equation-answer b e = unifies.answer sides.0 sides.1 sides.4 sides.5 ∙ ap (λ (y : Bool). answered y (bindings ss nodes state1 r.trail)) e

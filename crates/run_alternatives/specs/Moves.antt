@@ -1,5 +1,5 @@
 -- What the functions below `step` are given and what they promise.
-use Rattle.std.specs.Prelude.{ℕ, suc, ◌+◌, ◌≤◌, ◌<◌, ◌≡◌, List, ◌++◌, length}
+use Rattle.std.specs.Prelude.{ℕ, suc, ◌≤◌, ◌<◌, ◌≡◌, List, ◌++◌, length}
 use Rattle.std.proofs.Math.Option.{some}
 use Rattle.syntax.specs.Limits.{longest_path}
 use Rattle.syntax.specs.Terms.{Atom, done, Clause, Sheet, Goal}

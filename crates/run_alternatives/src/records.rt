@@ -6,7 +6,7 @@ ghost use Rattle.run_alternatives.specs.Words.{top_at, caller_at, top_words, nex
 use run_layout::{ALTERNATIVE_SIZE, ALTERNATIVES, FRAME_SIZE, FRAMES};
 use table_words::word_at;
 
-// The words of an alternative.
+// The words of an alternative. The next clause is 0 for none, as its word is: it goes over as it is from the code to the pile.
 #[derive(Clone, Copy)]
 pub struct Top {
     pub copy: usize,
@@ -53,25 +53,18 @@ pub fn caller_at(state: &[u32], k: usize) -> Spot
     Spot { copy, literal }
 }
 
-pub fn put_top(
-    state: &mut [u32],
-    j: usize,
-    copy: usize,
-    literal: usize,
-    next: usize,
-    mark: usize,
-    path: usize,
-)
-    requires { (alternative_of j + alternative_size ≤ length state.old) × (((copy < 2 ^ 32) × (literal < 2 ^ 32))
-        × ((next < 2 ^ 32) × ((mark < 2 ^ 32) × (path < 2 ^ 32)))) }
-    ensures { state.new ≡ top_words state.old j copy literal next mark path }
+pub fn put_top(state: &mut [u32], j: usize, s: Top)
+    requires { (alternative_of j + alternative_size ≤ length state.old) × (((s.copy < 2 ^ 32) × (s.literal < 2 ^ 32))
+        × ((s.next < 2 ^ 32) × ((s.mark < 2 ^ 32) × (s.path < 2 ^ 32)))) }
+    ensures { state.new ≡ top_words state.old j s.copy s.literal s.next s.mark s.path }
 {
     let i = ALTERNATIVES + j * ALTERNATIVE_SIZE;
-    state[i] = copy as u32;
-    state[i + 1] = literal as u32;
-    state[i + 2] = next as u32;
-    state[i + 3] = mark as u32;
-    state[i + 4] = path as u32;
+    // Word by word, here and in `put_frame`: by `put_three` 65,536 steps of "bits" take 1.6 in a hundred more instructions, more than at commit 3e725cc8.
+    state[i] = s.copy as u32;
+    state[i + 1] = s.literal as u32;
+    state[i + 2] = s.next as u32;
+    state[i + 3] = s.mark as u32;
+    state[i + 4] = s.path as u32;
 }
 
 // The next clause of alternative j.

@@ -2,26 +2,26 @@
 ghost use Rattle.std.specs.Prelude.{◌-◌};
 ghost use Rattle.run_alternatives.specs.Moves.{Tryable, Comes, tried_on};
 
-use crate::Pile;
 use crate::laying::lay;
-use crate::records::{put_frame, top_at};
+use crate::records::{Spot, put_frame, top_at};
+use crate::{Compiled, Pile};
 use run_layout::CLAUSE_SIZE;
+use run_layout::terms::At;
 use table_words::word_at;
 use unifier::solve::unify_closed;
 
 // The clause of number k tried, as the copy one past the path; where its head unifies, its body is laid on top.
 pub fn try_clause(
-    nodes: &[u32],
-    code: &[u32],
+    program: Compiled,
     state: &mut [u32],
     scratch: &mut [u32],
     h: usize,
     k: usize,
 ) -> Pile
-    requires { Tryable nodes.now code.now state.old scratch.old h (h - 1) k }
-    ensures { (w : Tryable nodes.now code.now state.old scratch.old h (h - 1) k)
-        → Comes w.ss w.sh w.g nodes.now code.now state.old state.new scratch.old
-        scratch.new (tried_on w.ss w.sh w.g nodes.now code.now state.old (h - 1) w.atom w.clause)
+    requires { Tryable program.nodes.now program.code.now state.old scratch.old h (h - 1) k }
+    ensures { (w : Tryable program.entry.nodes.now program.entry.code.now state.old scratch.old h (h - 1) k)
+        → Comes w.ss w.sh w.g program.entry.nodes.now program.entry.code.now state.old state.new scratch.old
+        scratch.new (tried_on w.ss w.sh w.g program.entry.nodes.now program.entry.code.now state.old (h - 1) w.atom w.clause)
         result }
 {
     let j = h - 1;
@@ -31,14 +31,26 @@ pub fn try_clause(
     let mark = s.mark;
     let new = s.path + 1;
     let i = k * CLAUSE_SIZE;
-    let p = word_at(code, l + 1);
-    let q = word_at(code, i);
-    let u = unify_closed(nodes, state, scratch, p, c, q, new, mark, new);
+    let p = word_at(program.code, l + 1);
+    let q = word_at(program.code, i);
+    let u = unify_closed(
+        program.nodes,
+        state,
+        scratch,
+        At { node: p, copy: c },
+        At { node: q, copy: new },
+        mark,
+        new,
+    );
     let trail = u.trail;
     if u.equal {
-        let body = word_at(code, i + 1);
+        let body = word_at(program.code, i + 1);
         put_frame(state, new, k, c, l);
-        lay(code, state, h, new, body, trail, new);
+        let first = Spot {
+            copy: new,
+            literal: body,
+        };
+        lay(program.code, state, h, first, trail, new);
         return Pile {
             height: h + 1,
             trail,

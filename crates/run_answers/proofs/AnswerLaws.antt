@@ -16,14 +16,13 @@ use Rattle.run_settings.specs.Ends.{ended_by}
 use Rattle.machine.specs.Machine.{Alternative}
 use Rattle.machine.specs.Answers.{line}
 use Rattle.machine.specs.Runs.{is_empty, is_answer, goes_deeper}
-use Rattle.run_layout.specs.Regions.{alternatives, alternative_size, most_alternatives, state_words, store_words, stack}
+use Rattle.run_layout.specs.Regions.{alternatives, alternative_of, alternative_size, most_alternatives, state_words, store_words, stack}
 use Rattle.run_layout.specs.Nodes.{Symbol}
 use Rattle.run_layout.specs.State.{bindings}
-use Rattle.run_layout.specs.Pile.{pile_of, Piled, mark_at}
+use Rattle.run_layout.specs.Pile.{pile_of, mark_at}
 use Rattle.machine.specs.Low.{Low}
 use Rattle.run_layout.proofs.Pile.{height, undone, Means}
 use Rattle.unify_bindings.specs.Cells.{Stored, Undone}
-use Rattle.syntax.specs.Spans.{names_from}
 use Rattle.out_answers.specs.Fitting.{Answerable, SomeAnswerable, Fitted}
 use Rattle.unify_bindings.specs.Scratch.{SameMarks, Roomy}
 use Rattle.run_alternatives.specs.Steps.{Running, Steppable, Stepped}
@@ -31,10 +30,10 @@ use Rattle.run_alternatives.specs.declared.Pile.{Pile}
 use Rattle.run_answers.specs.declared.LoadedProgram.{LoadedProgram}
 use Rattle.run_answers.specs.declared.Next.{Next}
 use Rattle.run_answers.specs.declared.Next.TheVariants.{End, Answer, Step}
-use Rattle.run_answers.specs.Telling.{before_step, Tellable, Rewindable, SamePile, Rewound, Answering, LineTold, Answered}
-use Rattle.buffers.specs.Buffers.{Put}
+use Rattle.run_answers.specs.Telling.{before_step, solution_of, Meaning, meaning_of, pile_in, PiledIn, Tellable, Rewindable, SamePile, Rewound, Answering, Answered}
+use Rattle.std.specs.Borrow.{Bor}
 use Rattle.run_answers.proofs.EndLaws.{answer-flat}
-use Rattle.run_answers.proofs.LineLaws.{line-some}
+use Rattle.out_terms.specs.Telling.{names_of}
 
 -- ---- what comes next
 
@@ -90,11 +89,11 @@ module _ {nodes code state : List ℕ} {h n : ℕ} (wanted answers left : ℕ) {
 -- ---- the trail rewound
 
 module _ {state : List ℕ} {h n : ℕ} (w : Rewindable state h n) where
-  pub rewind-room : alternatives + (h - 1) * alternative_size + 3 < length state
-  rewind-room = let x : h ≤ most_alternatives = height w.ss w.sh w.g w.nodes w.code state h n w.piled w.low in let y : state_words ≤ length state = w.piled.long in let z : 1 ≤ h = w.some in omega arith
+  pub rewind-room : alternative_of (h - 1) + alternative_size ≤ length state
+  rewind-room = let x : h ≤ most_alternatives = height w.meaning.ss w.meaning.sh w.meaning.g w.meaning.nodes w.meaning.code state h n w.piled w.low in let y : state_words ≤ length state = w.piled.long in let z : 1 ≤ h = w.some in omega arith
 
   pub rewind-stored : Stored state n
-  rewind-stored = record { ss = w.ss; nodes = w.nodes; store = w.piled.store }
+  rewind-stored = record { ss = w.meaning.ss; nodes = w.meaning.nodes; store = w.piled.store }
 
   top-low : h - 1 < h
   top-low = let z : 1 ≤ h = w.some in omega arith
@@ -103,17 +102,17 @@ module _ {state : List ℕ} {h n : ℕ} (w : Rewindable state h n) where
   rewind-mark = (w.piled.each (h - 1) top-low).mark
 
   module _ {after : List ℕ} (u : Undone state after (mark_at state (h - 1)) n) where
-    rewinds : (j : ℕ) → h ≡ suc j → Undone state after (mark_at state j) n → (ss : List Symbol) (sh : Sheet) (g : Goal) (nodes code : List ℕ) → Piled ss sh g nodes code state (suc j) n → SamePile ss sh g nodes code state after (suc j) (mark_at state j)
-    rewinds j e v ss sh g nodes code p =
-        let m : Means ss sh g nodes code after (suc j) (mark_at state j) (pile_of ss sh g nodes code state (suc j)) = undone ss sh g nodes code state after j n (mark_at state j) p refl v.keeps (v.store ss nodes p.store) in
-        record { piled = m.piled; is = m.is }
+    rewinds : (j : ℕ) → h ≡ suc j → Undone state after (mark_at state j) n → (m : Meaning) → PiledIn m state (suc j) n → SamePile m state after (suc j) (mark_at state j)
+    rewinds j e v m p =
+        let x : Means m.ss m.sh m.g m.nodes m.code after (suc j) (mark_at state j) (pile_in m state (suc j)) = undone m.ss m.sh m.g m.nodes m.code state after j n (mark_at state j) p refl v.keeps (v.store m.ss m.nodes p.store) in
+        record { piled = x.piled; is = x.is }
 
-    rewound-by : (j : ℕ) → h ≡ suc j → (ss : List Symbol) (sh : Sheet) (g : Goal) (nodes code : List ℕ) → Piled ss sh g nodes code state h n → SamePile ss sh g nodes code state after h (mark_at state (h - 1))
-    rewound-by j e ss sh g nodes code p =
+    rewound-by : (j : ℕ) → h ≡ suc j → (m : Meaning) → PiledIn m state h n → SamePile m state after h (mark_at state (h - 1))
+    rewound-by j e m p =
         let k : j ≡ h - 1 = omega arith in
-        subst⁻¹ (λ (x : ℕ). SamePile ss sh g nodes code state after x (mark_at state (h - 1))) e
-        (subst (λ (x : ℕ). SamePile ss sh g nodes code state after (suc j) (mark_at state x)) k
-        (rewinds j e (subst⁻¹ (λ (x : ℕ). Undone state after (mark_at state x) n) k u) ss sh g nodes code (subst (λ (x : ℕ). Piled ss sh g nodes code state x n) e p)))
+        subst⁻¹ (λ (x : ℕ). SamePile m state after x (mark_at state (h - 1))) e
+        (subst (λ (x : ℕ). SamePile m state after (suc j) (mark_at state x)) k
+        (rewinds j e (subst⁻¹ (λ (x : ℕ). Undone state after (mark_at state x) n) k u) m (subst (λ (x : ℕ). PiledIn m state x n) e p)))
 
     pub rewind-end : Rewound state after h n (mark_at state (h - 1))
     rewind-end =
@@ -144,49 +143,25 @@ none-some : (k : ℕ) → ◌≡◌ {A = Option ℕ} None (Some k) → ⊥
 none-some k q = let z : ◌≡◌ {A = ℕ} 0 1 = cc in omega arith
 
 module _ {loaded : LoadedProgram} {state scratch text : List ℕ} {h n at : ℕ} (w : Answering loaded state scratch text h n at) where
-  abbrev sheet : List ℕ
-  sheet = loaded.sheet.now
-
-  abbrev goal : List ℕ
-  goal = loaded.goal.now
-
-  abbrev names : List ℕ
-  names = loaded.names.now
-
-  abbrev count : ℕ
-  count = loaded.count
-
-  abbrev nodes : List ℕ
-  nodes = loaded.nodes.now
-
-  abbrev code : List ℕ
-  code = loaded.code.now
-
-  abbrev symbols : List ℕ
-  symbols = loaded.symbols.now
+  abbrev m : Meaning
+  m = meaning_of w.ss w.sh w.g loaded
 
   pub answer-rewinds : Rewindable state h n
-  answer-rewinds = record { ss = w.ss; sh = w.sh; g = w.g; nodes = nodes; code = code; piled = w.under.piled; low = w.under.low; some = w.some }
+  answer-rewinds = record { meaning = m; piled = w.under.piled; low = w.under.low; some = w.some }
 
-  module _ {mid : List ℕ} {m : ℕ} (x : Rewound state mid h n m) where
-    same-pile : SamePile w.ss w.sh w.g nodes code state mid h m
-    same-pile = x.same w.ss w.sh w.g nodes code w.under.piled
-
-    tells : Answerable w.ss m nodes mid symbols sheet goal names count
-    tells = record { store = same-pile.piled.store; symbols_are = w.spelt.spelt; named = w.spelt.named }
-
-    pub answer-tells : SomeAnswerable nodes mid symbols sheet goal names count
-    answer-tells = record { ss = w.ss; n = m; is = tells }
+  module _ {mid : List ℕ} {trail : ℕ} (x : Rewound state mid h n trail) where
+    same-pile : SamePile m state mid h trail
+    same-pile = x.same m w.under.piled
 
     pub answer-room : (at ≤ length text) × Tellable scratch (length text - at)
     answer-room = (w.room, (let x : Tellable scratch (length text) = w.under.lent.deep in omega arith))
 
-    pub answer-steps : {scratch1 : List ℕ} → SameMarks scratch scratch1 → Steppable nodes code mid scratch1 h m
+    pub answer-steps : {scratch1 : List ℕ} → SameMarks scratch scratch1 → Steppable m.nodes m.code mid scratch1 h trail
     answer-steps {scratch1} y =
         record {
           running = record { ss = w.ss; sh = w.sh; g = w.g; piled = same-pile.piled; low = subst⁻¹ Low same-pile.is w.under.low };
           some = w.some;
-          goes = ap (goes_deeper w.sh) same-pile.is ∙ answer-flat w.sh (pile_of w.ss w.sh w.g nodes code state h) w.answer;
+          goes = ap (goes_deeper w.sh) same-pile.is ∙ answer-flat w.sh (pile_in m state h) w.answer;
           roomy = (let r : Roomy scratch = w.under.lent.roomy in let e : length scratch1 ≡ length scratch = y.long in omega arith);
           clean = record {
             long = (let r : store_words ≤ length scratch = w.under.lent.clean.long in let e : length scratch1 ≡ length scratch = y.long in omega arith);
@@ -194,52 +169,45 @@ module _ {loaded : LoadedProgram} {state scratch text : List ℕ} {h n at : ℕ}
           };
         }
 
-    module _ {new : List ℕ} {past : ℕ} (f : (ss : List Symbol) (k : ℕ) (g : Goal) → Answerable ss k nodes mid symbols sheet goal names count → g.names ≡ names_from goal names 0 count → Fitted (line g (bindings ss nodes mid k)) text at new past) where
-      fitted-here : Fitted (line w.g (bindings w.ss nodes mid m)) text at new past
-      fitted-here = f w.ss m w.g tells w.spelt.names_are
+  -- the state as the line's function is lent it
+  module _ (mid : Bor (List ℕ)) {trail : ℕ} (x : Rewound state mid.now h n trail) where
+    tells : Answerable w.ss trail (solution_of loaded mid)
+    tells = record { store = (same-pile x).piled.store; symbols_are = w.spelt.spelt; named = w.spelt.named }
 
-      told_none : past ≡ 0 → LineTold (line w.g (bindings w.ss nodes mid m)) text at new None
-      told_none z = record {
-        fits = λ l. absurd (let p : past ≡ at + length (line w.g (bindings w.ss nodes mid m)) = (fitted-here.fits l).past in let some : 1 ≤ length (line w.g (bindings w.ss nodes mid m)) = line-some w.g (bindings w.ss nodes mid m) in omega arith);
-        full = λ l. (refl, (fitted-here.full l).1);
-      }
+    pub answer-tells : SomeAnswerable (solution_of loaded mid)
+    answer-tells = record { ss = w.ss; n = trail; is = tells }
 
-      told_some : (past ≡ 0 → ⊥) → LineTold (line w.g (bindings w.ss nodes mid m)) text at new (Some past)
-      told_some z = record {
-        fits = λ l. (
-          subst (Put text at (line w.g (bindings w.ss nodes mid m)) new) (fitted-here.fits l).past (fitted-here.fits l),
-          ap Some (fitted-here.fits l).past,
-        );
-        full = λ l. absurd (z (fitted-here.full l).0);
-      }
+    module _ {new : List ℕ} {r : Option ℕ} (f : (ss : List Symbol) (k : ℕ) (g : Goal) → Answerable ss k (solution_of loaded mid) → g.names ≡ names_of (solution_of loaded mid) → Fitted (line g (bindings ss m.nodes mid.now k)) text at new r) where
+      fitted-here : Fitted (line w.g (bindings w.ss m.nodes mid.now trail)) text at new r
+      fitted-here = f w.ss trail w.g tells w.spelt.names_are
 
-      pub answer-full : {scratch1 : List ℕ} → SameMarks scratch scratch1 → past ≡ 0 → Answered w.ss w.sh w.g nodes code state mid scratch scratch1 text new h at (record { at = None; height = h; trail = m })
+      pub answer-full : {scratch1 : List ℕ} → SameMarks scratch scratch1 → r ≡ None → Answered m state mid.now scratch scratch1 text new h at (record { at = None; height = h; trail = trail })
       answer-full {scratch1} y z =
           record {
-            mid = mid;
+            mid = mid.now;
             between = scratch1;
-            m = m;
-            same = same-pile;
+            trail = trail;
+            same = same-pile x;
             mark = x.mark;
-            told = told_none z;
+            told = subst (Fitted (line w.g (bindings w.ss m.nodes mid.now trail)) text at new) z fitted-here;
             stepped = λ k q. absurd (none-some k q);
-            stopped = λ q. (refl, (refl, (refl, (answer-steps y).clean)));
+            stopped = λ q. (refl, (refl, (refl, (answer-steps x y).clean)));
             state_long = x.long;
             scratch_long = y.long;
             later_long = y.long;
           }
 
-      pub answer-on : {scratch1 : List ℕ} (y : SameMarks scratch scratch1) → (past ≡ 0 → ⊥) → (after later : List ℕ) (r : Pile) → ((v : Steppable nodes code mid scratch1 h m) → Stepped v.running.ss v.running.sh v.running.g nodes code mid after scratch1 later h r) → Answered w.ss w.sh w.g nodes code state after scratch later text new h at (record { at = Some past; height = r.height; trail = r.trail })
+      pub answer-on : {scratch1 : List ℕ} {past : ℕ} (y : SameMarks scratch scratch1) → r ≡ Some past → (after later : List ℕ) (p : Pile) → ((v : Steppable m.nodes m.code mid.now scratch1 h trail) → Stepped v.running.ss v.running.sh v.running.g m.nodes m.code mid.now after scratch1 later h p) → Answered m state after scratch later text new h at (record { at = Some past; height = p.height; trail = p.trail })
       unfolding answer-steps
-      answer-on {scratch1} y some after later r k =
-          let s : Stepped w.ss w.sh w.g nodes code mid after scratch1 later h r = k (answer-steps y) in
+      answer-on {scratch1} {past} y z after later p k =
+          let s : Stepped w.ss w.sh w.g m.nodes m.code mid.now after scratch1 later h p = k (answer-steps x y) in
           record {
-            mid = mid;
+            mid = mid.now;
             between = scratch1;
-            m = m;
-            same = same-pile;
+            trail = trail;
+            same = same-pile x;
             mark = x.mark;
-            told = told_some some;
+            told = subst (Fitted (line w.g (bindings w.ss m.nodes mid.now trail)) text at new) z fitted-here;
             stepped = λ k q. s;
             stopped = λ q. absurd (none-some past (sym q));
             state_long = s.state_long ∙ x.long;

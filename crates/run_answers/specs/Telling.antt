@@ -1,5 +1,5 @@
 -- What comes before a step, and what telling an answer is given and promises.
-use Rattle.std.specs.Prelude.{ℕ, min, ◌+◌, ◌-◌, ◌*◌, ◌≤◌, ◌<◌, ◌≡◌, true, cond, List, leb, eqb, length, Option, Some, None}
+use Rattle.std.specs.Prelude.{ℕ, min, ◌+◌, ◌-◌, ◌*◌, ◌≤◌, ◌≡◌, true, cond, List, leb, eqb, length, Some, None}
 use Rattle.syntax.specs.Terms.{Sheet, Goal}
 use Rattle.syntax.specs.declared.Kind.TheVariants.{Wanted, Done, Steps, Deep}
 use Rattle.machine.specs.Machine.{Alternative}
@@ -14,7 +14,9 @@ use Rattle.unify_bindings.specs.Queues.{Clean}
 use Rattle.unify_bindings.specs.Scratch.{Roomy}
 use Rattle.syntax.specs.Spans.{names_from}
 use Rattle.out_terms.specs.Words.{SymbolsSpelt, Named}
-use Rattle.buffers.specs.Buffers.{Put}
+use Rattle.std.specs.Borrow.{Bor}
+use Rattle.out_terms.specs.declared.Solution.{Solution}
+use Rattle.out_answers.specs.Fitting.{Fitted}
 use Rattle.run_alternatives.specs.Steps.{Stepped}
 use Rattle.run_answers.specs.declared.AnswerTold.{AnswerTold}
 use Rattle.run_answers.specs.declared.LoadedProgram.{LoadedProgram}
@@ -36,6 +38,37 @@ pub record Spelt (ss : List Symbol) (g : Goal) (loaded : LoadedProgram) : Type 0
   pub named : Named loaded.goal.now loaded.names.now loaded.count
   pub names_are : g.names ≡ names_from loaded.goal.now loaded.names.now 0 loaded.count
 
+-- the solution that stands in a loaded program and a state
+abbrev pub solution_of : LoadedProgram → Bor (List ℕ) → Solution
+solution_of loaded state =
+    record {
+      nodes = loaded.nodes;
+      state = state;
+      symbols = loaded.symbols;
+      sheet = loaded.sheet;
+      goal = loaded.goal;
+      names = loaded.names;
+      count = loaded.count;
+    }
+
+-- What the tables of a loaded program mean, the symbols, the sheet and the goal, beside the two tables that a pile is read by.
+pub record Meaning : Type 0 where
+  pub ss : List Symbol
+  pub sh : Sheet
+  pub g : Goal
+  pub nodes : List ℕ
+  pub code : List ℕ
+
+abbrev pub meaning_of : List Symbol → Sheet → Goal → LoadedProgram → Meaning
+meaning_of ss sh g loaded = record { ss = ss; sh = sh; g = g; nodes = loaded.nodes.now; code = loaded.code.now }
+
+-- the pile of a state, and that there is one
+abbrev pub pile_in : Meaning → List ℕ → ℕ → List Alternative
+pile_in m state h = pile_of m.ss m.sh m.g m.nodes m.code state h
+
+abbrev pub PiledIn : Meaning → List ℕ → ℕ → ℕ → Type 0
+PiledIn m state h n = Piled m.ss m.sh m.g m.nodes m.code state h n
+
 -- scratch words whose part behind marks and queue is an ample stack for the brackets of an answer with so many bytes of room
 abbrev pub Tellable : List ℕ → ℕ → Type 0
 Tellable scratch room = min (deepest * open_size) (room * 2 + 4) + stack ≤ length scratch
@@ -47,34 +80,29 @@ pub record LentScratch (scratch : List ℕ) (room : ℕ) : Type 0 where
   pub deep : Tellable scratch room
 
 -- words that mean a low pile, and what is lent
-pub record Under (ss : List Symbol) (sh : Sheet) (g : Goal) (nodes code state scratch : List ℕ) (room h n : ℕ) : Type 0 where
-  pub piled : Piled ss sh g nodes code state h n
-  pub low : Low (pile_of ss sh g nodes code state h)
+pub record Under (m : Meaning) (state scratch : List ℕ) (room h n : ℕ) : Type 0 where
+  pub piled : PiledIn m state h n
+  pub low : Low (pile_in m state h)
   pub lent : LentScratch scratch room
 
 -- ---- what the functions ask and promise
 
 -- words that mean a low pile that is not empty, whatever the program
 pub record Rewindable (state : List ℕ) (h n : ℕ) : Type 0 where
-  pub ss : List Symbol
-  pub sh : Sheet
-  pub g : Goal
-  pub nodes : List ℕ
-  pub code : List ℕ
-  pub piled : Piled ss sh g nodes code state h n
-  pub low : Low (pile_of ss sh g nodes code state h)
+  pub meaning : Meaning
+  pub piled : PiledIn meaning state h n
+  pub low : Low (pile_in meaning state h)
   pub some : 1 ≤ h
 
 -- the same pile, and the trail is the top's
-pub record SamePile (ss : List Symbol) (sh : Sheet) (g : Goal) (nodes code before after : List ℕ) (h m : ℕ) : Type 0 where
-  pub piled : Piled ss sh g nodes code after h m
-  pub is : pile_of ss sh g nodes code after h ≡ pile_of ss sh g nodes code before h
+pub record SamePile (m : Meaning) (before after : List ℕ) (h trail : ℕ) : Type 0 where
+  pub piled : PiledIn m after h trail
+  pub is : pile_in m after h ≡ pile_in m before h
 
-pub record Rewound (before after : List ℕ) (h n m : ℕ) : Type 0 where
+pub record Rewound (before after : List ℕ) (h n trail : ℕ) : Type 0 where
   pub long : length after ≡ length before
-  pub mark : mark_at after (h - 1) ≡ m
-  pub same : (ss : List Symbol) (sh : Sheet) (g : Goal) (nodes code : List ℕ) → Piled ss sh g nodes code before h n
-      → SamePile ss sh g nodes code before after h m
+  pub mark : mark_at after (h - 1) ≡ trail
+  pub same : (m : Meaning) → PiledIn m before h n → SamePile m before after h trail
 
 -- an answer is next
 pub record Answering (loaded : LoadedProgram) (state scratch text : List ℕ) (h n at : ℕ) : Type 0 where
@@ -82,27 +110,21 @@ pub record Answering (loaded : LoadedProgram) (state scratch text : List ℕ) (h
   pub sh : Sheet
   pub g : Goal
   pub spelt : Spelt ss g loaded
-  pub under : Under ss sh g loaded.nodes.now loaded.code.now state scratch (length text) h n
+  pub under : Under (meaning_of ss sh g loaded) state scratch (length text) h n
   pub some : 1 ≤ h
-  pub answer : is_answer (pile_of ss sh g loaded.nodes.now loaded.code.now state h) ≡ true
+  pub answer : is_answer (pile_in (meaning_of ss sh g loaded) state h) ≡ true
   pub room : at ≤ length text
 
--- A line written where the whole of it fits, and the position past it; where it does not fit, nothing is written, and there is no position.
-pub record LineTold (line old : List ℕ) (at : ℕ) (new : List ℕ) (r : Option ℕ) : Type 0 where
-  pub fits : at + length line ≤ length old → Put old at line new (at + length line) × (r ≡ Some (at + length line))
-  pub full : length old < at + length line → (r ≡ None) × (new ≡ old)
-
 -- The line is written and the step taken, or the line does not fit: then there is no position, and the pile is as it was.
-pub record Answered (ss : List Symbol) (sh : Sheet) (g : Goal) (nodes code before after scratch later old new : List ℕ) (h at : ℕ)
-    (r : AnswerTold) : Type 0 where
+pub record Answered (m : Meaning) (before after scratch later old new : List ℕ) (h at : ℕ) (r : AnswerTold) : Type 0 where
   pub mid : List ℕ
   pub between : List ℕ
-  pub m : ℕ
-  pub same : SamePile ss sh g nodes code before mid h m
-  pub mark : mark_at mid (h - 1) ≡ m
-  pub told : LineTold (line g (bindings ss nodes mid m)) old at new r.at
-  pub stepped : (past : ℕ) → r.at ≡ Some past → Stepped ss sh g nodes code mid after between later h (record { height = r.height; trail = r.trail })
-  pub stopped : r.at ≡ None → (after ≡ mid) × ((r.height ≡ h) × ((r.trail ≡ m) × Clean later))
+  pub trail : ℕ
+  pub same : SamePile m before mid h trail
+  pub mark : mark_at mid (h - 1) ≡ trail
+  pub told : Fitted (line m.g (bindings m.ss m.nodes mid trail)) old at new r.at
+  pub stepped : (past : ℕ) → r.at ≡ Some past → Stepped m.ss m.sh m.g m.nodes m.code mid after between later h (record { height = r.height; trail = r.trail })
+  pub stopped : r.at ≡ None → (after ≡ mid) × ((r.height ≡ h) × ((r.trail ≡ trail) × Clean later))
   pub state_long : length after ≡ length before
   pub scratch_long : length between ≡ length scratch
   pub later_long : length later ≡ length scratch

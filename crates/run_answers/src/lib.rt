@@ -4,28 +4,31 @@
 
 ghost use Rattle.std.specs.Prelude.{◌≡◌, List, ℕ, ◌-◌, ◌≤◌, length};
 ghost use Rattle.syntax.specs.Terms.{Goal};
-ghost use Rattle.syntax.specs.Spans.{names_from};
 ghost use Rattle.machine.specs.Answers.{line};
 ghost use Rattle.run_layout.specs.Nodes.{Symbol};
 ghost use Rattle.run_layout.specs.State.{bindings};
 ghost use Rattle.run_layout.specs.Pile.{pile_of};
 ghost use Rattle.unify_bindings.specs.Scratch.{SameMarks};
+ghost use Rattle.out_terms.specs.Telling.{names_of};
 ghost use Rattle.out_answers.specs.Fitting.{Answerable, SomeAnswerable, Fitted};
 ghost use Rattle.run_alternatives.specs.Steps.{Running};
-ghost use Rattle.run_answers.specs.Telling.{before_step, Tellable, Rewindable, Rewound, Answering, Answered};
+ghost use Rattle.run_answers.specs.Telling.{before_step, meaning_of, solution_of, Tellable, Rewindable, Rewound, Answering, Answered};
 
 use out_answers::put_answer;
-use run_layout::{ALTERNATIVE_SIZE, ALTERNATIVES, STACK};
+use out_terms::Solution;
+use run_alternatives::records::top_at;
+use run_alternatives::{Compiled, Pile};
+use run_layout::STACK;
 use run_settings::ended;
 use run_steps::{goes_deeper, is_answer, step};
 use syntax::Kind;
-use table_words::word_at;
 use unify_bindings::store::undo;
 
-// Which word of an alternative is the length of its trail.
-const MARK: usize = 3;
-
 // What a run reads and never writes: the two texts, the words of the goal's variables and their count, and the tables of a loaded program.
+// State, scratch words and text are no part of it, since they are written: a struct with a `&mut` field would have each function promise that it is still the
+// same reference. `nodes` and `code` are no `Compiled` in it: tried, and rattle does not read the proof of `load_and_run::load_and_run` then, since that struct
+// would hold at one lifetime parameter references of two lifetimes of the signature.
+// (`ProgramLinked`, which load_and_run asks of it, is no ghost field: such a field wants a fact with one proof at most, and this one brings sheet and goal.)
 #[derive(Clone, Copy)]
 pub struct LoadedProgram<'a> {
     pub sheet: &'a [u8],
@@ -45,7 +48,8 @@ pub enum Next {
     Step,
 }
 
-// After an answer: the position past its line, none where the line does not fit; and the pile's height and the trail's length.
+// After an answer: the position past its line, none where the line does not fit; and the pile's height and the trail's length. (Two fields and no `Pile`, here
+// and in `Carried`: the relations of both speak of each by itself, and a `Pile` would make each path in them a step longer.)
 #[derive(Clone, Copy)]
 pub struct AnswerTold {
     pub at: Option<usize>,
@@ -53,46 +57,40 @@ pub struct AnswerTold {
     pub trail: usize,
 }
 
-// What comes before the next step. The ends are looked for in their order, `done` before `wanted`; whether an answer's line fits is known once it is
-// measured.
+// What comes before the next step; `left` is what is left of the allowance. The ends are looked for in their order, `done` before `wanted`; whether an
+// answer's line fits is known once it is measured.
 pub fn next_of(
     code: &[u32],
     state: &[u32],
-    allowance: usize,
+    pile: Pile,
     wanted: usize,
-    h: usize,
-    n: usize,
     answers: usize,
-    steps: usize,
+    left: usize,
 ) -> Next
-    requires by_index { (nodes : List ℕ) × Running nodes code.now state.now h n }
-    requires steps_le_allowance { steps ≤ allowance }
-    ensures { (nodes : List ℕ) (w : Running nodes code.now state.now h n)
-        → result ≡ before_step wanted answers (allowance - steps) w.sh (pile_of w.ss w.sh w.g nodes code.now state.now h) }
+    requires { (nodes : List ℕ) × Running nodes code.now state.now pile.height pile.trail }
+    ensures { (nodes : List ℕ) (w : Running nodes code.now state.now pile.height pile.trail)
+        → result ≡ before_step wanted answers left w.sh (pile_of w.ss w.sh w.g nodes code.now state.now pile.height) }
 {
-    let left = allowance - steps;
-    if let Some(kind) = ended(h, wanted, answers, left) {
+    if let Some(kind) = ended(pile.height, wanted, answers, left) {
         return Next::End(kind);
     }
-    if is_answer(code, state, h, n) {
+    if is_answer(code, state, pile) {
         return Next::Answer;
     }
-    if goes_deeper(code, state, h, n) {
+    if goes_deeper(code, state, pile) {
         return Next::End(Kind::Deep);
     }
     Next::Step
 }
 
 // The trail undone to the top's mark, which is its length then.
-fn rewind(state: &mut [u32], h: usize, n: usize) -> usize
-    requires { Rewindable state.old h n }
-    ensures { Rewound state.old state.new h n result }
+fn rewind(state: &mut [u32], pile: Pile) -> usize
+    requires { Rewindable state.old pile.height pile.trail }
+    ensures { Rewound state.old state.new pile.height pile.trail result }
 {
-    let j = h - 1;
-    let i = ALTERNATIVES + j * ALTERNATIVE_SIZE + MARK;
-    let mark = word_at(state, i);
-    undo(state, mark, n);
-    mark
+    let s = top_at(state, pile.height - 1);
+    undo(state, s.mark, pile.trail);
+    s.mark
 }
 
 // The line of an answer written from at on, the brackets in the scratch words behind marks and queue.
@@ -102,29 +100,25 @@ fn tell(
     scratch: &mut [u32],
     text: &mut [u8],
     at: usize,
-) -> usize
-    requires some_answerable { SomeAnswerable loaded.nodes.now state.now loaded.symbols.now loaded.sheet.now loaded.goal.now
-        loaded.names.now loaded.count }
+) -> Option<usize>
+    requires some_answerable { SomeAnswerable (solution_of loaded state) }
     requires at_in_bounds { (at ≤ length text.old) × Tellable scratch.old (length text.old - at) }
-    ensures fitted { (ss : List Symbol) (n : ℕ) (g : Goal) → Answerable ss n loaded.entry.nodes.now state.now
-        loaded.entry.symbols.now loaded.entry.sheet.now loaded.entry.goal.now loaded.entry.names.now loaded.entry.count
-        → g.names ≡ names_from loaded.entry.goal.now loaded.entry.names.now 0 loaded.entry.count
+    ensures fitted { (ss : List Symbol) (n : ℕ) (g : Goal) → Answerable ss n (solution_of loaded.entry state.entry)
+        → g.names ≡ names_of (solution_of loaded.entry state.entry)
         → Fitted (line g (bindings ss loaded.entry.nodes.now state.now n)) text.old at text.new result }
     ensures marks { SameMarks scratch.old scratch.new }
 {
     let from = STACK;
-    put_answer(
-        loaded.goal,
-        loaded.names,
-        loaded.count,
-        loaded.nodes,
+    let solution = Solution {
+        nodes: loaded.nodes,
         state,
-        loaded.symbols,
-        loaded.sheet,
-        &mut scratch[from..],
-        text,
-        at,
-    )
+        symbols: loaded.symbols,
+        sheet: loaded.sheet,
+        goal: loaded.goal,
+        names: loaded.names,
+        count: loaded.count,
+    };
+    put_answer(solution, &mut scratch[from..], text, at)
 }
 
 // An answer: its line written from at on, and then the step.
@@ -133,25 +127,30 @@ pub fn answer(
     state: &mut [u32],
     scratch: &mut [u32],
     text: &mut [u8],
-    h: usize,
-    n: usize,
+    pile: Pile,
     at: usize,
 ) -> AnswerTold
-    requires { Answering loaded state.old scratch.old text.old h n at }
-    ensures { (w : Answering loaded.entry state.old scratch.old text.old h n at)
-        → Answered w.ss w.sh w.g loaded.entry.nodes.now loaded.entry.code.now state.old state.new scratch.old
-        scratch.new text.old text.new h at result }
+    requires { Answering loaded state.old scratch.old text.old pile.height pile.trail at }
+    ensures { (w : Answering loaded.entry state.old scratch.old text.old pile.height pile.trail at)
+        → Answered (meaning_of w.ss w.sh w.g loaded.entry) state.old state.new scratch.old scratch.new text.old text.new pile.height at result }
 {
-    let m = rewind(state, h, n);
-    let past = tell(loaded, state, scratch, text, at);
-    if past == 0 {
+    let trail = rewind(state, pile);
+    let Some(past) = tell(loaded, state, scratch, text, at) else {
         return AnswerTold {
             at: None,
-            height: h,
-            trail: m,
+            height: pile.height,
+            trail,
         };
-    }
-    let p = step(loaded.nodes, loaded.code, state, scratch, h, m);
+    };
+    let program = Compiled {
+        nodes: loaded.nodes,
+        code: loaded.code,
+    };
+    let here = Pile {
+        height: pile.height,
+        trail,
+    };
+    let p = step(program, state, scratch, here);
     AnswerTold {
         at: Some(past),
         height: p.height,

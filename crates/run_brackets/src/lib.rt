@@ -9,9 +9,10 @@ ghost use Rattle.run_layout.specs.Pile.{literal_at, mark_at};
 ghost use Rattle.run_alternatives.specs.Words.{top_at};
 ghost use Rattle.run_alternatives.specs.Steps.{Steppable, Stepped};
 
+use link_records::next_literal;
 use run_alternatives::Pile;
-use run_alternatives::laying::{lay, next_literal};
-use run_alternatives::records::Top;
+use run_alternatives::laying::lay;
+use run_alternatives::records::{Spot, Top};
 use table_words::word_at;
 
 // A bracket: the right side takes the top's place, and the left side is laid on it.
@@ -28,10 +29,16 @@ pub fn work_either(code: &[u32], state: &mut [u32], h: usize, s: Top) -> Pile
     let l = s.literal;
     let trail = s.mark;
     let path = s.path;
-    let right = word_at(code, l + 2);
-    let left = next_literal(l);
-    lay(code, state, j, c, right, trail, path);
-    lay(code, state, h, c, left, trail, path);
+    let right = Spot {
+        copy: c,
+        literal: word_at(code, l + 2),
+    };
+    let left = Spot {
+        copy: c,
+        literal: next_literal(l),
+    };
+    lay(code, state, j, right, trail, path);
+    lay(code, state, h, left, trail, path);
     Pile {
         height: h + 1,
         trail,

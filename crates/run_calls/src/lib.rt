@@ -9,29 +9,29 @@ ghost use Rattle.run_layout.specs.Pile.{literal_at, mark_at};
 ghost use Rattle.run_alternatives.specs.Words.{top_at};
 ghost use Rattle.run_alternatives.specs.Steps.{Steppable, Stepped};
 
-use run_alternatives::Pile;
 use run_alternatives::records::{Top, put_next};
 use run_alternatives::trying::try_clause;
+use run_alternatives::{Compiled, Pile};
 use run_layout::CLAUSE_SIZE;
 use table_words::word_at;
 
 // A call: the alternative moves on first, then the clause is tried on the words as they then are.
 pub fn work_call(
-    nodes: &[u32],
-    code: &[u32],
+    program: Compiled,
     state: &mut [u32],
     scratch: &mut [u32],
     h: usize,
     s: Top,
 ) -> Pile
-    requires steppable { Steppable nodes.now code.now state.old scratch.old h (mark_at state.old (h - 1)) }
+    requires steppable { Steppable program.nodes.now program.code.now state.old scratch.old h (mark_at state.old (h - 1)) }
     requires s_value { s ≡ top_at state.old (h - 1) }
-    requires h_value { record_kind code.now (literal_at state.old (h - 1)) ≡ call_kind }
-    ensures { (w : Steppable nodes.now code.now state.old scratch.old h
-        (mark_at state.old (h - 1))) → Stepped w.running.ss w.running.sh w.running.g nodes.now code.now
+    requires h_value { record_kind program.code.now (literal_at state.old (h - 1)) ≡ call_kind }
+    ensures { (w : Steppable program.entry.nodes.now program.entry.code.now state.old scratch.old h
+        (mark_at state.old (h - 1))) → Stepped w.running.ss w.running.sh w.running.g program.entry.nodes.now program.entry.code.now
         state.old state.new scratch.old scratch.new h result }
 {
     let j = h - 1;
+    // 0 says that there is none, in the pile's word as in the code's, of which it is a copy.
     let next = s.next;
     if next == 0 {
         return Pile {
@@ -40,7 +40,7 @@ pub fn work_call(
         };
     }
     let i = next * CLAUSE_SIZE + 2;
-    let after = word_at(code, i);
+    let after = word_at(program.code, i);
     put_next(state, j, after);
-    try_clause(nodes, code, state, scratch, h, next)
+    try_clause(program, state, scratch, h, next)
 }

@@ -6,7 +6,6 @@ use mathlib.Core.List.{List, [], ◌∷◌}
 use mathlib.Core.Option.{some}
 use lib.ListN.{length, set, replicate, length-replicate}
 use Rattle.syntax.specs.Words.{first_name, literal_length, body_length, program_clauses}
-use Rattle.syntax.specs.Limits.{literals, arguments, variables, declarations}
 use Rattle.syntax.specs.Quote.{bytes}
 use Rattle.syntax.specs.Terms.{nil, Atom, term_of, call, Body, done, also, literals_of, same_bytes, Clause, Sheet, Goal}
 use Rattle.machine.specs.Machine.{pending, first_for, next_for, nth_clause, clause_at}
@@ -14,7 +13,6 @@ use Rattle.machine.specs.Low.{BodyShort, ClausesShort}
 use Rattle.machine.proofs.Tests.{some-eq, some-none}
 use Rattle.run_layout.specs.Regions.{places, bodies, state_words, frame_of, alternative_of, literal_from, body_end_kind, jump_kind, next_literal, frame_size, alternative_size}
 use Rattle.run_layout.specs.Nodes.{Symbol, is_symbol, symbol_of, is_listed, loaded_words, is_loadable, brackets_of, TermLoaded}
-use Rattle.run_layout.specs.State.{bindings}
 use Rattle.run_layout.specs.Program.{body_at, BodyLoaded, ClauseLoaded, Program}
 use Rattle.run_layout.specs.Pile.{Calls, rest_from, copy_at, literal_at, path_at, NoJump, NextFor, Piled}
 use Rattle.run_layout.proofs.State.{keeps-refl}

@@ -13,7 +13,7 @@ use Rattle.syntax.specs.Limits.{longest_path}
 use Rattle.syntax.specs.Terms.{Term, term_of, Atom, Literal, call, equation, truth, falsity, either, Body, done, also, Clause, Sheet, Goal}
 use Rattle.machine.specs.Substitution.{Binding, copied}
 use Rattle.machine.specs.Unification.{unify}
-use Rattle.machine.specs.Machine.{Pending, Call, Alternative, path, pending, next_for, next_of, topmost, clause_at, new_alternative, gone, equated, moved_on, laid, tried, on_top, called, worked, worked_on, outcome, step}
+use Rattle.machine.specs.Machine.{Pending, Call, Alternative, pending, next_for, next_of, topmost, clause_at, new_alternative, gone, equated, moved_on, laid, tried, on_top, called, worked, worked_on, outcome, step}
 use Rattle.run_layout.specs.Regions.{frames, next_literal}
 use Rattle.run_layout.specs.Nodes.{Symbol}
 use Rattle.run_layout.specs.State.{bindings, Store, Within, Keeps}

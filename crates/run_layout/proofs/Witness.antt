@@ -10,7 +10,6 @@ use lib.ListN.{length, get_or, set, replicate, length-set, length-replicate, get
 use lib.Seq.{get_or-set_same, get_or-set_other}
 use borrow.Author.Tests.{ltb-true, ltb-false}
 use Rattle.syntax.specs.Words.{first_name, body_length, program_clauses}
-use Rattle.syntax.specs.Limits.{literals, arguments, declarations}
 use Rattle.syntax.specs.Quote.{bytes}
 use Rattle.syntax.specs.Terms.{variable, compound, nil, cons, same_bytes, truth, done, also, literals_of, Clause, Sheet, Goal}
 use Rattle.machine.specs.Substitution.{resolve}

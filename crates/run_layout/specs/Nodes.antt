@@ -2,7 +2,7 @@
 use Rattle.std.specs.Prelude.{ℕ, zero, suc, max, ◌+◌, ◌-◌, ◌≤◌, ◌≡◌, Bool, true, false, ◌&&◌, ◌||◌, List, [], ◌∷◌, ◌++◌, T, ltb, length, get_or}
 use Rattle.table_words.specs.Tables.{Has}
 use Rattle.syntax.specs.Words.{first_name}
-use Rattle.syntax.specs.Limits.{arguments, brackets}
+use Rattle.syntax.specs.Limits.{brackets}
 use Rattle.syntax.specs.Terms.{Term, Terms, variable, compound, nil, cons, arity, same_predicate}
 use Rattle.machine.specs.Substitution.{RTerm, RTerms, var, app, rnil, rcons}
 use Rattle.run_layout.specs.Regions.{loaded_node}

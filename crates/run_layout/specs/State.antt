@@ -4,6 +4,7 @@ use Rattle.syntax.specs.Words.{first_name}
 use Rattle.machine.specs.Substitution.{Variable, RTerm, occurs, Binding, resolve}
 use Rattle.run_layout.specs.Regions.{copies, copy_cells, cells, trail, places, store_words}
 use Rattle.run_layout.specs.Nodes.{Symbol, Node, term_at}
+use Rattle.run_layout.specs.declared.terms.At.{At}
 
 -- ---- cells
 
@@ -23,6 +24,10 @@ node_of w = (w - 1) / copies
 
 abbrev pub copy_of : ℕ → ℕ
 copy_of w = (w - 1) % copies
+
+-- the run-time term of a cell's word
+abbrev pub at_of : ℕ → At
+at_of w = record { node = node_of w; copy = copy_of w }
 
 abbrev pub cell_at : List ℕ → ℕ → ℕ
 cell_at state x = get_or state x 0

@@ -3,6 +3,8 @@
 
 #![tactic(auto)]
 
+pub mod terms;
+
 ghost use Rattle.std.specs.Prelude.{◌≡◌, ◌<◌, ◌^◌};
 ghost use Rattle.run_layout.specs.Regions.{copies, copy_cells, half_word};
 ghost use Rattle.run_layout.specs.Halves.{half, stored};
@@ -30,6 +32,7 @@ pub const CLAUSE_SIZE: usize = 4;
 
 pub const LITERAL_SIZE: usize = 4;
 
+// The kinds of records of a body beside those of `syntax`. A record's kind is a word of the code, so it is a number here, as there.
 pub const END_KIND: usize = 4;
 
 pub const SPLIT_KIND: usize = 5;
@@ -149,7 +152,8 @@ const TEXTS: usize = 2;
 
 const SYMBOL_PLACES: usize = TEXTS * LENGTHS;
 
-// A symbol's word (specs/Symbols): the place of its name, the text, 0 for the sheet and 1 for the goal, and its length.
+// A symbol's word (specs/Symbols): the place of its name, the text, 0 for the sheet and 1 for the goal, and its length. The text is a part of a word, and any
+// number that fits may be packed, so it is a number here; above it is `load_words::Source`, or the text itself (`out_terms::symbols::text_of`).
 pub fn pack_symbol(place: usize, text: usize, len: usize) -> u32
     requires { symbol_word place text len < 2 ^ 32 }
     ensures { result ≡ symbol_word place text len }
@@ -166,7 +170,7 @@ pub fn symbol_place(word: u32) -> usize
     w / SYMBOL_PLACES
 }
 
-// Its text.
+// Its text, a number as above.
 pub fn symbol_text(word: u32) -> usize
     ensures { result ≡ symbol_text word }
 {
@@ -174,7 +178,7 @@ pub fn symbol_text(word: u32) -> usize
     w / LENGTHS % TEXTS
 }
 
-// Its length.
+// Its length. (`packed_words::span_length` computes so too: each word is unpacked by the crate that packs it.)
 pub fn symbol_length(word: u32) -> usize
     ensures { result ≡ symbol_length word }
 {
@@ -197,7 +201,8 @@ pub fn cell_copy(cell: usize) -> usize
     cell / COPY_CELLS
 }
 
-// Half of a word (specs/Halves): the lower where h is 0, else the higher.
+// Half of a word (specs/Halves): the lower where h is 0, else the higher. It is a number since rows of halves are counted through (`unify_memos::number_in`):
+// the half is what is left of a place divided by two.
 pub fn half_of(h: usize, w: usize) -> usize
     ensures { result ≡ half h w }
 {

@@ -1,7 +1,7 @@
 -- One law for each way out of `in_range` and `ended`. Assumes nothing.
 use Prim.Native.Nat.{ℕ, ◌≤◌, ◌<◌}
-use mathlib.Core.Path.{◌≡◌, sym, ap, ap₂, ◌∙◌}
-use mathlib.Core.Bool.{Bool, false, ◌&&◌}
+use mathlib.Core.Path.{◌≡◌, sym, ap, ◌∙◌}
+use mathlib.Core.Bool.{Bool, true, false, ◌&&◌}
 use lib.Dec.{leb}
 use borrow.Author.Tests.{le-leb, lt-leb, eq-eqb, ne_eqb}
 use Rattle.syntax.specs.Limits.{most_steps, most_answers}
@@ -10,23 +10,20 @@ use Rattle.machine.specs.Runs.{in_range}
 use Rattle.std.specs.Prelude.{Some, None}
 use Rattle.run_settings.specs.Ends.{ended_by}
 
-pub range-no-steps : (a w : ℕ) → a < 1 → false ≡ in_range a w
+-- one of two conditions, where the first is false, and both, where it is true
+pub first-false : {a : Bool} (b : Bool) → a ≡ false → a ≡ (a && b)
+first-false b e = e ∙ sym (ap (λ (c : Bool). c && b) e)
+
+pub first-true : {a : Bool} (b : Bool) → a ≡ true → b ≡ (a && b)
+first-true b e = sym (ap (λ (c : Bool). c && b) e)
+
+pub range-steps : {r : Bool} (a w : ℕ) → r ≡ (leb 1 a && leb a most_steps) → r ≡ false → r ≡ in_range a w
 unfolding in_range
-range-no-steps a w h = sym (ap (λ (b : Bool). (b && leb a most_steps) && (leb 1 w && leb w most_answers)) (lt-leb 1 a h))
+range-steps a w e f = e ∙ first-false (leb 1 w && leb w most_answers) (sym e ∙ f)
 
-pub range-many-steps : (a w : ℕ) → 1 ≤ a → most_steps < a → false ≡ in_range a w
+pub range-answers : {r s : Bool} (a w : ℕ) → r ≡ (leb 1 a && leb a most_steps) → r ≡ true → s ≡ (leb 1 w && leb w most_answers) → s ≡ in_range a w
 unfolding in_range
-range-many-steps a w l h = sym (ap₂ (λ (b c : Bool). (b && c) && (leb 1 w && leb w most_answers)) (le-leb 1 a l) (lt-leb a most_steps h))
-
-range_steps : (a w : ℕ) → 1 ≤ a → a ≤ most_steps → in_range a w ≡ (leb 1 w && leb w most_answers)
-unfolding in_range
-range_steps a w l h = ap₂ (λ (b c : Bool). (b && c) && (leb 1 w && leb w most_answers)) (le-leb 1 a l) (le-leb a most_steps h)
-
-pub range-no-answers : (a w : ℕ) → 1 ≤ a → a ≤ most_steps → w < 1 → false ≡ in_range a w
-range-no-answers a w l h m = sym (range_steps a w l h ∙ ap (λ (b : Bool). b && leb w most_answers) (lt-leb 1 w m))
-
-pub range-answers : (a w : ℕ) → 1 ≤ a → a ≤ most_steps → 1 ≤ w → leb w most_answers ≡ in_range a w
-range-answers a w l h m = sym (range_steps a w l h ∙ ap (λ (b : Bool). b && leb w most_answers) (le-leb 1 w m))
+range-answers a w e t f = f ∙ first-true (leb 1 w && leb w most_answers) (sym e ∙ t)
 
 -- ---- ends
 

@@ -2,26 +2,24 @@
 
 #![tactic(auto)]
 
-ghost use Rattle.std.specs.Prelude.{◌≡◌};
+ghost use Rattle.std.specs.Prelude.{◌≡◌, ◌&&◌, leb};
 ghost use Rattle.machine.specs.Runs.{in_range};
 ghost use Rattle.run_settings.specs.Ends.{ended_by};
 
 use syntax::{Kind, MOST_ANSWERS, MOST_STEPS};
 
+// Whether a number is from 1 to the most that there may be.
+fn is_within(n: usize, most: usize) -> bool
+    ensures { result ≡ (leb 1 n && leb n most) }
+{
+    1 <= n && n <= most
+}
+
 // Whether a run takes these settings: 1 to 65,536 steps, 1 to 64 answers.
 pub fn in_range(allowance: usize, wanted: usize) -> bool
     ensures { result ≡ in_range allowance wanted }
 {
-    if allowance < 1 {
-        return false;
-    }
-    if MOST_STEPS < allowance {
-        return false;
-    }
-    if wanted < 1 {
-        return false;
-    }
-    wanted <= MOST_ANSWERS
+    is_within(allowance, MOST_STEPS) && is_within(wanted, MOST_ANSWERS)
 }
 
 // How a run has ended before its next step, as far as its counts tell; none while it may go on. The ends are looked for in their order: no alternative

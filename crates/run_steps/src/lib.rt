@@ -10,32 +10,25 @@ ghost use Rattle.run_layout.specs.Pile.{pile_of};
 ghost use Rattle.run_alternatives.specs.Steps.{Running, Steppable, Stepped, Startable, Started};
 
 use literals::work;
-use run_alternatives::Pile;
 use run_alternatives::laying::lay;
-use run_alternatives::records::top_at;
+use run_alternatives::records::{Spot, top_at};
+use run_alternatives::{Compiled, Pile};
 use run_layout::END_KIND;
 use syntax::{CALL_KIND, LONGEST_PATH};
 use table_words::word_at;
 use unify_bindings::store::undo;
 
 // One step: the trail undone to the top's mark, then the top worked on.
-pub fn step(
-    nodes: &[u32],
-    code: &[u32],
-    state: &mut [u32],
-    scratch: &mut [u32],
-    h: usize,
-    n: usize,
-) -> Pile
-    requires { Steppable nodes.now code.now state.old scratch.old h n }
-    ensures { (w : Steppable nodes.now code.now state.old scratch.old h n)
-        → Stepped w.running.ss w.running.sh w.running.g nodes.now code.now state.old state.new
-        scratch.old scratch.new h result }
+pub fn step(program: Compiled, state: &mut [u32], scratch: &mut [u32], pile: Pile) -> Pile
+    requires { Steppable program.nodes.now program.code.now state.old scratch.old pile.height pile.trail }
+    ensures { (w : Steppable program.entry.nodes.now program.entry.code.now state.old scratch.old pile.height pile.trail)
+        → Stepped w.running.ss w.running.sh w.running.g program.entry.nodes.now program.entry.code.now state.old state.new
+        scratch.old scratch.new pile.height result }
 {
-    let j = h - 1;
+    let j = pile.height - 1;
     let s = top_at(state, j);
-    undo(state, s.mark, n);
-    work(nodes, code, state, scratch, h)
+    undo(state, s.mark, pile.trail);
+    work(program, state, scratch, pile.height)
 }
 
 // The goal alone on the pile.
@@ -45,34 +38,39 @@ pub fn start(code: &[u32], state: &mut [u32])
         → Started w.ss w.sh w.g nodes code.now state.old state.new }
 {
     let first = word_at(code, 1);
-    lay(code, state, 0, 0, first, 0, 0);
+    let goal = Spot {
+        copy: 0,
+        literal: first,
+    };
+    lay(code, state, 0, goal, 0, 0);
 }
 
 // The next step would be an answer.
-pub fn is_answer(code: &[u32], state: &[u32], h: usize, n: usize) -> bool
-    requires { (nodes : List ℕ) × Running nodes code.now state.now h n }
-    ensures { (nodes : List ℕ) (w : Running nodes code.now state.now h n)
-        → result ≡ is_answer (pile_of w.ss w.sh w.g nodes code.now state.now h) }
+pub fn is_answer(code: &[u32], state: &[u32], pile: Pile) -> bool
+    requires { (nodes : List ℕ) × Running nodes code.now state.now pile.height pile.trail }
+    ensures { (nodes : List ℕ) (w : Running nodes code.now state.now pile.height pile.trail)
+        → result ≡ is_answer (pile_of w.ss w.sh w.g nodes code.now state.now pile.height) }
 {
-    if h == 0 {
+    if pile.height == 0 {
         return false;
     }
-    let j = h - 1;
+    let j = pile.height - 1;
     let s = top_at(state, j);
     word_at(code, s.literal) == END_KIND
 }
 
 // The next step would try a clause at the longest path.
-pub fn goes_deeper(code: &[u32], state: &[u32], h: usize, n: usize) -> bool
-    requires { (nodes : List ℕ) × Running nodes code.now state.now h n }
-    ensures { (nodes : List ℕ) (w : Running nodes code.now state.now h n)
-        → result ≡ goes_deeper w.sh (pile_of w.ss w.sh w.g nodes code.now state.now h) }
+pub fn goes_deeper(code: &[u32], state: &[u32], pile: Pile) -> bool
+    requires { (nodes : List ℕ) × Running nodes code.now state.now pile.height pile.trail }
+    ensures { (nodes : List ℕ) (w : Running nodes code.now state.now pile.height pile.trail)
+        → result ≡ goes_deeper w.sh (pile_of w.ss w.sh w.g nodes code.now state.now pile.height) }
 {
-    if h == 0 {
+    if pile.height == 0 {
         return false;
     }
-    let j = h - 1;
+    let j = pile.height - 1;
     let s = top_at(state, j);
+    // A test for each way out, as the proof goes: in one expression of three conditions each answer needs all cases again (tried).
     if word_at(code, s.literal) != CALL_KIND {
         return false;
     }

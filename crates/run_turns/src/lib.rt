@@ -5,14 +5,16 @@
 
 ghost use Rattle.std.specs.Prelude.{◌+◌, ◌^◌, ◌<◌, length};
 ghost use Rattle.machine.specs.Runs.{run_from};
+ghost use Rattle.run_answers.specs.Telling.{meaning_of};
 ghost use Rattle.run_turns.specs.Turns.{Underway, Turned};
 
+use run_alternatives::{Compiled, Pile};
 use run_answers::{LoadedProgram, Next, answer, next_of};
 use run_steps::step;
 use syntax::Kind;
 
-// What a run carries from turn to turn: the height of the pile, the length of the trail, the answers, the steps, the position in the text,
-// and how it ended; `Steps` while it may go on.
+// What a run carries from turn to turn: the height of the pile, the length of the trail, the answers, the steps, the position in the text, and how it ended.
+// While it may go on that is `Steps`, and no Option: a turn whose steps are used up ends so, and the next turn does not read it.
 #[derive(Clone, Copy)]
 pub struct Carried {
     pub height: usize,
@@ -36,22 +38,25 @@ pub fn turn(
     requires underway { Underway loaded state.old scratch.old text.old carried }
     requires k_bound { carried.steps + k < 2 ^ 64 }
     ensures { (w : Underway loaded.entry state.old scratch.old text.old carried)
-        → Turned w.ss w.sh w.g loaded.entry.nodes.now loaded.entry.code.now state.new scratch.new w.old text.new
+        → Turned (meaning_of w.ss w.sh w.g loaded.entry) state.new scratch.new w.old text.new
         (run_from w.sh w.g wanted (length w.old) k w.progress) result }
 {
     let allowance = carried.steps + k;
-    let mut h = carried.height;
-    let mut n = carried.trail;
+    let mut pile = Pile {
+        height: carried.height,
+        trail: carried.trail,
+    };
     let mut answers = carried.answers;
     let mut steps = carried.steps;
     let mut at = carried.at;
     // How many steps there are is known only when an end applies.
     loop {
-        match next_of(loaded.code, state, allowance, wanted, h, n, answers, steps) {
+        let left = allowance - steps;
+        match next_of(loaded.code, state, pile, wanted, answers, left) {
             Next::End(kind) => {
                 return Carried {
-                    height: h,
-                    trail: n,
+                    height: pile.height,
+                    trail: pile.trail,
                     answers,
                     steps,
                     at,
@@ -59,7 +64,7 @@ pub fn turn(
                 };
             }
             Next::Answer => {
-                let t = answer(loaded, state, scratch, text, h, n, at);
+                let t = answer(loaded, state, scratch, text, pile, at);
                 let Some(past) = t.at else {
                     return Carried {
                         height: t.height,
@@ -71,15 +76,19 @@ pub fn turn(
                     };
                 };
                 at = past;
-                h = t.height;
-                n = t.trail;
+                pile = Pile {
+                    height: t.height,
+                    trail: t.trail,
+                };
                 answers += 1;
                 steps += 1;
             }
             Next::Step => {
-                let p = step(loaded.nodes, loaded.code, state, scratch, h, n);
-                h = p.height;
-                n = p.trail;
+                let program = Compiled {
+                    nodes: loaded.nodes,
+                    code: loaded.code,
+                };
+                pile = step(program, state, scratch, pile);
                 steps += 1;
             }
         }

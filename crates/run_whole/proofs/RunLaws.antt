@@ -15,13 +15,17 @@ use Rattle.run_answers.specs.declared.LoadedProgram.{LoadedProgram}
 use Rattle.run_turns.specs.Turns.{Turned, Underway}
 use Rattle.run_whole.specs.Running.{Runs, Leaves, Runnable}
 use Rattle.run_turns.specs.declared.Carried.{Carried}
-use Rattle.run_whole.specs.declared.Ran.{Ran}
+use Rattle.run_results.specs.declared.Written.{Written}
+use Rattle.run_answers.specs.Telling.{Meaning, meaning_of}
 
 -- what a run carries at first: the goal alone on the pile
 abbrev pub first : Carried
 first = record { height = 1; trail = 0; answers = 0; steps = 0; at = 0; kind = Steps }
 
 module _ {loaded : LoadedProgram} {state scratch text : List ℕ} (w : Runnable loaded state scratch text) where
+  abbrev m : Meaning
+  m = meaning_of w.ss w.sh w.g loaded
+
   abbrev nodes : List ℕ
   nodes = loaded.nodes.now
 
@@ -59,18 +63,18 @@ module _ {loaded : LoadedProgram} {state scratch text : List ℕ} (w : Runnable 
         }
 
     -- what a run gives, of what it carries at its end
-    abbrev ran : Carried → Ran
+    abbrev ran : Carried → Written
     ran t = record { report = record { kind = t.kind; answers = t.answers; steps = t.steps }; bytes = t.at }
 
     module _ (allowance wanted : ℕ) {state2 scratch2 new : List ℕ} {t : Carried}
-        (k : (v : Underway loaded state1 scratch text first) → Turned v.ss v.sh v.g nodes code state2 scratch2 v.old new (run_from v.sh v.g wanted (length v.old) allowance v.progress) t) where
-      turned-here : Turned w.ss w.sh w.g nodes code state2 scratch2 text new (run w.sh w.g allowance wanted (length text)) t
+        (k : (v : Underway loaded state1 scratch text first) → Turned (meaning_of v.ss v.sh v.g loaded) state2 scratch2 v.old new (run_from v.sh v.g wanted (length v.old) allowance v.progress) t) where
+      turned-here : Turned m state2 scratch2 text new (run w.sh w.g allowance wanted (length text)) t
       unfolding go-underway run
       turned-here = k go-underway
 
       pub go-runs : Runs w.sh w.g allowance wanted text new (ran t)
       go-runs =
-          let z : Turned w.ss w.sh w.g nodes code state2 scratch2 text new (run w.sh w.g allowance wanted (length text)) t = turned-here in
+          let z : Turned m state2 scratch2 text new (run w.sh w.g allowance wanted (length text)) t = turned-here in
           record {
             is = ap (λ (x : Kind). record { kind = x; answers = t.answers; steps = t.steps }) z.kind_is
                 ∙ ap₂ (λ (a b : ℕ). record { kind = (run w.sh w.g allowance wanted (length text)).kind; answers = a; steps = b }) z.answers_is z.steps_is;
@@ -78,9 +82,9 @@ module _ {loaded : LoadedProgram} {state scratch text : List ℕ} (w : Runnable 
             text_is = z.carries.text_is;
           }
 
-      pub go-leaves : Leaves w.ss w.sh w.g nodes code state2 scratch2 (run w.sh w.g allowance wanted (length text)).at.pile
+      pub go-leaves : Leaves m state2 scratch2 (run w.sh w.g allowance wanted (length text)).at.pile
       go-leaves =
-          let z : Turned w.ss w.sh w.g nodes code state2 scratch2 text new (run w.sh w.g allowance wanted (length text)) t = turned-here in
+          let z : Turned m state2 scratch2 text new (run w.sh w.g allowance wanted (length text)) t = turned-here in
           record {
             height = t.height;
             trail = t.trail;

@@ -8,26 +8,25 @@ use Rattle.machine.specs.Runs.{Ended, run}
 use Rattle.run_layout.specs.Regions.{state_words}
 use Rattle.run_layout.specs.Nodes.{Symbol}
 use Rattle.run_layout.specs.Program.{Program}
-use Rattle.run_layout.specs.Pile.{pile_of, Piled}
 use Rattle.unify_bindings.specs.Queues.{Clean}
 use Rattle.run_answers.specs.declared.LoadedProgram.{LoadedProgram}
-use Rattle.run_answers.specs.Telling.{Spelt, LentScratch}
-use Rattle.run_whole.specs.declared.Ran.{Ran}
+use Rattle.run_answers.specs.Telling.{Meaning, pile_in, PiledIn, Spelt, LentScratch}
+use Rattle.run_results.specs.declared.Written.{Written}
 
 -- the report of a run
 abbrev pub report_of : Ended → Report
 report_of e = record { kind = e.kind; answers = e.at.answers; steps = e.at.steps }
 
 -- what a run leaves in the words that it was lent: the pile where it ended, and no mark
-pub record Leaves (ss : List Symbol) (sh : Sheet) (g : Goal) (nodes code state scratch : List ℕ) (pile : List Alternative) : Type 0 where
+pub record Leaves (m : Meaning) (state scratch : List ℕ) (pile : List Alternative) : Type 0 where
   pub height : ℕ
   pub trail : ℕ
-  pub piled : Piled ss sh g nodes code state height trail
-  pub is : pile_of ss sh g nodes code state height ≡ pile
+  pub piled : PiledIn m state height trail
+  pub is : pile_in m state height ≡ pile
   pub clean : Clean scratch
 
 -- what a run gives and writes: the report, and how many bytes of the text are its lines
-pub record Runs (sh : Sheet) (g : Goal) (allowance wanted : ℕ) (old new : List ℕ) (r : Ran) : Type 0 where
+pub record Runs (sh : Sheet) (g : Goal) (allowance wanted : ℕ) (old new : List ℕ) (r : Written) : Type 0 where
   pub is : r.report ≡ report_of (run sh g allowance wanted (length old))
   pub bytes_is : r.bytes ≡ length (run sh g allowance wanted (length old)).at.text
   pub text_is : new ≡ sets old 0 (run sh g allowance wanted (length old)).at.text

@@ -4,21 +4,17 @@
 
 ghost use Rattle.std.specs.Prelude.{length};
 ghost use Rattle.machine.specs.Runs.{run};
+ghost use Rattle.run_answers.specs.Telling.{meaning_of};
 ghost use Rattle.run_whole.specs.Running.{Runnable, Runs, Leaves};
 
 use run_answers::LoadedProgram;
+use run_results::Written;
 use run_steps::start;
 use run_turns::{Carried, turn};
 use syntax::{Kind, Report};
 
-// What a run gives: its report, and how many bytes of the text are its lines.
-#[derive(Clone, Copy)]
-pub struct Ran {
-    pub report: Report,
-    pub bytes: usize,
-}
-
-// A run over a loaded program, in one turn: what it reports, and its lines at the start of the text, so many bytes.
+// A run over a loaded program, in one turn: what it reports, and its lines at the start of the text, so many bytes. (Allowance and wanted are no
+// `RunSettings`, which has `stored` too: a run does not ask for it.)
 pub fn run(
     loaded: LoadedProgram,
     state: &mut [u32],
@@ -26,12 +22,12 @@ pub fn run(
     text: &mut [u8],
     allowance: usize,
     wanted: usize,
-) -> Ran
+) -> Written
     requires { Runnable loaded state.old scratch.old text.old }
     ensures gives { (w : Runnable loaded.entry state.old scratch.old text.old)
         → Runs w.sh w.g allowance wanted text.old text.new result }
     ensures leaves { (w : Runnable loaded.entry state.old scratch.old text.old)
-        → Leaves w.ss w.sh w.g loaded.entry.nodes.now loaded.entry.code.now state.new scratch.new
+        → Leaves (meaning_of w.ss w.sh w.g loaded.entry) state.new scratch.new
         (run w.sh w.g allowance wanted (length text.old)).at.pile }
 {
     start(loaded.code, state);
@@ -50,7 +46,7 @@ pub fn run(
         answers: last.answers,
         steps: last.steps,
     };
-    Ran {
+    Written {
         report,
         bytes: last.at,
     }

@@ -242,7 +242,7 @@ pub struct Report {
 // The answer to a run: its report, or the fault of a text.
 pub type Run = Result<Report, Fault>;
 
-// The five numbers of a refusal.
+// The five numbers of a refusal, as the papers word it and C is told it: so its kind is a number here, and what a refusal has no number for is 0.
 #[derive(Clone, Copy)]
 pub struct Five {
     pub number: usize,

@@ -1,7 +1,8 @@
 -- A body as a loop goes along it: its items, which are plain literals and the words of brackets, one behind the other.
 use Rattle.std.specs.Prelude.{ℕ, ◌≡◌, List, [], ◌∷◌, ◌++◌}
 use Rattle.syntax.specs.Terms.{Term, Atom, Literal, call, equation, truth, falsity, either, Body, done, also}
-use Rattle.syntax.specs.Words.{term_words, atom_words, truth_kind, falsity_kind, call_kind, equation_kind, left_kind, right_kind, behind_kind, marker, body_length}
+use Rattle.syntax.specs.Words.{term_words, atom_words, truth_kind, falsity_kind, call_kind, equation_kind, marker, body_length}
+use Rattle.syntax.specs.Words.{left_kind, right_kind, behind_kind}
 use Rattle.syntax.specs.Words.{body_words}
 use Rattle.table_words.specs.Tables.{Has}
 

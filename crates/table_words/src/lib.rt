@@ -2,7 +2,7 @@
 
 #![tactic(auto)]
 
-ghost use Rattle.std.specs.Prelude.{◌≡◌, ◌+◌, ◌<◌, ◌^◌, length, get_or, set};
+ghost use Rattle.std.specs.Prelude.{◌≡◌, ◌+◌, ◌≤◌, ◌<◌, ◌^◌, length, get_or, set};
 ghost use Rattle.syntax.specs.Terms.{Body, Clause};
 ghost use Rattle.syntax.specs.Words.{body_words, clause_words};
 ghost use Rattle.table_words.specs.Tables.{Has, NodeInTable};
@@ -29,6 +29,16 @@ pub fn put(table: &mut [u32], p: usize, w: usize)
     table[p] = w as u32;
 }
 
+// Three words stored, one behind the other: those of a node or a row, or the first of a clause or a declaration.
+pub fn put_three(table: &mut [u32], p: usize, first: usize, second: usize, third: usize)
+    requires { (p + 3 ≤ length table.old) × ((first < 2 ^ 32) × ((second < 2 ^ 32) × (third < 2 ^ 32))) }
+    ensures { table.new ≡ set (set (set table.old p first) (p + 1) second) (p + 2) third }
+{
+    put(table, p, first);
+    put(table, p + 1, second);
+    put(table, p + 2, third);
+}
+
 // The place past a node and its arguments: its second word is how many words they take, whether the node is as read or loaded.
 pub fn past(table: &[u32], p: usize) -> usize
     requires { NodeInTable table.now p }
@@ -39,7 +49,7 @@ pub fn past(table: &[u32], p: usize) -> usize
 }
 
 // The place past an item as read. Truth and falsehood have the kinds below a call's, an equation has the one above; the words of a bracket are
-// greater.
+// greater. (The kind is a word of the table, so it is a number here.)
 pub fn past_item(table: &[u32], p: usize) -> usize
     requires { (x : Item) × Has table.now p (item_words x) }
     ensures { (x : Item) → Has table.now p (item_words x) → result ≡ p + length (item_words x) }

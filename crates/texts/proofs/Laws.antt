@@ -100,9 +100,5 @@ same_pointwise (x ∷ a) (y ∷ b) = ap (λ (v : Bool). eqb x y && v) (same_poin
 pub part_is : (s : List ℕ) (a n : ℕ) → slice_range s a (a + n) ≡ take n (drop a s)
 part_is s a n = let e : (a + n) - a ≡ n = omega arith in ap (λ (m : ℕ). take m (drop a s)) e
 
-pub same_parts : (s : List ℕ) (a : ℕ) (t : List ℕ) (b n : ℕ)
-    → pointwise nat_eq (slice_range s a (a + n)) (slice_range t b (b + n)) ≡ same_bytes (take n (drop a s)) (take n (drop b t))
-same_parts s a t b n = simp (part_is s a n, part_is t b n, same_pointwise)
-
 pub same_as : (s : List ℕ) (at len : ℕ) (name : List ℕ) → pointwise nat_eq (slice_range s at (at + len)) name ≡ same_bytes (spelling s at len) name
 same_as s at len name = simp (part_is s at len, same_pointwise)

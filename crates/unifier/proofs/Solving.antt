@@ -4,7 +4,6 @@ use native.Mathlib.Omega.{arith}
 use mathlib.Core.Path.{◌≡◌, refl, sym, ap, ap₂, ◌∙◌, subst, subst⁻¹}
 use mathlib.Core.Bool.{Bool, true, false}
 use mathlib.Core.List.{List, [], ◌∷◌}
-use mathlib.Core.Option.{none}
 use lib.Dec.{T}
 use lib.ListN.{length}
 use Rattle.machine.specs.Substitution.{rnil, occurs, Binding, resolve}
@@ -14,6 +13,7 @@ use Rattle.run_layout.specs.State.{variable_of, word_of, bindings, Store, Within
 use Rattle.run_layout.proofs.Nodes.{node-inside}
 use Rattle.run_layout.proofs.State.{bind-store, bind-keeps, bind-means, bind-within, keeps-refl, keeps-trans, room}
 use Rattle.unify_bindings.specs.Queues.{Clean, Closed, Closing}
+use Rattle.run_layout.specs.declared.terms.At.{At}
 use Rattle.unify_memos.specs.Memos.{Memo}
 use Rattle.unify_bindings.specs.Scratch.{left_at, right_at, SameMarks}
 use Rattle.unify_bindings.proofs.Apart.{closed-bound}
@@ -23,7 +23,7 @@ use Rattle.unify_orders.proofs.Lists.{ordered-kept}
 use Rattle.unify_cycles.specs.Checks.{Guardable, Guarded}
 use Rattle.unifier.specs.Rows.{unify_rows, rows_size}
 use Rattle.unifier.specs.Stacks.{rows_of, Stack, no_term, Closes}
-use Rattle.unifier.specs.Turns.{Work, Goes, Binds, TurnGives, Turnable, ReadyToUnify, Advanced, Solvable, Solved, answered}
+use Rattle.unifier.specs.Turns.{Work, over, Goes, Binds, TurnGives, Turnable, ReadyToUnify, Advanced, Solvable, Solved, answered}
 use Rattle.std.proofs.Common.{Ok, Err}
 use Rattle.unifier.specs.Turns.{Turn, TurnsTaken}
 use Rattle.unifier.specs.declared.solve.TurnStop.{TurnStop}
@@ -35,45 +35,43 @@ use Rattle.unifier.proofs.Bare.{size-bare}
 
 -- ---- turns
 
-pub record Advancing (ss : List Symbol) (nodes state before after : List ℕ) (top n h k : ℕ) : Type 0 where
+pub record Advancing {nodes state before : List ℕ} {n h : ℕ} (w : Work nodes state before n h) (after : List ℕ) (k : ℕ) : Type 0 where
   pub marks : SameMarks before after
-  pub stack : Stack ss nodes (bindings ss nodes state n) top (left_at after) (right_at after) k
-  pub means : unify_rows (bindings ss nodes state n) (rows_of ss nodes (left_at before) h) (rows_of ss nodes (right_at before) h) ≡ unify_rows (bindings ss nodes state n) (rows_of ss nodes (left_at after) k) (rows_of ss nodes (right_at after) k)
-  pub memo : Memo ss nodes (bindings ss nodes state n) after
-  pub closes : Closes ss nodes (bindings ss nodes state n) (left_at after) (right_at after) k no_term no_term
+  pub stack : Stack w.ss nodes (bindings w.ss nodes state n) w.top (left_at after) (right_at after) k
+  pub means : unify_rows (bindings w.ss nodes state n) (rows_of w.ss nodes (left_at before) h) (rows_of w.ss nodes (right_at before) h) ≡ unify_rows (bindings w.ss nodes state n) (rows_of w.ss nodes (left_at after) k) (rows_of w.ss nodes (right_at after) k)
+  pub memo : Memo w.ss nodes (bindings w.ss nodes state n) after
+  pub closes : Closes w.ss nodes (bindings w.ss nodes state n) (left_at after) (right_at after) k no_term no_term
 
 -- what is left to be done, whatever the symbols
 abbrev pub left_over : List ℕ → List ℕ → List ℕ → ℕ → ℕ → ℕ
 left_over nodes state scratch n k = 2 * rows_size (bindings [] nodes state n) (rows_of [] nodes (left_at scratch) k) + k
 
-pub advance-begin : (nodes state scratch : List ℕ) (n h : ℕ) (g : ReadyToUnify nodes state scratch n h) → Advancing g.work.ss nodes state scratch scratch g.work.top n h h
-advance-begin nodes state scratch n h g = record { marks = record { long = refl; words = λ j l. refl }; stack = g.work.stack; means = refl; memo = g.work.memo; closes = g.closes }
+pub advance-begin : {nodes state scratch : List ℕ} {n h : ℕ} (g : ReadyToUnify nodes state scratch n h) → Advancing g.work scratch h
+advance-begin g = record { marks = record { long = refl; words = λ j l. refl }; stack = g.work.stack; means = refl; memo = g.work.memo; closes = g.closes }
 
 no_rows : (ss : List Symbol) (nodes after : List ℕ) → (rows_of ss nodes (left_at after) 0 ≡ rnil) × (rows_of ss nodes (right_at after) 0 ≡ rnil)
 unfolding rows_of
 no_rows ss nodes after = (refl, refl)
 
-module _ (nodes state before after : List ℕ) (n h k : ℕ) (g : Work nodes state before n h) (a : Advancing g.ss nodes state before after g.top n h k) where
-  pub advance-work : Work nodes state after n k
+module _ {nodes state before after : List ℕ} {n h k : ℕ} {g : Work nodes state before n h} (a : Advancing g after k) where
+  abbrev pub advance-work : Work nodes state after n k
   advance-work = record { ss = g.ss; top = g.top; store = g.store; within = g.within; roomy = (let e : length after ≡ length before = a.marks.long in let o : rows ≤ length before = g.roomy in omega arith); stack = a.stack; memo = a.memo }
 
   pub advance-turn : 0 < k → Turnable nodes state after k
-  unfolding advance-work
   advance-turn l = record { n = n; work = advance-work; some = omega arith; closes = a.closes }
 
   marks-on : (later : List ℕ) → SameMarks after later → SameMarks before later
   marks-on later x = record { long = x.long ∙ a.marks.long; words = λ j l. x.words j l ∙ a.marks.words j l }
 
-  module _ (l : 0 < k) (later : List ℕ) (t : Turn) (c : (v : Turnable nodes state after k) → TurnGives nodes state after later v.n k v.work t) where
-    came : TurnGives nodes state after later n k advance-work t
+  module _ (l : 0 < k) (later : List ℕ) (t : Turn) (c : (v : Turnable nodes state after k) → TurnGives v.work later t) where
+    came : TurnGives advance-work later t
     unfolding advance-turn
     came = c (advance-turn l)
 
-    gone : (j : ℕ) → t ≡ Ok j → SameMarks after later × Goes g.ss nodes (bindings g.ss nodes state n) g.top (rows_of g.ss nodes (left_at after) k) (rows_of g.ss nodes (right_at after) k) (2 * rows_size (bindings g.ss nodes state n) (rows_of g.ss nodes (left_at after) k) + k) later j
-    unfolding advance-work
-    gone j e = subst (λ (x : Turn). TurnGives nodes state after later n k advance-work x) e came
+    gone : (j : ℕ) → t ≡ Ok j → SameMarks after later × Goes (over g) (rows_of g.ss nodes (left_at after) k) (rows_of g.ss nodes (right_at after) k) (2 * rows_size (bindings g.ss nodes state n) (rows_of g.ss nodes (left_at after) k) + k) later j
+    gone j e = subst (λ (x : Turn). TurnGives advance-work later x) e came
 
-    pub advance-next : (j : ℕ) → t ≡ Ok j → Advancing g.ss nodes state before later g.top n h j
+    pub advance-next : (j : ℕ) → t ≡ Ok j → Advancing g later j
     advance-next j e = record { marks = marks-on later (gone j e).0; stack = (gone j e).1.stack; means = a.means ∙ (gone j e).1.means; memo = (gone j e).1.memo; closes = (gone j e).1.closes }
 
     pub advance-less : (j : ℕ) → t ≡ Ok j → left_over nodes state later n j < left_over nodes state after n k
@@ -83,61 +81,55 @@ module _ (nodes state before after : List ℕ) (n h k : ℕ) (g : Work nodes sta
         let z : rows_size (bindings [] nodes state n) (rows_of [] nodes (left_at after) k) ≡ rows_size (bindings g.ss nodes state n) (rows_of g.ss nodes (left_at after) k) = size-bare g.ss nodes state n (left_at after) k in
         omega arith
 
-    clash-of : unify_rows (bindings advance-work.ss nodes state n) (rows_of advance-work.ss nodes (left_at after) k) (rows_of advance-work.ss nodes (right_at after) k) ≡ none → unify_rows (bindings g.ss nodes state n) (rows_of g.ss nodes (left_at after) k) (rows_of g.ss nodes (right_at after) k) ≡ none
-    unfolding advance-work
-    clash-of e = e
+    binds-of : (i x : ℕ) (p : At) → Binds (over advance-work) (rows_of advance-work.ss nodes (left_at after) k) (rows_of advance-work.ss nodes (right_at after) k) later i x p → Binds (over g) (rows_of g.ss nodes (left_at before) h) (rows_of g.ss nodes (right_at before) h) later i x p
+    binds-of i x p s = record { stack = s.stack; cell = s.cell; unbound = s.unbound; below = s.below; node = s.node; copy = s.copy; copy_below = s.copy_below; down = s.down; stands = λ z. a.means ∙ s.stands z; free = λ z. a.means ∙ s.free z; memo = s.memo; closes = s.closes }
 
-    binds-of : (i x p q : ℕ) → Binds advance-work.ss nodes state (bindings advance-work.ss nodes state n) advance-work.top (rows_of advance-work.ss nodes (left_at after) k) (rows_of advance-work.ss nodes (right_at after) k) later i x p q → Binds g.ss nodes state (bindings g.ss nodes state n) g.top (rows_of g.ss nodes (left_at before) h) (rows_of g.ss nodes (right_at before) h) later i x p q
-    unfolding advance-work
-    binds-of i x p q s = record { stack = s.stack; cell = s.cell; unbound = s.unbound; below = s.below; node = s.node; copy = s.copy; copy_below = s.copy_below; down = s.down; stands = λ z. a.means ∙ s.stands z; free = λ z. a.means ∙ s.free z; memo = s.memo; closes = s.closes }
-
-    pub advance-stop : (y : TurnStop) → t ≡ Err y → Advanced nodes state before later n h g (Err y)
-    advance-stop y e = go y (subst (λ (x : Turn). TurnGives nodes state after later n k advance-work x) e came)
+    pub advance-stop : (y : TurnStop) → t ≡ Err y → Advanced g later (Err y)
+    advance-stop y e = go y (subst (λ (x : Turn). TurnGives advance-work later x) e came)
       where
-        go : (x : TurnStop) → TurnGives nodes state after later n k advance-work (Err x) → Advanced nodes state before later n h g (Err x)
-        go Clash s = (marks-on later s.0, a.means ∙ clash-of s.1)
-        go (Bind i x p q) s = (marks-on later s.0, binds-of i x p q s.1)
+        go : (x : TurnStop) → TurnGives advance-work later (Err x) → Advanced g later (Err x)
+        go Clash s = (marks-on later s.0, a.means ∙ s.1)
+        go (Bind i x p) s = (marks-on later s.0, binds-of i x p s.1)
 
-  pub advance-end : k ≤ 0 → Advanced nodes state before after n h g (Ok tt)
+  pub advance-end : k ≤ 0 → Advanced g after (Ok tt)
   advance-end l =
       let e : k ≡ 0 = omega arith in
       (a.marks, a.means ∙ (ap (λ (i : ℕ). unify_rows (bindings g.ss nodes state n) (rows_of g.ss nodes (left_at after) i) (rows_of g.ss nodes (right_at after) i)) e ∙ (ap₂ (unify_rows (bindings g.ss nodes state n)) (no_rows g.ss nodes after).0 (no_rows g.ss nodes after).1 ∙ rows-done (bindings g.ss nodes state n))))
 
 -- ---- bindings
 
-pub record Solving (ss : List Symbol) (nodes before after scratch later : List ℕ) (top n m h : ℕ) : Type 0 where
+pub record Solving {nodes before scratch : List ℕ} {n : ℕ} (g : Solvable nodes before scratch n) (after later : List ℕ) (m h : ℕ) : Type 0 where
   pub grows : n ≤ m
-  pub store : Store ss nodes after m
-  pub within : Within top after m
+  pub store : Store g.work.ss nodes after m
+  pub within : Within g.work.top after m
   pub keeps : Keeps n before after
   pub clean : Clean later
   pub long : length later ≡ length scratch
-  pub stack : Stack ss nodes (bindings ss nodes after m) top (left_at later) (right_at later) h
-  pub means : unify_rows (bindings ss nodes before n) (rows_of ss nodes (left_at scratch) 1) (rows_of ss nodes (right_at scratch) 1) ≡ unify_rows (bindings ss nodes after m) (rows_of ss nodes (left_at later) h) (rows_of ss nodes (right_at later) h)
-  pub memo : Memo ss nodes (bindings ss nodes after m) later
-  pub closes : Closes ss nodes (bindings ss nodes after m) (left_at later) (right_at later) h no_term no_term
-  pub order : Ordered ss nodes after later
+  pub stack : Stack g.work.ss nodes (bindings g.work.ss nodes after m) g.work.top (left_at later) (right_at later) h
+  pub means : unify_rows (bindings g.work.ss nodes before n) (rows_of g.work.ss nodes (left_at scratch) 1) (rows_of g.work.ss nodes (right_at scratch) 1) ≡ unify_rows (bindings g.work.ss nodes after m) (rows_of g.work.ss nodes (left_at later) h) (rows_of g.work.ss nodes (right_at later) h)
+  pub memo : Memo g.work.ss nodes (bindings g.work.ss nodes after m) later
+  pub closes : Closes g.work.ss nodes (bindings g.work.ss nodes after m) (left_at later) (right_at later) h no_term no_term
+  pub order : Ordered g.work.ss nodes after later
 
-pub solve-begin : {nodes state scratch : List ℕ} {n : ℕ} (g : Solvable nodes state scratch n) → Solving g.work.ss nodes state state scratch scratch g.work.top n n 1
+pub solve-begin : {nodes state scratch : List ℕ} {n : ℕ} (g : Solvable nodes state scratch n) → Solving g state scratch n 1
 solve-begin {nodes} {state} {scratch} {n} g =
     record { grows = omega arith; store = g.work.store; within = g.work.within; keeps = keeps-refl n state; clean = g.clean; long = refl; stack = g.work.stack; means = refl; memo = g.work.memo; closes = g.closes; order = g.order }
 
-module _ {nodes before after scratch later : List ℕ} {n m h : ℕ} (g : Solvable nodes before scratch n) (s : Solving g.work.ss nodes before after scratch later g.work.top n m h) where
+module _ {nodes before after scratch later : List ℕ} {n m h : ℕ} (g : Solvable nodes before scratch n) (s : Solving g after later m h) where
   abbrev pub ss : List Symbol
   ss = g.work.ss
 
   abbrev pub b : List Binding
   b = bindings ss nodes after m
 
-  pub solve-work : Work nodes after later m h
+  abbrev pub solve-work : Work nodes after later m h
   solve-work = record { ss = ss; top = g.work.top; store = s.store; within = s.within; roomy = (let e : length later ≡ length scratch = s.long in let o : rows ≤ length scratch = g.work.roomy in omega arith); stack = s.stack; memo = s.memo }
 
   pub solve-ready : ReadyToUnify nodes after later m h
-  unfolding solve-work
   solve-ready = record { work = solve-work; closes = s.closes }
 
-  module _ {next : List ℕ} (t : TurnsTaken) (c : (w : ReadyToUnify nodes after later m h) → Advanced nodes after later next m h w.work t) where
-    gave : Advanced nodes after later next m h solve-work t
+  module _ {next : List ℕ} (t : TurnsTaken) (c : (w : ReadyToUnify nodes after later m h) → Advanced w.work next t) where
+    gave : Advanced solve-work next t
     unfolding solve-ready
     gave = c solve-ready
 
@@ -150,25 +142,24 @@ module _ {nodes before after scratch later : List ℕ} {n m h : ℕ} (g : Solvab
     long-next : length next ≡ length scratch
     long-next = gave.0.long ∙ s.long
 
-    pub solve-done : t ≡ Ok tt → Solved ss nodes before after scratch next g.work.top n (rows_of ss nodes (left_at scratch) 1) (rows_of ss nodes (right_at scratch) 1) (record { equal = true; trail = m })
-    unfolding solve-work answered
+    pub solve-done : t ≡ Ok tt → Solved g after next (record { equal = true; trail = m })
+    unfolding answered
     solve-done e =
-        let x : Advanced nodes after later next m h solve-work (Ok tt) = subst (Advanced nodes after later next m h solve-work) e gave in
+        let x : Advanced solve-work next (Ok tt) = subst (Advanced solve-work next) e gave in
         record { grows = s.grows; store = s.store; within = s.within; keeps = s.keeps; clean = clean-next; long = long-next; answer = s.means ∙ x.1 }
 
-    pub solve-clash : t ≡ (Err Clash) → Solved ss nodes before after scratch next g.work.top n (rows_of ss nodes (left_at scratch) 1) (rows_of ss nodes (right_at scratch) 1) (record { equal = false; trail = m })
-    unfolding solve-work answered
-    solve-clash e =
-        let x : Advanced nodes after later next m h solve-work (Err Clash) = subst (Advanced nodes after later next m h solve-work) e gave in
+    pub solve-clash : {f : TurnStop} → t ≡ Err f → f ≡ Clash → Solved g after next (record { equal = false; trail = m })
+    unfolding answered
+    solve-clash e d =
+        let x : Advanced solve-work next (Err Clash) = subst (Advanced solve-work next) (e ∙ ap Err d) gave in
         record { grows = s.grows; store = s.store; within = s.within; keeps = s.keeps; clean = clean-next; long = long-next; answer = s.means ∙ x.1 }
 
-    module _ {k x p d : ℕ} (e : t ≡ Err (Bind k x p d)) where
-      binds : Binds ss nodes after b g.work.top (rows_of ss nodes (left_at later) h) (rows_of ss nodes (right_at later) h) next k x p d
-      unfolding solve-work
-      binds = (subst (Advanced nodes after later next m h solve-work) e gave).1
+    module _ {k x : ℕ} {p : At} {f : TurnStop} (e : t ≡ Err f) (d : f ≡ Bind k x p) where
+      binds : Binds (over solve-work) (rows_of ss nodes (left_at later) h) (rows_of ss nodes (right_at later) h) next k x p
+      binds = (subst (Advanced solve-work next) (e ∙ ap Err d) gave).1
 
-      pub solve-check : Guardable nodes after next x p d
-      solve-check =
+      abbrev guarding : Guardable nodes after next x p
+      guarding =
           let e : length next ≡ length scratch = long-next in
           let o : rows ≤ length scratch = g.work.roomy in
           record {
@@ -177,54 +168,56 @@ module _ {nodes before after scratch later : List ℕ} {n m h : ℕ} (g : Solvab
             order = ordered-kept ss nodes after later next (λ j l h. gave.0.words j (omega arith)) s.order;
           }
 
+      pub solve-check : Guardable nodes after next x p
+      solve-check = guarding
+
       pub solve-height : k ≤ pairs
       solve-height = height ss nodes b g.work.top (left_at next) (right_at next) k binds.stack
 
-      pub solve-room : (x < cells) × ((trail + m < length after) × (word_of p d < 2 ^ 32))
+      pub solve-room : (x < cells) × ((trail + m < length after) × (word_of p.node p.copy < 2 ^ 32))
       solve-room =
           let r : m < cells = room ss nodes after m x s.store binds.cell binds.unbound in
           let l : store_words ≤ length after = s.store.long in
-          let o : p + loaded_node ≤ length nodes = node-inside ss nodes p binds.node in
+          let o : p.node + loaded_node ≤ length nodes = node-inside ss nodes p.node binds.node in
           let q : length nodes ≤ places = s.store.small in
-          let c1 : d < copies = binds.copy in
+          let c1 : p.copy < copies = binds.copy in
           (binds.cell, (omega arith, omega arith))
 
       pub solve-few : m < cells
       solve-few = room ss nodes after m x s.store binds.cell binds.unbound
 
-      pub solve-closed : {closed r : ℕ} → Closed closed after → Closing closed x d r → {state1 : List ℕ} → state1 ≡ bound_words after m x (word_of p d) → Closed r state1
-      solve-closed {closed} {r} c1 h q = subst⁻¹ (Closed r) q (closed-bound after m x p d closed r s.store.long solve-few binds.cell binds.copy c1 h)
+      pub solve-closed : {closed r : ℕ} → Closed closed after → Closing closed x p.copy r → {state1 : List ℕ} → state1 ≡ bound_words after m x (word_of p.node p.copy) → Closed r state1
+      solve-closed {closed} {r} c1 h q = subst⁻¹ (Closed r) q (closed-bound after m x p.node p.copy closed r s.store.long solve-few binds.cell binds.copy c1 h)
 
-      module _ {end : List ℕ} {r : Bool} (c2 : (w : Guardable nodes after next x p d) → Guarded w.check.ss nodes after w.check.n next end x p d r) where
-        checked : Guarded ss nodes after m next end x p d r
-        unfolding solve-check
-        checked = c2 solve-check
+      module _ {end : List ℕ} {r : Bool} (c2 : (w : Guardable nodes after next x p) → Guarded w end r) where
+        checked : Guarded guarding end r
+        checked = c2 guarding
 
         long-end : length end ≡ length scratch
         long-end = checked.spared.long ∙ long-next
 
-        pub solve-stands : r ≡ true → Solved ss nodes before after scratch end g.work.top n (rows_of ss nodes (left_at scratch) 1) (rows_of ss nodes (right_at scratch) 1) (record { equal = false; trail = m })
+        pub solve-stands : r ≡ true → Solved g after end (record { equal = false; trail = m })
         unfolding answered
         solve-stands f =
             record { grows = s.grows; store = s.store; within = s.within; keeps = s.keeps; clean = checked.spared.clean clean-next; long = long-end; answer = s.means ∙ binds.stands (subst T (sym f ∙ checked.answer) tt) }
 
-        free : r ≡ false → T (occurs (variable_of x) (resolve b (term_at ss nodes p d))) → ⊥
+        free : r ≡ false → T (occurs (variable_of x) (resolve b (term_at ss nodes p.node p.copy))) → ⊥
         free f h1 = subst T (sym checked.answer ∙ f) h1
 
-        pub solve-next : r ≡ false → {state1 : List ℕ} → state1 ≡ bound_words after m x (word_of p d) → Solving ss nodes before state1 scratch end g.work.top n (m + 1) k
+        pub solve-next : r ≡ false → {state1 : List ℕ} → state1 ≡ bound_words after m x (word_of p.node p.copy) → Solving g state1 end (m + 1) k
         solve-next f q =
-            subst⁻¹ (λ (y : List ℕ). Solving ss nodes before y scratch end g.work.top n (m + 1) k) q
-            (subst (λ (i : ℕ). Solving ss nodes before (bound_words after m x (word_of p d)) scratch end g.work.top n i k) (let i : suc m ≡ m + 1 = omega arith in i)
+            subst⁻¹ (λ (y : List ℕ). Solving g y end (m + 1) k) q
+            (subst (λ (i : ℕ). Solving g (bound_words after m x (word_of p.node p.copy)) end i k) (let i : suc m ≡ m + 1 = omega arith in i)
             (let o : n ≤ m = s.grows in
-            let new : Binding = record { variable = variable_of x; term = resolve b (term_at ss nodes p d) } in
-            let now : bindings ss nodes (bound_words after m x (word_of p d)) (suc m) ≡ record { variable = variable_of x; term = resolve b (term_at ss nodes p d) } ∷ b = bind-means ss nodes after m x p d s.store binds.cell binds.unbound binds.copy in
+            let new : Binding = record { variable = variable_of x; term = resolve b (term_at ss nodes p.node p.copy) } in
+            let now : bindings ss nodes (bound_words after m x (word_of p.node p.copy)) (suc m) ≡ record { variable = variable_of x; term = resolve b (term_at ss nodes p.node p.copy) } ∷ b = bind-means ss nodes after m x p.node p.copy s.store binds.cell binds.unbound binds.copy in
             let l-same : (i : ℕ) → i < k → left_at end i ≡ left_at next i = (λ i w. left-kept next end checked.spared.pairs_kept i (let z : k ≤ pairs = solve-height in omega arith)) in
             let r-same : (i : ℕ) → i < k → right_at end i ≡ right_at next i = (λ i w. right_kept next end checked.spared.pairs_kept i (let z : k ≤ pairs = solve-height in omega arith)) in
             record {
               grows = omega arith;
-              store = bind-store ss nodes after m x p d s.store binds.cell binds.unbound binds.copy binds.node binds.down (free f);
-              within = bind-within ss nodes after m x p d s.store binds.cell binds.unbound binds.copy g.work.top s.within binds.below binds.copy_below;
-              keeps = keeps-trans n m before after (bound_words after m x (word_of p d)) s.grows s.keeps (bind-keeps ss nodes after m x p d s.store binds.cell binds.unbound binds.copy);
+              store = bind-store ss nodes after m x p.node p.copy s.store binds.cell binds.unbound binds.copy binds.node binds.down (free f);
+              within = bind-within ss nodes after m x p.node p.copy s.store binds.cell binds.unbound binds.copy g.work.top s.within binds.below binds.copy_below;
+              keeps = keeps-trans n m before after (bound_words after m x (word_of p.node p.copy)) s.grows s.keeps (bind-keeps ss nodes after m x p.node p.copy s.store binds.cell binds.unbound binds.copy);
               clean = checked.spared.clean clean-next;
               long = long-end;
               stack = subst⁻¹ (λ (y : List Binding). Stack ss nodes y g.work.top (left_at end) (right_at end) k) now (stack-agrees ss nodes (new ∷ b) g.work.top (left_at next) (right_at next) (left_at end) (right_at end) k l-same r-same (stack-bound ss nodes b new g.work.top (left_at next) (right_at next) k binds.stack));

@@ -17,35 +17,36 @@ use Rattle.run_layout.specs.State.{variable_of}
 use Rattle.run_layout.proofs.Nodes.{compound-at, compound-row}
 use Rattle.run_layout.proofs.Pigeonhole.{pigeonhole}
 use Rattle.unify_bindings.specs.Scratch.{stack_side, stack_side_words, left_at, right_at, pair_words, SameMarks}
+use Rattle.run_layout.specs.declared.terms.At.{At}
 use Rattle.unify_bindings.specs.declared.stack.Side.{Side}
 use Rattle.unifier.specs.Rows.{nodes_of, rows_size}
-use Rattle.unifier.specs.Stacks.{end_of, whole_of, row_of, rows_of, Half, Via, Stack}
+use Rattle.unifier.specs.Stacks.{inner_row, end_of, whole_of, row_of, rows_of, Half, Via, Stack}
 use Rattle.unifier.proofs.Rowwise.{size-app}
 
 -- ---- words
 
-module _ (words : List ℕ) (i root at copy : ℕ) (fits : i + side_size ≤ length words) where
-  long1 : length (set words i root) ≡ length words
-  long1 = length-set words i root
+module _ (words : List ℕ) (i : ℕ) (s : Side) (fits : i + side_size ≤ length words) where
+  long1 : length (set words i s.root) ≡ length words
+  long1 = length-set words i s.root
 
-  long2 : length (set (set words i root) (i + 1) at) ≡ length words
-  long2 = length-set (set words i root) (i + 1) at ∙ long1
+  long2 : length (set (set words i s.root) (i + 1) s.at) ≡ length words
+  long2 = length-set (set words i s.root) (i + 1) s.at ∙ long1
 
-  pub side-long : length (stack_side_words words i root at copy) ≡ length words
+  pub side-long : length (stack_side_words words i s) ≡ length words
   unfolding stack_side_words
-  side-long = length-set (set (set words i root) (i + 1) at) (i + 2) copy ∙ long2
+  side-long = length-set (set (set words i s.root) (i + 1) s.at) (i + 2) s.copy ∙ long2
 
-  pub side-others : (j : ℕ) → (j < i) ⊎ (i + side_size ≤ j) → get_or (stack_side_words words i root at copy) j 0 ≡ get_or words j 0
+  pub side-others : (j : ℕ) → (j < i) ⊎ (i + side_size ≤ j) → get_or (stack_side_words words i s) j 0 ≡ get_or words j 0
   unfolding stack_side_words
-  side-others j (inl l) = get_or-set_other (set (set words i root) (i + 1) at) (i + 2) j copy 0 (λ e. omega arith) ∙ (get_or-set_other (set words i root) (i + 1) j at 0 (λ e. omega arith) ∙ get_or-set_other words i j root 0 (λ e. omega arith))
-  side-others j (inr l) = get_or-set_other (set (set words i root) (i + 1) at) (i + 2) j copy 0 (λ e. omega arith) ∙ (get_or-set_other (set words i root) (i + 1) j at 0 (λ e. omega arith) ∙ get_or-set_other words i j root 0 (λ e. omega arith))
+  side-others j (inl l) = get_or-set_other (set (set words i s.root) (i + 1) s.at) (i + 2) j s.copy 0 (λ e. omega arith) ∙ (get_or-set_other (set words i s.root) (i + 1) j s.at 0 (λ e. omega arith) ∙ get_or-set_other words i j s.root 0 (λ e. omega arith))
+  side-others j (inr l) = get_or-set_other (set (set words i s.root) (i + 1) s.at) (i + 2) j s.copy 0 (λ e. omega arith) ∙ (get_or-set_other (set words i s.root) (i + 1) j s.at 0 (λ e. omega arith) ∙ get_or-set_other words i j s.root 0 (λ e. omega arith))
 
-  pub side-here : stack_side (stack_side_words words i root at copy) i ≡ record { root = root; at = at; copy = copy }
+  pub side-here : stack_side (stack_side_words words i s) i ≡ s
   unfolding stack_side_words
   side-here =
-      let a : get_or (set (set (set words i root) (i + 1) at) (i + 2) copy) i 0 ≡ root = get_or-set_other (set (set words i root) (i + 1) at) (i + 2) i copy 0 (λ e. omega arith) ∙ (get_or-set_other (set words i root) (i + 1) i at 0 (λ e. omega arith) ∙ get_or-set_same words i root 0 (omega arith)) in
-      let b : get_or (set (set (set words i root) (i + 1) at) (i + 2) copy) (i + 1) 0 ≡ at = get_or-set_other (set (set words i root) (i + 1) at) (i + 2) (i + 1) copy 0 (λ e. omega arith) ∙ get_or-set_same (set words i root) (i + 1) at 0 (let e : length (set words i root) ≡ length words = long1 in omega arith) in
-      let c : get_or (set (set (set words i root) (i + 1) at) (i + 2) copy) (i + 2) 0 ≡ copy = get_or-set_same (set (set words i root) (i + 1) at) (i + 2) copy 0 (let e : length (set (set words i root) (i + 1) at) ≡ length words = long2 in omega arith) in
+      let a : get_or (set (set (set words i s.root) (i + 1) s.at) (i + 2) s.copy) i 0 ≡ s.root = get_or-set_other (set (set words i s.root) (i + 1) s.at) (i + 2) i s.copy 0 (λ e. omega arith) ∙ (get_or-set_other (set words i s.root) (i + 1) i s.at 0 (λ e. omega arith) ∙ get_or-set_same words i s.root 0 (omega arith)) in
+      let b : get_or (set (set (set words i s.root) (i + 1) s.at) (i + 2) s.copy) (i + 1) 0 ≡ s.at = get_or-set_other (set (set words i s.root) (i + 1) s.at) (i + 2) (i + 1) s.copy 0 (λ e. omega arith) ∙ get_or-set_same (set words i s.root) (i + 1) s.at 0 (let e : length (set words i s.root) ≡ length words = long1 in omega arith) in
+      let c : get_or (set (set (set words i s.root) (i + 1) s.at) (i + 2) s.copy) (i + 2) 0 ≡ s.copy = get_or-set_same (set (set words i s.root) (i + 1) s.at) (i + 2) s.copy 0 (let e : length (set (set words i s.root) (i + 1) s.at) ≡ length words = long2 in omega arith) in
       λ k. record { root = a k; at = b k; copy = c k }
 
 -- a side whose words are as they were
@@ -56,48 +57,48 @@ side-kept before after i k =
     let c : get_or after (i + 2) 0 ≡ get_or before (i + 2) 0 = k (i + 2) (omega arith) (omega arith) in
     λ x. record { root = a x; at = b x; copy = c x }
 
-module _ (scratch : List ℕ) (k root at copy other there second : ℕ) (fits : pair_of k + pair_size ≤ length scratch) where
+module _ (scratch : List ℕ) (k : ℕ) (l0 r0 : Side) (fits : pair_of k + pair_size ≤ length scratch) where
   first : List ℕ
-  first = stack_side_words scratch (pair_of k) root at copy
+  first = stack_side_words scratch (pair_of k) l0
 
-  first-long : length (stack_side_words scratch (pair_of k) root at copy) ≡ length scratch
-  first-long = side-long scratch (pair_of k) root at copy (omega arith)
+  first-long : length (stack_side_words scratch (pair_of k) l0) ≡ length scratch
+  first-long = side-long scratch (pair_of k) l0 (omega arith)
 
-  fits-two : pair_of k + side_size + side_size ≤ length (stack_side_words scratch (pair_of k) root at copy)
-  fits-two = let e : length (stack_side_words scratch (pair_of k) root at copy) ≡ length scratch = first-long in omega arith
+  fits-two : pair_of k + side_size + side_size ≤ length (stack_side_words scratch (pair_of k) l0)
+  fits-two = let e : length (stack_side_words scratch (pair_of k) l0) ≡ length scratch = first-long in omega arith
 
-  pub pair-long : length (pair_words scratch k root at copy other there second) ≡ length scratch
+  pub pair-long : length (pair_words scratch k l0 r0) ≡ length scratch
   unfolding pair_words
-  pair-long = side-long (stack_side_words scratch (pair_of k) root at copy) (pair_of k + side_size) other there second fits-two ∙ first-long
+  pair-long = side-long (stack_side_words scratch (pair_of k) l0) (pair_of k + side_size) r0 fits-two ∙ first-long
 
-  pub pair-others : (j : ℕ) → (j < pair_of k) ⊎ (pair_of k + pair_size ≤ j) → get_or (pair_words scratch k root at copy other there second) j 0 ≡ get_or scratch j 0
+  pub pair-others : (j : ℕ) → (j < pair_of k) ⊎ (pair_of k + pair_size ≤ j) → get_or (pair_words scratch k l0 r0) j 0 ≡ get_or scratch j 0
   unfolding pair_words
-  pair-others j (inl l) = side-others (stack_side_words scratch (pair_of k) root at copy) (pair_of k + side_size) other there second fits-two j (inl (omega arith)) ∙ side-others scratch (pair_of k) root at copy (omega arith) j (inl (omega arith))
-  pair-others j (inr l) = side-others (stack_side_words scratch (pair_of k) root at copy) (pair_of k + side_size) other there second fits-two j (inr (omega arith)) ∙ side-others scratch (pair_of k) root at copy (omega arith) j (inr (omega arith))
+  pair-others j (inl l) = side-others (stack_side_words scratch (pair_of k) l0) (pair_of k + side_size) r0 fits-two j (inl (omega arith)) ∙ side-others scratch (pair_of k) l0 (omega arith) j (inl (omega arith))
+  pair-others j (inr l) = side-others (stack_side_words scratch (pair_of k) l0) (pair_of k + side_size) r0 fits-two j (inr (omega arith)) ∙ side-others scratch (pair_of k) l0 (omega arith) j (inr (omega arith))
 
-  pub pair-marks : SameMarks scratch (pair_words scratch k root at copy other there second)
+  pub pair-marks : SameMarks scratch (pair_words scratch k l0 r0)
   pair-marks = record { long = pair-long; words = λ j l. pair-others j (inl (omega arith)) }
 
-  pub pair_left : left_at (pair_words scratch k root at copy other there second) k ≡ record { root = root; at = at; copy = copy }
+  pub pair_left : left_at (pair_words scratch k l0 r0) k ≡ l0
   unfolding pair_words
   pair_left =
-      side-kept (stack_side_words scratch (pair_of k) root at copy) (stack_side_words (stack_side_words scratch (pair_of k) root at copy) (pair_of k + side_size) other there second) (pair_of k)
-      (λ j l h. side-others (stack_side_words scratch (pair_of k) root at copy) (pair_of k + side_size) other there second fits-two j (inl (omega arith)))
-      ∙ side-here scratch (pair_of k) root at copy (omega arith)
+      side-kept (stack_side_words scratch (pair_of k) l0) (stack_side_words (stack_side_words scratch (pair_of k) l0) (pair_of k + side_size) r0) (pair_of k)
+      (λ j l h. side-others (stack_side_words scratch (pair_of k) l0) (pair_of k + side_size) r0 fits-two j (inl (omega arith)))
+      ∙ side-here scratch (pair_of k) l0 (omega arith)
 
-  pub pair-right : right_at (pair_words scratch k root at copy other there second) k ≡ record { root = other; at = there; copy = second }
+  pub pair-right : right_at (pair_words scratch k l0 r0) k ≡ r0
   unfolding pair_words
-  pair-right = side-here (stack_side_words scratch (pair_of k) root at copy) (pair_of k + side_size) other there second fits-two
+  pair-right = side-here (stack_side_words scratch (pair_of k) l0) (pair_of k + side_size) r0 fits-two
 
-  pub pair-left-others : (j : ℕ) → (j ≡ k → ⊥) → left_at (pair_words scratch k root at copy other there second) j ≡ left_at scratch j
-  pair-left-others j z = side-kept scratch (pair_words scratch k root at copy other there second) (pair_of j) (λ i l h. pair-others i (go i l h (ltb j k) refl))
+  pub pair-left-others : (j : ℕ) → (j ≡ k → ⊥) → left_at (pair_words scratch k l0 r0) j ≡ left_at scratch j
+  pair-left-others j z = side-kept scratch (pair_words scratch k l0 r0) (pair_of j) (λ i l h. pair-others i (go i l h (ltb j k) refl))
     where
       go : (i : ℕ) → pair_of j ≤ i → i < pair_of j + side_size → (b : Bool) → ltb j k ≡ b → (i < pair_of k) ⊎ (pair_of k + pair_size ≤ i)
       go i l h true e = inl (let q : j < k = ltb-true j k e in omega arith)
       go i l h false e = inr (let q : k ≤ j = ltb-false j k e in omega (arith, z))
 
-  pub pair-right-others : (j : ℕ) → (j ≡ k → ⊥) → right_at (pair_words scratch k root at copy other there second) j ≡ right_at scratch j
-  pair-right-others j z = side-kept scratch (pair_words scratch k root at copy other there second) (pair_of j + side_size) (λ i l h. pair-others i (go i l h (ltb j k) refl))
+  pub pair-right-others : (j : ℕ) → (j ≡ k → ⊥) → right_at (pair_words scratch k l0 r0) j ≡ right_at scratch j
+  pair-right-others j z = side-kept scratch (pair_words scratch k l0 r0) (pair_of j + side_size) (λ i l h. pair-others i (go i l h (ltb j k) refl))
     where
       go : (i : ℕ) → pair_of j + side_size ≤ i → i < pair_of j + side_size + 3 → (b : Bool) → ltb j k ≡ b → (i < pair_of k) ⊎ (pair_of k + pair_size ≤ i)
       go i l h true e = inl (let q : j < k = ltb-true j k e in omega arith)
@@ -223,9 +224,9 @@ half-moved ss nodes b top s t h j a e r less f =
     u-down k o l newer false x false y = f.down k o l newer
 
 -- a new top: the arguments of a name that stands strictly inside the top before
-pub half-pushed : (ss : List Symbol) (nodes : List ℕ) (b : List Binding) (top : ℕ) (s t : ℕ → Side) (h p c : ℕ) → ((k : ℕ) → k < h → t k ≡ s k) → t h ≡ record { root = p; at = p + loaded_node; copy = c } → Node ss nodes p → c < copies → c ≤ top → first_name ≤ get_or nodes p 0
-    → (2 ≤ h → (newer : List Binding) → nodes_of (resolve (newer ++ b) (term_at ss nodes p c)) < nodes_of (resolve (newer ++ b) (whole_of ss nodes (s (h - 1))))) → Half ss nodes b top s h → Half ss nodes b top t (suc h)
-half-pushed ss nodes b top s t h p c a e node copy below high inside f =
+pub half-pushed : (ss : List Symbol) (nodes : List ℕ) (b : List Binding) (top : ℕ) (s t : ℕ → Side) (h : ℕ) (p : At) → ((k : ℕ) → k < h → t k ≡ s k) → t h ≡ inner_row p → Node ss nodes p.node → p.copy < copies → p.copy ≤ top → first_name ≤ get_or nodes p.node 0
+    → (2 ≤ h → (newer : List Binding) → nodes_of (resolve (newer ++ b) (term_at ss nodes p.node p.copy)) < nodes_of (resolve (newer ++ b) (whole_of ss nodes (s (h - 1))))) → Half ss nodes b top s h → Half ss nodes b top t (suc h)
+half-pushed ss nodes b top s t h p a e node copy below high inside f =
     half-agrees ss nodes b top u t (suc h) (λ k l. t-is k l (eqb k h) refl)
     (record {
       node = λ k l. u-node k l (eqb k h) refl;
@@ -237,7 +238,7 @@ half-pushed ss nodes b top s t h p c a e node copy below high inside f =
     })
   where
     pick : Bool → ℕ → Side
-    pick true k = record { root = p; at = p + loaded_node; copy = c }
+    pick true k = inner_row p
     pick false k = s k
 
     u : ℕ → Side
@@ -263,12 +264,12 @@ half-pushed ss nodes b top s t h p c a e node copy below high inside f =
     u-below k l false q = f.below k (under k l q)
 
     u-row : (k : ℕ) → k < suc h → (q : Bool) → eqb k h ≡ q → Row ss nodes (pick q k).at (end_of nodes (pick q k))
-    u-row k l true q = compound-row ss nodes p node high
+    u-row k l true q = compound-row ss nodes p.node node high
     u-row k l false q = f.row k (under k l q)
 
     u-small : (k : ℕ) → 1 ≤ k → k < suc h → (newer : List Binding) → (q : Bool) → eqb k h ≡ q → rows_size (newer ++ b) (row_of ss nodes (pick q k)) < nodes_of (resolve (newer ++ b) (whole_of ss nodes (pick q k)))
     u-small k o l newer true q =
-        let x : nodes_of (resolve (newer ++ b) (term_at ss nodes p c)) ≡ suc (rows_size (newer ++ b) (terms_at ss nodes (p + loaded_node) (p + get_or nodes (p + 1) 0) c)) = ap (λ (y : RTerm). nodes_of (resolve (newer ++ b) y)) (compound-at ss nodes p node c high) ∙ size-app (newer ++ b) (name_of_symbol ss (get_or nodes p 0 - first_name)) (terms_at ss nodes (p + loaded_node) (p + get_or nodes (p + 1) 0) c) in
+        let x : nodes_of (resolve (newer ++ b) (term_at ss nodes p.node p.copy)) ≡ suc (rows_size (newer ++ b) (terms_at ss nodes (p.node + loaded_node) (p.node + get_or nodes (p.node + 1) 0) p.copy)) = ap (λ (y : RTerm). nodes_of (resolve (newer ++ b) y)) (compound-at ss nodes p.node node p.copy high) ∙ size-app (newer ++ b) (name_of_symbol ss (get_or nodes p.node 0 - first_name)) (terms_at ss nodes (p.node + loaded_node) (p.node + get_or nodes (p.node + 1) 0) p.copy) in
         omega arith
     u-small k o l newer false q = f.small k o (under k l q) newer
 
@@ -276,7 +277,7 @@ half-pushed ss nodes b top s t h p c a e node copy below high inside f =
     u-down k o l newer q x true y = absurd (let z : k ≡ h = eqb-true k h y in omega arith)
     u-down k o l newer true x false y =
         let z : k + 1 ≡ h = eqb-true (k + 1) h x in
-        subst (λ (i : ℕ). nodes_of (resolve (newer ++ b) (term_at ss nodes p c)) < nodes_of (resolve (newer ++ b) (whole_of ss nodes (s i)))) (let i : h - 1 ≡ k = omega arith in i) (inside (omega arith) newer)
+        subst (λ (i : ℕ). nodes_of (resolve (newer ++ b) (term_at ss nodes p.node p.copy)) < nodes_of (resolve (newer ++ b) (whole_of ss nodes (s i)))) (let i : h - 1 ≡ k = omega arith in i) (inside (omega arith) newer)
     u-down k o l newer false x false y = f.down k o (under (k + 1) l x) newer
 
 -- ---- the height

@@ -11,13 +11,14 @@ use lib.ListN.{length, get_or}
 use Rattle.syntax.specs.Words.{first_name}
 use Rattle.machine.specs.Substitution.{RTerm, RTerms, var, app, rcons, Binding, resolve}
 use Rattle.run_layout.specs.Regions.{copies, places, cells, store_words, pairs, pair_of, rows, loaded_node, pair_size}
-use Rattle.run_layout.specs.Nodes.{Symbol, Node, Row, term_at, terms_at, followed, count}
+use Rattle.run_layout.specs.Nodes.{Node, Row, term_at, terms_at, followed, count}
 use Rattle.run_layout.specs.State.{cell_of, variable_of, word_of, value_of, bindings}
 use Rattle.run_layout.proofs.Nodes.{node-inside, node_end, variable-at, row_first, row-rest, row_cons}
 use Rattle.run_layout.proofs.State.{variable-cell, cell-small}
 use Rattle.unify_bindings.specs.Cells.{StoredTerm, Derefs}
 use Rattle.unify_memos.specs.Memos.{Remembers}
 use Rattle.unify_bindings.specs.Scratch.{left_at, right_at, pair_words, SameMarks}
+use Rattle.run_layout.specs.declared.terms.At.{At}
 use Rattle.unify_bindings.specs.declared.stack.Side.{Side}
 use Rattle.unify_cuts.specs.Chains.{Eased, Both, BothFollowed}
 use Rattle.unify_cuts.specs.declared.Ends.{Ends}
@@ -25,8 +26,9 @@ use Rattle.unify_memos.proofs.Remembering.{value-word, memo-kept, memo-eased, me
 use Rattle.unifier.specs.Rows.{unify_rows, nodes_of, rows_size}
 use Rattle.unifier.specs.Walks.{RowsBeside, Walkable, StopsAt, Walks}
 use Rattle.unifier.specs.Stacks.{end_of, whole_of, row_of, rows_of, Half, Via, Stack, SameRows, no_term, Closes}
-use Rattle.unifier.specs.Turns.{Work, Turns, TurnGives, Crossed, PairTurned, Crossable, Crosses, Meetable, Passable, Turnable}
+use Rattle.unifier.specs.Turns.{Work, Base, bound, over, Turns, TurnGives, Crossed, PairTurned, Crossable, Crosses, Meetable, Passable, Turnable}
 use Rattle.unifier.specs.Walks.{RowsWalked}
+use Rattle.unifier.specs.declared.walk.WalkStop.{WalkStop}
 use Rattle.unifier.specs.declared.walk.WalkStop.TheVariants.{Clash as Differ, Met}
 use Rattle.std.proofs.Common.{Ok, Err}
 use Rattle.unifier.specs.Turns.{Turn}
@@ -40,19 +42,19 @@ marks-trans : (a b c : List ℕ) → SameMarks a b → SameMarks b c → SameMar
 marks-trans a b c x y = record { long = y.long ∙ x.long; words = λ j l. y.words j l ∙ x.words j l }
 
 -- rows that unify alike come to the same
-pub turns-alike : (ss : List Symbol) (nodes state : List ℕ) (b : List Binding) (top : ℕ) (ls rs ls' rs' : RTerms) (size size' : ℕ) (after : List ℕ) (t : Turn) → unify_rows b ls rs ≡ unify_rows b ls' rs' → size' ≤ size → Turns ss nodes state b top ls' rs' size' after t → Turns ss nodes state b top ls rs size after t
-turns-alike ss nodes state b top ls rs ls' rs' size size' after (Ok k) e l g = record { stack = g.stack; means = e ∙ g.means; less = (let z : 2 * rows_size b (rows_of ss nodes (left_at after) k) + k < size' = g.less in omega arith); memo = g.memo; closes = g.closes }
-turns-alike ss nodes state b top ls rs ls' rs' size size' after (Err Clash) e l g = e ∙ g
-turns-alike ss nodes state b top ls rs ls' rs' size size' after (Err (Bind k x p c)) e l g =
+pub turns-alike : (o : Base) (ls rs ls' rs' : RTerms) (size size' : ℕ) (after : List ℕ) (t : Turn) → unify_rows (bound o) ls rs ≡ unify_rows (bound o) ls' rs' → size' ≤ size → Turns o ls' rs' size' after t → Turns o ls rs size after t
+turns-alike o ls rs ls' rs' size size' after (Ok k) e l g = record { stack = g.stack; means = e ∙ g.means; less = (let z : 2 * rows_size (bound o) (rows_of o.ss o.nodes (left_at after) k) + k < size' = g.less in omega arith); memo = g.memo; closes = g.closes }
+turns-alike o ls rs ls' rs' size size' after (Err Clash) e l g = e ∙ g
+turns-alike o ls rs ls' rs' size size' after (Err (Bind k x a)) e l g =
     record { stack = g.stack; cell = g.cell; unbound = g.unbound; below = g.below; node = g.node; copy = g.copy; copy_below = g.copy_below; down = g.down; stands = λ z. e ∙ g.stands z; free = λ z. e ∙ g.free z; memo = g.memo; closes = g.closes }
 
 -- ---- the crossing
 
-module _ (nodes state scratch : List ℕ) (h p c q d : ℕ) (g : Crossable nodes state scratch h p c q d) where
-  cross-left : StoredTerm nodes state p c
+module _ {nodes state scratch : List ℕ} {h : ℕ} {p q : At} (g : Crossable nodes state scratch h p q) where
+  cross-left : StoredTerm nodes state p.node p.copy
   cross-left = record { ss = g.work.ss; n = g.n; store = g.work.store; node = g.left; copy = g.copy }
 
-  pub cross-both : Both nodes state scratch p c q d
+  pub cross-both : Both nodes state scratch p.node p.copy q.node q.copy
   unfolding cross-left
   cross-both =
       record {
@@ -65,11 +67,11 @@ module _ (nodes state scratch : List ℕ) (h p c q d : ℕ) (g : Crossable nodes
         copy = g.copy_right;
       }
 
-  module _ (p1 c1 q1 d1 : ℕ) (to-left : Derefs g.work.ss nodes state g.n p c p1 c1) (to-right : Derefs g.work.ss nodes state g.n q d q1 d1) where
+  module _ {p1 q1 : At} (to-left : Derefs g.work.ss nodes state g.n p.node p.copy p1.node p1.copy) (to-right : Derefs g.work.ss nodes state g.n q.node q.copy q1.node q1.copy) where
     later : (newer : List Binding) (s t : RTerm) → resolve (bindings g.work.ss nodes state g.n) s ≡ resolve (bindings g.work.ss nodes state g.n) t → nodes_of (resolve (newer ++ bindings g.work.ss nodes state g.n) s) ≡ nodes_of (resolve (newer ++ bindings g.work.ss nodes state g.n) t)
     later newer s t e = ap nodes_of (resolve-append newer (bindings g.work.ss nodes state g.n) s ∙ (ap (resolve newer) e ∙ sym (resolve-append newer (bindings g.work.ss nodes state g.n) t)))
 
-    crossing : (v : ℕ) → Via (bindings g.work.ss nodes state g.n) v (term_at g.work.ss nodes p1 c1) (term_at g.work.ss nodes q1 d1) → Crossed nodes scratch h p1 c1 q1 d1
+    crossing : (v : ℕ) → Via (bindings g.work.ss nodes state g.n) v (term_at g.work.ss nodes p1.node p1.copy) (term_at g.work.ss nodes q1.node q1.copy) → Crossed nodes scratch h p1 q1
     crossing v w =
         record {
           state = state;
@@ -80,46 +82,46 @@ module _ (nodes state scratch : List ℕ) (h p c q d : ℕ) (g : Crossable nodes
           right = record { node = to-right.leads.node; copy = to-right.leads.copy; below = to-right.leads.within g.work.top g.work.within g.below_right; stops = to-right.stops };
           via = v;
           via_is = λ x y. w;
-          inside = λ l newer. (let x : nodes_of (resolve (newer ++ bindings g.work.ss nodes state g.n) (term_at g.work.ss nodes p1 c1)) ≡ nodes_of (resolve (newer ++ bindings g.work.ss nodes state g.n) (term_at g.work.ss nodes p c)) = later newer (term_at g.work.ss nodes p1 c1) (term_at g.work.ss nodes p c) to-left.leads.means in
-              let y : nodes_of (resolve (newer ++ bindings g.work.ss nodes state g.n) (term_at g.work.ss nodes p c)) < nodes_of (resolve (newer ++ bindings g.work.ss nodes state g.n) (whole_of g.work.ss nodes (left_at scratch (h - 1)))) = g.inside l newer in omega arith);
-          inside_right = λ l newer. (let x : nodes_of (resolve (newer ++ bindings g.work.ss nodes state g.n) (term_at g.work.ss nodes q1 d1)) ≡ nodes_of (resolve (newer ++ bindings g.work.ss nodes state g.n) (term_at g.work.ss nodes q d)) = later newer (term_at g.work.ss nodes q1 d1) (term_at g.work.ss nodes q d) to-right.leads.means in
-              let y : nodes_of (resolve (newer ++ bindings g.work.ss nodes state g.n) (term_at g.work.ss nodes q d)) < nodes_of (resolve (newer ++ bindings g.work.ss nodes state g.n) (whole_of g.work.ss nodes (right_at scratch (h - 1)))) = g.inside_right l newer in omega arith);
-          closes = closes-terms g.work.ss nodes (bindings g.work.ss nodes state g.n) (left_at scratch) (right_at scratch) h (term_at g.work.ss nodes p c) (term_at g.work.ss nodes q d) (term_at g.work.ss nodes p1 c1) (term_at g.work.ss nodes q1 d1) to-left.leads.means to-right.leads.means g.closes;
+          inside = λ l newer. (let x : nodes_of (resolve (newer ++ bindings g.work.ss nodes state g.n) (term_at g.work.ss nodes p1.node p1.copy)) ≡ nodes_of (resolve (newer ++ bindings g.work.ss nodes state g.n) (term_at g.work.ss nodes p.node p.copy)) = later newer (term_at g.work.ss nodes p1.node p1.copy) (term_at g.work.ss nodes p.node p.copy) to-left.leads.means in
+              let y : nodes_of (resolve (newer ++ bindings g.work.ss nodes state g.n) (term_at g.work.ss nodes p.node p.copy)) < nodes_of (resolve (newer ++ bindings g.work.ss nodes state g.n) (whole_of g.work.ss nodes (left_at scratch (h - 1)))) = g.inside l newer in omega arith);
+          inside_right = λ l newer. (let x : nodes_of (resolve (newer ++ bindings g.work.ss nodes state g.n) (term_at g.work.ss nodes q1.node q1.copy)) ≡ nodes_of (resolve (newer ++ bindings g.work.ss nodes state g.n) (term_at g.work.ss nodes q.node q.copy)) = later newer (term_at g.work.ss nodes q1.node q1.copy) (term_at g.work.ss nodes q.node q.copy) to-right.leads.means in
+              let y : nodes_of (resolve (newer ++ bindings g.work.ss nodes state g.n) (term_at g.work.ss nodes q.node q.copy)) < nodes_of (resolve (newer ++ bindings g.work.ss nodes state g.n) (whole_of g.work.ss nodes (right_at scratch (h - 1)))) = g.inside_right l newer in omega arith);
+          closes = closes-terms g.work.ss nodes (bindings g.work.ss nodes state g.n) (left_at scratch) (right_at scratch) h (term_at g.work.ss nodes p.node p.copy) (term_at g.work.ss nodes q.node q.copy) (term_at g.work.ss nodes p1.node p1.copy) (term_at g.work.ss nodes q1.node q1.copy) to-left.leads.means to-right.leads.means g.closes;
         }
 
     cell-of : (i j : ℕ) → Node g.work.ss nodes i → get_or nodes i 0 < first_name → resolve (bindings g.work.ss nodes state g.n) (var (variable_of (cell_of j (get_or nodes i 0)))) ≡ resolve (bindings g.work.ss nodes state g.n) (term_at g.work.ss nodes i j)
     cell-of i j n l = ap (resolve (bindings g.work.ss nodes state g.n)) (ap var (variable-cell j (get_or nodes i 0) l) ∙ sym (variable-at g.work.ss nodes i n j l))
 
-    pub cross-settle : Crossed nodes scratch h p1 c1 q1 d1
+    pub cross-settle : Crossed nodes scratch h p1 q1
     cross-settle = crossing (via-of g.variable).0 (via-of g.variable).1
       where
-        via-of : (get_or nodes p 0 < first_name) ⊎ (get_or nodes q 0 < first_name) → (v : ℕ) × Via (bindings g.work.ss nodes state g.n) v (term_at g.work.ss nodes p1 c1) (term_at g.work.ss nodes q1 d1)
+        via-of : (get_or nodes p.node 0 < first_name) ⊎ (get_or nodes q.node 0 < first_name) → (v : ℕ) × Via (bindings g.work.ss nodes state g.n) v (term_at g.work.ss nodes p1.node p1.copy) (term_at g.work.ss nodes q1.node q1.copy)
         via-of (inl l) =
-            let s : cell_of c (get_or nodes p 0) < cells = cell-small c (get_or nodes p 0) g.copy l in
-            (cell_of c (get_or nodes p 0), record { small = omega arith; left_is = λ k. cell-of p c g.left l ∙ sym to-left.leads.means; right_is = λ k. absurd (let z : cells ≤ cell_of c (get_or nodes p 0) = k in omega arith) })
+            let s : cell_of p.copy (get_or nodes p.node 0) < cells = cell-small p.copy (get_or nodes p.node 0) g.copy l in
+            (cell_of p.copy (get_or nodes p.node 0), record { small = omega arith; left_is = λ k. cell-of p.node p.copy g.left l ∙ sym to-left.leads.means; right_is = λ k. absurd (let z : cells ≤ cell_of p.copy (get_or nodes p.node 0) = k in omega arith) })
         via-of (inr l) =
-            let s : cell_of d (get_or nodes q 0) < cells = cell-small d (get_or nodes q 0) g.copy_right l in
-            (cells + cell_of d (get_or nodes q 0), record { small = omega arith; left_is = λ k. absurd (let z : cells + cell_of d (get_or nodes q 0) < cells = k in omega arith); right_is = λ k. ap (λ (i : ℕ). resolve (bindings g.work.ss nodes state g.n) (var (variable_of i))) (let e : cells + cell_of d (get_or nodes q 0) - cells ≡ cell_of d (get_or nodes q 0) = omega arith in e) ∙ (cell-of q d g.right l ∙ sym to-right.leads.means) })
+            let s : cell_of q.copy (get_or nodes q.node 0) < cells = cell-small q.copy (get_or nodes q.node 0) g.copy_right l in
+            (cells + cell_of q.copy (get_or nodes q.node 0), record { small = omega arith; left_is = λ k. absurd (let z : cells + cell_of q.copy (get_or nodes q.node 0) < cells = k in omega arith); right_is = λ k. ap (λ (i : ℕ). resolve (bindings g.work.ss nodes state g.n) (var (variable_of i))) (let e : cells + cell_of q.copy (get_or nodes q.node 0) - cells ≡ cell_of q.copy (get_or nodes q.node 0) = omega arith in e) ∙ (cell-of q.node q.copy g.right l ∙ sym to-right.leads.means) })
 
-    pub cross-end : (after : List ℕ) (t : Turn) → ((k : Crossed nodes scratch h p1 c1 q1 d1) → PairTurned nodes scratch after h p1 c1 q1 d1 k t) → Crosses nodes state scratch after h p c q d g t
+    pub cross-end : (after : List ℕ) (t : Turn) → ((k : Crossed nodes scratch h p1 q1) → PairTurned k after t) → Crosses g after t
     unfolding cross-settle crossing
     cross-end after t s =
-        let k : PairTurned nodes scratch after h p1 c1 q1 d1 cross-settle t = s cross-settle in
+        let k : PairTurned cross-settle after t = s cross-settle in
         let b : List Binding = bindings g.work.ss nodes state g.n in
         let ls : RTerms = rows_of g.work.ss nodes (left_at scratch) h in
         let rs : RTerms = rows_of g.work.ss nodes (right_at scratch) h in
-        let x : rows_size (bindings g.work.ss nodes state g.n) (rcons (term_at g.work.ss nodes p c) (rows_of g.work.ss nodes (left_at scratch) h)) ≡ nodes_of (resolve (bindings g.work.ss nodes state g.n) (term_at g.work.ss nodes p c)) + rows_size (bindings g.work.ss nodes state g.n) (rows_of g.work.ss nodes (left_at scratch) h) = size-cons (bindings g.work.ss nodes state g.n) (term_at g.work.ss nodes p c) (rows_of g.work.ss nodes (left_at scratch) h) in
-        let y : rows_size (bindings g.work.ss nodes state g.n) (rcons (term_at g.work.ss nodes p1 c1) (rows_of g.work.ss nodes (left_at scratch) h)) ≡ nodes_of (resolve (bindings g.work.ss nodes state g.n) (term_at g.work.ss nodes p1 c1)) + rows_size (bindings g.work.ss nodes state g.n) (rows_of g.work.ss nodes (left_at scratch) h) = size-cons (bindings g.work.ss nodes state g.n) (term_at g.work.ss nodes p1 c1) (rows_of g.work.ss nodes (left_at scratch) h) in
-        let z : nodes_of (resolve (bindings g.work.ss nodes state g.n) (term_at g.work.ss nodes p1 c1)) ≡ nodes_of (resolve (bindings g.work.ss nodes state g.n) (term_at g.work.ss nodes p c)) = ap nodes_of to-left.leads.means in (
+        let x : rows_size (bindings g.work.ss nodes state g.n) (rcons (term_at g.work.ss nodes p.node p.copy) (rows_of g.work.ss nodes (left_at scratch) h)) ≡ nodes_of (resolve (bindings g.work.ss nodes state g.n) (term_at g.work.ss nodes p.node p.copy)) + rows_size (bindings g.work.ss nodes state g.n) (rows_of g.work.ss nodes (left_at scratch) h) = size-cons (bindings g.work.ss nodes state g.n) (term_at g.work.ss nodes p.node p.copy) (rows_of g.work.ss nodes (left_at scratch) h) in
+        let y : rows_size (bindings g.work.ss nodes state g.n) (rcons (term_at g.work.ss nodes p1.node p1.copy) (rows_of g.work.ss nodes (left_at scratch) h)) ≡ nodes_of (resolve (bindings g.work.ss nodes state g.n) (term_at g.work.ss nodes p1.node p1.copy)) + rows_size (bindings g.work.ss nodes state g.n) (rows_of g.work.ss nodes (left_at scratch) h) = size-cons (bindings g.work.ss nodes state g.n) (term_at g.work.ss nodes p1.node p1.copy) (rows_of g.work.ss nodes (left_at scratch) h) in
+        let z : nodes_of (resolve (bindings g.work.ss nodes state g.n) (term_at g.work.ss nodes p1.node p1.copy)) ≡ nodes_of (resolve (bindings g.work.ss nodes state g.n) (term_at g.work.ss nodes p.node p.copy)) = ap nodes_of to-left.leads.means in (
           k.0,
-          turns-alike g.work.ss nodes state b g.work.top (rcons (term_at g.work.ss nodes p c) ls) (rcons (term_at g.work.ss nodes q d) rs) (rcons (term_at g.work.ss nodes p1 c1) ls) (rcons (term_at g.work.ss nodes q1 d1) rs)
-              (2 * rows_size b (rcons (term_at g.work.ss nodes p c) ls) + h) (2 * rows_size b (rcons (term_at g.work.ss nodes p1 c1) ls) + h) after t
-              (rows-first b (term_at g.work.ss nodes p c) (term_at g.work.ss nodes q d) (term_at g.work.ss nodes p1 c1) (term_at g.work.ss nodes q1 d1) ls rs (sym to-left.leads.means) (sym to-right.leads.means)) (omega arith) k.1,
+          turns-alike (over g.work) (rcons (term_at g.work.ss nodes p.node p.copy) ls) (rcons (term_at g.work.ss nodes q.node q.copy) rs) (rcons (term_at g.work.ss nodes p1.node p1.copy) ls) (rcons (term_at g.work.ss nodes q1.node q1.copy) rs)
+              (2 * rows_size b (rcons (term_at g.work.ss nodes p.node p.copy) ls) + h) (2 * rows_size b (rcons (term_at g.work.ss nodes p1.node p1.copy) ls) + h) after t
+              (rows-first b (term_at g.work.ss nodes p.node p.copy) (term_at g.work.ss nodes q.node q.copy) (term_at g.work.ss nodes p1.node p1.copy) (term_at g.work.ss nodes q1.node q1.copy) ls rs (sym to-left.leads.means) (sym to-right.leads.means)) (omega arith) k.1,
         )
 
 -- ---- only short cuts change
 
-module _ (nodes state scratch : List ℕ) (h p c q d : ℕ) (g : Crossable nodes state scratch h p c q d) (after : List ℕ) (e : Eased (bindings g.work.ss nodes state g.n) scratch after) where
+module _ {nodes state scratch : List ℕ} {h : ℕ} {p q : At} (g : Crossable nodes state scratch h p q) {after : List ℕ} (e : Eased (bindings g.work.ss nodes state g.n) scratch after) where
   tall : h ≤ pairs
   tall = height g.work.ss nodes (bindings g.work.ss nodes state g.n) g.work.top (left_at scratch) (right_at scratch) h g.work.stack
 
@@ -129,7 +131,7 @@ module _ (nodes state scratch : List ℕ) (h p c q d : ℕ) (g : Crossable nodes
   right-still : (i : ℕ) → i < h → right_at after i ≡ right_at scratch i
   right-still i o = right-front scratch after e.beside.low i (let z : h ≤ pairs = tall in omega arith)
 
-  abbrev eased-crossable : Crossable nodes state after h p c q d
+  abbrev eased-crossable : Crossable nodes state after h p q
   eased-crossable =
       record {
         n = g.n;
@@ -150,37 +152,37 @@ module _ (nodes state scratch : List ℕ) (h p c q d : ℕ) (g : Crossable nodes
         below = g.below;
         below_right = g.below_right;
         variable = g.variable;
-        inside = λ o newer. subst⁻¹ (λ (s : Side). nodes_of (resolve (newer ++ bindings g.work.ss nodes state g.n) (term_at g.work.ss nodes p c)) < nodes_of (resolve (newer ++ bindings g.work.ss nodes state g.n) (whole_of g.work.ss nodes s))) (left-still (h - 1) (omega arith)) (g.inside o newer);
-        inside_right = λ o newer. subst⁻¹ (λ (s : Side). nodes_of (resolve (newer ++ bindings g.work.ss nodes state g.n) (term_at g.work.ss nodes q d)) < nodes_of (resolve (newer ++ bindings g.work.ss nodes state g.n) (whole_of g.work.ss nodes s))) (right-still (h - 1) (omega arith)) (g.inside_right o newer);
-        closes = closes-agree g.work.ss nodes (bindings g.work.ss nodes state g.n) (left_at scratch) (right_at scratch) (left_at after) (right_at after) h (term_at g.work.ss nodes p c) (term_at g.work.ss nodes q d) left-still right-still g.closes;
+        inside = λ o newer. subst⁻¹ (λ (s : Side). nodes_of (resolve (newer ++ bindings g.work.ss nodes state g.n) (term_at g.work.ss nodes p.node p.copy)) < nodes_of (resolve (newer ++ bindings g.work.ss nodes state g.n) (whole_of g.work.ss nodes s))) (left-still (h - 1) (omega arith)) (g.inside o newer);
+        inside_right = λ o newer. subst⁻¹ (λ (s : Side). nodes_of (resolve (newer ++ bindings g.work.ss nodes state g.n) (term_at g.work.ss nodes q.node q.copy)) < nodes_of (resolve (newer ++ bindings g.work.ss nodes state g.n) (whole_of g.work.ss nodes s))) (right-still (h - 1) (omega arith)) (g.inside_right o newer);
+        closes = closes-agree g.work.ss nodes (bindings g.work.ss nodes state g.n) (left_at scratch) (right_at scratch) (left_at after) (right_at after) h (term_at g.work.ss nodes p.node p.copy) (term_at g.work.ss nodes q.node q.copy) left-still right-still g.closes;
       }
 
-  eased-crosses : (later : List ℕ) (t : Turn) → Crosses nodes state after later h p c q d eased-crossable t → Crosses nodes state scratch later h p c q d g t
+  eased-crosses : (later : List ℕ) (t : Turn) → Crosses eased-crossable later t → Crosses g later t
   eased-crosses later t k = (
     marks-trans scratch after later (record { long = e.beside.long; words = λ j l. e.beside.low j (omega arith) }) k.0,
-    subst (λ (rs : RTerms). Turns g.work.ss nodes state (bindings g.work.ss nodes state g.n) g.work.top (rcons (term_at g.work.ss nodes p c) (rows_of g.work.ss nodes (left_at scratch) h)) (rcons (term_at g.work.ss nodes q d) rs)
-        (2 * rows_size (bindings g.work.ss nodes state g.n) (rcons (term_at g.work.ss nodes p c) (rows_of g.work.ss nodes (left_at scratch) h)) + h) later t) (rows_agree g.work.ss nodes (right_at scratch) (right_at after) h right-still)
-        (subst (λ (ls : RTerms). Turns g.work.ss nodes state (bindings g.work.ss nodes state g.n) g.work.top (rcons (term_at g.work.ss nodes p c) ls) (rcons (term_at g.work.ss nodes q d) (rows_of g.work.ss nodes (right_at after) h))
-        (2 * rows_size (bindings g.work.ss nodes state g.n) (rcons (term_at g.work.ss nodes p c) ls) + h) later t) (rows_agree g.work.ss nodes (left_at scratch) (left_at after) h left-still) k.1),
+    subst (λ (rs : RTerms). Turns (over g.work) (rcons (term_at g.work.ss nodes p.node p.copy) (rows_of g.work.ss nodes (left_at scratch) h)) (rcons (term_at g.work.ss nodes q.node q.copy) rs)
+        (2 * rows_size (bindings g.work.ss nodes state g.n) (rcons (term_at g.work.ss nodes p.node p.copy) (rows_of g.work.ss nodes (left_at scratch) h)) + h) later t) (rows_agree g.work.ss nodes (right_at scratch) (right_at after) h right-still)
+        (subst (λ (ls : RTerms). Turns (over g.work) (rcons (term_at g.work.ss nodes p.node p.copy) ls) (rcons (term_at g.work.ss nodes q.node q.copy) (rows_of g.work.ss nodes (right_at after) h))
+        (2 * rows_size (bindings g.work.ss nodes state g.n) (rcons (term_at g.work.ss nodes p.node p.copy) ls) + h) later t) (rows_agree g.work.ss nodes (left_at scratch) (left_at after) h left-still) k.1),
   )
 
-module _ (nodes state scratch : List ℕ) (h p c q d : ℕ) (g : Crossable nodes state scratch h p c q d) {mid : List ℕ} {r : Ends} (f : (k : Both nodes state scratch p c q d) → BothFollowed k.left.from.given.ss nodes k.left.from.state k.left.from.given.n scratch mid p c q d r) where
-  ended : BothFollowed g.work.ss nodes state g.n scratch mid p c q d r
+module _ {nodes state scratch : List ℕ} {h : ℕ} {p q : At} (g : Crossable nodes state scratch h p q) {mid : List ℕ} {r : Ends} (f : (k : Both nodes state scratch p.node p.copy q.node q.copy) → BothFollowed k.left.from.given.ss nodes k.left.from.state k.left.from.given.n scratch mid p.node p.copy q.node q.copy r) where
+  ended : BothFollowed g.work.ss nodes state g.n scratch mid p.node p.copy q.node q.copy r
   unfolding cross-both cross-left
-  ended = f (cross-both nodes state scratch h p c q d g)
+  ended = f (cross-both g)
 
-  abbrev once : Crossable nodes state mid h p c q d
-  once = eased-crossable nodes state scratch h p c q d g mid ended.eased
+  abbrev once : Crossable nodes state mid h p q
+  once = eased-crossable g ended.eased
 
-  pub cross-settled : Crossed nodes mid h r.left.node r.left.copy r.right.node r.right.copy
-  cross-settled = cross-settle nodes state mid h p c q d once r.left.node r.left.copy r.right.node r.right.copy ended.left ended.right
+  pub cross-settled : Crossed nodes mid h r.left r.right
+  cross-settled = cross-settle once ended.left ended.right
 
-  pub cross-done : (after : List ℕ) (t : Turn) → ((k : Crossed nodes mid h r.left.node r.left.copy r.right.node r.right.copy) → PairTurned nodes mid after h r.left.node r.left.copy r.right.node r.right.copy k t) → Crosses nodes state scratch after h p c q d g t
-  cross-done after t s = eased-crosses nodes state scratch h p c q d g mid ended.eased after t (cross-end nodes state mid h p c q d once r.left.node r.left.copy r.right.node r.right.copy ended.left ended.right after t s)
+  pub cross-done : (after : List ℕ) (t : Turn) → ((k : Crossed nodes mid h r.left r.right) → PairTurned k after t) → Crosses g after t
+  cross-done after t s = eased-crosses g ended.eased after t (cross-end once ended.left ended.right after t s)
 
 -- ---- the top pair moved past the crossing
 
-module _ (nodes state scratch : List ℕ) (n h p q : ℕ) (w : Work nodes state scratch n h) (some : 1 ≤ h)
+module _ {nodes state scratch : List ℕ} {n h p q : ℕ} (w : Work nodes state scratch n h) (some : 1 ≤ h)
     (m : StopsAt w.ss nodes (left_at scratch (h - 1)).at (end_of nodes (left_at scratch (h - 1))) (right_at scratch (h - 1)).at (end_of nodes (right_at scratch (h - 1))) p q)
     (cl : Closes w.ss nodes (bindings w.ss nodes state n) (left_at scratch) (right_at scratch) h no_term no_term) where
   abbrev pub b : List Binding
@@ -198,8 +200,15 @@ module _ (nodes state scratch : List ℕ) (n h p q : ℕ) (w : Work nodes state 
   abbrev pub qa : ℕ
   qa = q + get_or nodes (q + 1) 0
 
+  -- the two terms that are met
+  abbrev pub p0 : At
+  p0 = record { node = p; copy = l0.copy }
+
+  abbrev pub q0 : At
+  q0 = record { node = q; copy = r0.copy }
+
   abbrev pub mid : List ℕ
-  mid = pair_words scratch (h - 1) l0.root pa l0.copy r0.root qa r0.copy
+  mid = pair_words scratch (h - 1) (record l0 { at = pa }) (record r0 { at = qa })
 
   high : h ≤ pairs
   high = height w.ss nodes b w.top (left_at scratch) (right_at scratch) h w.stack
@@ -232,16 +241,16 @@ module _ (nodes state scratch : List ℕ) (n h p q : ℕ) (w : Work nodes state 
   right-size x d = ap (rows_size x) (right-cons d) ∙ size-cons x (term_at w.ss nodes q d) (terms_at w.ss nodes qa (end_of nodes r0) d)
 
   left_below : (k : ℕ) → k < h - 1 → left_at mid k ≡ left_at scratch k
-  left_below k o = pair-left-others scratch (h - 1) l0.root pa l0.copy r0.root qa r0.copy fits k (λ e. omega arith)
+  left_below k o = pair-left-others scratch (h - 1) (record l0 { at = pa }) (record r0 { at = qa }) fits k (λ e. omega arith)
 
   right-below : (k : ℕ) → k < h - 1 → right_at mid k ≡ right_at scratch k
-  right-below k o = pair-right-others scratch (h - 1) l0.root pa l0.copy r0.root qa r0.copy fits k (λ e. omega arith)
+  right-below k o = pair-right-others scratch (h - 1) (record l0 { at = pa }) (record r0 { at = qa }) fits k (λ e. omega arith)
 
-  left-top : left_at mid (h - 1) ≡ record { root = l0.root; at = pa; copy = l0.copy }
-  left-top = pair_left scratch (h - 1) l0.root pa l0.copy r0.root qa r0.copy fits
+  left-top : left_at mid (h - 1) ≡ record l0 { at = pa }
+  left-top = pair_left scratch (h - 1) (record l0 { at = pa }) (record r0 { at = qa }) fits
 
-  right-top : right_at mid (h - 1) ≡ record { root = r0.root; at = qa; copy = r0.copy }
-  right-top = pair-right scratch (h - 1) l0.root pa l0.copy r0.root qa r0.copy fits
+  right-top : right_at mid (h - 1) ≡ record r0 { at = qa }
+  right-top = pair-right scratch (h - 1) (record l0 { at = pa }) (record r0 { at = qa }) fits
 
   back : suc (h - 1) ≡ h
   back = omega arith
@@ -311,7 +320,7 @@ module _ (nodes state scratch : List ℕ) (n h p q : ℕ) (w : Work nodes state 
       (closes-moved w.ss nodes b (left_at scratch) (right_at scratch) (left_at mid) (right_at mid) (h - 1) pa qa (term_at w.ss nodes p l0.copy) (term_at w.ss nodes q r0.copy) left_below right-below left-top right-top behind
       (subst⁻¹ (λ (i : ℕ). Closes w.ss nodes b (left_at scratch) (right_at scratch) i no_term no_term) back cl))
 
-  pub meet-crossable : Crossable nodes state mid h p l0.copy q r0.copy
+  pub meet-crossable : Crossable nodes state mid h p0 q0
   meet-crossable =
       record {
         n = n;
@@ -320,9 +329,9 @@ module _ (nodes state scratch : List ℕ) (n h p q : ℕ) (w : Work nodes state 
           top = w.top;
           store = w.store;
           within = w.within;
-          roomy = (let e : length mid ≡ length scratch = pair-long scratch (h - 1) l0.root pa l0.copy r0.root qa r0.copy fits in let o : rows ≤ length scratch = w.roomy in omega arith);
+          roomy = (let e : length mid ≡ length scratch = pair-long scratch (h - 1) (record l0 { at = pa }) (record r0 { at = qa }) fits in let o : rows ≤ length scratch = w.roomy in omega arith);
           stack = moved;
-          memo = memo-kept w.ss nodes b scratch w.memo mid (λ j o. pair-others scratch (h - 1) l0.root pa l0.copy r0.root qa r0.copy fits j (inr (let k : h ≤ pairs = high in omega arith)));
+          memo = memo-kept w.ss nodes b scratch w.memo mid (λ j o. pair-others scratch (h - 1) (record l0 { at = pa }) (record r0 { at = qa }) fits j (inr (let k : h ≤ pairs = high in omega arith)));
         };
         some = some;
         left = left-node;
@@ -362,15 +371,15 @@ module _ (nodes state scratch : List ℕ) (n h p q : ℕ) (w : Work nodes state 
       ap (rcons (term_at w.ss nodes q r0.copy)) (ap (rows_of w.ss nodes (right_at mid)) (sym back) ∙ (rows-top w.ss nodes (right_at mid) (h - 1) ∙ ap₂ followed (ap (row_of w.ss nodes) right-top) (rows_agree w.ss nodes (right_at scratch) (right_at mid) (h - 1) right-below)))
       ∙ (sym (one-followed (term_at w.ss nodes q r0.copy) (terms_at w.ss nodes qa (end_of nodes r0) r0.copy) (rows_of w.ss nodes (right_at scratch) (h - 1))) ∙ ap (λ (ts : RTerms). followed ts (rows_of w.ss nodes (right_at scratch) (h - 1))) (sym (right-cons r0.copy)))
 
-  pub meet-turned : (after : List ℕ) (t : Turn) → ((g : Crossable nodes state mid h p l0.copy q r0.copy) → Crosses nodes state mid after h p l0.copy q r0.copy g t) → TurnGives nodes state scratch after n h w t
+  pub meet-turned : (after : List ℕ) (t : Turn) → ((g : Crossable nodes state mid h p0 q0) → Crosses g after t) → TurnGives w after t
   unfolding meet-crossable
   meet-turned after t k =
-      let s : Crosses nodes state mid after h p l0.copy q r0.copy meet-crossable t = k meet-crossable in
+      let s : Crosses meet-crossable after t = k meet-crossable in
       let x : rows_size b (rcons (term_at w.ss nodes p l0.copy) (rows_of w.ss nodes (left_at mid) h)) ≡ rows_size b (terms_at w.ss nodes p (end_of nodes l0) l0.copy) + rows_size b (rows_of w.ss nodes (left_at scratch) (h - 1)) = ap (rows_size b) mid-left ∙ size-followed b (terms_at w.ss nodes p (end_of nodes l0) l0.copy) (rows_of w.ss nodes (left_at scratch) (h - 1)) in
       let y : rows_size b (rows_of w.ss nodes (left_at scratch) h) ≡ rows_size b (row_of w.ss nodes l0) + rows_size b (rows_of w.ss nodes (left_at scratch) (h - 1)) = ap (rows_size b) top_left ∙ size-followed b (row_of w.ss nodes l0) (rows_of w.ss nodes (left_at scratch) (h - 1)) in
       let z : rows_size b (terms_at w.ss nodes p (end_of nodes l0) l0.copy) ≤ rows_size b (row_of w.ss nodes l0) = m.less b l0.copy in (
-        marks-trans scratch mid after (pair-marks scratch (h - 1) l0.root pa l0.copy r0.root qa r0.copy fits) s.0,
-        turns-alike w.ss nodes state b w.top (rows_of w.ss nodes (left_at scratch) h) (rows_of w.ss nodes (right_at scratch) h) (rcons (term_at w.ss nodes p l0.copy) (rows_of w.ss nodes (left_at mid) h)) (rcons (term_at w.ss nodes q r0.copy) (rows_of w.ss nodes (right_at mid) h))
+        marks-trans scratch mid after (pair-marks scratch (h - 1) (record l0 { at = pa }) (record r0 { at = qa }) fits) s.0,
+        turns-alike (over w) (rows_of w.ss nodes (left_at scratch) h) (rows_of w.ss nodes (right_at scratch) h) (rcons (term_at w.ss nodes p l0.copy) (rows_of w.ss nodes (left_at mid) h)) (rcons (term_at w.ss nodes q r0.copy) (rows_of w.ss nodes (right_at mid) h))
             (2 * rows_size b (rows_of w.ss nodes (left_at scratch) h) + h) (2 * rows_size b (rcons (term_at w.ss nodes p l0.copy) (rows_of w.ss nodes (left_at mid) h)) + h) after t
             (ap₂ (unify_rows b) top_left top_right ∙ (m.means b l0.copy r0.copy (rows_of w.ss nodes (left_at scratch) (h - 1)) (rows_of w.ss nodes (right_at scratch) (h - 1)) ∙ sym (ap₂ (unify_rows b) mid-left mid-right)))
             (omega arith) s.1,
@@ -390,46 +399,61 @@ module _ (nodes state scratch : List ℕ) (n h p q : ℕ) (w : Work nodes state 
       ((omega arith, omega arith), ((omega arith, omega arith), (fits, (omega arith, (omega arith, (omega arith, omega arith))))))
 
 -- the same, over the sides and sizes as they are read
-module _ (nodes state scratch : List ℕ) (n h p q : ℕ) (w : Work nodes state scratch n h) (some : 1 ≤ h) (l r : Side) (el : l ≡ left_at scratch (h - 1)) (er : r ≡ right_at scratch (h - 1)) where
-  canonical : StopsAt w.ss nodes l.at (end_of nodes l) r.at (end_of nodes r) p q → StopsAt w.ss nodes (left_at scratch (h - 1)).at (end_of nodes (left_at scratch (h - 1))) (right_at scratch (h - 1)).at (end_of nodes (right_at scratch (h - 1))) p q
-  canonical m = subst (λ (y : Side). StopsAt w.ss nodes (left_at scratch (h - 1)).at (end_of nodes (left_at scratch (h - 1))) y.at (end_of nodes y) p q) er (subst (λ (x : Side). StopsAt w.ss nodes x.at (end_of nodes x) r.at (end_of nodes r) p q) el m)
+module _ {nodes state scratch : List ℕ} {h : ℕ} {l r : Side} (g : Meetable nodes state scratch h l r) where
+  abbrev pub p : ℕ
+  p = l.at
 
-  module _ (m : StopsAt w.ss nodes l.at (end_of nodes l) r.at (end_of nodes r) p q) (cl : Closes w.ss nodes (bindings w.ss nodes state n) (left_at scratch) (right_at scratch) h no_term no_term) where
-    pub met-inside : ((p + 1 < length nodes) × (q + 1 < length nodes)) × (((p + get_or nodes (p + 1) 0 < 2 ^ 32) × (q + get_or nodes (q + 1) 0 < 2 ^ 32)) × ((pair_of (h - 1) + pair_size ≤ length scratch) × ((l.root < 2 ^ 32) × ((l.copy < 2 ^ 32) × ((r.root < 2 ^ 32) × (r.copy < 2 ^ 32))))))
-    met-inside =
-        subst⁻¹ (λ (x : Side). ((p + 1 < length nodes) × (q + 1 < length nodes)) × (((p + get_or nodes (p + 1) 0 < 2 ^ 32) × (q + get_or nodes (q + 1) 0 < 2 ^ 32)) × ((pair_of (h - 1) + pair_size ≤ length scratch) × ((x.root < 2 ^ 32) × ((x.copy < 2 ^ 32) × ((r.root < 2 ^ 32) × (r.copy < 2 ^ 32))))))) el
-        (subst⁻¹ (λ (y : Side). ((p + 1 < length nodes) × (q + 1 < length nodes)) × (((p + get_or nodes (p + 1) 0 < 2 ^ 32) × (q + get_or nodes (q + 1) 0 < 2 ^ 32)) × ((pair_of (h - 1) + pair_size ≤ length scratch) × (((left_at scratch (h - 1)).root < 2 ^ 32) × (((left_at scratch (h - 1)).copy < 2 ^ 32) × ((y.root < 2 ^ 32) × (y.copy < 2 ^ 32))))))) er
-        (meet-inside nodes state scratch n h p q w some (canonical m) cl))
+  abbrev pub q : ℕ
+  q = r.at
 
-    module _ (s z : ℕ) (es : s ≡ get_or nodes (p + 1) 0) (ez : z ≡ get_or nodes (q + 1) 0) (mid1 : List ℕ) (e : mid1 ≡ pair_words scratch (h - 1) l.root (p + s) l.copy r.root (q + z) r.copy) where
-      mid-is : mid1 ≡ pair_words scratch (h - 1) (left_at scratch (h - 1)).root (p + get_or nodes (p + 1) 0) (left_at scratch (h - 1)).copy (right_at scratch (h - 1)).root (q + get_or nodes (q + 1) 0) (right_at scratch (h - 1)).copy
-      mid-is =
-          e ∙ (ap₂ (λ (x y : Side). pair_words scratch (h - 1) x.root (p + s) x.copy y.root (q + z) y.copy) el er
-          ∙ ap₂ (λ (i j : ℕ). pair_words scratch (h - 1) (left_at scratch (h - 1)).root (p + i) (left_at scratch (h - 1)).copy (right_at scratch (h - 1)).root (q + j) (right_at scratch (h - 1)).copy) es ez)
+  abbrev pub l1 : Side
+  l1 = left_at scratch (h - 1)
 
-      pub met-cross : Crossable nodes state mid1 h p l.copy q r.copy
-      met-cross =
-          subst⁻¹ (λ (x : Side). Crossable nodes state mid1 h p x.copy q r.copy) el
-          (subst⁻¹ (λ (y : Side). Crossable nodes state mid1 h p (left_at scratch (h - 1)).copy q y.copy) er
-          (subst⁻¹ (λ (k : List ℕ). Crossable nodes state k h p (left_at scratch (h - 1)).copy q (right_at scratch (h - 1)).copy) mid-is (meet-crossable nodes state scratch n h p q w some (canonical m) cl)))
+  abbrev pub r1 : Side
+  r1 = right_at scratch (h - 1)
 
-      pub met_turned : (after : List ℕ) (t : Turn) → ((g : Crossable nodes state mid1 h p l.copy q r.copy) → Crosses nodes state mid1 after h p l.copy q r.copy g t) → TurnGives nodes state scratch after n h w t
-      met_turned after t k =
-          meet-turned nodes state scratch n h p q w some (canonical m) cl after t
-          (subst (λ (i : List ℕ). (g : Crossable nodes state i h p (left_at scratch (h - 1)).copy q (right_at scratch (h - 1)).copy) → Crosses nodes state i after h p (left_at scratch (h - 1)).copy q (right_at scratch (h - 1)).copy g t) mid-is
-          (subst (λ (y : Side). (g : Crossable nodes state mid1 h p (left_at scratch (h - 1)).copy q y.copy) → Crosses nodes state mid1 after h p (left_at scratch (h - 1)).copy q y.copy g t) er
-          (subst (λ (x : Side). (g : Crossable nodes state mid1 h p x.copy q r.copy) → Crosses nodes state mid1 after h p x.copy q r.copy g t) el k)))
+  pub met-inside : ((p + 1 < length nodes) × (q + 1 < length nodes)) × (((p + get_or nodes (p + 1) 0 < 2 ^ 32) × (q + get_or nodes (q + 1) 0 < 2 ^ 32)) × ((pair_of (h - 1) + pair_size ≤ length scratch) × ((l.root < 2 ^ 32) × ((l.copy < 2 ^ 32) × ((r.root < 2 ^ 32) × (r.copy < 2 ^ 32))))))
+  met-inside = (
+    (meet-inside g.work g.some g.meets g.closes).0,
+    (
+      (meet-inside g.work g.some g.meets g.closes).1.0,
+      (
+        (meet-inside g.work g.some g.meets g.closes).1.1.0,
+        subst⁻¹ (λ (x : Side). (x.root < 2 ^ 32) × ((x.copy < 2 ^ 32) × ((r.root < 2 ^ 32) × (r.copy < 2 ^ 32)))) g.left_is
+            (subst⁻¹ (λ (y : Side). (l1.root < 2 ^ 32) × ((l1.copy < 2 ^ 32) × ((y.root < 2 ^ 32) × (y.copy < 2 ^ 32)))) g.right_is (meet-inside g.work g.some g.meets g.closes).1.1.1),
+      ),
+    ),
+  )
+
+  module _ {s z : ℕ} (es : s ≡ get_or nodes (p + 1) 0) (ez : z ≡ get_or nodes (q + 1) 0) {mid1 : List ℕ} (e : mid1 ≡ pair_words scratch (h - 1) (record l { at = p + s }) (record r { at = q + z })) where
+    mid-is : mid1 ≡ pair_words scratch (h - 1) (record l1 { at = p + get_or nodes (p + 1) 0 }) (record r1 { at = q + get_or nodes (q + 1) 0 })
+    mid-is =
+        e ∙ (ap₂ (λ (x y : Side). pair_words scratch (h - 1) (record x { at = p + s }) (record y { at = q + z })) g.left_is g.right_is
+        ∙ ap₂ (λ (i j : ℕ). pair_words scratch (h - 1) (record l1 { at = p + i }) (record r1 { at = q + j })) es ez)
+
+    pub met-cross : Crossable nodes state mid1 h (record { node = p; copy = l.copy }) (record { node = q; copy = r.copy })
+    met-cross =
+        subst⁻¹ (λ (x : Side). Crossable nodes state mid1 h (record { node = p; copy = x.copy }) (record { node = q; copy = r.copy })) g.left_is
+        (subst⁻¹ (λ (y : Side). Crossable nodes state mid1 h (record { node = p; copy = l1.copy }) (record { node = q; copy = y.copy })) g.right_is
+        (subst⁻¹ (λ (k : List ℕ). Crossable nodes state k h (record { node = p; copy = l1.copy }) (record { node = q; copy = r1.copy })) mid-is (meet-crossable g.work g.some g.meets g.closes)))
+
+    pub met_turned : (after : List ℕ) (t : Turn) → ((k : Crossable nodes state mid1 h (record { node = p; copy = l.copy }) (record { node = q; copy = r.copy })) → Crosses k after t) → TurnGives g.work after t
+    met_turned after t f =
+        meet-turned g.work g.some g.meets g.closes after t
+        (subst (λ (i : List ℕ). (k : Crossable nodes state i h (record { node = p; copy = l1.copy }) (record { node = q; copy = r1.copy })) → Crosses k after t) mid-is
+        (subst (λ (y : Side). (k : Crossable nodes state mid1 h (record { node = p; copy = l1.copy }) (record { node = q; copy = y.copy })) → Crosses k after t) g.right_is
+        (subst (λ (x : Side). (k : Crossable nodes state mid1 h (record { node = p; copy = x.copy }) (record { node = q; copy = r.copy })) → Crosses k after t) g.left_is f)))
 
 -- ---- one turn
 
-pub turn-room : (nodes state scratch : List ℕ) (h : ℕ) (g : Turnable nodes state scratch h) → (1 ≤ h) × ((h ≤ pairs) × (pair_of (h - 1) + pair_size ≤ length scratch))
-turn-room nodes state scratch h g =
+pub turn-room : {nodes state scratch : List ℕ} {h : ℕ} (g : Turnable nodes state scratch h) → (1 ≤ h) × ((h ≤ pairs) × (pair_of (h - 1) + pair_size ≤ length scratch))
+turn-room {nodes} {state} {scratch} {h} g =
     let k : h ≤ pairs = height g.work.ss nodes (bindings g.work.ss nodes state g.n) g.work.top (left_at scratch) (right_at scratch) h g.work.stack in
     let o : rows ≤ length scratch = g.work.roomy in
     let s : 1 ≤ h = g.some in
     (s, (k, omega arith))
 
-module _ (nodes state scratch : List ℕ) (h : ℕ) (g : Turnable nodes state scratch h) (l r : Side) (el : l ≡ left_at scratch (h - 1)) (er : r ≡ right_at scratch (h - 1)) where
+module _ {nodes state scratch : List ℕ} {h : ℕ} (g : Turnable nodes state scratch h) {l r : Side} (el : l ≡ left_at scratch (h - 1)) (er : r ≡ right_at scratch (h - 1)) where
   top-under : h - 1 < h
   top-under = let s : 1 ≤ h = g.some in omega arith
 
@@ -447,7 +471,7 @@ module _ (nodes state scratch : List ℕ) (h : ℕ) (g : Turnable nodes state sc
         same = λ i j. ap (λ (x : Side). count (terms_at g.work.ss nodes x.at (end_of nodes x) i)) el ∙ (g.work.stack.same (h - 1) top-under i j ∙ sym (ap (λ (x : Side). count (terms_at g.work.ss nodes x.at (end_of nodes x) j)) er));
       }
 
-  module _ (s : ℕ) (es : s ≡ get_or nodes (l.root + 1) 0) where
+  module _ {s : ℕ} (es : s ≡ get_or nodes (l.root + 1) 0) where
     pub turn-walk : Walkable nodes l.at (l.root + s) r.at
     turn-walk = subst⁻¹ (λ (k : ℕ). Walkable nodes l.at (l.root + k) r.at) es (record { ss = g.work.ss; f = end_of nodes r; beside = beside })
 
@@ -465,21 +489,32 @@ module _ (nodes state scratch : List ℕ) (h : ℕ) (g : Turnable nodes state sc
       turn-pass e =
           record { nodes = nodes; state = state; n = g.n; work = g.work; some = g.some; left_is = el; right_is = er; walks = subst (Walks g.work.ss nodes l.at (end_of nodes l) r.at (end_of nodes r)) e walked; closes = g.closes }
 
-      pub turn-done : (e : o ≡ (Ok tt)) (after : List ℕ) (t : Turn) → ((v : Passable scratch h l r) → TurnGives v.nodes v.state scratch after v.n h v.work t) → TurnGives nodes state scratch after g.n h g.work t
+      pub turn-done : (e : o ≡ (Ok tt)) (after : List ℕ) (t : Turn) → ((v : Passable scratch h l r) → TurnGives v.work after t) → TurnGives g.work after t
       unfolding turn-pass
       turn-done e after t k = k (turn-pass e)
 
-      pub turn-clash : o ≡ (Err Differ) → TurnGives nodes state scratch scratch g.n h g.work (Err Clash)
-      turn-clash e =
-          let v : Walks g.work.ss nodes l.at (end_of nodes l) r.at (end_of nodes r) (Err Differ) = subst (Walks g.work.ss nodes l.at (end_of nodes l) r.at (end_of nodes r)) e walked in
+      pub turn-clash : {f : WalkStop} → o ≡ Err f → f ≡ Differ → TurnGives g.work scratch (Err Clash)
+      turn-clash e d =
+          let v : Walks g.work.ss nodes l.at (end_of nodes l) r.at (end_of nodes r) (Err Differ) = subst (Walks g.work.ss nodes l.at (end_of nodes l) r.at (end_of nodes r)) (e ∙ ap Err d) walked in
           (record { long = refl; words = λ j i. refl }, ap₂ (unify_rows (bindings g.work.ss nodes state g.n)) top-rows top-rows-right ∙ v (bindings g.work.ss nodes state g.n) l.copy r.copy (rows_of g.work.ss nodes (left_at scratch) (h - 1)) (rows_of g.work.ss nodes (right_at scratch) (h - 1)))
 
-      pub turn-met : (p q : ℕ) → o ≡ Err (Met p q) → Meetable nodes state scratch h l r p q
-      turn-met p q e = record { n = g.n; work = g.work; some = g.some; left_is = el; right_is = er; meets = subst (Walks g.work.ss nodes l.at (end_of nodes l) r.at (end_of nodes r)) e walked; closes = g.closes }
+      pub turn-met : {p q : ℕ} {f : WalkStop} → o ≡ Err f → f ≡ Met p q → Meetable nodes state scratch h (record l { at = p }) (record r { at = q })
+      turn-met {p} {q} e d =
+          record {
+            n = g.n;
+            work = g.work;
+            some = g.some;
+            left_is = ap (λ (s : Side). record s { at = p }) el;
+            right_is = ap (λ (s : Side). record s { at = q }) er;
+            meets = subst (λ (y : Side). StopsAt g.work.ss nodes (left_at scratch (h - 1)).at (end_of nodes (left_at scratch (h - 1))) y.at (end_of nodes y) p q) er
+                (subst (λ (x : Side). StopsAt g.work.ss nodes x.at (end_of nodes x) r.at (end_of nodes r) p q) el
+                (subst (Walks g.work.ss nodes l.at (end_of nodes l) r.at (end_of nodes r)) (e ∙ ap Err d) walked));
+            closes = g.closes;
+          }
 
-      pub turn_end : (p q : ℕ) (e : o ≡ Err (Met p q)) (after : List ℕ) (t : Turn) → ((v : Meetable nodes state scratch h l r p q) → TurnGives nodes state scratch after v.n h v.work t) → TurnGives nodes state scratch after g.n h g.work t
+      pub turn_end : {p q : ℕ} {f : WalkStop} (e : o ≡ Err f) (d : f ≡ Met p q) (after : List ℕ) (t : Turn) → ((v : Meetable nodes state scratch h (record l { at = p }) (record r { at = q })) → TurnGives v.work after t) → TurnGives g.work after t
       unfolding turn-met
-      turn_end p q e after t k = k (turn-met p q e)
+      turn_end e d after t k = k (turn-met e d)
 
 -- ---- the top pair done
 
@@ -487,7 +522,7 @@ module _ (nodes state scratch : List ℕ) (h : ℕ) (g : Turnable nodes state sc
 pub remembers-at : {before after : List ℕ} {x y left right : ℕ} → x ≡ left → y ≡ right → Remembers before after x y → Remembers before after left right
 remembers-at {before} {after} {x} {y} {left} {right} a b k = subst (Remembers before after left) b (subst (λ (z : ℕ). Remembers before after z y) a k)
 
-module _ (scratch : List ℕ) (h : ℕ) (l r : Side) (g : Passable scratch h l r) where
+module _ {scratch : List ℕ} {h : ℕ} {l r : Side} (g : Passable scratch h l r) where
   bs : List Binding
   bs = bindings g.work.ss g.nodes g.state g.n
 
@@ -529,7 +564,7 @@ module _ (scratch : List ℕ) (h : ℕ) (l r : Side) (g : Passable scratch h l r
       ap (resolve (bindings g.work.ss g.nodes g.state g.n)) (value-word g.work.ss g.nodes l.root l.copy left-copy ∙ ap (whole_of g.work.ss g.nodes) g.left_is)
       ∙ (wholes-equal ∙ sym (ap (resolve (bindings g.work.ss g.nodes g.state g.n)) (value-word g.work.ss g.nodes r.root r.copy right-copy ∙ ap (whole_of g.work.ss g.nodes) g.right_is)))
 
-  module _ (after : List ℕ) (k : Remembers scratch after (word_of l.root l.copy) (word_of r.root r.copy)) where
+  module _ {after : List ℕ} (k : Remembers scratch after (word_of l.root l.copy) (word_of r.root r.copy)) where
     left-same : (i : ℕ) → i < h → left_at after i ≡ left_at scratch i
     left-same i o = left-front scratch after (λ j w1. k.words j (omega arith)) i (let z : h ≤ pairs = not-high in omega arith)
 
@@ -552,7 +587,7 @@ module _ (scratch : List ℕ) (h : ℕ) (l r : Side) (g : Passable scratch h l r
         ap (rows_of g.work.ss g.nodes (right_at scratch)) (sym back-up)
         ∙ (rows-top g.work.ss g.nodes (right_at scratch) (h - 1) ∙ ap₂ followed (ap (row_of g.work.ss g.nodes) (sym g.right_is)) (sym (rows_agree g.work.ss g.nodes (right_at scratch) (right_at after) (h - 1) right-under)))
 
-    pub pass-turned : TurnGives g.nodes g.state scratch after g.n h g.work (Ok (h - 1))
+    pub pass-turned : TurnGives g.work after (Ok (h - 1))
     unfolding bs
     pass-turned = (
       record { long = k.long; words = λ j i. k.words j (omega arith) },

@@ -15,13 +15,14 @@ use Rattle.run_layout.proofs.Nodes.{node-inside, row_one, row-one-is, term-at}
 use Rattle.unify_cuts.specs.Cuts.{cuts_made}
 use Rattle.unify_memos.specs.Memos.{classes_made}
 use Rattle.unify_bindings.specs.Scratch.{left_at, right_at, pair_words, SameMarks}
+use Rattle.run_layout.specs.declared.terms.At.{At}
 use Rattle.unify_bindings.specs.declared.stack.Side.{Side}
 use Rattle.unify_memos.proofs.Remembering.{memo-none}
 use Rattle.unify_orders.specs.Orders.{ordered, bounds_made}
 use Rattle.unify_orders.proofs.Lists.{ordered-none}
 use Rattle.unify_cycles.specs.Checks.{Begun}
 use Rattle.unifier.specs.Rows.{unify_rows}
-use Rattle.unifier.specs.Stacks.{end_of, whole_of, row_of, rows_of, Half, Stack, no_term, Closes}
+use Rattle.unifier.specs.Stacks.{only_row, end_of, whole_of, row_of, rows_of, Half, Stack, no_term, Closes}
 use Rattle.unifier.specs.Turns.{Solvable, Solved, Unifiable, UnifyGives}
 use Rattle.unifier.specs.declared.solve.UnifyAnswer.{UnifyAnswer}
 use Rattle.unifier.proofs.Rules.{rows-begin}
@@ -30,21 +31,21 @@ use Rattle.unifier.proofs.Closing.{equal-first, closes-first}
 use Rattle.unifier.proofs.Stacked.{pair-long, pair-others, pair-marks, pair_left, pair-right, rows-top}
 
 -- one side of a stack of one pair
-one-half : (ss : List Symbol) (nodes : List ℕ) (b : List Binding) (top p c : ℕ) (s : ℕ → Side) → s 0 ≡ record { root = p; at = p; copy = c } → Node ss nodes p → c < copies → c ≤ top → Half ss nodes b top s 1
-one-half ss nodes b top p c s e n l o =
+one-half : (ss : List Symbol) (nodes : List ℕ) (b : List Binding) (top : ℕ) (p : At) (s : ℕ → Side) → s 0 ≡ only_row p → Node ss nodes p.node → p.copy < copies → p.copy ≤ top → Half ss nodes b top s 1
+one-half ss nodes b top p s e n l o =
     record {
       node = λ k q. subst⁻¹ (λ (x : Side). Node ss nodes x.root) (at k q) n;
       copy = λ k q. subst⁻¹ (λ (x : Side). x.copy < copies) (at k q) l;
       below = λ k q. subst⁻¹ (λ (x : Side). x.copy ≤ top) (at k q) o;
-      row = λ k q. subst⁻¹ (λ (x : Side). Row ss nodes x.at (end_of nodes x)) (at k q) (row_one ss nodes p n);
+      row = λ k q. subst⁻¹ (λ (x : Side). Row ss nodes x.at (end_of nodes x)) (at k q) (row_one ss nodes p.node n);
       small = λ k a q newer. absurd (let z : k < 1 = q in omega arith);
       down = λ k a q newer. absurd (let z : k + 1 < 1 = q in omega arith);
     }
   where
-    at : (k : ℕ) → k < 1 → s k ≡ record { root = p; at = p; copy = c }
+    at : (k : ℕ) → k < 1 → s k ≡ only_row p
     at k q = ap s (let z : k ≡ 0 = omega arith in z) ∙ e
 
-module _ {nodes state scratch : List ℕ} {p c q d n : ℕ} (g : Unifiable nodes state scratch p c q d n) where
+module _ {nodes state scratch : List ℕ} {p q : At} {n : ℕ} (g : Unifiable nodes state scratch p q n) where
   -- the memo emptied
   abbrev pub emptied : List ℕ
   emptied = set (set scratch memo 0) cuts_word 0
@@ -69,34 +70,34 @@ module _ {nodes state scratch : List ℕ} {p c q d n : ℕ} (g : Unifiable nodes
     blank-low : (j : ℕ) → j < order → get_or blank j 0 ≡ get_or emptied j 0
     blank-low j l = begun.same.low j l ∙ ap (λ (x : List ℕ). get_or x j 0) e0
 
-    pub unify-room : (pair_of 0 + pair_size ≤ length blank) × (((p < 2 ^ 32) × ((p < 2 ^ 32) × (c < 2 ^ 32))) × ((q < 2 ^ 32) × ((q < 2 ^ 32) × (d < 2 ^ 32))))
+    pub unify-room : (pair_of 0 + pair_size ≤ length blank) × (((p.node < 2 ^ 32) × ((p.node < 2 ^ 32) × (p.copy < 2 ^ 32))) × ((q.node < 2 ^ 32) × ((q.node < 2 ^ 32) × (q.copy < 2 ^ 32))))
     unify-room =
-        let a : p + loaded_node ≤ length nodes = node-inside g.ss nodes p g.left in
-        let b : q + loaded_node ≤ length nodes = node-inside g.ss nodes q g.right in
+        let a : p.node + loaded_node ≤ length nodes = node-inside g.ss nodes p.node g.left in
+        let b : q.node + loaded_node ≤ length nodes = node-inside g.ss nodes q.node g.right in
         let s : length nodes ≤ places = g.store.small in
         let r : rows ≤ length scratch = g.roomy in
         let e : length blank ≡ length scratch = blank-long in
-        let x : c < copies = g.copy in
-        let y : d < copies = g.copy_right in
+        let x : p.copy < copies = g.copy in
+        let y : q.copy < copies = g.copy_right in
         (omega arith, ((omega arith, (omega arith, omega arith)), (omega arith, (omega arith, omega arith))))
 
     abbrev mid : List ℕ
-    mid = pair_words blank 0 p p c q q d
+    mid = pair_words blank 0 (only_row p) (only_row q)
 
-    left_is : left_at mid 0 ≡ record { root = p; at = p; copy = c }
-    left_is = pair_left blank 0 p p c q q d unify-room.0
+    left_is : left_at mid 0 ≡ only_row p
+    left_is = pair_left blank 0 (only_row p) (only_row q) unify-room.0
 
-    right_is : right_at mid 0 ≡ record { root = q; at = q; copy = d }
-    right_is = pair-right blank 0 p p c q q d unify-room.0
+    right_is : right_at mid 0 ≡ only_row q
+    right_is = pair-right blank 0 (only_row p) (only_row q) unify-room.0
 
-    same_count : (i j : ℕ) → count (terms_at g.ss nodes p (p + get_or nodes (p + 1) 0) i) ≡ count (terms_at g.ss nodes q (q + get_or nodes (q + 1) 0) j)
-    same_count i j = ap count (row-one-is g.ss nodes p i g.left) ∙ (count-one (term_at g.ss nodes p i) rnil ∙ (sym (count-one (term_at g.ss nodes q j) rnil) ∙ sym (ap count (row-one-is g.ss nodes q j g.right))))
+    same_count : (i j : ℕ) → count (terms_at g.ss nodes p.node (p.node + get_or nodes (p.node + 1) 0) i) ≡ count (terms_at g.ss nodes q.node (q.node + get_or nodes (q.node + 1) 0) j)
+    same_count i j = ap count (row-one-is g.ss nodes p.node i g.left) ∙ (count-one (term_at g.ss nodes p.node i) rnil ∙ (sym (count-one (term_at g.ss nodes q.node j) rnil) ∙ sym (ap count (row-one-is g.ss nodes q.node j g.right))))
 
     first-stack : Stack g.ss nodes (bindings g.ss nodes state n) g.top (left_at mid) (right_at mid) 1
     first-stack =
         record {
-          left = one-half g.ss nodes (bindings g.ss nodes state n) g.top p c (left_at mid) left_is g.left g.copy g.below;
-          right = one-half g.ss nodes (bindings g.ss nodes state n) g.top q d (right_at mid) right_is g.right g.copy_right g.below_right;
+          left = one-half g.ss nodes (bindings g.ss nodes state n) g.top p (left_at mid) left_is g.left g.copy g.below;
+          right = one-half g.ss nodes (bindings g.ss nodes state n) g.top q (right_at mid) right_is g.right g.copy_right g.below_right;
           same = λ k l i j.
               (let z : k ≡ 0 = omega arith in
               ap (λ (s : Side). count (terms_at g.ss nodes s.at (end_of nodes s) i)) (ap (left_at mid) z ∙ left_is) ∙ (same_count i j ∙ sym (ap (λ (s : Side). count (terms_at g.ss nodes s.at (end_of nodes s) j)) (ap (right_at mid) z ∙ right_is))));
@@ -105,19 +106,19 @@ module _ {nodes state scratch : List ℕ} {p c q d n : ℕ} (g : Unifiable nodes
         }
 
     no_terms : classes_made mid ≡ 0
-    no_terms = pair-others blank 0 p p c q q d unify-room.0 memo (inr (omega arith)) ∙ (blank-high memo (omega arith) ∙ (get_or-set_other (set scratch memo 0) cuts_word memo 0 0 (λ e. omega arith) ∙ get_or-set_same scratch memo 0 0 unify-forget))
+    no_terms = pair-others blank 0 (only_row p) (only_row q) unify-room.0 memo (inr (omega arith)) ∙ (blank-high memo (omega arith) ∙ (get_or-set_other (set scratch memo 0) cuts_word memo 0 0 (λ e. omega arith) ∙ get_or-set_same scratch memo 0 0 unify-forget))
 
     no-cuts : cuts_made mid ≡ 0
     no-cuts =
         let r : rows ≤ length scratch = g.roomy in
         let e : length (set scratch memo 0) ≡ length scratch = length-set scratch memo 0 in
-        pair-others blank 0 p p c q q d unify-room.0 cuts_word (inr (omega arith)) ∙ (blank-high cuts_word (omega arith) ∙ get_or-set_same (set scratch memo 0) cuts_word 0 0 (omega arith))
+        pair-others blank 0 (only_row p) (only_row q) unify-room.0 cuts_word (inr (omega arith)) ∙ (blank-high cuts_word (omega arith) ∙ get_or-set_same (set scratch memo 0) cuts_word 0 0 (omega arith))
 
     no_places : ordered mid ≡ 0
-    no_places = pair-others blank 0 p p c q q d unify-room.0 order_word (inl (omega arith)) ∙ begun.no_places
+    no_places = pair-others blank 0 (only_row p) (only_row q) unify-room.0 order_word (inl (omega arith)) ∙ begun.no_places
 
     no_bounds : bounds_made mid ≡ 0
-    no_bounds = pair-others blank 0 p p c q q d unify-room.0 bounds_word (inl (omega arith)) ∙ begun.no_bounds
+    no_bounds = pair-others blank 0 (only_row p) (only_row q) unify-room.0 bounds_word (inl (omega arith)) ∙ begun.no_bounds
 
     -- the first pair's rows are its two terms
     first-closes : Closes g.ss nodes (bindings g.ss nodes state n) (left_at mid) (right_at mid) 1 no_term no_term
@@ -125,14 +126,14 @@ module _ {nodes state scratch : List ℕ} {p c q d n : ℕ} (g : Unifiable nodes
         closes-first g.ss nodes (bindings g.ss nodes state n) (left_at mid) (right_at mid)
         (λ newer e.
         ap (λ (s : Side). resolve (newer ++ bindings g.ss nodes state n) (whole_of g.ss nodes s)) left_is
-        ∙ (equal-first (newer ++ bindings g.ss nodes state n) (term_at g.ss nodes p c) (term_at g.ss nodes q d) rnil rnil
-        (sym (ap (λ (ts : RTerms). resolve (newer ++ bindings g.ss nodes state n) (app [] ts)) (ap (row_of g.ss nodes) left_is ∙ row-one-is g.ss nodes p c g.left))
-        ∙ (e ∙ ap (λ (ts : RTerms). resolve (newer ++ bindings g.ss nodes state n) (app [] ts)) (ap (row_of g.ss nodes) right_is ∙ row-one-is g.ss nodes q d g.right)))
+        ∙ (equal-first (newer ++ bindings g.ss nodes state n) (term_at g.ss nodes p.node p.copy) (term_at g.ss nodes q.node q.copy) rnil rnil
+        (sym (ap (λ (ts : RTerms). resolve (newer ++ bindings g.ss nodes state n) (app [] ts)) (ap (row_of g.ss nodes) left_is ∙ row-one-is g.ss nodes p.node p.copy g.left))
+        ∙ (e ∙ ap (λ (ts : RTerms). resolve (newer ++ bindings g.ss nodes state n) (app [] ts)) (ap (row_of g.ss nodes) right_is ∙ row-one-is g.ss nodes q.node q.copy g.right)))
         ∙ sym (ap (λ (s : Side). resolve (newer ++ bindings g.ss nodes state n) (whole_of g.ss nodes s)) right_is)))
 
     first-solvable : Solvable nodes state mid n
     first-solvable =
-        let m : SameMarks blank mid = pair-marks blank 0 p p c q q d unify-room.0 in
+        let m : SameMarks blank mid = pair-marks blank 0 (only_row p) (only_row q) unify-room.0 in
         let e : length mid ≡ length blank = m.long in
         let e1 : length blank ≡ length scratch = blank-long in
         let r : rows ≤ length scratch = g.roomy in
@@ -150,17 +151,18 @@ module _ {nodes state scratch : List ℕ} {p c q d n : ℕ} (g : Unifiable nodes
     unfolding rows_of
     none_rows s = refl
 
-    rows_left : rows_of g.ss nodes (left_at mid) 1 ≡ rcons (term_at g.ss nodes p c) rnil
+    rows_left : rows_of g.ss nodes (left_at mid) 1 ≡ rcons (term_at g.ss nodes p.node p.copy) rnil
     rows_left =
         rows-top g.ss nodes (left_at mid) 0
-        ∙ (ap₂ followed (ap (row_of g.ss nodes) left_is ∙ row-one-is g.ss nodes p c g.left) (none_rows (left_at mid)) ∙ (one-followed (term_at g.ss nodes p c) rnil rnil ∙ ap (rcons (term_at g.ss nodes p c)) (none-followed rnil)))
+        ∙ (ap₂ followed (ap (row_of g.ss nodes) left_is ∙ row-one-is g.ss nodes p.node p.copy g.left) (none_rows (left_at mid)) ∙ (one-followed (term_at g.ss nodes p.node p.copy) rnil rnil ∙ ap (rcons (term_at g.ss nodes p.node p.copy)) (none-followed rnil)))
 
-    rows_right : rows_of g.ss nodes (right_at mid) 1 ≡ rcons (term_at g.ss nodes q d) rnil
+    rows_right : rows_of g.ss nodes (right_at mid) 1 ≡ rcons (term_at g.ss nodes q.node q.copy) rnil
     rows_right =
         rows-top g.ss nodes (right_at mid) 0
-        ∙ (ap₂ followed (ap (row_of g.ss nodes) right_is ∙ row-one-is g.ss nodes q d g.right) (none_rows (right_at mid)) ∙ (one-followed (term_at g.ss nodes q d) rnil rnil ∙ ap (rcons (term_at g.ss nodes q d)) (none-followed rnil)))
+        ∙ (ap₂ followed (ap (row_of g.ss nodes) right_is ∙ row-one-is g.ss nodes q.node q.copy g.right) (none_rows (right_at mid)) ∙ (one-followed (term_at g.ss nodes q.node q.copy) rnil rnil ∙ ap (rcons (term_at g.ss nodes q.node q.copy)) (none-followed rnil)))
 
-    whole : (after later : List ℕ) (r : UnifyAnswer) → Solved g.ss nodes state after mid later g.top n (rows_of g.ss nodes (left_at mid) 1) (rows_of g.ss nodes (right_at mid) 1) r → UnifyGives g.ss nodes state after scratch later g.top p c q d n r
+    whole : (after later : List ℕ) (r : UnifyAnswer) → Solved first-solvable after later r → UnifyGives g after later r
+    unfolding first-solvable
     whole after later r s =
         record {
           grows = s.grows;
@@ -168,14 +170,13 @@ module _ {nodes state scratch : List ℕ} {p c q d n : ℕ} (g : Unifiable nodes
           within = s.within;
           keeps = s.keeps;
           clean = s.clean;
-          long = s.long ∙ (pair-long blank 0 p p c q q d unify-room.0 ∙ blank-long);
+          long = s.long ∙ (pair-long blank 0 (only_row p) (only_row q) unify-room.0 ∙ blank-long);
           answer = λ t u x y.
-              ap₂ (unify (bindings g.ss nodes state n)) (sym (term-at g.ss nodes p c t x)) (sym (term-at g.ss nodes q d u y))
-              ∙ (rows-begin (bindings g.ss nodes state n) (term_at g.ss nodes p c) (term_at g.ss nodes q d) ∙ (sym (ap₂ (unify_rows (bindings g.ss nodes state n)) rows_left rows_right) ∙ s.answer));
+              ap₂ (unify (bindings g.ss nodes state n)) (sym (term-at g.ss nodes p.node p.copy t x)) (sym (term-at g.ss nodes q.node q.copy u y))
+              ∙ (rows-begin (bindings g.ss nodes state n) (term_at g.ss nodes p.node p.copy) (term_at g.ss nodes q.node q.copy) ∙ (sym (ap₂ (unify_rows (bindings g.ss nodes state n)) rows_left rows_right) ∙ s.answer));
         }
 
     pub unify-end : {s : List ℕ} → s ≡ mid → {after later : List ℕ} {r : UnifyAnswer}
-        → ((v : Solvable nodes state s n) → Solved v.work.ss nodes state after s later v.work.top n (rows_of v.work.ss nodes (left_at s) 1) (rows_of v.work.ss nodes (right_at s) 1) r) → UnifyGives g.ss nodes state after scratch later g.top p c q d n r
-    unfolding first-solvable
+        → ((v : Solvable nodes state s n) → Solved v after later r) → UnifyGives g after later r
     unify-end e {after} {later} {r} k =
-        whole after later r (subst (λ (x : List ℕ). (v : Solvable nodes state x n) → Solved v.work.ss nodes state after x later v.work.top n (rows_of v.work.ss nodes (left_at x) 1) (rows_of v.work.ss nodes (right_at x) 1) r) e k first-solvable)
+        whole after later r (subst (λ (x : List ℕ). (v : Solvable nodes state x n) → Solved v after later r) e k first-solvable)

@@ -20,7 +20,7 @@ unfolding scratch
 scratch-zero y l = get_or-replicate {A = ℕ} rows y 0 0 (omega arith)
 
 -- f(X) of the goal and f(X) of copy 1
-pub witness : Unifiable table state scratch 0 0 0 1 0
+pub witness : Unifiable table state scratch (record { node = 0; copy = 0 }) (record { node = 0; copy = 1 }) 0
 witness =
     let l : length scratch ≡ rows = scratch_long in
     record {

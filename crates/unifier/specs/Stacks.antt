@@ -1,13 +1,21 @@
 -- The work stack: pairs of rows, the first pair at the bottom. What its words mean, and the invariant that bounds its height.
 use Rattle.std.specs.Prelude.{ℕ, zero, suc, ◌+◌, ◌-◌, ◌*◌, ◌≤◌, ◌<◌, ◌≡◌, List, [], ◌++◌, get_or}
 use Rattle.machine.specs.Substitution.{RTerm, RTerms, var, app, rnil, Binding, resolve}
-use Rattle.run_layout.specs.Regions.{copies, cells}
+use Rattle.run_layout.specs.Regions.{copies, cells, loaded_node}
 use Rattle.run_layout.specs.Nodes.{Symbol, Node, Row, term_at, terms_at, followed, count}
 use Rattle.run_layout.specs.State.{variable_of}
+use Rattle.run_layout.specs.declared.terms.At.{At}
 use Rattle.unify_bindings.specs.declared.stack.Side.{Side}
 use Rattle.unifier.specs.Rows.{nodes_of, rows_size}
 
 -- ---- rows
+
+-- a term as a row of its own, and the row of its arguments
+abbrev pub only_row : At → Side
+only_row a = record { root = a.node; at = a.node; copy = a.copy }
+
+abbrev pub inner_row : At → Side
+inner_row a = record { root = a.node; at = a.node + loaded_node; copy = a.copy }
 
 abbrev pub end_of : List ℕ → Side → ℕ
 end_of nodes s = s.root + get_or nodes (s.root + 1) 0

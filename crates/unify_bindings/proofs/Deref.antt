@@ -5,11 +5,11 @@ use Rattle.syntax.specs.Words.{first_name}
 use Rattle.machine.specs.Substitution.{var, resolve}
 use Rattle.run_layout.specs.Regions.{copies, cells, trail, store_words, loaded_node}
 use Rattle.run_layout.specs.Nodes.{Symbol, Node, term_at}
-use Rattle.run_layout.specs.State.{cell_of, variable_of, node_of, copy_of, cell_at, trail_at, value_of, bindings, TrailEntry, Store, Within, Keeps}
+use Rattle.run_layout.specs.State.{at_of, cell_of, variable_of, node_of, copy_of, cell_at, trail_at, value_of, bindings, TrailEntry, Store, Within, Keeps}
 use Rattle.run_layout.proofs.Nodes.{node-inside, variable-at}
 use Rattle.run_layout.proofs.State.{variable-cell, cell-small, copy-small, resolve-bound, undo-store, undo-keeps, keeps-refl, keeps-trans, few}
-use Rattle.unify_bindings.specs.declared.At.{At}
-use Rattle.unify_bindings.specs.Cells.{at_of, bound_at, StoredTerm, Leads, Derefs, Stored, Undone}
+use Rattle.run_layout.specs.declared.terms.At.{At}
+use Rattle.unify_bindings.specs.Cells.{bound_at, StoredTerm, Leads, Derefs, Stored, Undone}
 
 pub bound-variable : (nodes state : List ℕ) (p c : ℕ) → get_or nodes p 0 < first_name → bound_at nodes state p c ≡ cell_at state (cell_of c (get_or nodes p 0))
 unfolding bound_at

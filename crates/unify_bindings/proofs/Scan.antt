@@ -8,13 +8,13 @@ use Rattle.machine.proofs.Tests.{either, or_left, or_right, variable-eq, variabl
 use Rattle.machine_theorems.proofs.Terms.{resolve_all, resolve-app, resolve-nil, resolve-cons, occurs-replace}
 use Rattle.run_layout.specs.Regions.{places, cells, trail, store_words, loaded_node}
 use Rattle.run_layout.specs.Nodes.{Symbol, is_symbol, symbol_of, is_listed, name_of_symbol, loaded_words, is_loadable, brackets_of, Node, Row, decoded, term_at, terms_at, followed}
-use Rattle.run_layout.specs.State.{cell_of, variable_of, word_of, node_of, copy_of, cell_at, trail_at, value_of, bindings, Store, Keeps, bound_words}
+use Rattle.run_layout.specs.State.{at_of, cell_of, variable_of, word_of, node_of, copy_of, cell_at, trail_at, value_of, bindings, Store, Keeps, bound_words}
 use Rattle.run_layout.proofs.Nodes.{node-inside, node_end, variable-at, variable-size, compound-at, row_one, row-one-is, row-none, row_first, row-rest, row_cons, row_open, row_opened}
 use Rattle.run_layout.proofs.State.{replace-away, variable-cell, cell-eq, cell-small, copy-small, resolve-bound, resolve-unbound, room, few, agrees, store-agrees, bind-store, bind-keeps, bound-entry, keeps-refl, keeps-trans, keeps-less, no-entries}
 use Rattle.syntax.specs.Terms.{compound, nil, same_bytes}
-use Rattle.unify_bindings.specs.declared.At.{At}
+use Rattle.run_layout.specs.declared.terms.At.{At}
 use Rattle.unify_bindings.specs.declared.occurrence.Queue.{Queue}
-use Rattle.unify_bindings.specs.Cells.{at_of, Undone, Stored}
+use Rattle.unify_bindings.specs.Cells.{Undone, Stored}
 use Rattle.unify_bindings.specs.Queues.{mark_symbols, mark_table, Queued, Clean, is_cell, Visitable, CellDealtWith, Visited, Scannable, Dealt, TermScanned, Seen, QueueChanged, Lookable, Looked, OccursReady, Searched, Checkable, OccursChecked}
 use Rattle.unify_bindings.proofs.Deref.{bound-cell-is}
 
@@ -355,9 +355,6 @@ module _ (nodes state scratch : List ℕ) (k n : ℕ) (g : Lookable nodes state 
     module _ {w : ℕ} (ew : w ≡ get_or state y 0) where
       word : w ≡ cell_at state (trail_at scratch k)
       word = ew ∙ ap (cell_at state) ey
-
-      pub look-some : 1 ≤ w
-      look-some = let z : w ≡ 0 → ⊥ = (λ h. g.queued.bound k g.place (sym word ∙ h)) in omega (arith, z)
 
       pub look-seen : {x i : ℕ} → Seen state scratch w k → Looked g.ss nodes state scratch scratch x k n (record { found = false; n = n; cost = i })
       look-seen h =

@@ -5,12 +5,8 @@ use Rattle.syntax.specs.Words.{first_name}
 use Rattle.machine.specs.Substitution.{resolve}
 use Rattle.run_layout.specs.Regions.{copies}
 use Rattle.run_layout.specs.Nodes.{Symbol, Node, term_at}
-use Rattle.run_layout.specs.State.{cell_of, node_of, copy_of, cell_at, bindings, Store, Within, Keeps}
-use Rattle.unify_bindings.specs.declared.At.{At}
-
--- the run-time term of a cell's word
-abbrev pub at_of : ℕ → At
-at_of w = record { node = node_of w; copy = copy_of w }
+use Rattle.run_layout.specs.State.{cell_of, at_of, cell_at, bindings, Store, Within, Keeps}
+use Rattle.run_layout.specs.declared.terms.At.{At}
 
 -- the run-time term of a cell's word, or none for the word 0
 abbrev pub Held : ℕ → Option At → Type 0

@@ -7,8 +7,8 @@ use Rattle.unify_bindings.specs.declared.stack.Side.{Side}
 abbrev pub stack_side : List ℕ → ℕ → Side
 stack_side words i = record { root = slice_index words i; at = slice_index words (i + 1); copy = slice_index words (i + 2) }
 
-unfoldable pub stack_side_words : List ℕ → ℕ → ℕ → ℕ → ℕ → List ℕ
-stack_side_words words i root at copy = slice_set (slice_set (slice_set words i root) (i + 1) at) (i + 2) copy
+unfoldable pub stack_side_words : List ℕ → ℕ → Side → List ℕ
+stack_side_words words i s = slice_set (slice_set (slice_set words i s.root) (i + 1) s.at) (i + 2) s.copy
 
 -- the two sides of the pair of number k
 abbrev pub left_at : List ℕ → ℕ → Side
@@ -17,9 +17,8 @@ left_at scratch k = stack_side scratch (pair_of k)
 abbrev pub right_at : List ℕ → ℕ → Side
 right_at scratch k = stack_side scratch (pair_of k + side_size)
 
-unfoldable pub pair_words : List ℕ → ℕ → ℕ → ℕ → ℕ → ℕ → ℕ → ℕ → List ℕ
-pair_words scratch k root at copy other there second =
-    stack_side_words (stack_side_words scratch (pair_of k) root at copy) (pair_of k + side_size) other there second
+unfoldable pub pair_words : List ℕ → ℕ → Side → Side → List ℕ
+pair_words scratch k l r = stack_side_words (stack_side_words scratch (pair_of k) l) (pair_of k + side_size) r
 
 -- what stands before the work stack is as it was: marks, queue and order; and so is the length
 pub record SameMarks (before after : List ℕ) : Type 0 where

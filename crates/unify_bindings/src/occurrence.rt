@@ -5,22 +5,26 @@ ghost use Rattle.run_layout.specs.Regions.{copies, copy_cells, cells, store_word
 ghost use Rattle.unify_bindings.specs.Queues.{is_cell, Visitable, Visited, Scannable, TermScanned, Seen, QueueChanged, Lookable, Looked};
 ghost use Rattle.unify_bindings.specs.Queues.{OccursReady, Searched, Checkable, OccursChecked, Other, Plain, Closing};
 
-use crate::store::{bind, undo, unpack};
+use crate::store::{bind, undo};
+use run_layout::terms::{At, unpack};
 use run_layout::{CELLS, COPIES, LOADED_NODE, TRAIL, cell_copy, cell_of};
 use std::num::wrapping_add_usize;
 use syntax::FIRST_NAME;
 use table_words::word_at;
 
 // The slots of words are the second half of the queue.
-const SLOTS: usize = CELLS / 2;
+const QUEUE_SLOTS: usize = CELLS / 2;
 
 // The words of a node, in each copy, as cells' words.
-const NODE_WORDS: usize = LOADED_NODE * COPIES;
+const TERM_WORDS: usize = LOADED_NODE * COPIES;
+
+// What a marked cell is bound to: a node of a table of its own (specs/Queues).
+const MARKED: At = At { node: 0, copy: 0 };
 
 // How far apart the slots of a node's copies are; odd, so that no two of them are the same.
 const SPREAD: usize = 97;
 
-// Whether a cell was found, how many are queued, and how many words were looked at. All three are told in either case: an Option would leave none of them out.
+// Whether a cell was found, how many are queued, and how many words were looked at. All three are told in either case, so an Option would spare no field.
 #[derive(Clone, Copy)]
 pub struct Queue {
     pub found: bool,
@@ -28,7 +32,7 @@ pub struct Queue {
     pub cost: usize,
 }
 
-// Whether a variable stands in a term, and how many words were looked at, which is told in either case: an Option would leave neither out.
+// Whether a variable stands in a term, and how many words were looked at, which is told in either case: an Option would spare no field.
 #[derive(Clone, Copy)]
 pub struct Occurrence {
     pub found: bool,
@@ -43,66 +47,57 @@ pub fn size_at(nodes: &[u32], p: usize) -> usize
     word_at(nodes, p + 1)
 }
 
-// Whether the node at i, in copy d, is the variable of cell x.
-fn is_cell(nodes: &[u32], i: usize, d: usize, x: usize) -> bool
-    requires { (i < length nodes.now) × (d < copies) }
-    ensures { result ≡ is_cell nodes.now i d x }
+// Whether the variable of cell x stands at a place, in a copy.
+fn is_cell(nodes: &[u32], here: At, x: usize) -> bool
+    requires { (here.node < length nodes.now) × (here.copy < copies) }
+    ensures { result ≡ is_cell nodes.now here.node here.copy x }
 {
-    let w = word_at(nodes, i);
-    if FIRST_NAME <= w {
-        return false;
-    }
-    cell_of(d, w) == x
+    let w = word_at(nodes, here.node);
+    w < FIRST_NAME && cell_of(here.copy, w) == x
 }
 
-// The cell of the variable at i, in copy d, queued where it is bound and not yet marked.
-fn visit(nodes: &[u32], state: &[u32], scratch: &mut [u32], i: usize, d: usize, m: usize) -> usize
-    requires { Visitable nodes.now state.now scratch.old i d m }
-    ensures { Visited nodes.now state.now scratch.old scratch.new i d m result }
+// The cell of the variable at a place, in a copy, queued where it is bound and not yet marked.
+fn visit(nodes: &[u32], state: &[u32], scratch: &mut [u32], here: At, m: usize) -> usize
+    requires { Visitable nodes.now state.now scratch.old here.node here.copy m }
+    ensures { Visited nodes.now state.now scratch.old scratch.new here.node here.copy m result }
 {
-    let w = word_at(nodes, i);
+    let w = word_at(nodes, here.node);
     if FIRST_NAME <= w {
         return m;
     }
-    let y = cell_of(d, w);
+    let y = cell_of(here.copy, w);
     if word_at(state, y) == 0 {
         return m;
     }
     if word_at(scratch, y) != 0 {
         return m;
     }
-    bind(scratch, m, y, 0, 0);
+    bind(scratch, m, y, MARKED);
     m + 1
 }
 
-// The nodes of the term at q, in copy d, one after the other: cell x looked for, bound cells queued.
-fn scan(
-    nodes: &[u32],
-    state: &[u32],
-    scratch: &mut [u32],
-    q: usize,
-    d: usize,
-    x: usize,
-    m: usize,
-) -> Queue
-    requires { Scannable nodes.now state.now scratch.old q d m }
-    ensures { (g : Scannable nodes.now state.now scratch.old q d m)
-        → TermScanned g.ss nodes.now state.now scratch.old scratch.new q d x m result }
+// The nodes of a term, one after the other: cell x looked for, bound cells queued.
+fn scan(nodes: &[u32], state: &[u32], scratch: &mut [u32], at: At, x: usize, m: usize) -> Queue
+    requires { Scannable nodes.now state.now scratch.old at.node at.copy m }
+    ensures { (g : Scannable nodes.now state.now scratch.old at.node at.copy m)
+        → TermScanned g.ss nodes.now state.now scratch.old scratch.new at.node at.copy x m result }
 {
-    let cost = size_at(nodes, q);
-    let e = q + cost;
-    let mut i = q;
+    let cost = size_at(nodes, at.node);
+    let e = at.node + cost;
+    let mut i = at.node;
     let mut n = m;
-    // A `for` over `(q..e).step_by(LOADED_NODE)` takes 29 in a hundred instructions more here, and one over the number of nodes 7.
+    // No `for`, for speed: the bar is that no program of bench/ gets slower than at commit 3e725cc8, where this function took 201,184 instructions of "towers"
+    // by callgrind, in a build with checks. It takes 201,350 so, and 260,706 by `for` over `(at.node..e).step_by(LOADED_NODE)`, 1.1 % of "towers" more.
     while i < e {
-        if is_cell(nodes, i, d, x) {
+        let here = At { node: i, ..at };
+        if is_cell(nodes, here, x) {
             return Queue {
                 found: true,
                 n,
                 cost,
             };
         }
-        n = visit(nodes, state, scratch, i, d, n);
+        n = visit(nodes, state, scratch, here, n);
         i += LOADED_NODE;
     }
     Queue {
@@ -117,7 +112,7 @@ fn scan(
 fn slot_of(w: usize) -> usize
     ensures { result < cells }
 {
-    SLOTS + (w / NODE_WORDS + w % COPIES * SPREAD) % SLOTS
+    QUEUE_SLOTS + (w / TERM_WORDS + w % COPIES * SPREAD) % QUEUE_SLOTS
 }
 
 // Whether a cell before place k of the queue is known to be bound to the word w.
@@ -131,13 +126,7 @@ fn is_seen(state: &[u32], scratch: &[u32], w: usize, k: usize) -> bool
         return false;
     }
     let y = word_at(scratch, TRAIL + j);
-    if CELLS <= y {
-        return false;
-    }
-    if word_at(state, y) != w {
-        return false;
-    }
-    true
+    y < CELLS && word_at(state, y) == w
 }
 
 // The cell at place k of the queue, of n cells, is bound to the word w and was looked at.
@@ -168,10 +157,7 @@ fn look(nodes: &[u32], state: &[u32], scratch: &mut [u32], x: usize, k: usize, n
             cost: 1,
         };
     }
-    let at = unpack(w);
-    let q = at.node;
-    let d = at.copy;
-    let r = scan(nodes, state, scratch, q, d, x, n);
+    let r = scan(nodes, state, scratch, unpack(w), x, n);
     note(scratch, w, k, r.n);
     r
 }
@@ -202,20 +188,13 @@ fn search(nodes: &[u32], state: &[u32], scratch: &mut [u32], x: usize, m: usize)
     }
 }
 
-// Whether the unbound variable of cell x stands in the term at q, in copy d, with the bindings put in.
-pub fn occurs(
-    nodes: &[u32],
-    state: &[u32],
-    scratch: &mut [u32],
-    x: usize,
-    q: usize,
-    d: usize,
-) -> Occurrence
-    requires { Checkable nodes.now state.now scratch.old x q d }
-    ensures { (g : Checkable nodes.now state.now scratch.old x q d)
-        → OccursChecked g.ss nodes.now state.now g.n scratch.old scratch.new x q d result.found }
+// Whether the unbound variable of cell x stands in a term, with the bindings put in.
+pub fn occurs(nodes: &[u32], state: &[u32], scratch: &mut [u32], x: usize, at: At) -> Occurrence
+    requires { Checkable nodes.now state.now scratch.old x at.node at.copy }
+    ensures { (g : Checkable nodes.now state.now scratch.old x at.node at.copy)
+        → OccursChecked g.ss nodes.now state.now g.n scratch.old scratch.new x at.node at.copy result.found }
 {
-    let r = scan(nodes, state, scratch, q, d, x, 0);
+    let r = scan(nodes, state, scratch, at, x, 0);
     let first = r.cost;
     if r.found {
         undo(scratch, 0, r.n);
@@ -235,13 +214,7 @@ pub fn occurs(
 fn apart(x: usize, d: usize, k: usize) -> bool
     ensures { result ≡ true → (k * copy_cells ≤ x) × (d < k) }
 {
-    if k <= d {
-        return false;
-    }
-    if cell_copy(x) < k {
-        return false;
-    }
-    true
+    d < k && k <= cell_copy(x)
 }
 
 // Whether a name without arguments stands at q.
@@ -249,58 +222,34 @@ fn is_constant(nodes: &[u32], q: usize) -> bool
     requires { q + 1 < length nodes.now }
     ensures { result ≡ true → (first_name ≤ slice_index nodes.now q) × (slice_index nodes.now (q + 1) ≡ loaded_node) }
 {
-    if word_at(nodes, q) < FIRST_NAME {
-        return false;
-    }
-    if size_at(nodes, q) != LOADED_NODE {
-        return false;
-    }
-    true
+    FIRST_NAME <= word_at(nodes, q) && size_at(nodes, q) == LOADED_NODE
 }
 
-// Whether an unbound variable other than that of cell x stands at q, in copy d.
-fn is_other(nodes: &[u32], state: &[u32], x: usize, q: usize, d: usize) -> bool
-    requires { (q < length nodes.now) × ((cells ≤ length state.now) × (d < copies)) }
-    ensures { result ≡ true → Other nodes.now state.now x q d }
+// Whether a term is an unbound variable other than that of cell x.
+fn is_other(nodes: &[u32], state: &[u32], x: usize, at: At) -> bool
+    requires { (at.node < length nodes.now) × ((cells ≤ length state.now) × (at.copy < copies)) }
+    ensures { result ≡ true → Other nodes.now state.now x at.node at.copy }
 {
-    let w = word_at(nodes, q);
+    let w = word_at(nodes, at.node);
     if FIRST_NAME <= w {
         return false;
     }
-    let y = cell_of(d, w);
-    if word_at(state, y) != 0 {
-        return false;
-    }
-    if y == x {
-        return false;
-    }
-    true
+    let y = cell_of(at.copy, w);
+    word_at(state, y) == 0 && y != x
 }
 
-// Whether it is plain that the variable of cell x does not stand in the term at q, in copy d, where the copies below k are closed: a variable of another copy
-// does not stand in a term of these, and none in a constant or in another unbound variable.
-pub fn is_plain(nodes: &[u32], state: &[u32], x: usize, q: usize, d: usize, k: usize) -> bool
-    requires { (q + 1 < length nodes.now) × ((cells ≤ length state.now) × (d < copies)) }
-    ensures { result ≡ true → Plain nodes.now state.now x q d k }
+// Whether it is plain that the variable of cell x does not stand in a term, where the copies below k are closed: a variable of another copy does not stand in
+// a term of these, and none in a constant or in another unbound variable.
+pub fn is_plain(nodes: &[u32], state: &[u32], x: usize, at: At, k: usize) -> bool
+    requires { (at.node + 1 < length nodes.now) × ((cells ≤ length state.now) × (at.copy < copies)) }
+    ensures { result ≡ true → Plain nodes.now state.now x at.node at.copy k }
 {
-    if apart(x, d, k) {
-        return true;
-    }
-    if is_constant(nodes, q) {
-        return true;
-    }
-    is_other(nodes, state, x, q, d)
+    apart(x, at.copy, k) || is_constant(nodes, at.node) || is_other(nodes, state, x, at)
 }
 
-// Which copies are closed when cell x is bound to a term of copy d: those below k still, or none.
+// How many copies are closed when cell x is bound to a term of copy d: the k that are so now, or 0, which is a number of copies here and no sign.
 pub fn closed_to(x: usize, d: usize, k: usize) -> usize
     ensures { Closing k x d result }
 {
-    if d < k {
-        return k;
-    }
-    if k <= cell_copy(x) {
-        return k;
-    }
-    0
+    if d < k || k <= cell_copy(x) { k } else { 0 }
 }

@@ -4,7 +4,7 @@ ghost use Rattle.run_layout.specs.Regions.{pair_of, pair_size, side_size};
 ghost use Rattle.unify_bindings.specs.Scratch.{stack_side, stack_side_words, pair_words};
 
 use run_layout::{PAIR_SIZE, SIDE_SIZE, STACK};
-use table_words::word_at;
+use table_words::{put_three, word_at};
 
 // A row: the node whose row it is, the place reached, the copy.
 #[derive(Clone, Copy)]
@@ -24,31 +24,20 @@ pub fn side_at(scratch: &[u32], i: usize) -> Side
     Side { root, at, copy }
 }
 
-pub fn put_side(scratch: &mut [u32], i: usize, root: usize, at: usize, copy: usize)
-    requires { (i + side_size ≤ length scratch.old) × ((root < 2 ^ 32) × ((at < 2 ^ 32) × (copy < 2 ^ 32))) }
-    ensures { scratch.new ≡ stack_side_words scratch.old i root at copy }
+pub fn put_side(scratch: &mut [u32], i: usize, s: Side)
+    requires { (i + side_size ≤ length scratch.old) × ((s.root < 2 ^ 32) × ((s.at < 2 ^ 32) × (s.copy < 2 ^ 32))) }
+    ensures { scratch.new ≡ stack_side_words scratch.old i s }
 {
-    scratch[i] = root as u32;
-    scratch[i + 1] = at as u32;
-    scratch[i + 2] = copy as u32;
+    put_three(scratch, i, s.root, s.at, s.copy);
 }
 
 // The pair of number k.
-pub fn put_pair(
-    scratch: &mut [u32],
-    k: usize,
-    root: usize,
-    at: usize,
-    copy: usize,
-    other: usize,
-    there: usize,
-    second: usize,
-)
-    requires { (pair_of k + pair_size ≤ length scratch.old) × (((root < 2 ^ 32) × ((at < 2 ^ 32) × (copy < 2 ^ 32)))
-        × ((other < 2 ^ 32) × ((there < 2 ^ 32) × (second < 2 ^ 32)))) }
-    ensures { scratch.new ≡ pair_words scratch.old k root at copy other there second }
+pub fn put_pair(scratch: &mut [u32], k: usize, l: Side, r: Side)
+    requires { (pair_of k + pair_size ≤ length scratch.old) × (((l.root < 2 ^ 32) × ((l.at < 2 ^ 32) × (l.copy < 2 ^ 32)))
+        × ((r.root < 2 ^ 32) × ((r.at < 2 ^ 32) × (r.copy < 2 ^ 32)))) }
+    ensures { scratch.new ≡ pair_words scratch.old k l r }
 {
     let i = STACK + k * PAIR_SIZE;
-    put_side(scratch, i, root, at, copy);
-    put_side(scratch, i + SIDE_SIZE, other, there, second);
+    put_side(scratch, i, l);
+    put_side(scratch, i + SIDE_SIZE, r);
 }

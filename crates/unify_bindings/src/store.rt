@@ -1,31 +1,12 @@
 // Cells and the trail.
-ghost use Rattle.std.specs.Prelude.{◌≡◌, ◌+◌, ◌*◌, ◌^◌, ◌<◌, ◌≤◌, length};
+ghost use Rattle.std.specs.Prelude.{◌≡◌, ◌+◌, ◌^◌, ◌<◌, ◌≤◌, length};
 ghost use Rattle.run_layout.specs.Regions.{copies, cells, trail};
 ghost use Rattle.run_layout.specs.State.{bound_words, word_of};
-ghost use Rattle.unify_bindings.specs.Cells.{at_of, bound_at, Held, StoredTerm, Derefs, Stored, Undone};
+ghost use Rattle.unify_bindings.specs.Cells.{bound_at, Held, StoredTerm, Derefs, Stored, Undone};
 
-use crate::At;
-use run_layout::{COPIES, TRAIL, cell_of};
+use run_layout::terms::{At, pack, unpack};
+use run_layout::{TRAIL, cell_of};
 use syntax::FIRST_NAME;
-
-// A run-time term as a cell's word. This and `unpack` are no `From`, which may ask nothing: not every term has a word, and the word 0 has no term.
-pub fn pack(node: usize, copy: usize) -> usize
-    requires { word_of node copy < 2 ^ 32 }
-    ensures { result ≡ word_of node copy }
-{
-    node * COPIES + copy + 1
-}
-
-// The run-time term of a cell's word.
-pub fn unpack(w: usize) -> At
-    requires { 1 ≤ w }
-    ensures { result ≡ at_of w }
-{
-    let v = w - 1;
-    let node = v / COPIES;
-    let copy = v % COPIES;
-    At { node, copy }
-}
 
 // The run-time term of a cell's word; none where the cell is unbound, which is the word 0.
 pub fn held(w: usize) -> Option<At>
@@ -37,43 +18,40 @@ pub fn held(w: usize) -> Option<At>
     Some(unpack(w))
 }
 
-// The term that the variable at a place is bound to; none where it is unbound, or a name stands there.
-pub fn bound_at(nodes: &[u32], state: &[u32], p: usize, c: usize) -> Option<At>
-    requires { (p < length nodes.now) × ((cells ≤ length state.now) × (c < copies)) }
-    ensures { Held (bound_at nodes.now state.now p c) result }
+// The term that a variable is bound to; none where it is unbound, or the term a name.
+pub fn bound_at(nodes: &[u32], state: &[u32], at: At) -> Option<At>
+    requires { (at.node < length nodes.now) × ((cells ≤ length state.now) × (at.copy < copies)) }
+    ensures { Held (bound_at nodes.now state.now at.node at.copy) result }
 {
-    let w = nodes[p] as usize;
+    let w = nodes[at.node] as usize;
     if FIRST_NAME <= w {
         return None;
     }
-    let x = cell_of(c, w);
+    let x = cell_of(at.copy, w);
     held(state[x] as usize)
 }
 
 // Where a term leads: to a name, or to an unbound variable.
-pub fn deref(nodes: &[u32], state: &[u32], p: usize, c: usize) -> At
-    requires { StoredTerm nodes.now state.now p c }
-    ensures { (g : StoredTerm nodes.now state.now p c) → Derefs g.ss nodes.now state.now g.n p c
+pub fn deref(nodes: &[u32], state: &[u32], from: At) -> At
+    requires { StoredTerm nodes.now state.now from.node from.copy }
+    ensures { (g : StoredTerm nodes.now state.now from.node from.copy) → Derefs g.ss nodes.now state.now g.n from.node from.copy
         result.node result.copy }
 {
-    let mut node = p;
-    let mut copy = c;
-    while let Some(at) = bound_at(nodes, state, node, copy) {
-        node = at.node;
-        copy = at.copy;
+    let mut at = from;
+    // How many links a chain has is known only at its end.
+    while let Some(next) = bound_at(nodes, state, at) {
+        at = next;
     }
-    At { node, copy }
+    at
 }
 
 // A cell bound to a term, as entry n of the trail.
-pub fn bind(state: &mut [u32], n: usize, x: usize, q: usize, d: usize)
-    requires { (x < cells) × ((trail + n < length state.old) × (word_of q d < 2 ^ 32)) }
-    ensures { state.new ≡ bound_words state.old n x (word_of q d) }
+pub fn bind(state: &mut [u32], n: usize, x: usize, at: At)
+    requires { (x < cells) × ((trail + n < length state.old) × (word_of at.node at.copy < 2 ^ 32)) }
+    ensures { state.new ≡ bound_words state.old n x (word_of at.node at.copy) }
 {
-    let w = pack(q, d);
-    let at = TRAIL + n;
-    state[x] = w as u32;
-    state[at] = x as u32;
+    state[x] = pack(at) as u32;
+    state[TRAIL + n] = x as u32;
 }
 
 // The trail's entries from a mark on undone.

@@ -1,5 +1,5 @@
 -- Laws of short cuts. Assumes nothing.
-use Prim.Native.Nat.{ℕ, suc, ◌+◌, ◌-◌, ◌≤◌, ◌<◌}
+use Prim.Native.Nat.{ℕ, suc, ◌+◌, ◌≤◌, ◌<◌}
 use native.Mathlib.Omega.{arith}
 use mathlib.Core.Path.{◌≡◌, refl, sym, ap, ◌∙◌, subst, subst⁻¹}
 use mathlib.Core.Bool.{Bool, true, false}
@@ -14,11 +14,12 @@ use Rattle.syntax.specs.Words.{first_name}
 use Rattle.machine.specs.Substitution.{var, replace, Binding, resolve}
 use Rattle.run_layout.specs.Regions.{copies, cells, loaded_node, cut_list, cut_count, cut_of, cuts_word, memo, slots, keys, rows}
 use Rattle.run_layout.specs.Nodes.{Symbol, Node, term_at}
-use Rattle.run_layout.specs.State.{cell_of, node_of, copy_of, cell_at, bindings}
+use Rattle.run_layout.specs.State.{at_of, cell_of, node_of, copy_of, cell_at, bindings}
 use Rattle.run_layout.proofs.Nodes.{node-inside, variable-at}
 use Rattle.run_layout.proofs.State.{variable-cell, cell-small, copy-small}
-use Rattle.unify_bindings.specs.Cells.{at_of, bound_at, Held, Leads}
-use Rattle.unify_bindings.specs.declared.At.{At}
+use Rattle.std.specs.Option.{option_or}
+use Rattle.unify_bindings.specs.Cells.{bound_at, Held, Leads}
+use Rattle.run_layout.specs.declared.terms.At.{At}
 use Rattle.unify_bindings.specs.Scratch.{Roomy}
 use Rattle.unify_bindings.proofs.Deref.{BoundCell, bound-cell-is, bound-variable, bound-name, depth, depth-variable}
 use Rattle.unify_cuts.specs.Cuts.{cuts_made, cut_from, cut_to, cell_means, Cuts, Cut, Cutting}
@@ -247,6 +248,11 @@ module _ (nodes front : List ℕ) (p c : ℕ) (g : Fronted nodes front p c) wher
           let same : cell_means b x ≡ cell_means b y = k.is b t in
           next-held (record { stops = λ e. absurd (some e); variable = λ z. low-here; leads = λ z. via-leads same (omega (arith, le)) ef z; down = λ z. via-down same (omega (arith, le)) ef z }) r h
 
+      -- by the cut where the cell that it leads to is bound, else by the variable's own cell
+      pub next-or : {scratch : List ℕ} {y u w : ℕ} → Cuts b scratch → Cut scratch x y → y < x → u ≡ get_or front y 0 → w ≡ get_or front x 0 → (r s : Option At) → Held u r → Held w s → Next g.given.ss nodes g.state g.given.n p c (option_or r s)
+      next-or t k le eu _ (Some a) s h j = next-cut t k le eu h.0 (Some a) h
+      next-or t k le eu ew None s h j = next-plain ew s j
+
   -- the term that the variable itself is bound to
   pub next-bound : (r : Option At) → Held (bound_at nodes front p c) r → Next g.given.ss nodes g.state g.given.n p c r
   next-bound r e = go (ltb (get_or nodes p 0) first_name) refl
@@ -349,12 +355,6 @@ module _ (nodes front before : List ℕ) (p c : ℕ) (g : Followable nodes front
   module _ {after : List ℕ} {q d : ℕ} (s : Walking g.from.given.ss nodes g.from.state g.from.given.n before after p c q d) where
     abbrev pub walk-follow : Followable nodes front after q d
     walk-follow = record { from = front_at nodes front p c g.from s.leads; roomy = eased-roomy s.eased g.roomy; cuts = s.eased.cuts }
-
-    -- what follows from there
-    pub walk-then : {later : List ℕ} {q1 d1 : ℕ} → ((h : Followable nodes front after q d) → Followed h.from.given.ss nodes h.from.state h.from.given.n after later q d q1 d1) → Followed g.from.given.ss nodes g.from.state g.from.given.n before later p c q1 d1
-    walk-then m =
-        let f : Followed g.from.given.ss nodes g.from.state g.from.given.n after _ q d _ _ = m walk-follow in
-        record { derefs = record { leads = leads-trans s.leads f.derefs.leads; stops = f.derefs.stops }; eased = eased-trans s.eased f.eased }
 
     module _ {r : Stage} (m : (h : Followable nodes front after q d) → Strode h.from.given.ss nodes h.from.state h.from.given.n q d r) where
       strode : Strode g.from.given.ss nodes g.from.state g.from.given.n q d r

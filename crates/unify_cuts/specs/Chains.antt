@@ -5,7 +5,7 @@ use Rattle.machine.specs.Substitution.{Binding}
 use Rattle.run_layout.specs.Regions.{copies, cells}
 use Rattle.run_layout.specs.Nodes.{Symbol, Node}
 use Rattle.run_layout.specs.State.{cell_of, cell_at, bindings}
-use Rattle.unify_bindings.specs.declared.At.{At}
+use Rattle.run_layout.specs.declared.terms.At.{At}
 use Rattle.unify_bindings.specs.Cells.{StoredTerm, Leads, Derefs}
 use Rattle.unify_bindings.specs.Scratch.{Roomy}
 use Rattle.unify_cuts.specs.Cuts.{Cuts, CutsOnly}

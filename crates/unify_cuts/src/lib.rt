@@ -4,19 +4,19 @@
 
 #![tactic(auto)]
 
-ghost use Rattle.std.specs.Prelude.{◌<◌, ◌+◌, length, get_or};
+ghost use Rattle.std.specs.Prelude.{◌<◌, ◌+◌, get_or};
 ghost use Rattle.run_layout.specs.Regions.{cells};
 ghost use Rattle.run_layout.specs.State.{cell_of};
 ghost use Rattle.unify_bindings.specs.Scratch.{Roomy};
 ghost use Rattle.unify_cuts.specs.Cuts.{Cut, Cutting};
 ghost use Rattle.unify_cuts.specs.Chains.{Fronted, Followable, Next, Staged, Strode, Cuttable, Followed, Both, BothFollowed};
 
+use run_layout::terms::At;
 use run_layout::{
     CELLS, CUT_COUNT, CUT_LIST, CUT_SIZE, CUTS_WORD, SLOT_COUNT, SLOTS, cell_of, half_of, with_half,
 };
 use syntax::FIRST_NAME;
 use table_words::{put, word_at};
-use unify_bindings::At;
 use unify_bindings::store::{bound_at, held};
 
 // A cut leads over so many links, or cuts.
@@ -29,7 +29,8 @@ pub struct Stage {
     pub next: Option<At>,
 }
 
-// Where two terms lead.
+// Where two terms lead. (Terms that are given are two parameters, here and in `unifier`: they come from two rows, and `follow` hands on how far it has led
+// each. Only `cross` has a pair at hand, which it takes apart for `decide`.)
 #[derive(Clone, Copy)]
 pub struct Ends {
     pub left: At,
@@ -44,17 +45,15 @@ fn cut_of(scratch: &[u32], x: usize) -> usize
     let slot = x % SLOT_COUNT;
     let w = word_at(scratch, SLOTS + slot);
     let j = half_of(1, w);
-    if CUT_COUNT <= j {
-        return x;
-    }
-    if word_at(scratch, CUTS_WORD) <= j {
+    if CUT_COUNT <= j || word_at(scratch, CUTS_WORD) <= j {
         return x;
     }
     let at = CUT_LIST + j * CUT_SIZE;
-    if word_at(scratch, at) != x {
-        return x;
+    if word_at(scratch, at) == x {
+        word_at(scratch, at + 1)
+    } else {
+        x
     }
-    word_at(scratch, at + 1)
 }
 
 // A cut from cell x to cell y. Where there is no room left, the cuts begin anew.
@@ -76,187 +75,137 @@ fn put_cut(scratch: &mut [u32], x: usize, y: usize)
     scratch[CUTS_WORD] = (k + 1) as u32;
 }
 
-// Where the term at p in copy c leads on to, by a cut where there is one.
-fn next_from(nodes: &[u32], front: &[u32], scratch: &[u32], p: usize, c: usize) -> Option<At>
-    requires { Followable nodes.now front.now scratch.now p c }
-    ensures { (g : Followable nodes.now front.now scratch.now p c)
-        → Next g.from.given.ss nodes.now g.from.state g.from.given.n p c result }
+// Where a term leads on to, by a cut where there is one.
+fn next_from(nodes: &[u32], front: &[u32], scratch: &[u32], at: At) -> Option<At>
+    requires { Followable nodes.now front.now scratch.now at.node at.copy }
+    ensures { (g : Followable nodes.now front.now scratch.now at.node at.copy)
+        → Next g.from.given.ss nodes.now g.from.state g.from.given.n at.node at.copy result }
 {
-    let v = word_at(nodes, p);
+    let v = word_at(nodes, at.node);
     if FIRST_NAME <= v {
         return None;
     }
-    let x = cell_of(c, v);
+    let x = cell_of(at.copy, v);
     let w = word_at(front, x);
     let y = cut_of(scratch, x);
     if x <= y {
         return held(w);
     }
-    let z = word_at(front, y);
-    if z == 0 {
-        return held(w);
-    }
-    held(z)
+    held(word_at(front, y)).or(held(w))
 }
 
 // At most so many links and cuts from a term on as a cut leads over.
-fn stride(nodes: &[u32], front: &[u32], scratch: &[u32], p: usize, c: usize) -> Stage
-    requires { Followable nodes.now front.now scratch.now p c }
-    ensures { (g : Followable nodes.now front.now scratch.now p c)
-        → Strode g.from.given.ss nodes.now g.from.state g.from.given.n p c result }
+fn stride(nodes: &[u32], front: &[u32], scratch: &[u32], from: At) -> Stage
+    requires { Followable nodes.now front.now scratch.now from.node from.copy }
+    ensures { (g : Followable nodes.now front.now scratch.now from.node from.copy)
+        → Strode g.from.given.ss nodes.now g.from.state g.from.given.n from.node from.copy result }
 {
-    let mut at = At { node: p, copy: c };
-    let mut next = next_from(nodes, front, scratch, p, c);
+    let mut at = from;
+    let mut next = next_from(nodes, front, scratch, from);
     for _ in 0..STRIDE {
         let Some(there) = next else {
             return Stage { at, next };
         };
         at = there;
-        next = next_from(nodes, front, scratch, at.node, at.copy);
+        next = next_from(nodes, front, scratch, at);
     }
     Stage { at, next }
 }
 
-// A cut from the variable at p in copy c to the one at q in copy d.
-fn cut_between(nodes: &[u32], scratch: &mut [u32], p: usize, c: usize, q: usize, d: usize)
-    requires { Cuttable nodes.now scratch.old p c q d }
-    ensures { Cutting scratch.old scratch.new (cell_of c (get_or nodes.now p 0))
-        (cell_of d (get_or nodes.now q 0)) }
+// A cut from one variable to another.
+fn cut_between(nodes: &[u32], scratch: &mut [u32], from: At, to: At)
+    requires { Cuttable nodes.now scratch.old from.node from.copy to.node to.copy }
+    ensures { Cutting scratch.old scratch.new (cell_of from.copy (get_or nodes.now from.node 0))
+        (cell_of to.copy (get_or nodes.now to.node 0)) }
 {
-    let v = word_at(nodes, p);
-    let w = word_at(nodes, q);
-    let x = cell_of(c, v);
-    let y = cell_of(d, w);
+    let v = word_at(nodes, from.node);
+    let w = word_at(nodes, to.node);
+    let x = cell_of(from.copy, v);
+    let y = cell_of(to.copy, w);
     put_cut(scratch, x, y);
 }
 
 // Where a term leads: to a name, or to an unbound variable. A stride after the other, each with a cut.
-fn walk_on(nodes: &[u32], front: &[u32], scratch: &mut [u32], p: usize, c: usize) -> At
-    requires { Followable nodes.now front.now scratch.old p c }
-    ensures { (g : Followable nodes.now front.now scratch.old p c)
-        → Followed g.from.given.ss nodes.now g.from.state g.from.given.n scratch.old scratch.new p c result.node
-        result.copy }
+fn walk_on(nodes: &[u32], front: &[u32], scratch: &mut [u32], from: At) -> At
+    requires { Followable nodes.now front.now scratch.old from.node from.copy }
+    ensures { (g : Followable nodes.now front.now scratch.old from.node from.copy)
+        → Followed g.from.given.ss nodes.now g.from.state g.from.given.n scratch.old scratch.new from.node from.copy
+        result.node result.copy }
 {
-    let mut node = p;
-    let mut copy = c;
+    let mut at = from;
     // How many strides a walk has is known only at its end.
     loop {
-        let s = stride(nodes, front, scratch, node, copy);
-        let i = s.at.node;
-        let d = s.at.copy;
+        let s = stride(nodes, front, scratch, at);
         if s.next.is_none() {
             return s.at;
         }
-        cut_between(nodes, scratch, node, copy, i, d);
-        node = i;
-        copy = d;
+        cut_between(nodes, scratch, at, s.at);
+        at = s.at;
     }
-}
-
-// As `walk_on`; most walks end with their first stride.
-fn go_on(nodes: &[u32], front: &[u32], scratch: &mut [u32], p: usize, c: usize) -> At
-    requires { Followable nodes.now front.now scratch.old p c }
-    ensures { (g : Followable nodes.now front.now scratch.old p c)
-        → Followed g.from.given.ss nodes.now g.from.state g.from.given.n scratch.old scratch.new p c result.node
-        result.copy }
-{
-    let s = stride(nodes, front, scratch, p, c);
-    if s.next.is_none() {
-        return s.at;
-    }
-    let i = s.at.node;
-    let d = s.at.copy;
-    cut_between(nodes, scratch, p, c, i, d);
-    walk_on(nodes, front, scratch, i, d)
 }
 
 // At most two links from a term on: most chains end there.
-fn lead(nodes: &[u32], front: &[u32], p: usize, c: usize) -> Stage
-    requires { Fronted nodes.now front.now p c }
-    ensures { (g : Fronted nodes.now front.now p c)
-        → Staged g.given.ss nodes.now g.state g.given.n p c result }
+fn lead(nodes: &[u32], front: &[u32], from: At) -> Stage
+    requires { Fronted nodes.now front.now from.node from.copy }
+    ensures { (g : Fronted nodes.now front.now from.node from.copy)
+        → Staged g.given.ss nodes.now g.state g.given.n from.node from.copy result }
 {
-    let Some(first) = bound_at(nodes, front, p, c) else {
+    let Some(first) = bound_at(nodes, front, from) else {
         return Stage {
-            at: At { node: p, copy: c },
+            at: from,
             next: None,
         };
     };
-    let Some(at) = bound_at(nodes, front, first.node, first.copy) else {
+    let Some(at) = bound_at(nodes, front, first) else {
         return Stage {
             at: first,
             next: None,
         };
     };
-    let next = bound_at(nodes, front, at.node, at.copy);
+    let next = bound_at(nodes, front, at);
     Stage { at, next }
 }
 
 // As `follow`, for terms that may be far from there.
-fn follow_far(
-    nodes: &[u32],
-    front: &[u32],
-    scratch: &mut [u32],
-    p: usize,
-    c: usize,
-    q: usize,
-    d: usize,
-) -> Ends
-    requires { Both nodes.now front.now scratch.old p c q d }
-    ensures { (g : Both nodes.now front.now scratch.old p c q d)
+fn follow_far(nodes: &[u32], front: &[u32], scratch: &mut [u32], p: At, q: At) -> Ends
+    requires { Both nodes.now front.now scratch.old p.node p.copy q.node q.copy }
+    ensures { (g : Both nodes.now front.now scratch.old p.node p.copy q.node q.copy)
         → BothFollowed g.left.from.given.ss nodes.now g.left.from.state g.left.from.given.n scratch.old scratch.new
-        p c q d result }
+        p.node p.copy q.node q.copy result }
 {
-    let left = go_on(nodes, front, scratch, p, c);
-    let right = go_on(nodes, front, scratch, q, d);
+    let left = walk_on(nodes, front, scratch, p);
+    let right = walk_on(nodes, front, scratch, q);
     Ends { left, right }
 }
 
 // The same. Of the state only the cells are handed on, whose number is known: its length is then needed nowhere, and costs a step nothing.
-fn follow_on(
-    nodes: &[u32],
-    state: &[u32],
-    scratch: &mut [u32],
-    p: usize,
-    c: usize,
-    q: usize,
-    d: usize,
-) -> Ends
-    requires { Both nodes.now state.now scratch.old p c q d }
-    ensures { (g : Both nodes.now state.now scratch.old p c q d)
+fn follow_on(nodes: &[u32], state: &[u32], scratch: &mut [u32], p: At, q: At) -> Ends
+    requires { Both nodes.now state.now scratch.old p.node p.copy q.node q.copy }
+    ensures { (g : Both nodes.now state.now scratch.old p.node p.copy q.node q.copy)
         → BothFollowed g.left.from.given.ss nodes.now g.left.from.state g.left.from.given.n scratch.old scratch.new
-        p c q d result }
+        p.node p.copy q.node q.copy result }
 {
     let front = &state[..CELLS];
-    follow_far(nodes, front, scratch, p, c, q, d)
+    follow_far(nodes, front, scratch, p, q)
 }
 
 // Where two terms lead, each to a name or to an unbound variable.
-pub fn follow(
-    nodes: &[u32],
-    state: &[u32],
-    scratch: &mut [u32],
-    p: usize,
-    c: usize,
-    q: usize,
-    d: usize,
-) -> Ends
-    requires { Both nodes.now state.now scratch.old p c q d }
-    ensures { (g : Both nodes.now state.now scratch.old p c q d)
+pub fn follow(nodes: &[u32], state: &[u32], scratch: &mut [u32], p: At, q: At) -> Ends
+    requires { Both nodes.now state.now scratch.old p.node p.copy q.node q.copy }
+    ensures { (g : Both nodes.now state.now scratch.old p.node p.copy q.node q.copy)
         → BothFollowed g.left.from.given.ss nodes.now g.left.from.state g.left.from.given.n scratch.old scratch.new
-        p c q d result }
+        p.node p.copy q.node q.copy result }
 {
-    let l = lead(nodes, state, p, c);
-    let left = l.at;
+    let l = lead(nodes, state, p);
     if l.next.is_some() {
-        return follow_on(nodes, state, scratch, left.node, left.copy, q, d);
+        return follow_on(nodes, state, scratch, l.at, q);
     }
-    let r = lead(nodes, state, q, d);
-    let right = r.at;
+    let r = lead(nodes, state, q);
     if r.next.is_some() {
-        return follow_on(
-            nodes, state, scratch, left.node, left.copy, right.node, right.copy,
-        );
+        return follow_on(nodes, state, scratch, l.at, r.at);
     }
-    Ends { left, right }
+    Ends {
+        left: l.at,
+        right: r.at,
+    }
 }

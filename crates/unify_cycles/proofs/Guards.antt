@@ -12,6 +12,7 @@ use Rattle.run_layout.specs.Regions.{cells, places, store_words, order, order_wo
 use Rattle.run_layout.specs.Nodes.{Symbol, term_at}
 use Rattle.run_layout.specs.State.{variable_of, word_of, bindings, bound_words}
 use Rattle.run_layout.proofs.Nodes.{node-inside}
+use Rattle.run_layout.specs.declared.terms.At.{At}
 use Rattle.unify_bindings.specs.Queues.{Clean, Checkable, OccursChecked, Closed, Plain}
 use Rattle.unify_bindings.specs.Scratch.{Roomy}
 use Rattle.unify_bindings.proofs.Scan.{is_false}
@@ -81,9 +82,6 @@ spared-on s t = record { long = t.long ∙ s.long; clean = λ c. t.clean (s.clea
 spared-refl : {ss : List Symbol} {nodes scratch : List ℕ} → Spared ss nodes scratch scratch
 spared-refl = record { long = refl; clean = λ h. h; pairs_kept = λ j l h. refl; memo = λ b m. m }
 
-guarded-on : {ss : List Symbol} {nodes state : List ℕ} {n : ℕ} {before mid after : List ℕ} {x q d : ℕ} {r : Bool} → Spared ss nodes before mid → Guarded ss nodes state n mid after x q d r → Guarded ss nodes state n before after x q d r
-guarded-on s g = record { spared = spared-on s g.spared; answer = g.answer; order = g.order }
-
 pub begun : {before mid after : List ℕ} → Roomy before → mid ≡ set (set before order_word 0) bounds_word 0 → Purse mid after → Begun before after
 begun {before} {mid} {after} roomy e p =
     let r : Reordered before mid = forgotten-reordered before roomy e in
@@ -97,15 +95,15 @@ begun {before} {mid} {after} roomy e p =
 
 -- ---- what the order shows
 
-module _ {ss : List Symbol} {nodes scratch : List ℕ} {x q d : ℕ} where
-  pub shown-free : {after : List ℕ} {r : Bool} → r ≡ true → Freed ss nodes scratch after x q d r → Shown ss nodes scratch after x q d true
+module _ {nodes scratch : List ℕ} {x q d : ℕ} (g : Boundable nodes scratch q d) where
+  pub shown-free : {after : List ℕ} {r : Bool} → r ≡ true → Freed g.ss nodes scratch after x q d r → Shown g after x true
   shown-free e f = record { same = f.reordered; kept = f.kept; ahead = λ h. f.ahead e; unplaced = λ h. absurd (subst T h tt) }
 
-  pub shown-dropped : {mid after : List ℕ} {r : Bool} → Freed ss nodes scratch mid x q d r → Dropped mid after x → Shown ss nodes scratch after x q d false
+  pub shown-dropped : {mid after : List ℕ} {r : Bool} → Freed g.ss nodes scratch mid x q d r → Dropped mid after x → Shown g after x false
   shown-dropped {mid} {after} f e =
-      record { same = reordered-trans scratch mid after f.reordered e.reordered; kept = λ state o. e.kept ss nodes state (f.kept state o); ahead = λ h. absurd (subst T (sym h) tt); unplaced = λ h. e.unplaced }
+      record { same = reordered-trans scratch mid after f.reordered e.reordered; kept = λ state o. e.kept g.ss nodes state (f.kept state o); ahead = λ h. absurd (subst T (sym h) tt); unplaced = λ h. e.unplaced }
 
-  pub shown-bare : ordered scratch ≡ 0 → Shown ss nodes scratch scratch x q d false
+  pub shown-bare : ordered scratch ≡ 0 → Shown g scratch x false
   shown-bare e =
       record { same = record { long = refl; low = λ j l. refl; high = λ j l. refl }; kept = λ state o. o; ahead = λ h. absurd (subst T (sym h) tt); unplaced = λ h i l z. absurd (omega (arith, e)) }
 
@@ -118,12 +116,12 @@ drop-ready {nodes} {scratch} {after} g f l =
 
 -- ---- a check with what is given
 
-module _ {nodes state scratch : List ℕ} {x q d : ℕ} (g : Guardable nodes state scratch x q d) where
-  pub guard-inside : q + 1 < length nodes
-  guard-inside = let a : q + loaded_node ≤ length nodes = node-inside g.check.ss nodes q g.check.node in omega arith
+module _ {nodes state scratch : List ℕ} {x : ℕ} {a : At} (g : Guardable nodes state scratch x a) where
+  pub guard-inside : a.node + 1 < length nodes
+  guard-inside = let b : a.node + loaded_node ≤ length nodes = node-inside g.check.ss nodes a.node g.check.node in omega arith
 
   pub guard-state : cells ≤ length state
-  guard-state = let a : store_words ≤ length state = g.check.store.long in omega arith
+  guard-state = let b : store_words ≤ length state = g.check.store.long in omega arith
 
   pub guard-purse : purse_size < length scratch
   guard-purse = let r : rows ≤ length scratch = g.roomy in omega arith
@@ -131,14 +129,14 @@ module _ {nodes state scratch : List ℕ} {x q d : ℕ} (g : Guardable nodes sta
   pub guard-memo : memo ≤ length scratch
   guard-memo = let r : rows ≤ length scratch = g.roomy in omega arith
 
-  pub guard-place : q < places
-  guard-place = let a : q + loaded_node ≤ length nodes = node-inside g.check.ss nodes q g.check.node in let b : length nodes ≤ places = g.check.store.small in omega arith
+  pub guard-place : a.node < places
+  guard-place = let b : a.node + loaded_node ≤ length nodes = node-inside g.check.ss nodes a.node g.check.node in let s : length nodes ≤ places = g.check.store.small in omega arith
 
-  pub guard-bound : Boundable nodes scratch q d
+  abbrev pub guard-bound : Boundable nodes scratch a.node a.copy
   guard-bound = record { ss = g.check.ss; small = g.check.store.small; node = g.check.node; copy = g.check.copy; roomy = g.roomy; listed = g.order.listed; bounded = g.order.bounded }
 
   -- the same with other scratch words
-  guard-on : {after : List ℕ} → Spared g.check.ss nodes scratch after → Ordered g.check.ss nodes state after → Guardable nodes state after x q d
+  abbrev guard-on : {after : List ℕ} → Spared g.check.ss nodes scratch after → Ordered g.check.ss nodes state after → Guardable nodes state after x a
   guard-on {after} s o =
       let e : length after ≡ length scratch = s.long in
       let r : rows ≤ length scratch = g.roomy in
@@ -148,38 +146,40 @@ module _ {nodes state scratch : List ℕ} {x q d : ℕ} (g : Guardable nodes sta
         order = o;
       }
 
+  guarded-on : {mid after : List ℕ} {r : Bool} (s : Spared g.check.ss nodes scratch mid) (o : Ordered g.check.ss nodes state mid) → Guarded (guard-on s o) after r → Guarded g after r
+  guarded-on s o k = record { spared = spared-on s k.spared; answer = k.answer; order = k.order }
+
   -- an order that shows it
-  ahead-guarded : {after : List ℕ} → Spared g.check.ss nodes scratch after → Ordered g.check.ss nodes state after → Ahead g.check.ss nodes after x q d → Guarded g.check.ss nodes state g.check.n scratch after x q d false
-  ahead-guarded {after} s o a =
+  ahead-guarded : {after : List ℕ} → Spared g.check.ss nodes scratch after → Ordered g.check.ss nodes state after → Ahead g.check.ss nodes after x a.node a.copy → Guarded g after false
+  ahead-guarded {after} s o k =
       record {
         spared = s;
-        answer = is_false (occurs (variable_of x) (resolve (bindings g.check.ss nodes state g.check.n) (term_at g.check.ss nodes q d))) (ahead-free g.check.ss nodes state after g.check.n x q d g.check.store o a);
-        order = λ h. ahead-bound g.check.ss nodes state after g.check.n x q d g.check.store o g.check.cell g.check.unbound g.check.copy a;
+        answer = is_false (occurs (variable_of x) (resolve (bindings g.check.ss nodes state g.check.n) (term_at g.check.ss nodes a.node a.copy))) (ahead-free g.check.ss nodes state after g.check.n x a.node a.copy g.check.store o k);
+        order = λ h. ahead-bound g.check.ss nodes state after g.check.n x a.node a.copy g.check.store o g.check.cell g.check.unbound g.check.copy k;
       }
 
-  module _ {after : List ℕ} {r : Bool} (f : (v : Boundable nodes scratch q d) → Shown v.ss nodes scratch after x q d r) where
-    shown : Shown g.check.ss nodes scratch after x q d r
-    unfolding guard-bound
+  module _ {after : List ℕ} {r : Bool} (f : (v : Boundable nodes scratch a.node a.copy) → Shown v after x r) where
+    shown : Shown guard-bound after x r
     shown = f guard-bound
 
-    pub shown-guarded : r ≡ true → Guarded g.check.ss nodes state g.check.n scratch after x q d false
+    pub shown-guarded : r ≡ true → Guarded g after false
     shown-guarded t = ahead-guarded (spared-reordered shown.same) (shown.kept state g.order) (shown.ahead t)
 
-    pub shown-missing : r ≡ false → Missing nodes state after x q d
+    pub shown-missing : r ≡ false → Missing nodes state after x a
     shown-missing t = record { given = guard-on (spared-reordered shown.same) (shown.kept state g.order); unplaced = shown.unplaced t }
 
-    pub shown-on : r ≡ false → {end : List ℕ} {r1 : Bool} → ((v : Missing nodes state after x q d) → Guarded v.given.check.ss nodes state v.given.check.n after end x q d r1) → Guarded g.check.ss nodes state g.check.n scratch end x q d r1
-    unfolding shown-missing guard-on
-    shown-on t h = guarded-on (spared-reordered shown.same) (h (shown-missing t))
+    pub shown-on : r ≡ false → {end : List ℕ} {r1 : Bool} → ((v : Missing nodes state after x a) → Guarded v.given end r1) → Guarded g end r1
+    unfolding shown-missing
+    shown-on t h = guarded-on (spared-reordered shown.same) (shown.kept state g.order) (h (shown-missing t))
 
   -- ---- an order made anew
 
-  pub redone-once : {mid later : List ℕ} → KeptBelow memo scratch mid → ((v : Orderable nodes state mid) → Arranged v.ss nodes state mid later) → Redone g.check.ss nodes state scratch later
+  pub redone-once : {mid later : List ℕ} → KeptBelow memo scratch mid → ((v : Orderable nodes state mid) → Arranged v.ss nodes state mid later) → Redone g later
   redone-once {mid} {later} l f =
       let e : length mid ≡ length scratch = l.long in
       let r : rows ≤ length scratch = g.roomy in
-      let a : Arranged g.check.ss nodes state mid later = f (record { ss = g.check.ss; n = g.check.n; store = g.check.store; roomy = omega arith }) in
-      record { long = a.reordered.long ∙ l.long; low = λ j h. a.reordered.low j h ∙ l.low j (omega arith); between = λ j h k. a.reordered.high j h ∙ l.low j k; redone = a.arranged }
+      let d : Arranged g.check.ss nodes state mid later = f (record { ss = g.check.ss; n = g.check.n; store = g.check.store; roomy = omega arith }) in
+      record { long = d.reordered.long ∙ l.long; low = λ j h. d.reordered.low j h ∙ l.low j (omega arith); between = λ j h k. d.reordered.high j h ∙ l.low j k; redone = d.arranged }
 
   pub renew-orderable : {mid : List ℕ} → KeptBelow memo scratch mid → Orderable nodes state mid
   renew-orderable {mid} l =
@@ -187,14 +187,14 @@ module _ {nodes state scratch : List ℕ} {x q d : ℕ} (g : Guardable nodes sta
       let r : rows ≤ length scratch = g.roomy in
       record { ss = g.check.ss; n = g.check.n; store = g.check.store; roomy = omega arith }
 
-  module _ {later : List ℕ} (o : Redone g.check.ss nodes state scratch later) where
+  module _ {later : List ℕ} (o : Redone g later) where
     pub redone-roomy : rows ≤ length later
     redone-roomy = let e : length later ≡ length scratch = o.long in let r : rows ≤ length scratch = g.roomy in omega arith
 
     redone-clean : Clean scratch → Clean later
     redone-clean c = let e : length later ≡ length scratch = o.long in let l : store_words ≤ length scratch = c.long in record { long = omega arith; zero = λ y h. o.low y (omega arith) ∙ c.zero y h }
 
-    pub redone-guard : Guardable nodes state later x q d
+    pub redone-guard : Guardable nodes state later x a
     redone-guard =
         record {
           check = record { ss = g.check.ss; n = g.check.n; store = g.check.store; node = g.check.node; copy = g.check.copy; cell = g.check.cell; unbound = g.check.unbound; clean = redone-clean g.check.clean };
@@ -202,13 +202,13 @@ module _ {nodes state scratch : List ℕ} {x q d : ℕ} (g : Guardable nodes sta
           order = o.redone;
         }
 
-    pub redone-on : {end : List ℕ} → ((v : Guardable nodes state later x q d) → Redone v.check.ss nodes state later end) → Redone g.check.ss nodes state scratch end
+    pub redone-on : {end : List ℕ} → ((v : Guardable nodes state later x a) → Redone v end) → Redone g end
     unfolding redone-guard
     redone-on f =
-        let a = f redone-guard in
-        record { long = a.long ∙ o.long; low = λ j h. a.low j h ∙ o.low j h; between = λ j h k. a.between j h k ∙ o.between j h k; redone = a.redone }
+        let d = f redone-guard in
+        record { long = d.long ∙ o.long; low = λ j h. d.low j h ∙ o.low j h; between = λ j h k. d.between j h k ∙ o.between j h k; redone = d.redone }
 
-  module _ {later : List ℕ} (f : (v : Guardable nodes state scratch x q d) → Redone v.check.ss nodes state scratch later) {end : List ℕ} (e : end ≡ set (set later memo 0) cuts_word 0) where
+  module _ {later : List ℕ} (f : (v : Guardable nodes state scratch x a) → Redone v later) {end : List ℕ} (e : end ≡ set (set later memo 0) cuts_word 0) where
     other : (j : ℕ) → (j ≡ memo → ⊥) → (j ≡ cuts_word → ⊥) → get_or end j 0 ≡ get_or later j 0
     other j h k = ap (λ (y : List ℕ). get_or y j 0) e ∙ (get_or-set_other (set later memo 0) cuts_word j 0 0 k ∙ get_or-set_other later memo j 0 0 h)
 
@@ -236,7 +236,7 @@ module _ {nodes state scratch : List ℕ} {x q d : ℕ} (g : Guardable nodes sta
           memo = λ b m. no-memo b;
         }
 
-    pub renewed : {filled : List ℕ} → Purse end filled → Renewed g.check.ss nodes state scratch filled
+    pub renewed : {filled : List ℕ} → Purse end filled → Renewed g filled
     renewed p =
         record {
           spared = spared-on emptied (spared-purse p);
@@ -245,23 +245,23 @@ module _ {nodes state scratch : List ℕ} {x q d : ℕ} (g : Guardable nodes sta
 
 -- ---- where the cell has no place
 
-module _ {nodes state scratch : List ℕ} {x q d : ℕ} (g : Missing nodes state scratch x q d) where
-  missing-bound : Ordered g.given.check.ss nodes (bound_words state g.given.check.n x (word_of q d)) scratch
-  missing-bound = unplaced-bound g.given.check.ss nodes state scratch g.given.check.n x (word_of q d) g.given.order g.unplaced
+module _ {nodes state scratch : List ℕ} {x : ℕ} {a : At} (g : Missing nodes state scratch x a) where
+  missing-bound : Ordered g.given.check.ss nodes (bound_words state g.given.check.n x (word_of a.node a.copy)) scratch
+  missing-bound = unplaced-bound g.given.check.ss nodes state scratch g.given.check.n x (word_of a.node a.copy) g.given.order g.unplaced
 
-  pub plain-guarded : {k : ℕ} → Closed k state → Plain nodes state x q d k → Guarded g.given.check.ss nodes state g.given.check.n scratch scratch x q d false
-  plain-guarded {k} c p = record { spared = spared-refl; answer = (plain-checked nodes state scratch x q d k g.given.check c p).answer; order = λ h. missing-bound }
+  pub plain-guarded : {k : ℕ} → Closed k state → Plain nodes state x a.node a.copy k → Guarded g.given scratch false
+  plain-guarded {k} c p = record { spared = spared-refl; answer = (plain-checked nodes state scratch x a.node a.copy k g.given.check c p).answer; order = λ h. missing-bound }
 
-  pub search-guarded : {mid after : List ℕ} {r : Bool} → ((v : Checkable nodes state scratch x q d) → OccursChecked v.ss nodes state v.n scratch mid x q d r) → Purse mid after → Guarded g.given.check.ss nodes state g.given.check.n scratch after x q d r
+  pub search-guarded : {mid after : List ℕ} {r : Bool} → ((v : Checkable nodes state scratch x a.node a.copy) → OccursChecked v.ss nodes state v.n scratch mid x a.node a.copy r) → Purse mid after → Guarded g.given after r
   search-guarded {mid} {after} h p =
       let c = h g.given.check in
       record {
         spared = spared-on (spared-checked c) (spared-purse p);
         answer = c.answer;
-        order = λ f. purse-ordered p g.given.check.ss nodes (bound_words state g.given.check.n x (word_of q d)) (ordered-kept g.given.check.ss nodes (bound_words state g.given.check.n x (word_of q d)) scratch mid (λ j l o. c.keeps.others j (omega arith)) missing-bound);
+        order = λ f. purse-ordered p g.given.check.ss nodes (bound_words state g.given.check.n x (word_of a.node a.copy)) (ordered-kept g.given.check.ss nodes (bound_words state g.given.check.n x (word_of a.node a.copy)) scratch mid (λ j l o. c.keeps.others j (omega arith)) missing-bound);
       }
 
-  pub search-roomy : {mid : List ℕ} {r : Bool} → ((v : Checkable nodes state scratch x q d) → OccursChecked v.ss nodes state v.n scratch mid x q d r) → rows ≤ length mid
+  pub search-roomy : {mid : List ℕ} {r : Bool} → ((v : Checkable nodes state scratch x a.node a.copy) → OccursChecked v.ss nodes state v.n scratch mid x a.node a.copy r) → rows ≤ length mid
   search-roomy {mid} h =
       let e : length mid ≡ length scratch = (h g.given.check).keeps.long in
       let r : rows ≤ length scratch = g.given.roomy in
@@ -269,26 +269,26 @@ module _ {nodes state scratch : List ℕ} {x q d : ℕ} (g : Missing nodes state
 
   -- ---- the order made anew, perhaps
 
-  pub tried-not : Tried g.given.check.ss nodes state scratch scratch x q d false
+  pub tried-not : Tried g.given scratch false
   tried-not = record { spared = spared-refl; order = g.given.order; ahead = λ h. absurd (subst T (sym h) tt); unplaced = λ h. g.unplaced }
 
-  module _ {mid : List ℕ} (w : (v : Guardable nodes state scratch x q d) → Renewed v.check.ss nodes state scratch mid) where
-    pub renew-guard : Guardable nodes state mid x q d
+  module _ {mid : List ℕ} (w : (v : Guardable nodes state scratch x a) → Renewed v mid) where
+    pub renew-guard : Guardable nodes state mid x a
     renew-guard = guard-on g.given (w g.given).spared (w g.given).order
 
-    pub tried-anew : {after : List ℕ} {r : Bool} → ((v : Boundable nodes mid q d) → Shown v.ss nodes mid after x q d r) → Tried g.given.check.ss nodes state scratch after x q d r
-    unfolding renew-guard guard-on
+    pub tried-anew : {after : List ℕ} {r : Bool} → ((v : Boundable nodes mid a.node a.copy) → Shown v after x r) → Tried g.given after r
+    unfolding renew-guard
     tried-anew f =
         let s = shown renew-guard f in
         record { spared = spared-on (w g.given).spared (spared-reordered s.same); order = s.kept state (w g.given).order; ahead = s.ahead; unplaced = s.unplaced }
 
-  module _ {after : List ℕ} {r : Bool} (f : (v : Missing nodes state scratch x q d) → Tried v.given.check.ss nodes state scratch after x q d r) where
-    pub tried-guarded : r ≡ true → Guarded g.given.check.ss nodes state g.given.check.n scratch after x q d false
+  module _ {after : List ℕ} {r : Bool} (f : (v : Missing nodes state scratch x a) → Tried v.given after r) where
+    pub tried-guarded : r ≡ true → Guarded g.given after false
     tried-guarded t = ahead-guarded g.given (f g).spared (f g).order ((f g).ahead t)
 
-    pub tried-missing : r ≡ false → Missing nodes state after x q d
+    pub tried-missing : r ≡ false → Missing nodes state after x a
     tried-missing t = record { given = guard-on g.given (f g).spared (f g).order; unplaced = (f g).unplaced t }
 
-    pub tried-on : r ≡ false → {end : List ℕ} {r1 : Bool} → ((v : Missing nodes state after x q d) → Guarded v.given.check.ss nodes state v.given.check.n after end x q d r1) → Guarded g.given.check.ss nodes state g.given.check.n scratch end x q d r1
-    unfolding tried-missing guard-on
-    tried-on t h = guarded-on (f g).spared (h (tried-missing t))
+    pub tried-on : r ≡ false → {end : List ℕ} {r1 : Bool} → ((v : Missing nodes state after x a) → Guarded v.given end r1) → Guarded g.given end r1
+    unfolding tried-missing
+    tried-on t h = guarded-on g.given (f g).spared (f g).order (h (tried-missing t))

@@ -4,10 +4,11 @@ use Rattle.machine.specs.Substitution.{Binding, occurs, resolve}
 use Rattle.run_layout.specs.Regions.{order, purse_word, stack, cut_list, memo}
 use Rattle.run_layout.specs.Nodes.{Symbol, term_at}
 use Rattle.run_layout.specs.State.{variable_of, word_of, bindings, bound_words}
+use Rattle.run_layout.specs.declared.terms.At.{At}
 use Rattle.unify_bindings.specs.Queues.{Clean, Checkable}
 use Rattle.unify_bindings.specs.Scratch.{Roomy}
 use Rattle.unify_memos.specs.Memos.{Memo}
-use Rattle.unify_orders.specs.Orders.{ordered, bounds_made, Ordered, Ahead, Unplaced, Reordered}
+use Rattle.unify_orders.specs.Orders.{ordered, bounds_made, Ordered, Ahead, Unplaced, Reordered, Boundable}
 
 -- the most words that are counted as looked at
 abbrev pub most_counted : ℕ
@@ -26,14 +27,14 @@ pub record Begun (before after : List ℕ) : Type 0 where
   pub no_bounds : bounds_made after ≡ 0
 
 -- A cell that is to be bound to a term, and an order of cells.
-pub record Guardable (nodes state scratch : List ℕ) (x q d : ℕ) : Type 0 where
-  pub check : Checkable nodes state scratch x q d
+pub record Guardable (nodes state scratch : List ℕ) (x : ℕ) (a : At) : Type 0 where
+  pub check : Checkable nodes state scratch x a.node a.copy
   pub roomy : Roomy scratch
   pub order : Ordered check.ss nodes state scratch
 
 -- The same where the cell has no place in the order.
-pub record Missing (nodes state scratch : List ℕ) (x q d : ℕ) : Type 0 where
-  pub given : Guardable nodes state scratch x q d
+pub record Missing (nodes state scratch : List ℕ) (x : ℕ) (a : At) : Type 0 where
+  pub given : Guardable nodes state scratch x a
   pub unplaced : Unplaced scratch x
 
 -- No cell is marked, the work stack is as it was, and what the memo and the short cuts say is still true.
@@ -43,34 +44,34 @@ pub record Spared (ss : List Symbol) (nodes before after : List ℕ) : Type 0 wh
   pub pairs_kept : (j : ℕ) → stack ≤ j → j < cut_list → get_or after j 0 ≡ get_or before j 0
   pub memo : (b : List Binding) → Memo ss nodes b before → Memo ss nodes b after
 
--- Where r is true, the order shows that the variable of cell x may be bound to the term at q in copy d; else the cell has no place in it.
-pub record Shown (ss : List Symbol) (nodes before after : List ℕ) (x q d : ℕ) (r : Bool) : Type 0 where
+-- Where r is true, the order shows that the variable of cell x may be bound to the term; else the cell has no place in it.
+pub record Shown {nodes before : List ℕ} {q d : ℕ} (g : Boundable nodes before q d) (after : List ℕ) (x : ℕ) (r : Bool) : Type 0 where
   pub same : Reordered before after
-  pub kept : (state : List ℕ) → Ordered ss nodes state before → Ordered ss nodes state after
-  pub ahead : r ≡ true → Ahead ss nodes after x q d
+  pub kept : (state : List ℕ) → Ordered g.ss nodes state before → Ordered g.ss nodes state after
+  pub ahead : r ≡ true → Ahead g.ss nodes after x q d
   pub unplaced : r ≡ false → Unplaced after x
 
 -- There is a new order; the words before it and those of the work stack and the short cuts are as they were.
-pub record Redone (ss : List Symbol) (nodes state before after : List ℕ) : Type 0 where
+pub record Redone {nodes state before : List ℕ} {x : ℕ} {a : At} (g : Guardable nodes state before x a) (after : List ℕ) : Type 0 where
   pub long : length after ≡ length before
   pub low : (j : ℕ) → j < order → get_or after j 0 ≡ get_or before j 0
   pub between : (j : ℕ) → stack ≤ j → j < memo → get_or after j 0 ≡ get_or before j 0
-  pub redone : Ordered ss nodes state after
+  pub redone : Ordered g.check.ss nodes state after
 
 -- The same, and what the memo and the short cuts say is still true.
-pub record Renewed (ss : List Symbol) (nodes state before after : List ℕ) : Type 0 where
-  pub spared : Spared ss nodes before after
-  pub order : Ordered ss nodes state after
+pub record Renewed {nodes state before : List ℕ} {x : ℕ} {a : At} (g : Guardable nodes state before x a) (after : List ℕ) : Type 0 where
+  pub spared : Spared g.check.ss nodes before after
+  pub order : Ordered g.check.ss nodes state after
 
 -- The same as `Shown`, with an order that may be new.
-pub record Tried (ss : List Symbol) (nodes state before after : List ℕ) (x q d : ℕ) (r : Bool) : Type 0 where
-  pub spared : Spared ss nodes before after
-  pub order : Ordered ss nodes state after
-  pub ahead : r ≡ true → Ahead ss nodes after x q d
+pub record Tried {nodes state before : List ℕ} {x : ℕ} {a : At} (g : Guardable nodes state before x a) (after : List ℕ) (r : Bool) : Type 0 where
+  pub spared : Spared g.check.ss nodes before after
+  pub order : Ordered g.check.ss nodes state after
+  pub ahead : r ≡ true → Ahead g.check.ss nodes after x a.node a.copy
   pub unplaced : r ≡ false → Unplaced after x
 
 -- The answer is the definition's; where the variable does not stand in the term, the order serves when it is bound.
-pub record Guarded (ss : List Symbol) (nodes state : List ℕ) (n : ℕ) (before after : List ℕ) (x q d : ℕ) (found : Bool) : Type 0 where
-  pub spared : Spared ss nodes before after
-  pub answer : found ≡ occurs (variable_of x) (resolve (bindings ss nodes state n) (term_at ss nodes q d))
-  pub order : found ≡ false → Ordered ss nodes (bound_words state n x (word_of q d)) after
+pub record Guarded {nodes state before : List ℕ} {x : ℕ} {a : At} (g : Guardable nodes state before x a) (after : List ℕ) (found : Bool) : Type 0 where
+  pub spared : Spared g.check.ss nodes before after
+  pub answer : found ≡ occurs (variable_of x) (resolve (bindings g.check.ss nodes state g.check.n) (term_at g.check.ss nodes a.node a.copy))
+  pub order : found ≡ false → Ordered g.check.ss nodes (bound_words state g.check.n x (word_of a.node a.copy)) after

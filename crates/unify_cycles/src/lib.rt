@@ -1,5 +1,7 @@
 // Whether a binding closes a cycle. Where the order of cells shows that it does not, nothing is searched. A search is exact; when searches have looked at many
 // words, what the unification will bind is guessed, and the order is made anew from the guess, so that it serves for the bindings to come.
+// The cell that is to be bound, its term and the height of the stack go along as parameters: `TurnStop::Bind` brings them, in a crate above, and is taken
+// apart once.
 
 #![tactic(auto)]
 
@@ -11,6 +13,8 @@ ghost use Rattle.unify_orders.specs.Orders.{Boundable};
 ghost use Rattle.unify_cycles.specs.Checks.{most_counted, Begun, Purse, Shown, Guardable, Missing, Redone, Renewed, Tried, Guarded};
 
 use lookahead::{PROPOSED, look_ahead};
+use lookahead_words::guesses::Tables;
+use run_layout::terms::At;
 use run_layout::{CELLS, ORDER, ORDER_PLACES, ORDER_WORD, PURSE_SIZE, PURSE_WORD};
 use table_words::{put, word_at};
 use unify_bindings::occurrence::{is_plain, occurs};
@@ -74,37 +78,30 @@ pub fn begin(scratch: &mut [u32])
     fill_purse(scratch, FIRST_PURSE);
 }
 
-// Whether cell x has a place in the order.
+// Whether cell x has a place in the order. (`unify_orders::place_of` asks that the list is one of cells in their places; here nothing is asked, since a wrong
+// answer costs one try more.)
 fn has_place(scratch: &[u32], x: usize) -> bool
     requires { (Roomy scratch.now) × (x < cells) }
 {
     let i = word_at(scratch, ORDER_PLACES + x);
-    if CELLS <= i {
-        return false;
-    }
-    if word_at(scratch, ORDER_WORD) <= i {
-        return false;
-    }
-    word_at(scratch, ORDER + i) == x
+    i < CELLS && i < word_at(scratch, ORDER_WORD) && word_at(scratch, ORDER + i) == x
 }
 
-// An order of the cells that will be bound, when cell x is bound to the term at q in copy d with h pairs on the work stack, and of all that these cells lead
+// An order of the cells that will be bound, when cell x is bound to the term q with h pairs on the work stack, and of all that these cells lead
 // to, as far as it can be guessed in so many turns. Where it is not even the cell's, half of the pairs are looked at.
 fn order_ahead(
     nodes: &[u32],
     state: &[u32],
     scratch: &mut [u32],
     x: usize,
-    q: usize,
-    d: usize,
+    q: At,
     h: usize,
     turns: usize,
 )
-    requires { (Guardable nodes.now state.now scratch.old x q d) × (h ≤ pairs) }
-    ensures { (g : Guardable nodes.now state.now scratch.old x q d)
-        → Redone g.check.ss nodes.now state.now scratch.old scratch.new }
+    requires { (Guardable nodes.now state.now scratch.old x q) × (h ≤ pairs) }
+    ensures { (g : Guardable nodes.now state.now scratch.old x q) → Redone g scratch.new }
 {
-    let n = look_ahead(nodes, state, scratch, h, x, q, d, turns);
+    let n = look_ahead(Tables { nodes, state }, scratch, h, x, q, turns);
     order_cells(nodes, state, scratch, PROPOSED, n);
     if h == 0 {
         return;
@@ -112,28 +109,26 @@ fn order_ahead(
     if has_place(scratch, x) {
         return;
     }
-    order_ahead(nodes, state, scratch, x, q, d, h / 2, turns / 2);
+    order_ahead(nodes, state, scratch, x, q, h / 2, turns / 2);
 }
 
 // The order made anew, and a purse that is twice as large.
-fn renew(nodes: &[u32], state: &[u32], scratch: &mut [u32], x: usize, q: usize, d: usize, h: usize)
-    requires { (Guardable nodes.now state.now scratch.old x q d) × (h ≤ pairs) }
-    ensures { (g : Guardable nodes.now state.now scratch.old x q d)
-        → Renewed g.check.ss nodes.now state.now scratch.old scratch.new }
+fn renew(nodes: &[u32], state: &[u32], scratch: &mut [u32], x: usize, q: At, h: usize)
+    requires { (Guardable nodes.now state.now scratch.old x q) × (h ≤ pairs) }
+    ensures { (g : Guardable nodes.now state.now scratch.old x q) → Renewed g scratch.new }
 {
     let size = counted(word_at(scratch, PURSE_SIZE));
-    order_ahead(nodes, state, scratch, x, q, d, h, TURNS * size);
+    order_ahead(nodes, state, scratch, x, q, h, TURNS * size);
     forget(scratch);
     fill_purse(scratch, 2 * size);
 }
 
-// Whether the order shows that the variable of cell x does not stand in the term at q, in copy d. Where it does not, the cell has no place in it afterwards.
-fn frees(nodes: &[u32], scratch: &mut [u32], x: usize, q: usize, d: usize) -> bool
-    requires { (Boundable nodes.now scratch.old q d) × (x < cells) }
-    ensures { (g : Boundable nodes.now scratch.old q d)
-        → Shown g.ss nodes.now scratch.old scratch.new x q d result }
+// Whether the order shows that the variable of cell x does not stand in the term q. Where it does not, the cell has no place in it afterwards.
+fn frees(nodes: &[u32], scratch: &mut [u32], x: usize, q: At) -> bool
+    requires { (Boundable nodes.now scratch.old q.node q.copy) × (x < cells) }
+    ensures { (g : Boundable nodes.now scratch.old q.node q.copy) → Shown g scratch.new x result }
 {
-    if is_free(nodes, scratch, x, q, d) {
+    if is_free(nodes, scratch, x, q) {
         return true;
     }
     drop_from(scratch, x);
@@ -141,73 +136,61 @@ fn frees(nodes: &[u32], scratch: &mut [u32], x: usize, q: usize, d: usize) -> bo
 }
 
 // The same, with a look first whether there is an order.
-fn shows(nodes: &[u32], scratch: &mut [u32], x: usize, q: usize, d: usize) -> bool
-    requires { (Boundable nodes.now scratch.old q d) × (x < cells) }
-    ensures { (g : Boundable nodes.now scratch.old q d)
-        → Shown g.ss nodes.now scratch.old scratch.new x q d result }
+fn shows(nodes: &[u32], scratch: &mut [u32], x: usize, q: At) -> bool
+    requires { (Boundable nodes.now scratch.old q.node q.copy) × (x < cells) }
+    ensures { (g : Boundable nodes.now scratch.old q.node q.copy) → Shown g scratch.new x result }
 {
     if word_at(scratch, ORDER_WORD) == 0 {
         return false;
     }
-    frees(nodes, scratch, x, q, d)
+    frees(nodes, scratch, x, q)
 }
 
 // The same, after the order is made anew, if the purse is spent.
-fn shows_anew(
-    nodes: &[u32],
-    state: &[u32],
-    scratch: &mut [u32],
-    x: usize,
-    q: usize,
-    d: usize,
-    h: usize,
-) -> bool
-    requires { (Missing nodes.now state.now scratch.old x q d) × (h ≤ pairs) }
-    ensures { (g : Missing nodes.now state.now scratch.old x q d)
-        → Tried g.given.check.ss nodes.now state.now scratch.old scratch.new x q d result }
+fn shows_anew(nodes: &[u32], state: &[u32], scratch: &mut [u32], x: usize, q: At, h: usize) -> bool
+    requires { (Missing nodes.now state.now scratch.old x q) × (h ≤ pairs) }
+    ensures { (g : Missing nodes.now state.now scratch.old x q) → Tried g.given scratch.new result }
 {
     if word_at(scratch, PURSE_WORD) != 0 {
         return false;
     }
-    renew(nodes, state, scratch, x, q, d, h);
-    frees(nodes, scratch, x, q, d)
+    renew(nodes, state, scratch, x, q, h);
+    frees(nodes, scratch, x, q)
 }
 
 // A search.
-fn search(nodes: &[u32], state: &[u32], scratch: &mut [u32], x: usize, q: usize, d: usize) -> bool
-    requires { Missing nodes.now state.now scratch.old x q d }
-    ensures { (g : Missing nodes.now state.now scratch.old x q d)
-        → Guarded g.given.check.ss nodes.now state.now g.given.check.n scratch.old scratch.new x q d result }
+fn search(nodes: &[u32], state: &[u32], scratch: &mut [u32], x: usize, q: At) -> bool
+    requires { Missing nodes.now state.now scratch.old x q }
+    ensures { (g : Missing nodes.now state.now scratch.old x q) → Guarded g.given scratch.new result }
 {
-    let r = occurs(nodes, state, scratch, x, q, d);
+    let r = occurs(nodes, state, scratch, x, q);
     spend(scratch, r.cost);
     r.found
 }
 
-// Whether the unbound variable of cell x stands in the term at q, in copy d, with the bindings put in; the copies below k are closed, and h pairs are on the
+// Whether the unbound variable of cell x stands in the term q, with the bindings put in; the copies below k are closed, and h pairs are on the
 // work stack.
 pub fn check(
     nodes: &[u32],
     state: &[u32],
     scratch: &mut [u32],
     x: usize,
-    q: usize,
-    d: usize,
+    q: At,
     k: usize,
     h: usize,
 ) -> bool
-    requires { (Guardable nodes.now state.now scratch.old x q d) × ((Closed k state.now) × (h ≤ pairs)) }
-    ensures { (g : Guardable nodes.now state.now scratch.old x q d)
-        → Guarded g.check.ss nodes.now state.now g.check.n scratch.old scratch.new x q d result }
+    requires { (Guardable nodes.now state.now scratch.old x q) × ((Closed k state.now) × (h ≤ pairs)) }
+    ensures { (g : Guardable nodes.now state.now scratch.old x q) → Guarded g scratch.new result }
 {
-    if shows(nodes, scratch, x, q, d) {
+    // One test after the other: tried as one expression, and the proof did not close, since the scratch words behind it are those of any of three calls.
+    if shows(nodes, scratch, x, q) {
         return false;
     }
-    if is_plain(nodes, state, x, q, d, k) {
+    if is_plain(nodes, state, x, q, k) {
         return false;
     }
-    if shows_anew(nodes, state, scratch, x, q, d, h) {
+    if shows_anew(nodes, state, scratch, x, q, h) {
         return false;
     }
-    search(nodes, state, scratch, x, q, d)
+    search(nodes, state, scratch, x, q)
 }

@@ -478,7 +478,7 @@ module _ (before : List ℕ) (k v i : ℕ) (w : Rowed before (v / copies) k) (sm
         }
 
 kept_then : (before mid after : List ℕ) → Kept before mid → Kept mid after → Kept before after
-kept_then before mid after f g = record { long = g.long ∙ f.long; words = λ j l. g.words j l ∙ f.words j l; same_classes = λ j a b. g.same_classes j a b ∙ f.same_classes j a b }
+kept_then before mid _ f g = record { long = g.long ∙ f.long; words = λ j l. g.words j l ∙ f.words j l; same_classes = λ j a b. g.same_classes j a b ∙ f.same_classes j a b }
 
 pub assigned : (before mid : List ℕ) (term i k : ℕ) (r : Option ℕ) → Opens before mid ((term + shift) / copies) r → Rowed mid ((term + shift) / copies) k → i < class_count → (after : List ℕ) → after ≡ placed mid k (term + shift) i → Assigns before after term i
 assigned before mid term i k r o w small after e =
@@ -522,7 +522,7 @@ assigned-right before after left right i t e a =
     }
 
 pub merged-both : (before after : List ℕ) (left right i j : ℕ) → first_class ≤ classes_made before → Entered before left i → Entered before right j → ClassesLinked before after i j → Remembers before after left right
-merged-both before after left right i j t ei ej h =
+merged-both before _ left right i j t ei ej h =
     record {
       long = h.long;
       words = h.words;

@@ -1,5 +1,5 @@
 -- The memo of terms that are equal already: what its words mean, and what its functions promise.
-use Rattle.std.specs.Prelude.{ℕ, ◌+◌, ◌-◌, ◌/◌, ◌%◌, ◌≤◌, ◌<◌, ◌≡◌, Option, IfSome, List, ◌⊎◌, length, get_or}
+use Rattle.std.specs.Prelude.{ℕ, ◌+◌, ◌-◌, ◌/◌, ◌%◌, ◌≤◌, ◌<◌, ◌≡◌, ◌^◌, Option, IfSome, List, ◌⊎◌, length, get_or}
 use Rattle.syntax.specs.Limits.{longest_path}
 use Rattle.machine.specs.Substitution.{RTerm, Binding, resolve}
 use Rattle.run_layout.specs.Regions.{copies, memo, rows_word, keys, key_count, classes, class_count, memo_class, weights, rows, row_words, memo_row}
@@ -26,6 +26,18 @@ classes_made scratch = get_or scratch memo 0
 
 abbrev pub rows_made : List ℕ → ℕ
 rows_made scratch = get_or scratch rows_word 0
+
+-- Pairs are remembered, and there is a number left for a class.
+abbrev pub Numbering : List ℕ → Type 0
+Numbering scratch = (first_class ≤ classes_made scratch) × (classes_made scratch < class_count)
+
+-- two terms' words
+abbrev pub TermWords : ℕ → ℕ → Type 0
+TermWords left right = (left < 2 ^ 32) × (right < 2 ^ 32)
+
+-- row k is inside
+abbrev pub RowInside : List ℕ → ℕ → Type 0
+RowInside scratch k = (k < key_count) × (memo_row k + row_words ≤ length scratch)
 
 -- the node whose row is that of number k
 abbrev pub key_of : List ℕ → ℕ → ℕ

@@ -7,13 +7,13 @@
 
 #![tactic(auto)]
 
-ghost use Rattle.std.specs.Prelude.{IfSome, ◌≡◌, true, ◌⊎◌, ◌+◌, ◌*◌, ◌/◌, ◌%◌, ◌-◌, ◌≤◌, ◌<◌, ◌^◌, length, get_or, set};
+ghost use Rattle.std.specs.Prelude.{IfSome, ◌≡◌, true, ◌+◌, ◌*◌, ◌/◌, ◌%◌, ◌-◌, ◌≤◌, ◌<◌, ◌^◌, length, get_or, set};
 ghost use Rattle.run_layout.specs.Halves.{stored};
-ghost use Rattle.run_layout.specs.Regions.{pairs, memo, cuts_word, key_count, class_count, memo_class, row_words, half_word, memo_row};
+ghost use Rattle.run_layout.specs.Regions.{pairs, memo, cuts_word, class_count, memo_class, row_words, half_word, memo_row};
 ghost use Rattle.unify_bindings.specs.Scratch.{Roomy};
-ghost use Rattle.unify_memos.specs.Memos.{classes_made, link_of, class_in, Rowed, Entered, KnownEqual, Cleared, Opens, Assigns, Fresh, Reaches};
+ghost use Rattle.unify_memos.specs.Memos.{link_of, class_in, Rowed, Entered, KnownEqual, Cleared, Opens, Assigns, Fresh, Reaches};
 ghost use Rattle.unify_memos.specs.Memos.{ClassesLinked};
-ghost use Rattle.unify_memos.specs.Memos.{MemoEmptied, Remembers, Weighed, first_class, heaviest};
+ghost use Rattle.unify_memos.specs.Memos.{MemoEmptied, Remembers, Weighed, Numbering, TermWords, RowInside, first_class, heaviest};
 
 use run_layout::{
     CLASS_COUNT, CLASS_SIZE, CLASSES, COPIES, CUTS_WORD, HEIGHTS, KEY_COUNT, KEYS, MEMO, ROW_WORDS,
@@ -56,24 +56,16 @@ fn row_of(scratch: &[u32], key: usize) -> Option<usize>
     let slot = key / 2 % SLOT_COUNT;
     let w = word_at(scratch, SLOTS + slot);
     let k = half_of(0, w);
-    if KEY_COUNT <= k {
-        return None;
-    }
-    if word_at(scratch, ROWS_WORD) <= k {
-        return None;
-    }
-    if word_at(scratch, KEYS + k) != key {
-        return None;
-    }
-    if scratch.len() < ROWS + k * ROW_WORDS + ROW_WORDS {
-        return None;
-    }
-    Some(k)
+    let is_own = k < KEY_COUNT
+        && k < word_at(scratch, ROWS_WORD)
+        && word_at(scratch, KEYS + k) == key
+        && ROWS + k * ROW_WORDS + ROW_WORDS <= scratch.len();
+    if is_own { Some(k) } else { None }
 }
 
 // The number that stands in row k for the word v.
 fn number_in(scratch: &[u32], k: usize, v: usize) -> usize
-    requires { (k < key_count) × (memo_row k + row_words ≤ length scratch.now) }
+    requires { RowInside scratch.now k }
     ensures { result ≡ class_in scratch.now k v }
 {
     let at = ROWS + k * ROW_WORDS + v % ROW_WORDS;
@@ -89,16 +81,15 @@ fn number_of(scratch: &[u32], term: usize) -> Option<usize>
     let v = term + SHIFT;
     let k = row_of(scratch, v / COPIES)?;
     let i = number_in(scratch, k, v);
-    if i == 0 {
-        return None;
+    if 0 < i && i < CLASS_COUNT {
+        Some(i)
+    } else {
+        None
     }
-    if CLASS_COUNT <= i {
-        return None;
-    }
-    Some(i)
 }
 
-// The link of number i: 0; or another number of its class, and 1; or, above CLASS_COUNT, its rank.
+// The link of number i: 0; or another number of its class, and 1; or, above CLASS_COUNT, its rank. It is a word of the table, so no enum: 0 and ranks are
+// compared as one number (`join`), and tested in one line (`root_of`).
 fn link_at(scratch: &[u32], i: usize) -> usize
     requires { (Roomy scratch.now) × (i < class_count) }
     ensures { result ≡ link_of scratch.now i }
@@ -116,10 +107,7 @@ fn root_of(scratch: &[u32], i: usize) -> usize
     let mut r = i;
     for _ in 0..CLASS_COUNT {
         let w = link_at(scratch, r);
-        if w == 0 {
-            return r;
-        }
-        if CLASS_COUNT < w {
+        if w == 0 || CLASS_COUNT < w {
             return r;
         }
         r = w - 1;
@@ -129,7 +117,7 @@ fn root_of(scratch: &[u32], i: usize) -> usize
 
 // Whether the two terms are known to be equal.
 pub fn known(scratch: &[u32], left: usize, right: usize) -> bool
-    requires { (Roomy scratch.now) × ((left < 2 ^ 32) × (right < 2 ^ 32)) }
+    requires { (Roomy scratch.now) × TermWords left right }
     ensures { result ≡ true → KnownEqual scratch.now left right }
 {
     if word_at(scratch, MEMO) <= COUNTED {
@@ -189,7 +177,7 @@ fn row_for(scratch: &mut [u32], key: usize) -> Option<usize>
 
 // The number i in row k for the word v.
 fn put_number(scratch: &mut [u32], k: usize, v: usize, i: usize)
-    requires { (k < key_count) × ((memo_row k + row_words ≤ length scratch.old) × (i < half_word)) }
+    requires { (RowInside scratch.old k) × (i < half_word) }
     ensures { scratch.new ≡ set scratch.old (memo_row k + v % row_words)
         (stored (v / row_words % 2) (get_or scratch.old (memo_row k + v % row_words) 0) i) }
 {
@@ -212,7 +200,7 @@ fn assign(scratch: &mut [u32], term: usize, i: usize)
 
 // A number for the class of a term.
 fn fresh(scratch: &mut [u32], term: usize) -> usize
-    requires { (Roomy scratch.old) × ((first_class ≤ classes_made scratch.old) × ((classes_made scratch.old < class_count) × (term < 2 ^ 32))) }
+    requires { (Roomy scratch.old) × ((Numbering scratch.old) × (term < 2 ^ 32)) }
     ensures { Fresh scratch.old scratch.new term result }
 {
     let m = word_at(scratch, MEMO);
@@ -225,8 +213,7 @@ fn fresh(scratch: &mut [u32], term: usize) -> usize
 
 // A class of two terms.
 fn pair_up(scratch: &mut [u32], left: usize, right: usize)
-    requires { (Roomy scratch.old) × ((first_class ≤ classes_made scratch.old) × ((classes_made scratch.old < class_count)
-        × ((left < 2 ^ 32) × (right < 2 ^ 32)))) }
+    requires { (Roomy scratch.old) × ((Numbering scratch.old) × TermWords left right) }
     ensures { Remembers scratch.old scratch.new left right }
 {
     let m = fresh(scratch, left);
@@ -309,16 +296,12 @@ fn is_crowded(scratch: &[u32]) -> bool
     requires { Roomy scratch.now }
 {
     let k = word_at(scratch, ROWS_WORD);
-    if KEY_COUNT - 2 < k {
-        return true;
-    }
-    scratch.len() < ROWS + k * ROW_WORDS + 2 * ROW_WORDS
+    KEY_COUNT - 2 < k || scratch.len() < ROWS + k * ROW_WORDS + 2 * ROW_WORDS
 }
 
 // The two terms in one class.
 fn place(scratch: &mut [u32], left: usize, right: usize)
-    requires { (Roomy scratch.old) × ((first_class ≤ classes_made scratch.old) × ((classes_made scratch.old < class_count)
-        × ((left < 2 ^ 32) × (right < 2 ^ 32)))) }
+    requires { (Roomy scratch.old) × ((Numbering scratch.old) × TermWords left right) }
     ensures { Remembers scratch.old scratch.new left right }
 {
     match (number_of(scratch, left), number_of(scratch, right)) {
@@ -341,7 +324,7 @@ fn begin_anew(scratch: &mut [u32])
 
 // The two terms, which had their arguments done, in one class, unless they are among the first. Where there is no room left, the memo begins anew.
 fn enter(scratch: &mut [u32], left: usize, right: usize)
-    requires { (Roomy scratch.old) × ((left < 2 ^ 32) × (right < 2 ^ 32)) }
+    requires { (Roomy scratch.old) × TermWords left right }
     ensures { Remembers scratch.old scratch.new left right }
 {
     let m = word_at(scratch, MEMO);
@@ -349,11 +332,7 @@ fn enter(scratch: &mut [u32], left: usize, right: usize)
         begin(scratch, m + 1, HEAVY);
         return;
     }
-    if CLASS_COUNT <= m {
-        begin_anew(scratch);
-        return;
-    }
-    if is_crowded(scratch) {
+    if CLASS_COUNT <= m || is_crowded(scratch) {
         begin_anew(scratch);
         return;
     }
@@ -400,7 +379,7 @@ fn least_weight(scratch: &[u32]) -> usize
 // The two terms, a pair of that weight at height h of the stack, remembered where it is worth it: it would take long to find it equal again. Then it weighs 1,
 // since it is found in one turn.
 fn keep(scratch: &mut [u32], h: usize, weight: usize, left: usize, right: usize)
-    requires { ((Roomy scratch.old) × (h < pairs)) × ((left < 2 ^ 32) × (right < 2 ^ 32)) }
+    requires { ((Roomy scratch.old) × (h < pairs)) × TermWords left right }
     ensures { Remembers scratch.old scratch.new left right }
 {
     let least = least_weight(scratch);
@@ -415,7 +394,7 @@ fn keep(scratch: &mut [u32], h: usize, weight: usize, left: usize, right: usize)
 // The two terms, a pair at height h of the stack whose left term has so many words, are known to be equal from now on, unless this can be found again in a
 // few turns.
 pub fn remember(scratch: &mut [u32], h: usize, size: usize, left: usize, right: usize)
-    requires { (Roomy scratch.old) × ((left < 2 ^ 32) × (right < 2 ^ 32)) }
+    requires { (Roomy scratch.old) × TermWords left right }
     ensures { Remembers scratch.old scratch.new left right }
 {
     if HEIGHTS - 2 < h {

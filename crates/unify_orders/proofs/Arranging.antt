@@ -4,18 +4,17 @@ use native.Mathlib.Omega.{arith}
 use mathlib.Core.Path.{◌≡◌, sym, ap, ◌∙◌, subst, subst⁻¹}
 use mathlib.Core.Bool.{Bool, true}
 use mathlib.Core.List.{List}
-use lib.Dec.{leb}
+use lib.Dec.{T}
+use Rattle.std.specs.Prelude.{Option, Some, None, IfSome, is_some}
 use lib.ListN.{length}
-use borrow.Author.Tests.{leb-true}
 use Rattle.run_layout.specs.Regions.{copies, cells, rows}
 use Rattle.run_layout.specs.Nodes.{Symbol, Node, term_at}
-use Rattle.run_layout.specs.State.{node_of, cell_at, value_of}
+use Rattle.run_layout.specs.State.{at_of, node_of, cell_at, value_of}
 use Rattle.run_layout.proofs.State.{copy-small}
-use Rattle.unify_bindings.specs.Cells.{at_of}
 use Rattle.unify_bindings.specs.Scratch.{Roomy}
-use Rattle.unify_bindings.specs.declared.At.{At}
+use Rattle.run_layout.specs.declared.terms.At.{At}
 use Rattle.unify_bindings.proofs.Deref.{bound-cell-is}
-use Rattle.unify_orders.specs.Orders.{ordered, Covers, Ordered, Unplaced, Reordered, appended, PlaceOrNone, Boundable, Bound, Orderable, Arranged, Extensible, MayComeNext}
+use Rattle.unify_orders.specs.Orders.{ordered, Covers, Ordered, Unplaced, Reordered, appended, PlaceOrNone, Boundable, BoundIs, Bound, Orderable, Arranged, Extensible, MayComeNext}
 use Rattle.unify_orders.proofs.Lists.{reordered-refl, reordered-trans, reordered-roomy, same_refl, same-reordered, same-ordered, covers_more, entry-same, earlier, more-reordered, more-ordered}
 
 -- ---- a cell that may come next
@@ -37,19 +36,20 @@ module _ {nodes state scratch : List ℕ} {x w : ℕ} (g : Extensible nodes stat
           bounded = g.arranged.bounded;
         }
 
-    pub next-bound : {a : At} (e : a ≡ at_of w) {m r : ℕ} {after : List ℕ} → m ≡ ordered scratch → ((h : Boundable nodes scratch a.node a.copy) → Bound h.ss nodes scratch after a.node a.copy r) → MayComeNext g.given.ss nodes state scratch after x (leb r m)
+    pub next-bound : {a : At} (e : a ≡ at_of w) (r : Option ℕ) {after : List ℕ} → ((h : Boundable nodes scratch a.node a.copy) → Bound h.ss nodes scratch after a.node a.copy r) → {s : Bool} → s ≡ is_some r → MayComeNext g.given.ss nodes state scratch after x s
     unfolding value_of next-term
-    next-bound {a} e {m} {r} {after} em k =
+    next-bound {a} e r {after} k {s} es =
         let b : Bound g.given.ss nodes scratch after a.node a.copy r = k (next-term e) in
-        let c : ordered after ≡ ordered scratch = b.same.count in
         let t : term_at g.given.ss nodes a.node a.copy ≡ value_of g.given.ss nodes (cell_at state x) = ap (λ (y : At). term_at g.given.ss nodes y.node y.copy) e ∙ ap (value_of g.given.ss nodes) ew in
         record {
           same = b.same;
           bounded = b.bounded;
-          covers = λ y z.
-              (let l : r ≤ m = leb-true r m y in
-              subst (Covers after (ordered after)) t (covers_more after r (ordered after) (term_at g.given.ss nodes a.node a.copy) (omega (arith, em)) (b.covers (omega (arith, em)))));
+          covers = λ y z. subst (Covers after (ordered after)) t (all r b.is (sym es ∙ y));
         }
+      where
+        all : (o : Option ℕ) → IfSome o (λ n. BoundIs after n (term_at g.given.ss nodes a.node a.copy)) → is_some o ≡ true → Covers after (ordered after) (term_at g.given.ss nodes a.node a.copy)
+        all None is y = absurd (subst T (sym y) tt)
+        all (Some n) is y = covers_more after n (ordered after) (term_at g.given.ss nodes a.node a.copy) is.0 is.1
 
 -- ---- a candidate
 

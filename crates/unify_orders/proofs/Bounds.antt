@@ -9,6 +9,8 @@ use lib.Dec.{T, eqb, leb}
 use lib.ListN.{length, get_or, set, length-set}
 use lib.Seq.{get_or-set_same, get_or-set_other}
 use borrow.Author.Tests.{eqb-true, eqb-false, leb-true}
+use Rattle.std.specs.Prelude.{Option, Some, None, IfSome, MatchOption}
+use Rattle.std.proofs.lemmas.Option.{IfSome_then}
 use Rattle.syntax.specs.Words.{first_name}
 use Rattle.machine.specs.Substitution.{Variable, RTerm, RTerms, occurs, occurs_in}
 use Rattle.machine.proofs.Tests.{or_left}
@@ -19,7 +21,7 @@ use Rattle.run_layout.proofs.Nodes.{node-inside, node_end, row_one, row-one-is, 
 use Rattle.run_layout.proofs.State.{variable-cell, node-word, copy-word}
 use Rattle.unify_bindings.specs.Scratch.{Roomy}
 use Rattle.unify_bindings.proofs.Scan.{NodeStep, node-step}
-use Rattle.unify_orders.specs.Orders.{ordered, order_at, cell_place, bounds_made, bound_word, bound_value, CellPlaced, Covers, CellsListed, Bounded, Ahead, PlaceOrNone, Raised, Boundable, BoundNoted, Noting, Bound, Freed}
+use Rattle.unify_orders.specs.Orders.{ordered, order_at, cell_place, bounds_made, bound_word, bound_value, CellPlaced, Covers, CellsListed, Bounded, Ahead, SameList, PlaceOrNone, Raised, Boundable, BoundIs, BoundNoted, Noting, Bound, Freed}
 use Rattle.unify_orders.proofs.Lists.{same_refl, same-reordered, same-ordered, same-covers, reordered-refl, covers-same, entry-same}
 
 -- ---- the place of a cell
@@ -56,17 +58,14 @@ there nodes scratch i d w y p ew ey e = ap variable_of (ap (cell_of d) (sym ew) 
 
 module _ {nodes scratch : List ℕ} {i d r w : ℕ} (low : r ≤ ordered scratch) (ew : w ≡ get_or nodes i 0) where
   pub raised-name : first_name ≤ w → Raised nodes scratch i d r r
-  raised-name l = record { grows = omega arith; placed = λ h k. absurd (let z : get_or nodes i 0 < first_name = k in omega (arith, ew)) }
+  raised-name l = record { grows = omega arith; few = low; placed = λ k. absurd (let z : get_or nodes i 0 < first_name = k in omega (arith, ew)) }
 
   module _ {m y p : ℕ} (em : m ≡ ordered scratch) (ey : y ≡ cell_of d w) (place : PlaceOrNone scratch y p) where
-    pub raised-none : m ≤ p → Raised nodes scratch i d r (m + 1)
-    raised-none l = record { grows = omega (arith, em); placed = λ h k. absurd (omega (arith, em)) }
-
     pub raised-low : p < m → p < r → Raised nodes scratch i d r r
-    raised-low l h = record { grows = omega arith; placed = λ k z. record { place = p; before = h; is = there nodes scratch i d w y p ew ey (place.is (omega (arith, em))) } }
+    raised-low l h = record { grows = omega arith; few = low; placed = λ z. record { place = p; before = h; is = there nodes scratch i d w y p ew ey (place.is (omega (arith, em))) } }
 
     pub raised-high : p < m → r ≤ p → Raised nodes scratch i d r (p + 1)
-    raised-high l h = record { grows = omega arith; placed = λ k z. record { place = p; before = omega arith; is = there nodes scratch i d w y p ew ey (place.is (omega (arith, em))) } }
+    raised-high l h = record { grows = omega arith; few = omega (arith, em); placed = λ z. record { place = p; before = omega arith; is = there nodes scratch i d w y p ew ey (place.is (omega (arith, em))) } }
 
 -- ---- a term's variables
 
@@ -96,8 +95,8 @@ module _ (nodes scratch : List ℕ) (q d : ℕ) (g : Boundable nodes scratch q d
     pub scan-place : i < e → i < length nodes
     scan-place l = let a : i + loaded_node ≤ length nodes = node-inside g.ss nodes i (row_first g.ss nodes i e s.row l) in omega arith
 
-    pub scan-next : i < e → {t : ℕ} → Raised nodes scratch i d r t → t ≤ ordered scratch → Scanning g.ss nodes scratch q e d t (i + loaded_node)
-    scan-next l {t} raised few = record { row = step.row; few = few; covers = λ v h. covered v (s.covers v h) }
+    pub scan-next : i < e → {t : ℕ} → Raised nodes scratch i d r t → Scanning g.ss nodes scratch q e d t (i + loaded_node)
+    scan-next l {t} raised = record { row = step.row; few = raised.few; covers = λ v h. covered v (s.covers v h) }
       where
         step : NodeStep g.ss nodes i e d
         step = node-step g.ss nodes i e d s.row l
@@ -105,23 +104,20 @@ module _ (nodes scratch : List ℕ) (q d : ℕ) (g : Boundable nodes scratch q d
         covered : (v : Variable) → CellPlaced scratch r v ⊎ T (occurs_in v (terms_at g.ss nodes i e d)) → CellPlaced scratch t v ⊎ T (occurs_in v (terms_at g.ss nodes (i + loaded_node) e d))
         covered v (inl p) = inl (record { place = p.place; before = (let a : p.place < r = p.before in let b : r ≤ t = raised.grows in omega arith); is = p.is })
         covered v (inr h) = elim (step.split v h) [
-          | inl z ↦ inl (subst⁻¹ (CellPlaced scratch t) (z.1 ∙ sym (variable-cell d (get_or nodes i 0) z.0)) (raised.placed few z.0))
+          | inl z ↦ inl (subst⁻¹ (CellPlaced scratch t) (z.1 ∙ sym (variable-cell d (get_or nodes i 0) z.0)) (raised.placed z.0))
           | inr z ↦ inr z
         ]
 
-    pub scan-end : e ≤ i → Covers scratch r (term_at g.ss nodes q d)
-    scan-end l v h = elim (s.covers v h) [ inl p ↦ p | inr z ↦ absurd (subst (λ (ts : RTerms). T (occurs_in v ts)) (row-none g.ss nodes i e s.row d l) z) ]
+    pub scan-end : e ≤ i → BoundIs scratch r (term_at g.ss nodes q d)
+    scan-end l = (s.few, λ v h. elim (s.covers v h) [ inl p ↦ p | inr z ↦ absurd (subst (λ (ts : RTerms). T (occurs_in v ts)) (row-none g.ss nodes i e s.row d l) z) ])
 
 -- ---- noted bounds
-
-pub noted-none : {scratch : List ℕ} {m : ℕ} (w : ℕ) → m ≡ ordered scratch → BoundNoted scratch w (m + 1)
-noted-none {scratch} {m} w e = record { covers = λ ss nodes b l. absurd (omega (arith, e)) }
 
 pub noted-at : {scratch : List ℕ} {w r : ℕ} (k : ℕ) → k < bound_count → k < bounds_made scratch → bound_word scratch k ≡ w → r ≡ bound_value scratch k → BoundNoted scratch w r
 noted-at {scratch} {w} {r} k l h e f =
     record {
-      covers = λ ss nodes b z.
-          subst⁻¹ (λ (n : ℕ). Covers scratch n (value_of ss nodes w)) f (subst (λ (u : ℕ). Covers scratch (bound_value scratch k) (value_of ss nodes u)) e (b.covers k h l));
+      is = λ ss nodes b.
+          subst⁻¹ (λ (n : ℕ). BoundIs scratch n (value_of ss nodes w)) f (b.low k h l, subst (λ (u : ℕ). Covers scratch (bound_value scratch k) (value_of ss nodes u)) e (b.covers k h l));
     }
 
 pub noting-full : (before : List ℕ) (w r : ℕ) → Roomy before → {after : List ℕ} → after ≡ set before bounds_word 0 → Noting before after w r
@@ -224,31 +220,33 @@ pub value-of-word : (ss : List Symbol) (nodes : List ℕ) (q d : ℕ) → d < co
 unfolding value_of
 value-of-word ss nodes q d l = ap₂ (term_at ss nodes) (node-word q d l) (copy-word q d l)
 
-module _ (nodes scratch : List ℕ) (q d : ℕ) (g : Boundable nodes scratch q d) {w m : ℕ} (ew : w ≡ word_of q d) (em : m ≡ ordered scratch) where
+module _ (nodes scratch : List ℕ) (q d : ℕ) (g : Boundable nodes scratch q d) {w : ℕ} (ew : w ≡ word_of q d) where
   value : value_of g.ss nodes w ≡ term_at g.ss nodes q d
   value = ap (value_of g.ss nodes) ew ∙ value-of-word g.ss nodes q d g.copy
 
-  pub bound-noted : {r : ℕ} → BoundNoted scratch w r → Bound g.ss nodes scratch scratch q d r
-  bound-noted {r} k =
-      record { same = same_refl scratch; bounded = g.bounded; covers = λ l. subst (Covers scratch r) value (k.covers g.ss nodes g.bounded l) }
+  pub bound-noted : (r : Option ℕ) → IfSome r (BoundNoted scratch w) → Bound g.ss nodes scratch scratch q d r
+  bound-noted r k =
+      record { same = same_refl scratch; bounded = g.bounded; is = IfSome_then r k (λ b h. subst (BoundIs scratch b) value (h.is g.ss nodes g.bounded)) }
 
-  pub bound-none : {s : ℕ} → m < s → Bound g.ss nodes scratch scratch q d s
-  bound-none l = record { same = same_refl scratch; bounded = g.bounded; covers = λ h. absurd (omega (arith, em)) }
+  pub bound-none : Bound g.ss nodes scratch scratch q d None
+  bound-none = record { same = same_refl scratch; bounded = g.bounded; is = tt }
 
-  module _ {s : ℕ} (l : s ≤ m) where
+  module _ {s : ℕ} (c : (h : Boundable nodes scratch q d) → BoundIs scratch s (term_at h.ss nodes q d)) where
     pub bound-room : Roomy scratch × ((w < 2 ^ 32) × (s < 2 ^ 32))
     bound-room =
         let a : word_of q d < 2 ^ 32 = word_fits nodes scratch q d g in
         let f : ordered scratch ≤ cells = g.listed.few in
-        (g.roomy, (omega (arith, ew), omega (arith, em)))
+        let l : s ≤ ordered scratch = (c g).0 in
+        (g.roomy, (omega (arith, ew), omega arith))
 
-    pub bound-new : {after : List ℕ} → ((h : Boundable nodes scratch q d) → s ≤ ordered scratch → Covers scratch s (term_at h.ss nodes q d)) → Noting scratch after w s → Bound g.ss nodes scratch after q d s
-    bound-new {after} c k =
-        let z : s ≤ ordered scratch = omega (arith, em) in
+    pub bound-new : {after : List ℕ} → Noting scratch after w s → Bound g.ss nodes scratch after q d (Some s)
+    bound-new {after} k =
+        let n : ordered after ≡ ordered scratch = k.same.count in
+        let l : s ≤ ordered scratch = (c g).0 in
         record {
           same = k.same;
-          bounded = k.bounded g.ss nodes g.listed z (subst⁻¹ (Covers scratch s) value (c g z)) g.bounded;
-          covers = λ h. same-covers scratch after k.same g.listed s (term_at g.ss nodes q d) z (c g z);
+          bounded = k.bounded g.ss nodes g.listed (c g).0 (subst⁻¹ (Covers scratch s) value (c g).1) g.bounded;
+          is = (omega arith, same-covers scratch after k.same g.listed s (term_at g.ss nodes q d) (c g).0 (c g).1);
         }
 
 -- ---- a variable that stands behind those of a term
@@ -257,22 +255,26 @@ module _ (nodes before : List ℕ) (x q d : ℕ) (g : Boundable nodes before q d
   pub free-unknown : Freed g.ss nodes before before x q d false
   free-unknown = record { reordered = reordered-refl before; kept = λ state o. o; ahead = λ e. absurd (subst T (sym e) tt) }
 
-  pub free-known : {i r : ℕ} {after : List ℕ} → PlaceOrNone before x i → ((h : Boundable nodes before q d) → Bound h.ss nodes before after q d r) → Freed g.ss nodes before after x q d (leb r i)
-  free-known {i} {r} {after} place k =
+  pub free-known : {i : ℕ} {after : List ℕ} {t : Bool} → PlaceOrNone before x i → (r : Option ℕ) → ((h : Boundable nodes before q d) → Bound h.ss nodes before after q d r)
+      → MatchOption r (t ≡ false) (λ b. t ≡ leb b i) → Freed g.ss nodes before after x q d t
+  free-known {i} {after} {t} place r k s =
       let b : Bound g.ss nodes before after q d r = k g in
       record {
         reordered = same-reordered before after b.same;
         kept = λ state o. same-ordered before after b.same g.ss nodes state b.bounded o;
-        ahead = λ e. ahead_of b (leb-true r i e);
+        ahead = ahead_of r b.same b.is s;
       }
     where
-      ahead_of : Bound g.ss nodes before after q d r → r ≤ i → Ahead g.ss nodes after x q d
-      ahead_of b l =
+      ahead_of : (o : Option ℕ) → SameList before after → IfSome o (λ n. BoundIs after n (term_at g.ss nodes q d)) → MatchOption o (t ≡ false) (λ b. t ≡ leb b i) → t ≡ true → Ahead g.ss nodes after x q d
+      ahead_of None same is l e = absurd (subst T (sym e ∙ l) tt)
+      ahead_of (Some n) same is l e =
           let p : i ≤ ordered before = place.low in
-          let c : ordered after ≡ ordered before = b.same.count in
+          let c : ordered after ≡ ordered before = same.count in
+          let f : n ≤ ordered after = is.0 in
+          let m : n ≤ i = leb-true n i (sym l ∙ e) in
           record {
-            at = r;
-            few = omega arith;
-            later = λ j h e. (let y : j < ordered before = omega arith in let z : i ≡ j = place.only j y (sym (entry-same before after c (λ t u v. b.same.low t v) g.listed j y) ∙ e) in omega arith);
-            covers = b.covers (omega arith);
+            at = n;
+            few = is.0;
+            later = λ j h e. (let y : j < ordered before = omega arith in let z : i ≡ j = place.only j y (sym (entry-same before after c (λ t u v. same.low t v) g.listed j y) ∙ e) in omega arith);
+            covers = is.1;
           }

@@ -1,5 +1,5 @@
 -- A topological order of cells, in the scratch words: what its words mean, and what its functions promise.
-use Rattle.std.specs.Prelude.{ℕ, ◌+◌, ◌≤◌, ◌<◌, ◌≡◌, Bool, true, List, T, length, get_or, set}
+use Rattle.std.specs.Prelude.{ℕ, Option, IfSome, ◌+◌, ◌≤◌, ◌<◌, ◌≡◌, Bool, true, List, T, length, get_or, set}
 use Rattle.syntax.specs.Words.{first_name}
 use Rattle.machine.specs.Substitution.{Variable, RTerm, occurs}
 use Rattle.run_layout.specs.Regions.{copies, cells, places, order, order_places, order_word, bound_list, bound_of, bound_count, bounds_word, stack}
@@ -95,10 +95,11 @@ pub record PlaceOrNone (scratch : List ℕ) (x r : ℕ) : Type 0 where
   pub is : r < ordered scratch → order_at scratch r ≡ x
   pub only : (i : ℕ) → i < ordered scratch → order_at scratch i ≡ x → r ≡ i
 
--- The first s cells, at least r, have the variable at i in copy d among them, if the list has so many.
+-- The first s cells, at least r, have the variable at i in copy d among them.
 pub record Raised (nodes scratch : List ℕ) (i d r s : ℕ) : Type 0 where
   pub grows : r ≤ s
-  pub placed : s ≤ ordered scratch → get_or nodes i 0 < first_name → CellPlaced scratch s (variable_of (cell_of d (get_or nodes i 0)))
+  pub few : s ≤ ordered scratch
+  pub placed : get_or nodes i 0 < first_name → CellPlaced scratch s (variable_of (cell_of d (get_or nodes i 0)))
 
 -- A term whose bound is asked.
 pub record Boundable (nodes scratch : List ℕ) (q d : ℕ) : Type 0 where
@@ -110,9 +111,13 @@ pub record Boundable (nodes scratch : List ℕ) (q d : ℕ) : Type 0 where
   pub listed : CellsListed scratch
   pub bounded : Bounded ss nodes scratch
 
--- If r is no more than the list has, it is a bound of the term whose word is w.
+-- The list has r cells, and the first r have the variables of a term among them.
+abbrev pub BoundIs : List ℕ → ℕ → RTerm → Type 0
+BoundIs scratch r t = (r ≤ ordered scratch) × Covers scratch r t
+
+-- Where bounds are right, r is a bound of the term whose word is w.
 pub record BoundNoted (scratch : List ℕ) (w r : ℕ) : Type 0 where
-  pub covers : (ss : List Symbol) (nodes : List ℕ) → Bounded ss nodes scratch → r ≤ ordered scratch → Covers scratch r (value_of ss nodes w)
+  pub is : (ss : List Symbol) (nodes : List ℕ) → Bounded ss nodes scratch → BoundIs scratch r (value_of ss nodes w)
 
 -- The bound r of the term whose word is w is noted, perhaps.
 pub record Noting (before after : List ℕ) (w r : ℕ) : Type 0 where
@@ -120,11 +125,11 @@ pub record Noting (before after : List ℕ) (w r : ℕ) : Type 0 where
   pub bounded : (ss : List Symbol) (nodes : List ℕ) → CellsListed before → r ≤ ordered before → Covers before r (value_of ss nodes w) → Bounded ss nodes before
       → Bounded ss nodes after
 
--- If r is no more than the list has, it is a bound of the term at q in copy d.
-pub record Bound (ss : List Symbol) (nodes before after : List ℕ) (q d r : ℕ) : Type 0 where
+-- Only bounds have changed, and r, where it is one, is a bound of the term at q in copy d.
+pub record Bound (ss : List Symbol) (nodes before after : List ℕ) (q d : ℕ) (r : Option ℕ) : Type 0 where
   pub same : SameList before after
   pub bounded : Bounded ss nodes after
-  pub covers : r ≤ ordered before → Covers after r (term_at ss nodes q d)
+  pub is : IfSome r (λ b. BoundIs after b (term_at ss nodes q d))
 
 -- ---- use of the order
 

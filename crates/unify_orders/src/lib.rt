@@ -4,14 +4,15 @@
 
 #![tactic(auto)]
 
-ghost use Rattle.std.specs.Prelude.{◌≡◌, ◌+◌, ◌≤◌, ◌<◌, ◌^◌, length, set};
+ghost use Rattle.std.specs.Prelude.{IfSome, ◌≡◌, ◌+◌, ◌≤◌, ◌<◌, ◌^◌, length, set};
 ghost use Rattle.run_layout.specs.Regions.{copies, cells, order_word, bounds_word};
 ghost use Rattle.run_layout.specs.Nodes.{term_at};
 ghost use Rattle.unify_bindings.specs.Scratch.{Roomy};
-ghost use Rattle.unify_orders.specs.Orders.{ordered, appended, Covers, CellsListed, PlaceOrNone, Raised, Boundable, BoundNoted, Noting, Bound};
+ghost use Rattle.unify_orders.specs.Orders.{ordered, appended, CellsListed, PlaceOrNone, Raised, Boundable, BoundIs, BoundNoted, Noting, Bound};
 ghost use Rattle.unify_orders.specs.Orders.{Freed, Dropped};
 ghost use Rattle.unify_orders.specs.Orders.{Orderable, Arranged, Extensible, MayComeNext};
 
+use run_layout::terms::{At, pack, unpack};
 use run_layout::{
     BOUND_COUNT, BOUND_LIST, BOUND_SIZE, BOUND_SLOTS, BOUNDS_WORD, CELLS, LOADED_NODE, ORDER,
     ORDER_PLACES, ORDER_WORD, cell_of,
@@ -19,7 +20,6 @@ use run_layout::{
 use syntax::FIRST_NAME;
 use table_words::{put, word_at};
 use unify_bindings::occurrence::size_at;
-use unify_bindings::store::{pack, unpack};
 
 // Only the first n cells of the list stay, and no bounds.
 fn truncate(scratch: &mut [u32], n: usize)
@@ -38,8 +38,8 @@ pub fn forget_order(scratch: &mut [u32])
     truncate(scratch, 0);
 }
 
-// The place of cell x in the list, or the list's length where it has none: it is then behind all that have one. So one comparison serves for both, where an
-// Option would ask for two.
+// The place of cell x in the list, or the list's length where it has none. (No Option: `is_free`, asked at every binding, says by one comparison that the
+// place is behind a bound or that there is none.)
 fn place_of(scratch: &[u32], x: usize) -> usize
     requires { (Roomy scratch.now) × ((CellsListed scratch.now) × (x < cells)) }
     ensures { PlaceOrNone scratch.now x result }
@@ -55,68 +55,54 @@ fn place_of(scratch: &[u32], x: usize) -> usize
     i
 }
 
-// How many cells from the beginning of the list on, at least r, have the variable at i in copy d among them; one more than the list has, where it has no
-// place. A name asks for none.
-fn raised(nodes: &[u32], scratch: &[u32], i: usize, d: usize, r: usize) -> usize
-    requires { (i < length nodes.now) × ((d < copies) × ((Roomy scratch.now) × ((CellsListed scratch.now) × (r ≤ ordered scratch.now)))) }
-    ensures { Raised nodes.now scratch.now i d r result }
+// How many cells from the beginning of the list on, at least r, have the variable at a place, in a copy, among them; none where it has no place in the list.
+// A name asks for no more than r.
+fn raised(nodes: &[u32], scratch: &[u32], here: At, r: usize) -> Option<usize>
+    requires { (here.node < length nodes.now) × ((here.copy < copies) × ((Roomy scratch.now) × ((CellsListed scratch.now) × (r ≤ ordered scratch.now)))) }
+    ensures { IfSome result (λ s. Raised nodes.now scratch.now here.node here.copy r s) }
 {
-    let w = word_at(nodes, i);
+    let w = word_at(nodes, here.node);
     if FIRST_NAME <= w {
-        return r;
+        return Some(r);
     }
     let m = word_at(scratch, ORDER_WORD);
-    let p = place_of(scratch, cell_of(d, w));
+    let p = place_of(scratch, cell_of(here.copy, w));
     if m <= p {
-        return m + 1;
+        return None;
     }
     if p < r {
-        return r;
+        return Some(r);
     }
-    p + 1
+    Some(p + 1)
 }
 
-// How many cells from the beginning of the list on have all variables of the term at q in copy d among them; one more than the list has, where a variable has
-// no place.
-fn scan_bound(nodes: &[u32], scratch: &[u32], q: usize, d: usize) -> usize
-    requires { Boundable nodes.now scratch.now q d }
-    ensures { (g : Boundable nodes.now scratch.now q d) → result ≤ ordered scratch.now
-        → Covers scratch.now result (term_at g.ss nodes.now q d) }
+// How many cells from the beginning of the list on have all variables of a term among them; none where a variable has no place in the list.
+fn scan_bound(nodes: &[u32], scratch: &[u32], at: At) -> Option<usize>
+    requires { Boundable nodes.now scratch.now at.node at.copy }
+    ensures { (g : Boundable nodes.now scratch.now at.node at.copy) → IfSome result (λ r. BoundIs scratch.now r
+        (term_at g.ss nodes.now at.node at.copy)) }
 {
-    let m = word_at(scratch, ORDER_WORD);
-    let e = q + size_at(nodes, q);
+    let e = at.node + size_at(nodes, at.node);
     let mut r = 0;
-    let mut i = q;
-    // The same loop as in `scan` of unify_bindings, where a `for` over the places or over the number of nodes takes more instructions.
-    while i < e {
-        r = raised(nodes, scratch, i, d, r);
-        if m < r {
-            return r;
-        }
-        i += LOADED_NODE;
+    for node in (at.node..e).step_by(LOADED_NODE) {
+        let here = At { node, ..at };
+        r = raised(nodes, scratch, here, r)?;
     }
-    r
+    Some(r)
 }
 
-// The bound that is noted for a term's word; one more than the list has where there is none.
-fn noted_bound(scratch: &[u32], w: usize) -> usize
+// The bound that is noted for a term's word.
+fn noted_bound(scratch: &[u32], w: usize) -> Option<usize>
     requires { (Roomy scratch.now) × (CellsListed scratch.now) }
-    ensures { BoundNoted scratch.now w result }
+    ensures { IfSome result (λ r. BoundNoted scratch.now w r) }
 {
-    let m = word_at(scratch, ORDER_WORD);
     let slot = w % BOUND_COUNT;
     let k = word_at(scratch, BOUND_SLOTS + slot);
-    if BOUND_COUNT <= k {
-        return m + 1;
-    }
-    if word_at(scratch, BOUNDS_WORD) <= k {
-        return m + 1;
-    }
     let at = BOUND_LIST + k * BOUND_SIZE;
-    if word_at(scratch, at) != w {
-        return m + 1;
+    if k < BOUND_COUNT && k < word_at(scratch, BOUNDS_WORD) && word_at(scratch, at) == w {
+        return Some(word_at(scratch, at + 1));
     }
-    word_at(scratch, at + 1)
+    None
 }
 
 // The bound r of a term's word. Where there is no room left, the bounds begin anew.
@@ -138,38 +124,36 @@ fn note_bound(scratch: &mut [u32], w: usize, r: usize)
 }
 
 // As `scan_bound`, for a term that may have a bound noted.
-fn bound_of(nodes: &[u32], scratch: &mut [u32], q: usize, d: usize) -> usize
-    requires { Boundable nodes.now scratch.old q d }
-    ensures { (g : Boundable nodes.now scratch.old q d)
-        → Bound g.ss nodes.now scratch.old scratch.new q d result }
+fn bound_of(nodes: &[u32], scratch: &mut [u32], at: At) -> Option<usize>
+    requires { Boundable nodes.now scratch.old at.node at.copy }
+    ensures { (g : Boundable nodes.now scratch.old at.node at.copy)
+        → Bound g.ss nodes.now scratch.old scratch.new at.node at.copy result }
 {
-    let w = pack(q, d);
-    let m = word_at(scratch, ORDER_WORD);
-    let r = noted_bound(scratch, w);
-    if r <= m {
-        return r;
+    let w = pack(at);
+    let noted = noted_bound(scratch, w);
+    if noted.is_some() {
+        return noted;
     }
-    let s = scan_bound(nodes, scratch, q, d);
-    if m < s {
-        return s;
-    }
-    note_bound(scratch, w, s);
-    s
+    let r = scan_bound(nodes, scratch, at)?;
+    note_bound(scratch, w, r);
+    Some(r)
 }
 
-// Whether the list shows that the variable of cell x does not stand in the term at q in copy d with the bindings put in.
-pub fn is_free(nodes: &[u32], scratch: &mut [u32], x: usize, q: usize, d: usize) -> bool
-    requires boundable { Boundable nodes.now scratch.old q d }
+// Whether the list shows that the variable of cell x does not stand in a term with the bindings put in.
+pub fn is_free(nodes: &[u32], scratch: &mut [u32], x: usize, at: At) -> bool
+    requires boundable { Boundable nodes.now scratch.old at.node at.copy }
     requires x_lt_cells { x < cells }
-    ensures { (g : Boundable nodes.now scratch.old q d)
-        → Freed g.ss nodes.now scratch.old scratch.new x q d result }
+    ensures { (g : Boundable nodes.now scratch.old at.node at.copy)
+        → Freed g.ss nodes.now scratch.old scratch.new x at.node at.copy result }
 {
     if word_at(scratch, ORDER_WORD) == 0 {
         return false;
     }
     let i = place_of(scratch, x);
-    let r = bound_of(nodes, scratch, q, d);
-    r <= i
+    match bound_of(nodes, scratch, at) {
+        Some(r) => r <= i,
+        None => false,
+    }
 }
 
 // Whether cell x may come next: it is unbound, or all variables of its term have a place.
@@ -183,12 +167,7 @@ fn is_next(nodes: &[u32], state: &[u32], scratch: &mut [u32], x: usize) -> bool
     if w == 0 {
         return true;
     }
-    let m = word_at(scratch, ORDER_WORD);
-    let at = unpack(w);
-    let q = at.node;
-    let d = at.copy;
-    let r = bound_of(nodes, scratch, q, d);
-    r <= m
+    bound_of(nodes, scratch, unpack(w)).is_some()
 }
 
 // Cell x behind the others.

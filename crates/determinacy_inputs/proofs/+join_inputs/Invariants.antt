@@ -3,4 +3,4 @@ use Prim.Native.Nat.{◌-◌}
 use Rattle.determinacy_inputs.proofs.+join_inputs.Given as goal
 
 abbrev pub decreases-join_inputs : goal.decreases-join_inputs
-decreases-join_inputs l = l.stop - l.p
+decreases-join_inputs l = l.args.stop - l.args.left

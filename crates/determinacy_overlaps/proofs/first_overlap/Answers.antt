@@ -1,28 +1,39 @@
 use mathlib.Core.Path.{refl, ◌∙◌}
 use native.Mathlib.Omega.{arith}
-use Rattle.determinacy_overlaps.proofs.OverlapLaws.{clause-record, seek-begins, seek-ends, seek-pair, seek-record, seek_found, seek-on, seek-falls}
+use Rattle.determinacy_overlaps.proofs.OverlapLaws.{clause-record, seek-begins, seek-ends, seek-pair, seek-record, seek_found, seek-on, seek-falls, told-seeking, told-not-zero, told-none, told-falls}
 use Rattle.determinacy_overlaps.proofs.first_overlap.Goals as goal
 
-pub after_of-j-requires : goal.after_of-j-requires
-after_of-j-requires c = clause-record c.requires
+pub after_of-next-requires : goal.after_of-next-requires
+after_of-next-requires c = clause-record c.requires
 
-pub loop-j-init : goal.loop-j-init
-loop-j-init c = (refl, (refl, λ w. seek-begins c.after_of-j.ensures w))
+pub loop-next-init : goal.loop-next-init
+loop-next-init c = (refl, (refl, λ w. record { number = _; is = c.after_of-next.ensures; seeking = seek-begins refl w }))
 
 pub overlaps-requires : goal.overlaps-requires
-overlaps-requires c = seek-pair c.loop-j-test.true c.requires (c.loop-j.invariant.1.1 c.requires)
+overlaps-requires c = let s = c.loop-next.invariant.1.1 c.requires in seek-pair (told-not-zero s c.in-Some.is) c.requires (told-seeking s c.in-Some.is)
 
 pub returns-then-overlaps : goal.returns-then-overlaps
-returns-then-overlaps c = λ w. seek_found c.loop-j-test.true c.overlaps.ensures w (c.loop-j.invariant.1.1 w) c.if-overlaps.true
+returns-then-overlaps c = λ w. let s = c.loop-next.invariant.1.1 w in seek_found (told-not-zero s c.in-Some.is) c.overlaps.ensures w (told-seeking s c.in-Some.is) c.if-overlaps.true
 
-pub after_of-j-requires-in-loop-j : goal.after_of-j-requires-in-loop-j
-after_of-j-requires-in-loop-j c = let s = seek-record c.loop-j-test.true c.requires (c.loop-j.invariant.1.1 c.requires) in (omega (arith, s.0), omega (arith, s.1))
+pub after_of-next-requires-in-Some : goal.after_of-next-requires-in-Some
+after_of-next-requires-in-Some c = let s = c.loop-next.invariant.1.1 c.requires in
+    let r = seek-record (told-not-zero s c.in-Some.is) c.requires (told-seeking s c.in-Some.is) in
+    (omega (arith, r.0), omega (arith, r.1))
 
-pub loop-j-smaller : goal.loop-j-smaller
-loop-j-smaller c = seek-falls c.loop-j-test.true c.overlaps.ensures c.requires (c.loop-j.invariant.1.1 c.requires) c.after_of-j-in-loop-j.ensures
+pub loop-next-smaller : goal.loop-next-smaller
+loop-next-smaller c = let s = c.loop-next.invariant.1.1 c.requires in
+    told-falls c.args.program.code.now _ c.in-Some.is c.after_of-next-in-Some.ensures (seek-falls (told-not-zero s c.in-Some.is) c.overlaps.ensures c.requires (told-seeking s c.in-Some.is) refl)
 
-pub loop-j-preserved : goal.loop-j-preserved
-loop-j-preserved c = (c.overlaps.auto.state ∙ c.loop-j.invariant.0, (c.overlaps.auto.scratch ∙ c.loop-j.invariant.1.0, λ w. seek-on c.loop-j-test.true c.overlaps.ensures w (c.loop-j.invariant.1.1 w) c.after_of-j-in-loop-j.ensures c.if-overlaps.false))
+pub loop-next-preserved : goal.loop-next-preserved
+loop-next-preserved c = (
+  c.overlaps.auto.state ∙ c.loop-next.invariant.0,
+  (
+    c.overlaps.auto.scratch ∙ c.loop-next.invariant.1.0,
+    λ w.
+        let s = c.loop-next.invariant.1.1 w in
+        record { number = _; is = c.after_of-next-in-Some.ensures; seeking = seek-on (told-not-zero s c.in-Some.is) c.overlaps.ensures w (told-seeking s c.in-Some.is) refl c.if-overlaps.false },
+  ),
+)
 
 pub returns : goal.returns
-returns c = λ w. seek-ends c.loop-j-test.false w (c.loop-j.invariant.1.1 w)
+returns c = λ w. seek-ends refl w (told-none (c.loop-next.invariant.1.1 w) c.in_default.is)

@@ -9,20 +9,20 @@ head_of-p-requires c = first-record c.requires
 pub head_of-q-requires : goal.head_of-q-requires
 head_of-q-requires c = second-record c.requires
 
-pub past-stop-requires : goal.past-stop-requires
-past-stop-requires c = (heads-inside c.requires c.head_of-p.ensures c.head_of-q.ensures).0
+pub past-requires : goal.past-requires
+past-requires c = (heads-inside c.requires c.head_of-p.ensures c.head_of-q.ensures).0
 
-pub overflow_add-from : goal.overflow_add-from
-overflow_add-from c = omega (arith, (heads-inside c.requires c.head_of-p.ensures c.head_of-q.ensures).1)
+pub overflow_add-args : goal.overflow_add-args
+overflow_add-args c = omega (arith, (heads-inside c.requires c.head_of-p.ensures c.head_of-q.ensures).1)
 
-pub overflow_add-other : goal.overflow_add-other
-overflow_add-other c = omega (arith, (heads-inside c.requires c.head_of-p.ensures c.head_of-q.ensures).2)
+pub overflow_add-args-2 : goal.overflow_add-args-2
+overflow_add-args-2 c = omega (arith, (heads-inside c.requires c.head_of-p.ensures c.head_of-q.ensures).2)
 
 pub join_inputs-u-requires : goal.join_inputs-u-requires
-join_inputs-u-requires c = pair-joinable c.requires c.head_of-p.ensures c.head_of-q.ensures c.past-stop.ensures
+join_inputs-u-requires c = pair-joinable c.requires c.head_of-p.ensures c.head_of-q.ensures c.past.ensures
 
 pub undo-requires : goal.undo-requires
-undo-requires c = record { stored = pair-stored c.requires c.head_of-p.ensures c.head_of-q.ensures c.past-stop.ensures c.join_inputs-u.ensures; mark_le_n = omega arith }
+undo-requires c = record { stored = pair-stored c.requires c.head_of-p.ensures c.head_of-q.ensures c.past.ensures c.join_inputs-u.ensures; mark_le_n = omega arith }
 
 pub returns : goal.returns
-returns c = λ w. pair-overlaps w c.head_of-p.ensures c.head_of-q.ensures c.past-stop.ensures c.join_inputs-u.ensures c.undo.ensures
+returns c = λ w. pair-overlaps w c.head_of-p.ensures c.head_of-q.ensures c.past.ensures c.join_inputs-u.ensures c.undo.ensures

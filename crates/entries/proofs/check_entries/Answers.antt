@@ -5,5 +5,5 @@ use Rattle.entries.proofs.check_entries.Goals as goal
 pub returns : goal.returns
 unfolding verdict_with
 returns c =
-    let found = c.check_listing-found.ensures in
-    (found.is, c.fill.ensures ∙ found.fills c.args.entries.now refl)
+    let found = c.check_listing.ensures in
+    (c.fill.ensures.0 ∙ found.is, c.fill.ensures.1 ∙ found.fills c.args.entries.now refl)

@@ -5,5 +5,5 @@ use Rattle.entries.proofs.read_entries.Goals as goal
 pub returns : goal.returns
 unfolding read_verdict
 returns c =
-    let found = c.read_listing-found.ensures in
-    (found.is, c.fill.ensures ∙ found.fills c.args.entries.now refl)
+    let found = c.read_listing.ensures in
+    (c.fill.ensures.0 ∙ found.is, c.fill.ensures.1 ∙ found.fills c.args.entries.now refl)

@@ -10,4 +10,4 @@ use Rattle.linker.proofs.put_clauses.Given as goal
 
 abbrev pub invariant-loop-k : goal.invariant-loop-k
 invariant-loop-k l =
-    (ss : List Symbol) (sh : Sheet) (cls : List Clause) → ClausesTo ss sh cls l.table 0 l.nodes l.q l.clauses l.initial.code 1 clause_bodies → ClausesAhead ss sh (put_clauses ss sh l.q cls l.initial.code 1 clause_bodies) l.table l.at l.nodes l.node l.clauses l.code l.k l.to
+    (ss : List Symbol) (sh : Sheet) (cls : List Clause) → ClausesTo ss sh cls l.table 0 l.heads.nodes.now l.q l.heads.clauses l.initial.code 1 clause_bodies → ClausesAhead ss sh (put_clauses ss sh l.q cls l.initial.code 1 clause_bodies) l.table l.read l.heads.nodes.now l.node l.heads.clauses l.code l.k l.literal

@@ -1,5 +1,4 @@
-use Prim.Native.Nat.{◌-◌}
-use Rattle.linker.proofs.Sheets.{clause-ends, heads-begin, heads-clause, heads-room, heads-size, heads-next, heads-end}
+use Rattle.linker.proofs.Sheets.{heads-begin, heads-clause, heads-room, heads-size, heads-next, heads-end}
 use native.Mathlib.Omega.{arith}
 use Rattle.linker.proofs.put_heads.Goals as goal
 
@@ -15,17 +14,14 @@ put-requires c = ((heads-room c.args.table.now c.loop-k.at c.loop-k.node c.args.
 pub clause_nodes-node-requires : goal.clause_nodes-node-requires
 clause_nodes-node-requires c = heads-clause c.args.table.now c.loop-k.at c.loop-k.node c.args.clauses c.loop-k.code c.loop-k.k (omega arith) c.requires.0 _ (c.loop-k.invariant c.requires.0 c.requires.1.0 c.requires.1.1)
 
-pub word_at-at-requires : goal.word_at-at-requires
-word_at-at-requires c = (clause-ends c.args.table.now c.loop-k.at (heads-clause c.args.table.now c.loop-k.at c.loop-k.node c.args.clauses c.loop-k.code c.loop-k.k (omega arith) c.requires.0 _ (c.loop-k.invariant c.requires.0 c.requires.1.0 c.requires.1.1)).0 (heads-clause c.args.table.now c.loop-k.at c.loop-k.node c.args.clauses c.loop-k.code c.loop-k.k (omega arith) c.requires.0 _ (c.loop-k.invariant c.requires.0 c.requires.1.0 c.requires.1.1)).1).0
-
-pub overflow_add-at : goal.overflow_add-at
-overflow_add-at c = omega (arith, c.word_at-at.ensures, (clause-ends c.args.table.now c.loop-k.at (heads-clause c.args.table.now c.loop-k.at c.loop-k.node c.args.clauses c.loop-k.code c.loop-k.k (omega arith) c.requires.0 _ (c.loop-k.invariant c.requires.0 c.requires.1.0 c.requires.1.1)).0 (heads-clause c.args.table.now c.loop-k.at c.loop-k.node c.args.clauses c.loop-k.code c.loop-k.k (omega arith) c.requires.0 _ (c.loop-k.invariant c.requires.0 c.requires.1.0 c.requires.1.1)).1).1)
+pub past_clause-at-requires : goal.past_clause-at-requires
+past_clause-at-requires c = heads-clause c.args.table.now c.loop-k.at c.loop-k.node c.args.clauses c.loop-k.code c.loop-k.k (omega arith) c.requires.0 _ (c.loop-k.invariant c.requires.0 c.requires.1.0 c.requires.1.1)
 
 pub overflow_add-node : goal.overflow_add-node
 overflow_add-node c = omega (arith, heads-size c.args.table.now c.loop-k.at c.loop-k.node c.args.clauses c.loop-k.code c.loop-k.k (omega arith) c.clause_nodes-node.result c.clause_nodes-node.ensures c.requires.0 _ (c.loop-k.invariant c.requires.0 c.requires.1.0 c.requires.1.1))
 
 pub loop-k-preserved : goal.loop-k-preserved
-loop-k-preserved c = λ ss cls w. heads-next c.args.table.now c.loop-k.at c.loop-k.node c.args.clauses c.loop-k.code c.loop-k.k (omega arith) c.clause_nodes-node.result c.clause_nodes-node.ensures _ c.put.ensures c.word_at-at.result c.word_at-at.ensures ss _ (c.loop-k.invariant ss cls w)
+loop-k-preserved c = λ ss cls w. heads-next c.args.table.now c.loop-k.at c.loop-k.node c.args.clauses c.loop-k.code c.loop-k.k (omega arith) c.clause_nodes-node.result c.clause_nodes-node.ensures _ c.put.ensures c.past_clause-at.result c.past_clause-at.ensures ss _ (c.loop-k.invariant ss cls w)
 
 pub returns : goal.returns
 returns c = λ ss cls w. heads-end ss _ c.args.table.now c.loop-k.at c.loop-k.node c.args.clauses c.loop-k.code c.loop-k.k (omega arith) (c.loop-k.invariant ss cls w)
@@ -33,4 +29,4 @@ returns c = λ ss cls w. heads-end ss _ c.args.table.now c.loop-k.at c.loop-k.no
 -- behind the last clause
 pub returns-2 : goal.returns-2
 returns-2 c = λ ss cls w. heads-end ss _ _ _ _ _ _ _ (omega arith)
-    (heads-next c.args.table.now c.loop-k.at c.loop-k.node c.args.clauses c.loop-k.code c.loop-k.k (omega arith) c.clause_nodes-node.result c.clause_nodes-node.ensures _ c.put.ensures c.word_at-at.result c.word_at-at.ensures ss _ (c.loop-k.invariant ss cls w))
+    (heads-next c.args.table.now c.loop-k.at c.loop-k.node c.args.clauses c.loop-k.code c.loop-k.k (omega arith) c.clause_nodes-node.result c.clause_nodes-node.ensures _ c.put.ensures c.past_clause-at.result c.past_clause-at.ensures ss _ (c.loop-k.invariant ss cls w))

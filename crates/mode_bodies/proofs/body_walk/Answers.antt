@@ -6,7 +6,7 @@ use Rattle.mode_literals.specs.Answers.{walk_by}
 use Rattle.mode_bodies.proofs.body_walk.Goals as goal
 
 pub literals_walk-requires : goal.literals_walk-requires
-literals_walk-requires c = record { declarations_at = c.requires.declarations_at; body_at = c.requires.body_at; literal_bound = omega arith }
+literals_walk-requires c = record { body_at = c.requires; literal_bound = omega arith }
 
 pub returns-in_err-walked : goal.returns-in_err-walked
 returns-in_err-walked c = let p = err_from_is_err_and c.from_residual.result c.from_residual.ensures.1 in

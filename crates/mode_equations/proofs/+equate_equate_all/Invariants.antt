@@ -4,7 +4,7 @@ use lib.ListN.{get_or}
 use Rattle.mode_equations.proofs.+equate_equate_all.Given as goal
 
 abbrev pub decreases-equate : goal.decreases-equate
-decreases-equate l = 2 * get_or l.table.now (l.p + 1) 0
+decreases-equate l = 2 * get_or l.read.table.now (l.p + 1) 0
 
 abbrev pub decreases-equate_all : goal.decreases-equate_all
 decreases-equate_all l = 2 * (l.stop - l.p) + 1

@@ -8,7 +8,7 @@ use Rattle.mode_equations.proofs.go_over.Given as goal
 
 abbrev pub invariant-loop-after : goal.invariant-loop-after
 invariant-loop-after l =
-    Going l.s l.table l.p l.q l.initial.flags l.flags
+    Going l.read.text.now l.read.table.now l.p l.q l.initial.flags l.flags
 
 abbrev pub decreases-loop-after : goal.decreases-loop-after
 decreases-loop-after l =

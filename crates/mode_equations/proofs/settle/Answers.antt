@@ -10,7 +10,7 @@ use borrow.Author.Rules.{rules}
 use Rattle.mode_equations.proofs.settle.Goals as goal
 
 pub word_at-requires : goal.word_at-requires
-word_at-requires c = omega (arith, room-three c.args.table.now c.args.p (left_at c.requires))
+word_at-requires c = omega (arith, room-three c.args.read.table.now c.args.p (left_at c.requires))
 
 pub equate_variable-requires : goal.equate_variable-requires
 equate_variable-requires c = record { term_at = left_at c.requires; term_at_2 = right-at c.requires }
@@ -20,7 +20,7 @@ returns-then-word_at-lt-FIRST_NAME c = let wide : length c.args.known ≡ variab
     settled-left c.args.known wide c.word_at.result c.equate_variable.ensures c.word_at.ensures c.if-word_at-lt-FIRST_NAME.true
 
 pub word_at-requires-2 : goal.word_at-requires-2
-word_at-requires-2 c = omega (arith, room-three c.args.table.now c.args.q (right-at c.requires))
+word_at-requires-2 c = omega (arith, room-three c.args.read.table.now c.args.q (right-at c.requires))
 
 pub equate_variable-requires-then-word_at-lt-FIRST_NAME-2 : goal.equate_variable-requires-then-word_at-lt-FIRST_NAME-2
 equate_variable-requires-then-word_at-lt-FIRST_NAME-2 c = record { term_at = left_at c.requires; term_at_2 = right-at c.requires }

@@ -1,44 +1,33 @@
 -- `mode_repeats::is_repeat` meets its contract: each way out is a law of `Laws`. Assumes nothing.
-use native.Mathlib.Omega.{arith}
-use mathlib.Core.Path.{sym, ◌∙◌}
-use Rattle.mode_repeats.proofs.Laws.{earlier-at, place_in, name-inside, repeat-earlier, repeat-marked, repeat-true, repeat-fail}
+use mathlib.Core.Path.{sym, ap, ◌∙◌}
+use borrow.Author.Tests.{ne_eqb}
+use Rattle.mode_marks.specs.declared.marks.Name.{Name}
+use Rattle.mode_repeats.proofs.Laws.{earlier-at, name-inside, repeat-earlier, repeat-marked, repeat-true, repeat-fail}
 use Rattle.mode_repeats.proofs.is_repeat.Goals as goal
 
-pub overflow_mul-p : goal.overflow_mul-p
-overflow_mul-p c = omega (arith, place_in c.args.declarations.text.now c.args.declarations.words.now c.args.declarations.count c.requires.declarations_at c.args.i c.requires.i_lt_n, c.well_formed.1.0)
+pub name_of-name-requires : goal.name_of-name-requires
+name_of-name-requires c = c.requires
 
-pub word_at-at-requires : goal.word_at-at-requires
-word_at-at-requires c = omega (arith, place_in c.args.declarations.text.now c.args.declarations.words.now c.args.declarations.count c.requires.declarations_at c.args.i c.requires.i_lt_n)
+pub bytes-bytes-requires : goal.bytes-bytes-requires
+bytes-bytes-requires c = name-inside c.args.declarations.text.now c.args.declarations.words.now c.args.declarations.count c.args.declarations.stands c.args.i c.requires c.name_of-name.result.at c.name_of-name.result.len c.name_of-name.result.arguments (ap (λ (n : Name). n.at) c.name_of-name.ensures) (ap (λ (n : Name). n.len) c.name_of-name.ensures) (ap (λ (n : Name). n.arguments) c.name_of-name.ensures)
 
-pub overflow_add-p : goal.overflow_add-p
-overflow_add-p c = omega (arith, place_in c.args.declarations.text.now c.args.declarations.words.now c.args.declarations.count c.requires.declarations_at c.args.i c.requires.i_lt_n, c.well_formed.1.0)
-
-pub word_at-len-requires : goal.word_at-len-requires
-word_at-len-requires c = omega (arith, place_in c.args.declarations.text.now c.args.declarations.words.now c.args.declarations.count c.requires.declarations_at c.args.i c.requires.i_lt_n)
-
-pub overflow_add-p-2 : goal.overflow_add-p-2
-overflow_add-p-2 c = omega (arith, place_in c.args.declarations.text.now c.args.declarations.words.now c.args.declarations.count c.requires.declarations_at c.args.i c.requires.i_lt_n, c.well_formed.1.0)
-
-pub word_at-marks-requires : goal.word_at-marks-requires
-word_at-marks-requires c = omega (arith, place_in c.args.declarations.text.now c.args.declarations.words.now c.args.declarations.count c.requires.declarations_at c.args.i c.requires.i_lt_n)
-
-pub find-requires : goal.find-requires
-find-requires c = record { declarations_at = earlier-at c.args.declarations.text.now c.args.declarations.words.now c.args.declarations.count c.requires.declarations_at c.args.i c.requires.i_lt_n; len_in_bounds = name-inside c.args.declarations.text.now c.args.declarations.words.now c.args.declarations.count c.requires.declarations_at c.args.i c.requires.i_lt_n c.word_at-at.result c.word_at-len.result c.word_at-marks.result c.word_at-at.ensures c.word_at-len.ensures c.word_at-marks.ensures }
+pub invariant_of-earlier : goal.invariant_of-earlier
+invariant_of-earlier c = record { stands = earlier-at c.args.declarations.text.now c.args.declarations.words.now c.args.declarations.count c.args.declarations.stands c.args.i c.requires }
 
 pub returns-then-is_some : goal.returns-then-is_some
-returns-then-is_some c = λ w. repeat-earlier c.args.declarations.text.now c.args.declarations.words.now c.args.declarations.count w c.args.i c.requires.i_lt_n c.word_at-at.result c.word_at-len.result c.word_at-marks.result c.word_at-at.ensures c.word_at-len.ensures c.word_at-marks.ensures c.find.result c.find.ensures (sym c.is_some.ensures ∙ c.if-is_some.true)
+returns-then-is_some c = λ w. c.if-is_some.true ∙ repeat-earlier c.args.declarations.text.now c.args.declarations.words.now c.args.declarations.count w c.args.i c.requires c.name_of-name.result.at c.name_of-name.result.len c.name_of-name.result.arguments (ap (λ (n : Name). n.at) c.name_of-name.ensures) (ap (λ (n : Name). n.len) c.name_of-name.ensures) (ap (λ (n : Name). n.arguments) c.name_of-name.ensures) c.bytes-bytes.result.now c.bytes-bytes.ensures c.find.result c.find.ensures (sym c.is_some.ensures ∙ c.if-is_some.true)
 
-pub returns-then-marks-ne0 : goal.returns-then-marks-ne0
-returns-then-marks-ne0 c = λ w. repeat-marked c.args.declarations.text.now c.args.declarations.words.now c.args.declarations.count w c.args.i c.requires.i_lt_n c.word_at-at.result c.word_at-len.result c.word_at-marks.result c.word_at-at.ensures c.word_at-len.ensures c.word_at-marks.ensures c.find.result c.find.ensures (sym c.is_some.ensures ∙ c.if-is_some.false) c.if-marks-ne0.true
+pub returns-else-name-eq0 : goal.returns-else-name-eq0
+returns-else-name-eq0 c = λ w. ne_eqb _ _ c.if-name-eq0.false ∙ repeat-marked c.args.declarations.text.now c.args.declarations.words.now c.args.declarations.count w c.args.i c.requires c.name_of-name.result.at c.name_of-name.result.len c.name_of-name.result.arguments (ap (λ (n : Name). n.at) c.name_of-name.ensures) (ap (λ (n : Name). n.len) c.name_of-name.ensures) (ap (λ (n : Name). n.arguments) c.name_of-name.ensures) c.bytes-bytes.result.now c.bytes-bytes.ensures c.find.result c.find.ensures (sym c.is_some.ensures ∙ c.if-is_some.false) c.if-name-eq0.false
 
 pub is_true-requires : goal.is_true-requires
-is_true-requires c = name-inside c.args.declarations.text.now c.args.declarations.words.now c.args.declarations.count c.requires.declarations_at c.args.i c.requires.i_lt_n c.word_at-at.result c.word_at-len.result c.word_at-marks.result c.word_at-at.ensures c.word_at-len.ensures c.word_at-marks.ensures
+is_true-requires c = name-inside c.args.declarations.text.now c.args.declarations.words.now c.args.declarations.count c.args.declarations.stands c.args.i c.requires c.name_of-name.result.at c.name_of-name.result.len c.name_of-name.result.arguments (ap (λ (n : Name). n.at) c.name_of-name.ensures) (ap (λ (n : Name). n.len) c.name_of-name.ensures) (ap (λ (n : Name). n.arguments) c.name_of-name.ensures)
 
 pub returns-then-is_true : goal.returns-then-is_true
-returns-then-is_true c = λ w. repeat-true c.args.declarations.text.now c.args.declarations.words.now c.args.declarations.count w c.args.i c.requires.i_lt_n c.word_at-at.result c.word_at-len.result c.word_at-marks.result c.word_at-at.ensures c.word_at-len.ensures c.word_at-marks.ensures c.find.result c.find.ensures (sym c.is_some.ensures ∙ c.if-is_some.false) c.if-marks-ne0.false c.is_true.result c.is_true.ensures c.if-is_true.true
+returns-then-is_true c = λ w. c.if-is_true.true ∙ repeat-true c.args.declarations.text.now c.args.declarations.words.now c.args.declarations.count w c.args.i c.requires c.name_of-name.result.at c.name_of-name.result.len c.name_of-name.result.arguments (ap (λ (n : Name). n.at) c.name_of-name.ensures) (ap (λ (n : Name). n.len) c.name_of-name.ensures) (ap (λ (n : Name). n.arguments) c.name_of-name.ensures) c.bytes-bytes.result.now c.bytes-bytes.ensures c.find.result c.find.ensures (sym c.is_some.ensures ∙ c.if-is_some.false) c.if-name-eq0.true c.is_true.result c.is_true.ensures c.if-is_true.true
 
 pub is_fail-requires : goal.is_fail-requires
-is_fail-requires c = name-inside c.args.declarations.text.now c.args.declarations.words.now c.args.declarations.count c.requires.declarations_at c.args.i c.requires.i_lt_n c.word_at-at.result c.word_at-len.result c.word_at-marks.result c.word_at-at.ensures c.word_at-len.ensures c.word_at-marks.ensures
+is_fail-requires c = name-inside c.args.declarations.text.now c.args.declarations.words.now c.args.declarations.count c.args.declarations.stands c.args.i c.requires c.name_of-name.result.at c.name_of-name.result.len c.name_of-name.result.arguments (ap (λ (n : Name). n.at) c.name_of-name.ensures) (ap (λ (n : Name). n.len) c.name_of-name.ensures) (ap (λ (n : Name). n.arguments) c.name_of-name.ensures)
 
-pub returns : goal.returns
-returns c = λ w. repeat-fail c.args.declarations.text.now c.args.declarations.words.now c.args.declarations.count w c.args.i c.requires.i_lt_n c.word_at-at.result c.word_at-len.result c.word_at-marks.result c.word_at-at.ensures c.word_at-len.ensures c.word_at-marks.ensures c.find.result c.find.ensures (sym c.is_some.ensures ∙ c.if-is_some.false) c.if-marks-ne0.false c.is_true.result c.is_true.ensures c.if-is_true.false c.is_fail.result c.is_fail.ensures
+pub returns-else-is_true : goal.returns-else-is_true
+returns-else-is_true c = λ w. repeat-fail c.args.declarations.text.now c.args.declarations.words.now c.args.declarations.count w c.args.i c.requires c.name_of-name.result.at c.name_of-name.result.len c.name_of-name.result.arguments (ap (λ (n : Name). n.at) c.name_of-name.ensures) (ap (λ (n : Name). n.len) c.name_of-name.ensures) (ap (λ (n : Name). n.arguments) c.name_of-name.ensures) c.bytes-bytes.result.now c.bytes-bytes.ensures c.find.result c.find.ensures (sym c.is_some.ensures ∙ c.if-is_some.false) c.if-name-eq0.true c.is_true.result c.is_true.ensures c.if-is_true.false c.is_fail.result c.is_fail.ensures

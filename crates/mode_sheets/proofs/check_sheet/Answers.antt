@@ -1,11 +1,11 @@
 -- `mode_sheets::check_sheet` meets its contract: each way out is a law of `Laws`. Assumes nothing.
 use Rattle.std.proofs.lemmas.Result.{err_from_is_err_and}
-use Rattle.mode_clauses.proofs.Sheets.{sheet-declarations, sheet-clauses}
+use Rattle.mode_clauses.proofs.Sheets.{sheet-clauses}
 use Rattle.mode_sheets.proofs.Laws.{undeclared-first, unwritten-next, marks-last}
 use Rattle.mode_sheets.proofs.check_sheet.Goals as goal
 
 pub undeclared_clauses-requires : goal.undeclared_clauses-requires
-undeclared_clauses-requires c = let w = c.requires in record { declarations_at = sheet-declarations w.stands; clauses_at = sheet-clauses w.stands }
+undeclared_clauses-requires c = let w = c.requires in sheet-clauses w.stands
 
 pub returns-in_err-undeclared_clauses : goal.returns-in_err-undeclared_clauses
 returns-in_err-undeclared_clauses c = let p = err_from_is_err_and c.from_residual.result c.from_residual.ensures.1 in
@@ -19,7 +19,7 @@ returns-in_err-unwritten_fault c = let p = err_from_is_err_and c.from_residual-i
 
 pub clauses_fault-requires : goal.clauses_fault-requires
 clauses_fault-requires c = let w = c.requires in
-    record { declarations_at = sheet-declarations w.stands; clauses_at = sheet-clauses w.stands }
+    sheet-clauses w.stands
 
 pub returns : goal.returns
 returns c = marks-last c.args.stored c.undeclared_clauses.ensures c.in_ok-undeclared_clauses.was

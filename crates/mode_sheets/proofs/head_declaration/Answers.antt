@@ -5,19 +5,16 @@ use Rattle.mode_sheets.proofs.Laws.{near-found}
 use Rattle.mode_sheets.proofs.head_declaration.Goals as goal
 
 pub name_at-name-requires : goal.name_at-name-requires
-name_at-name-requires c = atom-name c.requires.atom_at
+name_at-name-requires c = atom-name c.requires
 
-pub declares-requires : goal.declares-requires
-declares-requires c = record { declarations_at = c.requires.declarations_at; len_in_bounds = atom-inside c.args.declarations.text.now c.args.table.now c.args.p c.name_at-name.result c.name_at-name.ensures c.requires.atom_at }
+pub bytes-bytes-requires : goal.bytes-bytes-requires
+bytes-bytes-requires c = atom-inside c.args.declarations.text.now c.args.table.now c.args.p c.name_at-name.result c.name_at-name.ensures c.requires
 
 pub returns-then-declares : goal.returns-then-declares
 returns-then-declares c = near-found c.args.declarations.text.now c.args.table.now c.args.p c.name_at-name.result c.name_at-name.ensures
-    c.args.declarations.words.now c.args.declarations.count c.args.near (c.declares.ensures c.if-declares.true)
-
-pub find-requires : goal.find-requires
-find-requires c = record { declarations_at = c.requires.declarations_at; len_in_bounds = atom-inside c.args.declarations.text.now c.args.table.now c.args.p c.name_at-name.result c.name_at-name.ensures c.requires.atom_at }
+    c.args.declarations.words.now c.args.declarations.count c.args.near c.bytes-bytes.result.now c.bytes-bytes.ensures (c.declares.ensures c.if-declares.true)
 
 pub returns : goal.returns
 returns c = λ d w once. search-finds d.list once w.atom c.find.result
     (atom-found c.args.declarations.text.now c.args.table.now c.args.p c.name_at-name.result c.name_at-name.ensures
-    c.args.declarations.text.now c.args.declarations.words.now c.args.declarations.count c.find.result c.find.ensures d w)
+    c.args.declarations.text.now c.args.declarations.words.now c.args.declarations.count c.bytes-bytes.result.now c.bytes-bytes.ensures c.find.result c.find.ensures d w)

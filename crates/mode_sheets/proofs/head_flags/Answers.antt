@@ -19,8 +19,8 @@ loop-clause-init c = (omega arith, λ w. begun 64 w.stands)
 pub overflow_add-head : goal.overflow_add-head
 overflow_add-head c = omega (arith, clause-room (here c.loop-clause-test.true (c.loop-clause.invariant.1 c.requires)).clause)
 
-pub head_declaration-requires-clause-atom_at : goal.head_declaration-requires-clause-atom_at
-head_declaration-requires-clause-atom_at c = head-at (here c.loop-clause-test.true (c.loop-clause.invariant.1 c.requires)).clause
+pub head_declaration-requires : goal.head_declaration-requires
+head_declaration-requires c = head-at (here c.loop-clause-test.true (c.loop-clause.invariant.1 c.requires)).clause
 
 pub bounds-flags-found : goal.bounds-flags-found
 bounds-flags-found c = let w = c.requires in

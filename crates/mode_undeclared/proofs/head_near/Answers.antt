@@ -4,10 +4,10 @@ use Rattle.mode_undeclared.proofs.Clauses.{clause-room, head-at}
 use Rattle.mode_undeclared.proofs.head_near.Goals as goal
 
 pub overflow_add-head : goal.overflow_add-head
-overflow_add-head c = omega (arith, clause-room c.requires.clause_at)
+overflow_add-head c = omega (arith, clause-room c.requires)
 
 pub is_near-requires : goal.is_near-requires
-is_near-requires c = record { declarations_at = c.requires.declarations_at; atom_at = head-at c.requires.clause_at }
+is_near-requires c = head-at c.requires
 
 pub find_atom-requires : goal.find_atom-requires
-find_atom-requires c = record { declarations_at = c.requires.declarations_at; atom_at = head-at c.requires.clause_at }
+find_atom-requires c = head-at c.requires

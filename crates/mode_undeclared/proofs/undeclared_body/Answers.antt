@@ -6,8 +6,8 @@ use Rattle.mode_undeclared.proofs.undeclared_body.Goals as goal
 pub loop-item-init : goal.loop-item-init
 loop-item-init c = (omega arith, λ d w. left-whole w)
 
-pub undeclared_item-requires-clause-item_at : goal.undeclared_item-requires-clause-item_at
-undeclared_item-requires-clause-item_at c = (first c.loop-item-test.true (c.loop-item.invariant.1 c.requires.declarations_at c.requires.body_at)).item
+pub undeclared_item-requires : goal.undeclared_item-requires
+undeclared_item-requires c = (first c.loop-item-test.true (c.loop-item.invariant.1 c.args.check.declarations.stands c.requires)).item
 
 pub returns-in_err-undeclared_item : goal.returns-in_err-undeclared_item
 returns-in_err-undeclared_item c = let p = err_from_is_err_and c.from_residual.result c.from_residual.ensures.1 in
@@ -15,17 +15,17 @@ returns-in_err-undeclared_item c = let p = err_from_is_err_and c.from_residual.r
     (λ d w. left-stops c.loop-item-test.true (c.loop-item.invariant.1 d w) (c.undeclared_item.ensures d) (c.in_err-undeclared_item.was))
 
 pub literals_at-literal-requires : goal.literals_at-literal-requires
-literals_at-literal-requires c = item-words (first c.loop-item-test.true (c.loop-item.invariant.1 c.requires.declarations_at c.requires.body_at)).item
+literals_at-literal-requires c = item-words (first c.loop-item-test.true (c.loop-item.invariant.1 c.args.check.declarations.stands c.requires)).item
 
 pub overflow_add-literal : goal.overflow_add-literal
-overflow_add-literal c = omega (arith, left-fits c.loop-item-test.true (c.loop-item.invariant.1 c.requires.declarations_at c.requires.body_at) c.literals_at-literal.ensures c.loop-item.invariant.0)
+overflow_add-literal c = omega (arith, left-fits c.loop-item-test.true (c.loop-item.invariant.1 c.args.check.declarations.stands c.requires) c.literals_at-literal.ensures c.loop-item.invariant.0)
 
 pub past_item-at-requires : goal.past_item-at-requires
-past_item-at-requires c = item-words (first c.loop-item-test.true (c.loop-item.invariant.1 c.requires.declarations_at c.requires.body_at)).item
+past_item-at-requires c = item-words (first c.loop-item-test.true (c.loop-item.invariant.1 c.args.check.declarations.stands c.requires)).item
 
 pub loop-item-preserved : goal.loop-item-preserved
 loop-item-preserved c = (
-  left-rises c.loop-item-test.true (c.loop-item.invariant.1 c.requires.declarations_at c.requires.body_at) (c.undeclared_item.ensures c.requires.declarations_at) c.literals_at-literal.ensures c.past_item-at.ensures c.loop-item.invariant.0,
+  left-rises c.loop-item-test.true (c.loop-item.invariant.1 c.args.check.declarations.stands c.requires) (c.undeclared_item.ensures c.args.check.declarations.stands) c.literals_at-literal.ensures c.past_item-at.ensures c.loop-item.invariant.0,
   λ d w. left-on c.loop-item-test.true (c.loop-item.invariant.1 d w) (c.undeclared_item.ensures d) (c.in_ok-undeclared_item.was) c.literals_at-literal.ensures c.past_item-at.ensures,
 )
 

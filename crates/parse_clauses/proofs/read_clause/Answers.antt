@@ -14,11 +14,11 @@ returns-in_err-r c =
 pub overflow_sub-r : goal.overflow_sub-r
 overflow_sub-r c = (fact-asked c.args.s.now c.args.st c.fresh-begin.result c.args.table.now c.args.n c.requires.room_to_read c.requires.kind_value c.fresh-begin.ensures c.read_atom.new.table _ c.read_atom.auto.table c.in_ok-r.ensures).0
 
-pub put_node-requires : goal.put_node-requires
-put_node-requires c = (fact-asked c.args.s.now c.args.st c.fresh-begin.result c.args.table.now c.args.n c.requires.room_to_read c.requires.kind_value c.fresh-begin.ensures c.read_atom.new.table _ c.read_atom.auto.table c.in_ok-r.ensures).1
+pub put_three-requires : goal.put_three-requires
+put_three-requires c = (fact-asked c.args.s.now c.args.st c.fresh-begin.result c.args.table.now c.args.n c.requires.room_to_read c.requires.kind_value c.fresh-begin.ensures c.read_atom.new.table _ c.read_atom.auto.table c.in_ok-r.ensures).1
 
 pub returns-in-Stop : goal.returns-in-Stop
-returns-in-Stop c = clause-fact c.args.s.now c.args.st c.fresh-begin.result c.args.table.now c.args.n c.requires.room_to_read c.requires.kind_value c.fresh-begin.ensures c.read_atom.new.table _ c.read_atom.auto.table c.in_ok-r.ensures c.next-past.result c.put_node.new.table c.in-Stop.is c.next-past.ensures c.put_node.ensures
+returns-in-Stop c = clause-fact c.args.s.now c.args.st c.fresh-begin.result c.args.table.now c.args.n c.requires.room_to_read c.requires.kind_value c.fresh-begin.ensures c.read_atom.new.table _ c.read_atom.auto.table c.in_ok-r.ensures c.next-past.result c.put_three.new.table c.in-Stop.is c.next-past.ensures c.put_three.ensures
 
 pub read_rule-requires : goal.read_rule-requires
 read_rule-requires c = let both = rule-asked c.args.s.now c.args.st c.fresh-begin.result c.args.table.now c.args.n c.requires.room_to_read c.requires.kind_value c.fresh-begin.ensures c.read_atom.new.table _ c.read_atom.auto.table c.in_ok-r.ensures c.in-Neck.is in record { room_to_read = both.0; clause_start_bound = both.1 }

@@ -16,8 +16,8 @@ returns-in_err-r c =
 pub overflow_sub-r : goal.overflow_sub-r
 overflow_sub-r c = (ruled-asked c.args.s.now c.args.st c.next-past.result c.args.table.now c.read_whole.new.table c.args.n c.args.used c.requires.room_to_read c.requires.clause_start_bound c.next-past.ensures c.read_whole.auto.table _ c.in_ok-r.ensures).0
 
-pub put_node-requires : goal.put_node-requires
-put_node-requires c = (ruled-asked c.args.s.now c.args.st c.next-past.result c.args.table.now c.read_whole.new.table c.args.n c.args.used c.requires.room_to_read c.requires.clause_start_bound c.next-past.ensures c.read_whole.auto.table _ c.in_ok-r.ensures).1
+pub put_three-requires : goal.put_three-requires
+put_three-requires c = (ruled-asked c.args.s.now c.args.st c.next-past.result c.args.table.now c.read_whole.new.table c.args.n c.args.used c.requires.room_to_read c.requires.clause_start_bound c.next-past.ensures c.read_whole.auto.table _ c.in_ok-r.ensures).1
 
 pub returns : goal.returns
-returns c = ruled-stored c.args.s.now c.args.st c.next-past.result c.args.table.now c.read_whole.new.table c.args.n c.args.used c.requires.room_to_read c.requires.clause_start_bound c.next-past.ensures c.read_whole.auto.table _ c.in_ok-r.ensures c.put_node.new.table c.put_node.ensures
+returns c = ruled-stored c.args.s.now c.args.st c.next-past.result c.args.table.now c.read_whole.new.table c.args.n c.args.used c.requires.room_to_read c.requires.clause_start_bound c.next-past.ensures c.read_whole.auto.table _ c.in_ok-r.ensures c.put_three.new.table c.put_three.ensures

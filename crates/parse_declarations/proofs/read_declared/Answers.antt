@@ -19,11 +19,11 @@ returns-then-ne-2 c = declared-stop c.args.s.now c.args.st c.args.table.now c.ar
 pub next-end-requires : goal.next-end-requires
 next-end-requires c = declared-standing c.args.s.now c.args.st c.args.table.now c.args.n c.requires.cursor_inside c.next-past.result (kind-not_ne c.if-ne.ensures) c.next-past.ensures _ c.in_ok-r.ensures
 
-pub put_node-requires : goal.put_node-requires
-put_node-requires c = (declared-asked c.args.s.now c.args.st c.args.table.now c.args.n c.requires.cursor_inside c.next-past.result (kind-not_ne c.if-ne.ensures) c.next-past.ensures _ c.in_ok-r.ensures c.requires.declaration_size_in_bounds).0
+pub put_three-requires : goal.put_three-requires
+put_three-requires c = (declared-asked c.args.s.now c.args.st c.args.table.now c.args.n c.requires.cursor_inside c.next-past.result (kind-not_ne c.if-ne.ensures) c.next-past.ensures _ c.in_ok-r.ensures c.requires.declaration_size_in_bounds).0
 
 pub put-requires : goal.put-requires
-put-requires c = (omega (arith, c.put_node.auto.table, c.requires.declaration_size_in_bounds), (declared-asked c.args.s.now c.args.st c.args.table.now c.args.n c.requires.cursor_inside c.next-past.result (kind-not_ne c.if-ne.ensures) c.next-past.ensures _ c.in_ok-r.ensures c.requires.declaration_size_in_bounds).1)
+put-requires c = (omega (arith, c.put_three.auto.table, c.requires.declaration_size_in_bounds), (declared-asked c.args.s.now c.args.st c.args.table.now c.args.n c.requires.cursor_inside c.next-past.result (kind-not_ne c.if-ne.ensures) c.next-past.ensures _ c.in_ok-r.ensures c.requires.declaration_size_in_bounds).1)
 
 pub returns : goal.returns
-returns c = declared-end c.args.s.now c.args.st c.args.table.now c.args.n c.requires.cursor_inside c.next-past.result (kind-not_ne c.if-ne.ensures) c.next-past.ensures _ c.in_ok-r.ensures c.next-end.result c.put_node.new.table c.put.new.table c.requires.declaration_size_in_bounds (kind-not_ne c.if-ne-2.ensures) c.next-end.ensures c.put_node.ensures c.put.ensures
+returns c = declared-end c.args.s.now c.args.st c.args.table.now c.args.n c.requires.cursor_inside c.next-past.result (kind-not_ne c.if-ne.ensures) c.next-past.ensures _ c.in_ok-r.ensures c.next-end.result c.put_three.new.table c.put.new.table c.requires.declaration_size_in_bounds (kind-not_ne c.if-ne-2.ensures) c.next-end.ensures c.put_three.ensures c.put.ensures

@@ -1,12 +1,15 @@
 -- `pilvaust::check_goal` meets its contract: each way out is a law of `Checking`. Assumes nothing.
-use Rattle.read_and_check.proofs.Checking.{both-refused, over-at, both-answered}
+use Rattle.read_and_check.proofs.Checking.{both-refused, over-at, over-declarations, both-answered}
 use mathlib.Core.Path.{sym, ◌∙◌}
 use Rattle.std.proofs.lemmas.Result.{err_from_is_err_and}
 use native.Mathlib.Omega.{arith}
 use Rattle.pilvaust.proofs.check_goal.Goals as goal
 
+pub invariant_of-declarations : goal.invariant_of-declarations
+invariant_of-declarations c = record { stands = over-declarations (over-at c.args.sheet.now c.read_checked.new.declared c.read_checked.new.table c.args.goal.now c.read_checked.result c.read_checked.ensures.is c.read_checked.ensures.holds c.in_ok-counts.counts.declarations c.in_ok-counts.counts.clauses c.in_ok-counts.was) }
+
 pub goal_over-requires : goal.goal_over-requires
-goal_over-requires c = record { over = over-at c.args.sheet.now c.read_checked.new.declared c.read_checked.new.table c.args.goal.now c.read_checked.result c.read_checked.ensures.is c.read_checked.ensures.holds c.in_ok-counts.counts.declarations c.in_ok-counts.counts.clauses c.in_ok-counts.was; sheet_words_in_bounds = omega (arith, c.read_checked.auto.table, c.node_room-table.ensures) }
+goal_over-requires c = record { over = over-at c.args.sheet.now c.read_checked.new.declared c.read_checked.new.table c.args.goal.now c.read_checked.result c.read_checked.ensures.is c.read_checked.ensures.holds c.in_ok-counts.counts.declarations c.in_ok-counts.counts.clauses c.in_ok-counts.was; sheet_words_in_bounds = omega (arith, c.read_checked.auto.table) }
 
 pub returns-in_err-counts : goal.returns-in_err-counts
 returns-in_err-counts c = let p = err_from_is_err_and c.from_residual.result c.from_residual.ensures.1 in

@@ -8,15 +8,15 @@ use Rattle.read_and_check.proofs.Entries.{goal-long, goal-faults, goal_accepted}
 use native.Mathlib.Omega.{arith}
 use Rattle.read_and_check.proofs.read_goal_text.Goals as goal
 
-pub returns-then-is_long_goal : goal.returns-then-is_long_goal
-returns-then-is_long_goal c = goal-long c.args.goal.now c.args.table.now c.of_goal.result (ltb-true goal_bytes (length c.args.goal.now) (sym c.is_long_goal.ensures ∙ c.if-is_long_goal.true)) c.of_goal.ensures
+pub returns-then-is_too_long : goal.returns-then-is_too_long
+returns-then-is_too_long c = goal-long c.args.goal.now c.args.table.now c.fault_in.result (ltb-true goal_bytes (length c.args.goal.now) (sym c.is_too_long.ensures ∙ c.if-is_too_long.true)) c.fault_in.ensures
 
 pub read_goal-requires : goal.read_goal-requires
-read_goal-requires c = let short : length c.args.goal.now ≤ goal_bytes = (ltb-false goal_bytes (length c.args.goal.now) (sym c.is_long_goal.ensures ∙ c.if-is_long_goal.false)) in
+read_goal-requires c = let short : length c.args.goal.now ≤ goal_bytes = (ltb-false goal_bytes (length c.args.goal.now) (sym c.is_too_long.ensures ∙ c.if-is_too_long.false)) in
     record { s_len_bound = omega arith; variables_in_bounds = (omega (arith, c.requires.0), c.requires.1) }
 
 pub returns-in-Err : goal.returns-in-Err
-returns-in-Err c = goal-faults c.args.goal.now c.read_goal.new.table (ltb-false goal_bytes (length c.args.goal.now) (sym c.is_long_goal.ensures ∙ c.if-is_long_goal.false)) _ c.in-Err.ensures _ c.of_goal-in-Err.ensures
+returns-in-Err c = goal-faults c.args.goal.now c.read_goal.new.table (ltb-false goal_bytes (length c.args.goal.now) (sym c.is_too_long.ensures ∙ c.if-is_too_long.false)) _ c.in-Err.ensures _ c.fault_in-in-Err.ensures
 
 pub returns-in-Ok : goal.returns-in-Ok
-returns-in-Ok c = goal_accepted c.args.goal.now c.read_goal.new.table (ltb-false goal_bytes (length c.args.goal.now) (sym c.is_long_goal.ensures ∙ c.if-is_long_goal.false)) _ c.in-Ok.ensures (omega (arith, c.read_goal.auto.table, c.requires.0))
+returns-in-Ok c = goal_accepted c.args.goal.now c.read_goal.new.table (ltb-false goal_bytes (length c.args.goal.now) (sym c.is_too_long.ensures ∙ c.if-is_too_long.false)) _ c.in-Ok.ensures (omega (arith, c.read_goal.auto.table, c.requires.0))

@@ -8,20 +8,20 @@ overflow_sub-j c = c.requires.by_index.2.some
 pub overflow_add-l : goal.overflow_add-l
 overflow_add-l c = omega (arith, work-inside c.requires.by_index.2 c.requires.s_value)
 
-pub word_at-right-requires : goal.word_at-right-requires
-word_at-right-requires c = omega (arith, work-inside c.requires.by_index.2 c.requires.s_value)
+pub word_at-requires : goal.word_at-requires
+word_at-requires c = omega (arith, work-inside c.requires.by_index.2 c.requires.s_value)
 
-pub next_literal-left-requires : goal.next_literal-left-requires
-next_literal-left-requires c = omega (arith, work-inside c.requires.by_index.2 c.requires.s_value)
+pub next_literal-requires : goal.next_literal-requires
+next_literal-requires c = omega (arith, work-inside c.requires.by_index.2 c.requires.s_value)
 
 pub lay-requires : goal.lay-requires
-lay-requires c = right-layable c.requires.by_index.2 c.requires.s_value c.requires.h_value c.word_at-right.ensures
+lay-requires c = right-layable c.requires.by_index.2 c.requires.s_value c.requires.h_value c.word_at.ensures
 
 pub lay-requires-2 : goal.lay-requires-2
-lay-requires-2 c = left-layable c.requires.by_index.2 c.requires.s_value c.requires.h_value c.word_at-right.ensures c.lay.ensures c.next_literal-left.ensures
+lay-requires-2 c = left-layable c.requires.by_index.2 c.requires.s_value c.requires.h_value c.word_at.ensures c.lay.ensures c.next_literal.ensures
 
 pub overflow_add-result : goal.overflow_add-result
-overflow_add-result c = omega (arith, (left-layable c.requires.by_index.2 c.requires.s_value c.requires.h_value c.word_at-right.ensures c.lay.ensures c.next_literal-left.ensures).room)
+overflow_add-result c = omega (arith, (left-layable c.requires.by_index.2 c.requires.s_value c.requires.h_value c.word_at.ensures c.lay.ensures c.next_literal.ensures).room)
 
 pub returns : goal.returns
-returns c = λ nodes scratch w. either_end w c.requires.s_value c.requires.h_value c.word_at-right.ensures c.lay.ensures c.next_literal-left.ensures c.lay-2.new.state c.lay-2.ensures
+returns c = λ nodes scratch w. either_end w c.requires.s_value c.requires.h_value c.word_at.ensures c.lay.ensures c.next_literal.ensures c.lay-2.new.state c.lay-2.ensures

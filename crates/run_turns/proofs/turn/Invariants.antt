@@ -4,8 +4,10 @@ use Rattle.run_turns.proofs.turn.Given as goal
 
 abbrev pub invariant-loop-kind : goal.invariant-loop-kind
 invariant-loop-kind l =
-    Going l.loaded l.initial.state l.initial.scratch l.initial.text l.k l.wanted l.initial.h l.initial.n l.initial.answers l.initial.steps l.initial.at l.state l.scratch l.text l.h l.n l.answers l.steps l.at
+    Going l.loaded (record { state = l.initial.state; scratch = l.initial.scratch; text = l.initial.text }) l.fn.carried l.k l.wanted
+    (record { state = l.state; scratch = l.scratch; text = l.text })
+    (record { height = l.pile.height; trail = l.pile.trail; answers = l.answers; steps = l.steps; at = l.at; kind = l.fn.carried.kind })
 
 abbrev pub decreases-loop-kind : goal.decreases-loop-kind
 decreases-loop-kind l =
-    l.initial.steps + l.k - l.steps
+    l.fn.carried.steps + l.k - l.steps

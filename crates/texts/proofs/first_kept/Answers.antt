@@ -1,17 +1,17 @@
-use Rattle.std.proofs.Common.{◌≡◌, ◌+◌, ◌-◌, subst, arith}
-use Rattle.syntax.proofs.Numerals.{Keeps, keeps-all, keeps_fewer, keeps-other, keeps-last}
+use Rattle.std.proofs.Common.{◌≡◌, ◌∙◌, ap, ℕ, ◌+◌, ◌-◌, length, Option, arith}
+use Rattle.std.specs.List.{slice_range}
+use Rattle.std.specs.Option.{unwrap_or}
+use Rattle.syntax.specs.Numerals.{dropped}
+use Rattle.syntax.specs.Tokens.{spelling}
+use Rattle.texts.proofs.Zeros.{kept_at, kept-within}
 use Rattle.texts.proofs.first_kept.Goals as goal
 
-pub loop-p-init : goal.loop-p-init
-loop-p-init c = let e : c.args.len ≡ c.args.at + c.args.len - c.args.at = omega arith in subst (Keeps _ _ _ _) e (keeps-all _ _ _)
+kept : (c : goal.After-unwrap_or) → c.unwrap_or.result ≡ dropped (spelling c.args.s.now c.args.at c.args.len)
+kept c = c.unwrap_or.ensures ∙ ap (λ (o : Option ℕ). unwrap_or o (length (slice_range c.args.s.now c.args.at (c.args.at + c.args.len - 1)))) c.first_other.ensures
+    ∙ kept_at c.args.s.now c.args.at c.args.len c.requires c.if-len-eq0.false
 
-pub returns-then-s-p-ne-ZERO : goal.returns-then-s-p-ne-ZERO
-returns-then-s-p-ne-ZERO c = keeps-other c.requires c.loop-p.invariant (omega arith) c.if-s-p-ne-ZERO.true
-
-pub loop-p-preserved : goal.loop-p-preserved
-loop-p-preserved c =
-    let e : c.args.at + c.args.len - c.loop-p.p - 1 ≡ c.args.at + c.args.len - (c.loop-p.p + 1) = omega arith in
-    subst (Keeps _ _ _ _) e (keeps_fewer c.requires c.loop-p.invariant (omega arith) c.if-s-p-ne-ZERO.false)
+pub overflow_add-result : goal.overflow_add-result
+overflow_add-result c = omega (arith, kept c, kept-within c.args.s.now c.args.at c.args.len c.requires, c.requires)
 
 pub returns : goal.returns
-returns c = omega (arith, keeps-last c.requires c.loop-p.invariant (omega arith))
+returns c = ap (λ (n : ℕ). c.args.at + n) (kept c)

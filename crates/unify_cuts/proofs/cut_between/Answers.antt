@@ -18,4 +18,4 @@ pub put_cut-requires : goal.put_cut-requires
 put_cut-requires c = (c.requires.roomy, (cell_in c.requires.copy (omega (arith, c.word_at-v.ensures, c.requires.left)) c.cell_of-x.ensures, cell_in c.requires.copy_right (omega (arith, c.word_at-w.ensures, c.requires.right)) c.cell_of-y.ensures))
 
 pub returns : goal.returns
-returns c = cutting-at c.args.nodes.now c.args.p c.args.c c.args.q c.args.d c.word_at-v.ensures c.cell_of-x.ensures c.word_at-w.ensures c.cell_of-y.ensures c.put_cut.ensures
+returns c = cutting-at c.args.nodes.now c.args.from.node c.args.from.copy c.args.to.node c.args.to.copy c.word_at-v.ensures c.cell_of-x.ensures c.word_at-w.ensures c.cell_of-y.ensures c.put_cut.ensures

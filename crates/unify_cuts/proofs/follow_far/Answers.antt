@@ -1,11 +1,11 @@
 use Rattle.unify_cuts.proofs.Shortcuts.{far-second, far-done}
 use Rattle.unify_cuts.proofs.follow_far.Goals as goal
 
-pub go_on-left-requires : goal.go_on-left-requires
-go_on-left-requires c = c.requires.left
+pub walk_on-left-requires : goal.walk_on-left-requires
+walk_on-left-requires c = c.requires.left
 
-pub go_on-right-requires : goal.go_on-right-requires
-go_on-right-requires c = far-second c.args.nodes.now c.args.front.now c.args.scratch.now c.args.p c.args.c c.args.q c.args.d c.requires c.go_on-left.ensures
+pub walk_on-right-requires : goal.walk_on-right-requires
+walk_on-right-requires c = far-second c.args.nodes.now c.args.front.now c.args.scratch.now c.args.p.node c.args.p.copy c.args.q.node c.args.q.copy c.requires c.walk_on-left.ensures
 
 pub returns : goal.returns
-returns c = λ g. far-done c.args.nodes.now c.args.front.now c.args.scratch.now c.args.p c.args.c c.args.q c.args.d g c.go_on-left.ensures c.go_on-right.ensures
+returns c = λ g. far-done c.args.nodes.now c.args.front.now c.args.scratch.now c.args.p.node c.args.p.copy c.args.q.node c.args.q.copy g c.walk_on-left.ensures c.walk_on-right.ensures

@@ -3,10 +3,10 @@ use Rattle.unify_cuts.specs.Chains.{Followable}
 use Rattle.unify_cuts.proofs.Shortcuts.{Walking}
 use Rattle.unify_cuts.proofs.walk_on.Given as goal
 
-abbrev pub invariant-loop-s : goal.invariant-loop-s
-invariant-loop-s l =
-    (g : Followable l.nodes l.front l.initial.scratch l.p l.c) → Walking g.from.given.ss l.nodes g.from.state g.from.given.n l.initial.scratch l.scratch l.p l.c l.node l.copy
+abbrev pub invariant-loop-at : goal.invariant-loop-at
+invariant-loop-at l =
+    (g : Followable l.nodes l.front l.initial.scratch l.fn.from.node l.fn.from.copy) → Walking g.from.given.ss l.nodes g.from.state g.from.given.n l.initial.scratch l.scratch l.fn.from.node l.fn.from.copy l.at.node l.at.copy
 
-abbrev pub decreases-loop-s : goal.decreases-loop-s
-decreases-loop-s l =
-    depth l.nodes l.node l.copy
+abbrev pub decreases-loop-at : goal.decreases-loop-at
+decreases-loop-at l =
+    depth l.nodes l.at.node l.at.copy

@@ -3,4 +3,4 @@ use Rattle.unify_cycles.proofs.Guards.{shown-bare}
 use Rattle.unify_cycles.proofs.shows.Goals as goal
 
 pub returns-then-word_at-eq0 : goal.returns-then-word_at-eq0
-returns-then-word_at-eq0 c = λ g. shown-bare (sym c.word_at.ensures ∙ c.if-word_at-eq0.true)
+returns-then-word_at-eq0 c = λ g. shown-bare g (sym c.word_at.ensures ∙ c.if-word_at-eq0.true)

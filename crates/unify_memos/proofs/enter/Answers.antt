@@ -6,6 +6,3 @@ returns-then-m-lt-COUNTED c = begins-remembers c.args.scratch.now _ c.args.left 
 
 pub returns-then-m-ge-CLASS_COUNT : goal.returns-then-m-ge-CLASS_COUNT
 returns-then-m-ge-CLASS_COUNT c = begins-remembers c.args.scratch.now _ c.args.left c.args.right c.begin_anew.ensures
-
-pub returns-then-is_crowded : goal.returns-then-is_crowded
-returns-then-is_crowded c = begins-remembers c.args.scratch.now _ c.args.left c.args.right c.begin_anew-then-is_crowded.ensures

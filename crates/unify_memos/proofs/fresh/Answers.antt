@@ -10,4 +10,4 @@ pub bounds-scratch-269323 : goal.bounds-scratch-269323
 bounds-scratch-269323 c = simp length-set (omega arith)
 
 pub returns : goal.returns
-returns c = fresh-class c.args.scratch.now c.word_at-m.result c.args.term c.requires.0 c.word_at-m.ensures (omega (arith, c.word_at-m.ensures, c.requires.1.0)) (omega (arith, c.word_at-m.ensures, c.requires.1.1.0))
+returns c = fresh-class c.args.scratch.now c.word_at-m.result c.args.term c.requires.0 c.word_at-m.ensures (omega (arith, c.word_at-m.ensures, c.requires.1.0.0)) (omega (arith, c.word_at-m.ensures, c.requires.1.0.1))

@@ -1,17 +1,18 @@
+use Rattle.std.proofs.Common.{arith}
 use Rattle.unify_orders.proofs.Bounds.{word_fits, bound-noted, bound-none, bound-room, bound-new}
 use Rattle.unify_orders.proofs.bound_of.Goals as goal
 
 pub pack-w-requires : goal.pack-w-requires
-pack-w-requires c = word_fits c.args.nodes.now c.args.scratch.now c.args.q c.args.d c.requires
+pack-w-requires c = omega (arith, word_fits c.args.nodes.now c.args.scratch.now c.args.at.node c.args.at.copy c.requires)
 
-pub returns-then-r-m : goal.returns-then-r-m
-returns-then-r-m c = λ g. bound-noted c.args.nodes.now c.args.scratch.now c.args.q c.args.d g c.pack-w.ensures c.word_at-m.ensures c.noted_bound-r.ensures
+pub returns-then-is_some : goal.returns-then-is_some
+returns-then-is_some c = λ g. bound-noted c.args.nodes.now c.args.scratch.now c.args.at.node c.args.at.copy g c.pack-w.ensures c.noted_bound-noted.result c.noted_bound-noted.ensures
 
-pub returns-then-m-s : goal.returns-then-m-s
-returns-then-m-s c = λ g. bound-none c.args.nodes.now c.args.scratch.now c.args.q c.args.d g c.pack-w.ensures c.word_at-m.ensures c.if-m-s.true
+pub returns-in_err-r : goal.returns-in_err-r
+returns-in_err-r c = λ g. rw c.from_residual.ensures (bound-none c.args.nodes.now c.args.scratch.now c.args.at.node c.args.at.copy g c.pack-w.ensures)
 
 pub note_bound-requires : goal.note_bound-requires
-note_bound-requires c = bound-room c.args.nodes.now c.args.scratch.now c.args.q c.args.d c.requires c.pack-w.ensures c.word_at-m.ensures c.if-m-s.false
+note_bound-requires c = bound-room c.args.nodes.now c.args.scratch.now c.args.at.node c.args.at.copy c.requires c.pack-w.ensures c.in_ok-r.ensures
 
 pub returns : goal.returns
-returns c = λ g. bound-new c.args.nodes.now c.args.scratch.now c.args.q c.args.d g c.pack-w.ensures c.word_at-m.ensures c.if-m-s.false c.scan_bound-s.ensures c.note_bound.ensures
+returns c = λ g. bound-new c.args.nodes.now c.args.scratch.now c.args.at.node c.args.at.copy g c.pack-w.ensures c.in_ok-r.ensures c.note_bound.ensures

@@ -1,4 +1,3 @@
-use native.Mathlib.Omega.{arith}
 use Rattle.unify_orders.proofs.Lists.{forgotten, forgotten-reordered}
 use Rattle.unify_orders.proofs.Arranging.{restarted, arrange-begin, arrange-on, arrange-next, arrange-end}
 use Rattle.unify_orders.proofs.order_cells.Goals as goal

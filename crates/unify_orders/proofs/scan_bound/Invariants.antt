@@ -3,10 +3,10 @@ use Rattle.unify_orders.specs.Orders.{Boundable}
 use Rattle.unify_orders.proofs.Bounds.{Scanning}
 use Rattle.unify_orders.proofs.scan_bound.Given as goal
 
-abbrev pub invariant-loop-i : goal.invariant-loop-i
-invariant-loop-i l =
-    (g : Boundable l.nodes l.scratch l.q l.d) → Scanning g.ss l.nodes l.scratch l.q l.e l.d l.r l.i
+abbrev pub invariant-loop-node : goal.invariant-loop-node
+invariant-loop-node l =
+    (g : Boundable l.nodes l.scratch l.at.node l.at.copy) → Scanning g.ss l.nodes l.scratch l.at.node l.e l.at.copy l.r l.node
 
-abbrev pub decreases-loop-i : goal.decreases-loop-i
-decreases-loop-i l =
-    l.e - l.i
+abbrev pub decreases-loop-node : goal.decreases-loop-node
+decreases-loop-node l =
+    l.e - l.node

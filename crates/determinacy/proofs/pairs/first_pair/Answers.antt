@@ -1,6 +1,6 @@
 use native.Mathlib.Omega.{arith}
 use mathlib.Core.Path.{refl, ◌∙◌}
-use Rattle.determinacy.proofs.PairLaws.{declarations-at, range-begins, range-ends, range_clause, range_inside, range_head, range_of, range_stops, range_on}
+use Rattle.determinacy.proofs.PairLaws.{range-begins, range-ends, range_clause, range_inside, range_head, range_of, range_stops, range_on}
 use Rattle.determinacy.proofs.pairs.first_pair.Goals as goal
 
 pub loop-i-init : goal.loop-i-init
@@ -10,7 +10,7 @@ pub overflow_add-head : goal.overflow_add-head
 overflow_add-head c = omega (arith, range_inside c.loop-i-test.true c.requires (c.loop-i.invariant.1.1.1 c.requires))
 
 pub marks_of-marks-requires : goal.marks_of-marks-requires
-marks_of-marks-requires c = record { declarations_at = declarations-at c.requires; atom_at = range_head c.loop-i-test.true c.requires (c.loop-i.invariant.1.1.1 c.requires) }
+marks_of-marks-requires c = range_head c.loop-i-test.true c.requires (c.loop-i.invariant.1.1.1 c.requires)
 
 pub first_overlap-requires : goal.first_overlap-requires
 first_overlap-requires c = range_of c.loop-i-test.true c.marks_of-marks.ensures c.requires (c.loop-i.invariant.1.1.1 c.requires)

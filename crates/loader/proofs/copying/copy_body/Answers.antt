@@ -1,13 +1,14 @@
 use native.Mathlib.Omega.{arith}
 use mathlib.Core.Path.{refl, ◌∙◌}
+use Rattle.load_words.specs.Flat.{number_of}
 use Rattle.loader.proofs.Bodies.{body-begin, body-turn, body_end}
 use Rattle.loader.proofs.copying.copy_body.Goals as goal
 
 pub loop-item-init : goal.loop-item-init
-loop-item-init c = (refl, λ w. body-begin c.args.table.now c.args.from c.args.items c.args.text c.args.nodes.now c.args.at c.requires.text_bound.1.1.1 w)
+loop-item-init c = (refl, λ w. body-begin c.args.table.now c.args.from c.args.items (number_of c.args.source) c.args.nodes.now c.args.at c.requires.room.1.1 w)
 
 pub overflow_add-first : goal.overflow_add-first
-overflow_add-first c = omega (arith, (body-turn (omega arith) (c.loop-item.invariant.1 c.requires.body_here)).inside, c.requires.text_bound.1.0)
+overflow_add-first c = omega (arith, (body-turn (omega arith) (c.loop-item.invariant.1 c.requires.body_here)).inside, c.requires.room.0)
 
 pub past_item-next-requires : goal.past_item-next-requires
 past_item-next-requires c = let t = body-turn (omega arith) (c.loop-item.invariant.1 c.requires.body_here) in
@@ -16,7 +17,7 @@ past_item-next-requires c = let t = body-turn (omega arith) (c.loop-item.invaria
 pub copy_nodes-q-requires : goal.copy_nodes-q-requires
 copy_nodes-q-requires c = let pre = c.requires in
     let t = body-turn (omega arith) (c.loop-item.invariant.1 pre.body_here) in
-    record { text_bound = (pre.text_bound.0, (pre.text_bound.1.0, (omega (arith, c.loop-item.invariant.0, pre.text_bound.1.1.0), t.near))); run_at = t.run c.past_item-next.result (c.past_item-next.ensures t.item t.has) }
+    record { room = (pre.room.0, (omega (arith, c.loop-item.invariant.0, pre.room.1.0), t.near)); run_at = t.run c.past_item-next.result (c.past_item-next.ensures t.item t.has) }
 
 pub loop-item-preserved : goal.loop-item-preserved
 loop-item-preserved c = let next = c.past_item-next.result in (

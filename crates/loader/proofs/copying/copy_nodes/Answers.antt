@@ -4,6 +4,7 @@ use mathlib.Core.Path.{◌≡◌, refl}
 use mathlib.Core.List.{List}
 use lib.ListN.{length, length-set}
 use Rattle.syntax.specs.Words.{program_words}
+use Rattle.load_words.specs.Flat.{number_of}
 use Rattle.run_layout.specs.Regions.{nodes_words}
 use Rattle.loader.proofs.Writing.{length_two}
 use Rattle.loader.proofs.Runs.{Running, run-begin, turn, run_end}
@@ -17,61 +18,61 @@ room {table} {stop} {text} {before} {at} {whole} {nodes} {p} {q} l r short long 
     (i, omega (arith, r.near))
 
 pub loop-p-init : goal.loop-p-init
-loop-p-init c = (refl, λ w. run-begin c.args.table.now c.args.from c.args.stop c.args.text c.args.nodes.now c.args.at c.requires.text_bound.1.1.1 w)
+loop-p-init c = (refl, λ w. run-begin c.args.table.now c.args.from c.args.stop (number_of c.args.source) c.args.nodes.now c.args.at c.requires.room.1.1 w)
 
 pub name_word-requires : goal.name_word-requires
-name_word-requires c = (c.requires.text_bound.0, (turn _ _ _ _ _ _ _ _ _ c.loop-p-test.true (c.loop-p.invariant.1 c.requires.run_at)).fits)
+name_word-requires c = (turn _ _ _ _ _ _ _ _ _ c.loop-p-test.true (c.loop-p.invariant.1 c.requires.run_at)).fits
 
 pub offset_bounds-table-p : goal.offset_bounds-table-p
-offset_bounds-table-p c = let pre = c.requires.text_bound.1 in
+offset_bounds-table-p c = let pre = c.requires.room in
     omega (arith, pre.0, room c.loop-p-test.true (c.loop-p.invariant.1 c.requires.run_at) pre.0 c.loop-p.invariant.0 pre.1.0)
 
 pub bounds-table-p : goal.bounds-table-p
-bounds-table-p c = let pre = c.requires.text_bound.1 in
+bounds-table-p c = let pre = c.requires.room in
     omega (arith, pre.0, room c.loop-p-test.true (c.loop-p.invariant.1 c.requires.run_at) pre.0 c.loop-p.invariant.0 pre.1.0)
 
 pub overflow_add-p : goal.overflow_add-p
-overflow_add-p c = let pre = c.requires.text_bound.1 in
+overflow_add-p c = let pre = c.requires.room in
     omega (arith, pre.0, room c.loop-p-test.true (c.loop-p.invariant.1 c.requires.run_at) pre.0 c.loop-p.invariant.0 pre.1.0)
 
 pub offset_bounds-table-p-in-loop-p : goal.offset_bounds-table-p-in-loop-p
-offset_bounds-table-p-in-loop-p c = let pre = c.requires.text_bound.1 in
+offset_bounds-table-p-in-loop-p c = let pre = c.requires.room in
     omega (arith, pre.0, room c.loop-p-test.true (c.loop-p.invariant.1 c.requires.run_at) pre.0 c.loop-p.invariant.0 pre.1.0)
 
 pub bounds-table-p-in-loop-p : goal.bounds-table-p-in-loop-p
-bounds-table-p-in-loop-p c = let pre = c.requires.text_bound.1 in
+bounds-table-p-in-loop-p c = let pre = c.requires.room in
     omega (arith, pre.0, room c.loop-p-test.true (c.loop-p.invariant.1 c.requires.run_at) pre.0 c.loop-p.invariant.0 pre.1.0)
 
 pub offset_bounds-nodes-q : goal.offset_bounds-nodes-q
-offset_bounds-nodes-q c = let pre = c.requires.text_bound.1 in
+offset_bounds-nodes-q c = let pre = c.requires.room in
     omega (arith, pre.0, room c.loop-p-test.true (c.loop-p.invariant.1 c.requires.run_at) pre.0 c.loop-p.invariant.0 pre.1.0)
 
 pub bounds-nodes-q : goal.bounds-nodes-q
-bounds-nodes-q c = let pre = c.requires.text_bound.1 in
+bounds-nodes-q c = let pre = c.requires.room in
     omega (arith, pre.0, room c.loop-p-test.true (c.loop-p.invariant.1 c.requires.run_at) pre.0 c.loop-p.invariant.0 pre.1.0)
 
 pub offset_bounds-table-p-in-loop-p-2 : goal.offset_bounds-table-p-in-loop-p-2
-offset_bounds-table-p-in-loop-p-2 c = let pre = c.requires.text_bound.1 in
+offset_bounds-table-p-in-loop-p-2 c = let pre = c.requires.room in
     omega (arith, pre.0, room c.loop-p-test.true (c.loop-p.invariant.1 c.requires.run_at) pre.0 c.loop-p.invariant.0 pre.1.0)
 
 pub bounds-table-p-in-loop-p-2 : goal.bounds-table-p-in-loop-p-2
-bounds-table-p-in-loop-p-2 c = let pre = c.requires.text_bound.1 in
+bounds-table-p-in-loop-p-2 c = let pre = c.requires.room in
     omega (arith, pre.0, room c.loop-p-test.true (c.loop-p.invariant.1 c.requires.run_at) pre.0 c.loop-p.invariant.0 pre.1.0)
 
 pub overflow_add-nodes : goal.overflow_add-nodes
-overflow_add-nodes c = let pre = c.requires.text_bound.1 in
+overflow_add-nodes c = let pre = c.requires.room in
     omega (arith, pre.0, room c.loop-p-test.true (c.loop-p.invariant.1 c.requires.run_at) pre.0 c.loop-p.invariant.0 pre.1.0)
 
 pub offset_bounds-nodes-q-in-loop-p : goal.offset_bounds-nodes-q-in-loop-p
-offset_bounds-nodes-q-in-loop-p c = let pre = c.requires.text_bound.1 in
+offset_bounds-nodes-q-in-loop-p c = let pre = c.requires.room in
     omega (arith, pre.0, room c.loop-p-test.true (c.loop-p.invariant.1 c.requires.run_at) pre.0 c.loop-p.invariant.0 pre.1.0)
 
 pub bounds-nodes-q-in-loop-p : goal.bounds-nodes-q-in-loop-p
-bounds-nodes-q-in-loop-p c = let pre = c.requires.text_bound.1 in
+bounds-nodes-q-in-loop-p c = let pre = c.requires.room in
     omega (arith, pre.0, room c.loop-p-test.true (c.loop-p.invariant.1 c.requires.run_at) pre.0 c.loop-p.invariant.0 pre.1.0, length-set c.loop-p.nodes c.loop-p.q c.name_word.result)
 
 pub overflow_add-q : goal.overflow_add-q
-overflow_add-q c = let pre = c.requires.text_bound.1 in
+overflow_add-q c = let pre = c.requires.room in
     omega (arith, pre.0, room c.loop-p-test.true (c.loop-p.invariant.1 c.requires.run_at) pre.0 c.loop-p.invariant.0 pre.1.0)
 
 pub loop-p-preserved : goal.loop-p-preserved

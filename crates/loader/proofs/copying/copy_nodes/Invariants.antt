@@ -1,10 +1,10 @@
 -- `loader::copying::copy_nodes` meets its contract. The invariant: what is left of the run gives the whole (`Running`). Assumes nothing.
 use mathlib.Core.Path.{◌≡◌}
 use lib.ListN.{length}
-use Rattle.load_words.specs.Flat.{flat_words, flat_all, RunAt}
+use Rattle.load_words.specs.Flat.{number_of, flat_words, flat_all, RunAt}
 use Rattle.loader.proofs.Runs.{Running}
 use Rattle.loader.proofs.copying.copy_nodes.Given as goal
 
 abbrev pub invariant-loop-p : goal.invariant-loop-p
 invariant-loop-p l =
-    (length l.nodes ≡ length l.initial.nodes) × ((w : RunAt l.table l.from l.stop) → Running l.table l.stop l.text l.initial.nodes l.at (flat_words (flat_all l.text w.run)) l.nodes l.p l.q)
+    (length l.nodes ≡ length l.initial.nodes) × ((w : RunAt l.table l.from l.stop) → Running l.table l.stop (number_of l.source) l.initial.nodes l.at (flat_words (flat_all (number_of l.source) w.run)) l.nodes l.p l.q)

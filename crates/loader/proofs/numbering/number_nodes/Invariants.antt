@@ -9,4 +9,4 @@ use Rattle.loader.proofs.numbering.number_nodes.Given as goal
 
 abbrev pub invariant-loop-p : goal.invariant-loop-p
 invariant-loop-p l =
-    (length l.nodes ≡ length l.initial.nodes) × ((length l.symbols ≡ length l.initial.symbols) × ((l.count * 2 ≤ l.p) × (SymbolsListed l.sheet l.goal l.symbols l.count × ((w : Copied l.sheet l.goal l.initial.nodes l.stop) → Numbering l.sheet l.goal w.flats l.initial.nodes l.nodes l.stop l.p (symbols_of l.sheet l.goal l.symbols l.count)))))
+    (length l.nodes ≡ length l.initial.nodes) × ((length l.symbols ≡ length l.initial.symbols) × ((l.count * 2 ≤ l.p) × (SymbolsListed l.texts.sheet.now l.texts.goal.now l.symbols l.count × ((w : Copied l.texts.sheet.now l.texts.goal.now l.initial.nodes l.stop) → Numbering l.texts.sheet.now l.texts.goal.now w.flats l.initial.nodes l.nodes l.stop l.p (symbols_of l.texts.sheet.now l.texts.goal.now l.symbols l.count)))))

@@ -9,38 +9,38 @@ use Rattle.mode_clauses.proofs.Sheets.{head-judged, head-marked, clause-stopped,
 use Rattle.mode_clauses.proofs.clause_faults.clause_fault.Goals as goal
 
 pub overflow_add-p : goal.overflow_add-p
-overflow_add-p c = omega (arith, clause-room c.requires.clause_at)
+overflow_add-p c = omega (arith, clause-room c.requires)
 
 pub word_at-items-requires : goal.word_at-items-requires
-word_at-items-requires c = omega (arith, clause-room c.requires.clause_at)
+word_at-items-requires c = omega (arith, clause-room c.requires)
 
 pub overflow_add-head : goal.overflow_add-head
-overflow_add-head c = omega (arith, clause-room c.requires.clause_at)
+overflow_add-head c = omega (arith, clause-room c.requires)
 
 pub marks_of-marks-requires : goal.marks_of-marks-requires
-marks_of-marks-requires c = record { declarations_at = c.requires.declarations_at; atom_at = head-at c.requires.clause_at }
+marks_of-marks-requires c = head-at c.requires
 
 pub overflow_add-from : goal.overflow_add-from
-overflow_add-from c = omega (arith, head-room c.requires.clause_at)
+overflow_add-from c = omega (arith, head-room c.requires)
 
 pub past-first-requires : goal.past-first-requires
-past-first-requires c = node-inside (head-term c.requires.clause_at)
+past-first-requires c = node-inside (head-term c.requires)
 
 pub ground_marked-start-requires : goal.ground_marked-start-requires
-ground_marked-start-requires c = head-marked c.args.declarations.text.now c.args.declarations.words.now c.args.declarations.count c.args.table.now c.args.p c.args.clause c.marks_of-marks.result c.marks_of-marks.ensures c.word_at-items.result c.word_at-items.ensures c.past-first.result (past-ends c.past-first.ensures) input c.requires.declarations_at c.requires.clause_at
+ground_marked-start-requires c = head-marked c.args.check.declarations.text.now c.args.check.declarations.words.now c.args.check.declarations.count c.args.check.read.text.now c.args.check.read.table.now c.args.p c.args.check.clause c.marks_of-marks.result c.marks_of-marks.ensures c.word_at-items.result c.word_at-items.ensures c.past-first.result (past-ends c.past-first.ensures) input c.args.check.declarations.stands c.requires
 
 pub body_walk-requires : goal.body_walk-requires
-body_walk-requires c = record { declarations_at = c.requires.declarations_at; body_at = body_at c.args.declarations.text.now c.args.table.now c.args.p c.word_at-items.result c.word_at-items.ensures c.past-first.result (past-ends c.past-first.ensures) c.requires.clause_at }
+body_walk-requires c = body_at c.args.check.read.text.now c.args.check.read.table.now c.args.p c.word_at-items.result c.word_at-items.ensures c.past-first.result (past-ends c.past-first.ensures) c.requires
 
 pub returns-in_err-known : goal.returns-in_err-known
 unfolding none_ground
 returns-in_err-known c = let p = err_from_is_err_and c.from_residual.result c.from_residual.ensures.1 in
     rw (p.1, p.2)
-    (clause-stopped c.args.declarations.text.now c.args.declarations.words.now c.args.declarations.count c.args.table.now c.args.p c.args.clause c.marks_of-marks.result c.marks_of-marks.ensures c.word_at-items.result c.word_at-items.ensures c.past-first.result (past-ends c.past-first.ensures) c.ground_marked-start.result c.ground_marked-start.ensures c.body_walk.result c.body_walk.ensures c.in_err-known.was)
+    (clause-stopped c.args.check.declarations.text.now c.args.check.declarations.words.now c.args.check.declarations.count c.args.check.read.text.now c.args.check.read.table.now c.args.p c.args.check.clause c.marks_of-marks.result c.marks_of-marks.ensures c.word_at-items.result c.word_at-items.ensures c.past-first.result (past-ends c.past-first.ensures) c.ground_marked-start.result c.ground_marked-start.ensures c.body_walk.result c.body_walk.ensures c.in_err-known.was)
 
 pub head_fault-requires : goal.head_fault-requires
-head_fault-requires c = head-judged c.args.declarations.text.now c.args.declarations.words.now c.args.declarations.count c.args.table.now c.args.p c.args.clause c.marks_of-marks.result c.marks_of-marks.ensures c.word_at-items.result c.word_at-items.ensures c.past-first.result (past-ends c.past-first.ensures) c.requires.declarations_at c.requires.clause_at
+head_fault-requires c = head-judged c.args.check.declarations.text.now c.args.check.declarations.words.now c.args.check.declarations.count c.args.check.read.text.now c.args.check.read.table.now c.args.p c.args.check.clause c.marks_of-marks.result c.marks_of-marks.ensures c.word_at-items.result c.word_at-items.ensures c.past-first.result (past-ends c.past-first.ensures) c.args.check.declarations.stands c.requires
 
 pub returns : goal.returns
 unfolding none_ground
-returns c = clause-passed c.args.declarations.text.now c.args.declarations.words.now c.args.declarations.count c.args.table.now c.args.p c.args.clause c.marks_of-marks.result c.marks_of-marks.ensures c.word_at-items.result c.word_at-items.ensures c.past-first.result (past-ends c.past-first.ensures) c.ground_marked-start.result c.ground_marked-start.ensures c.body_walk.result c.body_walk.ensures c.in_ok-known.was c.head_fault.ensures
+returns c = clause-passed c.args.check.declarations.text.now c.args.check.declarations.words.now c.args.check.declarations.count c.args.check.read.text.now c.args.check.read.table.now c.args.p c.args.check.clause c.marks_of-marks.result c.marks_of-marks.ensures c.word_at-items.result c.word_at-items.ensures c.past-first.result (past-ends c.past-first.ensures) c.ground_marked-start.result c.ground_marked-start.ensures c.body_walk.result c.body_walk.ensures c.in_ok-known.was c.head_fault.ensures

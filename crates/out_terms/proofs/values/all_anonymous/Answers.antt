@@ -1,7 +1,6 @@
 use mathlib.Core.Path.{refl}
 use lib.ListN.{get_or}
 use native.Mathlib.Omega.{arith}
-use Prim.Native.Nat.{◌-◌}
 use Rattle.out_terms.proofs.ValueLaws.{all_start, all_more, all-not, all_end, word-inside}
 use Rattle.out_terms.proofs.values.all_anonymous.Goals as goal
 
@@ -15,7 +14,7 @@ pub bounds-names-i : goal.bounds-names-i
 bounds-names-i c = omega (arith, c.requires.listed)
 
 pub is_anonymous-requires : goal.is_anonymous-requires
-is_anonymous-requires c = word-inside _ _ c.args.count c.loop-i.i _ c.requires c.loop-i-test.true refl
+is_anonymous-requires c = word-inside c.requires c.loop-i-test.true refl
 
 pub returns-then-not-is_anonymous : goal.returns-then-not-is_anonymous
 returns-then-not-is_anonymous c = let args = c.args in let loop = c.loop-i in all-not args.goal.now args.names.now args.count loop.i (get_or args.names.now loop.i 0) c.is_anonymous.result c.loop-i-test.true refl c.is_anonymous.ensures c.if-not-is_anonymous.true loop.invariant.1

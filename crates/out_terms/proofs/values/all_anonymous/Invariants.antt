@@ -1,4 +1,4 @@
-use Prim.Native.Nat.{◌-◌, ◌≤◌}
+use Prim.Native.Nat.{◌≤◌}
 use Rattle.out_terms.proofs.ValueLaws.{AllFrom}
 use Rattle.out_terms.proofs.values.all_anonymous.Given as goal
 

@@ -28,10 +28,10 @@ loop-st-preserved-in-Ok c = record {
 }
 
 pub returns-in-Err : goal.returns-in-Err
-returns-in-Err c = loading-declaration-fault c.args.s.now c.loop-st.declared c.loop-st.table c.loop-st.read.declarations c.loop-st.read.clauses c.loop-st.read.used c.loop-st.st c.loop-st.invariant.loading (kind-ne c.loop-st-test.ensures) (kind-eq c.if-eq.ensures) c.next_declaration.new.declared _ c.in-Err.ensures
+returns-in-Err c = rw c.fault_behind.ensures (loading-declaration-fault c.args.s.now c.loop-st.declared c.loop-st.table c.loop-st.read.declarations c.loop-st.read.clauses c.loop-st.read.used c.loop-st.st c.loop-st.invariant.loading (kind-ne c.loop-st-test.ensures) (kind-eq c.if-eq.ensures) c.next_declaration.new.declared _ c.in-Err.ensures)
 
 pub returns-then-ne : goal.returns-then-ne
-returns-then-ne c = loading-wrong c.args.s.now c.loop-st.declared c.loop-st.table c.loop-st.read.declarations c.loop-st.read.clauses c.loop-st.read.used c.loop-st.st c.loop-st.invariant.loading c.wrong.result (kind-ne c.loop-st-test.ensures) (kind-not_eq c.if-eq.ensures) (kind-ne c.if-ne.ensures) c.wrong.ensures
+returns-then-ne c = rw c.fault_behind-then-ne.ensures (loading-wrong c.args.s.now c.loop-st.declared c.loop-st.table c.loop-st.read.declarations c.loop-st.read.clauses c.loop-st.read.used c.loop-st.st c.loop-st.invariant.loading c.wrong.result (kind-ne c.loop-st-test.ensures) (kind-not_eq c.if-eq.ensures) (kind-ne c.if-ne.ensures) c.wrong.ensures)
 
 pub next_clause-requires : goal.next_clause-requires
 next_clause-requires c = record {
@@ -50,7 +50,7 @@ loop-st-preserved c = record {
 }
 
 pub returns-in-Err-next_clause : goal.returns-in-Err-next_clause
-returns-in-Err-next_clause c = loading-clause-fault c.args.s.now c.loop-st.declared c.loop-st.table c.loop-st.read.declarations c.loop-st.read.clauses c.loop-st.read.used c.loop-st.st c.loop-st.invariant.loading (kind-ne c.loop-st-test.ensures) (kind-not_eq c.if-eq.ensures) (kind-not_ne c.if-ne.ensures) c.next_clause.new.table c.next_clause.auto.table _ c.in-Err-next_clause.ensures
+returns-in-Err-next_clause c = rw c.fault_behind-in-Err-next_clause.ensures (loading-clause-fault c.args.s.now c.loop-st.declared c.loop-st.table c.loop-st.read.declarations c.loop-st.read.clauses c.loop-st.read.used c.loop-st.st c.loop-st.invariant.loading (kind-ne c.loop-st-test.ensures) (kind-not_eq c.if-eq.ensures) (kind-not_ne c.if-ne.ensures) c.next_clause.new.table c.next_clause.auto.table _ c.in-Err-next_clause.ensures)
 
 pub returns : goal.returns
 returns c = loading-end c.args.s.now c.loop-st.declared c.loop-st.table c.loop-st.read.declarations c.loop-st.read.clauses c.loop-st.read.used c.loop-st.st c.loop-st.invariant.loading (kind-not_ne c.loop-st-test.ensures)

@@ -1,5 +1,4 @@
 use native.Mathlib.Omega.{arith}
-use Prim.Native.Nat.{◌-◌}
 use Rattle.run_alternatives.proofs.LayLaws.{slide-begin, slide-inside, slide-stops, slide-later, slide-next}
 use Rattle.run_alternatives.proofs.laying.settled.Goals as goal
 

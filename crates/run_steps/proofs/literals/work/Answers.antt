@@ -15,19 +15,19 @@ pub work_equation-requires : goal.work_equation-requires
 work_equation-requires c = record { steppable = c.requires; s_value = c.top_at-s.ensures; h_value = kind-read c.requires c.top_at-s.ensures c.word_at-kind.ensures c.if-kind-eq-EQUATION_KIND.true }
 
 pub work_either-requires : goal.work_either-requires
-work_either-requires c = record { by_index = (c.args.nodes.now, c.args.scratch.now, c.requires); s_value = c.top_at-s.ensures; h_value = kind-read c.requires c.top_at-s.ensures c.word_at-kind.ensures c.if-kind-eq-SPLIT_KIND.true }
+work_either-requires c = record { by_index = (c.args.program.nodes.now, c.args.scratch.now, c.requires); s_value = c.top_at-s.ensures; h_value = kind-read c.requires c.top_at-s.ensures c.word_at-kind.ensures c.if-kind-eq-SPLIT_KIND.true }
 
 pub returns-then-kind-eq-SPLIT_KIND : goal.returns-then-kind-eq-SPLIT_KIND
-returns-then-kind-eq-SPLIT_KIND c = λ w. c.work_either.ensures c.args.nodes.now c.args.scratch.now w
+returns-then-kind-eq-SPLIT_KIND c = λ w. c.work_either.ensures c.args.program.nodes.now c.args.scratch.now w
 
-pub next_literal-rest-requires : goal.next_literal-rest-requires
-next_literal-rest-requires c = omega (arith, work-inside c.requires c.top_at-s.ensures)
+pub next_literal-requires : goal.next_literal-requires
+next_literal-requires c = omega (arith, work-inside c.requires c.top_at-s.ensures)
 
 pub lay-requires : goal.lay-requires
-lay-requires c = truth-layable c.requires c.top_at-s.ensures c.word_at-kind.ensures c.if-kind-eq-TRUTH_KIND.true c.next_literal-rest.ensures
+lay-requires c = truth-layable c.requires c.top_at-s.ensures c.word_at-kind.ensures c.if-kind-eq-TRUTH_KIND.true c.next_literal.ensures
 
 pub returns-then-kind-eq-TRUTH_KIND : goal.returns-then-kind-eq-TRUTH_KIND
-returns-then-kind-eq-TRUTH_KIND c = λ w. truth-end w c.top_at-s.ensures c.word_at-kind.ensures c.if-kind-eq-TRUTH_KIND.true c.next_literal-rest.ensures c.lay.new.state c.lay.ensures
+returns-then-kind-eq-TRUTH_KIND c = λ w. truth-end w c.top_at-s.ensures c.word_at-kind.ensures c.if-kind-eq-TRUTH_KIND.true c.next_literal.ensures c.lay.new.state c.lay.ensures
 
 pub returns : goal.returns
 returns c = λ w. work-pops w c.top_at-s.ensures c.word_at-kind.ensures c.if-kind-eq-CALL_KIND.false c.if-kind-eq-EQUATION_KIND.false c.if-kind-eq-SPLIT_KIND.false c.if-kind-eq-TRUTH_KIND.false

@@ -17,14 +17,14 @@ word_at-q-requires c = omega (arith, work-inside c.requires.steppable c.requires
 pub unify-u-requires : goal.unify-u-requires
 unify-u-requires c = equation-unifiable c.requires.steppable c.requires.s_value c.requires.h_value c.word_at-p.ensures c.word_at-q.ensures
 
-pub next_literal-rest-requires : goal.next_literal-rest-requires
-next_literal-rest-requires c = omega (arith, work-inside c.requires.steppable c.requires.s_value)
+pub next_literal-requires : goal.next_literal-requires
+next_literal-requires c = omega (arith, work-inside c.requires.steppable c.requires.s_value)
 
 pub lay-requires : goal.lay-requires
-lay-requires c = equation-layable c.requires.steppable c.requires.s_value c.requires.h_value c.word_at-p.ensures c.word_at-q.ensures c.unify-u.ensures c.if-u.true c.next_literal-rest.ensures
+lay-requires c = equation-layable c.requires.steppable c.requires.s_value c.requires.h_value c.word_at-p.ensures c.word_at-q.ensures c.unify-u.ensures c.if-u.true c.next_literal.ensures
 
 pub returns-then-u : goal.returns-then-u
-returns-then-u c = λ w. equation-end w c.requires.s_value c.requires.h_value c.word_at-p.ensures c.word_at-q.ensures c.unify-u.ensures c.if-u.true c.next_literal-rest.ensures c.lay.new.state c.lay.ensures
+returns-then-u c = λ w. equation-end w c.requires.s_value c.requires.h_value c.word_at-p.ensures c.word_at-q.ensures c.unify-u.ensures c.if-u.true c.next_literal.ensures c.lay.new.state c.lay.ensures
 
 pub returns : goal.returns
 returns c = λ w. equation-fails w c.requires.s_value c.requires.h_value c.word_at-p.ensures c.word_at-q.ensures c.unify-u.ensures c.if-u.false

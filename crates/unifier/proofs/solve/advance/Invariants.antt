@@ -4,7 +4,7 @@ use Rattle.unifier.proofs.solve.advance.Given as goal
 
 abbrev pub invariant-loop-k : goal.invariant-loop-k
 invariant-loop-k l =
-    (g : ReadyToUnify l.nodes l.state l.initial.scratch l.n l.h) → Advancing g.work.ss l.nodes l.state l.initial.scratch l.scratch g.work.top l.n l.h l.k
+    (g : ReadyToUnify l.nodes l.state l.initial.scratch l.n l.h) → Advancing g.work l.scratch l.k
 
 abbrev pub decreases-loop-k : goal.decreases-loop-k
 decreases-loop-k l =

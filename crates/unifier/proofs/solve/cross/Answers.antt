@@ -2,10 +2,10 @@ use Rattle.unifier.proofs.Turning.{cross-both, cross-settled, cross-done}
 use Rattle.unifier.proofs.solve.cross.Goals as goal
 
 pub follow-e-requires : goal.follow-e-requires
-follow-e-requires c = cross-both c.args.nodes.now c.args.state.now c.args.scratch.now c.args.h c.args.p c.args.c c.args.q c.args.d c.requires
+follow-e-requires c = cross-both c.requires
 
 pub decide-requires : goal.decide-requires
-decide-requires c = cross-settled c.args.nodes.now c.args.state.now c.args.scratch.now c.args.h c.args.p c.args.c c.args.q c.args.d c.requires c.follow-e.ensures
+decide-requires c = cross-settled c.requires c.follow-e.ensures
 
 pub returns : goal.returns
-returns c = λ g. cross-done c.args.nodes.now c.args.state.now c.args.scratch.now c.args.h c.args.p c.args.c c.args.q c.args.d g c.follow-e.ensures c.decide.new.scratch c.decide.result c.decide.ensures
+returns c = λ g. cross-done g c.follow-e.ensures c.decide.new.scratch c.decide.result c.decide.ensures

@@ -3,10 +3,10 @@ use native.Mathlib.Omega.{arith}
 use Rattle.unifier.proofs.solve.decide.Goals as goal
 
 pub word_at-w-requires : goal.word_at-w-requires
-word_at-w-requires c = let args = c.args in omega (arith, settle-inside args.nodes.now args.scratch.now args.h args.p args.c args.q args.d c.requires)
+word_at-w-requires c = omega (arith, settle-inside c.requires)
 
 pub word_at-z-requires : goal.word_at-z-requires
-word_at-z-requires c = let args = c.args in omega (arith, settle-inside args.nodes.now args.scratch.now args.h args.p args.c args.q args.d c.requires)
+word_at-z-requires c = omega (arith, settle-inside c.requires)
 
 pub returns-then-x-y : goal.returns-then-x-y
 returns-then-x-y c = λ g. read_same g c.word_at-w.ensures c.word_at-z.ensures c.if-w-lt-FIRST_NAME.true c.if-z-lt-FIRST_NAME.true c.cell_of-x.ensures c.cell_of-y.ensures c.if-x-y.true

@@ -1,17 +1,15 @@
--- src/solve.rt:172:5
-use Rattle.unifier.proofs.Turning.{pass-small, pass-turned, remembers-at}
 use native.Mathlib.Omega.{arith}
+use Rattle.unifier.proofs.Turning.{pass-small, pass-turned, remembers-at}
 use Rattle.unifier.proofs.solve.pass.Goals as goal
 
 pub remember-requires : goal.remember-requires
-remember-requires c = omega (arith, c.pack-left.ensures, c.pack-right.ensures, pass-small c.args.scratch.now c.args.h c.args.l c.args.r c.requires)
+remember-requires c = omega (arith, c.pack-left.ensures, c.pack-right.ensures, pass-small c.requires)
 
 pub pack-left-requires : goal.pack-left-requires
-pack-left-requires c = omega (arith, pass-small c.args.scratch.now c.args.h c.args.l c.args.r c.requires)
+pack-left-requires c = omega (arith, pass-small c.requires)
 
 pub pack-right-requires : goal.pack-right-requires
-pack-right-requires c = omega (arith, pass-small c.args.scratch.now c.args.h c.args.l c.args.r c.requires)
+pack-right-requires c = omega (arith, pass-small c.requires)
 
--- src/solve.rt:162:1
 pub returns : goal.returns
-returns c = λ g. pass-turned c.args.scratch.now c.args.h c.args.l c.args.r g c.remember.new.scratch (remembers-at c.pack-left.ensures c.pack-right.ensures c.remember.ensures)
+returns c = λ g. pass-turned g (remembers-at c.pack-left.ensures c.pack-right.ensures c.remember.ensures)

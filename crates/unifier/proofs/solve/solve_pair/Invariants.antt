@@ -5,10 +5,10 @@ use Rattle.unifier.specs.Turns.{Solvable}
 use Rattle.unifier.proofs.Solving.{Solving}
 use Rattle.unifier.proofs.solve.solve_pair.Given as goal
 
-abbrev pub invariant-loop-trail : goal.invariant-loop-trail
-invariant-loop-trail l =
-    Closed l.closed l.state × ((g : Solvable l.nodes l.initial.state l.initial.scratch l.m) → Solving g.work.ss l.nodes l.initial.state l.state l.initial.scratch l.scratch g.work.top l.m l.n l.h)
+abbrev pub invariant-loop-height : goal.invariant-loop-height
+invariant-loop-height l =
+    Closed l.closed l.state × ((g : Solvable l.nodes l.initial.state l.initial.scratch l.n) → Solving g l.state l.scratch l.trail l.h)
 
-abbrev pub decreases-loop-trail : goal.decreases-loop-trail
-decreases-loop-trail l =
-    cells - l.n
+abbrev pub decreases-loop-height : goal.decreases-loop-height
+decreases-loop-height l =
+    cells - l.trail

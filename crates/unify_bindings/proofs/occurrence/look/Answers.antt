@@ -1,5 +1,5 @@
 use Rattle.std.proofs.Common.{arith}
-use Rattle.unify_bindings.proofs.Scan.{scanned-at, look-inside, look-place, look-some, look-seen, look-scan-at, look-room, look-done}
+use Rattle.unify_bindings.proofs.Scan.{scanned-at, look-inside, look-place, look-seen, look-scan-at, look-room, look-done}
 use Rattle.unify_bindings.proofs.occurrence.look.Goals as goal
 
 pub overflow_add-k : goal.overflow_add-k
@@ -17,14 +17,11 @@ is_seen-requires c = let i = look-inside c.args.nodes.now c.args.state.now c.arg
 pub returns-then-is_seen : goal.returns-then-is_seen
 returns-then-is_seen c = λ g. look-seen c.args.nodes.now c.args.state.now c.args.scratch.now c.args.k c.args.n g c.word_at-y.ensures c.word_at-w.ensures (c.is_seen.ensures c.if-is_seen.true)
 
-pub unpack-at-requires : goal.unpack-at-requires
-unpack-at-requires c = look-some c.args.nodes.now c.args.state.now c.args.scratch.now c.args.k c.args.n c.requires c.word_at-y.ensures c.word_at-w.ensures
-
 pub scan-r-requires : goal.scan-r-requires
-scan-r-requires c = look-scan-at c.args.nodes.now c.args.state.now c.args.scratch.now c.args.k c.args.n c.requires c.word_at-y.ensures c.word_at-w.ensures c.unpack-at.ensures
+scan-r-requires c = look-scan-at c.args.nodes.now c.args.state.now c.args.scratch.now c.args.k c.args.n c.requires c.word_at-y.ensures c.word_at-w.ensures c.unpack.ensures
 
 pub note-requires : goal.note-requires
-note-requires c = look-room c.args.nodes.now c.args.state.now c.args.scratch.now c.args.k c.args.n c.requires c.word_at-y.ensures c.word_at-w.ensures (scanned-at c.word_at-w.result c.unpack-at.ensures c.scan-r.ensures)
+note-requires c = look-room c.args.nodes.now c.args.state.now c.args.scratch.now c.args.k c.args.n c.requires c.word_at-y.ensures c.word_at-w.ensures (scanned-at c.word_at-w.result c.unpack.ensures c.scan-r.ensures)
 
 pub returns : goal.returns
-returns c = λ g. look-done c.args.nodes.now c.args.state.now c.args.scratch.now c.args.k c.args.n g c.word_at-y.ensures c.word_at-w.ensures (scanned-at c.word_at-w.result c.unpack-at.ensures c.scan-r.ensures) c.note.ensures
+returns c = λ g. look-done c.args.nodes.now c.args.state.now c.args.scratch.now c.args.k c.args.n g c.word_at-y.ensures c.word_at-w.ensures (scanned-at c.word_at-w.result c.unpack.ensures c.scan-r.ensures) c.note.ensures

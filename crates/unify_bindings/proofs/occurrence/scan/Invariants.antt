@@ -5,7 +5,7 @@ use Rattle.unify_bindings.proofs.occurrence.scan.Given as goal
 
 abbrev pub invariant-loop-i : goal.invariant-loop-i
 invariant-loop-i l =
-    (g : Scannable l.nodes l.state l.initial.scratch l.q l.d l.m) → Scanning g.ss l.nodes l.state l.initial.scratch l.scratch l.q l.e l.d l.x l.m l.i l.n
+    (g : Scannable l.nodes l.state l.initial.scratch l.at.node l.at.copy l.m) → Scanning g.ss l.nodes l.state l.initial.scratch l.scratch l.at.node l.e l.at.copy l.x l.m l.i l.n
 
 abbrev pub decreases-loop-i : goal.decreases-loop-i
 decreases-loop-i l =

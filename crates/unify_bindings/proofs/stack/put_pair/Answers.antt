@@ -5,4 +5,4 @@ use Rattle.unify_bindings.proofs.stack.put_pair.Goals as goal
 
 pub returns : goal.returns
 unfolding pair_words
-returns c = c.put_side-2.ensures ∙ ap (λ (s : List ℕ). stack_side_words s (pair_of c.args.k + side_size) c.args.other c.args.there c.args.second) c.put_side.ensures
+returns c = c.put_side-2.ensures ∙ ap (λ (s : List ℕ). stack_side_words s (pair_of c.args.k + side_size) c.args.r) c.put_side.ensures

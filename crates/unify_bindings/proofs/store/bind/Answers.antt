@@ -4,4 +4,4 @@ use Rattle.unify_bindings.proofs.store.bind.Goals as goal
 
 pub returns : goal.returns
 unfolding bound_words
-returns c = ap (bound_words c.args.state.now c.args.n c.args.x) c.pack-w.ensures
+returns c = ap (bound_words c.args.state.now c.args.n c.args.x) c.pack.ensures

@@ -2,10 +2,10 @@ use Rattle.unify_bindings.specs.Cells.{StoredTerm, Leads}
 use Rattle.unify_bindings.proofs.Deref.{depth}
 use Rattle.unify_bindings.proofs.store.deref.Given as goal
 
-abbrev pub invariant-loop-at : goal.invariant-loop-at
-invariant-loop-at l =
-    (g : StoredTerm l.nodes l.state l.p l.c) → Leads g.ss l.nodes l.state g.n l.p l.c l.node l.copy
+abbrev pub invariant-loop-next : goal.invariant-loop-next
+invariant-loop-next l =
+    (g : StoredTerm l.nodes l.state l.fn.from.node l.fn.from.copy) → Leads g.ss l.nodes l.state g.n l.fn.from.node l.fn.from.copy l.at.node l.at.copy
 
-abbrev pub decreases-loop-at : goal.decreases-loop-at
-decreases-loop-at l =
-    depth l.nodes l.node l.copy
+abbrev pub decreases-loop-next : goal.decreases-loop-next
+decreases-loop-next l =
+    depth l.nodes l.at.node l.at.copy

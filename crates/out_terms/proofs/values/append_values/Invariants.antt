@@ -1,9 +1,0 @@
-use mathlib.Core.Path.{◌≡◌}
-use Prim.Native.Nat.{◌+◌, ◌-◌, ◌≤◌, ◌<◌, ◌^◌}
-use lib.ListN.{length}
-use Rattle.out_terms.proofs.ValueLaws.{Listing}
-use Rattle.out_terms.proofs.values.append_values.Given as goal
-
-abbrev pub invariant-loop-i : goal.invariant-loop-i
-invariant-loop-i l =
-    (length l.numbers ≡ length l.initial.numbers) × (length l.stack ≡ length l.initial.stack) × (length l.out ≡ length l.initial.out) × (l.i ≤ l.count) × (l.past + 300 < 2 ^ 64) × Listing l.nodes l.state l.symbols l.sheet l.goal l.names l.count l.initial.numbers l.initial.stack l.initial.out l.at l.limit l.numbers l.out l.past l.more l.i × (l.at ≤ l.past)
