@@ -1,4 +1,4 @@
-"""Cases for paper 02 (xii), at most one end: sheets ("D"); and runs over sheets that get a yes."""
+"""Cases for REQUESTS (xii), at most one end: sheets ("D"); and runs over sheets that get a yes."""
 
 from itertools import combinations, product
 
@@ -314,7 +314,7 @@ def single_runs(rng):
 
 
 def at_most_one_line(rng, count):
-    """Holds runs over sheets that get a yes to paper 02 (xii), at several allowances, and prints how many have a line, and how many would
+    """Holds runs over sheets that get a yes to REQUESTS (xii), at several allowances, and prints how many have a line, and how many would
     have more with the clauses left out."""
     one = more = 0
     for _, (several, single, goal) in zip(range(count), single_runs(rng)):

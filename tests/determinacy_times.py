@@ -1,4 +1,4 @@
-"""Sheets for which the test of paper 02 (xii) takes long, and the CPU time of crates/case_answers on each.
+"""Sheets for which the test of REQUESTS (xii) takes long, and the CPU time of crates/case_answers on each.
 
     tests/determinacy_times.py        milliseconds a sheet; exit status 1 where one is over the bound
 

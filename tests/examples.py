@@ -1,12 +1,12 @@
-"""Worked examples: the table of paper 01 and the rulings on its open points.
+"""Worked examples: the table of RULES and the rulings on its open points.
 
 CHECKS: sheet, what the checker prints.  GOALS: goal, how reading it answers.
 RUNS: sheet, goal, what the runner prints.  SETTINGS: allowance, wanted, room,
 sheet, goal, what the runner would print with these settings.  STORED: sheet,
 goal, what the runner would print with the mark for a sheet stored earlier.
 TRACED: sheet, goal, trace, what the runner prints.  DETERMINATE: sheet, the
-line for paper 02 (xii): yes, no with two clause numbers, or the refusal.
-The outputs are written by hand from the papers, never taken from the engine.
+line for REQUESTS (xii): yes, no with two clause numbers, or the refusal.
+The outputs are written by hand from RULES and REQUESTS, never taken from the engine.
 """
 
 PLUS = (
@@ -29,7 +29,7 @@ NUMERALS = [
 ]
 
 CHECKS = [
-    # paper 01, the table
+    # RULES, the table
     (PLUS % b"+,+,-", "accepted 1 2"),
     (PLUS % b"+,-,+", "accepted 1 2"),
     (PLUS % b"-,+,+", "accepted 1 2"),
@@ -38,12 +38,12 @@ CHECKS = [
     (P_OUT % b"fail", "accepted 1 1"),
     (P_OUT % b"true", "refused sheet 10 16 1 0 1 p"),
     (P_OUT % b"a = b", "accepted 1 1"),
-    (P_OUT % b"f(X,Y) = f(Y,a)", "accepted 1 1"),  # as paper 02 (xiv) has it
+    (P_OUT % b"f(X,Y) = f(Y,a)", "accepted 1 1"),  # as REQUESTS (xiv) has it
     (NEXT % b"next(U,T)", "refused sheet 9 73 2 1 1 next"),
     (NEXT % b"next(S,U)", "refused sheet 10 62 2 0 2 ends"),
     (b"p(.", "refused sheet 5 2 0 0 0"),
     (b":- mode p(+). :- mode p(-).", "refused sheet 7 22 0 0 0"),
-    # paper 01, the traps
+    # RULES, the traps
     (b":- mode p(+,-). :- mode q. q :- p(X,X). p(a,a).", "refused sheet 9 34 1 1 1 p"),
     (b":- mode p(*,-). p(X,X).", "refused sheet 10 20 1 0 2 p"),
     (b":- mode p(-). p(X) :- true, fail.", "accepted 1 1"),
@@ -109,7 +109,7 @@ CHECKS = [
     (b":-mode p(-). :-mode q(+). p(X) :- fail, q(Y), q(_). q(a).", "accepted 2 2"),
     (b":-mode p(-,-). p(X,_) :- a = f(a).", "accepted 1 1"),
     (b":-mode p(-). p(X) :- a = 1.", "accepted 1 1"),
-    # paper 02 (iii): equal without leading zeros; before, these were accepted by a clash
+    # REQUESTS (iii): equal without leading zeros; before, these were accepted by a clash
     (b":-mode p(-). p(X) :- 1 = 01.", "refused sheet 10 15 1 0 1 p"),
     (b":-mode p(+). p(X) :- 1 = 01, p(Y).", "refused sheet 9 31 1 2 1 p"),
     (b":-mode p(-). p(X) :- 1 = 10.", "accepted 1 1"),
@@ -117,7 +117,7 @@ CHECKS = [
     (b":-mode p(-). p(X) :- 00 = 0.", "refused sheet 10 15 1 0 1 p"),
     (b":-mode p(-). p(X) :- X = f(X).", "refused sheet 10 15 1 0 1 p"),
     (b":-mode p(-). p(X) :- f(Y,X) = f(a,Y).", "accepted 1 1"),
-    # paper 02 (xiv): an equation is gone over again, other literals are not
+    # REQUESTS (xiv): an equation is gone over again, other literals are not
     (b":-mode p(-). p(X) :- f(X,Y) = f(Y,a).", "accepted 1 1"),
     (b":-mode p(-). p(X) :- f(X,Y,Z) = f(Y,Z,a).", "accepted 1 1"),
     (b":-mode p(-). p(X) :- X = Y, Y = a.", "refused sheet 10 15 1 0 1 p"),
@@ -129,7 +129,7 @@ CHECKS = [
     # 9 before, now 10 at the head, and 9 at a later literal
     (b":-mode p(-). :-mode q(+). p(X) :- f(Y,Z) = f(Z,a), q(Y). q(X).", "refused sheet 10 28 1 0 1 p"),
     (b":-mode p(-). :-mode q(+). p(X) :- f(Y,Z) = f(Z,a), q(Y), q(X). q(X).", "refused sheet 9 59 1 3 1 q"),
-    # paper 02, (ii): the first open variable in the argument, where it stands there
+    # REQUESTS (ii): the first open variable in the argument, where it stands there
     (b":-mode p(+). p(X) :- Y = Z, p(f(X,g(Z),Y)).", "refused sheet 9 36 1 2 1 p"),
     (b":-mode p(-,-). p(X,f(a,Y,X)) :- X=b.", "refused sheet 10 23 1 0 2 p"),
     (b":-mode p(-). p(f(X,X)).", "refused sheet 10 17 1 0 1 p"),
@@ -137,7 +137,7 @@ CHECKS = [
     (b":-mode p(*,-). p(X,f(a,g(X))).", "refused sheet 10 25 1 0 2 p"),
     (b":-mode p(+,+,+). p(X,Y,Z) :- p(Y,f(X,a),g(_,W)).",
      "refused sheet 9 42 1 1 3 p"),
-    # paper 02, (x): the first declared predicate without a clause, between 8 and 9; `seen` of three arguments is exempt
+    # REQUESTS (x): the first declared predicate without a clause, between 8 and 9; `seen` of three arguments is exempt
     (b":-mode p(-). :-mode q. p(X).", "refused sheet 16 20 0 0 0"),
     (b":-mode p(-). :-mode q. p(X) :- r.", "refused sheet 8 0 1 1 0 r"),
     (b":-mode seen(+,+,+).", "accepted 1 0"),
@@ -154,7 +154,7 @@ CHECKS = [
     (b":-mode p. :-mode p.", "refused sheet 7 17 0 0 0"),
     (b":-mode p(+). :-mode q. p(X) :- p(Y).", "refused sheet 16 20 0 0 0"),
     (b":- mode rinsed(-). :- mode rinse_end(-). rinse_end(a).", "refused sheet 16 8 0 0 0"),
-    # paper 02, (i): two bodies of one literal or more, with a semicolon between; a literal, not a term and not a head
+    # REQUESTS (i): two bodies of one literal or more, with a semicolon between; a literal, not a term and not a head
     (b":-mode p. p:-(true;fail,true),((true;fail);true).", "accepted 1 1"),
     (b":-mode p. p :- ( true % ;\n ; true ) .", "accepted 1 1"),
     (b"(a;b):-c.", "refused sheet 5 0 0 0 0"),
@@ -242,7 +242,7 @@ GOALS = [
     (b":- mode p.", "refused goal 5 0 0 0 0"),
     (b"!" * 1_025, "refused goal 2 0 0 0 0"),
     (b"true." + b" " * 1_019, "accepted 0 0"),
-    # paper 02, (i)
+    # REQUESTS (i)
     (b"(true;true).", "accepted 0 0"),
     (b"((X=a;X=b);X=c).", "accepted 0 0"),
     (b"(true).", "refused goal 5 5 0 0 0"),
@@ -257,7 +257,7 @@ GOALS = [
 ]
 
 RUNS = [
-    # paper 01
+    # RULES
     (PLUS % b"+,+,-", b"plus(s(z),z,X).", "X = s(z)\nend done 1 7"),
     (b"", b"X = f(X).", "end done 0 1"),
     (b"", b"true.", "yes\nend done 1 2"),
@@ -266,7 +266,7 @@ RUNS = [
     (b"p(.", b"", "refused sheet 5 2 0 0 0"),
     (b"", b"p.", "refused goal 8 0 0 1 0 p"),
     (b":-mode p(-,+). p(a,a).", b"true, p(X,Y), q.", "refused goal 8 0 0 3 0 q"),
-    # paper 02 (iii): numerals without leading zeros, in facts, goals and answers; names are not touched
+    # REQUESTS (iii): numerals without leading zeros, in facts, goals and answers; names are not touched
     (b":-mode p(*). p(007). p(00).", b"p(7), p(X).", "X = 7\nX = 0\nend done 2 8"),
     (b"", b"01 = 1.", "yes\nend done 1 2"),
     (b"", b"X=f(000,a01,b007).", "X = f(0,a01,b007)\nend done 1 2"),
@@ -276,24 +276,24 @@ RUNS = [
     (b"", b"X = " + b"0" * 32 + b".", "refused goal 4 4 0 0 0"),
     (b"", b"X = 10, Y = 010, X = Y, Z = 100.", "X = 10, Y = 10, Z = 100\nend done 1 5"),
     (b":-mode p(-,+). p(a,a).", b"true, p(X,f(Y)).", "refused goal 9 12 0 2 2 p"),
-    # paper 02, (xiv): goals too
+    # REQUESTS (xiv): goals too
     (b":-mode p(+). p(a).", b"f(X,Y) = f(Y,a), p(X).", "X = a, Y = a\nend done 1 4"),
     (b":-mode p(+). p(a).", b"f(X,Y) = f(Y,Z), p(X).", "refused goal 9 19 0 2 1 p"),
-    # paper 02, (ii): a byte of the goal
+    # REQUESTS (ii): a byte of the goal
     (b":-mode p(+). p(a).", b"p(f(a,_)).", "refused goal 9 6 0 1 1 p"),
     (b":-mode p(+). p(a).", b"X=a,p(f(X,_)).", "refused goal 9 10 0 2 1 p"),
     # the run
     (b":-mode p(*). :-mode q(*). q(c). p(a). q(d). p(b).", b"p(b).",
      "yes\nend done 1 4"),
     (b":-mode l. l :- l.", b"l.", "end deep 0 255"),
-    # paper 02, (x): neither program gives the mark; `seen` is called without a clause
+    # REQUESTS (x): neither program gives the mark; `seen` is called without a clause
     (b":-mode p.", b"true.", "refused sheet 16 7 0 0 0"),
     (b":-mode p.", b"p(", "refused sheet 16 7 0 0 0"),
     (b":-mode seen(*,*,*).", b"seen(X,Y,Z).", "end done 0 1"),
     (b"", b"A = f(B,C), C = D.",
      "A = f(_1,_2), B = _1, C = _2, D = _2\nend done 1 3"),
     (b"", b"__ = _1, _ = _X.", "__ = _1, _1 = _1, _X = _2\nend done 1 3"),
-    # paper 02, (i): one step for the bracket; the right side waits below the left one, with the bindings from before it
+    # REQUESTS (i): one step for the bracket; the right side waits below the left one, with the bindings from before it
     (b"", b"(true;true).", "yes\nyes\nend done 2 5"),
     (b"", b"(fail;true).", "yes\nend done 1 4"),
     (b"", b"(fail;fail).", "end done 0 3"),
@@ -422,7 +422,7 @@ TRACED = [
     (b"", b"true.", b"\x02\x00\x00\xff\x09", "refused trace 13 3 0 0 0"),
 ]
 
-# Paper 02 (xii) and the rulings on it. A no names the first pair of clauses, or the first with a bracket, and 0.
+# REQUESTS (xii) and the rulings on it. A no names the first pair of clauses, or the first with a bracket, and 0.
 TWO = b":-mode p(+,+). "
 DETERMINATE = [
     # common instances: with occurs check, jointly, variables apart but shared within a clause

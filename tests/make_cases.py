@@ -126,7 +126,7 @@ class Runs:
         return self.reports[record]
 
     def same_beginnings(self):
-        """Holds all cases that differ in the allowance alone to paper 02 (xiii), and prints how many they are."""
+        """Holds all cases that differ in the allowance alone to REQUESTS (xiii), and prints how many they are."""
         several = [sorted(answers.items()) for answers in self.allowed.values() if len(answers) > 1]
         for answers in several:
             for (_, fewer), (_, more) in zip(answers, answers[1:]):

@@ -215,7 +215,7 @@ def steps_and_ends(add):
 
 
 def every_allowance(add):
-    """Paper 02, (xiii): longer runs at every allowance, and short rooms and few wanted answers; trace_cases has more of them."""
+    """REQUESTS (xiii): longer runs at every allowance, and short rooms and few wanted answers; trace_cases has more of them."""
     for sheet, goal, settings in (
         (":-mode n(-). n(z). n(s(X)) :- n(X).", "n(X).", {}),
         (":-mode n(-). n(z). n(s(X)) :- n(X).", "n(X).", {"room": 99}),
@@ -501,7 +501,7 @@ def by_chance(add, rng):
 
 
 def single_ends(add, rng):
-    """Goals with one line, over sheets that get a yes by paper 02 (xii): to the end, and up to the line and one step less."""
+    """Goals with one line, over sheets that get a yes by REQUESTS (xii): to the end, and up to the line and one step less."""
     made = 0
     for _, sheet, goal in determinacy_cases.single_runs(rng):
         whole = engine.run(sheet, goal, ALLOWANCE, WANTED, ROOM)

@@ -198,7 +198,7 @@ def sessions(add):
 
 
 def every_allowance(add):
-    """Paper 02, (xiii): runs at every allowance, with facts and with none, to each of the ends."""
+    """REQUESTS (xiii): runs at every allowance, with facts and with none, to each of the ends."""
     trace = record(65_530, 0) + record(2) + record(9, 3) + record(9, 4)
     for sheet, goals in RAISED:
         for goal, given in product(goals, (trace, b"")):

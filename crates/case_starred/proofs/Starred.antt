@@ -1,4 +1,4 @@
--- Document 01's list of cases, the starred ones and the two without a star: one list of texts, what the two programs print for them, and one claim
+-- The list of cases of RULES, the starred ones and the two without a star: one list of texts, what the two programs print for them, and one claim
 -- about the list, by evaluation of the definitions. Assumes nothing.
 use Prim.Native.Nat.{ℕ}
 use mathlib.Core.Path.{◌≡◌, refl}

@@ -1,4 +1,4 @@
--- What the two programs print (document 01, "Two programs and what they print").
+-- What the two programs print (RULES, "Two programs and what they print").
 use Rattle.std.specs.Prelude.{ℕ, false, List, [], ◌++◌}
 use Rattle.syntax.specs.Limits.{most_steps}
 use Rattle.syntax.specs.Verdicts.{Verdict}
@@ -28,7 +28,7 @@ runner_answers = 16
 abbrev pub runner_text : ℕ
 runner_text = 4096
 
--- the most steps, and no mark: "the runner gives none" (document 02, (x))
+-- the most steps, and no mark: "the runner gives none" (REQUESTS (x))
 abbrev pub runner_settings : RunSettings
 runner_settings = record { allowance = most_steps; wanted = runner_answers; stored = false }
 

@@ -1,3 +1,3 @@
-// What the two programs print, and document 01's starred cases of it: definitions and proofs, no code.
+// What the two programs print, and the starred cases of RULES: definitions and proofs, no code.
 
 #![tactic(auto)]

@@ -9,12 +9,14 @@ use lib.ListN.{length}
 use Rattle.syntax.specs.Terms.{done, Sheet, Goal, literals_of}
 use Rattle.syntax.specs.Words.{body_words, body_length}
 use Rattle.mode_marks.specs.Standing.{done_stands}
+use Rattle.mode_marks.specs.declared.marks.Declarations.{Declarations}
 use Rattle.machine.specs.Determinacy.{first_bracketed, Pair, first_pair, against, judged_by}
 use Rattle.run_layout.proofs.Limits.{program-limited}
 use Rattle.run_layout.specs.Regions.{nodes_words, code_words, store_words, narrow_words}
 use Rattle.run_layout.specs.Limits.{GoalLimited}
 use Rattle.run_layout.specs.Program.{Program}
 use Rattle.run_layout.proofs.State.{no-entries}
+use Rattle.run_alternatives.specs.declared.Compiled.{Compiled}
 use Rattle.loader.specs.Loading.{Loadable, Loaded}
 use Rattle.linker.specs.Linking.{Linkable}
 use Rattle.determinacy.specs.declared.Determinacy.{Determinacy}
@@ -28,25 +30,23 @@ use Rattle.determinacy.proofs.PairLaws.{told-no}
 
 -- ---- no bindings yet
 
-pub pairable : {s declared : List ℕ} {n : ℕ} {table : List ℕ} {k : ℕ} {nodes code state scratch : List ℕ} → Zeros store_words state → Zeros narrow_words scratch
-    → SheetLinked s declared n table k nodes code → PairsReady s declared n table k nodes code state scratch
-pairable {nodes = nodes} {state = state} {scratch = scratch} z y w =
-    let a : store_words ≡ length state = z.long in
-    let b : narrow_words ≡ length scratch = y.long in
-    record {
-      linked = w;
-      blank = record {
-        store = no-entries w.ss nodes state (omega arith) w.program.small (λ i l. z.zero_words i);
-        roomy = omega arith;
-        clean = record { long = omega arith; zero = λ i l. y.zero_words i };
-      };
-    }
+module _ {declared : Declarations} {table : List ℕ} {k : ℕ} {program : Compiled} {state scratch : List ℕ} (z : Zeros store_words state) (y : Zeros narrow_words scratch) where
+  pub pairable : SheetLinked declared.text.now declared.words.now declared.count table k program.nodes.now program.code.now → PairsReady declared table k program state scratch
+  pairable w = record {
+    linked = w;
+    blank = record {
+      store = no-entries w.ss program.nodes.now state (omega (arith, z.long)) w.program.small (λ i l. z.zero_words i);
+      roomy = omega (arith, y.long);
+      clean = record { long = omega (arith, y.long); zero = λ i l. y.zero_words i };
+    };
+  }
 
-pub linked-judged : {s declared : List ℕ} {n : ℕ} {table : List ℕ} {k : ℕ} {nodes code state scratch : List ℕ} → Zeros store_words state → Zeros narrow_words scratch → {r : Determinacy}
-    → ((v : PairsReady s declared n table k nodes code state scratch) → r ≡ told (judged_by (first_pair v.linked.stands.sheet.declarations 1 v.linked.stands.sheet.clauses)))
-    → (w : SheetLinked s declared n table k nodes code) → r ≡ told (judged_by (first_pair w.stands.sheet.declarations 1 w.stands.sheet.clauses))
-unfolding pairable
-linked-judged z y f w = f (pairable z y w)
+  pub linked-judged : {r : Determinacy}
+      → ((v : PairsReady declared table k program state scratch) → r ≡ told (judged_by (first_pair v.linked.stands.sheet.declarations 1 v.linked.stands.sheet.clauses)))
+      → (w : SheetLinked declared.text.now declared.words.now declared.count table k program.nodes.now program.code.now)
+      → r ≡ told (judged_by (first_pair w.stands.sheet.declarations 1 w.stands.sheet.clauses))
+  unfolding pairable
+  linked-judged f w = f (pairable w)
 
 -- ---- loading and linking, with a goal of no literals
 

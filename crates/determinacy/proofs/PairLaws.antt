@@ -13,8 +13,11 @@ use Rattle.mode_rules.specs.Modes.{marks_for}
 use Rattle.table_words.specs.Tables.{Has}
 use Rattle.table_words.proofs.Laws.{has_left, has_right}
 use Rattle.mode_marks.specs.Standing.{ClauseSpelt, ClausesSpelt, clause_stands}
-use Rattle.mode_marks.specs.Tables.{DeclarationsAt, AtomAt}
+use Rattle.mode_marks.specs.Tables.{AtomAt}
+use Rattle.mode_marks.specs.Stand.{Stand}
+use Rattle.mode_marks.specs.declared.marks.Declarations.{Declarations}
 use Rattle.machine.specs.Machine.{clause_at}
+use Rattle.run_alternatives.specs.declared.Compiled.{Compiled}
 use Rattle.machine.specs.Determinacy.{first_overlap, Pair, first_pair, judged_by}
 use Rattle.determinacy.specs.Told.{told}
 use Rattle.determinacy_brackets.specs.Clauses.{told_number}
@@ -40,67 +43,66 @@ pub told-no : (m n : ℕ) → told (judged_by (some (record { first = m; second 
 unfolding told judged_by
 told-no m n = refl
 
-module _ {s declared : List ℕ} {n : ℕ} {table : List ℕ} {k : ℕ} {nodes code before scratch : List ℕ} where
-  abbrev sheet-of : PairsReady s declared n table k nodes code before scratch → Sheet
-  sheet-of w = w.linked.stands.sheet
+module _ {declared : Declarations} {table : List ℕ} {k : ℕ} {program : Compiled} {before scratch : List ℕ} (w : PairsReady declared table k program before scratch) where
+  abbrev sheet : Sheet
+  sheet = w.linked.stands.sheet
 
   -- What is left of the clauses from the i-th on stands at a place and gives the answer of the whole; there are no bindings.
-  pub record Ranging (w : PairsReady s declared n table k nodes code before scratch) (state later : List ℕ) (at i : ℕ) : Type 0 where
+  pub record Ranging (state later : List ℕ) (at i : ℕ) : Type 0 where
     pub list : List Clause
-    pub is : list ≡ drop i (sheet-of w).clauses
+    pub is : list ≡ drop i sheet.clauses
     pub has : Has table at (clauses_words list)
     pub count : k ≡ i + length list
-    pub stand : ClausesSpelt s list
-    pub blank : NothingBound w.linked.ss nodes state later
-    pub same : first_pair (sheet-of w).declarations 1 (sheet-of w).clauses ≡ first_pair (sheet-of w).declarations (suc i) list
+    pub stand : ClausesSpelt declared.text.now list
+    pub blank : NothingBound w.linked.ss program.nodes.now state later
+    pub same : first_pair sheet.declarations 1 sheet.clauses ≡ first_pair sheet.declarations (suc i) list
 
-  pub declarations-at : PairsReady s declared n table k nodes code before scratch → DeclarationsAt s declared n
-  declarations-at w = record {
-    list = (sheet-of w).declarations;
+  pub declarations-at : Stand declared
+  declarations-at = record {
+    list = sheet.declarations;
     has = w.linked.stands.has_declarations;
     count = w.linked.stands.declarations_count;
     stand = w.linked.stands.stands.declarations;
   }
 
-  pub range-begins : (w : PairsReady s declared n table k nodes code before scratch) → Ranging w before scratch 0 0
-  range-begins w = record {
-    list = (sheet-of w).clauses;
+  pub range-begins : Ranging before scratch 0 0
+  range-begins = record {
+    list = sheet.clauses;
     is = refl;
     has = w.linked.stands.has_clauses;
-    count = (let e : k ≡ 0 + length (sheet-of w).clauses = omega (arith, w.linked.stands.clauses_count) in e);
+    count = (let e : k ≡ 0 + length sheet.clauses = omega (arith, w.linked.stands.clauses_count) in e);
     stand = w.linked.stands.stands.clauses;
     blank = w.blank;
     same = refl;
   }
 
-  pub range-ends : {state later : List ℕ} {at i : ℕ} → k ≤ i → (w : PairsReady s declared n table k nodes code before scratch) → Ranging w state later at i
-      → Yes ≡ told (judged_by (first_pair (sheet-of w).declarations 1 (sheet-of w).clauses))
-  range-ends {state} {later} {at} {i} l w o = by o.list o.count o.same
+  pub range-ends : {state later : List ℕ} {at i : ℕ} → k ≤ i → Ranging state later at i → Yes ≡ told (judged_by (first_pair sheet.declarations 1 sheet.clauses))
+  range-ends {i = i} l o = by o.list o.count o.same
     where
-      by : (cls : List Clause) → k ≡ i + length cls → first_pair (sheet-of w).declarations 1 (sheet-of w).clauses ≡ first_pair (sheet-of w).declarations (suc i) cls
-          → Yes ≡ told (judged_by (first_pair (sheet-of w).declarations 1 (sheet-of w).clauses))
-      by [] c e = let z : first_pair (sheet-of w).declarations (suc i) [] ≡ none = (unfold first_pair in refl) in sym (ap (λ (p : Option Pair). told (judged_by p)) (e ∙ z) ∙ told-yes)
+      by : (cls : List Clause) → k ≡ i + length cls → first_pair sheet.declarations 1 sheet.clauses ≡ first_pair sheet.declarations (suc i) cls
+          → Yes ≡ told (judged_by (first_pair sheet.declarations 1 sheet.clauses))
+      by [] c e = let z : first_pair sheet.declarations (suc i) [] ≡ none = (unfold first_pair in refl) in sym (ap (λ (p : Option Pair). told (judged_by p)) (e ∙ z) ∙ told-yes)
       by (x ∷ cls) c e = absurd (let z : k ≡ i + suc (length cls) = c in omega arith)
 
   -- the first of what is left, and the others
-  record Turn (w : PairsReady s declared n table k nodes code before scratch) (at i : ℕ) : Type 0 where
+  record Turn (at i : ℕ) : Type 0 where
     clause : Clause
     left : List Clause
     here : Has table at (clause_words clause)
     behind : Has table (at + length (clause_words clause)) (clauses_words left)
-    stands : ClauseSpelt s clause
-    stand : ClausesSpelt s left
+    stands : ClauseSpelt declared.text.now clause
+    stand : ClausesSpelt declared.text.now left
     count : k ≡ i + suc (length left)
-    is : left ≡ drop (suc i) (sheet-of w).clauses
-    there : clause_at (sheet-of w) (suc i) ≡ some clause
-    same : first_pair (sheet-of w).declarations 1 (sheet-of w).clauses ≡ first_pair (sheet-of w).declarations (suc i) (clause ∷ left)
+    is : left ≡ drop (suc i) sheet.clauses
+    there : clause_at sheet (suc i) ≡ some clause
+    same : first_pair sheet.declarations 1 sheet.clauses ≡ first_pair sheet.declarations (suc i) (clause ∷ left)
 
-  module _ {state later : List ℕ} {at i : ℕ} (l : i < k) where
-    turn : (w : PairsReady s declared n table k nodes code before scratch) → Ranging w state later at i → Turn w at i
-    turn w o = by o.list o.is o.has o.count o.stand o.same
+  module _ {state later : List ℕ} {at i : ℕ} (l : i < k) (o : Ranging state later at i) where
+    turn : Turn at i
+    turn = by o.list o.is o.has o.count o.stand o.same
       where
-        by : (cls : List Clause) → cls ≡ drop i (sheet-of w).clauses → Has table at (clauses_words cls) → k ≡ i + length cls → ClausesSpelt s cls
-            → first_pair (sheet-of w).declarations 1 (sheet-of w).clauses ≡ first_pair (sheet-of w).declarations (suc i) cls → Turn w at i
+        by : (cls : List Clause) → cls ≡ drop i sheet.clauses → Has table at (clauses_words cls) → k ≡ i + length cls → ClausesSpelt declared.text.now cls
+            → first_pair sheet.declarations 1 sheet.clauses ≡ first_pair sheet.declarations (suc i) cls → Turn at i
         by [] d h c t e = absurd (let z : k ≡ i + 0 = c in omega arith)
         by (x ∷ cls) d h c (clause_stands t ts) e = record {
           clause = x;
@@ -110,67 +112,66 @@ module _ {s declared : List ℕ} {n : ℕ} {table : List ℕ} {k : ℕ} {nodes c
           stands = t;
           stand = ts;
           count = c;
-          is = drop-tail i (sheet-of w).clauses x cls d;
-          there = unfold clause_at in drop_nth i (sheet-of w).clauses x cls d;
+          is = drop-tail i sheet.clauses x cls d;
+          there = unfold clause_at in drop_nth i sheet.clauses x cls d;
           same = e;
         }
 
-    pub range_clause : (w : PairsReady s declared n table k nodes code before scratch) → Ranging w state later at i → (x : Clause) × Has table at (clause_words x)
-    range_clause w o = ((turn w o).clause, (turn w o).here)
+    pub range_clause : (x : Clause) × Has table at (clause_words x)
+    range_clause = (turn.clause, turn.here)
 
-    pub range_inside : (w : PairsReady s declared n table k nodes code before scratch) → Ranging w state later at i → at + 2 < length table
-    range_inside w o = clause-inside table at (turn w o).clause (turn w o).here
+    pub range_inside : at + 2 < length table
+    range_inside = clause-inside table at turn.clause turn.here
 
-    pub range_head : (w : PairsReady s declared n table k nodes code before scratch) → Ranging w state later at i → AtomAt s table (at + 3)
-    range_head w o = record { atom = (turn w o).clause.head; has = head-has table at (turn w o).clause (turn w o).here; stands = (turn w o).stands.head }
+    pub range_head : AtomAt declared.text.now table (at + 3)
+    range_head = record { atom = turn.clause.head; has = head-has table at turn.clause turn.here; stands = turn.stands.head }
 
-    module _ {marks : ℕ} (em : (d : DeclarationsAt s declared n) (a : AtomAt s table (at + 3)) → marks ≡ marks_number (marks_for d.list a.atom)) where
-      pub range_of : (w : PairsReady s declared n table k nodes code before scratch) → Ranging w state later at i → ClauseOf nodes code state later (i + 1) marks
+    module _ {marks : ℕ} (em : (d : Stand declared) (a : AtomAt declared.text.now table (at + 3)) → marks ≡ marks_number (marks_for d.list a.atom)) where
+      pub range_of : ClauseOf program.nodes.now program.code.now state later (i + 1) marks
       unfolding range_head declarations-at
-      range_of w o = record {
+      range_of = record {
         ss = w.linked.ss;
-        sh = sheet-of w;
+        sh = sheet;
         g = w.linked.g;
         program = w.linked.program;
         blank = o.blank;
-        clause = (turn w o).clause;
-        there = ap (clause_at (sheet-of w)) (add-one i) ∙ (turn w o).there;
-        number = em (declarations-at w) (range_head w o);
+        clause = turn.clause;
+        there = ap (clause_at sheet) (add-one i) ∙ turn.there;
+        number = em declarations-at range_head;
       }
 
-      module _ {state1 later1 : List ℕ} {r : Told ℕ} (f : (v : ClauseOf nodes code state later (i + 1) marks) → FirstBehind nodes code state state1 later later1 (i + 1) marks v r)
-          (w : PairsReady s declared n table k nodes code before scratch) (o : Ranging w state later at i) where
-        behind_is : r ≡ told_number (first_overlap (sheet-of w).declarations (turn w o).clause (suc (suc i)) (turn w o).left)
+      module _ {state1 later1 : List ℕ} {r : Told ℕ} (f : (v : ClauseOf program.nodes.now program.code.now state later (i + 1) marks) → FirstBehind v state1 later1 r) where
+        behind_is : r ≡ told_number (first_overlap sheet.declarations turn.clause (suc (suc i)) turn.left)
         unfolding range_of
         behind_is =
-            (f (range_of w o)).is
-            ∙ ap (λ (m : ℕ). told_number (first_overlap (sheet-of w).declarations (turn w o).clause (suc m) (drop m (sheet-of w).clauses))) (add-one i)
-            ∙ ap (λ (cls : List Clause). told_number (first_overlap (sheet-of w).declarations (turn w o).clause (suc (suc i)) cls)) (sym (turn w o).is)
+            (f range_of).is
+            ∙ ap (λ (m : ℕ). told_number (first_overlap sheet.declarations turn.clause (suc m) (drop m sheet.clauses))) (add-one i)
+            ∙ ap (λ (cls : List Clause). told_number (first_overlap sheet.declarations turn.clause (suc (suc i)) cls)) (sym turn.is)
 
-        blank_after : NothingBound w.linked.ss nodes state1 later1
+        blank_after : NothingBound w.linked.ss program.nodes.now state1 later1
         unfolding range_of
-        blank_after = (f (range_of w o)).blank
+        blank_after = (f range_of).blank
 
-        pub range_stops : {m : ℕ} → r ≡ Some m → No (i + 1) m ≡ told (judged_by (first_pair (sheet-of w).declarations 1 (sheet-of w).clauses))
+        pub range_stops : {m : ℕ} → r ≡ Some m → No (i + 1) m ≡ told (judged_by (first_pair sheet.declarations 1 sheet.clauses))
         range_stops {m} d =
-            let a : first_overlap (sheet-of w).declarations (turn w o).clause (suc (suc i)) (turn w o).left ≡ some m =
-            number-some (first_overlap (sheet-of w).declarations (turn w o).clause (suc (suc i)) (turn w o).left) m (sym d ∙ behind_is) in
-            let b : first_pair (sheet-of w).declarations 1 (sheet-of w).clauses ≡ some (record { first = suc i; second = m }) =
-            (turn w o).same ∙ pair-by (sheet-of w).declarations (suc i) (turn w o).clause (turn w o).left (some m) a in
+            let a : first_overlap sheet.declarations turn.clause (suc (suc i)) turn.left ≡ some m =
+            number-some (first_overlap sheet.declarations turn.clause (suc (suc i)) turn.left) m (sym d ∙ behind_is) in
+            let b : first_pair sheet.declarations 1 sheet.clauses ≡ some (record { first = suc i; second = m }) =
+            turn.same ∙ pair-by sheet.declarations (suc i) turn.clause turn.left (some m) a in
             ap (λ (j : ℕ). No j m) (add-one i) ∙ sym (ap (λ (p : Option Pair). told (judged_by p)) b ∙ told-no (suc i) m)
 
-        pub range_on : r ≡ None → {next : ℕ} → ((x : Clause) → Has table at (clause_words x) → next ≡ at + length (clause_words x)) → Ranging w state1 later1 next (i + 1)
+        pub range_on : r ≡ None → {next : ℕ} → ((x : Clause) → Has table at (clause_words x) → next ≡ at + length (clause_words x)) → Ranging state1 later1 next (i + 1)
         range_on d {next} en =
-            let a : first_overlap (sheet-of w).declarations (turn w o).clause (suc (suc i)) (turn w o).left ≡ none =
-            number-none (first_overlap (sheet-of w).declarations (turn w o).clause (suc (suc i)) (turn w o).left) (sym d ∙ behind_is) in
-            let c : k ≡ i + suc (length (turn w o).left) = (turn w o).count in
+            let a : first_overlap sheet.declarations turn.clause (suc (suc i)) turn.left ≡ none =
+            number-none (first_overlap sheet.declarations turn.clause (suc (suc i)) turn.left) (sym d ∙ behind_is) in
+            let c : k ≡ i + suc (length turn.left) = turn.count in
             record {
-              list = (turn w o).left;
-              is = (turn w o).is ∙ ap (λ (m : ℕ). drop m (sheet-of w).clauses) (sym (add-one i));
-              has = subst⁻¹ (λ (j : ℕ). Has table j (clauses_words (turn w o).left)) (en (turn w o).clause (turn w o).here) (turn w o).behind;
+              list = turn.left;
+              is = turn.is ∙ ap (λ (m : ℕ). drop m sheet.clauses) (sym (add-one i));
+              has = subst⁻¹ (λ (j : ℕ). Has table j (clauses_words turn.left)) (en turn.clause turn.here) turn.behind;
               count = omega arith;
-              stand = (turn w o).stand;
+              stand = turn.stand;
               blank = blank_after;
-              same = (turn w o).same ∙ pair-by (sheet-of w).declarations (suc i) (turn w o).clause (turn w o).left none a
-                  ∙ ap (λ (m : ℕ). first_pair (sheet-of w).declarations (suc m) (turn w o).left) (sym (add-one i));
+              same = turn.same ∙ pair-by sheet.declarations (suc i) turn.clause turn.left none a
+                  ∙ ap (λ (m : ℕ). first_pair sheet.declarations (suc m) turn.left) (sym (add-one i));
             }

@@ -4,12 +4,14 @@ use Rattle.syntax.specs.Limits.{sheet_bytes}
 use Rattle.syntax.specs.Terms.{Goal}
 use Rattle.syntax.specs.Words.{sheet_words}
 use Rattle.mode_marks.specs.Tables.{SheetAt}
+use Rattle.mode_marks.specs.declared.marks.Declarations.{Declarations}
 use Rattle.run_layout.specs.Limits.{SheetLimited}
 use Rattle.run_layout.specs.Nodes.{Symbol}
 use Rattle.run_layout.specs.Program.{Program}
+use Rattle.run_alternatives.specs.declared.Compiled.{Compiled}
 use Rattle.determinacy_overlaps.specs.Overlaps.{NothingBound}
 
--- a sheet of which the n declarations and k clauses stand in tables, within document 01's limits
+-- a sheet of which the n declarations and k clauses stand in tables, within the limits of RULES
 pub record SheetReady (s declared : List ℕ) (n : ℕ) (table : List ℕ) (k : ℕ) : Type 0 where
   pub stands : SheetAt s declared n table k
   pub limits : SheetLimited stands.sheet
@@ -23,7 +25,7 @@ pub record SheetLinked (s declared : List ℕ) (n : ℕ) (table : List ℕ) (k :
   pub g : Goal
   pub program : Program ss stands.sheet g nodes code
 
--- and words for unification, without bindings
-pub record PairsReady (s declared : List ℕ) (n : ℕ) (table : List ℕ) (k : ℕ) (nodes code state scratch : List ℕ) : Type 0 where
-  pub linked : SheetLinked s declared n table k nodes code
-  pub blank : NothingBound linked.ss nodes state scratch
+-- the same of declarations and program as the code holds them, and words for unification, without bindings
+pub record PairsReady (declared : Declarations) (table : List ℕ) (k : ℕ) (program : Compiled) (state scratch : List ℕ) : Type 0 where
+  pub linked : SheetLinked declared.text.now declared.words.now declared.count table k program.nodes.now program.code.now
+  pub blank : NothingBound linked.ss program.nodes.now state scratch

@@ -1,4 +1,4 @@
-// Document 02, (xii): whether an accepted sheet has no bracket and no two clauses of one predicate whose + arguments have a common instance, so that
+// REQUESTS (xii): whether an accepted sheet has no bracket and no two clauses of one predicate whose + arguments have a common instance, so that
 // a run writes at most one line.
 
 #![tactic(auto)]

@@ -20,10 +20,8 @@ pub fn first_pair(
     state: &mut [u32],
     scratch: &mut [u32],
 ) -> Determinacy
-    requires { PairsReady declarations.text.now declarations.words.now declarations.count table.now k program.nodes.now program.code.now
-        state.old scratch.old }
-    ensures { (w : PairsReady declarations.entry.text.now declarations.entry.words.now declarations.entry.count
-        table.now k program.entry.nodes.now program.entry.code.now state.old scratch.old) → result
+    requires { PairsReady declarations table.now k program state.old scratch.old }
+    ensures { (w : PairsReady declarations.entry table.now k program.entry state.old scratch.old) → result
         ≡ told (judged_by (first_pair w.linked.stands.sheet.declarations 1 w.linked.stands.sheet.clauses)) }
 {
     let read = ReadText {

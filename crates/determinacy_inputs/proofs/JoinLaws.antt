@@ -48,7 +48,7 @@ module _ {nodes state scratch : List ℕ} {p q n : ℕ} where
 
   module _ (marks : ℕ) {k : ℕ} (e : k ≡ first_mark marks) where
     pub meets-other : (k ≡ mark_number input → ⊥) → (w : Paired nodes state scratch p q n)
-        → InputUnified w.ss nodes state state scratch scratch p q n (eqb (first_mark marks) (mark_number input)) (record { equal = true; trail = n })
+        → InputUnified w state scratch (eqb (first_mark marks) (mark_number input)) (record { equal = true; trail = n })
     meets-other d w = record {
       store = w.store;
       within = w.within;
@@ -59,9 +59,9 @@ module _ {nodes state scratch : List ℕ} {p q n : ℕ} where
 
     pub meets-input : k ≡ mark_number input → {after later : List ℕ} {r : UnifyAnswer}
         → ((v : Unifiable nodes state scratch (record { node = p; copy = left_copy }) (record { node = q; copy = right_copy }) n) → UnifyGives v after later r)
-        → (w : Paired nodes state scratch p q n) → InputUnified w.ss nodes state after scratch later p q n (eqb (first_mark marks) (mark_number input)) r
-    meets-input d {after} {later} {r} f w =
-        let u : UnifyGives (unifiable w) after later r = f (unifiable w) in
+        → (w : Paired nodes state scratch p q n) → InputUnified w after later (eqb (first_mark marks) (mark_number input)) r
+    meets-input d f w =
+        let u = f (unifiable w) in
         record {
           store = u.store;
           within = u.within;
@@ -144,13 +144,13 @@ parted ss nodes p t ts s =
 -- ---- the arguments of two heads
 
 -- the first pair, and the rows behind it
-record Split (ss : List Symbol) (nodes : List ℕ) (p stop q marks : ℕ) (listed : List Mark) (left right : Terms) : Type 0 where
-  t : Term
-  u : Term
+pub record Split (ss : List Symbol) (nodes : List ℕ) (p stop q marks : ℕ) (listed : List Mark) (left right : Terms) : Type 0 where
+  pub t : Term
+  pub u : Term
   ts : Terms
   us : Terms
-  one : TermLoaded ss nodes p t
-  two : TermLoaded ss nodes q u
+  pub one : TermLoaded ss nodes p t
+  pub two : TermLoaded ss nodes q u
   left_stand : TermsLoaded ss nodes (p + get_or nodes (p + 1) 0) ts
   right_stand : TermsLoaded ss nodes (q + get_or nodes (q + 1) 0) us
   ends : stop ≡ p + get_or nodes (p + 1) 0 + length (loaded_all ss ts)
@@ -184,8 +184,7 @@ split_by ss nodes p stop q marks listed (cons t ts) (cons u us) l a b e k m =
     }
 
 module _ {nodes state scratch : List ℕ} {p stop q marks n : ℕ} where
-  pub join-none : stop ≤ p → (w : Joinable nodes state scratch p stop q marks n)
-      → Joins w.ss nodes state state scratch scratch w.left w.right w.listed n (record { equal = true; trail = n })
+  pub join-none : stop ≤ p → (w : Joinable nodes state scratch p stop q marks n) → Joins w state scratch (record { equal = true; trail = n })
   join-none l w = record { store = w.store; clean = w.clean; long = refl; answer = by w.left w.right w.ends w.alike ∙ (unfold answered in refl) }
     where
       by : (left right : Terms) → stop ≡ p + length (loaded_all w.ss left) → arity left ≡ arity right
@@ -197,10 +196,10 @@ module _ {nodes state scratch : List ℕ} {p stop q marks n : ℕ} where
           let y : loaded_node ≤ length (loaded_words w.ss t) = words-some w.ss t in omega arith)
 
   module _ (l : p < stop) where
-    split : (w : Joinable nodes state scratch p stop q marks n) → Split w.ss nodes p stop q marks w.listed w.left w.right
+    pub split : (w : Joinable nodes state scratch p stop q marks n) → Split w.ss nodes p stop q marks w.listed w.left w.right
     split w = split_by w.ss nodes p stop q marks w.listed w.left w.right l w.left_stand w.right_stand w.ends w.alike w.number
 
-    pub join_first : Joinable nodes state scratch p stop q marks n → Paired nodes state scratch p q n
+    abbrev pub join_first : Joinable nodes state scratch p stop q marks n → Paired nodes state scratch p q n
     join_first w = record {
       ss = w.ss;
       left = ((split w).t, (split w).one);
@@ -224,9 +223,8 @@ module _ {nodes state scratch : List ℕ} {p stop q marks n : ℕ} where
         omega arith
 
     module _ {state1 scratch1 : List ℕ} {u : UnifyAnswer}
-        (m : (v : Paired nodes state scratch p q n) → InputUnified v.ss nodes state state1 scratch scratch1 p q n (eqb (first_mark marks) (mark_number input)) u) where
-      met : (w : Joinable nodes state scratch p stop q marks n) → InputUnified w.ss nodes state state1 scratch scratch1 p q n (eqb (first_mark marks) (mark_number input)) u
-      unfolding join_first
+        (m : (v : Paired nodes state scratch p q n) → InputUnified v state1 scratch1 (eqb (first_mark marks) (mark_number input)) u) where
+      met : (w : Joinable nodes state scratch p stop q marks n) → InputUnified (join_first w) state1 scratch1 (eqb (first_mark marks) (mark_number input)) u
       met w = m (join_first w)
 
       met-is : (w : Joinable nodes state scratch p stop q marks n) (b : Bool) → u.equal ≡ b
@@ -237,8 +235,7 @@ module _ {nodes state scratch : List ℕ} {p stop q marks n : ℕ} where
           ∙ ap (λ (o : Option (List Binding)). join_on o (λ b1. joined b1 (inputs_by (others w.listed) (list_of (split w).ts)) (inputs_by (others w.listed) (list_of (split w).us))))
           ((met w).answer (split w).t (split w).u (split w).one (split w).two ∙ ap (λ (x : Bool). answered x (bindings w.ss nodes state1 u.trail)) e)
 
-      pub join-stops : u.equal ≡ false → (w : Joinable nodes state scratch p stop q marks n)
-          → Joins w.ss nodes state state1 scratch scratch1 w.left w.right w.listed n (record { equal = false; trail = u.trail })
+      pub join-stops : u.equal ≡ false → (w : Joinable nodes state scratch p stop q marks n) → Joins w state1 scratch1 (record { equal = false; trail = u.trail })
       join-stops e w = record {
         store = (met w).store;
         clean = (met w).clean;
@@ -270,11 +267,11 @@ module _ {nodes state scratch : List ℕ} {p stop q marks n : ℕ} where
             }
 
         pub join-on : u.equal ≡ true → {state2 scratch2 : List ℕ} {r : UnifyAnswer}
-            → ((v : Joinable nodes state1 scratch1 next stop other rest u.trail) → Joins v.ss nodes state1 state2 scratch1 scratch2 v.left v.right v.listed u.trail r)
-            → (w : Joinable nodes state scratch p stop q marks n) → Joins w.ss nodes state state2 scratch scratch2 w.left w.right w.listed n r
+            → ((v : Joinable nodes state1 scratch1 next stop other rest u.trail) → Joins v state2 scratch2 r)
+            → (w : Joinable nodes state scratch p stop q marks n) → Joins w state2 scratch2 r
         unfolding join-rest
-        join-on e {state2} {scratch2} {r} f w =
-            let j : Joins w.ss nodes state1 state2 scratch1 scratch2 (split w).ts (split w).us (others w.listed) u.trail r = f (join-rest w) in
+        join-on e f w =
+            let j = f (join-rest w) in
             record {
               store = j.store;
               clean = j.clean;

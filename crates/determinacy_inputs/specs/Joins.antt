@@ -39,13 +39,14 @@ pub record Paired (nodes state scratch : List ℕ) (p q n : ℕ) : Type 0 where
   pub clean : Clean scratch
 
 -- the words after two arguments were looked at or passed over
-pub record InputUnified (ss : List Symbol) (nodes before after scratch later : List ℕ) (p q n : ℕ) (b : Bool) (r : UnifyAnswer) : Type 0 where
-  pub store : Store ss nodes after r.trail
+pub record InputUnified {nodes before scratch : List ℕ} {p q n : ℕ} (w : Paired nodes before scratch p q n) (after later : List ℕ) (b : Bool)
+    (r : UnifyAnswer) : Type 0 where
+  pub store : Store w.ss nodes after r.trail
   pub within : Within right_copy after r.trail
   pub clean : Clean later
   pub long : length later ≡ length scratch
-  pub answer : (t u : Term) → TermLoaded ss nodes p t → TermLoaded ss nodes q u → unify_if b (bindings ss nodes before n) t u
-      ≡ answered r.equal (bindings ss nodes after r.trail)
+  pub answer : (t u : Term) → TermLoaded w.ss nodes p t → TermLoaded w.ss nodes q u → unify_if b (bindings w.ss nodes before n) t u
+      ≡ answered r.equal (bindings w.ss nodes after r.trail)
 
 -- ---- the arguments of two heads
 
@@ -66,10 +67,10 @@ pub record Joinable (nodes state scratch : List ℕ) (p stop q marks n : ℕ) : 
   pub clean : Clean scratch
 
 -- The words then mean the bindings that join those marked +, or there are none.
-pub record Joins (ss : List Symbol) (nodes before after scratch later : List ℕ) (left right : Terms) (listed : List Mark) (n : ℕ)
+pub record Joins {nodes before scratch : List ℕ} {p stop q marks n : ℕ} (w : Joinable nodes before scratch p stop q marks n) (after later : List ℕ)
     (r : UnifyAnswer) : Type 0 where
-  pub store : Store ss nodes after r.trail
+  pub store : Store w.ss nodes after r.trail
   pub clean : Clean later
   pub long : length later ≡ length scratch
-  pub answer : joined (bindings ss nodes before n) (inputs_by listed (list_of left)) (inputs_by listed (list_of right))
-      ≡ answered r.equal (bindings ss nodes after r.trail)
+  pub answer : joined (bindings w.ss nodes before n) (inputs_by w.listed (list_of w.left)) (inputs_by w.listed (list_of w.right))
+      ≡ answered r.equal (bindings w.ss nodes after r.trail)

@@ -37,8 +37,7 @@ fn unify_input(
 ) -> UnifyAnswer
     requires { Paired nodes.now state.old scratch.old args.left args.right n }
     ensures { (w : Paired nodes.now state.old scratch.old args.left args.right n)
-        → InputUnified w.ss nodes.now state.old state.new scratch.old scratch.new args.left args.right n
-        (eqb (first_mark args.marks) (mark_number input)) result }
+        → InputUnified w state.new scratch.new (eqb (first_mark args.marks) (mark_number input)) result }
 {
     if first_mark(args.marks) != INPUT {
         return UnifyAnswer {
@@ -71,9 +70,7 @@ pub fn join_inputs(
     n: usize,
 ) -> UnifyAnswer
     requires { Joinable nodes.now state.old scratch.old args.left args.stop args.right args.marks n }
-    ensures { (w : Joinable nodes.now state.old scratch.old args.left args.stop args.right args.marks n)
-        → Joins w.ss nodes.now state.old state.new scratch.old scratch.new w.left w.right
-        w.listed n result }
+    ensures { (w : Joinable nodes.now state.old scratch.old args.left args.stop args.right args.marks n) → Joins w state.new scratch.new result }
 {
     if args.stop <= args.left {
         return UnifyAnswer {

@@ -124,14 +124,12 @@ module _ {nodes code state scratch : List ℕ} {i j marks : ℕ} (w : PairOf nod
           }
 
       module _ {state1 scratch1 : List ℕ} {u : UnifyAnswer}
-          (f : (v : Joinable nodes state scratch (p + loaded_node) stop (q + loaded_node) marks 0)
-          → Joins v.ss nodes state state1 scratch scratch1 v.left v.right v.listed 0 u) where
-        joins-so : Joins w.one.ss nodes state state1 scratch scratch1 w.one.clause.head.args w.other.head.args
-            (marks_for w.one.sh.declarations w.one.clause.head) 0 u
-        unfolding pair-joinable
+          (f : (v : Joinable nodes state scratch (p + loaded_node) stop (q + loaded_node) marks 0) → Joins v state1 scratch1 u) where
+        joins-so : Joins pair-joinable state1 scratch1 u
         joins-so = f pair-joinable
 
         pub pair-stored : Stored state1 u.trail
+        unfolding pair-joinable
         pair-stored = record { ss = w.one.ss; nodes = nodes; store = joins-so.store }
 
         joined_by : (b : Bool) (x : List Binding) → is_joined (answered b x) ≡ b
@@ -149,7 +147,7 @@ module _ {nodes code state scratch : List ℕ} {i j marks : ℕ} (w : PairOf nod
 
         answer-is : joined [] (inputs w.one.sh.declarations w.one.clause.head) (inputs w.one.sh.declarations w.other.head)
             ≡ answered u.equal (bindings w.one.ss nodes state1 u.trail)
-        unfolding inputs bindings
+        unfolding pair-joinable inputs bindings
         answer-is =
             ap (λ (ms : List Mark). joined [] (inputs_by (marks_for w.one.sh.declarations w.one.clause.head) (list_of w.one.clause.head.args)) (inputs_by ms (list_of w.other.head.args))) marks-are
             ∙ joins-so.answer
@@ -161,8 +159,9 @@ module _ {nodes code state scratch : List ℕ} {i j marks : ℕ} (w : PairOf nod
             for-by (is_for w.one.clause.head w.other) w.predicate
             (is_joined (joined [] (inputs w.one.sh.declarations w.one.clause.head) (inputs w.one.sh.declarations w.other.head)))
 
-        pub pair-overlaps : {state2 : List ℕ} → Undone state1 state2 0 u.trail → Overlaps nodes code state state2 scratch scratch1 i j marks w u.equal
-        pair-overlaps {state2} z =
+        pub pair-overlaps : {state2 : List ℕ} → Undone state1 state2 0 u.trail → Overlaps w state2 scratch1 u.equal
+        unfolding pair-joinable
+        pair-overlaps z =
             let a : length scratch1 ≡ length scratch = joins-so.long in
             let b : Roomy scratch = w.one.blank.roomy in
             record {
@@ -173,7 +172,7 @@ module _ {nodes code state scratch : List ℕ} {i j marks : ℕ} (w : PairOf nod
 -- ---- the clauses behind one
 
 -- The clause of number j is the next to be looked at, 0 for none, and there are no bindings.
-pub record Seeking (nodes code before scratch : List ℕ) (i marks : ℕ) (w : ClauseOf nodes code before scratch i marks) (state later : List ℕ) (j : ℕ) : Type 0 where
+pub record Seeking {nodes code before scratch : List ℕ} {i marks : ℕ} (w : ClauseOf nodes code before scratch i marks) (state later : List ℕ) (j : ℕ) : Type 0 where
   pub blank : NothingBound w.ss nodes state later
   pub next : NextFor w.sh w.clause.head j
   pub same : first_overlap w.sh.declarations w.clause (suc i) (drop i w.sh.clauses) ≡ from w.sh w.clause j
@@ -184,7 +183,7 @@ reach code zero = 0
 reach code (suc m) = length code - m
 
 module _ {nodes code before scratch : List ℕ} {i marks : ℕ} where
-  pub seek-begins : {j : ℕ} → j ≡ after_at code i → (w : ClauseOf nodes code before scratch i marks) → Seeking nodes code before scratch i marks w before scratch j
+  pub seek-begins : {j : ℕ} → j ≡ after_at code i → (w : ClauseOf nodes code before scratch i marks) → Seeking w before scratch j
   seek-begins {j} e w =
       let z : j ≡ next_for w.sh w.clause.head i = e ∙ (w.program.clause i w.clause w.there).after in
       record {
@@ -193,15 +192,14 @@ module _ {nodes code before scratch : List ℕ} {i marks : ℕ} where
         same = from_next w.sh w.clause i ∙ ap (from w.sh w.clause) (sym z);
       }
 
-  pub seek-ends : {state later : List ℕ} {j : ℕ} → j ≡ 0 → (w : ClauseOf nodes code before scratch i marks) → Seeking nodes code before scratch i marks w state later j
-      → FirstBehind nodes code before state scratch later i marks w None
+  pub seek-ends : {state later : List ℕ} {j : ℕ} → j ≡ 0 → (w : ClauseOf nodes code before scratch i marks) → Seeking w state later j → FirstBehind w state later None
   seek-ends e w s = record {
     is = sym (ap told_number (s.same ∙ ap (from w.sh w.clause) e ∙ from-none w.sh w.clause) ∙ number-nothing);
     blank = s.blank;
   }
 
   module _ {state later : List ℕ} {j : ℕ} (d : j ≡ 0 → ⊥) where
-    other-of : (w : ClauseOf nodes code before scratch i marks) → Seeking nodes code before scratch i marks w state later j
+    other-of : (w : ClauseOf nodes code before scratch i marks) → Seeking w state later j
         → (x : Clause) × (clause_at w.sh j ≡ some x) × T (is_for w.clause.head x)
     other-of w s = next-clause w.sh w.clause.head j (some-by j d) s.next
       where
@@ -209,7 +207,7 @@ module _ {nodes code before scratch : List ℕ} {i marks : ℕ} where
         some-by zero n = absurd (n refl)
         some-by (suc k) n = omega arith
 
-    pub seek-pair : (w : ClauseOf nodes code before scratch i marks) → Seeking nodes code before scratch i marks w state later j → PairOf nodes code state later i j marks
+    pub seek-pair : (w : ClauseOf nodes code before scratch i marks) → Seeking w state later j → PairOf nodes code state later i j marks
     seek-pair w s = record {
       one = record { ss = w.ss; sh = w.sh; g = w.g; program = w.program; blank = s.blank; clause = w.clause; there = w.there; number = w.number };
       other = (other-of w s).0;
@@ -217,11 +215,11 @@ module _ {nodes code before scratch : List ℕ} {i marks : ℕ} where
       predicate = (other-of w s).2;
     }
 
-    pub seek-record : (w : ClauseOf nodes code before scratch i marks) → Seeking nodes code before scratch i marks w state later j → (j < 2 ^ 32) × (clause_record j + clause_size ≤ length code)
+    pub seek-record : (w : ClauseOf nodes code before scratch i marks) → Seeking w state later j → (j < 2 ^ 32) × (clause_record j + clause_size ≤ length code)
     seek-record w s = second-record (seek-pair w s)
 
-    module _ {state1 later1 : List ℕ} {r : Bool} (f : (v : PairOf nodes code state later i j marks) → Overlaps nodes code state state1 later later1 i j marks v r)
-        (w : ClauseOf nodes code before scratch i marks) (s : Seeking nodes code before scratch i marks w state later j) where
+    module _ {state1 later1 : List ℕ} {r : Bool} (f : (v : PairOf nodes code state later i j marks) → Overlaps v state1 later1 r)
+        (w : ClauseOf nodes code before scratch i marks) (s : Seeking w state later j) where
       overlap-is : r ≡ overlaps w.sh.declarations w.clause (other-of w s).0
       unfolding seek-pair
       overlap-is = (f (seek-pair w s)).is
@@ -230,7 +228,7 @@ module _ {nodes code before scratch : List ℕ} {i marks : ℕ} where
       unfolding seek-pair
       blank_after = (f (seek-pair w s)).blank
 
-      pub seek_found : r ≡ true → FirstBehind nodes code before state1 scratch later1 i marks w (Some j)
+      pub seek_found : r ≡ true → FirstBehind w state1 later1 (Some j)
       seek_found t = record {
         is = sym (ap told_number (s.same ∙ from-hit w.sh w.clause j (other-of w s).0 (other-of w s).1 (sym overlap-is ∙ t)) ∙ number_is j);
         blank = blank_after;
@@ -240,7 +238,7 @@ module _ {nodes code before scratch : List ℕ} {i marks : ℕ} where
         next_is : k ≡ next_for w.sh w.clause.head j
         next_is = e ∙ (w.program.clause j (other-of w s).0 (other-of w s).1).after ∙ sym (next-head w.sh w.clause.head (other-of w s).0 j (other-of w s).2)
 
-        pub seek-on : r ≡ false → Seeking nodes code before scratch i marks w state1 later1 k
+        pub seek-on : r ≡ false → Seeking w state1 later1 k
         seek-on t = record {
           blank = blank_after;
           next = subst⁻¹ (NextFor w.sh w.clause.head) next_is (next-for w.sh w.clause.head j);
@@ -281,21 +279,21 @@ abbrev pub reach_told : List ℕ → Told ℕ → ℕ
 reach_told code o = reach code (or_zero o)
 
 -- What is told is the number from which the search goes on.
-pub record Told_seeking (nodes code before scratch : List ℕ) (i marks : ℕ) (w : ClauseOf nodes code before scratch i marks) (state later : List ℕ) (o : Told ℕ) : Type 0 where
+pub record Told_seeking {nodes code before scratch : List ℕ} {i marks : ℕ} (w : ClauseOf nodes code before scratch i marks) (state later : List ℕ) (o : Told ℕ) : Type 0 where
   pub number : ℕ
   pub is : o ≡ some_number number
-  pub seeking : Seeking nodes code before scratch i marks w state later number
+  pub seeking : Seeking w state later number
 
-module _ {nodes code before scratch : List ℕ} {i marks : ℕ} {w : ClauseOf nodes code before scratch i marks} {state later : List ℕ} {o : Told ℕ} (s : Told_seeking nodes code before scratch i marks w state later o) where
-  pub told-seeking : {j : ℕ} → o ≡ Some j → Seeking nodes code before scratch i marks w state later j
+module _ {nodes code before scratch : List ℕ} {i marks : ℕ} {w : ClauseOf nodes code before scratch i marks} {state later : List ℕ} {o : Told ℕ} (s : Told_seeking w state later o) where
+  pub told-seeking : {j : ℕ} → o ≡ Some j → Seeking w state later j
   told-seeking {j} e =
-      subst (λ (n : ℕ). Seeking nodes code before scratch i marks w state later n) (sym (or-zero s.number) ∙ ap or_zero (sym s.is ∙ e)) s.seeking
+      subst (λ (n : ℕ). Seeking w state later n) (sym (or-zero s.number) ∙ ap or_zero (sym s.is ∙ e)) s.seeking
 
   pub told-not-zero : {j : ℕ} → o ≡ Some j → j ≡ 0 → ⊥
   told-not-zero {j} e = some-not-zero s.number j (sym e ∙ s.is)
 
-  pub told-none : o ≡ None → Seeking nodes code before scratch i marks w state later 0
-  told-none e = subst (λ (n : ℕ). Seeking nodes code before scratch i marks w state later n) (sym (or-zero s.number) ∙ ap or_zero (sym s.is ∙ e)) s.seeking
+  pub told-none : o ≡ None → Seeking w state later 0
+  told-none e = subst (λ (n : ℕ). Seeking w state later n) (sym (or-zero s.number) ∙ ap or_zero (sym s.is ∙ e)) s.seeking
 
 pub told-falls : (code : List ℕ) (k : ℕ) {o next : Told ℕ} {j : ℕ} → o ≡ Some j → next ≡ some_number k → reach code k < reach code j → reach_told code next < reach_told code o
 told-falls code k {o} {next} {j} e n l =

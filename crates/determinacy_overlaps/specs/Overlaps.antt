@@ -47,12 +47,13 @@ pub record PairOf (nodes code state scratch : List ℕ) (i j marks : ℕ) : Type
   pub predicate : T (is_for one.clause.head other)
 
 -- the definition's answer, and no bindings again
-pub record Overlaps (nodes code before after scratch later : List ℕ) (i j marks : ℕ) (w : PairOf nodes code before scratch i j marks) (r : Bool) : Type 0 where
+pub record Overlaps {nodes code before scratch : List ℕ} {i j marks : ℕ} (w : PairOf nodes code before scratch i j marks) (after later : List ℕ)
+    (r : Bool) : Type 0 where
   pub is : r ≡ overlaps w.one.sh.declarations w.one.clause w.other
   pub blank : NothingBound w.one.ss nodes after later
 
 -- the first clause behind clause i that overlaps with it, and no bindings again
-pub record FirstBehind (nodes code before after scratch later : List ℕ) (i marks : ℕ) (w : ClauseOf nodes code before scratch i marks)
+pub record FirstBehind {nodes code before scratch : List ℕ} {i marks : ℕ} (w : ClauseOf nodes code before scratch i marks) (after later : List ℕ)
     (r : Told ℕ) : Type 0 where
   pub is : r ≡ told_number (first_overlap w.sh.declarations w.clause (suc i) (drop i w.sh.clauses))
   pub blank : NothingBound w.ss nodes after later

@@ -46,8 +46,7 @@ fn overlaps(
 ) -> bool
     requires { PairOf program.nodes.now program.code.now state.old scratch.old i j marks }
     ensures { (w : PairOf program.entry.nodes.now program.entry.code.now state.old scratch.old i j marks)
-        → Overlaps program.entry.nodes.now program.entry.code.now state.old state.new scratch.old scratch.new i j marks
-        w result }
+        → Overlaps w state.new scratch.new result }
 {
     let p = head_of(program.code, i);
     let q = head_of(program.code, j);
@@ -72,8 +71,7 @@ pub fn first_overlap(
 ) -> Option<usize>
     requires { ClauseOf program.nodes.now program.code.now state.old scratch.old i marks }
     ensures { (w : ClauseOf program.entry.nodes.now program.entry.code.now state.old scratch.old i marks)
-        → FirstBehind program.entry.nodes.now program.entry.code.now state.old state.new scratch.old scratch.new i marks
-        w result }
+        → FirstBehind w state.new scratch.new result }
 {
     let mut next = after_of(program.code, i);
     // The clauses of a predicate are a chain: each record names the next, and how many there are is known at the end alone, so no range counts them.

@@ -1,4 +1,4 @@
-// The class of each byte, by its number (document 01, "How a sheet is spelt").
+// The class of each byte, by its number (RULES, "How a sheet is spelt").
 use syntax::{Class, TokenKind};
 
 const NOTHING: Class = Class::Nothing;

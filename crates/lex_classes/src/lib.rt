@@ -1,4 +1,4 @@
-// The class of a byte, and which bytes go on with a token (document 01, "How a sheet is spelt"). Document 01 is the paper "Rule sheets".
+// The class of a byte, and which bytes go on with a token (RULES, "How a sheet is spelt").
 
 #![tactic(auto)]
 

@@ -1,4 +1,4 @@
-// The lexer: the token at a position of a text. Document 01 is the paper "Rule sheets".
+// The lexer: the token at a position of a text.
 
 #![tactic(auto)]
 

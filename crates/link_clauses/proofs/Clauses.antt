@@ -4,7 +4,7 @@ use native.Mathlib.Omega.{arith}
 use mathlib.Core.Path.{◌≡◌, ap, ap₂, ◌∙◌, subst⁻¹}
 use mathlib.Core.List.{List}
 use lib.ListN.{length, get_or}
-use Rattle.syntax.specs.Terms.{term_of, Body, Clause, Sheet}
+use Rattle.syntax.specs.Terms.{term_of, Body, Clause}
 use Rattle.syntax.specs.Words.{atom_words, body_words, body_length, program_clauses}
 use Rattle.machine.specs.Machine.{next_for}
 use Rattle.table_words.specs.Tables.{Has, NodeInTable}
@@ -13,9 +13,11 @@ use Rattle.run_layout.specs.Regions.{places, code_words, clause_record, next_lit
 use Rattle.run_layout.specs.Nodes.{Symbol, loaded_words}
 use Rattle.run_layout.specs.Program.{body_nodes, clause_nodes}
 use Rattle.run_layout.proofs.Nodes.{size_word}
+use Rattle.link_records.specs.declared.Places.{Places}
 use Rattle.link_records.specs.Records.{put_pair}
 use Rattle.link_clauses.specs.Records.{put_body, behind_body, put_clause}
-use Rattle.link_search.specs.Search.{sought, HeadsPlaced}
+use Rattle.link_search.specs.declared.Heads.{Heads}
+use Rattle.link_search.specs.Search.{sought, HeadsPlaced, Meant}
 use Rattle.link_clauses.specs.Places.{BodyTo, ClauseTo}
 use Rattle.link_clauses.proofs.Sizes.{Says, says}
 use Rattle.link_search.proofs.Seeking.{atom-word, atom-listed, searchable, next_is}
@@ -33,80 +35,85 @@ body-stand : (ss : List Symbol) (nodes : List ℕ) (q : ℕ) (cl : Clause) → H
 unfolding clause_nodes
 body-stand ss nodes q cl h = has_right nodes q (loaded_words ss (term_of cl.head)) (body_nodes ss cl.body) h
 
-module _ {table : List ℕ} {p : ℕ} {nodes : List ℕ} {q clauses : ℕ} {code : List ℕ} {k l : ℕ} where
-  module _ {ss : List Symbol} {sh : Sheet} {cl : Clause} (w : ClauseTo ss sh cl table p nodes q clauses code k l) where
-    pub head-inside : q < length nodes
-    head-inside = (atom-word ss nodes q cl.head (head-stands ss nodes q cl w.stand)).0
+module _ {table : List ℕ} {heads : Heads} {code : List ℕ} {k : ℕ} {at : Places} where
+  module _ {m : Meant} {cl : Clause} (w : ClauseTo m cl table heads code k at) where
+    said : Says m.ss table at.read cl
+    said = says m.ss table at.read cl w.has
 
-    pub clause-search : HeadsPlaced nodes code clauses × (k ≤ clauses)
-    clause-search = (searchable ss sh nodes clauses code w.headed, w.high)
+    stands : Has heads.nodes.now at.node (loaded_words m.ss (term_of cl.head))
+    stands = head-stands m.ss heads.nodes.now at.node cl w.stand
+
+    pub head-inside : at.node < length heads.nodes.now
+    head-inside = (atom-word m.ss heads.nodes.now at.node cl.head stands).0
+
+    pub clause-search : HeadsPlaced heads.nodes.now code heads.clauses × (k ≤ heads.clauses)
+    clause-search = (searchable w.headed, w.high)
 
     pub clause-small : k ≤ program_clauses
-    clause-small = let a : clauses ≤ program_clauses = w.headed.few in let b : k ≤ clauses = w.high in omega arith
+    clause-small = let a : heads.clauses ≤ program_clauses = w.headed.few in let b : k ≤ heads.clauses = w.high in omega arith
 
-    pub clause-inside : p + 3 ≤ length table
-    clause-inside = let a : p + 2 < length table = (says ss table p cl w.has).inside in omega arith
+    pub clause-inside : at.read + 3 ≤ length table
+    clause-inside = let a : at.read + 2 < length table = said.inside in omega arith
 
-    pub head-fits : NodeInTable table (p + 3)
-    head-fits = term_inside table (p + 3) (term_of cl.head) (says ss table p cl w.has).head
+    pub head-fits : NodeInTable table (at.read + 3)
+    head-fits = term_inside table (at.read + 3) (term_of cl.head) said.head
 
-    pub head-node-fits : NodeInTable nodes q
-    head-node-fits = loaded-fits ss nodes q (term_of cl.head) (head-stands ss nodes q cl w.stand)
+    pub head-node-fits : NodeInTable heads.nodes.now at.node
+    head-node-fits = loaded-fits m.ss heads.nodes.now at.node (term_of cl.head) stands
 
     -- the records of its body, and the place behind them
-    pub body-small : {literals : ℕ} → literals ≡ get_or table (p + 2) 0 → (l ≤ places) × ((literals ≤ places) × (next_literal (literal_from l literals) ≤ places))
-    body-small {literals} m =
-        let many : literals ≡ body_length cl.body = m ∙ (says ss table p cl w.has).literals in
-        let room : behind_body l cl.body ≤ length code = w.room in
+    pub body-small : {literals : ℕ} → literals ≡ get_or table (at.read + 2) 0 → (at.literal ≤ places) × ((literals ≤ places) × (next_literal (literal_from at.literal literals) ≤ places))
+    body-small {literals} g =
+        let many : literals ≡ body_length cl.body = g ∙ said.literals in
+        let room : behind_body at.literal cl.body ≤ length code = w.room in
         let short : length code ≤ places = w.headed.short in
         (omega arith, (omega arith, omega arith))
 
-  module _ {word after : ℕ} (v : word ≡ get_or nodes q 0) (s : after ≡ sought nodes code word (k + 1) (clauses - k)) where
-    after_is : {ss : List Symbol} {sh : Sheet} {cl : Clause} → ClauseTo ss sh cl table p nodes q clauses code k l → after ≡ next_for sh cl.head k
-    after_is {ss} {sh} {cl} w = next_is ss sh nodes clauses code w.headed cl.head (atom-listed ss cl.head w.head_loadable) word k after (v ∙ (atom-word ss nodes q cl.head (head-stands ss nodes q cl w.stand)).1) s
+  module _ {word after : ℕ} (v : word ≡ get_or heads.nodes.now at.node 0) (s : after ≡ sought heads.nodes.now code word (k + 1) (heads.clauses - k)) where
+    after_is : {m : Meant} {cl : Clause} → ClauseTo m cl table heads code k at → after ≡ next_for m.sh cl.head k
+    after_is {m} {cl} w = next_is w.headed cl.head (atom-listed m.ss cl.head w.head_loadable) word k after (v ∙ (atom-word m.ss heads.nodes.now at.node cl.head (stands w)).1) s
 
-    pub pair-ready : {ss : List Symbol} {sh : Sheet} {cl : Clause} → ClauseTo ss sh cl table p nodes q clauses code k l
-        → (clause_record k + 1 + 1 < length code) × ((l < 4294967296) × (after < 4294967296))
-    pair-ready {ss} {sh} {cl} w =
-        let a : after ≡ next_for sh cl.head k = after_is w in
-        let b : next_for sh cl.head k ≤ program_clauses + 1 = next-bound ss sh nodes clauses code w.headed cl.head k w.high in
+    pub pair-ready : {m : Meant} {cl : Clause} → ClauseTo m cl table heads code k at
+        → (clause_record k + 1 + 1 < length code) × ((at.literal < 4294967296) × (after < 4294967296))
+    pair-ready {m} {cl} w =
+        let a : after ≡ next_for m.sh cl.head k = after_is w in
+        let b : next_for m.sh cl.head k ≤ program_clauses + 1 = next-bound w.headed cl.head k w.high in
         let c : k ≤ program_clauses = clause-small w in
         let d : code_words ≤ length code = w.headed.room in
-        let e : behind_body l cl.body ≤ length code = w.room in
+        let e : behind_body at.literal cl.body ≤ length code = w.room in
         let f : length code ≤ places = w.headed.short in
         (omega arith, (omega arith, omega arith))
 
-    module _ {new : List ℕ} (n : new ≡ put_pair code (clause_record k + 1) l after) {literals first node : ℕ}
-        (m : literals ≡ get_or table (p + 2) 0) (f : first ≡ p + 3 + get_or table (p + 3 + 1) 0) (o : node ≡ q + get_or nodes (q + 1) 0) where
-      node-is : {ss : List Symbol} {sh : Sheet} {cl : Clause} → ClauseTo ss sh cl table p nodes q clauses code k l → node ≡ q + length (loaded_words ss (term_of cl.head))
-      node-is {ss} {sh} {cl} w = o ∙ ap (λ (i : ℕ). q + i) (size_word ss nodes q (term_of cl.head) (head-stands ss nodes q cl w.stand))
+    module _ {new : List ℕ} (n : new ≡ put_pair code (clause_record k + 1) at.literal after) {literals first node : ℕ}
+        (g : literals ≡ get_or table (at.read + 2) 0) (f : first ≡ at.read + 3 + get_or table (at.read + 3 + 1) 0) (o : node ≡ at.node + get_or heads.nodes.now (at.node + 1) 0) where
+      node-is : {m : Meant} {cl : Clause} → ClauseTo m cl table heads code k at → node ≡ at.node + length (loaded_words m.ss (term_of cl.head))
+      node-is {m} {cl} w = o ∙ ap (λ (i : ℕ). at.node + i) (size_word m.ss heads.nodes.now at.node (term_of cl.head) (stands w))
 
-      pub body-ready : {ss : List Symbol} {sh : Sheet} {cl : Clause} → ClauseTo ss sh cl table p nodes q clauses code k l → BodyTo ss sh cl.body table first literals nodes node clauses new l
-      body-ready {ss} {sh} {cl} w =
-          let said : Says ss table p cl = says ss table p cl w.has in
-          let z : get_or table (p + 3 + 1) 0 ≡ length (atom_words cl.head) = size_is table (p + 3) (term_of cl.head) said.head in
-          let long : length new ≡ length code = ap length n ∙ pair-long code (clause_record k + 1) l after in
-          let many : literals ≡ body_length cl.body = m ∙ said.literals in
-          let room : behind_body l cl.body ≤ length code = w.room in
-          let fits : q + get_or nodes (q + 1) 0 ≤ length nodes = (head-node-fits w).1 in
+      pub body-ready : {m : Meant} {cl : Clause} → ClauseTo m cl table heads code k at → BodyTo m cl.body table literals heads new (record { read = first; node = node; literal = at.literal })
+      body-ready {m} {cl} w =
+          let z : get_or table (at.read + 3 + 1) 0 ≡ length (atom_words cl.head) = size_is table (at.read + 3) (term_of cl.head) (said w).head in
+          let long : length new ≡ length code = ap length n ∙ pair-long code (clause_record k + 1) at.literal after in
+          let many : literals ≡ body_length cl.body = g ∙ (said w).literals in
+          let room : behind_body at.literal cl.body ≤ length code = w.room in
+          let fits : at.node + get_or heads.nodes.now (at.node + 1) 0 ≤ length heads.nodes.now = (head-node-fits w).1 in
           record {
-            headed = headed-kept ss sh nodes clauses code new long (subst⁻¹ (SameHeads code) n (pair-heads code k l after)) w.headed;
-            has = subst⁻¹ (λ (i : ℕ). Has table i (body_words cl.body)) (f ∙ ap (λ (i : ℕ). p + 3 + i) z) said.body;
+            headed = headed-kept long (subst⁻¹ (SameHeads code) n (pair-heads code k at.literal after)) w.headed;
+            has = subst⁻¹ (λ (i : ℕ). Has table i (body_words cl.body)) (f ∙ ap (λ (i : ℕ). at.read + 3 + i) z) (said w).body;
             count = many;
-            stand = subst⁻¹ (λ (i : ℕ). Has nodes i (body_nodes ss cl.body)) (node-is w) (body-stand ss nodes q cl w.stand);
+            stand = subst⁻¹ (λ (i : ℕ). Has heads.nodes.now i (body_nodes m.ss cl.body)) (node-is w) (body-stand m.ss heads.nodes.now at.node cl w.stand);
             loadable = w.body-loadable;
             node = omega arith;
             low = w.place;
             high = omega arith;
           }
 
-      pub clause-put : {exit : List ℕ} → ((ss : List Symbol) (sh : Sheet) (b : Body) → BodyTo ss sh b table first literals nodes node clauses new l → exit ≡ put_body ss sh node b new l)
-          → {ends r : ℕ} → ends ≡ literal_from l literals → r ≡ next_literal ends
-          → (ss : List Symbol) (sh : Sheet) (cl : Clause) → ClauseTo ss sh cl table p nodes q clauses code k l → (exit ≡ put_clause ss sh q cl code k l) × (r ≡ behind_body l cl.body)
+      pub clause-put : {exit : List ℕ} → ((m : Meant) (b : Body) → BodyTo m b table literals heads new (record { read = first; node = node; literal = at.literal }) → exit ≡ put_body m.ss m.sh node b new at.literal)
+          → {ends r : ℕ} → ends ≡ literal_from at.literal literals → r ≡ next_literal ends
+          → (m : Meant) (cl : Clause) → ClauseTo m cl table heads code k at → (exit ≡ put_clause m.ss m.sh at.node cl code k at.literal) × (r ≡ behind_body at.literal cl.body)
       unfolding put_clause
-      clause-put {exit} x {ends} {r} d e ss sh cl w =
-          let many : literals ≡ body_length cl.body = m ∙ (says ss table p cl w.has).literals in (
-            x ss sh cl.body (body-ready w)
-                ∙ ap₂ (λ (i : ℕ) (c : List ℕ). put_body ss sh i cl.body c l) (node-is w) (n ∙ ap (λ (i : ℕ). put_pair code (clause_record k + 1) l i) (after_is w)),
+      clause-put {exit} x {ends} {r} d e m cl w =
+          let many : literals ≡ body_length cl.body = g ∙ (said w).literals in (
+            x m cl.body (body-ready w)
+                ∙ ap₂ (λ (i : ℕ) (c : List ℕ). put_body m.ss m.sh i cl.body c at.literal) (node-is w) (n ∙ ap (λ (i : ℕ). put_pair code (clause_record k + 1) at.literal i) (after_is w)),
             omega arith,
           )

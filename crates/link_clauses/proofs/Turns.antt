@@ -5,7 +5,7 @@ use mathlib.Core.Path.{◌≡◌, refl, sym, ap, ap₂, ◌∙◌, subst⁻¹}
 use mathlib.Core.List.{List, [], ◌∷◌, ◌++◌}
 use lib.Dec.{T}
 use lib.ListN.{length, set}
-use Rattle.syntax.specs.Terms.{Literal, call, equation, truth, falsity, either, Body, done, also, Sheet}
+use Rattle.syntax.specs.Terms.{Literal, call, equation, truth, falsity, either, Body, done, also}
 use Rattle.syntax.specs.Words.{literal_length, body_length}
 use Rattle.machine.proofs.Tests.{both}
 use Rattle.table_words.specs.Tables.{Has}
@@ -15,10 +15,12 @@ use Rattle.table_words.proofs.Items.{body-many, items-stand, first-stands, rest-
 use Rattle.run_layout.specs.Regions.{places, body_end_kind, bodies, next_literal, literal_from}
 use Rattle.run_layout.specs.Nodes.{Symbol, is_loadable}
 use Rattle.run_layout.specs.Program.{literal_loadable, body_loadable}
+use Rattle.link_records.specs.declared.Places.{Places}
 use Rattle.link_records.specs.Records.{put_record}
 use Rattle.link_items.specs.Records.{kind_of, item_nodes, other_of}
 use Rattle.link_clauses.specs.Records.{put_items, put_body}
-use Rattle.link_search.specs.Search.{Headed}
+use Rattle.link_search.specs.declared.Heads.{Heads}
+use Rattle.link_search.specs.Search.{Meant, Headed}
 use Rattle.link_items.specs.Places.{ItemLoadable, SideSmall, ItemTo}
 use Rattle.link_clauses.specs.Places.{BodyTo}
 use Rattle.link_clauses.proofs.Sizes.{item-nodes, items_nodes, body-items}
@@ -36,16 +38,16 @@ abbrev AllSmall : List Item → Type 0
 AllSmall [] = Unit {0}
 AllSmall (x ∷ xs) = SideSmall x × AllSmall xs
 
--- items whose nodes stand from q on, with room for their records from l on and for the end
-pub record ItemsTo (ss : List Symbol) (sh : Sheet) (xs : List Item) (table : List ℕ) (p : ℕ) (nodes : List ℕ) (q clauses : ℕ) (code : List ℕ) (l : ℕ) : Type 0 where
-  pub headed : Headed ss sh nodes clauses code
-  pub has : Has table p (items_words xs)
-  pub stand : Has nodes q (items_nodes ss xs)
-  pub loadable : AllLoadable ss xs
+-- items whose words and nodes stand at their places, with room for their records and for the end
+pub record ItemsTo (m : Meant) (xs : List Item) (table : List ℕ) (heads : Heads) (code : List ℕ) (at : Places) : Type 0 where
+  pub headed : Headed m heads code
+  pub has : Has table at.read (items_words xs)
+  pub stand : Has heads.nodes.now at.node (items_nodes m.ss xs)
+  pub loadable : AllLoadable m.ss xs
   pub small : AllSmall xs
-  pub node : q ≤ length nodes
-  pub low : bodies ≤ l
-  pub high : next_literal (literal_from l (length xs)) ≤ length code
+  pub node : at.node ≤ length heads.nodes.now
+  pub low : bodies ≤ at.literal
+  pub high : next_literal (literal_from at.literal (length xs)) ≤ length code
 
 loadable-both : (ss : List Symbol) (xs ys : List Item) → AllLoadable ss xs → AllLoadable ss ys → AllLoadable ss (xs ++ ys)
 loadable-both ss [] ys a b = b
@@ -90,60 +92,59 @@ mutual
   body-small done l = tt
   body-small (also x b) l = small-both (literal_items x) (items b) (literal-small x (omega arith)) (body-small b (omega arith))
 
-items-ready : (ss : List Symbol) (sh : Sheet) (b : Body) (table : List ℕ) (p many : ℕ) (nodes : List ℕ) (q clauses : ℕ) (code : List ℕ) (l : ℕ) → BodyTo ss sh b table p many nodes q clauses code l
-    → ItemsTo ss sh (items b) table p nodes q clauses code l
-items-ready ss sh b table p many nodes q clauses code l w =
-    let m : length (items b) ≡ body_length b = body-many b in
-    let c : many ≡ body_length b = w.count in
-    let h : next_literal (literal_from l many) ≤ length code = w.high in
-    let s : length code ≤ places = w.headed.short in
-    record {
-      headed = w.headed;
-      has = items-stand table p b w.has;
-      stand = subst⁻¹ (Has nodes q) (body-items ss b) w.stand;
-      loadable = body-loadable ss b w.loadable;
-      small = body-small b (omega arith);
-      node = w.node;
-      low = w.low;
-      high = omega arith;
-    }
-
 -- What is left of a body's items, of which i are behind, makes the whole.
-pub record BodyAhead (ss : List Symbol) (sh : Sheet) (whole table : List ℕ) (at i many : ℕ) (nodes : List ℕ) (node clauses : ℕ) (code : List ℕ) (to : ℕ) : Type 0 where
+pub record BodyAhead (m : Meant) (whole table : List ℕ) (i many : ℕ) (heads : Heads) (code : List ℕ) (at : Places) : Type 0 where
   pub rest : List Item
-  pub ready : ItemsTo ss sh rest table at nodes node clauses code to
+  pub ready : ItemsTo m rest table heads code at
   pub count : i + length rest ≡ many
-  pub gives : put_items ss sh node rest code to ≡ whole
+  pub gives : put_items m.ss m.sh at.node rest code at.literal ≡ whole
 
-pub body-begin : (ss : List Symbol) (sh : Sheet) (b : Body) (table : List ℕ) (p many : ℕ) (nodes : List ℕ) (q clauses : ℕ) (code : List ℕ) (l : ℕ) → BodyTo ss sh b table p many nodes q clauses code l
-    → BodyAhead ss sh (put_body ss sh q b code l) table p 0 many nodes q clauses code l
-body-begin ss sh b table p many nodes q clauses code l w = record {
-  rest = items b;
-  ready = items-ready ss sh b table p many nodes q clauses code l w;
-  count = (let e : 0 + length (items b) ≡ many = omega (arith, w.count, body-many b) in e);
-  gives = refl;
-}
+module _ {m : Meant} {b : Body} {table : List ℕ} {many : ℕ} {heads : Heads} {code : List ℕ} {at : Places} (w : BodyTo m b table many heads code at) where
+  items-ready : ItemsTo m (items b) table heads code at
+  items-ready =
+      let g : length (items b) ≡ body_length b = body-many b in
+      let c : many ≡ body_length b = w.count in
+      let h : next_literal (literal_from at.literal many) ≤ length code = w.high in
+      let s : length code ≤ places = w.headed.short in
+      record {
+        headed = w.headed;
+        has = items-stand table at.read b w.has;
+        stand = subst⁻¹ (Has heads.nodes.now at.node) (body-items m.ss b) w.stand;
+        loadable = body-loadable m.ss b w.loadable;
+        small = body-small b (omega arith);
+        node = w.node;
+        low = w.low;
+        high = omega arith;
+      }
+
+  pub body-begin : BodyAhead m (put_body m.ss m.sh at.node b code at.literal) table 0 many heads code at
+  body-begin = record {
+    rest = items b;
+    ready = items-ready;
+    count = (let e : 0 + length (items b) ≡ many = omega (arith, w.count, body-many b) in e);
+    gives = refl;
+  }
 
 -- the first item and the rest
-record Split (ss : List Symbol) (sh : Sheet) (table : List ℕ) (p : ℕ) (nodes : List ℕ) (q clauses : ℕ) (code : List ℕ) (l : ℕ) (x : Item) (xs : List Item) : Type 0 where
-  item : ItemTo ss sh x table p nodes q clauses code l
-  has : Has table (p + length (item_words x)) (items_words xs)
-  stand : Has nodes (q + length (item_nodes ss x)) (items_nodes ss xs)
-  loadable : AllLoadable ss xs
+record Split (m : Meant) (x : Item) (xs : List Item) (table : List ℕ) (heads : Heads) (code : List ℕ) (at : Places) : Type 0 where
+  item : ItemTo m x table heads code at
+  has : Has table (at.read + length (item_words x)) (items_words xs)
+  stand : Has heads.nodes.now (at.node + length (item_nodes m.ss x)) (items_nodes m.ss xs)
+  loadable : AllLoadable m.ss xs
   small : AllSmall xs
-  inside : q + length (item_nodes ss x) ≤ length nodes
-  room : next_literal (literal_from l (suc (length xs))) ≤ length code
+  inside : at.node + length (item_nodes m.ss x) ≤ length heads.nodes.now
+  room : next_literal (literal_from at.literal (suc (length xs))) ≤ length code
 
-split : (ss : List Symbol) (sh : Sheet) (x : Item) (xs : List Item) (table : List ℕ) (p : ℕ) (nodes : List ℕ) (q clauses : ℕ) (code : List ℕ) (l : ℕ) → ItemsTo ss sh (x ∷ xs) table p nodes q clauses code l
-    → Split ss sh table p nodes q clauses code l x xs
+split : {m : Meant} {x : Item} {xs : List Item} {table : List ℕ} {heads : Heads} {code : List ℕ} {at : Places} → ItemsTo m (x ∷ xs) table heads code at
+    → Split m x xs table heads code at
 unfolding items_nodes
-split ss sh x xs table p nodes q clauses code l w =
-    let h : next_literal (literal_from l (suc (length xs))) ≤ length code = w.high in
-    let first : Has nodes q (item_nodes ss x) = has_left nodes q (item_nodes ss x) (items_nodes ss xs) w.stand in
+split {m} {x} {xs} {table} {heads} {code} {at} w =
+    let h : next_literal (literal_from at.literal (suc (length xs))) ≤ length code = w.high in
+    let first : Has heads.nodes.now at.node (item_nodes m.ss x) = has_left heads.nodes.now at.node (item_nodes m.ss x) (items_nodes m.ss xs) w.stand in
     record {
       item = record {
         headed = w.headed;
-        has = first-stands table p x xs w.has;
+        has = first-stands table at.read x xs w.has;
         stand = first;
         loadable = w.loadable.0;
         small = w.small.0;
@@ -151,84 +152,80 @@ split ss sh x xs table p nodes q clauses code l w =
         low = w.low;
         high = omega arith;
       };
-      has = rest-stand table p x xs w.has;
-      stand = has_right nodes q (item_nodes ss x) (items_nodes ss xs) w.stand;
+      has = rest-stand table at.read x xs w.has;
+      stand = has_right heads.nodes.now at.node (item_nodes m.ss x) (items_nodes m.ss xs) w.stand;
       loadable = w.loadable.1;
       small = w.small.1;
-      inside = end-inside nodes q (item_nodes ss x) w.node first;
+      inside = end-inside heads.nodes.now at.node (item_nodes m.ss x) w.node first;
       room = h;
     }
 
 -- the item of a turn
-pub record ItemHere (table : List ℕ) (at : ℕ) (nodes : List ℕ) (node clauses : ℕ) (code : List ℕ) (to : ℕ) (ss : List Symbol) (sh : Sheet) : Type 0 where
+pub record ItemHere (m : Meant) (table : List ℕ) (heads : Heads) (code : List ℕ) (at : Places) : Type 0 where
   pub item : Item
-  pub ready : ItemTo ss sh item table at nodes node clauses code to
-  pub fits : node + length (item_nodes ss item) ≤ places
+  pub ready : ItemTo m item table heads code at
+  pub fits : at.node + length (item_nodes m.ss item) ≤ places
 
-module _ (table : List ℕ) (at i many : ℕ) (nodes : List ℕ) (node clauses : ℕ) (code : List ℕ) (to : ℕ) (l : i < many) (ss : List Symbol) (sh : Sheet) where
-  item_in : (xs : List Item) → ItemsTo ss sh xs table at nodes node clauses code to → i + length xs ≡ many → ItemHere table at nodes node clauses code to ss sh
-  item_in [] w c = absurd (let z : i + 0 ≡ many = c in omega arith)
-  item_in (x ∷ xs) w c =
-      let o : Split ss sh table at nodes node clauses code to x xs = split ss sh x xs table at nodes node clauses code to w in
-      record { item = x; ready = o.item; fits = omega (arith, o.inside, w.headed.nodes_short) }
+module _ {m : Meant} {whole table : List ℕ} {i many : ℕ} {heads : Heads} {code : List ℕ} {at : Places} where
+  pub ahead-item : i < many → BodyAhead m whole table i many heads code at → ItemHere m table heads code at
+  ahead-item l w = go w.rest w.ready w.count
+    where
+      go : (xs : List Item) → ItemsTo m xs table heads code at → i + length xs ≡ many → ItemHere m table heads code at
+      go [] v c = absurd (let z : i + 0 ≡ many = c in omega arith)
+      go (x ∷ xs) v c =
+          let o : Split m x xs table heads code at = split v in
+          record { item = x; ready = o.item; fits = omega (arith, o.inside, v.headed.nodes_short) }
 
-  module _ (new : List ℕ) (n : (x : Item) → ItemTo ss sh x table at nodes node clauses code to → new ≡ put_record code to (kind_of x) node (other_of ss sh node to x))
-      (next : ℕ) (s : (x : Item) → Has table at (item_words x) → next ≡ at + length (item_words x)) (size : ℕ) (z : (n : ℕ) → n * 3 + 1 * 2 ≡ (next - at) * 2 → size ≡ n) (whole : List ℕ) where
-    next-in : (xs : List Item) → ItemsTo ss sh xs table at nodes node clauses code to → i + length xs ≡ many → put_items ss sh node xs code to ≡ whole
-        → BodyAhead ss sh whole table next (i + 1) many nodes (node + size) clauses new (next_literal to)
-    unfolding put_items
-    next-in [] w c g = absurd (let y : i + 0 ≡ many = c in omega arith)
-    next-in (x ∷ xs) w c g =
-        let o : Split ss sh table at nodes node clauses code to x xs = split ss sh x xs table at nodes node clauses code to w in
-        let e : next ≡ at + length (item_words x) = s x o.item.has in
-        let m : length (item_nodes ss x) * 3 + 1 * 2 ≡ length (item_words x) * 2 = item-nodes ss x in
-        let size_is : size ≡ length (item_nodes ss x) = z (length (item_nodes ss x)) (omega arith) in
-        let f : node + size ≡ node + length (item_nodes ss x) = ap (λ (k : ℕ). node + k) size_is in
-        let new_is : new ≡ put_record code to (kind_of x) node (other_of ss sh node to x) = n x o.item in
-        let long : length new ≡ length code = ap length new_is ∙ record-long code to (kind_of x) node (other_of ss sh node to x) in
-        let count : i + suc (length xs) ≡ many = c in
-        let room : next_literal (literal_from to (suc (length xs))) ≤ length code = o.room in
-        let inside : node + length (item_nodes ss x) ≤ length nodes = o.inside in
-        let low : bodies ≤ to = w.low in
-        record {
-          rest = xs;
-          ready = record {
-            headed = headed-kept ss sh nodes clauses code new long (subst⁻¹ (SameHeads code) new_is (record-heads code to (kind_of x) node (other_of ss sh node to x) w.low)) w.headed;
-            has = subst⁻¹ (λ (k : ℕ). Has table k (items_words xs)) e o.has;
-            stand = subst⁻¹ (λ (k : ℕ). Has nodes k (items_nodes ss xs)) f o.stand;
-            loadable = o.loadable;
-            small = o.small;
-            node = omega arith;
-            low = omega arith;
-            high = omega arith;
-          };
-          count = omega arith;
-          gives = ap₂ (λ (k : ℕ) (c : List ℕ). put_items ss sh k xs c (next_literal to)) f new_is ∙ g;
-        }
-
-module _ {table : List ℕ} {at i many : ℕ} {nodes : List ℕ} {node clauses : ℕ} {code : List ℕ} {to : ℕ} {ss : List Symbol} {sh : Sheet} {whole : List ℕ} where
-  pub ahead-item : i < many → BodyAhead ss sh whole table at i many nodes node clauses code to → ItemHere table at nodes node clauses code to ss sh
-  ahead-item l w = item_in table at i many nodes node clauses code to l ss sh w.rest w.ready w.count
-
-  pub ahead-next : i < many → BodyAhead ss sh whole table at i many nodes node clauses code to → {new : List ℕ}
-      → ((ss : List Symbol) (sh : Sheet) (x : Item) → ItemTo ss sh x table at nodes node clauses code to → new ≡ put_record code to (kind_of x) node (other_of ss sh node to x))
-      → {next : ℕ} → ((x : Item) → Has table at (item_words x) → next ≡ at + length (item_words x)) → {size : ℕ} → ((n : ℕ) → n * 3 + 1 * 2 ≡ (next - at) * 2 → size ≡ n)
-      → {after : ℕ} → after ≡ next_literal to → BodyAhead ss sh whole table next (i + 1) many nodes (node + size) clauses new after
+  pub ahead-next : i < many → BodyAhead m whole table i many heads code at → {new : List ℕ}
+      → ((m : Meant) (x : Item) → ItemTo m x table heads code at → new ≡ put_record code at.literal (kind_of x) at.node (other_of m.ss m.sh at.node at.literal x))
+      → {next : ℕ} → ((x : Item) → Has table at.read (item_words x) → next ≡ at.read + length (item_words x)) → {size : ℕ} → ((n : ℕ) → n * 3 + 1 * 2 ≡ (next - at.read) * 2 → size ≡ n)
+      → {after : ℕ} → after ≡ next_literal at.literal → BodyAhead m whole table (i + 1) many heads new (record { read = next; node = at.node + size; literal = after })
+  unfolding put_items
   ahead-next l w {new} n {next} s {size} z {after} e =
-      subst⁻¹ (BodyAhead ss sh whole table next (i + 1) many nodes (node + size) clauses new) e
-      (next-in table at i many nodes node clauses code to l ss sh new (n ss sh) next s size z whole w.rest w.ready w.count w.gives)
+      subst⁻¹ (λ (k : ℕ). BodyAhead m whole table (i + 1) many heads new (record { read = next; node = at.node + size; literal = k })) e (go w.rest w.ready w.count w.gives)
+    where
+      go : (xs : List Item) → ItemsTo m xs table heads code at → i + length xs ≡ many → put_items m.ss m.sh at.node xs code at.literal ≡ whole
+          → BodyAhead m whole table (i + 1) many heads new (record { read = next; node = at.node + size; literal = next_literal at.literal })
+      go [] v c g = absurd (let y : i + 0 ≡ many = c in omega arith)
+      go (x ∷ xs) v c g =
+          let o : Split m x xs table heads code at = split v in
+          let r : next ≡ at.read + length (item_words x) = s x o.item.has in
+          let d : length (item_nodes m.ss x) * 3 + 1 * 2 ≡ length (item_words x) * 2 = item-nodes m.ss x in
+          let size_is : size ≡ length (item_nodes m.ss x) = z (length (item_nodes m.ss x)) (omega arith) in
+          let f : at.node + size ≡ at.node + length (item_nodes m.ss x) = ap (λ (k : ℕ). at.node + k) size_is in
+          let new_is : new ≡ put_record code at.literal (kind_of x) at.node (other_of m.ss m.sh at.node at.literal x) = n m x o.item in
+          let long : length new ≡ length code = ap length new_is ∙ record-long code at.literal (kind_of x) at.node (other_of m.ss m.sh at.node at.literal x) in
+          let count : i + suc (length xs) ≡ many = c in
+          let room : next_literal (literal_from at.literal (suc (length xs))) ≤ length code = o.room in
+          let inside : at.node + length (item_nodes m.ss x) ≤ length heads.nodes.now = o.inside in
+          let low : bodies ≤ at.literal = v.low in
+          record {
+            rest = xs;
+            ready = record {
+              headed = headed-kept long (subst⁻¹ (SameHeads code) new_is (record-heads code at.literal (kind_of x) at.node (other_of m.ss m.sh at.node at.literal x) v.low)) v.headed;
+              has = subst⁻¹ (λ (k : ℕ). Has table k (items_words xs)) r o.has;
+              stand = subst⁻¹ (λ (k : ℕ). Has heads.nodes.now k (items_nodes m.ss xs)) f o.stand;
+              loadable = o.loadable;
+              small = o.small;
+              node = omega arith;
+              low = omega arith;
+              high = omega arith;
+            };
+            count = omega arith;
+            gives = ap₂ (λ (k : ℕ) (c : List ℕ). put_items m.ss m.sh k xs c (next_literal at.literal)) f new_is ∙ g;
+          }
 
   -- where the cursors are
-  pub ahead-bounds : BodyAhead ss sh whole table at i many nodes node clauses code to → (next_literal to ≤ length code) × ((length code ≤ places) × (length whole ≡ length code))
+  pub ahead-bounds : BodyAhead m whole table i many heads code at → (next_literal at.literal ≤ length code) × ((length code ≤ places) × (length whole ≡ length code))
   ahead-bounds w =
-      let a : next_literal (literal_from to (length w.rest)) ≤ length code = w.ready.high in
-      (omega arith, (w.ready.headed.short, sym (ap length w.gives) ∙ body-long ss sh node w.rest code to))
+      let a : next_literal (literal_from at.literal (length w.rest)) ≤ length code = w.ready.high in
+      (omega arith, (w.ready.headed.short, sym (ap length w.gives) ∙ body-long m.ss m.sh at.node w.rest code at.literal))
 
-  pub ahead-end : many ≤ i → {new : List ℕ} → new ≡ set code to body_end_kind → BodyAhead ss sh whole table at i many nodes node clauses code to → new ≡ whole
+  pub ahead-end : many ≤ i → {new : List ℕ} → new ≡ set code at.literal body_end_kind → BodyAhead m whole table i many heads code at → new ≡ whole
   unfolding put_items
   ahead-end l {new} e w = go w.rest w.count w.gives
     where
-      go : (xs : List Item) → i + length xs ≡ many → put_items ss sh node xs code to ≡ whole → new ≡ whole
+      go : (xs : List Item) → i + length xs ≡ many → put_items m.ss m.sh at.node xs code at.literal ≡ whole → new ≡ whole
       go [] c g = e ∙ g
       go (x ∷ xs) c g = absurd (let z : i + suc (length xs) ≡ many = c in omega arith)
 

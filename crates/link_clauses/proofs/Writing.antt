@@ -14,7 +14,8 @@ use Rattle.run_layout.specs.Program.{head_at}
 use Rattle.link_records.specs.Records.{put_pair, put_record}
 use Rattle.link_items.specs.Records.{kind_of, item_nodes, other_of}
 use Rattle.link_clauses.specs.Records.{put_items}
-use Rattle.link_search.specs.Search.{HeadsLoaded, Headed}
+use Rattle.link_search.specs.declared.Heads.{Heads}
+use Rattle.link_search.specs.Search.{HeadsLoaded, Meant, Headed}
 use Rattle.link_records.proofs.Writing.{pair-other, record-long, record-below}
 
 -- ---- a body
@@ -46,16 +47,16 @@ module _ (ss : List Symbol) (nodes : List ℕ) where
       let z : k + suc (length cls) ≤ program_clauses + 1 = l in
       (subst⁻¹ (λ (i : ℕ). TermLoaded ss nodes i (term_of cl.head)) (f k (omega arith)) h.0, heads-kept code new f (k + 1) cls (omega arith) h.1)
 
-pub headed-kept : (ss : List Symbol) (sh : Sheet) (nodes : List ℕ) (clauses : ℕ) (code new : List ℕ) → length new ≡ length code → SameHeads code new → Headed ss sh nodes clauses code → Headed ss sh nodes clauses new
-headed-kept ss sh nodes clauses code new n f w =
-    let e : clauses ≡ length sh.clauses = w.count in
-    let few : clauses ≤ program_clauses = w.few in
+pub headed-kept : {m : Meant} {h : Heads} {code new : List ℕ} → length new ≡ length code → SameHeads code new → Headed m h code → Headed m h new
+headed-kept {m} {h} {code} {new} n f w =
+    let e : h.clauses ≡ length m.sh.clauses = w.count in
+    let few : h.clauses ≤ program_clauses = w.few in
     let room : code_words ≤ length code = w.room in
     let short : length code ≤ places = w.short in
     record {
       count = w.count;
       few = w.few;
-      heads = heads-kept ss nodes code new f 1 sh.clauses (omega arith) w.heads;
+      heads = heads-kept m.ss h.nodes.now code new f 1 m.sh.clauses (omega arith) w.heads;
       room = omega arith;
       short = omega arith;
       nodes_short = w.nodes_short;

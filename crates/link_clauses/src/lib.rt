@@ -2,9 +2,9 @@
 
 #![tactic(auto)]
 
-ghost use Rattle.std.specs.Prelude.{◌≡◌, List};
-ghost use Rattle.syntax.specs.Terms.{Body, Sheet, Clause};
-ghost use Rattle.run_layout.specs.Nodes.{Symbol};
+ghost use Rattle.std.specs.Prelude.{◌≡◌};
+ghost use Rattle.syntax.specs.Terms.{Body, Clause};
+ghost use Rattle.link_search.specs.Search.{Meant};
 ghost use Rattle.link_clauses.specs.Records.{put_body, behind_body, put_clause};
 ghost use Rattle.link_clauses.specs.Places.{BodyTo, ClauseTo};
 
@@ -17,10 +17,9 @@ use table_words::{CLAUSE_ITEMS, past, past_item, put, word_at};
 
 // The records of a body of so many items, and its end.
 pub fn put_body(table: &[u32], items: usize, heads: Heads, code: &mut [u32], at: Places)
-    requires { (ss : List Symbol) × ((sh : Sheet) × ((b : Body) × BodyTo ss sh b table.now at.read items heads.nodes.now at.node
-        heads.clauses code.old at.literal)) }
-    ensures { (ss : List Symbol) (sh : Sheet) (b : Body) → BodyTo ss sh b table.now at.read items heads.entry.nodes.now at.node
-        heads.entry.clauses code.old at.literal → code.new ≡ put_body ss sh at.node b code.old at.literal }
+    requires { (m : Meant) × ((b : Body) × BodyTo m b table.now items heads code.old at) }
+    ensures { (m : Meant) (b : Body) → BodyTo m b table.now items heads.entry code.old at
+        → code.new ≡ put_body m.ss m.sh at.node b code.old at.literal }
 {
     let mut read = at.read;
     let mut node = at.node;
@@ -43,11 +42,9 @@ pub fn put_body(table: &[u32], items: usize, heads: Heads, code: &mut [u32], at:
 // The record of clause k but for its head's place: where its body's records begin, and the next clause of the same predicate. And the records of its
 // body; the place behind them.
 pub fn put_clause(table: &[u32], heads: Heads, code: &mut [u32], k: usize, at: Places) -> usize
-    requires { (ss : List Symbol) × ((sh : Sheet) × ((cl : Clause) × ClauseTo ss sh cl table.now at.read heads.nodes.now at.node
-        heads.clauses code.old k at.literal)) }
-    ensures { (ss : List Symbol) (sh : Sheet) (cl : Clause) → ClauseTo ss sh cl table.now at.read heads.entry.nodes.now at.node
-        heads.entry.clauses code.old k at.literal
-        → (code.new ≡ put_clause ss sh at.node cl code.old k at.literal) × (result ≡ behind_body at.literal cl.body) }
+    requires { (m : Meant) × ((cl : Clause) × ClauseTo m cl table.now heads code.old k at) }
+    ensures { (m : Meant) (cl : Clause) → ClauseTo m cl table.now heads.entry code.old k at
+        → (code.new ≡ put_clause m.ss m.sh at.node cl code.old k at.literal) × (result ≡ behind_body at.literal cl.body) }
 {
     let word = word_at(heads.nodes, at.node);
     let after = next_for(heads, code, word, k);

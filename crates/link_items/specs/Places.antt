@@ -1,12 +1,14 @@
 -- What stands where when an item's record is written.
 use Rattle.std.specs.Prelude.{ℕ, ◌≤◌, List, T, length}
-use Rattle.syntax.specs.Terms.{term_of, Sheet}
+use Rattle.syntax.specs.Terms.{term_of}
 use Rattle.table_words.specs.Tables.{Has}
 use Rattle.table_words.specs.Items.{Item, plain_call, plain_equation, plain_truth, plain_falsity, before_left, before_right, behind, item_words}
 use Rattle.run_layout.specs.Regions.{bodies, places, next_literal}
 use Rattle.run_layout.specs.Nodes.{Symbol, is_loadable}
+use Rattle.link_records.specs.declared.Places.{Places}
 use Rattle.link_items.specs.Records.{item_nodes}
-use Rattle.link_search.specs.Search.{Headed}
+use Rattle.link_search.specs.declared.Heads.{Heads}
+use Rattle.link_search.specs.Search.{Meant, Headed}
 
 -- the terms of an item can stand in the table
 abbrev pub ItemLoadable : List Symbol → Item → Type 0
@@ -28,14 +30,13 @@ SideSmall (before_left n) = n ≤ places
 SideSmall (before_right n) = n ≤ places
 SideSmall behind = Unit {0}
 
--- an item whose nodes stand at q, with room for its record at l
-pub record ItemTo (ss : List Symbol) (sh : Sheet) (x : Item) (table : List ℕ) (p : ℕ) (nodes : List ℕ) (q clauses : ℕ) (code : List ℕ) (l : ℕ) : Type
-    0 where
-  pub headed : Headed ss sh nodes clauses code
-  pub has : Has table p (item_words x)
-  pub stand : Has nodes q (item_nodes ss x)
-  pub loadable : ItemLoadable ss x
+-- an item whose words and nodes stand at its places, with room for its record
+pub record ItemTo (m : Meant) (x : Item) (table : List ℕ) (heads : Heads) (code : List ℕ) (at : Places) : Type 0 where
+  pub headed : Headed m heads code
+  pub has : Has table at.read (item_words x)
+  pub stand : Has heads.nodes.now at.node (item_nodes m.ss x)
+  pub loadable : ItemLoadable m.ss x
   pub small : SideSmall x
-  pub node : q ≤ length nodes
-  pub low : bodies ≤ l
-  pub high : next_literal l ≤ length code
+  pub node : at.node ≤ length heads.nodes.now
+  pub low : bodies ≤ at.literal
+  pub high : next_literal at.literal ≤ length code

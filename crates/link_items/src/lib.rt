@@ -2,12 +2,11 @@
 
 #![tactic(auto)]
 
-ghost use Rattle.std.specs.Prelude.{◌≡◌, List};
+ghost use Rattle.std.specs.Prelude.{◌≡◌};
 ghost use Rattle.table_words.specs.Tables.{Has};
 ghost use Rattle.table_words.specs.Items.{Item, item_words};
 ghost use Rattle.link_items.specs.Records.{kind_of, other_of};
-ghost use Rattle.syntax.specs.Terms.{Sheet};
-ghost use Rattle.run_layout.specs.Nodes.{Symbol};
+ghost use Rattle.link_search.specs.Search.{Meant};
 ghost use Rattle.link_items.specs.Places.{ItemTo};
 ghost use Rattle.link_records.specs.Records.{put_record};
 
@@ -41,10 +40,9 @@ fn kind_of(table: &[u32], p: usize) -> usize
 // The third word of an item's record: the topmost clause for a call, the place of the right term of an equation, or the record behind the side that the word
 // of a bracket begins. Truth and falsehood have none; the word is 0 then, and nothing reads it.
 fn other_of(table: &[u32], heads: Heads, code: &[u32], at: Places) -> usize
-    requires { (ss : List Symbol) × ((sh : Sheet) × ((x : Item) × ItemTo ss sh x table.now at.read heads.nodes.now at.node heads.clauses
-        code.now at.literal)) }
-    ensures { (ss : List Symbol) (sh : Sheet) (x : Item) → ItemTo ss sh x table.now at.read heads.entry.nodes.now at.node
-        heads.entry.clauses code.now at.literal → result ≡ other_of ss sh at.node at.literal x }
+    requires { (m : Meant) × ((x : Item) × ItemTo m x table.now heads code.now at) }
+    ensures { (m : Meant) (x : Item) → ItemTo m x table.now heads.entry code.now at
+        → result ≡ other_of m.ss m.sh at.node at.literal x }
 {
     let word = word_at(table, at.read);
     if word < CALL_KIND {
@@ -66,11 +64,9 @@ fn other_of(table: &[u32], heads: Heads, code: &[u32], at: Places) -> usize
 
 // The record of an item.
 pub fn put_item(table: &[u32], heads: Heads, code: &mut [u32], at: Places)
-    requires { (ss : List Symbol) × ((sh : Sheet) × ((x : Item) × ItemTo ss sh x table.now at.read heads.nodes.now at.node heads.clauses
-        code.old at.literal)) }
-    ensures { (ss : List Symbol) (sh : Sheet) (x : Item) → ItemTo ss sh x table.now at.read heads.entry.nodes.now at.node
-        heads.entry.clauses code.old at.literal
-        → code.new ≡ put_record code.old at.literal (kind_of x) at.node (other_of ss sh at.node at.literal x) }
+    requires { (m : Meant) × ((x : Item) × ItemTo m x table.now heads code.old at) }
+    ensures { (m : Meant) (x : Item) → ItemTo m x table.now heads.entry code.old at
+        → code.new ≡ put_record code.old at.literal (kind_of x) at.node (other_of m.ss m.sh at.node at.literal x) }
 {
     let kind = kind_of(table, at.read);
     let other = other_of(table, heads, code, at);

@@ -10,7 +10,7 @@ use Rattle.std.specs.Prelude.{Option, None, Some, MatchOption, unwrap_or}
 use lib.Dec.{T, eqb, eqb→eq, eqb_refl}
 use lib.ListN.{length, get_or, drop, length-drop}
 use Rattle.syntax.specs.Words.{first_name}
-use Rattle.syntax.specs.Terms.{arity, Atom, term_of, same_name, same_predicate, Clause, Sheet}
+use Rattle.syntax.specs.Terms.{arity, Atom, term_of, same_name, same_predicate, Clause}
 use Rattle.run_layout.specs.Regions.{code_words}
 use Rattle.machine.specs.Machine.{is_for, first_for, next_for, nth_clause}
 use Rattle.machine.proofs.Tests.{both, and, name-eq, name-refl, some-eq, some-none}
@@ -18,7 +18,8 @@ use Rattle.table_words.specs.Tables.{Has}
 use Rattle.run_layout.specs.Nodes.{Symbol, symbol_of, is_listed, name_of_symbol, loaded_words, is_loadable, are_loadable, TermLoaded}
 use Rattle.run_layout.specs.Program.{head_at}
 use Rattle.run_layout.proofs.Nodes.{name_of, arguments-of}
-use Rattle.link_search.specs.Search.{sought, HeadsPlaced, HeadsLoaded, Headed}
+use Rattle.link_search.specs.declared.Heads.{Heads}
+use Rattle.link_search.specs.Search.{sought, HeadsPlaced, HeadsLoaded, Meant, Headed}
 
 -- ---- the loop
 
@@ -137,23 +138,23 @@ module _ (ss : List Symbol) (nodes code : List ℕ) where
 
 -- ---- as the code asks
 
-module _ (ss : List Symbol) (sh : Sheet) (nodes : List ℕ) (clauses : ℕ) (code : List ℕ) (w : Headed ss sh nodes clauses code) where
-  pub searchable : HeadsPlaced nodes code clauses
+module _ {m : Meant} {h : Heads} {code : List ℕ} (w : Headed m h code) where
+  pub searchable : HeadsPlaced h.nodes.now code h.clauses
   searchable =
-      let e : clauses ≡ length sh.clauses = w.count in
+      let e : h.clauses ≡ length m.sh.clauses = w.count in
       let r : code_words ≤ length code = w.room in
       record {
         few = w.few;
         long = omega arith;
-        inside = λ j a b. subst (λ (i : ℕ). head_at code i < length nodes) (let q : 1 + (j - 1) ≡ j = omega arith in q) (heads-inside ss nodes code (j - 1) 1 sh.clauses (let z : j - 1 < length sh.clauses = omega arith in z) w.heads);
+        inside = λ j a b. subst (λ (i : ℕ). head_at code i < length h.nodes.now) (let q : 1 + (j - 1) ≡ j = omega arith in q) (heads-inside m.ss h.nodes.now code (j - 1) 1 m.sh.clauses (let z : j - 1 < length m.sh.clauses = omega arith in z) w.heads);
       }
 
   -- the search finds the next clause of the atom's predicate
-  pub next_is : (a : Atom) → Listed ss a → (word k r : ℕ) → word ≡ word_of ss a → r ≡ sought nodes code word (k + 1) (clauses - k) → r ≡ next_for sh a k
+  pub next_is : (a : Atom) → Listed m.ss a → (word k r : ℕ) → word ≡ word_of m.ss a → r ≡ sought h.nodes.now code word (k + 1) (h.clauses - k) → r ≡ next_for m.sh a k
   unfolding next_for
   next_is a l word k r e s =
-      let many : clauses - k ≡ length (drop k sh.clauses) = sym (length-drop k sh.clauses ∙ ap (λ (i : ℕ). i - k) (sym w.count)) in
-      let z : sought nodes code (word_of ss a) (1 + k) (length (drop k sh.clauses)) ≡ first_for a (1 + k) (drop k sh.clauses) = sought-is ss nodes code a l (1 + k) (drop k sh.clauses) (heads-drop ss nodes code k 1 sh.clauses w.heads) in
-      s ∙ (ap (λ (i : ℕ). sought nodes code i (k + 1) (clauses - k)) e
-      ∙ (ap₂ (λ (i n : ℕ). sought nodes code (word_of ss a) i n) (let q : k + 1 ≡ 1 + k = omega arith in q) many
-      ∙ (z ∙ ap (λ (i : ℕ). first_for a i (drop k sh.clauses)) (let q : 1 + k ≡ suc k = omega arith in q))))
+      let many : h.clauses - k ≡ length (drop k m.sh.clauses) = sym (length-drop k m.sh.clauses ∙ ap (λ (i : ℕ). i - k) (sym w.count)) in
+      let z : sought h.nodes.now code (word_of m.ss a) (1 + k) (length (drop k m.sh.clauses)) ≡ first_for a (1 + k) (drop k m.sh.clauses) = sought-is m.ss h.nodes.now code a l (1 + k) (drop k m.sh.clauses) (heads-drop m.ss h.nodes.now code k 1 m.sh.clauses w.heads) in
+      s ∙ (ap (λ (i : ℕ). sought h.nodes.now code i (k + 1) (h.clauses - k)) e
+      ∙ (ap₂ (λ (i n : ℕ). sought h.nodes.now code (word_of m.ss a) i n) (let q : k + 1 ≡ 1 + k = omega arith in q) many
+      ∙ (z ∙ ap (λ (i : ℕ). first_for a i (drop k m.sh.clauses)) (let q : 1 + k ≡ suc k = omega arith in q))))

@@ -5,6 +5,7 @@ use Rattle.run_layout.specs.Nodes.{Symbol, TermLoaded}
 use Rattle.run_layout.specs.Program.{head_at}
 use Rattle.syntax.specs.Words.{program_clauses}
 use Rattle.run_layout.specs.Regions.{bodies, code_words, places}
+use Rattle.link_search.specs.declared.Heads.{Heads}
 
 -- Of n clauses, the first of number j, the topmost whose head has this first word; 0 where there is none.
 unfoldable pub sought : List ℕ → List ℕ → ℕ → ℕ → ℕ → ℕ
@@ -22,11 +23,16 @@ abbrev pub HeadsLoaded : List Symbol → List ℕ → List ℕ → ℕ → List 
 HeadsLoaded ss nodes code k [] = Unit {0}
 HeadsLoaded ss nodes code k (cl ∷ cls) = TermLoaded ss nodes (head_at code k) (term_of cl.head) × HeadsLoaded ss nodes code (k + 1) cls
 
+-- What the loaded tables mean: their symbols, and the sheet.
+pub record Meant : Type 0 where
+  pub ss : List Symbol
+  pub sh : Sheet
+
 -- the heads of a sheet's clauses have their places
-pub record Headed (ss : List Symbol) (sh : Sheet) (nodes : List ℕ) (clauses : ℕ) (code : List ℕ) : Type 0 where
-  pub count : clauses ≡ length sh.clauses
-  pub few : clauses ≤ program_clauses
-  pub heads : HeadsLoaded ss nodes code 1 sh.clauses
+pub record Headed (m : Meant) (h : Heads) (code : List ℕ) : Type 0 where
+  pub count : h.clauses ≡ length m.sh.clauses
+  pub few : h.clauses ≤ program_clauses
+  pub heads : HeadsLoaded m.ss h.nodes.now code 1 m.sh.clauses
   pub room : code_words ≤ length code
   pub short : length code ≤ places
-  pub nodes_short : length nodes ≤ places
+  pub nodes_short : length h.nodes.now ≤ places

@@ -1,12 +1,12 @@
 -- Laws for the functions that go along the clauses, one for each way out. Assumes nothing.
 use Prim.Native.Nat.{ℕ, suc, ◌+◌, ◌≤◌, ◌<◌}
 use native.Mathlib.Omega.{arith}
-use mathlib.Core.Path.{◌≡◌, refl, sym, ap, ap₂, ◌∙◌, subst⁻¹}
+use mathlib.Core.Path.{◌≡◌, refl, ap, ap₂, ◌∙◌, subst⁻¹}
 use mathlib.Core.Bool.{◌&&◌}
 use mathlib.Core.List.{List, [], ◌∷◌}
 use lib.Dec.{T}
 use lib.ListN.{length, set, length-set, length-append}
-use Rattle.syntax.specs.Terms.{term_of, Clause, Sheet}
+use Rattle.syntax.specs.Terms.{term_of, Clause}
 use Rattle.syntax.specs.Words.{body_length, clause_words, clauses_words, program_clauses}
 use Rattle.machine.proofs.Tests.{both}
 use Rattle.table_words.specs.Tables.{Has}
@@ -15,15 +15,18 @@ use Rattle.run_layout.specs.Regions.{places, bodies, clause_record, literal_from
 use Rattle.run_layout.specs.Nodes.{Symbol, is_loadable}
 use Rattle.run_layout.specs.Limits.{ClausesLimited, body_records}
 use Rattle.run_layout.specs.Program.{clause_nodes, clauses_nodes, body_loadable, clauses_loadable}
+use Rattle.link_records.specs.declared.Places.{Places}
 use Rattle.link_clauses.specs.Records.{behind_body, put_clause}
+use Rattle.link_search.specs.declared.Heads.{Heads}
+use Rattle.link_search.specs.Search.{Meant}
 use Rattle.linker.specs.Records.{put_heads, put_clauses}
 use Rattle.linker.specs.Places.{HeadsTo, ClausesTo}
 use Rattle.link_clauses.specs.Places.{ClauseTo}
 use Rattle.link_search.proofs.Seeking.{atom-word}
 use Rattle.link_clauses.proofs.Writing.{SameHeads, headed-kept}
-use Rattle.linker.proofs.Writing.{heads-long, Kept, clause-kept, clauses-kept}
+use Rattle.linker.proofs.Writing.{Kept, clause-kept}
 use Rattle.link_items.proofs.Items.{end-inside}
-use Rattle.link_clauses.proofs.Clauses.{head-stands, clause-small}
+use Rattle.link_clauses.proofs.Clauses.{head-stands}
 
 -- ---- the first of some clauses
 
@@ -54,9 +57,6 @@ pub record HeadsAhead (ss : List Symbol) (whole table : List ℕ) (at node claus
 
 pub heads-begin : (ss : List Symbol) (cls : List Clause) (table : List ℕ) (q clauses : ℕ) (code : List ℕ) → HeadsTo ss cls table 0 q clauses code 1 → HeadsAhead ss (put_heads ss q cls code 1) table 0 q clauses code 1
 heads-begin ss cls table q clauses code w = record { rest = cls; ready = w; gives = refl }
-
-pub heads-length : (ss : List Symbol) (whole table : List ℕ) (at node clauses : ℕ) (code : List ℕ) (k : ℕ) → HeadsAhead ss whole table at node clauses code k → length whole ≡ length code
-heads-length ss whole table at node clauses code k w = sym (ap length w.gives) ∙ heads-long ss node w.rest code k
 
 module _ (table : List ℕ) (at node clauses : ℕ) (code : List ℕ) (k : ℕ) (l : k ≤ clauses) where
   clause-in : (ss : List Symbol) (cls : List Clause) → HeadsTo ss cls table at node clauses code k → (cl : Clause) × Has table at (clause_words cl)
@@ -123,37 +123,37 @@ heads-end ss whole table at node clauses code k l w = go w.rest w.ready.count w.
 -- ---- all clauses
 
 -- What is left of the clauses, from number k on, makes the whole.
-pub record ClausesAhead (ss : List Symbol) (sh : Sheet) (whole table : List ℕ) (at : ℕ) (nodes : List ℕ) (node clauses : ℕ) (code : List ℕ) (k l : ℕ) : Type 0 where
+pub record ClausesAhead (m : Meant) (whole table : List ℕ) (heads : Heads) (code : List ℕ) (k : ℕ) (at : Places) : Type 0 where
   pub rest : List Clause
-  pub ready : ClausesTo ss sh rest table at nodes node clauses code k l
-  pub gives : put_clauses ss sh node rest code k l ≡ whole
+  pub ready : ClausesTo m rest table heads code k at
+  pub gives : put_clauses m.ss m.sh at.node rest code k at.literal ≡ whole
 
-pub clauses-begin : {ss : List Symbol} {sh : Sheet} {cls : List Clause} {table nodes : List ℕ} {q clauses : ℕ} {code : List ℕ} {l : ℕ} → ClausesTo ss sh cls table 0 nodes q clauses code 1 l
-    → ClausesAhead ss sh (put_clauses ss sh q cls code 1 l) table 0 nodes q clauses code 1 l
+pub clauses-begin : {m : Meant} {cls : List Clause} {table : List ℕ} {heads : Heads} {code : List ℕ} {at : Places} → ClausesTo m cls table heads code 1 at
+    → ClausesAhead m (put_clauses m.ss m.sh at.node cls code 1 at.literal) table heads code 1 at
 clauses-begin {cls = cls} w = record { rest = cls; ready = w; gives = refl }
 
 -- the first clause and the rest
-record Split (ss : List Symbol) (sh : Sheet) (table : List ℕ) (at : ℕ) (nodes : List ℕ) (node clauses : ℕ) (code : List ℕ) (k l : ℕ) (cl : Clause) (cls : List Clause) : Type 0 where
-  clause : ClauseTo ss sh cl table at nodes node clauses code k l
-  stand : Has nodes (node + length (clause_nodes ss cl)) (clauses_nodes ss cls)
-  loadable : T (clauses_loadable ss cls)
+record Split (m : Meant) (cl : Clause) (cls : List Clause) (table : List ℕ) (heads : Heads) (code : List ℕ) (k : ℕ) (at : Places) : Type 0 where
+  clause : ClauseTo m cl table heads code k at
+  stand : Has heads.nodes.now (at.node + length (clause_nodes m.ss cl)) (clauses_nodes m.ss cls)
+  loadable : T (clauses_loadable m.ss cls)
   limited : ClausesLimited cls
-  inside : node + length (clause_nodes ss cl) ≤ length nodes
-  room : literal_from (behind_body l cl.body) (body_records cls) ≤ length code
+  inside : at.node + length (clause_nodes m.ss cl) ≤ length heads.nodes.now
+  room : literal_from (behind_body at.literal cl.body) (body_records cls) ≤ length code
 
-split : {table : List ℕ} {at : ℕ} {nodes : List ℕ} {node clauses : ℕ} {code : List ℕ} {k l : ℕ} → k ≤ clauses → {ss : List Symbol} {sh : Sheet} (cl : Clause) (cls : List Clause) → ClausesTo ss sh (cl ∷ cls) table at nodes node clauses code k l
-    → Split ss sh table at nodes node clauses code k l cl cls
+split : {table : List ℕ} {heads : Heads} {code : List ℕ} {k : ℕ} {at : Places} → k ≤ heads.clauses → {m : Meant} (cl : Clause) (cls : List Clause) → ClausesTo m (cl ∷ cls) table heads code k at
+    → Split m cl cls table heads code k at
 unfolding clauses_nodes clauses_loadable body_records
-split {table} {at} {nodes} {node} {clauses} {code} {k} {l} high {ss} {sh} cl cls w =
-    let oks : T (is_loadable ss (term_of cl.head) && body_loadable ss cl.body) × T (clauses_loadable ss cls) = both (is_loadable ss (term_of cl.head) && body_loadable ss cl.body) (clauses_loadable ss cls) w.loadable in
-    let ok : T (is_loadable ss (term_of cl.head)) × T (body_loadable ss cl.body) = both (is_loadable ss (term_of cl.head)) (body_loadable ss cl.body) oks.0 in
-    let first : Has nodes node (clause_nodes ss cl) = has_left nodes node (clause_nodes ss cl) (clauses_nodes ss cls) w.stand in
-    let inside : node < length nodes = (atom-word ss nodes node cl.head (head-stands ss nodes node cl first)).0 in
-    let room : literal_from l (suc (body_length cl.body) + body_records cls) ≤ length code = w.room in
+split {table} {heads} {code} {k} {at} high {m} cl cls w =
+    let oks : T (is_loadable m.ss (term_of cl.head) && body_loadable m.ss cl.body) × T (clauses_loadable m.ss cls) = both (is_loadable m.ss (term_of cl.head) && body_loadable m.ss cl.body) (clauses_loadable m.ss cls) w.loadable in
+    let ok : T (is_loadable m.ss (term_of cl.head)) × T (body_loadable m.ss cl.body) = both (is_loadable m.ss (term_of cl.head)) (body_loadable m.ss cl.body) oks.0 in
+    let first : Has heads.nodes.now at.node (clause_nodes m.ss cl) = has_left heads.nodes.now at.node (clause_nodes m.ss cl) (clauses_nodes m.ss cls) w.stand in
+    let inside : at.node < length heads.nodes.now = (atom-word m.ss heads.nodes.now at.node cl.head (head-stands m.ss heads.nodes.now at.node cl first)).0 in
+    let room : literal_from at.literal (suc (body_length cl.body) + body_records cls) ≤ length code = w.room in
     record {
       clause = record {
         headed = w.headed;
-        has = first-words table at cl cls w.has;
+        has = first-words table at.read cl cls w.has;
         stand = first;
         head_loadable = ok.0;
         body-loadable = ok.1;
@@ -162,82 +162,73 @@ split {table} {at} {nodes} {node} {clauses} {code} {k} {l} high {ss} {sh} cl cls
         place = w.place;
         room = omega arith;
       };
-      stand = has_right nodes node (clause_nodes ss cl) (clauses_nodes ss cls) w.stand;
+      stand = has_right heads.nodes.now at.node (clause_nodes m.ss cl) (clauses_nodes m.ss cls) w.stand;
       loadable = oks.1;
       limited = w.limited.1;
-      inside = end-inside nodes node (clause_nodes ss cl) (omega arith) first;
+      inside = end-inside heads.nodes.now at.node (clause_nodes m.ss cl) (omega arith) first;
       room = omega arith;
     }
 
-module _ {table : List ℕ} {at : ℕ} {nodes : List ℕ} {node clauses : ℕ} {code : List ℕ} {k l : ℕ} {ss : List Symbol} {sh : Sheet} {whole : List ℕ} where
-  pub clauses-length : ClausesAhead ss sh whole table at nodes node clauses code k l → length whole ≡ length code
-  clauses-length w =
-      let a : k + length w.rest ≡ suc clauses = w.ready.count in
-      let b : clauses ≤ program_clauses = w.ready.headed.few in
-      sym (ap length w.gives) ∙ (clauses-kept ss sh node w.rest code k l (omega arith) w.ready.place).long
-
-  pub clauses-end : clauses < k → ClausesAhead ss sh whole table at nodes node clauses code k l → code ≡ whole
+module _ {m : Meant} {whole table : List ℕ} {heads : Heads} {code : List ℕ} {k : ℕ} {at : Places} where
+  pub clauses-end : heads.clauses < k → ClausesAhead m whole table heads code k at → code ≡ whole
   unfolding put_clauses
   clauses-end over w = go w.rest w.ready.count w.gives
     where
-      go : (cls : List Clause) → k + length cls ≡ suc clauses → put_clauses ss sh node cls code k l ≡ whole → code ≡ whole
+      go : (cls : List Clause) → k + length cls ≡ suc heads.clauses → put_clauses m.ss m.sh at.node cls code k at.literal ≡ whole → code ≡ whole
       go [] c g = g
-      go (cl ∷ cls) c g = absurd (let z : k + suc (length cls) ≡ suc clauses = c in omega arith)
+      go (cl ∷ cls) c g = absurd (let z : k + suc (length cls) ≡ suc heads.clauses = c in omega arith)
 
-  module _ (high : k ≤ clauses) (w : ClausesAhead ss sh whole table at nodes node clauses code k l) where
-    pub ahead-clause : (cl : Clause) × ClauseTo ss sh cl table at nodes node clauses code k l
+  module _ (high : k ≤ heads.clauses) (w : ClausesAhead m whole table heads code k at) where
+    pub ahead-clause : (cl : Clause) × ClauseTo m cl table heads code k at
     ahead-clause = go w.rest w.ready
       where
-        go : (cls : List Clause) → ClausesTo ss sh cls table at nodes node clauses code k l → (cl : Clause) × ClauseTo ss sh cl table at nodes node clauses code k l
-        go [] v = absurd (let z : k + 0 ≡ suc clauses = v.count in omega arith)
+        go : (cls : List Clause) → ClausesTo m cls table heads code k at → (cl : Clause) × ClauseTo m cl table heads code k at
+        go [] v = absurd (let z : k + 0 ≡ suc heads.clauses = v.count in omega arith)
         go (cl ∷ cls) v = (cl, (split high cl cls v).clause)
 
-    -- the clause of a turn, which its words, its number and its nodes leave inside
-    pub clause-here : (cl : Clause) × Has table at (clause_words cl)
+    -- the clause of a turn, which its words and its nodes leave inside
+    pub clause-here : (cl : Clause) × Has table at.read (clause_words cl)
     clause-here = (ahead-clause.0, ahead-clause.1.has)
 
-    pub turn_small : k ≤ program_clauses
-    turn_small = clause-small ahead-clause.1
-
-    module _ {size : ℕ} (z : (ss : List Symbol) (cl : Clause) → Has table at (clause_words cl) → size ≡ length (clause_nodes ss cl)) where
-      pub node-fits : node + size ≤ places
+    module _ {size : ℕ} (z : (ss : List Symbol) (cl : Clause) → Has table at.read (clause_words cl) → size ≡ length (clause_nodes ss cl)) where
+      pub node-fits : at.node + size ≤ places
       node-fits = go w.rest w.ready
         where
-          go : (cls : List Clause) → ClausesTo ss sh cls table at nodes node clauses code k l → node + size ≤ places
-          go [] v = absurd (let y : k + 0 ≡ suc clauses = v.count in omega arith)
+          go : (cls : List Clause) → ClausesTo m cls table heads code k at → at.node + size ≤ places
+          go [] v = absurd (let y : k + 0 ≡ suc heads.clauses = v.count in omega arith)
           go (cl ∷ cls) v =
-              let o : Split ss sh table at nodes node clauses code k l cl cls = split high cl cls v in
-              let e : size ≡ length (clause_nodes ss cl) = z ss cl o.clause.has in
-              let i : node + length (clause_nodes ss cl) ≤ length nodes = o.inside in
-              let s : length nodes ≤ places = v.headed.nodes_short in
+              let o : Split m cl cls table heads code k at = split high cl cls v in
+              let e : size ≡ length (clause_nodes m.ss cl) = z m.ss cl o.clause.has in
+              let i : at.node + length (clause_nodes m.ss cl) ≤ length heads.nodes.now = o.inside in
+              let s : length heads.nodes.now ≤ places = v.headed.nodes_short in
               omega arith
 
-      module _ {new : List ℕ} {to : ℕ} (n : (ss : List Symbol) (sh : Sheet) (cl : Clause) → ClauseTo ss sh cl table at nodes node clauses code k l → (new ≡ put_clause ss sh node cl code k l) × (to ≡ behind_body l cl.body))
-          {past : ℕ} (m : Past table at past) where
-        pub clauses-next : ClausesAhead ss sh whole table past nodes (node + size) clauses new (k + 1) to
+      module _ {new : List ℕ} {to : ℕ} (n : (m : Meant) (cl : Clause) → ClauseTo m cl table heads code k at → (new ≡ put_clause m.ss m.sh at.node cl code k at.literal) × (to ≡ behind_body at.literal cl.body))
+          {past : ℕ} (d : Past table at.read past) where
+        pub clauses-next : ClausesAhead m whole table heads new (k + 1) (record { read = past; node = at.node + size; literal = to })
         unfolding put_clauses
         clauses-next = go w.rest w.ready w.gives
           where
-            go : (cls : List Clause) → ClausesTo ss sh cls table at nodes node clauses code k l → put_clauses ss sh node cls code k l ≡ whole
-                → ClausesAhead ss sh whole table past nodes (node + size) clauses new (k + 1) to
-            go [] v g = absurd (let y : k + 0 ≡ suc clauses = v.count in omega arith)
+            go : (cls : List Clause) → ClausesTo m cls table heads code k at → put_clauses m.ss m.sh at.node cls code k at.literal ≡ whole
+                → ClausesAhead m whole table heads new (k + 1) (record { read = past; node = at.node + size; literal = to })
+            go [] v g = absurd (let y : k + 0 ≡ suc heads.clauses = v.count in omega arith)
             go (cl ∷ cls) v g =
-                let o : Split ss sh table at nodes node clauses code k l cl cls = split high cl cls v in
-                let f : node + size ≡ node + length (clause_nodes ss cl) = ap (λ (i : ℕ). node + i) (z ss cl o.clause.has) in
-                let new_is : new ≡ put_clause ss sh node cl code k l = (n ss sh cl o.clause).0 in
-                let to_is : to ≡ behind_body l cl.body = (n ss sh cl o.clause).1 in
-                let few : clauses ≤ program_clauses = v.headed.few in
-                let kept : Kept code (put_clause ss sh node cl code k l) k l = clause-kept ss sh node cl code k l (omega arith) v.place in
+                let o : Split m cl cls table heads code k at = split high cl cls v in
+                let f : at.node + size ≡ at.node + length (clause_nodes m.ss cl) = ap (λ (i : ℕ). at.node + i) (z m.ss cl o.clause.has) in
+                let new_is : new ≡ put_clause m.ss m.sh at.node cl code k at.literal = (n m cl o.clause).0 in
+                let to_is : to ≡ behind_body at.literal cl.body = (n m cl o.clause).1 in
+                let few : heads.clauses ≤ program_clauses = v.headed.few in
+                let kept : Kept code (put_clause m.ss m.sh at.node cl code k at.literal) k at.literal = clause-kept m.ss m.sh at.node cl code k at.literal (omega arith) v.place in
                 let long : length new ≡ length code = ap length new_is ∙ kept.long in
-                let many : k + suc (length cls) ≡ suc clauses = v.count in
-                let low : bodies ≤ l = v.place in
-                let room : literal_from (behind_body l cl.body) (body_records cls) ≤ length code = o.room in
+                let many : k + suc (length cls) ≡ suc heads.clauses = v.count in
+                let low : bodies ≤ at.literal = v.place in
+                let room : literal_from (behind_body at.literal cl.body) (body_records cls) ≤ length code = o.room in
                 record {
                   rest = cls;
                   ready = record {
-                    headed = headed-kept ss sh nodes clauses code new long (subst⁻¹ (SameHeads code) new_is kept.heads) v.headed;
-                    has = rest-words table at past cl cls m v.has;
-                    stand = subst⁻¹ (λ (i : ℕ). Has nodes i (clauses_nodes ss cls)) f o.stand;
+                    headed = headed-kept long (subst⁻¹ (SameHeads code) new_is kept.heads) v.headed;
+                    has = rest-words table at.read past cl cls d v.has;
+                    stand = subst⁻¹ (λ (i : ℕ). Has heads.nodes.now i (clauses_nodes m.ss cls)) f o.stand;
                     loadable = o.loadable;
                     limited = o.limited;
                     low = omega arith;
@@ -245,5 +236,5 @@ module _ {table : List ℕ} {at : ℕ} {nodes : List ℕ} {node clauses : ℕ} {
                     place = omega arith;
                     room = omega arith;
                   };
-                  gives = ap₂ (λ (i : ℕ) (c : List ℕ). put_clauses ss sh i cls c (k + 1) to) f new_is ∙ (ap (put_clauses ss sh (node + length (clause_nodes ss cl)) cls (put_clause ss sh node cl code k l) (k + 1)) to_is ∙ g);
+                  gives = ap₂ (λ (i : ℕ) (c : List ℕ). put_clauses m.ss m.sh i cls c (k + 1) to) f new_is ∙ (ap (put_clauses m.ss m.sh (at.node + length (clause_nodes m.ss cl)) cls (put_clause m.ss m.sh at.node cl code k at.literal) (k + 1)) to_is ∙ g);
                 }

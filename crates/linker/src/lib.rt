@@ -3,13 +3,14 @@
 #![tactic(auto)]
 
 ghost use Rattle.std.specs.Prelude.{◌≡◌, List, length};
-ghost use Rattle.syntax.specs.Terms.{Clause, Sheet};
+ghost use Rattle.syntax.specs.Terms.{Clause};
 ghost use Rattle.syntax.specs.Words.{clause_words};
 ghost use Rattle.table_words.specs.Tables.{Has};
 ghost use Rattle.run_layout.specs.Nodes.{Symbol};
 ghost use Rattle.run_layout.specs.Program.{clause_nodes, Program};
+ghost use Rattle.link_search.specs.Search.{Meant};
 ghost use Rattle.linker.specs.Records.{put_heads, put_clauses};
-ghost use Rattle.linker.specs.Places.{HeadsTo, ClausesTo};
+ghost use Rattle.linker.specs.Places.{HeadsTo, ClausesTo, first_clause};
 ghost use Rattle.run_layout.specs.Regions.{clause_bodies};
 ghost use Rattle.linker.specs.Linking.{Linkable};
 
@@ -49,10 +50,9 @@ pub fn put_heads(table: &[u32], clauses: usize, q: usize, code: &mut [u32])
 // The same for all clauses, their bodies one behind the other. (One function for both walks would have to be given what a turn writes, and where the last
 // turn's records ended.)
 pub fn put_clauses(table: &[u32], heads: Heads, q: usize, code: &mut [u32])
-    requires { (ss : List Symbol) × ((sh : Sheet) × ((cls : List Clause) × ClausesTo ss sh cls table.now 0 heads.nodes.now q heads.clauses
-        code.old 1 clause_bodies)) }
-    ensures { (ss : List Symbol) (sh : Sheet) (cls : List Clause) → ClausesTo ss sh cls table.now 0 heads.entry.nodes.now q
-        heads.entry.clauses code.old 1 clause_bodies → code.new ≡ put_clauses ss sh q cls code.old 1 clause_bodies }
+    requires { (m : Meant) × ((cls : List Clause) × ClausesTo m cls table.now heads code.old 1 (first_clause q)) }
+    ensures { (m : Meant) (cls : List Clause) → ClausesTo m cls table.now heads.entry code.old 1 (first_clause q)
+        → code.new ≡ put_clauses m.ss m.sh q cls code.old 1 clause_bodies }
 {
     let mut read = 0;
     let mut node = q;

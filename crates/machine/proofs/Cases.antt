@@ -42,7 +42,7 @@ stored sheet goal expected = with_mark true 300 16 4096 sheet goal expected
 
 abbrev cases : List Case
 cases =
-    -- document 01's example, and its two starred goals
+    -- the example of RULES, and its two starred goals
     runner ":- mode plus(+,+,-).\nplus(z,N,N).\nplus(s(M),N,s(P)) :- plus(M,N,P).\n" "plus(s(z),z,X).\n" (ended Done 1 7 "X = s(z)\n") ∷
     runner "" "X = f(X)." (ended Done 0 1 "") ∷
     runner "" "true." (ended Done 1 2 "yes\n") ∷
@@ -68,7 +68,7 @@ cases =
     -- occurs check through a second equation, and under a head; names, numerals and numbers of arguments that clash
     short "" "f(X,Y) = f(Y,g(X))." (ended Done 0 1 "") ∷
     short ":-mode p(*,*). p(X,f(X))." "p(Y,Y)." (ended Done 0 2 "") ∷
-    -- document 02, (iii): numerals without leading zeros; names are not touched
+    -- REQUESTS (iii): numerals without leading zeros; names are not touched
     short "" "01 = 1." (ended Done 1 2 "yes\n") ∷
     short ":-mode p(*). p(007). p(00)." "p(7), p(X)." (ended Done 2 8 "X = 7\nX = 0\n") ∷
     short "" "X=f(000,a01,b007)." (ended Done 1 2 "X = f(0,a01,b007)\n") ∷
@@ -86,7 +86,7 @@ cases =
     short "" "f(A,B,C,D,E,F) = X, f(G,H,I,J) = Y." (ended Done 1 3 "A = _1, B = _2, C = _3, D = _4, E = _5, F = _6, X = f(_1,_2,_3,_4,_5,_6), G = _7, H = _8, I = _9, J = _10, Y = f(_7,_8,_9,_10)\n") ∷
     short "" "_ = a." (ended Done 1 2 "yes\n") ∷
     short "" "X=f(Y,g(Y,Z),h)." (ended Done 1 2 "X = f(_1,g(_1,_2),h), Y = _1, Z = _2\n") ∷
-    -- document 02, (i): the left side and then the right one, with the bindings from before the bracket; one step for a bracket; nested, in a body
+    -- REQUESTS (i): the left side and then the right one, with the bindings from before the bracket; one step for a bracket; nested, in a body
     short "" "(X=a;X=b),(Y=c;Y=X)." (ended Done 4 13 "X = a, Y = c\nX = a, Y = a\nX = b, Y = c\nX = b, Y = b\n") ∷
     short "" "((X=a;X=b);X=c)." (ended Done 3 8 "X = a\nX = b\nX = c\n") ∷
     short "" "(X=a;Y=b), Z = f(X,Y)." (ended Done 2 7 "X = a, Y = _1, Z = f(a,_1)\nX = _1, Y = b, Z = f(_1,b)\n") ∷
@@ -130,7 +130,7 @@ cases =
     short "" "p(X)." (stopped in_goal (Undeclared 0 1 0 1)) ∷
     short ":-mode p(+). p(a)." "p(X)." (stopped in_goal (OpenInput 2 0 1 1 0 1)) ∷
     short ":-mode p(+). p(a)." "(X = a; true), p(X)." (stopped in_goal (OpenInput 17 0 3 1 15 1)) ∷
-    -- document 02, (x): a declared predicate without clauses is refused, before the goal is looked at, and called with the mark; `seen` with three
+    -- REQUESTS (x): a declared predicate without clauses is refused, before the goal is looked at, and called with the mark; `seen` with three
     -- arguments is called without it; the mark passes over nothing else
     short ":-mode p." "p" (stopped in_sheet (Unwritten 7)) ∷
     short ":-mode p. :-mode q. p." "q." (stopped in_sheet (Unwritten 17)) ∷

@@ -24,7 +24,7 @@ counting sheet goal n inputs outputs =
 
 abbrev cases : List Case
 cases =
-    -- document 01's `true` case: no output is open before the call, and one after it
+    -- the `true` case of RULES: no output is open before the call, and one after it
     counting ":- mode p(-). p(X) :- true." "p(X)." 0 0 0 ∷
     counting ":- mode p(-). p(X) :- true." "p(X)." 1 0 0 ∷
     counting ":- mode p(-). p(X) :- true." "p(X)." 2 0 1 ∷
@@ -50,7 +50,7 @@ cases =
     counting ":-mode p(-). p(X) :- true, a = b." "p(X)." 9 0 0 ∷
     counting ":-mode p(-). p(X). p(Y)." "p(X), fail." 9 0 2 ∷
     counting ":-mode p(-). p(f(X,a)) :- b = b. p(c)." "p(Z)." 3 0 1 ∷
-    -- document 02, (i): both sides of a bracket are counted over; the bracket's own step shows nothing
+    -- REQUESTS (i): both sides of a bracket are counted over; the bracket's own step shows nothing
     counting ":-mode p(-). p(X) :- (true; X = a)." "p(Z)." 2 0 0 ∷
     counting ":-mode p(-). p(X) :- (true; X = a)." "p(Z)." 3 0 1 ∷
     counting ":-mode p(-). p(X) :- (true; X = a)." "p(Z)." 9 0 1 ∷

@@ -1,4 +1,4 @@
--- Computed cases of the test of document 02, (xii), from the text of a sheet to the answer.
+-- Computed cases of the test of REQUESTS (xii), from the text of a sheet to the answer.
 use Prim.Native.Nat.{ℕ}
 use Prim.Native.String.{String}
 use mathlib.Core.Path.{◌≡◌, refl}
@@ -22,7 +22,7 @@ judging sheet expected = record { sheet = bytes sheet; expected = expected }
 
 abbrev cases : List Case
 cases =
-    -- document 01's example; a sheet without clauses; one clause without + arguments
+    -- the example of RULES; a sheet without clauses; one clause without + arguments
     judging ":- mode plus(+,+,-). plus(z,N,N). plus(s(M),N,s(P)) :- plus(M,N,P)." single ∷
     judging "" single ∷
     judging ":-mode seen(*,*,*)." single ∷

@@ -1,5 +1,5 @@
 -- Computed cases of runs with a trace, from the texts to the report and the answer text; and facts as they are written are read as the clauses that they
--- are. The expected ones were written by hand from document 02, (ix).
+-- are. The expected ones were written by hand from REQUESTS (ix).
 use Prim.Native.Nat.{ℕ, zero, suc}
 use Prim.Native.String.{String}
 use mathlib.Core.Path.{◌≡◌, refl}

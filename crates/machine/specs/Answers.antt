@@ -1,4 +1,4 @@
--- The answer line, byte for byte (document 01, "The run").
+-- The answer line, byte for byte (RULES, "The run").
 use Rattle.std.specs.Prelude.{ℕ, suc, Bool, true, false, ◌&&◌, List, [], ◌∷◌, ◌++◌, length}
 use Rattle.std.proofs.Math.Option.{Option, none, some}
 use Rattle.syntax.specs.Quote.{bytes}

@@ -46,7 +46,7 @@ pub record RunOver (sheet goal : List ℕ) (asked : RunSettings) (room : ℕ) (r
   pub beginning : Beginning texts.sh texts.g asked.allowance (run texts.sh texts.g asked.allowance asked.wanted room)
   pub tallied : (n : ℕ) → (tally texts.sh texts.g n).pile ≡ pile_after texts.sh texts.g n
 
--- The same with a trace: a sheet, a trace and a goal that are accepted, and "the zero counts hold over sheet and facts together" (document 02, (ix)).
+-- The same with a trace: a sheet, a trace and a goal that are accepted, and "the zero counts hold over sheet and facts together" (REQUESTS (ix)).
 pub record ZeroTraced (stored : Bool) (sheet goal trace : List ℕ) : Type 0 where
   pub sh : Sheet
   pub g : Goal

@@ -1,4 +1,4 @@
--- At most one answer (document 02, (xii)): the test of a sheet, what it says, and what follows of its runs. The test is the simplest of source document
+-- At most one answer (REQUESTS (xii)): the test of a sheet, what it says, and what follows of its runs. The test is the simplest of source document
 -- 004: clauses are mutually exclusive by the unification of their inputs with the call's (definitions 3 and 4), and then every predicate is
 -- deterministic (theorem 1).
 use Rattle.std.specs.Prelude.{ℕ, suc, ◌<◌, ◌≡◌, Bool, true, false, not, ◌&&◌, List, [], ◌∷◌, ◌⊎◌, T}

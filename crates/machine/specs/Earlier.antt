@@ -1,4 +1,4 @@
--- Runs in the order of document 01, where `wanted` came before `done`; document 02 (vii) turned the two round.
+-- Runs in the first order of ends, where `wanted` came before `done`; REQUESTS (vii) turned the two round.
 use Rattle.std.specs.Prelude.{ℕ, zero, suc, ◌+◌, Bool, true, false, ◌&&◌, List, [], ◌∷◌, leb, ltb, eqb, length}
 use Rattle.syntax.specs.Terms.{Sheet, Goal}
 use Rattle.machine.specs.Runs.{Kind, Wanted, Done, Steps, Full, Deep, Progress, is_empty, is_answer, next_line, goes_deeper, Ending, first_end, advance}

@@ -1,4 +1,4 @@
--- Document 01's machine: alternatives, the pile, and one step (document 01, "The run").
+-- The machine of RULES: alternatives, the pile, and one step (RULES, "The run").
 use Rattle.std.specs.Prelude.{ℕ, zero, suc, Bool, true, false, List, [], ◌∷◌, ◌++◌, length, drop}
 use Rattle.std.proofs.Math.Option.{Option, none, some}
 use Rattle.syntax.specs.Terms.{Atom, term_of, Literal, call, equation, truth, falsity, either, Body, done, also, Clause, Sheet, Goal, arity, same_predicate}
@@ -23,7 +23,7 @@ pub record Alternative : Type 0 where
   pub next : ℕ
   pub calls : List Call
 
--- document 01's path. The copies made are 1 to the path, so the next is new.
+-- the path of RULES. The copies made are 1 to the path, so the next is new.
 abbrev pub path : Alternative → ℕ
 path a = length a.calls
 
@@ -111,7 +111,7 @@ unfoldable pub called : Sheet → Alternative → ℕ → Atom → List Pending 
 called sh a c at rest none = []
 called sh a c at rest (some cl) = on_top (tried sh a c at rest cl) (moved_on sh a at)
 
--- What comes of an alternative whose first literal, of copy c, stands before the rest. Of a bracket (document 02, (i)): "one step replaces the
+-- What comes of an alternative whose first literal, of copy c, stands before the rest. Of a bracket (REQUESTS (i)): "one step replaces the
 -- alternative by the right-hand one and lays the left-hand one on top, path unchanged".
 unfoldable pub worked : Sheet → Alternative → ℕ → List Pending → Literal → List Alternative
 worked sh a c rest (call at) = called sh a c at rest (clause_at sh a.next)
@@ -129,7 +129,7 @@ worked_on sh a (p ∷ rest) = worked sh a p.copy rest p.literal
 unfoldable pub outcome : Sheet → Alternative → List Alternative
 outcome sh a = worked_on sh a a.literals
 
--- A state is a pile (document 01's word) of alternatives, the top first. One step works on the top.
+-- A state is a pile (the word of RULES) of alternatives, the top first. One step works on the top.
 unfoldable pub step : Sheet → List Alternative → List Alternative
 step sh [] = []
 step sh (a ∷ below) = outcome sh a ++ below

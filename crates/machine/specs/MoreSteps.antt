@@ -1,11 +1,10 @@
--- Document 02, (xiii), "More steps, same beginning": "Show for one accepted sheet, goal, trace, wanted count and buffer size, allowances in range: the text
+-- REQUESTS (xiii), "More steps, same beginning": "Show for one accepted sheet, goal, trace, wanted count and buffer size, allowances in range: the text
 -- at a smaller allowance is the beginning of the text at a larger one, and a run that ended otherwise than by `steps` gives an equal report and text at
 -- every larger allowance." What its theorems say.
 use Rattle.std.specs.Prelude.{ℕ, ◌≡◌, List, ◌++◌, Ok, Err}
 use Rattle.syntax.specs.declared.Text.{Text}
 use Rattle.syntax.specs.declared.Refusal.{Refusal}
 use Rattle.syntax.specs.Verdicts.{Run}
-use Rattle.syntax.specs.Verdicts.{Ended as Ended-by, Refused as refused-by}
 use Rattle.machine.specs.Runs.{Steps, Ended, RunOutcome, stopped, ran, run_answer, run_text}
 
 -- a text is the beginning of another

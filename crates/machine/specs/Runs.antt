@@ -1,4 +1,4 @@
--- Runs: the ends, the report and the text (document 01, "The run" and "The ten numbers").
+-- Runs: the ends, the report and the text (RULES, "The run" and "The ten numbers").
 use Rattle.std.specs.Prelude.{ℕ, zero, suc, ◌+◌, Bool, true, false, ◌&&◌, List, [], ◌∷◌, ◌++◌, leb, ltb, eqb, length}
 use Rattle.std.proofs.Math.Option.{Option, none, some}
 use Rattle.syntax.specs.Limits.{longest_path, most_steps, most_answers}
@@ -73,8 +73,8 @@ pub record Ending : Type 0 where
   pub kind : Kind
   pub applies : Bool
 
--- The tests before each step, in their order; `left` is what is left of the allowance (document 01's word for the most steps). Document 02 (vii): "Both
--- rules apply there; `done` now comes first." The order of document 01 stands in `Earlier`.
+-- The tests before each step, in their order; `left` is what is left of the allowance (the word of RULES for the most steps). REQUESTS (vii): "Both
+-- rules apply there; `done` now comes first." The order before it stands in `Earlier`.
 abbrev pub endings : Sheet → Goal → ℕ → ℕ → ℕ → Progress → List Ending
 endings sh g wanted room left p =
     record { kind = Done; applies = is_empty p.pile } ∷
@@ -160,7 +160,7 @@ unfoldable pub in_range : ℕ → ℕ → Bool
 in_range allowance wanted = (leb 1 allowance && leb allowance most_steps) && (leb 1 wanted && leb wanted most_answers)
 
 -- "A run tests 1, then the sheet, then the goal": sheet, goal, settings, room for text. "Sheets stored earlier still run: a run … takes a mark for
--- them" (document 02, (x)).
+-- them" (REQUESTS (x)).
 unfoldable pub run_outcome : List ℕ → List ℕ → RunSettings → ℕ → RunOutcome
 run_outcome sheet goal asked room =
     elim (in_range asked.allowance asked.wanted)

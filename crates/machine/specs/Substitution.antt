@@ -1,4 +1,4 @@
--- Terms of clause copies, bindings, and putting bindings in (document 01, "The run").
+-- Terms of clause copies, bindings, and putting bindings in (RULES, "The run").
 use Rattle.std.specs.Prelude.{ℕ, Bool, true, false, cond, ◌&&◌, ◌||◌, List, [], ◌∷◌, eqb, ltb}
 use Rattle.syntax.specs.Terms.{Term, Terms, variable, compound, nil, cons}
 

@@ -1,4 +1,4 @@
-// No code: unification, document 01's machine, its runs and the two counts as definitions (specs/), with computed cases (proofs/). The theorems about them
+// No code: unification, the machine of RULES, its runs and the two counts as definitions (specs/), with computed cases (proofs/). The theorems about them
 // are `machine_theorems`'s.
 
 #![tactic(auto)]

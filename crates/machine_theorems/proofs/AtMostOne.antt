@@ -1,4 +1,4 @@
--- Document 02, (xii): "On a yes, and without a trace, a run of any accepted goal without such brackets writes at most one line."
+-- REQUESTS (xii): "On a yes, and without a trace, a run of any accepted goal without such brackets writes at most one line."
 --
 -- An alternative is dead when it stands at a call and no clause from its next one on unifies. On a yes every alternative that a clause was tried
 -- for with success is dead: the inputs of its call are closed (demand 3), so two heads that unify with it have a common instance. So either nothing is

@@ -1,4 +1,4 @@
--- The test of document 02, (xii), says what it should: `joined` gives bindings exactly where there is a common instance, and a sheet passes exactly where it
+-- The test of REQUESTS (xii) says what it should: `joined` gives bindings exactly where there is a common instance, and a sheet passes exactly where it
 -- has no bracket and no two clauses of one predicate whose + arguments have a common instance. Assumes nothing.
 use Prim.Native.Nat.{ℕ, zero, suc, ◌<◌}
 use native.Mathlib.Omega.{arith}

@@ -1,4 +1,4 @@
--- What the theorem of determinacy asks for can be had: document 01's example, with the runner's settings.
+-- What the theorem of determinacy asks for can be had: the example of RULES, with the runner's settings.
 use Prim.Native.Nat.{ℕ}
 use mathlib.Core.Path.{refl, subst}
 use mathlib.Core.Bool.{false}

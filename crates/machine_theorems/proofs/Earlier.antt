@@ -1,5 +1,5 @@
--- "The answers that change are exactly those where the wanted count is reached and no alternative is left" (document 02, (vii)): a run is the run in
--- document 01's order with its kind turned there, and nothing else. Assumes nothing.
+-- "The answers that change are exactly those where the wanted count is reached and no alternative is left" (REQUESTS (vii)): a run is the run in
+-- the first order with its kind turned there, and nothing else. Assumes nothing.
 use Prim.Native.Nat.{ℕ, zero, suc, ◌+◌}
 use mathlib.Core.Path.{◌≡◌, refl, sym, ap}
 use mathlib.Core.Bool.{Bool, true, false, ◌&&◌}

@@ -61,7 +61,7 @@ module _ (sh : Sheet) (g : Goal) (wanted room : ℕ) where
           record { taken = suc i.taken; left = i.left; within = omega arith; state = i.state; applies = i.applies; none_before = before i.taken e i.none_before }
       go (some k) e i = record { taken = 0; left = suc n; within = omega arith; state = refl; applies = e; none_before = λ j l q h. absurd (not-suc-le-zero h) }
 
--- "the run is this step repeated", up to where document 01 ends it
+-- "the run is this step repeated", up to where RULES ends it
 pub run_spec : (sh : Sheet) (g : Goal) (allowance wanted room : ℕ) → EndsAfter sh g allowance wanted room (begun sh g) (run sh g allowance wanted room)
 unfolding run
 run_spec sh g allowance wanted room = run_ends sh g wanted room allowance (begun sh g)

@@ -1,4 +1,4 @@
--- What a no of document 02's (xii) names: the first clause that has a bracket, or the first two clauses of one predicate whose + arguments have a common
+-- What a no of REQUESTS (xii) names: the first clause that has a bracket, or the first two clauses of one predicate whose + arguments have a common
 -- instance. Assumes nothing.
 use Prim.Native.Nat.{ℕ, zero, suc, ◌+◌, ◌<◌}
 use native.Mathlib.Omega.{arith}

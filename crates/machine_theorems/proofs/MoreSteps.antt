@@ -1,4 +1,4 @@
--- Document 02, (xiii), "More steps, same beginning": for one sheet, goal, trace, mark, wanted count and room the text at a smaller allowance is the
+-- REQUESTS (xiii), "More steps, same beginning": for one sheet, goal, trace, mark, wanted count and room the text at a smaller allowance is the
 -- beginning of the text at a larger one, and a run that ended otherwise than by `steps` is the same at every larger allowance. Assumes nothing: it holds
 -- of every sheet, goal and trace, accepted or not.
 use Prim.Native.Nat.{ℕ, zero, suc, ◌+◌, ◌-◌, ◌≤◌}

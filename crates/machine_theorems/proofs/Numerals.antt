@@ -1,4 +1,4 @@
--- Document 02, (iii): "Numerals are the same when equal after leading zeros are dropped". Assumes nothing.
+-- REQUESTS (iii): "Numerals are the same when equal after leading zeros are dropped". Assumes nothing.
 use Prim.Native.Nat.{ℕ}
 use mathlib.Core.Path.{◌≡◌, subst}
 use mathlib.Core.List.{List}

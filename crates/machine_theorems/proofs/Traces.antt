@@ -1,4 +1,4 @@
--- Facts of a trace behind a sheet's clauses (document 02, (ix)): a sheet that is accepted stays so, demand 3 holds over both, in every run with a trace; the
+-- Facts of a trace behind a sheet's clauses (REQUESTS (ix)): a sheet that is accepted stays so, demand 3 holds over both, in every run with a trace; the
 -- sheet's own clauses keep their numbers; and an empty trace is none. Assumes nothing.
 use Prim.Native.Nat.{ℕ, zero, suc, ◌+◌, ◌<◌}
 use native.Mathlib.Omega.{arith}

@@ -1,4 +1,4 @@
--- What demand 3 asks for can be had: document 01's example is a run over accepted texts, so its alternatives are safe and its counts zero.
+-- What demand 3 asks for can be had: the example of RULES is a run over accepted texts, so its alternatives are safe and its counts zero.
 use mathlib.Core.Path.{refl}
 use Rattle.syntax.specs.Quote.{bytes}
 use mathlib.Core.Bool.{false}

@@ -1,4 +1,4 @@
-// No code: the theorems about unification, document 01's machine, its runs, the two counts and the test of document 02,
+// No code: the theorems about unification, the machine of RULES, its runs, the two counts and the test of REQUESTS
 // (xii). Their definitions are `machine`'s.
 
 #![tactic(auto)]

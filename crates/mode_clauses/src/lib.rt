@@ -1,4 +1,4 @@
-// The mode check: refusals 8 to 10 of document 01, over the tables of words that the parser fills. Document 01 is the paper "Rule sheets".
+// The mode check: refusals 8 to 10 of RULES, over the tables of words that the parser fills.
 
 #![tactic(auto)]
 

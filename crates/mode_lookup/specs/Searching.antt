@@ -1,4 +1,4 @@
--- The search for a predicate's declaration, "over any list of entries, repeats included" (document 02, request (vi)).
+-- The search for a predicate's declaration, "over any list of entries, repeats included" (REQUESTS (vi)).
 use Rattle.std.specs.Prelude.{ℕ, zero, suc, ◌+◌, ◌/◌, ◌<◌, ◌≡◌, Bool, true, false, ◌&&◌, List, [], ◌∷◌, leb, length, get_or, Option, Some, None}
 use Rattle.syntax.specs.Terms.{same_predicate}
 use Rattle.syntax.specs.Tokens.{spelling}

@@ -1,4 +1,4 @@
--- What stands in a text: every name is the text's bytes at its place, every variable's number and every list are within document 01's limits.
+-- What stands in a text: every name is the text's bytes at its place, every variable's number and every list are within the limits of RULES.
 use Rattle.std.specs.Prelude.{ℕ, ◌+◌, ◌≤◌, ◌<◌, ◌≡◌, List, [], ◌∷◌, length}
 use Rattle.syntax.specs.Terms.{Term, Terms, variable, compound, nil, cons, arity, Atom, term_of, Literal, Body, call, equation, truth, falsity, either, done}
 use Rattle.syntax.specs.Terms.{also, Declaration, Clause, Sheet, Goal}

@@ -1,4 +1,4 @@
-// Refusal 7 of document 01: a declaration that repeats an earlier predicate, or names `true` or `fail` without arguments.
+// Refusal 7 of RULES: a declaration that repeats an earlier predicate, or names `true` or `fail` without arguments.
 
 #![tactic(auto)]
 

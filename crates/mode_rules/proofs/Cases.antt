@@ -1,4 +1,4 @@
--- Computed cases: document 01's starred cases of checking, its traps, the order of the refusals, and document 02's (i), (ii), (iii), (x) and (xiv).
+-- Computed cases: the starred cases of checking in RULES, the traps, the order of the refusals, and REQUESTS (i), (ii), (iii), (x) and (xiv).
 use Prim.Native.Nat.{ℕ}
 use Prim.Native.String.{String}
 use mathlib.Core.Path.{◌≡◌, refl}
@@ -16,7 +16,6 @@ use Rattle.syntax.specs.Refusals.{five, numbers_of}
 use Rattle.syntax.specs.Verdicts.{without_repeats, sheet_from, goal_from, sheet_of, goal_outcome, sheet_verdict}
 use Rattle.syntax.specs.declared.Five.{Five}
 use Rattle.syntax.specs.Verdicts.{Verdict}
-use Rattle.syntax.specs.Verdicts.{Accepted, Refused}
 use Rattle.syntax.specs.declared.Text.{Text}
 use Rattle.syntax.specs.declared.Text.TheVariants.{Sheet, Goal}
 use Rattle.mode_rules.specs.Modes.{none_ground, everything, is_ground, open_unless, open_byte, ground_term, ground_both, equate_variable, equate_same, equate, further, go_over, passes, settle, marks_of, or_no_marks, marks_for, same_mark, if_marked, first_open, ground_if, ground_marked, undeclared, undeclared_atom, undeclared_literal, undeclared_body, undeclared_clause, undeclared_clauses, undeclared_in_sheet, undeclared_in_goal, open_input, open_output, unless_fault, walk_on, in_both, call_walk, literal_walk, body_fault, start_known, head_fault, clause_fault, clauses_fault, sheet_fault, walk_fault, goal_fault}
@@ -32,7 +31,7 @@ abbrev answer : List ℕ → List ℕ → Verdict → Answer
 answer s g (Ok counts) = accepted counts.declarations counts.clauses
 answer s g (Err fault) = refused fault.text (numbers_of fault.refusal) (fault_name s g (Err fault))
 
--- a sheet, one with document 02 (x)'s mark, or a sheet and a goal, with the answer
+-- a sheet, one with REQUESTS (x)'s mark, or a sheet and a goal, with the answer
 data Case : Type 0 where
   sheet : String → Answer → Case
   stored : String → Answer → Case
@@ -76,7 +75,7 @@ cases =
     ∷ sheet ":- mode p(-). p(X) :- f(Y) = f(Y,Z)." (accepted 1 1)
     ∷ sheet ":- mode p(-). p(X) :- f(g(Y),a) = f(g(Y),b)." (accepted 1 1)
     ∷ sheet ":- mode p(-). p(X) :- f(a) = f(a)." (refused Sheet (five 10 16 1 0 1) (bytes "p"))
-    -- document 02, (xiv): an equation is gone over again from what the last pass left, other literals are not; three passes, nested pairs, an
+    -- REQUESTS (xiv): an equation is gone over again from what the last pass left, other literals are not; three passes, nested pairs, an
     -- equation that stays unknown, an input; one that is now refused with 10 in place of 9, and at a later literal
     ∷ sheet ":-mode p(-). p(X) :- f(X,Y,Z) = f(Y,Z,a)." (accepted 1 1)
     ∷ sheet ":-mode p(-). p(X) :- X = Y, Y = a." (refused Sheet (five 10 15 1 0 1) (bytes "p"))
@@ -92,7 +91,7 @@ cases =
     ∷ sheet ":- mode p(+). :- mode q(+). p(X). q(_) :- p(_)." (refused Sheet (five 9 44 2 1 1) (bytes "p"))
     ∷ sheet ":- mode p(*,+,+). :- mode q(-). q(X) :- p(X,Y,X). p(a,a,a)." (refused Sheet (five 9 44 1 1 2) (bytes "p"))
     ∷ sheet ":- mode p(-). :- mode q(+). p(X). p(X) :- q(X). q(a)." (refused Sheet (five 10 30 1 0 1) (bytes "p"))
-    -- document 02, (ii): the first open variable in the argument, where it stands there; nested, twice, anonymous, in a goal
+    -- REQUESTS (ii): the first open variable in the argument, where it stands there; nested, twice, anonymous, in a goal
     ∷ sheet ":-mode p(+). p(X) :- Y = Z, p(f(X,g(Z),Y))." (refused Sheet (five 9 36 1 2 1) (bytes "p"))
     ∷ sheet ":-mode p(-,-). p(X,f(a,Y,X)) :- X=b." (refused Sheet (five 10 23 1 0 2) (bytes "p"))
     ∷ sheet ":-mode p(*,-). p(X,f(a,g(X)))." (refused Sheet (five 10 25 1 0 2) (bytes "p"))
@@ -106,7 +105,7 @@ cases =
     ∷ sheet "true." (refused Sheet (five 8 0 1 0 0) (bytes "true"))
     ∷ sheet ":- mode p(+). p." (refused Sheet (five 8 0 1 0 0) (bytes "p"))
     ∷ sheet "p(a). :- mode p(+)." (accepted 1 1)
-    -- document 02, (iii): accepted before by a clash of 1 and 01, which are one now; names are not touched
+    -- REQUESTS (iii): accepted before by a clash of 1 and 01, which are one now; names are not touched
     ∷ sheet ":- mode p(-). p(X) :- 1 = 01." (refused Sheet (five 10 16 1 0 1) (bytes "p"))
     ∷ sheet ":- mode p(+). p(X) :- 1 = 01, p(Y)." (refused Sheet (five 9 32 1 2 1) (bytes "p"))
     ∷ sheet ":- mode p(-). p(X) :- 00 = 000." (refused Sheet (five 10 16 1 0 1) (bytes "p"))
@@ -114,7 +113,7 @@ cases =
     ∷ sheet ":- mode p(-). p(X) :- a1 = a01." (accepted 1 1)
     -- 7 before 8; refusals up to 7 hand back no name
     ∷ sheet "q. :- mode p(+). :- mode p(-)." (refused Sheet (five 7 25 0 0 0) [])
-    -- document 02, (x): the first declared predicate without a clause, name and number of arguments; `seen` with three is exempt
+    -- REQUESTS (x): the first declared predicate without a clause, name and number of arguments; `seen` with three is exempt
     ∷ sheet ":-mode p. :-mode q. p." (refused Sheet (five 16 17 0 0 0) [])
     ∷ sheet ":-mode p. :-mode q. :-mode r. q." (refused Sheet (five 16 7 0 0 0) [])
     ∷ sheet ":-mode p. :-mode p(+). p(a)." (refused Sheet (five 16 7 0 0 0) [])
@@ -132,7 +131,7 @@ cases =
     ∷ stored ":-mode p(+). :-mode q. p(X) :- p(Y)." (refused Sheet (five 9 33 1 1 1) (bytes "p"))
     ∷ stored ":-mode p. :-mode q. p." (accepted 2 1)
     ∷ goal ":-mode p." "p." (refused Sheet (five 16 7 0 0 0) [])
-    -- document 02, (i): known ground after a bracket is what both sides leave so, each from what was before it; numbers run through both sides
+    -- REQUESTS (i): known ground after a bracket is what both sides leave so, each from what was before it; numbers run through both sides
     ∷ sheet ":-mode p(-). p(X) :- (X = a; true)." (refused Sheet (five 10 15 1 0 1) (bytes "p"))
     ∷ sheet ":-mode p(-). p(X) :- (true; X = a)." (refused Sheet (five 10 15 1 0 1) (bytes "p"))
     ∷ sheet ":-mode p(-). p(X) :- (X = a; fail)." (accepted 1 1)

@@ -1,4 +1,4 @@
--- An equation gone over again (document 02, (xiv)): each pass but the last makes a variable ground, so `variables` passes are enough; the result is
+-- An equation gone over again (REQUESTS (xiv)): each pass but the last makes a variable ground, so `variables` passes are enough; the result is
 -- what the judgment gives, and one pass more changes nothing. Assumes nothing.
 use Prim.Native.Nat.{ℕ, zero, suc, ◌+◌, ◌≤◌, ◌<◌}
 use mathlib.Core.Path.{◌≡◌, refl, sym, ap, subst, subst⁻¹, ◌∙◌}

@@ -10,7 +10,7 @@ use Rattle.syntax.specs.declared.Refusal.{Refusal}
 use Rattle.syntax.specs.declared.Refusal.TheVariants.{Settings, TooLong, NoToken, Overlong, Misplaced, OverLimit, Repeated, Undeclared, OpenInput, OpenOutput}
 use Rattle.syntax.specs.declared.Refusal.TheVariants.{BadTrace, TraceOverLimit, SeenUndeclared, Unwritten}
 use Rattle.syntax.specs.Verdicts.{Verdict}
-use Rattle.syntax.specs.Verdicts.{Accepted, Refused}
+use Rattle.syntax.specs.Verdicts.{Refused}
 use Rattle.mode_rules.specs.Modes.{sheet_fault, goal_fault}
 
 -- what was read, or the fault found in it
@@ -23,7 +23,7 @@ unfoldable pub checked_from : Bool → Outcome Sheet → Outcome Sheet
 checked_from stored (refused r) = refused r
 checked_from stored (accepted sh) = faultless sh (sheet_fault stored sh)
 
--- "Reading alone stops after 7; checking goes on to 10", with 16 unless the sheet is marked as stored earlier (document 02, (x))
+-- "Reading alone stops after 7; checking goes on to 10", with 16 unless the sheet is marked as stored earlier (REQUESTS (x))
 unfoldable pub checked_with : Bool → List ℕ → Outcome Sheet
 checked_with stored s = checked_from stored (sheet_of s)
 

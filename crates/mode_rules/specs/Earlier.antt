@@ -1,4 +1,4 @@
--- Checking as it was before document 02's (ii), and as it was before its (xiv): one definition, over what each of them changed, with 16 of (x) in both.
+-- Checking as it was before REQUESTS (ii), and as it was before (xiv): one definition, over what each of them changed, with 16 of (x) in both.
 -- Theorems say that nothing else changed, and how (xiv) moves a verdict.
 use Rattle.std.specs.Prelude.{ℕ, suc, ◌+◌, ◌≤◌, ◌<◌, ◌≡◌, Bool, false, List, [], ◌∷◌, Ok, Err}
 use Rattle.std.proofs.Math.Option.{Option, none, some}

@@ -1,5 +1,5 @@
 -- When a sheet and a goal are well-moded: the judgment τ ⊢ G / σ of Pfenning, lecture 17, sections 17.1 and 17.5, a constructor for each
--- rule, with equations gone over again (document 02, (xiv)). Abstract substitutions are `Known`: g/x ∈ τ is `knows τ x ≡ true`, u/x ∈ τ is
+-- rule, with equations gone over again (REQUESTS (xiv)). Abstract substitutions are `Known`: g/x ∈ τ is `knows τ x ≡ true`, u/x ∈ τ is
 -- `knows τ x ≡ false`, and τ + g/x is `set τ x true`. Its rule for ∃ has no goals here. No rule is for a predicate without declaration.
 use Rattle.std.specs.Prelude.{ℕ, ◌≡◌, ◌≢◌, true, false, List, [], ◌∷◌, length, set}
 use Rattle.syntax.specs.Terms.{Term, Terms, variable, compound, nil, cons, arity, Atom, Literal, Body, call, equation, truth, falsity, either, done, also, Mark}
@@ -90,7 +90,7 @@ mutual
         → AllEquating τ₂ ts us τ₃
         → AllEquating τ₁ (cons t ts) (cons u us) τ₃
 
--- The equation gone over again (document 02, (xiv)): `Equating`, the lecture's rules, is one pass.
+-- The equation gone over again (REQUESTS (xiv)): `Equating`, the lecture's rules, is one pass.
 pub data Settling : Known → Term → Term → Known → Type 0 where
   -- a pass that makes nothing further ground is the last
   settled : {τ : Known} {t u : Term} → Equating τ t u τ → Settling τ t u τ

@@ -1,4 +1,4 @@
--- What is known ground, and the refusals 8 to 10 (document 01, "What is known ground" and "The ten numbers"; document 02, (i), (ii) and (xiv)).
+-- What is known ground, and the refusals 8 to 10 (RULES, "What is known ground" and "The ten numbers"; REQUESTS (i), (ii) and (xiv)).
 use Rattle.std.specs.Prelude.{ℕ, zero, suc, ◌+◌, Bool, true, false, not, ◌&&◌, ◌||◌, List, [], ◌∷◌, length, get_or, set, replicate}
 use Rattle.std.proofs.Math.Option.{Option, none, some}
 use Rattle.syntax.specs.Terms.{Term, Terms, variable, compound, nil, cons, arity, Atom, Literal, Body, call, equation, truth, falsity, either, done, also}
@@ -106,7 +106,7 @@ unfoldable pub passes : ℕ → Term → Term → Known → Known
 passes zero t u τ = τ
 passes (suc k) t u τ = go_over τ (λ σ. passes k t u σ) (equate t u τ)
 
--- The effect of an equation; document 02, (xiv): "An equation is now gone over again until a pass makes nothing further ground." Each pass but the
+-- The effect of an equation; REQUESTS (xiv): "An equation is now gone over again until a pass makes nothing further ground." Each pass but the
 -- last makes a variable ground, so the bound is never met: one pass more changes nothing (a theorem).
 unfoldable pub settle : Term → Term → Known → Known
 settle t u τ = passes variables t u τ
@@ -306,7 +306,7 @@ unfoldable pub clauses_fault : List Declaration → ℕ → List Clause → Opti
 clauses_fault ds c [] = none
 clauses_fault ds c (cl ∷ cls) = elim (clause_fault ds c cl) [ none ↦ clauses_fault ds (suc c) cls | some r ↦ some r ]
 
--- "then 8 over the whole sheet …. Then each clause in turn"; document 02, (x): "16, over the whole sheet, between 8 and 9", unless the sheet is
+-- "then 8 over the whole sheet …. Then each clause in turn"; REQUESTS (x): "16, over the whole sheet, between 8 and 9", unless the sheet is
 -- marked as stored earlier
 unfoldable pub sheet_fault : Bool → Sheet → Option Refusal
 sheet_fault stored sh = first_of (undeclared_in_sheet sh) (first_of (unwritten stored sh) (clauses_fault sh.declarations 1 sh.clauses))

@@ -1,4 +1,4 @@
--- Declared predicates without a clause: refusal 16 (document 02, (x), "Declared and never written").
+-- Declared predicates without a clause: refusal 16 (REQUESTS (x), "Declared and never written").
 use Rattle.std.specs.Prelude.{◌≡◌, Bool, true, false, ◌||◌, List, [], ◌∷◌, length}
 use Rattle.std.proofs.Math.Option.{Option, none, some}
 use Rattle.syntax.specs.Terms.{arity, Declaration, Clause, Sheet, same_predicate, seen_name, seen_arguments}

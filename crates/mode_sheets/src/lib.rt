@@ -1,4 +1,4 @@
-// Declared predicates without a clause, refusal 16 of document 02; and the tests of a sheet that was read, in their order.
+// Declared predicates without a clause, refusal 16; and the tests of a sheet that was read, in their order.
 
 #![tactic(auto)]
 

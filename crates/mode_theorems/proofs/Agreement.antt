@@ -1,6 +1,6 @@
 -- The refusals 8 to 10 and Pfenning's judgment agree: a sheet, or a goal over it, is free of them exactly where it is well-moded.
 -- The judgment has no rule for an undeclared predicate, so this holds with refusal 8 among them and for every sheet; a sheet or goal free of
--- 8 is refused by 9 or 10 exactly where the judgment has no derivation. `stored` is document 02 (x)'s mark: with it that is all (`Written true` asks
+-- 8 is refused by 9 or 10 exactly where the judgment has no derivation. `stored` is REQUESTS (x)'s mark: with it that is all (`Written true` asks
 -- nothing), and without it a sheet is free of 16 too exactly where every declared predicate is written or exempt.
 use Prim.Native.Nat.{ℕ}
 use mathlib.Core.Path.{◌≡◌, refl}

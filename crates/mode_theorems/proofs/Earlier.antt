@@ -1,4 +1,4 @@
--- Document 02's (ii) changes one place of the refusals 9 and 10 and nothing else: with that byte set to 0, verdicts are those of before.
+-- REQUESTS (ii) changes one place of the refusals 9 and 10 and nothing else: with that byte set to 0, verdicts are those of before.
 -- Assumes nothing.
 use Prim.Native.Nat.{ℕ, suc, ◌+◌}
 use mathlib.Core.Path.{◌≡◌, refl, sym, ap, ◌∙◌}

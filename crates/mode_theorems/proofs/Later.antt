@@ -1,4 +1,4 @@
--- Document 02's (xiv): what was accepted with the single pass is accepted still; where 9 or 10 was the answer, it is accepted now, or refused at the
+-- REQUESTS (xiv): what was accepted with the single pass is accepted still; where 9 or 10 was the answer, it is accepted now, or refused at the
 -- same place or a later one; no other refusal moves. The walk along a body is monotone in what is known ground, and in the effect of equations.
 -- Assumes nothing.
 use Prim.Native.Nat.{ℕ, zero, suc, ◌+◌, ◌≤◌, ◌<◌}

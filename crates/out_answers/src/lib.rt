@@ -1,4 +1,4 @@
-// The line of an answer, from the words of a run. Document 01 is the paper "Rule sheets".
+// The line of an answer, from the words of a run.
 
 #![tactic(auto)]
 

@@ -1,4 +1,4 @@
--- A refusal as a list of numbers, for callers in other languages. Unused places are 0, as in document 01.
+-- A refusal as a list of numbers, for callers in other languages. Unused places are 0, as in RULES.
 use Rattle.std.specs.Prelude.{ℕ, List, [], ◌∷◌}
 use Rattle.syntax.specs.Refusals.{numbers_of}
 use Rattle.syntax.specs.declared.Refusal.{Refusal}

@@ -1,4 +1,4 @@
--- Computed cases: document 01's lines of a verdict, byte for byte.
+-- Computed cases: the lines of a verdict in RULES, byte for byte.
 use Prim.Native.Nat.{ℕ}
 use mathlib.Core.Path.{◌≡◌, refl}
 use mathlib.Core.List.{List, [], ◌∷◌}

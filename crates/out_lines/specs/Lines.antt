@@ -1,4 +1,4 @@
--- The line of a verdict (document 01, "Two programs and what they print"), as a list of bytes.
+-- The line of a verdict (RULES, "Two programs and what they print"), as a list of bytes.
 use Rattle.std.specs.Prelude.{ℕ, List, [], ◌∷◌, ◌++◌}
 use Rattle.syntax.specs.Verdicts.{Verdict}
 use Rattle.out_verdicts.specs.Words.{verdict_words}

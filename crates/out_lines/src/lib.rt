@@ -1,6 +1,5 @@
 // The line of a verdict, into a lent buffer; `out_reports` does the same of a run's last line. (One function for both would take the appending as a
 // closure, with its contract written out again: longer than the three lines that they share.)
-// Document 01 is the paper "Rule sheets".
 
 #![tactic(auto)]
 

@@ -15,7 +15,7 @@ pub struct Span {
     pub len: usize,
 }
 
-// Where the name stands that a refusal hands back; an empty part for those that hand none back: the C interface has no Option, and the papers' definition
+// Where the name stands that a refusal hands back; an empty part for those that hand none back: the C interface has no Option, and the definition
 // tells it so.
 pub fn name_span(refusal: Refusal) -> Span
     ensures { (result.at ≡ (name_span refusal).0) × (result.len ≡ (name_span refusal).1) }

@@ -1,4 +1,4 @@
--- The answers of reading, checking and running as lists of numbers, for callers in other languages. Unused places are 0, as in document 01.
+-- The answers of reading, checking and running as lists of numbers, for callers in other languages. Unused places are 0, as in RULES.
 use Rattle.std.specs.Prelude.{ℕ, List, [], ◌∷◌, ◌++◌, get_or, Ok, Err}
 use Rattle.syntax.specs.Verdicts.{Run}
 use Rattle.syntax.specs.Verdicts.{Verdict}

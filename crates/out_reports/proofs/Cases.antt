@@ -1,4 +1,4 @@
--- Computed cases: document 01's last lines of a run, byte for byte.
+-- Computed cases: the last lines of a run in RULES, byte for byte.
 use Prim.Native.Nat.{ℕ}
 use mathlib.Core.Path.{◌≡◌, refl}
 use mathlib.Core.List.{List, [], ◌∷◌}

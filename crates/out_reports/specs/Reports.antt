@@ -1,4 +1,4 @@
--- The line that ends a run (document 01, "Two programs and what they print"), as a list of bytes.
+-- The line that ends a run (RULES, "Two programs and what they print"), as a list of bytes.
 use Rattle.std.specs.Prelude.{ℕ, List, [], ◌∷◌, ◌++◌}
 use Rattle.buffers.specs.Buffers.{number}
 use Rattle.syntax.specs.Quote.{bytes}

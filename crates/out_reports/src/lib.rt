@@ -1,4 +1,4 @@
-// The line that ends a run, into a lent buffer. Document 01 is the paper "Rule sheets". Its words are appended, and not a `Display`, which would have to
+// The line that ends a run, into a lent buffer. Its words are appended, and not a `Display`, which would have to
 // stand in `syntax`, that knows nothing of lines, and would need a slice to be a writer of `fmt`.
 
 #![tactic(auto)]

@@ -22,7 +22,7 @@ use Rattle.run_layout.specs.State.{variable_of}
 use Rattle.run_layout.proofs.State.{cell-eq}
 use Rattle.out_terms.specs.Words.{name_at, NamePlaced, number_among, Numbers, symbol_name, text_of}
 use Rattle.run_layout.specs.Symbols.{symbol_place, symbol_length}
-use Rattle.out_terms.specs.Telling.{VariableNumbered, SpeltSoFar}
+use Rattle.out_terms.specs.Telling.{VariableNumbered, Written, SpeltSoFar}
 
 -- ---- a part of a text, by its place and length as they were taken out of a word
 
@@ -203,16 +203,16 @@ number-new met x numbers l z h = go (place_of (variable_of x) 1 met) refl (place
 -- ---- decimals
 
 -- an unbound variable: an underscore, then its number
-pub unbound-told : (met : List Variable) (x r at m next : ℕ) (numbers old mid new : List ℕ) → length met ≤ at → VariableNumbered met x numbers r → Put old at (95 ∷ []) mid m → Put mid m (decimal r) new next
-    → (ps : List Piece) → SpeltSoFar (bytes_of met (unbound (variable_of x) ∷ ps)) old at new next numbers ps
+pub unbound-told : (met : List Variable) (x : ℕ) {r m : ℕ} {mid : List ℕ} {from to : Written} → length met ≤ from.at → VariableNumbered met x to.numbers r → Put from.out from.at (95 ∷ []) mid m → Put mid m (decimal r) to.out to.at
+    → (ps : List Piece) → SpeltSoFar (bytes_of met (unbound (variable_of x) ∷ ps)) from to ps
 unfolding numbered
-unbound-told met x r at m next numbers old mid new few n p q ps =
+unbound-told met x {r} {m} {from = from} {to} few n p q ps =
     record {
       words = (95 ∷ []) ++ decimal r;
       put = then p q;
       met = n.met_after;
       numbers_are = n.numbers_after;
-      few = (let a : m ≡ at + 1 = p.past in let b : next ≡ m + length (decimal r) = q.past in let k : length n.met_after ≤ length met + 1 = n.few in omega arith);
+      few = (let a : m ≡ from.at + 1 = p.past in let b : to.at ≡ m + length (decimal r) = q.past in let k : length n.met_after ≤ length met + 1 = n.few in omega arith);
       is = n.is ps;
     }
 

@@ -24,7 +24,7 @@ use Rattle.run_layout.specs.declared.terms.At.{At}
 use Rattle.run_layout.specs.State.{at_of, variable_of, node_of, copy_of, cell_at, trail_at, value_of, TrailEntry}
 use Rattle.run_layout.proofs.State.{copy-small, resolve-bound, resolve-unbound}
 use Rattle.out_terms.specs.Words.{Numbers, left_to_spell, depth, Named}
-use Rattle.out_terms.specs.Telling.{SpeltSoFar, Ample, Counting, SomeNumbers, Setting, SomeSetting, Facing, Spelling, SpeltToLimit, Lined, Valued, SomeValued, Values, SomeValues, value_in, gap, bindings_of, names_of}
+use Rattle.out_terms.specs.Telling.{Written, written, SpeltSoFar, Ample, Counting, SomeNumbers, Setting, SomeSetting, Facing, Walk, Spelling, SpeltToLimit, Lined, Valued, SomeValued, Values, SomeValues, value_in, gap, bindings_of, names_of}
 use Rattle.out_terms.specs.declared.Solution.{Solution}
 use Rattle.out_terms.specs.declared.values.SpeltVariable.{SpeltVariable}
 use Rattle.out_terms.proofs.WalkLaws.{told-whole, told-words, told-after, told-then, few-met, bytes-written, walked-told}
@@ -101,11 +101,11 @@ unfolding all_anonymous
 all_end goal names k i l a = sym (a ∙ ap all_anonymous (names-none goal names i k l))
 
 -- a part told, and then a walk
-walked-after : {whole old mid new nums numbers : List ℕ} {at m next : ℕ} {ps qs : List Piece} (limit : ℕ) → (t : SpeltSoFar whole old at mid m nums ps) → SpeltToLimit limit (bytes_of t.met ps) mid m new next numbers qs → SpeltToLimit limit whole old at new next numbers qs
-walked-after {whole} {at = at} {m} {next} {ps} limit t w =
+walked-after : {whole : List ℕ} {from mid to : Written} {ps qs : List Piece} (limit : ℕ) → (t : SpeltSoFar whole from mid ps) → SpeltToLimit limit (bytes_of t.met ps) mid to qs → SpeltToLimit limit whole from to qs
+walked-after {whole} {from} {mid} {ps = ps} limit t w =
     record {
       done = λ l. told-then t (w.done l);
-      over = λ l. let a : limit < m + length (bytes_of t.met ps) = w.over l in let b : m ≡ at + length t.words = t.put.past in let c : length whole ≡ length (t.words ++ bytes_of t.met ps) = ap length t.is in let d : length (t.words ++ bytes_of t.met ps) ≡ length t.words + length (bytes_of t.met ps) = length-append t.words (bytes_of t.met ps) in omega arith;
+      over = λ l. let a : limit < mid.at + length (bytes_of t.met ps) = w.over l in let b : mid.at ≡ from.at + length t.words = t.put.past in let c : length whole ≡ length (t.words ++ bytes_of t.met ps) = ap length t.is in let d : length (t.words ++ bytes_of t.met ps) ≡ length t.words + length (bytes_of t.met ps) = length-append t.words (bytes_of t.met ps) in omega arith;
     }
 
 -- ---- a variable's value
@@ -125,8 +125,8 @@ module _ {ss : List Symbol} {n : ℕ} {sol : Solution} {stack : List ℕ} {i w :
   value-free z = as-cell ∙ resolve-unbound ss sol.nodes.now sol.state.now n i v.setting.store small (sym e ∙ z)
 
   -- an unbound variable
-  pub value-unbound : (limit : ℕ) (met : List Variable) {old new numbers : List ℕ} {at next : ℕ} {rest : List Piece} → w ≡ 0 → SpeltSoFar (bytes_of met (unbound (variable_of i) ∷ rest)) old at new next numbers rest
-      → SpeltToLimit limit (bytes_of met (spelt (value_in (bindings_of ss n sol) i) rest)) old at new next numbers rest
+  pub value-unbound : (limit : ℕ) (met : List Variable) {from to : Written} {rest : List Piece} → w ≡ 0 → SpeltSoFar (bytes_of met (unbound (variable_of i) ∷ rest)) from to rest
+      → SpeltToLimit limit (bytes_of met (spelt (value_in (bindings_of ss n sol) i) rest)) from to rest
   unfolding spelt
   value-unbound limit met {rest = rest} z t =
       walked-told limit (told-whole (ap (λ (x : RTerm). bytes_of met (spelt x rest)) (value-free z)) t)
@@ -155,14 +155,14 @@ module _ {ss : List Symbol} {n : ℕ} {sol : Solution} {stack : List ℕ} {i w :
         }
 
     -- the term, and then the rows that it laid
-    pub value-walked : (limit : ℕ) (met : List Variable) {old mid new nums numbers after : List ℕ} {at m next rows : ℕ} {rest : List Piece}
-        → Spelling ss sol.nodes.now (bindings_of ss n sol) (bytes_of met (spelt (resolve (bindings_of ss n sol) (term_at ss sol.nodes.now t.node t.copy)) (left_to_spell ss sol.nodes.now (bindings_of ss n sol) stack 0 rest))) old at mid nums after m rows rest
-        → ((met' : List Variable) → Setting ss n sol after rows → Numbers nums met' → SpeltToLimit limit (bytes_of met' (left_to_spell ss sol.nodes.now (bindings_of ss n sol) after rows rest)) mid m new next numbers rest)
-        → SpeltToLimit limit (bytes_of met (spelt (value_in (bindings_of ss n sol) i) rest)) old at new next numbers rest
+    pub value-walked : (limit : ℕ) (met : List Variable) {from to : Written} {mid : Walk} {rest : List Piece}
+        → Spelling ss sol.nodes.now (bindings_of ss n sol) (bytes_of met (spelt (resolve (bindings_of ss n sol) (term_at ss sol.nodes.now t.node t.copy)) (left_to_spell ss sol.nodes.now (bindings_of ss n sol) stack 0 rest))) from mid rest
+        → ((met' : List Variable) → Setting ss n sol mid.stack mid.height → Numbers mid.text.numbers met' → SpeltToLimit limit (bytes_of met' (left_to_spell ss sol.nodes.now (bindings_of ss n sol) mid.stack mid.height rest)) mid.text to rest)
+        → SpeltToLimit limit (bytes_of met (spelt (value_in (bindings_of ss n sol) i) rest)) from to rest
     unfolding left_to_spell
-    value-walked limit met {old} {mid} {new} {nums} {numbers} {after} {at} {m} {next} {rows} {rest} s f =
-        let x : SpeltSoFar (bytes_of met (spelt (value_in (bindings_of ss n sol) i) rest)) old at mid m nums (left_to_spell ss sol.nodes.now (bindings_of ss n sol) after rows rest) = told-whole (ap (λ (r : RTerm). bytes_of met (spelt r rest)) value-bound) s.told in
-        let y : SpeltToLimit limit (bytes_of x.met (left_to_spell ss sol.nodes.now (bindings_of ss n sol) after rows rest)) mid m new next numbers rest = f x.met (record { store = v.setting.store; names = v.setting.names; rows = s.rows }) x.numbers_are in
+    value-walked limit met {from} {to} {mid} {rest} s f =
+        let x : SpeltSoFar (bytes_of met (spelt (value_in (bindings_of ss n sol) i) rest)) from mid.text (left_to_spell ss sol.nodes.now (bindings_of ss n sol) mid.stack mid.height rest) = told-whole (ap (λ (r : RTerm). bytes_of met (spelt r rest)) value-bound) s.told in
+        let y : SpeltToLimit limit (bytes_of x.met (left_to_spell ss sol.nodes.now (bindings_of ss n sol) mid.stack mid.height rest)) mid.text to rest = f x.met (record { store = v.setting.store; names = v.setting.names; rows = s.rows }) x.numbers_are in
         walked-after limit x y
 
 -- ---- what stands before a value
@@ -179,17 +179,17 @@ gap-short true = omega arith
 
 -- ---- between a term and its rows
 
-module _ {sol : Solution} {stack : List ℕ} {i w : ℕ} {numbers : List ℕ} {at : ℕ} (v : SomeValued sol stack i) (k : Counting numbers at) (e : w ≡ get_or sol.state.now i 0) (z : w ≡ 0 → ⊥) {t : At} (et : t ≡ at_of w) (room : Ample stack open_size)
-    {out nums after mid : List ℕ} {m rows : ℕ}
-    (f : (ss : List Symbol) (n : ℕ) (met : List Variable) (rest : List Piece) → Facing ss n sol stack t.node t.copy 0 → Numbers numbers met
-    → Spelling ss sol.nodes.now (bindings_of ss n sol) (bytes_of met (spelt (resolve (bindings_of ss n sol) (term_at ss sol.nodes.now t.node t.copy)) (left_to_spell ss sol.nodes.now (bindings_of ss n sol) stack 0 rest))) out at mid nums after m rows rest) where
-  first : Spelling v.ss sol.nodes.now (bindings_of v.ss v.n sol) (bytes_of k.met (spelt (resolve (bindings_of v.ss v.n sol) (term_at v.ss sol.nodes.now t.node t.copy)) (left_to_spell v.ss sol.nodes.now (bindings_of v.ss v.n sol) stack 0 []))) out at mid nums after m rows []
+module _ {sol : Solution} {stack : List ℕ} {i w : ℕ} {from : Written} (v : SomeValued sol stack i) (k : Counting from.numbers from.at) (e : w ≡ get_or sol.state.now i 0) (z : w ≡ 0 → ⊥) {t : At} (et : t ≡ at_of w) (room : Ample stack open_size)
+    {to : Walk}
+    (f : (ss : List Symbol) (n : ℕ) (met : List Variable) (rest : List Piece) → Facing ss n sol stack t.node t.copy 0 → Numbers from.numbers met
+    → Spelling ss sol.nodes.now (bindings_of ss n sol) (bytes_of met (spelt (resolve (bindings_of ss n sol) (term_at ss sol.nodes.now t.node t.copy)) (left_to_spell ss sol.nodes.now (bindings_of ss n sol) stack 0 rest))) from to rest) where
+  first : Spelling v.ss sol.nodes.now (bindings_of v.ss v.n sol) (bytes_of k.met (spelt (resolve (bindings_of v.ss v.n sol) (term_at v.ss sol.nodes.now t.node t.copy)) (left_to_spell v.ss sol.nodes.now (bindings_of v.ss v.n sol) stack 0 []))) from to []
   first = f v.ss v.n k.met [] (value-facing v.is e z et room) k.numbers_are
 
-  pub value-setting : SomeSetting sol after rows
+  pub value-setting : SomeSetting sol to.stack to.height
   value-setting = record { ss = v.ss; n = v.n; is = record { store = v.is.setting.store; names = v.is.setting.names; rows = first.rows } }
 
-  pub value-counting : m + 100 < 2 ^ 64 → Counting nums m
+  pub value-counting : to.text.at + 100 < 2 ^ 64 → Counting to.text.numbers to.text.at
   value-counting l = record { met = first.told.met; numbers_are = first.told.numbers_are; few = first.told.few; near = l }
 
 pub nearer : (limit : ℕ) {at m r : ℕ} → (at ≤ m) × (m ≤ at + word_bytes) → (m ≤ r) × ((r ≤ limit + (word_bytes + 1)) ⊎ (r ≡ m)) → (at ≤ r) × ((r ≤ limit + (word_bytes + 1)) ⊎ (r ≤ at + word_bytes))
@@ -219,21 +219,21 @@ bytes-three met f g h ps =
     ∙ (ap (λ (l : List ℕ). f ++ l) (bytes-written met g (bytes_then h ps) ∙ ap (λ (l : List ℕ). g ++ l) (bytes-written met h ps))
     ∙ (ap (λ (l : List ℕ). f ++ l) (sym (append_assoc g h (bytes_of met ps))) ∙ sym (append_assoc f (g ++ h) (bytes_of met ps))))
 
-pub binding-skip : (b : List Binding) (i : ℕ) (more : Bool) (w limit : ℕ) (goal : List ℕ) (xs : List (List ℕ)) (met : List Variable) (out : List ℕ) {numbers : List ℕ} {at : ℕ} {r : Bool} → r ≡ is_anonymous (spanned goal w) → r ≡ true → Counting numbers at → Numbers numbers met
-    → SpeltToLimit limit (bytes_of met (values_from b i (gap more) (spanned goal w ∷ xs))) out at out at numbers (values_from b (suc i) (gap more) xs)
-binding-skip b i more w limit goal xs met out {numbers} {at} e t k n =
-    walked-told limit (told-words met [] out out at at numbers (bytes_of met (values_from b i (gap more) (spanned goal w ∷ xs))) (values_from b (suc i) (gap more) xs) n (few-met k n) (nothing out at) (ap (bytes_of met) (values-skip b i (gap more) (spanned goal w) xs (sym e ∙ t))))
+pub binding-skip : (b : List Binding) (i : ℕ) (more : Bool) (w limit : ℕ) (goal : List ℕ) (xs : List (List ℕ)) (met : List Variable) {from : Written} {r : Bool} → r ≡ is_anonymous (spanned goal w) → r ≡ true → Counting from.numbers from.at → Numbers from.numbers met
+    → SpeltToLimit limit (bytes_of met (values_from b i (gap more) (spanned goal w ∷ xs))) from from (values_from b (suc i) (gap more) xs)
+binding-skip b i more w limit goal xs met {from} e t k n =
+    walked-told limit (told-words met [] n (few-met k n) (nothing from.out from.at) (ap (bytes_of met) (values-skip b i (gap more) (spanned goal w) xs (sym e ∙ t))))
 
-pub binding-give : (b : List Binding) (i : ℕ) (more : Bool) (w limit : ℕ) (goal : List ℕ) (xs : List (List ℕ)) (met : List Variable) {old mid new numbers : List ℕ} {at m next : ℕ} {r : Bool} → r ≡ is_anonymous (spanned goal w) → r ≡ false
-    → Put old at (gap more ++ (spanned goal w ++ bytes " = ")) mid m
-    → SpeltToLimit limit (bytes_of met (spelt (value_in b i) (values_from b (suc i) (bytes ", ") xs))) mid m new next numbers (values_from b (suc i) (bytes ", ") xs)
-    → SpeltToLimit limit (bytes_of met (values_from b i (gap more) (spanned goal w ∷ xs))) old at new next numbers (values_from b (suc i) (gap true) xs)
-binding-give b i more w limit goal xs met {at = at} {m} e t p v =
+pub binding-give : (b : List Binding) (i : ℕ) (more : Bool) (w limit : ℕ) (goal : List ℕ) (xs : List (List ℕ)) (met : List Variable) {from mid to : Written} {r : Bool} → r ≡ is_anonymous (spanned goal w) → r ≡ false
+    → Put from.out from.at (gap more ++ (spanned goal w ++ bytes " = ")) mid.out mid.at
+    → SpeltToLimit limit (bytes_of met (spelt (value_in b i) (values_from b (suc i) (bytes ", ") xs))) mid to (values_from b (suc i) (bytes ", ") xs)
+    → SpeltToLimit limit (bytes_of met (values_from b i (gap more) (spanned goal w ∷ xs))) from to (values_from b (suc i) (gap true) xs)
+binding-give b i more w limit goal xs met {from} {mid} e t p v =
     let is : bytes_of met (values_from b i (gap more) (spanned goal w ∷ xs)) ≡ (gap more ++ (spanned goal w ++ bytes " = ")) ++ bytes_of met (spelt (value_in b i) (values_from b (suc i) (bytes ", ") xs)) =
     ap (bytes_of met) (values-give b i (gap more) (spanned goal w) xs (sym e ∙ t)) ∙ bytes-three met (gap more) (spanned goal w) (bytes " = ") (spelt (value_in b i) (values_from b (suc i) (bytes ", ") xs)) in
     record {
       done = λ l. told-after met (spelt (value_in b i) (values_from b (suc i) (bytes ", ") xs)) p is (v.done l);
-      over = λ l. let a : limit < m + length (bytes_of met (spelt (value_in b i) (values_from b (suc i) (bytes ", ") xs))) = v.over l in let d : m ≡ at + length (gap more ++ (spanned goal w ++ bytes " = ")) = p.past in let f : length (bytes_of met (values_from b i (gap more) (spanned goal w ∷ xs))) ≡ length ((gap more ++ (spanned goal w ++ bytes " = ")) ++ bytes_of met (spelt (value_in b i) (values_from b (suc i) (bytes ", ") xs))) = ap length is in let g : length ((gap more ++ (spanned goal w ++ bytes " = ")) ++ bytes_of met (spelt (value_in b i) (values_from b (suc i) (bytes ", ") xs))) ≡ length (gap more ++ (spanned goal w ++ bytes " = ")) + length (bytes_of met (spelt (value_in b i) (values_from b (suc i) (bytes ", ") xs))) = length-append (gap more ++ (spanned goal w ++ bytes " = ")) (bytes_of met (spelt (value_in b i) (values_from b (suc i) (bytes ", ") xs))) in omega arith;
+      over = λ l. let a : limit < mid.at + length (bytes_of met (spelt (value_in b i) (values_from b (suc i) (bytes ", ") xs))) = v.over l in let d : mid.at ≡ from.at + length (gap more ++ (spanned goal w ++ bytes " = ")) = p.past in let f : length (bytes_of met (values_from b i (gap more) (spanned goal w ∷ xs))) ≡ length ((gap more ++ (spanned goal w ++ bytes " = ")) ++ bytes_of met (spelt (value_in b i) (values_from b (suc i) (bytes ", ") xs))) = ap length is in let g : length ((gap more ++ (spanned goal w ++ bytes " = ")) ++ bytes_of met (spelt (value_in b i) (values_from b (suc i) (bytes ", ") xs))) ≡ length (gap more ++ (spanned goal w ++ bytes " = ")) + length (bytes_of met (spelt (value_in b i) (values_from b (suc i) (bytes ", ") xs))) = length-append (gap more ++ (spanned goal w ++ bytes " = ")) (bytes_of met (spelt (value_in b i) (values_from b (suc i) (bytes ", ") xs))) in omega arith;
     }
 
 pub nearer-value : (limit : ℕ) {at m r : ℕ} → (at ≤ m) × (m ≤ at + (word_bytes + 5)) → (m ≤ r) × ((r ≤ limit + (word_bytes + 1)) ⊎ (r ≤ m + word_bytes)) → (at ≤ r) × ((r ≤ limit + (word_bytes + 1)) ⊎ (r ≤ at + (2 * word_bytes + 5)))
@@ -257,10 +257,10 @@ abbrev pieces_after : List Symbol → ℕ → Solution → ℕ → Bool → List
 pieces_after ss n sol i more = values_from (bindings_of ss n sol) i (gap more) (names_after sol i)
 
 -- whatever the words mean, the variables before i are given, unless the limit is passed
-abbrev pub Listing : Solution → List ℕ → List ℕ → List ℕ → ℕ → ℕ → List ℕ → List ℕ → SpeltVariable → ℕ → Type 0
-Listing sol numbers₀ stack₀ out₀ at limit numbers out listed i =
-    (ss : List Symbol) (n : ℕ) (met : List Variable) → Values ss n sol stack₀ → Numbers numbers₀ met
-    → SpeltToLimit limit (bytes_of met (pieces ss n sol)) out₀ at out listed.at numbers (pieces_after ss n sol i listed.more)
+abbrev pub Listing : Solution → List ℕ → Written → ℕ → List ℕ → List ℕ → SpeltVariable → ℕ → Type 0
+Listing sol stack₀ from limit numbers out listed i =
+    (ss : List Symbol) (n : ℕ) (met : List Variable) → Values ss n sol stack₀ → Numbers from.numbers met
+    → SpeltToLimit limit (bytes_of met (pieces ss n sol)) from (written numbers out listed.at) (pieces_after ss n sol i listed.more)
 
 valued : {ss : List Symbol} {n : ℕ} {sol : Solution} {stack₀ stack : List ℕ} {i : ℕ} → Values ss n sol stack₀ → length stack ≡ length stack₀ → i < sol.count → Valued ss n sol stack i
 valued {sol = sol} {i = i} v e l =
@@ -270,24 +270,24 @@ valued {sol = sol} {i = i} v e l =
       shallow = v.shallow i l;
     }
 
-module _ {sol : Solution} {numbers₀ stack₀ out₀ : List ℕ} {at limit : ℕ} where
-  pub listing_none : Counting numbers₀ at → Listing sol numbers₀ stack₀ out₀ at limit numbers₀ out₀ (record { at = at; more = false }) 0
+module _ {sol : Solution} {stack₀ : List ℕ} {from : Written} {limit : ℕ} where
+  pub listing_none : Counting from.numbers from.at → Listing sol stack₀ from limit from.numbers from.out (record { at = from.at; more = false }) 0
   listing_none k ss n met v h =
       let e : sol.count - 0 ≡ sol.count = omega arith in
-      walked-told limit (told-words met [] out₀ out₀ at at numbers₀ (bytes_of met (pieces ss n sol)) (pieces_after ss n sol 0 false) h (few-met k h) (nothing out₀ at)
+      walked-told limit (told-words met [] h (few-met k h) (nothing from.out from.at)
       (ap (λ (j : ℕ). bytes_of met (values_from (bindings_of ss n sol) 0 [] (names_from sol.goal.now sol.names.now 0 j))) (sym e)))
 
-  module _ (listed : SpeltVariable) (i : ℕ) {numbers out : List ℕ} (g : Listing sol numbers₀ stack₀ out₀ at limit numbers out listed i) where
+  module _ (listed : SpeltVariable) (i : ℕ) {numbers out : List ℕ} (g : Listing sol stack₀ from limit numbers out listed i) where
     pub some-valued : {stack : List ℕ} → SomeValues sol stack₀ → length stack ≡ length stack₀ → i < sol.count → SomeValued sol stack i
     some-valued s e l = record { ss = s.ss; n = s.n; is = valued s.is e l }
 
-    pub listing-counting : SomeValues sol stack₀ → Counting numbers₀ at → listed.at ≤ limit → listed.at + 100 < 2 ^ 64 → Counting numbers listed.at
+    pub listing-counting : SomeValues sol stack₀ → Counting from.numbers from.at → listed.at ≤ limit → listed.at + 100 < 2 ^ 64 → Counting numbers listed.at
     listing-counting s k l f =
         let t = (g s.ss s.n k.met s.is k.numbers_are).done l in
         record { met = t.met; numbers_are = t.numbers_are; few = t.few; near = f }
 
     -- the variables numbered at the end, where the limit is not passed
-    pub listing-counted : {new : List ℕ} {next : ℕ} → SomeValues sol stack₀ → Counting numbers₀ at → listed.at + 100 < 2 ^ 64 → Put out listed.at (10 ∷ []) new next → next ≤ limit → SomeNumbers numbers
+    pub listing-counted : {new : List ℕ} {next : ℕ} → SomeValues sol stack₀ → Counting from.numbers from.at → listed.at + 100 < 2 ^ 64 → Put out listed.at (10 ∷ []) new next → next ≤ limit → SomeNumbers numbers
     listing-counted {next = next} s k f p l =
         let a : next ≡ listed.at + 1 = p.past in
         let t : Counting numbers listed.at = listing-counting s k (omega arith) f in
@@ -295,33 +295,33 @@ module _ {sol : Solution} {numbers₀ stack₀ out₀ : List ℕ} {at limit : �
 
     pub listing-next : {stack numbers₁ out₁ : List ℕ} (listed₁ : SpeltVariable) {w : ℕ} → length stack ≡ length stack₀ → i < sol.count → w ≡ get_or sol.names.now i 0 → listed.at ≤ limit
         → ((ss : List Symbol) (n : ℕ) (met : List Variable) (xs : List (List ℕ)) → Valued ss n sol stack i → Numbers numbers met
-        → SpeltToLimit limit (bytes_of met (values_from (bindings_of ss n sol) i (gap listed.more) (spanned sol.goal.now w ∷ xs))) out listed.at out₁ listed₁.at numbers₁ (values_from (bindings_of ss n sol) (suc i) (gap listed₁.more) xs))
-        → Listing sol numbers₀ stack₀ out₀ at limit numbers₁ out₁ listed₁ (i + 1)
+        → SpeltToLimit limit (bytes_of met (values_from (bindings_of ss n sol) i (gap listed.more) (spanned sol.goal.now w ∷ xs))) (written numbers out listed.at) (written numbers₁ out₁ listed₁.at) (values_from (bindings_of ss n sol) (suc i) (gap listed₁.more) xs))
+        → Listing sol stack₀ from limit numbers₁ out₁ listed₁ (i + 1)
     listing-next {stack} {numbers₁} {out₁} listed₁ {w} e l ew p f ss n met v h =
-        let t : SpeltSoFar (bytes_of met (pieces ss n sol)) out₀ at out listed.at numbers (pieces_after ss n sol i listed.more) = (g ss n met v h).done p in
+        let t : SpeltSoFar (bytes_of met (pieces ss n sol)) from (written numbers out listed.at) (pieces_after ss n sol i listed.more) = (g ss n met v h).done p in
         let is : names_after sol i ≡ spanned sol.goal.now w ∷ names_after sol (i + 1) = names_more sol.goal.now sol.names.now i sol.count l ∙ ap (λ (x : ℕ). spanned sol.goal.now x ∷ names_after sol (i + 1)) (sym ew) in
-        let u : SpeltToLimit limit (bytes_of t.met (values_from (bindings_of ss n sol) i (gap listed.more) (spanned sol.goal.now w ∷ names_after sol (i + 1)))) out listed.at out₁ listed₁.at numbers₁ (values_from (bindings_of ss n sol) (suc i) (gap listed₁.more) (names_after sol (i + 1))) =
+        let u : SpeltToLimit limit (bytes_of t.met (values_from (bindings_of ss n sol) i (gap listed.more) (spanned sol.goal.now w ∷ names_after sol (i + 1)))) (written numbers out listed.at) (written numbers₁ out₁ listed₁.at) (values_from (bindings_of ss n sol) (suc i) (gap listed₁.more) (names_after sol (i + 1))) =
         f ss n t.met (names_after sol (i + 1)) (valued v e l) t.numbers_are in
-        let y : SpeltToLimit limit (bytes_of t.met (pieces_after ss n sol i listed.more)) out listed.at out₁ listed₁.at numbers₁ (pieces_after ss n sol (i + 1) listed₁.more) =
-        subst (λ (j : ℕ). SpeltToLimit limit (bytes_of t.met (pieces_after ss n sol i listed.more)) out listed.at out₁ listed₁.at numbers₁ (values_from (bindings_of ss n sol) j (gap listed₁.more) (names_after sol (i + 1)))) (sym (add-one i))
-        (subst (λ (zs : List (List ℕ)). SpeltToLimit limit (bytes_of t.met (values_from (bindings_of ss n sol) i (gap listed.more) zs)) out listed.at out₁ listed₁.at numbers₁ (values_from (bindings_of ss n sol) (suc i) (gap listed₁.more) (names_after sol (i + 1)))) (sym is) u) in
+        let y : SpeltToLimit limit (bytes_of t.met (pieces_after ss n sol i listed.more)) (written numbers out listed.at) (written numbers₁ out₁ listed₁.at) (pieces_after ss n sol (i + 1) listed₁.more) =
+        subst (λ (j : ℕ). SpeltToLimit limit (bytes_of t.met (pieces_after ss n sol i listed.more)) (written numbers out listed.at) (written numbers₁ out₁ listed₁.at) (values_from (bindings_of ss n sol) j (gap listed₁.more) (names_after sol (i + 1)))) (sym (add-one i))
+        (subst (λ (zs : List (List ℕ)). SpeltToLimit limit (bytes_of t.met (values_from (bindings_of ss n sol) i (gap listed.more) zs)) (written numbers out listed.at) (written numbers₁ out₁ listed₁.at) (values_from (bindings_of ss n sol) (suc i) (gap listed₁.more) (names_after sol (i + 1)))) (sym is) u) in
         walked-after limit t y
 
-    pub listing-over : limit < listed.at → (ss : List Symbol) (n : ℕ) (met : List Variable) → Values ss n sol stack₀ → Numbers numbers₀ met → Lined limit (bytes_of met (pieces ss n sol)) out₀ at out listed.at
+    pub listing-over : limit < listed.at → (ss : List Symbol) (n : ℕ) (met : List Variable) → Values ss n sol stack₀ → Numbers from.numbers met → Lined limit (bytes_of met (pieces ss n sol)) from.out from.at out listed.at
     listing-over l ss n met v h = record { done = λ k. absurd (omega arith); over = λ k. (g ss n met v h).over k }
 
-    pub listing-end : {new : List ℕ} {next : ℕ} → sol.count ≤ i → Put out listed.at (10 ∷ []) new next → (ss : List Symbol) (n : ℕ) (met : List Variable) → Values ss n sol stack₀ → Numbers numbers₀ met → Lined limit (bytes_of met (pieces ss n sol)) out₀ at new next
+    pub listing-end : {new : List ℕ} {next : ℕ} → sol.count ≤ i → Put out listed.at (10 ∷ []) new next → (ss : List Symbol) (n : ℕ) (met : List Variable) → Values ss n sol stack₀ → Numbers from.numbers met → Lined limit (bytes_of met (pieces ss n sol)) from.out from.at new next
     unfolding values_from bytes_of
     listing-end {new} {next} l p ss n met v h = record { done = λ k. ended (let a : next ≡ listed.at + 1 = p.past in omega arith); over = λ k. past-it k (leb listed.at limit) refl }
       where
-        ended : listed.at ≤ limit → Put out₀ at (bytes_of met (pieces ss n sol)) new next
+        ended : listed.at ≤ limit → Put from.out from.at (bytes_of met (pieces ss n sol)) new next
         ended q =
-            let t : SpeltSoFar (bytes_of met (pieces ss n sol)) out₀ at out listed.at numbers (pieces_after ss n sol i listed.more) = (g ss n met v h).done q in
+            let t : SpeltSoFar (bytes_of met (pieces ss n sol)) from (written numbers out listed.at) (pieces_after ss n sol i listed.more) = (g ss n met v h).done q in
             let e : bytes_of met (pieces ss n sol) ≡ t.words ++ (10 ∷ []) = t.is ∙ ap (λ (zs : List (List ℕ)). t.words ++ bytes_of t.met (values_from (bindings_of ss n sol) i (gap listed.more) zs)) (names-none sol.goal.now sol.names.now i sol.count l) in
             rw e (then t.put p)
 
-        past-it : limit < next → (b : Bool) → leb listed.at limit ≡ b → limit < at + length (bytes_of met (pieces ss n sol))
-        past-it k true q = let a : next ≡ at + length (bytes_of met (pieces ss n sol)) = (ended (leb-true listed.at limit q)).past in omega arith
+        past-it : limit < next → (b : Bool) → leb listed.at limit ≡ b → limit < from.at + length (bytes_of met (pieces ss n sol))
+        past-it k true q = let a : next ≡ from.at + length (bytes_of met (pieces ss n sol)) = (ended (leb-true listed.at limit q)).past in omega arith
         past-it k false q = (g ss n met v h).over (leb-false listed.at limit q)
 
 pub near_on : {past r limit : ℕ} → past ≤ limit → limit + 400 < 2 ^ 64 → (past ≤ r) × ((r ≤ limit + (word_bytes + 1)) ⊎ (r ≤ past + (2 * word_bytes + 5))) → r + 300 < 2 ^ 64

@@ -24,7 +24,7 @@ use Rattle.run_layout.proofs.Nodes.{node-inside, node-size, node_end, variable-a
 use Rattle.run_layout.proofs.State.{variable-cell, cell-small, resolve-unbound}
 use Rattle.unify_bindings.specs.Cells.{StoredTerm, Derefs}
 use Rattle.out_terms.specs.Words.{NamePlaced, name_at, Numbers, resolved_all, depth, depth_all, spelt_row, row_terms, left_to_spell, RowPending, Rows, row_word, end_word, new_row, moved_row, row_place, row_more, span_word, row_last, row_copy}
-use Rattle.out_terms.specs.Telling.{bindings_of, separator_of, SpeltSoFar, Ample, Counting, Heading, Setting, SomeSetting, Facing, Spelling, SpeltToLimit}
+use Rattle.out_terms.specs.Telling.{bindings_of, separator_of, Written, SpeltSoFar, Ample, Counting, Heading, Setting, SomeSetting, Facing, Walk, Spelling, SpeltToLimit}
 use Rattle.out_terms.specs.declared.Solution.{Solution}
 
 -- ---- resolved lists and depths
@@ -145,13 +145,13 @@ unfolding spelt
 spelt-name f ts ps = refl
 
 -- some bytes of the whole told
-pub told-words : (met : List Variable) (ws old new : List ℕ) (at next : ℕ) (numbers whole : List ℕ) (ps : List Piece) → Numbers numbers met → length met ≤ at → Put old at ws new next → whole ≡ ws ++ bytes_of met ps
-    → SpeltSoFar whole old at new next numbers ps
-told-words met ws old new at next numbers whole ps n few p e =
-    record { words = ws; put = p; met = met; numbers_are = n; few = (let a : next ≡ at + length ws = p.past in omega arith); is = e }
+pub told-words : (met : List Variable) (ws : List ℕ) {whole : List ℕ} {from to : Written} {ps : List Piece} → Numbers to.numbers met → length met ≤ from.at → Put from.out from.at ws to.out to.at → whole ≡ ws ++ bytes_of met ps
+    → SpeltSoFar whole from to ps
+told-words met ws {from = from} {to} n few p e =
+    record { words = ws; put = p; met = met; numbers_are = n; few = (let a : to.at ≡ from.at + length ws = p.past in omega arith); is = e }
 
 -- one part of the whole after another
-pub told-then : {whole old mid new nums numbers : List ℕ} {at m next : ℕ} {ps qs : List Piece} → (t : SpeltSoFar whole old at mid m nums ps) → SpeltSoFar (bytes_of t.met ps) mid m new next numbers qs → SpeltSoFar whole old at new next numbers qs
+pub told-then : {whole : List ℕ} {from mid to : Written} {ps qs : List Piece} → (t : SpeltSoFar whole from mid ps) → SpeltSoFar (bytes_of t.met ps) mid to qs → SpeltSoFar whole from to qs
 told-then t u =
     record {
       words = t.words ++ u.words;
@@ -162,10 +162,10 @@ told-then t u =
       is = t.is ∙ (ap (λ (l : List ℕ). t.words ++ l) u.is ∙ sym (append_assoc t.words u.words (bytes_of u.met _)));
     }
 
-pub told-whole : {whole other old new numbers : List ℕ} {at next : ℕ} {ps : List Piece} → other ≡ whole → SpeltSoFar whole old at new next numbers ps → SpeltSoFar other old at new next numbers ps
+pub told-whole : {whole other : List ℕ} {from to : Written} {ps : List Piece} → other ≡ whole → SpeltSoFar whole from to ps → SpeltSoFar other from to ps
 told-whole e t = rw e t
 
-pub told-rest : {whole old new numbers : List ℕ} {at next : ℕ} {ps qs : List Piece} → ps ≡ qs → SpeltSoFar whole old at new next numbers ps → SpeltSoFar whole old at new next numbers qs
+pub told-rest : {whole : List ℕ} {from to : Written} {ps qs : List Piece} → ps ≡ qs → SpeltSoFar whole from to ps → SpeltSoFar whole from to qs
 told-rest e t = rw e at t
 
 -- ---- a name or an unbound variable
@@ -212,9 +212,9 @@ module _ {ss : List Symbol} {b : List Binding} {sol : Solution} {stack : List �
       omega arith
 
   -- an unbound variable
-  pub head-variable : (met : List Variable) {w x : ℕ} {old new numbers : List ℕ} {at next : ℕ} {rest : List Piece} → w ≡ get_or sol.nodes.now p 0 → w < first_name → x ≡ c * copy_cells + w
-      → ((ps : List Piece) → SpeltSoFar (bytes_of met (unbound (variable_of x) ∷ ps)) old at new next numbers ps)
-      → Spelling ss sol.nodes.now b (bytes_of met (spelt (resolve b (term_at ss sol.nodes.now p c)) (left_to_spell ss sol.nodes.now b stack height rest))) old at new numbers stack next height rest
+  pub head-variable : (met : List Variable) {w x : ℕ} {from to : Written} {rest : List Piece} → w ≡ get_or sol.nodes.now p 0 → w < first_name → x ≡ c * copy_cells + w
+      → ((ps : List Piece) → SpeltSoFar (bytes_of met (unbound (variable_of x) ∷ ps)) from to ps)
+      → Spelling ss sol.nodes.now b (bytes_of met (spelt (resolve b (term_at ss sol.nodes.now p c)) (left_to_spell ss sol.nodes.now b stack height rest))) from (record { text = to; stack = stack; height = height }) rest
   head-variable met {w} {x} {rest = rest} e l q t =
       let low : get_or sol.nodes.now p 0 < first_name = omega arith in
       let cell : x ≡ cell_of c (get_or sol.nodes.now p 0) = q ∙ ap (λ (k : ℕ). c * copy_cells + k) e in
@@ -225,24 +225,24 @@ module _ {ss : List Symbol} {b : List Binding} {sol : Solution} {stack : List �
       }
 
   -- a name: its bytes, and its arguments are left
-  name-told : (met : List Variable) (k : ℕ) (old new numbers : List ℕ) (at next : ℕ) (ps : List Piece) → first_name ≤ get_or sol.nodes.now p 0 → k ≡ get_or sol.nodes.now p 0 - first_name → Numbers numbers met → length met ≤ at
-      → Put old at (name_at sol.symbols.now sol.sheet.now sol.goal.now k) new next → SpeltSoFar (bytes_of met (spelt (resolve b (term_at ss sol.nodes.now p c)) ps)) old at new next numbers (spelt_args (resolved_all b args) ps)
-  name-told met k old new numbers at next ps l e n few put =
-      told-words met (name_at sol.symbols.now sol.sheet.now sol.goal.now k) old new at next numbers (bytes_of met (spelt (resolve b (term_at ss sol.nodes.now p c)) ps)) (spelt_args (resolved_all b args) ps) n few put
+  name-told : (met : List Variable) (k : ℕ) {from to : Written} (ps : List Piece) → first_name ≤ get_or sol.nodes.now p 0 → k ≡ get_or sol.nodes.now p 0 - first_name → Numbers to.numbers met → length met ≤ from.at
+      → Put from.out from.at (name_at sol.symbols.now sol.sheet.now sol.goal.now k) to.out to.at → SpeltSoFar (bytes_of met (spelt (resolve b (term_at ss sol.nodes.now p c)) ps)) from to (spelt_args (resolved_all b args) ps)
+  name-told met k ps l e n few put =
+      told-words met (name_at sol.symbols.now sol.sheet.now sol.goal.now k) n few put
       (ap (λ (s : RTerm). bytes_of met (spelt s ps)) (head-is l)
       ∙ (ap (bytes_of met) (spelt-name (name_of_symbol ss (get_or sol.nodes.now p 0 - first_name)) (resolved_all b args) ps)
       ∙ (bytes-written met (name_of_symbol ss (get_or sol.nodes.now p 0 - first_name)) (spelt_args (resolved_all b args) ps)
       ∙ ap (λ (f : List ℕ). f ++ bytes_of met (spelt_args (resolved_all b args) ps)) (sym (head-name k l e)))))
 
-  pub head-leaf : {met : List Variable} {k : ℕ} {old new numbers : List ℕ} {at next : ℕ} {rest : List Piece} → first_name ≤ get_or sol.nodes.now p 0 → k ≡ get_or sol.nodes.now p 0 - first_name → get_or sol.nodes.now (p + 1) 0 ≡ 2 → Numbers numbers met → length met ≤ at
-      → Put old at (name_at sol.symbols.now sol.sheet.now sol.goal.now k) new next
-      → Spelling ss sol.nodes.now b (bytes_of met (spelt (resolve b (term_at ss sol.nodes.now p c)) (left_to_spell ss sol.nodes.now b stack height rest))) old at new numbers stack next height rest
+  pub head-leaf : {met : List Variable} {k : ℕ} {from to : Written} {rest : List Piece} → first_name ≤ get_or sol.nodes.now p 0 → k ≡ get_or sol.nodes.now p 0 - first_name → get_or sol.nodes.now (p + 1) 0 ≡ 2 → Numbers to.numbers met → length met ≤ from.at
+      → Put from.out from.at (name_at sol.symbols.now sol.sheet.now sol.goal.now k) to.out to.at
+      → Spelling ss sol.nodes.now b (bytes_of met (spelt (resolve b (term_at ss sol.nodes.now p c)) (left_to_spell ss sol.nodes.now b stack height rest))) from (record { text = to; stack = stack; height = height }) rest
   unfolding args resolved_all spelt_args
-  head-leaf {met} {k} {old} {new} {numbers} {at} {next} {rest} l e z n few put =
+  head-leaf {met} {k} {rest = rest} l e z n few put =
       let r : Row ss sol.nodes.now (p + loaded_node) (p + get_or sol.nodes.now (p + 1) 0) = compound-row ss sol.nodes.now p h.node l in
       let none : args ≡ rnil = row-none ss sol.nodes.now (p + loaded_node) (p + get_or sol.nodes.now (p + 1) 0) r c (omega arith) in
       record {
-        told = told-rest (ap (λ (ts : RTerms). spelt_args (resolved_all b ts) (left_to_spell ss sol.nodes.now b stack height rest)) none) (name-told met k old new numbers at next (left_to_spell ss sol.nodes.now b stack height rest) l e n few put);
+        told = told-rest (ap (λ (ts : RTerms). spelt_args (resolved_all b ts) (left_to_spell ss sol.nodes.now b stack height rest)) none) (name-told met k (left_to_spell ss sol.nodes.now b stack height rest) l e n few put);
         rows = h.rows;
       }
 
@@ -255,11 +255,11 @@ module _ {ss : List Symbol} {b : List Binding} {sol : Solution} {stack : List �
       let w : row_copy (span_word (p + get_or sol.nodes.now (p + 1) 0) c) ≡ c = omega arith in
       record { row = rw (x, y) (compound-row ss sol.nodes.now p h.node l); opened = λ q. rw (x, y) (opens z); shallow = rw (x, y, w) (args-shallow l) }
 
-  pub head-open : {met : List Variable} {k last : ℕ} {old new numbers after : List ℕ} {at next : ℕ} {rest : List Piece} → first_name ≤ get_or sol.nodes.now p 0 → k ≡ get_or sol.nodes.now p 0 - first_name → (get_or sol.nodes.now (p + 1) 0 ≡ loaded_node → ⊥) → Numbers numbers met → length met ≤ at
-      → Put old at (name_at sol.symbols.now sol.sheet.now sol.goal.now k) new next → last ≡ p + get_or sol.nodes.now (p + 1) 0 → after ≡ set (set stack (height * open_size) (new_row (p + loaded_node))) (height * open_size + 1) (span_word last c)
-      → Spelling ss sol.nodes.now b (bytes_of met (spelt (resolve b (term_at ss sol.nodes.now p c)) (left_to_spell ss sol.nodes.now b stack height rest))) old at new numbers after next (height + 1) rest
+  pub head-open : {met : List Variable} {k last : ℕ} {from to : Written} {after : List ℕ} {rest : List Piece} → first_name ≤ get_or sol.nodes.now p 0 → k ≡ get_or sol.nodes.now p 0 - first_name → (get_or sol.nodes.now (p + 1) 0 ≡ loaded_node → ⊥) → Numbers to.numbers met → length met ≤ from.at
+      → Put from.out from.at (name_at sol.symbols.now sol.sheet.now sol.goal.now k) to.out to.at → last ≡ p + get_or sol.nodes.now (p + 1) 0 → after ≡ set (set stack (height * open_size) (new_row (p + loaded_node))) (height * open_size + 1) (span_word last c)
+      → Spelling ss sol.nodes.now b (bytes_of met (spelt (resolve b (term_at ss sol.nodes.now p c)) (left_to_spell ss sol.nodes.now b stack height rest))) from (record { text = to; stack = after; height = height + 1 }) rest
   unfolding args
-  head-open {met} {k} {last} {old} {new} {numbers} {after} {at} {next} {rest} l e z n few put m s =
+  head-open {met} {k} {after = after} {rest} l e z n few put m s =
       let pushed : Pushed stack height (new_row (p + loaded_node)) (span_word (p + get_or sol.nodes.now (p + 1) 0) c) after = put-pushed stack after height (new_row (p + loaded_node)) (span_word (p + get_or sol.nodes.now (p + 1) 0) c) (head-room l z) (s ∙ ap (λ (j : ℕ). set (set stack (height * open_size) (new_row (p + loaded_node))) (height * open_size + 1) (span_word j c)) m) in
       let x : row_place (new_row (p + loaded_node)) ≡ p + loaded_node = omega arith in
       let x0 : row_more (new_row (p + loaded_node)) ≡ false = ne_eqb (new_row (p + loaded_node) % 2) 1 (λ e. omega arith) in
@@ -268,7 +268,7 @@ module _ {ss : List Symbol} {b : List Binding} {sol : Solution} {stack : List �
       let w : row_copy (span_word (p + get_or sol.nodes.now (p + 1) 0) c) ≡ c = omega arith in
       let rows : Rows ss sol.nodes.now b after (suc height) = rows_pushed ss sol.nodes.now b stack after height (new_row (p + loaded_node)) (span_word (p + get_or sol.nodes.now (p + 1) 0) c) h.rows pushed (head-room l z) (row-standing l z) in
       let is : left_to_spell ss sol.nodes.now b after (suc height) rest ≡ spelt_args (resolved_all b args) (left_to_spell ss sol.nodes.now b stack height rest) = left-pushed ss sol.nodes.now b stack after height (new_row (p + loaded_node)) (span_word (p + get_or sol.nodes.now (p + 1) 0) c) pushed rest ∙ rw (x, x0, y, w) in
-      rw (add-one height) (record { told = told-rest (sym is) (name-told met k old new numbers at next (left_to_spell ss sol.nodes.now b stack height rest) l e n few put); rows = rows })
+      rw (add-one height) (record { told = told-rest (sym is) (name-told met k (left_to_spell ss sol.nodes.now b stack height rest) l e n few put); rows = rows })
 
 -- those met are as many as the table counts
 pub few-met : {numbers : List ℕ} {at : ℕ} {met : List Variable} → Counting numbers at → Numbers numbers met → length met ≤ at
@@ -303,14 +303,14 @@ module _ {ss : List Symbol} {n : ℕ} {sol : Solution} {stack : List ℕ} {p c h
           let is : term_at ss sol.nodes.now q d ≡ var (variable_of (cell_of d (get_or sol.nodes.now q 0))) = variable-at ss sol.nodes.now q l.leads.node d low ∙ ap var (sym (variable-cell d (get_or sol.nodes.now q 0) low)) in
           rw is (resolve-unbound ss sol.nodes.now sol.state.now n (cell_of d (get_or sol.nodes.now q 0)) f.setting.store (cell-small d (get_or sol.nodes.now q 0) l.leads.copy low) (l.stops low))
 
-  pub facing-spelt : {q d : ℕ} (met : List Variable) {old new numbers after : List ℕ} {at next high : ℕ} (rest : List Piece) → Derefs ss sol.nodes.now sol.state.now n p c q d
-      → Spelling ss sol.nodes.now (bindings_of ss n sol) (bytes_of met (spelt (resolve (bindings_of ss n sol) (term_at ss sol.nodes.now q d)) (left_to_spell ss sol.nodes.now (bindings_of ss n sol) stack height rest))) old at new numbers after next high rest
-      → Spelling ss sol.nodes.now (bindings_of ss n sol) (bytes_of met (spelt (resolve (bindings_of ss n sol) (term_at ss sol.nodes.now p c)) (left_to_spell ss sol.nodes.now (bindings_of ss n sol) stack height rest))) old at new numbers after next high rest
+  pub facing-spelt : {q d : ℕ} (met : List Variable) {from : Written} {to : Walk} (rest : List Piece) → Derefs ss sol.nodes.now sol.state.now n p c q d
+      → Spelling ss sol.nodes.now (bindings_of ss n sol) (bytes_of met (spelt (resolve (bindings_of ss n sol) (term_at ss sol.nodes.now q d)) (left_to_spell ss sol.nodes.now (bindings_of ss n sol) stack height rest))) from to rest
+      → Spelling ss sol.nodes.now (bindings_of ss n sol) (bytes_of met (spelt (resolve (bindings_of ss n sol) (term_at ss sol.nodes.now p c)) (left_to_spell ss sol.nodes.now (bindings_of ss n sol) stack height rest))) from to rest
   facing-spelt met rest l s =
       record { told = told-whole (ap (λ (t : RTerm). bytes_of met (spelt t (left_to_spell ss sol.nodes.now (bindings_of ss n sol) stack height rest))) (sym l.leads.means)) s.told; rows = s.rows }
 
 -- bytes before a part that is told
-pub told-after : {whole ws old mid new numbers : List ℕ} {at m next : ℕ} (met : List Variable) (ps : List Piece) {qs : List Piece} → Put old at ws mid m → whole ≡ ws ++ bytes_of met ps → SpeltSoFar (bytes_of met ps) mid m new next numbers qs → SpeltSoFar whole old at new next numbers qs
+pub told-after : {whole ws : List ℕ} {from mid to : Written} (met : List Variable) (ps : List Piece) {qs : List Piece} → Put from.out from.at ws mid.out mid.at → whole ≡ ws ++ bytes_of met ps → SpeltSoFar (bytes_of met ps) mid to qs → SpeltSoFar whole from to qs
 told-after {ws = ws} met ps {qs} p e u =
     record {
       words = ws ++ u.words;
@@ -361,9 +361,9 @@ module _ {ss : List Symbol} {n : ℕ} {sol : Solution} {stack : List ℕ} {heigh
 
   -- the closing bracket
   pub turn-close : {place last : ℕ} → place ≡ row_place (row_word stack top) → last ≡ row_last (end_word stack top) → place ≡ last
-      → (met : List Variable) {old new numbers : List ℕ} {at next : ℕ} (rest : List Piece) → Numbers numbers met → length met ≤ at → Put old at (41 ∷ []) new next
-      → Spelling ss sol.nodes.now (bindings_of ss n sol) (bytes_of met (left_to_spell ss sol.nodes.now (bindings_of ss n sol) stack height rest)) old at new numbers stack next top rest
-  turn-close {place} {last} ep el e met {old} {new} {numbers} {at} {next} rest num few put =
+      → (met : List Variable) {from to : Written} (rest : List Piece) → Numbers to.numbers met → length met ≤ from.at → Put from.out from.at (41 ∷ []) to.out to.at
+      → Spelling ss sol.nodes.now (bindings_of ss n sol) (bytes_of met (left_to_spell ss sol.nodes.now (bindings_of ss n sol) stack height rest)) from (record { text = to; stack = stack; height = top }) rest
+  turn-close {place} {last} ep el e met rest num few put =
       let same : row_place (row_word stack top) ≡ row_last (end_word stack top) = omega arith in
       let some : row_more (row_word stack top) ≡ false → ⊥ = (λ z. let k : row_place (row_word stack top) < row_last (end_word stack top) = standing.opened z in omega arith) in
       let none : row_terms ss sol.nodes.now (row_word stack top) (end_word stack top) ≡ rnil = row-none ss sol.nodes.now (row_place (row_word stack top)) (row_last (end_word stack top)) standing.row (row_copy (end_word stack top)) (omega arith) in
@@ -372,7 +372,7 @@ module _ {ss : List Symbol} {n : ℕ} {sol : Solution} {stack : List ℕ} {heigh
       ∙ (ap (λ (ts : RTerms). spelt_row (row_more (row_word stack top)) ts (left_to_spell ss sol.nodes.now (bindings_of ss n sol) stack top rest)) (ap (resolved_all (bindings_of ss n sol)) none ∙ resolved-nil (bindings_of ss n sol))
       ∙ row-closed (row_more (row_word stack top)) some (left_to_spell ss sol.nodes.now (bindings_of ss n sol) stack top rest)) in
       record {
-        told = told-words met (41 ∷ []) old new at next numbers (bytes_of met (left_to_spell ss sol.nodes.now (bindings_of ss n sol) stack height rest)) (left_to_spell ss sol.nodes.now (bindings_of ss n sol) stack top rest) num few put (ap (bytes_of met) is ∙ bytes-byte met 41 (left_to_spell ss sol.nodes.now (bindings_of ss n sol) stack top rest));
+        told = told-words met (41 ∷ []) num few put (ap (bytes_of met) is ∙ bytes-byte met 41 (left_to_spell ss sol.nodes.now (bindings_of ss n sol) stack top rest));
         rows = lower;
       }
 
@@ -439,9 +439,9 @@ module _ {ss : List Symbol} {n : ℕ} {sol : Solution} {stack : List ℕ} {heigh
           ∙ (left-pushed ss sol.nodes.now (bindings_of ss n sol) stack after top (moved_row next) (end_word stack top) pushed rest
           ∙ rw (odd, half, ← el, ← ec))
 
-      pub turn-spelt : (met : List Variable) {old mid new numbers stack' : List ℕ} {at m past : ℕ} {more : Bool} {mark high : ℕ} (rest : List Piece) → more ≡ row_more (row_word stack top) → mark ≡ separator_of more → Put old at (mark ∷ []) mid m
-          → Spelling ss sol.nodes.now (bindings_of ss n sol) (bytes_of met (spelt (resolve (bindings_of ss n sol) (term_at ss sol.nodes.now place copy)) (left_to_spell ss sol.nodes.now (bindings_of ss n sol) after height rest))) mid m new numbers stack' past high rest
-          → Spelling ss sol.nodes.now (bindings_of ss n sol) (bytes_of met (left_to_spell ss sol.nodes.now (bindings_of ss n sol) stack height rest)) old at new numbers stack' past high rest
+      pub turn-spelt : (met : List Variable) {from mid : Written} {to : Walk} {more : Bool} {mark : ℕ} (rest : List Piece) → more ≡ row_more (row_word stack top) → mark ≡ separator_of more → Put from.out from.at (mark ∷ []) mid.out mid.at
+          → Spelling ss sol.nodes.now (bindings_of ss n sol) (bytes_of met (spelt (resolve (bindings_of ss n sol) (term_at ss sol.nodes.now place copy)) (left_to_spell ss sol.nodes.now (bindings_of ss n sol) after height rest))) mid to rest
+          → Spelling ss sol.nodes.now (bindings_of ss n sol) (bytes_of met (left_to_spell ss sol.nodes.now (bindings_of ss n sol) stack height rest)) from to rest
       turn-spelt met {mark = mark} rest em es put sp =
           let is : left_to_spell ss sol.nodes.now (bindings_of ss n sol) stack height rest ≡ byte mark ∷ spelt (resolve (bindings_of ss n sol) (term_at ss sol.nodes.now place copy)) (left_to_spell ss sol.nodes.now (bindings_of ss n sol) after height rest) =
           left-top rest
@@ -460,59 +460,57 @@ counting-on {at = at} k l a d = record { met = k.met; numbers_are = k.numbers_ar
 -- ---- turns, one after another
 
 -- whatever the words mean, what was to be spelt is partly spelt, and the rest is on the stack
-abbrev pub Going : Solution → List ℕ → List ℕ → List ℕ → ℕ → ℕ → List ℕ → List ℕ → List ℕ → ℕ → ℕ → Type 0
-Going sol numbers₀ stack₀ out₀ at height numbers stack out past rows =
-    (ss : List Symbol) (n : ℕ) (met : List Variable) (rest : List Piece) → Setting ss n sol stack₀ height → Numbers numbers₀ met
-    → Spelling ss sol.nodes.now (bindings_of ss n sol) (bytes_of met (left_to_spell ss sol.nodes.now (bindings_of ss n sol) stack₀ height rest)) out₀ at out numbers stack past rows rest
+abbrev pub Going : Solution → Walk → Walk → Type 0
+Going sol from to =
+    (ss : List Symbol) (n : ℕ) (met : List Variable) (rest : List Piece) → Setting ss n sol from.stack from.height → Numbers from.text.numbers met
+    → Spelling ss sol.nodes.now (bindings_of ss n sol) (bytes_of met (left_to_spell ss sol.nodes.now (bindings_of ss n sol) from.stack from.height rest)) from.text to rest
 
 module _ {sol : Solution} where
-  pub going-none : {numbers stack out : List ℕ} {at height : ℕ} → Counting numbers at → Going sol numbers stack out at height numbers stack out at height
-  going-none {numbers} {stack} {out} {at} {height} k ss n met rest s h =
-      record { told = told-words met [] out out at at numbers (bytes_of met (left_to_spell ss sol.nodes.now (bindings_of ss n sol) stack height rest)) (left_to_spell ss sol.nodes.now (bindings_of ss n sol) stack height rest) h (few-met k h) (nothing out at) refl; rows = s.rows }
+  pub going-none : {from : Walk} → Counting from.text.numbers from.text.at → Going sol from from
+  going-none {from} k ss n met rest s h = record { told = told-words met [] h (few-met k h) (nothing from.text.out from.text.at) refl; rows = s.rows }
 
-  module _ {numbers₀ stack₀ out₀ : List ℕ} {at height : ℕ} {numbers stack out : List ℕ} {past rows : ℕ} (g : Going sol numbers₀ stack₀ out₀ at height numbers stack out past rows) where
-    pub going-then : {numbers₁ stack₁ out₁ : List ℕ} {past₁ rows₁ : ℕ} → Going sol numbers stack out past rows numbers₁ stack₁ out₁ past₁ rows₁
-        → Going sol numbers₀ stack₀ out₀ at height numbers₁ stack₁ out₁ past₁ rows₁
+  module _ {from to : Walk} (g : Going sol from to) where
+    pub going-then : {last : Walk} → Going sol to last → Going sol from last
     going-then f ss n met rest s h =
         let x = g ss n met rest s h in
         let y = f ss n x.told.met rest (record { store = s.store; names = s.names; rows = x.rows }) x.told.numbers_are in
         record { told = told-then x.told y.told; rows = y.rows }
 
-    pub some-on : SomeSetting sol stack₀ height → Counting numbers₀ at → SomeSetting sol stack rows
+    pub some-on : SomeSetting sol from.stack from.height → Counting from.text.numbers from.text.at → SomeSetting sol to.stack to.height
     some-on s k = record { ss = s.ss; n = s.n; is = record { store = s.is.store; names = s.is.names; rows = (g s.ss s.n k.met [] s.is k.numbers_are).rows } }
 
-    pub count-on : SomeSetting sol stack₀ height → Counting numbers₀ at → past + 100 < 2 ^ 64 → Counting numbers past
+    pub count-on : SomeSetting sol from.stack from.height → Counting from.text.numbers from.text.at → to.text.at + 100 < 2 ^ 64 → Counting to.text.numbers to.text.at
     count-on s k l =
         let told = (g s.ss s.n k.met [] s.is k.numbers_are).told in
         record { met = told.met; numbers_are = told.numbers_are; few = told.few; near = l }
 
-told_over : {whole old new numbers : List ℕ} {at next : ℕ} {ps : List Piece} (limit : ℕ) → SpeltSoFar whole old at new next numbers ps → limit < next → limit < at + length whole
-told_over {whole} {at = at} {next} {ps} limit t l =
-    let a : next ≡ at + length t.words = t.put.past in
+told_over : {whole : List ℕ} {from to : Written} {ps : List Piece} (limit : ℕ) → SpeltSoFar whole from to ps → limit < to.at → limit < from.at + length whole
+told_over {whole} {from} {to} {ps} limit t l =
+    let a : to.at ≡ from.at + length t.words = t.put.past in
     let b : length whole ≡ length (t.words ++ bytes_of t.met ps) = ap length t.is in
     let c : length (t.words ++ bytes_of t.met ps) ≡ length t.words + length (bytes_of t.met ps) = length-append t.words (bytes_of t.met ps) in
     omega arith
 
 -- all is told, or the limit is passed
-pub walked-told : {whole old new numbers : List ℕ} {at next : ℕ} {ps : List Piece} (limit : ℕ) → SpeltSoFar whole old at new next numbers ps → SpeltToLimit limit whole old at new next numbers ps
+pub walked-told : {whole : List ℕ} {from to : Written} {ps : List Piece} (limit : ℕ) → SpeltSoFar whole from to ps → SpeltToLimit limit whole from to ps
 walked-told limit t = record { done = λ l. t; over = told_over limit t }
 
-pub walked-over : {whole old new numbers : List ℕ} {at next : ℕ} {ps qs : List Piece} (limit : ℕ) → limit < next → SpeltSoFar whole old at new next numbers ps → SpeltToLimit limit whole old at new next numbers qs
+pub walked-over : {whole : List ℕ} {from to : Written} {ps qs : List Piece} (limit : ℕ) → limit < to.at → SpeltSoFar whole from to ps → SpeltToLimit limit whole from to qs
 walked-over limit l t = record { done = λ k. absurd (omega arith); over = told_over limit t }
 
 left-none : (ss : List Symbol) (nodes : List ℕ) (b : List Binding) (stack : List ℕ) (rows : ℕ) (rest : List Piece) → rows ≡ 0 → left_to_spell ss nodes b stack rows rest ≡ rest
 unfolding left_to_spell
 left-none ss nodes b stack rows rest e = ap (λ (h : ℕ). left_to_spell ss nodes b stack h rest) e
 
-abbrev pub Ended : Solution → List ℕ → List ℕ → List ℕ → ℕ → ℕ → ℕ → List ℕ → List ℕ → ℕ → Type 0
-Ended sol numbers₀ stack₀ out₀ at height limit numbers out past =
-    (ss : List Symbol) (n : ℕ) (met : List Variable) (rest : List Piece) → Setting ss n sol stack₀ height → Numbers numbers₀ met
-    → SpeltToLimit limit (bytes_of met (left_to_spell ss sol.nodes.now (bindings_of ss n sol) stack₀ height rest)) out₀ at out past numbers rest
+abbrev pub Ended : Solution → Walk → ℕ → Written → Type 0
+Ended sol from limit to =
+    (ss : List Symbol) (n : ℕ) (met : List Variable) (rest : List Piece) → Setting ss n sol from.stack from.height → Numbers from.text.numbers met
+    → SpeltToLimit limit (bytes_of met (left_to_spell ss sol.nodes.now (bindings_of ss n sol) from.stack from.height rest)) from.text to rest
 
-module _ {sol : Solution} {numbers₀ stack₀ out₀ : List ℕ} {at height limit : ℕ} {numbers stack out : List ℕ} {past rows : ℕ} (g : Going sol numbers₀ stack₀ out₀ at height numbers stack out past rows) where
-  pub going_done : rows ≡ 0 → Ended sol numbers₀ stack₀ out₀ at height limit numbers out past
+module _ {sol : Solution} {limit : ℕ} {from to : Walk} (g : Going sol from to) where
+  pub going_done : to.height ≡ 0 → Ended sol from limit to.text
   going_done e ss n met rest s h =
-      walked-told limit (told-rest (left-none ss sol.nodes.now (bindings_of ss n sol) stack rows rest e) (g ss n met rest s h).told)
+      walked-told limit (told-rest (left-none ss sol.nodes.now (bindings_of ss n sol) to.stack to.height rest e) (g ss n met rest s h).told)
 
-  pub going-over : limit < past → Ended sol numbers₀ stack₀ out₀ at height limit numbers out past
+  pub going-over : limit < to.text.at → Ended sol from limit to.text
   going-over l ss n met rest s h = walked-over limit l (g ss n met rest s h).told

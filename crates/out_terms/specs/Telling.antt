@@ -20,13 +20,23 @@ pub record VariableNumbered (met : List Variable) (x : ℕ) (numbers : List ℕ)
   pub few : length met_after ≤ length met + 1
   pub is : (ps : List Piece) → bytes_of met (unbound (variable_of x) ∷ ps) ≡ numbered r (bytes_of met_after ps)
 
+-- What is written: a text up to a position, and the table of the numbers that its variables have.
+pub record Written : Type 0 where
+  pub numbers : List ℕ
+  pub out : List ℕ
+  pub at : ℕ
+
+-- a table of numbers, and a text up to a position
+abbrev pub written : List ℕ → List ℕ → ℕ → Written
+written numbers out at = record { numbers = numbers; out = out; at = at }
+
 -- Bytes are appended, and with what the pieces that are left give they are the whole.
-pub record SpeltSoFar (whole old : List ℕ) (at : ℕ) (new : List ℕ) (next : ℕ) (numbers : List ℕ) (ps : List Piece) : Type 0 where
+pub record SpeltSoFar (whole : List ℕ) (before after : Written) (ps : List Piece) : Type 0 where
   pub words : List ℕ
-  pub put : Put old at words new next
+  pub put : Put before.out before.at words after.out after.at
   pub met : List Variable
-  pub numbers_are : Numbers numbers met
-  pub few : length met ≤ next
+  pub numbers_are : Numbers after.numbers met
+  pub few : length met ≤ after.at
   pub is : whole ≡ words ++ bytes_of met ps
 
 -- ---- the walk
@@ -95,16 +105,25 @@ pub record SomeSetting (sol : Solution) (stack : List ℕ) (height : ℕ) : Type
   pub n : ℕ
   pub is : Setting ss n sol stack height
 
+-- Where a walk is: what is written, and a stack of so many rows.
+pub record Walk : Type 0 where
+  pub text : Written
+  pub stack : List ℕ
+  pub height : ℕ
+
+-- the same, and a stack of so many rows
+abbrev pub walked : List ℕ → List ℕ → List ℕ → ℕ → ℕ → Walk
+walked numbers stack out at height = record { text = written numbers out at; stack = stack; height = height }
+
 -- Bytes are appended, and the rest is on the stack.
-pub record Spelling (ss : List Symbol) (nodes : List ℕ) (b : List Binding) (whole old : List ℕ) (at : ℕ) (new numbers stack : List ℕ) (next height : ℕ)
-    (rest : List Piece) : Type 0 where
-  pub told : SpeltSoFar whole old at new next numbers (left_to_spell ss nodes b stack height rest)
-  pub rows : Rows ss nodes b stack height
+pub record Spelling (ss : List Symbol) (nodes : List ℕ) (b : List Binding) (whole : List ℕ) (before : Written) (after : Walk) (rest : List Piece) : Type 0 where
+  pub told : SpeltSoFar whole before after.text (left_to_spell ss nodes b after.stack after.height rest)
+  pub rows : Rows ss nodes b after.stack after.height
 
 -- All is spelt, or the limit is passed, as it is by the whole.
-pub record SpeltToLimit (limit : ℕ) (whole old : List ℕ) (at : ℕ) (new : List ℕ) (next : ℕ) (numbers : List ℕ) (rest : List Piece) : Type 0 where
-  pub done : next ≤ limit → SpeltSoFar whole old at new next numbers rest
-  pub over : limit < next → limit < at + length whole
+pub record SpeltToLimit (limit : ℕ) (whole : List ℕ) (before after : Written) (rest : List Piece) : Type 0 where
+  pub done : after.at ≤ limit → SpeltSoFar whole before after rest
+  pub over : limit < after.at → limit < before.at + length whole
 
 -- an open bracket, or a comma
 abbrev pub separator_of : Bool → ℕ

@@ -8,7 +8,7 @@ ghost use Rattle.machine.specs.Answers.{Piece, unbound, bytes_of};
 ghost use Rattle.run_layout.specs.State.{variable_of};
 ghost use Rattle.out_terms.specs.Words.{name_at, NamePlaced, Numbers, row_word, end_word, new_row, moved_row};
 ghost use Rattle.out_terms.specs.Words.{row_place, row_more, span_word, row_last, row_copy};
-ghost use Rattle.out_terms.specs.Telling.{VariableNumbered, SpeltSoFar};
+ghost use Rattle.out_terms.specs.Telling.{VariableNumbered, SpeltSoFar, written};
 
 use crate::Solution;
 use crate::symbols::text_of;
@@ -60,7 +60,7 @@ pub fn number_of(numbers: &mut [usize], x: usize) -> usize
 pub fn append_unbound(numbers: &mut [usize], x: usize, out: &mut [u8], at: usize) -> usize
     requires { (x < cells) × ((length numbers.old ≡ cells + 1) × ((get_or numbers.old cells 0 ≤ at) × (at + word_bytes < 2 ^ 64))) }
     ensures told { (met : List Variable) → Numbers numbers.old met → (ps : List Piece)
-        → SpeltSoFar (bytes_of met (unbound (variable_of x) ∷ ps)) out.old at out.new result numbers.new ps }
+        → SpeltSoFar (bytes_of met (unbound (variable_of x) ∷ ps)) (written numbers.old out.old at) (written numbers.new out.new result) ps }
     ensures near { (at ≤ result) × (result ≤ at + word_bytes) }
 {
     let past = append_byte(b'_', out, at);

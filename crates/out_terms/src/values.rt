@@ -10,7 +10,7 @@ ghost use Rattle.machine.specs.Answers.{Piece, spelt, bytes_of, is_anonymous, al
 ghost use Rattle.run_layout.specs.Nodes.{Symbol};
 ghost use Rattle.out_terms.specs.Words.{Numbers, Named};
 ghost use Rattle.out_terms.specs.Telling.{Ample, Counting, SomeNumbers, Valued, SomeValued, Values, SomeValues, SpeltToLimit, Lined, value_in, gap};
-ghost use Rattle.out_terms.specs.Telling.{bindings_of, names_of};
+ghost use Rattle.out_terms.specs.Telling.{bindings_of, names_of, written};
 
 use crate::Solution;
 use crate::records::append_unbound;
@@ -86,7 +86,7 @@ impl<'a> Solution<'a> {
         ensures told { (ss : List Symbol) (n : ℕ) (met : List Variable) (rest : List Piece)
             → Valued ss n self.entry stack.old i
             → Numbers numbers.old met → SpeltToLimit limit (bytes_of met (spelt (value_in (bindings_of ss n self.entry) i) rest))
-            out.old at out.new result numbers.new rest }
+            (written numbers.old out.old at) (written numbers.new out.new result) rest }
         ensures near { (at ≤ result) × ((result ≤ limit + (word_bytes + 1)) ⊎ (result ≤ at + word_bytes)) }
     {
         let w = word_at(self.state, i);
@@ -115,7 +115,7 @@ impl<'a> Solution<'a> {
         ensures told { (ss : List Symbol) (n : ℕ) (met : List Variable) (xs : List (List ℕ))
             → Valued ss n self.entry stack.old i
             → Numbers numbers.old met → SpeltToLimit limit (bytes_of met (values_from (bindings_of ss n self.entry) i (gap from.more)
-            (spanned self.entry.goal.now w ∷ xs))) out.old from.at out.new result.at numbers.new
+            (spanned self.entry.goal.now w ∷ xs))) (written numbers.old out.old from.at) (written numbers.new out.new result.at)
             (values_from (bindings_of ss n self.entry) (suc i) (gap result.more) xs) }
         ensures near { (from.at ≤ result.at) × ((result.at ≤ limit + (word_bytes + 1)) ⊎ (result.at ≤ from.at + (2 * word_bytes + 5))) }
     {

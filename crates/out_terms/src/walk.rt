@@ -7,7 +7,7 @@ ghost use Rattle.machine.specs.Answers.{Piece, spelt, bytes_of};
 ghost use Rattle.run_layout.specs.Nodes.{Symbol, term_at};
 ghost use Rattle.out_terms.specs.Words.{Numbers, left_to_spell};
 ghost use Rattle.out_terms.specs.Telling.{Ample, Counting, Heading, SomeHeading, Setting, SomeSetting, Facing, SomeFacing, Spelling};
-ghost use Rattle.out_terms.specs.Telling.{SpeltToLimit, bindings_of, separator_of};
+ghost use Rattle.out_terms.specs.Telling.{SpeltToLimit, bindings_of, separator_of, written, walked};
 
 use crate::Solution;
 use crate::records::{append_unbound, move_row, put_row, row_at};
@@ -50,7 +50,7 @@ impl<'a> Solution<'a> {
             → Heading ss b self.entry stack.old t.node t.copy height
             → Numbers numbers.old met → Spelling ss self.entry.nodes.now b (bytes_of met (spelt (resolve b
             (term_at ss self.entry.nodes.now t.node t.copy)) (left_to_spell ss self.entry.nodes.now b stack.old height rest)))
-            out.old at out.new numbers.new stack.new result.at result.height rest }
+            (written numbers.old out.old at) (walked numbers.new stack.new out.new result.at result.height) rest }
         ensures near { (at ≤ result.at) × ((result.at ≤ at + word_bytes) × (result.height ≤ height + 1)) }
     {
         let p = t.node;
@@ -93,7 +93,7 @@ impl<'a> Solution<'a> {
             → Numbers numbers.old met → Spelling ss self.entry.nodes.now (bindings_of ss n self.entry)
             (bytes_of met (spelt (resolve (bindings_of ss n self.entry) (term_at ss self.entry.nodes.now t.node t.copy))
             (left_to_spell ss self.entry.nodes.now (bindings_of ss n self.entry) stack.old height rest)))
-            out.old at out.new numbers.new stack.new result.at result.height rest }
+            (written numbers.old out.old at) (walked numbers.new stack.new out.new result.at result.height) rest }
         ensures near { (at ≤ result.at) × ((result.at ≤ at + word_bytes) × (result.height ≤ height + 1)) }
     {
         let end = deref(self.nodes, self.state, t);
@@ -115,7 +115,7 @@ impl<'a> Solution<'a> {
             → Setting ss n self.entry stack.old height
             → Numbers numbers.old met → Spelling ss self.entry.nodes.now (bindings_of ss n self.entry)
             (bytes_of met (left_to_spell ss self.entry.nodes.now (bindings_of ss n self.entry) stack.old height rest))
-            out.old at out.new numbers.new stack.new result.at result.height rest }
+            (written numbers.old out.old at) (walked numbers.new stack.new out.new result.at result.height) rest }
         ensures near { (at < result.at) × ((result.at ≤ at + (word_bytes + 1)) × (result.height ≤ height + 1)) }
     {
         let top = height - 1;
@@ -155,7 +155,7 @@ impl<'a> Solution<'a> {
         ensures told { (ss : List Symbol) (n : ℕ) (met : List Variable) (rest : List Piece)
             → Setting ss n self.entry stack.old height
             → Numbers numbers.old met → SpeltToLimit limit (bytes_of met (left_to_spell ss self.entry.nodes.now
-            (bindings_of ss n self.entry) stack.old height rest)) out.old at out.new result numbers.new rest }
+            (bindings_of ss n self.entry) stack.old height rest)) (written numbers.old out.old at) (written numbers.new out.new result) rest }
         ensures near { (at ≤ result) × ((result ≤ limit + (word_bytes + 1)) ⊎ (result ≡ at)) }
     {
         let mut past = at;

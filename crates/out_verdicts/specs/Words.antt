@@ -1,4 +1,4 @@
--- The words of a verdict (document 01, "Two programs and what they print"), as a list of bytes.
+-- The words of a verdict (RULES, "Two programs and what they print"), as a list of bytes.
 use Rattle.std.specs.Prelude.{ℕ, List, [], ◌++◌, Ok, Err}
 use Rattle.buffers.specs.Buffers.{number}
 use Rattle.syntax.specs.Quote.{bytes}

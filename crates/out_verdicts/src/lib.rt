@@ -1,7 +1,7 @@
 // The words of a verdict, into a lent buffer. Each function appends as those of `buffers` do. Positions do not overflow: `refused sheet` has 13
-// bytes and a number with its space at most 21, so a verdict's words end at 118 at most. Document 01 is the paper "Rule sheets": it words a refusal as
-// five numbers, of which the first is its kind's, so kinds are numbers from `refusals::numbers` on. No `Display`: a verdict is std's `Result`, for which
-// only std may write one, and a slice is no writer of `fmt`.
+// bytes and a number with its space at most 21, so a verdict's words end at 118 at most. RULES words a refusal as five numbers, of which the first is its
+// kind's, so kinds are numbers from `refusals::numbers` on. No `Display`: a verdict is std's `Result`, for which only std may write one, and a slice is no
+// writer of `fmt`.
 
 #![tactic(auto)]
 

@@ -13,7 +13,7 @@ use Rattle.syntax.specs.Words.{node_words, literal_words, literal_length, body_w
 use Rattle.syntax.specs.declared.State.{State}
 use Rattle.syntax.specs.declared.Refusal.{Refusal}
 use Rattle.syntax.specs.declared.TokenKind.{TokenKind}
-use Rattle.parse_cursor.specs.Gives.{cursor_of, bytes_left, CursorInside, PastToken, RoomToRead, Gives, GivenWith, GivesWith, Refused, ItemCount}
+use Rattle.parse_cursor.specs.Gives.{cursor_of, bytes_left, CursorInside, PastToken, RoomToRead, Gives, GivenWith, Refused, ItemCount, literal_form, body_form}
 use Rattle.parse_cursor.specs.declared.Parsed.{Parsed}
 use Rattle.parse_cursor.proofs.Reading.{refused-wrong, next_of}
 use Rattle.parse_cursor.proofs.Starts.{after_more, after_last, after-neither}
@@ -50,28 +50,28 @@ module _ (most : ℕ) (s : List ℕ) (end : TokenKind) (k : ℕ) (st : Cursor) w
   body-some z = let d : k ≡ suc (k - 1) = omega (arith, z) in ap (λ (j : ℕ). read_to most s end j st) d
 
 pub body-none : (most : ℕ) (s : List ℕ) (end : TokenKind) (k : ℕ) (st : State) (entry : List ℕ) (n : ℕ) (r : Refusal) → k ≡ 0 → Refused st (wrong_number st.token.kind) r
-    → Gives body_words body_length s st entry entry n (Err r) (read_to most s end k (cursor_of s entry st))
+    → Gives body_form s st entry entry n (Err r) (read_to most s end k (cursor_of s entry st))
 unfolding read_to read_body_with
 body-none most s end k st entry n r z g =
-    subst⁻¹ (λ (j : ℕ). Gives body_words body_length s st entry entry n (Err r) (read_to most s end j (cursor_of s entry st))) z
-    (refused-wrong body_words body_length s st st entry entry n r (cursor_of s entry st) refl g refl)
+    subst⁻¹ (λ (j : ℕ). Gives body_form s st entry entry n (Err r) (read_to most s end j (cursor_of s entry st))) z
+    (refused-wrong body_form s st st entry entry n r (cursor_of s entry st) refl g refl)
 
 -- what was read of the first literal
 module _ (most : ℕ) (end : TokenKind) (k : ℕ) (s : List ℕ) (st : State) (entry : List ℕ) (n : ℕ) (mid : List ℕ) (z : k ≡ 0 → ⊥) where
   abbrev whole : Read Body
   whole = read_to most s end k (cursor_of s entry st)
 
-  pub body-fault : (q : Refusal) → GivesWith 0 literal_words literal_length s st entry mid n (Err q) (read_literal most s (cursor_of s entry st))
-      → Gives body_words body_length s st entry mid n (Err q) (read_to most s end k (cursor_of s entry st))
-  body-fault q g = subst⁻¹ (Gives body_words body_length s st entry mid n (Err q)) (body-some most s end k (cursor_of s entry st) z)
-      (seq-fault 0 1 literal_words literal_length body_words body_length s st st entry mid n n q (read_literal most s (cursor_of s entry st))
+  pub body-fault : (q : Refusal) → Gives literal_form s st entry mid n (Err q) (read_literal most s (cursor_of s entry st))
+      → Gives body_form s st entry mid n (Err q) (read_to most s end k (cursor_of s entry st))
+  body-fault q g = subst⁻¹ (Gives body_form s st entry mid n (Err q)) (body-some most s end k (cursor_of s entry st) z)
+      (seq-fault literal_form body_form s st st entry mid n n q (read_literal most s (cursor_of s entry st))
       (go_on most s end k (cursor_of s entry st)) (omega arith) g)
 
   module _ (r : Parsed) (ready : RoomToRead s st entry n 1)
-      (g : GivesWith 0 literal_words literal_length s st entry mid n (Ok r) (read_literal most s (cursor_of s entry st))) where
+      (g : Gives literal_form s st entry mid n (Ok r) (read_literal most s (cursor_of s entry st))) where
     read : (l : Literal) × (read_literal most s (cursor_of s entry st) ≡ ok l (cursor_of s mid r.state))
         × GivenWith 0 s st entry mid n r (literal_words l) (literal_length l) (cursor_of s mid r.state)
-    read = seq-ok 0 literal_words literal_length s st entry mid n r (read_literal most s (cursor_of s entry st)) g
+    read = seq-ok literal_form s st entry mid n r (read_literal most s (cursor_of s entry st)) g
 
     n-in : n ≤ length entry
     n-in = let room : n + node_words * bytes_left s st + 1 + variables ≤ length entry = ready.room in omega arith
@@ -113,7 +113,7 @@ module _ (most : ℕ) (end : TokenKind) (k : ℕ) (s : List ℕ) (st : State) (e
         omega arith
 
     pub body-few : (exit : List ℕ) (after : State) (q : Parsed) → PastToken s r.state after
-        → Gives body_words body_length s after mid exit r.used (Ok q) (read_to most s end (k - 1) (cursor_of s mid after)) → (q.items < 2 ^ 31)
+        → Gives body_form s after mid exit r.used (Ok q) (read_to most s end (k - 1) (cursor_of s mid after)) → (q.items < 2 ^ 31)
         × (r.items < 2 ^ 31)
     body-few exit after q m h = (
       few-items 0 literal_words literal_length body_words body_length also done words-also items-also words-done items-done s st entry mid n r read.0
@@ -129,42 +129,42 @@ module _ (most : ℕ) (end : TokenKind) (k : ℕ) (s : List ℕ) (st : State) (e
         ∙ ap (λ (x : Cursor). and_then (read_to most s end (k - 1) x) (λ b end. ok (also read.0 b) end)) (sym (next_of mid m))
 
     pub body-behind : (exit : List ℕ) (after : State) (q : Refusal) → r.state.token.kind ≡ comma_kind → PastToken s r.state after
-        → Gives body_words body_length s after mid exit r.used (Err q) (read_to most s end (k - 1) (cursor_of s mid after))
-        → Gives body_words body_length s st entry exit n (Err q) (read_to most s end k (cursor_of s entry st))
+        → Gives body_form s after mid exit r.used (Err q) (read_to most s end (k - 1) (cursor_of s mid after))
+        → Gives body_form s st entry exit n (Err q) (read_to most s end k (cursor_of s entry st))
     body-behind exit after q a m h =
-        subst⁻¹ (Gives body_words body_length s st entry exit n (Err q)) (with-more after a m)
+        subst⁻¹ (Gives body_form s st entry exit n (Err q)) (with-more after a m)
         (more-fault 0 literal_words literal_length body_words body_length also done words-also items-also words-done items-done s st entry mid n r read.0
         read.2 exit after q (read_to most s end (k - 1) (cursor_of s mid after)) h n-in)
 
     pub body_more : (exit : List ℕ) (after : State) (q p : Parsed) → r.state.token.kind ≡ comma_kind → PastToken s r.state after
-        → Gives body_words body_length s after mid exit r.used (Ok q) (read_to most s end (k - 1) (cursor_of s mid after)) → ItemCount q r.items p
-        → Gives body_words body_length s st entry exit n (Ok p) (read_to most s end k (cursor_of s entry st))
+        → Gives body_form s after mid exit r.used (Ok q) (read_to most s end (k - 1) (cursor_of s mid after)) → ItemCount q r.items p
+        → Gives body_form s st entry exit n (Ok p) (read_to most s end k (cursor_of s entry st))
     body_more exit after q p a m h ep =
-        subst⁻¹ (Gives body_words body_length s st entry exit n (Ok p)) (with-more after a m)
+        subst⁻¹ (Gives body_form s st entry exit n (Ok p)) (with-more after a m)
         (one-more 0 literal_words literal_length body_words body_length also done words-also items-also words-done items-done s st entry mid n r read.0
         read.2 exit after q p (read_to most s end (k - 1) (cursor_of s mid after)) (comma-no_end a) m h ep)
 
     pub body-last : (end ≡ end_kind → ⊥) → (after : State) → (r.state.token.kind ≡ comma_kind → ⊥) → r.state.token.kind ≡ end → PastToken s r.state after
-        → Gives body_words body_length s st entry mid n (Ok (record { used = r.used; items = r.items; state = after })) (read_to most s end k (cursor_of s entry st))
+        → Gives body_form s st entry mid n (Ok (record { used = r.used; items = r.items; state = after })) (read_to most s end k (cursor_of s entry st))
     unfolding body_after
     body-last ends after f a m =
-        subst⁻¹ (Gives body_words body_length s st entry mid n (Ok (record { used = r.used; items = r.items; state = after })))
+        subst⁻¹ (Gives body_form s st entry mid n (Ok (record { used = r.used; items = r.items; state = after })))
         (behind last (after_last end r.state.token.kind f a))
         (one_last 0 literal_words literal_length body_words body_length also done words-also items-also words-done items-done s st entry mid n r read.0
         read.2 after (λ q. ends (sym a ∙ q)) m)
 
     pub body-wrong : (q : Refusal) → (r.state.token.kind ≡ comma_kind → ⊥) → (r.state.token.kind ≡ end → ⊥)
-        → Refused r.state (wrong_number r.state.token.kind) q → Gives body_words body_length s st entry mid n (Err q) (read_to most s end k (cursor_of s entry st))
+        → Refused r.state (wrong_number r.state.token.kind) q → Gives body_form s st entry mid n (Err q) (read_to most s end k (cursor_of s entry st))
     unfolding body_after
     body-wrong q f a h =
-        subst⁻¹ (Gives body_words body_length s st entry mid n (Err q)) (behind neither (after-neither end r.state.token.kind f a))
-        (refused-wrong body_words body_length s st r.state entry mid n q (cursor_of s mid r.state) refl h
+        subst⁻¹ (Gives body_form s st entry mid n (Err q)) (behind neither (after-neither end r.state.token.kind f a))
+        (refused-wrong body_form s st r.state entry mid n q (cursor_of s mid r.state) refl h
         (one_kept 0 literal_words literal_length body_words body_length also done words-also items-also words-done items-done s st entry mid n r read.0
         read.2 n-in))
 
 -- the whole body of a clause or goal
 pub whole-given : (s : List ℕ) (st : State) (entry exit : List ℕ) (n : ℕ) (r : Result Parsed Refusal)
-    → Gives body_words body_length s st entry exit n r (read_to brackets s stop_kind (suc literals) (cursor_of s entry st))
-    → Gives body_words body_length s st entry exit n r (read_body s (cursor_of s entry st))
+    → Gives body_form s st entry exit n r (read_to brackets s stop_kind (suc literals) (cursor_of s entry st))
+    → Gives body_form s st entry exit n r (read_body s (cursor_of s entry st))
 unfolding read_body
 whole-given s st entry exit n r g = g

@@ -17,7 +17,7 @@ use Rattle.syntax.specs.Words.{node_words, atom_words, body_words, body_length, 
 use Rattle.syntax.specs.declared.State.{State}
 use Rattle.syntax.specs.declared.Refusal.{Refusal}
 use Rattle.syntax.specs.declared.TokenKind.{TokenKind}
-use Rattle.parse_cursor.specs.Gives.{cursor_of, state_onward, fresh, bytes_left, CursorInside, PastToken, RoomToRead, Faulted, Given, Gives, Refused, one}
+use Rattle.parse_cursor.specs.Gives.{cursor_of, state_onward, fresh, bytes_left, CursorInside, PastToken, RoomToRead, Faulted, Given, Gives, Refused, atom_form, body_form, clause_form}
 use Rattle.parse_cursor.specs.declared.Parsed.{Parsed}
 use Rattle.parse_cursor.proofs.Reading.{refused-wrong, moved-onward, next_of, held_of, cursor-kept, held_kept}
 use Rattle.parse_cursor.proofs.Sequence.{seq-fault, seq-ok, shorter, kept-before, joined, header}
@@ -43,18 +43,18 @@ neck-no_end e f = cc
 -- ---- the body of a clause
 
 module _ (s : List ℕ) (st past : State) (entry mid : List ℕ) (n used : ℕ) (ready : RoomToRead s st entry used 1) (low : n + clause_start ≤ used) (m : PastToken s st past) (long : length mid ≡ length entry) where
-  given-next : (r : Result Parsed Refusal) → Gives body_words body_length s past entry mid used r (read_body s (cursor_of s entry past)) → Gives body_words body_length s (state_onward s st) entry mid used r (read_body s (cursor_of s entry (state_onward s st)))
-  given-next r g = subst (λ (x : State). Gives body_words body_length s x entry mid used r (read_body s (cursor_of s entry x))) m.is g
+  given-next : (r : Result Parsed Refusal) → Gives body_form s past entry mid used r (read_body s (cursor_of s entry past)) → Gives body_form s (state_onward s st) entry mid used r (read_body s (cursor_of s entry (state_onward s st)))
+  given-next r g = subst (λ (x : State). Gives body_form s x entry mid used r (read_body s (cursor_of s entry x))) m.is g
 
-  pub ruled-fault : (q : Refusal) → Gives body_words body_length s past entry mid used (Err q) (read_body s (cursor_of s entry past)) → Ruled s st entry mid n used (Err q)
+  pub ruled-fault : (q : Refusal) → Gives body_form s past entry mid used (Err q) (read_body s (cursor_of s entry past)) → Ruled s st entry mid n used (Err q)
   ruled-fault q g = record { mid = mid; body = Err q; long = long; given = given-next (Err q) g; by = (refl, refl) }
 
-  pub ruled-stored : (r : Parsed) → Gives body_words body_length s past entry mid used (Ok r) (read_body s (cursor_of s entry past)) → (exit : List ℕ) → exit ≡ set (set (set mid n (r.used - n)) (n + 1) r.state.count) (n + 2) r.items → Ruled s st entry exit n used (Ok (record { used = r.used; items = 1; state = r.state }))
+  pub ruled-stored : (r : Parsed) → Gives body_form s past entry mid used (Ok r) (read_body s (cursor_of s entry past)) → (exit : List ℕ) → exit ≡ set (set (set mid n (r.used - n)) (n + 1) r.state.count) (n + 2) r.items → Ruled s st entry exit n used (Ok (record { used = r.used; items = 1; state = r.state }))
   ruled-stored r g exit e = record { mid = mid; body = Ok r; long = long; given = given-next (Ok r) g; by = (refl, e) }
 
-  pub ruled-asked : (r : Parsed) → Gives body_words body_length s past entry mid used (Ok r) (read_body s (cursor_of s entry past)) → (n ≤ r.used) × ((n + clause_start ≤ length mid) × ((r.used - n < 2 ^ 32) × ((r.state.count < 2 ^ 32) × (r.items < 2 ^ 32))))
+  pub ruled-asked : (r : Parsed) → Gives body_form s past entry mid used (Ok r) (read_body s (cursor_of s entry past)) → (n ≤ r.used) × ((n + clause_start ≤ length mid) × ((r.used - n < 2 ^ 32) × ((r.state.count < 2 ^ 32) × (r.items < 2 ^ 32))))
   ruled-asked r g =
-      let o : (b : Body) × (read_body s (cursor_of s entry past) ≡ ok b (cursor_of s mid r.state)) × Given s past entry mid used r (body_words b) (body_length b) (cursor_of s mid r.state) = seq-ok 1 body_words body_length s past entry mid used r (read_body s (cursor_of s entry past)) g in
+      let o : (b : Body) × (read_body s (cursor_of s entry past) ≡ ok b (cursor_of s mid r.state)) × Given s past entry mid used r (body_words b) (body_length b) (cursor_of s mid r.state) = seq-ok body_form s past entry mid used r (read_body s (cursor_of s entry past)) g in
       let u : r.used ≡ used + length (body_words o.0) = o.2.used_is in
       let i : r.items ≡ body_length o.0 = o.2.items_is in
       let b : body_length o.0 ≤ length (body_words o.0) = body-words o.0 in
@@ -75,16 +75,16 @@ module _ (s : List ℕ) (st start : State) (entry : List ℕ) (n : ℕ) (ready :
         subst⁻¹ (λ (x : State). x.token.kind ≡ name_kind) eb name,
       )
 
-  given-fresh : (mid : List ℕ) (r : Result Parsed Refusal) → Gives atom_words one s start entry mid (n + clause_start) r (read_atom brackets s (cursor_of s entry start)) → Gives atom_words one s (fresh st) entry mid (n + clause_start) r (read_atom brackets s (cursor_of s entry (fresh st)))
-  given-fresh mid r g = subst (λ (x : State). Gives atom_words one s x entry mid (n + clause_start) r (read_atom brackets s (cursor_of s entry x))) eb g
+  given-fresh : (mid : List ℕ) (r : Result Parsed Refusal) → Gives atom_form s start entry mid (n + clause_start) r (read_atom brackets s (cursor_of s entry start)) → Gives atom_form s (fresh st) entry mid (n + clause_start) r (read_atom brackets s (cursor_of s entry (fresh st)))
+  given-fresh mid r g = subst (λ (x : State). Gives atom_form s x entry mid (n + clause_start) r (read_atom brackets s (cursor_of s entry x))) eb g
 
-  pub clause-fault : (mid : List ℕ) (q : Refusal) → Gives atom_words one s start entry mid (n + clause_start) (Err q) (read_atom brackets s (cursor_of s entry start)) → Gives clause_words one s st entry mid n (Err q) (read_clause s (begin st.token))
+  pub clause-fault : (mid : List ℕ) (q : Refusal) → Gives atom_form s start entry mid (n + clause_start) (Err q) (read_atom brackets s (cursor_of s entry start)) → Gives clause_form s st entry mid n (Err q) (read_clause s (begin st.token))
   unfolding read_clause read_atom names_from
-  clause-fault mid q g = seq-fault 1 1 atom_words one clause_words one s st (fresh st) entry mid n (n + clause_start) q (read_atom brackets s (cursor_of s entry (fresh st))) (λ h after. clause_after s h after (tail_of after.token.kind)) (omega arith) (given-fresh mid (Err q) g)
+  clause-fault mid q g = seq-fault atom_form clause_form s st (fresh st) entry mid n (n + clause_start) q (read_atom brackets s (cursor_of s entry (fresh st))) (λ h after. clause_after s h after (tail_of after.token.kind)) (omega arith) (given-fresh mid (Err q) g)
 
-  module _ (mid : List ℕ) (r : Parsed) (l : length mid ≡ length entry) (g : Gives atom_words one s start entry mid (n + clause_start) (Ok r) (read_atom brackets s (cursor_of s entry start))) where
+  module _ (mid : List ℕ) (r : Parsed) (l : length mid ≡ length entry) (g : Gives atom_form s start entry mid (n + clause_start) (Ok r) (read_atom brackets s (cursor_of s entry start))) where
     read : (a : Atom) × (read_atom brackets s (cursor_of s entry (fresh st)) ≡ ok a (cursor_of s mid r.state)) × Given s (fresh st) entry mid (n + clause_start) r (atom_words a) 1 (cursor_of s mid r.state)
-    read = seq-ok 1 atom_words one s (fresh st) entry mid (n + clause_start) r (read_atom brackets s (cursor_of s entry (fresh st))) (given-fresh mid (Ok r) g)
+    read = seq-ok atom_form s (fresh st) entry mid (n + clause_start) r (read_atom brackets s (cursor_of s entry (fresh st))) (given-fresh mid (Ok r) g)
 
     behind : (x : Tail) → tail_of r.state.token.kind ≡ x → read_clause s (begin st.token) ≡ clause_after s read.0 (cursor_of s mid r.state) x
     unfolding read_clause read_atom and_then names_from
@@ -108,7 +108,7 @@ module _ (s : List ℕ) (st start : State) (entry : List ℕ) (n : ℕ) (ready :
     kept : take n mid ≡ take n entry
     kept = let room : n + node_words * bytes_left s st + 4 + variables ≤ length entry = ready.room in kept-before n (n + clause_start) (length (atom_words read.0)) entry mid (atom_words read.0) (omega arith) (omega arith) read.2.table_is
 
-    pub clause-fact : (past : State) (exit : List ℕ) → r.state.token.kind ≡ stop_kind → PastToken s r.state past → exit ≡ set (set (set mid n (r.used - n)) (n + 1) r.state.count) (n + 2) 0 → Gives clause_words one s st entry exit n (Ok (record { used = r.used; items = 1; state = past })) (read_clause s (begin st.token))
+    pub clause-fact : (past : State) (exit : List ℕ) → r.state.token.kind ≡ stop_kind → PastToken s r.state past → exit ≡ set (set (set mid n (r.used - n)) (n + 1) r.state.count) (n + 2) 0 → Gives clause_form s st entry exit n (Ok (record { used = r.used; items = 1; state = past })) (read_clause s (begin st.token))
     unfolding clause_after clause_words body_words body_length
     clause-fact past exit e m ex =
         let aw : List ℕ = atom_words read.0 in
@@ -130,13 +130,13 @@ module _ (s : List ℕ) (st start : State) (entry : List ℕ) (n : ℕ) (ready :
           held = held_kept same (held_of m read.2.held);
           room = omega arith;
         } in
-        subst⁻¹ (Gives clause_words one s st entry exit n (Ok (record { used = r.used; items = 1; state = past }))) (behind fact (tail-fact r.state.token.kind e))
+        subst⁻¹ (Gives clause_form s st entry exit n (Ok (record { used = r.used; items = 1; state = past }))) (behind fact (tail-fact r.state.token.kind e))
         (subst⁻¹ (λ (v : ℕ). Given s st entry exit n (record { used = r.used; items = 1; state = past }) ((clause_start + length (atom_words read.0 ++ [])) ∷ v ∷ 0 ∷ (atom_words read.0 ++ [])) 1 (next s (cursor_of s mid r.state))) count
         (subst⁻¹ (λ (w : List ℕ). Given s st entry exit n (record { used = r.used; items = 1; state = past }) ((clause_start + length w) ∷ r.state.count ∷ 0 ∷ w) 1 (next s (cursor_of s mid r.state))) (append-nil (atom_words read.0)) result))
 
-    pub clause-wrong : (q : Refusal) → (r.state.token.kind ≡ stop_kind → ⊥) → (r.state.token.kind ≡ neck_kind → ⊥) → Refused r.state (wrong_number r.state.token.kind) q → Gives clause_words one s st entry mid n (Err q) (read_clause s (begin st.token))
+    pub clause-wrong : (q : Refusal) → (r.state.token.kind ≡ stop_kind → ⊥) → (r.state.token.kind ≡ neck_kind → ⊥) → Refused r.state (wrong_number r.state.token.kind) q → Gives clause_form s st entry mid n (Err q) (read_clause s (begin st.token))
     unfolding clause_after
-    clause-wrong q f e h = subst⁻¹ (Gives clause_words one s st entry mid n (Err q)) (behind other (tail-other r.state.token.kind f e)) (refused-wrong clause_words one s st r.state entry mid n q (cursor_of s mid r.state) refl h kept)
+    clause-wrong q f e h = subst⁻¹ (Gives clause_form s st entry mid n (Err q)) (behind other (tail-other r.state.token.kind f e)) (refused-wrong clause_form s st r.state entry mid n q (cursor_of s mid r.state) refl h kept)
 
     pub rule-asked : r.state.token.kind ≡ neck_kind → RoomToRead s r.state mid r.used 1 × (n + clause_start ≤ r.used)
     rule-asked e =
@@ -182,17 +182,17 @@ module _ (s : List ℕ) (st start : State) (entry : List ℕ) (n : ℕ) (ready :
             room = omega arith;
           }
 
-      rule-by : (exit mid2 : List ℕ) (d : Read Body) (p q : Result Parsed Refusal) → length mid2 ≡ length mid → Gives body_words body_length s (state_onward s r.state) mid mid2 r.used p d → RuledBy mid2 exit n p q → Gives clause_words one s st entry exit n q (and_then d (λ b after. ok (clause_of read.0 b after) after))
+      rule-by : (exit mid2 : List ℕ) (d : Read Body) (p q : Result Parsed Refusal) → length mid2 ≡ length mid → Gives body_form s (state_onward s r.state) mid mid2 r.used p d → RuledBy mid2 exit n p q → Gives clause_form s st entry exit n q (and_then d (λ b after. ok (clause_of read.0 b after) after))
       unfolding and_then
       rule-by exit mid2 (fault k b) (Ok p) q long h o = absurd h
       rule-by exit mid2 (ok b end) (Err p) q long h o = absurd h
       rule-by exit mid2 (fault k b) (Err p) q long h o =
-          subst⁻¹ (λ (x : Result Parsed Refusal). Gives clause_words one s st entry exit n x (fault k b)) o.0 (subst⁻¹ (λ (x : List ℕ). Faulted entry x n p k b) o.1 (rule-fault mid2 p k b h))
+          subst⁻¹ (λ (x : Result Parsed Refusal). Gives clause_form s st entry exit n x (fault k b)) o.0 (subst⁻¹ (λ (x : List ℕ). Faulted entry x n p k b) o.1 (rule-fault mid2 p k b h))
       rule-by exit mid2 (ok b end) (Ok p) q long h o =
-          subst⁻¹ (λ (x : Result Parsed Refusal). Gives clause_words one s st entry exit n x (ok (clause_of read.0 b end) end)) o.0 (rule-words mid2 exit p b end long h o.1)
+          subst⁻¹ (λ (x : Result Parsed Refusal). Gives clause_form s st entry exit n x (ok (clause_of read.0 b end) end)) o.0 (rule-words mid2 exit p b end long h o.1)
 
-      pub clause-rule : (exit : List ℕ) (q : Result Parsed Refusal) → Ruled s r.state mid exit n r.used q → Gives clause_words one s st entry exit n q (read_clause s (begin st.token))
+      pub clause-rule : (exit : List ℕ) (q : Result Parsed Refusal) → Ruled s r.state mid exit n r.used q → Gives clause_form s st entry exit n q (read_clause s (begin st.token))
       unfolding clause_after
       clause-rule exit q h =
-          let given : Gives body_words body_length s (state_onward s r.state) mid h.mid r.used h.body (read_body s (next s (cursor_of s mid r.state))) = subst (λ (x : Cursor). Gives body_words body_length s (state_onward s r.state) mid h.mid r.used h.body (read_body s x)) (next_of mid (moved-onward s r.state read.2.standing)) h.given in
-          subst⁻¹ (Gives clause_words one s st entry exit n q) (behind rule (tail-rule r.state.token.kind e)) (rule-by exit h.mid (read_body s (next s (cursor_of s mid r.state))) h.body q h.long given h.by)
+          let given : Gives body_form s (state_onward s r.state) mid h.mid r.used h.body (read_body s (next s (cursor_of s mid r.state))) = subst (λ (x : Cursor). Gives body_form s (state_onward s r.state) mid h.mid r.used h.body (read_body s x)) (next_of mid (moved-onward s r.state read.2.standing)) h.given in
+          subst⁻¹ (Gives clause_form s st entry exit n q) (behind rule (tail-rule r.state.token.kind e)) (rule-by exit h.mid (read_body s (next s (cursor_of s mid r.state))) h.body q h.long given h.by)

@@ -19,9 +19,9 @@ use Rattle.syntax.specs.Words.{node_words, left_kind, right_kind, behind_kind, i
 use Rattle.syntax.specs.declared.State.{State}
 use Rattle.syntax.specs.declared.Refusal.{Refusal}
 use Rattle.syntax.specs.declared.TokenKind.{TokenKind}
-use Rattle.parse_cursor.specs.Gives.{cursor_of, bytes_left, PastToken, RoomToRead, Given, Gives, GivenWith, GivesWith, Refused}
+use Rattle.parse_cursor.specs.Gives.{cursor_of, bytes_left, PastToken, RoomToRead, Given, Gives, GivenWith, Refused, literal_form, body_form, side_form}
 use Rattle.parse_cursor.specs.declared.Parsed.{Parsed}
-use Rattle.parse_cursor.proofs.Reading.{refused-beyond-with, next_of, held_of, cursor-kept, held_kept}
+use Rattle.parse_cursor.proofs.Reading.{refused-beyond, next_of, held_of, cursor-kept, held_kept}
 use Rattle.parse_cursor.proofs.TermLaws.{open-no_end}
 use Rattle.parse_cursor.proofs.Sequence.{seq-fault, seq-ok, shorter, kept-before, joined}
 use Rattle.parse_clauses.specs.Brackets.{read_side, bracket_at}
@@ -44,24 +44,24 @@ unfolding read_literal read_to
 bracket-is most s c e = ap (λ (b : Bool). elim b as (λ _. Read Literal) [ true ↦ bracket_at most s c | false ↦ read_plain (suc most) s c ]) e
 
 module _ (most : ℕ) (s : List ℕ) (st : State) (entry exit : List ℕ) (n : ℕ) where
-  pub literal-plain : (r : Result Parsed Refusal) → (st.token.kind ≡ open_kind → ⊥) → GivesWith 0 literal_words literal_length s st entry exit n r (read_plain most s (cursor_of s entry st))
-      → GivesWith 0 literal_words literal_length s st entry exit n r (read_literal most s (cursor_of s entry st))
-  literal-plain r e g = subst⁻¹ (GivesWith 0 literal_words literal_length s st entry exit n r)
+  pub literal-plain : (r : Result Parsed Refusal) → (st.token.kind ≡ open_kind → ⊥) → Gives literal_form s st entry exit n r (read_plain most s (cursor_of s entry st))
+      → Gives literal_form s st entry exit n r (read_literal most s (cursor_of s entry st))
+  literal-plain r e g = subst⁻¹ (Gives literal_form s st entry exit n r)
       (plain-is most s (cursor_of s entry st) (ne_kind st.token.kind open_kind e)) g
 
   pub literal-deep : (r : Refusal) → st.token.kind ≡ open_kind → most ≡ 0 → Refused st 6 r
-      → GivesWith 0 literal_words literal_length s st entry entry n (Err r) (read_literal most s (cursor_of s entry st))
+      → Gives literal_form s st entry entry n (Err r) (read_literal most s (cursor_of s entry st))
   literal-deep r e z f =
-      subst⁻¹ (GivesWith 0 literal_words literal_length s st entry entry n (Err r))
+      subst⁻¹ (Gives literal_form s st entry entry n (Err r))
       (ap (λ (m : ℕ). read_literal m s (cursor_of s entry st)) z ∙ deep_is s (cursor_of s entry st) (eq-kind st.token.kind open_kind e))
-      (refused-beyond-with 0 literal_words literal_length s st st entry entry n r (cursor_of s entry st) refl f refl)
+      (refused-beyond literal_form s st st entry entry n r (cursor_of s entry st) refl f refl)
 
   pub literal-sides : (r : Result Parsed Refusal) → st.token.kind ≡ open_kind → (most ≡ 0 → ⊥)
-      → GivesWith 0 literal_words literal_length s st entry exit n r (bracket_at (most - 1) s (cursor_of s entry st))
-      → GivesWith 0 literal_words literal_length s st entry exit n r (read_literal most s (cursor_of s entry st))
+      → Gives literal_form s st entry exit n r (bracket_at (most - 1) s (cursor_of s entry st))
+      → Gives literal_form s st entry exit n r (read_literal most s (cursor_of s entry st))
   literal-sides r e z g =
       let d : most ≡ suc (most - 1) = omega (arith, z) in
-      subst⁻¹ (GivesWith 0 literal_words literal_length s st entry exit n r)
+      subst⁻¹ (Gives literal_form s st entry exit n r)
       (ap (λ (m : ℕ). read_literal m s (cursor_of s entry st)) d ∙ bracket-is (most - 1) s (cursor_of s entry st) (eq-kind st.token.kind open_kind e)) g
 
 -- none of the tokens that end a side or a body is the end of the text
@@ -84,20 +84,20 @@ module _ (most : ℕ) (end : TokenKind) (kind : ℕ) {s : List ℕ} {st : State}
       record { standing = ready.standing; held = ready.held; room = omega arith; small = ready.small }
 
   module _ (mid : List ℕ) where
-    side-by : (q : Refusal) (d : Read Body) → Gives body_words body_length s st entry mid (n + 1) (Err q) d
-        → GivesWith 0 (side_words kind) side_length s st entry mid n (Err q) d
+    side-by : (q : Refusal) (d : Read Body) → Gives body_form s st entry mid (n + 1) (Err q) d
+        → Gives (side_form kind) s st entry mid n (Err q) d
     side-by q (fault k b) h = record { is = h.is; kept = shorter n (n + 1) entry mid (omega arith) h.kept }
     side-by q (ok b after) h = absurd h
 
-    pub side-fault : (q : Refusal) → Gives body_words body_length s st entry mid (n + 1) (Err q) (read_side most s end (cursor_of s entry st))
-        → GivesWith 0 (side_words kind) side_length s st entry mid n (Err q) (read_side most s end (cursor_of s entry st))
+    pub side-fault : (q : Refusal) → Gives body_form s st entry mid (n + 1) (Err q) (read_side most s end (cursor_of s entry st))
+        → Gives (side_form kind) s st entry mid n (Err q) (read_side most s end (cursor_of s entry st))
     side-fault q g = side-by q (read_side most s end (cursor_of s entry st)) g
 
     module _ (r : Parsed) (l : length mid ≡ length entry)
-        (g : Gives body_words body_length s st entry mid (n + 1) (Ok r) (read_side most s end (cursor_of s entry st))) where
+        (g : Gives body_form s st entry mid (n + 1) (Ok r) (read_side most s end (cursor_of s entry st))) where
       side-read : (b : Body) × (read_side most s end (cursor_of s entry st) ≡ ok b (cursor_of s mid r.state))
           × Given s st entry mid (n + 1) r (body_words b) (body_length b) (cursor_of s mid r.state)
-      side-read = seq-ok 1 body_words body_length s st entry mid (n + 1) r (read_side most s end (cursor_of s entry st)) g
+      side-read = seq-ok body_form s st entry mid (n + 1) r (read_side most s end (cursor_of s entry st)) g
 
       -- what `open_side` asks
       pub side-asked : (n < length mid) × ((kind < item_kinds) × (r.items < 2 ^ 28))
@@ -132,9 +132,9 @@ module _ (most : ℕ) (end : TokenKind) (kind : ℕ) {s : List ℕ} {st : State}
 
       pub side-given : (exit : List ℕ) (q : Parsed) → q ≡ record { used = r.used; items = r.items + 1; state = r.state }
           → exit ≡ set mid n (marker kind r.items)
-          → GivesWith 0 (side_words kind) side_length s st entry exit n (Ok q) (read_side most s end (cursor_of s entry st))
+          → Gives (side_form kind) s st entry exit n (Ok q) (read_side most s end (cursor_of s entry st))
       side-given exit q eq ex =
-          subst⁻¹ (GivesWith 0 (side_words kind) side_length s st entry exit n (Ok q)) side-read.1
+          subst⁻¹ (Gives (side_form kind) s st entry exit n (Ok q)) side-read.1
           (subst⁻¹ (λ (x : Parsed). GivenWith 0 s st entry exit n x (side_words kind side-read.0) (side_length side-read.0) (cursor_of s mid r.state)) eq
           (side-words exit ex))
 
@@ -165,18 +165,18 @@ module _ (most : ℕ) {s : List ℕ} {st past : State} {entry : List ℕ} {n : �
 
   module _ (mid : List ℕ) where
     pub left-fault : (y : Refusal)
-        → GivesWith 0 (side_words left_kind) side_length s past entry mid n (Err y) (read_side most s semicolon_kind (cursor_of s entry past))
-        → GivesWith 0 literal_words literal_length s st entry mid n (Err y) (bracket_at most s (cursor_of s entry st))
+        → Gives (side_form left_kind) s past entry mid n (Err y) (read_side most s semicolon_kind (cursor_of s entry past))
+        → Gives literal_form s st entry mid n (Err y) (bracket_at most s (cursor_of s entry st))
     left-fault y g =
-        subst⁻¹ (GivesWith 0 literal_words literal_length s st entry mid n (Err y)) bracket-from
-        (seq-fault 0 0 (side_words left_kind) side_length literal_words literal_length s st past entry mid n n y
+        subst⁻¹ (Gives literal_form s st entry mid n (Err y)) bracket-from
+        (seq-fault (side_form left_kind) literal_form s st past entry mid n n y
         (read_side most s semicolon_kind (cursor_of s entry past)) right-of (omega arith) g)
 
     module _ (y : Parsed) (l : length mid ≡ length entry)
-        (g : GivesWith 0 (side_words left_kind) side_length s past entry mid n (Ok y) (read_side most s semicolon_kind (cursor_of s entry past))) where
+        (g : Gives (side_form left_kind) s past entry mid n (Ok y) (read_side most s semicolon_kind (cursor_of s entry past))) where
       left-read : (b : Body) × (read_side most s semicolon_kind (cursor_of s entry past) ≡ ok b (cursor_of s mid y.state))
           × GivenWith 0 s past entry mid n y (side_words left_kind b) (side_length b) (cursor_of s mid y.state)
-      left-read = seq-ok 0 (side_words left_kind) side_length s past entry mid n y (read_side most s semicolon_kind (cursor_of s entry past)) g
+      left-read = seq-ok (side_form left_kind) s past entry mid n y (read_side most s semicolon_kind (cursor_of s entry past)) g
 
       abbrev left-side : Body
       left-side = left-read.0
@@ -209,8 +209,8 @@ module _ (most : ℕ) {s : List ℕ} {st past : State} {entry : List ℕ} {n : �
           left-read.2.table_is
 
       module _ (after : List ℕ) where
-        right_by : (q : Refusal) (d : Read Body) → GivesWith 0 (side_words right_kind) side_length s y.state mid after y.used (Err q) d
-            → GivesWith 0 literal_words literal_length s st entry after n (Err q) (and_then d (λ z end. ok (either left-side z) end))
+        right_by : (q : Refusal) (d : Read Body) → Gives (side_form right_kind) s y.state mid after y.used (Err q) d
+            → Gives literal_form s st entry after n (Err q) (and_then d (λ z end. ok (either left-side z) end))
         unfolding and_then
         right_by q (fault k b) f =
             let used : y.used ≡ n + (1 + length (body_words left-side)) = left-used in
@@ -218,16 +218,16 @@ module _ (most : ℕ) {s : List ℕ} {st past : State} {entry : List ℕ} {n : �
         right_by q (ok b end) f = absurd f
 
         pub right-fault : (q : Refusal)
-            → GivesWith 0 (side_words right_kind) side_length s y.state mid after y.used (Err q) (read_side most s close_kind (cursor_of s mid y.state))
-            → GivesWith 0 literal_words literal_length s st entry after n (Err q) (bracket_at most s (cursor_of s entry st))
-        right-fault q h = subst⁻¹ (GivesWith 0 literal_words literal_length s st entry after n (Err q)) bracket-behind
+            → Gives (side_form right_kind) s y.state mid after y.used (Err q) (read_side most s close_kind (cursor_of s mid y.state))
+            → Gives literal_form s st entry after n (Err q) (bracket_at most s (cursor_of s entry st))
+        right-fault q h = subst⁻¹ (Gives literal_form s st entry after n (Err q)) bracket-behind
             (right_by q (read_side most s close_kind (cursor_of s mid y.state)) h)
 
         module _ (q : Parsed) (l2 : length after ≡ length mid)
-            (h : GivesWith 0 (side_words right_kind) side_length s y.state mid after y.used (Ok q) (read_side most s close_kind (cursor_of s mid y.state))) where
+            (h : Gives (side_form right_kind) s y.state mid after y.used (Ok q) (read_side most s close_kind (cursor_of s mid y.state))) where
           right-read : (b : Body) × (read_side most s close_kind (cursor_of s mid y.state) ≡ ok b (cursor_of s after q.state))
               × GivenWith 0 s y.state mid after y.used q (side_words right_kind b) (side_length b) (cursor_of s after q.state)
-          right-read = seq-ok 0 (side_words right_kind) side_length s y.state mid after y.used q (read_side most s close_kind (cursor_of s mid y.state)) h
+          right-read = seq-ok (side_form right_kind) s y.state mid after y.used q (read_side most s close_kind (cursor_of s mid y.state)) h
 
           abbrev right_side : Body
           right_side = right-read.0
@@ -322,10 +322,10 @@ module _ (most : ℕ) {s : List ℕ} {st past : State} {entry : List ℕ} {n : �
                 }
 
             pub bracket-given : (p : Parsed) → p ≡ record { used = q.used + 1; items = y.items + q.items + 1; state = q.state }
-                → GivesWith 0 literal_words literal_length s st entry exit n (Ok p) (bracket_at most s (cursor_of s entry st))
+                → Gives literal_form s st entry exit n (Ok p) (bracket_at most s (cursor_of s entry st))
             unfolding and_then
             bracket-given p ep =
-                subst⁻¹ (GivesWith 0 literal_words literal_length s st entry exit n (Ok p))
+                subst⁻¹ (Gives literal_form s st entry exit n (Ok p))
                 (bracket-behind ∙ ap (λ (d : Read Body). and_then d (λ z end. ok (either left-side z) end)) right-read.1)
                 (subst⁻¹ (λ (x : Parsed). GivenWith 0 s st entry exit n x (literal_words bracket) (literal_length bracket) (cursor_of s after q.state)) ep
                 bracket-words)

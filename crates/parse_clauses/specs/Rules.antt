@@ -1,10 +1,9 @@
 -- What reading the body of a clause gives, whose head was read.
 use Rattle.std.specs.Prelude.{ℕ, ◌+◌, ◌-◌, ◌≡◌, List, set, length, Result, Ok, Err}
 use Rattle.syntax.specs.Reading.{read_body}
-use Rattle.syntax.specs.Words.{body_words, body_length}
 use Rattle.syntax.specs.declared.State.{State}
 use Rattle.syntax.specs.declared.Refusal.{Refusal}
-use Rattle.parse_cursor.specs.Gives.{cursor_of, state_onward, Gives}
+use Rattle.parse_cursor.specs.Gives.{cursor_of, state_onward, Gives, body_form}
 use Rattle.parse_cursor.specs.declared.Parsed.{Parsed}
 
 -- What is given and stored, by what the body's function gave: a fault of it is the whole's; else the clause's first words are stored last.
@@ -18,5 +17,5 @@ pub record Ruled (s : List ℕ) (st : State) (entry exit : List ℕ) (n used : �
   pub mid : List ℕ
   pub body : Result Parsed Refusal
   pub long : length mid ≡ length entry
-  pub given : Gives body_words body_length s (state_onward s st) entry mid used body (read_body s (cursor_of s entry (state_onward s st)))
+  pub given : Gives body_form s (state_onward s st) entry mid used body (read_body s (cursor_of s entry (state_onward s st)))
   pub by : RuledBy mid exit n body r

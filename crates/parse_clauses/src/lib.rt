@@ -6,9 +6,8 @@ ghost use Rattle.std.specs.Prelude.{◌≡◌, ◌+◌, ◌-◌, ◌≤◌, ◌<
 ghost use Rattle.syntax.specs.Limits.{literals};
 ghost use Rattle.syntax.specs.Tokens.{name_kind, open_kind, end_kind};
 ghost use Rattle.syntax.specs.Reading.{begin, read_literal, read_to, read_body, read_clause};
-ghost use Rattle.syntax.specs.Words.{clause_start, behind_kind, item_kinds, marker, literal_words, literal_length};
-ghost use Rattle.syntax.specs.Words.{body_words, body_length, side_words, side_length, clause_words};
-ghost use Rattle.parse_cursor.specs.Gives.{cursor_of, RoomToRead, Gives, GivesWith, one};
+ghost use Rattle.syntax.specs.Words.{clause_start, behind_kind, item_kinds, marker};
+ghost use Rattle.parse_cursor.specs.Gives.{cursor_of, RoomToRead, Gives, literal_form, body_form, clause_form, side_form};
 ghost use Rattle.parse_clauses.specs.Brackets.{read_side, bracket_at};
 ghost use Rattle.parse_clauses.specs.Rules.{Ruled};
 
@@ -35,7 +34,7 @@ fn read_literal(
     n: usize,
 ) -> Result<Parsed, Refusal>
     requires { RoomToRead s.now st table.old n 1 }
-    ensures { GivesWith 0 literal_words literal_length s.now st table.old table.new n result
+    ensures { Gives literal_form s.now st table.old table.new n result
         (read_literal left s.now (cursor_of s.now table.old st)) }
 {
     if st.token.kind != TokenKind::Open {
@@ -58,7 +57,7 @@ fn read_sides(
 ) -> Result<Parsed, Refusal>
     requires room_to_read { RoomToRead s.now st table.old n 1 }
     requires kind_value { st.token.kind ≡ open_kind }
-    ensures { GivesWith 0 literal_words literal_length s.now st table.old table.new n result
+    ensures { Gives literal_form s.now st table.old table.new n result
         (bracket_at left s.now (cursor_of s.now table.old st)) }
 {
     let past = next(s, st);
@@ -89,7 +88,7 @@ fn read_side(
 ) -> Result<Parsed, Refusal>
     requires room_to_read { RoomToRead s.now st table.old n 2 }
     requires fact { (end ≡ end_kind → ⊥) × (kind < item_kinds) }
-    ensures { GivesWith 0 (side_words kind) side_length s.now st table.old table.new n result
+    ensures { Gives (side_form kind) s.now st table.old table.new n result
         (read_side left s.now end (cursor_of s.now table.old st)) }
 {
     let r = read_body(s, left, end, BODY_LITERALS, st, table, n + 1)?;
@@ -109,7 +108,7 @@ fn read_body(
 ) -> Result<Parsed, Refusal>
     requires room_to_read { RoomToRead s.now st table.old n 1 }
     requires fact { end ≡ end_kind → ⊥ }
-    ensures { Gives body_words body_length s.now st table.old table.new n result
+    ensures { Gives body_form s.now st table.old table.new n result
         (read_to left s.now end k (cursor_of s.now table.old st)) }
 {
     if k == 0 {
@@ -162,7 +161,7 @@ fn close_sides(z: Parsed, items: usize, table: &mut [u32]) -> Parsed
 // The body of a clause or goal: literals up to the full stop.
 pub fn read_whole(s: &[u8], st: State, table: &mut [u32], n: usize) -> Result<Parsed, Refusal>
     requires { RoomToRead s.now st table.old n 1 }
-    ensures { Gives body_words body_length s.now st table.old table.new n result
+    ensures { Gives body_form s.now st table.old table.new n result
         (read_body s.now (cursor_of s.now table.old st)) }
 {
     read_body(s, BRACKETS, TokenKind::Stop, BODY_LITERALS, st, table, n)
@@ -201,7 +200,7 @@ fn read_rule(
 pub fn read_clause(s: &[u8], st: State, table: &mut [u32], n: usize) -> Result<Parsed, Refusal>
     requires room_to_read { RoomToRead s.now (Rattle.parse_cursor.specs.Gives.fresh st) table.old n 4 }
     requires kind_value { st.token.kind ≡ name_kind }
-    ensures { Gives clause_words one s.now st table.old table.new n result
+    ensures { Gives clause_form s.now st table.old table.new n result
         (read_clause s.now (begin st.token)) }
 {
     let begin = fresh(st);

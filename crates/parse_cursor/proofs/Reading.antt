@@ -22,7 +22,7 @@ use Rattle.syntax.specs.Reading.{Cursor, Read, ok, cursor_at, next, variable_num
 use Rattle.syntax.specs.Terms.{Term, variable, same_name}
 use Rattle.syntax.specs.declared.Token.{Token}
 use Rattle.syntax.specs.declared.State.{State}
-use Rattle.parse_cursor.specs.Gives.{cursor_of, state_onward, found, CursorInside, PastToken, FoundAs, MetAs, RoomToRead, Given, Gives, GivesWith, bytes_left, one, Refused}
+use Rattle.parse_cursor.specs.Gives.{cursor_of, state_onward, found, CursorInside, PastToken, FoundAs, MetAs, RoomToRead, Given, Gives, bytes_left, Refused, term_form, Form}
 use Rattle.syntax.specs.Words.{node_words, term_words}
 use Rattle.parse_cursor.specs.declared.Parsed.{Parsed}
 use Rattle.lex_tokens.proofs.Laws.{token-inside, token-at-from, token-some, token-word-short}
@@ -164,25 +164,17 @@ node-room s st table n ready k =
 -- ---- faults
 
 -- The fault of a reader that stands for the state.
-module _ {A : Type 0} (spare : ℕ) (words : A → List ℕ) (items : A → ℕ) (s : List ℕ) (from st : State) (entry exit : List ℕ) (n : ℕ) (q : Refusal) (c : Cursor) (t : c.token ≡ st.token) where
+module _ {A : Type 0} (f : Form A) (s : List ℕ) (from st : State) (entry exit : List ℕ) (n : ℕ) (q : Refusal) (c : Cursor) (t : c.token ≡ st.token) where
   refused-at : (k : TokenKind → ℕ) → Refused st (k st.token.kind) q → q ≡ fault_of (k c.token.kind) c.token.at
-  refused-at k f = f ∙ ap (λ (x : Token). fault_of (k x.kind) x.at) (sym t)
+  refused-at k e = e ∙ ap (λ (x : Token). fault_of (k x.kind) x.at) (sym t)
 
-  pub refused-beyond-with : Refused st 6 q → take n exit ≡ take n entry → GivesWith spare words items s from entry exit n (Err q) (beyond c)
+  pub refused-beyond : Refused st 6 q → take n exit ≡ take n entry → Gives f s from entry exit n (Err q) (beyond c)
   unfolding beyond
-  refused-beyond-with f k = record { is = refused-at (λ _. 6) f; kept = k }
+  refused-beyond e k = record { is = refused-at (λ _. 6) e; kept = k }
 
-  pub refused-wrong-with : Refused st (wrong_number st.token.kind) q → take n exit ≡ take n entry → GivesWith spare words items s from entry exit n (Err q) (wrong c)
+  pub refused-wrong : Refused st (wrong_number st.token.kind) q → take n exit ≡ take n entry → Gives f s from entry exit n (Err q) (wrong c)
   unfolding wrong
-  refused-wrong-with f k = record { is = refused-at wrong_number f; kept = k }
-
--- the same with one word left over
-module _ {A : Type 0} (words : A → List ℕ) (items : A → ℕ) (s : List ℕ) (from st : State) (entry exit : List ℕ) (n : ℕ) (q : Refusal) (c : Cursor) (t : c.token ≡ st.token) where
-  pub refused-beyond : Refused st 6 q → take n exit ≡ take n entry → Gives words items s from entry exit n (Err q) (beyond c)
-  refused-beyond f k = refused-beyond-with 1 words items s from st entry exit n q c t f k
-
-  pub refused-wrong : Refused st (wrong_number st.token.kind) q → take n exit ≡ take n entry → Gives words items s from entry exit n (Err q) (wrong c)
-  refused-wrong f k = refused-wrong-with 1 words items s from st entry exit n q c t f k
+  refused-wrong e k = record { is = refused-at wrong_number e; kept = k }
 
 -- ---- variables
 
@@ -238,7 +230,7 @@ module _ (s : List ℕ) (st new : State) (entry mid : List ℕ) (n : ℕ) (e : n
       ∙ names-new s (met entry) st.count (packed st.token.at st.token.len) count-in
       ∙ ap (λ (x : List ℕ). names_from s (met entry) 0 st.count ++ (x ∷ [])) (packed-spelt s st.token.at st.token.len (omega arith)))
 
-  pub new-given : (exit : List ℕ) (r : Parsed) → Given s new mid exit n r (st.count ∷ node_words ∷ new.token.at ∷ []) 1 (next s (cursor_of s mid new)) → Gives term_words one s st entry exit n (Ok r) (new_variable s (cursor_of s entry st))
+  pub new-given : (exit : List ℕ) (r : Parsed) → Given s new mid exit n r (st.count ∷ node_words ∷ new.token.at ∷ []) 1 (next s (cursor_of s mid new)) → Gives term_form s st entry exit n (Ok r) (new_variable s (cursor_of s entry st))
   unfolding term_words
   new-given exit r g =
       let room : n + node_words * bytes_left s st + 0 + variables ≤ length entry = table-room in
@@ -248,7 +240,7 @@ module _ (s : List ℕ) (st new : State) (entry mid : List ℕ) (n : ℕ) (e : n
       let words : st.count ∷ node_words ∷ new.token.at ∷ [] ≡ length (names_from s (met entry) 0 st.count) ∷ node_words ∷ st.token.at ∷ [] = ap₂ (λ (x : ℕ) (t : Token). x ∷ node_words ∷ t.at ∷ []) (sym count) token in
       let front : take n mid ≡ take n entry = ap (take n) em ∙ take-set-le n entry (length entry - variables + st.count) (packed st.token.at st.token.len) (omega arith) in
       let room' : node_words + node_words * bytes_left s r.state + 1 ≤ node_words * (length s - st.token.at) + 1 = subst (λ (t : Token). node_words + node_words * bytes_left s r.state + 1 ≤ node_words * (length s - t.at) + 1) token g.room in
-      subst⁻¹ (Gives term_words one s st entry exit n (Ok r)) (new_ok s (cursor_of s entry st) (omega arith))
+      subst⁻¹ (Gives term_form s st entry exit n (Ok r)) (new_ok s (cursor_of s entry st) (omega arith))
       (record {
         state_is = g.state_is ∙ ap (next s) cursor-new;
         items_is = g.items_is;
@@ -259,10 +251,10 @@ module _ (s : List ℕ) (st new : State) (entry mid : List ℕ) (n : ℕ) (e : n
         room = room';
       })
 
-pub new-refused : (s : List ℕ) (st : State) (entry : List ℕ) (n : ℕ) (q : Refusal) → variables ≤ st.count → Refused st 6 q → Gives term_words one s st entry entry n (Err q) (new_variable s (cursor_of s entry st))
+pub new-refused : (s : List ℕ) (st : State) (entry : List ℕ) (n : ℕ) (q : Refusal) → variables ≤ st.count → Refused st 6 q → Gives term_form s st entry entry n (Err q) (new_variable s (cursor_of s entry st))
 new-refused s st entry n q h f =
     let count : length (names_from s (met entry) 0 st.count) ≡ st.count = names-length s (met entry) 0 st.count in
-    subst⁻¹ (Gives term_words one s st entry entry n (Err q)) (new-beyond s (cursor_of s entry st) (omega arith)) (refused-beyond term_words one s st st entry entry n q (cursor_of s entry st) refl f refl)
+    subst⁻¹ (Gives term_form s st entry entry n (Err q)) (new-beyond s (cursor_of s entry st) (omega arith)) (refused-beyond term_form s st st entry entry n q (cursor_of s entry st) refl f refl)
 
 module _ (s : List ℕ) (st : State) (entry exit : List ℕ) (n : ℕ) where
   by-name : Bool → Read Term
@@ -273,17 +265,17 @@ module _ (s : List ℕ) (st : State) (entry exit : List ℕ) (n : ℕ) where
   read-by b e = ap by-name e
 
   module _ (o : OptionOf ℕ) (f : MetAs (is_anonymous s st.token) (found s entry st) st.count o) where
-    pub variable-met : (r : Parsed) (v : ℕ) → o ≡ Some v → Given s st entry exit n r (v ∷ node_words ∷ st.token.at ∷ []) 1 (next s (cursor_of s entry st)) → Gives term_words one s st entry exit n (Ok r) (read_variable s (cursor_of s entry st))
+    pub variable-met : (r : Parsed) (v : ℕ) → o ≡ Some v → Given s st entry exit n r (v ∷ node_words ∷ st.token.at ∷ []) 1 (next s (cursor_of s entry st)) → Gives term_form s st entry exit n (Ok r) (read_variable s (cursor_of s entry st))
     unfolding old_variable term_words by-name
     variable-met r v h g = by (is_anonymous s st.token) refl f
       where
-        old-by : (d : Option ℕ) → FoundAs d st.count o → Gives term_words one s st entry exit n (Ok r) (old_variable s (cursor_of s entry st) d)
+        old-by : (d : Option ℕ) → FoundAs d st.count o → Gives term_form s st entry exit n (Ok r) (old_variable s (cursor_of s entry st) d)
         old-by none k = absurd (let z : ◌≡◌ {A = OptionOf ℕ} (Some v) None = sym h ∙ k in cc)
         old-by (some i) k = let z : v ≡ i = (let w : ◌≡◌ {A = OptionOf ℕ} (Some v) (Some i) = sym h ∙ k.0 in cc) in subst (λ (x : ℕ). Given s st entry exit n r (x ∷ node_words ∷ st.token.at ∷ []) 1 (next s (cursor_of s entry st))) z g
 
-        by : (b : Bool) → is_anonymous s st.token ≡ b → MetAs b (found s entry st) st.count o → Gives term_words one s st entry exit n (Ok r) (read_variable s (cursor_of s entry st))
+        by : (b : Bool) → is_anonymous s st.token ≡ b → MetAs b (found s entry st) st.count o → Gives term_form s st entry exit n (Ok r) (read_variable s (cursor_of s entry st))
         by true e k = absurd (let z : ◌≡◌ {A = OptionOf ℕ} (Some v) None = sym h ∙ k in cc)
-        by false e k = subst⁻¹ (Gives term_words one s st entry exit n (Ok r)) (read-by false e) (old-by (found s entry st) k)
+        by false e k = subst⁻¹ (Gives term_form s st entry exit n (Ok r)) (read-by false e) (old-by (found s entry st) k)
 
     -- what `leaf` asks
     pub leaf-ready : (v : ℕ) → o ≡ Some v → RoomToRead s st entry n 0 → st.token.kind ≡ variable_kind → RoomToRead s st entry n 0 × ((v < 2 ^ 32) × (st.token.kind ≡ end_kind → ⊥))
@@ -304,17 +296,17 @@ module _ (s : List ℕ) (st : State) (entry exit : List ℕ) (n : ℕ) where
         low : v < 2 ^ 32
         low = by (is_anonymous s st.token) f
 
-    pub variable-unmet : (r : Result Parsed Refusal) → o ≡ None → Gives term_words one s st entry exit n r (new_variable s (cursor_of s entry st)) → Gives term_words one s st entry exit n r (read_variable s (cursor_of s entry st))
+    pub variable-unmet : (r : Result Parsed Refusal) → o ≡ None → Gives term_form s st entry exit n r (new_variable s (cursor_of s entry st)) → Gives term_form s st entry exit n r (read_variable s (cursor_of s entry st))
     unfolding old_variable by-name
     variable-unmet r h g = by (is_anonymous s st.token) refl f
       where
-        new-by : (d : Option ℕ) → FoundAs d st.count o → Gives term_words one s st entry exit n r (old_variable s (cursor_of s entry st) d)
+        new-by : (d : Option ℕ) → FoundAs d st.count o → Gives term_form s st entry exit n r (old_variable s (cursor_of s entry st) d)
         new-by none k = g
         new-by (some i) k = absurd (let z : ◌≡◌ {A = OptionOf ℕ} None (Some i) = sym h ∙ k.0 in cc)
 
-        by : (b : Bool) → is_anonymous s st.token ≡ b → MetAs b (found s entry st) st.count o → Gives term_words one s st entry exit n r (read_variable s (cursor_of s entry st))
-        by true e k = subst⁻¹ (Gives term_words one s st entry exit n r) (read-by true e) g
-        by false e k = subst⁻¹ (Gives term_words one s st entry exit n r) (read-by false e) (new-by (found s entry st) k)
+        by : (b : Bool) → is_anonymous s st.token ≡ b → MetAs b (found s entry st) st.count o → Gives term_form s st entry exit n r (read_variable s (cursor_of s entry st))
+        by true e k = subst⁻¹ (Gives term_form s st entry exit n r) (read-by true e) g
+        by false e k = subst⁻¹ (Gives term_form s st entry exit n r) (read-by false e) (new-by (found s entry st) k)
 
 -- which variable the token at hand is
 module _ (s : List ℕ) (st : State) (b : Bool) (eb : b ≡ is_anonymous s st.token) (found : Option ℕ) where

@@ -10,7 +10,7 @@ use Rattle.syntax.specs.Reading.{Cursor, Read, fault, ok, and_then}
 use Rattle.syntax.specs.declared.State.{State}
 use Rattle.std.specs.Prelude.{Ok, Err}
 use Rattle.syntax.specs.declared.Refusal.{Refusal}
-use Rattle.parse_cursor.specs.Gives.{cursor_of, GivenWith, GivesWith}
+use Rattle.parse_cursor.specs.Gives.{cursor_of, GivenWith, Form, Gives}
 use Rattle.parse_cursor.specs.declared.Parsed.{Parsed}
 use Rattle.parse_cursor.proofs.Reading.{three}
 
@@ -55,15 +55,15 @@ header entry mid exit w n a b c h e f =
 
 -- ---- one thing, and what follows it
 
-module _ {A B : Type 0} (spare spare' : ℕ) (wa : A → List ℕ) (ia : A → ℕ) (wb : B → List ℕ) (ib : B → ℕ) (s : List ℕ) where
+module _ {A B : Type 0} (part : Form A) (whole : Form B) (s : List ℕ) where
   -- a fault of the part is the whole's
-  pub seq-fault : (from st : State) (entry exit : List ℕ) (n m : ℕ) (q : Refusal) (d : Read A) (k : A → Cursor → Read B) → n ≤ m → GivesWith spare wa ia s st entry exit m (Err q) d → GivesWith spare' wb ib s from entry exit n (Err q) (and_then d k)
+  pub seq-fault : (from st : State) (entry exit : List ℕ) (n m : ℕ) (q : Refusal) (d : Read A) (k : A → Cursor → Read B) → n ≤ m → Gives part s st entry exit m (Err q) d → Gives whole s from entry exit n (Err q) (and_then d k)
   unfolding and_then
-  seq-fault from st entry exit n m q (fault f b) k h g = record { is = g.is; kept = shorter n m entry exit h g.kept }
+  seq-fault from st entry exit n m q (fault j b) k h g = record { is = g.is; kept = shorter n m entry exit h g.kept }
   seq-fault from st entry exit n m q (ok a after) k h g = absurd g
 
-module _ {A : Type 0} (spare : ℕ) (wa : A → List ℕ) (ia : A → ℕ) (s : List ℕ) where
+module _ {A : Type 0} (f : Form A) (s : List ℕ) where
   -- otherwise it is what was read, with the reader that the code has
-  pub seq-ok : (st : State) (entry exit : List ℕ) (n : ℕ) (r : Parsed) (d : Read A) → GivesWith spare wa ia s st entry exit n (Ok r) d → (a : A) × (d ≡ ok a (cursor_of s exit r.state)) × GivenWith spare s st entry exit n r (wa a) (ia a) (cursor_of s exit r.state)
-  seq-ok st entry exit n r (fault f b) g = absurd g
-  seq-ok st entry exit n r (ok a after) g = (a, ap (ok a) (sym g.state_is), subst⁻¹ (λ (x : Cursor). GivenWith spare s st entry exit n r (wa a) (ia a) x) g.state_is g)
+  pub seq-ok : (st : State) (entry exit : List ℕ) (n : ℕ) (r : Parsed) (d : Read A) → Gives f s st entry exit n (Ok r) d → (a : A) × (d ≡ ok a (cursor_of s exit r.state)) × GivenWith f.spare s st entry exit n r (f.words a) (f.items a) (cursor_of s exit r.state)
+  seq-ok st entry exit n r (fault k b) g = absurd g
+  seq-ok st entry exit n r (ok a after) g = (a, ap (ok a) (sym g.state_is), subst⁻¹ (λ (x : Cursor). GivenWith f.spare s st entry exit n r (f.words a) (f.items a) x) g.state_is g)

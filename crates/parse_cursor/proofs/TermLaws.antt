@@ -20,10 +20,10 @@ use Rattle.syntax.proofs.Spans.{met-three}
 use Rattle.syntax.specs.declared.State.{State}
 use Rattle.syntax.specs.declared.Refusal.{Refusal}
 use Rattle.syntax.specs.declared.TokenKind.{TokenKind}
-use Rattle.parse_cursor.specs.Gives.{cursor_of, bytes_left, CursorInside, PastToken, RoomToRead, Given, Gives, GivenWith, GivesWith, Refused, ItemCount, full_number, one}
+use Rattle.parse_cursor.specs.Gives.{cursor_of, bytes_left, CursorInside, PastToken, RoomToRead, Given, Gives, GivenWith, Refused, ItemCount, full_number, one, term_form, terms_form, atom_form, Form, form}
 use Rattle.parse_cursor.specs.declared.Parsed.{Parsed}
 use Rattle.texts.proofs.Laws.{length-spelling}
-use Rattle.parse_cursor.proofs.Reading.{refused-beyond, refused-wrong, refused-beyond-with, refused-wrong-with, next_of, held_of, cursor-kept, held_kept}
+use Rattle.parse_cursor.proofs.Reading.{refused-beyond, refused-wrong, next_of, held_of, cursor-kept, held_kept}
 use Rattle.parse_cursor.proofs.Starts.{start-variable, start-numeral, start-name, start-nothing, after_more, after_last, after-neither}
 use Rattle.parse_cursor.proofs.Sequence.{seq-fault, seq-ok, shorter, kept-before, joined, header}
 
@@ -141,16 +141,16 @@ module _ (most : ℕ) (s : List ℕ) (st : Cursor) where
 module _ (most : ℕ) (s : List ℕ) (st : State) where
   module _ (entry : List ℕ) (n : ℕ) (ready : RoomToRead s st entry n 0) where
     pub atom-bare : (r : Parsed) (exit : List ℕ) (past : State) (what : ℕ) → PastToken s st past → (past.token.kind ≡ open_kind → ⊥) → what ≡ functor 0 st.token.len
-        → Given s st entry exit n r (what ∷ node_words ∷ st.token.at ∷ []) 1 (next s (cursor_of s entry st)) → Gives atom_words one s st entry exit n (Ok r) (read_atom most s (cursor_of s entry st))
+        → Given s st entry exit n r (what ∷ node_words ∷ st.token.at ∷ []) 1 (next s (cursor_of s entry st)) → Gives atom_form s st entry exit n (Ok r) (read_atom most s (cursor_of s entry st))
     atom-bare r exit past what m k is g =
-        subst⁻¹ (Gives atom_words one s st entry exit n (Ok r)) (atom-alone most s (cursor_of s entry st) (cursor_of s entry past) (next_of entry m) k)
+        subst⁻¹ (Gives atom_form s st entry exit n (Ok r)) (atom-alone most s (cursor_of s entry st) (cursor_of s entry past) (next_of entry m) k)
         (subst (λ (w : List ℕ). Given s st entry exit n r w 1 (next s (cursor_of s entry st))) (leaf-words s (cursor_of s entry st) what ready.standing.inside is) g)
 
-    pub atom-deep : (r : Refusal) (past : State) → PastToken s st past → past.token.kind ≡ open_kind → most ≡ 0 → Refused past 6 r → Gives atom_words one s st entry entry n (Err r) (read_atom most s (cursor_of s entry st))
+    pub atom-deep : (r : Refusal) (past : State) → PastToken s st past → past.token.kind ≡ open_kind → most ≡ 0 → Refused past 6 r → Gives atom_form s st entry entry n (Err r) (read_atom most s (cursor_of s entry st))
     unfolding read_list and_then beyond
     atom-deep r past m k z f =
-        subst⁻¹ (Gives atom_words one s st entry entry n (Err r)) (atom-open most s (cursor_of s entry st) (cursor_of s entry past) (next_of entry m) k ∙ ap (λ (l : ℕ). and_then (read_list l s (cursor_of s entry past)) (λ ts after. ok (atom_at s (cursor_of s entry st) ts) after)) z)
-        (refused-beyond atom_words one s st past entry entry n r (cursor_of s entry past) refl f refl)
+        subst⁻¹ (Gives atom_form s st entry entry n (Err r)) (atom-open most s (cursor_of s entry st) (cursor_of s entry past) (next_of entry m) k ∙ ap (λ (l : ℕ). and_then (read_list l s (cursor_of s entry past)) (λ ts after. ok (atom_at s (cursor_of s entry st) ts) after)) z)
+        (refused-beyond atom_form s st past entry entry n r (cursor_of s entry past) refl f refl)
 
   module _ (entry exit mid : List ℕ) (n : ℕ) (past inner : State) (ready : RoomToRead s st entry n 0) (name : st.token.kind ≡ name_kind) (m : PastToken s st past) (k : past.token.kind ≡ open_kind) (z : most ≡ 0 → ⊥) (m' : PastToken s past inner) where
     whole : read_atom most s (cursor_of s entry st) ≡ and_then (read_arguments (λ x. read_term (most - 1) s x) s arguments (cursor_of s entry inner)) (λ ts after. ok (atom_at s (cursor_of s entry st) ts) after)
@@ -173,14 +173,14 @@ module _ (most : ℕ) (s : List ℕ) (st : State) where
         let sp : 2 * node_words + node_words * bytes_left s inner ≤ node_words * bytes_left s st = space in
         record { standing = m'.standing; held = held_of m' (held_of m ready.held); room = omega arith; small = ready.small }
 
-    pub atom-fault : (r : Refusal) → Gives terms_words arity s inner entry exit (n + node_words) (Err r) (read_arguments (λ x. read_term (most - 1) s x) s arguments (cursor_of s entry inner)) → Gives atom_words one s st entry exit n (Err r) (read_atom most s (cursor_of s entry st))
-    atom-fault r g = subst⁻¹ (Gives atom_words one s st entry exit n (Err r)) whole (seq-fault 1 1 terms_words arity atom_words one s st inner entry exit n (n + node_words) r (read_arguments (λ x. read_term (most - 1) s x) s arguments (cursor_of s entry inner)) (λ ts after. ok (atom_at s (cursor_of s entry st) ts) after) (omega arith) g)
+    pub atom-fault : (r : Refusal) → Gives terms_form s inner entry exit (n + node_words) (Err r) (read_arguments (λ x. read_term (most - 1) s x) s arguments (cursor_of s entry inner)) → Gives atom_form s st entry exit n (Err r) (read_atom most s (cursor_of s entry st))
+    atom-fault r g = subst⁻¹ (Gives atom_form s st entry exit n (Err r)) whole (seq-fault terms_form atom_form s st inner entry exit n (n + node_words) r (read_arguments (λ x. read_term (most - 1) s x) s arguments (cursor_of s entry inner)) (λ ts after. ok (atom_at s (cursor_of s entry st) ts) after) (omega arith) g)
 
-    module _ (r : Parsed) (g : Gives terms_words arity s inner entry mid (n + node_words) (Ok r) (read_arguments (λ x. read_term (most - 1) s x) s arguments (cursor_of s entry inner))) where
+    module _ (r : Parsed) (g : Gives terms_form s inner entry mid (n + node_words) (Ok r) (read_arguments (λ x. read_term (most - 1) s x) s arguments (cursor_of s entry inner))) where
       -- what `close` asks
       pub close-ready : length mid ≡ length entry → (n + node_words ≤ length mid) × ((st.token.at < 2 ^ 31) × ((st.token.len < 2 ^ 15) × ((r.items < 2 ^ 20) × ((n ≤ r.used) × (r.used < 2 ^ 31)))))
       close-ready l =
-          let o : (ts : Terms) × (read_arguments (λ x. read_term (most - 1) s x) s arguments (cursor_of s entry inner) ≡ ok ts (cursor_of s mid r.state)) × Given s inner entry mid (n + node_words) r (terms_words ts) (arity ts) (cursor_of s mid r.state) = seq-ok 1 terms_words arity s inner entry mid (n + node_words) r (read_arguments (λ x. read_term (most - 1) s x) s arguments (cursor_of s entry inner)) g in
+          let o : (ts : Terms) × (read_arguments (λ x. read_term (most - 1) s x) s arguments (cursor_of s entry inner) ≡ ok ts (cursor_of s mid r.state)) × Given s inner entry mid (n + node_words) r (terms_words ts) (arity ts) (cursor_of s mid r.state) = seq-ok terms_form s inner entry mid (n + node_words) r (read_arguments (λ x. read_term (most - 1) s x) s arguments (cursor_of s entry inner)) g in
           let room : n + node_words * bytes_left s st + 0 + variables ≤ length entry = ready.room in
           let inside : st.token.at + st.token.len ≤ length s = ready.standing.inside in
           let short : length s ≤ sheet_bytes = ready.standing.short in
@@ -192,10 +192,10 @@ module _ (most : ℕ) (s : List ℕ) (st : State) where
           let few : arity o.0 ≤ length (terms_words o.0) = arity-words o.0 in
           (omega arith, (omega arith, (omega arith, (omega arith, (omega arith, omega arith)))))
 
-      pub atom-list : length mid ≡ length entry → (q : Parsed) → q ≡ record { used = r.used; items = 1; state = r.state } → exit ≡ set (set (set mid n (functor r.items st.token.len)) (n + 1) (r.used - n)) (n + 2) st.token.at → Gives atom_words one s st entry exit n (Ok q) (read_atom most s (cursor_of s entry st))
+      pub atom-list : length mid ≡ length entry → (q : Parsed) → q ≡ record { used = r.used; items = 1; state = r.state } → exit ≡ set (set (set mid n (functor r.items st.token.len)) (n + 1) (r.used - n)) (n + 2) st.token.at → Gives atom_form s st entry exit n (Ok q) (read_atom most s (cursor_of s entry st))
       unfolding and_then
       atom-list l q eq ex =
-          let o : (ts : Terms) × (read_arguments (λ x. read_term (most - 1) s x) s arguments (cursor_of s entry inner) ≡ ok ts (cursor_of s mid r.state)) × Given s inner entry mid (n + node_words) r (terms_words ts) (arity ts) (cursor_of s mid r.state) = seq-ok 1 terms_words arity s inner entry mid (n + node_words) r (read_arguments (λ x. read_term (most - 1) s x) s arguments (cursor_of s entry inner)) g in
+          let o : (ts : Terms) × (read_arguments (λ x. read_term (most - 1) s x) s arguments (cursor_of s entry inner) ≡ ok ts (cursor_of s mid r.state)) × Given s inner entry mid (n + node_words) r (terms_words ts) (arity ts) (cursor_of s mid r.state) = seq-ok terms_form s inner entry mid (n + node_words) r (read_arguments (λ x. read_term (most - 1) s x) s arguments (cursor_of s entry inner)) g in
           let ts : Terms = o.0 in
           let given : Given s inner entry mid (n + node_words) r (terms_words ts) (arity ts) (cursor_of s mid r.state) = o.2 in
           let room : n + node_words * bytes_left s st + 0 + variables ≤ length entry = ready.room in
@@ -216,7 +216,7 @@ module _ (most : ℕ) (s : List ℕ) (st : State) where
             held = held_kept same given.held;
             room = omega arith;
           } in
-          subst⁻¹ (λ (d : Read Atom). Gives atom_words one s st entry exit n (Ok q) d) (whole ∙ ap (λ (d : Read Terms). and_then d (λ ts after. ok (atom_at s (cursor_of s entry st) ts) after)) o.1)
+          subst⁻¹ (λ (d : Read Atom). Gives atom_form s st entry exit n (Ok q) d) (whole ∙ ap (λ (d : Read Terms). and_then d (λ ts after. ok (atom_at s (cursor_of s entry st) ts) after)) o.1)
           (subst⁻¹ (λ (x : Parsed). Given s st entry exit n x (atom_words (atom_at s (cursor_of s entry st) ts)) 1 (cursor_of s mid r.state)) eq
           (subst (λ (w : List ℕ). Given s st entry exit n (record { used = r.used; items = 1; state = r.state }) w 1 (cursor_of s mid r.state)) (atom-words s (cursor_of s entry st) ts ready.standing.inside) result))
 
@@ -229,46 +229,46 @@ module _ (most : ℕ) (s : List ℕ) (st : Cursor) where
 
 module _ (most : ℕ) (s : List ℕ) (st : State) where
   module _ (entry exit : List ℕ) (n : ℕ) where
-    pub term-variable : (r : Result Parsed Refusal) → st.token.kind ≡ variable_kind → Gives term_words one s st entry exit n r (read_variable s (cursor_of s entry st)) → Gives term_words one s st entry exit n r (read_term most s (cursor_of s entry st))
+    pub term-variable : (r : Result Parsed Refusal) → st.token.kind ≡ variable_kind → Gives term_form s st entry exit n r (read_variable s (cursor_of s entry st)) → Gives term_form s st entry exit n r (read_term most s (cursor_of s entry st))
     unfolding term_with
-    term-variable r e g = subst⁻¹ (Gives term_words one s st entry exit n r) (term-by most s (cursor_of s entry st) a_variable (start-variable st.token.kind e)) g
+    term-variable r e g = subst⁻¹ (Gives term_form s st entry exit n r) (term-by most s (cursor_of s entry st) a_variable (start-variable st.token.kind e)) g
 
-    pub term-numeral : (r : Parsed) → st.token.kind ≡ numeral_kind → Given s st entry exit n r (term_words (term_of (numeral_at s (cursor_of s entry st)))) 1 (next s (cursor_of s entry st)) → Gives term_words one s st entry exit n (Ok r) (read_term most s (cursor_of s entry st))
+    pub term-numeral : (r : Parsed) → st.token.kind ≡ numeral_kind → Given s st entry exit n r (term_words (term_of (numeral_at s (cursor_of s entry st)))) 1 (next s (cursor_of s entry st)) → Gives term_form s st entry exit n (Ok r) (read_term most s (cursor_of s entry st))
     unfolding term_with
-    term-numeral r e g = subst⁻¹ (Gives term_words one s st entry exit n (Ok r)) (term-by most s (cursor_of s entry st) a_numeral (start-numeral st.token.kind e)) g
+    term-numeral r e g = subst⁻¹ (Gives term_form s st entry exit n (Ok r)) (term-by most s (cursor_of s entry st) a_numeral (start-numeral st.token.kind e)) g
 
-    atom-term : (r : Result Parsed Refusal) (d : Read Atom) → Gives atom_words one s st entry exit n r d → Gives term_words one s st entry exit n r (and_then d (λ a after. ok (term_of a) after))
+    atom-term : (r : Result Parsed Refusal) (d : Read Atom) → Gives atom_form s st entry exit n r d → Gives term_form s st entry exit n r (and_then d (λ a after. ok (term_of a) after))
     unfolding and_then
     atom-term (Err q) (fault k b) g = g
     atom-term (Err q) (ok a after) g = g
     atom-term (Ok r) (fault k b) g = g
     atom-term (Ok r) (ok a after) g = g
 
-    pub term-name : (r : Result Parsed Refusal) → st.token.kind ≡ name_kind → Gives atom_words one s st entry exit n r (read_atom most s (cursor_of s entry st)) → Gives term_words one s st entry exit n r (read_term most s (cursor_of s entry st))
+    pub term-name : (r : Result Parsed Refusal) → st.token.kind ≡ name_kind → Gives atom_form s st entry exit n r (read_atom most s (cursor_of s entry st)) → Gives term_form s st entry exit n r (read_term most s (cursor_of s entry st))
     unfolding term_with read_atom
     term-name r e g =
-        subst⁻¹ (Gives term_words one s st entry exit n r)
+        subst⁻¹ (Gives term_form s st entry exit n r)
         (term-by most s (cursor_of s entry st) a_name (start-name st.token.kind e))
         (atom-term r (read_atom most s (cursor_of s entry st)) g)
 
     -- a term that begins with no name is read the same whatever brackets are left
-    pub term-simple : (r : Result Parsed Refusal) → ((k : ℕ) → Gives term_words one s st entry exit n r (read_term k s (cursor_of s entry st))) → Gives term_words one s st entry exit n r (read_term most s (cursor_of s entry st))
+    pub term-simple : (r : Result Parsed Refusal) → ((k : ℕ) → Gives term_form s st entry exit n r (read_term k s (cursor_of s entry st))) → Gives term_form s st entry exit n r (read_term most s (cursor_of s entry st))
     term-simple r g = g most
 
-    pub term-other : (r : Refusal) → (st.token.kind ≡ variable_kind → ⊥) → (st.token.kind ≡ numeral_kind → ⊥) → (st.token.kind ≡ name_kind → ⊥) → Refused st (wrong_number st.token.kind) r → Gives term_words one s st entry entry n (Err r) (read_term most s (cursor_of s entry st))
+    pub term-other : (r : Refusal) → (st.token.kind ≡ variable_kind → ⊥) → (st.token.kind ≡ numeral_kind → ⊥) → (st.token.kind ≡ name_kind → ⊥) → Refused st (wrong_number st.token.kind) r → Gives term_form s st entry entry n (Err r) (read_term most s (cursor_of s entry st))
     unfolding term_with
-    term-other r f h e g = subst⁻¹ (Gives term_words one s st entry entry n (Err r)) (term-by most s (cursor_of s entry st) nothing (start-nothing st.token.kind f h e)) (refused-wrong term_words one s st st entry entry n r (cursor_of s entry st) refl g refl)
+    term-other r f h e g = subst⁻¹ (Gives term_form s st entry entry n (Err r)) (term-by most s (cursor_of s entry st) nothing (start-nothing st.token.kind f h e)) (refused-wrong term_form s st st entry entry n r (cursor_of s entry st) refl g refl)
 
 -- ---- lists
 
 -- a list or body that is full
-module _ {A : Type 0} (spare : ℕ) (words : A → List ℕ) (items : A → ℕ) (s : List ℕ) (from st : State) (entry : List ℕ) (n : ℕ) (r : Refusal) (c : Cursor) (t : c.token ≡ st.token) where
-  full_by : (b : Bool) → Refused st (full_number b st.token.kind) r → GivesWith spare words items s from entry entry n (Err r) (full b c)
+module _ {A : Type 0} (f : Form A) (s : List ℕ) (from st : State) (entry : List ℕ) (n : ℕ) (r : Refusal) (c : Cursor) (t : c.token ≡ st.token) where
+  full_by : (b : Bool) → Refused st (full_number b st.token.kind) r → Gives f s from entry entry n (Err r) (full b c)
   unfolding full
-  full_by true g = refused-beyond-with spare words items s from st entry entry n r c t g refl
-  full_by false g = refused-wrong-with spare words items s from st entry entry n r c t g refl
+  full_by true g = refused-beyond f s from st entry entry n r c t g refl
+  full_by false g = refused-wrong f s from st entry entry n r c t g refl
 
-  pub list_full : Refused st (full_number (begins (start_of st.token.kind)) st.token.kind) r → GivesWith spare words items s from entry entry n (Err r) (full (begins (start_of st.token.kind)) c)
+  pub list_full : Refused st (full_number (begins (start_of st.token.kind)) st.token.kind) r → Gives f s from entry entry n (Err r) (full (begins (start_of st.token.kind)) c)
   list_full g = full_by (begins (start_of st.token.kind)) g
 
 -- One of a list was read; a list behind it is read by `rest`. The lists are `Terms` or a body, made by `put` from a thing and a list.
@@ -291,14 +291,14 @@ module _ {A L : Type 0} (over : ℕ) (wa : A → List ℕ) (ia : A → ℕ) (wl 
       record { standing = m.standing; held = held_of m g.held; room = omega arith; small = omega arith }
 
   -- a fault behind the comma is the whole's
-  pub more-fault : (exit : List ℕ) (after : State) (q : Refusal) (d : Read L) → Gives wl il s after mid exit r.used (Err q) d → n ≤ length entry → Gives wl il s st entry exit n (Err q) (and_then d (λ l end. ok (put a l) end))
+  pub more-fault : (exit : List ℕ) (after : State) (q : Refusal) (d : Read L) → Gives (form wl il) s after mid exit r.used (Err q) d → n ≤ length entry → Gives (form wl il) s st entry exit n (Err q) (and_then d (λ l end. ok (put a l) end))
   unfolding and_then
   more-fault exit after q (fault f b) h k =
       let used : r.used ≡ n + length (wa a) = g.used_is in
       record { is = h.is; kept = shorter n r.used mid exit (omega arith) h.kept ∙ kept-before n n (length (wa a)) entry mid (wa a) (omega arith) k g.table_is }
   more-fault exit after q (ok l end) h k = absurd h
 
-  pub one-more : (exit : List ℕ) (after : State) (q p : Parsed) (d : Read L) → (r.state.token.kind ≡ end_kind → ⊥) → PastToken s r.state after → Gives wl il s after mid exit r.used (Ok q) d → ItemCount q r.items p → Gives wl il s st entry exit n (Ok p) (and_then d (λ l end. ok (put a l) end))
+  pub one-more : (exit : List ℕ) (after : State) (q p : Parsed) (d : Read L) → (r.state.token.kind ≡ end_kind → ⊥) → PastToken s r.state after → Gives (form wl il) s after mid exit r.used (Ok q) d → ItemCount q r.items p → Gives (form wl il) s st entry exit n (Ok p) (and_then d (λ l end. ok (put a l) end))
   unfolding and_then
   one-more exit after q p (fault f b) z m h e = absurd h
   one-more exit after q p (ok l end) z m h e =
@@ -326,9 +326,9 @@ module _ {A L : Type 0} (over : ℕ) (wa : A → List ℕ) (ia : A → ℕ) (wl 
       (subst⁻¹ (λ (i : ℕ). Given s st entry exit n p (wa a ++ wl l) i end) (items-put a l) result)
 
   -- the things of a list that was read are few
-  pub few-items : ((l : L) → il l ≤ length (wl l)) → (exit : List ℕ) (after : State) (q : Parsed) (d : Read L) (m : ℕ) → CursorInside s after → Gives wl il s after mid exit m (Ok q) d → q.items < 2 ^ 31
+  pub few-items : ((l : L) → il l ≤ length (wl l)) → (exit : List ℕ) (after : State) (q : Parsed) (d : Read L) (m : ℕ) → CursorInside s after → Gives (form wl il) s after mid exit m (Ok q) d → q.items < 2 ^ 31
   few-items few exit after q d m stands h =
-      let o : (l : L) × (d ≡ ok l (cursor_of s exit q.state)) × Given s after mid exit m q (wl l) (il l) (cursor_of s exit q.state) = seq-ok 1 wl il s after mid exit m q d h in
+      let o : (l : L) × (d ≡ ok l (cursor_of s exit q.state)) × Given s after mid exit m q (wl l) (il l) (cursor_of s exit q.state) = seq-ok (form wl il) s after mid exit m q d h in
       let items : q.items ≡ il o.0 = o.2.items_is in
       let fits : length (wl o.0) + node_words * bytes_left s q.state + 1 ≤ node_words * bytes_left s after + 1 = o.2.room in
       let short : length s ≤ sheet_bytes = stands.short in
@@ -373,17 +373,17 @@ module _ (most : ℕ) (s : List ℕ) (k : ℕ) (st : Cursor) where
       ap (λ (j : ℕ). read_arguments (λ x. read_term most s x) s j st) d
 
 module _ (most : ℕ) (s : List ℕ) (k : ℕ) (st : State) where
-  pub arguments-full : (entry : List ℕ) (n : ℕ) (r : Refusal) → k ≡ 0 → Refused st (full_number (begins (start_of st.token.kind)) st.token.kind) r → Gives terms_words arity s st entry entry n (Err r) (read_arguments (λ x. read_term most s x) s k (cursor_of s entry st))
+  pub arguments-full : (entry : List ℕ) (n : ℕ) (r : Refusal) → k ≡ 0 → Refused st (full_number (begins (start_of st.token.kind)) st.token.kind) r → Gives terms_form s st entry entry n (Err r) (read_arguments (λ x. read_term most s x) s k (cursor_of s entry st))
   unfolding read_arguments
-  arguments-full entry n r z g = subst⁻¹ (λ (j : ℕ). Gives terms_words arity s st entry entry n (Err r) (read_arguments (λ x. read_term most s x) s j (cursor_of s entry st))) z (list_full 1 terms_words arity s st st entry n r (cursor_of s entry st) refl g)
+  arguments-full entry n r z g = subst⁻¹ (λ (j : ℕ). Gives terms_form s st entry entry n (Err r) (read_arguments (λ x. read_term most s x) s j (cursor_of s entry st))) z (list_full terms_form s st st entry n r (cursor_of s entry st) refl g)
 
   module _ (entry mid : List ℕ) (n : ℕ) (z : k ≡ 0 → ⊥) where
-    pub arguments-fault : (q : Refusal) → Gives term_words one s st entry mid n (Err q) (read_term most s (cursor_of s entry st)) → Gives terms_words arity s st entry mid n (Err q) (read_arguments (λ x. read_term most s x) s k (cursor_of s entry st))
-    arguments-fault q g = subst⁻¹ (Gives terms_words arity s st entry mid n (Err q)) (arguments-some most s k (cursor_of s entry st) z) (seq-fault 1 1 term_words one terms_words arity s st st entry mid n n q (read_term most s (cursor_of s entry st)) (go_on most s k (cursor_of s entry st)) (omega arith) g)
+    pub arguments-fault : (q : Refusal) → Gives term_form s st entry mid n (Err q) (read_term most s (cursor_of s entry st)) → Gives terms_form s st entry mid n (Err q) (read_arguments (λ x. read_term most s x) s k (cursor_of s entry st))
+    arguments-fault q g = subst⁻¹ (Gives terms_form s st entry mid n (Err q)) (arguments-some most s k (cursor_of s entry st) z) (seq-fault term_form terms_form s st st entry mid n n q (read_term most s (cursor_of s entry st)) (go_on most s k (cursor_of s entry st)) (omega arith) g)
 
-    module _ (r : Parsed) (ready : RoomToRead s st entry n 0) (g : Gives term_words one s st entry mid n (Ok r) (read_term most s (cursor_of s entry st))) where
+    module _ (r : Parsed) (ready : RoomToRead s st entry n 0) (g : Gives term_form s st entry mid n (Ok r) (read_term most s (cursor_of s entry st))) where
       read : (t : Term) × (read_term most s (cursor_of s entry st) ≡ ok t (cursor_of s mid r.state)) × Given s st entry mid n r (term_words t) 1 (cursor_of s mid r.state)
-      read = seq-ok 1 term_words one s st entry mid n r (read_term most s (cursor_of s entry st)) g
+      read = seq-ok term_form s st entry mid n r (read_term most s (cursor_of s entry st)) g
 
       n-in : n ≤ length entry
       n-in = let room : n + node_words * bytes_left s st + 0 + variables ≤ length entry = ready.room in omega arith
@@ -415,28 +415,28 @@ module _ (most : ℕ) (s : List ℕ) (k : ℕ) (st : State) where
       unfolding arguments_after
       with-more after a m = behind more (after_more close_kind r.state.token.kind a) ∙ ap (λ (x : Cursor). and_then (read_arguments (λ y. read_term most s y) s (k - 1) x) (λ ts end. ok (cons read.0 ts) end)) (sym (next_of mid m))
 
-      pub arguments-behind : (exit : List ℕ) (after : State) (q : Refusal) → r.state.token.kind ≡ comma_kind → PastToken s r.state after → Gives terms_words arity s after mid exit r.used (Err q) (read_arguments (λ x. read_term most s x) s (k - 1) (cursor_of s mid after)) → Gives terms_words arity s st entry exit n (Err q) (read_arguments (λ x. read_term most s x) s k (cursor_of s entry st))
+      pub arguments-behind : (exit : List ℕ) (after : State) (q : Refusal) → r.state.token.kind ≡ comma_kind → PastToken s r.state after → Gives terms_form s after mid exit r.used (Err q) (read_arguments (λ x. read_term most s x) s (k - 1) (cursor_of s mid after)) → Gives terms_form s st entry exit n (Err q) (read_arguments (λ x. read_term most s x) s k (cursor_of s entry st))
       arguments-behind exit after q a m h =
-          subst⁻¹ (Gives terms_words arity s st entry exit n (Err q)) (with-more after a m)
+          subst⁻¹ (Gives terms_form s st entry exit n (Err q)) (with-more after a m)
           (more-fault 1 term_words one terms_words arity cons nil words-cons items-cons words-nil refl s st entry mid n r read.0 read.2 exit after q (read_arguments (λ x. read_term most s x) s (k - 1) (cursor_of s mid after)) h n-in)
 
-      pub arguments-more : (exit : List ℕ) (after : State) (q p : Parsed) → r.state.token.kind ≡ comma_kind → PastToken s r.state after → Gives terms_words arity s after mid exit r.used (Ok q) (read_arguments (λ x. read_term most s x) s (k - 1) (cursor_of s mid after)) → ItemCount q 1 p → Gives terms_words arity s st entry exit n (Ok p) (read_arguments (λ x. read_term most s x) s k (cursor_of s entry st))
+      pub arguments-more : (exit : List ℕ) (after : State) (q p : Parsed) → r.state.token.kind ≡ comma_kind → PastToken s r.state after → Gives terms_form s after mid exit r.used (Ok q) (read_arguments (λ x. read_term most s x) s (k - 1) (cursor_of s mid after)) → ItemCount q 1 p → Gives terms_form s st entry exit n (Ok p) (read_arguments (λ x. read_term most s x) s k (cursor_of s entry st))
       arguments-more exit after q p a m h ep =
-          subst⁻¹ (Gives terms_words arity s st entry exit n (Ok p)) (with-more after a m)
+          subst⁻¹ (Gives terms_form s st entry exit n (Ok p)) (with-more after a m)
           (one-more 1 term_words one terms_words arity cons nil words-cons items-cons words-nil refl s st entry mid n r read.0 read.2 exit after q p (read_arguments (λ x. read_term most s x) s (k - 1) (cursor_of s mid after)) (comma-no_end a) m h (subst⁻¹ (λ (i : ℕ). ItemCount q i p) read.2.items_is ep))
 
-      pub arguments-few : (exit : List ℕ) (after : State) (q : Parsed) → PastToken s r.state after → Gives terms_words arity s after mid exit r.used (Ok q) (read_arguments (λ x. read_term most s x) s (k - 1) (cursor_of s mid after)) → q.items < 2 ^ 31
+      pub arguments-few : (exit : List ℕ) (after : State) (q : Parsed) → PastToken s r.state after → Gives terms_form s after mid exit r.used (Ok q) (read_arguments (λ x. read_term most s x) s (k - 1) (cursor_of s mid after)) → q.items < 2 ^ 31
       arguments-few exit after q m h = few-items 1 term_words one terms_words arity cons nil words-cons items-cons words-nil refl s st entry mid n r read.0 read.2 arity-words exit after q (read_arguments (λ x. read_term most s x) s (k - 1) (cursor_of s mid after)) r.used m.standing h
 
-      pub arguments-last : (after : State) → r.state.token.kind ≡ close_kind → PastToken s r.state after → Gives terms_words arity s st entry mid n (Ok (record { used = r.used; items = 1; state = after })) (read_arguments (λ x. read_term most s x) s k (cursor_of s entry st))
+      pub arguments-last : (after : State) → r.state.token.kind ≡ close_kind → PastToken s r.state after → Gives terms_form s st entry mid n (Ok (record { used = r.used; items = 1; state = after })) (read_arguments (λ x. read_term most s x) s k (cursor_of s entry st))
       unfolding arguments_after
       arguments-last after a m =
-          subst⁻¹ (Gives terms_words arity s st entry mid n (Ok (record { used = r.used; items = 1; state = after }))) (behind last (after_last close_kind r.state.token.kind (close-no_comma a) a))
+          subst⁻¹ (Gives terms_form s st entry mid n (Ok (record { used = r.used; items = 1; state = after }))) (behind last (after_last close_kind r.state.token.kind (close-no_comma a) a))
           (subst (λ (i : ℕ). Given s st entry mid n (record { used = r.used; items = i; state = after }) (terms_words (cons read.0 nil)) (arity (cons read.0 nil)) (next s (cursor_of s mid r.state))) read.2.items_is
           (one_last 1 term_words one terms_words arity cons nil words-cons items-cons words-nil refl s st entry mid n r read.0 read.2 after (close-no_end a) m))
 
-      pub arguments-wrong : (q : Refusal) → (r.state.token.kind ≡ comma_kind → ⊥) → (r.state.token.kind ≡ close_kind → ⊥) → Refused r.state (wrong_number r.state.token.kind) q → Gives terms_words arity s st entry mid n (Err q) (read_arguments (λ x. read_term most s x) s k (cursor_of s entry st))
+      pub arguments-wrong : (q : Refusal) → (r.state.token.kind ≡ comma_kind → ⊥) → (r.state.token.kind ≡ close_kind → ⊥) → Refused r.state (wrong_number r.state.token.kind) q → Gives terms_form s st entry mid n (Err q) (read_arguments (λ x. read_term most s x) s k (cursor_of s entry st))
       unfolding arguments_after
       arguments-wrong q f a h =
-          subst⁻¹ (Gives terms_words arity s st entry mid n (Err q)) (behind neither (after-neither close_kind r.state.token.kind f a))
-          (refused-wrong terms_words arity s st r.state entry mid n q (cursor_of s mid r.state) refl h (one_kept 1 term_words one terms_words arity cons nil words-cons items-cons words-nil refl s st entry mid n r read.0 read.2 n-in))
+          subst⁻¹ (Gives terms_form s st entry mid n (Err q)) (behind neither (after-neither close_kind r.state.token.kind f a))
+          (refused-wrong terms_form s st r.state entry mid n q (cursor_of s mid r.state) refl h (one_kept 1 term_words one terms_words arity cons nil words-cons items-cons words-nil refl s st entry mid n r read.0 read.2 n-in))

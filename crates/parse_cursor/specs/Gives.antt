@@ -6,7 +6,9 @@ use Rattle.syntax.specs.Limits.{sheet_bytes, word_bytes, variables}
 use Rattle.syntax.specs.Tokens.{token_at, spelling, variable_kind, end_kind}
 use Rattle.syntax.specs.Reading.{Cursor, Read, fault, ok, wrong_number, variable_number}
 use Rattle.syntax.specs.Spans.{names_from, met, Held}
-use Rattle.syntax.specs.Words.{node_words}
+use Rattle.syntax.specs.Terms.{Term, Terms, arity, Atom, Literal, Body, Clause}
+use Rattle.syntax.specs.Words.{node_words, term_words, terms_words, atom_words, literal_words, literal_length}
+use Rattle.syntax.specs.Words.{side_words, side_length, body_words, body_length, clause_words}
 use Rattle.syntax.specs.Verdicts.{fault_of}
 use Rattle.syntax.specs.declared.Refusal.{Refusal}
 use Rattle.syntax.specs.declared.State.{State}
@@ -82,23 +84,53 @@ abbrev pub MetAs : Bool → Option ℕ → ℕ → OptionOf ℕ → Type 0
 MetAs true found count r = r ≡ None
 MetAs false found count r = FoundAs found count r
 
--- what a function gives, by what the definition gives: both are a fault, or both what was read
-abbrev pub GivesWith : ℕ → {A : Type 0} → (A → List ℕ) → (A → ℕ) → List ℕ → State → List ℕ → List ℕ → ℕ → Result Parsed Refusal → Read A → Type 0
-GivesWith spare words items s from entry exit n (Err q) (fault k b) = Faulted entry exit n q k b
-GivesWith spare words items s from entry exit n (Err q) (ok a after) = ⊥
-GivesWith spare words items s from entry exit n (Ok r) (fault k b) = ⊥
-GivesWith spare words items s from entry exit n (Ok r) (ok a after) = GivenWith spare s from entry exit n r (words a) (items a) after
+-- How the things of a kind stand in a table: their words, for how many items each counts, and how many words are to be left over.
+pub record Form (A : Type 0) : Type 0 where
+  pub words : A → List ℕ
+  pub items : A → ℕ
+  pub spare : ℕ
 
 -- with one word left over
-abbrev pub Given : List ℕ → State → List ℕ → List ℕ → ℕ → Parsed → List ℕ → ℕ → Cursor → Type 0
-Given s from entry exit n r words items after = GivenWith 1 s from entry exit n r words items after
-
-abbrev pub Gives : {A : Type 0} → (A → List ℕ) → (A → ℕ) → List ℕ → State → List ℕ → List ℕ → ℕ → Result Parsed Refusal → Read A → Type 0
-Gives words items s from entry exit n r d = GivesWith 1 words items s from entry exit n r d
+abbrev pub form : {A : Type 0} → (A → List ℕ) → (A → ℕ) → Form A
+form words items = record { words = words; items = items; spare = 1 }
 
 -- one thing was read
 abbrev pub one : {A : Type 0} → A → ℕ
 one a = 1
+
+abbrev pub term_form : Form Term
+term_form = form term_words one
+
+abbrev pub terms_form : Form Terms
+terms_form = form terms_words arity
+
+abbrev pub atom_form : Form Atom
+atom_form = form atom_words one
+
+-- Of a literal's words none is left over.
+abbrev pub literal_form : Form Literal
+literal_form = record { words = literal_words; items = literal_length; spare = 0 }
+
+-- nor of a side's
+abbrev pub side_form : ℕ → Form Body
+side_form kind = record { words = side_words kind; items = side_length; spare = 0 }
+
+abbrev pub body_form : Form Body
+body_form = form body_words body_length
+
+abbrev pub clause_form : Form Clause
+clause_form = form clause_words one
+
+-- what a function gives, by what the definition gives: both are a fault, or both what was read
+abbrev pub Gives : {A : Type 0} → Form A → List ℕ → State → List ℕ → List ℕ → ℕ → Result Parsed Refusal → Read A → Type 0
+Gives f s from entry exit n (Err q) (fault k b) = Faulted entry exit n q k b
+Gives f s from entry exit n (Err q) (ok a after) = ⊥
+Gives f s from entry exit n (Ok r) (fault k b) = ⊥
+Gives f s from entry exit n (Ok r) (ok a after) = GivenWith f.spare s from entry exit n r (f.words a) (f.items a) after
+
+-- with one word left over
+abbrev pub Given : List ℕ → State → List ℕ → List ℕ → ℕ → Parsed → List ℕ → ℕ → Cursor → Type 0
+Given s from entry exit n r words items after = GivenWith 1 s from entry exit n r words items after
 
 -- the fault at the token at hand
 abbrev pub Refused : State → ℕ → Refusal → Type 0

@@ -6,7 +6,7 @@ ghost use Rattle.syntax.specs.Terms.{term_of};
 ghost use Rattle.syntax.specs.Tokens.{name_kind, variable_kind, numeral_kind, end_kind};
 ghost use Rattle.syntax.specs.Reading.{is_anonymous, numeral_at, new_variable, read_variable, read_term};
 ghost use Rattle.syntax.specs.Words.{node_words, term_words};
-ghost use Rattle.parse_cursor.specs.Gives.{cursor_of, found, CursorInside, RoomToRead, Given, Gives, FoundAs, MetAs, one};
+ghost use Rattle.parse_cursor.specs.Gives.{cursor_of, found, CursorInside, RoomToRead, Given, Gives, FoundAs, MetAs, term_form};
 
 use crate::Parsed;
 use crate::cursor::{beyond, next, same_span, wrong};
@@ -103,7 +103,7 @@ fn read_numeral(s: &[u8], st: State, table: &mut [u32], n: usize) -> Parsed
 fn new_variable(s: &[u8], st: State, table: &mut [u32], n: usize) -> Result<Parsed, Refusal>
     requires room_to_read { RoomToRead s.now st table.old n 0 }
     requires kind_value { st.token.kind ≡ variable_kind }
-    ensures { Gives term_words one s.now st table.old table.new n result
+    ensures { Gives term_form s.now st table.old table.new n result
         (new_variable s.now (cursor_of s.now table.old st)) }
 {
     let count = st.count;
@@ -117,7 +117,7 @@ fn new_variable(s: &[u8], st: State, table: &mut [u32], n: usize) -> Result<Pars
 fn read_variable(s: &[u8], st: State, table: &mut [u32], n: usize) -> Result<Parsed, Refusal>
     requires room_to_read { RoomToRead s.now st table.old n 0 }
     requires kind_value { st.token.kind ≡ variable_kind }
-    ensures { Gives term_words one s.now st table.old table.new n result
+    ensures { Gives term_form s.now st table.old table.new n result
         (read_variable s.now (cursor_of s.now table.old st)) }
 {
     match known_number(s, st, table) {
@@ -130,7 +130,7 @@ fn read_variable(s: &[u8], st: State, table: &mut [u32], n: usize) -> Result<Par
 pub fn read_simple(s: &[u8], st: State, table: &mut [u32], n: usize) -> Result<Parsed, Refusal>
     requires room_to_read { RoomToRead s.now st table.old n 0 }
     requires fact { st.token.kind ≡ name_kind → ⊥ }
-    ensures { (most : ℕ) → Gives term_words one s.now st table.old table.new n result
+    ensures { (most : ℕ) → Gives term_form s.now st table.old table.new n result
         (read_term most s.now (cursor_of s.now table.old st)) }
 {
     match st.token.kind {

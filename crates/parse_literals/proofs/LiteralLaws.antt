@@ -21,9 +21,9 @@ use Rattle.syntax.specs.declared.TokenKind.{TokenKind}
 use Rattle.syntax.specs.Reading.{Cursor, Read, fault, ok, and_then, next, wrong_number, read_term, read_atom, atom_at, read_right, after_atom, after_term, literal_with, read_atom_with, atom_with, read_list}
 use Rattle.syntax.specs.Words.{node_words, term_words, terms_words, atom_words, literal_words, literal_length, truth_kind, falsity_kind, call_kind, equation_kind}
 use Rattle.syntax.specs.declared.State.{State}
-use Rattle.parse_cursor.specs.Gives.{cursor_of, state_onward, bytes_left, PastToken, RoomToRead, Faulted, Given, Gives, GivenWith, GivesWith, Refused, one}
+use Rattle.parse_cursor.specs.Gives.{cursor_of, state_onward, bytes_left, PastToken, RoomToRead, Faulted, Given, Gives, GivenWith, Refused, term_form, atom_form, literal_form}
 use Rattle.parse_cursor.specs.declared.Parsed.{Parsed}
-use Rattle.parse_cursor.proofs.Reading.{refused-wrong-with, moved-onward, next_of, held_of, cursor-kept, held_kept}
+use Rattle.parse_cursor.proofs.Reading.{refused-wrong, moved-onward, next_of, held_of, cursor-kept, held_kept}
 use Rattle.parse_cursor.proofs.TermLaws.{term-some}
 use Rattle.parse_cursor.proofs.Sequence.{seq-fault, seq-ok, shorter, kept-before, joined}
 use Rattle.parse_literals.specs.Atoms.{atom_number, alone_number, Alone}
@@ -51,10 +51,10 @@ front entry mid exit w n a h e f =
 equals-no_end : {k : TokenKind} → k ≡ equals_kind → k ≡ end_kind → ⊥
 equals-no_end e f = cc
 
-pub right_given : (most : ℕ) (s : List ℕ) (st past : State) (entry mid exit : List ℕ) (n used : ℕ) (r : Result Parsed Refusal) → PastToken s st past → mid ≡ set entry n equation_kind → Gives term_words one s past mid exit used r (read_term most s (cursor_of s mid past)) → Gives term_words one s (state_onward s st) (set entry n equation_kind) exit used r (read_term most s (cursor_of s (set entry n equation_kind) (state_onward s st)))
+pub right_given : (most : ℕ) (s : List ℕ) (st past : State) (entry mid exit : List ℕ) (n used : ℕ) (r : Result Parsed Refusal) → PastToken s st past → mid ≡ set entry n equation_kind → Gives term_form s past mid exit used r (read_term most s (cursor_of s mid past)) → Gives term_form s (state_onward s st) (set entry n equation_kind) exit used r (read_term most s (cursor_of s (set entry n equation_kind) (state_onward s st)))
 right_given most s st past entry mid exit n used r m e g =
-    subst (λ (x : State). Gives term_words one s x (set entry n equation_kind) exit used r (read_term most s (cursor_of s (set entry n equation_kind) x))) m.is
-    (subst (λ (x : List ℕ). Gives term_words one s past x exit used r (read_term most s (cursor_of s x past))) e g)
+    subst (λ (x : State). Gives term_form s x (set entry n equation_kind) exit used r (read_term most s (cursor_of s (set entry n equation_kind) x))) m.is
+    (subst (λ (x : List ℕ). Gives term_form s past x exit used r (read_term most s (cursor_of s x past))) e g)
 
 -- its first word is stored before the words of the variables
 pub right-asked : {s : List ℕ} {st past : State} {entry mid : List ℕ} {n used : ℕ} → RoomToRead s st entry used 0 → n < used → mid ≡ set entry n equation_kind → PastToken s st past → RoomToRead s past mid used 0
@@ -202,7 +202,7 @@ module _ (most : ℕ) (s : List ℕ) (st : State) (entry : List ℕ) (n : ℕ) (
           room = omega arith;
         }
 
-    right_by : (exit : List ℕ) (q : Result Parsed Refusal) (d : Read Term) → r.state.token.kind ≡ equals_kind → Gives term_words one s (state_onward s r.state) (set mid n equation_kind) exit r.used q d → GivesWith 0 literal_words literal_length s st entry exit n q (and_then d (λ u after. ok (equation t u) after))
+    right_by : (exit : List ℕ) (q : Result Parsed Refusal) (d : Read Term) → r.state.token.kind ≡ equals_kind → Gives term_form s (state_onward s r.state) (set mid n equation_kind) exit r.used q d → Gives literal_form s st entry exit n q (and_then d (λ u after. ok (equation t u) after))
     unfolding and_then
     right_by exit (Err q) (fault k b) e h = right-fault exit q k b h
     right_by exit (Err q) (ok u end) e h = h
@@ -215,27 +215,27 @@ module _ (most : ℕ) (s : List ℕ) (st : State) (entry : List ℕ) (n : ℕ) (
         let room : n + node_words * bytes_left s st + 1 + variables ≤ length entry = ready.room in
         cursor-kept s mid (set mid n equation_kind) (state_onward s r.state) (met-kept mid n equation_kind (omega arith)) ∙ next_of mid (moved-onward s r.state g.standing)
 
-    pub equation-given : (exit : List ℕ) (q : Result Parsed Refusal) → r.state.token.kind ≡ equals_kind → Gives term_words one s (state_onward s r.state) (set mid n equation_kind) exit r.used q (read_term most s (cursor_of s (set mid n equation_kind) (state_onward s r.state))) → GivesWith 0 literal_words literal_length s st entry exit n q (read_right most s t (cursor_of s mid r.state))
+    pub equation-given : (exit : List ℕ) (q : Result Parsed Refusal) → r.state.token.kind ≡ equals_kind → Gives term_form s (state_onward s r.state) (set mid n equation_kind) exit r.used q (read_term most s (cursor_of s (set mid n equation_kind) (state_onward s r.state))) → Gives literal_form s st entry exit n q (read_right most s t (cursor_of s mid r.state))
     unfolding read_right
-    equation-given exit q e h = right_by exit q (read_term most s (next s (cursor_of s mid r.state))) e (subst (λ (x : Cursor). Gives term_words one s (state_onward s r.state) (set mid n equation_kind) exit r.used q (read_term most s x)) behind-equals h)
+    equation-given exit q e h = right_by exit q (read_term most s (next s (cursor_of s mid r.state))) e (subst (λ (x : Cursor). Gives term_form s (state_onward s r.state) (set mid n equation_kind) exit r.used q (read_term most s x)) behind-equals h)
 
     pub left-kept : take n mid ≡ take n entry
     left-kept = kept-before n (n + 1) (length (term_words t)) entry mid (term_words t) (omega arith) n-in g.table_is
 
   -- a fault of its first term
-  pub named-fault : (mid : List ℕ) (q : Refusal) → Gives atom_words one s st entry mid (n + 1) (Err q) (read_atom most s (cursor_of s entry st)) → GivesWith 0 literal_words literal_length s st entry mid n (Err q) (literal_with most s (cursor_of s entry st) true)
+  pub named-fault : (mid : List ℕ) (q : Refusal) → Gives atom_form s st entry mid (n + 1) (Err q) (read_atom most s (cursor_of s entry st)) → Gives literal_form s st entry mid n (Err q) (literal_with most s (cursor_of s entry st) true)
   unfolding literal_with read_atom
-  named-fault mid q g = seq-fault 1 0 atom_words one literal_words literal_length s st st entry mid n (n + 1) q (read_atom most s (cursor_of s entry st)) (λ a after. after_atom most s a after (same_kind after.token.kind equals_kind)) (omega arith) g
+  named-fault mid q g = seq-fault atom_form literal_form s st st entry mid n (n + 1) q (read_atom most s (cursor_of s entry st)) (λ a after. after_atom most s a after (same_kind after.token.kind equals_kind)) (omega arith) g
 
-  pub equation-fault : (mid : List ℕ) (q : Refusal) → Gives term_words one s st entry mid (n + 1) (Err q) (read_term most s (cursor_of s entry st)) → GivesWith 0 literal_words literal_length s st entry mid n (Err q) (literal_with most s (cursor_of s entry st) false)
+  pub equation-fault : (mid : List ℕ) (q : Refusal) → Gives term_form s st entry mid (n + 1) (Err q) (read_term most s (cursor_of s entry st)) → Gives literal_form s st entry mid n (Err q) (literal_with most s (cursor_of s entry st) false)
   unfolding literal_with
-  equation-fault mid q g = seq-fault 1 0 term_words one literal_words literal_length s st st entry mid n (n + 1) q (read_term most s (cursor_of s entry st)) (λ t after. after_term most s t after (same_kind after.token.kind equals_kind)) (omega arith) g
+  equation-fault mid q g = seq-fault term_form literal_form s st st entry mid n (n + 1) q (read_term most s (cursor_of s entry st)) (λ t after. after_term most s t after (same_kind after.token.kind equals_kind)) (omega arith) g
 
   -- the literal by what stands behind its first term
   module _ (mid : List ℕ) (r : Parsed) (l : length mid ≡ length entry) where
-    module _ (g : Gives atom_words one s st entry mid (n + 1) (Ok r) (read_atom most s (cursor_of s entry st))) where
+    module _ (g : Gives atom_form s st entry mid (n + 1) (Ok r) (read_atom most s (cursor_of s entry st))) where
       atom-read : (a : Atom) × (read_atom most s (cursor_of s entry st) ≡ ok a (cursor_of s mid r.state)) × Given s st entry mid (n + 1) r (atom_words a) 1 (cursor_of s mid r.state)
-      atom-read = seq-ok 1 atom_words one s st entry mid (n + 1) r (read_atom most s (cursor_of s entry st)) g
+      atom-read = seq-ok atom_form s st entry mid (n + 1) r (read_atom most s (cursor_of s entry st)) g
 
       named_by : (b : Bool) → same_kind r.state.token.kind equals_kind ≡ b → literal_with most s (cursor_of s entry st) true ≡ after_atom most s atom-read.0 (cursor_of s mid r.state) b
       unfolding literal_with read_atom and_then
@@ -244,9 +244,9 @@ module _ (most : ℕ) (s : List ℕ) (st : State) (entry : List ℕ) (n : ℕ) (
       pub named-ready : r.state.token.kind ≡ equals_kind → RoomToRead s r.state mid r.used 0 × ((r.state.token.kind ≡ equals_kind) × (n < r.used))
       named-ready e = right-ready mid r (term_of atom-read.0) atom-read.2 l e
 
-      pub named-equation : (exit : List ℕ) (q : Result Parsed Refusal) → r.state.token.kind ≡ equals_kind → Gives term_words one s (state_onward s r.state) (set mid n equation_kind) exit r.used q (read_term most s (cursor_of s (set mid n equation_kind) (state_onward s r.state))) → GivesWith 0 literal_words literal_length s st entry exit n q (literal_with most s (cursor_of s entry st) true)
+      pub named-equation : (exit : List ℕ) (q : Result Parsed Refusal) → r.state.token.kind ≡ equals_kind → Gives term_form s (state_onward s r.state) (set mid n equation_kind) exit r.used q (read_term most s (cursor_of s (set mid n equation_kind) (state_onward s r.state))) → Gives literal_form s st entry exit n q (literal_with most s (cursor_of s entry st) true)
       unfolding after_atom
-      named-equation exit q e h = subst⁻¹ (GivesWith 0 literal_words literal_length s st entry exit n q) (named_by true (eq-kind r.state.token.kind equals_kind e)) (equation-given mid r (term_of atom-read.0) atom-read.2 l exit q e h)
+      named-equation exit q e h = subst⁻¹ (Gives literal_form s st entry exit n q) (named_by true (eq-kind r.state.token.kind equals_kind e)) (equation-given mid r (term_of atom-read.0) atom-read.2 l exit q e h)
 
       -- the number that was stored is the atom's
       size_is : r.used - (n + 1) ≡ node_words + length (terms_words atom-read.0.args)
@@ -261,7 +261,7 @@ module _ (most : ℕ) (s : List ℕ) (st : State) (entry : List ℕ) (n : ℕ) (
             let room : n + node_words * bytes_left s st + 1 + variables ≤ length entry = ready.room in
             ap met ex ∙ met-kept mid n number (omega arith)
 
-        pub named-call : number ≡ 2 → GivesWith 0 literal_words literal_length s st entry exit n (Ok (record { used = r.used; items = 1; state = r.state })) (literal_with most s (cursor_of s entry st) true)
+        pub named-call : number ≡ 2 → Gives literal_form s st entry exit n (Ok (record { used = r.used; items = 1; state = r.state })) (literal_with most s (cursor_of s entry st) true)
         unfolding after_atom literal_of literal_words literal_length
         named-call two =
             let a : Atom = atom-read.0 in
@@ -277,10 +277,10 @@ module _ (most : ℕ) (s : List ℕ) (st : State) (entry : List ℕ) (n : ℕ) (
               held = held_kept same atom-read.2.held;
               room = omega arith;
             } in
-            subst⁻¹ (GivesWith 0 literal_words literal_length s st entry exit n (Ok (record { used = r.used; items = 1; state = r.state }))) (named_by false (ne_kind r.state.token.kind equals_kind ne))
+            subst⁻¹ (Gives literal_form s st entry exit n (Ok (record { used = r.used; items = 1; state = r.state }))) (named_by false (ne_kind r.state.token.kind equals_kind ne))
             (subst⁻¹ (λ (x : Literal). GivenWith 0 s st entry exit n (record { used = r.used; items = 1; state = r.state }) (literal_words x) (literal_length x) (cursor_of s mid r.state)) is_call result)
 
-        pub named_other : (number ≡ 2 → ⊥) → GivesWith 0 literal_words literal_length s st entry exit n (Ok (record { used = n + 1; items = 1; state = r.state })) (literal_with most s (cursor_of s entry st) true)
+        pub named_other : (number ≡ 2 → ⊥) → Gives literal_form s st entry exit n (Ok (record { used = n + 1; items = 1; state = r.state })) (literal_with most s (cursor_of s entry st) true)
         unfolding after_atom
         named_other two =
             let words : literal_words (literal_of atom-read.0) ≡ number ∷ [] = other-by atom-read.0 number (en ∙ number_is) two in
@@ -295,14 +295,14 @@ module _ (most : ℕ) (s : List ℕ) (st : State) (entry : List ℕ) (n : ℕ) (
               held = held_kept same atom-read.2.held;
               room = omega arith;
             } in
-            subst⁻¹ (GivesWith 0 literal_words literal_length s st entry exit n (Ok (record { used = n + 1; items = 1; state = r.state }))) (named_by false (ne_kind r.state.token.kind equals_kind ne))
+            subst⁻¹ (Gives literal_form s st entry exit n (Ok (record { used = n + 1; items = 1; state = r.state }))) (named_by false (ne_kind r.state.token.kind equals_kind ne))
             (subst⁻¹ (λ (w : List ℕ). GivenWith 0 s st entry exit n (record { used = n + 1; items = 1; state = r.state }) w (literal_length (literal_of atom-read.0)) (cursor_of s mid r.state)) words
             (subst⁻¹ (λ (i : ℕ). GivenWith 0 s st entry exit n (record { used = n + 1; items = 1; state = r.state }) (number ∷ []) i (cursor_of s mid r.state)) (alone-length atom-read.0) result))
 
     -- ---- a literal that begins with something else
-    module _ (g : Gives term_words one s st entry mid (n + 1) (Ok r) (read_term most s (cursor_of s entry st))) where
+    module _ (g : Gives term_form s st entry mid (n + 1) (Ok r) (read_term most s (cursor_of s entry st))) where
       term-read : (t : Term) × (read_term most s (cursor_of s entry st) ≡ ok t (cursor_of s mid r.state)) × Given s st entry mid (n + 1) r (term_words t) 1 (cursor_of s mid r.state)
-      term-read = seq-ok 1 term_words one s st entry mid (n + 1) r (read_term most s (cursor_of s entry st)) g
+      term-read = seq-ok term_form s st entry mid (n + 1) r (read_term most s (cursor_of s entry st)) g
 
       unnamed-by : (b : Bool) → same_kind r.state.token.kind equals_kind ≡ b → literal_with most s (cursor_of s entry st) false ≡ after_term most s term-read.0 (cursor_of s mid r.state) b
       unfolding literal_with and_then
@@ -311,24 +311,24 @@ module _ (most : ℕ) (s : List ℕ) (st : State) (entry : List ℕ) (n : ℕ) (
       pub equation-ready : r.state.token.kind ≡ equals_kind → RoomToRead s r.state mid r.used 0 × ((r.state.token.kind ≡ equals_kind) × (n < r.used))
       equation-ready e = right-ready mid r term-read.0 term-read.2 l e
 
-      pub equation-read : (exit : List ℕ) (q : Result Parsed Refusal) → r.state.token.kind ≡ equals_kind → Gives term_words one s (state_onward s r.state) (set mid n equation_kind) exit r.used q (read_term most s (cursor_of s (set mid n equation_kind) (state_onward s r.state))) → GivesWith 0 literal_words literal_length s st entry exit n q (literal_with most s (cursor_of s entry st) false)
+      pub equation-read : (exit : List ℕ) (q : Result Parsed Refusal) → r.state.token.kind ≡ equals_kind → Gives term_form s (state_onward s r.state) (set mid n equation_kind) exit r.used q (read_term most s (cursor_of s (set mid n equation_kind) (state_onward s r.state))) → Gives literal_form s st entry exit n q (literal_with most s (cursor_of s entry st) false)
       unfolding after_term
-      equation-read exit q e h = subst⁻¹ (GivesWith 0 literal_words literal_length s st entry exit n q) (unnamed-by true (eq-kind r.state.token.kind equals_kind e)) (equation-given mid r term-read.0 term-read.2 l exit q e h)
+      equation-read exit q e h = subst⁻¹ (Gives literal_form s st entry exit n q) (unnamed-by true (eq-kind r.state.token.kind equals_kind e)) (equation-given mid r term-read.0 term-read.2 l exit q e h)
 
-      pub equation-wrong : (q : Refusal) → (r.state.token.kind ≡ equals_kind → ⊥) → Refused r.state (wrong_number r.state.token.kind) q → GivesWith 0 literal_words literal_length s st entry mid n (Err q) (literal_with most s (cursor_of s entry st) false)
+      pub equation-wrong : (q : Refusal) → (r.state.token.kind ≡ equals_kind → ⊥) → Refused r.state (wrong_number r.state.token.kind) q → Gives literal_form s st entry mid n (Err q) (literal_with most s (cursor_of s entry st) false)
       unfolding after_term
-      equation-wrong q ne f = subst⁻¹ (GivesWith 0 literal_words literal_length s st entry mid n (Err q)) (unnamed-by false (ne_kind r.state.token.kind equals_kind ne)) (refused-wrong-with 0 literal_words literal_length s st r.state entry mid n q (cursor_of s mid r.state) refl f (left-kept mid r term-read.0 term-read.2 l))
+      equation-wrong q ne f = subst⁻¹ (Gives literal_form s st entry mid n (Err q)) (unnamed-by false (ne_kind r.state.token.kind equals_kind ne)) (refused-wrong literal_form s st r.state entry mid n q (cursor_of s mid r.state) refl f (left-kept mid r term-read.0 term-read.2 l))
 
 -- ---- by what begins it
 
 module _ (most : ℕ) (s : List ℕ) (st : State) (entry exit : List ℕ) (n : ℕ) (r : Result Parsed Refusal) where
-  pub one-named : st.token.kind ≡ name_kind → GivesWith 0 literal_words literal_length s st entry exit n r (literal_with most s (cursor_of s entry st) true)
-      → GivesWith 0 literal_words literal_length s st entry exit n r (literal_with most s (cursor_of s entry st) (same_kind st.token.kind name_kind))
-  one-named e g = subst⁻¹ (λ (b : Bool). GivesWith 0 literal_words literal_length s st entry exit n r (literal_with most s (cursor_of s entry st) b)) (eq-kind st.token.kind name_kind e) g
+  pub one-named : st.token.kind ≡ name_kind → Gives literal_form s st entry exit n r (literal_with most s (cursor_of s entry st) true)
+      → Gives literal_form s st entry exit n r (literal_with most s (cursor_of s entry st) (same_kind st.token.kind name_kind))
+  one-named e g = subst⁻¹ (λ (b : Bool). Gives literal_form s st entry exit n r (literal_with most s (cursor_of s entry st) b)) (eq-kind st.token.kind name_kind e) g
 
-  pub one-other : (st.token.kind ≡ name_kind → ⊥) → GivesWith 0 literal_words literal_length s st entry exit n r (literal_with most s (cursor_of s entry st) false)
-      → GivesWith 0 literal_words literal_length s st entry exit n r (literal_with most s (cursor_of s entry st) (same_kind st.token.kind name_kind))
-  one-other e g = subst⁻¹ (λ (b : Bool). GivesWith 0 literal_words literal_length s st entry exit n r (literal_with most s (cursor_of s entry st) b)) (ne_kind st.token.kind name_kind e) g
+  pub one-other : (st.token.kind ≡ name_kind → ⊥) → Gives literal_form s st entry exit n r (literal_with most s (cursor_of s entry st) false)
+      → Gives literal_form s st entry exit n r (literal_with most s (cursor_of s entry st) (same_kind st.token.kind name_kind))
+  one-other e g = subst⁻¹ (λ (b : Bool). Gives literal_form s st entry exit n r (literal_with most s (cursor_of s entry st) b)) (ne_kind st.token.kind name_kind e) g
 
 -- ---- an atom alone, stored
 
@@ -353,20 +353,20 @@ module _ (s : List ℕ) (st : State) (r : Parsed) (entry exit : List ℕ) (n num
     stored = ex ∙ ap (set entry n) en;
   }
 
-module _ (most : ℕ) (s : List ℕ) (st : State) (entry : List ℕ) (n : ℕ) (ready : RoomToRead s st entry n 1) (mid : List ℕ) (r : Parsed) (l : length mid ≡ length entry) (g : Gives atom_words one s st entry mid (n + 1) (Ok r) (read_atom most s (cursor_of s entry st))) where
+module _ (most : ℕ) (s : List ℕ) (st : State) (entry : List ℕ) (n : ℕ) (ready : RoomToRead s st entry n 1) (mid : List ℕ) (r : Parsed) (l : length mid ≡ length entry) (g : Gives atom_form s st entry mid (n + 1) (Ok r) (read_atom most s (cursor_of s entry st))) where
   pub alone-asked : (n + 1 ≤ r.used) × (n + 1 ≤ length mid)
   alone-asked =
-      let o : (a : Atom) × (read_atom most s (cursor_of s entry st) ≡ ok a (cursor_of s mid r.state)) × Given s st entry mid (n + 1) r (atom_words a) 1 (cursor_of s mid r.state) = seq-ok 1 atom_words one s st entry mid (n + 1) r (read_atom most s (cursor_of s entry st)) g in
+      let o : (a : Atom) × (read_atom most s (cursor_of s entry st) ≡ ok a (cursor_of s mid r.state)) × Given s st entry mid (n + 1) r (atom_words a) 1 (cursor_of s mid r.state) = seq-ok atom_form s st entry mid (n + 1) r (read_atom most s (cursor_of s entry st)) g in
       let used : r.used ≡ (n + 1) + length (atom_words o.0) = o.2.used_is in
       let room : n + node_words * bytes_left s st + 1 + variables ≤ length entry = ready.room in
       (omega arith, omega arith)
 
-  alone-by : (exit : List ℕ) (q : Parsed) (b : Bool) → eqb (alone_number s st r n) 2 ≡ b → (r.state.token.kind ≡ equals_kind → ⊥) → exit ≡ set mid n (alone_number s st r n) → GivesWith 0 literal_words literal_length s st entry exit n (Ok (record { used = cond b r.used (n + 1); items = 1; state = r.state })) (literal_with most s (cursor_of s entry st) true)
+  alone-by : (exit : List ℕ) (q : Parsed) (b : Bool) → eqb (alone_number s st r n) 2 ≡ b → (r.state.token.kind ≡ equals_kind → ⊥) → exit ≡ set mid n (alone_number s st r n) → Gives literal_form s st entry exit n (Ok (record { used = cond b r.used (n + 1); items = 1; state = r.state })) (literal_with most s (cursor_of s entry st) true)
   alone-by exit q true e ne ex = named-call most s st entry n ready mid r l g (alone_number s st r n) refl exit ex ne (eqb-true (alone_number s st r n) 2 e)
   alone-by exit q false e ne ex = named_other most s st entry n ready mid r l g (alone_number s st r n) refl exit ex ne (eqb-false (alone_number s st r n) 2 e)
 
-  pub named-alone : (exit : List ℕ) (q : Parsed) → (r.state.token.kind ≡ equals_kind → ⊥) → Alone s st r mid exit n q → GivesWith 0 literal_words literal_length s st entry exit n (Ok q) (literal_with most s (cursor_of s entry st) true)
-  named-alone exit q ne a = subst⁻¹ (λ (x : Parsed). GivesWith 0 literal_words literal_length s st entry exit n (Ok x) (literal_with most s (cursor_of s entry st) true)) a.is (alone-by exit q (eqb (alone_number s st r n) 2) refl ne a.stored)
+  pub named-alone : (exit : List ℕ) (q : Parsed) → (r.state.token.kind ≡ equals_kind → ⊥) → Alone s st r mid exit n q → Gives literal_form s st entry exit n (Ok q) (literal_with most s (cursor_of s entry st) true)
+  named-alone exit q ne a = subst⁻¹ (λ (x : Parsed). Gives literal_form s st entry exit n (Ok x) (literal_with most s (cursor_of s entry st) true)) a.is (alone-by exit q (eqb (alone_number s st r n) 2) refl ne a.stored)
 
 pub number-asked : (b : Bool) (name : List ℕ) (k : ℕ) → k ≡ atom_number b name → k < 2 ^ 32
 number-asked b name k e = subst⁻¹ (λ (x : ℕ). x < 2 ^ 32) e (number_small b name)

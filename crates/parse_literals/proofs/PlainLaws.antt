@@ -12,10 +12,10 @@ use Rattle.syntax.specs.Limits.{literals}
 use Rattle.syntax.specs.Tokens.{same_kind, name_kind}
 use Rattle.syntax.specs.declared.Refusal.{Refusal}
 use Rattle.syntax.specs.Reading.{Cursor, Read, fault, ok, begins, start_of, literal_with, plain_with, read_plain}
-use Rattle.syntax.specs.Words.{node_words, literal_words, literal_length}
+use Rattle.syntax.specs.Words.{node_words}
 use Rattle.syntax.specs.declared.State.{State}
 use Rattle.syntax.specs.declared.Token.{Token}
-use Rattle.parse_cursor.specs.Gives.{cursor_of, bytes_left, RoomToRead, GivesWith, Refused, full_number}
+use Rattle.parse_cursor.specs.Gives.{cursor_of, bytes_left, RoomToRead, Refused, full_number, literal_form, Form, Gives}
 use Rattle.parse_cursor.specs.declared.Parsed.{Parsed}
 use Rattle.parse_cursor.proofs.TermLaws.{list_full}
 use Rattle.parse_literals.specs.Counted.{with_literal}
@@ -40,12 +40,12 @@ counted_ready {s} {st} {more} {table} {n} {spare} ready e =
     })
 
 -- what is read from a state with the same token
-from-same : {A : Type 0} (spare : ℕ) (wa : A → List ℕ) (ia : A → ℕ) (s : List ℕ) (st more : State) (entry exit : List ℕ) (n : ℕ) (r : Result Parsed Refusal) (d : Read A)
-    → st.token ≡ more.token → GivesWith spare wa ia s more entry exit n r d → GivesWith spare wa ia s st entry exit n r d
-from-same spare wa ia s st more entry exit n (Err q) (fault k b) e g = g
-from-same spare wa ia s st more entry exit n (Err q) (ok a after) e g = g
-from-same spare wa ia s st more entry exit n (Ok r) (fault k b) e g = g
-from-same spare wa ia s st more entry exit n (Ok r) (ok a after) e g =
+from-same : {A : Type 0} (f : Form A) (s : List ℕ) (st more : State) (entry exit : List ℕ) (n : ℕ) (r : Result Parsed Refusal) (d : Read A)
+    → st.token ≡ more.token → Gives f s more entry exit n r d → Gives f s st entry exit n r d
+from-same f s st more entry exit n (Err q) (fault k b) e g = g
+from-same f s st more entry exit n (Err q) (ok a after) e g = g
+from-same f s st more entry exit n (Ok r) (fault k b) e g = g
+from-same f s st more entry exit n (Ok r) (ok a after) e g =
     record {
       state_is = g.state_is;
       items_is = g.items_is;
@@ -53,7 +53,7 @@ from-same spare wa ia s st more entry exit n (Ok r) (ok a after) e g =
       table_is = g.table_is;
       standing = g.standing;
       held = g.held;
-      room = subst⁻¹ (λ (t : Token). length (wa a) + node_words * bytes_left s r.state + spare ≤ node_words * (length s - t.at) + 1) e g.room;
+      room = subst⁻¹ (λ (t : Token). length (f.words a) + node_words * bytes_left s r.state + f.spare ≤ node_words * (length s - t.at) + 1) e g.room;
     }
 
 module _ (most : ℕ) (s : List ℕ) (st : State) (entry : List ℕ) (n : ℕ) where
@@ -65,19 +65,19 @@ module _ (most : ℕ) (s : List ℕ) (st : State) (entry : List ℕ) (n : ℕ) w
   counted-cursor = ap (λ (k : ℕ). record { token = st.token; names = (cursor_of s entry st).names; literals = k }) (add-one st.literals)
 
   pub plain-one : (r : Result Parsed Refusal) (exit : List ℕ) (more : State) → st.literals < literals → more ≡ with_literal st
-      → GivesWith 0 literal_words literal_length s more entry exit n r (literal_with most s (cursor_of s entry more) (same_kind more.token.kind name_kind))
-      → GivesWith 0 literal_words literal_length s st entry exit n r (read_plain most s (cursor_of s entry st))
+      → Gives literal_form s more entry exit n r (literal_with most s (cursor_of s entry more) (same_kind more.token.kind name_kind))
+      → Gives literal_form s st entry exit n r (read_plain most s (cursor_of s entry st))
   unfolding plain_with
   plain-one r exit more h e g =
-      subst⁻¹ (GivesWith 0 literal_words literal_length s st entry exit n r) (plain_by true (lt-ltb st.literals literals h))
-      (subst (λ (c : Cursor). GivesWith 0 literal_words literal_length s st entry exit n r (literal_with most s c (same_kind st.token.kind name_kind))) counted-cursor
-      (from-same 0 literal_words literal_length s st (with_literal st) entry exit n r
+      subst⁻¹ (Gives literal_form s st entry exit n r) (plain_by true (lt-ltb st.literals literals h))
+      (subst (λ (c : Cursor). Gives literal_form s st entry exit n r (literal_with most s c (same_kind st.token.kind name_kind))) counted-cursor
+      (from-same literal_form s st (with_literal st) entry exit n r
       (literal_with most s (cursor_of s entry (with_literal st)) (same_kind st.token.kind name_kind)) refl
-      (subst (λ (x : State). GivesWith 0 literal_words literal_length s x entry exit n r (literal_with most s (cursor_of s entry x) (same_kind x.token.kind name_kind))) e g)))
+      (subst (λ (x : State). Gives literal_form s x entry exit n r (literal_with most s (cursor_of s entry x) (same_kind x.token.kind name_kind))) e g)))
 
   pub plain-full : (r : Refusal) → literals ≤ st.literals → Refused st (full_number (begins (start_of st.token.kind)) st.token.kind) r
-      → GivesWith 0 literal_words literal_length s st entry entry n (Err r) (read_plain most s (cursor_of s entry st))
+      → Gives literal_form s st entry entry n (Err r) (read_plain most s (cursor_of s entry st))
   unfolding plain_with
   plain-full r h g =
-      subst⁻¹ (GivesWith 0 literal_words literal_length s st entry entry n (Err r)) (plain_by false (le-ltb st.literals literals h))
-      (list_full 0 literal_words literal_length s st st entry n r (cursor_of s entry st) refl g)
+      subst⁻¹ (Gives literal_form s st entry entry n (Err r)) (plain_by false (le-ltb st.literals literals h))
+      (list_full literal_form s st st entry n r (cursor_of s entry st) refl g)

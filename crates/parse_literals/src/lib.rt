@@ -6,8 +6,8 @@ ghost use Rattle.std.specs.Prelude.{◌≡◌, ◌+◌, ◌-◌, ◌≤◌, ◌<
 ghost use Rattle.syntax.specs.Limits.{literals};
 ghost use Rattle.syntax.specs.Tokens.{spelling, same_kind, name_kind, equals_kind};
 ghost use Rattle.syntax.specs.Reading.{read_term, literal_with, read_plain};
-ghost use Rattle.syntax.specs.Words.{node_words, equation_kind, term_words, literal_words, literal_length};
-ghost use Rattle.parse_cursor.specs.Gives.{cursor_of, state_onward, CursorInside, RoomToRead, Gives, GivesWith, one};
+ghost use Rattle.syntax.specs.Words.{node_words, equation_kind};
+ghost use Rattle.parse_cursor.specs.Gives.{cursor_of, state_onward, CursorInside, RoomToRead, Gives, term_form, literal_form};
 ghost use Rattle.parse_literals.specs.Atoms.{atom_number, Alone};
 ghost use Rattle.parse_literals.specs.Counted.{with_literal};
 
@@ -32,7 +32,7 @@ fn read_right(
 ) -> Result<Parsed, Refusal>
     requires room_to_read { RoomToRead s.now st table.old used 0 }
     requires kind_value { (st.token.kind ≡ equals_kind) × (n < used) }
-    ensures { Gives term_words one s.now (state_onward s.now st) (set table.old n equation_kind) table.new used result
+    ensures { Gives term_form s.now (state_onward s.now st) (set table.old n equation_kind) table.new used result
         (read_term left s.now (cursor_of s.now (set table.old n equation_kind) (state_onward s.now st))) }
 {
     put(table, n, EQUATION_KIND);
@@ -67,7 +67,7 @@ fn read_named(
 ) -> Result<Parsed, Refusal>
     requires room_to_read { RoomToRead s.now st table.old n 1 }
     requires kind_value { st.token.kind ≡ name_kind }
-    ensures { GivesWith 0 literal_words literal_length s.now st table.old table.new n result
+    ensures { Gives literal_form s.now st table.old table.new n result
         (literal_with left s.now (cursor_of s.now table.old st) true) }
 {
     let r = read_atom(s, left, st, table, n + 1)?;
@@ -109,7 +109,7 @@ fn read_equation(
     n: usize,
 ) -> Result<Parsed, Refusal>
     requires { RoomToRead s.now st table.old n 1 }
-    ensures { GivesWith 0 literal_words literal_length s.now st table.old table.new n result
+    ensures { Gives literal_form s.now st table.old table.new n result
         (literal_with left s.now (cursor_of s.now table.old st) false) }
 {
     let r = read_term(s, left, st, table, n + 1)?;
@@ -128,7 +128,7 @@ fn read_one(
     n: usize,
 ) -> Result<Parsed, Refusal>
     requires { RoomToRead s.now st table.old n 1 }
-    ensures { GivesWith 0 literal_words literal_length s.now st table.old table.new n result
+    ensures { Gives literal_form s.now st table.old table.new n result
         (literal_with left s.now (cursor_of s.now table.old st) (same_kind st.token.kind name_kind)) }
 {
     match st.token.kind {
@@ -156,7 +156,7 @@ pub fn read_plain(
     n: usize,
 ) -> Result<Parsed, Refusal>
     requires { RoomToRead s.now st table.old n 1 }
-    ensures { GivesWith 0 literal_words literal_length s.now st table.old table.new n result
+    ensures { Gives literal_form s.now st table.old table.new n result
         (read_plain left s.now (cursor_of s.now table.old st)) }
 {
     if st.literals < LITERALS {

@@ -21,7 +21,7 @@ use Rattle.syntax.specs.declared.State.{State}
 use Rattle.syntax.specs.declared.Refusal.{Refusal}
 use Rattle.syntax.specs.declared.Token.{Token}
 use Rattle.lex_tokens.proofs.Laws.{token-inside, token-some, token-word-short}
-use Rattle.parse_cursor.specs.Gives.{cursor_of, bytes_left, CursorInside, RoomToRead, Given, Gives, Refused, one}
+use Rattle.parse_cursor.specs.Gives.{cursor_of, bytes_left, CursorInside, RoomToRead, Given, Gives, Refused, body_form, clause_form}
 use Rattle.parse_cursor.specs.declared.Parsed.{Parsed}
 use Rattle.parse_cursor.proofs.Reading.{refused-beyond}
 use Rattle.parse_cursor.proofs.Sequence.{seq-ok}
@@ -53,13 +53,13 @@ module _ (s : List ℕ) (st : State) (entry exit : List ℕ) (n : ℕ) where
   unfolding declaration_next
   declaration-one r ds m e g = subst⁻¹ (λ (b : Bool). DeclarationGives s st entry exit n r (elim b as (λ _. Read Declaration) [ true ↦ beyond (begin st.token) | false ↦ read_declaration s (begin st.token) ])) (ne_eqb (declarations - ds) 0 (λ z. e (omega arith))) g
 
-  pub clause-full : (r : Refusal) (cs : ℕ) → cs ≡ clauses → Refused st 6 r → Gives clause_words one s st entry entry n (Err r) (clause_next s (clauses - cs) (begin st.token))
+  pub clause-full : (r : Refusal) (cs : ℕ) → cs ≡ clauses → Refused st 6 r → Gives clause_form s st entry entry n (Err r) (clause_next s (clauses - cs) (begin st.token))
   unfolding clause_next
-  clause-full r cs e f = subst⁻¹ (λ (b : Bool). Gives clause_words one s st entry entry n (Err r) (elim b as (λ _. Read Clause) [ true ↦ beyond (begin st.token) | false ↦ read_clause s (begin st.token) ])) (eq-eqb (clauses - cs) 0 (omega arith)) (refused-beyond clause_words one s st st entry entry n r (begin st.token) refl f refl)
+  clause-full r cs e f = subst⁻¹ (λ (b : Bool). Gives clause_form s st entry entry n (Err r) (elim b as (λ _. Read Clause) [ true ↦ beyond (begin st.token) | false ↦ read_clause s (begin st.token) ])) (eq-eqb (clauses - cs) 0 (omega arith)) (refused-beyond clause_form s st st entry entry n r (begin st.token) refl f refl)
 
-  pub clause-one : (r : Result Parsed Refusal) (cs : ℕ) → cs ≤ clauses → (cs ≡ clauses → ⊥) → Gives clause_words one s st entry exit n r (read_clause s (begin st.token)) → Gives clause_words one s st entry exit n r (clause_next s (clauses - cs) (begin st.token))
+  pub clause-one : (r : Result Parsed Refusal) (cs : ℕ) → cs ≤ clauses → (cs ≡ clauses → ⊥) → Gives clause_form s st entry exit n r (read_clause s (begin st.token)) → Gives clause_form s st entry exit n r (clause_next s (clauses - cs) (begin st.token))
   unfolding clause_next
-  clause-one r cs m e g = subst⁻¹ (λ (b : Bool). Gives clause_words one s st entry exit n r (elim b as (λ _. Read Clause) [ true ↦ beyond (begin st.token) | false ↦ read_clause s (begin st.token) ])) (ne_eqb (clauses - cs) 0 (λ z. e (omega arith))) g
+  clause-one r cs m e g = subst⁻¹ (λ (b : Bool). Gives clause_form s st entry exit n r (elim b as (λ _. Read Clause) [ true ↦ beyond (begin st.token) | false ↦ read_clause s (begin st.token) ])) (ne_eqb (clauses - cs) 0 (λ z. e (omega arith))) g
 
 below : {a most : ℕ} → (most - a ≡ 0 → ⊥) → a ≤ most → a < most
 below {a = a} {most = most} n m = omega (arith, n)
@@ -261,7 +261,7 @@ module _ (s declared table : List ℕ) (ds cs used : ℕ) (st : State) (l : Load
     at-clause : read_sheet s ≡ items_before l.dl l.cl (and_then (clause_next s (clauses - cs) (begin st.token)) (λ x after. and_then (read_items s (declarations + clauses + 1 - (ds + cs) - 1) (declarations - ds) (clauses - cs - 1) (fresh after)) (λ sh end. ok (with_clause x sh) end)))
     at-clause = whole-suc ∙ ap (items_before l.dl l.cl) (here ∙ item-clause others s (declarations - ds) (clauses - cs) (begin st.token) e f c)
 
-    clause-fault-by : (q : Refusal) (d : Read Clause) → Gives clause_words one s st table table2 used (Err q) d → clause_next s (clauses - cs) (begin st.token) ≡ d → Parses s declared table2 (Err (record { refusal = q; before = record { declarations = ds; clauses = cs; used = used } })) (read_sheet s)
+    clause-fault-by : (q : Refusal) (d : Read Clause) → Gives clause_form s st table table2 used (Err q) d → clause_next s (clauses - cs) (begin st.token) ≡ d → Parses s declared table2 (Err (record { refusal = q; before = record { declarations = ds; clauses = cs; used = used } })) (read_sheet s)
     unfolding items_before and_then
     clause-fault-by q (fault k b) h ed =
         halt k b q (at-clause ∙ ap (λ (d : Read Clause). items_before l.dl l.cl (and_then d (λ x after. and_then (read_items s (declarations + clauses + 1 - (ds + cs) - 1) (declarations - ds) (clauses - cs - 1) (fresh after)) (λ sh end. ok (with_clause x sh) end)))) ed) h.is declared table2
@@ -269,12 +269,12 @@ module _ (s declared table : List ℕ) (ds cs used : ℕ) (st : State) (l : Load
         (λ rest. item-clause rest s (declarations - ds) (clauses - cs) (begin st.token) e f c ∙ ap (after-clause rest s (declarations - ds) (clauses - cs) (begin st.token)) ed)
     clause-fault-by q (ok x after) h ed = absurd h
 
-    pub loading-clause-fault : (q : Refusal) → Gives clause_words one s st table table2 used (Err q) (clause_next s (clauses - cs) (begin st.token)) → Parses s declared table2 (Err (record { refusal = q; before = record { declarations = ds; clauses = cs; used = used } })) (read_sheet s)
+    pub loading-clause-fault : (q : Refusal) → Gives clause_form s st table table2 used (Err q) (clause_next s (clauses - cs) (begin st.token)) → Parses s declared table2 (Err (record { refusal = q; before = record { declarations = ds; clauses = cs; used = used } })) (read_sheet s)
     loading-clause-fault q g = clause-fault-by q (clause_next s (clauses - cs) (begin st.token)) g refl
 
-    module _ (r : Parsed) (g : Gives clause_words one s st table table2 used (Ok r) (clause_next s (clauses - cs) (begin st.token))) where
+    module _ (r : Parsed) (g : Gives clause_form s st table table2 used (Ok r) (clause_next s (clauses - cs) (begin st.token))) where
       clause-read : (x : Clause) × (clause_next s (clauses - cs) (begin st.token) ≡ ok x (cursor_of s table2 r.state)) × Given s st table table2 used r (clause_words x) 1 (cursor_of s table2 r.state)
-      clause-read = seq-ok 1 clause_words one s st table table2 used r (clause_next s (clauses - cs) (begin st.token)) g
+      clause-read = seq-ok clause_form s st table table2 used r (clause_next s (clauses - cs) (begin st.token)) g
 
       no-clause : (k b : ℕ) (x : Clause) (y : Cursor) → ◌≡◌ {A = Read Clause} (fault k b) (ok x y) → ⊥
       no-clause k b x y p = subst (λ (d : Read Clause). elim d as (λ _. Type 0) [ fault k b ↦ Unit {0} | ok x y ↦ ⊥ ]) p tt
@@ -334,17 +334,17 @@ module _ (s : List ℕ) (entry exit : List ℕ) (st : State) (is : st ≡ record
   unfolding read_goal at_start names_from
   goal-whole = ap (λ (x : State). and_then (read_body s (cursor_of s entry x)) (λ b after. goal_end s b after (same_kind after.token.kind end_kind))) (sym is)
 
-  goal-fault-by : (q : Refusal) (d : Read Body) → Gives body_words body_length s st entry exit 0 (Err q) d → GoalParses s exit (Err q) (and_then d (λ b after. goal_end s b after (same_kind after.token.kind end_kind)))
+  goal-fault-by : (q : Refusal) (d : Read Body) → Gives body_form s st entry exit 0 (Err q) d → GoalParses s exit (Err q) (and_then d (λ b after. goal_end s b after (same_kind after.token.kind end_kind)))
   unfolding and_then
   goal-fault-by q (fault k b) h = h.is
   goal-fault-by q (ok b after) h = absurd h
 
-  pub goal-fault : (q : Refusal) → Gives body_words body_length s st entry exit 0 (Err q) (read_body s (cursor_of s entry st)) → GoalParses s exit (Err q) (read_goal s)
+  pub goal-fault : (q : Refusal) → Gives body_form s st entry exit 0 (Err q) (read_body s (cursor_of s entry st)) → GoalParses s exit (Err q) (read_goal s)
   goal-fault q g = subst⁻¹ (GoalParses s exit (Err q)) goal-whole (goal-fault-by q (read_body s (cursor_of s entry st)) g)
 
-  module _ (r : Parsed) (g : Gives body_words body_length s st entry exit 0 (Ok r) (read_body s (cursor_of s entry st))) where
+  module _ (r : Parsed) (g : Gives body_form s st entry exit 0 (Ok r) (read_body s (cursor_of s entry st))) where
     goal_read : (b : Body) × (read_body s (cursor_of s entry st) ≡ ok b (cursor_of s exit r.state)) × Given s st entry exit 0 r (body_words b) (body_length b) (cursor_of s exit r.state)
-    goal_read = seq-ok 1 body_words body_length s st entry exit 0 r (read_body s (cursor_of s entry st)) g
+    goal_read = seq-ok body_form s st entry exit 0 r (read_body s (cursor_of s entry st)) g
 
     goal-by : (b : Bool) → same_kind r.state.token.kind end_kind ≡ b → read_goal s ≡ goal_end s goal_read.0 (cursor_of s exit r.state) b
     unfolding and_then

@@ -1,4 +1,4 @@
-// The parser: sheets and goals into tables of words, with refusals 3 to 6 of document 01.
+// The parser: sheets and goals into tables of words, with refusals 3 to 6 of RULES.
 
 #![tactic(auto)]
 

@@ -3,8 +3,8 @@ ghost use Rattle.std.specs.Prelude.{◌≡◌, ◌+◌, ◌-◌, ◌*◌, ◌≤
 ghost use Rattle.syntax.specs.Limits.{sheet_bytes, variables, declarations, clauses};
 ghost use Rattle.syntax.specs.Tokens.{token_at, name_kind};
 ghost use Rattle.syntax.specs.Reading.{begin, read_sheet, read_goal};
-ghost use Rattle.syntax.specs.Words.{node_words, declaration_size, declared_words, sheet_words, clause_words};
-ghost use Rattle.parse_cursor.specs.Gives.{fresh, CursorInside, RoomToRead, Gives, one};
+ghost use Rattle.syntax.specs.Words.{node_words, declaration_size, declared_words, sheet_words};
+ghost use Rattle.parse_cursor.specs.Gives.{fresh, CursorInside, RoomToRead, Gives, clause_form};
 ghost use Rattle.parse_declarations.specs.Marks.{DeclarationGives};
 ghost use Rattle.parse_sheets.specs.Sheets.{declaration_next, clause_next, Parses, GoalParses};
 
@@ -57,7 +57,7 @@ fn next_clause(
 ) -> Result<Parsed, Refusal>
     requires room_to_read { RoomToRead s.now (fresh st) table.old used 4 }
     requires kind_value { (st.token.kind ≡ name_kind) × (cs ≤ clauses) }
-    ensures { Gives clause_words one s.now st table.old table.new used result
+    ensures { Gives clause_form s.now st table.old table.new used result
         (clause_next s.now (clauses - cs) (begin st.token)) }
 {
     if cs == CLAUSES {

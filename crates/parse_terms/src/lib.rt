@@ -4,11 +4,10 @@
 #![tactic(auto)]
 
 ghost use Rattle.std.specs.Prelude.{◌≡◌, ◌+◌, ◌-◌, ◌≤◌, ◌<◌, ◌^◌, length, set};
-ghost use Rattle.syntax.specs.Terms.{arity};
 ghost use Rattle.syntax.specs.Tokens.{name_kind};
 ghost use Rattle.syntax.specs.Reading.{read_term, read_atom, read_arguments};
-ghost use Rattle.syntax.specs.Words.{node_words, term_words, terms_words, atom_words, functor};
-ghost use Rattle.parse_cursor.specs.Gives.{cursor_of, RoomToRead, Gives, one};
+ghost use Rattle.syntax.specs.Words.{node_words, functor};
+ghost use Rattle.parse_cursor.specs.Gives.{cursor_of, RoomToRead, Gives, term_form, terms_form, atom_form};
 
 use packed_words::pack_functor;
 use parse_cursor::Parsed;
@@ -28,7 +27,7 @@ pub fn read_atom(
 ) -> Result<Parsed, Refusal>
     requires room_to_read { RoomToRead s.now st table.old n 0 }
     requires kind_value { st.token.kind ≡ name_kind }
-    ensures { Gives atom_words one s.now st table.old table.new n result
+    ensures { Gives atom_form s.now st table.old table.new n result
         (read_atom left s.now (cursor_of s.now table.old st)) }
 {
     let past = next(s, st);
@@ -70,7 +69,7 @@ pub fn read_term(
     n: usize,
 ) -> Result<Parsed, Refusal>
     requires { RoomToRead s.now st table.old n 0 }
-    ensures { Gives term_words one s.now st table.old table.new n result
+    ensures { Gives term_form s.now st table.old table.new n result
         (read_term left s.now (cursor_of s.now table.old st)) }
 {
     match st.token.kind {
@@ -90,7 +89,7 @@ fn read_arguments(
     n: usize,
 ) -> Result<Parsed, Refusal>
     requires { RoomToRead s.now st table.old n 0 }
-    ensures { Gives terms_words arity s.now st table.old table.new n result
+    ensures { Gives terms_form s.now st table.old table.new n result
         (read_arguments (λ x. read_term left s.now x) s.now k (cursor_of s.now table.old st)) }
 {
     if k == 0 {

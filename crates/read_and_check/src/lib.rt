@@ -1,4 +1,4 @@
-// A sheet and a goal in tables: read into words, the sheet held against its marks. Document 01 is the paper "Rule sheets".
+// A sheet and a goal in tables: read into words, the sheet held against its marks.
 
 #![tactic(auto)]
 

@@ -35,7 +35,7 @@ fn at_byte(number: usize, byte: usize) -> Five
     }
 }
 
-// The five numbers that documents 01 and 02 give a refusal: an enum's answers through a definition of numbers, document 01's named form. (No `From`: it
+// The five numbers that RULES gives a refusal: an enum's answers through a definition of numbers, a form asked for in REQUESTS. (No `From`: it
 // would have to stand beside both types, in `syntax`, which has no code. Over 40 lines, since `rt fmt` gives a line to each field that is named.)
 pub fn numbers(refusal: Refusal) -> Five
     ensures { result ≡ numbers_of refusal }
@@ -97,7 +97,7 @@ pub fn is_too_long<const MOST: usize>(bytes: usize) -> bool
     MOST < bytes
 }
 
-// A fault of reading, 3 to 6, as a refusal. (The fault is the paper's number here, as in the definition `fault_of`; the reader gives refusals at once, so
+// A fault of reading, 3 to 6, as a refusal. (The fault is its number here, as in the definition `fault_of`; the reader gives refusals at once, so
 // nothing in the library calls this.)
 pub fn fault_of(number: usize, byte: usize) -> Refusal
     ensures { result ≡ fault_of number byte }

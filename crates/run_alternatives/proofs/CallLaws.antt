@@ -26,11 +26,11 @@ use Rattle.unifier.specs.Turns.{answered, Unifiable, UnifyGives}
 use Rattle.unifier.specs.declared.solve.UnifyAnswer.{UnifyAnswer}
 use Rattle.run_alternatives.specs.Words.{next_words, frame_words}
 use Rattle.run_alternatives.specs.Moves.{Layable, Lays, Tryable, Comes, rest_at, tried_on}
-use Rattle.run_alternatives.specs.Steps.{Steppable, Stepped}
+use Rattle.run_alternatives.specs.Steps.{meaning, Steppable, Stepped}
 use Rattle.run_alternatives.specs.declared.Pile.{Pile}
-use Rattle.run_alternatives.proofs.WordLaws.{add-one, stand-written, next-written, frame-framed}
-use Rattle.run_alternatives.proofs.LayLaws.{lays-long, LayEnds}
-use Rattle.run_alternatives.proofs.TopLaws.{trail_low, lays-stand, head-eq, tail-eq, top-stacked, top-stands, top-inside, top-room, step-also, kept}
+use Rattle.run_alternatives.proofs.WordLaws.{add-one, next-written, frame-framed}
+use Rattle.run_alternatives.proofs.LayLaws.{LayEnds}
+use Rattle.run_alternatives.proofs.TopLaws.{trail_low, lays-stand, lays-written, head-eq, tail-eq, top-stacked, top-stands, top-inside, top-room, step-also, kept}
 use Rattle.run_alternatives.proofs.WorkLaws.{pops-here}
 use Rattle.run_layout.proofs.Step.{left-first, step-exhausted}
 use Rattle.run_layout.proofs.Pile.{HeadStands, SameFrames, calls_count, path-high, calls-also, clause-low, kind-call, same_rest, same_left, next-for, next-clause, next_low, next-head, Written, Framed, Means, moved, Pushing, pushed-frames, pushed-place, pushed-left, pushed}
@@ -110,7 +110,7 @@ module _ (nodes code state scratch : List ℕ) (j k : ℕ) (w : Tryable nodes co
         (ap (λ (y : ℕ). unify (bindings ss nodes state (mark_at state j)) (copied (copy_at state j) (term_of w.atom)) (copied y (term_of w.clause.head))) new_is
         ∙ (unifies.answer (term_of w.atom) (term_of w.clause.head) call_stands head-stands ∙ ap (λ (y : Bool). answered y (bindings ss nodes state1 r.trail)) e))
 
-    pub try-fails-top : r.equal ≡ false → Comes ss sh g nodes code state state1 scratch later (tried_on ss sh g nodes code state j w.atom w.clause) (record { height = suc j; trail = r.trail })
+    pub try-fails-top : r.equal ≡ false → Comes w state1 later (record { height = suc j; trail = r.trail })
     unfolding laid answered on_top pile_of
     try-fails-top e =
         let m : Means ss sh g nodes code state1 (suc j) r.trail (pile_of ss sh g nodes code state (suc j)) = kept ss sh g nodes code state j (mark_at state j) w.piled refl state1 r.trail unifies.keeps unifies.store unifies.grows in
@@ -197,37 +197,24 @@ module _ (nodes code state scratch : List ℕ) (j k : ℕ) (w : Tryable nodes co
           pushed-left ss sh g nodes code state state1 state2 j (mark_at state j) r.trail (path_at state j + 1) k w.atom w.clause pushing
           ∙ ap (λ (y : ℕ). pending y w.clause.body (rest_at sh g code state j)) (sym new_is)
 
-      laid_on : (after : List ℕ) → r.equal ≡ true → Lays sh g code state2 after (suc j) (path_at state j + 1) (body_at code k) r.trail (path_at state j + 1)
-          → Means ss sh g nodes code after (suc (suc j)) r.trail (tried_on ss sh g nodes code state j w.atom w.clause)
-      unfolding laid answered on_top pile_of alternative_at
-      laid_on after e q =
-          let a : q.spot.copy ≤ path_at state j + 1 = q.climbs.copy in
-          let p : path_at state j < longest_path = w.low in
-          let l : state_words ≤ length state = w.piled.long in
-          let s : length state2 ≡ length state = state2-long in
-          let written : Written (suc j) q.spot.copy q.spot.literal q.next r.trail (path_at state j + 1) state2 after =
-          subst⁻¹ (λ (x : List ℕ). Written (suc j) q.spot.copy q.spot.literal q.next r.trail (path_at state j + 1) state2 x) q.words (stand-written state2 (suc j) q.spot.copy q.spot.literal q.next r.trail (path_at state j + 1) room2) in
+      pub try-core : r.equal ≡ true → (after : List ℕ) → LayEnds code state2 after (suc j) (path_at state j + 1) (body_at code k) r.trail (path_at state j + 1)
+          → Comes w after later (record { height = suc j + 1; trail = r.trail })
+      unfolding try-layable-top laid answered on_top pile_of alternative_at
+      try-core e after f =
+          let q : Lays try-layable-top.climbing after (suc j) r.trail = f try-layable-top in
           let m : Means ss sh g nodes code after (suc (suc j)) r.trail (record { literals = left_from sh g code state2 (path_at state j + 1) q.spot.copy q.spot.literal; bindings = bindings ss nodes state1 r.trail; next = q.next; calls = record { copy = copy_at state j; atom = w.atom } ∷ calls_up_to sh g code state (path_at state j) } ∷ pile_of ss sh g nodes code state (suc j)) =
-          pushed ss sh g nodes code state state1 state2 j (mark_at state j) r.trail (path_at state j + 1) k w.atom w.clause pushing after q.spot.copy q.spot.literal q.next a (lays-stand q) written in
+          pushed ss sh g nodes code state state1 state2 j (mark_at state j) r.trail (path_at state j + 1) k w.atom w.clause pushing after q.spot.copy q.spot.literal q.next q.climbs.copy (lays-stand q) (lays-written q room2) in
           let lits : left_from sh g code state2 (path_at state j + 1) q.spot.copy q.spot.literal ≡ pending (suc (length (calls_up_to sh g code state (path_at state j)))) w.clause.body (rest_at sh g code state j) = q.climbs.same ∙ new-left in
           let nxt : q.next ≡ topmost sh (pending (suc (length (calls_up_to sh g code state (path_at state j)))) w.clause.body (rest_at sh g code state j)) = q.next_is ∙ ap (topmost sh) new-left in
-          record {
-            piled = m.piled;
+          subst⁻¹ (λ (y : ℕ). Comes w after later (record { height = y; trail = r.trail })) (add-one (suc j))
+          (record {
             is = m.is ∙ ((λ i. record { literals = lits i; bindings = bindings ss nodes state1 r.trail; next = nxt i; calls = record { copy = copy_at state j; atom = w.atom } ∷ calls_up_to sh g code state (path_at state j) } ∷ pile_of ss sh g nodes code state (suc j))
                 ∙ sym (ap (λ (o : Option Alternative). on_top o (alternative_at ss sh g nodes code state j) ++ pile_of ss sh g nodes code state j) (tried-is true e)));
-          }
-
-      try-end-top : r.equal ≡ true → (after : List ℕ) → Lays sh g code state2 after (suc j) (path_at state j + 1) (body_at code k) r.trail (path_at state j + 1)
-          → Comes ss sh g nodes code state after scratch later (tried_on ss sh g nodes code state j w.atom w.clause) (record { height = suc j + 1; trail = r.trail })
-      try-end-top e after q =
-          subst⁻¹ (λ (y : ℕ). Comes ss sh g nodes code state after scratch later (tried_on ss sh g nodes code state j w.atom w.clause) (record { height = y; trail = r.trail })) (add-one (suc j))
-          (let m : Means ss sh g nodes code after (suc (suc j)) r.trail (tried_on ss sh g nodes code state j w.atom w.clause) = laid_on after e q in
-          record { is = m.is; piled = m.piled; state_long = lays-long room2 q ∙ state2-long; clean = unifies.clean; scratch_long = unifies.long })
-
-      pub try-core : r.equal ≡ true → (after : List ℕ) → LayEnds code state2 after (suc j) (path_at state j + 1) (body_at code k) r.trail (path_at state j + 1)
-          → Comes ss sh g nodes code state after scratch later (tried_on ss sh g nodes code state j w.atom w.clause) (record { height = suc j + 1; trail = r.trail })
-      unfolding try-layable-top
-      try-core e after q = try-end-top e after (q try-layable-top)
+            piled = m.piled;
+            state_long = (lays-written q room2).long ∙ state2-long;
+            clean = unifies.clean;
+            scratch_long = unifies.long;
+          })
 
 -- ---- the alternative moves on
 
@@ -263,7 +250,7 @@ module _ (nodes code state scratch : List ℕ) (j : ℕ) (w : Steppable nodes co
   unfolding worked alternative_at
   call_step = step-also ss₁ sh₁ g₁ nodes code state j (mark_at state j) piled (call calling.0) calling.1 (one-call calling.0) calling.2
 
-  pub call-none-top : next_at state j ≡ 0 → Stepped ss₁ sh₁ g₁ nodes code state state scratch scratch (suc j) (record { height = j; trail = mark_at state j })
+  pub call-none-top : next_at state j ≡ 0 → Stepped (meaning w.running) state state scratch scratch (suc j) (record { height = j; trail = mark_at state j })
   call-none-top e =
       pops-here nodes code state scratch j w
       (step-exhausted ss₁ sh₁ g₁ nodes code state j piled.program (top-stacked ss₁ sh₁ g₁ nodes code state j (mark_at state j) piled) calling.1 calling.0 calling.2 e)
@@ -375,16 +362,16 @@ module _ (nodes code state scratch : List ℕ) (j : ℕ) (w : Steppable nodes co
       moved-tail = tail-eq (alternative_at ss₁ sh₁ g₁ nodes code state1 j) (record { literals = left_from sh₁ g₁ code state (path_at state j) (copy_at state j) (literal_at state j); bindings = bindings ss₁ nodes state (mark_at state j); next = after_at code (next_at state j); calls = calls_up_to sh₁ g₁ code state (path_at state j) }) (pile_of ss₁ sh₁ g₁ nodes code state1 j) (pile_of ss₁ sh₁ g₁ nodes code state j) means.is
 
       -- trying the clause, once the alternative has moved on, is the step
-      tried-step : tried_on ss₁ sh₁ g₁ nodes code state1 j calling.0 clause ≡ step sh₁ (pile_of ss₁ sh₁ g₁ nodes code state (suc j))
-      unfolding called
+      tried-step : tried_on call-tryable-top ≡ step sh₁ (pile_of ss₁ sh₁ g₁ nodes code state (suc j))
+      unfolding called call-tryable-top
       tried-step =
           (λ i. on_top (tried sh₁ (moved-head i) (written.copy i) calling.0 (same-behind-it i) clause) (moved-head i) ++ moved-tail i)
           ∙ (ap (λ (o : Option Alternative). on_top o (moved_on sh₁ (alternative_at ss₁ sh₁ g₁ nodes code state j) calling.0) ++ pile_of ss₁ sh₁ g₁ nodes code state j) (tried-moved sh₁ (alternative_at ss₁ sh₁ g₁ nodes code state j) (copy_at state j) calling.0 (rest_at sh₁ g₁ code state j) clause)
           ∙ sym (call_step ∙ ap (λ (o : Option Clause). called sh₁ (alternative_at ss₁ sh₁ g₁ nodes code state j) (copy_at state j) calling.0 (rest_at sh₁ g₁ code state j) o ++ pile_of ss₁ sh₁ g₁ nodes code state j) there))
 
-      pub call-end-top : (after later : List ℕ) (r : Pile) → ((v : Tryable nodes code state1 scratch (suc j) j (next_at state j)) → Comes v.ss v.sh v.g nodes code state1 after scratch later (tried_on v.ss v.sh v.g nodes code state1 j v.atom v.clause) r)
-          → Stepped ss₁ sh₁ g₁ nodes code state after scratch later (suc j) r
+      pub call-end-top : (after later : List ℕ) (r : Pile) → ((v : Tryable nodes code state1 scratch (suc j) j (next_at state j)) → Comes v after later r)
+          → Stepped (meaning w.running) state after scratch later (suc j) r
       unfolding call-tryable-top
       call-end-top after later r k =
-          let m : Comes ss₁ sh₁ g₁ nodes code state1 after scratch later (tried_on ss₁ sh₁ g₁ nodes code state1 j calling.0 clause) r = k call-tryable-top in
+          let m : Comes call-tryable-top after later r = k call-tryable-top in
           record { is = m.is ∙ tried-step; piled = m.piled; state_long = m.state_long ∙ written.long; clean = m.clean; scratch_long = m.scratch_long }

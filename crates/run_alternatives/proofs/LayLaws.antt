@@ -15,7 +15,7 @@ use Rattle.run_layout.specs.Pile.{caller_of, call_of, rest_from, left_behind, le
 use Rattle.run_alternatives.specs.Words.{caller_at, topmost_at, top_words}
 use Rattle.run_alternatives.specs.Moves.{Settlable, Settles, Climbable, Climbs, Layable, Lays}
 use Rattle.run_alternatives.specs.declared.records.Spot.{Spot}
-use Rattle.run_alternatives.proofs.WordLaws.{topmost-call, topmost-other, stand-long}
+use Rattle.run_alternatives.proofs.WordLaws.{topmost-call, topmost-other}
 use Rattle.run_layout.proofs.Step.{Rising, rise, Fresh, fresh}
 use Rattle.run_layout.proofs.Pile.{Jumping, HeadStands, place-room, place-jump, place-stands, kind-done, next-for, next_low}
 
@@ -226,7 +226,7 @@ module _ {code state : List ℕ} {j c l mark path : ℕ} (w : Layable code state
     new : Fresh w.sh w.g code state path s.copy s.literal next
     new = fresh w.ss w.sh w.g w.nodes code state path s.copy s.literal next w.climbing.program spot-climbs.place spot-climbs.stays spot-climbs.ends (λ q. is ∙ sym (topmost-call code s.literal q)) (λ z. is ∙ sym (topmost-other code s.literal z))
 
-    pub lay-end : (after : List ℕ) → after ≡ top_words state j s.copy s.literal next mark path → Lays w.sh w.g code state after j c l mark path
+    pub lay-end : (after : List ℕ) → after ≡ top_words state j s.copy s.literal next mark path → Lays w.climbing after j mark
     lay-end after e =
         record {
           spot = s;
@@ -237,9 +237,6 @@ module _ {code state : List ℕ} {j c l mark path : ℕ} (w : Layable code state
           words = e;
         }
 
-pub lays-long : {sh : Sheet} {g : Goal} {code before after : List ℕ} {j c l mark path : ℕ} → alternative_of j + alternative_size ≤ length before → Lays sh g code before after j c l mark path → length after ≡ length before
-lays-long {sh} {g} {code} {before} {after} {j} {c} {l} {mark} {path} room k = ap length k.words ∙ stand-long before j k.spot.copy k.spot.literal k.next mark path room
-
 -- what `lay` promises
 abbrev pub LayEnds : (code state after : List ℕ) (j c l mark path : ℕ) → Type 0
-LayEnds code state after j c l mark path = (v : Layable code state j c l mark path) → Lays v.sh v.g code state after j c l mark path
+LayEnds code state after j c l mark path = (v : Layable code state j c l mark path) → Lays v.climbing after j mark

@@ -14,8 +14,8 @@ use Rattle.unify_bindings.specs.Queues.{Closed}
 use Rattle.unifier.specs.Turns.{Unifiable, UnifyGives}
 use Rattle.unifier.specs.declared.solve.UnifyAnswer.{UnifyAnswer}
 use Rattle.run_alternatives.specs.Words.{top_at, next_words, frame_words}
-use Rattle.run_alternatives.specs.Moves.{Layable, Tryable, Comes, tried_on}
-use Rattle.run_alternatives.specs.Steps.{Steppable, Stepped}
+use Rattle.run_alternatives.specs.Moves.{Layable, Tryable, Comes}
+use Rattle.run_alternatives.specs.Steps.{meaning, Steppable, Stepped}
 use Rattle.run_alternatives.specs.declared.Pile.{Pile}
 use Rattle.run_alternatives.specs.declared.records.Top.{Top}
 use Rattle.run_layout.proofs.Pile.{clause-low}
@@ -107,10 +107,10 @@ module _ {nodes code state scratch : List ℕ} {h : ℕ} (w : Steppable nodes co
     other-read {v} {k} e z q = z (e ∙ (ap (λ (x : ℕ). get_or code x 0) literal_is ∙ q))
 
     pub work-pops : {v : ℕ} → v ≡ get_or code s.literal 0 → (v ≡ call_kind → ⊥) → (v ≡ equation_kind → ⊥) → (v ≡ split_kind → ⊥) → (v ≡ truth_kind → ⊥)
-        → Stepped w.running.ss w.running.sh w.running.g nodes code state state scratch scratch h (record { height = h - 1; trail = s.mark })
+        → Stepped (meaning w.running) state state scratch scratch h (record { height = h - 1; trail = s.mark })
     work-pops e a b f c =
-        subst⁻¹ (λ (x : ℕ). Stepped w.running.ss w.running.sh w.running.g nodes code state state scratch scratch h (record { height = h - 1; trail = x })) mark-is
-        (at_top (λ (h j : ℕ). (w : Steppable nodes code state scratch h (mark_at state j)) → (record_kind code (literal_at state j) ≡ call_kind → ⊥) → (record_kind code (literal_at state j) ≡ equation_kind → ⊥) → (record_kind code (literal_at state j) ≡ truth_kind → ⊥) → (record_kind code (literal_at state j) ≡ split_kind → ⊥) → Stepped w.running.ss w.running.sh w.running.g nodes code state state scratch scratch h (record { height = j; trail = mark_at state j }))
+        subst⁻¹ (λ (x : ℕ). Stepped (meaning w.running) state state scratch scratch h (record { height = h - 1; trail = x })) mark-is
+        (at_top (λ (h j : ℕ). (w : Steppable nodes code state scratch h (mark_at state j)) → (record_kind code (literal_at state j) ≡ call_kind → ⊥) → (record_kind code (literal_at state j) ≡ equation_kind → ⊥) → (record_kind code (literal_at state j) ≡ truth_kind → ⊥) → (record_kind code (literal_at state j) ≡ split_kind → ⊥) → Stepped (meaning w.running) state state scratch scratch h (record { height = j; trail = mark_at state j }))
         (λ j w x y z u. pops-other nodes code state scratch j w x y z u) h w.some w (other-read e a) (other-read e b) (other-read e c) (other-read e f))
 
     pub truth-layable : {v i : ℕ} → v ≡ get_or code s.literal 0 → v ≡ truth_kind → i ≡ next_literal s.literal → Layable code state (h - 1) s.copy i s.mark s.path
@@ -120,10 +120,10 @@ module _ {nodes code state scratch : List ℕ} {h : ℕ} (w : Steppable nodes co
         (λ j w x. truth-layable-top nodes code state scratch j w x) h w.some w (kind-read e q))
 
     pub truth-end : {v i : ℕ} → v ≡ get_or code s.literal 0 → v ≡ truth_kind → i ≡ next_literal s.literal → (after : List ℕ) → LayEnds code state after (h - 1) s.copy i s.mark s.path
-        → Stepped w.running.ss w.running.sh w.running.g nodes code state after scratch scratch h (record { height = h; trail = s.mark })
+        → Stepped (meaning w.running) state after scratch scratch h (record { height = h; trail = s.mark })
     truth-end e q n after k =
-        subst⁻¹ (λ (x : ℕ). Stepped w.running.ss w.running.sh w.running.g nodes code state after scratch scratch h (record { height = h; trail = x })) mark-is
-        (at_top (λ (h j : ℕ). (w : Steppable nodes code state scratch h (mark_at state j)) → record_kind code (literal_at state j) ≡ truth_kind → LayEnds code state after j (copy_at state j) (next_literal (literal_at state j)) (mark_at state j) (path_at state j) → Stepped w.running.ss w.running.sh w.running.g nodes code state after scratch scratch h (record { height = h; trail = mark_at state j }))
+        subst⁻¹ (λ (x : ℕ). Stepped (meaning w.running) state after scratch scratch h (record { height = h; trail = x })) mark-is
+        (at_top (λ (h j : ℕ). (w : Steppable nodes code state scratch h (mark_at state j)) → record_kind code (literal_at state j) ≡ truth_kind → LayEnds code state after j (copy_at state j) (next_literal (literal_at state j)) (mark_at state j) (path_at state j) → Stepped (meaning w.running) state after scratch scratch h (record { height = h; trail = mark_at state j }))
         (λ j w x y. truth-core nodes code state scratch j w x after y) h w.some w (kind-read e q) (lay-ends copy_is (n ∙ ap (λ (x : ℕ). next_literal x) literal_is) mark-is path-is after k))
 
     -- a bracket
@@ -149,12 +149,12 @@ module _ {nodes code state scratch : List ℕ} {h : ℕ} (w : Steppable nodes co
             (λ j w x y. left-layable-top nodes code state scratch j w x state1 y) h w.some w kind right-ends)
 
         pub either_end : (after : List ℕ) → LayEnds code state1 after h s.copy i s.mark s.path
-            → Stepped w.running.ss w.running.sh w.running.g nodes code state after scratch scratch h (record { height = h + 1; trail = s.mark })
+            → Stepped (meaning w.running) state after scratch scratch h (record { height = h + 1; trail = s.mark })
         either_end after y =
-            subst⁻¹ (λ (x : ℕ). Stepped w.running.ss w.running.sh w.running.g nodes code state after scratch scratch h (record { height = h + 1; trail = x })) mark-is
+            subst⁻¹ (λ (x : ℕ). Stepped (meaning w.running) state after scratch scratch h (record { height = h + 1; trail = x })) mark-is
             (at_top (λ (h j : ℕ). (w : Steppable nodes code state scratch h (mark_at state j)) → record_kind code (literal_at state j) ≡ split_kind
             → LayEnds code state state1 j (copy_at state j) (other_at code (literal_at state j)) (mark_at state j) (path_at state j) → LayEnds code state1 after h (copy_at state j) (next_literal (literal_at state j)) (mark_at state j) (path_at state j)
-            → Stepped w.running.ss w.running.sh w.running.g nodes code state after scratch scratch h (record { height = h + 1; trail = mark_at state j }))
+            → Stepped (meaning w.running) state after scratch scratch h (record { height = h + 1; trail = mark_at state j }))
             (λ j w x u z. either-core nodes code state scratch j w x state1 u after z) h w.some w kind right-ends (lay-ends copy_is (n ∙ ap (λ (x : ℕ). next_literal x) literal_is) mark-is path-is after y))
 
     -- an equation
@@ -175,9 +175,9 @@ module _ {nodes code state scratch : List ℕ} {h : ℕ} (w : Steppable nodes co
         ends_is : UnifyEnds nodes state state1 scratch later (record_place code (literal_at state (h - 1))) (copy_at state (h - 1)) (other_at code (literal_at state (h - 1))) (copy_at state (h - 1)) (mark_at state (h - 1)) r
         ends_is = unify-ends place_is copy_is other-is copy_is mark-is state1 later r k
 
-        pub equation-fails : r.equal ≡ false → Stepped w.running.ss w.running.sh w.running.g nodes code state state1 scratch later h (record { height = h - 1; trail = r.trail })
+        pub equation-fails : r.equal ≡ false → Stepped (meaning w.running) state state1 scratch later h (record { height = h - 1; trail = r.trail })
         equation-fails e =
-            at_top (λ (h j : ℕ). (w : Steppable nodes code state scratch h (mark_at state j)) → record_kind code (literal_at state j) ≡ equation_kind → UnifyEnds nodes state state1 scratch later (record_place code (literal_at state j)) (copy_at state j) (other_at code (literal_at state j)) (copy_at state j) (mark_at state j) r → Stepped w.running.ss w.running.sh w.running.g nodes code state state1 scratch later h (record { height = j; trail = r.trail }))
+            at_top (λ (h j : ℕ). (w : Steppable nodes code state scratch h (mark_at state j)) → record_kind code (literal_at state j) ≡ equation_kind → UnifyEnds nodes state state1 scratch later (record_place code (literal_at state j)) (copy_at state j) (other_at code (literal_at state j)) (copy_at state j) (mark_at state j) r → Stepped (meaning w.running) state state1 scratch later h (record { height = j; trail = r.trail }))
             (λ j w x u. equation-fails-top nodes code state scratch j w x state1 later r u e) h w.some w kind ends_is
 
         pub equation-layable : {i : ℕ} → r.equal ≡ true → i ≡ next_literal s.literal → Layable code state1 (h - 1) s.copy i r.trail s.path
@@ -187,17 +187,17 @@ module _ {nodes code state scratch : List ℕ} {h : ℕ} (w : Steppable nodes co
             (λ j w x u. equation-layable-top nodes code state scratch j w x state1 later r u e) h w.some w kind ends_is)
 
         pub equation-end : {i : ℕ} → r.equal ≡ true → i ≡ next_literal s.literal → (after : List ℕ) → LayEnds code state1 after (h - 1) s.copy i r.trail s.path
-            → Stepped w.running.ss w.running.sh w.running.g nodes code state after scratch later h (record { height = h; trail = r.trail })
+            → Stepped (meaning w.running) state after scratch later h (record { height = h; trail = r.trail })
         equation-end e n after y =
-            at_top (λ (h j : ℕ). (w : Steppable nodes code state scratch h (mark_at state j)) → record_kind code (literal_at state j) ≡ equation_kind → UnifyEnds nodes state state1 scratch later (record_place code (literal_at state j)) (copy_at state j) (other_at code (literal_at state j)) (copy_at state j) (mark_at state j) r → LayEnds code state1 after j (copy_at state j) (next_literal (literal_at state j)) r.trail (path_at state j) → Stepped w.running.ss w.running.sh w.running.g nodes code state after scratch later h (record { height = h; trail = r.trail }))
+            at_top (λ (h j : ℕ). (w : Steppable nodes code state scratch h (mark_at state j)) → record_kind code (literal_at state j) ≡ equation_kind → UnifyEnds nodes state state1 scratch later (record_place code (literal_at state j)) (copy_at state j) (other_at code (literal_at state j)) (copy_at state j) (mark_at state j) r → LayEnds code state1 after j (copy_at state j) (next_literal (literal_at state j)) r.trail (path_at state j) → Stepped (meaning w.running) state after scratch later h (record { height = h; trail = r.trail }))
             (λ j w x u z. equation-core nodes code state scratch j w x state1 later r u e after z) h w.some w kind ends_is (lay-ends copy_is (n ∙ ap (λ (x : ℕ). next_literal x) literal_is) refl path-is after y)
 
     -- a call
     module _ (kind : record_kind code (literal_at state (h - 1)) ≡ call_kind) where
-      pub call_none : s.next ≡ 0 → Stepped w.running.ss w.running.sh w.running.g nodes code state state scratch scratch h (record { height = h - 1; trail = s.mark })
+      pub call_none : s.next ≡ 0 → Stepped (meaning w.running) state state scratch scratch h (record { height = h - 1; trail = s.mark })
       call_none e =
-          subst⁻¹ (λ (x : ℕ). Stepped w.running.ss w.running.sh w.running.g nodes code state state scratch scratch h (record { height = h - 1; trail = x })) mark-is
-          (at_top (λ (h j : ℕ). (w : Steppable nodes code state scratch h (mark_at state j)) → record_kind code (literal_at state j) ≡ call_kind → next_at state j ≡ 0 → Stepped w.running.ss w.running.sh w.running.g nodes code state state scratch scratch h (record { height = j; trail = mark_at state j }))
+          subst⁻¹ (λ (x : ℕ). Stepped (meaning w.running) state state scratch scratch h (record { height = h - 1; trail = x })) mark-is
+          (at_top (λ (h j : ℕ). (w : Steppable nodes code state scratch h (mark_at state j)) → record_kind code (literal_at state j) ≡ call_kind → next_at state j ≡ 0 → Stepped (meaning w.running) state state scratch scratch h (record { height = j; trail = mark_at state j }))
           (λ j w x z. call-none-top nodes code state scratch j w x z) h w.some w kind (sym next_is ∙ e))
 
       module _ (z : s.next ≡ 0 → ⊥) where
@@ -233,14 +233,14 @@ module _ {nodes code state scratch : List ℕ} {h : ℕ} (w : Steppable nodes co
                 (at_top (λ (h j : ℕ). Steppable nodes code state scratch h (mark_at state j) → record_kind code (literal_at state j) ≡ call_kind → 1 ≤ next_at state j → state1 ≡ next_words state j (after_at code (next_at state j)) → Tryable nodes code state1 scratch h j (next_at state j))
                 (λ j w x y u. call-tryable-top nodes code state scratch j w x y state1 u) h w.some w kind some_next words-is)
 
-            pub call-end : (final later : List ℕ) (r : Pile) → ((v : Tryable nodes code state1 scratch h (h - 1) s.next) → Comes v.ss v.sh v.g nodes code state1 final scratch later (tried_on v.ss v.sh v.g nodes code state1 (h - 1) v.atom v.clause) r)
-                → Stepped w.running.ss w.running.sh w.running.g nodes code state final scratch later h r
+            pub call-end : (final later : List ℕ) (r : Pile) → ((v : Tryable nodes code state1 scratch h (h - 1) s.next) → Comes v final later r)
+                → Stepped (meaning w.running) state final scratch later h r
             call-end final later r k =
                 at_top (λ (h j : ℕ). (w : Steppable nodes code state scratch h (mark_at state j)) → record_kind code (literal_at state j) ≡ call_kind → 1 ≤ next_at state j → state1 ≡ next_words state j (after_at code (next_at state j))
-                → ((v : Tryable nodes code state1 scratch h j (next_at state j)) → Comes v.ss v.sh v.g nodes code state1 final scratch later (tried_on v.ss v.sh v.g nodes code state1 j v.atom v.clause) r)
-                → Stepped w.running.ss w.running.sh w.running.g nodes code state final scratch later h r)
+                → ((v : Tryable nodes code state1 scratch h j (next_at state j)) → Comes v final later r)
+                → Stepped (meaning w.running) state final scratch later h r)
                 (λ j w x y u v. call-end-top nodes code state scratch j w x y state1 u final later r v) h w.some w kind some_next words-is
-                (subst (λ (x : ℕ). (v : Tryable nodes code state1 scratch h (h - 1) x) → Comes v.ss v.sh v.g nodes code state1 final scratch later (tried_on v.ss v.sh v.g nodes code state1 (h - 1) v.atom v.clause) r) next_is k)
+                (subst (λ (x : ℕ). (v : Tryable nodes code state1 scratch h (h - 1) x) → Comes v final later r) next_is k)
 
 -- ---- trying a clause
 
@@ -308,10 +308,10 @@ module _ {nodes code state scratch : List ℕ} {h k : ℕ} (w : Tryable nodes co
         t-ends : UnifyEnds nodes state state1 scratch later (record_place code (literal_at state (h - 1))) (copy_at state (h - 1)) (head_at code k) (path_at state (h - 1) + 1) (mark_at state (h - 1)) r
         t-ends = unify-ends t-place t-copy qe t-new t-mark state1 later r u
 
-        pub try-fails : r.equal ≡ false → Comes w.ss w.sh w.g nodes code state state1 scratch later (tried_on w.ss w.sh w.g nodes code state (h - 1) w.atom w.clause) (record { height = h; trail = r.trail })
+        pub try-fails : r.equal ≡ false → Comes w state1 later (record { height = h; trail = r.trail })
         try-fails e =
             at_top (λ (h j : ℕ). (w : Tryable nodes code state scratch h j k) → UnifyEnds nodes state state1 scratch later (record_place code (literal_at state j)) (copy_at state j) (head_at code k) (path_at state j + 1) (mark_at state j) r
-            → Comes w.ss w.sh w.g nodes code state state1 scratch later (tried_on w.ss w.sh w.g nodes code state j w.atom w.clause) (record { height = h; trail = r.trail }))
+            → Comes w state1 later (record { height = h; trail = r.trail }))
             (λ j w u. try-fails-top nodes code state scratch j k w state1 later r u e) h filled w t-ends
 
         pub try-frame : (frame_of (s.path + 1) + frame_size ≤ length state1) × ((k < 2 ^ 32) × ((s.copy < 2 ^ 32) × (s.literal < 2 ^ 32)))
@@ -334,9 +334,9 @@ module _ {nodes code state scratch : List ℕ} {h k : ℕ} (w : Tryable nodes co
               (λ j w u x. try-layable-top nodes code state scratch j k w state1 later r u state2 x) h filled w t-ends t-words)
 
           pub try-end : r.equal ≡ true → (after : List ℕ) → LayEnds code state2 after h (s.path + 1) body r.trail (s.path + 1)
-              → Comes w.ss w.sh w.g nodes code state after scratch later (tried_on w.ss w.sh w.g nodes code state (h - 1) w.atom w.clause) (record { height = h + 1; trail = r.trail })
+              → Comes w after later (record { height = h + 1; trail = r.trail })
           try-end e after y =
               at_top (λ (h j : ℕ). (w : Tryable nodes code state scratch h j k) → UnifyEnds nodes state state1 scratch later (record_place code (literal_at state j)) (copy_at state j) (head_at code k) (path_at state j + 1) (mark_at state j) r
               → state2 ≡ frame_words state1 (path_at state j + 1) k (copy_at state j) (literal_at state j) → LayEnds code state2 after h (path_at state j + 1) (body_at code k) r.trail (path_at state j + 1)
-              → Comes w.ss w.sh w.g nodes code state after scratch later (tried_on w.ss w.sh w.g nodes code state j w.atom w.clause) (record { height = h + 1; trail = r.trail }))
+              → Comes w after later (record { height = h + 1; trail = r.trail }))
               (λ j w u x z. try-core nodes code state scratch j k w state1 later r u state2 x e after z) h filled w t-ends t-words (lay-ends t-new be refl t-new after y)

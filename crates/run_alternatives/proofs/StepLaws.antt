@@ -21,20 +21,20 @@ use Rattle.run_layout.specs.Pile.{Calls, rest_from, left_behind, left_from, copy
 use Rattle.unify_bindings.specs.Cells.{Stored, Undone}
 use Rattle.run_alternatives.specs.Words.{top_at}
 use Rattle.run_alternatives.specs.Moves.{Layable, Lays}
-use Rattle.run_alternatives.specs.Steps.{Running, Steppable, Stepped, Startable, Started}
+use Rattle.run_alternatives.specs.Meanings.{pile_in}
+use Rattle.run_alternatives.specs.Steps.{Running, meaning, Steppable, Stepped, Startable, Started}
 use Rattle.run_alternatives.specs.declared.Pile.{Pile}
 use Rattle.run_alternatives.specs.declared.records.Top.{Top}
 use Rattle.run_layout.proofs.Step.{left-first, left-done}
 use Rattle.run_layout.proofs.Pile.{FirstStands, HeadStands, calls_count, body-stays, clause-some, goal-place, goal-rest, goal-left, next_low, Written, Means, undone, started}
-use Rattle.run_alternatives.proofs.WordLaws.{stand-written}
-use Rattle.run_alternatives.proofs.LayLaws.{lays-long, LayEnds}
-use Rattle.run_alternatives.proofs.TopLaws.{at_top, top-stacked, top-stands, top-inside, top-room}
+use Rattle.run_alternatives.proofs.LayLaws.{LayEnds}
+use Rattle.run_alternatives.proofs.TopLaws.{at_top, lays-written, top-stacked, top-stands, top-inside, top-room}
 use Rattle.run_alternatives.proofs.ReadLaws.{lay-ends, layable-of}
 
 -- ---- a step
 
 module _ (nodes code state scratch : List ℕ) (j n : ℕ) (w : Steppable nodes code state scratch (suc j) n) (mid : List ℕ) (u : Undone state mid (mark_at state j) n) where
-  undo-means : Means w.running.ss w.running.sh w.running.g nodes code mid (suc j) (mark_at state j) (pile_of w.running.ss w.running.sh w.running.g nodes code state (suc j))
+  undo-means : Means w.running.ss w.running.sh w.running.g nodes code mid (suc j) (mark_at state j) (pile_in (meaning w.running) state (suc j))
   undo-means = undone w.running.ss w.running.sh w.running.g nodes code state mid j n (mark_at state j) w.running.piled refl u.keeps (u.store w.running.ss nodes w.running.piled.store)
 
   same-mark : mark_at mid j ≡ mark_at state j
@@ -50,11 +50,11 @@ module _ (nodes code state scratch : List ℕ) (j n : ℕ) (w : Steppable nodes 
         clean = w.clean;
       }
 
-  undo-end : (after later : List ℕ) (r : Pile) → ((v : Steppable nodes code mid scratch (suc j) (mark_at mid j)) → Stepped v.running.ss v.running.sh v.running.g nodes code mid after scratch later (suc j) r)
-      → Stepped w.running.ss w.running.sh w.running.g nodes code state after scratch later (suc j) r
+  undo-end : (after later : List ℕ) (r : Pile) → ((v : Steppable nodes code mid scratch (suc j) (mark_at mid j)) → Stepped (meaning v.running) mid after scratch later (suc j) r)
+      → Stepped (meaning w.running) state after scratch later (suc j) r
   unfolding undo-steppable
   undo-end after later r k =
-      let m : Stepped w.running.ss w.running.sh w.running.g nodes code mid after scratch later (suc j) r = k undo-steppable in
+      let m : Stepped (meaning w.running) mid after scratch later (suc j) r = k undo-steppable in
       record { is = m.is ∙ ap (step w.running.sh) undo-means.is; piled = m.piled; state_long = m.state_long ∙ u.keeps.long; clean = m.clean; scratch_long = m.scratch_long }
 
 module _ {nodes code state scratch : List ℕ} {h n : ℕ} (w : Steppable nodes code state scratch h n) where
@@ -84,11 +84,11 @@ module _ {nodes code state scratch : List ℕ} {h n : ℕ} (w : Steppable nodes 
           at_top (λ (h j : ℕ). Steppable nodes code state scratch h n → Undone state mid (mark_at state j) n → Steppable nodes code mid scratch h (mark_at mid j))
           (λ j w u. undo-steppable nodes code state scratch j n w mid u) h w.some w undone-is
 
-      pub step_end : (after later : List ℕ) (r : Pile) → ((v : Steppable nodes code mid scratch h (mark_at mid (h - 1))) → Stepped v.running.ss v.running.sh v.running.g nodes code mid after scratch later h r)
-          → Stepped w.running.ss w.running.sh w.running.g nodes code state after scratch later h r
+      pub step_end : (after later : List ℕ) (r : Pile) → ((v : Steppable nodes code mid scratch h (mark_at mid (h - 1))) → Stepped (meaning v.running) mid after scratch later h r)
+          → Stepped (meaning w.running) state after scratch later h r
       step_end after later r k =
-          at_top (λ (h j : ℕ). (w : Steppable nodes code state scratch h n) → Undone state mid (mark_at state j) n → ((v : Steppable nodes code mid scratch h (mark_at mid j)) → Stepped v.running.ss v.running.sh v.running.g nodes code mid after scratch later h r)
-          → Stepped w.running.ss w.running.sh w.running.g nodes code state after scratch later h r)
+          at_top (λ (h j : ℕ). (w : Steppable nodes code state scratch h n) → Undone state mid (mark_at state j) n → ((v : Steppable nodes code mid scratch h (mark_at mid j)) → Stepped (meaning v.running) mid after scratch later h r)
+          → Stepped (meaning w.running) state after scratch later h r)
           (λ j w u k. undo-end nodes code state scratch j n w mid u after later r k) h w.some w undone-is k
 
 -- ---- the start
@@ -116,17 +116,16 @@ module _ (nodes code state : List ℕ) (w : Startable nodes code state) where
   goal-room : alternative_of 0 + alternative_size ≤ length state
   goal-room = let a : state_words ≤ length state = w.long in omega arith
 
-  goal-end : (after : List ℕ) → LayEnds code state after 0 0 (body_at code 0) 0 0 → Started w.ss w.sh w.g nodes code state after
+  goal-end : (after : List ℕ) → LayEnds code state after 0 0 (body_at code 0) 0 0 → Started w after
   unfolding goal-layable start
   goal-end after k =
-      let q : Lays w.sh w.g code state after 0 0 (body_at code 0) 0 0 = k goal-layable in
+      let q : Lays goal-layable.climbing after 0 0 = k goal-layable in
       let a : q.spot.copy ≤ 0 = q.climbs.copy in
       let c : q.spot.copy ≡ 0 = omega arith in
       let l : q.spot.literal ≡ body_at code 0 = q.climbs.here (body-stays w.program 0 (omega arith)) c in
       let written : Written 0 0 (body_at code 0) q.next 0 0 state after =
       subst (λ (x : ℕ). Written 0 x (body_at code 0) q.next 0 0 state after) c
-      (subst (λ (x : ℕ). Written 0 q.spot.copy x q.next 0 0 state after) l
-      (subst⁻¹ (λ (x : List ℕ). Written 0 q.spot.copy q.spot.literal q.next 0 0 state x) q.words (stand-written state 0 q.spot.copy q.spot.literal q.next 0 0 goal-room))) in
+      (subst (λ (x : ℕ). Written 0 q.spot.copy x q.next 0 0 state after) l (lays-written q goal-room)) in
       let rest : rest_from w.sh w.g code state q.spot.copy q.spot.literal ≡ w.g.body = ap₂ (rest_from w.sh w.g code state) c l ∙ goal-rest w.sh w.g code state in
       let m : Means w.ss w.sh w.g nodes code after 1 0 (record { literals = pending 0 w.g.body []; bindings = []; next = q.next; calls = [] } ∷ []) =
       started w.ss w.sh w.g nodes code state after q.next w.program w.long w.zero_words (λ x y. q.next-for x (subst⁻¹ (λ (b : Body). Calls b x) rest y)) written in
@@ -134,7 +133,7 @@ module _ (nodes code state : List ℕ) (w : Startable nodes code state) where
       record {
         is = m.is ∙ (λ i. record { literals = pending 0 w.g.body []; bindings = []; next = nxt i; calls = [] } ∷ []);
         piled = m.piled;
-        state_long = lays-long goal-room q;
+        state_long = written.long;
       }
 
 module _ {nodes code state : List ℕ} (w : Startable nodes code state) where
@@ -142,7 +141,7 @@ module _ {nodes code state : List ℕ} (w : Startable nodes code state) where
     pub start-layable : Layable code state 0 0 f 0 0
     start-layable = layable-of refl e refl refl (goal-layable nodes code state w)
 
-    pub start-end : (after : List ℕ) → LayEnds code state after 0 0 f 0 0 → Started w.ss w.sh w.g nodes code state after
+    pub start-end : (after : List ℕ) → LayEnds code state after 0 0 f 0 0 → Started w after
     start-end after k = goal-end nodes code state w after (lay-ends refl e refl refl after k)
 
 -- ---- what the next step would be
@@ -199,7 +198,7 @@ module _ (nodes code state : List ℕ) (j n : ℕ) (w : Running nodes code state
       ne_eqb (record_kind code (literal_at state j)) body_end_kind (literal-kind w.ss w.sh nodes code (literal_at state j) x (subst (HeadStands w.ss w.sh nodes code (literal_at state j)) e stands))
       ∙ sym (ap (λ (ls : List Pending). is_empty ls) (left-of x b e))
 
-  answer-top : eqb (record_kind code (literal_at state j)) body_end_kind ≡ is_answer (pile_of w.ss w.sh w.g nodes code state (suc j))
+  answer-top : eqb (record_kind code (literal_at state j)) body_end_kind ≡ is_answer (pile_in (meaning w) state (suc j))
   unfolding is_answer pile_of alternative_at
   answer-top = empty-is body refl
 
@@ -232,28 +231,28 @@ module _ (nodes code state : List ℕ) (j n : ℕ) (w : Running nodes code state
   first-call (also falsity b) e k z = absurd (let q : record_kind code (literal_at state j) ≡ falsity_kind = subst (HeadStands w.ss w.sh nodes code (literal_at state j)) e stands in omega arith)
   first-call (also (either u v) b) e k z = absurd (let q : record_kind code (literal_at state j) ≡ split_kind = subst (HeadStands w.ss w.sh nodes code (literal_at state j)) e stands in omega arith)
 
-  deeper-is : (t : Bool) → tries_first w.sh top left ≡ t → goes_deeper w.sh (pile_of w.ss w.sh w.g nodes code state (suc j)) ≡ t && leb longest_path (path_at state j)
+  deeper-is : (t : Bool) → tries_first w.sh top left ≡ t → goes_deeper w.sh (pile_in (meaning w) state (suc j)) ≡ t && leb longest_path (path_at state j)
   unfolding goes_deeper pile_of alternative_at
   deeper-is t e = ap₂ (λ (x : Bool) (y : ℕ). x && leb longest_path y) e (calls_count w.sh w.g code state (path_at state j))
 
-  deeper-other-top : (record_kind code (literal_at state j) ≡ call_kind → ⊥) → false ≡ goes_deeper w.sh (pile_of w.ss w.sh w.g nodes code state (suc j))
+  deeper-other-top : (record_kind code (literal_at state j) ≡ call_kind → ⊥) → false ≡ goes_deeper w.sh (pile_in (meaning w) state (suc j))
   deeper-other-top z = sym (deeper-is false (first-other body refl z))
 
-  deeper-last-top : next_at state j ≡ 0 → false ≡ goes_deeper w.sh (pile_of w.ss w.sh w.g nodes code state (suc j))
+  deeper-last-top : next_at state j ≡ 0 → false ≡ goes_deeper w.sh (pile_in (meaning w) state (suc j))
   unfolding alternative_at
   deeper-last-top z = sym (deeper-is false (first-last body refl z))
 
-  deeper-call-top : record_kind code (literal_at state j) ≡ call_kind → (next_at state j ≡ 0 → ⊥) → leb longest_path (path_at state j) ≡ goes_deeper w.sh (pile_of w.ss w.sh w.g nodes code state (suc j))
+  deeper-call-top : record_kind code (literal_at state j) ≡ call_kind → (next_at state j ≡ 0 → ⊥) → leb longest_path (path_at state j) ≡ goes_deeper w.sh (pile_in (meaning w) state (suc j))
   deeper-call-top k z = sym (deeper-is true (first-call body refl k z))
 
 module _ {nodes code state : List ℕ} {h n : ℕ} (w : Running nodes code state h n) where
-  pub answer-none : h ≡ 0 → false ≡ is_answer (pile_of w.ss w.sh w.g nodes code state h)
+  pub answer-none : h ≡ 0 → false ≡ is_answer (pile_in (meaning w) state h)
   unfolding is_answer pile_of
-  answer-none e = sym (ap (λ (x : ℕ). is_answer (pile_of w.ss w.sh w.g nodes code state x)) e)
+  answer-none e = sym (ap (λ (x : ℕ). is_answer (pile_in (meaning w) state x)) e)
 
-  pub deeper-none : h ≡ 0 → false ≡ goes_deeper w.sh (pile_of w.ss w.sh w.g nodes code state h)
+  pub deeper-none : h ≡ 0 → false ≡ goes_deeper w.sh (pile_in (meaning w) state h)
   unfolding goes_deeper pile_of
-  deeper-none e = sym (ap (λ (x : ℕ). goes_deeper w.sh (pile_of w.ss w.sh w.g nodes code state x)) e)
+  deeper-none e = sym (ap (λ (x : ℕ). goes_deeper w.sh (pile_in (meaning w) state x)) e)
 
   module _ (z : h ≡ 0 → ⊥) where
     filled : 1 ≤ h
@@ -284,23 +283,23 @@ module _ {nodes code state : List ℕ} {h n : ℕ} (w : Running nodes code state
         kind_is : v ≡ record_kind code (literal_at state (h - 1))
         kind_is = e ∙ ap (λ (x : ℕ). get_or code x 0) literal_is
 
-        pub answer-end : eqb v body_end_kind ≡ is_answer (pile_of w.ss w.sh w.g nodes code state h)
+        pub answer-end : eqb v body_end_kind ≡ is_answer (pile_in (meaning w) state h)
         answer-end =
             ap (λ (x : ℕ). eqb x body_end_kind) kind_is
-            ∙ at_top (λ (h j : ℕ). (w : Running nodes code state h n) → eqb (record_kind code (literal_at state j)) body_end_kind ≡ is_answer (pile_of w.ss w.sh w.g nodes code state h)) (λ j w. answer-top nodes code state j n w) h filled w
+            ∙ at_top (λ (h j : ℕ). (w : Running nodes code state h n) → eqb (record_kind code (literal_at state j)) body_end_kind ≡ is_answer (pile_in (meaning w) state h)) (λ j w. answer-top nodes code state j n w) h filled w
 
-        pub deeper-other : (v ≡ call_kind → ⊥) → false ≡ goes_deeper w.sh (pile_of w.ss w.sh w.g nodes code state h)
+        pub deeper-other : (v ≡ call_kind → ⊥) → false ≡ goes_deeper w.sh (pile_in (meaning w) state h)
         deeper-other y =
-            at_top (λ (h j : ℕ). (w : Running nodes code state h n) → (record_kind code (literal_at state j) ≡ call_kind → ⊥) → false ≡ goes_deeper w.sh (pile_of w.ss w.sh w.g nodes code state h))
+            at_top (λ (h j : ℕ). (w : Running nodes code state h n) → (record_kind code (literal_at state j) ≡ call_kind → ⊥) → false ≡ goes_deeper w.sh (pile_in (meaning w) state h))
             (λ j w x. deeper-other-top nodes code state j n w x) h filled w (λ q. y (kind_is ∙ q))
 
-        pub deeper-last : s.next ≡ 0 → false ≡ goes_deeper w.sh (pile_of w.ss w.sh w.g nodes code state h)
+        pub deeper-last : s.next ≡ 0 → false ≡ goes_deeper w.sh (pile_in (meaning w) state h)
         deeper-last y =
-            at_top (λ (h j : ℕ). (w : Running nodes code state h n) → next_at state j ≡ 0 → false ≡ goes_deeper w.sh (pile_of w.ss w.sh w.g nodes code state h))
+            at_top (λ (h j : ℕ). (w : Running nodes code state h n) → next_at state j ≡ 0 → false ≡ goes_deeper w.sh (pile_in (meaning w) state h))
             (λ j w x. deeper-last-top nodes code state j n w x) h filled w (sym next_is ∙ y)
 
-        pub deeper-end : v ≡ 2 → (s.next ≡ 0 → ⊥) → leb longest_path s.path ≡ goes_deeper w.sh (pile_of w.ss w.sh w.g nodes code state h)
+        pub deeper-end : v ≡ 2 → (s.next ≡ 0 → ⊥) → leb longest_path s.path ≡ goes_deeper w.sh (pile_in (meaning w) state h)
         deeper-end k y =
             ap (leb longest_path) path-is
-            ∙ at_top (λ (h j : ℕ). (w : Running nodes code state h n) → record_kind code (literal_at state j) ≡ call_kind → (next_at state j ≡ 0 → ⊥) → leb longest_path (path_at state j) ≡ goes_deeper w.sh (pile_of w.ss w.sh w.g nodes code state h))
+            ∙ at_top (λ (h j : ℕ). (w : Running nodes code state h n) → record_kind code (literal_at state j) ≡ call_kind → (next_at state j ≡ 0 → ⊥) → leb longest_path (path_at state j) ≡ goes_deeper w.sh (pile_in (meaning w) state h))
             (λ j w x u. deeper-call-top nodes code state j n w x u) h filled w (sym kind_is ∙ k) (λ q. y (next_is ∙ q))

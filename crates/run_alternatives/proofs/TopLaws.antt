@@ -42,14 +42,16 @@ pub pile-tail : (ss : List Symbol) (sh : Sheet) (g : Goal) (nodes code a b : Lis
 unfolding pile_of
 pile-tail ss sh g nodes code a b j q = tail-eq (alternative_at ss sh g nodes code a j) (alternative_at ss sh g nodes code b j) (pile_of ss sh g nodes code a j) (pile_of ss sh g nodes code b j) q
 
--- what is laid stands there as new
-pub lays-stand : {sh : Sheet} {g : Goal} {code before after : List ℕ} {j c l mark path : ℕ} (k : Lays sh g code before after j c l mark path)
-    → Stand sh g code before k.spot.copy k.spot.literal k.next
-lays-stand k = record { place = k.climbs.place; stays = k.climbs.stays; ends = k.climbs.ends; next = k.next-for }
+-- what is laid stands there as new, and is written
+module _ {ss : List Symbol} {sh : Sheet} {g : Goal} {nodes code before after : List ℕ} {path c l j mark : ℕ} {w : Climbing ss sh g nodes code before path c l} (k : Lays w after j mark) where
+  pub lays-stand : Stand sh g code before k.spot.copy k.spot.literal k.next
+  lays-stand = record { place = k.climbs.place; stays = k.climbs.stays; ends = k.climbs.ends; next = k.next-for }
 
-pub lays-fresh : {sh : Sheet} {g : Goal} {code before after : List ℕ} {j c l mark path : ℕ} (k : Lays sh g code before after j c l mark path)
-    → Fresh sh g code before path k.spot.copy k.spot.literal k.next
-lays-fresh {sh} k = record { stand = lays-stand k; topmost_is = k.next_is ∙ sym (ap (topmost sh) k.climbs.same) }
+  pub lays-fresh : Fresh sh g code before path k.spot.copy k.spot.literal k.next
+  lays-fresh = record { stand = lays-stand; topmost_is = k.next_is ∙ sym (ap (topmost sh) k.climbs.same) }
+
+  pub lays-written : alternative_of j + alternative_size ≤ length before → Written j k.spot.copy k.spot.literal k.next mark path before after
+  lays-written room = subst⁻¹ (Written j k.spot.copy k.spot.literal k.next mark path before) k.words (stand-written before j k.spot.copy k.spot.literal k.next mark path room)
 
 module _ (ss : List Symbol) (sh : Sheet) (g : Goal) (nodes code state : List ℕ) (j n : ℕ) (piled : Piled ss sh g nodes code state (suc j) n) where
   pub top-stacked : Stacked sh g code state n j
@@ -117,9 +119,9 @@ module _ (ss : List Symbol) (sh : Sheet) (g : Goal) (nodes code state : List ℕ
             place = same_place sh g code state state1 longest_path same.frame (copy_at state j) to (omega arith) at;
           }
 
-      pub going : j < most_alternatives → (after : List ℕ) (k : Lays sh g code state1 after j (copy_at state j) to n1 (path_at state j))
+      pub going : {after : List ℕ} {x : Climbing ss sh g nodes code state1 (path_at state j) (copy_at state j) to} → j < most_alternatives → (k : Lays x after j n1)
           → Going ss sh g nodes code state state1 after j n n1 (path_at state j) to k.spot.copy k.spot.literal k.next
-      going l after k =
+      going l k =
           let a : k.spot.copy ≤ copy_at state j = k.climbs.copy in
           let c : copy_at state j ≤ path_at state j = top-stacked.copy in
           let long : state_words ≤ length state1 = kept.piled.long in
@@ -134,5 +136,5 @@ module _ (ss : List Symbol) (sh : Sheet) (g : Goal) (nodes code state : List ℕ
             copy = omega arith;
             left = k.climbs.same;
             fresh = lays-fresh k;
-            written = subst⁻¹ (λ (s : List ℕ). Written j k.spot.copy k.spot.literal k.next n1 (path_at state j) state1 s) k.words (stand-written state1 j k.spot.copy k.spot.literal k.next n1 (path_at state j) (omega arith));
+            written = lays-written k (omega arith);
           }

@@ -54,10 +54,6 @@ module _ (state : List ℕ) (j copy literal next mark path : ℕ) (room : altern
   over1 : (i : ℕ) → (i ≡ alternative_of j + 1 → ⊥) → get_or s2 i 0 ≡ get_or s1 i 0
   over1 i z = get_or-set_other s1 (alternative_of j + 1) i literal 0 z
 
-  pub stand-long : length (top_words state j copy literal next mark path) ≡ length state
-  unfolding top_words
-  stand-long = length-set s4 (alternative_of j + 4) path ∙ long4
-
   pub stand-written : Written j copy literal next mark path state (top_words state j copy literal next mark path)
   unfolding top_words
   stand-written =

@@ -25,12 +25,12 @@ use Rattle.unify_bindings.specs.Queues.{Clean}
 use Rattle.unifier.specs.Turns.{answered, Unifiable, UnifyGives}
 use Rattle.unifier.specs.declared.solve.UnifyAnswer.{UnifyAnswer}
 use Rattle.run_alternatives.specs.Moves.{Layable, Lays}
-use Rattle.run_alternatives.specs.Steps.{Steppable, Stepped}
-use Rattle.run_alternatives.proofs.WordLaws.{add-one, stand-written}
-use Rattle.run_alternatives.proofs.LayLaws.{lays-long, LayEnds}
-use Rattle.run_alternatives.proofs.TopLaws.{trail_low, lays-fresh, top-stacked, top-stands, top-low, top-room, pile-tail, kept, gone-climbing, going}
+use Rattle.run_alternatives.specs.Steps.{meaning, Steppable, Stepped}
+use Rattle.run_alternatives.proofs.WordLaws.{add-one}
+use Rattle.run_alternatives.proofs.LayLaws.{LayEnds}
+use Rattle.run_alternatives.proofs.TopLaws.{trail_low, lays-fresh, lays-written, top-stacked, top-stands, top-low, top-room, pile-tail, kept, gone-climbing, going}
 use Rattle.run_layout.proofs.Step.{step-answer, step-falsity, step-split, step-unequal, Going, truth-step, equal-step, Laying, either_step}
-use Rattle.run_layout.proofs.Pile.{Parting, place-next, place-split, kind-small, kind-done, kind-truth, kind-falsity, kind-equation, calls_count, pile-count, SameFrames, same_place, same-frame, Written, Means, popped}
+use Rattle.run_layout.proofs.Pile.{Parting, place-next, place-split, kind-small, kind-done, kind-truth, kind-falsity, kind-equation, calls_count, pile-count, SameFrames, same_place, same-frame, Means, popped}
 
 kind-one : (k : ℕ) → k ≤ split_kind → (k ≡ call_kind → ⊥) → (k ≡ equation_kind → ⊥) → (k ≡ truth_kind → ⊥) → (k ≡ split_kind → ⊥) → (k ≡ body_end_kind → ⊥) → k ≡ falsity_kind
 kind-one zero l a b c f d = absurd (c refl)
@@ -79,18 +79,18 @@ module _ (nodes code state scratch : List ℕ) (j : ℕ) (w : Steppable nodes co
   -- the alternative goes; some words may have changed
   pub pops : (after later : List ℕ) (n : ℕ) → Means ss sh g nodes code after (suc j) n (pile_of ss sh g nodes code state (suc j)) → length after ≡ length state → Clean later → length later ≡ length scratch
       → step sh (pile_of ss sh g nodes code state (suc j)) ≡ pile_of ss sh g nodes code state j → pile_of ss sh g nodes code after j ≡ pile_of ss sh g nodes code state j
-      → Stepped ss sh g nodes code state after scratch later (suc j) (record { height = j; trail = n })
+      → Stepped (meaning w.running) state after scratch later (suc j) (record { height = j; trail = n })
   pops after later n m e k l s q =
       record { is = q ∙ sym s; piled = popped ss sh g nodes code after j n m.piled; state_long = e; clean = k; scratch_long = l }
 
   -- with no word changed
   pub pops-here : step sh (pile_of ss sh g nodes code state (suc j)) ≡ pile_of ss sh g nodes code state j
-      → Stepped ss sh g nodes code state state scratch scratch (suc j) (record { height = j; trail = mark_at state j })
+      → Stepped (meaning w.running) state state scratch scratch (suc j) (record { height = j; trail = mark_at state j })
   pops-here s = pops state scratch (mark_at state j) (record { piled = piled-top; is = refl }) refl w.clean refl s refl
 
   -- at `fail`, and at the goal's end
   pub pops-other : (record_kind code (literal_at state j) ≡ call_kind → ⊥) → (record_kind code (literal_at state j) ≡ equation_kind → ⊥) → (record_kind code (literal_at state j) ≡ truth_kind → ⊥)
-      → (record_kind code (literal_at state j) ≡ split_kind → ⊥) → Stepped ss sh g nodes code state state scratch scratch (suc j) (record { height = j; trail = mark_at state j })
+      → (record_kind code (literal_at state j) ≡ split_kind → ⊥) → Stepped (meaning w.running) state state scratch scratch (suc j) (record { height = j; trail = mark_at state j })
   pops-other a b c f = pops-here (go (eqb (record_kind code (literal_at state j)) body_end_kind) refl)
     where
       go : (t : Bool) → eqb (record_kind code (literal_at state j)) body_end_kind ≡ t → step sh (pile_of ss sh g nodes code state (suc j)) ≡ pile_of ss sh g nodes code state j
@@ -123,18 +123,15 @@ module _ (nodes code state scratch : List ℕ) (j : ℕ) (w : Steppable nodes co
           small = trail_low ss nodes state (mark_at state j) piled-top.store;
         }
 
-    truth-end-top : (after : List ℕ) → Lays sh g code state after j (copy_at state j) (next_literal (literal_at state j)) (mark_at state j) (path_at state j)
-        → Stepped ss sh g nodes code state after scratch scratch (suc j) (record { height = suc j; trail = mark_at state j })
-    truth-end-top after k =
+    pub truth-core : (after : List ℕ) → LayEnds code state after j (copy_at state j) (next_literal (literal_at state j)) (mark_at state j) (path_at state j)
+        → Stepped (meaning w.running) state after scratch scratch (suc j) (record { height = suc j; trail = mark_at state j })
+    unfolding truth-layable-top
+    truth-core after f =
+        let k : Lays truth-layable-top.climbing after j (mark_at state j) = f truth-layable-top in
         let m : Means ss sh g nodes code after (suc j) (mark_at state j) (step sh (pile_of ss sh g nodes code state (suc j))) =
         truth-step ss sh g nodes code state after j (mark_at state j) (path_at state j) k.spot.copy k.spot.literal k.next truth-first.0
-        (going ss sh g nodes code state j (mark_at state j) piled-top refl state (mark_at state j) (keeps-refl (mark_at state j) state) piled-top.store (omega arith) stacked-top.within (next_literal (literal_at state j)) truth-place room-top after k) truth-first.1 in
-        record { is = m.is; piled = m.piled; state_long = lays-long (words-room) k; clean = w.clean; scratch_long = refl }
-
-    pub truth-core : (after : List ℕ) → LayEnds code state after j (copy_at state j) (next_literal (literal_at state j)) (mark_at state j) (path_at state j)
-        → Stepped ss sh g nodes code state after scratch scratch (suc j) (record { height = suc j; trail = mark_at state j })
-    unfolding truth-layable-top
-    truth-core after k = truth-end-top after (k truth-layable-top)
+        (going ss sh g nodes code state j (mark_at state j) piled-top refl state (mark_at state j) (keeps-refl (mark_at state j) state) piled-top.store (omega arith) stacked-top.within (next_literal (literal_at state j)) truth-place room-top k) truth-first.1 in
+        record { is = m.is; piled = m.piled; state_long = (lays-written k words-room).long; clean = w.clean; scratch_long = refl }
 
   -- at an equation
   module _ (kind : record_kind code (literal_at state j) ≡ equation_kind) where
@@ -174,7 +171,7 @@ module _ (nodes code state scratch : List ℕ) (j : ℕ) (w : Steppable nodes co
       equation-answer : (b : Bool) → r.equal ≡ b → unify (bindings ss nodes state (mark_at state j)) (copied (copy_at state j) sides.0) (copied (copy_at state j) sides.1) ≡ answered b (bindings ss nodes state1 r.trail)
       equation-answer b e = unifies.answer sides.0 sides.1 sides.4 sides.5 ∙ ap (λ (y : Bool). answered y (bindings ss nodes state1 r.trail)) e
 
-      pub equation-fails-top : r.equal ≡ false → Stepped ss sh g nodes code state state1 scratch later (suc j) (record { height = j; trail = r.trail })
+      pub equation-fails-top : r.equal ≡ false → Stepped (meaning w.running) state state1 scratch later (suc j) (record { height = j; trail = r.trail })
       unfolding answered
       equation-fails-top e =
           let m : Means ss sh g nodes code state1 (suc j) r.trail (pile_of ss sh g nodes code state (suc j)) = kept ss sh g nodes code state j (mark_at state j) piled-top refl state1 r.trail unifies.keeps unifies.store unifies.grows in
@@ -194,21 +191,17 @@ module _ (nodes code state scratch : List ℕ) (j : ℕ) (w : Steppable nodes co
             small = trail_low ss nodes state1 r.trail unifies.store;
           }
 
-      equation-end-top : r.equal ≡ true → (after : List ℕ) → Lays sh g code state1 after j (copy_at state j) (next_literal (literal_at state j)) r.trail (path_at state j)
-          → Stepped ss sh g nodes code state after scratch later (suc j) (record { height = suc j; trail = r.trail })
-      unfolding answered
-      equation-end-top e after k =
+      pub equation-core : r.equal ≡ true → (after : List ℕ) → LayEnds code state1 after j (copy_at state j) (next_literal (literal_at state j)) r.trail (path_at state j)
+          → Stepped (meaning w.running) state after scratch later (suc j) (record { height = suc j; trail = r.trail })
+      unfolding equation-layable-top answered
+      equation-core e after f =
+          let k : Lays (equation-layable-top e).climbing after j r.trail = f (equation-layable-top e) in
           let m : Means ss sh g nodes code after (suc j) r.trail (step sh (pile_of ss sh g nodes code state (suc j))) =
           equal-step ss sh g nodes code state state1 after j (mark_at state j) r.trail (path_at state j) k.spot.copy k.spot.literal k.next sides.2 sides.0 sides.1
-          (going ss sh g nodes code state j (mark_at state j) piled-top refl state1 r.trail unifies.keeps unifies.store unifies.grows unifies.within (next_literal (literal_at state j)) sides-place room-top after k) sides.3 (equation-answer true e) in
+          (going ss sh g nodes code state j (mark_at state j) piled-top refl state1 r.trail unifies.keeps unifies.store unifies.grows unifies.within (next_literal (literal_at state j)) sides-place room-top k) sides.3 (equation-answer true e) in
           let a : length state1 ≡ length state = unifies.keeps.long in
           let b : alternative_of j + alternative_size ≤ length state = words-room in
-          record { is = m.is; piled = m.piled; state_long = lays-long (let c : alternative_of j + alternative_size ≤ length state1 = omega arith in c) k ∙ a; clean = unifies.clean; scratch_long = unifies.long }
-
-      pub equation-core : r.equal ≡ true → (after : List ℕ) → LayEnds code state1 after j (copy_at state j) (next_literal (literal_at state j)) r.trail (path_at state j)
-          → Stepped ss sh g nodes code state after scratch later (suc j) (record { height = suc j; trail = r.trail })
-      unfolding equation-layable-top
-      equation-core e after k = equation-end-top e after (k (equation-layable-top e))
+          record { is = m.is; piled = m.piled; state_long = (lays-written k (omega arith)).long ∙ a; clean = unifies.clean; scratch_long = unifies.long }
 
   -- at a bracket
   module _ (kind : record_kind code (literal_at state j) ≡ split_kind) where
@@ -245,16 +238,16 @@ module _ (nodes code state scratch : List ℕ) (j : ℕ) (w : Steppable nodes co
         }
 
     module _ (state1 : List ℕ) (k : LayEnds code state state1 j (copy_at state j) (other_at code (literal_at state j)) (mark_at state j) (path_at state j)) where
-      right : Lays sh g code state state1 j (copy_at state j) (other_at code (literal_at state j)) (mark_at state j) (path_at state j)
-      unfolding right-layable-top
+      right : Lays right-layable-top.climbing state1 j (mark_at state j)
       right = k right-layable-top
 
       right-going : Going ss sh g nodes code state state state1 j (mark_at state j) (mark_at state j) (path_at state j) (other_at code (literal_at state j)) right.spot.copy right.spot.literal right.next
+      unfolding right-layable-top
       right-going =
-          going ss sh g nodes code state j (mark_at state j) piled-top refl state (mark_at state j) (keeps-refl (mark_at state j) state) piled-top.store (omega arith) stacked-top.within (other_at code (literal_at state j)) parts.3.right room-top state1 right
+          going ss sh g nodes code state j (mark_at state j) piled-top refl state (mark_at state j) (keeps-refl (mark_at state j) state) piled-top.store (omega arith) stacked-top.within (other_at code (literal_at state j)) parts.3.right room-top right
 
       right-long : length state1 ≡ length state
-      right-long = lays-long words-room right
+      right-long = right-going.written.long
 
       right-frames : SameFrames longest_path state state1
       right-frames i a b = right-going.written.others i (omega arith)
@@ -283,27 +276,18 @@ module _ (nodes code state scratch : List ℕ) (j : ℕ) (w : Steppable nodes co
             small = trail_low ss nodes state (mark_at state j) piled-top.store;
           }
 
-      either-end-top : (after : List ℕ) → Lays sh g code state1 after (suc j) (copy_at state j) (next_literal (literal_at state j)) (mark_at state j) (path_at state j)
-          → Stepped ss sh g nodes code state after scratch scratch (suc j) (record { height = suc (suc j); trail = mark_at state j })
-      either-end-top after q =
+      pub either-core : (after : List ℕ) → LayEnds code state1 after (suc j) (copy_at state j) (next_literal (literal_at state j)) (mark_at state j) (path_at state j)
+          → Stepped (meaning w.running) state after scratch scratch (suc j) (record { height = suc j + 1; trail = mark_at state j })
+      unfolding left-layable-top
+      either-core after f =
+          let q : Lays left-layable-top.climbing after (suc j) (mark_at state j) = f left-layable-top in
           let a : q.spot.copy ≤ copy_at state j = q.climbs.copy in
           let c : copy_at state j ≤ path_at state j = stacked-top.copy in
           let l : state_words ≤ length state = piled-top.long in
           let b : length state1 ≡ length state = right-long in
           let d : suc j < most_alternatives = split-low in
-          let room : alternative_of (suc j) + alternative_size ≤ length state1 = omega arith in
           let left : Laying sh g code state1 after j (mark_at state j) (path_at state j) (copy_at state j) (next_literal (literal_at state j)) q.spot.copy q.spot.literal q.next =
-          record {
-            copy = omega arith;
-            left = q.climbs.same;
-            fresh = lays-fresh q;
-            written = subst⁻¹ (λ (s : List ℕ). Written (suc j) q.spot.copy q.spot.literal q.next (mark_at state j) (path_at state j) state1 s) q.words (stand-written state1 (suc j) q.spot.copy q.spot.literal q.next (mark_at state j) (path_at state j) room);
-          } in
+          record { copy = omega arith; left = q.climbs.same; fresh = lays-fresh q; written = lays-written q (omega arith) } in
           let m : Means ss sh g nodes code after (suc (suc j)) (mark_at state j) (step sh (pile_of ss sh g nodes code state (suc j))) = either_step right-going left parts.3 in
-          record { is = m.is; piled = m.piled; state_long = lays-long room q ∙ right-long; clean = w.clean; scratch_long = refl }
-
-      pub either-core : (after : List ℕ) → LayEnds code state1 after (suc j) (copy_at state j) (next_literal (literal_at state j)) (mark_at state j) (path_at state j)
-          → Stepped ss sh g nodes code state after scratch scratch (suc j) (record { height = suc j + 1; trail = mark_at state j })
-      unfolding left-layable-top
-      either-core after q =
-          subst⁻¹ (λ (y : ℕ). Stepped ss sh g nodes code state after scratch scratch (suc j) (record { height = y; trail = mark_at state j })) (add-one (suc j)) (either-end-top after (q left-layable-top))
+          subst⁻¹ (λ (y : ℕ). Stepped (meaning w.running) state after scratch scratch (suc j) (record { height = y; trail = mark_at state j })) (add-one (suc j))
+          (record { is = m.is; piled = m.piled; state_long = left.written.long ∙ right-long; clean = w.clean; scratch_long = refl })

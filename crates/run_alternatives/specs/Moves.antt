@@ -75,7 +75,8 @@ pub record Layable (code state : List ℕ) (j c l mark path : ℕ) : Type 0 wher
   pub small : mark ≤ cells
 
 -- Alternative j stands at the first of the literals left from l of copy c on, which is new.
-pub record Lays (sh : Sheet) (g : Goal) (code before after : List ℕ) (j c l mark path : ℕ) : Type 0 where
+pub record Lays {ss : List Symbol} {sh : Sheet} {g : Goal} {nodes code before : List ℕ} {path c l : ℕ}
+    (w : Climbing ss sh g nodes code before path c l) (after : List ℕ) (j mark : ℕ) : Type 0 where
   pub spot : Spot
   pub next : ℕ
   pub climbs : Climbs sh g code before path c l spot
@@ -101,22 +102,22 @@ pub record Tryable (nodes code state scratch : List ℕ) (h j k : ℕ) : Type 0 
   pub roomy : Roomy scratch
   pub clean : Clean scratch
 
--- The words mean this pile then.
-pub record Comes (ss : List Symbol) (sh : Sheet) (g : Goal) (nodes code before after scratch later : List ℕ) (pile : List Alternative)
-    (r : Pile) : Type 0 where
-  pub is : pile_of ss sh g nodes code after r.height ≡ pile
-  pub piled : Piled ss sh g nodes code after r.height r.trail
-  pub state_long : length after ≡ length before
-  pub clean : Clean later
-  pub scratch_long : length later ≡ length scratch
-
 -- the literals behind the one that alternative j stands at
 abbrev pub rest_at : Sheet → Goal → List ℕ → List ℕ → ℕ → List Pending
 rest_at sh g code state j = left_from sh g code state (path_at state j) (copy_at state j) (next_literal (literal_at state j))
 
 -- what comes of the top alternative j when the clause is tried, and the pile below it
-abbrev pub tried_on : List Symbol → Sheet → Goal → List ℕ → List ℕ → List ℕ → ℕ → Atom → Clause → List Alternative
-tried_on ss sh g nodes code state j at cl =
-    on_top (tried sh (alternative_at ss sh g nodes code state j) (copy_at state j) at (rest_at sh g code state j) cl)
-    (alternative_at ss sh g nodes code state j)
-    ++ pile_of ss sh g nodes code state j
+abbrev pub tried_on : {nodes code state scratch : List ℕ} {h j k : ℕ} → Tryable nodes code state scratch h j k → List Alternative
+tried_on {nodes} {code} {state} {j = j} w =
+    on_top (tried w.sh (alternative_at w.ss w.sh w.g nodes code state j) (copy_at state j) w.atom (rest_at w.sh w.g code state j) w.clause)
+    (alternative_at w.ss w.sh w.g nodes code state j)
+    ++ pile_of w.ss w.sh w.g nodes code state j
+
+-- The words mean that pile then.
+pub record Comes {nodes code before scratch : List ℕ} {h j k : ℕ} (w : Tryable nodes code before scratch h j k) (after later : List ℕ) (r : Pile)
+    : Type 0 where
+  pub is : pile_of w.ss w.sh w.g nodes code after r.height ≡ tried_on w
+  pub piled : Piled w.ss w.sh w.g nodes code after r.height r.trail
+  pub state_long : length after ≡ length before
+  pub clean : Clean later
+  pub scratch_long : length later ≡ length scratch

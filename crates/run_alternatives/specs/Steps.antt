@@ -10,6 +10,7 @@ use Rattle.run_layout.specs.Program.{Program}
 use Rattle.run_layout.specs.Pile.{pile_of, Piled}
 use Rattle.unify_bindings.specs.Queues.{Clean}
 use Rattle.unify_bindings.specs.Scratch.{Roomy}
+use Rattle.run_alternatives.specs.Meanings.{Meaning, pile_in, PiledIn}
 use Rattle.run_alternatives.specs.declared.Pile.{Pile}
 
 -- some loaded program and words that mean a pile of it, which is low
@@ -20,18 +21,22 @@ pub record Running (nodes code state : List ℕ) (h n : ℕ) : Type 0 where
   pub piled : Piled ss sh g nodes code state h n
   pub low : Low (pile_of ss sh g nodes code state h)
 
+-- what the program means
+abbrev pub meaning : {nodes code state : List ℕ} {h n : ℕ} → Running nodes code state h n → Meaning
+meaning {nodes} {code} w = record { ss = w.ss; sh = w.sh; g = w.g; nodes = nodes; code = code }
+
 -- The pile is not empty, and the step would not try a clause at the longest path. Scratch words have room, and no cell is marked.
 pub record Steppable (nodes code state scratch : List ℕ) (h n : ℕ) : Type 0 where
   pub running : Running nodes code state h n
   pub some : 1 ≤ h
-  pub goes : goes_deeper running.sh (pile_of running.ss running.sh running.g nodes code state h) ≡ false
+  pub goes : goes_deeper running.sh (pile_in (meaning running) state h) ≡ false
   pub roomy : Roomy scratch
   pub clean : Clean scratch
 
 -- The pile that the words mean after a step is the definition's step of the pile that they meant before.
-pub record Stepped (ss : List Symbol) (sh : Sheet) (g : Goal) (nodes code before after scratch later : List ℕ) (h : ℕ) (r : Pile) : Type 0 where
-  pub is : pile_of ss sh g nodes code after r.height ≡ step sh (pile_of ss sh g nodes code before h)
-  pub piled : Piled ss sh g nodes code after r.height r.trail
+pub record Stepped (m : Meaning) (before after scratch later : List ℕ) (h : ℕ) (r : Pile) : Type 0 where
+  pub is : pile_in m after r.height ≡ step m.sh (pile_in m before h)
+  pub piled : PiledIn m after r.height r.trail
   pub state_long : length after ≡ length before
   pub clean : Clean later
   pub scratch_long : length later ≡ length scratch
@@ -46,7 +51,7 @@ pub record Startable (nodes code state : List ℕ) : Type 0 where
   pub zero_words : (i : ℕ) → get_or state i 0 ≡ 0
 
 -- "At first there is one, the goal, path 0."
-pub record Started (ss : List Symbol) (sh : Sheet) (g : Goal) (nodes code before after : List ℕ) : Type 0 where
-  pub is : pile_of ss sh g nodes code after 1 ≡ start sh g
-  pub piled : Piled ss sh g nodes code after 1 0
+pub record Started {nodes code before : List ℕ} (w : Startable nodes code before) (after : List ℕ) : Type 0 where
+  pub is : pile_of w.ss w.sh w.g nodes code after 1 ≡ start w.sh w.g
+  pub piled : Piled w.ss w.sh w.g nodes code after 1 0
   pub state_long : length after ≡ length before

@@ -60,8 +60,7 @@ fn topmost(code: &[u32], l: usize) -> usize
 // Alternative j stands at the first literal left from a spot on.
 pub fn lay(code: &[u32], state: &mut [u32], j: usize, at: Spot, mark: usize, path: usize)
     requires { Layable code.now state.old j at.copy at.literal mark path }
-    ensures { (w : Layable code.now state.old j at.copy at.literal mark path)
-        → Lays w.sh w.g code.now state.old state.new j at.copy at.literal mark path }
+    ensures { (w : Layable code.now state.old j at.copy at.literal mark path) → Lays w.climbing state.new j mark }
 {
     let s = first_literal(code, state, at);
     let top = Top {

@@ -1,5 +1,5 @@
 // The alternatives of the pile as words: their fields read and stored, an alternative laid at the first literal left, and a clause tried for
-// the top one. The laws say what comes of the top one at each literal. Document 01 is the paper "Rule sheets".
+// the top one. The laws say what comes of the top one at each literal.
 
 #![tactic(auto)]
 

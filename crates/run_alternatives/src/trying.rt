@@ -1,6 +1,6 @@
 // A clause tried for a call that the top alternative stands at.
 ghost use Rattle.std.specs.Prelude.{◌-◌};
-ghost use Rattle.run_alternatives.specs.Moves.{Tryable, Comes, tried_on};
+ghost use Rattle.run_alternatives.specs.Moves.{Tryable, Comes};
 
 use crate::laying::lay;
 use crate::records::{Spot, put_frame, top_at};
@@ -20,9 +20,7 @@ pub fn try_clause(
 ) -> Pile
     requires { Tryable program.nodes.now program.code.now state.old scratch.old h (h - 1) k }
     ensures { (w : Tryable program.entry.nodes.now program.entry.code.now state.old scratch.old h (h - 1) k)
-        → Comes w.ss w.sh w.g program.entry.nodes.now program.entry.code.now state.old state.new scratch.old
-        scratch.new (tried_on w.ss w.sh w.g program.entry.nodes.now program.entry.code.now state.old (h - 1) w.atom w.clause)
-        result }
+        → Comes w state.new scratch.new result }
 {
     let j = h - 1;
     let s = top_at(state, j);

@@ -25,12 +25,13 @@ use Rattle.run_layout.proofs.Pile.{height, undone, Means}
 use Rattle.unify_bindings.specs.Cells.{Stored, Undone}
 use Rattle.out_answers.specs.Fitting.{Answerable, SomeAnswerable, Fitted}
 use Rattle.unify_bindings.specs.Scratch.{SameMarks, Roomy}
-use Rattle.run_alternatives.specs.Steps.{Running, Steppable, Stepped}
+use Rattle.run_alternatives.specs.Meanings.{Meaning, pile_in, PiledIn}
+use Rattle.run_alternatives.specs.Steps.{Running, meaning, Steppable, Stepped}
 use Rattle.run_alternatives.specs.declared.Pile.{Pile}
 use Rattle.run_answers.specs.declared.LoadedProgram.{LoadedProgram}
 use Rattle.run_answers.specs.declared.Next.{Next}
 use Rattle.run_answers.specs.declared.Next.TheVariants.{End, Answer, Step}
-use Rattle.run_answers.specs.Telling.{before_step, solution_of, Meaning, meaning_of, pile_in, PiledIn, Tellable, Rewindable, SamePile, Rewound, Answering, Answered}
+use Rattle.run_answers.specs.Telling.{before_step, solution_of, meaning_of, Tellable, Rewindable, SamePile, Rewound, Answering, Answered}
 use Rattle.std.specs.Borrow.{Bor}
 use Rattle.run_answers.proofs.EndLaws.{answer-flat}
 use Rattle.out_terms.specs.Telling.{names_of}
@@ -56,7 +57,7 @@ by-counts false false false rest = refl
 
 module _ {nodes code state : List ℕ} {h n : ℕ} (wanted answers left : ℕ) {s : Option Kind} (e : s ≡ ended_by h wanted answers left) (w : Running nodes code state h n) where
   abbrev pile : List Alternative
-  pile = pile_of w.ss w.sh w.g nodes code state h
+  pile = pile_in (meaning w) state h
 
   abbrev next : Next
   next = before_step wanted answers left w.sh pile
@@ -181,7 +182,7 @@ module _ {loaded : LoadedProgram} {state scratch text : List ℕ} {h n at : ℕ}
       fitted-here : Fitted (line w.g (bindings w.ss m.nodes mid.now trail)) text at new r
       fitted-here = f w.ss trail w.g tells w.spelt.names_are
 
-      pub answer-full : {scratch1 : List ℕ} → SameMarks scratch scratch1 → r ≡ None → Answered m state mid.now scratch scratch1 text new h at (record { at = None; height = h; trail = trail })
+      pub answer-full : {scratch1 : List ℕ} → SameMarks scratch scratch1 → r ≡ None → Answered w mid.now scratch1 new (record { at = None; height = h; trail = trail })
       answer-full {scratch1} y z =
           record {
             mid = mid.now;
@@ -197,10 +198,10 @@ module _ {loaded : LoadedProgram} {state scratch text : List ℕ} {h n at : ℕ}
             later_long = y.long;
           }
 
-      pub answer-on : {scratch1 : List ℕ} {past : ℕ} (y : SameMarks scratch scratch1) → r ≡ Some past → (after later : List ℕ) (p : Pile) → ((v : Steppable m.nodes m.code mid.now scratch1 h trail) → Stepped v.running.ss v.running.sh v.running.g m.nodes m.code mid.now after scratch1 later h p) → Answered m state after scratch later text new h at (record { at = Some past; height = p.height; trail = p.trail })
+      pub answer-on : {scratch1 : List ℕ} {past : ℕ} (y : SameMarks scratch scratch1) → r ≡ Some past → (after later : List ℕ) (p : Pile) → ((v : Steppable m.nodes m.code mid.now scratch1 h trail) → Stepped (meaning v.running) mid.now after scratch1 later h p) → Answered w after later new (record { at = Some past; height = p.height; trail = p.trail })
       unfolding answer-steps
       answer-on {scratch1} {past} y z after later p k =
-          let s : Stepped w.ss w.sh w.g m.nodes m.code mid.now after scratch1 later h p = k (answer-steps x y) in
+          let s : Stepped m mid.now after scratch1 later h p = k (answer-steps x y) in
           record {
             mid = mid.now;
             between = scratch1;

@@ -9,7 +9,7 @@ use Rattle.machine.specs.Runs.{is_empty, is_answer, goes_deeper}
 use Rattle.run_layout.specs.Regions.{deepest, open_size, stack}
 use Rattle.run_layout.specs.Nodes.{Symbol}
 use Rattle.run_layout.specs.State.{bindings}
-use Rattle.run_layout.specs.Pile.{pile_of, Piled, mark_at}
+use Rattle.run_layout.specs.Pile.{mark_at}
 use Rattle.unify_bindings.specs.Queues.{Clean}
 use Rattle.unify_bindings.specs.Scratch.{Roomy}
 use Rattle.syntax.specs.Spans.{names_from}
@@ -17,6 +17,7 @@ use Rattle.out_terms.specs.Words.{SymbolsSpelt, Named}
 use Rattle.std.specs.Borrow.{Bor}
 use Rattle.out_terms.specs.declared.Solution.{Solution}
 use Rattle.out_answers.specs.Fitting.{Fitted}
+use Rattle.run_alternatives.specs.Meanings.{Meaning, pile_in, PiledIn}
 use Rattle.run_alternatives.specs.Steps.{Stepped}
 use Rattle.run_answers.specs.declared.AnswerTold.{AnswerTold}
 use Rattle.run_answers.specs.declared.LoadedProgram.{LoadedProgram}
@@ -51,23 +52,9 @@ solution_of loaded state =
       count = loaded.count;
     }
 
--- What the tables of a loaded program mean, the symbols, the sheet and the goal, beside the two tables that a pile is read by.
-pub record Meaning : Type 0 where
-  pub ss : List Symbol
-  pub sh : Sheet
-  pub g : Goal
-  pub nodes : List ℕ
-  pub code : List ℕ
-
+-- what the tables of a loaded program mean
 abbrev pub meaning_of : List Symbol → Sheet → Goal → LoadedProgram → Meaning
 meaning_of ss sh g loaded = record { ss = ss; sh = sh; g = g; nodes = loaded.nodes.now; code = loaded.code.now }
-
--- the pile of a state, and that there is one
-abbrev pub pile_in : Meaning → List ℕ → ℕ → List Alternative
-pile_in m state h = pile_of m.ss m.sh m.g m.nodes m.code state h
-
-abbrev pub PiledIn : Meaning → List ℕ → ℕ → ℕ → Type 0
-PiledIn m state h n = Piled m.ss m.sh m.g m.nodes m.code state h n
 
 -- scratch words whose part behind marks and queue is an ample stack for the brackets of an answer with so many bytes of room
 abbrev pub Tellable : List ℕ → ℕ → Type 0
@@ -116,14 +103,16 @@ pub record Answering (loaded : LoadedProgram) (state scratch text : List ℕ) (h
   pub room : at ≤ length text
 
 -- The line is written and the step taken, or the line does not fit: then there is no position, and the pile is as it was.
-pub record Answered (m : Meaning) (before after scratch later old new : List ℕ) (h at : ℕ) (r : AnswerTold) : Type 0 where
+pub record Answered {loaded : LoadedProgram} {before scratch old : List ℕ} {h n at : ℕ} (w : Answering loaded before scratch old h n at)
+    (after later new : List ℕ) (r : AnswerTold) : Type 0 where
   pub mid : List ℕ
   pub between : List ℕ
   pub trail : ℕ
-  pub same : SamePile m before mid h trail
+  pub same : SamePile (meaning_of w.ss w.sh w.g loaded) before mid h trail
   pub mark : mark_at mid (h - 1) ≡ trail
-  pub told : Fitted (line m.g (bindings m.ss m.nodes mid trail)) old at new r.at
-  pub stepped : (past : ℕ) → r.at ≡ Some past → Stepped m.ss m.sh m.g m.nodes m.code mid after between later h (record { height = r.height; trail = r.trail })
+  pub told : Fitted (line w.g (bindings w.ss loaded.nodes.now mid trail)) old at new r.at
+  pub stepped : (past : ℕ) → r.at ≡ Some past
+      → Stepped (meaning_of w.ss w.sh w.g loaded) mid after between later h (record { height = r.height; trail = r.trail })
   pub stopped : r.at ≡ None → (after ≡ mid) × ((r.height ≡ h) × ((r.trail ≡ trail) × Clean later))
   pub state_long : length after ≡ length before
   pub scratch_long : length between ≡ length scratch

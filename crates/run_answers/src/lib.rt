@@ -1,4 +1,4 @@
-// Before a step of a run: what comes next, and an answer told, its line written and then the step taken. Document 01 is the paper "Rule sheets".
+// Before a step of a run: what comes next, and an answer told, its line written and then the step taken.
 
 #![tactic(auto)]
 
@@ -7,12 +7,12 @@ ghost use Rattle.syntax.specs.Terms.{Goal};
 ghost use Rattle.machine.specs.Answers.{line};
 ghost use Rattle.run_layout.specs.Nodes.{Symbol};
 ghost use Rattle.run_layout.specs.State.{bindings};
-ghost use Rattle.run_layout.specs.Pile.{pile_of};
 ghost use Rattle.unify_bindings.specs.Scratch.{SameMarks};
 ghost use Rattle.out_terms.specs.Telling.{names_of};
 ghost use Rattle.out_answers.specs.Fitting.{Answerable, SomeAnswerable, Fitted};
-ghost use Rattle.run_alternatives.specs.Steps.{Running};
-ghost use Rattle.run_answers.specs.Telling.{before_step, meaning_of, solution_of, Tellable, Rewindable, Rewound, Answering, Answered};
+ghost use Rattle.run_alternatives.specs.Meanings.{pile_in};
+ghost use Rattle.run_alternatives.specs.Steps.{Running, meaning};
+ghost use Rattle.run_answers.specs.Telling.{before_step, solution_of, Tellable, Rewindable, Rewound, Answering, Answered};
 
 use out_answers::put_answer;
 use out_terms::Solution;
@@ -69,7 +69,7 @@ pub fn next_of(
 ) -> Next
     requires { (nodes : List ℕ) × Running nodes code.now state.now pile.height pile.trail }
     ensures { (nodes : List ℕ) (w : Running nodes code.now state.now pile.height pile.trail)
-        → result ≡ before_step wanted answers left w.sh (pile_of w.ss w.sh w.g nodes code.now state.now pile.height) }
+        → result ≡ before_step wanted answers left w.sh (pile_in (meaning w) state.now pile.height) }
 {
     if let Some(kind) = ended(pile.height, wanted, answers, left) {
         return Next::End(kind);
@@ -132,7 +132,7 @@ pub fn answer(
 ) -> AnswerTold
     requires { Answering loaded state.old scratch.old text.old pile.height pile.trail at }
     ensures { (w : Answering loaded.entry state.old scratch.old text.old pile.height pile.trail at)
-        → Answered (meaning_of w.ss w.sh w.g loaded.entry) state.old state.new scratch.old scratch.new text.old text.new pile.height at result }
+        → Answered w state.new scratch.new text.new result }
 {
     let trail = rewind(state, pile);
     let Some(past) = tell(loaded, state, scratch, text, at) else {

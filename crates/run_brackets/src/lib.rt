@@ -7,7 +7,7 @@ ghost use Rattle.run_layout.specs.Regions.{split_kind};
 ghost use Rattle.run_layout.specs.Program.{record_kind};
 ghost use Rattle.run_layout.specs.Pile.{literal_at, mark_at};
 ghost use Rattle.run_alternatives.specs.Words.{top_at};
-ghost use Rattle.run_alternatives.specs.Steps.{Steppable, Stepped};
+ghost use Rattle.run_alternatives.specs.Steps.{Steppable, Stepped, meaning};
 
 use link_records::next_literal;
 use run_alternatives::Pile;
@@ -20,9 +20,8 @@ pub fn work_either(code: &[u32], state: &mut [u32], h: usize, s: Top) -> Pile
     requires by_index { (nodes : List ℕ) × (scratch : List ℕ) × Steppable nodes code.now state.old scratch h (mark_at state.old (h - 1)) }
     requires s_value { s ≡ top_at state.old (h - 1) }
     requires h_value { record_kind code.now (literal_at state.old (h - 1)) ≡ split_kind }
-    ensures { (nodes scratch : List ℕ) (w : Steppable nodes code.now state.old scratch h
-        (mark_at state.old (h - 1))) → Stepped w.running.ss w.running.sh w.running.g nodes code.now
-        state.old state.new scratch scratch h result }
+    ensures { (nodes scratch : List ℕ) (w : Steppable nodes code.now state.old scratch h (mark_at state.old (h - 1)))
+        → Stepped (meaning w.running) state.old state.new scratch scratch h result }
 {
     let j = h - 1;
     let c = s.copy;

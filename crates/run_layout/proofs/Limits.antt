@@ -1,4 +1,4 @@
--- Document 01's limits hold of what reading accepts, by the induction over reading; how many records a body then has; and a sheet with facts behind it.
+-- The limits of RULES hold of what reading accepts, by the induction over reading; how many records a body then has; and a sheet with facts behind it.
 use Prim.Native.Nat.{ℕ, zero, suc, ◌+◌, ◌*◌, ◌≤◌, ◌<◌}
 use native.Mathlib.Omega.{arith}
 use mathlib.Core.Path.{◌≡◌, refl}

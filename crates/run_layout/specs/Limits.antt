@@ -1,4 +1,4 @@
--- Document 01's limits on what was read: clauses in a sheet, literals in a body or goal, brackets open at once. And no side of a bracket is empty.
+-- The limits of RULES on what was read: clauses in a sheet, literals in a body or goal, brackets open at once. And no side of a bracket is empty.
 use Rattle.std.specs.Prelude.{ℕ, suc, ◌+◌, ◌*◌, ◌≤◌, List, [], ◌∷◌, length}
 use Rattle.syntax.specs.Limits.{clauses, brackets, most_facts}
 use Rattle.syntax.specs.Terms.{term_of, Literal, call, equation, truth, falsity, either, Body, done, also, Clause, Sheet, Goal}

@@ -1,4 +1,4 @@
--- The ends of a run that its counts tell, in the order of document 02, (vii): "`done` now comes first".
+-- The ends of a run that its counts tell, in the order of REQUESTS (vii): "`done` now comes first".
 use Rattle.std.specs.Prelude.{ℕ, cond, leb, eqb, Option, Some, None}
 use Rattle.syntax.specs.declared.Kind.{Kind}
 use Rattle.syntax.specs.declared.Kind.TheVariants.{Wanted, Done, Steps}

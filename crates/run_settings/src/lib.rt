@@ -1,4 +1,4 @@
-// The settings of a run, document 01's refusal 1, and the ends of a run that its counts tell.
+// The settings of a run, refusal 1, and the ends of a run that its counts tell.
 
 #![tactic(auto)]
 

@@ -1,4 +1,4 @@
-// The machine over flat words: one step of it, and its start. Document 01 is the paper "Rule sheets".
+// The machine over flat words: one step of it, and its start.
 
 #![tactic(auto)]
 
@@ -6,8 +6,8 @@ mod literals;
 
 ghost use Rattle.std.specs.Prelude.{◌≡◌, List, ℕ};
 ghost use Rattle.machine.specs.Runs.{is_answer, goes_deeper};
-ghost use Rattle.run_layout.specs.Pile.{pile_of};
-ghost use Rattle.run_alternatives.specs.Steps.{Running, Steppable, Stepped, Startable, Started};
+ghost use Rattle.run_alternatives.specs.Meanings.{pile_in};
+ghost use Rattle.run_alternatives.specs.Steps.{Running, meaning, Steppable, Stepped, Startable, Started};
 
 use literals::work;
 use run_alternatives::laying::lay;
@@ -22,8 +22,7 @@ use unify_bindings::store::undo;
 pub fn step(program: Compiled, state: &mut [u32], scratch: &mut [u32], pile: Pile) -> Pile
     requires { Steppable program.nodes.now program.code.now state.old scratch.old pile.height pile.trail }
     ensures { (w : Steppable program.entry.nodes.now program.entry.code.now state.old scratch.old pile.height pile.trail)
-        → Stepped w.running.ss w.running.sh w.running.g program.entry.nodes.now program.entry.code.now state.old state.new
-        scratch.old scratch.new pile.height result }
+        → Stepped (meaning w.running) state.old state.new scratch.old scratch.new pile.height result }
 {
     let j = pile.height - 1;
     let s = top_at(state, j);
@@ -34,8 +33,7 @@ pub fn step(program: Compiled, state: &mut [u32], scratch: &mut [u32], pile: Pil
 // The goal alone on the pile.
 pub fn start(code: &[u32], state: &mut [u32])
     requires { (nodes : List ℕ) × Startable nodes code.now state.old }
-    ensures { (nodes : List ℕ) (w : Startable nodes code.now state.old)
-        → Started w.ss w.sh w.g nodes code.now state.old state.new }
+    ensures { (nodes : List ℕ) (w : Startable nodes code.now state.old) → Started w state.new }
 {
     let first = word_at(code, 1);
     let goal = Spot {
@@ -49,7 +47,7 @@ pub fn start(code: &[u32], state: &mut [u32])
 pub fn is_answer(code: &[u32], state: &[u32], pile: Pile) -> bool
     requires { (nodes : List ℕ) × Running nodes code.now state.now pile.height pile.trail }
     ensures { (nodes : List ℕ) (w : Running nodes code.now state.now pile.height pile.trail)
-        → result ≡ is_answer (pile_of w.ss w.sh w.g nodes code.now state.now pile.height) }
+        → result ≡ is_answer (pile_in (meaning w) state.now pile.height) }
 {
     if pile.height == 0 {
         return false;
@@ -63,7 +61,7 @@ pub fn is_answer(code: &[u32], state: &[u32], pile: Pile) -> bool
 pub fn goes_deeper(code: &[u32], state: &[u32], pile: Pile) -> bool
     requires { (nodes : List ℕ) × Running nodes code.now state.now pile.height pile.trail }
     ensures { (nodes : List ℕ) (w : Running nodes code.now state.now pile.height pile.trail)
-        → result ≡ goes_deeper w.sh (pile_of w.ss w.sh w.g nodes code.now state.now pile.height) }
+        → result ≡ goes_deeper w.sh (pile_in (meaning w) state.now pile.height) }
 {
     if pile.height == 0 {
         return false;

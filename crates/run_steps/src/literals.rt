@@ -4,7 +4,7 @@ ghost use Rattle.syntax.specs.Words.{equation_kind};
 ghost use Rattle.run_layout.specs.Program.{record_kind};
 ghost use Rattle.run_layout.specs.Pile.{literal_at, mark_at};
 ghost use Rattle.run_alternatives.specs.Words.{top_at};
-ghost use Rattle.run_alternatives.specs.Steps.{Steppable, Stepped};
+ghost use Rattle.run_alternatives.specs.Steps.{Steppable, Stepped, meaning};
 
 use link_records::next_literal;
 use run_alternatives::laying::lay;
@@ -29,9 +29,8 @@ fn work_equation(
     requires steppable { Steppable program.nodes.now program.code.now state.old scratch.old h (mark_at state.old (h - 1)) }
     requires s_value { s ≡ top_at state.old (h - 1) }
     requires h_value { record_kind program.code.now (literal_at state.old (h - 1)) ≡ equation_kind }
-    ensures { (w : Steppable program.entry.nodes.now program.entry.code.now state.old scratch.old h
-        (mark_at state.old (h - 1))) → Stepped w.running.ss w.running.sh w.running.g program.entry.nodes.now program.entry.code.now
-        state.old state.new scratch.old scratch.new h result }
+    ensures { (w : Steppable program.entry.nodes.now program.entry.code.now state.old scratch.old h (mark_at state.old (h - 1)))
+        → Stepped (meaning w.running) state.old state.new scratch.old scratch.new h result }
 {
     let j = h - 1;
     let c = s.copy;
@@ -61,9 +60,8 @@ fn work_equation(
 // By the literal: `fail` and a goal's end leave the pile below. The kinds are words of the code, so they are compared as numbers.
 pub fn work(program: Compiled, state: &mut [u32], scratch: &mut [u32], h: usize) -> Pile
     requires { Steppable program.nodes.now program.code.now state.old scratch.old h (mark_at state.old (h - 1)) }
-    ensures { (w : Steppable program.entry.nodes.now program.entry.code.now state.old scratch.old h
-        (mark_at state.old (h - 1))) → Stepped w.running.ss w.running.sh w.running.g program.entry.nodes.now program.entry.code.now
-        state.old state.new scratch.old scratch.new h result }
+    ensures { (w : Steppable program.entry.nodes.now program.entry.code.now state.old scratch.old h (mark_at state.old (h - 1)))
+        → Stepped (meaning w.running) state.old state.new scratch.old scratch.new h result }
 {
     let j = h - 1;
     let s = top_at(state, j);

@@ -11,15 +11,15 @@ use Rattle.syntax.specs.declared.Kind.{Kind}
 use Rattle.syntax.specs.declared.Kind.TheVariants.{Full}
 use Rattle.machine.specs.Machine.{Alternative}
 use Rattle.machine.specs.Runs.{Ended, goes_deeper, run_from}
-use Rattle.run_layout.specs.Pile.{pile_of}
 use Rattle.unify_bindings.specs.Queues.{Clean}
-use Rattle.run_alternatives.specs.Steps.{Running, Steppable, Stepped}
+use Rattle.run_alternatives.specs.Meanings.{Meaning, pile_in}
+use Rattle.run_alternatives.specs.Steps.{Running, meaning, Steppable, Stepped}
 use Rattle.run_alternatives.specs.declared.Pile.{Pile}
 use Rattle.run_answers.specs.declared.LoadedProgram.{LoadedProgram}
 use Rattle.run_answers.specs.declared.Next.{Next}
 use Rattle.run_answers.specs.declared.Next.TheVariants.{End, Answer, Step}
 use Rattle.run_answers.specs.declared.AnswerTold.{AnswerTold}
-use Rattle.run_answers.specs.Telling.{before_step, Meaning, meaning_of, pile_in, Under, Answering, Answered}
+use Rattle.run_answers.specs.Telling.{before_step, meaning_of, Under, Answering, Answered}
 use Rattle.run_turns.specs.Turns.{Ongoing, Turned, Underway}
 use Rattle.run_turns.specs.declared.Carried.{Carried}
 use Rattle.run_answers.proofs.EndLaws.{answer-below}
@@ -64,7 +64,7 @@ module _ {loaded : LoadedProgram} {first : Words} {t₀ : Carried} {k wanted : �
     pub go-few : t.steps ≤ t₀.steps + k
     go-few = (i.on w).steps_few
 
-    module _ {r : Next} (e : (nodes : List ℕ) (v : Running nodes m.code now.state t.height t.trail) → r ≡ before_step wanted t.answers (t₀.steps + k - t.steps) v.sh (pile_of v.ss v.sh v.g nodes m.code now.state t.height)) where
+    module _ {r : Next} (e : (nodes : List ℕ) (v : Running nodes m.code now.state t.height t.trail) → r ≡ before_step wanted t.answers (t₀.steps + k - t.steps) v.sh (pile_in (meaning v) now.state t.height)) where
       next : r ≡ before_step wanted t.answers (t₀.steps + k - t.steps) w.sh pile
       unfolding running
       next = e m.nodes running
@@ -87,19 +87,19 @@ module _ {loaded : LoadedProgram} {first : Words} {t₀ : Carried} {k wanted : �
               clean = (i.on w).under.lent.clean;
             }
           where
-            flat : goes_deeper running.sh (pile_of running.ss running.sh running.g m.nodes m.code now.state t.height) ≡ false
+            flat : goes_deeper running.sh (pile_in (meaning running) now.state t.height) ≡ false
             flat = unfold running in step-flat (i.on w) stepping
 
         pub go-more : t.steps < t₀.steps + k
         go-more = step-few (i.on w) stepping
 
-        stepped-on : (state1 scratch1 : List ℕ) (p : Pile) → ((v : Steppable m.nodes m.code now.state now.scratch t.height t.trail) → Stepped v.running.ss v.running.sh v.running.g m.nodes m.code now.state state1 now.scratch scratch1 t.height p) → Stepped w.ss w.sh w.g m.nodes m.code now.state state1 now.scratch scratch1 t.height p
+        stepped-on : (state1 scratch1 : List ℕ) (p : Pile) → ((v : Steppable m.nodes m.code now.state now.scratch t.height t.trail) → Stepped (meaning v.running) now.state state1 now.scratch scratch1 t.height p) → Stepped m now.state state1 now.scratch scratch1 t.height p
         unfolding go-steps running
         stepped-on state1 scratch1 p f = f go-steps
 
-        pub steps-going : (state1 scratch1 : List ℕ) (p : Pile) → ((v : Steppable m.nodes m.code now.state now.scratch t.height t.trail) → Stepped v.running.ss v.running.sh v.running.g m.nodes m.code now.state state1 now.scratch scratch1 t.height p) → Ongoing m state1 scratch1 end (t₀.steps + k) wanted w.old now.text (record { height = p.height; trail = p.trail; answers = t.answers; steps = t.steps + 1; at = t.at; kind = t.kind })
+        pub steps-going : (state1 scratch1 : List ℕ) (p : Pile) → ((v : Steppable m.nodes m.code now.state now.scratch t.height t.trail) → Stepped (meaning v.running) now.state state1 now.scratch scratch1 t.height p) → Ongoing m state1 scratch1 end (t₀.steps + k) wanted w.old now.text (record { height = p.height; trail = p.trail; answers = t.answers; steps = t.steps + 1; at = t.at; kind = t.kind })
         steps-going state1 scratch1 p f =
-            let s : Stepped w.ss w.sh w.g m.nodes m.code now.state state1 now.scratch scratch1 t.height p = stepped-on state1 scratch1 p f in
+            let s : Stepped m now.state state1 now.scratch scratch1 t.height p = stepped-on state1 scratch1 p f in
             steps_on (i.on w) stepping state1 scratch1 p.height p.trail s.piled s.is s.clean s.scratch_long
 
       -- an answer
@@ -126,15 +126,15 @@ module _ {loaded : LoadedProgram} {first : Words} {t₀ : Carried} {k wanted : �
         pub go-below : t.answers < wanted
         go-below = answer-below wanted t.answers (t₀.steps + k - t.steps) w.sh pile answering
 
-        module _ {state1 scratch1 text1 : List ℕ} {told : AnswerTold} (a : (v : Answering loaded now.state now.scratch now.text t.height t.trail t.at) → Answered (meaning_of v.ss v.sh v.g loaded) now.state state1 now.scratch scratch1 now.text text1 t.height t.at told) where
-          answered : Answered m now.state state1 now.scratch scratch1 now.text text1 t.height t.at told
-          unfolding go-answers
+        module _ {state1 scratch1 text1 : List ℕ} {told : AnswerTold} (a : (v : Answering loaded now.state now.scratch now.text t.height t.trail t.at) → Answered v state1 scratch1 text1 told) where
+          answered : Answered go-answers state1 scratch1 text1 told
           answered = a go-answers
 
           abbrev carried : ℕ → ℕ → Carried
           carried h n = record { height = h; trail = n; answers = t.answers; steps = t.steps; at = t.at; kind = Full }
 
           pub go-full : told.at ≡ None → Turned m state1 scratch1 w.old text1 end (carried told.height told.trail)
+          unfolding go-answers
           go-full z =
               let s : (state1 ≡ answered.mid) × ((told.height ≡ t.height) × ((told.trail ≡ answered.trail) × Clean scratch1)) = answered.stopped z in
               subst⁻¹ (λ (x : List ℕ). Turned m x scratch1 w.old text1 end (carried told.height told.trail)) s.0
@@ -143,7 +143,8 @@ module _ {loaded : LoadedProgram} {first : Words} {t₀ : Carried} {k wanted : �
               (full (i.on w) answering answered.mid answered.trail answered.same.piled answered.same.is answered.mark text1 told.at answered.told z scratch1 s.1.1.1 answered.later_long)))
 
           pub answers-going : {past : ℕ} → told.at ≡ Some past → Ongoing m state1 scratch1 end (t₀.steps + k) wanted w.old text1 (record { height = told.height; trail = told.trail; answers = t.answers + 1; steps = t.steps + 1; at = past; kind = t.kind })
+          unfolding go-answers
           answers-going {past} z =
-              let s : Stepped w.ss w.sh w.g m.nodes m.code answered.mid state1 answered.between scratch1 t.height (record { height = told.height; trail = told.trail }) = answered.stepped past z in
+              let s : Stepped m answered.mid state1 answered.between scratch1 t.height (record { height = told.height; trail = told.trail }) = answered.stepped past z in
               answers-on (i.on w) answering answered.mid answered.trail answered.same.piled answered.same.is answered.mark text1 told.at answered.told z
               state1 scratch1 told.height told.trail s.piled s.is s.clean (s.scratch_long ∙ answered.scratch_long)

@@ -23,9 +23,10 @@ use Rattle.run_layout.specs.State.{bindings}
 use Rattle.run_layout.specs.Pile.{pile_of, mark_at}
 use Rattle.unify_bindings.specs.Queues.{Clean}
 use Rattle.unify_bindings.specs.Scratch.{Roomy}
+use Rattle.run_alternatives.specs.Meanings.{Meaning, pile_in, PiledIn}
 use Rattle.run_answers.specs.declared.Next.TheVariants.{End, Answer, Step}
 use Rattle.out_answers.specs.Fitting.{Fitted}
-use Rattle.run_answers.specs.Telling.{before_step, Meaning, pile_in, PiledIn, Tellable, Under}
+use Rattle.run_answers.specs.Telling.{before_step, Tellable, Under}
 use Rattle.run_turns.specs.Turns.{Ongoing, Carries, Turned}
 use Rattle.run_turns.specs.declared.Carried.{Carried}
 use Rattle.run_answers.proofs.EndLaws.{Goes, Answers, run_ends, run-steps, run-answers}

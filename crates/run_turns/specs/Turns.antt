@@ -4,8 +4,9 @@ use Rattle.std.proofs.lemmas.List.Edits.{sets}
 use Rattle.syntax.specs.Terms.{Sheet, Goal}
 use Rattle.machine.specs.Runs.{Progress, Ended, run_from}
 use Rattle.run_layout.specs.Nodes.{Symbol}
+use Rattle.run_alternatives.specs.Meanings.{Meaning, pile_in}
 use Rattle.run_answers.specs.declared.LoadedProgram.{LoadedProgram}
-use Rattle.run_answers.specs.Telling.{Meaning, meaning_of, pile_in, Spelt, Under}
+use Rattle.run_answers.specs.Telling.{meaning_of, Spelt, Under}
 use Rattle.run_turns.specs.declared.Carried.{Carried}
 
 -- Where a run stands: the rest of it is the rest of a whole, which ends so.

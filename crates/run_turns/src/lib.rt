@@ -1,5 +1,4 @@
-// A turn of a run over loaded words: the step repeated until document 01 ends it or the turn's steps are used up. Document 01 is the paper "Rule
-// sheets".
+// A turn of a run over loaded words: the step repeated until RULES ends it or the turn's steps are used up.
 
 #![tactic(auto)]
 

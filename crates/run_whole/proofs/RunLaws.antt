@@ -10,13 +10,14 @@ use Rattle.machine.specs.Machine.{Alternative}
 use Rattle.machine.specs.Runs.{Progress, run_from, begun, run}
 use Rattle.machine.specs.Low.{Low}
 use Rattle.machine_theorems.proofs.Low.{low-start}
+use Rattle.run_alternatives.specs.Meanings.{Meaning}
 use Rattle.run_alternatives.specs.Steps.{Startable, Started}
 use Rattle.run_answers.specs.declared.LoadedProgram.{LoadedProgram}
 use Rattle.run_turns.specs.Turns.{Turned, Underway}
 use Rattle.run_whole.specs.Running.{Runs, Leaves, Runnable}
 use Rattle.run_turns.specs.declared.Carried.{Carried}
 use Rattle.run_results.specs.declared.Written.{Written}
-use Rattle.run_answers.specs.Telling.{Meaning, meaning_of}
+use Rattle.run_answers.specs.Telling.{meaning_of}
 
 -- what a run carries at first: the goal alone on the pile
 abbrev pub first : Carried
@@ -38,13 +39,12 @@ module _ {loaded : LoadedProgram} {state scratch text : List ℕ} (w : Runnable 
   pub go-startable : (nodes : List ℕ) × Startable nodes code state
   go-startable = (nodes, startable)
 
-  module _ {state1 : List ℕ} (s : (nodes : List ℕ) (v : Startable nodes code state) → Started v.ss v.sh v.g nodes code state state1) where
-    started-here : Started w.ss w.sh w.g nodes code state state1
-    unfolding startable
+  module _ {state1 : List ℕ} (s : (nodes : List ℕ) (v : Startable nodes code state) → Started v state1) where
+    started-here : Started startable state1
     started-here = s nodes startable
 
     pub go-underway : Underway loaded state1 scratch text first
-    unfolding begun
+    unfolding begun startable
     go-underway =
         record {
           ss = w.ss;

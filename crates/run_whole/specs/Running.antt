@@ -9,8 +9,9 @@ use Rattle.run_layout.specs.Regions.{state_words}
 use Rattle.run_layout.specs.Nodes.{Symbol}
 use Rattle.run_layout.specs.Program.{Program}
 use Rattle.unify_bindings.specs.Queues.{Clean}
+use Rattle.run_alternatives.specs.Meanings.{Meaning, pile_in, PiledIn}
 use Rattle.run_answers.specs.declared.LoadedProgram.{LoadedProgram}
-use Rattle.run_answers.specs.Telling.{Meaning, pile_in, PiledIn, Spelt, LentScratch}
+use Rattle.run_answers.specs.Telling.{Spelt, LentScratch}
 use Rattle.run_results.specs.declared.Written.{Written}
 
 -- the report of a run

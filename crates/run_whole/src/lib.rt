@@ -1,4 +1,4 @@
-// A run over loaded words, in one turn: its report, and the lines of its answers. Document 01 is the paper "Rule sheets".
+// A run over loaded words, in one turn: its report, and the lines of its answers.
 
 #![tactic(auto)]
 

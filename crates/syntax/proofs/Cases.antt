@@ -1,4 +1,4 @@
--- Computed cases of the definitions: each number from 2 to 7, ties at one byte, every limit of document 01's table that a short text meets, and the five
+-- Computed cases of the definitions: each number from 2 to 7, ties at one byte, every limit of the table of RULES that a short text meets, and the five
 -- numbers of some refusals.
 use Prim.Native.Nat.{ℕ}
 use mathlib.Core.Path.{◌≡◌, refl}

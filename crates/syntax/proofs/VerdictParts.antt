@@ -1,6 +1,6 @@
 -- Two verdicts that are the same have the same parts. Assumes nothing.
 use Prim.Native.Nat.{ℕ}
-use mathlib.Core.Path.{◌≡◌, refl, ap}
+use mathlib.Core.Path.{◌≡◌, ap}
 use Rattle.std.proofs.Common.{Ok, Err}
 use Rattle.syntax.specs.Verdicts.{Verdict, Accepted, Refused}
 use Rattle.syntax.specs.declared.Text.{Text}

@@ -1,4 +1,4 @@
--- The classes of bytes (document 01, "How a sheet is spelt").
+-- The classes of bytes (RULES, "How a sheet is spelt").
 use Rattle.std.specs.Prelude.{ℕ, Bool, cond, ◌&&◌, ◌||◌, leb, eqb}
 use Rattle.syntax.specs.declared.TokenKind.TheVariants.{Open, Close, Comma, Stop, Equals, Plus, Minus, Star, Semicolon}
 use Rattle.syntax.specs.declared.Class.{Class}

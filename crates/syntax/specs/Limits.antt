@@ -1,4 +1,4 @@
--- Document 01's limits: the most that may be of each thing.
+-- The limits of RULES: the most that may be of each thing.
 use Rattle.std.specs.Prelude.{ℕ, ◌+◌}
 
 -- ---- the table of "How a sheet is spelt"
@@ -27,7 +27,7 @@ brackets = 16
 abbrev pub arguments : ℕ
 arguments = 8
 
--- variables in a clause or goal (document 02, (viii): "A clause or goal may have 64.")
+-- variables in a clause or goal (REQUESTS (viii): "A clause or goal may have 64.")
 abbrev pub variables : ℕ
 variables = 64
 
@@ -43,7 +43,7 @@ declarations = 64
 abbrev pub clauses : ℕ
 clauses = 256
 
--- ---- traces (document 02, (ix): "more than 192 kind 1 records or 16,384 bytes")
+-- ---- traces (REQUESTS (ix): "more than 192 kind 1 records or 16,384 bytes")
 
 -- bytes of a trace
 abbrev pub trace_bytes : ℕ

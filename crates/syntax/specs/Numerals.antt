@@ -1,4 +1,4 @@
--- Numerals (document 02, (iii)): "Numerals are the same when equal after leading zeros are dropped (all zeros is 0), and are printed so."
+-- Numerals (REQUESTS (iii)): "Numerals are the same when equal after leading zeros are dropped (all zeros is 0), and are printed so."
 use Rattle.std.specs.Prelude.{ℕ, ◌-◌, true, false, List, [], ◌∷◌, eqb, length}
 
 -- the byte of the digit 0

@@ -1,4 +1,4 @@
--- Reading a sheet or a goal from left to right, to its first fault (document 01, "How a sheet is spelt", its table, and "The ten numbers", 2 to 7).
+-- Reading a sheet or a goal from left to right, to its first fault (RULES, "How a sheet is spelt", its table, and "The ten numbers", 2 to 7).
 -- The limits of the table are what the recursion counts down.
 use Rattle.std.specs.Prelude.{ℕ, zero, suc, ◌+◌, ◌-◌, Bool, true, false, cond, ◌&&◌, ◌||◌, List, [], ◌∷◌, ◌++◌, ltb, eqb, length, get_or}
 use Rattle.std.proofs.Math.Option.{Option, none, some}

@@ -1,4 +1,4 @@
--- Terms, atoms, literals, clauses, declarations, sheets and goals, as they are read (document 01, "How a sheet is spelt").
+-- Terms, atoms, literals, clauses, declarations, sheets and goals, as they are read (RULES, "How a sheet is spelt").
 use Rattle.std.specs.Prelude.{ℕ, suc, ◌+◌, Bool, true, false, cond, ◌&&◌, List, [], ◌∷◌, eqb}
 use Rattle.syntax.specs.Quote.{bytes}
 
@@ -27,7 +27,7 @@ abbrev pub term_of : Atom → Term
 term_of a = compound a.at a.name a.args
 
 mutual
-  -- document 02, (i): "A literal may be a bracket holding two bodies with a semicolon between."
+  -- REQUESTS (i): "A literal may be a bracket holding two bodies with a semicolon between."
   pub data Literal : Type 0 where
     call : Atom → Literal
     equation : Term → Term → Literal
@@ -103,7 +103,7 @@ fail_name = bytes "fail"
 abbrev pub mode_name : List ℕ
 mode_name = bytes "mode"
 
--- the predicate of a logger's records, `seen` with three arguments (document 02, (ix) and (x))
+-- the predicate of a logger's records, `seen` with three arguments (REQUESTS (ix) and (x))
 abbrev pub seen_name : List ℕ
 seen_name = bytes "seen"
 

@@ -1,4 +1,4 @@
--- One token at a position of a text (document 01, "How a sheet is spelt").
+-- One token at a position of a text (RULES, "How a sheet is spelt").
 use Rattle.std.specs.Prelude.{ℕ, suc, ◌+◌, Bool, true, false, cond, List, [], ◌∷◌, leb, eqb, drop, take}
 use Rattle.syntax.specs.Limits.{word_bytes}
 use Rattle.syntax.specs.Bytes.{is_blank, class_of, in_word, in_numeral}
@@ -10,7 +10,7 @@ use Rattle.syntax.specs.declared.TokenKind.TheVariants.{NoToken, Name, Variable,
 use Rattle.syntax.specs.declared.TokenKind.TheVariants.{Semicolon, End}
 
 -- The kinds of token: a byte that begins none, a name, a variable, a numeral, the pair :-, the tokens of one byte, a name, variable or numeral of more
--- than 31 bytes, the end of the text. "The semicolon is now a token" (document 02, (i)).
+-- than 31 bytes, the end of the text. "The semicolon is now a token" (REQUESTS (i)).
 abbrev pub no_token : TokenKind
 no_token = NoToken
 

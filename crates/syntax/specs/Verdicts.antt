@@ -1,4 +1,4 @@
--- The answer to a text that is read and not checked further: refusals 2 to 7, in document 01's order.
+-- The answer to a text that is read and not checked further: refusals 2 to 7, in the order of RULES.
 use Rattle.std.specs.Prelude.{ℕ, zero, suc, true, false, cond, List, [], ◌∷◌, leb, eqb, length, Result, Ok, Err, Some, None}
 use Rattle.std.specs.Prelude.{Option as OptionOf}
 use Rattle.std.proofs.Math.Option.{Option, none, some}

@@ -1,7 +1,6 @@
 -- How what was read stands in a table of 32-bit words.
 use Rattle.std.specs.Prelude.{ℕ, suc, ◌+◌, ◌-◌, ◌*◌, ◌/◌, ◌%◌, List, [], ◌∷◌, ◌++◌, length}
 use Rattle.syntax.specs.Limits.{sheet_bytes, goal_bytes, lengths, declarations, clauses, most_facts}
-use Rattle.syntax.specs.Reading.{Sign, mark, no_mark}
 use Rattle.syntax.specs.Terms.{Term, Terms, variable, compound, nil, cons, Atom, term_of, arity, Literal, Body, call, equation, truth, falsity, either}
 use Rattle.syntax.specs.Terms.{done, also, Mark, input, output, free, Declaration, Clause}
 
@@ -130,11 +129,6 @@ mark_number input = 1
 mark_number output = 2
 mark_number free = 3
 
--- the number of the mark that a token is, 0 for none
-abbrev pub sign_number : Sign → ℕ
-sign_number (mark m) = mark_number m
-sign_number no_mark = 0
-
 -- a mark's number before those of others
 abbrev pub with_mark : ℕ → ℕ → ℕ
 with_mark m others = m + mark_numbers * others
@@ -174,7 +168,7 @@ goal_words = 4 * (goal_bytes + 1)
 abbrev pub declared_words : ℕ
 declared_words = declarations * declaration_size
 
--- ---- a program: a sheet and the facts of a trace (document 02, (ix)), which are written behind it
+-- ---- a program: a sheet and the facts of a trace (REQUESTS (ix)), which are written behind it
 
 -- the most bytes of a fact as it is written: its predicate and a bracket, two numbers of at most 20 digits each with a comma, a band, and an end
 abbrev pub fact_bytes : ℕ

@@ -1,8 +1,8 @@
-// The constants and declared types that cross crates. Document 01 is the paper "Rule sheets".
+// The constants and declared types that cross crates. Comments, here and in every crate, cite docs/RULES.md and docs/REQUESTS.md as RULES and REQUESTS.
 
 #![tactic(auto)]
 
-// Document 01's limits (specs/Limits). Bytes of a sheet and of a goal:
+// The limits of RULES (specs/Limits). Bytes of a sheet and of a goal:
 pub const SHEET_BYTES: usize = 16384;
 
 pub const GOAL_BYTES: usize = 1024;
@@ -26,7 +26,7 @@ pub const DECLARATIONS: usize = 64;
 
 pub const CLAUSES: usize = 256;
 
-// bytes of a trace, and its records of a band, each of which is a fact (document 02, (ix)):
+// bytes of a trace, and its records of a band, each of which is a fact (REQUESTS (ix)):
 pub const TRACE_BYTES: usize = 16384;
 
 pub const FACTS: usize = 192;
@@ -156,7 +156,7 @@ pub enum Text {
     Neither,
 }
 
-// The ten refusals of document 01, in its order, and those of document 02. Those that hand a name back carry its place and length. The byte
+// The ten refusals that there were first, in their order, and those that came later. Those that hand a name back carry its place and length. The byte
 // of an open input or output is that of the first variable in the argument that is not known ground, the byte of an unwritten predicate that
 // of its name in the declaration, the byte of a bad trace that of the record or of the byte after filler.
 #[derive(Clone, Copy)]
@@ -212,7 +212,7 @@ pub struct Counts {
 // The answer to a text: accepted, with the counts, or its first fault.
 pub type Verdict = Result<Counts, Fault>;
 
-// What a run is asked for: the most steps, the most answers, and document 02 (x)'s mark for a sheet stored earlier, with which declared
+// What a run is asked for: the most steps, the most answers, and REQUESTS (x)'s mark for a sheet stored earlier, with which declared
 // predicates may have no clause.
 #[derive(Clone, Copy)]
 pub struct RunSettings {
@@ -221,7 +221,7 @@ pub struct RunSettings {
     pub stored: bool,
 }
 
-// How a run ends. Document 02 (vii) looks for `Done` before `Wanted`; the others are looked for in this order.
+// How a run ends. REQUESTS (vii) looks for `Done` before `Wanted`; the others are looked for in this order.
 #[derive(Clone, Copy)]
 pub enum Kind {
     Wanted,
@@ -242,7 +242,7 @@ pub struct Report {
 // The answer to a run: its report, or the fault of a text.
 pub type Run = Result<Report, Fault>;
 
-// The five numbers of a refusal, as the papers word it and C is told it: so its kind is a number here, and what a refusal has no number for is 0.
+// The five numbers of a refusal, as RULES words it and C is told it: so its kind is a number here, and what a refusal has no number for is 0.
 #[derive(Clone, Copy)]
 pub struct Five {
     pub number: usize,

@@ -1,5 +1,5 @@
 // What the bytes of a text say at a place: one of them, whether two parts are the same, whether a name is `true`, `fail` or `mode`, whether a variable
-// is `_`, and which digits of a numeral count. Document 01 is the paper "Rule sheets". A part of a text is the text, its first byte and its length, as in
+// is `_`, and which digits of a numeral count. A part of a text is the text, its first byte and its length, as in
 // the definition `spelling`: the contracts of callers are over places of the whole text.
 
 #![tactic(auto)]
@@ -43,7 +43,7 @@ fn is_name(s: &[u8], at: usize, len: usize, name: &[u8]) -> bool
     &s[at..at + len] == name
 }
 
-// Whether it is one of the three names that document 01 uses itself. (Each is `is_name` of one name, and says which of the definitions `true_name`,
+// Whether it is one of the three names that RULES uses itself. (Each is `is_name` of one name, and says which of the definitions `true_name`,
 // `fail_name` and `mode_name` that is.)
 pub fn is_true(s: &[u8], at: usize, len: usize) -> bool
     requires { at + len ≤ length s.now }

@@ -15,7 +15,7 @@ use Rattle.run_layout.specs.Nodes.{Node, Row, term_at, terms_at, followed, count
 use Rattle.run_layout.specs.State.{cell_of, variable_of, word_of, value_of, bindings}
 use Rattle.run_layout.proofs.Nodes.{node-inside, node_end, variable-at, row_first, row-rest, row_cons}
 use Rattle.run_layout.proofs.State.{variable-cell, cell-small}
-use Rattle.unify_bindings.specs.Cells.{StoredTerm, Derefs}
+use Rattle.unify_bindings.specs.Cells.{Derefs}
 use Rattle.unify_memos.specs.Memos.{Remembers}
 use Rattle.unify_bindings.specs.Scratch.{left_at, right_at, pair_words, SameMarks}
 use Rattle.run_layout.specs.declared.terms.At.{At}
@@ -51,15 +51,14 @@ turns-alike o ls rs ls' rs' size size' after (Err (Bind k x a)) e l g =
 -- ---- the crossing
 
 module _ {nodes state scratch : List ℕ} {h : ℕ} {p q : At} (g : Crossable nodes state scratch h p q) where
-  cross-left : StoredTerm nodes state p.node p.copy
-  cross-left = record { ss = g.work.ss; n = g.n; store = g.work.store; node = g.left; copy = g.copy }
+  pub cross-long : cells ≤ length state
+  cross-long = let l : store_words ≤ length state = g.work.store.long in omega arith
 
-  pub cross-both : Both nodes state scratch p.node p.copy q.node q.copy
-  unfolding cross-left
+  abbrev pub cross-both : Both nodes state scratch p q
   cross-both =
       record {
         left = record {
-          from = record { state = state; given = cross-left; long = (let l : store_words ≤ length state = g.work.store.long in omega arith); same = λ x l. refl };
+          from = record { state = state; given = record { ss = g.work.ss; n = g.n; store = g.work.store; node = g.left; copy = g.copy }; long = cross-long; same = λ x l. refl };
           roomy = g.work.roomy;
           cuts = g.work.memo.cuts;
         };
@@ -166,9 +165,8 @@ module _ {nodes state scratch : List ℕ} {h : ℕ} {p q : At} (g : Crossable no
         (2 * rows_size (bindings g.work.ss nodes state g.n) (rcons (term_at g.work.ss nodes p.node p.copy) ls) + h) later t) (rows_agree g.work.ss nodes (left_at scratch) (left_at after) h left-still) k.1),
   )
 
-module _ {nodes state scratch : List ℕ} {h : ℕ} {p q : At} (g : Crossable nodes state scratch h p q) {mid : List ℕ} {r : Ends} (f : (k : Both nodes state scratch p.node p.copy q.node q.copy) → BothFollowed k.left.from.given.ss nodes k.left.from.state k.left.from.given.n scratch mid p.node p.copy q.node q.copy r) where
-  ended : BothFollowed g.work.ss nodes state g.n scratch mid p.node p.copy q.node q.copy r
-  unfolding cross-both cross-left
+module _ {nodes state scratch : List ℕ} {h : ℕ} {p q : At} (g : Crossable nodes state scratch h p q) {mid : List ℕ} {r : Ends} (f : (k : Both nodes state scratch p q) → BothFollowed k mid r) where
+  ended : BothFollowed (cross-both g) mid r
   ended = f (cross-both g)
 
   abbrev once : Crossable nodes state mid h p q

@@ -31,7 +31,7 @@ module _ (ss : List Symbol) (nodes state : List ℕ) (n k : ℕ) (store : Store 
   apart-free : (x q d : ℕ) → Node ss nodes q → d < k → k * copy_cells ≤ x → T (occurs (variable_of x) (resolve (bindings ss nodes state n) (term_at ss nodes q d))) → ⊥
   apart-free x q d node l h o = let z : (variable_of x).copy < k = below q d node l (variable_of x) o in let y : k * copy_cells ≤ x = h in omega arith
 
-apart-checked : (nodes state scratch : List ℕ) (x q d k : ℕ) (g : Checkable nodes state scratch x q d) → Closed k state → (k * copy_cells ≤ x) × (d < k) → OccursChecked g.ss nodes state g.n scratch scratch x q d false
+apart-checked : (nodes state scratch : List ℕ) (x q d k : ℕ) (g : Checkable nodes state scratch x q d) → Closed k state → (k * copy_cells ≤ x) × (d < k) → OccursChecked g scratch false
 apart-checked nodes state scratch x q d k g closed h =
     record {
       answer = is_false (occurs (variable_of x) (resolve (bindings g.ss nodes state g.n) (term_at g.ss nodes q d))) (apart-free g.ss nodes state g.n k g.store closed x q d g.node h.1 h.0);
@@ -44,7 +44,7 @@ apart-checked nodes state scratch x q d k g closed h =
 pub check-inside : (nodes state scratch : List ℕ) (x q d : ℕ) → Checkable nodes state scratch x q d → q + 1 < length nodes
 check-inside nodes state scratch x q d g = let a : q + loaded_node ≤ length nodes = node-inside g.ss nodes q g.node in omega arith
 
-constant-checked : (nodes state scratch : List ℕ) (x q d : ℕ) (g : Checkable nodes state scratch x q d) → (first_name ≤ get_or nodes q 0) × (get_or nodes (q + 1) 0 ≡ loaded_node) → OccursChecked g.ss nodes state g.n scratch scratch x q d false
+constant-checked : (nodes state scratch : List ℕ) (x q d : ℕ) (g : Checkable nodes state scratch x q d) → (first_name ≤ get_or nodes q 0) × (get_or nodes (q + 1) 0 ≡ loaded_node) → OccursChecked g scratch false
 constant-checked nodes state scratch x q d g h =
     record {
       answer = is_false (occurs (variable_of x) (resolve (bindings g.ss nodes state g.n) (term_at g.ss nodes q d))) (closed-under g.ss nodes state (λ (v : Variable). ⊥) g.n (λ i l p v o. p) (term_at g.ss nodes q d) bare (variable_of x));
@@ -62,7 +62,7 @@ constant-checked nodes state scratch x q d g h =
 
 -- ---- another unbound variable
 
-other-checked : (nodes state scratch : List ℕ) (x q d : ℕ) (g : Checkable nodes state scratch x q d) → Other nodes state x q d → OccursChecked g.ss nodes state g.n scratch scratch x q d false
+other-checked : (nodes state scratch : List ℕ) (x q d : ℕ) (g : Checkable nodes state scratch x q d) → Other nodes state x q d → OccursChecked g scratch false
 other-checked nodes state scratch x q d g h =
     record {
       answer = is_false (occurs (variable_of x) (resolve (bindings g.ss nodes state g.n) (term_at g.ss nodes q d))) (λ o. h.other (sym (cell-eq x (cell_of d (get_or nodes q 0)) (variable-eq (variable_of x) (variable_of (cell_of d (get_or nodes q 0))) (subst (λ (t : RTerm). T (occurs (variable_of x) t)) is o)))));
@@ -75,7 +75,7 @@ other-checked nodes state scratch x q d g h =
         ap (resolve (bindings g.ss nodes state g.n)) (variable-at g.ss nodes q g.node d h.variable ∙ ap var (sym (variable-cell d (get_or nodes q 0) h.variable)))
         ∙ resolve-unbound g.ss nodes state g.n (cell_of d (get_or nodes q 0)) g.store (cell-small d (get_or nodes q 0) g.copy h.variable) h.unbound
 
-pub plain-checked : (nodes state scratch : List ℕ) (x q d k : ℕ) (g : Checkable nodes state scratch x q d) → Closed k state → Plain nodes state x q d k → OccursChecked g.ss nodes state g.n scratch scratch x q d false
+pub plain-checked : (nodes state scratch : List ℕ) (x q d k : ℕ) (g : Checkable nodes state scratch x q d) → Closed k state → Plain nodes state x q d k → OccursChecked g scratch false
 plain-checked nodes state scratch x q d k g closed (inl h) = apart-checked nodes state scratch x q d k g closed h
 plain-checked nodes state scratch x q d k g closed (inr (inl h)) = constant-checked nodes state scratch x q d g h
 plain-checked nodes state scratch x q d k g closed (inr (inr h)) = other-checked nodes state scratch x q d g h

@@ -234,7 +234,7 @@ module _ (nodes state before after : List ℕ) (q e d x m i n : ℕ) (g : Scanna
     pub scan-visit : Visitable nodes state after i d n
     scan-visit = record { inside = scan-place; copy = g.copy; long = g.long; queued = s.queued }
 
-    pub scan-found : {k : ℕ} (b : Bool) → b ≡ is_cell nodes i d x → b ≡ true → TermScanned g.ss nodes state before after q d x m (record { found = true; n = n; cost = k })
+    pub scan-found : {k : ℕ} (b : Bool) → b ≡ is_cell nodes i d x → b ≡ true → TermScanned g after x (record { found = true; n = n; cost = k })
     scan-found b f t =
         let h : (get_or nodes i 0 < first_name) × (cell_of d (get_or nodes i 0) ≡ x) = cell-is nodes i d x (sym f ∙ t) in
         record {
@@ -273,7 +273,7 @@ module _ (nodes state before after : List ℕ) (q e d x m i n : ℕ) (g : Scanna
           | inr z ↦ inr z
         ]
 
-  pub scan-end : {k : ℕ} → e ≤ i → TermScanned g.ss nodes state before after q d x m (record { found = false; n = n; cost = k })
+  pub scan-end : {k : ℕ} → e ≤ i → TermScanned g after x (record { found = false; n = n; cost = k })
   scan-end l =
       record {
         grows = s.grows;
@@ -356,7 +356,7 @@ module _ (nodes state scratch : List ℕ) (k n : ℕ) (g : Lookable nodes state 
       word : w ≡ cell_at state (trail_at scratch k)
       word = ew ∙ ap (cell_at state) ey
 
-      pub look-seen : {x i : ℕ} → Seen state scratch w k → Looked g.ss nodes state scratch scratch x k n (record { found = false; n = n; cost = i })
+      pub look-seen : {x i : ℕ} → Seen state scratch w k → Looked g scratch x (record { found = false; n = n; cost = i })
       look-seen h =
           record {
             grows = omega arith;
@@ -367,7 +367,7 @@ module _ (nodes state scratch : List ℕ) (k n : ℕ) (g : Lookable nodes state 
             clear = λ f. inr (subst (λ (u : ℕ). Seen state scratch u k) word h);
           }
 
-      look-scan : Scannable nodes state scratch (node_of w) (copy_of w) n
+      abbrev look-scan : Scannable nodes state scratch (node_of w) (copy_of w) n
       look-scan =
           record {
             ss = g.ss;
@@ -384,15 +384,14 @@ module _ (nodes state scratch : List ℕ) (k n : ℕ) (g : Lookable nodes state 
       unfolding value_of
       value-is = ap (λ (u : ℕ). term_at g.ss nodes (node_of u) (copy_of u)) word
 
-      module _ {x : ℕ} {mid : List ℕ} {r : Queue} (c : (h : Scannable nodes state scratch (node_of w) (copy_of w) n) → TermScanned h.ss nodes state scratch mid (node_of w) (copy_of w) x n r) where
-        scanned : TermScanned g.ss nodes state scratch mid (node_of w) (copy_of w) x n r
-        unfolding look-scan
+      module _ {x : ℕ} {mid : List ℕ} {r : Queue} (c : (h : Scannable nodes state scratch (node_of w) (copy_of w) n) → TermScanned h mid x r) where
+        scanned : TermScanned look-scan mid x r
         scanned = c look-scan
 
         pub look-room : (store_words ≤ length mid) × (k < cells)
         look-room = (scanned.queued.marked.long, look-inside.1.1)
 
-        pub look-done : {after : List ℕ} → QueueChanged mid after r.n → Looked g.ss nodes state scratch after x k n r
+        pub look-done : {after : List ℕ} → QueueChanged mid after r.n → Looked g after x r
         look-done {after} h =
             let keeps : Keeps r.n mid after = noted-keeps state mid after r.n scanned.queued h in
             record {
@@ -424,17 +423,17 @@ itself ss nodes state n x store l z = subst⁻¹ (λ (t : RTerm). T (occurs (var
 
 -- a term that was unpacked from a word is scanned
 pub scanned-at : (w : ℕ) {nodes state after later : List ℕ} {x j : ℕ} {r : Queue} {a : At} → a ≡ at_of w
-    → ((h : Scannable nodes state after a.node a.copy j) → TermScanned h.ss nodes state after later a.node a.copy x j r)
-    → (h : Scannable nodes state after (node_of w) (copy_of w) j) → TermScanned h.ss nodes state after later (node_of w) (copy_of w) x j r
+    → ((h : Scannable nodes state after a.node a.copy j) → TermScanned h later x r)
+    → (h : Scannable nodes state after (node_of w) (copy_of w) j) → TermScanned h later x r
 scanned-at w {nodes} {state} {after} {later} {x} {j} {r} e k =
-    subst (λ (a : At). (h : Scannable nodes state after a.node a.copy j) → TermScanned h.ss nodes state after later a.node a.copy x j r) e k
+    subst (λ (a : At). (h : Scannable nodes state after a.node a.copy j) → TermScanned h later x r) e k
 
 module _ (nodes state before after : List ℕ) (x m k j : ℕ) (g : OccursReady nodes state before x m) (s : Searching g.ss nodes state g.n before after x m k j) where
   pub queue-few : j ≤ cells
   queue-few = few mark_symbols mark_table after j s.queued.marked
 
   module _ (l : k < j) where
-    pub search-look : Lookable nodes state after k j
+    abbrev pub search-look : Lookable nodes state after k j
     search-look = record { ss = g.ss; entries = g.n; store = g.store; place = l; queued = s.queued }
 
     means : resolve (bindings g.ss nodes state g.n) (var (variable_of (trail_at after k))) ≡ resolve (bindings g.ss nodes state g.n) (value_of g.ss nodes (cell_at state (trail_at after k)))
@@ -444,9 +443,8 @@ module _ (nodes state before after : List ℕ) (x m k j : ℕ) (g : OccursReady 
     below : (v : Variable) → T (occurs v (value_of g.ss nodes (cell_at state (trail_at after k)))) → T (occurs (variable_of x) (resolve (bindings g.ss nodes state g.n) (var v))) → (h : ℕ) × (h < m) × T (occurs (variable_of x) (resolve (bindings g.ss nodes state g.n) (var (variable_of (trail_at before h)))))
     below v h q = s.back k l (subst⁻¹ (λ (t : RTerm). T (occurs (variable_of x) t)) means (occurs-through (bindings g.ss nodes state g.n) (variable_of x) v (value_of g.ss nodes (cell_at state (trail_at after k))) h q))
 
-    module _ (later : List ℕ) (r : Queue) (c : (h : Lookable nodes state after k j) → Looked h.ss nodes state after later x k j r) where
-      looked : Looked g.ss nodes state after later x k j r
-      unfolding search-look
+    module _ (later : List ℕ) (r : Queue) (c : (h : Lookable nodes state after k j) → Looked h later x r) where
+      looked : Looked search-look later x r
       looked = c search-look
 
       more : m ≤ r.n
@@ -455,7 +453,7 @@ module _ (nodes state before after : List ℕ) (x m k j : ℕ) (g : OccursReady 
       kept : Keeps m before later
       kept = keeps-trans m j before after later s.grows s.keeps looked.keeps
 
-      pub search-found : r.found ≡ true → Searched g.ss nodes state g.n before later x m r
+      pub search-found : r.found ≡ true → Searched g later r
       search-found f =
           record {
             grows = more;
@@ -498,7 +496,7 @@ module _ (nodes state before after : List ℕ) (x m k j : ℕ) (g : OccursReady 
               let y1 : i < j = omega arith in
               earlier i z v (subst (λ (u : ℕ). T (occurs v (value_of g.ss nodes (cell_at state u)))) (looked.keeps.entry i y1) q)
 
-  pub search-end : {i : ℕ} → j ≤ k → Searched g.ss nodes state g.n before after x m (record { found = false; n = j; cost = i })
+  pub search-end : {i : ℕ} → j ≤ k → Searched g after (record { found = false; n = j; cost = i })
   search-end l =
       record { grows = s.grows; keeps = s.keeps; queued = s.queued; found = λ h. absurd (subst T (sym h) tt); clear = λ h i q. s.clear i (omega arith) }
 
@@ -512,7 +510,7 @@ pub is_false : (b : Bool) → (T b → ⊥) → false ≡ b
 is_false true h = absurd (h tt)
 is_false false h = refl
 
-mark-short : length mark_table ≤ places
+pub mark-short : length mark_table ≤ places
 unfolding mark_table
 mark-short = omega arith
 
@@ -526,7 +524,7 @@ clean_after mid after n store u =
     go s y l false e = absurd (let o : (i : ℕ) × (i < 0) × (trail_at after i ≡ y) = s.only y l (eqb-false (get_or after y 0) 0 e) in let z : o.0 < 0 = o.1 in omega arith)
 
 module _ (nodes state scratch : List ℕ) (x q d : ℕ) (g : Checkable nodes state scratch x q d) where
-  pub check-scan : Scannable nodes state scratch q d 0
+  abbrev pub check-scan : Scannable nodes state scratch q d 0
   check-scan =
       record {
         ss = g.ss;
@@ -536,15 +534,14 @@ module _ (nodes state scratch : List ℕ) (x q d : ℕ) (g : Checkable nodes sta
         queued = record { marked = no-entries mark_symbols mark_table scratch g.clean.long mark-short g.clean.zero; bound = λ i l. absurd (let z : i < 0 = l in omega arith) };
       }
 
-  module _ (mid : List ℕ) (r : Queue) (c : (h : Scannable nodes state scratch q d 0) → TermScanned h.ss nodes state scratch mid q d x 0 r) where
-    first : TermScanned g.ss nodes state scratch mid q d x 0 r
-    unfolding check-scan
+  module _ (mid : List ℕ) (r : Queue) (c : (h : Scannable nodes state scratch q d 0) → TermScanned h mid x r) where
+    pub first : TermScanned check-scan mid x r
     first = c check-scan
 
     pub check-stored : Stored mid r.n
     check-stored = record { ss = mark_symbols; nodes = mark_table; store = first.queued.marked }
 
-    pub check-found : (after : List ℕ) → Undone mid after 0 r.n → r.found ≡ true → OccursChecked g.ss nodes state g.n scratch after x q d true
+    pub check-found : (after : List ℕ) → Undone mid after 0 r.n → r.found ≡ true → OccursChecked g after true
     check-found after u f =
         record {
           answer = is_true (occurs (variable_of x) (resolve (bindings g.ss nodes state g.n) (term_at g.ss nodes q d))) (occurs-through (bindings g.ss nodes state g.n) (variable_of x) (variable_of x) (term_at g.ss nodes q d) (first.found f) (itself g.ss nodes state g.n x g.store g.cell g.unbound));
@@ -552,12 +549,11 @@ module _ (nodes state scratch : List ℕ) (x q d : ℕ) (g : Checkable nodes sta
           keeps = keeps-trans 0 0 scratch mid after (omega arith) first.keeps u.keeps;
         }
 
-    pub check-search : r.found ≡ false → OccursReady nodes state mid x r.n
+    abbrev pub check-search : r.found ≡ false → OccursReady nodes state mid x r.n
     check-search f = record { ss = g.ss; n = g.n; store = g.store; cell = g.cell; unbound = g.unbound; queued = first.queued }
 
-    module _ (f : r.found ≡ false) (end : List ℕ) (s : Queue) (c1 : (h : OccursReady nodes state mid x r.n) → Searched h.ss nodes state h.n mid end x r.n s) where
-      searched : Searched g.ss nodes state g.n mid end x r.n s
-      unfolding check-search
+    module _ (f : r.found ≡ false) (end : List ℕ) (s : Queue) (c1 : (h : OccursReady nodes state mid x r.n) → Searched h end s) where
+      searched : Searched (check-search f) end s
       searched = c1 (check-search f)
 
       pub check-stored-end : Stored end s.n
@@ -582,7 +578,7 @@ module _ (nodes state scratch : List ℕ) (x q d : ℕ) (g : Checkable nodes sta
           let o : (i : ℕ) × (i < r.n) × T (occurs (variable_of x) (resolve (bindings g.ss nodes state g.n) (var (variable_of (trail_at mid i))))) = searched.found t in
           occurs-through (bindings g.ss nodes state g.n) (variable_of x) (variable_of (trail_at mid o.0)) (term_at g.ss nodes q d) (first.new o.0 (omega arith) o.1) o.2
 
-      pub check-end : (after : List ℕ) → Undone end after 0 s.n → OccursChecked g.ss nodes state g.n scratch after x q d s.found
+      pub check-end : (after : List ℕ) → Undone end after 0 s.n → OccursChecked g after s.found
       check-end after u =
           record {
             answer = go s.found refl;

@@ -65,13 +65,13 @@ pub record Dealt (state scratch : List ℕ) (x n : ℕ) (v : Variable) : Type 0 
   pub settled : CellDealtWith state scratch n cell
 
 -- What was queued stands in the term; cell x was found there, or each variable of the term is dealt with.
-pub record TermScanned (ss : List Symbol) (nodes state before after : List ℕ) (q d x m : ℕ) (r : Queue) : Type 0 where
+pub record TermScanned {nodes state before : List ℕ} {q d m : ℕ} (g : Scannable nodes state before q d m) (after : List ℕ) (x : ℕ) (r : Queue) : Type 0 where
   pub grows : m ≤ r.n
   pub keeps : Keeps m before after
   pub queued : Queued state after r.n
-  pub new : (j : ℕ) → m ≤ j → j < r.n → T (occurs (variable_of (trail_at after j)) (term_at ss nodes q d))
-  pub found : r.found ≡ true → T (occurs (variable_of x) (term_at ss nodes q d))
-  pub clear : r.found ≡ false → (v : Variable) → T (occurs v (term_at ss nodes q d)) → Dealt state after x r.n v
+  pub new : (j : ℕ) → m ≤ j → j < r.n → T (occurs (variable_of (trail_at after j)) (term_at g.ss nodes q d))
+  pub found : r.found ≡ true → T (occurs (variable_of x) (term_at g.ss nodes q d))
+  pub clear : r.found ≡ false → (v : Variable) → T (occurs v (term_at g.ss nodes q d)) → Dealt state after x r.n v
 
 -- ---- looking at a queued cell
 
@@ -97,13 +97,13 @@ pub record Lookable (nodes state scratch : List ℕ) (k n : ℕ) : Type 0 where
 
 -- What was queued stands in the term of the cell at place k; cell x was found there, or each variable of the term is dealt with, or the term is that of
 -- an earlier cell.
-pub record Looked (ss : List Symbol) (nodes state before after : List ℕ) (x k n : ℕ) (r : Queue) : Type 0 where
+pub record Looked {nodes state before : List ℕ} {k n : ℕ} (g : Lookable nodes state before k n) (after : List ℕ) (x : ℕ) (r : Queue) : Type 0 where
   pub grows : n ≤ r.n
   pub keeps : Keeps n before after
   pub queued : Queued state after r.n
-  pub new : (j : ℕ) → n ≤ j → j < r.n → T (occurs (variable_of (trail_at after j)) (value_of ss nodes (cell_at state (trail_at before k))))
-  pub found : r.found ≡ true → T (occurs (variable_of x) (value_of ss nodes (cell_at state (trail_at before k))))
-  pub clear : r.found ≡ false → ((v : Variable) → T (occurs v (value_of ss nodes (cell_at state (trail_at before k)))) → Dealt state after x r.n v)
+  pub new : (j : ℕ) → n ≤ j → j < r.n → T (occurs (variable_of (trail_at after j)) (value_of g.ss nodes (cell_at state (trail_at before k))))
+  pub found : r.found ≡ true → T (occurs (variable_of x) (value_of g.ss nodes (cell_at state (trail_at before k))))
+  pub clear : r.found ≡ false → ((v : Variable) → T (occurs v (value_of g.ss nodes (cell_at state (trail_at before k)))) → Dealt state after x r.n v)
       ⊎ Seen state before (cell_at state (trail_at before k)) k
 
 -- ---- searching the queue
@@ -117,12 +117,12 @@ pub record OccursReady (nodes state scratch : List ℕ) (x m : ℕ) : Type 0 whe
   pub queued : Queued state scratch m
 
 -- Cell x was found below one of the first m cells, or each variable in the terms of the queued cells is dealt with.
-pub record Searched (ss : List Symbol) (nodes state : List ℕ) (n : ℕ) (before after : List ℕ) (x m : ℕ) (r : Queue) : Type 0 where
+pub record Searched {nodes state before : List ℕ} {x m : ℕ} (g : OccursReady nodes state before x m) (after : List ℕ) (r : Queue) : Type 0 where
   pub grows : m ≤ r.n
   pub keeps : Keeps m before after
   pub queued : Queued state after r.n
-  pub found : r.found ≡ true → (i : ℕ) × (i < m) × T (occurs (variable_of x) (resolve (bindings ss nodes state n) (var (variable_of (trail_at before i)))))
-  pub clear : r.found ≡ false → (i : ℕ) → i < r.n → (v : Variable) → T (occurs v (value_of ss nodes (cell_at state (trail_at after i))))
+  pub found : r.found ≡ true → (i : ℕ) × (i < m) × T (occurs (variable_of x) (resolve (bindings g.ss nodes state g.n) (var (variable_of (trail_at before i)))))
+  pub clear : r.found ≡ false → (i : ℕ) → i < r.n → (v : Variable) → T (occurs v (value_of g.ss nodes (cell_at state (trail_at after i))))
       → Dealt state after x r.n v
 
 -- ---- the check
@@ -138,8 +138,8 @@ pub record Checkable (nodes state scratch : List ℕ) (x q d : ℕ) : Type 0 whe
   pub clean : Clean scratch
 
 -- The answer is the definition's; no cell is marked again, and the words behind the queue are as they were.
-pub record OccursChecked (ss : List Symbol) (nodes state : List ℕ) (n : ℕ) (before after : List ℕ) (x q d : ℕ) (r : Bool) : Type 0 where
-  pub answer : r ≡ occurs (variable_of x) (resolve (bindings ss nodes state n) (term_at ss nodes q d))
+pub record OccursChecked {nodes state before : List ℕ} {x q d : ℕ} (g : Checkable nodes state before x q d) (after : List ℕ) (r : Bool) : Type 0 where
+  pub answer : r ≡ occurs (variable_of x) (resolve (bindings g.ss nodes state g.n) (term_at g.ss nodes q d))
   pub clean : Clean after
   pub keeps : Keeps 0 before after
 

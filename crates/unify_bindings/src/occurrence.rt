@@ -79,8 +79,7 @@ fn visit(nodes: &[u32], state: &[u32], scratch: &mut [u32], here: At, m: usize) 
 // The nodes of a term, one after the other: cell x looked for, bound cells queued.
 fn scan(nodes: &[u32], state: &[u32], scratch: &mut [u32], at: At, x: usize, m: usize) -> Queue
     requires { Scannable nodes.now state.now scratch.old at.node at.copy m }
-    ensures { (g : Scannable nodes.now state.now scratch.old at.node at.copy m)
-        → TermScanned g.ss nodes.now state.now scratch.old scratch.new at.node at.copy x m result }
+    ensures { (g : Scannable nodes.now state.now scratch.old at.node at.copy m) → TermScanned g scratch.new x result }
 {
     let cost = size_at(nodes, at.node);
     let e = at.node + cost;
@@ -145,8 +144,7 @@ fn note(scratch: &mut [u32], w: usize, k: usize, n: usize)
 // The term of the cell at place k of the queue, of n cells, unless that of an earlier cell is known to be the same.
 fn look(nodes: &[u32], state: &[u32], scratch: &mut [u32], x: usize, k: usize, n: usize) -> Queue
     requires { Lookable nodes.now state.now scratch.old k n }
-    ensures { (g : Lookable nodes.now state.now scratch.old k n)
-        → Looked g.ss nodes.now state.now scratch.old scratch.new x k n result }
+    ensures { (g : Lookable nodes.now state.now scratch.old k n) → Looked g scratch.new x result }
 {
     let y = word_at(scratch, TRAIL + k);
     let w = word_at(state, y);
@@ -165,8 +163,7 @@ fn look(nodes: &[u32], state: &[u32], scratch: &mut [u32], x: usize, k: usize, n
 // The terms of the queued cells, until cell x is found or the queue is at its end.
 fn search(nodes: &[u32], state: &[u32], scratch: &mut [u32], x: usize, m: usize) -> Queue
     requires { OccursReady nodes.now state.now scratch.old x m }
-    ensures { (g : OccursReady nodes.now state.now scratch.old x m)
-        → Searched g.ss nodes.now state.now g.n scratch.old scratch.new x m result }
+    ensures { (g : OccursReady nodes.now state.now scratch.old x m) → Searched g scratch.new result }
 {
     let mut k = 0;
     let mut n = m;
@@ -191,8 +188,7 @@ fn search(nodes: &[u32], state: &[u32], scratch: &mut [u32], x: usize, m: usize)
 // Whether the unbound variable of cell x stands in a term, with the bindings put in.
 pub fn occurs(nodes: &[u32], state: &[u32], scratch: &mut [u32], x: usize, at: At) -> Occurrence
     requires { Checkable nodes.now state.now scratch.old x at.node at.copy }
-    ensures { (g : Checkable nodes.now state.now scratch.old x at.node at.copy)
-        → OccursChecked g.ss nodes.now state.now g.n scratch.old scratch.new x at.node at.copy result.found }
+    ensures { (g : Checkable nodes.now state.now scratch.old x at.node at.copy) → OccursChecked g scratch.new result.found }
 {
     let r = scan(nodes, state, scratch, at, x, 0);
     let first = r.cost;

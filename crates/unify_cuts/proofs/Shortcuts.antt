@@ -360,7 +360,7 @@ module _ (nodes front before : List ℕ) (p c : ℕ) (g : Followable nodes front
       strode : Strode g.from.given.ss nodes g.from.state g.from.given.n q d r
       strode = m walk-follow
 
-      pub walk_end : r.next ≡ None → Followed g.from.given.ss nodes g.from.state g.from.given.n before after p c r.at.node r.at.copy
+      pub walk_end : r.next ≡ None → Followed g after r.at
       walk_end e = record { derefs = record { leads = leads-trans s.leads strode.staged.leads; stops = strode.staged.stops e }; eased = s.eased }
 
       module _ (z : r.next ≡ None → ⊥) where
@@ -405,20 +405,20 @@ module _ (nodes front before : List ℕ) (p c : ℕ) (g : Followable nodes front
 
 -- ---- two terms
 
-module _ (nodes front before : List ℕ) (p c q d : ℕ) (g : Both nodes front before p c q d) where
-  abbrev pub right-from : Fronted nodes front q d
+module _ {nodes front before : List ℕ} {p q : At} (g : Both nodes front before p q) where
+  abbrev pub right-from : Fronted nodes front q.node q.copy
   right-from = record { state = g.left.from.state; given = record { ss = g.left.from.given.ss; n = g.left.from.given.n; store = g.left.from.given.store; node = g.node; copy = g.copy }; long = g.left.from.long; same = g.left.from.same }
 
-  module _ {after : List ℕ} {q1 d1 : ℕ} (f : (h : Followable nodes front before p c) → Followed h.from.given.ss nodes h.from.state h.from.given.n before after p c q1 d1) where
-    pub first-followed : Followed g.left.from.given.ss nodes g.left.from.state g.left.from.given.n before after p c q1 d1
+  module _ {after : List ℕ} {l : At} (f : (h : Followable nodes front before p.node p.copy) → Followed h after l) where
+    pub first-followed : Followed g.left after l
     first-followed = f g.left
 
-    abbrev pub far-second : Followable nodes front after q d
+    abbrev pub far-second : Followable nodes front after q.node q.copy
     far-second = record { from = right-from; roomy = eased-roomy first-followed.eased g.left.roomy; cuts = first-followed.eased.cuts }
 
-    pub far-done : {later : List ℕ} {q2 d2 : ℕ} → ((h : Followable nodes front after q d) → Followed h.from.given.ss nodes h.from.state h.from.given.n after later q d q2 d2) → BothFollowed g.left.from.given.ss nodes g.left.from.state g.left.from.given.n before later p c q d (record { left = record { node = q1; copy = d1 }; right = record { node = q2; copy = d2 } })
+    pub far-done : {later : List ℕ} {r : At} → ((h : Followable nodes front after q.node q.copy) → Followed h later r) → BothFollowed g later (record { left = l; right = r })
     far-done m =
-        let s : Followed g.left.from.given.ss nodes g.left.from.state g.left.from.given.n after _ q d _ _ = m far-second in
+        let s = m far-second in
         record { left = first-followed.derefs; right = s.derefs; eased = eased-trans first-followed.eased s.eased }
 
 -- the words of the cells
@@ -431,19 +431,19 @@ front_long state l = let e : cells ≡ length (take cells state) = front-count s
 pub front_same : (state : List ℕ) (x : ℕ) → x < cells → get_or (take cells state) x 0 ≡ get_or state x 0
 front_same state x l = get_or-take cells state x 0 l
 
-module _ (nodes state before : List ℕ) (p c q d : ℕ) (g : Both nodes state before p c q d) where
-  abbrev pub both_right : Fronted nodes state q d
-  both_right = right-from nodes state before p c q d g
+module _ {nodes state before : List ℕ} {p q : At} (g : Both nodes state before p q) where
+  abbrev pub both_right : Fronted nodes state q.node q.copy
+  both_right = right-from g
 
-  pub both-here : Leads g.left.from.given.ss nodes g.left.from.state g.left.from.given.n q d q d
-  both-here = leads-here nodes state q d both_right
+  pub both-here : Leads g.left.from.given.ss nodes g.left.from.state g.left.from.given.n q.node q.copy q.node q.copy
+  both-here = leads-here nodes state q.node q.copy both_right
 
-  pub both_left : Leads g.left.from.given.ss nodes g.left.from.state g.left.from.given.n p c p c
-  both_left = leads-here nodes state p c g.left.from
+  pub both_left : Leads g.left.from.given.ss nodes g.left.from.state g.left.from.given.n p.node p.copy p.node p.copy
+  both_left = leads-here nodes state p.node p.copy g.left.from
 
   -- both further on, with the words of the cells only
-  module _ {front : List ℕ} (long : cells ≤ length front) (same : (x : ℕ) → x < cells → get_or front x 0 ≡ get_or state x 0) {p1 c1 q1 d1 : ℕ} (a : Leads g.left.from.given.ss nodes g.left.from.state g.left.from.given.n p c p1 c1) (a1 : Leads g.left.from.given.ss nodes g.left.from.state g.left.from.given.n q d q1 d1) where
-    abbrev pub both-far : Both nodes front before p1 c1 q1 d1
+  module _ {front : List ℕ} (long : cells ≤ length front) (same : (x : ℕ) → x < cells → get_or front x 0 ≡ get_or state x 0) {p1 q1 : At} (a : Leads g.left.from.given.ss nodes g.left.from.state g.left.from.given.n p.node p.copy p1.node p1.copy) (a1 : Leads g.left.from.given.ss nodes g.left.from.state g.left.from.given.n q.node q.copy q1.node q1.copy) where
+    abbrev pub both-far : Both nodes front before p1 q1
     both-far =
         record {
           left = record {
@@ -460,16 +460,16 @@ module _ (nodes state before : List ℕ) (p c q d : ℕ) (g : Both nodes state b
           copy = a1.copy;
         }
 
-    pub both-done : {after : List ℕ} {r : Ends} → ((h : Both nodes front before p1 c1 q1 d1) → BothFollowed h.left.from.given.ss nodes h.left.from.state h.left.from.given.n before after p1 c1 q1 d1 r) → BothFollowed g.left.from.given.ss nodes g.left.from.state g.left.from.given.n before after p c q d r
+    pub both-done : {after : List ℕ} {r : Ends} → ((h : Both nodes front before p1 q1) → BothFollowed h after r) → BothFollowed g after r
     both-done m =
-        let e : BothFollowed g.left.from.given.ss nodes g.left.from.state g.left.from.given.n before _ p1 c1 q1 d1 _ = m both-far in
+        let e = m both-far in
         record {
           left = record { leads = leads-trans a e.left.leads; stops = e.left.stops };
           right = record { leads = leads-trans a1 e.right.leads; stops = e.right.stops };
           eased = e.eased;
         }
 
-  pub both-near : {l r : Stage} → Staged g.left.from.given.ss nodes g.left.from.state g.left.from.given.n p c l → l.next ≡ None → Staged g.left.from.given.ss nodes g.left.from.state g.left.from.given.n q d r → r.next ≡ None → BothFollowed g.left.from.given.ss nodes g.left.from.state g.left.from.given.n before before p c q d (record { left = l.at; right = r.at })
+  pub both-near : {l r : Stage} → Staged g.left.from.given.ss nodes g.left.from.state g.left.from.given.n p.node p.copy l → l.next ≡ None → Staged g.left.from.given.ss nodes g.left.from.state g.left.from.given.n q.node q.copy r → r.next ≡ None → BothFollowed g before (record { left = l.at; right = r.at })
   both-near a e a1 e1 =
       record {
         left = record { leads = a.leads; stops = a.stops e };

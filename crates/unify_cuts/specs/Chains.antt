@@ -72,18 +72,18 @@ pub record Eased (b : List Binding) (before after : List ℕ) : Type 0 where
   pub cuts : Cuts b after
 
 -- The term is dereferenced, and only cuts changed.
-pub record Followed (ss : List Symbol) (nodes state : List ℕ) (n : ℕ) (before after : List ℕ) (p c q d : ℕ) : Type 0 where
-  pub derefs : Derefs ss nodes state n p c q d
-  pub eased : Eased (bindings ss nodes state n) before after
+pub record Followed {nodes front before : List ℕ} {p c : ℕ} (g : Followable nodes front before p c) (after : List ℕ) (r : At) : Type 0 where
+  pub derefs : Derefs g.from.given.ss nodes g.from.state g.from.given.n p c r.node r.copy
+  pub eased : Eased (bindings g.from.given.ss nodes g.from.state g.from.given.n) before after
 
 -- Two run-time terms in one store, and cuts that are right.
-pub record Both (nodes front scratch : List ℕ) (p c q d : ℕ) : Type 0 where
-  pub left : Followable nodes front scratch p c
-  pub node : Node left.from.given.ss nodes q
-  pub copy : d < copies
+pub record Both (nodes front scratch : List ℕ) (p q : At) : Type 0 where
+  pub left : Followable nodes front scratch p.node p.copy
+  pub node : Node left.from.given.ss nodes q.node
+  pub copy : q.copy < copies
 
 -- Both are dereferenced, and only cuts changed.
-pub record BothFollowed (ss : List Symbol) (nodes state : List ℕ) (n : ℕ) (before after : List ℕ) (p c q d : ℕ) (r : Ends) : Type 0 where
-  pub left : Derefs ss nodes state n p c r.left.node r.left.copy
-  pub right : Derefs ss nodes state n q d r.right.node r.right.copy
-  pub eased : Eased (bindings ss nodes state n) before after
+pub record BothFollowed {nodes front before : List ℕ} {p q : At} (g : Both nodes front before p q) (after : List ℕ) (r : Ends) : Type 0 where
+  pub left : Derefs g.left.from.given.ss nodes g.left.from.state g.left.from.given.n p.node p.copy r.left.node r.left.copy
+  pub right : Derefs g.left.from.given.ss nodes g.left.from.state g.left.from.given.n q.node q.copy r.right.node r.right.copy
+  pub eased : Eased (bindings g.left.from.given.ss nodes g.left.from.state g.left.from.given.n) before after

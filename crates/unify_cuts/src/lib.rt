@@ -128,9 +128,7 @@ fn cut_between(nodes: &[u32], scratch: &mut [u32], from: At, to: At)
 // Where a term leads: to a name, or to an unbound variable. A stride after the other, each with a cut.
 fn walk_on(nodes: &[u32], front: &[u32], scratch: &mut [u32], from: At) -> At
     requires { Followable nodes.now front.now scratch.old from.node from.copy }
-    ensures { (g : Followable nodes.now front.now scratch.old from.node from.copy)
-        → Followed g.from.given.ss nodes.now g.from.state g.from.given.n scratch.old scratch.new from.node from.copy
-        result.node result.copy }
+    ensures { (g : Followable nodes.now front.now scratch.old from.node from.copy) → Followed g scratch.new result }
 {
     let mut at = from;
     // How many strides a walk has is known only at its end.
@@ -168,10 +166,8 @@ fn lead(nodes: &[u32], front: &[u32], from: At) -> Stage
 
 // As `follow`, for terms that may be far from there.
 fn follow_far(nodes: &[u32], front: &[u32], scratch: &mut [u32], p: At, q: At) -> Ends
-    requires { Both nodes.now front.now scratch.old p.node p.copy q.node q.copy }
-    ensures { (g : Both nodes.now front.now scratch.old p.node p.copy q.node q.copy)
-        → BothFollowed g.left.from.given.ss nodes.now g.left.from.state g.left.from.given.n scratch.old scratch.new
-        p.node p.copy q.node q.copy result }
+    requires { Both nodes.now front.now scratch.old p q }
+    ensures { (g : Both nodes.now front.now scratch.old p q) → BothFollowed g scratch.new result }
 {
     let left = walk_on(nodes, front, scratch, p);
     let right = walk_on(nodes, front, scratch, q);
@@ -180,10 +176,8 @@ fn follow_far(nodes: &[u32], front: &[u32], scratch: &mut [u32], p: At, q: At) -
 
 // The same. Of the state only the cells are handed on, whose number is known: its length is then needed nowhere, and costs a step nothing.
 fn follow_on(nodes: &[u32], state: &[u32], scratch: &mut [u32], p: At, q: At) -> Ends
-    requires { Both nodes.now state.now scratch.old p.node p.copy q.node q.copy }
-    ensures { (g : Both nodes.now state.now scratch.old p.node p.copy q.node q.copy)
-        → BothFollowed g.left.from.given.ss nodes.now g.left.from.state g.left.from.given.n scratch.old scratch.new
-        p.node p.copy q.node q.copy result }
+    requires { Both nodes.now state.now scratch.old p q }
+    ensures { (g : Both nodes.now state.now scratch.old p q) → BothFollowed g scratch.new result }
 {
     let front = &state[..CELLS];
     follow_far(nodes, front, scratch, p, q)
@@ -191,10 +185,8 @@ fn follow_on(nodes: &[u32], state: &[u32], scratch: &mut [u32], p: At, q: At) ->
 
 // Where two terms lead, each to a name or to an unbound variable.
 pub fn follow(nodes: &[u32], state: &[u32], scratch: &mut [u32], p: At, q: At) -> Ends
-    requires { Both nodes.now state.now scratch.old p.node p.copy q.node q.copy }
-    ensures { (g : Both nodes.now state.now scratch.old p.node p.copy q.node q.copy)
-        → BothFollowed g.left.from.given.ss nodes.now g.left.from.state g.left.from.given.n scratch.old scratch.new
-        p.node p.copy q.node q.copy result }
+    requires { Both nodes.now state.now scratch.old p q }
+    ensures { (g : Both nodes.now state.now scratch.old p q) → BothFollowed g scratch.new result }
 {
     let l = lead(nodes, state, p);
     if l.next.is_some() {

@@ -67,13 +67,13 @@ spared-reordered r = spared-between r.long r.low r.high
 spared-purse : {ss : List Symbol} {nodes before after : List ℕ} → Purse before after → Spared ss nodes before after
 spared-purse p = spared-between p.long (λ j l. p.low j (omega arith)) p.high
 
-spared-checked : {ss : List Symbol} {nodes state : List ℕ} {n : ℕ} {before after : List ℕ} {x q d : ℕ} {r : Bool} → OccursChecked ss nodes state n before after x q d r → Spared ss nodes before after
-spared-checked {ss} {nodes} {state} {n} {before} {after} c =
+spared-checked : {nodes state before after : List ℕ} {x q d : ℕ} {g : Checkable nodes state before x q d} {r : Bool} → OccursChecked g after r → Spared g.ss nodes before after
+spared-checked {nodes} {before = before} {after} {g = g} c =
     record {
       long = c.keeps.long;
       clean = λ h. c.clean;
       pairs_kept = λ j l h. c.keeps.others j (omega arith);
-      memo = λ b m. memo-kept ss nodes b before m after (λ j l. c.keeps.others j (omega arith));
+      memo = λ b m. memo-kept g.ss nodes b before m after (λ j l. c.keeps.others j (omega arith));
     }
 
 spared-on : {ss : List Symbol} {nodes before mid after : List ℕ} → Spared ss nodes before mid → Spared ss nodes mid after → Spared ss nodes before after
@@ -252,7 +252,7 @@ module _ {nodes state scratch : List ℕ} {x : ℕ} {a : At} (g : Missing nodes 
   pub plain-guarded : {k : ℕ} → Closed k state → Plain nodes state x a.node a.copy k → Guarded g.given scratch false
   plain-guarded {k} c p = record { spared = spared-refl; answer = (plain-checked nodes state scratch x a.node a.copy k g.given.check c p).answer; order = λ h. missing-bound }
 
-  pub search-guarded : {mid after : List ℕ} {r : Bool} → ((v : Checkable nodes state scratch x a.node a.copy) → OccursChecked v.ss nodes state v.n scratch mid x a.node a.copy r) → Purse mid after → Guarded g.given after r
+  pub search-guarded : {mid after : List ℕ} {r : Bool} → ((v : Checkable nodes state scratch x a.node a.copy) → OccursChecked v mid r) → Purse mid after → Guarded g.given after r
   search-guarded {mid} {after} h p =
       let c = h g.given.check in
       record {
@@ -261,7 +261,7 @@ module _ {nodes state scratch : List ℕ} {x : ℕ} {a : At} (g : Missing nodes 
         order = λ f. purse-ordered p g.given.check.ss nodes (bound_words state g.given.check.n x (word_of a.node a.copy)) (ordered-kept g.given.check.ss nodes (bound_words state g.given.check.n x (word_of a.node a.copy)) scratch mid (λ j l o. c.keeps.others j (omega arith)) missing-bound);
       }
 
-  pub search-roomy : {mid : List ℕ} {r : Bool} → ((v : Checkable nodes state scratch x a.node a.copy) → OccursChecked v.ss nodes state v.n scratch mid x a.node a.copy r) → rows ≤ length mid
+  pub search-roomy : {mid : List ℕ} {r : Bool} → ((v : Checkable nodes state scratch x a.node a.copy) → OccursChecked v mid r) → rows ≤ length mid
   search-roomy {mid} h =
       let e : length mid ≡ length scratch = (h g.given.check).keeps.long in
       let r : rows ≤ length scratch = g.given.roomy in

@@ -7,7 +7,7 @@ use Rattle.determinacy_overlaps.proofs.first_overlap.Given as goal
 
 abbrev pub invariant-loop-next : goal.invariant-loop-next
 invariant-loop-next l =
-    (length l.state ≡ length l.initial.state) × ((length l.scratch ≡ length l.initial.scratch) × ((w : ClauseOf l.program.nodes.now l.program.code.now l.initial.state l.initial.scratch l.i l.marks) → Told_seeking l.program.nodes.now l.program.code.now l.initial.state l.initial.scratch l.i l.marks w l.state l.scratch l.next))
+    (length l.state ≡ length l.initial.state) × ((length l.scratch ≡ length l.initial.scratch) × ((w : ClauseOf l.program.nodes.now l.program.code.now l.initial.state l.initial.scratch l.i l.marks) → Told_seeking w l.state l.scratch l.next))
 
 abbrev pub decreases-loop-next : goal.decreases-loop-next
 decreases-loop-next l =

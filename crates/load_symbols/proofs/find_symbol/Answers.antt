@@ -1,7 +1,6 @@
 -- `load_symbols::find_symbol` meets its contract. Assumes nothing.
-use Rattle.std.proofs.Common.{◌≡◌, arith, rules, tests, true, false, ℕ, ◌≤◌, ◌<◌}
+use Rattle.std.proofs.Common.{◌≡◌, arith, rules, tests, true, false, ◌<◌}
 use Rattle.std.specs.Prelude.{IfNone, IfSome}
-use mathlib.Core.Path.{sym, ◌∙◌}
 use Rattle.std.proofs.lemmas.Iterator.{first_from_Range}
 use Rattle.run_layout.specs.Nodes.{is_symbol, symbol_of}
 use Rattle.load_symbols.specs.Symbols.{word_name, symbol_at, symbols_of}

@@ -1,6 +1,6 @@
 -- `load_symbols::same_name` meets its contract. Assumes nothing.
 use mathlib.Core.Path.{sym, ◌∙◌}
-use Rattle.load_symbols.proofs.Spelt.{Part, inside-text, same-parts, other_length}
+use Rattle.load_symbols.proofs.Spelt.{inside-text, same-parts, other_length}
 use Rattle.load_symbols.proofs.same_name.Goals as goal
 
 pub same_bytes-requires : goal.same_bytes-requires

@@ -1,4 +1,3 @@
-use native.Mathlib.Omega.{arith}
 use mathlib.Core.Path.{ap}
 use Rattle.run_alternatives.specs.declared.records.Top.{Top}
 use Rattle.run_answers.proofs.AnswerLaws.{rewind-room, rewind-stored, rewind-low, rewind-ends}

@@ -5,7 +5,7 @@ pub walk_on-left-requires : goal.walk_on-left-requires
 walk_on-left-requires c = c.requires.left
 
 pub walk_on-right-requires : goal.walk_on-right-requires
-walk_on-right-requires c = far-second c.args.nodes.now c.args.front.now c.args.scratch.now c.args.p.node c.args.p.copy c.args.q.node c.args.q.copy c.requires c.walk_on-left.ensures
+walk_on-right-requires c = far-second c.requires c.walk_on-left.ensures
 
 pub returns : goal.returns
-returns c = λ g. far-done c.args.nodes.now c.args.front.now c.args.scratch.now c.args.p.node c.args.p.copy c.args.q.node c.args.q.copy g c.walk_on-left.ensures c.walk_on-right.ensures
+returns c = λ g. far-done g c.walk_on-left.ensures c.walk_on-right.ensures

@@ -8,4 +8,4 @@ use Rattle.determinacy.proofs.pairs.first_pair.Given as goal
 
 abbrev pub invariant-loop-i : goal.invariant-loop-i
 invariant-loop-i l =
-    (l.i ≤ l.k) × ((length l.state ≡ length l.initial.state) × ((length l.scratch ≡ length l.initial.scratch) × ((w : PairsReady l.declarations.text.now l.declarations.words.now l.declarations.count l.table l.k l.program.nodes.now l.program.code.now l.initial.state l.initial.scratch) → Ranging w l.state l.scratch l.at l.i)))
+    (l.i ≤ l.k) × ((length l.state ≡ length l.initial.state) × ((length l.scratch ≡ length l.initial.scratch) × ((w : PairsReady l.declarations l.table l.k l.program l.initial.state l.initial.scratch) → Ranging w l.state l.scratch l.at l.i)))
