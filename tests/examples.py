@@ -43,7 +43,7 @@ CHECKS = [
     (NEXT % b"next(S,U)", "refused sheet 10 62 2 0 2 ends"),
     (b"p(.", "refused sheet 5 2 0 0 0"),
     (b":- mode p(+). :- mode p(-).", "refused sheet 7 22 0 0 0"),
-    # RULES, the traps
+    # REQUESTS, the traps
     (b":- mode p(+,-). :- mode q. q :- p(X,X). p(a,a).", "refused sheet 9 34 1 1 1 p"),
     (b":- mode p(*,-). p(X,X).", "refused sheet 10 20 1 0 2 p"),
     (b":- mode p(-). p(X) :- true, fail.", "accepted 1 1"),

@@ -51,26 +51,15 @@ last-met goals = take_all (length goals - (length goals - variables)) (met goals
 module _ {sheet table : List ℕ} {k : ℕ} {goal goals : List ℕ} {literals count : ℕ} where
   pub part-programmed : Programmed sheet table k goal goals literals (met goals) count → Programmed sheet table k goal goals literals (last-words goals) count
   part-programmed w = record {
-    sh = w.sh;
-    g = w.g;
-    has_clauses = w.has_clauses;
-    clauses_count = w.clauses_count;
-    clauses_stand = w.clauses_stand;
-    has_goal = w.has_goal;
-    literals_count = w.literals_count;
-    goal_stands = w.goal_stands;
+    tables = w.tables;
     limits = w.limits;
     goal_limits = w.goal_limits;
     named = subst⁻¹ (λ (l : List ℕ). Named goal l count) (last-met goals) w.named;
     names_are = w.names_are ∙ ap (λ (l : List ℕ). names_from goal l 0 count) (sym (last-met goals));
-    sheet_short = w.sheet_short;
-    goal_short = w.goal_short;
-    table_short = w.table_short;
-    goals_short = w.goals_short;
   }
 
-  pub part-runs : {allowance wanted : ℕ} {old new : List ℕ} {r : Written} → ((w : Programmed sheet table k goal goals literals (last-words goals) count) → Runs w.sh w.g allowance wanted old new r)
-      → (w : Programmed sheet table k goal goals literals (met goals) count) → Runs w.sh w.g allowance wanted old new r
+  pub part-runs : {allowance wanted : ℕ} {old new : List ℕ} {r : Written} → ((w : Programmed sheet table k goal goals literals (last-words goals) count) → Runs w.tables.sh w.tables.g allowance wanted old new r)
+      → (w : Programmed sheet table k goal goals literals (met goals) count) → Runs w.tables.sh w.tables.g allowance wanted old new r
   unfolding part-programmed
   part-runs f w = f (part-programmed w)
 
@@ -126,22 +115,24 @@ module _ (s declared : List ℕ) (n : ℕ) (table : List ℕ) (k : ℕ) where
           let x : GoalInTable g goals r.literals r.count the-goal = standing s declared n k g goals r t in
           let y : goal_outcome g ≡ accepted the-goal = (goal-of s declared n k g goals r t).1 in
           record {
-            sh = w.stands.sheet;
-            g = the-goal;
-            has_clauses = w.stands.has_clauses;
-            clauses_count = w.stands.clauses_count;
-            clauses_stand = w.stands.stands.clauses;
-            has_goal = x.has;
-            literals_count = x.count;
-            goal_stands = x.stands;
+            tables = record {
+              sh = w.stands.sheet;
+              g = the-goal;
+              has_clauses = w.stands.has_clauses;
+              clauses_count = w.stands.clauses_count;
+              clauses_stand = w.stands.stands.clauses;
+              has_goal = x.has;
+              literals_count = x.count;
+              goal_stands = x.stands;
+              sheet_short = w.short;
+              goal_short = goal_short g the-goal y;
+              table_short = w.table_short;
+              goals_short = short;
+            };
             limits = w.limits;
             goal_limits = goal-limited g the-goal y;
             named = x.named;
             names_are = x.names_are;
-            sheet_short = w.short;
-            goal_short = goal_short g the-goal y;
-            table_short = w.table_short;
-            goals_short = short;
           }
 
       module _ (ck : Checked) (ec : (w : GoalAt s declared n g goals r.literals) → ck ≡ checked_of (goal_fault w.sheet w.goal)) where
@@ -156,7 +147,7 @@ module _ (s declared : List ℕ) (n : ℕ) (table : List ℕ) (k : ℕ) where
             stopped-answers (outcome w old) in_goal q (ap (over_goal w.stands.sheet allowance wanted (length old)) o) u eu old
 
         pub goal-runs : ck ≡ Ok tt → length goals ≤ goal_words → (x : Written) (old new : List ℕ)
-            → ((p : Programmed s table k g goals r.literals (met goals) r.count) → Runs p.sh p.g allowance wanted old new x)
+            → ((p : Programmed s table k g goals r.literals (met goals) r.count) → Runs p.tables.sh p.tables.g allowance wanted old new x)
             → (v : Result Written Fault) → EndsWith x.report x.bytes v → (w : ProgramReady s declared n table k) → Answers (outcome w old) old new v
         unfolding checked_goal checked_goal_from faultless over_goal reported run_answer run_text goal-programmed
         goal-runs h short x old new f v ev w =

@@ -30,7 +30,7 @@ fn check_goal_and_run(
     requires variables_in_bounds { variables ≤ length goal.table.now }
     requires programmed { Programmed sheet.text.now sheet.table.now sheet.clauses goal.text.now goal.table.now goal.literals (met goal.table.now) count }
     ensures { (w : Programmed sheet.entry.text.now sheet.entry.table.now sheet.entry.clauses goal.entry.text.now goal.entry.table.now goal.entry.literals
-        (met goal.entry.table.now) count) → Runs w.sh w.g allowance wanted text.old text.new result }
+        (met goal.entry.table.now) count) → Runs w.tables.sh w.tables.g allowance wanted text.old text.new result }
 {
     let from = goal.table.len() - VARIABLES;
     load_and_run(

@@ -72,18 +72,20 @@ module _ {s declared : List ℕ} {n : ℕ} {table : List ℕ} {k : ℕ} where
       let a : nodes_words ≡ length nodes = z.long in
       let b : nodes_words ≡ length symbols = y.long in
       record {
-        sh = w.stands.sheet;
-        g = empty;
-        has_clauses = w.stands.has_clauses;
-        clauses_count = w.stands.clauses_count;
-        clauses_stand = w.stands.stands.clauses;
-        has_goal = tt;
-        literals_count = no_items;
-        goal_stands = done_stands;
-        sheet_short = omega (arith, w.short);
-        goal_short = omega arith;
-        table_short = omega (arith, w.table_short);
-        goals_short = omega arith;
+        tables = record {
+          sh = w.stands.sheet;
+          g = empty;
+          has_clauses = w.stands.has_clauses;
+          clauses_count = w.stands.clauses_count;
+          clauses_stand = w.stands.stands.clauses;
+          has_goal = tt;
+          literals_count = no_items;
+          goal_stands = done_stands;
+          sheet_short = omega (arith, w.short);
+          goal_short = omega arith;
+          table_short = omega (arith, w.table_short);
+          goals_short = omega arith;
+        };
         nodes_room = omega arith;
         nodes_short = omega arith;
         symbols_room = omega arith;
@@ -91,7 +93,7 @@ module _ {s declared : List ℕ} {n : ℕ} {table : List ℕ} {k : ℕ} where
       }
 
   module _ {nodes0 symbols0 nodes symbols : List ℕ} (z : Zeros nodes_words nodes0) (y : Zeros nodes_words symbols0) (a : length nodes ≡ length nodes0)
-      (f : (v : Loadable s table k nothing nothing 0 nodes0 symbols0) → Loaded s nothing v.sh v.g nodes symbols) where
+      (f : (v : Loadable s table k nothing nothing 0 nodes0 symbols0) → Loaded s nothing v.tables.sh v.tables.g nodes symbols) where
     loaded : (w : SheetReady s declared n table k) → Loaded s nothing w.stands.sheet empty nodes symbols
     unfolding loads
     loaded w = f (loads z y w)

@@ -4,7 +4,7 @@ use native.Mathlib.Numerals.{add-one}
 use native.Mathlib.Omega.{arith}
 use mathlib.Core.Path.{◌≡◌, refl, sym, ap, ◌∙◌, subst⁻¹}
 use mathlib.Core.Bool.{Bool, true, false, not}
-use mathlib.Core.List.{List, [], ◌∷◌}
+use mathlib.Core.List.{List, [], ◌∷◌, ◌++◌}
 use mathlib.Core.Option.{Option, none, some}
 use Rattle.std.specs.Prelude.{Some, None}
 use lib.ListN.{length, get_or}
@@ -50,50 +50,22 @@ module _ (table : List ℕ) (at left word : ℕ) (l : 0 < left) (e : word ≡ ge
   body-bracketed g o = is-by g o.rest o.here.has o.here.many ∙ ap not (sym o.same)
 
   module _ (m : word ≤ equation_kind) (next : ℕ) (n : (x : Item) → Has table at (item_words x) → next ≡ at + length (item_words x)) where
-    -- past a literal that is no bracket
+    -- past an item, and past a literal that is no bracket
+    past : (x : Item) (whole b : Body) → Has table at (item_words x ++ body_words b) → left ≡ 1 + body_length b → without_brackets whole ≡ without_brackets b → BodyOn table next (left - 1) whole
+    past x whole b h k s =
+        record {
+          rest = b;
+          here = record { has = subst⁻¹ (λ (i : ℕ). Has table i (body_words b)) (n x (has_left table at (item_words x) (body_words b) h)) (has_right table at (item_words x) (body_words b) h); many = omega arith };
+          same = s;
+        }
+
     on-by : (whole b : Body) → Has table at (body_words b) → left ≡ body_length b → without_brackets whole ≡ without_brackets b → BodyOn table next (left - 1) whole
     unfolding body_words literal_words item_words body_length literal_length without_brackets is_bracket
     on-by whole done h k s = absurd (omega arith)
-    on-by whole (also (call a) b) h k s =
-        let q : next ≡ at + length (item_words (plain_call a)) = n (plain_call a) (has_left table at (literal_words (call a)) (body_words b) h) in
-        record {
-          rest = b;
-          here = record {
-            has = subst⁻¹ (λ (i : ℕ). Has table i (body_words b)) q (has_right table at (literal_words (call a)) (body_words b) h);
-            many = let z : left ≡ 1 + body_length b = k in omega arith;
-          };
-          same = s;
-        }
-    on-by whole (also (equation t u) b) h k s =
-        let q : next ≡ at + length (item_words (plain_equation t u)) = n (plain_equation t u) (has_left table at (literal_words (equation t u)) (body_words b) h) in
-        record {
-          rest = b;
-          here = record {
-            has = subst⁻¹ (λ (i : ℕ). Has table i (body_words b)) q (has_right table at (literal_words (equation t u)) (body_words b) h);
-            many = let z : left ≡ 1 + body_length b = k in omega arith;
-          };
-          same = s;
-        }
-    on-by whole (also truth b) h k s =
-        let q : next ≡ at + length (item_words plain_truth) = n plain_truth (has_left table at (literal_words truth) (body_words b) h) in
-        record {
-          rest = b;
-          here = record {
-            has = subst⁻¹ (λ (i : ℕ). Has table i (body_words b)) q (has_right table at (literal_words truth) (body_words b) h);
-            many = let z : left ≡ 1 + body_length b = k in omega arith;
-          };
-          same = s;
-        }
-    on-by whole (also falsity b) h k s =
-        let q : next ≡ at + length (item_words plain_falsity) = n plain_falsity (has_left table at (literal_words falsity) (body_words b) h) in
-        record {
-          rest = b;
-          here = record {
-            has = subst⁻¹ (λ (i : ℕ). Has table i (body_words b)) q (has_right table at (literal_words falsity) (body_words b) h);
-            many = let z : left ≡ 1 + body_length b = k in omega arith;
-          };
-          same = s;
-        }
+    on-by whole (also (call a) b) h k s = past (plain_call a) whole b h k s
+    on-by whole (also (equation t u) b) h k s = past (plain_equation t u) whole b h k s
+    on-by whole (also truth b) h k s = past plain_truth whole b h k s
+    on-by whole (also falsity b) h k s = past plain_falsity whole b h k s
     on-by whole (also (either y z) b) h k s = absurd (omega (arith, h.1))
 
     pub body-on : {b : Body} → BodyOn table at left b → BodyOn table next (left - 1) b

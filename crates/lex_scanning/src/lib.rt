@@ -20,8 +20,8 @@ pub fn skip(s: &[u8], from: usize) -> usize
     ensures { result ≡ token_place s.now from }
 {
     let mut at = from;
-    // A turn passes one blank or one comment; both loops are left at the token's first byte, or at the end. (Two loops with labels are the form that
-    // the project's paper gives this place.)
+    // A turn passes one blank or one comment; both loops are left at the token's first byte, or at the end. (Two loops with labels are a form
+    // asked for in REQUESTS.)
     'token: loop {
         if s.len() <= at {
             break 'token;

@@ -21,28 +21,18 @@ mutual
 
   pub term-nodes : (ss : List Symbol) (t : Term) → length (loaded_words ss t) * 3 ≡ length (term_words t) * 2
   term-nodes ss (variable n b) = refl
-  term-nodes ss (compound b f ts) = let e : length (loaded_all ss ts) * 3 ≡ length (terms_words ts) * 2 = terms-nodes ss ts in omega arith
+  term-nodes ss (compound b f ts) = omega (arith, terms-nodes ss ts)
 
   pub terms-nodes : (ss : List Symbol) (ts : Terms) → length (loaded_all ss ts) * 3 ≡ length (terms_words ts) * 2
   terms-nodes ss nil = refl
-  terms-nodes ss (cons t ts) =
-      let e : length (loaded_words ss t) * 3 ≡ length (term_words t) * 2 = term-nodes ss t in
-      let es : length (loaded_all ss ts) * 3 ≡ length (terms_words ts) * 2 = terms-nodes ss ts in
-      let a : length (loaded_words ss t ++ loaded_all ss ts) ≡ length (loaded_words ss t) + length (loaded_all ss ts) = length-append (loaded_words ss t) (loaded_all ss ts) in
-      let b : length (term_words t ++ terms_words ts) ≡ length (term_words t) + length (terms_words ts) = length-append (term_words t) (terms_words ts) in
-      omega arith
+  terms-nodes ss (cons t ts) = simp length-append (omega (arith, term-nodes ss t, terms-nodes ss ts))
 
 pub item-nodes : (ss : List Symbol) (x : Item) → length (item_nodes ss x) * 3 + 1 * 2 ≡ length (item_words x) * 2
 unfolding item_nodes item_words
 item-nodes ss plain_truth = refl
 item-nodes ss plain_falsity = refl
-item-nodes ss (plain_call a) = let e : length (loaded_words ss (term_of a)) * 3 ≡ length (term_words (term_of a)) * 2 = term-nodes ss (term_of a) in omega arith
-item-nodes ss (plain_equation t u) =
-    let e : length (loaded_words ss t) * 3 ≡ length (term_words t) * 2 = term-nodes ss t in
-    let es : length (loaded_words ss u) * 3 ≡ length (term_words u) * 2 = term-nodes ss u in
-    let a : length (loaded_words ss t ++ loaded_words ss u) ≡ length (loaded_words ss t) + length (loaded_words ss u) = length-append (loaded_words ss t) (loaded_words ss u) in
-    let b : length (term_words t ++ term_words u) ≡ length (term_words t) + length (term_words u) = length-append (term_words t) (term_words u) in
-    omega arith
+item-nodes ss (plain_call a) = omega (arith, term-nodes ss (term_of a))
+item-nodes ss (plain_equation t u) = simp length-append (omega (arith, term-nodes ss t, term-nodes ss u))
 item-nodes ss (before_left n) = refl
 item-nodes ss (before_right n) = refl
 item-nodes ss behind = refl
@@ -78,12 +68,7 @@ mutual
 items-nodes : (ss : List Symbol) (xs : List Item) → length (items_nodes ss xs) * 3 + length xs * 2 ≡ length (items_words xs) * 2
 unfolding items_nodes items_words
 items-nodes ss [] = refl
-items-nodes ss (x ∷ xs) =
-    let e : length (item_nodes ss x) * 3 + 1 * 2 ≡ length (item_words x) * 2 = item-nodes ss x in
-    let es : length (items_nodes ss xs) * 3 + length xs * 2 ≡ length (items_words xs) * 2 = items-nodes ss xs in
-    let a : length (item_nodes ss x ++ items_nodes ss xs) ≡ length (item_nodes ss x) + length (items_nodes ss xs) = length-append (item_nodes ss x) (items_nodes ss xs) in
-    let c : length (item_words x ++ items_words xs) ≡ length (item_words x) + length (items_words xs) = length-append (item_words x) (items_words xs) in
-    omega arith
+items-nodes ss (x ∷ xs) = simp length-append (omega (arith, item-nodes ss x, items-nodes ss xs))
 
 pub body-nodes : (ss : List Symbol) (b : Body) → length (body_nodes ss b) * 3 + body_length b * 2 ≡ length (body_words b) * 2
 body-nodes ss b =
@@ -108,10 +93,6 @@ pub says : (ss : List Symbol) (table : List ℕ) (p : ℕ) (cl : Clause) → Has
 unfolding clause_words clause_nodes
 says ss table p cl h =
     let o = clause-says table p cl h in
-    let e : length (loaded_words ss (term_of cl.head)) * 3 ≡ length (term_words (term_of cl.head)) * 2 = term-nodes ss (term_of cl.head) in
-    let es : length (body_nodes ss cl.body) * 3 + body_length cl.body * 2 ≡ length (body_words cl.body) * 2 = body-nodes ss cl.body in
-    let a : length (loaded_words ss (term_of cl.head) ++ body_nodes ss cl.body) ≡ length (loaded_words ss (term_of cl.head)) + length (body_nodes ss cl.body) = length-append (loaded_words ss (term_of cl.head)) (body_nodes ss cl.body) in
-    let c : length (atom_words cl.head ++ body_words cl.body) ≡ length (atom_words cl.head) + length (body_words cl.body) = length-append (atom_words cl.head) (body_words cl.body) in
     record {
       inside = o.words.inside;
       size = o.size;
@@ -119,5 +100,5 @@ says ss table p cl h =
       literals = o.words.third;
       head = has_left table (p + 3) (atom_words cl.head) (body_words cl.body) o.words.rest;
       body = has_right table (p + 3) (atom_words cl.head) (body_words cl.body) o.words.rest;
-      nodes = omega arith;
+      nodes = simp length-append (omega (arith, term-nodes ss (term_of cl.head), body-nodes ss cl.body));
     }

@@ -22,75 +22,64 @@ module _ {sheet table : List ℕ} {clauses : ℕ} {goal goals : List ℕ} {liter
       let a : nodes_words ≡ length nodes = z.long in
       let b : nodes_words ≡ length symbols = y.long in
       record {
-        sh = w.sh;
-        g = w.g;
-        has_clauses = w.has_clauses;
-        clauses_count = w.clauses_count;
-        clauses_stand = w.clauses_stand;
-        has_goal = w.has_goal;
-        literals_count = w.literals_count;
-        goal_stands = w.goal_stands;
-        sheet_short = w.sheet_short;
-        goal_short = w.goal_short;
-        table_short = w.table_short;
-        goals_short = w.goals_short;
+        tables = w.tables;
         nodes_room = omega arith;
         nodes_short = omega arith;
         symbols_room = omega arith;
         symbols_short = omega arith;
       }
 
-  module _ {nodes0 symbols0 nodes symbols : List ℕ} (z : Zeros nodes_words nodes0) (y : Zeros nodes_words symbols0) (a : length nodes ≡ length nodes0) (k : (v : Loadable sheet table clauses goal goals literals nodes0 symbols0) → Loaded sheet goal v.sh v.g nodes symbols) where
-    loaded : Loaded sheet goal w.sh w.g nodes symbols
+  module _ {nodes0 symbols0 nodes symbols : List ℕ} (z : Zeros nodes_words nodes0) (y : Zeros nodes_words symbols0) (a : length nodes ≡ length nodes0) (k : (v : Loadable sheet table clauses goal goals literals nodes0 symbols0) → Loaded sheet goal v.tables.sh v.tables.g nodes symbols) where
+    loaded : Loaded sheet goal w.tables.sh w.tables.g nodes symbols
     unfolding loads
     loaded = k (loads z y)
 
     pub links : {code0 : List ℕ} → Zeros code_words code0 → Linkable table clauses goals literals nodes code0
     links {code0} x =
         let b : code_words ≡ length code0 = x.long in
-        let c : length goals ≤ goal_words = w.goals_short in
+        let c : length goals ≤ goal_words = w.tables.goals_short in
         let d : nodes_words ≡ length nodes0 = z.long in
         record {
           ss = loaded.ss;
-          sh = w.sh;
-          g = w.g;
-          has_clauses = w.has_clauses;
-          clauses_count = w.clauses_count;
-          has_goal = w.has_goal;
-          literals_count = w.literals_count;
+          sh = w.tables.sh;
+          g = w.tables.g;
+          has_clauses = w.tables.has_clauses;
+          clauses_count = w.tables.clauses_count;
+          has_goal = w.tables.has_goal;
+          literals_count = w.tables.literals_count;
           limits = w.limits;
           goal_limits = w.goal_limits;
           nodes_stand = loaded.nodes_stand;
           goal_loadable = loaded.goal_loadable;
           clauses-loadable = loaded.clauses-loadable;
           nodes_short = omega arith;
-          table_short = w.table_short;
+          table_short = w.tables.table_short;
           goals_short = omega arith;
           code_room = omega arith;
           code_short = omega arith;
         }
 
     module _ {code0 code : List ℕ} (x : Zeros code_words code0) (p : (v : Linkable table clauses goals literals nodes code0) → Program v.ss v.sh v.g nodes code) where
-      program : Program loaded.ss w.sh w.g nodes code
+      program : Program loaded.ss w.tables.sh w.tables.g nodes code
       unfolding links
       program = p (links x)
 
 -- what is loaded and linked, as one value
 module _ (l : LoadedProgram) {table : List ℕ} {clauses : ℕ} {goals : List ℕ} {literals : ℕ} (w : Programmed l.sheet.now table clauses l.goal.now goals literals l.names.now l.count)
     {nodes0 symbols0 code0 : List ℕ} (z : Zeros nodes_words nodes0) (y : Zeros nodes_words symbols0) (a : length l.nodes.now ≡ length nodes0)
-    (k : (v : Loadable l.sheet.now table clauses l.goal.now goals literals nodes0 symbols0) → Loaded l.sheet.now l.goal.now v.sh v.g l.nodes.now l.symbols.now)
+    (k : (v : Loadable l.sheet.now table clauses l.goal.now goals literals nodes0 symbols0) → Loaded l.sheet.now l.goal.now v.tables.sh v.tables.g l.nodes.now l.symbols.now)
     (x : Zeros code_words code0) (p : (v : Linkable table clauses goals literals l.nodes.now code0) → Program v.ss v.sh v.g l.nodes.now l.code.now) where
   pub linked : ProgramLinked l
   linked =
       record {
         ss = (loaded w z y a k).ss;
-        sh = w.sh;
-        g = w.g;
+        sh = w.tables.sh;
+        g = w.tables.g;
         program = program w z y a k x p;
         spelt = record { spelt = (loaded w z y a k).names; named = w.named; names_are = w.names_are };
       }
 
-  pub program_runs : {allowance wanted : ℕ} {old new : List ℕ} {r : Written} → ((v : ProgramLinked l) → Runs v.sh v.g allowance wanted old new r) → Runs w.sh w.g allowance wanted old new r
+  pub program_runs : {allowance wanted : ℕ} {old new : List ℕ} {r : Written} → ((v : ProgramLinked l) → Runs v.sh v.g allowance wanted old new r) → Runs w.tables.sh w.tables.g allowance wanted old new r
   unfolding linked
   program_runs q = q linked
 

@@ -1,17 +1,14 @@
 -- A sheet and a goal as they were read into their tables.
-use Rattle.std.specs.Prelude.{ℕ, ◌+◌, ◌*◌, ◌^◌, ◌<◌, ◌≤◌, ◌≡◌, min, List, length, get_or}
+use Rattle.std.specs.Prelude.{ℕ, ◌+◌, ◌*◌, ◌^◌, ◌<◌, ◌≤◌, ◌≡◌, min, List, get_or}
 use Rattle.run_layout.specs.Regions.{stack, deepest, open_size, rows}
 use Rattle.syntax.specs.Terms.{Sheet, Goal}
-use Rattle.syntax.specs.Limits.{goal_bytes}
 use Rattle.unify_bindings.specs.Scratch.{Roomy}
-use Rattle.syntax.specs.Words.{program_bytes, program_words, goal_words, body_words, body_length, clauses_words}
-use Rattle.mode_marks.specs.Standing.{BodySpelt, ClausesSpelt}
-use Rattle.table_words.specs.Tables.{Has}
 use Rattle.run_layout.specs.Nodes.{Symbol}
 use Rattle.run_layout.specs.Limits.{ProgramLimited, GoalLimited}
 use Rattle.run_layout.specs.Program.{Program}
 use Rattle.syntax.specs.Spans.{names_from}
 use Rattle.out_terms.specs.Words.{Named}
+use Rattle.loader.specs.Loading.{BothTabled}
 use Rattle.run_answers.specs.declared.LoadedProgram.{LoadedProgram}
 use Rattle.run_answers.specs.Telling.{Spelt, Tellable}
 
@@ -29,22 +26,11 @@ pub record RoomFor (words room : ℕ) : Type 0 where
 
 -- Within the limits of a program and of a goal, in tables of these sizes; the goal's variables are spelt in it.
 pub record Programmed (sheet table : List ℕ) (clauses : ℕ) (goal goals : List ℕ) (literals : ℕ) (names : List ℕ) (count : ℕ) : Type 0 where
-  pub sh : Sheet
-  pub g : Goal
-  pub has_clauses : Has table 0 (clauses_words sh.clauses)
-  pub clauses_count : clauses ≡ length sh.clauses
-  pub clauses_stand : ClausesSpelt sheet sh.clauses
-  pub has_goal : Has goals 0 (body_words g.body)
-  pub literals_count : literals ≡ body_length g.body
-  pub goal_stands : BodySpelt goal g.body
-  pub limits : ProgramLimited sh
-  pub goal_limits : GoalLimited g
+  pub tables : BothTabled sheet table clauses goal goals literals
+  pub limits : ProgramLimited tables.sh
+  pub goal_limits : GoalLimited tables.g
   pub named : Named goal names count
-  pub names_are : g.names ≡ names_from goal names 0 count
-  pub sheet_short : length sheet ≤ program_bytes
-  pub goal_short : length goal ≤ goal_bytes
-  pub table_short : length table ≤ program_words
-  pub goals_short : length goals ≤ goal_words
+  pub names_are : tables.g.names ≡ names_from goal names 0 count
 
 -- loaded and linked
 pub record ProgramLinked (loaded : LoadedProgram) : Type 0 where

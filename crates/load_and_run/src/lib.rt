@@ -77,7 +77,7 @@ pub fn load_and_run(
 ) -> Written
     requires { Programmed sheet.text.now sheet.table.now sheet.clauses goal.text.now goal.table.now goal.literals names.now count }
     ensures { (w : Programmed sheet.entry.text.now sheet.entry.table.now sheet.entry.clauses goal.entry.text.now goal.entry.table.now goal.entry.literals
-        names.now count) → Runs w.sh w.g allowance wanted text.old text.new result }
+        names.now count) → Runs w.tables.sh w.tables.g allowance wanted text.old text.new result }
 {
     let mut nodes: [u32; NODES_WORDS] = cleared();
     let mut symbols: [u32; NODES_WORDS] = cleared();

@@ -6,7 +6,7 @@ use mathlib.Core.List.{List, [], ◌∷◌, ◌++◌}
 use lib.Dec.{T}
 use lib.ListN.{length, length-append}
 use Rattle.syntax.specs.Limits.{goal_bytes}
-use Rattle.syntax.specs.Words.{body_words, clauses_words, program_words, goal_words, program_bytes}
+use Rattle.syntax.specs.Words.{program_words, goal_words, program_bytes}
 use Rattle.table_words.specs.Tables.{Has}
 use Rattle.table_words.proofs.Laws.{has-inside}
 use Rattle.run_layout.specs.Regions.{loaded_node, most_nodes, nodes_words}
@@ -14,7 +14,7 @@ use Rattle.run_layout.specs.Nodes.{Symbol, name_of_symbol}
 use Rattle.run_layout.specs.Program.{body_nodes, clauses_nodes, program_nodes, body_loadable, clauses_loadable}
 use Rattle.out_terms.specs.Words.{text_of, name_at, NamePlaced, SymbolsSpelt}
 use Rattle.run_layout.specs.Symbols.{symbol_text}
-use Rattle.load_words.specs.Flat.{parsed_words, body_parsed, clauses_parsed, Flat, flat_words, flat_all, put_all, BodyHere, ClausesHere}
+use Rattle.load_words.specs.Flat.{NodeAsRead, parsed_words, body_parsed, clauses_parsed, Flat, flat_words, flat_all, put_all, BodyHere, ClausesHere}
 use Rattle.load_symbols.specs.Symbols.{word_name, SymbolInside, symbol_at, symbols_of, SymbolsListed}
 use Rattle.loader.specs.Listing.{with_all, numbered_all, Copied, NodesNumbered}
 use Rattle.loader.specs.Loading.{Loadable, Loaded}
@@ -30,6 +30,10 @@ use Rattle.loader.proofs.Terms.{words_append, numbered-append, inside-append, Al
 has_within : (table ws : List ℕ) → Has table 0 ws → length ws ≤ length table
 has_within table [] h = omega arith
 has_within table (w ∷ ws) h = let z : 0 + length (w ∷ ws) ≤ length table = has-inside table 0 (w ∷ ws) h (omega arith) in let y : length (w ∷ ws) ≤ length table = omega arith in y
+
+-- the words of nodes that come of words in a table
+few : {most : ℕ} (table ws : List ℕ) (text : ℕ) (xs : List NodeAsRead) → length (parsed_words xs) ≤ length ws → Has table 0 ws → length table ≤ most → length (flat_words (flat_all text xs)) * 3 ≤ most * 2
+few table ws text xs l h m = omega (arith, flat-length text xs, has_within table ws h)
 
 numbered-long : (sheet goal : List ℕ) (ss : List Symbol) (xs : List Flat) → length (flat_words (numbered_all sheet goal ss xs)) ≡ length (flat_words xs)
 unfolding flat_words numbered_all
@@ -60,45 +64,35 @@ module _ (sheet table : List ℕ) (clauses : ℕ) (goal goals : List ℕ) (liter
   abbrev pub goal-here : Loadable sheet table clauses goal goals literals nodes symbols → BodyHere goals 0 literals
   goal-here w = record {
     text = goal;
-    short = (let z : length goal ≤ goal_bytes = w.goal_short in let y : length goal ≤ program_bytes = omega arith in y);
-    body = w.g.body;
-    has = w.has_goal;
-    count = w.literals_count;
-    stands = w.goal_stands;
+    short = (let z : length goal ≤ goal_bytes = w.tables.goal_short in let y : length goal ≤ program_bytes = omega arith in y);
+    body = w.tables.g.body;
+    has = w.tables.has_goal;
+    count = w.tables.literals_count;
+    stands = w.tables.goal_stands;
   }
 
   abbrev pub clauses-here : Loadable sheet table clauses goal goals literals nodes symbols → ClausesHere table 0 clauses
   clauses-here w = record {
     text = sheet;
-    short = w.sheet_short;
-    list = w.sh.clauses;
-    has = w.has_clauses;
-    count = w.clauses_count;
-    stand = w.clauses_stand;
+    short = w.tables.sheet_short;
+    list = w.tables.sh.clauses;
+    has = w.tables.has_clauses;
+    count = w.tables.clauses_count;
+    stand = w.tables.clauses_stand;
   }
 
   module _ (w : Loadable sheet table clauses goal goals literals nodes symbols) where
     abbrev goal-words : List ℕ
-    goal-words = flat_words (flat_all 1 (body_parsed w.g.body))
+    goal-words = flat_words (flat_all 1 (body_parsed w.tables.g.body))
 
     abbrev clauses-words : List ℕ
-    clauses-words = flat_words (flat_all 0 (clauses_parsed w.sh.clauses))
+    clauses-words = flat_words (flat_all 0 (clauses_parsed w.tables.sh.clauses))
 
     goal-few : length goal-words * 3 ≤ goal_words * loaded_node
-    goal-few =
-        let a : length goal-words * 3 ≡ length (parsed_words (body_parsed w.g.body)) * 2 = flat-length 1 (body_parsed w.g.body) in
-        let b : length (parsed_words (body_parsed w.g.body)) ≤ length (body_words w.g.body) = body-long w.g.body in
-        let c : length (body_words w.g.body) ≤ length goals = has_within goals (body_words w.g.body) w.has_goal in
-        let d : length goals ≤ goal_words = w.goals_short in
-        omega arith
+    goal-few = few goals _ 1 _ (body-long w.tables.g.body) w.tables.has_goal w.tables.goals_short
 
     clauses-few : length clauses-words * 3 ≤ program_words * 2
-    clauses-few =
-        let a : length clauses-words * 3 ≡ length (parsed_words (clauses_parsed w.sh.clauses)) * 2 = flat-length 0 (clauses_parsed w.sh.clauses) in
-        let b : length (parsed_words (clauses_parsed w.sh.clauses)) ≤ length (clauses_words w.sh.clauses) = clauses-long w.sh.clauses in
-        let c : length (clauses_words w.sh.clauses) ≤ length table = has_within table (clauses_words w.sh.clauses) w.has_clauses in
-        let d : length table ≤ program_words = w.table_short in
-        omega arith
+    clauses-few = few table _ 0 _ (clauses-long w.tables.sh.clauses) w.tables.has_clauses w.tables.table_short
 
     pub middle-near : (m : ℕ) → m ≡ 0 + length goal-words → m * 3 ≤ goal_words * loaded_node
     middle-near m e = omega (arith, goal-few)
@@ -106,10 +100,10 @@ module _ (sheet table : List ℕ) (clauses : ℕ) (goal goals : List ℕ) (liter
     -- the goal's nodes and then the clauses'
     module _ (first second : List ℕ) (m stop : ℕ) (a : (first ≡ put_all nodes 0 goal-words) × (m ≡ 0 + length goal-words)) (b : (second ≡ put_all first m clauses-words) × (stop ≡ m + length clauses-words)) where
       abbrev all-flats : List Flat
-      all-flats = flat_all 1 (body_parsed w.g.body) ++ flat_all 0 (clauses_parsed w.sh.clauses)
+      all-flats = flat_all 1 (body_parsed w.tables.g.body) ++ flat_all 0 (clauses_parsed w.tables.sh.clauses)
 
       all_words : flat_words all-flats ≡ goal-words ++ clauses-words
-      all_words = words_append (flat_all 1 (body_parsed w.g.body)) (flat_all 0 (clauses_parsed w.sh.clauses))
+      all_words = words_append (flat_all 1 (body_parsed w.tables.g.body)) (flat_all 0 (clauses_parsed w.tables.sh.clauses))
 
       pub second_is : second ≡ put_all nodes 0 (flat_words all-flats)
       second_is =
@@ -137,12 +131,12 @@ module _ (sheet table : List ℕ) (clauses : ℕ) (goal goals : List ℕ) (liter
 
       abbrev pub copied : Copied sheet goal second stop
       copied = record {
-        flats = flat_all 1 (body_parsed w.g.body) ++ flat_all 0 (clauses_parsed w.sh.clauses);
+        flats = flat_all 1 (body_parsed w.tables.g.body) ++ flat_all 0 (clauses_parsed w.tables.sh.clauses);
         has = subst (λ (l : List ℕ). Has l 0 (flat_words all-flats)) (sym second_is) (has-written nodes 0 (flat_words all-flats) (omega (arith, stop_is, stop-few, w.nodes_room)));
         ends = stop_is;
-        inside = inside-append sheet goal (flat_all 1 (body_parsed w.g.body)) (flat_all 0 (clauses_parsed w.sh.clauses))
-            (body_inside sheet goal [] 1 goal (let z : 1 ≤ 1 = omega arith in z) reads-goal w.g.body w.goal_stands)
-            (clauses-inside sheet goal [] 0 sheet (let z : 0 ≤ 1 = omega arith in z) (sheet-text sheet goal) w.sh.clauses w.clauses_stand);
+        inside = inside-append sheet goal (flat_all 1 (body_parsed w.tables.g.body)) (flat_all 0 (clauses_parsed w.tables.sh.clauses))
+            (body_inside sheet goal [] 1 goal (let z : 1 ≤ 1 = omega arith in z) reads-goal w.tables.g.body w.tables.goal_stands)
+            (clauses-inside sheet goal [] 0 sheet (let z : 0 ≤ 1 = omega arith in z) (sheet-text sheet goal) w.tables.sh.clauses w.tables.clauses_stand);
       }
 
       abbrev all-symbols : List Symbol
@@ -151,25 +145,25 @@ module _ (sheet table : List ℕ) (clauses : ℕ) (goal goals : List ℕ) (liter
       all-are-listed : AllListed sheet goal all-symbols all-flats
       all-are-listed = all_listed sheet goal [] all-flats
 
-      goal-fine : T (body_loadable all-symbols w.g.body) × (body_nodes all-symbols w.g.body ≡ loaded_of sheet goal all-symbols 1 (body_parsed w.g.body))
+      goal-fine : T (body_loadable all-symbols w.tables.g.body) × (body_nodes all-symbols w.tables.g.body ≡ loaded_of sheet goal all-symbols 1 (body_parsed w.tables.g.body))
       goal-fine =
-          body_fine sheet goal all-symbols 1 goal (let z : 1 ≤ 1 = omega arith in z) reads-goal w.g.body w.goal_stands
-          (listed-left sheet goal all-symbols (flat_all 1 (body_parsed w.g.body)) (flat_all 0 (clauses_parsed w.sh.clauses)) all-are-listed)
+          body_fine sheet goal all-symbols 1 goal (let z : 1 ≤ 1 = omega arith in z) reads-goal w.tables.g.body w.tables.goal_stands
+          (listed-left sheet goal all-symbols (flat_all 1 (body_parsed w.tables.g.body)) (flat_all 0 (clauses_parsed w.tables.sh.clauses)) all-are-listed)
 
-      clauses-are-fine : T (clauses_loadable all-symbols w.sh.clauses) × (clauses_nodes all-symbols w.sh.clauses ≡ loaded_of sheet goal all-symbols 0 (clauses_parsed w.sh.clauses))
+      clauses-are-fine : T (clauses_loadable all-symbols w.tables.sh.clauses) × (clauses_nodes all-symbols w.tables.sh.clauses ≡ loaded_of sheet goal all-symbols 0 (clauses_parsed w.tables.sh.clauses))
       clauses-are-fine =
-          clauses-fine sheet goal all-symbols 0 sheet (let z : 0 ≤ 1 = omega arith in z) (sheet-text sheet goal) w.sh.clauses w.clauses_stand
-          (listed-right sheet goal all-symbols (flat_all 1 (body_parsed w.g.body)) (flat_all 0 (clauses_parsed w.sh.clauses)) all-are-listed)
+          clauses-fine sheet goal all-symbols 0 sheet (let z : 0 ≤ 1 = omega arith in z) (sheet-text sheet goal) w.tables.sh.clauses w.tables.clauses_stand
+          (listed-right sheet goal all-symbols (flat_all 1 (body_parsed w.tables.g.body)) (flat_all 0 (clauses_parsed w.tables.sh.clauses)) all-are-listed)
 
-      program-is : program_nodes all-symbols w.sh w.g ≡ flat_words (numbered_all sheet goal all-symbols all-flats)
+      program-is : program_nodes all-symbols w.tables.sh w.tables.g ≡ flat_words (numbered_all sheet goal all-symbols all-flats)
       unfolding program_nodes
       program-is =
           ap₂ (λ (x y : List ℕ). x ++ y) goal-fine.1 clauses-are-fine.1
-          ∙ (sym (words_append (numbered_all sheet goal all-symbols (flat_all 1 (body_parsed w.g.body))) (numbered_all sheet goal all-symbols (flat_all 0 (clauses_parsed w.sh.clauses))))
-          ∙ ap flat_words (sym (numbered-append sheet goal all-symbols (flat_all 1 (body_parsed w.g.body)) (flat_all 0 (clauses_parsed w.sh.clauses)))))
+          ∙ (sym (words_append (numbered_all sheet goal all-symbols (flat_all 1 (body_parsed w.tables.g.body))) (numbered_all sheet goal all-symbols (flat_all 0 (clauses_parsed w.tables.sh.clauses))))
+          ∙ ap flat_words (sym (numbered-append sheet goal all-symbols (flat_all 1 (body_parsed w.tables.g.body)) (flat_all 0 (clauses_parsed w.tables.sh.clauses)))))
 
-      pub loaded : (third after : List ℕ) (r : ℕ) → NodesNumbered sheet goal (flat_all 1 (body_parsed w.g.body) ++ flat_all 0 (clauses_parsed w.sh.clauses)) second third after r
-          → Loaded sheet goal w.sh w.g third after
+      pub loaded : (third after : List ℕ) (r : ℕ) → NodesNumbered sheet goal (flat_all 1 (body_parsed w.tables.g.body) ++ flat_all 0 (clauses_parsed w.tables.sh.clauses)) second third after r
+          → Loaded sheet goal w.tables.sh w.tables.g third after
       loaded third after r n = record {
         ss = all-symbols;
         names = names sheet goal after r all-symbols n.symbols_are n.listed;

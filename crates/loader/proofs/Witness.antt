@@ -37,18 +37,20 @@ pub witness : Loadable [] [] 0 [] (0 ∷ []) 1 room room
 witness =
     let l : length room ≡ nodes_words = room-long in
     record {
-      sh = record { declarations = []; clauses = [] };
-      g = record { body = also truth done; names = [] };
-      has_clauses = has-none;
-      clauses_count = refl;
-      clauses_stand = no_clauses;
-      has_goal = has-truth;
-      literals_count = one-item;
-      goal_stands = also_stands truth_stands done_stands;
-      sheet_short = (let z : 0 ≤ program_bytes = omega arith in z);
-      goal_short = (let z : 0 ≤ goal_bytes = omega arith in z);
-      table_short = (let z : 0 ≤ program_words = omega arith in z);
-      goals_short = (let z : 1 ≤ goal_words = omega arith in z);
+      tables = record {
+        sh = record { declarations = []; clauses = [] };
+        g = record { body = also truth done; names = [] };
+        has_clauses = has-none;
+        clauses_count = refl;
+        clauses_stand = no_clauses;
+        has_goal = has-truth;
+        literals_count = one-item;
+        goal_stands = also_stands truth_stands done_stands;
+        sheet_short = (let z : 0 ≤ program_bytes = omega arith in z);
+        goal_short = (let z : 0 ≤ goal_bytes = omega arith in z);
+        table_short = (let z : 0 ≤ program_words = omega arith in z);
+        goals_short = (let z : 1 ≤ goal_words = omega arith in z);
+      };
       nodes_room = omega arith;
       nodes_short = omega arith;
       symbols_room = omega arith;

@@ -10,8 +10,8 @@ use Rattle.run_layout.specs.Nodes.{Symbol}
 use Rattle.run_layout.specs.Program.{program_nodes, body_loadable, clauses_loadable}
 use Rattle.out_terms.specs.Words.{SymbolsSpelt}
 
--- A sheet's clauses and a goal as they were read into their tables; room for nodes and symbols.
-pub record Loadable (sheet table : List ℕ) (clauses : ℕ) (goal goals : List ℕ) (literals : ℕ) (nodes symbols : List ℕ) : Type 0 where
+-- A sheet's clauses and a goal as they were read into their tables.
+pub record BothTabled (sheet table : List ℕ) (clauses : ℕ) (goal goals : List ℕ) (literals : ℕ) : Type 0 where
   pub sh : Sheet
   pub g : Goal
   pub has_clauses : Has table 0 (clauses_words sh.clauses)
@@ -24,6 +24,10 @@ pub record Loadable (sheet table : List ℕ) (clauses : ℕ) (goal goals : List 
   pub goal_short : length goal ≤ goal_bytes
   pub table_short : length table ≤ program_words
   pub goals_short : length goals ≤ goal_words
+
+-- The same; room for nodes and symbols.
+pub record Loadable (sheet table : List ℕ) (clauses : ℕ) (goal goals : List ℕ) (literals : ℕ) (nodes symbols : List ℕ) : Type 0 where
+  pub tables : BothTabled sheet table clauses goal goals literals
   pub nodes_room : nodes_words ≤ length nodes
   pub nodes_short : length nodes ≤ places
   pub symbols_room : nodes_words ≤ length symbols

@@ -17,7 +17,7 @@ use numbering::number_nodes;
 pub fn load_nodes(sheet: ReadSheet, goal: ReadGoal, nodes: &mut [u32], symbols: &mut [u32])
     requires { Loadable sheet.text.now sheet.table.now sheet.clauses goal.text.now goal.table.now goal.literals nodes.old symbols.old }
     ensures { (w : Loadable sheet.entry.text.now sheet.entry.table.now sheet.entry.clauses goal.entry.text.now goal.entry.table.now
-        goal.entry.literals nodes.old symbols.old) → Loaded sheet.entry.text.now goal.entry.text.now w.sh w.g nodes.new symbols.new }
+        goal.entry.literals nodes.old symbols.old) → Loaded sheet.entry.text.now goal.entry.text.now w.tables.sh w.tables.g nodes.new symbols.new }
 {
     let middle = copy_body(goal.table, 0, goal.literals, Source::Goal, nodes, 0);
     let stop = copy_clauses(sheet.table, sheet.clauses, nodes, middle);

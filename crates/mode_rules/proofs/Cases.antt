@@ -1,4 +1,4 @@
--- Computed cases: the starred cases of checking in RULES, the traps, the order of the refusals, and REQUESTS (i), (ii), (iii), (x) and (xiv).
+-- Computed cases: the starred cases of checking in RULES, the traps of REQUESTS, the order of the refusals, and (i), (ii), (iii), (x) and (xiv).
 use Prim.Native.Nat.{ℕ}
 use Prim.Native.String.{String}
 use mathlib.Core.Path.{◌≡◌, refl}

@@ -21,7 +21,7 @@ use Rattle.syntax.specs.declared.TokenKind.{TokenKind}
 use Rattle.syntax.specs.Reading.{Cursor, Read, fault, ok, and_then, next, wrong_number, read_term, read_atom, atom_at, read_right, after_atom, after_term, literal_with, read_atom_with, atom_with, read_list}
 use Rattle.syntax.specs.Words.{node_words, term_words, terms_words, atom_words, literal_words, literal_length, truth_kind, falsity_kind, call_kind, equation_kind}
 use Rattle.syntax.specs.declared.State.{State}
-use Rattle.parse_cursor.specs.Gives.{cursor_of, state_onward, bytes_left, PastToken, RoomToRead, Faulted, Given, Gives, GivenWith, Refused, term_form, atom_form, literal_form}
+use Rattle.parse_cursor.specs.Gives.{cursor_of, state_onward, bytes_left, PastToken, RoomToRead, Faulted, Given, Gives, GivenWith, Refused, Form, form, one, term_form, atom_form, literal_form}
 use Rattle.parse_cursor.specs.declared.Parsed.{Parsed}
 use Rattle.parse_cursor.proofs.Reading.{refused-wrong, moved-onward, next_of, held_of, cursor-kept, held_kept}
 use Rattle.parse_cursor.proofs.TermLaws.{term-some}
@@ -152,44 +152,62 @@ atom-named : (bytes_left : ℕ) (s : List ℕ) (st end : Cursor) (a : Atom) → 
 unfolding AllOk
 atom-named bytes_left s st end a e = subst (AllOk (λ (a : Atom). a.name ≡ spelling s st.token.at st.token.len)) e (named-all bytes_left s st)
 
--- ---- a literal that begins with a name
+-- ---- a literal by its first term
 
-module _ (most : ℕ) (s : List ℕ) (st : State) (entry : List ℕ) (n : ℕ) (ready : RoomToRead s st entry n 1) where
+module _ {s : List ℕ} {st : State} {entry : List ℕ} {n : ℕ} (ready : RoomToRead s st entry n 1) where
+  abbrev LiteralGives : List ℕ → Result Parsed Refusal → Read Literal → Type 0
+  LiteralGives exit q d = Gives literal_form s st entry exit n q d
+
   n-in : n + 1 ≤ length entry
   n-in = let room : n + node_words * bytes_left s st + 1 + variables ≤ length entry = ready.room in omega arith
 
-  -- an equation of which the left side was read
-  module _ (mid : List ℕ) (r : Parsed) (t : Term) (g : Given s st entry mid (n + 1) r (term_words t) 1 (cursor_of s mid r.state)) (l : length mid ≡ length entry) where
-    pub right-ready : r.state.token.kind ≡ equals_kind → RoomToRead s r.state mid r.used 0 × ((r.state.token.kind ≡ equals_kind) × (n < r.used))
-    right-ready e =
+  -- a fault of what is read first
+  pub first-fault : {A : Type 0} (f : Form A) (d : Read A) (after : A → Cursor → Bool → Read Literal) (mid : List ℕ) (q : Refusal) → Gives f s st entry mid (n + 1) (Err q) d
+      → LiteralGives mid (Err q) (and_then d (λ a end. after a end (same_kind end.token.kind equals_kind)))
+  first-fault f d after mid q g = seq-fault f literal_form s st st entry mid n (n + 1) q d (λ a end. after a end (same_kind end.token.kind equals_kind)) (omega arith) g
+
+  -- what was read first, which is a term
+  module _ {A : Type 0} (term : A → Term) (d : Read A) (mid : List ℕ) (r : Parsed) (l : length mid ≡ length entry) (g : Gives (form (λ (a : A). term_words (term a)) one) s st entry mid (n + 1) (Ok r) d) where
+    first : (a : A) × (d ≡ ok a (cursor_of s mid r.state)) × Given s st entry mid (n + 1) r (term_words (term a)) 1 (cursor_of s mid r.state)
+    first = seq-ok (form (λ (a : A). term_words (term a)) one) s st entry mid (n + 1) r d g
+
+    abbrev t : Term
+    t = term first.0
+
+    left-kept : take n mid ≡ take n entry
+    left-kept = kept-before n (n + 1) (length (term_words t)) entry mid (term_words t) (omega arith) n-in first.2.table_is
+
+    -- the literal by what stands behind it
+    behind : (after : A → Cursor → Bool → Read Literal) (b : Bool) → same_kind r.state.token.kind equals_kind ≡ b → and_then d (λ a end. after a end (same_kind end.token.kind equals_kind)) ≡ after first.0 (cursor_of s mid r.state) b
+    unfolding and_then
+    behind after b e = ap (λ (x : Read A). and_then x (λ a end. after a end (same_kind end.token.kind equals_kind))) first.1 ∙ ap (after first.0 (cursor_of s mid r.state)) e
+
+    pub first-ready : r.state.token.kind ≡ equals_kind → RoomToRead s r.state mid r.used 0 × ((r.state.token.kind ≡ equals_kind) × (n < r.used))
+    first-ready e =
         let room : n + node_words * bytes_left s st + 1 + variables ≤ length entry = ready.room in
         let small : length entry < 2 ^ 31 = ready.small in
-        let used : r.used ≡ (n + 1) + length (term_words t) = g.used_is in
-        let fits : length (term_words t) + node_words * bytes_left s r.state + 1 ≤ node_words * bytes_left s st + 1 = g.room in
-        (record { standing = g.standing; held = g.held; room = omega arith; small = omega arith }, (e, omega arith))
+        let used : r.used ≡ (n + 1) + length (term_words t) = first.2.used_is in
+        let fits : length (term_words t) + node_words * bytes_left s r.state + 1 ≤ node_words * bytes_left s st + 1 = first.2.room in
+        (record { standing = first.2.standing; held = first.2.held; room = omega arith; small = omega arith }, (e, omega arith))
 
     right-fault : (exit : List ℕ) (q : Refusal) (k b : ℕ) → Faulted (set mid n equation_kind) exit r.used q k b → Faulted entry exit n q k b
     right-fault exit q k b h =
-        let used : r.used ≡ (n + 1) + length (term_words t) = g.used_is in
-        let inn : n + 1 ≤ length entry = n-in in
-        record {
-          is = h.is;
-          kept = shorter n r.used (set mid n equation_kind) exit (omega arith) h.kept ∙ take-set-le n mid n equation_kind (omega arith) ∙ kept-before n (n + 1) (length (term_words t)) entry mid (term_words t) (omega arith) inn g.table_is;
-        }
+        let used : r.used ≡ (n + 1) + length (term_words t) = first.2.used_is in
+        record { is = h.is; kept = shorter n r.used (set mid n equation_kind) exit (omega arith) h.kept ∙ take-set-le n mid n equation_kind (omega arith) ∙ left-kept }
 
     right-words : (exit : List ℕ) (q : Parsed) (u : Term) (end : Cursor) → r.state.token.kind ≡ equals_kind → Given s (state_onward s r.state) (set mid n equation_kind) exit r.used q (term_words u) 1 end → GivenWith 0 s st entry exit n q (literal_words (equation t u)) (literal_length (equation t u)) end
     unfolding literal_words literal_length
     right-words exit q u end e h =
-        let m : PastToken s r.state (state_onward s r.state) = moved-onward s r.state g.standing in
-        let some : 0 < r.state.token.len = g.standing.some (equals-no_end e) in
-        let inside : r.state.token.at + r.state.token.len ≤ length s = g.standing.inside in
-        let used : r.used ≡ (n + 1) + length (term_words t) = g.used_is in
+        let m : PastToken s r.state (state_onward s r.state) = moved-onward s r.state first.2.standing in
+        let some : 0 < r.state.token.len = first.2.standing.some (equals-no_end e) in
+        let inside : r.state.token.at + r.state.token.len ≤ length s = first.2.standing.inside in
+        let used : r.used ≡ (n + 1) + length (term_words t) = first.2.used_is in
         let used' : q.used ≡ r.used + length (term_words u) = h.used_is in
-        let fits : length (term_words t) + node_words * bytes_left s r.state + 1 ≤ node_words * bytes_left s st + 1 = g.room in
+        let fits : length (term_words t) + node_words * bytes_left s r.state + 1 ≤ node_words * bytes_left s st + 1 = first.2.room in
         let fits' : length (term_words u) + node_words * bytes_left s q.state + 1 ≤ node_words * bytes_left s (state_onward s r.state) + 1 = h.room in
         let f : r.state.token.at + r.state.token.len ≤ (state_onward s r.state).token.at = m.forward in
         let both : length (term_words t ++ term_words u) ≡ length (term_words t) + length (term_words u) = length-append (term_words t) (term_words u) in
-        let bytes_left' : take (n + length (equation_kind ∷ term_words t)) (set mid n equation_kind) ≡ take n entry ++ (equation_kind ∷ term_words t) = front entry mid (set mid n equation_kind) (term_words t) n equation_kind n-in g.table_is refl in
+        let bytes_left' : take (n + length (equation_kind ∷ term_words t)) (set mid n equation_kind) ≡ take n entry ++ (equation_kind ∷ term_words t) = front entry mid (set mid n equation_kind) (term_words t) n equation_kind n-in first.2.table_is refl in
         let k : r.used ≡ n + length (equation_kind ∷ term_words t) = omega arith in
         let ends : take ((n + length (equation_kind ∷ term_words t)) + length (term_words u)) exit ≡ take (n + length (equation_kind ∷ term_words t)) (set mid n equation_kind) ++ term_words u = subst (λ (x : ℕ). take (x + length (term_words u)) exit ≡ take x (set mid n equation_kind) ++ term_words u) k h.table_is in
         record {
@@ -202,7 +220,7 @@ module _ (most : ℕ) (s : List ℕ) (st : State) (entry : List ℕ) (n : ℕ) (
           room = omega arith;
         }
 
-    right_by : (exit : List ℕ) (q : Result Parsed Refusal) (d : Read Term) → r.state.token.kind ≡ equals_kind → Gives term_form s (state_onward s r.state) (set mid n equation_kind) exit r.used q d → Gives literal_form s st entry exit n q (and_then d (λ u after. ok (equation t u) after))
+    right_by : (exit : List ℕ) (q : Result Parsed Refusal) (x : Read Term) → r.state.token.kind ≡ equals_kind → Gives term_form s (state_onward s r.state) (set mid n equation_kind) exit r.used q x → LiteralGives exit q (and_then x (λ u after. ok (equation t u) after))
     unfolding and_then
     right_by exit (Err q) (fault k b) e h = right-fault exit q k b h
     right_by exit (Err q) (ok u end) e h = h
@@ -213,122 +231,92 @@ module _ (most : ℕ) (s : List ℕ) (st : State) (entry : List ℕ) (n : ℕ) (
     behind-equals : cursor_of s (set mid n equation_kind) (state_onward s r.state) ≡ next s (cursor_of s mid r.state)
     behind-equals =
         let room : n + node_words * bytes_left s st + 1 + variables ≤ length entry = ready.room in
-        cursor-kept s mid (set mid n equation_kind) (state_onward s r.state) (met-kept mid n equation_kind (omega arith)) ∙ next_of mid (moved-onward s r.state g.standing)
+        cursor-kept s mid (set mid n equation_kind) (state_onward s r.state) (met-kept mid n equation_kind (omega arith)) ∙ next_of mid (moved-onward s r.state first.2.standing)
 
-    pub equation-given : (exit : List ℕ) (q : Result Parsed Refusal) → r.state.token.kind ≡ equals_kind → Gives term_form s (state_onward s r.state) (set mid n equation_kind) exit r.used q (read_term most s (cursor_of s (set mid n equation_kind) (state_onward s r.state))) → Gives literal_form s st entry exit n q (read_right most s t (cursor_of s mid r.state))
+    pub first-equation : (most : ℕ) (after : A → Cursor → Bool → Read Literal) → ((a : A) (end : Cursor) → after a end true ≡ read_right most s (term a) end) → (exit : List ℕ) (q : Result Parsed Refusal) → r.state.token.kind ≡ equals_kind
+        → Gives term_form s (state_onward s r.state) (set mid n equation_kind) exit r.used q (read_term most s (cursor_of s (set mid n equation_kind) (state_onward s r.state)))
+        → LiteralGives exit q (and_then d (λ a end. after a end (same_kind end.token.kind equals_kind)))
     unfolding read_right
-    equation-given exit q e h = right_by exit q (read_term most s (next s (cursor_of s mid r.state))) e (subst (λ (x : Cursor). Gives term_form s (state_onward s r.state) (set mid n equation_kind) exit r.used q (read_term most s x)) behind-equals h)
+    first-equation most after right exit q e h =
+        subst⁻¹ (LiteralGives exit q) (behind after true (eq-kind r.state.token.kind equals_kind e) ∙ right first.0 (cursor_of s mid r.state))
+        (right_by exit q (read_term most s (next s (cursor_of s mid r.state))) e (subst (λ (x : Cursor). Gives term_form s (state_onward s r.state) (set mid n equation_kind) exit r.used q (read_term most s x)) behind-equals h))
 
-    pub left-kept : take n mid ≡ take n entry
-    left-kept = kept-before n (n + 1) (length (term_words t)) entry mid (term_words t) (omega arith) n-in g.table_is
+  -- a term that is no atom
+  pub equation-wrong : (most : ℕ) (mid : List ℕ) (r : Parsed) → length mid ≡ length entry → Gives term_form s st entry mid (n + 1) (Ok r) (read_term most s (cursor_of s entry st)) → (q : Refusal) → (r.state.token.kind ≡ equals_kind → ⊥) → Refused r.state (wrong_number r.state.token.kind) q
+      → LiteralGives mid (Err q) (literal_with most s (cursor_of s entry st) false)
+  unfolding literal_with after_term
+  equation-wrong most mid r l g q ne f =
+      subst⁻¹ (LiteralGives mid (Err q)) (behind (λ (t : Term). t) (read_term most s (cursor_of s entry st)) mid r l g (after_term most s) false (ne_kind r.state.token.kind equals_kind ne))
+      (refused-wrong literal_form s st r.state entry mid n q (cursor_of s mid r.state) refl f (left-kept (λ (t : Term). t) (read_term most s (cursor_of s entry st)) mid r l g))
 
-  -- a fault of its first term
-  pub named-fault : (mid : List ℕ) (q : Refusal) → Gives atom_form s st entry mid (n + 1) (Err q) (read_atom most s (cursor_of s entry st)) → Gives literal_form s st entry mid n (Err q) (literal_with most s (cursor_of s entry st) true)
-  unfolding literal_with read_atom
-  named-fault mid q g = seq-fault atom_form literal_form s st st entry mid n (n + 1) q (read_atom most s (cursor_of s entry st)) (λ a after. after_atom most s a after (same_kind after.token.kind equals_kind)) (omega arith) g
+  -- an atom alone
+  module _ (most : ℕ) (mid : List ℕ) (r : Parsed) (l : length mid ≡ length entry) (g : Gives atom_form s st entry mid (n + 1) (Ok r) (read_atom most s (cursor_of s entry st))) where
+    abbrev atom : (a : Atom) × (read_atom most s (cursor_of s entry st) ≡ ok a (cursor_of s mid r.state)) × Given s st entry mid (n + 1) r (atom_words a) 1 (cursor_of s mid r.state)
+    atom = first term_of (read_atom most s (cursor_of s entry st)) mid r l g
 
-  pub equation-fault : (mid : List ℕ) (q : Refusal) → Gives term_form s st entry mid (n + 1) (Err q) (read_term most s (cursor_of s entry st)) → Gives literal_form s st entry mid n (Err q) (literal_with most s (cursor_of s entry st) false)
-  unfolding literal_with
-  equation-fault mid q g = seq-fault term_form literal_form s st st entry mid n (n + 1) q (read_term most s (cursor_of s entry st)) (λ t after. after_term most s t after (same_kind after.token.kind equals_kind)) (omega arith) g
+    atom-used : r.used ≡ (n + 1) + length (atom_words atom.0)
+    atom-used = atom.2.used_is
 
-  -- the literal by what stands behind its first term
-  module _ (mid : List ℕ) (r : Parsed) (l : length mid ≡ length entry) where
-    module _ (g : Gives atom_form s st entry mid (n + 1) (Ok r) (read_atom most s (cursor_of s entry st))) where
-      atom-read : (a : Atom) × (read_atom most s (cursor_of s entry st) ≡ ok a (cursor_of s mid r.state)) × Given s st entry mid (n + 1) r (atom_words a) 1 (cursor_of s mid r.state)
-      atom-read = seq-ok atom_form s st entry mid (n + 1) r (read_atom most s (cursor_of s entry st)) g
+    pub alone-asked : (n + 1 ≤ r.used) × (n + 1 ≤ length mid)
+    alone-asked = (omega (arith, atom-used), omega (arith, n-in))
 
-      named_by : (b : Bool) → same_kind r.state.token.kind equals_kind ≡ b → literal_with most s (cursor_of s entry st) true ≡ after_atom most s atom-read.0 (cursor_of s mid r.state) b
-      unfolding literal_with read_atom and_then
-      named_by b e = ap (λ (d : Read Atom). and_then d (λ a after. after_atom most s a after (same_kind after.token.kind equals_kind))) atom-read.1 ∙ ap (after_atom most s atom-read.0 (cursor_of s mid r.state)) e
+    -- the number that is stored is the atom's
+    size_is : r.used - (n + 1) ≡ node_words + length (terms_words atom.0.args)
+    size_is = omega (arith, atom-used, atom-length atom.0)
 
-      pub named-ready : r.state.token.kind ≡ equals_kind → RoomToRead s r.state mid r.used 0 × ((r.state.token.kind ≡ equals_kind) × (n < r.used))
-      named-ready e = right-ready mid r (term_of atom-read.0) atom-read.2 l e
+    number_is : alone_number s st r n ≡ atom_number (eqb (arity atom.0.args) 0) atom.0.name
+    number_is = ap₂ (λ (b : Bool) (x : List ℕ). atom_number b x) (ap (λ (k : ℕ). eqb k node_words) size_is ∙ bare-test atom.0.args) (sym (atom-named most s (cursor_of s entry st) (cursor_of s mid r.state) atom.0 atom.1))
 
-      pub named-equation : (exit : List ℕ) (q : Result Parsed Refusal) → r.state.token.kind ≡ equals_kind → Gives term_form s (state_onward s r.state) (set mid n equation_kind) exit r.used q (read_term most s (cursor_of s (set mid n equation_kind) (state_onward s r.state))) → Gives literal_form s st entry exit n q (literal_with most s (cursor_of s entry st) true)
-      unfolding after_atom
-      named-equation exit q e h = subst⁻¹ (Gives literal_form s st entry exit n q) (named_by true (eq-kind r.state.token.kind equals_kind e)) (equation-given mid r (term_of atom-read.0) atom-read.2 l exit q e h)
+    module _ (exit : List ℕ) (q : Parsed) (ne : r.state.token.kind ≡ equals_kind → ⊥) (w : Alone s st r mid exit n q) where
+      same : met exit ≡ met mid
+      same =
+          let room : n + node_words * bytes_left s st + 1 + variables ≤ length entry = ready.room in
+          ap met w.stored ∙ met-kept mid n (alone_number s st r n) (omega arith)
 
-      -- the number that was stored is the atom's
-      size_is : r.used - (n + 1) ≡ node_words + length (terms_words atom-read.0.args)
-      size_is = let used : r.used ≡ (n + 1) + length (atom_words atom-read.0) = atom-read.2.used_is in let k : length (atom_words atom-read.0) ≡ node_words + length (terms_words atom-read.0.args) = atom-length atom-read.0 in omega arith
+      alone-gives : (used : ℕ) (words : List ℕ) → literal_words (literal_of atom.0) ≡ words → used ≡ n + length words → length words ≤ length (atom_words atom.0) + 1 → take (n + length words) exit ≡ take n entry ++ words
+          → LiteralGives exit (Ok (record { used = used; items = 1; state = r.state })) (literal_with most s (cursor_of s entry st) true)
+      unfolding literal_with after_atom
+      alone-gives used words words_are long few table_is =
+          let fits : length (atom_words atom.0) + node_words * bytes_left s r.state + 1 ≤ node_words * bytes_left s st + 1 = atom.2.room in
+          let result : GivenWith 0 s st entry exit n (record { used = used; items = 1; state = r.state }) words 1 (cursor_of s mid r.state) = record {
+            state_is = cursor-kept s mid exit r.state same;
+            items_is = refl;
+            used_is = long;
+            table_is = table_is;
+            standing = atom.2.standing;
+            held = held_kept same atom.2.held;
+            room = omega arith;
+          } in
+          subst⁻¹ (LiteralGives exit (Ok (record { used = used; items = 1; state = r.state }))) (behind term_of (read_atom most s (cursor_of s entry st)) mid r l g (after_atom most s) false (ne_kind r.state.token.kind equals_kind ne))
+          (subst⁻¹ (λ (x : List ℕ). GivenWith 0 s st entry exit n (record { used = used; items = 1; state = r.state }) x (literal_length (literal_of atom.0)) (cursor_of s mid r.state)) words_are
+          (subst⁻¹ (λ (i : ℕ). GivenWith 0 s st entry exit n (record { used = used; items = 1; state = r.state }) words i (cursor_of s mid r.state)) (alone-length atom.0) result))
 
-      number_is : atom_number (eqb (r.used - (n + 1)) node_words) (spelling s st.token.at st.token.len) ≡ atom_number (eqb (arity atom-read.0.args) 0) atom-read.0.name
-      number_is = ap₂ (λ (b : Bool) (x : List ℕ). atom_number b x) (ap (λ (k : ℕ). eqb k node_words) size_is ∙ bare-test atom-read.0.args) (sym (atom-named most s (cursor_of s entry st) (cursor_of s mid r.state) atom-read.0 atom-read.1))
+      alone-by : (b : Bool) → eqb (alone_number s st r n) 2 ≡ b → LiteralGives exit (Ok (record { used = cond b r.used (n + 1); items = 1; state = r.state })) (literal_with most s (cursor_of s entry st) true)
+      unfolding literal_words
+      alone-by true e =
+          let two : alone_number s st r n ≡ 2 = eqb-true (alone_number s st r n) 2 e in
+          alone-gives r.used (2 ∷ atom_words atom.0) (ap literal_words (call_by atom.0 (sym number_is ∙ two))) (omega (arith, atom-used)) (omega arith) (front entry mid exit (atom_words atom.0) n 2 n-in atom.2.table_is (w.stored ∙ ap (set mid n) two))
+      alone-by false e =
+          alone-gives (n + 1) (alone_number s st r n ∷ []) (other-by atom.0 (alone_number s st r n) number_is (eqb-false (alone_number s st r n) 2 e)) refl (omega arith)
+          (ap (take (n + 1)) w.stored
+          ∙ ap (λ (j : ℕ). take j (set mid n (alone_number s st r n))) (add-one n)
+          ∙ take-suc-set mid n (alone_number s st r n) (omega (arith, n-in))
+          ∙ ap (λ (x : List ℕ). x ++ (alone_number s st r n ∷ [])) (left-kept term_of (read_atom most s (cursor_of s entry st)) mid r l g))
 
-      module _ (number : ℕ) (en : number ≡ atom_number (eqb (r.used - (n + 1)) node_words) (spelling s st.token.at st.token.len)) (exit : List ℕ) (ex : exit ≡ set mid n number) (ne : r.state.token.kind ≡ equals_kind → ⊥) where
-        same : met exit ≡ met mid
-        same =
-            let room : n + node_words * bytes_left s st + 1 + variables ≤ length entry = ready.room in
-            ap met ex ∙ met-kept mid n number (omega arith)
-
-        pub named-call : number ≡ 2 → Gives literal_form s st entry exit n (Ok (record { used = r.used; items = 1; state = r.state })) (literal_with most s (cursor_of s entry st) true)
-        unfolding after_atom literal_of literal_words literal_length
-        named-call two =
-            let a : Atom = atom-read.0 in
-            let is_call : literal_of atom-read.0 ≡ call atom-read.0 = call_by atom-read.0 (sym number_is ∙ sym en ∙ two) in
-            let used : r.used ≡ (n + 1) + length (atom_words atom-read.0) = atom-read.2.used_is in
-            let fits : length (atom_words atom-read.0) + node_words * bytes_left s r.state + 1 ≤ node_words * bytes_left s st + 1 = atom-read.2.room in
-            let result : GivenWith 0 s st entry exit n (record { used = r.used; items = 1; state = r.state }) (2 ∷ atom_words atom-read.0) 1 (cursor_of s mid r.state) = record {
-              state_is = cursor-kept s mid exit r.state same;
-              items_is = refl;
-              used_is = omega arith;
-              table_is = front entry mid exit (atom_words atom-read.0) n 2 n-in atom-read.2.table_is (ex ∙ ap (set mid n) two);
-              standing = atom-read.2.standing;
-              held = held_kept same atom-read.2.held;
-              room = omega arith;
-            } in
-            subst⁻¹ (Gives literal_form s st entry exit n (Ok (record { used = r.used; items = 1; state = r.state }))) (named_by false (ne_kind r.state.token.kind equals_kind ne))
-            (subst⁻¹ (λ (x : Literal). GivenWith 0 s st entry exit n (record { used = r.used; items = 1; state = r.state }) (literal_words x) (literal_length x) (cursor_of s mid r.state)) is_call result)
-
-        pub named_other : (number ≡ 2 → ⊥) → Gives literal_form s st entry exit n (Ok (record { used = n + 1; items = 1; state = r.state })) (literal_with most s (cursor_of s entry st) true)
-        unfolding after_atom
-        named_other two =
-            let words : literal_words (literal_of atom-read.0) ≡ number ∷ [] = other-by atom-read.0 number (en ∙ number_is) two in
-            let inn : n + 1 ≤ length entry = n-in in
-            let fits : length (atom_words atom-read.0) + node_words * bytes_left s r.state + 1 ≤ node_words * bytes_left s st + 1 = atom-read.2.room in
-            let result : GivenWith 0 s st entry exit n (record { used = n + 1; items = 1; state = r.state }) (number ∷ []) 1 (cursor_of s mid r.state) = record {
-              state_is = cursor-kept s mid exit r.state same;
-              items_is = refl;
-              used_is = refl;
-              table_is = ap (take (n + 1)) ex ∙ ap (λ (j : ℕ). take j (set mid n number)) (add-one n) ∙ take-suc-set mid n number (omega arith) ∙ ap (λ (x : List ℕ). x ++ (number ∷ [])) (left-kept mid r (term_of atom-read.0) atom-read.2 l);
-              standing = atom-read.2.standing;
-              held = held_kept same atom-read.2.held;
-              room = omega arith;
-            } in
-            subst⁻¹ (Gives literal_form s st entry exit n (Ok (record { used = n + 1; items = 1; state = r.state }))) (named_by false (ne_kind r.state.token.kind equals_kind ne))
-            (subst⁻¹ (λ (w : List ℕ). GivenWith 0 s st entry exit n (record { used = n + 1; items = 1; state = r.state }) w (literal_length (literal_of atom-read.0)) (cursor_of s mid r.state)) words
-            (subst⁻¹ (λ (i : ℕ). GivenWith 0 s st entry exit n (record { used = n + 1; items = 1; state = r.state }) (number ∷ []) i (cursor_of s mid r.state)) (alone-length atom-read.0) result))
-
-    -- ---- a literal that begins with something else
-    module _ (g : Gives term_form s st entry mid (n + 1) (Ok r) (read_term most s (cursor_of s entry st))) where
-      term-read : (t : Term) × (read_term most s (cursor_of s entry st) ≡ ok t (cursor_of s mid r.state)) × Given s st entry mid (n + 1) r (term_words t) 1 (cursor_of s mid r.state)
-      term-read = seq-ok term_form s st entry mid (n + 1) r (read_term most s (cursor_of s entry st)) g
-
-      unnamed-by : (b : Bool) → same_kind r.state.token.kind equals_kind ≡ b → literal_with most s (cursor_of s entry st) false ≡ after_term most s term-read.0 (cursor_of s mid r.state) b
-      unfolding literal_with and_then
-      unnamed-by b e = ap (λ (d : Read Term). and_then d (λ t after. after_term most s t after (same_kind after.token.kind equals_kind))) term-read.1 ∙ ap (after_term most s term-read.0 (cursor_of s mid r.state)) e
-
-      pub equation-ready : r.state.token.kind ≡ equals_kind → RoomToRead s r.state mid r.used 0 × ((r.state.token.kind ≡ equals_kind) × (n < r.used))
-      equation-ready e = right-ready mid r term-read.0 term-read.2 l e
-
-      pub equation-read : (exit : List ℕ) (q : Result Parsed Refusal) → r.state.token.kind ≡ equals_kind → Gives term_form s (state_onward s r.state) (set mid n equation_kind) exit r.used q (read_term most s (cursor_of s (set mid n equation_kind) (state_onward s r.state))) → Gives literal_form s st entry exit n q (literal_with most s (cursor_of s entry st) false)
-      unfolding after_term
-      equation-read exit q e h = subst⁻¹ (Gives literal_form s st entry exit n q) (unnamed-by true (eq-kind r.state.token.kind equals_kind e)) (equation-given mid r term-read.0 term-read.2 l exit q e h)
-
-      pub equation-wrong : (q : Refusal) → (r.state.token.kind ≡ equals_kind → ⊥) → Refused r.state (wrong_number r.state.token.kind) q → Gives literal_form s st entry mid n (Err q) (literal_with most s (cursor_of s entry st) false)
-      unfolding after_term
-      equation-wrong q ne f = subst⁻¹ (Gives literal_form s st entry mid n (Err q)) (unnamed-by false (ne_kind r.state.token.kind equals_kind ne)) (refused-wrong literal_form s st r.state entry mid n q (cursor_of s mid r.state) refl f (left-kept mid r term-read.0 term-read.2 l))
+      pub named-alone : LiteralGives exit (Ok q) (literal_with most s (cursor_of s entry st) true)
+      named-alone = subst⁻¹ (λ (x : Parsed). LiteralGives exit (Ok x) (literal_with most s (cursor_of s entry st) true)) w.is (alone-by (eqb (alone_number s st r n) 2) refl)
 
 -- ---- by what begins it
 
 module _ (most : ℕ) (s : List ℕ) (st : State) (entry exit : List ℕ) (n : ℕ) (r : Result Parsed Refusal) where
-  pub one-named : st.token.kind ≡ name_kind → Gives literal_form s st entry exit n r (literal_with most s (cursor_of s entry st) true)
-      → Gives literal_form s st entry exit n r (literal_with most s (cursor_of s entry st) (same_kind st.token.kind name_kind))
-  one-named e g = subst⁻¹ (λ (b : Bool). Gives literal_form s st entry exit n r (literal_with most s (cursor_of s entry st) b)) (eq-kind st.token.kind name_kind e) g
+  abbrev Begun : Bool → Type 0
+  Begun named = Gives literal_form s st entry exit n r (literal_with most s (cursor_of s entry st) named)
 
-  pub one-other : (st.token.kind ≡ name_kind → ⊥) → Gives literal_form s st entry exit n r (literal_with most s (cursor_of s entry st) false)
-      → Gives literal_form s st entry exit n r (literal_with most s (cursor_of s entry st) (same_kind st.token.kind name_kind))
-  one-other e g = subst⁻¹ (λ (b : Bool). Gives literal_form s st entry exit n r (literal_with most s (cursor_of s entry st) b)) (ne_kind st.token.kind name_kind e) g
+  pub one-named : st.token.kind ≡ name_kind → Begun true → Begun (same_kind st.token.kind name_kind)
+  one-named e g = subst⁻¹ Begun (eq-kind st.token.kind name_kind e) g
+
+  pub one-other : (st.token.kind ≡ name_kind → ⊥) → Begun false → Begun (same_kind st.token.kind name_kind)
+  one-other e g = subst⁻¹ Begun (ne_kind st.token.kind name_kind e) g
 
 -- ---- an atom alone, stored
 
@@ -352,21 +340,6 @@ module _ (s : List ℕ) (st : State) (r : Parsed) (entry exit : List ℕ) (n num
     is = ap (λ (b : Bool). record { used = cond b r.used (n + 1); items = 1; state = r.state }) (sym (ne_eqb (alone_number s st r n) 2 (λ q. e (en ∙ q))));
     stored = ex ∙ ap (set entry n) en;
   }
-
-module _ (most : ℕ) (s : List ℕ) (st : State) (entry : List ℕ) (n : ℕ) (ready : RoomToRead s st entry n 1) (mid : List ℕ) (r : Parsed) (l : length mid ≡ length entry) (g : Gives atom_form s st entry mid (n + 1) (Ok r) (read_atom most s (cursor_of s entry st))) where
-  pub alone-asked : (n + 1 ≤ r.used) × (n + 1 ≤ length mid)
-  alone-asked =
-      let o : (a : Atom) × (read_atom most s (cursor_of s entry st) ≡ ok a (cursor_of s mid r.state)) × Given s st entry mid (n + 1) r (atom_words a) 1 (cursor_of s mid r.state) = seq-ok atom_form s st entry mid (n + 1) r (read_atom most s (cursor_of s entry st)) g in
-      let used : r.used ≡ (n + 1) + length (atom_words o.0) = o.2.used_is in
-      let room : n + node_words * bytes_left s st + 1 + variables ≤ length entry = ready.room in
-      (omega arith, omega arith)
-
-  alone-by : (exit : List ℕ) (q : Parsed) (b : Bool) → eqb (alone_number s st r n) 2 ≡ b → (r.state.token.kind ≡ equals_kind → ⊥) → exit ≡ set mid n (alone_number s st r n) → Gives literal_form s st entry exit n (Ok (record { used = cond b r.used (n + 1); items = 1; state = r.state })) (literal_with most s (cursor_of s entry st) true)
-  alone-by exit q true e ne ex = named-call most s st entry n ready mid r l g (alone_number s st r n) refl exit ex ne (eqb-true (alone_number s st r n) 2 e)
-  alone-by exit q false e ne ex = named_other most s st entry n ready mid r l g (alone_number s st r n) refl exit ex ne (eqb-false (alone_number s st r n) 2 e)
-
-  pub named-alone : (exit : List ℕ) (q : Parsed) → (r.state.token.kind ≡ equals_kind → ⊥) → Alone s st r mid exit n q → Gives literal_form s st entry exit n (Ok q) (literal_with most s (cursor_of s entry st) true)
-  named-alone exit q ne a = subst⁻¹ (λ (x : Parsed). Gives literal_form s st entry exit n (Ok x) (literal_with most s (cursor_of s entry st) true)) a.is (alone-by exit q (eqb (alone_number s st r n) 2) refl ne a.stored)
 
 pub number-asked : (b : Bool) (name : List ℕ) (k : ℕ) → k ≡ atom_number b name → k < 2 ^ 32
 number-asked b name k e = subst⁻¹ (λ (x : ℕ). x < 2 ^ 32) e (number_small b name)

@@ -61,8 +61,15 @@ module _ (s : List ℕ) (st : State) (entry exit : List ℕ) (n : ℕ) where
   unfolding clause_next
   clause-one r cs m e g = subst⁻¹ (λ (b : Bool). Gives clause_form s st entry exit n r (elim b as (λ _. Read Clause) [ true ↦ beyond (begin st.token) | false ↦ read_clause s (begin st.token) ])) (ne_eqb (clauses - cs) 0 (λ z. e (omega arith))) g
 
-below : {a most : ℕ} → (most - a ≡ 0 → ⊥) → a ≤ most → a < most
-below {a = a} {most = most} n m = omega (arith, n)
+-- where one more was read, one was left
+module _ {A : Type 0} {x : A} {end : Cursor} where
+  fault-ok : {k b : ℕ} → ◌≡◌ {A = Read A} (fault k b) (ok x end) → ⊥
+  fault-ok p = subst (λ (d : Read A). elim d as (λ _. Type 0) [ fault k b ↦ Unit {0} | ok y after ↦ ⊥ ]) p tt
+
+  one-left : {n most : ℕ} (st : Cursor) (r : Read A) (b : Bool) → eqb (most - n) 0 ≡ b → elim b as (λ _. Read A) [ true ↦ beyond st | false ↦ r ] ≡ ok x end → n ≤ most → n < most
+  unfolding beyond
+  one-left st r true e p m = absurd (fault-ok p)
+  one-left {n} {most} st r false e p m = omega (arith, eqb-false (most - n) 0 e)
 
 -- ---- items
 
@@ -209,16 +216,9 @@ module _ (s declared table : List ℕ) (ds cs used : ℕ) (st : State) (l : Load
       one-read : (d : Declaration) × (declaration_next s (declarations - ds) (begin st.token) ≡ ok d (begin r.state.token)) × DeclarationGiven s st declared declared2 (declaration_size * ds) r d (begin r.state.token)
       one-read = one-by (declaration_next s (declarations - ds) (begin st.token)) g
 
-      fault-ok : (k b : ℕ) (d : Declaration) (x : Cursor) → ◌≡◌ {A = Read Declaration} (fault k b) (ok d x) → ⊥
-      fault-ok k b d x p = subst (λ (y : Read Declaration). elim y as (λ _. Type 0) [ fault k b ↦ Unit {0} | ok d x ↦ ⊥ ]) p tt
-
       some_left : ds < declarations
-      unfolding declaration_next beyond
-      some_left = by (eqb (declarations - ds) 0) refl
-        where
-          by : (b : Bool) → eqb (declarations - ds) 0 ≡ b → ds < declarations
-          by true q = absurd (fault-ok 6 st.token.at one-read.0 (begin r.state.token) (sym (ap (λ (b : Bool). elim b as (λ _. Read Declaration) [ true ↦ beyond (begin st.token) | false ↦ read_declaration s (begin st.token) ]) q) ∙ one-read.1))
-          by false q = let n : declarations - ds ≡ 0 → ⊥ = eqb-false (declarations - ds) 0 q in let m : ds ≤ declarations = l.ds_most in below n m
+      unfolding declaration_next
+      some_left = one-left _ _ (eqb (declarations - ds) 0) refl one-read.1 l.ds_most
 
       pub declaration-less : bytes_left s r.state < bytes_left s st
       declaration-less = one-read.2.less
@@ -276,16 +276,9 @@ module _ (s declared table : List ℕ) (ds cs used : ℕ) (st : State) (l : Load
       clause-read : (x : Clause) × (clause_next s (clauses - cs) (begin st.token) ≡ ok x (cursor_of s table2 r.state)) × Given s st table table2 used r (clause_words x) 1 (cursor_of s table2 r.state)
       clause-read = seq-ok clause_form s st table table2 used r (clause_next s (clauses - cs) (begin st.token)) g
 
-      no-clause : (k b : ℕ) (x : Clause) (y : Cursor) → ◌≡◌ {A = Read Clause} (fault k b) (ok x y) → ⊥
-      no-clause k b x y p = subst (λ (d : Read Clause). elim d as (λ _. Type 0) [ fault k b ↦ Unit {0} | ok x y ↦ ⊥ ]) p tt
-
       clause-left : cs < clauses
-      unfolding clause_next beyond
-      clause-left = by (eqb (clauses - cs) 0) refl
-        where
-          by : (b : Bool) → eqb (clauses - cs) 0 ≡ b → cs < clauses
-          by true q = absurd (no-clause 6 st.token.at clause-read.0 (cursor_of s table2 r.state) (sym (ap (λ (b : Bool). elim b as (λ _. Read Clause) [ true ↦ beyond (begin st.token) | false ↦ read_clause s (begin st.token) ]) q) ∙ clause-read.1))
-          by false q = let n : clauses - cs ≡ 0 → ⊥ = eqb-false (clauses - cs) 0 q in let m : cs ≤ clauses = l.cs_most in below n m
+      unfolding clause_next
+      clause-left = one-left _ _ (eqb (clauses - cs) 0) refl clause-read.1 l.cs_most
 
       pub clause-less : bytes_left s r.state < bytes_left s st
       unfolding clause_words

@@ -1,17 +1,19 @@
 -- What a step is given and what it promises.
-use Rattle.std.specs.Prelude.{ℕ, ◌≤◌, ◌≡◌, false, List, length, get_or}
+use Rattle.std.specs.Prelude.{ℕ, ◌-◌, ◌≤◌, ◌≡◌, false, List, length, get_or}
 use Rattle.syntax.specs.Terms.{Sheet, Goal}
 use Rattle.machine.specs.Machine.{step, start}
 use Rattle.machine.specs.Low.{Low}
 use Rattle.machine.specs.Runs.{goes_deeper}
 use Rattle.run_layout.specs.Regions.{state_words}
 use Rattle.run_layout.specs.Nodes.{Symbol}
-use Rattle.run_layout.specs.Program.{Program}
-use Rattle.run_layout.specs.Pile.{pile_of, Piled}
+use Rattle.run_layout.specs.Program.{Program, record_kind}
+use Rattle.run_layout.specs.Pile.{literal_at, mark_at, pile_of, Piled}
 use Rattle.unify_bindings.specs.Queues.{Clean}
 use Rattle.unify_bindings.specs.Scratch.{Roomy}
+use Rattle.run_alternatives.specs.Words.{top_at}
 use Rattle.run_alternatives.specs.Meanings.{Meaning, pile_in, PiledIn}
 use Rattle.run_alternatives.specs.declared.Pile.{Pile}
+use Rattle.run_alternatives.specs.declared.records.Top.{Top}
 
 -- some loaded program and words that mean a pile of it, which is low
 pub record Running (nodes code state : List ℕ) (h n : ℕ) : Type 0 where
@@ -33,6 +35,12 @@ pub record Steppable (nodes code state scratch : List ℕ) (h n : ℕ) : Type 0 
   pub roomy : Roomy scratch
   pub clean : Clean scratch
 
+-- The trail is as long as the top's; the top is s, and stands at a literal of that kind.
+pub record AtTop (kind : ℕ) (nodes code state scratch : List ℕ) (h : ℕ) (s : Top) : Type 0 where
+  pub steppable : Steppable nodes code state scratch h (mark_at state (h - 1))
+  pub top_is : s ≡ top_at state (h - 1)
+  pub kind_is : record_kind code (literal_at state (h - 1)) ≡ kind
+
 -- The pile that the words mean after a step is the definition's step of the pile that they meant before.
 pub record Stepped (m : Meaning) (before after scratch later : List ℕ) (h : ℕ) (r : Pile) : Type 0 where
   pub is : pile_in m after r.height ≡ step m.sh (pile_in m before h)
@@ -40,6 +48,11 @@ pub record Stepped (m : Meaning) (before after scratch later : List ℕ) (h : �
   pub state_long : length after ≡ length before
   pub clean : Clean later
   pub scratch_long : length later ≡ length scratch
+
+-- what a step promises where the trail is as long as the top's
+abbrev pub TopStepped : (nodes code before after scratch later : List ℕ) (h : ℕ) (r : Pile) → Type 0
+TopStepped nodes code before after scratch later h r =
+    (w : Steppable nodes code before scratch h (mark_at before (h - 1))) → Stepped (meaning w.running) before after scratch later h r
 
 -- a loaded program, and a state of zeros
 pub record Startable (nodes code state : List ℕ) : Type 0 where

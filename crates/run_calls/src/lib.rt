@@ -2,12 +2,8 @@
 
 #![tactic(auto)]
 
-ghost use Rattle.std.specs.Prelude.{◌≡◌, ◌-◌};
 ghost use Rattle.syntax.specs.Words.{call_kind};
-ghost use Rattle.run_layout.specs.Program.{record_kind};
-ghost use Rattle.run_layout.specs.Pile.{literal_at, mark_at};
-ghost use Rattle.run_alternatives.specs.Words.{top_at};
-ghost use Rattle.run_alternatives.specs.Steps.{Steppable, Stepped, meaning};
+ghost use Rattle.run_alternatives.specs.Steps.{AtTop, TopStepped};
 
 use run_alternatives::records::{Top, put_next};
 use run_alternatives::trying::try_clause;
@@ -23,11 +19,8 @@ pub fn work_call(
     h: usize,
     s: Top,
 ) -> Pile
-    requires steppable { Steppable program.nodes.now program.code.now state.old scratch.old h (mark_at state.old (h - 1)) }
-    requires s_value { s ≡ top_at state.old (h - 1) }
-    requires h_value { record_kind program.code.now (literal_at state.old (h - 1)) ≡ call_kind }
-    ensures { (w : Steppable program.entry.nodes.now program.entry.code.now state.old scratch.old h (mark_at state.old (h - 1)))
-        → Stepped (meaning w.running) state.old state.new scratch.old scratch.new h result }
+    requires { AtTop call_kind program.nodes.now program.code.now state.old scratch.old h s }
+    ensures { TopStepped program.entry.nodes.now program.entry.code.now state.old state.new scratch.old scratch.new h result }
 {
     let j = h - 1;
     // 0 says that there is none, in the pile's word as in the code's, of which it is a copy.

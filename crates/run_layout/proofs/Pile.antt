@@ -769,8 +769,8 @@ module _ (ss : List Symbol) (sh : Sheet) (g : Goal) (nodes code before after : L
           store = below.piled.store;
           long = below.piled.long;
           each = λ j q. each_at j q (eqb j h) refl;
-          longer = λ i j q r. longer-at i j q r (eqb j h) refl;
-          later = λ i j q r. later-at i j q r (eqb j h) refl;
+          longer = λ i j q r. rises (path_at after) (λ k l. omega (arith, w.path, same-path_at before after h longest_path n same-below k l, paths k l)) below.piled.longer i j q r (eqb j h) refl;
+          later = λ i j q r. rises (mark_at after) (λ k l. omega (arith, w.mark, same-mark_at before after h longest_path n same-below k l, marks k l)) below.piled.later i j q r (eqb j h) refl;
         };
         is = λ i. top-is i ∷ below.is i;
       }
@@ -782,25 +782,9 @@ module _ (ss : List Symbol) (sh : Sheet) (g : Goal) (nodes code before after : L
       each_at j q true e = subst⁻¹ (Stacked sh g code after n) (eqb-true j h e) top-stacked
       each_at j q false e = below.piled.each j (under j q e)
 
-      longer-at : (i j : ℕ) → i < j → j < suc h → (b : Bool) → eqb j h ≡ b → path_at after i ≤ path_at after j
-      longer-at i j q r true e =
-          let ej : j ≡ h = eqb-true j h e in
-          let a : path_at after j ≡ p = ap (path_at after) ej ∙ w.path in
-          let b : path_at after i ≡ path_at before i = same-path_at before after h longest_path n same-below i (omega arith) in
-          let d : path_at before i ≤ p = paths i (omega arith) in
-          let y : path_at after i ≤ path_at after j = omega arith in
-          y
-      longer-at i j q r false e = below.piled.longer i j q (under j r e)
-
-      later-at : (i j : ℕ) → i < j → j < suc h → (b : Bool) → eqb j h ≡ b → mark_at after i ≤ mark_at after j
-      later-at i j q r true e =
-          let ej : j ≡ h = eqb-true j h e in
-          let a : mark_at after j ≡ m = ap (mark_at after) ej ∙ w.mark in
-          let b : mark_at after i ≡ mark_at before i = same-mark_at before after h longest_path n same-below i (omega arith) in
-          let d : mark_at before i ≤ m = marks i (omega arith) in
-          let y : mark_at after i ≤ mark_at after j = omega arith in
-          y
-      later-at i j q r false e = below.piled.later i j q (under j r e)
+      rises : (f : ℕ → ℕ) → ((i : ℕ) → i < h → f i ≤ f h) → ((i j : ℕ) → i < j → j < h → f i ≤ f j) → (i j : ℕ) → i < j → j < suc h → (b : Bool) → eqb j h ≡ b → f i ≤ f j
+      rises f top rest i j q r true e = let ej : j ≡ h = eqb-true j h e in subst⁻¹ (λ (y : ℕ). f i ≤ f y) ej (top i (omega arith))
+      rises f top rest i j q r false e = rest i j q (under j r e)
 
 -- the frames of the top's path, and its copy, where every word behind the trail is as it was
 module _ (ss : List Symbol) (sh : Sheet) (g : Goal) (nodes code state after : List ℕ) (h n m : ℕ) (piled : Piled ss sh g nodes code state (suc h) n) (keeps : Keeps m state after) where

@@ -1,10 +1,8 @@
 // What comes of the top alternative, by the literal it stands at. The trail is as long as the top's.
-ghost use Rattle.std.specs.Prelude.{◌≡◌, ◌-◌};
+ghost use Rattle.std.specs.Prelude.{◌-◌};
 ghost use Rattle.syntax.specs.Words.{equation_kind};
-ghost use Rattle.run_layout.specs.Program.{record_kind};
-ghost use Rattle.run_layout.specs.Pile.{literal_at, mark_at};
-ghost use Rattle.run_alternatives.specs.Words.{top_at};
-ghost use Rattle.run_alternatives.specs.Steps.{Steppable, Stepped, meaning};
+ghost use Rattle.run_layout.specs.Pile.{mark_at};
+ghost use Rattle.run_alternatives.specs.Steps.{Steppable, AtTop, TopStepped};
 
 use link_records::next_literal;
 use run_alternatives::laying::lay;
@@ -26,11 +24,8 @@ fn work_equation(
     h: usize,
     s: Top,
 ) -> Pile
-    requires steppable { Steppable program.nodes.now program.code.now state.old scratch.old h (mark_at state.old (h - 1)) }
-    requires s_value { s ≡ top_at state.old (h - 1) }
-    requires h_value { record_kind program.code.now (literal_at state.old (h - 1)) ≡ equation_kind }
-    ensures { (w : Steppable program.entry.nodes.now program.entry.code.now state.old scratch.old h (mark_at state.old (h - 1)))
-        → Stepped (meaning w.running) state.old state.new scratch.old scratch.new h result }
+    requires { AtTop equation_kind program.nodes.now program.code.now state.old scratch.old h s }
+    ensures { TopStepped program.entry.nodes.now program.entry.code.now state.old state.new scratch.old scratch.new h result }
 {
     let j = h - 1;
     let c = s.copy;
@@ -60,8 +55,7 @@ fn work_equation(
 // By the literal: `fail` and a goal's end leave the pile below. The kinds are words of the code, so they are compared as numbers.
 pub fn work(program: Compiled, state: &mut [u32], scratch: &mut [u32], h: usize) -> Pile
     requires { Steppable program.nodes.now program.code.now state.old scratch.old h (mark_at state.old (h - 1)) }
-    ensures { (w : Steppable program.entry.nodes.now program.entry.code.now state.old scratch.old h (mark_at state.old (h - 1)))
-        → Stepped (meaning w.running) state.old state.new scratch.old scratch.new h result }
+    ensures { TopStepped program.entry.nodes.now program.entry.code.now state.old state.new scratch.old scratch.new h result }
 {
     let j = h - 1;
     let s = top_at(state, j);

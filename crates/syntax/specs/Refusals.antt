@@ -1,4 +1,4 @@
--- The numbers of the refusals (RULES, "The ten numbers"; REQUESTS (ii): "refusals 9 and 10 carry it in their byte place"; (x): "the byte
+-- The numbers of the refusals (RULES, "The ten numbers, and four more"; REQUESTS (ii): "refusals 9 and 10 carry it in their byte place"; (x): "the byte
 -- being the first such name", "New numbers: 16"; (ix): "New numbers: 13, an unknown kind or band, a body cut short (byte: the first such record's start), or
 -- a non-zero byte after filler begins (that byte); 14, more than 192 kind 1 records or 16,384 bytes; 15, a kind 1 record with `seen` of three arguments
 -- undeclared (byte 0 for 14 and 15)").

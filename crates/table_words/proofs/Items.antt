@@ -106,31 +106,21 @@ item_room table p behind h = h.0
 -- ---- the place past an item, one law for each way out
 
 module _ (table : List ℕ) (p word : ℕ) (e : word ≡ get_or table p 0) where
-  none-by : {x : Item} → word < call_kind → View table p x → length (item_words x) ≡ 1
+  one-word : {x : Item} → (word ≡ call_kind → ⊥) → (word ≡ equation_kind → ⊥) → View table p x → p + 1 ≡ p + length (item_words x)
   unfolding item_words
-  none-by k (view_truth q) = refl
-  none-by k (view_falsity q) = refl
-  none-by k (view_call q h) = absurd (omega arith)
-  none-by k (view_equation q h r) = absurd (omega arith)
-  none-by k (view_left q) = refl
-  none-by k (view_right q) = refl
-  none-by k (view_behind q) = refl
+  one-word k m (view_truth q) = refl
+  one-word k m (view_falsity q) = refl
+  one-word k m (view_call q h) = absurd (k (e ∙ q))
+  one-word k m (view_equation q h r) = absurd (m (e ∙ q))
+  one-word k m (view_left q) = refl
+  one-word k m (view_right q) = refl
+  one-word k m (view_behind q) = refl
 
   pub past-none : word < call_kind → (x : Item) → Has table p (item_words x) → p + 1 ≡ p + length (item_words x)
-  past-none k x h = omega (arith, none-by k (view table p x h))
-
-  marker-by : {x : Item} → equation_kind < word → View table p x → length (item_words x) ≡ 1
-  unfolding item_words
-  marker-by k (view_truth q) = refl
-  marker-by k (view_falsity q) = refl
-  marker-by k (view_call q h) = absurd (omega arith)
-  marker-by k (view_equation q h r) = absurd (omega arith)
-  marker-by k (view_left q) = refl
-  marker-by k (view_right q) = refl
-  marker-by k (view_behind q) = refl
+  past-none k x h = one-word (λ q. omega arith) (λ q. omega arith) (view table p x h)
 
   pub past-marker : equation_kind < word → (x : Item) → Has table p (item_words x) → p + 1 ≡ p + length (item_words x)
-  past-marker k x h = omega (arith, marker-by k (view table p x h))
+  past-marker k x h = one-word (λ q. omega arith) (λ q. omega arith) (view table p x h)
 
   module _ (l : call_kind ≤ word) (m : word ≤ equation_kind) where
     first-by : {x : Item} → View table p x → NodeInTable table (p + 1)

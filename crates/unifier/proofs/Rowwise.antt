@@ -12,12 +12,11 @@ use Rattle.syntax.specs.Words.{first_name}
 use Rattle.machine.specs.Substitution.{RTerm, RTerms, app, rnil, rcons, Binding, resolve}
 use Rattle.machine_theorems.proofs.Terms.{resolve_all, resolve-app, resolve-nil, resolve-cons}
 use Rattle.run_layout.specs.Regions.{loaded_node}
-use Rattle.run_layout.specs.Nodes.{name_of_symbol, Row, term_at, terms_at, followed, count}
+use Rattle.run_layout.specs.Nodes.{Symbol, name_of_symbol, Row, term_at, terms_at, followed, count}
 use Rattle.run_layout.proofs.Nodes.{node-inside, node_end, node-size, compound-at, compound-row, row_one, row-one-is, row-order, row-none, row_first, row-rest, row_cons, same_count, other-symbol, row-join, row-joined}
 use Rattle.unifier.specs.Rows.{unify_rows, nodes_of, nodes_of_all, rows_size}
-use Rattle.unifier.specs.Walks.{RowsBeside, Walkable, TwoNodes, StopsAt, Walks}
+use Rattle.unifier.specs.Walks.{RowsBeside, Walkable, TwoNodes, StopsAt, RowsWalked, Walks, WalksTerms, WalksRows}
 use Rattle.std.proofs.Common.{Ok, Err}
-use Rattle.unifier.specs.Walks.{RowsWalked}
 use Rattle.unifier.specs.declared.walk.WalkStop.{WalkStop}
 use Rattle.unifier.specs.declared.walk.WalkStop.TheVariants.{Clash, Met}
 use Rattle.unifier.proofs.Rules.{rows-open, rows-clash, count-resolve}
@@ -78,6 +77,24 @@ pub none-followed : (us : RTerms) → followed rnil us ≡ us
 unfolding followed
 none-followed us = refl
 
+-- ---- on from a place
+
+-- a walk from i and j on is one from p and q, where what lies between changes nothing
+walks-on : (ss : List Symbol) (nodes : List ℕ) (p e q f i j : ℕ) → ((b : List Binding) (c d : ℕ) (l r : RTerms) → unify_rows b (followed (terms_at ss nodes p e c) l) (followed (terms_at ss nodes q f d) r) ≡ unify_rows b (followed (terms_at ss nodes i e c) l) (followed (terms_at ss nodes j f d) r))
+    → ((b : List Binding) (c : ℕ) → rows_size b (terms_at ss nodes i e c) ≤ rows_size b (terms_at ss nodes p e c)) → ((b : List Binding) (d : ℕ) → rows_size b (terms_at ss nodes j f d) ≤ rows_size b (terms_at ss nodes q f d))
+    → (o : RowsWalked) → Walks ss nodes i e j f o → Walks ss nodes p e q f o
+walks-on ss nodes p e q f i j means less right (Ok u) k = λ b c d l r. means b c d l r ∙ k b c d l r
+walks-on ss nodes p e q f i j means less right (Err Clash) k = λ b c d l r. means b c d l r ∙ k b c d l r
+walks-on ss nodes p e q f i j means less right (Err (Met m n)) k =
+    record {
+      beside = k.beside;
+      some = k.some;
+      variable = k.variable;
+      means = λ b c d l r. means b c d l r ∙ k.means b c d l r;
+      less = λ b c. omega (arith, k.less b c, less b c);
+      less_right = λ b d. omega (arith, k.less_right b d, right b d);
+    }
+
 -- ---- two terms
 
 module _ (nodes : List ℕ) (p q : ℕ) (g : TwoNodes nodes p q) where
@@ -105,14 +122,13 @@ module _ (nodes : List ℕ) (p q : ℕ) (g : TwoNodes nodes p q) where
   row-is-right d r = ap (λ (ts : RTerms). followed ts r) (row-one-is g.ss nodes q d g.right) ∙ (one-followed (term_at g.ss nodes q d) rnil r ∙ ap (rcons (term_at g.ss nodes q d)) (none-followed r))
 
   module _ (hp : first_name ≤ get_or nodes p 0) (hq : first_name ≤ get_or nodes q 0) where
-    args : ℕ → RTerms
+    abbrev args : ℕ → RTerms
     args c = terms_at g.ss nodes (p + loaded_node) (p + get_or nodes (p + 1) 0) c
 
-    args-right : ℕ → RTerms
+    abbrev args-right : ℕ → RTerms
     args-right d = terms_at g.ss nodes (q + loaded_node) (q + get_or nodes (q + 1) 0) d
 
     pub term-clash : (get_or nodes p 0 ≡ get_or nodes q 0 → ⊥) → Walks g.ss nodes p (p + get_or nodes (p + 1) 0) q (q + get_or nodes (q + 1) 0) (Err Clash)
-    unfolding args args-right
     term-clash z = λ b c d l r.
         ap₂ (unify_rows b) (row_is c l) (row-is-right d r)
         ∙ rows-clash b (term_at g.ss nodes p c) (term_at g.ss nodes q d) l r (name_of_symbol g.ss (get_or nodes p 0 - first_name)) (name_of_symbol g.ss (get_or nodes q 0 - first_name)) (resolve_all b (args c)) (resolve_all b (args-right d))
@@ -130,7 +146,6 @@ module _ (nodes : List ℕ) (p q : ℕ) (g : TwoNodes nodes p q) where
           }
 
       opened : (b : List Binding) (c d : ℕ) (l r : RTerms) → unify_rows b (followed (terms_at g.ss nodes p (p + get_or nodes (p + 1) 0) c) l) (followed (terms_at g.ss nodes q (q + get_or nodes (q + 1) 0) d) r) ≡ unify_rows b (followed (args c) l) (followed (args-right d) r)
-      unfolding args args-right
       opened b c d l r =
           ap₂ (unify_rows b) (row_is c l) (row-is-right d r)
           ∙ rows-open b (term_at g.ss nodes p c) (term_at g.ss nodes q d) l r (name_of_symbol g.ss (get_or nodes p 0 - first_name)) (args c) (args-right d)
@@ -139,36 +154,20 @@ module _ (nodes : List ℕ) (p q : ℕ) (g : TwoNodes nodes p q) where
           (same_count g.ss nodes p q c d g.left g.right hp hq w)
 
       bigger : (b : List Binding) (c : ℕ) → rows_size b (args c) ≤ rows_size b (terms_at g.ss nodes p (p + get_or nodes (p + 1) 0) c)
-      unfolding args
       bigger b c =
           let s : rows_size b (terms_at g.ss nodes p (p + get_or nodes (p + 1) 0) c) ≡ nodes_of (resolve b (term_at g.ss nodes p c)) + rows_size b rnil = ap (rows_size b) (row-one-is g.ss nodes p c g.left) ∙ size-cons b (term_at g.ss nodes p c) rnil in
           let t : nodes_of (resolve b (term_at g.ss nodes p c)) ≡ suc (rows_size b (args c)) = ap (λ (x : RTerm). nodes_of (resolve b x)) (compound-at g.ss nodes p g.left c hp) ∙ size-app b (name_of_symbol g.ss (get_or nodes p 0 - first_name)) (args c) in
           omega arith
 
       bigger-right : (b : List Binding) (d : ℕ) → rows_size b (args-right d) ≤ rows_size b (terms_at g.ss nodes q (q + get_or nodes (q + 1) 0) d)
-      unfolding args-right
       bigger-right b d =
           let s : rows_size b (terms_at g.ss nodes q (q + get_or nodes (q + 1) 0) d) ≡ nodes_of (resolve b (term_at g.ss nodes q d)) + rows_size b rnil = ap (rows_size b) (row-one-is g.ss nodes q d g.right) ∙ size-cons b (term_at g.ss nodes q d) rnil in
           let t : nodes_of (resolve b (term_at g.ss nodes q d)) ≡ suc (rows_size b (args-right d)) = ap (λ (x : RTerm). nodes_of (resolve b x)) (compound-at g.ss nodes q g.right d hq) ∙ size-app b (name_of_symbol g.ss (get_or nodes q 0 - first_name)) (args-right d) in
           omega arith
 
-      deeper : (o : RowsWalked) → Walks g.ss nodes (p + loaded_node) (p + get_or nodes (p + 1) 0) (q + loaded_node) (q + get_or nodes (q + 1) 0) o → Walks g.ss nodes p (p + get_or nodes (p + 1) 0) q (q + get_or nodes (q + 1) 0) o
-      unfolding args args-right
-      deeper (Ok u) k = λ b c d l r. opened b c d l r ∙ k b c d l r
-      deeper (Err Clash) k = λ b c d l r. opened b c d l r ∙ k b c d l r
-      deeper (Err (Met i j)) k =
-          record {
-            beside = k.beside;
-            some = k.some;
-            variable = k.variable;
-            means = λ b c d l r. opened b c d l r ∙ k.means b c d l r;
-            less = λ b c. (let x : rows_size b (terms_at g.ss nodes i (p + get_or nodes (p + 1) 0) c) ≤ rows_size b (terms_at g.ss nodes (p + loaded_node) (p + get_or nodes (p + 1) 0) c) = k.less b c in let y : rows_size b (terms_at g.ss nodes (p + loaded_node) (p + get_or nodes (p + 1) 0) c) ≤ rows_size b (terms_at g.ss nodes p (p + get_or nodes (p + 1) 0) c) = bigger b c in omega arith);
-            less_right = λ b d. (let x : rows_size b (terms_at g.ss nodes j (q + get_or nodes (q + 1) 0) d) ≤ rows_size b (terms_at g.ss nodes (q + loaded_node) (q + get_or nodes (q + 1) 0) d) = k.less_right b d in let y : rows_size b (terms_at g.ss nodes (q + loaded_node) (q + get_or nodes (q + 1) 0) d) ≤ rows_size b (terms_at g.ss nodes q (q + get_or nodes (q + 1) 0) d) = bigger-right b d in omega arith);
-          }
-
-      pub term-open : (o : RowsWalked) → ((h : Walkable nodes (p + loaded_node) (p + get_or nodes (p + 1) 0) (q + loaded_node)) → Walks h.ss nodes (p + loaded_node) (p + get_or nodes (p + 1) 0) (q + loaded_node) h.f o) → Walks g.ss nodes p (p + get_or nodes (p + 1) 0) q (q + get_or nodes (q + 1) 0) o
+      pub term-open : (o : RowsWalked) → WalksRows nodes (p + loaded_node) (p + get_or nodes (p + 1) 0) (q + loaded_node) o → Walks g.ss nodes p (p + get_or nodes (p + 1) 0) q (q + get_or nodes (q + 1) 0) o
       unfolding term-list
-      term-open o k = deeper o (k term-list)
+      term-open o k = walks-on _ _ _ _ _ _ _ _ opened bigger bigger-right o (k term-list)
 
 -- ---- two rows
 
@@ -226,14 +225,14 @@ module _ (nodes : List ℕ) (p e q : ℕ) (g : Walkable nodes p e q) where
     right_is : (d : ℕ) (rs : RTerms) → followed (terms_at g.ss nodes q g.f d) rs ≡ followed (terms_at g.ss nodes q (q + get_or nodes (q + 1) 0) d) (followed (terms_at g.ss nodes (q + get_or nodes (q + 1) 0) g.f d) rs)
     right_is d rs = ap (λ (ts : RTerms). followed ts rs) (row-joined g.ss nodes q (q + get_or nodes (q + 1) 0) g.f d one_right rest-right) ∙ followed-assoc (terms_at g.ss nodes q (q + get_or nodes (q + 1) 0) d) (terms_at g.ss nodes (q + get_or nodes (q + 1) 0) g.f d) rs
 
-    first-term : (o : RowsWalked) → ((h : TwoNodes nodes p q) → Walks h.ss nodes p (p + get_or nodes (p + 1) 0) q (q + get_or nodes (q + 1) 0) o) → Walks g.ss nodes p (p + get_or nodes (p + 1) 0) q (q + get_or nodes (q + 1) 0) o
+    first-term : (o : RowsWalked) → WalksTerms nodes p q o → Walks g.ss nodes p (p + get_or nodes (p + 1) 0) q (q + get_or nodes (q + 1) 0) o
     unfolding list-pair
     first-term o k = k list-pair
 
-    pub list_clash : ((h : TwoNodes nodes p q) → Walks h.ss nodes p (p + get_or nodes (p + 1) 0) q (q + get_or nodes (q + 1) 0) (Err Clash)) → Walks g.ss nodes p e q g.f (Err Clash)
+    pub list_clash : WalksTerms nodes p q (Err Clash) → Walks g.ss nodes p e q g.f (Err Clash)
     list_clash k = λ b c d ls rs. ap₂ (unify_rows b) (left_is c ls) (right_is d rs) ∙ first-term (Err Clash) k b c d (followed (terms_at g.ss nodes (p + get_or nodes (p + 1) 0) e c) ls) (followed (terms_at g.ss nodes (q + get_or nodes (q + 1) 0) g.f d) rs)
 
-    pub list-met : (i j : ℕ) → ((h : TwoNodes nodes p q) → Walks h.ss nodes p (p + get_or nodes (p + 1) 0) q (q + get_or nodes (q + 1) 0) (Err (Met i j))) → Walks g.ss nodes p e q g.f (Err (Met i j))
+    pub list-met : (i j : ℕ) → WalksTerms nodes p q (Err (Met i j)) → Walks g.ss nodes p e q g.f (Err (Met i j))
     list-met i j k =
         let m : StopsAt g.ss nodes p (p + get_or nodes (p + 1) 0) q (q + get_or nodes (q + 1) 0) i j = first-term (Err (Met i j)) k in
         let some : i < p + get_or nodes (p + 1) 0 = m.some in
@@ -266,14 +265,14 @@ module _ (nodes : List ℕ) (p e q : ℕ) (g : Walkable nodes p e q) where
               omega arith);
         }
 
-    pub list_stop : (x : WalkStop) → ((h : TwoNodes nodes p q) → Walks h.ss nodes p (p + get_or nodes (p + 1) 0) q (q + get_or nodes (q + 1) 0) (Err x)) → Walks g.ss nodes p e q g.f (Err x)
+    pub list_stop : (x : WalkStop) → WalksTerms nodes p q (Err x) → Walks g.ss nodes p e q g.f (Err x)
     list_stop Clash k = list_clash k
     list_stop (Met i j) k = list-met i j k
 
     pub list-rest : Walkable nodes (p + get_or nodes (p + 1) 0) e (q + get_or nodes (q + 1) 0)
     list-rest = record { ss = g.ss; f = g.f; beside = record { left = rest; right = rest-right; same = same_rest } }
 
-    module _ (k : (h : TwoNodes nodes p q) → Walks h.ss nodes p (p + get_or nodes (p + 1) 0) q (q + get_or nodes (q + 1) 0) (Ok tt)) where
+    module _ (k : WalksTerms nodes p q (Ok tt)) where
       passed : (b : List Binding) (c d : ℕ) (ls rs : RTerms) → unify_rows b (followed (terms_at g.ss nodes p e c) ls) (followed (terms_at g.ss nodes q g.f d) rs) ≡ unify_rows b (followed (terms_at g.ss nodes (p + get_or nodes (p + 1) 0) e c) ls) (followed (terms_at g.ss nodes (q + get_or nodes (q + 1) 0) g.f d) rs)
       passed b c d ls rs = ap₂ (unify_rows b) (left_is c ls) (right_is d rs) ∙ first-term (Ok tt) k b c d (followed (terms_at g.ss nodes (p + get_or nodes (p + 1) 0) e c) ls) (followed (terms_at g.ss nodes (q + get_or nodes (q + 1) 0) g.f d) rs)
 
@@ -283,31 +282,18 @@ module _ (nodes : List ℕ) (p e q : ℕ) (g : Walkable nodes p e q) where
       shorter-right : (b : List Binding) (d : ℕ) → rows_size b (terms_at g.ss nodes (q + get_or nodes (q + 1) 0) g.f d) ≤ rows_size b (terms_at g.ss nodes q g.f d)
       shorter-right b d = let v : rows_size b (terms_at g.ss nodes q g.f d) ≡ rows_size b (terms_at g.ss nodes q (q + get_or nodes (q + 1) 0) d) + rows_size b (terms_at g.ss nodes (q + get_or nodes (q + 1) 0) g.f d) = ap (rows_size b) (row-joined g.ss nodes q (q + get_or nodes (q + 1) 0) g.f d one_right rest-right) ∙ size-followed b (terms_at g.ss nodes q (q + get_or nodes (q + 1) 0) d) (terms_at g.ss nodes (q + get_or nodes (q + 1) 0) g.f d) in omega arith
 
-      further : (o : RowsWalked) → Walks g.ss nodes (p + get_or nodes (p + 1) 0) e (q + get_or nodes (q + 1) 0) g.f o → Walks g.ss nodes p e q g.f o
-      further (Ok u) m = λ b c d ls rs. passed b c d ls rs ∙ m b c d ls rs
-      further (Err Clash) m = λ b c d ls rs. passed b c d ls rs ∙ m b c d ls rs
-      further (Err (Met i j)) m =
-          record {
-            beside = m.beside;
-            some = m.some;
-            variable = m.variable;
-            means = λ b c d ls rs. passed b c d ls rs ∙ m.means b c d ls rs;
-            less = λ b c. (let x : rows_size b (terms_at g.ss nodes i e c) ≤ rows_size b (terms_at g.ss nodes (p + get_or nodes (p + 1) 0) e c) = m.less b c in let y : rows_size b (terms_at g.ss nodes (p + get_or nodes (p + 1) 0) e c) ≤ rows_size b (terms_at g.ss nodes p e c) = shorter b c in omega arith);
-            less_right = λ b d. (let x : rows_size b (terms_at g.ss nodes j g.f d) ≤ rows_size b (terms_at g.ss nodes (q + get_or nodes (q + 1) 0) g.f d) = m.less_right b d in let y : rows_size b (terms_at g.ss nodes (q + get_or nodes (q + 1) 0) g.f d) ≤ rows_size b (terms_at g.ss nodes q g.f d) = shorter-right b d in omega arith);
-          }
-
-      pub list-next : (o : RowsWalked) → ((h : Walkable nodes (p + get_or nodes (p + 1) 0) e (q + get_or nodes (q + 1) 0)) → Walks h.ss nodes (p + get_or nodes (p + 1) 0) e (q + get_or nodes (q + 1) 0) h.f o) → Walks g.ss nodes p e q g.f o
+      pub list-next : (o : RowsWalked) → WalksRows nodes (p + get_or nodes (p + 1) 0) e (q + get_or nodes (q + 1) 0) o → Walks g.ss nodes p e q g.f o
       unfolding list-rest
-      list-next o m = further o (m list-rest)
+      list-next o m = walks-on _ _ _ _ _ _ _ _ passed shorter shorter-right o (m list-rest)
 
 -- the same with the sizes as they are read
-pub list_on : (nodes : List ℕ) (p e q : ℕ) (g : Walkable nodes p e q) (l : p < e) (first : RowsWalked) → first ≡ Ok tt → ((h : TwoNodes nodes p q) → Walks h.ss nodes p (p + get_or nodes (p + 1) 0) q (q + get_or nodes (q + 1) 0) first)
-    → (s z : ℕ) → s ≡ get_or nodes (p + 1) 0 → z ≡ get_or nodes (q + 1) 0 → (o : RowsWalked) → ((h : Walkable nodes (p + s) e (q + z)) → Walks h.ss nodes (p + s) e (q + z) h.f o) → Walks g.ss nodes p e q g.f o
+pub list_on : (nodes : List ℕ) (p e q : ℕ) (g : Walkable nodes p e q) (l : p < e) (first : RowsWalked) → first ≡ Ok tt → WalksTerms nodes p q first
+    → (s z : ℕ) → s ≡ get_or nodes (p + 1) 0 → z ≡ get_or nodes (q + 1) 0 → (o : RowsWalked) → WalksRows nodes (p + s) e (q + z) o → Walks g.ss nodes p e q g.f o
 list_on nodes p e q g l first d k s z a b o m =
-    list-next nodes p e q g l (subst (λ (x : RowsWalked). (h : TwoNodes nodes p q) → Walks h.ss nodes p (p + get_or nodes (p + 1) 0) q (q + get_or nodes (q + 1) 0) x) d k) o
-    (subst (λ (y : ℕ). (h : Walkable nodes (p + get_or nodes (p + 1) 0) e (q + y)) → Walks h.ss nodes (p + get_or nodes (p + 1) 0) e (q + y) h.f o) b (subst (λ (y : ℕ). (h : Walkable nodes (p + y) e (q + z)) → Walks h.ss nodes (p + y) e (q + z) h.f o) a m))
+    list-next nodes p e q g l (subst (λ (x : RowsWalked). WalksTerms nodes p q x) d k) o
+    (subst (λ (y : ℕ). WalksRows nodes (p + get_or nodes (p + 1) 0) e (q + y) o) b (subst (λ (y : ℕ). WalksRows nodes (p + y) e (q + z) o) a m))
 
 pub term-on : (nodes : List ℕ) (p q : ℕ) (g : TwoNodes nodes p q) (w z s : ℕ) → w ≡ get_or nodes p 0 → z ≡ get_or nodes q 0 → first_name ≤ w → first_name ≤ z → w ≡ z → s ≡ get_or nodes (p + 1) 0 → (o : RowsWalked)
-    → ((h : Walkable nodes (p + loaded_node) (p + s) (q + loaded_node)) → Walks h.ss nodes (p + loaded_node) (p + s) (q + loaded_node) h.f o) → Walks g.ss nodes p (p + get_or nodes (p + 1) 0) q (q + get_or nodes (q + 1) 0) o
+    → WalksRows nodes (p + loaded_node) (p + s) (q + loaded_node) o → Walks g.ss nodes p (p + get_or nodes (p + 1) 0) q (q + get_or nodes (q + 1) 0) o
 term-on nodes p q g w z s a b hw hz e c o m =
-    term-open nodes p q g (subst (λ (k : ℕ). first_name ≤ k) a hw) (subst (λ (k : ℕ). first_name ≤ k) b hz) (sym a ∙ (e ∙ b)) o (subst (λ (y : ℕ). (h : Walkable nodes (p + loaded_node) (p + y) (q + loaded_node)) → Walks h.ss nodes (p + loaded_node) (p + y) (q + loaded_node) h.f o) c m)
+    term-open nodes p q g (subst (λ (k : ℕ). first_name ≤ k) a hw) (subst (λ (k : ℕ). first_name ≤ k) b hz) (sym a ∙ (e ∙ b)) o (subst (λ (y : ℕ). WalksRows nodes (p + loaded_node) (p + y) (q + loaded_node) o) c m)

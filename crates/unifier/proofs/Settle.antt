@@ -25,7 +25,7 @@ use Rattle.unify_bindings.specs.declared.stack.Side.{Side}
 use Rattle.unify_memos.proofs.Remembering.{value-word, memo-kept, memo-found}
 use Rattle.unifier.specs.Rows.{unify_rows, nodes_of, rows_size}
 use Rattle.unifier.specs.Stacks.{inner_row, end_of, whole_of, row_of, rows_of, Via, Stack, no_term, Closes}
-use Rattle.unifier.specs.Turns.{over, Binds, Dereferenced, Crossed, Openable, PairTurned}
+use Rattle.unifier.specs.Turns.{Dereferenced, Crossed, Openable, PairTurned}
 use Rattle.std.proofs.Common.{Ok, Err}
 use Rattle.unifier.specs.Turns.{Turn}
 use Rattle.unifier.specs.declared.solve.TurnStop.TheVariants.{Clash, Bind}
@@ -114,34 +114,36 @@ module _ {nodes scratch : List ℕ} {h : ℕ} {p q : At} (g : Crossed nodes scra
       → (get_or nodes w.node 0 < first_name → cell-at w < cell-at v)
       → (T (occurs (variable_of (cell-at v)) (resolve b (term-of w))) → unify_rows b (rcons t ls) (rcons u rs) ≡ none)
       → ((T (occurs (variable_of (cell-at v)) (resolve b (term-of w))) → ⊥) → (unify_rows b (rcons t ls) (rcons u rs) ≡ unify_rows (new-of v w ∷ b) ls rs) × (resolve (new-of v w ∷ b) t ≡ resolve (new-of v w ∷ b) u))
-      → Binds (over g.work) (rcons t ls) (rcons u rs) scratch h (cell-at v) w
-  bound-to {v} {w} dv dw l down stands free =
-      record {
-        stack = g.work.stack;
-        cell = cell-small v.copy (get_or nodes v.node 0) dv.copy l;
-        unbound = dv.stops l;
-        below = cell_below v.copy (get_or nodes v.node 0) dv.below l;
-        node = dw.node;
-        copy = dw.copy;
-        copy_below = dw.below;
-        down = down;
-        stands = stands;
-        free = λ z. (free z).0;
-        memo = g.work.memo;
-        closes = λ z. closes-bound g.work.ss nodes b (left_at scratch) (right_at scratch) h t u (new-of v w) (free z).1 g.closes;
-      }
+      → PairTurned g scratch (Err (Bind h (cell-at v) w))
+  bound-to {v} {w} dv dw l down stands free = (
+    marks-refl scratch,
+    record {
+      stack = g.work.stack;
+      cell = cell-small v.copy (get_or nodes v.node 0) dv.copy l;
+      unbound = dv.stops l;
+      below = cell_below v.copy (get_or nodes v.node 0) dv.below l;
+      node = dw.node;
+      copy = dw.copy;
+      copy_below = dw.below;
+      down = down;
+      stands = stands;
+      free = λ z. (free z).0;
+      memo = g.work.memo;
+      closes = λ z. closes-bound g.work.ss nodes b (left_at scratch) (right_at scratch) h t u (new-of v w) (free z).1 g.closes;
+    },
+  )
 
   -- the left variable bound to the right term
   bind_left : get_or nodes p.node 0 < first_name → ((w : Variable) → resolve b u ≡ var w → is_later (variable_of x) w ≡ true) → (get_or nodes q.node 0 < first_name → y < x)
       → (T (occurs (variable_of x) (resolve b u)) → unify_rows b (rcons t ls) (rcons u rs) ≡ none)
-      → Binds (over g.work) (rcons t ls) (rcons u rs) scratch h x q
+      → PairTurned g scratch (Err (Bind h x q))
   bind_left l later down stands =
       bound-to g.left g.right l down stands
       (λ z. (rows-bind-left b t u ls rs (variable_of x) (is_open g.work.store g.left l) (left-is-bound (variable_of x) (resolve b u) z later) z, left-bound b t u (variable_of x) (is_open g.work.store g.left l) z))
 
   bind-right : get_or nodes q.node 0 < first_name → ((w : Variable) → resolve b t ≡ var w → is_later w (variable_of y) ≡ false) → (get_or nodes p.node 0 < first_name → x < y)
       → (T (occurs (variable_of y) (resolve b t)) → unify_rows b (rcons t ls) (rcons u rs) ≡ none)
-      → Binds (over g.work) (rcons t ls) (rcons u rs) scratch h y p
+      → PairTurned g scratch (Err (Bind h y p))
   bind-right l later down stands =
       bound-to g.right g.left l down stands
       (λ z. (rows-bind-right b t u ls rs (variable_of y) (is_open g.work.store g.right l) (right-is-bound (variable_of y) (resolve b t) z later) z, right-bound b t u (variable_of y) (is_open g.work.store g.right l) z))
@@ -171,45 +173,33 @@ module _ {nodes scratch : List ℕ} {h : ℕ} {p q : At} (g : Crossed nodes scra
     pub settle-same : x ≡ y → PairTurned g scratch (Ok h)
     settle-same e = settle-equal (left_is ∙ (ap (λ (k : ℕ). var (variable_of k)) e ∙ sym right_is))
 
+    -- the variable of a cell does not occur where that of a lower cell stands
+    apart-cells : {c d : ℕ} {r : RTerm} → r ≡ var (variable_of d) → d < c → T (occurs (variable_of c) r) → ⊥
+    apart-cells {c} {d} e l k = let z : c ≡ d = cell-eq c d (variable-eq (variable_of c) (variable_of d) (subst (λ (v : RTerm). T (occurs (variable_of c) v)) e k)) in omega arith
+
     pub settle-later : y < x → PairTurned g scratch (Err (Bind h x q))
-    settle-later e = (
-      marks-refl scratch,
-      bind_left lp
-          (λ w k. subst (λ (v : Variable). is_later (variable_of x) v ≡ true) (same-variable (variable_of y) w (sym right_is ∙ k)) (later-cell x y e))
-          (λ k. e)
-          (λ k. absurd (let z : x ≡ y = cell-eq x y (variable-eq (variable_of x) (variable_of y) (subst (λ (v : RTerm). T (occurs (variable_of x) v)) right_is k)) in omega arith)),
-    )
+    settle-later e = bind_left lp (λ w k. subst (λ (v : Variable). is_later (variable_of x) v ≡ true) (same-variable (variable_of y) w (sym right_is ∙ k)) (later-cell x y e)) (λ k. e) (λ k. absurd (apart-cells right_is e k))
 
     pub settle-earlier : x < y → PairTurned g scratch (Err (Bind h y p))
-    settle-earlier e = (
-      marks-refl scratch,
-      bind-right lq
-          (λ w k. subst (λ (v : Variable). is_later v (variable_of y) ≡ false) (same-variable (variable_of x) w (sym left_is ∙ k)) (earlier-cell y x e))
-          (λ k. e)
-          (λ k. absurd (let z : y ≡ x = cell-eq y x (variable-eq (variable_of y) (variable_of x) (subst (λ (v : RTerm). T (occurs (variable_of y) v)) left_is k)) in omega arith)),
-    )
+    settle-earlier e = bind-right lq (λ w k. subst (λ (v : Variable). is_later v (variable_of y) ≡ false) (same-variable (variable_of x) w (sym left_is ∙ k)) (earlier-cell y x e)) (λ k. e) (λ k. absurd (apart-cells left_is e k))
 
   -- ---- a variable and a name
 
   pub settle-left : get_or nodes p.node 0 < first_name → first_name ≤ get_or nodes q.node 0 → PairTurned g scratch (Err (Bind h x q))
   settle-left lp hq =
-      let name : resolve b u ≡ app (name-at q) (resolve_all b (args-at q)) = is_name g.work.store g.right hq in (
-        marks-refl scratch,
-        bind_left lp
-            (λ w k. absurd (never-variable (name-at q) (resolve_all b (args-at q)) w (sym name ∙ k)))
-            (λ k. absurd (let z : get_or nodes q.node 0 < first_name = k in omega arith))
-            (λ k. rows-occurs-left b t u ls rs (variable_of x) (name-at q) (resolve_all b (args-at q)) (is_open g.work.store g.left lp) name (subst (λ (v : RTerm). T (occurs (variable_of x) v)) name k)),
-      )
+      let name : resolve b u ≡ app (name-at q) (resolve_all b (args-at q)) = is_name g.work.store g.right hq in
+      bind_left lp
+      (λ w k. absurd (never-variable (name-at q) (resolve_all b (args-at q)) w (sym name ∙ k)))
+      (λ k. absurd (let z : get_or nodes q.node 0 < first_name = k in omega arith))
+      (λ k. rows-occurs-left b t u ls rs (variable_of x) (name-at q) (resolve_all b (args-at q)) (is_open g.work.store g.left lp) name (subst (λ (v : RTerm). T (occurs (variable_of x) v)) name k))
 
   pub settle-right : first_name ≤ get_or nodes p.node 0 → get_or nodes q.node 0 < first_name → PairTurned g scratch (Err (Bind h y p))
   settle-right hp lq =
-      let name : resolve b t ≡ app (name-at p) (resolve_all b (args-at p)) = is_name g.work.store g.left hp in (
-        marks-refl scratch,
-        bind-right lq
-            (λ w k. absurd (never-variable (name-at p) (resolve_all b (args-at p)) w (sym name ∙ k)))
-            (λ k. absurd (let z : get_or nodes p.node 0 < first_name = k in omega arith))
-            (λ k. rows-occurs-right b t u ls rs (variable_of y) (name-at p) (resolve_all b (args-at p)) name (is_open g.work.store g.right lq) (subst (λ (v : RTerm). T (occurs (variable_of y) v)) name k)),
-      )
+      let name : resolve b t ≡ app (name-at p) (resolve_all b (args-at p)) = is_name g.work.store g.left hp in
+      bind-right lq
+      (λ w k. absurd (never-variable (name-at p) (resolve_all b (args-at p)) w (sym name ∙ k)))
+      (λ k. absurd (let z : get_or nodes p.node 0 < first_name = k in omega arith))
+      (λ k. rows-occurs-right b t u ls rs (variable_of y) (name-at p) (resolve_all b (args-at p)) name (is_open g.work.store g.right lq) (subst (λ (v : RTerm). T (occurs (variable_of y) v)) name k))
 
   -- ---- two names
 

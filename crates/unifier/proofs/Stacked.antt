@@ -166,119 +166,48 @@ half-bound ss nodes b e top s h f =
       down = λ k o l newer. subst (λ (x : List Binding). nodes_of (resolve x (whole_of ss nodes (s (k + 1)))) < nodes_of (resolve x (whole_of ss nodes (s k)))) (append_assoc newer (e ∷ []) b) (f.down k o l (newer ++ (e ∷ [])));
     }
 
+-- a side x on top of those before
+module _ {s t : ℕ → Side} {h : ℕ} (x : Side) (a : (k : ℕ) → k < h → t k ≡ s k) (e : t h ≡ x) where
+  on-top : (P : Side → Type 0) {k : ℕ} → k < suc h → (k < h → P (s k)) → (k ≡ h → P x) → P (t k)
+  on-top P {k} l low here = by (eqb k h) refl
+    where
+      by : (q : Bool) → eqb k h ≡ q → P (t k)
+      by true q = let z : k ≡ h = eqb-true k h q in subst⁻¹ (λ (i : ℕ). P (t i)) z (subst⁻¹ P e (here z))
+      by false q = let z : k ≡ h → ⊥ = eqb-false k h q in let m : k < h = omega (arith, z) in subst⁻¹ P (a k m) (low m)
+
+  half-topped : {ss : List Symbol} {nodes : List ℕ} {b : List Binding} {top : ℕ} → Node ss nodes x.root → x.copy < copies → x.copy ≤ top → Row ss nodes x.at (end_of nodes x) → (1 ≤ h → (newer : List Binding) → rows_size (newer ++ b) (row_of ss nodes x) < nodes_of (resolve (newer ++ b) (whole_of ss nodes x)))
+      → (2 ≤ h → (newer : List Binding) → nodes_of (resolve (newer ++ b) (whole_of ss nodes x)) < nodes_of (resolve (newer ++ b) (whole_of ss nodes (s (h - 1))))) → Half ss nodes b top s h → Half ss nodes b top t (suc h)
+  half-topped {ss} {nodes} {b} {top} node copy below row small inside f =
+      record {
+        node = λ k l. on-top (λ (y : Side). Node ss nodes y.root) l (f.node k) (λ z. node);
+        copy = λ k l. on-top (λ (y : Side). y.copy < copies) l (f.copy k) (λ z. copy);
+        below = λ k l. on-top (λ (y : Side). y.copy ≤ top) l (f.below k) (λ z. below);
+        row = λ k l. on-top (λ (y : Side). Row ss nodes y.at (end_of nodes y)) l (f.row k) (λ z. row);
+        small = λ k o l newer. on-top (λ (y : Side). rows_size (newer ++ b) (row_of ss nodes y) < nodes_of (resolve (newer ++ b) (whole_of ss nodes y))) l (λ m. f.small k o m newer) (λ z. small (omega arith) newer);
+        down = λ k o l newer. subst⁻¹ (λ (y : Side). nodes_of (resolve (newer ++ b) (whole_of ss nodes (t (k + 1)))) < nodes_of (resolve (newer ++ b) (whole_of ss nodes y))) (a k (omega arith))
+            (on-top (λ (y : Side). nodes_of (resolve (newer ++ b) (whole_of ss nodes y)) < nodes_of (resolve (newer ++ b) (whole_of ss nodes (s k)))) l (λ m. f.down k o m newer)
+            (λ z. subst (λ (i : ℕ). nodes_of (resolve (newer ++ b) (whole_of ss nodes x)) < nodes_of (resolve (newer ++ b) (whole_of ss nodes (s i)))) (let i : h - 1 ≡ k = omega arith in i) (inside (omega arith) newer)));
+      }
+
 -- the top moved on within its row
 pub half-moved : (ss : List Symbol) (nodes : List ℕ) (b : List Binding) (top : ℕ) (s t : ℕ → Side) (h j : ℕ) → ((k : ℕ) → k < h → t k ≡ s k) → t h ≡ record { root = (s h).root; at = j; copy = (s h).copy } → Row ss nodes j (end_of nodes (s h))
     → ((x : List Binding) → rows_size x (terms_at ss nodes j (end_of nodes (s h)) (s h).copy) ≤ rows_size x (row_of ss nodes (s h))) → Half ss nodes b top s (suc h) → Half ss nodes b top t (suc h)
 half-moved ss nodes b top s t h j a e r less f =
-    half-agrees ss nodes b top u t (suc h) (λ k l. t-is k l (eqb k h) refl)
-    (record {
-      node = λ k l. u-node k l (eqb k h) refl;
-      copy = λ k l. u-copy k l (eqb k h) refl;
-      below = λ k l. u-below k l (eqb k h) refl;
-      row = λ k l. u-row k l (eqb k h) refl;
-      small = λ k o l newer. u-small k o l newer (eqb k h) refl;
-      down = λ k o l newer. u-down k o l newer (eqb (k + 1) h) refl (eqb k h) refl;
-    })
-  where
-    moved : Side
-    moved = record { root = (s h).root; at = j; copy = (s h).copy }
-
-    pick : Bool → ℕ → Side
-    pick true k = record { root = (s h).root; at = j; copy = (s h).copy }
-    pick false k = s k
-
-    u : ℕ → Side
-    u k = pick (eqb k h) k
-
-    t-is : (k : ℕ) → k < suc h → (q : Bool) → eqb k h ≡ q → t k ≡ pick q k
-    t-is k l true q = ap t (eqb-true k h q) ∙ e
-    t-is k l false q = a k (let z : k ≡ h → ⊥ = eqb-false k h q in omega (arith, z))
-
-    u-node : (k : ℕ) → k < suc h → (q : Bool) → eqb k h ≡ q → Node ss nodes (pick q k).root
-    u-node k l true q = f.node h (omega arith)
-    u-node k l false q = f.node k l
-
-    u-copy : (k : ℕ) → k < suc h → (q : Bool) → eqb k h ≡ q → (pick q k).copy < copies
-    u-copy k l true q = f.copy h (omega arith)
-    u-copy k l false q = f.copy k l
-
-    u-below : (k : ℕ) → k < suc h → (q : Bool) → eqb k h ≡ q → (pick q k).copy ≤ top
-    u-below k l true q = f.below h (omega arith)
-    u-below k l false q = f.below k l
-
-    u-row : (k : ℕ) → k < suc h → (q : Bool) → eqb k h ≡ q → Row ss nodes (pick q k).at (end_of nodes (pick q k))
-    u-row k l true q = r
-    u-row k l false q = f.row k l
-
-    u-small : (k : ℕ) → 1 ≤ k → k < suc h → (newer : List Binding) → (q : Bool) → eqb k h ≡ q → rows_size (newer ++ b) (row_of ss nodes (pick q k)) < nodes_of (resolve (newer ++ b) (whole_of ss nodes (pick q k)))
-    u-small k o l newer true q =
-        let z : k ≡ h = eqb-true k h q in
-        let x : rows_size (newer ++ b) (row_of ss nodes (s h)) < nodes_of (resolve (newer ++ b) (whole_of ss nodes (s h))) = f.small h (omega arith) (omega arith) newer in
-        let y : rows_size (newer ++ b) (terms_at ss nodes j (end_of nodes (s h)) (s h).copy) ≤ rows_size (newer ++ b) (row_of ss nodes (s h)) = less (newer ++ b) in
-        omega arith
-    u-small k o l newer false q = f.small k o l newer
-
-    u-down : (k : ℕ) → 1 ≤ k → k + 1 < suc h → (newer : List Binding) → (q : Bool) → eqb (k + 1) h ≡ q → (p : Bool) → eqb k h ≡ p → nodes_of (resolve (newer ++ b) (whole_of ss nodes (pick q (k + 1)))) < nodes_of (resolve (newer ++ b) (whole_of ss nodes (pick p k)))
-    u-down k o l newer q x true y = absurd (let z : k ≡ h = eqb-true k h y in omega arith)
-    u-down k o l newer true x false y = subst (λ (i : ℕ). nodes_of (resolve (newer ++ b) (whole_of ss nodes (s i))) < nodes_of (resolve (newer ++ b) (whole_of ss nodes (s k)))) (eqb-true (k + 1) h x) (f.down k o l newer)
-    u-down k o l newer false x false y = f.down k o l newer
+    half-topped (record { root = (s h).root; at = j; copy = (s h).copy }) a e (f.node h (omega arith)) (f.copy h (omega arith)) (f.below h (omega arith)) r
+    (λ o newer. (let x : rows_size (newer ++ b) (row_of ss nodes (s h)) < nodes_of (resolve (newer ++ b) (whole_of ss nodes (s h))) = f.small h o (omega arith) newer in
+    let y : rows_size (newer ++ b) (terms_at ss nodes j (end_of nodes (s h)) (s h).copy) ≤ rows_size (newer ++ b) (row_of ss nodes (s h)) = less (newer ++ b) in
+    omega arith))
+    (λ o newer. subst (λ (i : ℕ). nodes_of (resolve (newer ++ b) (whole_of ss nodes (s i))) < nodes_of (resolve (newer ++ b) (whole_of ss nodes (s (h - 1))))) (let i : h - 1 + 1 ≡ h = omega arith in i) (f.down (h - 1) (omega arith) (omega arith) newer))
+    (half-less ss nodes b top s (suc h) h (omega arith) f)
 
 -- a new top: the arguments of a name that stands strictly inside the top before
 pub half-pushed : (ss : List Symbol) (nodes : List ℕ) (b : List Binding) (top : ℕ) (s t : ℕ → Side) (h : ℕ) (p : At) → ((k : ℕ) → k < h → t k ≡ s k) → t h ≡ inner_row p → Node ss nodes p.node → p.copy < copies → p.copy ≤ top → first_name ≤ get_or nodes p.node 0
     → (2 ≤ h → (newer : List Binding) → nodes_of (resolve (newer ++ b) (term_at ss nodes p.node p.copy)) < nodes_of (resolve (newer ++ b) (whole_of ss nodes (s (h - 1))))) → Half ss nodes b top s h → Half ss nodes b top t (suc h)
 half-pushed ss nodes b top s t h p a e node copy below high inside f =
-    half-agrees ss nodes b top u t (suc h) (λ k l. t-is k l (eqb k h) refl)
-    (record {
-      node = λ k l. u-node k l (eqb k h) refl;
-      copy = λ k l. u-copy k l (eqb k h) refl;
-      below = λ k l. u-below k l (eqb k h) refl;
-      row = λ k l. u-row k l (eqb k h) refl;
-      small = λ k o l newer. u-small k o l newer (eqb k h) refl;
-      down = λ k o l newer. u-down k o l newer (eqb (k + 1) h) refl (eqb k h) refl;
-    })
-  where
-    pick : Bool → ℕ → Side
-    pick true k = inner_row p
-    pick false k = s k
-
-    u : ℕ → Side
-    u k = pick (eqb k h) k
-
-    under : (k : ℕ) → k < suc h → eqb k h ≡ false → k < h
-    under k l q = let z : k ≡ h → ⊥ = eqb-false k h q in omega (arith, z)
-
-    t-is : (k : ℕ) → k < suc h → (q : Bool) → eqb k h ≡ q → t k ≡ pick q k
-    t-is k l true q = ap t (eqb-true k h q) ∙ e
-    t-is k l false q = a k (under k l q)
-
-    u-node : (k : ℕ) → k < suc h → (q : Bool) → eqb k h ≡ q → Node ss nodes (pick q k).root
-    u-node k l true q = node
-    u-node k l false q = f.node k (under k l q)
-
-    u-copy : (k : ℕ) → k < suc h → (q : Bool) → eqb k h ≡ q → (pick q k).copy < copies
-    u-copy k l true q = copy
-    u-copy k l false q = f.copy k (under k l q)
-
-    u-below : (k : ℕ) → k < suc h → (q : Bool) → eqb k h ≡ q → (pick q k).copy ≤ top
-    u-below k l true q = below
-    u-below k l false q = f.below k (under k l q)
-
-    u-row : (k : ℕ) → k < suc h → (q : Bool) → eqb k h ≡ q → Row ss nodes (pick q k).at (end_of nodes (pick q k))
-    u-row k l true q = compound-row ss nodes p.node node high
-    u-row k l false q = f.row k (under k l q)
-
-    u-small : (k : ℕ) → 1 ≤ k → k < suc h → (newer : List Binding) → (q : Bool) → eqb k h ≡ q → rows_size (newer ++ b) (row_of ss nodes (pick q k)) < nodes_of (resolve (newer ++ b) (whole_of ss nodes (pick q k)))
-    u-small k o l newer true q =
-        let x : nodes_of (resolve (newer ++ b) (term_at ss nodes p.node p.copy)) ≡ suc (rows_size (newer ++ b) (terms_at ss nodes (p.node + loaded_node) (p.node + get_or nodes (p.node + 1) 0) p.copy)) = ap (λ (y : RTerm). nodes_of (resolve (newer ++ b) y)) (compound-at ss nodes p.node node p.copy high) ∙ size-app (newer ++ b) (name_of_symbol ss (get_or nodes p.node 0 - first_name)) (terms_at ss nodes (p.node + loaded_node) (p.node + get_or nodes (p.node + 1) 0) p.copy) in
-        omega arith
-    u-small k o l newer false q = f.small k o (under k l q) newer
-
-    u-down : (k : ℕ) → 1 ≤ k → k + 1 < suc h → (newer : List Binding) → (q : Bool) → eqb (k + 1) h ≡ q → (w : Bool) → eqb k h ≡ w → nodes_of (resolve (newer ++ b) (whole_of ss nodes (pick q (k + 1)))) < nodes_of (resolve (newer ++ b) (whole_of ss nodes (pick w k)))
-    u-down k o l newer q x true y = absurd (let z : k ≡ h = eqb-true k h y in omega arith)
-    u-down k o l newer true x false y =
-        let z : k + 1 ≡ h = eqb-true (k + 1) h x in
-        subst (λ (i : ℕ). nodes_of (resolve (newer ++ b) (term_at ss nodes p.node p.copy)) < nodes_of (resolve (newer ++ b) (whole_of ss nodes (s i)))) (let i : h - 1 ≡ k = omega arith in i) (inside (omega arith) newer)
-    u-down k o l newer false x false y = f.down k o (under (k + 1) l x) newer
+    half-topped (inner_row p) a e node copy below (compound-row ss nodes p.node node high)
+    (λ o newer. (let x : nodes_of (resolve (newer ++ b) (term_at ss nodes p.node p.copy)) ≡ suc (rows_size (newer ++ b) (terms_at ss nodes (p.node + loaded_node) (p.node + get_or nodes (p.node + 1) 0) p.copy)) = ap (λ (y : RTerm). nodes_of (resolve (newer ++ b) y)) (compound-at ss nodes p.node node p.copy high) ∙ size-app (newer ++ b) (name_of_symbol ss (get_or nodes p.node 0 - first_name)) (terms_at ss nodes (p.node + loaded_node) (p.node + get_or nodes (p.node + 1) 0) p.copy) in
+    omega arith))
+    inside f
 
 -- ---- the height
 

@@ -9,7 +9,7 @@ use borrow.Author.Tests.{eqb-true, eqb-false}
 use mathlib.Core.Logic.{◌⊎◌, inl, inr}
 use lib.ListN.{length, get_or}
 use Rattle.syntax.specs.Words.{first_name}
-use Rattle.machine.specs.Substitution.{RTerm, RTerms, var, app, rcons, Binding, resolve}
+use Rattle.machine.specs.Substitution.{RTerms, var, app, rcons, Binding, resolve}
 use Rattle.run_layout.specs.Regions.{copies, places, cells, store_words, pairs, pair_of, rows, loaded_node, pair_size}
 use Rattle.run_layout.specs.Nodes.{Node, Row, term_at, terms_at, followed, count}
 use Rattle.run_layout.specs.State.{cell_of, variable_of, word_of, value_of, bindings}
@@ -26,7 +26,7 @@ use Rattle.unify_memos.proofs.Remembering.{value-word, memo-kept, memo-eased, me
 use Rattle.unifier.specs.Rows.{unify_rows, nodes_of, rows_size}
 use Rattle.unifier.specs.Walks.{RowsBeside, Walkable, StopsAt, Walks}
 use Rattle.unifier.specs.Stacks.{end_of, whole_of, row_of, rows_of, Half, Via, Stack, SameRows, no_term, Closes}
-use Rattle.unifier.specs.Turns.{Work, Base, bound, over, Turns, TurnGives, Crossed, PairTurned, Crossable, Crosses, Meetable, Passable, Turnable}
+use Rattle.unifier.specs.Turns.{Work, Base, bound, over, Inside, Turns, TurnGives, Crossed, PairTurned, Crossable, Crosses, Meetable, Passable, Turnable}
 use Rattle.unifier.specs.Walks.{RowsWalked}
 use Rattle.unifier.specs.declared.walk.WalkStop.{WalkStop}
 use Rattle.unifier.specs.declared.walk.WalkStop.TheVariants.{Clash as Differ, Met}
@@ -67,8 +67,11 @@ module _ {nodes state scratch : List ℕ} {h : ℕ} {p q : At} (g : Crossable no
       }
 
   module _ {p1 q1 : At} (to-left : Derefs g.work.ss nodes state g.n p.node p.copy p1.node p1.copy) (to-right : Derefs g.work.ss nodes state g.n q.node q.copy q1.node q1.copy) where
-    later : (newer : List Binding) (s t : RTerm) → resolve (bindings g.work.ss nodes state g.n) s ≡ resolve (bindings g.work.ss nodes state g.n) t → nodes_of (resolve (newer ++ bindings g.work.ss nodes state g.n) s) ≡ nodes_of (resolve (newer ++ bindings g.work.ss nodes state g.n) t)
-    later newer s t e = ap nodes_of (resolve-append newer (bindings g.work.ss nodes state g.n) s ∙ (ap (resolve newer) e ∙ sym (resolve-append newer (bindings g.work.ss nodes state g.n) t)))
+    still : (top : Side) (a a1 : At) → resolve (bound (over g.work)) (term_at g.work.ss nodes a1.node a1.copy) ≡ resolve (bound (over g.work)) (term_at g.work.ss nodes a.node a.copy) → Inside (over g.work) h top a → Inside (over g.work) h top a1
+    still top a a1 e i = λ l newer.
+        let b : List Binding = bound (over g.work) in
+        subst⁻¹ (λ (k : ℕ). k < nodes_of (resolve (newer ++ b) (whole_of g.work.ss nodes top)))
+        (ap nodes_of (resolve-append newer b (term_at g.work.ss nodes a1.node a1.copy) ∙ (ap (resolve newer) e ∙ sym (resolve-append newer b (term_at g.work.ss nodes a.node a.copy))))) (i l newer)
 
     crossing : (v : ℕ) → Via (bindings g.work.ss nodes state g.n) v (term_at g.work.ss nodes p1.node p1.copy) (term_at g.work.ss nodes q1.node q1.copy) → Crossed nodes scratch h p1 q1
     crossing v w =
@@ -81,10 +84,8 @@ module _ {nodes state scratch : List ℕ} {h : ℕ} {p q : At} (g : Crossable no
           right = record { node = to-right.leads.node; copy = to-right.leads.copy; below = to-right.leads.within g.work.top g.work.within g.below_right; stops = to-right.stops };
           via = v;
           via_is = λ x y. w;
-          inside = λ l newer. (let x : nodes_of (resolve (newer ++ bindings g.work.ss nodes state g.n) (term_at g.work.ss nodes p1.node p1.copy)) ≡ nodes_of (resolve (newer ++ bindings g.work.ss nodes state g.n) (term_at g.work.ss nodes p.node p.copy)) = later newer (term_at g.work.ss nodes p1.node p1.copy) (term_at g.work.ss nodes p.node p.copy) to-left.leads.means in
-              let y : nodes_of (resolve (newer ++ bindings g.work.ss nodes state g.n) (term_at g.work.ss nodes p.node p.copy)) < nodes_of (resolve (newer ++ bindings g.work.ss nodes state g.n) (whole_of g.work.ss nodes (left_at scratch (h - 1)))) = g.inside l newer in omega arith);
-          inside_right = λ l newer. (let x : nodes_of (resolve (newer ++ bindings g.work.ss nodes state g.n) (term_at g.work.ss nodes q1.node q1.copy)) ≡ nodes_of (resolve (newer ++ bindings g.work.ss nodes state g.n) (term_at g.work.ss nodes q.node q.copy)) = later newer (term_at g.work.ss nodes q1.node q1.copy) (term_at g.work.ss nodes q.node q.copy) to-right.leads.means in
-              let y : nodes_of (resolve (newer ++ bindings g.work.ss nodes state g.n) (term_at g.work.ss nodes q.node q.copy)) < nodes_of (resolve (newer ++ bindings g.work.ss nodes state g.n) (whole_of g.work.ss nodes (right_at scratch (h - 1)))) = g.inside_right l newer in omega arith);
+          inside = still (left_at scratch (h - 1)) p p1 to-left.leads.means g.inside;
+          inside_right = still (right_at scratch (h - 1)) q q1 to-right.leads.means g.inside_right;
           closes = closes-terms g.work.ss nodes (bindings g.work.ss nodes state g.n) (left_at scratch) (right_at scratch) h (term_at g.work.ss nodes p.node p.copy) (term_at g.work.ss nodes q.node q.copy) (term_at g.work.ss nodes p1.node p1.copy) (term_at g.work.ss nodes q1.node q1.copy) to-left.leads.means to-right.leads.means g.closes;
         }
 
@@ -151,8 +152,8 @@ module _ {nodes state scratch : List ℕ} {h : ℕ} {p q : At} (g : Crossable no
         below = g.below;
         below_right = g.below_right;
         variable = g.variable;
-        inside = λ o newer. subst⁻¹ (λ (s : Side). nodes_of (resolve (newer ++ bindings g.work.ss nodes state g.n) (term_at g.work.ss nodes p.node p.copy)) < nodes_of (resolve (newer ++ bindings g.work.ss nodes state g.n) (whole_of g.work.ss nodes s))) (left-still (h - 1) (omega arith)) (g.inside o newer);
-        inside_right = λ o newer. subst⁻¹ (λ (s : Side). nodes_of (resolve (newer ++ bindings g.work.ss nodes state g.n) (term_at g.work.ss nodes q.node q.copy)) < nodes_of (resolve (newer ++ bindings g.work.ss nodes state g.n) (whole_of g.work.ss nodes s))) (right-still (h - 1) (omega arith)) (g.inside_right o newer);
+        inside = subst⁻¹ (λ (s : Side). Inside (over g.work) h s p) (left-still (h - 1) (omega (arith, g.some))) g.inside;
+        inside_right = subst⁻¹ (λ (s : Side). Inside (over g.work) h s q) (right-still (h - 1) (omega (arith, g.some))) g.inside_right;
         closes = closes-agree g.work.ss nodes (bindings g.work.ss nodes state g.n) (left_at scratch) (right_at scratch) (left_at after) (right_at after) h (term_at g.work.ss nodes p.node p.copy) (term_at g.work.ss nodes q.node q.copy) left-still right-still g.closes;
       }
 

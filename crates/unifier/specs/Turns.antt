@@ -3,7 +3,7 @@ use Rattle.std.specs.Prelude.{ℕ, ◌+◌, ◌-◌, ◌*◌, ◌≤◌, ◌<◌
 use Rattle.std.proofs.Math.Option.{Option, none, some}
 use Rattle.syntax.specs.Words.{first_name}
 use Rattle.syntax.specs.Terms.{Term}
-use Rattle.machine.specs.Substitution.{RTerms, rcons, copied, occurs, Binding, resolve}
+use Rattle.machine.specs.Substitution.{RTerm, RTerms, rcons, copied, occurs, Binding, resolve}
 use Rattle.machine.specs.Unification.{unify}
 use Rattle.run_layout.specs.Regions.{copies, copy_cells, cells}
 use Rattle.run_layout.specs.Nodes.{Symbol, TermLoaded, Node, term_at}
@@ -45,13 +45,22 @@ bound o = bindings o.ss o.nodes o.state o.n
 abbrev pub over : {nodes state scratch : List ℕ} {n h : ℕ} → Work nodes state scratch n h → Base
 over {nodes} {state} {scratch} {n} w = record { ss = w.ss; nodes = nodes; state = state; n = n; top = w.top }
 
+-- From the second pair on the term stands strictly inside the whole of that side of the top pair.
+abbrev pub Inside : Base → ℕ → Side → At → Type 0
+Inside o h top a = 2 ≤ h → (newer : List Binding) → nodes_of (resolve (newer ++ bound o) (term_at o.ss o.nodes a.node a.copy))
+    < nodes_of (resolve (newer ++ bound o) (whole_of o.ss o.nodes top))
+
+-- the stack in these scratch words closes, with these terms
+abbrev pub ClosesWith : Base → List ℕ → ℕ → RTerm → RTerm → Type 0
+ClosesWith o scratch h left right = Closes o.ss o.nodes (bound o) (left_at scratch) (right_at scratch) h left right
+
 -- The rows to be unified are now those of a stack of height k, and less is left.
 pub record Goes (o : Base) (ls rs : RTerms) (size : ℕ) (after : List ℕ) (k : ℕ) : Type 0 where
   pub stack : Stack o.ss o.nodes (bound o) o.top (left_at after) (right_at after) k
   pub means : unify_rows (bound o) ls rs ≡ unify_rows (bound o) (rows_of o.ss o.nodes (left_at after) k) (rows_of o.ss o.nodes (right_at after) k)
   pub less : 2 * rows_size (bound o) (rows_of o.ss o.nodes (left_at after) k) + k < size
   pub memo : Memo o.ss o.nodes (bound o) after
-  pub closes : Closes o.ss o.nodes (bound o) (left_at after) (right_at after) k no_term no_term
+  pub closes : ClosesWith o after k no_term no_term
 
 -- The variable of cell x is to be bound to the term a, unless it stands in it; then there is no unifier.
 pub record Binds (o : Base) (ls rs : RTerms) (after : List ℕ) (k x : ℕ) (a : At) : Type 0 where
@@ -114,12 +123,9 @@ pub record Crossed (nodes scratch : List ℕ) (h : ℕ) (p q : At) : Type 0 wher
   pub via : ℕ
   pub via_is : get_or nodes p.node 0 ≡ get_or nodes q.node 0 → first_name ≤ get_or nodes p.node 0
       → Via (bindings work.ss nodes state n) via (term_at work.ss nodes p.node p.copy) (term_at work.ss nodes q.node q.copy)
-  pub inside : 2 ≤ h → (newer : List Binding) → nodes_of (resolve (newer ++ bindings work.ss nodes state n) (term_at work.ss nodes p.node p.copy))
-      < nodes_of (resolve (newer ++ bindings work.ss nodes state n) (whole_of work.ss nodes (left_at scratch (h - 1))))
-  pub inside_right : 2 ≤ h → (newer : List Binding) → nodes_of (resolve (newer ++ bindings work.ss nodes state n) (term_at work.ss nodes q.node q.copy))
-      < nodes_of (resolve (newer ++ bindings work.ss nodes state n) (whole_of work.ss nodes (right_at scratch (h - 1))))
-  pub closes : Closes work.ss nodes (bindings work.ss nodes state n) (left_at scratch) (right_at scratch) h (term_at work.ss nodes p.node p.copy)
-      (term_at work.ss nodes q.node q.copy)
+  pub inside : Inside (over work) h (left_at scratch (h - 1)) p
+  pub inside_right : Inside (over work) h (right_at scratch (h - 1)) q
+  pub closes : ClosesWith (over work) scratch h (term_at work.ss nodes p.node p.copy) (term_at work.ss nodes q.node q.copy)
 
 -- The same with two names that are the same.
 pub record Openable (scratch : List ℕ) (h : ℕ) (p q : At) : Type 0 where
@@ -144,12 +150,9 @@ pub record Crossable (nodes state scratch : List ℕ) (h : ℕ) (p q : At) : Typ
   pub below : p.copy ≤ work.top
   pub below_right : q.copy ≤ work.top
   pub variable : (get_or nodes p.node 0 < first_name) ⊎ (get_or nodes q.node 0 < first_name)
-  pub inside : 2 ≤ h → (newer : List Binding) → nodes_of (resolve (newer ++ bindings work.ss nodes state n) (term_at work.ss nodes p.node p.copy))
-      < nodes_of (resolve (newer ++ bindings work.ss nodes state n) (whole_of work.ss nodes (left_at scratch (h - 1))))
-  pub inside_right : 2 ≤ h → (newer : List Binding) → nodes_of (resolve (newer ++ bindings work.ss nodes state n) (term_at work.ss nodes q.node q.copy))
-      < nodes_of (resolve (newer ++ bindings work.ss nodes state n) (whole_of work.ss nodes (right_at scratch (h - 1))))
-  pub closes : Closes work.ss nodes (bindings work.ss nodes state n) (left_at scratch) (right_at scratch) h (term_at work.ss nodes p.node p.copy)
-      (term_at work.ss nodes q.node q.copy)
+  pub inside : Inside (over work) h (left_at scratch (h - 1)) p
+  pub inside_right : Inside (over work) h (right_at scratch (h - 1)) q
+  pub closes : ClosesWith (over work) scratch h (term_at work.ss nodes p.node p.copy) (term_at work.ss nodes q.node q.copy)
 
 abbrev pub Crosses : {nodes state before : List ℕ} {h : ℕ} {p q : At} → Crossable nodes state before h p q → List ℕ → Turn → Type 0
 Crosses {nodes} {state} {before} {h} {p} {q} g after t = TermsTurned g.work p q after t
@@ -163,7 +166,7 @@ pub record Meetable (nodes state scratch : List ℕ) (h : ℕ) (l r : Side) : Ty
   pub right_is : r ≡ record (right_at scratch (h - 1)) { at = r.at }
   pub meets : StopsAt work.ss nodes (left_at scratch (h - 1)).at (end_of nodes (left_at scratch (h - 1)))
       (right_at scratch (h - 1)).at (end_of nodes (right_at scratch (h - 1))) l.at r.at
-  pub closes : Closes work.ss nodes (bindings work.ss nodes state n) (left_at scratch) (right_at scratch) h no_term no_term
+  pub closes : ClosesWith (over work) scratch h no_term no_term
 
 -- The top pair of a stack, what is left of whose rows is the same.
 pub record Passable (scratch : List ℕ) (h : ℕ) (l r : Side) : Type 0 where
@@ -175,19 +178,19 @@ pub record Passable (scratch : List ℕ) (h : ℕ) (l r : Side) : Type 0 where
   pub left_is : l ≡ left_at scratch (h - 1)
   pub right_is : r ≡ right_at scratch (h - 1)
   pub walks : Walks work.ss nodes l.at (end_of nodes l) r.at (end_of nodes r) (Ok tt)
-  pub closes : Closes work.ss nodes (bindings work.ss nodes state n) (left_at scratch) (right_at scratch) h no_term no_term
+  pub closes : ClosesWith (over work) scratch h no_term no_term
 
 -- n bindings, and a stack that is not empty
 pub record Turnable (nodes state scratch : List ℕ) (h : ℕ) : Type 0 where
   pub n : ℕ
   pub work : Work nodes state scratch n h
   pub some : 1 ≤ h
-  pub closes : Closes work.ss nodes (bindings work.ss nodes state n) (left_at scratch) (right_at scratch) h no_term no_term
+  pub closes : ClosesWith (over work) scratch h no_term no_term
 
 -- n bindings, and a stack
 pub record ReadyToUnify (nodes state scratch : List ℕ) (n h : ℕ) : Type 0 where
   pub work : Work nodes state scratch n h
-  pub closes : Closes work.ss nodes (bindings work.ss nodes state n) (left_at scratch) (right_at scratch) h no_term no_term
+  pub closes : ClosesWith (over work) scratch h no_term no_term
 
 -- ---- turns until something is to be bound
 
@@ -214,7 +217,7 @@ answered false b = none
 -- n bindings, one pair on the stack, no cell marked, and an order of cells
 pub record Solvable (nodes state scratch : List ℕ) (n : ℕ) : Type 0 where
   pub work : Work nodes state scratch n 1
-  pub closes : Closes work.ss nodes (bindings work.ss nodes state n) (left_at scratch) (right_at scratch) 1 no_term no_term
+  pub closes : ClosesWith (over work) scratch 1 no_term no_term
   pub clean : Clean scratch
   pub order : Ordered work.ss nodes state scratch
 

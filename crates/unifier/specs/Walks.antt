@@ -1,5 +1,5 @@
 -- Two rows of terms side by side, and how far they are the same.
-use Rattle.std.specs.Prelude.{ℕ, ◌≤◌, ◌<◌, ◌≡◌, Result, Ok, Err, List, ◌⊎◌, get_or}
+use Rattle.std.specs.Prelude.{ℕ, ◌+◌, ◌≤◌, ◌<◌, ◌≡◌, Result, Ok, Err, List, ◌⊎◌, get_or}
 use Rattle.std.proofs.Math.Option.{none}
 use Rattle.syntax.specs.Words.{first_name}
 use Rattle.machine.specs.Substitution.{RTerms, Binding}
@@ -46,3 +46,10 @@ Walks ss nodes p e q f (Ok u) = (b : List Binding) (c d : ℕ) (l r : RTerms) �
 Walks ss nodes p e q f (Err Clash) = (b : List Binding) (c d : ℕ) (l r : RTerms) → unify_rows b (followed (terms_at ss nodes p e c) l)
     (followed (terms_at ss nodes q f d) r) ≡ none
 Walks ss nodes p e q f (Err (Met i j)) = StopsAt ss nodes p e q f i j
+
+-- What a walk over the terms at p and q comes to, and one over the rows from p and q, wherever the other row ends.
+abbrev pub WalksTerms : List ℕ → ℕ → ℕ → RowsWalked → Type 0
+WalksTerms nodes p q r = (g : TwoNodes nodes p q) → Walks g.ss nodes p (p + get_or nodes (p + 1) 0) q (q + get_or nodes (q + 1) 0) r
+
+abbrev pub WalksRows : List ℕ → ℕ → ℕ → ℕ → RowsWalked → Type 0
+WalksRows nodes p e q r = (g : Walkable nodes p e q) → Walks g.ss nodes p e q g.f r

@@ -2,8 +2,7 @@
 // at most 8 terms left, so the calls nest some 150 deep at most.
 // The nodes and three places are parameters of each function and no struct: a walk changes two of the places at each call, and these are the calls whose
 // instructions are counted at `begin_list`.
-ghost use Rattle.std.specs.Prelude.{◌+◌, get_or};
-ghost use Rattle.unifier.specs.Walks.{Walkable, TwoNodes, Walks};
+ghost use Rattle.unifier.specs.Walks.{Walkable, TwoNodes, WalksTerms, WalksRows};
 
 use run_layout::LOADED_NODE;
 use syntax::FIRST_NAME;
@@ -20,8 +19,7 @@ pub enum WalkStop {
 #[cycle(unify_list_unify_term)]
 pub fn unify_term(nodes: &[u32], p: usize, q: usize) -> Result<(), WalkStop>
     requires { TwoNodes nodes.now p q }
-    ensures { (g : TwoNodes nodes.now p q) → Walks g.ss nodes.now p (p + get_or nodes.now (p + 1) 0) q
-        (q + get_or nodes.now (q + 1) 0) result }
+    ensures { WalksTerms nodes.now p q result }
 {
     let w = word_at(nodes, p);
     let z = word_at(nodes, q);
@@ -44,7 +42,7 @@ pub fn unify_term(nodes: &[u32], p: usize, q: usize) -> Result<(), WalkStop>
 #[cycle(unify_list_unify_term)]
 pub fn unify_list(nodes: &[u32], p: usize, e: usize, q: usize) -> Result<(), WalkStop>
     requires { Walkable nodes.now p e q }
-    ensures { (g : Walkable nodes.now p e q) → Walks g.ss nodes.now p e q g.f result }
+    ensures { WalksRows nodes.now p e q result }
 {
     if e <= p {
         return Ok(());
@@ -60,7 +58,7 @@ pub fn unify_list(nodes: &[u32], p: usize, e: usize, q: usize) -> Result<(), Wal
 // callgrind, in a build with checks: it is 91.2 and 165.8 with the pair alone, 85.9 and 154.6 with these.
 fn begin_list(nodes: &[u32], p: usize, e: usize, q: usize) -> Result<(), WalkStop>
     requires { Walkable nodes.now p e q }
-    ensures { (g : Walkable nodes.now p e q) → Walks g.ss nodes.now p e q g.f result }
+    ensures { WalksRows nodes.now p e q result }
 {
     if e <= p {
         return Ok(());
@@ -77,8 +75,7 @@ fn begin_list(nodes: &[u32], p: usize, e: usize, q: usize) -> Result<(), WalkSto
 // As `unify_term`, its arguments by `begin_list`. One function for both would take the one to go on with, a closure in a cycle of calls: no plainer.
 fn begin_term(nodes: &[u32], p: usize, q: usize) -> Result<(), WalkStop>
     requires { TwoNodes nodes.now p q }
-    ensures { (g : TwoNodes nodes.now p q) → Walks g.ss nodes.now p (p + get_or nodes.now (p + 1) 0) q
-        (q + get_or nodes.now (q + 1) 0) result }
+    ensures { WalksTerms nodes.now p q result }
 {
     let w = word_at(nodes, p);
     let z = word_at(nodes, q);
@@ -100,7 +97,7 @@ fn begin_term(nodes: &[u32], p: usize, q: usize) -> Result<(), WalkStop>
 // As `unify_list`, its first terms by `begin_term`: most walks end there, and have called nothing that answers through memory.
 pub fn walk_rows(nodes: &[u32], p: usize, e: usize, q: usize) -> Result<(), WalkStop>
     requires { Walkable nodes.now p e q }
-    ensures { (g : Walkable nodes.now p e q) → Walks g.ss nodes.now p e q g.f result }
+    ensures { WalksRows nodes.now p e q result }
 {
     if e <= p {
         return Ok(());

@@ -11,11 +11,11 @@ use Rattle.loader.proofs.Runs.{Running, run-begin, turn, run_end}
 use Rattle.loader.proofs.copying.copy_nodes.Goals as goal
 
 -- the node that is copied stands in the table, and there is room for its copy
-room : {table : List ℕ} {stop text : ℕ} {before : List ℕ} {at : ℕ} {whole nodes : List ℕ} {p q : ℕ} → p < stop → Running table stop text before at whole nodes p q → length table ≤ program_words → length nodes ≡ length before
-    → nodes_words ≤ length before → (p + 3 ≤ length table) × (q + 2 ≤ length nodes)
-room {table} {stop} {text} {before} {at} {whole} {nodes} {p} {q} l r short long fits =
+room : {table : List ℕ} {stop text : ℕ} {before : List ℕ} {at : ℕ} {whole nodes : List ℕ} {p q : ℕ} {A : Type 0} → p < stop → Running table stop text before at whole nodes p q → length nodes ≡ length before
+    → (length table ≤ program_words) × ((nodes_words ≤ length before) × A) → (length table ≤ program_words) × ((p + 3 ≤ length table) × (q + 2 ≤ length nodes))
+room {table} {stop} {text} {before} {at} {whole} {nodes} {p} {q} l r long pre =
     let i : p + 3 ≤ length table = (turn table stop text before at whole nodes p q l r).inside in
-    (i, omega (arith, r.near))
+    (pre.0, (i, omega (arith, r.near, pre.0, pre.1.0)))
 
 pub loop-p-init : goal.loop-p-init
 loop-p-init c = (refl, λ w. run-begin c.args.table.now c.args.from c.args.stop (number_of c.args.source) c.args.nodes.now c.args.at c.requires.room.1.1 w)
@@ -24,56 +24,43 @@ pub name_word-requires : goal.name_word-requires
 name_word-requires c = (turn _ _ _ _ _ _ _ _ _ c.loop-p-test.true (c.loop-p.invariant.1 c.requires.run_at)).fits
 
 pub offset_bounds-table-p : goal.offset_bounds-table-p
-offset_bounds-table-p c = let pre = c.requires.room in
-    omega (arith, pre.0, room c.loop-p-test.true (c.loop-p.invariant.1 c.requires.run_at) pre.0 c.loop-p.invariant.0 pre.1.0)
+offset_bounds-table-p c = omega (arith, room c.loop-p-test.true (c.loop-p.invariant.1 c.requires.run_at) c.loop-p.invariant.0 c.requires.room)
 
 pub bounds-table-p : goal.bounds-table-p
-bounds-table-p c = let pre = c.requires.room in
-    omega (arith, pre.0, room c.loop-p-test.true (c.loop-p.invariant.1 c.requires.run_at) pre.0 c.loop-p.invariant.0 pre.1.0)
+bounds-table-p c = omega (arith, room c.loop-p-test.true (c.loop-p.invariant.1 c.requires.run_at) c.loop-p.invariant.0 c.requires.room)
 
 pub overflow_add-p : goal.overflow_add-p
-overflow_add-p c = let pre = c.requires.room in
-    omega (arith, pre.0, room c.loop-p-test.true (c.loop-p.invariant.1 c.requires.run_at) pre.0 c.loop-p.invariant.0 pre.1.0)
+overflow_add-p c = omega (arith, room c.loop-p-test.true (c.loop-p.invariant.1 c.requires.run_at) c.loop-p.invariant.0 c.requires.room)
 
 pub offset_bounds-table-p-in-loop-p : goal.offset_bounds-table-p-in-loop-p
-offset_bounds-table-p-in-loop-p c = let pre = c.requires.room in
-    omega (arith, pre.0, room c.loop-p-test.true (c.loop-p.invariant.1 c.requires.run_at) pre.0 c.loop-p.invariant.0 pre.1.0)
+offset_bounds-table-p-in-loop-p c = omega (arith, room c.loop-p-test.true (c.loop-p.invariant.1 c.requires.run_at) c.loop-p.invariant.0 c.requires.room)
 
 pub bounds-table-p-in-loop-p : goal.bounds-table-p-in-loop-p
-bounds-table-p-in-loop-p c = let pre = c.requires.room in
-    omega (arith, pre.0, room c.loop-p-test.true (c.loop-p.invariant.1 c.requires.run_at) pre.0 c.loop-p.invariant.0 pre.1.0)
+bounds-table-p-in-loop-p c = omega (arith, room c.loop-p-test.true (c.loop-p.invariant.1 c.requires.run_at) c.loop-p.invariant.0 c.requires.room)
 
 pub offset_bounds-nodes-q : goal.offset_bounds-nodes-q
-offset_bounds-nodes-q c = let pre = c.requires.room in
-    omega (arith, pre.0, room c.loop-p-test.true (c.loop-p.invariant.1 c.requires.run_at) pre.0 c.loop-p.invariant.0 pre.1.0)
+offset_bounds-nodes-q c = omega (arith, room c.loop-p-test.true (c.loop-p.invariant.1 c.requires.run_at) c.loop-p.invariant.0 c.requires.room)
 
 pub bounds-nodes-q : goal.bounds-nodes-q
-bounds-nodes-q c = let pre = c.requires.room in
-    omega (arith, pre.0, room c.loop-p-test.true (c.loop-p.invariant.1 c.requires.run_at) pre.0 c.loop-p.invariant.0 pre.1.0)
+bounds-nodes-q c = omega (arith, room c.loop-p-test.true (c.loop-p.invariant.1 c.requires.run_at) c.loop-p.invariant.0 c.requires.room)
 
 pub offset_bounds-table-p-in-loop-p-2 : goal.offset_bounds-table-p-in-loop-p-2
-offset_bounds-table-p-in-loop-p-2 c = let pre = c.requires.room in
-    omega (arith, pre.0, room c.loop-p-test.true (c.loop-p.invariant.1 c.requires.run_at) pre.0 c.loop-p.invariant.0 pre.1.0)
+offset_bounds-table-p-in-loop-p-2 c = omega (arith, room c.loop-p-test.true (c.loop-p.invariant.1 c.requires.run_at) c.loop-p.invariant.0 c.requires.room)
 
 pub bounds-table-p-in-loop-p-2 : goal.bounds-table-p-in-loop-p-2
-bounds-table-p-in-loop-p-2 c = let pre = c.requires.room in
-    omega (arith, pre.0, room c.loop-p-test.true (c.loop-p.invariant.1 c.requires.run_at) pre.0 c.loop-p.invariant.0 pre.1.0)
+bounds-table-p-in-loop-p-2 c = omega (arith, room c.loop-p-test.true (c.loop-p.invariant.1 c.requires.run_at) c.loop-p.invariant.0 c.requires.room)
 
 pub overflow_add-nodes : goal.overflow_add-nodes
-overflow_add-nodes c = let pre = c.requires.room in
-    omega (arith, pre.0, room c.loop-p-test.true (c.loop-p.invariant.1 c.requires.run_at) pre.0 c.loop-p.invariant.0 pre.1.0)
+overflow_add-nodes c = omega (arith, room c.loop-p-test.true (c.loop-p.invariant.1 c.requires.run_at) c.loop-p.invariant.0 c.requires.room)
 
 pub offset_bounds-nodes-q-in-loop-p : goal.offset_bounds-nodes-q-in-loop-p
-offset_bounds-nodes-q-in-loop-p c = let pre = c.requires.room in
-    omega (arith, pre.0, room c.loop-p-test.true (c.loop-p.invariant.1 c.requires.run_at) pre.0 c.loop-p.invariant.0 pre.1.0)
+offset_bounds-nodes-q-in-loop-p c = omega (arith, room c.loop-p-test.true (c.loop-p.invariant.1 c.requires.run_at) c.loop-p.invariant.0 c.requires.room)
 
 pub bounds-nodes-q-in-loop-p : goal.bounds-nodes-q-in-loop-p
-bounds-nodes-q-in-loop-p c = let pre = c.requires.room in
-    omega (arith, pre.0, room c.loop-p-test.true (c.loop-p.invariant.1 c.requires.run_at) pre.0 c.loop-p.invariant.0 pre.1.0, length-set c.loop-p.nodes c.loop-p.q c.name_word.result)
+bounds-nodes-q-in-loop-p c = omega (arith, room c.loop-p-test.true (c.loop-p.invariant.1 c.requires.run_at) c.loop-p.invariant.0 c.requires.room, length-set c.loop-p.nodes c.loop-p.q c.name_word.result)
 
 pub overflow_add-q : goal.overflow_add-q
-overflow_add-q c = let pre = c.requires.room in
-    omega (arith, pre.0, room c.loop-p-test.true (c.loop-p.invariant.1 c.requires.run_at) pre.0 c.loop-p.invariant.0 pre.1.0)
+overflow_add-q c = omega (arith, room c.loop-p-test.true (c.loop-p.invariant.1 c.requires.run_at) c.loop-p.invariant.0 c.requires.room)
 
 pub loop-p-preserved : goal.loop-p-preserved
 loop-p-preserved c = (

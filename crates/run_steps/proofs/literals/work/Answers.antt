@@ -9,16 +9,16 @@ pub word_at-kind-requires : goal.word_at-kind-requires
 word_at-kind-requires c = omega (arith, work-inside c.requires c.top_at-s.ensures)
 
 pub work_call-requires : goal.work_call-requires
-work_call-requires c = record { steppable = c.requires; s_value = c.top_at-s.ensures; h_value = kind-read c.requires c.top_at-s.ensures c.word_at-kind.ensures c.if-kind-eq-CALL_KIND.true }
+work_call-requires c = record { steppable = c.requires; top_is = c.top_at-s.ensures; kind_is = kind-read c.requires c.top_at-s.ensures c.word_at-kind.ensures c.if-kind-eq-CALL_KIND.true }
 
 pub work_equation-requires : goal.work_equation-requires
-work_equation-requires c = record { steppable = c.requires; s_value = c.top_at-s.ensures; h_value = kind-read c.requires c.top_at-s.ensures c.word_at-kind.ensures c.if-kind-eq-EQUATION_KIND.true }
+work_equation-requires c = record { steppable = c.requires; top_is = c.top_at-s.ensures; kind_is = kind-read c.requires c.top_at-s.ensures c.word_at-kind.ensures c.if-kind-eq-EQUATION_KIND.true }
 
 pub work_either-requires : goal.work_either-requires
-work_either-requires c = record { by_index = (c.args.program.nodes.now, c.args.scratch.now, c.requires); s_value = c.top_at-s.ensures; h_value = kind-read c.requires c.top_at-s.ensures c.word_at-kind.ensures c.if-kind-eq-SPLIT_KIND.true }
+work_either-requires c = (c.args.program.nodes.now, c.args.scratch.now, record { steppable = c.requires; top_is = c.top_at-s.ensures; kind_is = kind-read c.requires c.top_at-s.ensures c.word_at-kind.ensures c.if-kind-eq-SPLIT_KIND.true })
 
 pub returns-then-kind-eq-SPLIT_KIND : goal.returns-then-kind-eq-SPLIT_KIND
-returns-then-kind-eq-SPLIT_KIND c = λ w. c.work_either.ensures c.args.program.nodes.now c.args.scratch.now w
+returns-then-kind-eq-SPLIT_KIND c = c.work_either.ensures c.args.program.nodes.now c.args.scratch.now
 
 pub next_literal-requires : goal.next_literal-requires
 next_literal-requires c = omega (arith, work-inside c.requires c.top_at-s.ensures)
