@@ -3,20 +3,22 @@
     tests/adversary.py [KIND [N]]       times of crates/runner/out/runner at n and 2n, for one kind or all
     tests/adversary.py KIND N FOLDER    writes the files `sheet` and `goal` there
 
-RUNNER names another runner. An alternative has at most 255 copies, so n cannot be much more than as given here; at 2n a step may take at most three times as
-long as at n (the time of a run that does nothing is taken off).
+RUNNER names another runner. An alternative has at most 255 copies, so n cannot be much more than as given here; a run at 2n may take at most a tenth of a second.
+A term of n copies of a clause term that is n times as long has four times the cells at 2n. The ratio is of what a run takes beyond the time of one that does nothing.
 """
 
 import os
+import resource
 import subprocess
 import sys
 import tempfile
-import time
 
 ARGUMENTS = 8
 BRACKETS = 16
 LINKS = 48  # the variables of a chain in one copy
-RATIO = 3
+BOUND = 0.1  # seconds
+LEAST = 0.002  # seconds; a run that takes less is told by its start
+ROUNDS = 3
 
 
 def numeral(name, n):
@@ -180,18 +182,30 @@ def write(kind, n, folder):
 
 
 def seconds(runner, folder):
-    """CPU seconds of a run, and the last line that it prints."""
-    before = os.times()
-    out = subprocess.run([runner], cwd=folder, capture_output=True, text=True, check=False).stdout
-    after = os.times()
-    return after.children_user + after.children_system - before.children_user - before.children_system, out.strip().split("\n")[-1]
+    """CPU seconds of the fastest of three runs, and the last line that it prints."""
+    times = []
+    for _ in range(ROUNDS):
+        before = resource.getrusage(resource.RUSAGE_CHILDREN)
+        out = subprocess.run([runner], cwd=folder, capture_output=True, text=True, check=False).stdout
+        after = resource.getrusage(resource.RUSAGE_CHILDREN)
+        times.append(after.ru_utime + after.ru_stime - before.ru_utime - before.ru_stime)
+    return min(times), out.strip().split("\n")[-1]
+
+
+def idle(runner):
+    """CPU seconds of a run that does nothing."""
+    with tempfile.TemporaryDirectory() as folder:
+        for name, text in (("sheet", ""), ("goal", "true.")):
+            with open(os.path.join(folder, name), "w") as f:
+                f.write(text)
+        return seconds(runner, folder)[0]
 
 
 def measure(runner, kind, n):
     with tempfile.TemporaryDirectory() as folder:
         sizes = write(kind, n, folder)
         taken, last = seconds(runner, folder)
-    print(f"{kind:19} n {n:4} sheet {sizes['sheet']:6} goal {sizes['goal']:5}  {taken:8.2f} s  {last}", flush=True)
+    print(f"{kind:19} n {n:4} sheet {sizes['sheet']:6} goal {sizes['goal']:5}  {1000 * taken:8.1f} ms  {last}", flush=True)
     return taken
 
 
@@ -200,13 +214,12 @@ def main(args):
     if len(args) == 3:
         print(write(args[0], int(args[1]), args[2]))
         return 0
-    slow = []
+    slow, start = [], idle(runner)
     for kind in args[:1] or KINDS:
         n = int(args[1]) if len(args) > 1 else KINDS[kind][1]
         first, second = measure(runner, kind, n), measure(runner, kind, 2 * n)
-        ratio = second / max(first, 0.02)
-        print(f"{kind:19} {ratio:.1f} times as long")
-        slow += [kind] if ratio > RATIO else []
+        print(f"{kind:19} {(second - start) / max(first - start, LEAST):.1f} times as long")
+        slow += [kind] if second > BOUND else []
     print("slow: " + ", ".join(slow) if slow else "none is slow")
     return 1 if slow else 0
 
