@@ -1,7 +1,7 @@
 """Sheets and goals in which one step is made to take long, at a size n, and the runner's time on them.
 
     tests/adversary.py [KIND [N]]       times of crates/runner/out/runner at n and 2n, for one kind or all
-    tests/adversary.py KIND N FOLDER    writes the files `sheet` and `goal` there
+    tests/adversary.py KIND N FOLDER [CHOICES]    writes the files `sheet` and `goal` there; with CHOICES, at most 13, the long step is taken 2^CHOICES times
 
 RUNNER names another runner. An alternative has at most 255 copies, so n cannot be much more than as given here; a run at 2n may take at most a tenth of a second.
 A term of n copies of a clause term that is n times as long has four times the cells at 2n. The ratio is of what a run takes beyond the time of one that does nothing.
@@ -166,15 +166,18 @@ KINDS = {
 }
 
 
-def texts(kind, n):
-    """A sheet and a goal."""
+def texts(kind, n, choices=0):
+    """A sheet and a goal; with choices the last literal is met anew in each of 2^choices alternatives, none of which is an answer."""
     sheet, body = KINDS[kind][0](n)
+    if choices:
+        sheet += [":- mode c. c. c.", ":- mode cs. cs :- " + ", ".join(["c"] * choices) + "."]
+        body = [*body[:-1], "cs", body[-1], "fail"]
     return "\n".join([*sheet, ":- mode run.", "run :- " + ", ".join(body) + "."]) + "\n", "run.\n"
 
 
-def write(kind, n, folder):
+def write(kind, n, folder, choices=0):
     sizes = {}
-    for name, text in zip(("sheet", "goal"), texts(kind, n)):
+    for name, text in zip(("sheet", "goal"), texts(kind, n, choices)):
         sizes[name] = len(text)
         with open(os.path.join(folder, name), "w") as f:
             f.write(text)
@@ -211,8 +214,8 @@ def measure(runner, kind, n):
 
 def main(args):
     runner = os.path.abspath(os.environ.get("RUNNER", "crates/runner/out/runner"))
-    if len(args) == 3:
-        print(write(args[0], int(args[1]), args[2]))
+    if len(args) >= 3:
+        print(write(args[0], int(args[1]), args[2], *map(int, args[3:4])))
         return 0
     slow, start = [], idle(runner)
     for kind in args[:1] or KINDS:
