@@ -16,7 +16,7 @@ use Rattle.run_layout.specs.Regions.{nodes_words, code_words, store_words, narro
 use Rattle.run_layout.specs.Limits.{GoalLimited}
 use Rattle.run_layout.specs.Program.{Program}
 use Rattle.run_layout.proofs.State.{no-entries}
-use Rattle.run_alternatives.specs.declared.Compiled.{Compiled}
+use Rattle.link_records.specs.declared.Compiled.{Compiled}
 use Rattle.loader.specs.Loading.{Loadable, Loaded}
 use Rattle.linker.specs.Linking.{Linkable}
 use Rattle.determinacy.specs.declared.Determinacy.{Determinacy}

@@ -17,7 +17,7 @@ use Rattle.mode_marks.specs.Tables.{AtomAt}
 use Rattle.mode_marks.specs.Stand.{Stand}
 use Rattle.mode_marks.specs.declared.marks.Declarations.{Declarations}
 use Rattle.machine.specs.Machine.{clause_at}
-use Rattle.run_alternatives.specs.declared.Compiled.{Compiled}
+use Rattle.link_records.specs.declared.Compiled.{Compiled}
 use Rattle.machine.specs.Determinacy.{first_overlap, Pair, first_pair, judged_by}
 use Rattle.determinacy.specs.Told.{told}
 use Rattle.determinacy_brackets.specs.Clauses.{told_number}

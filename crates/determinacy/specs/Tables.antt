@@ -8,7 +8,7 @@ use Rattle.mode_marks.specs.declared.marks.Declarations.{Declarations}
 use Rattle.run_layout.specs.Limits.{SheetLimited}
 use Rattle.run_layout.specs.Nodes.{Symbol}
 use Rattle.run_layout.specs.Program.{Program}
-use Rattle.run_alternatives.specs.declared.Compiled.{Compiled}
+use Rattle.link_records.specs.declared.Compiled.{Compiled}
 use Rattle.determinacy_overlaps.specs.Overlaps.{NothingBound}
 
 -- a sheet of which the n declarations and k clauses stand in tables, within the limits of RULES

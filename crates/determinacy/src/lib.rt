@@ -11,12 +11,12 @@ ghost use Rattle.determinacy.specs.Told.{told};
 ghost use Rattle.determinacy.specs.Tables.{SheetLinked, SheetReady};
 
 use determinacy_brackets::bracketed_clause;
+use link_records::Compiled;
 use linker::link;
 use load_words::{ReadGoal, ReadSheet};
 use loader::load_nodes;
 use mode_marks::marks::Declarations;
 use pairs::first_pair;
-use run_alternatives::Compiled;
 use run_layout::{CODE_WORDS, NARROW_WORDS, NODES_WORDS, STORE_WORDS};
 use run_rooms::cleared;
 use syntax::Refusal;

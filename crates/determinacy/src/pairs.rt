@@ -6,8 +6,8 @@ ghost use Rattle.determinacy.specs.Tables.{PairsReady};
 
 use crate::Determinacy;
 use determinacy_overlaps::first_overlap;
+use link_records::Compiled;
 use mode_marks::marks::{Declarations, ReadText};
-use run_alternatives::Compiled;
 use syntax::CLAUSE_START;
 use table_words::past_clause;
 

@@ -8,7 +8,7 @@ ghost use Rattle.run_layout.specs.Program.{head_at, after_at};
 ghost use Rattle.determinacy_overlaps.specs.Overlaps.{some_number, PairOf, Overlaps, ClauseOf, FirstBehind};
 
 use determinacy_inputs::{Arguments, join_inputs};
-use run_alternatives::Compiled;
+use link_records::Compiled;
 use run_layout::{CLAUSE_SIZE, LOADED_NODE};
 use table_words::{past, word_at};
 use unify_bindings::store::undo;

@@ -19,6 +19,14 @@ pub struct Places {
     pub literal: usize,
 }
 
+// What a program was compiled to: the nodes of its terms, and the code of its clauses and goal. State and scratch words are no part of it: a struct with a
+// `&mut` field would have each function promise that it is still the same reference.
+#[derive(Clone, Copy)]
+pub struct Compiled<'a> {
+    pub nodes: &'a [u32],
+    pub code: &'a [u32],
+}
+
 // How many words some nodes take once they are loaded, by how many they take as read. `words` is the number of words as read, `others` the number
 // of those that belong to no node: an item's first word, a clause's length and its two counts.
 pub fn nodes_of(words: usize, others: usize) -> usize

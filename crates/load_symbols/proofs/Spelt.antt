@@ -10,7 +10,7 @@ use Rattle.syntax.specs.Terms.{same_bytes}
 use Rattle.run_layout.specs.Regions.{most_nodes}
 use Rattle.machine.proofs.Tests.{name-eq}
 use Rattle.run_layout.specs.Nodes.{is_symbol}
-use Rattle.out_terms.specs.Words.{text_of}
+use Rattle.run_layout.specs.SymbolNames.{text_of}
 use Rattle.run_layout.specs.Symbols.{symbol_place, symbol_length, symbol_text}
 use Rattle.load_symbols.specs.Symbols.{word_name, SymbolInside, symbol_at}
 

@@ -3,7 +3,7 @@ use Rattle.std.specs.Prelude.{ℕ, zero, suc, ◌+◌, ◌<◌, ◌≤◌, List,
 use Rattle.run_layout.specs.Regions.{most_nodes}
 use Rattle.run_layout.specs.Nodes.{Symbol}
 use Rattle.run_layout.specs.Symbols.{symbol_place, symbol_length}
-use Rattle.out_terms.specs.Words.{text_of, symbol_name}
+use Rattle.run_layout.specs.SymbolNames.{text_of, symbol_name}
 
 -- ---- symbols
 

@@ -10,7 +10,7 @@ ghost use Rattle.syntax.specs.Limits.{arguments};
 ghost use Rattle.run_layout.specs.Regions.{most_nodes};
 ghost use Rattle.run_layout.specs.Nodes.{is_symbol, symbol_of};
 
-use out_terms::symbols::text_of;
+use run_layout::symbols::text_of;
 use run_layout::{MOST_NODES, symbol_length, symbol_place};
 use texts::same_bytes;
 

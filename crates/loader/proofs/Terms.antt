@@ -14,7 +14,7 @@ use Rattle.mode_marks.specs.Standing.{NameAt, TermSpelt, TermsSpelt, stands_vari
 use Rattle.machine.proofs.Tests.{and}
 use Rattle.run_layout.specs.Nodes.{Symbol, symbol_of, is_listed, loaded_words, loaded_all, is_loadable, are_loadable}
 use Rattle.run_layout.specs.Program.{literal_nodes, body_nodes, clause_nodes, clauses_nodes, literal_loadable, body_loadable, clauses_loadable}
-use Rattle.out_terms.specs.Words.{text_of}
+use Rattle.run_layout.specs.SymbolNames.{text_of}
 use Rattle.run_layout.specs.Symbols.{symbol_word, symbol_place, symbol_length, symbol_text}
 use Rattle.run_layout.proofs.Symbols.{word-length, word-text, word-place}
 use Rattle.load_words.specs.Flat.{NodeAsRead, parsed_words, term_parsed, terms_parsed, literal_parsed, body_parsed, clause_parsed, clauses_parsed, Flat, flat_words, flat_name, flat_symbol, flat_arity, flat_what, flat_all}

@@ -12,7 +12,7 @@ use Rattle.table_words.proofs.Laws.{has-inside}
 use Rattle.run_layout.specs.Regions.{loaded_node, most_nodes, nodes_words}
 use Rattle.run_layout.specs.Nodes.{Symbol, name_of_symbol}
 use Rattle.run_layout.specs.Program.{body_nodes, clauses_nodes, program_nodes, body_loadable, clauses_loadable}
-use Rattle.out_terms.specs.Words.{text_of, name_at, NamePlaced, SymbolsSpelt}
+use Rattle.run_layout.specs.SymbolNames.{text_of, name_at, NamePlaced, SymbolsSpelt}
 use Rattle.run_layout.specs.Symbols.{symbol_text}
 use Rattle.load_words.specs.Flat.{NodeAsRead, parsed_words, body_parsed, clauses_parsed, Flat, flat_words, flat_all, put_all, BodyHere, ClausesHere}
 use Rattle.load_symbols.specs.Symbols.{word_name, SymbolInside, symbol_at, symbols_of, SymbolsListed}

@@ -8,7 +8,7 @@ use Rattle.table_words.specs.Tables.{Has}
 use Rattle.run_layout.specs.Regions.{nodes_words, places}
 use Rattle.run_layout.specs.Nodes.{Symbol}
 use Rattle.run_layout.specs.Program.{program_nodes, body_loadable, clauses_loadable}
-use Rattle.out_terms.specs.Words.{SymbolsSpelt}
+use Rattle.run_layout.specs.SymbolNames.{SymbolsSpelt}
 
 -- A sheet's clauses and a goal as they were read into their tables.
 pub record BothTabled (sheet table : List ℕ) (clauses : ℕ) (goal goals : List ℕ) (literals : ℕ) : Type 0 where

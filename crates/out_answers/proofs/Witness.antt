@@ -10,7 +10,8 @@ use Rattle.syntax.specs.Quote.{bytes}
 use Rattle.run_layout.specs.Nodes.{name_of_symbol}
 use Rattle.run_layout.specs.State.{word_of, bound_words}
 use Rattle.run_layout.proofs.Witness.{symbols, table, state, witness as bound}
-use Rattle.out_terms.specs.Words.{name_at, NamePlaced, SymbolsSpelt, Named}
+use Rattle.run_layout.specs.SymbolNames.{name_at, NamePlaced, SymbolsSpelt}
+use Rattle.out_terms.specs.Words.{Named}
 use Rattle.run_layout.specs.Symbols.{symbol_word}
 use Rattle.out_terms.specs.Telling.{Ample}
 use Rattle.std.proofs.Common.{Bor}

@@ -3,7 +3,8 @@ use Rattle.std.specs.Prelude.{ℕ, ◌+◌, ◌<◌, ◌≤◌, ◌≡◌, List,
 use Rattle.buffers.specs.Buffers.{Put}
 use Rattle.run_layout.specs.Nodes.{Symbol}
 use Rattle.run_layout.specs.State.{Store}
-use Rattle.out_terms.specs.Words.{SymbolsSpelt, Named}
+use Rattle.run_layout.specs.SymbolNames.{SymbolsSpelt}
+use Rattle.out_terms.specs.Words.{Named}
 use Rattle.out_terms.specs.declared.Solution.{Solution}
 
 -- What a line is made from: a store, the symbols' names, and the names of the goal's variables.

@@ -20,7 +20,8 @@ use Rattle.machine.specs.Answers.{Piece, unbound, place_of, numbered, bytes_of}
 use Rattle.machine.proofs.Tests.{variable-eq, variable-refl}
 use Rattle.run_layout.specs.State.{variable_of}
 use Rattle.run_layout.proofs.State.{cell-eq}
-use Rattle.out_terms.specs.Words.{name_at, NamePlaced, number_among, Numbers, symbol_name, text_of}
+use Rattle.run_layout.specs.SymbolNames.{name_at, NamePlaced, symbol_name, text_of}
+use Rattle.out_terms.specs.Words.{number_among, Numbers}
 use Rattle.run_layout.specs.Symbols.{symbol_place, symbol_length}
 use Rattle.out_terms.specs.Telling.{VariableNumbered, Written, SpeltSoFar}
 

@@ -23,7 +23,8 @@ use Rattle.run_layout.specs.State.{cell_of, variable_of}
 use Rattle.run_layout.proofs.Nodes.{node-inside, node-size, node_end, variable-at, compound-row, compound-at, row-none, row_cons, row_first, row-rest, row-order}
 use Rattle.run_layout.proofs.State.{variable-cell, cell-small, resolve-unbound}
 use Rattle.unify_bindings.specs.Cells.{StoredTerm, Derefs}
-use Rattle.out_terms.specs.Words.{NamePlaced, name_at, Numbers, resolved_all, depth, depth_all, spelt_row, row_terms, left_to_spell, RowPending, Rows, row_word, end_word, new_row, moved_row, row_place, row_more, span_word, row_last, row_copy}
+use Rattle.run_layout.specs.SymbolNames.{NamePlaced, name_at}
+use Rattle.out_terms.specs.Words.{Numbers, resolved_all, depth, depth_all, spelt_row, row_terms, left_to_spell, RowPending, Rows, row_word, end_word, new_row, moved_row, row_place, row_more, span_word, row_last, row_copy}
 use Rattle.out_terms.specs.Telling.{bindings_of, separator_of, Written, SpeltSoFar, Ample, Counting, Heading, Setting, SomeSetting, Facing, Walk, Spelling, SpeltToLimit}
 use Rattle.out_terms.specs.declared.Solution.{Solution}
 

@@ -10,7 +10,8 @@ use Rattle.machine.specs.Substitution.{Variable, RTerm, var, Binding, resolve}
 use Rattle.machine.specs.Answers.{Piece, unbound, numbered, bytes_of}
 use Rattle.run_layout.specs.Nodes.{Symbol, Node, term_at}
 use Rattle.run_layout.specs.State.{variable_of, bindings, Store}
-use Rattle.out_terms.specs.Words.{SymbolsSpelt, Named, Numbers, Rows, left_to_spell, depth}
+use Rattle.run_layout.specs.SymbolNames.{SymbolsSpelt}
+use Rattle.out_terms.specs.Words.{Named, Numbers, Rows, left_to_spell, depth}
 use Rattle.out_terms.specs.declared.Solution.{Solution}
 
 -- A cell's number, before any pieces.

@@ -3,7 +3,6 @@
 #![tactic(auto)]
 
 mod records;
-pub mod symbols;
 pub mod values;
 mod walk;
 

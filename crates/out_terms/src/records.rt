@@ -6,13 +6,14 @@ ghost use Rattle.buffers.specs.Buffers.{Put};
 ghost use Rattle.machine.specs.Substitution.{Variable};
 ghost use Rattle.machine.specs.Answers.{Piece, unbound, bytes_of};
 ghost use Rattle.run_layout.specs.State.{variable_of};
-ghost use Rattle.out_terms.specs.Words.{name_at, NamePlaced, Numbers, row_word, end_word, new_row, moved_row};
+ghost use Rattle.run_layout.specs.SymbolNames.{name_at, NamePlaced};
+ghost use Rattle.out_terms.specs.Words.{Numbers, row_word, end_word, new_row, moved_row};
 ghost use Rattle.out_terms.specs.Words.{row_place, row_more, span_word, row_last, row_copy};
 ghost use Rattle.out_terms.specs.Telling.{VariableNumbered, SpeltSoFar, written};
 
 use crate::Solution;
-use crate::symbols::text_of;
 use buffers::{append_byte, append_decimal, append_part};
+use run_layout::symbols::text_of;
 use run_layout::{CELLS, COPIES, OPEN_SIZE, symbol_length, symbol_place};
 use table_words::word_at;
 

@@ -2,9 +2,10 @@
 ghost use Rattle.std.specs.Prelude.{◌-◌};
 ghost use Rattle.run_alternatives.specs.Moves.{Tryable, Comes};
 
+use crate::Pile;
 use crate::laying::lay;
 use crate::records::{Spot, put_frame, top_at};
-use crate::{Compiled, Pile};
+use link_records::Compiled;
 use run_layout::CLAUSE_SIZE;
 use run_layout::terms::At;
 use table_words::word_at;

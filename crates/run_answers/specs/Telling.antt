@@ -13,7 +13,8 @@ use Rattle.run_layout.specs.Pile.{mark_at}
 use Rattle.unify_bindings.specs.Queues.{Clean}
 use Rattle.unify_bindings.specs.Scratch.{Roomy}
 use Rattle.syntax.specs.Spans.{names_from}
-use Rattle.out_terms.specs.Words.{SymbolsSpelt, Named}
+use Rattle.run_layout.specs.SymbolNames.{SymbolsSpelt}
+use Rattle.out_terms.specs.Words.{Named}
 use Rattle.std.specs.Borrow.{Bor}
 use Rattle.out_terms.specs.declared.Solution.{Solution}
 use Rattle.out_answers.specs.Fitting.{Fitted}

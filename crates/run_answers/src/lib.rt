@@ -14,10 +14,11 @@ ghost use Rattle.run_alternatives.specs.Meanings.{pile_in};
 ghost use Rattle.run_alternatives.specs.Steps.{Running, meaning};
 ghost use Rattle.run_answers.specs.Telling.{before_step, solution_of, Tellable, Rewindable, Rewound, Answering, Answered};
 
+use link_records::Compiled;
 use out_answers::put_answer;
 use out_terms::Solution;
+use run_alternatives::Pile;
 use run_alternatives::records::top_at;
-use run_alternatives::{Compiled, Pile};
 use run_layout::STACK;
 use run_settings::ended;
 use run_steps::{goes_deeper, is_answer, step};

@@ -5,9 +5,10 @@
 ghost use Rattle.syntax.specs.Words.{call_kind};
 ghost use Rattle.run_alternatives.specs.Steps.{AtTop, TopStepped};
 
+use link_records::Compiled;
+use run_alternatives::Pile;
 use run_alternatives::records::{Top, put_next};
 use run_alternatives::trying::try_clause;
-use run_alternatives::{Compiled, Pile};
 use run_layout::CLAUSE_SIZE;
 use table_words::word_at;
 

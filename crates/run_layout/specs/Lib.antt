@@ -6,3 +6,4 @@ pub mod Limits
 pub mod Program
 pub mod Pile
 pub mod Halves
+pub mod SymbolNames

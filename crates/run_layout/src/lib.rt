@@ -3,6 +3,7 @@
 
 #![tactic(auto)]
 
+pub mod symbols;
 pub mod terms;
 
 ghost use Rattle.std.specs.Prelude.{◌≡◌, ◌<◌, ◌^◌};
@@ -153,7 +154,7 @@ const TEXTS: usize = 2;
 const SYMBOL_PLACES: usize = TEXTS * LENGTHS;
 
 // A symbol's word (specs/Symbols): the place of its name, the text, 0 for the sheet and 1 for the goal, and its length. The text is a part of a word, and any
-// number that fits may be packed, so it is a number here; above it is `load_words::Source`, or the text itself (`out_terms::symbols::text_of`).
+// number that fits may be packed, so it is a number here; above it is `load_words::Source`, or the text itself (`symbols::text_of`).
 pub fn pack_symbol(place: usize, text: usize, len: usize) -> u32
     requires { symbol_word place text len < 2 ^ 32 }
     ensures { result ≡ symbol_word place text len }

@@ -9,10 +9,11 @@ ghost use Rattle.machine.specs.Runs.{is_answer, goes_deeper};
 ghost use Rattle.run_alternatives.specs.Meanings.{pile_in};
 ghost use Rattle.run_alternatives.specs.Steps.{Running, meaning, Steppable, Stepped, Startable, Started};
 
+use link_records::Compiled;
 use literals::work;
+use run_alternatives::Pile;
 use run_alternatives::laying::lay;
 use run_alternatives::records::{Spot, top_at};
-use run_alternatives::{Compiled, Pile};
 use run_layout::END_KIND;
 use syntax::{CALL_KIND, LONGEST_PATH};
 use table_words::word_at;

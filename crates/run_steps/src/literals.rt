@@ -4,10 +4,10 @@ ghost use Rattle.syntax.specs.Words.{equation_kind};
 ghost use Rattle.run_layout.specs.Pile.{mark_at};
 ghost use Rattle.run_alternatives.specs.Steps.{Steppable, AtTop, TopStepped};
 
-use link_records::next_literal;
+use link_records::{Compiled, next_literal};
+use run_alternatives::Pile;
 use run_alternatives::laying::lay;
 use run_alternatives::records::{Spot, Top, top_at};
-use run_alternatives::{Compiled, Pile};
 use run_brackets::work_either;
 use run_calls::work_call;
 use run_layout::SPLIT_KIND;

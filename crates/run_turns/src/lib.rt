@@ -7,7 +7,8 @@ ghost use Rattle.machine.specs.Runs.{run_from};
 ghost use Rattle.run_answers.specs.Telling.{meaning_of};
 ghost use Rattle.run_turns.specs.Turns.{Underway, Turned};
 
-use run_alternatives::{Compiled, Pile};
+use link_records::Compiled;
+use run_alternatives::Pile;
 use run_answers::{LoadedProgram, Next, answer, next_of};
 use run_steps::step;
 use syntax::Kind;

@@ -1,10 +1,10 @@
 // Names of symbols.
 ghost use Rattle.std.specs.Prelude.{◌≡◌};
-ghost use Rattle.out_terms.specs.Words.{text_of};
+ghost use Rattle.run_layout.specs.SymbolNames.{text_of};
 
-use run_layout::symbol_text;
+use crate::symbol_text;
 
-// The text of which a symbol's word gives a part. (In the word a text is a number: `run_layout::pack_symbol`.)
+// The text of which a symbol's word gives a part. (In the word a text is a number: `pack_symbol`.)
 pub fn text_of<'a>(w: u32, sheet: &'a [u8], goal: &'a [u8]) -> &'a [u8]
     ensures { result.now ≡ text_of w sheet.now goal.now }
 {
