@@ -48,7 +48,7 @@ def main():
             said += plain(f.read()) + " "
     known = said + " ".join(plain(other) for other in OTHERS)
     found, lost = 0, 0
-    for kind in ("src/*.rt", "specs/*.antt", "proofs/**/*.antt", "must-fail/*.edit"):
+    for kind in ("src/**/*.rt", "specs/*.antt", "proofs/**/*.antt", "must-fail/*.edit"):
         for path in sorted(glob.glob(os.path.join(TOP, "crates", "*", kind), recursive=True)):
             for comment in comments(path):
                 for quotation in comment.split('"')[1::2]:

@@ -3,7 +3,7 @@ ghost use Rattle.std.specs.Prelude.{◌≤◌, ◌<◌, length, IfOk};
 
 use crate::case::Case;
 use crate::records::text_at;
-use out_printing::print_line;
+use output::printing::print_line;
 use pilvaust::fault_name;
 use std::io::{Result, Write};
 

@@ -14,7 +14,7 @@ fn print_refusal<W: Write>(out: &mut W, sheet: &[u8], refusal: Refusal) -> Resul
         text: Text::Sheet,
         refusal,
     });
-    out_printing::print_line(out, verdict, pilvaust::fault_name(sheet, b"", verdict))
+    output::printing::print_line(out, verdict, pilvaust::fault_name(sheet, b"", verdict))
 }
 
 fn print_determinacy<W: Write>(out: &mut W, sheet: &[u8], told: Determinacy) -> Result<()> {

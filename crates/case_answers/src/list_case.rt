@@ -6,8 +6,8 @@ ghost use Rattle.std.specs.Prelude.{◌≡◌, ◌+◌, ◌*◌, ◌≤◌, ◌<
 use crate::case::Case;
 use crate::output::print_number;
 use crate::records::text_at;
-use entry_lists::Lent;
-use mode_lookup::Lookup;
+use marks::lookup::Lookup;
+use pilvaust::lent_lists::Lent;
 use std::io::{Result, Write};
 use syntax::Entry;
 
@@ -56,7 +56,7 @@ fn print_entry<W: Write>(out: &mut W, entry: Entry) -> Result<()> {
 
 fn print_lent<W: Write>(out: &mut W, sheet: &[u8], lent: Lent) -> Result<()> {
     let verdict = lent.verdict;
-    out_printing::print_line(out, verdict, pilvaust::fault_name(sheet, b"", verdict))?;
+    output::printing::print_line(out, verdict, pilvaust::fault_name(sheet, b"", verdict))?;
     for entry in &lent.list {
         print_entry(out, *entry)?;
     }
@@ -137,10 +137,10 @@ impl Case for ListCase {
         let text = text_at(cases, at + 1);
         let sheet = &cases[text.start..text.end];
         if cases[at] == READ {
-            print_lent(out, sheet, entry_lists::read_lent(sheet, held()))?;
+            print_lent(out, sheet, pilvaust::lent_lists::read_lent(sheet, held()))?;
             return Ok(text.end);
         }
-        print_lent(out, sheet, entry_lists::check_lent(sheet, held()))?;
+        print_lent(out, sheet, pilvaust::lent_lists::check_lent(sheet, held()))?;
         Ok(text.end)
     }
 }

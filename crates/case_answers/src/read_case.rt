@@ -63,10 +63,10 @@ impl Case for ReadCase {
         }
         let text = text_at(cases, at + 1);
         if kind == SHEET {
-            out_printing::print_line(out, pilvaust::read(&cases[text.start..text.end]), b"")?;
+            output::printing::print_line(out, pilvaust::read(&cases[text.start..text.end]), b"")?;
             return Ok(text.end);
         }
-        out_printing::print_line(out, pilvaust::read_goal(&cases[text.start..text.end]), b"")?;
+        output::printing::print_line(out, pilvaust::read_goal(&cases[text.start..text.end]), b"")?;
         Ok(text.end)
     }
 }
@@ -96,7 +96,7 @@ fn answer_token<W: Write>(out: &mut W, cases: &[u8], at: usize) -> Result<usize>
         return Ok(at);
     }
     let text = text_at(cases, at + 1);
-    let token = lex_reader::nth_token(&cases[text.start..text.end], wide(cases[at]));
+    let token = lex::reader::nth_token(&cases[text.start..text.end], wide(cases[at]));
     out.write_all(b"token")?;
     print_number(out, kind_number(token.kind))?;
     print_number(out, token.at)?;

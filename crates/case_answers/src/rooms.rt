@@ -7,7 +7,7 @@ pub const FILE_ROOM: usize = 1000000;
 // The most room for answers that a case may ask for.
 pub const TEXT_ROOM: usize = 200000;
 
-// So many bytes. (`run_rooms::cleared` has words in place of bytes and promises that they are zero; one function for both would take the item's zero as a
+// So many bytes. (`run_layout::rooms::cleared` has words in place of bytes and promises that they are zero; one function for both would take the item's zero as a
 // parameter. With arrays in place in `main`, which was tried, the check of its bounds does not end.)
 pub fn cleared<const BYTES: usize>() -> [u8; BYTES]
     ensures { BYTES ≡ length result }

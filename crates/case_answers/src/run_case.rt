@@ -6,7 +6,7 @@ ghost use Rattle.case_answers.specs.Rooms.{settings_size, two_at, three_at};
 use crate::case::Case;
 use crate::records::{text_at, three, two};
 use crate::rooms::{TEXT_ROOM, cleared};
-use out_printing::print_run;
+use output::printing::print_run;
 use std::io::{Result, Write};
 use syntax::RunSettings;
 

@@ -4,8 +4,8 @@ use mathlib.Core.Path.{◌≡◌, sym, ap, ◌∙◌}
 use mathlib.Core.List.{List, ◌++◌}
 use lib.ListN.{length, take}
 use lib.Seq.{sets}
-use Rattle.buffers.specs.Feeds.{past_lines}
-use Rattle.out_reports.specs.Reports.{report_line}
+use Rattle.words.specs.Feeds.{past_lines}
+use Rattle.output.specs.Reports.{report_line}
 use Rattle.machine.specs.Runs.{Report, ran, run_outcome}
 use Rattle.machine_theorems.proofs.Lines.{lines-of-a-run}
 use Rattle.case_starred.specs.Programs.{run_lines, runner, runner_settings, runner_text}

@@ -18,9 +18,9 @@ use Rattle.machine.specs.Machine
 use Rattle.machine.specs.Runs
 use Rattle.machine.specs.Substitution
 use Rattle.machine.specs.Unification
-use Rattle.buffers.specs.Buffers
-use Rattle.out_lines.specs.Lines
-use Rattle.out_reports.specs.Reports
+use Rattle.words.specs.Buffers
+use Rattle.output.specs.Lines
+use Rattle.output.specs.Reports
 
 pub printed : List (List ℕ)
 printed =

@@ -3,8 +3,8 @@ use Rattle.std.specs.Prelude.{ℕ, false, List, [], ◌++◌}
 use Rattle.syntax.specs.Limits.{most_steps}
 use Rattle.syntax.specs.Verdicts.{Verdict}
 use Rattle.syntax.specs.Verdicts.{Refused}
-use Rattle.out_lines.specs.Lines.{line_of}
-use Rattle.out_reports.specs.Reports.{report_line}
+use Rattle.output.specs.Lines.{line_of}
+use Rattle.output.specs.Reports.{report_line}
 use Rattle.mode_rules.specs.Checking.{check_verdict, fault_name}
 use Rattle.machine.specs.Runs.{RunSettings, RunOutcome, stopped, ran, run_outcome}
 

@@ -14,5 +14,5 @@ fn main(rt: HostRuntime) -> io::Result<()> {
     let text = &sheet[..n];
     let verdict = pilvaust::check(text);
     let name = pilvaust::fault_name(text, b"", verdict);
-    out_printing::print_line(&mut io::writer(&rt), verdict, name)
+    output::printing::print_line(&mut io::writer(&rt), verdict, name)
 }

@@ -8,24 +8,24 @@ use Rattle.std.specs.Prelude.{Option as Told, Some, None}
 use lib.ListN.{length}
 use Rattle.syntax.specs.Terms.{done, Sheet, Goal, literals_of}
 use Rattle.syntax.specs.Words.{body_words, body_length}
-use Rattle.mode_marks.specs.Standing.{done_stands}
-use Rattle.mode_marks.specs.declared.marks.Declarations.{Declarations}
+use Rattle.marks.specs.Standing.{done_stands}
+use Rattle.marks.specs.declared.declarations.Declarations.{Declarations}
 use Rattle.machine.specs.Determinacy.{first_bracketed, Pair, first_pair, against, judged_by}
 use Rattle.run_layout.proofs.Limits.{program-limited}
 use Rattle.run_layout.specs.Regions.{nodes_words, code_words, store_words, narrow_words}
 use Rattle.run_layout.specs.Limits.{GoalLimited}
 use Rattle.run_layout.specs.Program.{Program}
 use Rattle.run_layout.proofs.State.{no-entries}
-use Rattle.link_records.specs.declared.Compiled.{Compiled}
-use Rattle.loader.specs.Loading.{Loadable, Loaded}
-use Rattle.linker.specs.Linking.{Linkable}
+use Rattle.load.specs.declared.records.Compiled.{Compiled}
+use Rattle.load.specs.Loading.{Loadable, Loaded}
+use Rattle.load.specs.Linking.{Linkable}
 use Rattle.determinacy.specs.declared.Determinacy.{Determinacy}
 use Rattle.determinacy.specs.declared.Determinacy.TheVariants.{No}
 use Rattle.determinacy.specs.Told.{told}
-use Rattle.determinacy_brackets.specs.Clauses.{told_number, ClausesIn}
-use Rattle.run_rooms.specs.Rooms.{Zeros}
+use Rattle.determinacy.specs.Clauses.{told_number, ClausesIn}
+use Rattle.run_layout.specs.Rooms.{Zeros}
 use Rattle.determinacy.specs.Tables.{SheetReady, SheetLinked, PairsReady}
-use Rattle.determinacy_brackets.proofs.Numbers.{number-none, number-some}
+use Rattle.determinacy.proofs.Numbers.{number-none, number-some}
 use Rattle.determinacy.proofs.PairLaws.{told-no}
 
 -- ---- no bindings yet

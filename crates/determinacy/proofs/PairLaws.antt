@@ -10,23 +10,23 @@ use lib.ListN.{length, drop}
 use Rattle.syntax.specs.Terms.{Declaration, Clause, Sheet}
 use Rattle.syntax.specs.Words.{marks_number, clause_words, clauses_words}
 use Rattle.mode_rules.specs.Modes.{marks_for}
-use Rattle.table_words.specs.Tables.{Has}
-use Rattle.table_words.proofs.Laws.{has_left, has_right}
-use Rattle.mode_marks.specs.Standing.{ClauseSpelt, ClausesSpelt, clause_stands}
-use Rattle.mode_marks.specs.Tables.{AtomAt}
-use Rattle.mode_marks.specs.Stand.{Stand}
-use Rattle.mode_marks.specs.declared.marks.Declarations.{Declarations}
+use Rattle.words.specs.Tables.{Has}
+use Rattle.words.proofs.TablesLaws.{has_left, has_right}
+use Rattle.marks.specs.Standing.{ClauseSpelt, ClausesSpelt, clause_stands}
+use Rattle.marks.specs.Tables.{AtomAt}
+use Rattle.marks.specs.Stand.{Stand}
+use Rattle.marks.specs.declared.declarations.Declarations.{Declarations}
 use Rattle.machine.specs.Machine.{clause_at}
-use Rattle.link_records.specs.declared.Compiled.{Compiled}
+use Rattle.load.specs.declared.records.Compiled.{Compiled}
 use Rattle.machine.specs.Determinacy.{first_overlap, Pair, first_pair, judged_by}
 use Rattle.determinacy.specs.Told.{told}
-use Rattle.determinacy_brackets.specs.Clauses.{told_number}
+use Rattle.determinacy.specs.Clauses.{told_number}
 use Rattle.determinacy.specs.declared.Determinacy.TheVariants.{Yes, No}
-use Rattle.determinacy_overlaps.specs.Overlaps.{NothingBound, ClauseOf, FirstBehind}
+use Rattle.determinacy.specs.Overlaps.{NothingBound, ClauseOf, FirstBehind}
 use Rattle.determinacy.specs.Tables.{PairsReady}
-use Rattle.determinacy_brackets.proofs.BracketLaws.{clause-inside, head-has}
-use Rattle.determinacy_overlaps.proofs.Clauses.{drop-tail, drop_nth}
-use Rattle.determinacy_brackets.proofs.Numbers.{number-none, number-some}
+use Rattle.determinacy.proofs.BracketLaws.{clause-inside, head-has}
+use Rattle.determinacy.proofs.Clauses.{drop-tail, drop_nth}
+use Rattle.determinacy.proofs.Numbers.{number-none, number-some}
 
 abbrev pair-choice : List Declaration → ℕ → List Clause → Option ℕ → Option Pair
 pair-choice ds n cls o = elim o [ none ↦ first_pair ds (suc n) cls | some m ↦ some (record { first = n; second = m }) ]

@@ -3,13 +3,13 @@ use Rattle.std.specs.Prelude.{ℕ, ◌≤◌, List, length}
 use Rattle.syntax.specs.Limits.{sheet_bytes}
 use Rattle.syntax.specs.Terms.{Goal}
 use Rattle.syntax.specs.Words.{sheet_words}
-use Rattle.mode_marks.specs.Tables.{SheetAt}
-use Rattle.mode_marks.specs.declared.marks.Declarations.{Declarations}
+use Rattle.marks.specs.Tables.{SheetAt}
+use Rattle.marks.specs.declared.declarations.Declarations.{Declarations}
 use Rattle.run_layout.specs.Limits.{SheetLimited}
 use Rattle.run_layout.specs.Nodes.{Symbol}
 use Rattle.run_layout.specs.Program.{Program}
-use Rattle.link_records.specs.declared.Compiled.{Compiled}
-use Rattle.determinacy_overlaps.specs.Overlaps.{NothingBound}
+use Rattle.load.specs.declared.records.Compiled.{Compiled}
+use Rattle.determinacy.specs.Overlaps.{NothingBound}
 
 -- a sheet of which the n declarations and k clauses stand in tables, within the limits of RULES
 pub record SheetReady (s declared : List ℕ) (n : ℕ) (table : List ℕ) (k : ℕ) : Type 0 where

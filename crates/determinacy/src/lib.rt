@@ -3,6 +3,9 @@
 
 #![tactic(auto)]
 
+pub mod brackets;
+pub mod inputs;
+pub mod overlaps;
 mod pairs;
 
 ghost use Rattle.std.specs.Prelude.{◌≡◌};
@@ -10,15 +13,15 @@ ghost use Rattle.machine.specs.Determinacy.{first_pair, judged_by, against};
 ghost use Rattle.determinacy.specs.Told.{told};
 ghost use Rattle.determinacy.specs.Tables.{SheetLinked, SheetReady};
 
-use determinacy_brackets::bracketed_clause;
-use link_records::Compiled;
-use linker::link;
-use load_words::{ReadGoal, ReadSheet};
-use loader::load_nodes;
-use mode_marks::marks::Declarations;
+use crate::brackets::bracketed_clause;
+use load::node_words::{ReadGoal, ReadSheet};
+use load::nodes::load_nodes;
+use load::programs::link;
+use load::records::Compiled;
+use marks::declarations::Declarations;
 use pairs::first_pair;
+use run_layout::rooms::cleared;
 use run_layout::{CODE_WORDS, NARROW_WORDS, NODES_WORDS, STORE_WORDS};
-use run_rooms::cleared;
 use syntax::Refusal;
 
 // The answer to the test: yes; no, with the first two clauses that speak against the sheet, or the first that has a bracket and 0; or the sheet's refusal.
@@ -79,7 +82,7 @@ fn judge_pairs(declarations: Declarations, table: &[u32], k: usize) -> Determina
 }
 
 // The test of a checked sheet that stands in its tables: its declarations, and its clauses, k of them. (Declarations, table and number of clauses are three
-// parameters, as in `mode_sheets::check_sheet`: what is below wants the declarations with a place of the table or alone, and would open a struct at once.)
+// parameters, as in `marks::sheets::check_sheet`: what is below wants the declarations with a place of the table or alone, and would open a struct at once.)
 pub fn judge(declarations: Declarations, table: &[u32], k: usize) -> Determinacy
     requires { SheetReady declarations.text.now declarations.words.now declarations.count table.now k }
     ensures { (w : SheetReady declarations.entry.text.now declarations.entry.words.now declarations.entry.count table.now k) → result

@@ -5,11 +5,11 @@ ghost use Rattle.determinacy.specs.Told.{told};
 ghost use Rattle.determinacy.specs.Tables.{PairsReady};
 
 use crate::Determinacy;
-use determinacy_overlaps::first_overlap;
-use link_records::Compiled;
-use mode_marks::marks::{Declarations, ReadText};
+use crate::overlaps::first_overlap;
+use load::records::Compiled;
+use marks::declarations::{Declarations, ReadText};
 use syntax::CLAUSE_START;
-use table_words::past_clause;
+use words::tables::past_clause;
 
 // The first two clauses of one predicate that overlap: the lowest first clause, and the first that overlaps with it.
 pub fn first_pair(

@@ -1,7 +1,7 @@
 -- What a run over two texts is asked for, and its numbers.
 use Rattle.std.specs.Prelude.{ℕ, Bool, List, length}
 use Rattle.machine.specs.Runs.{RunSettings, RunOutcome, run_answer, run_text}
-use Rattle.out_numbers.specs.Numbers.{run_numbers}
+use Rattle.output.specs.Numbers.{run_numbers}
 
 -- the most steps, the most answers, and the mark for a sheet stored earlier
 abbrev pub asking : ℕ → ℕ → Bool → RunSettings

@@ -9,8 +9,8 @@ ghost use Rattle.syntax.specs.Verdicts.{read_verdict, entry_at};
 ghost use Rattle.mode_rules.specs.Checking.{check_verdict, check_goal_verdict};
 ghost use Rattle.machine.specs.Runs.{run_outcome, run_text};
 ghost use Rattle.machine.specs.Traces.{traced_outcome};
-ghost use Rattle.out_entries.specs.Numbers.{version, entry_numbers};
-ghost use Rattle.out_numbers.specs.Numbers.{verdict_numbers, refusal_in};
+ghost use Rattle.output.specs.EntriesNumbers.{version, entry_numbers};
+ghost use Rattle.output.specs.Numbers.{verdict_numbers, refusal_in};
 ghost use Rattle.exports.specs.Runs.{asking, outcome_numbers};
 
 use syntax::RunSettings;
@@ -20,7 +20,7 @@ use syntax::RunSettings;
 pub extern "C" fn pilvaust_version() -> usize
     ensures { result ≡ version }
 {
-    out_entries::version_number()
+    output::entries::version_number()
 }
 
 // A sheet is read: the verdict's numbers, and returned the number of its refusal, 0 where it is accepted.
@@ -29,7 +29,7 @@ pub extern "C" fn pilvaust_read(sheet: &[u8], numbers: &mut [usize]) -> usize
     ensures is { result ≡ refusal_in (verdict_numbers (read_verdict sheet.now)) }
     ensures numbers { numbers.new ≡ sets numbers.old 0 (verdict_numbers (read_verdict sheet.now)) }
 {
-    out_numbers::put_verdict(pilvaust::read(sheet), numbers)
+    output::numbers::put_verdict(pilvaust::read(sheet), numbers)
 }
 
 // The same of a sheet that is checked.
@@ -38,7 +38,7 @@ pub extern "C" fn pilvaust_check(sheet: &[u8], numbers: &mut [usize]) -> usize
     ensures is { result ≡ refusal_in (verdict_numbers (check_verdict sheet.now)) }
     ensures numbers { numbers.new ≡ sets numbers.old 0 (verdict_numbers (check_verdict sheet.now)) }
 {
-    out_numbers::put_verdict(pilvaust::check(sheet), numbers)
+    output::numbers::put_verdict(pilvaust::check(sheet), numbers)
 }
 
 // The same of a goal over a sheet.
@@ -48,7 +48,7 @@ pub extern "C" fn pilvaust_check_goal(sheet: &[u8], goal: &[u8], numbers: &mut [
     ensures numbers { numbers.new ≡ sets numbers.old 0
         (verdict_numbers (check_goal_verdict sheet.now goal.now)) }
 {
-    out_numbers::put_verdict(pilvaust::check_goal(sheet, goal), numbers)
+    output::numbers::put_verdict(pilvaust::check_goal(sheet, goal), numbers)
 }
 
 // The i-th declaration, from 0 on, of a sheet that reading accepts: byte and length of its name, number of arguments; returned is how many
@@ -58,7 +58,7 @@ pub extern "C" fn pilvaust_entry(sheet: &[u8], i: usize, numbers: &mut [usize]) 
     ensures is { result ≡ length (entry_numbers (entry_at sheet.now i)) }
     ensures numbers { numbers.new ≡ sets numbers.old 0 (entry_numbers (entry_at sheet.now i)) }
 {
-    out_entries::put_entry(pilvaust::entry(sheet, i), numbers)
+    output::entries::put_entry(pilvaust::entry(sheet, i), numbers)
 }
 
 // What a run is asked for, of what C passes: a mark is a `bool` there.
@@ -92,7 +92,7 @@ pub extern "C" fn pilvaust_run(
         (outcome_numbers (run_outcome sheet.now goal.now (asking allowance wanted stored) (length text.old))) }
 {
     let asked = settings(allowance, wanted, stored);
-    out_numbers::put_run(pilvaust::run_written(sheet, goal, asked, text), numbers)
+    output::numbers::put_run(pilvaust::run_written(sheet, goal, asked, text), numbers)
 }
 
 // The same with the trace of a recorded session; an empty one is none.
@@ -115,7 +115,7 @@ pub extern "C" fn pilvaust_run_traced(
         goal.now trace.now (asking allowance wanted stored) (length text.old))) }
 {
     let asked = settings(allowance, wanted, stored);
-    out_numbers::put_run(
+    output::numbers::put_run(
         pilvaust::run_traced(sheet, goal, trace, asked, text),
         numbers,
     )

@@ -4,14 +4,18 @@
 
 #![tactic(auto)]
 
+pub mod guessing;
+pub mod sorting;
+pub mod tables;
+
 ghost use Rattle.std.specs.Prelude.{◌<◌, ◌≤◌, ◌^◌, ◌≡◌, length};
 ghost use Rattle.run_layout.specs.Regions.{memo, cells, pairs, places, copies};
-ghost use Rattle.lookahead_words.specs.Room.{KeptBelow, Word, Small};
+ghost use Rattle.lookahead.specs.Room.{KeptBelow, Word, Small};
 
-use lookahead_bindings::{MOST_ROWS, ROW_SIZE, guess, put_row};
-use lookahead_sorting::sort_most;
-use lookahead_words::guesses::Tables;
-use lookahead_words::room::{LIST, WORK, get};
+use crate::guessing::{MOST_ROWS, ROW_SIZE, guess, put_row};
+use crate::sorting::sort_most;
+use crate::tables::guesses::Tables;
+use crate::tables::room::{LIST, WORK, get};
 use run_layout::terms::{At, pack};
 use run_layout::{MEMO, PAIR_SIZE, SIDE_SIZE, STACK};
 

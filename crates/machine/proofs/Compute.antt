@@ -14,7 +14,7 @@ use Rattle.mode_rules.specs.Checking.{faultless, checked_from, checked_with, che
 use Rattle.machine.specs.Substitution.{resolve, is_bound}
 use Rattle.machine.specs.Unification.{differ_variables, differ_mixed, or_else, differ, bound, rounds, unify}
 use Rattle.machine.specs.Machine.{pending, first_for, next_for, next_of, topmost, nth_clause, clause_at, gone, equated, moved_on, laid, tried, on_top, called, worked, worked_on, outcome, step, start, pile_after}
-use Rattle.buffers.specs.Buffers.{digits, decimal}
+use Rattle.words.specs.Buffers.{digits, decimal}
 use Rattle.machine.specs.Answers.{bytes_then, spelt, place_of, numbered, bytes_of, is_anonymous as is_blank_name, all_anonymous, values_from, line}
 use Rattle.machine.specs.Counts.{open_arguments, inputs_of, inputs_first, open_inputs, is_within, is_left, shows, shows_newly, count_if, outputs_over, open_outputs, Tally, counted_on, counted_step, tally}
 use Rattle.machine.specs.Traces.{banded_of, bare_of, found_of, record_before, filled, records_from, records_of, facts_from, facts_of, facts_in, number_part, elapsed_part, band_part, fact_text, fact_clause, fact_clauses, with_facts, if_over, declares_seen, unseen, records_fault, trace_fault, over_trace, over_traced, traced_outcome}

@@ -2,7 +2,7 @@
 use Rattle.std.specs.Prelude.{ℕ, suc, Bool, true, false, ◌&&◌, List, [], ◌∷◌, ◌++◌, length}
 use Rattle.std.proofs.Math.Option.{Option, none, some}
 use Rattle.syntax.specs.Quote.{bytes}
-use Rattle.buffers.specs.Buffers.{decimal}
+use Rattle.words.specs.Buffers.{decimal}
 use Rattle.syntax.specs.Terms.{Goal, same_name}
 use Rattle.machine.specs.Substitution.{Variable, same_variable, RTerm, RTerms, var, app, rnil, rcons, Binding, resolve}
 

@@ -8,7 +8,7 @@ use Rattle.syntax.specs.Verdicts.{Outcome, refused, accepted, goal_outcome}
 use Rattle.syntax.specs.declared.Refusal.{Refusal}
 use Rattle.mode_rules.specs.Modes.{same_mark, marks_for, list_of}
 use Rattle.mode_rules.specs.Checking.{checked_sheet}
-use Rattle.buffers.specs.Feeds.{InLines}
+use Rattle.words.specs.Feeds.{InLines}
 use Rattle.machine.specs.Substitution.{copied, Binding}
 use Rattle.machine.specs.Unification.{unify}
 use Rattle.machine.specs.Unifiers.{Substitution, apply}

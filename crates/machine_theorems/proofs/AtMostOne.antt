@@ -18,7 +18,7 @@ use Rattle.syntax.specs.declared.Refusal.{Refusal}
 use Rattle.syntax.specs.Verdicts.{Ended as Ended-by}
 use Rattle.mode_rules.specs.Modes.{same_mark, marks_for, or_no_marks, list_of, sheet_fault, goal_fault}
 use Rattle.mode_rules.specs.Checking.{faultless, checked_from, checked_with, checked_goal_from, checked_goal}
-use Rattle.buffers.specs.Feeds.{InLines}
+use Rattle.words.specs.Feeds.{InLines}
 use Rattle.machine.specs.Substitution.{RTerm, var, app, rcons, copied, copied_all, closed, replace, Binding, resolve}
 use Rattle.machine.specs.Unification.{unify}
 use Rattle.machine.specs.Unifiers.{Substitution, apply, apply_all, MostGeneral}

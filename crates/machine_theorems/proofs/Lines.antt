@@ -11,9 +11,9 @@ use lib.Seq.{sets, sets-eq, take_at}
 use borrow.Author.Tests.{ltb-false}
 use Rattle.syntax.specs.Quote.{bytes}
 use Rattle.syntax.specs.Terms.{Term, Terms, variable, compound, nil, cons, Atom, term_of, Literal, call, equation, truth, falsity, either, Body, done, also, Clause, Sheet, Goal, same_name}
-use Rattle.buffers.specs.Feeds.{feeds, past_lines, InLines}
-use Rattle.buffers.proofs.Feeding.{feedless-first, feedless-rest, feed-line, byte-line, no_lines, lines-append, lines_end, feedless-line, feedless-decimal}
-use Rattle.buffers.specs.Buffers.{decimal}
+use Rattle.words.specs.Feeds.{feeds, past_lines, InLines}
+use Rattle.words.proofs.Feeding.{feedless-first, feedless-rest, feed-line, byte-line, no_lines, lines-append, lines_end, feedless-line, feedless-decimal}
+use Rattle.words.specs.Buffers.{decimal}
 use Rattle.machine.specs.Substitution.{Variable, same_variable, is_later, RTerm, RTerms, var, app, rnil, rcons, occurs_in, copied, copied_all, replace, replace_all, Binding, resolve}
 use Rattle.machine.specs.Unification.{Difference, same, clash, apart, differ_variables, differ_mixed, or_else, differ, differ_all, bound, rounds, places, unify}
 use Rattle.machine.specs.Machine.{Pending, Alternative, path, pending, nth_clause, clause_at, gone, equated, moved_on, laid, tried, on_top, called, worked, worked_on, outcome, start}

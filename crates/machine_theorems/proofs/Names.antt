@@ -20,8 +20,8 @@ use Rattle.syntax.specs.Verdicts.{accepted}
 use Rattle.syntax.proofs.Induction.{Kept, sheet-read, goal_read}
 use Rattle.mode_rules.specs.Checking.{checked_with, checked_goal}
 use Rattle.mode_theorems.proofs.Accepting.{checked-sheet, checked-goal}
-use Rattle.buffers.specs.Feeds.{feeds}
-use Rattle.buffers.proofs.Feeding.{feedless-rest, feedless-cons}
+use Rattle.words.specs.Feeds.{feeds}
+use Rattle.words.proofs.Feeding.{feedless-rest, feedless-cons}
 
 -- ---- tokens
 

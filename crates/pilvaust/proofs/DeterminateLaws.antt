@@ -13,12 +13,12 @@ use Rattle.syntax.specs.declared.Refusal.{Refusal}
 use Rattle.syntax.specs.Verdicts.{Verdict}
 use Rattle.syntax.specs.Verdicts.{Accepted, Refused}
 use Rattle.mode_rules.specs.Checking.{checked_sheet, check_verdict, verdict_with}
-use Rattle.mode_marks.specs.Tables.{SheetAt, DeclarationsAt}
+use Rattle.marks.specs.Tables.{SheetAt, DeclarationsAt}
 use Rattle.machine.specs.Determinacy.{against, judged_by, judged_from, judged}
 use Rattle.run_layout.proofs.Limits.{checked-sheet-limited}
-use Rattle.read_and_check.specs.Tables.{Tabled}
-use Rattle.read_and_check.proofs.Entries.{refused-by}
-use Rattle.check_and_run.proofs.SheetLaws.{sheet_short, accepted-sheet, sheet-at}
+use Rattle.pilvaust.specs.Tables.{Tabled}
+use Rattle.pilvaust.proofs.ReadingEntries.{refused-by}
+use Rattle.pilvaust.proofs.SheetLaws.{sheet_short, accepted-sheet, sheet-at}
 use Rattle.determinacy.specs.Told.{told}
 use Rattle.determinacy.specs.Tables.{SheetReady}
 use Rattle.determinacy.specs.declared.Determinacy.{Determinacy}

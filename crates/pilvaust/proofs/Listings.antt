@@ -18,12 +18,12 @@ use Rattle.syntax.specs.Verdicts.{Accepted, Refused}
 use Rattle.syntax.specs.declared.Entry.{Entry}
 use Rattle.std.specs.Prelude.{Some, None}
 use Rattle.mode_rules.specs.Checking.{checked_sheet, verdict_with, check_verdict}
-use Rattle.table_words.specs.Tables.{Has}
-use Rattle.read_and_check.specs.Tables.{Tabled}
-use Rattle.out_listings.specs.Listings.{overlay, declared_of, listed_of, entry_from, pasted, Lists}
-use Rattle.out_listings.proofs.Laws.{least_by, pasted-overlay}
-use Rattle.read_and_check.proofs.Laws.{four-words}
-use Rattle.read_and_check.proofs.Entries.{entry-from, long-by}
+use Rattle.words.specs.Tables.{Has}
+use Rattle.pilvaust.specs.Tables.{Tabled}
+use Rattle.output.specs.Listings.{overlay, declared_of, listed_of, entry_from, pasted, Lists}
+use Rattle.output.proofs.ListingsLaws.{least_by, pasted-overlay}
+use Rattle.pilvaust.proofs.ReadingLaws.{four-words}
+use Rattle.pilvaust.proofs.ReadingEntries.{entry-from, long-by}
 
 -- ---- listings
 

@@ -17,7 +17,7 @@ use Rattle.run_layout.specs.Program.{body_at, BodyLoaded, ClauseLoaded, Program}
 use Rattle.run_layout.specs.Pile.{Calls, rest_from, copy_at, literal_at, path_at, NoJump, NextFor, Piled}
 use Rattle.run_layout.proofs.State.{keeps-refl}
 use Rattle.run_layout.proofs.Pile.{place-next, rest-next, goal-place, goal-rest, body-stays, next-for, Written, Framed, Stand, Means, Pushing, pushed, started, written, framed}
-use Rattle.run_layout.proofs.Witness.{zeros, zeros-long, zeros-words}
+use Rattle.run_layout.proofs.RunLayoutWitness.{zeros, zeros-long, zeros-words}
 
 unfoldable pub symbols : List Symbol
 symbols = record { name = bytes "p"; arguments = 0 } ∷ []

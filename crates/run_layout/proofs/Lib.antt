@@ -7,6 +7,6 @@ pub mod Places
 pub mod State
 pub mod SplitWitness
 pub mod Step
-pub mod Symbols
-pub mod Witness
+pub mod RunLayoutSymbols
+pub mod RunLayoutWitness
 pub mod Halves

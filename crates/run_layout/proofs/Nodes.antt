@@ -8,14 +8,14 @@ use mathlib.Core.Logic.{◌⊎◌, inl, inr}
 use lib.Dec.{T, eqb, eqb→eq, ltb→lt}
 use lib.ListN.{length, get_or, length-append}
 use borrow.Author.Tests.{lt-ltb, le-ltb}
-use Rattle.table_words.proofs.Laws.{has_end, has-append, has_left, has_right}
+use Rattle.words.proofs.TablesLaws.{has_end, has-append, has_left, has_right}
 use Rattle.syntax.specs.Limits.{brackets}
 use Rattle.syntax.specs.Words.{first_name}
 use Rattle.syntax.specs.Terms.{Term, Terms, variable, compound, nil, cons, arity, same_name}
 use Rattle.machine.specs.Substitution.{RTerm, RTerms, var, app, rnil, rcons, copied, copied_all}
 use Rattle.machine.proofs.Tests.{both, and, name-eq}
 use Rattle.run_layout.specs.Regions.{loaded_node}
-use Rattle.table_words.specs.Tables.{Has}
+use Rattle.words.specs.Tables.{Has}
 use Rattle.run_layout.specs.Nodes.{Symbol, is_symbol, symbol_of, is_listed, name_of_symbol, loaded_words, loaded_all, is_loadable, are_loadable, brackets_of, brackets_all, TermLoaded, TermsLoaded, Node, Row, decoded, decoded_all, term_at, terms_at, followed, count}
 
 -- ---- symbols

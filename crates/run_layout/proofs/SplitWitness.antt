@@ -12,7 +12,7 @@ use Rattle.run_layout.specs.Regions.{bodies, state_words, alternative_of, altern
 use Rattle.run_layout.specs.Program.{body_at, record_kind, BodyLoaded, Program}
 use Rattle.run_layout.specs.Pile.{literal_at}
 use Rattle.run_layout.proofs.Pile.{Written, Means, started, written}
-use Rattle.run_layout.proofs.Witness.{sheet, no-clause, few-clauses, none-short, zeros, zeros-long, zeros-words}
+use Rattle.run_layout.proofs.RunLayoutWitness.{sheet, no-clause, few-clauses, none-short, zeros, zeros-long, zeros-words}
 
 unfoldable pub goal : Goal
 goal = record { body = also (either (also truth done) (also truth done)) done; names = [] }

@@ -7,3 +7,4 @@ pub mod Program
 pub mod Pile
 pub mod Halves
 pub mod SymbolNames
+pub mod Rooms

@@ -1,6 +1,6 @@
 -- Terms as they stand in the loaded node table, and terms of a copy read back from it.
 use Rattle.std.specs.Prelude.{ℕ, zero, suc, max, ◌+◌, ◌-◌, ◌≤◌, ◌≡◌, Bool, true, false, ◌&&◌, ◌||◌, List, [], ◌∷◌, ◌++◌, T, ltb, length, get_or}
-use Rattle.table_words.specs.Tables.{Has}
+use Rattle.words.specs.Tables.{Has}
 use Rattle.syntax.specs.Words.{first_name}
 use Rattle.syntax.specs.Limits.{brackets}
 use Rattle.syntax.specs.Terms.{Term, Terms, variable, compound, nil, cons, arity, same_predicate}

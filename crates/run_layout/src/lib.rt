@@ -3,6 +3,7 @@
 
 #![tactic(auto)]
 
+pub mod rooms;
 pub mod symbols;
 pub mod terms;
 
@@ -154,7 +155,7 @@ const TEXTS: usize = 2;
 const SYMBOL_PLACES: usize = TEXTS * LENGTHS;
 
 // A symbol's word (specs/Symbols): the place of its name, the text, 0 for the sheet and 1 for the goal, and its length. The text is a part of a word, and any
-// number that fits may be packed, so it is a number here; above it is `load_words::Source`, or the text itself (`symbols::text_of`).
+// number that fits may be packed, so it is a number here; above it is `load::node_words::Source`, or the text itself (`symbols::text_of`).
 pub fn pack_symbol(place: usize, text: usize, len: usize) -> u32
     requires { symbol_word place text len < 2 ^ 32 }
     ensures { result ≡ symbol_word place text len }
@@ -179,7 +180,7 @@ pub fn symbol_text(word: u32) -> usize
     w / LENGTHS % TEXTS
 }
 
-// Its length. (`packed_words::span_length` computes so too: each word is unpacked by the crate that packs it.)
+// Its length. (`words::packing::span_length` computes so too: each word is unpacked by the crate that packs it.)
 pub fn symbol_length(word: u32) -> usize
     ensures { result ≡ symbol_length word }
 {
@@ -202,7 +203,7 @@ pub fn cell_copy(cell: usize) -> usize
     cell / COPY_CELLS
 }
 
-// Half of a word (specs/Halves): the lower where h is 0, else the higher. It is a number since rows of halves are counted through (`unify_memos::number_in`):
+// Half of a word (specs/Halves): the lower where h is 0, else the higher. It is a number since rows of halves are counted through (`bindings::memos::number_in`):
 // the half is what is left of a place divided by two.
 pub fn half_of(h: usize, w: usize) -> usize
     ensures { result ≡ half h w }

@@ -36,5 +36,5 @@ fn main(rt: HostRuntime) -> io::Result<()> {
     let run = pilvaust::run_traced(clauses, asked, &trace[..k], settings, &mut text).map(
         |written| written.report,
     );
-    out_printing::print_run(&mut io::writer(&rt), clauses, asked, run, &text)
+    output::printing::print_run(&mut io::writer(&rt), clauses, asked, run, &text)
 }

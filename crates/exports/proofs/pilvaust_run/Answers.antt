@@ -4,9 +4,9 @@ use mathlib.Core.List.{List}
 use lib.ListN.{length}
 use lib.Seq.{sets}
 use Rattle.machine.specs.Runs.{RunSettings, RunOutcome, run_outcome, run_text}
-use Rattle.out_numbers.specs.Numbers.{run_numbers}
-use Rattle.out_numbers.specs.Numbers.{refusal_in}
-use Rattle.run_results.specs.Results.{run_of, bytes_of}
+use Rattle.output.specs.Numbers.{run_numbers}
+use Rattle.output.specs.Numbers.{refusal_in}
+use Rattle.output.specs.Results.{run_of, bytes_of}
 use Rattle.exports.specs.Runs.{asking, outcome_numbers}
 use Rattle.exports.proofs.pilvaust_run.Goals as goal
 

@@ -5,9 +5,9 @@ use lib.ListN.{length}
 use lib.Seq.{sets}
 use Rattle.machine.specs.Runs.{RunSettings, RunOutcome, run_text}
 use Rattle.machine.specs.Traces.{traced_outcome}
-use Rattle.out_numbers.specs.Numbers.{run_numbers}
-use Rattle.out_numbers.specs.Numbers.{refusal_in}
-use Rattle.run_results.specs.Results.{run_of, bytes_of}
+use Rattle.output.specs.Numbers.{run_numbers}
+use Rattle.output.specs.Numbers.{refusal_in}
+use Rattle.output.specs.Results.{run_of, bytes_of}
 use Rattle.exports.specs.Runs.{asking, outcome_numbers}
 use Rattle.exports.proofs.pilvaust_run_traced.Goals as goal
 

@@ -1,5 +1,5 @@
 use native.Mathlib.Omega.{arith}
-use Rattle.lookahead_words.proofs.Lending.{lent_same, lent-on}
+use Rattle.lookahead.proofs.Lending.{lent_same, lent-on}
 use Rattle.lookahead.proofs.copy_stack.Goals as goal
 
 pub loop-k-init : goal.loop-k-init

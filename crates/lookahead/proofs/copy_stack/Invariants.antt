@@ -1,6 +1,6 @@
 -- `lookahead::copy_stack` meets its contract. Assumes nothing.
 use Rattle.run_layout.specs.Regions.{memo}
-use Rattle.lookahead_words.specs.Room.{KeptBelow}
+use Rattle.lookahead.specs.Room.{KeptBelow}
 use Rattle.lookahead.proofs.copy_stack.Given as goal
 
 abbrev pub invariant-loop-k : goal.invariant-loop-k

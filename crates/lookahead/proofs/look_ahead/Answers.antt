@@ -1,6 +1,6 @@
 -- `lookahead::look_ahead` meets its contract. The rows are written from the memo on, and what is lent begins there. Assumes nothing.
 use native.Mathlib.Omega.{arith}
-use Rattle.lookahead_words.proofs.Lending.{lent-part}
+use Rattle.lookahead.proofs.Lending.{lent-part}
 use Rattle.lookahead.proofs.look_ahead.Goals as goal
 
 pub returns : goal.returns

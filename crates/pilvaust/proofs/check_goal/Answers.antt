@@ -1,5 +1,5 @@
 -- `pilvaust::check_goal` meets its contract: each way out is a law of `Checking`. Assumes nothing.
-use Rattle.read_and_check.proofs.Checking.{both-refused, over-at, over-declarations, both-answered}
+use Rattle.pilvaust.proofs.Checking.{both-refused, over-at, over-declarations, both-answered}
 use mathlib.Core.Path.{sym, ◌∙◌}
 use Rattle.std.proofs.lemmas.Result.{err_from_is_err_and}
 use native.Mathlib.Omega.{arith}

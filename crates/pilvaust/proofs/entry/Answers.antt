@@ -1,5 +1,5 @@
 -- `pilvaust::entry` meets its contract: each way out is a law of `Entries`. Assumes nothing.
-use Rattle.read_and_check.proofs.Entries.{entries-long, entry-is, entry-refused}
+use Rattle.pilvaust.proofs.ReadingEntries.{entries-long, entry-is, entry-refused}
 use Rattle.pilvaust.proofs.entry.Goals as goal
 
 pub entry_of-requires : goal.entry_of-requires

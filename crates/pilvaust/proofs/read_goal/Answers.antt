@@ -1,7 +1,7 @@
 -- `pilvaust::read_goal` meets its contract: each way out is a law of `Entries`. Assumes nothing.
 use Rattle.std.proofs.Common.{ap, sym, ◌∙◌}
 use Rattle.std.proofs.lemmas.Result.{err_from_is_err_and}
-use Rattle.read_and_check.proofs.Entries.{verdict_of, goal-verdict}
+use Rattle.pilvaust.proofs.ReadingEntries.{verdict_of, goal-verdict}
 use Rattle.pilvaust.proofs.read_goal.Goals as goal
 
 pub returns-in_err-read_goal_text : goal.returns-in_err-read_goal_text

@@ -1,7 +1,7 @@
 -- What `run_written` gives, without the count of bytes.
 use Rattle.std.proofs.Common.{ap, sym, ◌∙◌}
 use Rattle.std.proofs.lemmas.Result.{err_from_is_err_and}
-use Rattle.run_results.specs.Results.{run_of}
+use Rattle.output.specs.Results.{run_of}
 use Rattle.pilvaust.proofs.run.Goals as goal
 
 pub returns : goal.returns

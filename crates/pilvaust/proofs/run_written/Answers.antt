@@ -1,5 +1,5 @@
 -- `pilvaust::run_written` meets its contract: each way out is a law of `RunLaws`. Assumes nothing.
-use Rattle.check_and_run.proofs.SheetLaws.{sheet-declared}
+use Rattle.pilvaust.proofs.SheetLaws.{sheet-declared}
 use Rattle.pilvaust.proofs.RunLaws.{out_of_range, sheet-stops, ready_at, sheet-runs}
 use native.Mathlib.Omega.{arith}
 use mathlib.Core.Bool.{not}

@@ -1,0 +1,108 @@
+// What the words of the node table, the state and the tables of this crate say.
+ghost use Rattle.std.specs.Prelude.{◌≡◌, List, ◌∷◌, ◌+◌, ◌*◌, ◌^◌, ◌≤◌, ◌<◌, length, get_or, set};
+ghost use Rattle.syntax.specs.Limits.{word_bytes};
+ghost use Rattle.run_layout.specs.Regions.{copies, cells, places, open_size};
+ghost use Rattle.words.specs.Buffers.{Put};
+ghost use Rattle.machine.specs.Substitution.{Variable};
+ghost use Rattle.machine.specs.Answers.{Piece, unbound, bytes_of};
+ghost use Rattle.run_layout.specs.State.{variable_of};
+ghost use Rattle.run_layout.specs.SymbolNames.{name_at, NamePlaced};
+ghost use Rattle.answers.specs.Words.{Numbers, row_word, end_word, new_row, moved_row};
+ghost use Rattle.answers.specs.Words.{row_place, row_more, span_word, row_last, row_copy};
+ghost use Rattle.answers.specs.Telling.{VariableNumbered, SpeltSoFar, written};
+
+use crate::Solution;
+use run_layout::symbols::text_of;
+use run_layout::{CELLS, COPIES, OPEN_SIZE, symbol_length, symbol_place};
+use words::buffers::{append_byte, append_decimal, append_part};
+use words::tables::word_at;
+
+// The arguments from place to last in a copy that are still to be spelt, and whether some of their list are spelt already.
+#[derive(Clone, Copy)]
+pub struct OpenRow {
+    pub place: usize,
+    pub more: bool,
+    pub last: usize,
+    pub copy: usize,
+}
+
+impl<'a> Solution<'a> {
+    // The name of a symbol.
+    pub fn append_name(self, k: usize, out: &mut [u8], at: usize) -> usize
+        requires { (NamePlaced self.symbols.now self.sheet.now self.goal.now k) × (at + word_bytes < 2 ^ 64) }
+        ensures wrote { Put out.old at (name_at self.entry.symbols.now self.entry.sheet.now self.entry.goal.now k) out.new result }
+        ensures near { result ≤ at + word_bytes }
+    {
+        let w = self.symbols[k];
+        let len = symbol_length(w);
+        let place = symbol_place(w);
+        let text = text_of(w, self.sheet, self.goal);
+        append_part(text, place, len, out, at)
+    }
+}
+
+// The number of an unbound cell: the one it has, or one more than all so far. The last word counts them. A word is 0 where a cell has none: the table is
+// one array of words, zeros at first.
+pub fn number_of(numbers: &mut [usize], x: usize) -> usize
+    requires { (x < cells) × ((length numbers.old ≡ cells + 1) × (get_or numbers.old cells 0 + 1 < 2 ^ 64)) }
+    ensures { (met : List Variable) → Numbers numbers.old met → VariableNumbered met x numbers.new result }
+{
+    let known = numbers[x];
+    if known != 0 {
+        return known;
+    }
+    let number = numbers[CELLS] + 1;
+    numbers[x] = number;
+    numbers[CELLS] = number;
+    number
+}
+
+// An unbound variable, by its cell.
+pub fn append_unbound(numbers: &mut [usize], x: usize, out: &mut [u8], at: usize) -> usize
+    requires { (x < cells) × ((length numbers.old ≡ cells + 1) × ((get_or numbers.old cells 0 ≤ at) × (at + word_bytes < 2 ^ 64))) }
+    ensures told { (met : List Variable) → Numbers numbers.old met → (ps : List Piece)
+        → SpeltSoFar (bytes_of met (unbound (variable_of x) ∷ ps)) (written numbers.old out.old at) (written numbers.new out.new result) ps }
+    ensures near { (at ≤ result) × (result ≤ at + word_bytes) }
+{
+    let past = append_byte(b'_', out, at);
+    let number = number_of(numbers, x);
+    append_decimal(number, out, past)
+}
+
+// The row at a height of the stack.
+pub fn row_at(stack: &[u32], h: usize) -> OpenRow
+    requires { h * open_size + open_size ≤ length stack.now }
+    ensures place { result.place ≡ row_place (row_word stack.now h) }
+    ensures more { result.more ≡ row_more (row_word stack.now h) }
+    ensures last { result.last ≡ row_last (end_word stack.now h) }
+    ensures copy { result.copy ≡ row_copy (end_word stack.now h) }
+{
+    let i = h * OPEN_SIZE;
+    let place = word_at(stack, i);
+    let last = word_at(stack, i + 1);
+    OpenRow {
+        place: place / 2,
+        more: place % 2 == 1,
+        last: last / COPIES,
+        copy: last % COPIES,
+    }
+}
+
+// A row of arguments, none of them spelt.
+pub fn put_row(stack: &mut [u32], h: usize, place: usize, last: usize, copy: usize)
+    requires { (h * open_size + open_size ≤ length stack.old) × ((place ≤ places) × ((last ≤ places) × (copy < copies))) }
+    ensures { stack.new ≡ set (set stack.old (h * open_size) (new_row place)) (h * open_size + 1) (span_word last copy) }
+{
+    let i = h * OPEN_SIZE;
+    stack[i] = (place * 2) as u32;
+    stack[i + 1] = (last * COPIES + copy) as u32;
+}
+
+// A row whose first arguments are spelt, up to place.
+pub fn move_row(stack: &mut [u32], h: usize, place: usize)
+    requires { (h * open_size + open_size ≤ length stack.old) × (place ≤ places) }
+    ensures { stack.new ≡ set stack.old (h * open_size) (moved_row place) }
+{
+    let i = h * OPEN_SIZE;
+    stack[i] = (place * 2 + 1) as u32;
+}

@@ -1,0 +1,89 @@
+-- Chains of variables followed by short cuts: what the functions are given and what they promise.
+use Rattle.std.specs.Prelude.{ℕ, ◌≤◌, ◌<◌, ◌≡◌, Option, Some, None, List, length, get_or}
+use Rattle.syntax.specs.Words.{first_name}
+use Rattle.machine.specs.Substitution.{Binding}
+use Rattle.run_layout.specs.Regions.{copies, cells}
+use Rattle.run_layout.specs.Nodes.{Symbol, Node}
+use Rattle.run_layout.specs.State.{cell_of, cell_at, bindings}
+use Rattle.run_layout.specs.declared.terms.At.{At}
+use Rattle.bindings.specs.Cells.{StoredTerm, Leads, Derefs}
+use Rattle.bindings.specs.Scratch.{Roomy}
+use Rattle.bindings.specs.Cuts.{Cuts, CutsOnly}
+use Rattle.bindings.specs.declared.shortcuts.Stage.{Stage}
+use Rattle.bindings.specs.declared.shortcuts.Ends.{Ends}
+
+-- A cut leads over so many links, or cuts.
+abbrev pub stride_links : ℕ
+stride_links = 32
+
+-- A run-time term in a store, the words of whose cells are at hand.
+pub record Fronted (nodes front : List ℕ) (p c : ℕ) : Type 0 where
+  pub state : List ℕ
+  pub given : StoredTerm nodes state p c
+  pub long : cells ≤ length front
+  pub same : (x : ℕ) → x < cells → get_or front x 0 ≡ get_or state x 0
+
+-- The same, and cuts that are right.
+pub record Followable (nodes front scratch : List ℕ) (p c : ℕ) : Type 0 where
+  pub from : Fronted nodes front p c
+  pub roomy : Roomy scratch
+  pub cuts : Cuts (bindings from.given.ss nodes from.state from.given.n) scratch
+
+-- The variable at p in copy c leads on to a term, that of an earlier cell or a name.
+pub record LeadsOn (ss : List Symbol) (nodes state : List ℕ) (n p c : ℕ) (a : At) : Type 0 where
+  pub variable : get_or nodes p 0 < first_name
+  pub leads : Leads ss nodes state n p c a.node a.copy
+  pub down : get_or nodes a.node 0 < first_name → cell_of a.copy (get_or nodes a.node 0) < cell_of c (get_or nodes p 0)
+
+-- Where the term at p in copy c leads on to; where that is nowhere, it is a name or an unbound variable.
+pub record Next (ss : List Symbol) (nodes state : List ℕ) (n p c : ℕ) (r : Option At) : Type 0 where
+  pub stops : r ≡ None → get_or nodes p 0 < first_name → cell_at state (cell_of c (get_or nodes p 0)) ≡ 0
+  pub on : (a : At) → r ≡ Some a → LeadsOn ss nodes state n p c a
+
+-- A walk from the term at p in copy c has come to another; where there is no next term, nothing leads on.
+pub record Staged (ss : List Symbol) (nodes state : List ℕ) (n p c : ℕ) (r : Stage) : Type 0 where
+  pub leads : Leads ss nodes state n p c r.at.node r.at.copy
+  pub stops : r.next ≡ None → get_or nodes r.at.node 0 < first_name → cell_at state (cell_of r.at.copy (get_or nodes r.at.node 0)) ≡ 0
+
+-- Two variables, the second of an earlier cell.
+pub record Further (nodes : List ℕ) (p c q d : ℕ) : Type 0 where
+  pub from : get_or nodes p 0 < first_name
+  pub to : get_or nodes q 0 < first_name
+  pub down : cell_of d (get_or nodes q 0) < cell_of c (get_or nodes p 0)
+
+-- The same as a walk, which has come to an earlier cell where there is a next term.
+pub record Strode (ss : List Symbol) (nodes state : List ℕ) (n p c : ℕ) (r : Stage) : Type 0 where
+  pub staged : Staged ss nodes state n p c r
+  pub further : (r.next ≡ None → ⊥) → Further nodes p c r.at.node r.at.copy
+
+-- Two variables.
+pub record Cuttable (nodes scratch : List ℕ) (p c q d : ℕ) : Type 0 where
+  pub left : get_or nodes p 0 < first_name
+  pub right : get_or nodes q 0 < first_name
+  pub inside : p < length nodes
+  pub inside_right : q < length nodes
+  pub copy : c < copies
+  pub copy_right : d < copies
+  pub roomy : Roomy scratch
+
+-- Only cuts and their slots changed, and the cuts are right.
+pub record Eased (b : List Binding) (before after : List ℕ) : Type 0 where
+  pub beside : CutsOnly before after
+  pub cuts : Cuts b after
+
+-- The term is dereferenced, and only cuts changed.
+pub record Followed {nodes front before : List ℕ} {p c : ℕ} (g : Followable nodes front before p c) (after : List ℕ) (r : At) : Type 0 where
+  pub derefs : Derefs g.from.given.ss nodes g.from.state g.from.given.n p c r.node r.copy
+  pub eased : Eased (bindings g.from.given.ss nodes g.from.state g.from.given.n) before after
+
+-- Two run-time terms in one store, and cuts that are right.
+pub record Both (nodes front scratch : List ℕ) (p q : At) : Type 0 where
+  pub left : Followable nodes front scratch p.node p.copy
+  pub node : Node left.from.given.ss nodes q.node
+  pub copy : q.copy < copies
+
+-- Both are dereferenced, and only cuts changed.
+pub record BothFollowed {nodes front before : List ℕ} {p q : At} (g : Both nodes front before p q) (after : List ℕ) (r : Ends) : Type 0 where
+  pub left : Derefs g.left.from.given.ss nodes g.left.from.state g.left.from.given.n p.node p.copy r.left.node r.left.copy
+  pub right : Derefs g.left.from.given.ss nodes g.left.from.state g.left.from.given.n q.node q.copy r.right.node r.right.copy
+  pub eased : Eased (bindings g.left.from.given.ss nodes g.left.from.state g.left.from.given.n) before after

@@ -1,3 +1,0 @@
-pub mod Laws
-pub mod Cases
-pub mod Feeding

@@ -1,2 +1,0 @@
-pub mod GoalLaws
-pub mod SheetLaws

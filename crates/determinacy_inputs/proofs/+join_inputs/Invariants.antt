@@ -1,6 +1,0 @@
--- `determinacy_inputs::join_inputs` meets its contract. The measure is what is left of the words. Assumes nothing.
-use Prim.Native.Nat.{◌-◌}
-use Rattle.determinacy_inputs.proofs.+join_inputs.Given as goal
-
-abbrev pub decreases-join_inputs : goal.decreases-join_inputs
-decreases-join_inputs l = l.args.stop - l.args.left

@@ -1,2 +1,0 @@
-pub mod Clauses
-pub mod OverlapLaws

@@ -1,6 +1,0 @@
-use Rattle.std.proofs.Common.{◌-◌, ◌≡◌, ◌≤◌}
-use Rattle.out_listings.specs.Listings.{entry_from, pasted}
-use Rattle.entries.proofs.fill.Given as goal
-
-abbrev pub invariant-loop-i : goal.invariant-loop-i
-invariant-loop-i l = (l.entries ≡ pasted (entry_from l.found.words) l.i l.initial.entries) × (l.i ≤ l.found.count)

@@ -1,7 +1,0 @@
--- `lex_positions::token_of` meets its contract: past the end of the text there is only its end.
-use Rattle.lex_positions.proofs.Laws.{token-past}
-use borrow.Author.Rules.{rules}
-use Rattle.lex_positions.proofs.token_of.Goals as goal
-
-pub returns-then-text-at : goal.returns-then-text-at
-returns-then-text-at c = search (token-past, rules)

@@ -1,4 +1,0 @@
-pub mod Sizes
-pub mod Writing
-pub mod Turns
-pub mod Clauses

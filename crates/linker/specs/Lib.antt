@@ -1,3 +1,0 @@
-pub mod Linking
-pub mod Records
-pub mod Places

@@ -1,0 +1,14 @@
+pub mod Flat
+pub mod Symbols
+pub mod Interning
+pub mod Listing
+pub mod Loading
+pub mod Records
+pub mod Search
+pub mod ItemsRecords
+pub mod ItemsPlaces
+pub mod ClausesRecords
+pub mod ClausesPlaces
+pub mod Linking
+pub mod ProgramsRecords
+pub mod ProgramsPlaces

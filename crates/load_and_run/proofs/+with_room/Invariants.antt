@@ -1,6 +1,0 @@
--- `load_and_run::with_room` meets its contract. The measure is how often it calls itself. Assumes nothing.
-
-use Rattle.load_and_run.proofs.+with_room.Given as goal
-
-abbrev pub decreases-with_room : goal.decreases-with_room
-decreases-with_room g l = l.again

@@ -1,0 +1,17 @@
+-- `marks::arguments::head_fault` meets its contract. Assumes nothing.
+use mathlib.Core.Path.{refl}
+use Rattle.syntax.specs.Terms.{output}
+use Rattle.marks.proofs.Judging.{judged-name, head-fine, head-faulty}
+use Rattle.marks.proofs.arguments.head_fault.Goals as goal
+
+pub open_argument-requires : goal.open_argument-requires
+open_argument-requires c = record { judged_at = c.requires; mark_is = (output, refl) }
+
+pub name_at-name-requires : goal.name_at-name-requires
+name_at-name-requires c = judged-name c.requires
+
+pub returns-in-None : goal.returns-in-None
+returns-in-None c = head-fine c.args.known output c.open_argument.result (λ w. c.open_argument.ensures w output refl) c.in-None.is c.args.clause
+
+pub returns-in-Some : goal.returns-in-Some
+returns-in-Some c = head-faulty c.args.known output c.open_argument.result (λ w. c.open_argument.ensures w output refl) c.in-Some.found c.in-Some.is c.name_at-name.result c.name_at-name.ensures c.args.clause

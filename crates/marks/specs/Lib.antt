@@ -1,0 +1,14 @@
+pub mod Standing
+pub mod Tables
+pub mod Decoded
+pub mod Answers
+pub mod Stand
+pub mod Searching
+pub mod Functors
+pub mod ArgumentsAnswers
+pub mod Items
+pub mod LiteralsAnswers
+pub mod BodiesAnswers
+pub mod Sides
+pub mod Repeating
+pub mod Flags

@@ -1,6 +1,0 @@
--- `mode_arguments::ground_marked` meets its contract. The measure is what is left of the words. Assumes nothing.
-use Prim.Native.Nat.{◌-◌}
-use Rattle.mode_arguments.proofs.+ground_marked.Given as goal
-
-abbrev pub decreases-ground_marked : goal.decreases-ground_marked
-decreases-ground_marked l = l.stop - l.p

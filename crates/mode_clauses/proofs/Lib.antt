@@ -1,3 +1,0 @@
-pub mod Sheets
-pub mod Accepted
-pub mod Loaded

@@ -1,3 +1,0 @@
-pub mod Grounding
-pub mod Equating
-pub mod Passing

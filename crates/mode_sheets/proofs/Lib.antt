@@ -1,3 +1,0 @@
-pub mod Once
-pub mod Heads
-pub mod Laws

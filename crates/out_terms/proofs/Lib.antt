@@ -1,4 +1,0 @@
-pub mod NumberLaws
-pub mod WalkLaws
-pub mod ShallowLaws
-pub mod ValueLaws

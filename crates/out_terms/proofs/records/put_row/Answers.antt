@@ -1,6 +1,0 @@
-use native.Mathlib.Omega.{arith}
-use lib.ListN.{length-set}
-use Rattle.out_terms.proofs.records.put_row.Goals as goal
-
-pub bounds-stack-i-2 : goal.bounds-stack-i-2
-bounds-stack-i-2 c = simp length-set (omega arith)

@@ -1,0 +1,5 @@
+pub mod LinesLaws
+pub mod LinesCases
+pub mod ReportsCases
+pub mod ListingsLaws
+pub mod Fits

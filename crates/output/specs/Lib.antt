@@ -1,0 +1,9 @@
+pub mod Words
+pub mod Lines
+pub mod Reports
+pub mod Listings
+pub mod FaultsNumbers
+pub mod EntriesNumbers
+pub mod Results
+pub mod Numbers
+pub mod Prints

@@ -1,0 +1,109 @@
+// The numbers of a refusal, the refusal that a fault of reading is, and whether a text is too long.
+
+ghost use Rattle.std.specs.Prelude.{◌≡◌, ltb};
+ghost use Rattle.syntax.specs.Refusals.{numbers_of};
+ghost use Rattle.syntax.specs.Verdicts.{fault_of};
+
+use syntax::{Five, Refusal};
+
+// What a refusal has no number for is 0.
+const ZEROS: Five = Five {
+    number: 0,
+    byte: 0,
+    clause: 0,
+    literal: 0,
+    argument: 0,
+};
+
+// A refusal that has its number alone.
+fn plain(number: usize) -> Five
+    ensures { result ≡ record { number = number; byte = 0; clause = 0; literal = 0; argument = 0 } }
+{
+    Five { number, ..ZEROS }
+}
+
+// A refusal with the byte of a token.
+fn at_byte(number: usize, byte: usize) -> Five
+    ensures { result ≡ record { number = number; byte = byte; clause = 0; literal = 0; argument = 0 } }
+{
+    Five {
+        number,
+        byte,
+        ..ZEROS
+    }
+}
+
+// The five numbers that RULES gives a refusal: an enum's answers through a definition of numbers, a form asked for in REQUESTS. (No `From`: it
+// would have to stand beside both types, in `syntax`, which has no code. Over 40 lines, since `rt fmt` gives a line to each field that is named.)
+pub fn numbers(refusal: Refusal) -> Five
+    ensures { result ≡ numbers_of refusal }
+{
+    match refusal {
+        Refusal::Settings => plain(1),
+        Refusal::TooLong => plain(2),
+        Refusal::NoToken(byte) => at_byte(3, byte),
+        Refusal::Overlong(byte) => at_byte(4, byte),
+        Refusal::Misplaced(byte) => at_byte(5, byte),
+        Refusal::OverLimit(byte) => at_byte(6, byte),
+        Refusal::Repeated(byte) => at_byte(7, byte),
+        Refusal::Undeclared {
+            clause,
+            literal,
+            ..
+        } => Five {
+            number: 8,
+            clause,
+            literal,
+            ..ZEROS
+        },
+        Refusal::OpenInput {
+            byte,
+            clause,
+            literal,
+            argument,
+            ..
+        } => Five {
+            number: 9,
+            byte,
+            clause,
+            literal,
+            argument,
+        },
+        Refusal::OpenOutput {
+            byte,
+            clause,
+            argument,
+            ..
+        } => Five {
+            number: 10,
+            byte,
+            clause,
+            argument,
+            ..ZEROS
+        },
+        Refusal::BadTrace(byte) => at_byte(13, byte),
+        Refusal::TraceOverLimit => plain(14),
+        Refusal::SeenUndeclared => plain(15),
+        Refusal::Unwritten(byte) => at_byte(16, byte),
+    }
+}
+
+// Whether a text is longer than it may be: a sheet than `SHEET_BYTES`, a goal than `GOAL_BYTES`.
+pub fn is_too_long<const MOST: usize>(bytes: usize) -> bool
+    ensures { result ≡ ltb MOST bytes }
+{
+    MOST < bytes
+}
+
+// A fault of reading, 3 to 6, as a refusal. (The fault is its number here, as in the definition `fault_of`; the reader gives refusals at once, so
+// nothing in the library calls this.)
+pub fn fault_of(number: usize, byte: usize) -> Refusal
+    ensures { result ≡ fault_of number byte }
+{
+    match number {
+        3 => Refusal::NoToken(byte),
+        4 => Refusal::Overlong(byte),
+        5 => Refusal::Misplaced(byte),
+        _ => Refusal::OverLimit(byte),
+    }
+}

@@ -1,0 +1,12 @@
+pub mod ParseLaws
+pub mod Reading
+pub mod Starts
+pub mod Sequence
+pub mod TermLaws
+pub mod LiteralLaws
+pub mod PlainLaws
+pub mod BodyLaws
+pub mod SideLaws
+pub mod ClauseLaws
+pub mod MarkLaws
+pub mod SheetLaws

@@ -1,0 +1,73 @@
+// Where a reader stands, and what it stores.
+ghost use Rattle.std.specs.Prelude.{◌≡◌, ◌+◌, ◌≤◌, ◌<◌, ◌^◌, length};
+ghost use Rattle.syntax.specs.Reading.{wrong_number, start_of};
+ghost use Rattle.syntax.specs.Spans.{spanned, SpanInside};
+ghost use Rattle.syntax.specs.Tokens.{spelling};
+ghost use Rattle.syntax.specs.Terms.{same_name};
+ghost use Rattle.parse.specs.Gives.{CursorInside, PastToken, Refused, ItemCount, full_number};
+
+use crate::Parsed;
+use syntax::{Refusal, State, Token, TokenKind};
+use words::packing::{span_at, span_length};
+use words::texts::same_bytes;
+
+// The reader past the token at hand.
+pub fn next(s: &[u8], st: State) -> State
+    requires { CursorInside s.now st }
+    ensures { PastToken s.now st result }
+{
+    let t = st.token;
+    State {
+        token: lex::tokens::token_at(s, t.at + t.len),
+        ..st
+    }
+}
+
+// The refusal of a token that goes past a limit.
+pub fn beyond(st: State) -> Refusal
+    ensures { Refused st 6 result }
+{
+    Refusal::OverLimit(st.token.at)
+}
+
+// The refusal of a token that cannot stand here.
+#[tactic(auto, unfolding(syntax::specs::Reading::wrong_number))]
+pub fn wrong(st: State) -> Refusal
+    ensures { Refused st (wrong_number st.token.kind) result }
+{
+    let at = st.token.at;
+    match st.token.kind {
+        TokenKind::NoToken => Refusal::NoToken(at),
+        TokenKind::Overlong => Refusal::Overlong(at),
+        _ => Refusal::Misplaced(at),
+    }
+}
+
+// Whether a variable's first occurrence, packed, is spelt as a token.
+pub fn same_span(s: &[u8], t: Token, first: u32) -> bool
+    requires { (t.at + t.len ≤ length s.now) × SpanInside s.now first }
+    ensures { result ≡ same_name (spanned s.now first) (spelling s.now t.at t.len) }
+{
+    span_length(first) == t.len && same_bytes(s, span_at(first), s, t.at, t.len)
+}
+
+// The refusal of a list or body that is full: the token at hand begins one more, or cannot stand here.
+pub fn full(st: State) -> Refusal
+    ensures { Refused st (full_number (Rattle.syntax.specs.Reading.begins (start_of st.token.kind)) st.token.kind) result }
+{
+    match st.token.kind {
+        TokenKind::Variable | TokenKind::Numeral | TokenKind::Name => beyond(st),
+        _ => wrong(st),
+    }
+}
+
+// What was read behind a comma, counted with the things before it.
+pub fn counted(more: Parsed, by: usize) -> Parsed
+    requires { (more.items < 2 ^ 31) × (by < 2 ^ 31) }
+    ensures { ItemCount more by result }
+{
+    Parsed {
+        items: more.items + by,
+        ..more
+    }
+}

@@ -1,3 +1,0 @@
-pub mod BodyLaws
-pub mod SideLaws
-pub mod ClauseLaws

@@ -1,8 +1,0 @@
--- `parse_clauses::open_side` meets its contract. Assumes nothing.
-use mathlib.Core.Path.{refl}
-use Rattle.parse_clauses.proofs.SideLaws.{stored}
-use borrow.Author.Rules.{rules}
-use Rattle.parse_clauses.proofs.open_side.Goals as goal
-
-pub returns : goal.returns
-returns c = (refl, search (stored, rules))

@@ -1,7 +1,0 @@
--- `parse_cursor::leaves::leaf` meets its contract. Assumes nothing.
-use Rattle.parse_cursor.proofs.Reading.{node-room}
-use borrow.Author.Rules.{rules}
-use Rattle.parse_cursor.proofs.leaves.leaf.Goals as goal
-
-pub leaf_at-requires : goal.leaf_at-requires
-leaf_at-requires c = search (node-room, rules)

@@ -1,6 +1,0 @@
--- `parse_sheets::sheets::start` meets its contract: each way out is a law of `SheetLaws`. Assumes nothing.
-use Rattle.parse_sheets.proofs.SheetLaws.{started}
-use Rattle.parse_sheets.proofs.sheets.start.Goals as goal
-
-pub returns : goal.returns
-returns c = let both = started _ _ c.requires c.token_at.ensures in record { is = both.0; stands = both.1 }

@@ -1,0 +1,104 @@
+-- What loading, linking and running ask of each other.
+use Prim.Native.Nat.{ℕ, ◌≤◌}
+use native.Mathlib.Omega.{arith}
+use mathlib.Core.Path.{◌≡◌}
+use mathlib.Core.List.{List}
+use lib.ListN.{length}
+use Rattle.syntax.specs.Words.{goal_words}
+use Rattle.run_layout.specs.Regions.{nodes_words, code_words, state_words}
+use Rattle.run_layout.specs.Program.{Program}
+use Rattle.bindings.specs.Scratch.{Roomy}
+use Rattle.load.specs.Loading.{Loadable, Loaded}
+use Rattle.load.specs.Linking.{Linkable}
+use Rattle.run.specs.declared.telling.LoadedProgram.{LoadedProgram}
+use Rattle.output.specs.declared.results.Written.{Written}
+use Rattle.run.specs.Running.{Runnable, Runs}
+use Rattle.run_layout.specs.Rooms.{Zeros}
+use Rattle.run.specs.Programs.{ZeroScratch, Programmed, ProgramLinked}
+
+module _ {sheet table : List ℕ} {clauses : ℕ} {goal goals : List ℕ} {literals : ℕ} {names : List ℕ} {count : ℕ} (w : Programmed sheet table clauses goal goals literals names count) where
+  pub loads : {nodes symbols : List ℕ} → Zeros nodes_words nodes → Zeros nodes_words symbols → Loadable sheet table clauses goal goals literals nodes symbols
+  loads {nodes} {symbols} z y =
+      let a : nodes_words ≡ length nodes = z.long in
+      let b : nodes_words ≡ length symbols = y.long in
+      record {
+        tables = w.tables;
+        nodes_room = omega arith;
+        nodes_short = omega arith;
+        symbols_room = omega arith;
+        symbols_short = omega arith;
+      }
+
+  module _ {nodes0 symbols0 nodes symbols : List ℕ} (z : Zeros nodes_words nodes0) (y : Zeros nodes_words symbols0) (a : length nodes ≡ length nodes0) (k : (v : Loadable sheet table clauses goal goals literals nodes0 symbols0) → Loaded sheet goal v.tables.sh v.tables.g nodes symbols) where
+    loaded : Loaded sheet goal w.tables.sh w.tables.g nodes symbols
+    unfolding loads
+    loaded = k (loads z y)
+
+    pub links : {code0 : List ℕ} → Zeros code_words code0 → Linkable table clauses goals literals nodes code0
+    links {code0} x =
+        let b : code_words ≡ length code0 = x.long in
+        let c : length goals ≤ goal_words = w.tables.goals_short in
+        let d : nodes_words ≡ length nodes0 = z.long in
+        record {
+          ss = loaded.ss;
+          sh = w.tables.sh;
+          g = w.tables.g;
+          has_clauses = w.tables.has_clauses;
+          clauses_count = w.tables.clauses_count;
+          has_goal = w.tables.has_goal;
+          literals_count = w.tables.literals_count;
+          limits = w.limits;
+          goal_limits = w.goal_limits;
+          nodes_stand = loaded.nodes_stand;
+          goal_loadable = loaded.goal_loadable;
+          clauses-loadable = loaded.clauses-loadable;
+          nodes_short = omega arith;
+          table_short = w.tables.table_short;
+          goals_short = omega arith;
+          code_room = omega arith;
+          code_short = omega arith;
+        }
+
+    module _ {code0 code : List ℕ} (x : Zeros code_words code0) (p : (v : Linkable table clauses goals literals nodes code0) → Program v.ss v.sh v.g nodes code) where
+      program : Program loaded.ss w.tables.sh w.tables.g nodes code
+      unfolding links
+      program = p (links x)
+
+-- what is loaded and linked, as one value
+module _ (l : LoadedProgram) {table : List ℕ} {clauses : ℕ} {goals : List ℕ} {literals : ℕ} (w : Programmed l.sheet.now table clauses l.goal.now goals literals l.names.now l.count)
+    {nodes0 symbols0 code0 : List ℕ} (z : Zeros nodes_words nodes0) (y : Zeros nodes_words symbols0) (a : length l.nodes.now ≡ length nodes0)
+    (k : (v : Loadable l.sheet.now table clauses l.goal.now goals literals nodes0 symbols0) → Loaded l.sheet.now l.goal.now v.tables.sh v.tables.g l.nodes.now l.symbols.now)
+    (x : Zeros code_words code0) (p : (v : Linkable table clauses goals literals l.nodes.now code0) → Program v.ss v.sh v.g l.nodes.now l.code.now) where
+  pub linked : ProgramLinked l
+  linked =
+      record {
+        ss = (loaded w z y a k).ss;
+        sh = w.tables.sh;
+        g = w.tables.g;
+        program = program w z y a k x p;
+        spelt = record { spelt = (loaded w z y a k).names; named = w.named; names_are = w.names_are };
+      }
+
+  pub program_runs : {allowance wanted : ℕ} {old new : List ℕ} {r : Written} → ((v : ProgramLinked l) → Runs v.sh v.g allowance wanted old new r) → Runs w.tables.sh w.tables.g allowance wanted old new r
+  unfolding linked
+  program_runs q = q linked
+
+module _ {l : LoadedProgram} (w : ProgramLinked l) where
+  pub runnable : {state scratch text : List ℕ} → Zeros state_words state → ZeroScratch scratch (length text) → Runnable l state scratch text
+  runnable {state} {scratch} {text} z y =
+      let a : state_words ≡ length state = z.long in
+      let b : Roomy scratch = y.roomy in
+      record {
+        ss = w.ss;
+        sh = w.sh;
+        g = w.g;
+        spelt = w.spelt;
+        program = w.program;
+        long = omega arith;
+        zero_words = z.zero_words;
+        lent = record { roomy = omega arith; clean = record { long = omega arith; zero = λ i l. y.zero_words i }; deep = y.tells };
+      }
+
+  pub linked_runs : {state scratch text : List ℕ} {allowance wanted : ℕ} {old new : List ℕ} {r : Written} → Zeros state_words state → ZeroScratch scratch (length text) → ((v : Runnable l state scratch text) → Runs v.sh v.g allowance wanted old new r) → Runs w.sh w.g allowance wanted old new r
+  unfolding runnable
+  linked_runs z y k = k (runnable z y)

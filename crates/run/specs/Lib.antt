@@ -1,0 +1,9 @@
+pub mod Ends
+pub mod Words
+pub mod Meanings
+pub mod Moves
+pub mod Steps
+pub mod Telling
+pub mod Turns
+pub mod Running
+pub mod Programs

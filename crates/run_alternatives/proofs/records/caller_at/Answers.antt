@@ -1,4 +1,0 @@
-use Rattle.run_alternatives.proofs.records.caller_at.Goals as goal
-
-pub returns : goal.returns
-returns c = λ k. record { copy = c.word_at-copy.ensures k; literal = c.word_at-literal.ensures k }

@@ -1,3 +1,0 @@
-pub mod EndLaws
-pub mod LineLaws
-mod AnswerLaws

@@ -1,0 +1,10 @@
+// The tables of a loaded program, of its run and of unification, cleared: the caller's type says how many words a table has.
+
+ghost use Rattle.run_layout.specs.Rooms.{Zeros};
+
+// So many words, all zero.
+pub fn cleared<const WORDS: usize>() -> [u32; WORDS]
+    ensures { Zeros WORDS result }
+{
+    [0; WORDS]
+}

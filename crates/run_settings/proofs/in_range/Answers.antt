@@ -1,9 +1,0 @@
--- `run_settings::in_range` meets its contract: each way out is a law of `Laws`. Assumes nothing.
-use Rattle.run_settings.proofs.Laws.{range-steps, range-answers}
-use Rattle.run_settings.proofs.in_range.Goals as goal
-
-pub returns-then-is_within : goal.returns-then-is_within
-returns-then-is_within c = range-answers c.args.allowance c.args.wanted c.is_within.ensures c.if-is_within.true c.is_within-then-is_within.ensures
-
-pub returns-else-is_within : goal.returns-else-is_within
-returns-else-is_within c = range-steps c.args.allowance c.args.wanted c.is_within.ensures c.if-is_within.false

@@ -1,2 +1,0 @@
-mod LoopLaws
-mod GoingLaws

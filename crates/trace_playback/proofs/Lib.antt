@@ -1,4 +1,0 @@
-pub mod Laws
-pub mod Ready
-pub mod Tracing
-pub mod Sheets

@@ -1,4 +1,0 @@
-pub mod Rows
-pub mod Walks
-pub mod Stacks
-pub mod Turns

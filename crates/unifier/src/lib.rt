@@ -1,6 +1,0 @@
-// Unification over flat words.
-
-#![tactic(auto)]
-
-pub mod solve;
-pub mod walk;

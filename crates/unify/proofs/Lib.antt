@@ -1,0 +1,11 @@
+pub mod Rules
+pub mod Rowwise
+pub mod Closing
+pub mod Stacked
+pub mod Settle
+pub mod Turning
+pub mod Bare
+pub mod Solving
+pub mod Whole
+pub mod UnifyWitness
+pub mod Guards

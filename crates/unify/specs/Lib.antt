@@ -1,0 +1,5 @@
+pub mod Rows
+pub mod Walks
+pub mod Stacks
+pub mod Turns
+pub mod Checks

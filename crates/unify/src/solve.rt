@@ -1,0 +1,302 @@
+// Unification: the outer loop, which takes over where a variable stands on a side, bound or not.
+ghost use Rattle.std.specs.Prelude.{◌≡◌, ◌+◌, ◌<◌, ◌^◌, Err};
+ghost use Rattle.run_layout.specs.Regions.{loaded_node};
+ghost use Rattle.bindings.specs.Queues.{Closed};
+ghost use Rattle.unify.specs.declared.solve.TurnStop.TheVariants.{Bind};
+ghost use Rattle.unify.specs.Turns.{Crossed, Crossable, Crosses, PairTurned, Meetable, Turnable, TurnGives, Openable, Passable, ReadyToUnify, Advanced};
+ghost use Rattle.unify.specs.Turns.{Solvable, Solved};
+ghost use Rattle.unify.specs.Turns.{Unifiable, UnifyGives};
+ghost use Rattle.unify.specs.Stacks.{only_row, inner_row};
+
+use crate::cycles::{begin, check};
+use crate::walk::{WalkStop, walk_rows};
+use bindings::memos::{forget, known, remember};
+use bindings::occurrence::{closed_to, size_at};
+use bindings::shortcuts::follow;
+use bindings::stack::{Side, put_pair, side_at};
+use bindings::store::bind;
+use run_layout::terms::{At, pack};
+use run_layout::{LOADED_NODE, PAIR_SIZE, SIDE_SIZE, STACK, cell_of};
+use syntax::FIRST_NAME;
+use words::tables::word_at;
+
+// Why turns do not go on, the error of their Result: names that differ, or a variable that is to be bound.
+#[derive(Clone, Copy)]
+pub enum TurnStop {
+    Clash,
+    Bind {
+        height: usize,
+        cell: usize,
+        term: At,
+    },
+}
+
+// Whether the two became equal, and the length of the trail, which is told in either case: a Result would have it on both sides.
+#[derive(Clone, Copy)]
+pub struct UnifyAnswer {
+    pub equal: bool,
+    pub trail: usize,
+}
+
+// A term as a row of its own.
+fn only_row(p: At) -> Side
+    ensures { result ≡ only_row p }
+{
+    Side {
+        root: p.node,
+        at: p.node,
+        copy: p.copy,
+    }
+}
+
+// The row of a term's arguments.
+fn inner_row(p: At) -> Side
+    requires { p.node + loaded_node < 2 ^ 64 }
+    ensures { result ≡ inner_row p }
+{
+    Side {
+        root: p.node,
+        at: p.node + LOADED_NODE,
+        copy: p.copy,
+    }
+}
+
+// Two dereferenced terms of one name before the rows of a stack of height h. Where they are one term, or known to be equal, there is nothing to do;
+// else their arguments are looked at next.
+fn open_pair(scratch: &mut [u32], h: usize, p: At, q: At) -> Result<usize, TurnStop>
+    requires { Openable scratch.old h p q }
+    ensures { (g : Openable scratch.old h p q) → PairTurned g.crossed scratch.new result }
+{
+    let left = pack(p);
+    let right = pack(q);
+    if left == right {
+        return Ok(h);
+    }
+    if known(scratch, left, right) {
+        return Ok(h);
+    }
+    put_pair(scratch, h, inner_row(p), inner_row(q));
+    Ok(h + 1)
+}
+
+// The variable of cell x is to be bound to a term.
+fn bind_to(h: usize, x: usize, term: At) -> Result<usize, TurnStop>
+    ensures { result ≡ Err (Bind h x term) }
+{
+    Err(TurnStop::Bind {
+        height: h,
+        cell: x,
+        term,
+    })
+}
+
+// Two dereferenced terms before the rows of a stack of height h. Of two variables the later is bound to the earlier.
+fn decide(nodes: &[u32], scratch: &mut [u32], h: usize, p: At, q: At) -> Result<usize, TurnStop>
+    requires { Crossed nodes.now scratch.old h p q }
+    ensures { (g : Crossed nodes.now scratch.old h p q) → PairTurned g scratch.new result }
+{
+    let w = word_at(nodes, p.node);
+    let z = word_at(nodes, q.node);
+    if w < FIRST_NAME {
+        let x = cell_of(p.copy, w);
+        if z < FIRST_NAME {
+            let y = cell_of(q.copy, z);
+            if x == y {
+                return Ok(h);
+            }
+            if x < y {
+                return bind_to(h, y, p);
+            }
+            return bind_to(h, x, q);
+        }
+        return bind_to(h, x, q);
+    }
+    if z < FIRST_NAME {
+        let v = cell_of(q.copy, z);
+        return bind_to(h, v, p);
+    }
+    if w != z {
+        return Err(TurnStop::Clash);
+    }
+    open_pair(scratch, h, p, q)
+}
+
+// Two terms before the rows of a stack of height h, a variable on a side: they are dereferenced.
+fn cross(
+    nodes: &[u32],
+    state: &[u32],
+    scratch: &mut [u32],
+    h: usize,
+    p: At,
+    q: At,
+) -> Result<usize, TurnStop>
+    requires { Crossable nodes.now state.now scratch.old h p q }
+    ensures { (g : Crossable nodes.now state.now scratch.old h p q) → Crosses g scratch.new result }
+{
+    let e = follow(nodes, state, scratch, p, q);
+    decide(nodes, scratch, h, e.left, e.right)
+}
+
+// The top pair, its rows l and r where they first have a variable on a side: moved past these two terms, which are then looked at.
+fn meet(
+    nodes: &[u32],
+    state: &[u32],
+    scratch: &mut [u32],
+    h: usize,
+    l: Side,
+    r: Side,
+) -> Result<usize, TurnStop>
+    requires { Meetable nodes.now state.now scratch.old h l r }
+    ensures { (g : Meetable nodes.now state.now scratch.old h l r) → TurnGives g.work scratch.new result }
+{
+    let i = l.at + size_at(nodes, l.at);
+    let j = r.at + size_at(nodes, r.at);
+    put_pair(scratch, h - 1, Side { at: i, ..l }, Side { at: j, ..r });
+    let p = At {
+        node: l.at,
+        copy: l.copy,
+    };
+    let q = At {
+        node: r.at,
+        copy: r.copy,
+    };
+    cross(nodes, state, scratch, h, p, q)
+}
+
+// The top pair's rows are done: its two terms, the left one of so many words, are equal from now on.
+fn pass(scratch: &mut [u32], h: usize, size: usize, l: Side, r: Side) -> Result<usize, TurnStop>
+    requires { Passable scratch.old h l r }
+    ensures { (g : Passable scratch.old h l r) → TurnGives g.work scratch.new result }
+{
+    let left = pack(At {
+        node: l.root,
+        copy: l.copy,
+    });
+    let right = pack(At {
+        node: r.root,
+        copy: r.copy,
+    });
+    remember(scratch, h, size, left, right);
+    Ok(h - 1)
+}
+
+// One turn at the top of a stack of height h.
+fn next_turn(nodes: &[u32], state: &[u32], scratch: &mut [u32], h: usize) -> Result<usize, TurnStop>
+    requires { Turnable nodes.now state.now scratch.old h }
+    ensures { (g : Turnable nodes.now state.now scratch.old h) → TurnGives g.work scratch.new result }
+{
+    let base = STACK + (h - 1) * PAIR_SIZE;
+    let l = side_at(scratch, base);
+    let r = side_at(scratch, base + SIDE_SIZE);
+    let size = size_at(nodes, l.root);
+    let e = l.root + size;
+    let found = walk_rows(nodes, l.at, e, r.at);
+    match found {
+        Ok(()) => pass(scratch, h, size, l, r),
+        Err(WalkStop::Clash) => Err(TurnStop::Clash),
+        Err(WalkStop::Met { left, right }) => meet(
+            nodes,
+            state,
+            scratch,
+            h,
+            Side { at: left, ..l },
+            Side { at: right, ..r },
+        ),
+    }
+}
+
+// Turns, until the stack is empty or a turn does not go on. There are n bindings; they stay as they are, so the turns end.
+fn advance(
+    nodes: &[u32],
+    state: &[u32],
+    scratch: &mut [u32],
+    n: usize,
+    h: usize,
+) -> Result<(), TurnStop>
+    requires { ReadyToUnify nodes.now state.now scratch.old n h }
+    ensures { (g : ReadyToUnify nodes.now state.now scratch.old n h) → Advanced g.work scratch.new result }
+{
+    let mut k = h;
+    // No `for`: a turn takes a pair from the stack or puts one upon it, so how many turns there are is known only at the end.
+    while 0 < k {
+        k = next_turn(nodes, state, scratch, k)?;
+    }
+    Ok(())
+}
+
+// The one pair on the stack, with n bindings, the copies below k closed: turns, and a binding where they ask for one.
+fn solve_pair(
+    nodes: &[u32],
+    state: &mut [u32],
+    scratch: &mut [u32],
+    n: usize,
+    k: usize,
+) -> UnifyAnswer
+    requires solvable { Solvable nodes.now state.old scratch.old n }
+    requires closed { Closed k state.old }
+    ensures { (g : Solvable nodes.now state.old scratch.old n) → Solved g state.new scratch.new result }
+{
+    let mut trail = n;
+    let mut h = 1;
+    let mut closed = k;
+    // No `for`: how many bindings there will be is known only at the end.
+    loop {
+        let t = advance(nodes, state, scratch, trail, h);
+        match t {
+            Ok(()) => return UnifyAnswer { equal: true, trail },
+            Err(TurnStop::Clash) => {
+                return UnifyAnswer {
+                    equal: false,
+                    trail,
+                };
+            }
+            Err(TurnStop::Bind { height, cell, term }) => {
+                if check(nodes, state, scratch, cell, term, closed, height) {
+                    return UnifyAnswer {
+                        equal: false,
+                        trail,
+                    };
+                }
+                bind(state, trail, cell, term);
+                closed = closed_to(cell, term.copy, closed);
+                trail += 1;
+                h = height;
+            }
+        }
+    }
+}
+
+// As `unify`, with the copies below k closed.
+pub fn unify_closed(
+    nodes: &[u32],
+    state: &mut [u32],
+    scratch: &mut [u32],
+    p: At,
+    q: At,
+    n: usize,
+    k: usize,
+) -> UnifyAnswer
+    requires unifiable { Unifiable nodes.now state.old scratch.old p q n }
+    requires closed { Closed k state.old }
+    ensures { (g : Unifiable nodes.now state.old scratch.old p q n) → UnifyGives g state.new scratch.new result }
+{
+    forget(scratch);
+    begin(scratch);
+    put_pair(scratch, 0, only_row(p), only_row(q));
+    solve_pair(nodes, state, scratch, n, k)
+}
+
+// The terms p and q unified, with n bindings. Where they do not unify, the trail is left as it then is.
+pub fn unify(
+    nodes: &[u32],
+    state: &mut [u32],
+    scratch: &mut [u32],
+    p: At,
+    q: At,
+    n: usize,
+) -> UnifyAnswer
+    requires { Unifiable nodes.now state.old scratch.old p q n }
+    ensures { (g : Unifiable nodes.now state.old scratch.old p q n) → UnifyGives g state.new scratch.new result }
+{
+    unify_closed(nodes, state, scratch, p, q, n, 0)
+}

@@ -1,3 +1,0 @@
-pub mod Deref
-pub mod Scan
-pub mod Apart

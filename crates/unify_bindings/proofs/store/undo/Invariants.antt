@@ -1,7 +1,0 @@
-use Rattle.std.proofs.Common.{◌≤◌}
-use Rattle.unify_bindings.specs.Cells.{Undone}
-use Rattle.unify_bindings.proofs.store.undo.Given as goal
-
-abbrev pub invariant-loop-i : goal.invariant-loop-i
-invariant-loop-i l =
-    (l.mark ≤ l.i) × Undone l.initial.state l.state l.i l.n

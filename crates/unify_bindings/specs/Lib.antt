@@ -1,3 +1,0 @@
-pub mod Cells
-pub mod Queues
-pub mod Scratch

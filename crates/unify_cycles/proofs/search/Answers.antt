@@ -1,5 +1,0 @@
-use Rattle.unify_cycles.proofs.Guards.{search-guarded}
-use Rattle.unify_cycles.proofs.search.Goals as goal
-
-pub returns : goal.returns
-returns c = λ g. search-guarded g c.occurs-r.ensures c.spend.ensures

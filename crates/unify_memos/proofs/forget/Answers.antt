@@ -1,6 +1,0 @@
-use native.Mathlib.Omega.{arith}
-use lib.ListN.{length-set}
-use Rattle.unify_memos.proofs.forget.Goals as goal
-
-pub bounds-scratch-269322 : goal.bounds-scratch-269322
-bounds-scratch-269322 c = simp length-set (omega arith)

@@ -1,9 +1,0 @@
-use Rattle.unify_memos.proofs.Remembering.{joined-left, joined-right}
-use borrow.Author.Rules.{rules}
-use Rattle.unify_memos.proofs.join.Goals as goal
-
-pub returns-then-x-y : goal.returns-then-x-y
-returns-then-x-y c = search (joined-left, rules)
-
-pub returns : goal.returns
-returns c = search (joined-right, rules)

@@ -1,0 +1,8 @@
+// Bytes and words of a table: numbers packed into a word, words read and stored, what the bytes of a text say, bytes and numbers into a lent buffer.
+
+#![tactic(auto)]
+
+pub mod buffers;
+pub mod packing;
+pub mod tables;
+pub mod texts;
